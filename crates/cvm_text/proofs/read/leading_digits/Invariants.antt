@@ -1,0 +1,8 @@
+-- All that was read so far are digits.
+use Rattle.std.proofs.Common.{◌≡◌, true, take}
+use Rattle.std.specs.List.{list_all}
+use Rattle.std.specs.Char.{is_ascii_digit}
+use Rattle.cvm_text.proofs.read.leading_digits.Given as goal
+
+abbrev pub invariant-loop-index : goal.invariant-loop-index
+invariant-loop-index l = list_all is_ascii_digit (take l.index l.text) ≡ true
