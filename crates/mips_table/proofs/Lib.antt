@@ -1,0 +1,4 @@
+pub mod Masks
+pub mod Round
+pub mod Rows
+pub mod RowWords

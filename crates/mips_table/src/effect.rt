@@ -1,0 +1,196 @@
+// What each instruction does to the registers and the pc, and what it asks of the memory.
+ghost use Rattle.std.specs.Prelude.{◌≡◌, ◌%◌, ◌^◌, ◌<◌, if◌then◌else◌, slice_index};
+ghost use Rattle.mips_table.specs.Arith.{sum, difference, sum_overflows, difference_overflows};
+ghost use Rattle.mips_table.specs.Encoding.{InRange};
+ghost use Rattle.mips_table.specs.Effect.{next, branch, jump, effect_of, HasRegister};
+
+use crate::arith::{
+    difference, difference_overflows, extended, flag, is_negative, is_positive, less, nor,
+    shifted_left, shifted_right, shifted_signed, sum, sum_overflows,
+};
+use crate::inst::Inst;
+
+/// What an instruction asks for.
+///
+/// The register of `Set` and `Load` is a number from 0 to 31. Registers hi and lo can have the numbers 32 and 33 here,
+/// and a product, which sets both, can be one more variant, `Wide`.
+#[derive(Clone, Copy, Debug)]
+pub enum Effect {
+    /// The register gets the value, and pc goes to next. Nothing is written to register 0.
+    Set {
+        register: u32,
+        value: u32,
+        next: u32,
+    },
+    /// The register gets the word at the address, and pc goes to the next instruction. Nothing is written to
+    /// register 0.
+    Load {
+        register: u32,
+        address: u32,
+    },
+    /// The value is put at the address, and pc goes to the next instruction.
+    Store {
+        address: u32,
+        value: u32,
+    },
+    /// A signed sum or difference that doesn't fit: a trap.
+    Overflow,
+    /// A system call: a trap.
+    Call,
+    /// An instruction on the special registers, which system mode alone may do.
+    System,
+}
+
+/// The address of the next instruction.
+pub fn next(pc: u32) -> u32
+    ensures { result ≡ next pc }
+{
+    pc.wrapping_add(4)
+}
+
+// Where a branch at pc goes.
+fn branch(pc: u32, imm: u32, taken: bool) -> u32
+    requires { imm < 2 ^ 16 }
+    ensures { result ≡ branch pc imm taken }
+{
+    if taken {
+        pc.wrapping_add(4)
+            .wrapping_add(extended(imm).wrapping_mul(4))
+    } else {
+        next(pc)
+    }
+}
+
+// Where a jump at pc goes.
+fn jump(pc: u32, index: u32) -> u32
+    requires { index < 2 ^ 26 }
+    ensures { result ≡ jump pc index }
+{
+    next(pc) >> 28 << 28 | index << 2
+}
+
+fn read(regs: &[u32; 32], register: u32) -> u32
+    requires { register < 32 }
+    ensures { result ≡ slice_index regs.now register }
+{
+    regs[register as usize]
+}
+
+// A shift amount: the low five bits of a register.
+fn amount(regs: &[u32; 32], register: u32) -> u32
+    requires { register < 32 }
+    ensures { result ≡ slice_index regs.now register % 2 ^ 5 }
+{
+    read(regs, register) & 0x1f
+}
+
+// A register is written, and the next instruction follows.
+fn set(register: u32, value: u32, pc: u32) -> Effect
+    ensures { result ≡ Effect.Set register value (next pc) }
+{
+    Effect::Set {
+        register,
+        value,
+        next: next(pc),
+    }
+}
+
+// A register gets a sum, unless it overflows.
+fn set_sum(register: u32, a: u32, b: u32, pc: u32) -> Effect
+    ensures { result ≡ (if sum_overflows a b then Effect.Overflow else Effect.Set register (sum a b) (next pc)) }
+{
+    if sum_overflows(a, b) {
+        return Effect::Overflow;
+    }
+    set(register, sum(a, b), pc)
+}
+
+// A register gets a difference, unless it overflows.
+fn set_difference(register: u32, a: u32, b: u32, pc: u32) -> Effect
+    ensures { result ≡ (if difference_overflows a b then Effect.Overflow else Effect.Set register (difference a b) (next pc)) }
+{
+    if difference_overflows(a, b) {
+        return Effect::Overflow;
+    }
+    set(register, difference(a, b), pc)
+}
+
+// Control goes elsewhere, and no register is written.
+fn goes(next: u32) -> Effect
+    ensures { result ≡ Effect.Set 0 0 next }
+{
+    Effect::Set {
+        register: 0,
+        value: 0,
+        next,
+    }
+}
+
+fn load(register: u32, address: u32) -> Effect
+    ensures { result ≡ Effect.Load register address }
+{
+    Effect::Load { register, address }
+}
+
+fn store(address: u32, value: u32) -> Effect
+    ensures { result ≡ Effect.Store address value }
+{
+    Effect::Store { address, value }
+}
+
+/// The effect of an instruction at pc, by the registers' values.
+pub fn effect_of(inst: &Inst, pc: u32, regs: &[u32; 32]) -> Effect
+    requires { InRange inst.now }
+    ensures value { result ≡ effect_of inst.now pc (slice_index regs.now) }
+    ensures register { HasRegister result }
+{
+    let inst = *inst;
+    match inst {
+        Inst::Sll { rd, rt, sa } => set(rd, shifted_left(read(regs, rt), sa), pc),
+        Inst::Srl { rd, rt, sa } => set(rd, shifted_right(read(regs, rt), sa), pc),
+        Inst::Sra { rd, rt, sa } => set(rd, shifted_signed(read(regs, rt), sa), pc),
+        Inst::Sllv { rd, rt, rs } => set(rd, shifted_left(read(regs, rt), amount(regs, rs)), pc),
+        Inst::Srlv { rd, rt, rs } => set(rd, shifted_right(read(regs, rt), amount(regs, rs)), pc),
+        Inst::Srav { rd, rt, rs } => set(rd, shifted_signed(read(regs, rt), amount(regs, rs)), pc),
+        Inst::Jr { rs } => goes(read(regs, rs)),
+        Inst::Jalr { rd, rs } => Effect::Set {
+            register: rd,
+            value: next(pc),
+            next: read(regs, rs),
+        },
+        Inst::Syscall { .. } => Effect::Call,
+        Inst::Add { rd, rs, rt } => set_sum(rd, read(regs, rs), read(regs, rt), pc),
+        Inst::Addu { rd, rs, rt } => set(rd, sum(read(regs, rs), read(regs, rt)), pc),
+        Inst::Sub { rd, rs, rt } => set_difference(rd, read(regs, rs), read(regs, rt), pc),
+        Inst::Subu { rd, rs, rt } => set(rd, difference(read(regs, rs), read(regs, rt)), pc),
+        Inst::And { rd, rs, rt } => set(rd, read(regs, rs) & read(regs, rt), pc),
+        Inst::Or { rd, rs, rt } => set(rd, read(regs, rs) | read(regs, rt), pc),
+        Inst::Xor { rd, rs, rt } => set(rd, read(regs, rs) ^ read(regs, rt), pc),
+        Inst::Nor { rd, rs, rt } => set(rd, nor(read(regs, rs), read(regs, rt)), pc),
+        Inst::Slt { rd, rs, rt } => set(rd, flag(less(read(regs, rs), read(regs, rt))), pc),
+        Inst::Sltu { rd, rs, rt } => set(rd, flag(read(regs, rs) < read(regs, rt)), pc),
+        Inst::Bltz { rs, imm } => goes(branch(pc, imm, is_negative(read(regs, rs)))),
+        Inst::Bgez { rs, imm } => goes(branch(pc, imm, !is_negative(read(regs, rs)))),
+        Inst::J { index } => goes(jump(pc, index)),
+        Inst::Jal { index } => Effect::Set {
+            register: 31,
+            value: next(pc),
+            next: jump(pc, index),
+        },
+        Inst::Beq { rs, rt, imm } => goes(branch(pc, imm, read(regs, rs) == read(regs, rt))),
+        Inst::Bne { rs, rt, imm } => goes(branch(pc, imm, read(regs, rs) != read(regs, rt))),
+        Inst::Blez { rs, imm } => goes(branch(pc, imm, !is_positive(read(regs, rs)))),
+        Inst::Bgtz { rs, imm } => goes(branch(pc, imm, is_positive(read(regs, rs)))),
+        Inst::Addi { rt, rs, imm } => set_sum(rt, read(regs, rs), extended(imm), pc),
+        Inst::Addiu { rt, rs, imm } => set(rt, sum(read(regs, rs), extended(imm)), pc),
+        Inst::Slti { rt, rs, imm } => set(rt, flag(less(read(regs, rs), extended(imm))), pc),
+        Inst::Sltiu { rt, rs, imm } => set(rt, flag(read(regs, rs) < extended(imm)), pc),
+        Inst::Andi { rt, rs, imm } => set(rt, read(regs, rs) & imm, pc),
+        Inst::Ori { rt, rs, imm } => set(rt, read(regs, rs) | imm, pc),
+        Inst::Xori { rt, rs, imm } => set(rt, read(regs, rs) ^ imm, pc),
+        Inst::Lui { rt, imm } => set(rt, imm << 16, pc),
+        Inst::Mfc0 { .. } | Inst::Mtc0 { .. } | Inst::Eret => Effect::System,
+        Inst::Lw { rt, rs, imm } => load(rt, sum(read(regs, rs), extended(imm))),
+        Inst::Sw { rt, rs, imm } => store(sum(read(regs, rs), extended(imm)), read(regs, rt)),
+    }
+}

@@ -1,0 +1,24 @@
+//! The instruction table: the words of the MIPS32 instructions of this project's processor, and what each does.
+//!
+//! Source of the words and of the arithmetic: MIPS32 Architecture. There is no delay slot.
+#![tactic(auto)]
+
+pub mod arith;
+pub mod cause;
+pub mod decoding;
+pub mod effect;
+pub mod encoding;
+pub mod fields;
+pub mod inst;
+mod instruction_rows;
+pub mod table;
+
+pub use cause::Cause;
+pub use decoding::decode;
+pub use effect::{Effect, effect_of};
+pub use encoding::encode;
+pub use inst::Inst;
+pub use table::{Row, Table, mips32, mnemonic_of};
+
+#[cfg(test)]
+mod tests;
