@@ -1,0 +1,5 @@
+pub mod Causes
+pub mod Memory
+pub mod Numbering
+pub mod Shelves
+pub mod Told

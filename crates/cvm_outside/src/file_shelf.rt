@@ -1,0 +1,174 @@
+// Files by name.
+ghost use Rattle.std.specs.Prelude.{◌≡◌, ◌<◌, ◌≤◌, ◌-◌, [], None, length, IfOk, OnOk, is_ok};
+ghost use Rattle.cvm_outside.specs.Causes.{Rose};
+ghost use Rattle.cvm_outside.specs.Told.{TOO_LONG};
+
+use crate::shelf::LONGEST_FILE;
+use crate::{Shelf, ShelfFault};
+use std::alloc::Global;
+use std::io::{Read, Write};
+use std::rt::Files;
+use std::{fs, io};
+
+/// How many bytes a file is read at once.
+const BLOCK: usize = 4096;
+
+/// A shelf over the system's files. A name is a path.
+#[derive(Drop)]
+pub struct FileShelf<R: Files> {
+    rt: R,
+    taken: u64,
+    faults: u64,
+}
+
+impl<R: Files + Drop> FileShelf<R> {
+    /// The shelf, with nothing taken and no fault.
+    pub fn new(rt: R) -> Self
+        ensures taken { ⟦<FileShelf<R> as Shelf>⟧.taken result ≡ 0 }
+        ensures faults { ⟦<FileShelf<R> as Shelf>⟧.faults result ≡ 0 }
+    {
+        FileShelf {
+            rt,
+            taken: 0,
+            faults: 0,
+        }
+    }
+
+    /// Counts a fault.
+    fn fault(&mut self) -> ShelfFault
+        ensures failed { result ≡ ShelfFault.Failed }
+        ensures later { self.old.faults ≤ self.new.faults }
+        ensures rose { Rose self.old.faults self.new.faults }
+        ensures taken { self.new.taken ≡ self.old.taken }
+    {
+        self.faults = self.faults.saturating_add(1);
+        ShelfFault::Failed
+    }
+}
+
+impl<R: Files + Drop> Shelf for FileShelf<R> {
+    ghost file = { λ _ _. None };
+
+    ghost taken = { λ s. s.taken };
+
+    ghost faults = { λ s. s.faults };
+
+    fn get(&mut self, alloc: Global, name: &str) -> Result<Vec<u8>, ShelfFault> {
+        self.taken = 0;
+        let Ok(mut file) = fs::open(&self.rt, name) else {
+            return Err(self.fault());
+        };
+        let mut bytes = Vec::new(alloc);
+        let end = take_all(&mut file, &mut bytes);
+        self.taken = bytes.len() as u64;
+        match end {
+            End::OfFile => Ok(bytes),
+            End::TooLong => Err(ShelfFault::TooLong),
+            End::Memory => Err(ShelfFault::Memory),
+            End::Failed => Err(self.fault()),
+        }
+    }
+
+    fn put(&mut self, name: &str, bytes: &[u8]) -> Result<(), ShelfFault> {
+        match write_file(&self.rt, name, bytes) {
+            Ok(()) => Ok(()),
+            Err(_) => Err(self.fault()),
+        }
+    }
+}
+
+/// Why no more bytes are taken from a file.
+enum End {
+    OfFile,
+    TooLong,
+    Failed,
+    Memory,
+}
+
+/// Takes the bytes of a file, but at most one more than a file may have.
+fn take_all<F: Read>(file: &mut F, bytes: &mut Vec<u8>) -> End
+    requires { bytes.old.items ≡ [] }
+    ensures long { result ≡ End.TooLong → length bytes.new.items ≡ TOO_LONG }
+    ensures short { (result ≡ End.TooLong → ⊥) → length bytes.new.items < TOO_LONG }
+{
+    let mut block = [0; BLOCK];
+    for _ in 0..u64::MAX {
+        let wanted = (LONGEST_FILE + 1 - bytes.len()).min(BLOCK);
+        let Ok(count) = file.read(&mut block[..wanted]) else {
+            return End::Failed;
+        };
+        if count == 0 {
+            return End::OfFile;
+        }
+        if bytes.extend_from_slice(&block[..count]).is_err() {
+            return End::Memory;
+        }
+        if bytes.len() > LONGEST_FILE {
+            return End::TooLong;
+        }
+    }
+    End::Failed
+}
+
+/// Makes the file of that name hold these bytes.
+fn write_file<R: Files>(rt: &R, name: &str, bytes: &[u8]) -> io::Result<()> {
+    let mut file = fs::create(rt, name)?;
+    file.write_all(bytes)
+}
+
+#[cfg(test)]
+mod tests {
+    use super::*;
+    use std::process::Abort;
+    use std::test::Fail;
+
+    const NAME: &str = "file_shelf.test";
+
+    /// Makes the file have `len` bytes of zeros.
+    fn make(rt: HostRuntime, len: u64) -> io::Result<()> {
+        fs::create(&rt, NAME)?.set_len(len)
+    }
+
+    fn file_is(rt: HostRuntime, bytes: &[u8]) -> io::Result<bool> {
+        Ok(fs::read(&rt, NAME)?.as_slice() == bytes)
+    }
+
+    fn replaces_the_bytes(rt: HostRuntime, test: &impl Abort) -> Result<(), Fail> {
+        let mut shelf = FileShelf::new(rt);
+        shelf.put(NAME, b"abc")?;
+        assert!(test; file_is(rt, b"abc")?);
+        shelf.put(NAME, &[0, 255])?;
+        assert!(test; file_is(rt, &[0, 255])?);
+        let got = shelf.get(rt.alloc(), NAME)?;
+        assert!(test; got.as_slice() == [0, 255].as_slice());
+        assert_eq!(test; (shelf.taken, shelf.faults), (2, 0));
+        Ok(())
+    }
+
+    fn refuses_a_long_file(rt: HostRuntime, test: &impl Abort) -> Result<(), Fail> {
+        let mut shelf = FileShelf::new(rt);
+        make(rt, 67_108_864)?;
+        assert_eq!(test; shelf.get(rt.alloc(), NAME)?.len(), 67_108_864);
+        make(rt, 67_108_865)?;
+        assert!(test; shelf.get(rt.alloc(), NAME).is_err());
+        assert_eq!(test; (shelf.taken, shelf.faults), (67_108_865, 0));
+        Ok(())
+    }
+
+    fn counts_faults(rt: HostRuntime, test: &impl Abort) -> Result<(), Fail> {
+        let mut shelf = FileShelf::new(rt);
+        assert!(test; shelf.get(rt.alloc(), "no_folder/file").is_err());
+        assert!(test; shelf.put("no_folder/file", b"abc").is_err());
+        assert_eq!(test; (shelf.taken, shelf.faults), (0, 2));
+        Ok(())
+    }
+
+    #[test]
+    fn keeps_bytes_in_files(rt: HostRuntime) -> Result<(), Fail> {
+        replaces_the_bytes(rt, &rt)?;
+        refuses_a_long_file(rt, &rt)?;
+        counts_faults(rt, &rt)?;
+        fs::remove_file(&rt, NAME)?;
+        Ok(())
+    }
+}

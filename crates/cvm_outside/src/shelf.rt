@@ -1,0 +1,62 @@
+// Named files.
+ghost use Rattle.std.specs.Prelude.{◌≡◌, ◌≢◌, ◌≤◌, ◌↔◌, ◌⊎◌, ℕ, min, List, Option, length, take, IfOk, IfSome, OnOk, OnErr, IsErrOf};
+ghost use Rattle.cvm_outside.specs.Causes.{Counts, ShelfCounts};
+ghost use Rattle.cvm_outside.specs.Told.{Tells, retold, TOO_LONG};
+ghost use Rattle.cvm_outside.specs.declared.shelf.ShelfFault.TheVariants.{TooLong, Memory};
+
+use std::alloc::Global;
+
+/// The most bytes that a file may have: 64 MiB.
+pub const LONGEST_FILE: usize = 67_108_864;
+
+/// Why a call of a shelf gave no answer.
+#[derive(Clone, Copy, Debug, PartialEq, Eq)]
+pub enum ShelfFault {
+    /// The file could not be read or written, and the shelf counted a fault.
+    Failed,
+    /// The file has more than 67,108,864 bytes.
+    TooLong,
+    /// Want of memory.
+    Memory,
+}
+
+/// Named files.
+pub trait Shelf {
+    /// The bytes of the file of a name, where they are told.
+    ghost file: { Self → List ℕ → Option (List ℕ) };
+
+    /// How many bytes the last `get` took.
+    ghost taken: { Self → ℕ };
+
+    /// How many faults there were.
+    ghost faults: { Self → ℕ };
+
+    /// The bytes of the file of that name, at most 67,108,864. No file changes.
+    ///
+    /// # Errors
+    ///
+    /// `Failed` only where the count of faults rose, `TooLong` exactly where 67,108,865 bytes were
+    /// taken, and want of memory.
+    fn get(&mut self, alloc: Global, name: &str) -> Result<Vec<u8>, ShelfFault>
+        ensures files { (n : List ℕ) → file self.new n ≡ file self.old n }
+        ensures bytes { IfOk result (λ v. Tells (file self.old name.now) v.items) }
+        ensures all { IfOk result (λ v. length v.items ≡ taken self.new) }
+        ensures most { taken self.new ≤ TOO_LONG }
+        ensures long { IsErrOf result TooLong ↔ (taken self.new ≡ TOO_LONG) }
+        ensures told_long { IsErrOf result TooLong → IfSome (file self.old name.now) (λ bs. taken self.new ≡ min (length bs) TOO_LONG) }
+        ensures count { ShelfCounts (faults self.old) (faults self.new) result };
+
+    /// Makes the bytes of the file of that name those given. The other files are as before. After a
+    /// fault the file holds its old bytes or a prefix of the new ones.
+    ///
+    /// # Errors
+    ///
+    /// `Failed`, only where the count of faults rose.
+    fn put(&mut self, name: &str, bytes: &[u8]) -> Result<(), ShelfFault>
+        ensures others { (n : List ℕ) → n ≢ name.now → file self.new n ≡ file self.old n }
+        ensures bytes { OnOk result (file self.new name.now ≡ retold (file self.old name.now) bytes.now) }
+        ensures part { OnErr result ((file self.new name.now ≡ file self.old name.now) ⊎ ((n : ℕ) × (file self.new name.now ≡ retold (file self.old name.now) (take n bytes.now)))) }
+        ensures few { (IsErrOf result TooLong → ⊥) × (IsErrOf result Memory → ⊥) }
+        ensures taken { taken self.new ≡ taken self.old }
+        ensures count { ShelfCounts (faults self.old) (faults self.new) result };
+}

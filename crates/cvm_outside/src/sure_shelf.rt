@@ -1,0 +1,65 @@
+// A shelf in memory, where no call fails.
+ghost use Rattle.std.specs.Prelude.{◌≡◌, ◌≢◌, ◌≤◌, ◌↔◌, List, ℕ, length, IsOk, IfOk, IsErrOf, IsSomeAnd, unwrap_or, if◌then◌else◌, None, []};
+ghost use Rattle.cvm_outside.specs.Told.{TOO_LONG};
+ghost use Rattle.cvm_outside.specs.Shelves.{placed, calls_of, taken_of, bytes_of, found, lacks_room, replaced, inside};
+ghost use Rattle.cvm_outside.specs.declared.shelf.ShelfFault.TheVariants.{Failed, TooLong};
+
+use crate::mem_shelf::MemShelf;
+use crate::{Shelf, ShelfFault};
+use std::alloc::Global;
+
+/// A shelf over one in memory. Where that fails, a `put` does nothing and a `get` answers the empty
+/// file, and so it tells no contents.
+#[derive(Drop)]
+pub struct SureShelf {
+    inner: MemShelf,
+}
+
+impl SureShelf {
+    /// A shelf over `inner`, which is to have no call that fails by its number.
+    pub fn new(inner: MemShelf) -> SureShelf
+        requires { (calls_of inner).failing ≡ [] }
+        ensures { inside result ≡ inner }
+    {
+        SureShelf { inner }
+    }
+}
+
+impl Shelf for SureShelf {
+    ghost file = { λ _ _. None };
+
+    ghost taken = { λ s. taken_of (inside s) };
+
+    ghost faults = { λ _. 0 };
+
+    /// The bytes of the file of that name, or none where there is no such file.
+    ///
+    /// # Errors
+    ///
+    /// `TooLong` exactly where there is one of more than 67,108,864 bytes, and want of memory.
+    fn get(&mut self, alloc: Global, name: &str) -> Result<Vec<u8>, ShelfFault>
+        ensures sure { IsErrOf result Failed → ⊥ }
+        ensures found { IfOk result (λ v. v.items ≡ unwrap_or (bytes_of (found (inside self.old) name.now)) []) }
+        ensures too_long { IsErrOf result TooLong ↔ IsSomeAnd (found (inside self.old) name.now) (λ f. TOO_LONG ≤ length f.bytes) }
+        ensures placed { (n : List ℕ) → placed (inside self.new) n ≡ placed (inside self.old) n }
+        ensures all { IfOk result (λ v. length v.items ≡ taken_of (inside self.new)) }
+        ensures most { taken_of (inside self.new) ≤ TOO_LONG }
+        ensures long { IsErrOf result TooLong ↔ (taken_of (inside self.new) ≡ TOO_LONG) }
+    {
+        match self.inner.get(alloc, name) {
+            Err(ShelfFault::Failed) => Ok(Vec::new(alloc)),
+            answer => answer,
+        }
+    }
+
+    /// Puts the bytes where the file is there and has room for them. There is no error.
+    fn put(&mut self, name: &str, bytes: &[u8]) -> Result<(), ShelfFault>
+        ensures sure { IsOk result }
+        ensures put { placed (inside self.new) name.now ≡ (if lacks_room (found (inside self.old) name.now) bytes.now then placed (inside self.old) name.now else replaced (placed (inside self.old) name.now) bytes.now) }
+        ensures others { (n : List ℕ) → n ≢ name.now → placed (inside self.new) n ≡ placed (inside self.old) n }
+        ensures taken { taken_of (inside self.new) ≡ taken_of (inside self.old) }
+    {
+        let _ = self.inner.put(name, bytes);
+        Ok(())
+    }
+}
