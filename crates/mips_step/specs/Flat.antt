@@ -1,0 +1,9 @@
+-- What a step over the flat bus answers.
+use Rattle.mips_table.specs.Flat as table
+use Rattle.mips_step.specs.declared.cpu.Outcome.{Outcome}
+use Rattle.mips_step.specs.declared.cpu.Outcome.TheVariants.{Done, Trap}
+
+-- the machine after a step, with how it ended
+abbrev pub answer : Outcome → table.Flat → table.VStep
+answer Done after = table.Next after
+answer (Trap cause edata) after = table.Trap after cause edata

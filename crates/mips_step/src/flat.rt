@@ -1,0 +1,83 @@
+// The flat memory.
+ghost use Rattle.std.specs.Prelude.{◌≡◌, ℕ, ◌/◌, List, slice_set, refl};
+ghost use Rattle.mips_table.specs.Flat.{vstep, is_inside, flat_memory};
+ghost use Rattle.mips_step.specs.Ends.{Reads};
+ghost use Rattle.mips_step.specs.Flat.{answer};
+
+use crate::bus::{Bus, MemoryBus};
+use crate::cpu::{Cpu, Outcome};
+use crate::stepping::step_in_memory;
+
+/// A memory that is a list of words: word k stands at address 4 * k, and an address past them is refused.
+#[derive(Drop)]
+pub struct Flat {
+    pub words: Vec<u32>,
+}
+
+impl Bus for Flat {
+    ghost may_fetch = { λ s a. is_inside s.words.items a };
+
+    ghost may_load = { λ s a. is_inside s.words.items a };
+
+    ghost may_store = { λ s a. is_inside s.words.items a };
+
+    ghost loads = { λ s a value t. Reads flat_memory s.words.items a value t.words.items };
+
+    ghost stores = { λ s a value t. t.words.items ≡ slice_set s.words.items (a / 4) value };
+
+    fn may_fetch(&self, a: u32) -> bool {
+        (a as usize) / 4 < self.words.len()
+    }
+
+    fn may_load(&self, a: u32) -> bool {
+        (a as usize) / 4 < self.words.len()
+    }
+
+    fn may_store(&self, a: u32) -> bool {
+        (a as usize) / 4 < self.words.len()
+    }
+
+    fn load(&mut self, address: u32) -> u32 {
+        let index = address as usize / 4;
+        if index < self.words.len() {
+            self.words[index]
+        } else {
+            0
+        }
+    }
+
+    fn store(&mut self, address: u32, value: u32) {
+        let index = address as usize / 4;
+        if index < self.words.len() {
+            self.words[index] = value;
+        }
+    }
+}
+
+impl MemoryBus for Flat {
+    ghost View = { List ℕ };
+
+    ghost view = { λ s. s.words.items };
+
+    ghost memory = { flat_memory };
+
+    ghost written = { λ words a value. slice_set words (a / 4) value };
+
+    ghost fetches_seen = { λ s a. refl };
+
+    ghost loads_seen = { λ s a. refl };
+
+    ghost stores_seen = { λ s a. refl };
+
+    ghost reads = { λ s a value t h. h };
+
+    ghost writes = { λ s a value t h. h };
+}
+
+/// One step of the flat machine.
+pub fn flat_step(cpu: &mut Cpu, flat: &mut Flat) -> Outcome
+    ensures { vstep (record { pc = cpu.old.pc; regs = cpu.old.regs; words = flat.old.words.items })
+        ≡ answer result (record { pc = cpu.new.pc; regs = cpu.new.regs; words = flat.new.words.items }) }
+{
+    step_in_memory(cpu, flat)
+}

@@ -1,0 +1,98 @@
+// One step.
+ghost use Rattle.std.specs.Prelude.{◌≡◌};
+ghost use Rattle.mips_table.specs.Core.{move};
+ghost use Rattle.mips_table.specs.Effect.{HasRegister};
+ghost use Rattle.mips_step.specs.Ends.{Ends};
+ghost use Rattle.mips_step.specs.Step.{Performs, Steps};
+
+use crate::bus::{Bus, MemoryBus};
+use crate::cpu::{Cpu, Outcome};
+use mips_table::effect::next;
+use mips_table::{Cause, Effect, decode, effect_of};
+
+/// One user instruction: a fetch, and then at most one load or one store, each only where the bus may take it.
+///
+/// After a trap the registers are unchanged, the bus is as its fetch alone left it, and pc is where to go on: the next
+/// instruction after an overflow or a system call, and else the one that trapped. What a trap concerns is the word of the
+/// instruction where it is illegal, overflows or calls, and else the address of the access.
+pub fn step<B: Bus>(cpu: &mut Cpu, bus: &mut B) -> Outcome
+    ensures { Steps B.may_fetch B.may_load B.may_store B.loads B.stores
+        (record { pc = cpu.old.pc; regs = cpu.old.regs }) bus.old
+        (record { outcome = result; core = record { pc = cpu.new.pc; regs = cpu.new.regs } }) bus.new }
+{
+    let pc = cpu.pc;
+    if pc % 4 != 0 {
+        return Outcome::Trap(Cause::FetchAlign, pc);
+    }
+    if !bus.may_fetch(pc) {
+        return Outcome::Trap(Cause::FetchFault, pc);
+    }
+    let word = bus.load(pc);
+    let Some(inst) = decode(word) else {
+        return Outcome::Trap(Cause::Illegal, word);
+    };
+    let effect = effect_of(&inst, pc, &cpu.regs);
+    perform(cpu, bus, word, effect)
+}
+
+// What the instruction in this word asks for.
+fn perform<B: Bus>(cpu: &mut Cpu, bus: &mut B, word: u32, effect: Effect) -> Outcome
+    requires { HasRegister effect }
+    ensures { Performs B.may_fetch B.may_load B.may_store B.loads B.stores
+        (record { pc = cpu.old.pc; regs = cpu.old.regs }) bus.old word effect
+        (record { outcome = result; core = record { pc = cpu.new.pc; regs = cpu.new.regs } }) bus.new }
+{
+    match effect {
+        Effect::Set {
+            register,
+            value,
+            next,
+        } => {
+            cpu.write(register, value);
+            cpu.pc = next;
+            Outcome::Done
+        }
+        Effect::Load { register, address } => {
+            if address % 4 != 0 {
+                return Outcome::Trap(Cause::DataAlign, address);
+            }
+            if !bus.may_load(address) {
+                return Outcome::Trap(Cause::DataFault, address);
+            }
+            let value = bus.load(address);
+            cpu.write(register, value);
+            cpu.pc = next(cpu.pc);
+            Outcome::Done
+        }
+        Effect::Store { address, value } => {
+            if address % 4 != 0 {
+                return Outcome::Trap(Cause::DataAlign, address);
+            }
+            if !bus.may_store(address) {
+                return Outcome::Trap(Cause::DataFault, address);
+            }
+            bus.store(address, value);
+            cpu.pc = next(cpu.pc);
+            Outcome::Done
+        }
+        Effect::Overflow => {
+            cpu.pc = next(cpu.pc);
+            Outcome::Trap(Cause::Overflow, word)
+        }
+        Effect::Call => {
+            cpu.pc = next(cpu.pc);
+            Outcome::Trap(Cause::Syscall, word)
+        }
+        Effect::System => Outcome::Trap(Cause::Illegal, word),
+    }
+}
+
+/// One user instruction over a bus that is a memory: what comes of it is the move of that memory.
+pub fn step_in_memory<B: MemoryBus>(cpu: &mut Cpu, bus: &mut B) -> Outcome
+    ensures { Ends (λ old address value new. new ≡ B.written old address value)
+        (record { pc = cpu.old.pc; regs = cpu.old.regs }) (B.view bus.old)
+        (move (B.memory (B.view bus.old)) cpu.old.pc cpu.old.regs)
+        (record { outcome = result; core = record { pc = cpu.new.pc; regs = cpu.new.regs } }) (B.view bus.new) }
+{
+    step(cpu, bus)
+}
