@@ -1,0 +1,112 @@
+-- Steps keep the lengths of the lists in a machine's state: a caller that reads registers or memory after a run needs them.
+use Rattle.std.proofs.Common.{◌≡◌, ℕ, zero, suc, ◌/◌, Bool, true, false, not, cond, List, length, Option, Some, None, refl, ap, ◌∙◌, length-set}
+use Rattle.std.specs.Prelude.{slice_set, slice_index, ◌==◌, ⊤}
+use Rattle.mips_table.specs.declared.inst.Inst.{Inst}
+use Rattle.mips_table.specs.declared.cause.Cause.{Cause}
+use Rattle.mips_table.specs.declared.cause.Cause.TheVariants as causes
+use Rattle.mips_table.specs.declared.effect.Effect.{Effect}
+use Rattle.mips_table.specs.declared.effect.Effect.TheVariants.{Set, Load, Store, Overflow, Call, System}
+use Rattle.mips_table.specs.Decoding.{decoding}
+use Rattle.mips_table.specs.Effect.{next, effect_of}
+use Rattle.mips_table.specs.Core.{Memory, Move, Ran, Stored, Trapped, Asked, write, is_aligned, accessed, performed, executed, move}
+use Rattle.first_machine.specs.Machine.{State, POWER, seen, is_on, interrupted, moved, stepped, step, run}
+
+length_write : (regs : List ℕ) (register value : ℕ) → length (write regs register value) ≡ length regs
+length_write regs register value = by (register == 0)
+  where
+    by : (b : Bool) → length (cond b regs (slice_set regs register value)) ≡ length regs
+    by true = refl
+    by false = length-set regs register value
+
+-- a move that leaves so many registers
+Leaves : ℕ → Move → Type 0
+Leaves n (Ran pc regs) = length regs ≡ n
+Leaves n (Stored pc regs address value) = length regs ≡ n
+Leaves n (Trapped cause edata epc) = ⊤
+Leaves n (Asked word) = ⊤
+
+accessed_leaves : (n : ℕ) (may : Bool) (misaligned refused : Cause) (address pc : ℕ) (m : Move) → Leaves n m → Leaves n (accessed may misaligned refused address pc m)
+unfolding Leaves
+accessed_leaves n may misaligned refused address pc m h = by (is_aligned address) may
+  where
+    by : (aligned may : Bool) → Leaves n (cond (not aligned) (Trapped misaligned address pc) (cond (not may) (Trapped refused address pc) m))
+    by false may = tt
+    by true false = tt
+    by true true = h
+
+performed_leaves : (m : Memory) (pc : ℕ) (regs : List ℕ) (word : ℕ) (effect : Effect) → Leaves (length regs) (performed m pc regs word effect)
+unfolding Leaves
+performed_leaves m pc regs word (Set register value to) = length_write regs register value
+performed_leaves m pc regs word (Load register address) = accessed_leaves (length regs) _ causes.DataAlign causes.DataFault address pc (Ran (next pc) (write regs register (m.word address))) (length_write regs register (m.word address))
+performed_leaves m pc regs word (Store address value) = accessed_leaves (length regs) _ causes.DataAlign causes.DataFault address pc (Stored (next pc) regs address value) refl
+performed_leaves m pc regs word Overflow = tt
+performed_leaves m pc regs word Call = tt
+performed_leaves m pc regs word System = tt
+
+executed_leaves : (m : Memory) (pc : ℕ) (regs : List ℕ) (word : ℕ) (inst : Option Inst) → Leaves (length regs) (executed m pc regs word inst)
+unfolding Leaves
+executed_leaves m pc regs word None = tt
+executed_leaves m pc regs word (Some inst) = performed_leaves m pc regs word (effect_of inst pc (slice_index regs))
+
+move_leaves : (m : Memory) (pc : ℕ) (regs : List ℕ) → Leaves (length regs) (move m pc regs)
+move_leaves m pc regs = accessed_leaves (length regs) _ causes.FetchAlign causes.FetchFault pc pc _ (executed_leaves m pc regs (m.word pc) (decoding (m.word pc)))
+
+moved_registers : (s : State) (m : Move) → Leaves (length s.regs) m → length (moved s m).regs ≡ length s.regs
+unfolding Leaves
+moved_registers s (Ran pc regs) h = h
+moved_registers s (Stored pc regs address value) h = h
+moved_registers s (Trapped cause edata epc) h = refl
+moved_registers s (Asked word) h = refl
+
+store_memory : (s : State) (address value : ℕ) (b : Bool) → length (cond b (record s { off = Some value }) (record s { memory = slice_set s.memory (address / 4) value })).memory ≡ length s.memory
+store_memory s address value true = refl
+store_memory s address value false = length-set s.memory (address / 4) value
+
+moved_memory : (s : State) (m : Move) → length (moved s m).memory ≡ length s.memory
+moved_memory s (Ran pc regs) = refl
+moved_memory s (Stored pc regs address value) = store_memory s address value (address == POWER)
+moved_memory s (Trapped cause edata epc) = refl
+moved_memory s (Asked word) = refl
+
+store_special : (s : State) (address value : ℕ) (b : Bool) → (cond b (record s { off = Some value }) (record s { memory = slice_set s.memory (address / 4) value })).special ≡ s.special
+store_special s address value true = refl
+store_special s address value false = refl
+
+moved_special : (s : State) (m : Move) → length s.special ≡ 9 → length (moved s m).special ≡ 9
+moved_special s (Ran pc regs) h = h
+moved_special s (Stored pc regs address value) h = ap length (store_special s address value (address == POWER)) ∙ h
+moved_special s (Trapped cause edata epc) h = refl
+moved_special s (Asked word) h = refl
+
+-- what the reset and each move keep, a step keeps
+step_keeps : (P : State → Type 0) (s : State) → P s → P (record (interrupted s 0 0 s.pc) { reset = false }) → P (moved s (move (seen s) s.pc s.regs)) → P (step s)
+unfolding step
+step_keeps P s h reset moves = by_on (is_on s.off)
+  where
+    by_reset : (b : Bool) → P (cond b (record (interrupted s 0 0 s.pc) { reset = false }) (moved s (move (seen s) s.pc s.regs)))
+    by_reset true = reset
+    by_reset false = moves
+
+    by_on : (b : Bool) → P (cond b (stepped s) s)
+    by_on true = by_reset s.reset
+    by_on false = h
+
+-- what each step keeps, a run keeps
+run_keeps : (P : State → Type 0) → ((s : State) → P s → P (step s)) → (s : State) → P s → (n : ℕ) → P (run s n)
+run_keeps P keeps s h zero = h
+run_keeps P keeps s h (suc n) = keeps (run s n) (run_keeps P keeps s h n)
+
+pub length_registers : (s : State) (n : ℕ) → length (run s n).regs ≡ length s.regs
+length_registers s n =
+    let P : State → Type 0 = λ t. length t.regs ≡ length s.regs in
+    run_keeps P (λ t h. step_keeps P t h h (moved_registers t (move (seen t) t.pc t.regs) (move_leaves (seen t) t.pc t.regs) ∙ h)) s refl n
+
+pub length_memory : (s : State) (n : ℕ) → length (run s n).memory ≡ length s.memory
+length_memory s n =
+    let P : State → Type 0 = λ t. length t.memory ≡ length s.memory in
+    run_keeps P (λ t h. step_keeps P t h h (moved_memory t (move (seen t) t.pc t.regs) ∙ h)) s refl n
+
+pub length_special : (s : State) (n : ℕ) → length s.special ≡ 9 → length (run s n).special ≡ 9
+length_special s n nine =
+    let P : State → Type 0 = λ t. length t.special ≡ 9 in
+    run_keeps P (λ t h. step_keeps P t h refl (moved_special t (move (seen t) t.pc t.regs) h)) s nine n

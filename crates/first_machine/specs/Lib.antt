@@ -1,0 +1,5 @@
+pub mod Machine
+pub mod Storage
+pub mod Turns
+pub mod Stretch
+pub mod Ends

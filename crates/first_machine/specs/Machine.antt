@@ -1,0 +1,86 @@
+-- The machine of the first path, one step at a time: a processor in system mode, its memory, the reset and the power port.
+use Rattle.std.specs.Prelude.{ℕ, zero, suc, ◌-◌, ◌*◌, ◌/◌, Bool, true, false, if◌then◌else◌, ◌==◌, List, [], ◌∷◌, ◌++◌, length, replicate, slice_index, slice_set, Option, Some, None}
+use Rattle.mips_table.specs.declared.cause.Cause.{Cause}
+use Rattle.mips_table.specs.declared.cause.Cause.TheVariants.{Reset, External, FetchAlign, FetchFault, Illegal, Overflow, Syscall, DataAlign, DataFault}
+use Rattle.mips_table.specs.Core.{Memory, Move, Ran, Stored, Trapped, Asked, move}
+
+-- pc, registers 0 to 31, the nine special registers, the words of memory, the reset latch, and the power word once it is off
+pub record State : Type 0 where
+  pub pc : ℕ
+  pub regs : List ℕ
+  pub special : List ℕ
+  pub memory : List ℕ
+  pub reset : Bool
+  pub off : Option ℕ
+
+-- the address of the power port
+abbrev pub POWER : ℕ
+POWER = 0xfffff008
+
+-- the word at an address; one outside memory is 0
+abbrev pub word_at : List ℕ → ℕ → ℕ
+word_at memory address = slice_index memory (address / 4)
+
+-- what the processor sees: in system mode nothing is translated
+abbrev pub seen : State → Memory
+seen s = record { may_fetch = λ _. true; may_load = λ _. true; may_store = λ _. true; word = word_at s.memory }
+
+-- the number of a cause
+abbrev pub cause_number : Cause → ℕ
+cause_number Reset = 0
+cause_number External = 1
+cause_number FetchAlign = 2
+cause_number FetchFault = 3
+cause_number Illegal = 4
+cause_number Overflow = 5
+cause_number Syscall = 6
+cause_number DataAlign = 7
+cause_number DataFault = 8
+
+-- the special registers once an interrupt is taken: sr, esr, cause, epc, edata, pto, ptl, mode, emode
+abbrev pub taken : List ℕ → ℕ → ℕ → ℕ → List ℕ
+taken special cause edata epc =
+    0 ∷ slice_index special 0 ∷ cause ∷ epc ∷ edata ∷ slice_index special 5 ∷ slice_index special 6 ∷ 0 ∷ slice_index special 7 ∷ []
+
+-- an interrupt: no register and no memory changes
+abbrev pub interrupted : State → ℕ → ℕ → ℕ → State
+interrupted s cause edata epc = record s { pc = 0; special = taken s.special cause edata epc }
+
+-- a store: to the power port it switches off, outside memory it is lost
+abbrev pub stored : State → ℕ → ℕ → State
+stored s address value = if address == POWER then record s { off = Some value } else record s { memory = slice_set s.memory (address / 4) value }
+
+-- what one instruction comes to (no instruction on special registers is built yet)
+abbrev pub moved : State → Move → State
+moved s (Ran pc regs) = record s { pc = pc; regs = regs }
+moved s (Stored pc regs address value) = record (stored s address value) { pc = pc; regs = regs }
+moved s (Trapped cause edata epc) = interrupted s (cause_number cause) edata epc
+moved s (Asked word) = interrupted s 4 word s.pc
+
+-- one step of a machine that is on
+abbrev pub stepped : State → State
+stepped s = if s.reset then record (interrupted s 0 0 s.pc) { reset = false } else moved s (move (seen s) s.pc s.regs)
+
+abbrev pub is_on : Option ℕ → Bool
+is_on (Some _) = false
+is_on None = true
+
+-- one step; a machine that is off stays as it is
+unfoldable pub step : State → State
+step s = if is_on s.off then stepped s else s
+
+-- the machine after so many steps
+abbrev pub run : State → ℕ → State
+run s zero = s
+run s (suc n) = step (run s n)
+
+-- how the machine starts: these words at address 0, then zeros to so many frames of 1,024 words
+abbrev pub loaded : List ℕ → ℕ → State
+loaded words count = record {
+  pc = 0;
+  regs = replicate 32 0;
+  special = replicate 9 0;
+  memory = words ++ replicate (1024 * count - length words) 0;
+  reset = true;
+  off = None;
+}
