@@ -1,0 +1,10 @@
+pub mod Table
+pub mod Step
+pub mod Run
+pub mod Words
+pub mod Evaluate
+pub mod Assign
+pub mod Whole
+pub mod Lengths
+pub mod Start
+pub mod Emitted

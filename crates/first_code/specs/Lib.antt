@@ -1,0 +1,4 @@
+pub mod Meaning
+pub mod Code
+pub mod Runs
+pub mod Emit
