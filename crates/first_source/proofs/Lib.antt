@@ -1,0 +1,10 @@
+pub mod Names
+pub mod Turns
+pub mod Parts
+pub mod Sound
+pub mod Alive
+pub mod Complete
+pub mod Lasts
+pub mod Whole
+pub mod Lexing
+pub mod Breaks
