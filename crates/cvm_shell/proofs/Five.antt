@@ -1,0 +1,21 @@
+-- A list of five, by what stands at its places.
+use Rattle.std.proofs.Common.{◌≡◌, ◌<◌, ◌≤◌, ◌∙◌, sym, List, [], ◌∷◌, length, get_or, ap, arith}
+use Rattle.std.specs.Prelude.{string_bytes}
+use Rattle.std.specs.declared.string.String.{String}
+use Rattle.std.specs.declared.alloc.Global.{Global}
+use Rattle.cvm_shell.specs.Command.{texts}
+
+pub five : {A : Type 0} (xs : List A) (a b c d e : A) → length xs ≡ 5 → a ≡ get_or xs 0 a → b ≡ get_or xs 1 b → c ≡ get_or xs 2 c → d ≡ get_or xs 3 d → e ≡ get_or xs 4 e → xs ≡ a ∷ b ∷ c ∷ d ∷ e ∷ []
+five [] a b c d e l p q r s t = absurd (omega arith)
+five (v ∷ []) a b c d e l p q r s t = absurd (omega arith)
+five (v ∷ w ∷ []) a b c d e l p q r s t = absurd (omega arith)
+five (v ∷ w ∷ x ∷ []) a b c d e l p q r s t = absurd (omega arith)
+five (v ∷ w ∷ x ∷ y ∷ []) a b c d e l p q r s t = absurd (omega arith)
+five (v ∷ w ∷ x ∷ y ∷ z ∷ []) a b c d e l p q r s t = cc
+five (v ∷ w ∷ x ∷ y ∷ z ∷ u ∷ rest) a b c d e l p q r s t = absurd (omega arith)
+
+-- five words behind a slice, as texts
+pub five_texts : (xs slice : List (String Global)) (a b c d e : String Global) → slice ≡ xs → 5 ≤ length slice → length slice < 6
+    → a ≡ get_or slice 0 a → b ≡ get_or slice 1 b → c ≡ get_or slice 2 c → d ≡ get_or slice 3 d → e ≡ get_or slice 4 e
+    → texts xs ≡ string_bytes a ∷ string_bytes b ∷ string_bytes c ∷ string_bytes d ∷ string_bytes e ∷ []
+five_texts xs slice a b c d e same low high p q r s t = ap texts (sym same ∙ five slice a b c d e (omega arith) p q r s t)

@@ -1,0 +1,12 @@
+mod Fields
+mod Five
+mod GlobalRows
+mod Globals
+mod KernelTurn
+mod LongFiles
+mod OnePlan
+mod OneTurn
+mod Outcomes
+mod Puts
+mod Spellings
+mod Values

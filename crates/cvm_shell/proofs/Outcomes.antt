@@ -1,0 +1,62 @@
+-- The exits of a command as its outcome, and what the headline says of the one that runs a kernel.
+use Rattle.std.proofs.Common.{◌≡◌, ◌≢◌, ◌⊎◌, inl, inr, ℕ, List, refl, sym, subst, Some}
+use Rattle.std.specs.Prelude.{Option, codes}
+use Rattle.std.specs.Io.KnownBytes.{append_known}
+use Rattle.cvm_outside.specs.Told.{AppendsPart}
+use Rattle.c0_tree.specs.Tree.{CUnit}
+use Rattle.cvm_shell.specs.declared.status.Status.{Status}
+use Rattle.cvm_shell.specs.declared.status.Status.TheVariants.{Done, Words, Refused, KernelFault, StepLimit, Disk, Shelf, Sink, Memory}
+use Rattle.cvm_shell.specs.Command.{Boot}
+use Rattle.cvm_shell.specs.Refusal.{Refusal, refusal_text}
+use Rattle.cvm_shell.specs.Plan.{boots, refuses}
+use Rattle.cvm_shell.specs.Boot.{Boots, printed}
+use Rattle.cvm_shell.specs.Outcome.{IsNoCommand, ComesTo, bad_words, refusal, report, Outcome}
+use Rattle.cvm_shell.specs.Stages.{KernelEnds}
+
+pub bad_words_end : (words : List (List ℕ)) (file : List ℕ → Option (List ℕ)) (status : Status) (old new : Option (List ℕ)) → IsNoCommand words → (status ≡ Words) ⊎ (status ≡ Sink)
+    → (status ≡ Words → new ≡ append_known old (codes "bad words\n")) → (status ≡ Sink → AppendsPart old new (codes "bad words\n")) → Outcome words file status old new
+bad_words_end words file status old new none (inl e) whole part = let P : Status → Type 0 = λ s. Outcome words file s old new in subst P (sym e) (none, whole e)
+bad_words_end words file status old new none (inr e) whole part = let P : Status → Type 0 = λ s. Outcome words file s old new in subst P (sym e) (codes "bad words\n", bad_words none, part e)
+
+pub refused_end : (words : List (List ℕ)) (file : List ℕ → Option (List ℕ)) (b : Boot) (r : Refusal) (status : Status) (old new : Option (List ℕ)) → ComesTo words file b (refuses r) → (status ≡ Refused) ⊎ (status ≡ Sink)
+    → (status ≡ Refused → new ≡ append_known old (refusal_text r)) → (status ≡ Sink → AppendsPart old new (refusal_text r)) → Outcome words file status old new
+refused_end words file b r status old new comes (inl e) whole part = let P : Status → Type 0 = λ s. Outcome words file s old new in subst P (sym e) (b, r, comes, whole e)
+refused_end words file b r status old new comes (inr e) whole part = let P : Status → Type 0 = λ s. Outcome words file s old new in subst P (sym e) (refusal_text r, refusal b r comes, part e)
+
+pub kernel_end : (words : List (List ℕ)) (file : List ℕ → Option (List ℕ)) (b : Boot) (u : CUnit) (status : Status) (old new : Option (List ℕ)) → ComesTo words file b (boots u) → KernelEnds u b.turns b.steps status old new → Outcome words file status old new
+kernel_end words file b u Done old new comes h = (b, u, comes, h)
+kernel_end words file b u Words old new comes h = absurd h
+kernel_end words file b u Refused old new comes h = absurd h
+kernel_end words file b u KernelFault old new comes h = absurd h
+kernel_end words file b u StepLimit old new comes h = (b, u, comes, h)
+kernel_end words file b u Disk old new comes h = absurd h
+kernel_end words file b u Shelf old new comes h = absurd h
+kernel_end words file b u Sink old new comes h = (printed u b.turns b.steps, report b u comes, h)
+kernel_end words file b u Memory old new comes h = h
+
+-- a kernel that ends neither by the sink nor for want of memory has booted
+kernel_boots : (u : CUnit) (turns steps : ℕ) (status : Status) (old new : Option (List ℕ)) → status ≢ Sink → status ≢ Memory → KernelEnds u turns steps status old new → Boots u turns steps status old new
+kernel_boots u turns steps Done old new sink memory h = h
+kernel_boots u turns steps Words old new sink memory h = absurd h
+kernel_boots u turns steps Refused old new sink memory h = absurd h
+kernel_boots u turns steps KernelFault old new sink memory h = absurd h
+kernel_boots u turns steps StepLimit old new sink memory h = h
+kernel_boots u turns steps Disk old new sink memory h = absurd h
+kernel_boots u turns steps Shelf old new sink memory h = absurd h
+kernel_boots u turns steps Sink old new sink memory h = absurd (sink refl)
+kernel_boots u turns steps Memory old new sink memory h = absurd (memory refl)
+
+one_kernel : (u v : CUnit) → boots u ≡ boots v → u ≡ v
+one_kernel u v h = cc
+
+one_boot : (a b : Boot) → Some a ≡ Some b → a ≡ b
+one_boot a b h = cc
+
+-- the boot and the kernel that the files come to are those of the command
+pub headline_end : (a b : Boot) (u v : CUnit) (status : Status) (old new : Option (List ℕ)) → Some a ≡ Some b → (a ≡ b → boots u ≡ boots v) → status ≢ Sink → status ≢ Memory
+    → KernelEnds u a.turns a.steps status old new → Boots v b.turns b.steps status old new
+headline_end a b u v status old new e f sink memory h =
+    let same : a ≡ b = one_boot a b e in
+    let P : Boot → Type 0 = λ c. Boots u c.turns c.steps status old new in
+    let Q : CUnit → Type 0 = λ w. Boots w b.turns b.steps status old new in
+    subst Q (one_kernel u v (f same)) (subst P same (kernel_boots u a.turns a.steps status old new sink memory h))

@@ -1,0 +1,59 @@
+-- A text spells one number at most, and one that spells a number is read whole. So the words of a command are those of one boot.
+use Rattle.std.proofs.Common.{◌≡◌, ℕ, ◌+◌, ◌<◌, ◌≤◌, ◌^◌, List, [], ◌∷◌, ◌++◌, length, drop, refl, sym, ap, ◌∙◌, arith, append-nil, Some}
+use Rattle.std.specs.Prelude.{decimal, codes}
+use Rattle.std.specs.List.{prefix_len}
+use Rattle.std.specs.Char.{is_ascii_digit}
+use Rattle.std.proofs.lemmas.Fmt.{decimal_injective}
+use Rattle.cvm_text.specs.Number.{number_at}
+use Rattle.cvm_shell.specs.Command.{Boot, IsBoot}
+
+-- that the numbers which are spelled are read, as the reader of numbers says it
+abbrev pub AreRead : Type 0
+AreRead = (bytes : List ℕ) (at n : ℕ) (rest : List ℕ) → n < 2 ^ 64 → drop at bytes ≡ decimal n ++ rest → prefix_len is_ascii_digit rest ≡ 0 → number_at bytes at ≡ Some (n, at + length (decimal n))
+
+pub whole_number : AreRead → (text : List ℕ) (n : ℕ) → n < 2 ^ 64 → text ≡ decimal n → number_at text 0 ≡ Some (n, length text)
+whole_number law text n small e =
+    let front : drop 0 text ≡ decimal n ++ [] = e ∙ sym (append-nil (decimal n)) in
+    let l : 0 + length (decimal n) ≡ length text = omega (arith, ap length e) in
+    law text 0 n [] small front refl ∙ ap (λ (end : ℕ). Some (n, end)) l
+
+-- two spellings of one text
+pub same_number : (text : List ℕ) (n m : ℕ) → n < 2 ^ 64 → m < 2 ^ 64 → text ≡ decimal n → text ≡ decimal m → n ≡ m
+same_number text n m a b e d = decimal_injective n m a b (sym e ∙ d)
+
+-- these words, with numbers that they spell, are a boot
+pub words_of_boot : (words : List (List ℕ)) (word image schedule t s : List ℕ) (turns steps : ℕ) → words ≡ word ∷ image ∷ schedule ∷ t ∷ s ∷ [] → word ≡ codes "boot"
+    → t ≡ decimal turns → 1 ≤ turns → turns < 2 ^ 32 → s ≡ decimal steps → steps < 2 ^ 64
+    → IsBoot words (record { image = image; schedule = schedule; turns = turns; steps = steps })
+words_of_boot words word image schedule t s turns steps e w a some fit b less = record { spelled = cc; some_turns = some; turns_fit = fit; steps_fit = less }
+
+-- and no other
+pub words_of_one : (words : List (List ℕ)) (word image schedule t s : List ℕ) (turns steps : ℕ) → words ≡ word ∷ image ∷ schedule ∷ t ∷ s ∷ []
+    → t ≡ decimal turns → turns < 2 ^ 32 → s ≡ decimal steps → steps < 2 ^ 64
+    → (b : Boot) → IsBoot words b → record { image = image; schedule = schedule; turns = turns; steps = steps } ≡ b
+words_of_one words word image schedule t s turns steps e a fit c less b is =
+    let spelled : word ∷ image ∷ schedule ∷ t ∷ s ∷ [] ≡ codes "boot" ∷ b.image ∷ b.schedule ∷ decimal b.turns ∷ decimal b.steps ∷ [] = sym e ∙ is.spelled in
+    let i : image ≡ b.image = cc in
+    let j : schedule ≡ b.schedule = cc in
+    let k : t ≡ decimal b.turns = cc in
+    let l : s ≡ decimal b.steps = cc in
+    let turns_small : turns < 2 ^ 64 = omega arith in
+    let wanted_small : b.turns < 2 ^ 64 = omega (arith, is.turns_fit) in
+    let m : turns ≡ b.turns = same_number t turns b.turns turns_small wanted_small a k in
+    let n : steps ≡ b.steps = same_number s steps b.steps less is.steps_fit c l in
+    let boot_of : List ℕ → List ℕ → ℕ → ℕ → Boot = λ x y z w. record { image = x; schedule = y; turns = z; steps = w } in
+    ap (λ x. boot_of x schedule turns steps) i ∙ ap (λ x. boot_of b.image x turns steps) j ∙ ap (λ x. boot_of b.image b.schedule x steps) m ∙ ap (λ x. boot_of b.image b.schedule b.turns x) n
+
+-- words whose fourth spells no number of turns
+pub none_for_turns : (words : List (List ℕ)) (word image schedule t s : List ℕ) → words ≡ word ∷ image ∷ schedule ∷ t ∷ s ∷ [] → ((n : ℕ) → 1 ≤ n → n < 2 ^ 32 → t ≡ decimal n → ⊥) → (b : Boot) → IsBoot words b → ⊥
+none_for_turns words word image schedule t s e none b is =
+    let spelled : word ∷ image ∷ schedule ∷ t ∷ s ∷ [] ≡ codes "boot" ∷ b.image ∷ b.schedule ∷ decimal b.turns ∷ decimal b.steps ∷ [] = sym e ∙ is.spelled in
+    let k : t ≡ decimal b.turns = cc in
+    none b.turns is.some_turns is.turns_fit k
+
+-- words whose fifth spells no number of steps
+pub none_for_steps : (words : List (List ℕ)) (word image schedule t s : List ℕ) → words ≡ word ∷ image ∷ schedule ∷ t ∷ s ∷ [] → ((n : ℕ) → n < 2 ^ 64 → s ≡ decimal n → ⊥) → (b : Boot) → IsBoot words b → ⊥
+none_for_steps words word image schedule t s e none b is =
+    let spelled : word ∷ image ∷ schedule ∷ t ∷ s ∷ [] ≡ codes "boot" ∷ b.image ∷ b.schedule ∷ decimal b.turns ∷ decimal b.steps ∷ [] = sym e ∙ is.spelled in
+    let k : s ≡ decimal b.steps = cc in
+    none b.steps is.steps_fit k

@@ -1,0 +1,23 @@
+use Rattle.std.proofs.Common.{◌≡◌, ◌<◌, length, subst, ap, rules, List, ℕ, min, Err}
+use Rattle.std.specs.Prelude.{Option, IfSome}
+use Rattle.std.proofs.lemmas.Result.{err_from_is_err_and}
+use Rattle.cvm_outside.specs.Told.{TOO_LONG}
+use Rattle.cvm_outside.specs.declared.shelf.ShelfFault.{ShelfFault}
+use Rattle.cvm_shell.proofs.LongFiles.{image_fault, schedule_fault}
+use Rattle.cvm_shell.proofs.boot.plan.Goals as goal
+
+pub returns-in_err-image-clause-comes : goal.returns-in_err-image-clause-comes
+returns-in_err-image-clause-comes g c =
+    let p = err_from_is_err_and c.from_residual.result c.from_residual.ensures.1 in
+    rw (p.1, p.2) (image_fault _ _ _ c.in_err-image.field-0.0
+    (λ e. c.in_err-image.ensures.long.0 (ap (λ (x : ShelfFault). Err x) e))
+    (λ e. c.in_err-image.ensures.told_long (ap (λ (x : ShelfFault). Err x) e)))
+
+pub returns-in_err-schedule-clause-comes : goal.returns-in_err-schedule-clause-comes
+returns-in_err-schedule-clause-comes g c =
+    let p = err_from_is_err_and c.from_residual-in_err-schedule.result c.from_residual-in_err-schedule.ensures.1 in
+    let short : length c.in_ok-image.image.items < TOO_LONG = search rules in
+    rw (p.1, p.2) (schedule_fault _ _ c.in_ok-image.image.items _ c.in_err-schedule.field-0.0 c.in_ok-image.ensures.bytes short
+    (λ e. c.in_err-schedule.ensures.long.0 (ap (λ (x : ShelfFault). Err x) e))
+    (λ e. let P : Option (List ℕ) → Type 0 = λ o. IfSome o (λ bs. g.S.Shelf.taken c.get-2.new.self ≡ min (length bs) TOO_LONG) in
+    subst P (c.in_ok-image.ensures.files c.args.boot.now.schedule.now) (c.in_err-schedule.ensures.told_long (ap (λ (x : ShelfFault). Err x) e))))

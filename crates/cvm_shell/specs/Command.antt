@@ -1,0 +1,22 @@
+-- The words of a command.
+use Rattle.std.specs.Prelude.{◌≡◌, ℕ, ◌^◌, ◌<◌, ◌≤◌, List, [], ◌∷◌, decimal, codes, string_bytes, map}
+use Rattle.std.specs.declared.string.String.{String}
+use Rattle.std.specs.declared.alloc.Global.{Global}
+
+-- boot an image under a schedule, for so many turns and at most so many steps
+pub record Boot : Type 0 where
+  pub image : List ℕ
+  pub schedule : List ℕ
+  pub turns : ℕ
+  pub steps : ℕ
+
+-- the words as texts
+abbrev pub texts : List (String Global) → List (List ℕ)
+texts words = map string_bytes words
+
+-- boot IMAGE SCHEDULE TURNS STEPS
+pub record IsBoot (words : List (List ℕ)) (b : Boot) : Type 0 where
+  pub spelled : words ≡ codes "boot" ∷ b.image ∷ b.schedule ∷ decimal b.turns ∷ decimal b.steps ∷ []
+  pub some_turns : 1 ≤ b.turns
+  pub turns_fit : b.turns < 2 ^ 32
+  pub steps_fit : b.steps < 2 ^ 64

@@ -1,0 +1,10 @@
+pub mod Command
+pub mod Image
+pub mod Refusal
+pub mod Plan
+pub mod Cvm
+pub mod Text
+pub mod Boot
+pub mod Outcome
+pub mod Views
+pub mod Stages

@@ -1,0 +1,73 @@
+// The words of a command.
+ghost use Rattle.std.specs.Prelude.{◌≡◌, ◌<◌, ◌≤◌, ◌^◌, ℕ, IfSome, IfNone, MatchOption, decimal, Some, option_map};
+ghost use Rattle.cvm_shell.specs.Command as command;
+ghost use Rattle.cvm_shell.specs.Outcome.{IsNoCommand};
+ghost use Rattle.cvm_shell.specs.Views.{boot_view};
+
+use cvm_text::{read_decimal, spelled_numbers_are_read};
+
+/// The most turns that a command names.
+const MOST_TURNS: u64 = 4_294_967_295;
+
+/// The command `boot IMAGE SCHEDULE TURNS STEPS`.
+#[derive(Clone, Copy, Drop)]
+pub struct Boot<'a> {
+    /// The name of the image's file.
+    pub image: &'a str,
+    /// The name of the schedule's file.
+    pub schedule: &'a str,
+    /// How many turns are wanted, at least 1.
+    pub turns: u32,
+    /// The most steps of the machine.
+    pub steps: u64,
+}
+
+/// Reads the words of a command, None where they have no form of one.
+pub fn read_boot(words: &Vec<String>) -> Option<Boot<'_>>
+    ensures found { IfSome result (λ b. command.IsBoot (command.texts words.now.items) (boot_view b)) }
+    ensures only { (b : command.Boot) → command.IsBoot (command.texts words.now.items) b → option_map boot_view result ≡ Some b }
+    ensures none { IfNone result (IsNoCommand (command.texts words.now.items)) }
+{
+    let [word, image, schedule, turns, steps] = words.as_slice() else {
+        return None;
+    };
+    if word.as_str() != "boot" {
+        return None;
+    }
+    let turns = read_turns(turns.as_str())?;
+    let steps = read_number(steps.as_str())?;
+    Some(Boot {
+        image: image.as_str(),
+        schedule: schedule.as_str(),
+        turns,
+        steps,
+    })
+}
+
+// The number of turns, at least 1 and below 2^32, that a text is the decimal spelling of.
+fn read_turns(text: &str) -> Option<u32>
+    ensures { MatchOption result ((n : ℕ) → 1 ≤ n → n < 2 ^ 32 → text.now ≡ decimal n → ⊥) (λ n. (text.now ≡ decimal n) × (1 ≤ n)) }
+{
+    let number = read_number(text)?;
+    if number == 0 {
+        return None;
+    }
+    if number > MOST_TURNS {
+        return None;
+    }
+    Some(number as u32)
+}
+
+// The number that a text is the decimal spelling of, if it is below 2^64.
+fn read_number(text: &str) -> Option<u64>
+    ensures { MatchOption result ((n : ℕ) → n < 2 ^ 64 → text.now ≡ decimal n → ⊥) (λ n. text.now ≡ decimal n) }
+{
+    spelled_numbers_are_read();
+    let bytes = text.as_bytes();
+    let (number, end) = read_decimal(bytes, 0)?;
+    if end == bytes.len() {
+        Some(number)
+    } else {
+        None
+    }
+}

@@ -1,0 +1,103 @@
+// The top call: words in, text and a status out.
+#![tactic(auto)]
+
+ghost use Rattle.std.specs.Prelude.{◌≡◌, ◌≢◌, ◌⊎◌, ℕ, List, codes, Some};
+ghost use Rattle.std.specs.Io.KnownBytes.{append_known};
+ghost use Rattle.cvm_outside.specs.Causes.{Rose};
+ghost use Rattle.cvm_outside.specs.Told.{AppendsPart, TOO_LONG};
+ghost use Rattle.c0_tree.specs.Tree.{CUnit};
+ghost use Rattle.cvm_shell.specs.Boot.{Boots};
+ghost use Rattle.cvm_shell.specs.Command as command;
+ghost use Rattle.cvm_shell.specs.Outcome.{IsNoCommand, Outcome};
+ghost use Rattle.cvm_shell.specs.Plan as plans;
+ghost use Rattle.cvm_shell.specs.Refusal as refusals;
+ghost use Rattle.cvm_shell.specs.Views.{refusal_view};
+
+pub mod boot;
+pub mod command;
+pub mod image;
+pub mod refusal;
+pub mod report;
+pub mod status;
+
+pub use boot::Stop;
+use boot::{plan, run_kernel};
+pub use command::{Boot, read_boot};
+use cvm_outside::{Sectors, Shelf, Sink};
+pub use image::{images_are_read, read_image};
+pub use refusal::Refusal;
+pub use status::Status;
+use std::alloc::Global;
+
+/// Runs the command of these words over a shelf of files, a sink of text and a disk.
+///
+/// The one command is `boot IMAGE SCHEDULE TURNS STEPS`. The status says how it ended; `Words` and
+/// `Refused` print a row of their own, and a sink that fails is `Sink`, also in place of another
+/// status whose text it was to take.
+pub fn run<S: Shelf, O: Sink, D: Sectors>(
+    alloc: Global,
+    words: &Vec<String>,
+    shelf: &mut S,
+    out: &mut O,
+    disk: &mut D,
+) -> Status
+    ensures outcome { Outcome (command.texts words.now.items) (S.file shelf.old) result (O.text out.old) (O.text out.new) }
+    ensures headline { (b : command.Boot) (image schedule : List ℕ) (u : CUnit) → command.IsBoot (command.texts words.now.items) b
+        → S.file shelf.old b.image ≡ Some image → S.file shelf.old b.schedule ≡ Some schedule → plans.Plans image schedule (plans.boots u)
+        → (Rose (S.faults shelf.old) (S.faults shelf.new) → ⊥) → (Rose (O.faults out.old) (O.faults out.new) → ⊥) → result ≢ Status.Memory
+        → Boots u b.turns b.steps result (O.text out.old) (O.text out.new) }
+    ensures refusal { (b : command.Boot) (image schedule : List ℕ) (r : refusals.Refusal) → command.IsBoot (command.texts words.now.items) b
+        → S.file shelf.old b.image ≡ Some image → S.file shelf.old b.schedule ≡ Some schedule → plans.Plans image schedule (plans.refuses r)
+        → (Rose (S.faults shelf.old) (S.faults shelf.new) → ⊥) → (Rose (O.faults out.old) (O.faults out.new) → ⊥) → result ≢ Status.Memory
+        → (result ≡ Status.Refused) × (O.text out.new ≡ append_known (O.text out.old) (refusals.refusal_text r)) }
+    ensures bad_words { IsNoCommand (command.texts words.now.items) → (result ≡ Status.Words) ⊎ (result ≡ Status.Sink) }
+    ensures too_long { (b : command.Boot) → command.IsBoot (command.texts words.now.items) b → S.taken shelf.new ≡ TOO_LONG
+        → ((result ≡ Status.Refused) × (O.text out.new ≡ append_known (O.text out.old) (refusals.refusal_text refusals.too_long))) ⊎ (result ≡ Status.Sink) }
+    ensures shelf { result ≡ Status.Shelf → Rose (S.faults shelf.old) (S.faults shelf.new) }
+    ensures sink { result ≡ Status.Sink → Rose (O.faults out.old) (O.faults out.new) }
+    ensures shelf_same { result ≢ Status.Shelf → S.faults shelf.new ≡ S.faults shelf.old }
+    ensures sink_same { result ≢ Status.Sink → O.faults out.new ≡ O.faults out.old }
+    ensures disk { (D.faults disk.new ≡ D.faults disk.old) × (D.sectors disk.new ≡ D.sectors disk.old) × (D.size disk.new ≡ D.size disk.old) }
+    ensures files { (n : List ℕ) → S.file shelf.new n ≡ S.file shelf.old n }
+{
+    let _ = disk;
+    let Some(boot) = read_boot(words) else {
+        return say(out, b"bad words\n", Status::Words);
+    };
+    match plan(alloc, &boot, shelf) {
+        Ok(unit) => run_kernel(alloc, &unit, boot.turns, boot.steps, out),
+        Err(Stop::Refused(refusal)) => refuse(&refusal, out),
+        Err(Stop::Shelf) => Status::Shelf,
+        Err(Stop::Memory) => Status::Memory,
+    }
+}
+
+// Prints a text beside a status.
+fn say<O: Sink>(out: &mut O, text: &[u8], status: Status) -> Status
+    requires { status ≢ Status.Sink }
+    ensures cases { (result ≡ status) ⊎ (result ≡ Status.Sink) }
+    ensures whole { result ≡ status → O.text out.new ≡ append_known (O.text out.old) text.now }
+    ensures part { result ≡ Status.Sink → AppendsPart (O.text out.old) (O.text out.new) text.now }
+    ensures rose { result ≡ Status.Sink → Rose (O.faults out.old) (O.faults out.new) }
+    ensures same { result ≢ Status.Sink → O.faults out.new ≡ O.faults out.old }
+{
+    match out.put(text) {
+        Ok(()) => status,
+        Err(_) => Status::Sink,
+    }
+}
+
+// Prints the row of a refusal.
+fn refuse<O: Sink>(refusal: &Refusal, out: &mut O) -> Status
+    ensures cases { (result ≡ Status.Refused) ⊎ (result ≡ Status.Sink) }
+    ensures whole { result ≡ Status.Refused → O.text out.new ≡ append_known (O.text out.old) (refusals.refusal_text (refusal_view refusal.now)) }
+    ensures part { result ≡ Status.Sink → AppendsPart (O.text out.old) (O.text out.new) (refusals.refusal_text (refusal_view refusal.now)) }
+    ensures rose { result ≡ Status.Sink → Rose (O.faults out.old) (O.faults out.new) }
+    ensures same { result ≢ Status.Sink → O.faults out.new ≡ O.faults out.old }
+{
+    let row = refusal.row();
+    say(out, row.as_str().as_bytes(), Status::Refused)
+}
+
+#[cfg(test)]
+mod tests;
