@@ -1,6 +1,6 @@
 -- A text spells one number at most, and one that spells a number is read whole. So the words of a command are those of one boot.
-use Rattle.std.proofs.Common.{◌≡◌, ℕ, ◌+◌, ◌<◌, ◌≤◌, ◌^◌, List, [], ◌∷◌, ◌++◌, length, drop, refl, sym, ap, ◌∙◌, arith, append-nil, Some}
-use Rattle.std.specs.Prelude.{decimal, codes}
+use Rattle.std.proofs.Common.{◌≡◌, ℕ, ◌+◌, ◌<◌, ◌≤◌, ◌^◌, List, [], ◌∷◌, ◌++◌, length, drop, refl, sym, ap, ◌∙◌, arith, append-nil, Some, None}
+use Rattle.std.specs.Prelude.{decimal, codes, Option}
 use Rattle.std.specs.List.{prefix_len}
 use Rattle.std.specs.Char.{is_ascii_digit}
 use Rattle.std.proofs.lemmas.Fmt.{decimal_injective}
@@ -57,3 +57,18 @@ none_for_steps words word image schedule t s e none b is =
     let spelled : word ∷ image ∷ schedule ∷ t ∷ s ∷ [] ≡ codes "boot" ∷ b.image ∷ b.schedule ∷ decimal b.turns ∷ decimal b.steps ∷ [] = sym e ∙ is.spelled in
     let k : s ≡ decimal b.steps = cc in
     none b.steps is.steps_fit k
+
+-- what is read of a text that spells a number ends where the text does
+pub read_to_end : AreRead → (text bytes : List ℕ) (n m end : ℕ) (r : Option (ℕ × ℕ)) → bytes ≡ text → r ≡ number_at bytes 0 → r ≡ Some (m, end) → n < 2 ^ 64 → text ≡ decimal n → end ≡ length bytes
+read_to_end law text bytes n m end r same e some small spelled =
+    let w : Some (n, length text) ≡ Some (m, end) = sym (whole_number law text n small spelled) ∙ ap (λ (l : List ℕ). number_at l 0) (sym same) ∙ sym e ∙ some in
+    let pair : (n, length text) ≡ (m, end) = cc in
+    sym (ap (λ (p : ℕ × ℕ). p.1) pair) ∙ ap length (sym same)
+
+something : (p : ℕ × ℕ) → Some p ≡ None → ⊥
+something p h = cc
+
+-- a text of which nothing is read spells no number
+pub not_read : AreRead → (text bytes : List ℕ) (n : ℕ) (r : Option (ℕ × ℕ)) → bytes ≡ text → r ≡ number_at bytes 0 → r ≡ None → n < 2 ^ 64 → text ≡ decimal n → ⊥
+not_read law text bytes n r same e none small spelled =
+    something (n, length text) (sym (whole_number law text n small spelled) ∙ ap (λ (l : List ℕ). number_at l 0) (sym same) ∙ sym e ∙ none)

@@ -1,3 +1,4 @@
+-- Each exit of a command is its outcome, and the one that runs a kernel is the headline's.
 use Rattle.std.proofs.Common.{ap, sym, ◌∙◌, subst}
 use Rattle.c0_tree.specs.View.{unit_view}
 use Rattle.cvm_shell.specs.declared.boot.Stop.{Stop}
