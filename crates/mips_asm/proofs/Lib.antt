@@ -1,0 +1,17 @@
+pub mod Numbers
+pub mod Cuts
+pub mod Prefix
+pub mod Forms
+pub mod Readings
+pub mod Labels
+pub mod Operands
+pub mod Places
+pub mod Faults
+pub mod Counting
+pub mod Tokens
+pub mod NumbersBack
+pub mod OperandsBack
+pub mod RowsBack
+pub mod HexBack
+pub mod LineBack
+pub mod TextBack

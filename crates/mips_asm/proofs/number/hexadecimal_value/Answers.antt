@@ -1,0 +1,18 @@
+-- The value so far never passes that of all digits, so no step overflows.
+use Rattle.std.proofs.Common.{arith, sym}
+use Rattle.std.proofs.lemmas.Int.Digits.{digits_value_more}
+use Rattle.mips_asm.proofs.Numbers.{next_fits}
+use Rattle.mips_asm.proofs.number.hexadecimal_value.Goals as goal
+
+pub overflow_mul-n : goal.overflow_mul-n
+overflow_mul-n c = omega (arith, next_fits 16 c.args.digits.now c.loop-c.c-index c.loop-c.n (omega arith) c.loop-c-test.true c.loop-c.invariant, c.requires.fits)
+
+pub overflow_add-n : goal.overflow_add-n
+overflow_add-n c =
+    let digit = sym c.digit.ensures.value in
+    omega (arith, digit, next_fits 16 c.args.digits.now c.loop-c.c-index c.loop-c.n (omega arith) c.loop-c-test.true c.loop-c.invariant, c.requires.fits)
+
+pub loop-c-preserved : goal.loop-c-preserved
+loop-c-preserved c =
+    let digit = sym c.digit.ensures.value in
+    omega (arith, digit, digits_value_more 16 c.args.digits.now c.loop-c.c-index c.loop-c-test.true, c.loop-c.invariant)

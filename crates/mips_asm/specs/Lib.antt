@@ -1,0 +1,10 @@
+pub mod Number
+pub mod Text
+pub mod Form
+pub mod Operand
+pub mod Line
+pub mod View
+pub mod Assembled
+pub mod Passes
+pub mod Listing
+pub mod Back

@@ -1,0 +1,46 @@
+-- What the code's values mean.
+use Rattle.std.specs.Prelude.{ℕ, List}
+use Rattle.std.specs.Borrow.{Bor}
+use Rattle.mips_asm.specs.declared.form.Form.{Form as CodeForm}
+use Rattle.std.specs.Prelude.{[], ◌==◌, Option, Some, None}
+use Rattle.std.specs.List.{slice_split}
+use Rattle.mips_asm.specs.declared.line.Line.{Line}
+use Rattle.mips_asm.specs.declared.line.Line.TheVariants.{BadByte, Unknown, BadOperand, OutOfRange, UnknownLabel, Nothing, Word, Zeros, Branch, Jump}
+use Rattle.mips_asm.specs.Line.{Meaning, bad_byte, unknown, bad_operand, out_of_range, unknown_label, nothing, word, zeros, branch, jump}
+use Rattle.mips_asm.specs.declared.operand.Reading.{Reading as CodeReading}
+use Rattle.mips_asm.specs.declared.operand.Reading.TheVariants.{Adds, Out, BranchLabel, JumpLabel}
+use Rattle.mips_asm.specs.Form.{Form}
+use Rattle.mips_asm.specs.Operand.{Reading, adds, out, branch_label, jump_label}
+
+-- a form
+abbrev pub form_view : CodeForm → Form
+form_view f = (f.mnemonic.now, f.word, f.operands.now)
+
+-- a text
+abbrev pub text_view : Bor (List ℕ) → List ℕ
+text_view t = t.now
+
+-- what an operand's text says
+abbrev pub reading_view : CodeReading → Reading
+reading_view (Adds n) = adds n
+reading_view (Out z) = out z
+reading_view (BranchLabel text) = branch_label text.now
+reading_view (JumpLabel text) = jump_label text.now
+
+-- what a line gives
+abbrev pub view : Line → Meaning
+view BadByte = bad_byte
+view Unknown = unknown
+view BadOperand = bad_operand
+view (OutOfRange value words) = out_of_range value words
+view UnknownLabel = unknown_label
+view Nothing = nothing
+view (Word w) = word w
+view (Zeros n) = zeros n
+view (Branch w text) = branch w text.now
+view (Jump w text) = jump w text.now
+
+-- the texts of operands that are left
+abbrev pub parts_left : Option (Bor (List ℕ)) → List (List ℕ)
+parts_left None = []
+parts_left (Some t) = slice_split (λ x. x == 44) t.now

@@ -1,0 +1,114 @@
+// The faults of a text, and the fault of a line.
+
+ghost use Rattle.std.specs.Prelude.{◌≡◌, ◌<◌, ◌≤◌, ◌+◌, ◌^◌, ◌%◌, IfSome};
+ghost use Rattle.std.specs.Option.{option_or};
+ghost use Rattle.mips_asm.specs.Assembled.{meaning_fault, twice_fault, offset as offset_of, branch_to as branch_to_of, jump_to as jump_to_of, resolved as resolved_of};
+ghost use Rattle.mips_asm.specs.Passes.{look, Near};
+ghost use Rattle.mips_asm.specs.View.{view};
+
+use crate::line::{Line, with_reading};
+use crate::operand::{Reading, signed};
+use indexmap::IndexMap;
+use thiserror::Error;
+
+/// Why a text has no words. Lines are counted from 1, and bytes of the text from 0.
+#[derive(Clone, Copy, Debug, PartialEq, Eq, Error)]
+pub enum AsmFault {
+    /// A byte that is neither printable ASCII nor a tab, CR or LF.
+    #[error("the byte at {at} is none of a text")]
+    BadByte { at: u64 },
+    /// No mnemonic or directive has this name.
+    #[error("line {line}: unknown mnemonic")]
+    UnknownMnemonic { line: u64 },
+    /// The operands, or the rest of the line, don't have the instruction's form.
+    #[error("line {line}: bad operand")]
+    BadOperand { line: u64 },
+    /// A value that its operand can't have: a number, or a branch's offset in words.
+    #[error("line {line}: {value} is out of range")]
+    OutOfRange { line: u64, value: i64 },
+    /// A label that is never set.
+    #[error("line {line}: unknown label")]
+    UnknownLabel { line: u64 },
+    /// A label that was set before.
+    #[error("line {line}: a label is set twice")]
+    LabelTwice { line: u64 },
+    /// More than 65,536 words.
+    #[error("more than 65536 words")]
+    TooLong,
+    /// Want of memory.
+    #[error("out of memory")]
+    Memory,
+}
+
+// The offset of a branch at one word to another.
+fn offset(at: u64, to: u64) -> i64
+    requires at { at < 2 ^ 62 }
+    requires to { to < 2 ^ 62 }
+    ensures { result ≡ offset_of at to }
+{
+    to as i64 - (at as i64 + 1)
+}
+
+// A branch at a place, whose label has this place.
+fn branch_to<'a>(word: u32, at: u64, place: Option<u64>) -> Line<'a>
+    requires at { at < 2 ^ 62 }
+    requires to { IfSome place (λ p. p < 2 ^ 62) }
+    ensures { view result ≡ branch_to_of word at place }
+{
+    match place {
+        None => Line::UnknownLabel,
+        Some(to) => with_reading(Line::Word(word), Some(signed(offset(at, to)))),
+    }
+}
+
+// A jump to a label that has this place.
+fn jump_to<'a>(word: u32, place: Option<u64>) -> Line<'a>
+    ensures { view result ≡ jump_to_of word place }
+{
+    match place {
+        None => Line::UnknownLabel,
+        Some(to) => with_reading(
+            Line::Word(word),
+            Some(Reading::Adds((to % (1 << 26)) as u32)),
+        ),
+    }
+}
+
+// The place of a label.
+fn place_at(places: &IndexMap<&[u8], u64>, label: &[u8]) -> Option<u64>
+    ensures { result ≡ look places.now label.now }
+{
+    places.get(label).copied()
+}
+
+/// What a line at this place gives where the places of the labels are known.
+pub fn resolve<'a>(places: &IndexMap<&[u8], u64>, at: u64, line: Line<'a>) -> Line<'a>
+    requires at { at < 2 ^ 62 }
+    requires places { Near places.now }
+    ensures { view result ≡ resolved_of (look places.now) at (view line.entry) }
+{
+    match line {
+        Line::Branch(word, label) => branch_to(word, at, place_at(places, label)),
+        Line::Jump(word, label) => jump_to(word, place_at(places, label)),
+        line => line,
+    }
+}
+
+/// The least fault of a line with this number, whose first bad byte stands at this place of the text; `twice` says whether
+/// the line sets a label again.
+pub fn line_fault(bad: u64, number: u64, line: &Line, twice: bool) -> Option<AsmFault>
+    ensures { result ≡ option_or (meaning_fault bad number (view line.now)) (twice_fault number twice) }
+{
+    match line {
+        Line::BadByte => Some(AsmFault::BadByte { at: bad }),
+        Line::Unknown => Some(AsmFault::UnknownMnemonic { line: number }),
+        Line::BadOperand => Some(AsmFault::BadOperand { line: number }),
+        Line::OutOfRange(value, _) => Some(AsmFault::OutOfRange {
+            line: number,
+            value: *value,
+        }),
+        Line::UnknownLabel => Some(AsmFault::UnknownLabel { line: number }),
+        _ if twice => Some(AsmFault::LabelTwice { line: number }),
+        _ => None,
+    }
+}

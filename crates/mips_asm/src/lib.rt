@@ -1,0 +1,19 @@
+//! The assembler: texts to words and back.
+#![tactic(auto)]
+
+mod assembly;
+mod cut;
+mod fault;
+mod form;
+mod line;
+mod listing;
+mod number;
+mod operand;
+mod pass;
+
+pub use assembly::assemble;
+pub use fault::AsmFault;
+pub use listing::disassemble;
+
+#[cfg(test)]
+mod tests;
