@@ -4,15 +4,11 @@ use Rattle.std.specs.Prelude.{string_bytes}
 use Rattle.std.specs.declared.string.String.{String}
 use Rattle.std.specs.declared.alloc.Global.{Global}
 use Rattle.cvm_shell.specs.Command.{texts}
+use Rattle.cvm_shell.proofs.Four.{four}
 
 pub five : {A : Type 0} (xs : List A) (a b c d e : A) → length xs ≡ 5 → a ≡ get_or xs 0 a → b ≡ get_or xs 1 b → c ≡ get_or xs 2 c → d ≡ get_or xs 3 d → e ≡ get_or xs 4 e → xs ≡ a ∷ b ∷ c ∷ d ∷ e ∷ []
 five [] a b c d e l p q r s t = absurd (omega arith)
-five (v ∷ []) a b c d e l p q r s t = absurd (omega arith)
-five (v ∷ w ∷ []) a b c d e l p q r s t = absurd (omega arith)
-five (v ∷ w ∷ x ∷ []) a b c d e l p q r s t = absurd (omega arith)
-five (v ∷ w ∷ x ∷ y ∷ []) a b c d e l p q r s t = absurd (omega arith)
-five (v ∷ w ∷ x ∷ y ∷ z ∷ []) a b c d e l p q r s t = cc
-five (v ∷ w ∷ x ∷ y ∷ z ∷ u ∷ rest) a b c d e l p q r s t = absurd (omega arith)
+five (v ∷ rest) a b c d e l p q r s t = let tail : rest ≡ b ∷ c ∷ d ∷ e ∷ [] = four rest b c d e (omega arith) q r s t in cc
 
 -- five words behind a slice, as texts
 pub five_texts : (xs slice : List (String Global)) (a b c d e : String Global) → slice ≡ xs → 5 ≤ length slice → length slice < 6

@@ -1,5 +1,7 @@
 mod Fields
 mod Five
+mod Four
+mod FourBytes
 mod GlobalRows
 mod Globals
 mod KernelTurn
@@ -9,4 +11,5 @@ mod OneTurn
 mod Outcomes
 mod Puts
 mod Spellings
+mod UserTexts
 mod Values

@@ -10,7 +10,8 @@ use Rattle.cvm_shell.specs.Command.{Boot, IsBoot}
 use Rattle.cvm_shell.specs.Outcome.{ComesTo}
 use Rattle.cvm_shell.specs.Plan.{image_long, schedule_long}
 use Rattle.cvm_shell.specs.Stages.{stop_of}
-use Rattle.cvm_shell.specs.Views.{IfRefused}
+use Rattle.cvm_shell.specs.UserPlan.{Makes, text_long}
+use Rattle.cvm_shell.specs.Views.{IfRefused, IfTextRefused}
 
 -- a list of at least so many
 a_long_list : (n : ℕ) → (xs : List ℕ) × (n ≤ length xs)
@@ -44,3 +45,11 @@ schedule_fault file b image taken TooLong tells short all told words is =
     let schedule = long_contents (file b.schedule) taken (all refl) (told refl) in
     record { boot = is; image = image; schedule = schedule.0; tells_image = tells; tells_schedule = schedule.1; comes_to = schedule_long short schedule.2 }
 schedule_fault file b image taken Memory tells short all told words is = tt
+
+-- a fault at the text of a user
+pub text_get_fault : (told : Option (List ℕ)) (taken : ℕ) (f : ShelfFault) → (f ≡ TooLong → taken ≡ TOO_LONG) → (f ≡ TooLong → IfSome told (λ bs. taken ≡ min (length bs) TOO_LONG)) → IfTextRefused (Makes told) (stop_of f)
+text_get_fault told taken Failed all long = tt
+text_get_fault told taken TooLong all long =
+    let text = long_contents told taken (all refl) (long refl) in
+    record { text = text.0; tells = text.1; comes_to = text_long text.2 }
+text_get_fault told taken Memory all long = tt

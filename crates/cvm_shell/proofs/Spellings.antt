@@ -1,11 +1,11 @@
 -- A text spells one number at most, and one that spells a number is read whole. So the words of a command are those of one boot.
-use Rattle.std.proofs.Common.{◌≡◌, ℕ, ◌+◌, ◌<◌, ◌≤◌, ◌^◌, List, [], ◌∷◌, ◌++◌, length, drop, refl, sym, ap, ◌∙◌, arith, append-nil, Some, None}
-use Rattle.std.specs.Prelude.{decimal, codes, Option}
+use Rattle.std.proofs.Common.{◌≡◌, ℕ, ◌+◌, ◌<◌, ◌≤◌, ◌^◌, List, [], ◌∷◌, ◌++◌, length, drop, refl, sym, ap, ◌∙◌, arith, append-nil, Some}
+use Rattle.std.specs.Prelude.{decimal, codes}
 use Rattle.std.specs.List.{prefix_len}
 use Rattle.std.specs.Char.{is_ascii_digit}
 use Rattle.std.proofs.lemmas.Fmt.{decimal_injective}
 use Rattle.cvm_text.specs.Number.{number_at}
-use Rattle.cvm_shell.specs.Command.{Boot, IsBoot}
+use Rattle.cvm_shell.specs.Command.{Boot, CompileUser, IsBoot, IsCompileUser}
 
 -- that the numbers which are spelled are read, as the reader of numbers says it
 abbrev pub AreRead : Type 0
@@ -58,17 +58,19 @@ none_for_steps words word image schedule t s e none b is =
     let k : s ≡ decimal b.steps = cc in
     none b.steps is.steps_fit k
 
--- what is read of a text that spells a number ends where the text does
-pub read_to_end : AreRead → (text bytes : List ℕ) (n m end : ℕ) (r : Option (ℕ × ℕ)) → bytes ≡ text → r ≡ number_at bytes 0 → r ≡ Some (m, end) → n < 2 ^ 64 → text ≡ decimal n → end ≡ length bytes
-read_to_end law text bytes n m end r same e some small spelled =
-    let w : Some (n, length text) ≡ Some (m, end) = sym (whole_number law text n small spelled) ∙ ap (λ (l : List ℕ). number_at l 0) (sym same) ∙ sym e ∙ some in
-    let pair : (n, length text) ≡ (m, end) = cc in
-    sym (ap (λ (p : ℕ × ℕ). p.1) pair) ∙ ap length (sym same)
+-- these words are a compilation of a user
+pub words_of_user : (words : List (List ℕ)) (word kind text image : List ℕ) → words ≡ word ∷ kind ∷ text ∷ image ∷ [] → word ≡ codes "compile" → kind ≡ codes "user" → IsCompileUser words (record { text = text; image = image })
+words_of_user words word kind text image e w k = record { spelled = cc }
 
-something : (p : ℕ × ℕ) → Some p ≡ None → ⊥
-something p h = cc
+-- and of no other
+pub words_of_one_user : (words : List (List ℕ)) (word kind text image : List ℕ) → words ≡ word ∷ kind ∷ text ∷ image ∷ [] → (c : CompileUser) → IsCompileUser words c → Some (record { text = text; image = image }) ≡ Some c
+words_of_one_user words word kind text image e c is =
+    let spelled : word ∷ kind ∷ text ∷ image ∷ [] ≡ codes "compile" ∷ codes "user" ∷ c.text ∷ c.image ∷ [] = sym e ∙ is.spelled in
+    let t : text ≡ c.text = cc in
+    let i : image ≡ c.image = cc in
+    let user_of : List ℕ → List ℕ → CompileUser = λ x y. record { text = x; image = y } in
+    ap (λ x. Some (user_of x image)) t ∙ ap (λ x. Some (user_of c.text x)) i
 
--- a text of which nothing is read spells no number
-pub not_read : AreRead → (text bytes : List ℕ) (n : ℕ) (r : Option (ℕ × ℕ)) → bytes ≡ text → r ≡ number_at bytes 0 → r ≡ None → n < 2 ^ 64 → text ≡ decimal n → ⊥
-not_read law text bytes n r same e none small spelled =
-    something (n, length text) (sym (whole_number law text n small spelled) ∙ ap (λ (l : List ℕ). number_at l 0) (sym same) ∙ sym e ∙ none)
+-- no words are both
+pub of_one_kind : (words : List (List ℕ)) (b : Boot) (c : CompileUser) → IsBoot words b → IsCompileUser words c → ⊥
+of_one_kind words b c boot user = let e = sym boot.spelled ∙ user.spelled in cc

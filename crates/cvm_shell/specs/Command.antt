@@ -10,6 +10,16 @@ pub record Boot : Type 0 where
   pub turns : ℕ
   pub steps : ℕ
 
+-- assemble a text, and put the image that it gives
+pub record CompileUser : Type 0 where
+  pub text : List ℕ
+  pub image : List ℕ
+
+-- a command, of either kind
+pub data Command : Type 0 where
+  boot : Boot → Command
+  compile_user : CompileUser → Command
+
 -- the words as texts
 abbrev pub texts : List (String Global) → List (List ℕ)
 texts words = map string_bytes words
@@ -20,3 +30,12 @@ pub record IsBoot (words : List (List ℕ)) (b : Boot) : Type 0 where
   pub some_turns : 1 ≤ b.turns
   pub turns_fit : b.turns < 2 ^ 32
   pub steps_fit : b.steps < 2 ^ 64
+
+-- compile user ASM IMG
+pub record IsCompileUser (words : List (List ℕ)) (c : CompileUser) : Type 0 where
+  pub spelled : words ≡ codes "compile" ∷ codes "user" ∷ c.text ∷ c.image ∷ []
+
+-- the words are this command
+abbrev pub IsCommand : List (List ℕ) → Command → Type 0
+IsCommand words (boot b) = IsBoot words b
+IsCommand words (compile_user c) = IsCompileUser words c

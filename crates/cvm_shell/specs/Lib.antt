@@ -2,6 +2,7 @@ pub mod Command
 pub mod Image
 pub mod Refusal
 pub mod Plan
+pub mod UserPlan
 pub mod Cvm
 pub mod Text
 pub mod Boot

@@ -5,7 +5,8 @@ use Rattle.cvm_outside.specs.Told.{AppendsPart}
 use Rattle.cvm_outside.specs.declared.shelf.ShelfFault.{ShelfFault}
 use Rattle.cvm_outside.specs.declared.shelf.ShelfFault.TheVariants as fault
 use Rattle.c0_tree.specs.Tree.{CUnit}
-use Rattle.c0_tree.specs.declared.tree.Unit.{Unit as Tree}
+use Rattle.mips_asm.specs.declared.fault.AsmFault.{AsmFault}
+use Rattle.mips_asm.specs.declared.fault.AsmFault.TheVariants as text
 use Rattle.cvm_shell.specs.declared.boot.Stop.{Stop}
 use Rattle.cvm_shell.specs.declared.boot.Stop.TheVariants as stop
 use Rattle.cvm_shell.specs.declared.refusal.Refusal.TheVariants as refusal
@@ -19,14 +20,25 @@ stop_of fault.Failed = stop.Shelf
 stop_of fault.TooLong = stop.Refused refusal.TooLong
 stop_of fault.Memory = stop.Memory
 
+-- what a fault of a user's text comes to
+abbrev pub text_stop : AsmFault → Stop
+text_stop (text.BadByte at) = stop.Refused (refusal.BadByte at)
+text_stop (text.UnknownMnemonic line) = stop.Refused (refusal.UnknownMnemonic line)
+text_stop (text.BadOperand line) = stop.Refused (refusal.BadOperand line)
+text_stop (text.OutOfRange line value) = stop.Refused (refusal.OutOfRange line value)
+text_stop (text.UnknownLabel line) = stop.Refused (refusal.UnknownLabel line)
+text_stop (text.LabelTwice line) = stop.Refused (refusal.LabelTwice line)
+text_stop text.TooLong = stop.Refused refusal.TooManyWords
+text_stop text.Memory = stop.Memory
+
 -- what a stop says of the shelf's count of faults
 abbrev pub StopCount : ℕ → ℕ → Stop → Type 0
 StopCount before now (stop.Refused r) = now ≡ before
 StopCount before now stop.Shelf = Rose before now
 StopCount before now stop.Memory = now ≡ before
 
--- what a plan says of the shelf's count of faults
-abbrev pub PlanCounts : ℕ → ℕ → Result Tree Stop → Type 0
+-- what an answer before the run, or before the put, says of the shelf's count of faults
+abbrev pub PlanCounts : {T : Type 0} → ℕ → ℕ → Result T Stop → Type 0
 PlanCounts before now result = MatchResult result (λ _. now ≡ before) (StopCount before now)
 
 -- how the run of a kernel ends, by its status

@@ -1,13 +1,19 @@
 -- What contracts see of the enums and structs of the code.
-use Rattle.std.specs.Prelude.{Result, MatchResult, ⊤}
+use Rattle.std.specs.Prelude.{ℕ, Result, MatchResult, ⊤}
+use Rattle.std.specs.Global.{Vec}
 use Rattle.c0_tree.specs.View.{unit_view}
 use Rattle.c0_tree.specs.declared.tree.Unit.{Unit as Tree}
 use Rattle.cvm_shell.specs.Command as command
 use Rattle.cvm_shell.specs.Refusal as refusal
 use Rattle.cvm_shell.specs.Plan.{Plan, boots, refuses}
+use Rattle.cvm_shell.specs.UserPlan.{UserPlan}
+use Rattle.cvm_shell.specs.UserPlan as user
 use Rattle.cvm_shell.specs.declared.command.Boot.{Boot}
+use Rattle.cvm_shell.specs.declared.command.CompileUser.{CompileUser}
+use Rattle.cvm_shell.specs.declared.command.Command.{Command}
+use Rattle.cvm_shell.specs.declared.command.Command.TheVariants as command_code
 use Rattle.cvm_shell.specs.declared.refusal.Refusal.{Refusal}
-use Rattle.cvm_shell.specs.declared.refusal.Refusal.TheVariants.{Magic, Truncated, Trailing, Parameter, NotBuilt, TooLong}
+use Rattle.cvm_shell.specs.declared.refusal.Refusal.TheVariants.{BadByte, UnknownMnemonic, BadOperand, OutOfRange, UnknownLabel, LabelTwice, TooManyWords, Magic, Truncated, Trailing, Parameter, NotBuilt, TooLong}
 use Rattle.cvm_shell.specs.declared.boot.Stop.{Stop}
 use Rattle.cvm_shell.specs.declared.boot.Stop.TheVariants.{Refused, Shelf, Memory}
 
@@ -15,8 +21,24 @@ use Rattle.cvm_shell.specs.declared.boot.Stop.TheVariants.{Refused, Shelf, Memor
 abbrev pub boot_view : Boot → command.Boot
 boot_view b = record { image = b.image.now; schedule = b.schedule.now; turns = b.turns; steps = b.steps }
 
+-- a compilation of a user, with its names as lists of bytes
+abbrev pub user_view : CompileUser → command.CompileUser
+user_view c = record { text = c.text.now; image = c.image.now }
+
+-- a command
+abbrev pub command_view : Command → command.Command
+command_view (command_code.Boot b) = command.boot (boot_view b)
+command_view (command_code.CompileUser c) = command.compile_user (user_view c)
+
 -- a refusal
 abbrev pub refusal_view : Refusal → refusal.Refusal
+refusal_view (BadByte at) = refusal.bad_byte at
+refusal_view (UnknownMnemonic line) = refusal.unknown_mnemonic line
+refusal_view (BadOperand line) = refusal.bad_operand line
+refusal_view (OutOfRange line value) = refusal.out_of_range line value
+refusal_view (UnknownLabel line) = refusal.unknown_label line
+refusal_view (LabelTwice line) = refusal.label_twice line
+refusal_view TooManyWords = refusal.too_many_words
 refusal_view Magic = refusal.magic
 refusal_view (Truncated at) = refusal.truncated at
 refusal_view (Trailing at) = refusal.trailing at
@@ -33,3 +55,13 @@ IfRefused P Memory = ⊤
 -- a fact of the plan that the files of a boot come to, where nothing else stopped it
 abbrev pub IfPlan : (Plan → Type 0) → Result Tree Stop → Type 0
 IfPlan P result = MatchResult result (λ u. P (boots (unit_view u))) (IfRefused P)
+
+-- a fact of the plan, where a stop is a refusal of a user's text
+abbrev pub IfTextRefused : (UserPlan → Type 0) → Stop → Type 0
+IfTextRefused P (Refused r) = P (user.refuses (refusal_view r))
+IfTextRefused P Shelf = ⊤
+IfTextRefused P Memory = ⊤
+
+-- a fact of the plan that the text of a user comes to, where nothing else stopped it
+abbrev pub IfUserPlan : (UserPlan → Type 0) → Result (Vec ℕ) Stop → Type 0
+IfUserPlan P result = MatchResult result (λ v. P (user.puts v.items)) (IfTextRefused P)

@@ -2,7 +2,7 @@
 ghost use Rattle.std.specs.Prelude.{◌≡◌, ◌<◌, ◌≤◌, ◌^◌, ℕ, IfSome, IfNone, MatchOption, decimal, Some, option_map};
 ghost use Rattle.cvm_shell.specs.Command as command;
 ghost use Rattle.cvm_shell.specs.Outcome.{IsNoCommand};
-ghost use Rattle.cvm_shell.specs.Views.{boot_view};
+ghost use Rattle.cvm_shell.specs.Views.{boot_view, user_view, command_view};
 
 use cvm_text::{read_decimal, spelled_numbers_are_read};
 
@@ -22,11 +22,42 @@ pub struct Boot<'a> {
     pub steps: u64,
 }
 
+/// The command `compile user ASM IMG`.
+#[derive(Clone, Copy, Drop)]
+pub struct CompileUser<'a> {
+    /// The name of the text's file.
+    pub text: &'a str,
+    /// The name of the image's file.
+    pub image: &'a str,
+}
+
+/// A command.
+#[derive(Clone, Copy, Drop)]
+pub enum Command<'a> {
+    /// Boots an image under a schedule.
+    Boot(Boot<'a>),
+    /// Assembles the text of a user, and puts its image.
+    CompileUser(CompileUser<'a>),
+}
+
 /// Reads the words of a command, None where they have no form of one.
+pub fn read_command(words: &Vec<String>) -> Option<Command<'_>>
+    ensures found { IfSome result (λ c. command.IsCommand (command.texts words.now.items) (command_view c)) }
+    ensures only { (c : command.Command) → command.IsCommand (command.texts words.now.items) c → option_map command_view result ≡ Some c }
+    ensures none { IfNone result (IsNoCommand (command.texts words.now.items)) }
+{
+    if let Some(boot) = read_boot(words) {
+        return Some(Command::Boot(boot));
+    }
+    let user = read_compile_user(words)?;
+    Some(Command::CompileUser(user))
+}
+
+/// Reads the words of a boot, None where they have no form of one.
 pub fn read_boot(words: &Vec<String>) -> Option<Boot<'_>>
     ensures found { IfSome result (λ b. command.IsBoot (command.texts words.now.items) (boot_view b)) }
     ensures only { (b : command.Boot) → command.IsBoot (command.texts words.now.items) b → option_map boot_view result ≡ Some b }
-    ensures none { IfNone result (IsNoCommand (command.texts words.now.items)) }
+    ensures none { IfNone result ((b : command.Boot) → command.IsBoot (command.texts words.now.items) b → ⊥) }
 {
     let [word, image, schedule, turns, steps] = words.as_slice() else {
         return None;
@@ -41,6 +72,27 @@ pub fn read_boot(words: &Vec<String>) -> Option<Boot<'_>>
         schedule: schedule.as_str(),
         turns,
         steps,
+    })
+}
+
+/// Reads the words of a compilation of a user, None where they aren't those of one.
+pub fn read_compile_user(words: &Vec<String>) -> Option<CompileUser<'_>>
+    ensures found { IfSome result (λ c. command.IsCompileUser (command.texts words.now.items) (user_view c)) }
+    ensures only { (c : command.CompileUser) → command.IsCompileUser (command.texts words.now.items) c → option_map user_view result ≡ Some c }
+    ensures none { IfNone result ((c : command.CompileUser) → command.IsCompileUser (command.texts words.now.items) c → ⊥) }
+{
+    let [word, kind, text, image] = words.as_slice() else {
+        return None;
+    };
+    if word.as_str() != "compile" {
+        return None;
+    }
+    if kind.as_str() != "user" {
+        return None;
+    }
+    Some(CompileUser {
+        text: text.as_str(),
+        image: image.as_str(),
     })
 }
 

@@ -190,3 +190,106 @@ fn words_and_the_outside_fail(rt: HostRuntime) -> Result<(), Fail> {
     assert_eq!(rt; end.text.as_slice(), text.as_bytes());
     Ok(())
 }
+
+/// What stands in the image's file before a command.
+const OLD_IMAGE: &str = "the image as it was before";
+
+/// How a command ended, what it printed, and what stands in the image's file then.
+#[derive(Drop)]
+struct Compilation {
+    status: Status,
+    text: Vec<u8>,
+    image: Vec<u8>,
+}
+
+/// The bytes of a file, none where it isn't got.
+fn contents<S: Shelf>(alloc: Global, shelf: &mut S, name: &str) -> Vec<u8> {
+    match shelf.get(alloc, name) {
+        Ok(bytes) => bytes,
+        Err(_) => Vec::new(alloc),
+    }
+}
+
+/// Runs a command over a user's text `t` and an image `i`. The listed calls of the sink fail.
+fn compile(
+    alloc: Global,
+    command: &str,
+    text: &str,
+    fail: Vec<u64>,
+) -> Result<Compilation, AllocError> {
+    let mut shelf = MemShelf::new(alloc, Vec::new(alloc))?;
+    shelf.place(alloc, "t", text.as_bytes())?;
+    shelf.place(alloc, "i", OLD_IMAGE.as_bytes())?;
+    let mut sink = MemSink::new(alloc, fail)?;
+    let mut disk = MemSectors::new(alloc, 2, Vec::new(alloc))?;
+    let words = words_of(alloc, command)?;
+    let status = run(alloc, &words, &mut shelf, &mut sink, &mut disk);
+    Ok(Compilation {
+        status,
+        text: sink.bytes().to_vec(alloc)?,
+        image: contents(alloc, &mut shelf, "i"),
+    })
+}
+
+#[test]
+fn users_are_compiled(rt: HostRuntime) -> Result<(), Fail> {
+    let alloc = rt.alloc();
+    let text = "ori r1, r0, 10\nloop: addu r4, r4, r1\naddiu r1, r1, -1\nbne r1, r0, loop\nsyscall";
+    let image: [u8; 20] = [
+        0x0a, 0x00, 0x01, 0x34, 0x21, 0x20, 0x81, 0x00, 0xff, 0xff, 0x21, 0x24, 0xfd, 0xff, 0x20,
+        0x14, 0x0c, 0x00, 0x00, 0x00,
+    ];
+    let end = compile(alloc, "compile user t i", text, Vec::new(alloc))?;
+    assert_eq!(rt; end.status, Status::Done);
+    assert_eq!(rt; end.text.as_slice(), b"".as_slice());
+    assert_eq!(rt; end.image.as_slice(), image.as_slice());
+    let end = compile(alloc, "compile user t i", "", Vec::new(alloc))?;
+    assert_eq!(rt; end.status, Status::Done);
+    assert_eq!(rt; end.image.as_slice(), b"".as_slice());
+    Ok(())
+}
+
+#[test]
+fn texts_are_refused(rt: HostRuntime) -> Result<(), Fail> {
+    let alloc = rt.alloc();
+    for (text, row) in [
+        ("syscall\n\u{1}", "refused 1 8\n"),
+        ("a: a: b r1", "refused 2 1\n"),
+        ("jr r1, r2", "refused 3 1\n"),
+        ("addi r1, r2, 32768", "refused 4 1 32768\n"),
+        ("syscall\naddi r1, r2, -32769", "refused 4 2 -32769\n"),
+        ("j there", "refused 5 1\n"),
+        ("a:\na:", "refused 6 2\n"),
+        (".zero 65536\nsyscall", "refused 7\n"),
+    ] {
+        let end = compile(alloc, "compile user t i", text, Vec::new(alloc))?;
+        assert_eq!(rt; end.text.as_slice(), row.as_bytes(), "{text}");
+        assert_eq!(rt; end.status, Status::Refused, "{text}");
+        assert_eq!(rt; end.image.as_slice(), OLD_IMAGE.as_bytes());
+    }
+    Ok(())
+}
+
+#[test]
+fn compilations_fail(rt: HostRuntime) -> Result<(), Fail> {
+    let alloc = rt.alloc();
+    for (command, text, status) in [
+        ("compile user u i", "", Status::Shelf),
+        ("compile user t u", "", Status::Shelf),
+        ("compile user t", "bad words\n", Status::Words),
+        ("compile user t i i", "bad words\n", Status::Words),
+        ("compile users t i", "bad words\n", Status::Words),
+        ("Compile user t i", "bad words\n", Status::Words),
+    ] {
+        let end = compile(alloc, command, "syscall", Vec::new(alloc))?;
+        assert_eq!(rt; end.status, status, "{command}");
+        assert_eq!(rt; end.text.as_slice(), text.as_bytes(), "{command}");
+        assert_eq!(rt; end.image.as_slice(), OLD_IMAGE.as_bytes());
+    }
+    let long = ".zero 7";
+    let end = compile(alloc, "compile user t i", long, Vec::new(alloc))?;
+    assert_eq!(rt; end.status, Status::Shelf, "28 bytes don't fit");
+    let end = compile(alloc, "compile user t i", "jr", vec![in alloc; 0]?)?;
+    assert_eq!(rt; end.status, Status::Sink);
+    Ok(())
+}

@@ -1,4 +1,3 @@
--- What each exit of the reading of the two files comes to, and that it is the only plan.
 use Rattle.std.proofs.Common.{subst}
 use Rattle.first_source.specs.Faults.{FaultIs}
 use Rattle.first_source.specs.Reading.{Breaks}

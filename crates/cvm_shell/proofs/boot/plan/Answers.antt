@@ -1,4 +1,3 @@
--- A fault of the shelf at either file as what the files come to.
 use Rattle.std.proofs.Common.{◌≡◌, ◌<◌, length, subst, ap, rules, List, ℕ, min, Err}
 use Rattle.std.specs.Prelude.{Option, IfSome}
 use Rattle.std.proofs.lemmas.Result.{err_from_is_err_and}

@@ -1,4 +1,3 @@
--- The machine that was loaded runs as the kernel means, so its globals are there to be printed, and each exit is that of the kernel's run.
 use Rattle.cvm_shell.proofs.KernelTurn.{start_is, finished_from, short_from, kernel_done, kernel_part, globals_inside, global_word}
 use Rattle.c0_tree.specs.View.{unit_view}
 use Rattle.cvm_shell.proofs.boot.run_kernel.Goals as goal

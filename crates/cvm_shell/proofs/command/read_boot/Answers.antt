@@ -1,4 +1,3 @@
--- The five words, where they are those of a boot, and where the fourth or fifth is no number.
 use Rattle.std.proofs.Common.{◌≡◌, ap, arith, Some, rules}
 use Rattle.std.specs.Prelude.{codes}
 use Rattle.cvm_shell.specs.Command.{Boot}

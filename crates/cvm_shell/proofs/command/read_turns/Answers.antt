@@ -1,4 +1,3 @@
--- The one number that the text spells is 0 or too large.
 use Rattle.std.proofs.Common.{◌≡◌, decimal, arith}
 use Rattle.cvm_shell.proofs.Spellings.{same_number}
 use Rattle.cvm_shell.proofs.command.read_turns.Goals as goal

@@ -1,4 +1,3 @@
--- The reading of an image against how an image is spelled, both ways.
 use Rattle.cvm_shell.proofs.Fields.{read_is_image, image_is_read}
 use Rattle.cvm_shell.proofs.image.images_are_read.Goals as goal
 

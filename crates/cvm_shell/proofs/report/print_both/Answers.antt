@@ -1,4 +1,3 @@
--- The two texts joined, and the part of them that a failing sink took.
 use Rattle.std.proofs.lemmas.Result.{err_from_is_err_and}
 use Rattle.cvm_outside.proofs.Parts.{part-front}
 use Rattle.cvm_shell.proofs.Puts.{whole_after, part_after}

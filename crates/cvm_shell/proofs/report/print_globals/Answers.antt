@@ -1,4 +1,3 @@
--- One more row in each round, and the part of all rows where one fails.
 use Rattle.std.proofs.Common.{◌<◌, ◌∙◌, length, map, ap, arith}
 use Rattle.std.proofs.lemmas.Result.{err_from_is_err_and}
 use Rattle.std.proofs.lemmas.List.{length-map}

@@ -1,4 +1,3 @@
--- The rows of the globals so far were printed, and no fault was counted.
 use Rattle.std.proofs.Common.{◌≡◌, take}
 use Rattle.std.specs.Io.KnownBytes.{append_known}
 use Rattle.c0_tree.specs.View.{unit_view}

@@ -1,4 +1,3 @@
--- The rows of the turn and those of the globals joined, whole or in part.
 use Rattle.std.proofs.Common.{◌++◌}
 use Rattle.std.specs.Prelude.{codes}
 use Rattle.std.proofs.lemmas.Result.{err_from_is_err_and}

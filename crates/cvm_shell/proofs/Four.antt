@@ -1,0 +1,20 @@
+-- A list of four, by what stands at its places.
+use Rattle.std.proofs.Common.{◌≡◌, ◌<◌, ◌≤◌, ◌∙◌, sym, List, [], ◌∷◌, length, get_or, ap, arith}
+use Rattle.std.specs.Prelude.{string_bytes}
+use Rattle.std.specs.declared.string.String.{String}
+use Rattle.std.specs.declared.alloc.Global.{Global}
+use Rattle.cvm_shell.specs.Command.{texts}
+
+pub four : {A : Type 0} (xs : List A) (a b c d : A) → length xs ≡ 4 → a ≡ get_or xs 0 a → b ≡ get_or xs 1 b → c ≡ get_or xs 2 c → d ≡ get_or xs 3 d → xs ≡ a ∷ b ∷ c ∷ d ∷ []
+four [] a b c d l p q r s = absurd (omega arith)
+four (v ∷ []) a b c d l p q r s = absurd (omega arith)
+four (v ∷ w ∷ []) a b c d l p q r s = absurd (omega arith)
+four (v ∷ w ∷ x ∷ []) a b c d l p q r s = absurd (omega arith)
+four (v ∷ w ∷ x ∷ y ∷ []) a b c d l p q r s = cc
+four (v ∷ w ∷ x ∷ y ∷ z ∷ rest) a b c d l p q r s = absurd (omega arith)
+
+-- four words behind a slice, as texts
+pub four_texts : (xs slice : List (String Global)) (a b c d : String Global) → slice ≡ xs → 4 ≤ length slice → length slice < 5
+    → a ≡ get_or slice 0 a → b ≡ get_or slice 1 b → c ≡ get_or slice 2 c → d ≡ get_or slice 3 d
+    → texts xs ≡ string_bytes a ∷ string_bytes b ∷ string_bytes c ∷ string_bytes d ∷ []
+four_texts xs slice a b c d same low high p q r s = ap texts (sym same ∙ four slice a b c d (omega arith) p q r s)

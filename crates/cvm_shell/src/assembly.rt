@@ -1,0 +1,75 @@
+// The image of a user: its text, assembled.
+ghost use Rattle.std.specs.Prelude.{◌≡◌, ◌≢◌, ◌<◌, ◌*◌, ℕ, List, length, IfOk, IfErr, IsErrOf, Some};
+ghost use Rattle.cvm_outside.specs.Told.{TOO_LONG};
+ghost use Rattle.cvm_shell.specs.Stages.{text_stop, PlanCounts};
+ghost use Rattle.cvm_shell.specs.UserPlan.{UserPlan, UserPlans, Makes, bytes_of};
+ghost use Rattle.cvm_shell.specs.Views.{IfUserPlan};
+
+use crate::boot::Stop;
+use crate::refusal::Refusal;
+use cvm_outside::Shelf;
+use mips_asm::{AsmFault, assemble};
+use std::alloc::{AllocError, Global};
+
+impl From<AsmFault> for Stop {
+    ghost from_gives = { λ f e. e ≡ text_stop f };
+
+    fn from(fault: AsmFault) -> Self {
+        match fault {
+            AsmFault::BadByte { at } => Stop::Refused(Refusal::BadByte { at }),
+            AsmFault::UnknownMnemonic { line } => Stop::Refused(Refusal::UnknownMnemonic { line }),
+            AsmFault::BadOperand { line } => Stop::Refused(Refusal::BadOperand { line }),
+            AsmFault::OutOfRange { line, value } => {
+                Stop::Refused(Refusal::OutOfRange { line, value })
+            }
+            AsmFault::UnknownLabel { line } => Stop::Refused(Refusal::UnknownLabel { line }),
+            AsmFault::LabelTwice { line } => Stop::Refused(Refusal::LabelTwice { line }),
+            AsmFault::TooLong => Stop::Refused(Refusal::TooManyWords),
+            AsmFault::Memory => Stop::Memory,
+        }
+    }
+}
+
+/// Gets the text of a user and assembles it: the bytes of the user's image, which is its words,
+/// each little-endian, and nothing else.
+pub fn user_image<S: Shelf>(alloc: Global, name: &str, shelf: &mut S) -> Result<Vec<u8>, Stop>
+    ensures comes { IfUserPlan (Makes (S.file shelf.old name.now)) result }
+    ensures only { (text : List ℕ) (p : UserPlan) → S.file shelf.old name.now ≡ Some text → UserPlans text p → IfUserPlan (λ q. q ≡ p) result }
+    ensures long { S.taken shelf.new ≡ TOO_LONG → IsErrOf result (Stop.Refused Refusal.TooLong) }
+    ensures count { PlanCounts (S.faults shelf.old) (S.faults shelf.new) result }
+    ensures files { (n : List ℕ) → S.file shelf.new n ≡ S.file shelf.old n }
+{
+    let text = shelf.get(alloc, name)?;
+    assembled_image(alloc, &text)
+}
+
+/// A law: the image of a user has four bytes a word.
+pub fn words_have_four_bytes()
+    ensures { (words : List ℕ) → length (bytes_of words) ≡ 4 * length words }
+{}
+
+// The bytes of the image that a text comes to.
+fn assembled_image(alloc: Global, text: &[u8]) -> Result<Vec<u8>, Stop>
+    requires { length text.now < TOO_LONG }
+    ensures comes { IfUserPlan (UserPlans text.now) result }
+    ensures only { (p : UserPlan) → UserPlans text.now p → IfUserPlan (λ q. q ≡ p) result }
+    ensures inside { IfErr result (λ s. s ≢ Stop.Shelf) }
+    ensures short { IsErrOf result (Stop.Refused Refusal.TooLong) → ⊥ }
+{
+    let words = assemble(alloc, text)?;
+    match little_endian(alloc, &words) {
+        Ok(image) => Ok(image),
+        Err(_) => Err(Stop::Memory),
+    }
+}
+
+// The bytes of these words, each little-endian.
+fn little_endian(alloc: Global, words: &[u32]) -> Result<Vec<u8>, AllocError>
+    ensures { IfOk result (λ v. v.items ≡ bytes_of words.now) }
+{
+    let mut bytes = Vec::new(alloc);
+    for word in words {
+        bytes.extend_from_slice(&word.to_le_bytes())?;
+    }
+    Ok(bytes)
+}
