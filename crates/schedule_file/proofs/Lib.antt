@@ -1,0 +1,5 @@
+pub mod Cuts
+pub mod Reading
+pub mod Sought
+pub mod Spelled
+pub mod Words

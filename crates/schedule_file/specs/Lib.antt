@@ -1,0 +1,4 @@
+pub mod Rows
+pub mod Schedule
+pub mod Spelling
+pub mod Text

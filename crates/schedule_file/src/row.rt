@@ -1,0 +1,81 @@
+// Rows, and the row that a line of the text writes.
+
+ghost use Rattle.std.specs.Prelude.{◌≡◌, Some};
+ghost use Rattle.schedule_file.specs.Text.{number_of as number_in, row_of, row_of_words as row_in_words};
+ghost use Rattle.schedule_file.specs.Spelling.{spelling, HasNumbers};
+ghost use Rattle.schedule_file.specs.declared.row.Row.{Row};
+
+use crate::cut::cut;
+use crate::lines::Lines;
+use cvm_text::{read_decimal, spelled_numbers_are_read};
+
+/// Lines that are raised at a step.
+#[derive(Clone, Copy, Debug, PartialEq, Eq)]
+pub struct LineRow {
+    /// The step's number, from 0.
+    pub step: u64,
+    /// What is raised.
+    pub lines: Lines,
+}
+
+/// How long a command keeps the disk busy.
+#[derive(Clone, Copy, Debug, PartialEq, Eq)]
+pub struct BusyRow {
+    /// The command's number, from 0.
+    pub command: u64,
+    /// The busy time, in steps.
+    pub steps: u64,
+}
+
+/// A row as it is written: its numbers may be out of range.
+#[derive(Clone, Copy, Debug, PartialEq, Eq)]
+pub enum Row {
+    /// At a step a line is raised.
+    Line(u64, u64),
+    /// A command is busy for so many steps.
+    Busy(u64, u64),
+}
+
+// The number that a word spells.
+fn number_of(word: &[u8]) -> Option<u64>
+    ensures { result ≡ number_in word.now }
+{
+    let (value, end) = read_decimal(word, 0)?;
+    if end == word.len() { Some(value) } else { None }
+}
+
+// The row of a line with these three words.
+#[tactic(auto, unfolding(crate::specs::Text::row_of_words))]
+fn row_of_words(kind: &[u8], first: &[u8], second: &[u8]) -> Option<Row>
+    ensures { result ≡ row_in_words kind.now first.now second.now }
+{
+    let first = number_of(first)?;
+    let second = number_of(second)?;
+    if kind == b"line".as_slice() {
+        Some(Row::Line(first, second))
+    } else if kind == b"busy".as_slice() {
+        Some(Row::Busy(first, second))
+    } else {
+        None
+    }
+}
+
+/// The row that a line writes.
+pub fn row_in(line: &[u8]) -> Option<Row>
+    ensures { result ≡ row_of line.now }
+{
+    let (kind, rest) = cut(line, b' ');
+    let (first, rest) = cut(rest?, b' ');
+    let (second, rest) = cut(rest?, b' ');
+    if rest.is_some() {
+        return None;
+    }
+    row_of_words(kind, first, second)
+}
+
+/// A law: each row whose numbers are below 2^64 is read from its spelling.
+pub fn spelled_rows_are_read()
+    ensures { (row : Row) → HasNumbers row → row_of (spelling row) ≡ Some row }
+{
+    spelled_numbers_are_read();
+}
