@@ -1,0 +1,107 @@
+//! Interrupts: the special registers, how an interrupt is taken, and how
+//! `eret` leaves it.
+//!
+//! Source: Paul, Baumann, Lutsyk, Schmaltz, "System Architecture", for the
+//! registers and what is saved in them; their numbers and the causes' are this
+//! project's own.
+#![tactic(auto)]
+
+ghost use Rattle.std.specs.Prelude.{◌≡◌, slice_index};
+ghost use Rattle.mips_interrupts.specs.Interrupts.{number_of as number_in, taken, left};
+
+use mips_table::Cause;
+
+/// The number of sr: 1 says that external interrupts are taken.
+pub const SR: usize = 0;
+/// The number of esr: sr before the interrupt.
+pub const ESR: usize = 1;
+/// The number of eca: the cause.
+pub const ECA: usize = 2;
+/// The number of epc: where to go on after the interrupt.
+pub const EPC: usize = 3;
+/// The number of edata: what the cause concerns.
+pub const EDATA: usize = 4;
+/// The number of pto: the physical address of the page table, in bytes.
+pub const PTO: usize = 5;
+/// The number of ptl: how many pages the page table has.
+pub const PTL: usize = 6;
+/// The number of mode: 0 in system mode, and 1 in user mode.
+pub const MODE: usize = 7;
+/// The number of emode: mode before the interrupt.
+pub const EMODE: usize = 8;
+
+/// The nine special registers, by their numbers.
+#[derive(Clone, Copy, Debug, PartialEq, Eq)]
+pub struct Special {
+    /// The registers' words.
+    pub regs: [u32; 9],
+}
+
+/// Takes an interrupt with a cause that concerns `edata`: saves sr and mode,
+/// turns external interrupts off, goes to system mode, and answers the new pc,
+/// which is 0. Here `pc` is where to go on afterwards: behind an overflow or a
+/// system call, and else at the instruction that was interrupted.
+pub fn take(pc: u32, special: &mut Special, cause: Cause, edata: u32) -> u32
+    ensures special { special.new.regs ≡ taken special.old.regs (number_in cause) edata pc }
+    ensures pc { result ≡ 0 }
+{
+    let regs = special.regs;
+    special.regs = [
+        0,
+        regs[SR],
+        number_of(cause),
+        pc,
+        edata,
+        regs[PTO],
+        regs[PTL],
+        0,
+        regs[MODE],
+    ];
+    0
+}
+
+/// Leaves an interrupt, as `eret` does: gives sr and mode back, and answers the
+/// new pc, which is epc.
+pub fn leave(special: &mut Special) -> u32
+    ensures special { special.new.regs ≡ left special.old.regs }
+    ensures pc { result ≡ slice_index special.old.regs 3 }
+{
+    special.regs[SR] = special.regs[ESR];
+    special.regs[MODE] = special.regs[EMODE];
+    special.regs[EPC]
+}
+
+/// The number of a cause, from 0 to 8: where several causes stand together, the
+/// one with the least number comes.
+pub fn number_of(cause: Cause) -> u32
+    ensures { result ≡ number_in cause }
+{
+    match cause {
+        Cause::Reset => 0,
+        Cause::External => 1,
+        Cause::FetchAlign => 2,
+        Cause::FetchFault => 3,
+        Cause::Illegal => 4,
+        Cause::Overflow => 5,
+        Cause::Syscall => 6,
+        Cause::DataAlign => 7,
+        Cause::DataFault => 8,
+    }
+}
+
+#[cfg(test)]
+mod tests {
+    use super::*;
+
+    #[test]
+    fn takes_and_leaves(rt: HostRuntime) {
+        let mut special = Special {
+            regs: [1, 0, 0, 0, 0, 0x20000, 4, 1, 0],
+        };
+        assert_eq!(rt; take(0x104, &mut special, Cause::Syscall, 12), 0);
+        assert_eq!(rt; special.regs, [0, 1, 6, 0x104, 12, 0x20000, 4, 0, 1]);
+        assert_eq!(rt; leave(&mut special), 0x104);
+        assert_eq!(rt; special.regs, [1, 1, 6, 0x104, 12, 0x20000, 4, 1, 1]);
+        assert_eq!(rt; number_of(Cause::DataFault), 8);
+    }
+}
