@@ -6,7 +6,7 @@ ghost use Rattle.std.specs.Option.{option_map_or};
 ghost use Rattle.std.specs.Char.{is_ascii_whitespace};
 ghost use Rattle.mips_asm.specs.Text.{trim as trim_of, trim_start as trim_start_of};
 
-// What stands before the first `at`, and what stands after it if there is one.
+/// What stands before the first `at`, and what stands after it if there is one.
 pub fn cut(text: &[u8], at: u8) -> (&[u8], Option<&[u8]>)
     ensures split { slice_split (λ x. x == at) text.now
         ≡ result.0.now ∷ option_map_or (λ rest. slice_split (λ x. x == at) rest.now) result.1 [] }

@@ -29,7 +29,7 @@ pub enum Line<'a> {
     Jump(u32, &'a [u8]),
 }
 
-// How many words a line counts for the addresses.
+/// How many words a line counts for the addresses.
 pub fn width(line: &Line) -> u32
     ensures { result ≡ width_of (view line.now) }
 {
@@ -47,7 +47,7 @@ pub fn width(line: &Line) -> u32
     }
 }
 
-// The first label of a line's content and what stands after it.
+/// The first label of a line's content and what stands after it.
 pub fn next_label(text: &[u8]) -> Option<(&[u8], &[u8])>
     ensures labels { MatchOption result (labels_in (colon_parts text.now) ≡ []) (λ r. labels_in (colon_parts text.now) ≡ r.0.now ∷ labels_in (colon_parts r.1.now)) }
     ensures after { MatchOption result (after_labels_of (colon_parts text.now) ≡ colon_parts text.now) (λ r. after_labels_of (colon_parts text.now) ≡ after_labels_of (colon_parts r.1.now)) }
@@ -123,7 +123,7 @@ fn zero_directive<'a>(value: Option<i64>) -> Line<'a>
     }
 }
 
-// The line with one more operand.
+/// The line with one more operand.
 pub fn with_reading<'a>(line: Line<'a>, reading: Option<Reading<'a>>) -> Line<'a>
     ensures { view result ≡ with_reading_of (view line.entry) (option_map reading_view reading.entry) }
 {
@@ -233,7 +233,7 @@ fn after_labels(text: &[u8]) -> &[u8]
     rest
 }
 
-// The content of a line: what stands before the comment.
+/// The content of a line: what stands before the comment.
 pub fn content(line: &[u8]) -> &[u8]
     ensures { result.now ≡ content_of line.now }
 {
@@ -310,7 +310,7 @@ pub fn read_line(line: &[u8]) -> Line<'_>
     }
 }
 
-// The content of a line before a bad byte.
+/// The content of a line before a bad byte.
 pub fn label_text(line: &[u8]) -> &[u8]
     ensures { result.now ≡ content_of (take (prefix_len is_good_byte_of line.now) line.now) }
 {

@@ -128,7 +128,7 @@ fn hexadecimal_number(digits: &[u8]) -> Option<u64>
     }
 }
 
-// The value of a number.
+/// The value of a number.
 pub fn number(text: &[u8]) -> Option<i64>
     ensures { result ≡ number_of text.now }
 {

@@ -48,7 +48,7 @@ fn numbered(letter: u8, limit: u32, text: &[u8]) -> Option<u32>
     None
 }
 
-// The bits of a number of 16 bits with a sign.
+/// The bits of a number of 16 bits with a sign.
 pub fn signed<'a>(value: i64) -> Reading<'a>
     ensures { reading_view result ≡ signed_of value }
 {
@@ -72,7 +72,7 @@ fn unsigned<'a>(limit: u32, place: u32, value: i64) -> Reading<'a>
     }
 }
 
-// The length of what stands before the first byte of a kind.
+/// The length of what stands before the first byte of a kind.
 pub fn len_before(byte: u8, text: &[u8]) -> usize
     ensures value { result ≡ len_before_of byte text.now }
     ensures within { result ≤ length text.now }

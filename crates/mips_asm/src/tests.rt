@@ -95,3 +95,53 @@ fn texts_of_words(rt: HostRuntime) {
         Err(_) => panic!(rt; "no memory"),
     }
 }
+
+// A line of each further form, with its word by the formats of the MIPS32 Architecture (volume II, the
+// instruction's own page): the fields opcode, rs, rt, rd, sa and funct, or opcode, rs, rt and the immediate.
+#[test]
+fn lines_of_each_form(rt: HostRuntime) {
+    let rows = [
+        ("sll r4, r5, 7", 0x000521c0),
+        ("srl r6, r7, 31", 0x000737c2),
+        ("sllv r8, r9, r10", 0x01494004),
+        ("srlv r11, r12, r13", 0x01ac5806),
+        ("srav r14, r15, r16", 0x020f7007),
+        ("jr r31", 0x03e00008),
+        ("add r17, r18, r19", 0x02538820),
+        ("sub r20, r21, r22", 0x02b6a022),
+        ("subu r23, r24, r25", 0x0319b823),
+        ("and r26, r27, r28", 0x037cd024),
+        ("or r29, r30, r31", 0x03dfe825),
+        ("xor r1, r2, r3", 0x00430826),
+        ("nor r4, r0, r6", 0x00062027),
+        ("slt r7, r8, r9", 0x0109382a),
+        ("sltu r10, r11, r12", 0x016c502b),
+        ("beq r13, r14, -32768", 0x11ae8000),
+        ("blez r15, 32767", 0x19e07fff),
+        ("bgtz r16, -1", 0x1e00ffff),
+        ("addi r17, r18, -5", 0x2251fffb),
+        ("slti r19, r20, -32768", 0x2a938000),
+        ("sltiu r21, r22, 32767", 0x2ed57fff),
+        ("andi r23, r24, 65535", 0x3317ffff),
+        ("xori r25, r26, 0x8000", 0x3b598000),
+        ("jal 67108863", 0x0fffffff),
+    ];
+    for (text, wanted) in rows {
+        match answer(&rt, text) {
+            Ok(words) => assert_eq!(rt; words.as_slice(), [wanted].as_slice(), "{text}"),
+            Err(_) => panic!(rt; "{text}"),
+        }
+    }
+}
+
+#[test]
+fn words_come_back(rt: HostRuntime) {
+    let words = [0x3401000a, 0x00812021, 0x2421ffff, 0x1420fffd, 0x0000000c];
+    match disassemble(rt.alloc(), &words) {
+        Ok(text) => match assemble(rt.alloc(), &text) {
+            Ok(back) => assert_eq!(rt; back.as_slice(), words.as_slice()),
+            Err(_) => panic!(rt; "the text has a fault"),
+        },
+        Err(_) => panic!(rt; "no memory"),
+    }
+}

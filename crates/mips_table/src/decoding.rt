@@ -1,5 +1,5 @@
 // Words to instructions.
-ghost use Rattle.std.specs.Prelude.{◌≡◌, IfSome};
+ghost use Rattle.std.specs.Prelude.{◌≡◌, ℕ, IfSome};
 ghost use Rattle.mips_table.specs.declared.inst.Inst.{Inst};
 ghost use Rattle.mips_table.specs.Encoding.{InRange, encoding};
 ghost use Rattle.mips_table.specs.Decoding.{by_funct, by_sign, of_system, inst_of, decoding};
@@ -124,4 +124,9 @@ pub fn decode(word: u32) -> Option<Inst>
 /// The word of each instruction in range is decoded to that instruction.
 pub fn decoding_of_encoding()
     ensures { (i : Inst) → InRange i → decoding (encoding i) ≡ Some i }
+{}
+
+/// An instruction that a word decodes to is in range, and has this word.
+pub fn encoding_of_decoding()
+    ensures { (word : ℕ) → IfSome (decoding word) (λ i. InRange i × (encoding i ≡ word)) }
 {}
