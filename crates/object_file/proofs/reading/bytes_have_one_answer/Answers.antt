@@ -1,0 +1,9 @@
+use Rattle.object_file.proofs.Answers.{one_answer}
+use Rattle.object_file.proofs.Whole.{some_answer}
+use Rattle.object_file.proofs.reading.bytes_have_one_answer.Goals as goal
+
+pub returns-clause-some : goal.returns-clause-some
+returns-clause-some c = some_answer
+
+pub returns-clause-one : goal.returns-clause-one
+returns-clause-one c = one_answer

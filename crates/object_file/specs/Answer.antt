@@ -1,0 +1,68 @@
+-- What is answered of bytes: the object that they spell, or what stands first where no object has it.
+use Rattle.std.specs.Prelude.{ℕ, ◌≡◌, ◌≢◌, ◌+◌, ◌*◌, ◌≤◌, ◌<◌, ◌^◌, ◌⊎◌, zero, suc, List, [], ◌∷◌, ◌++◌, length, take, codes, slice_index_or, Result, Ok, Err}
+use Rattle.std.specs.List.{concat}
+use Rattle.object_file.specs.declared.fault.ObjectFault.{ObjectFault}
+use Rattle.object_file.specs.declared.fault.ObjectFault.TheVariants.{Magic, Truncated, Trailing, Field, Memory}
+use Rattle.object_file.specs.Parts.{Parts}
+use Rattle.object_file.specs.Format.{word, pieces, spelling, IsInRange}
+
+-- the first pieces of an object are whole, and fewer bytes follow than its next piece has, which begins at `at`
+pub record EndsWithin (bytes : List ℕ) (at : ℕ) : Type 0 where
+  pub object : Parts
+  pub in_range : IsInRange object
+  pub whole : ℕ
+  pub left : List ℕ
+  pub spelled : bytes ≡ concat (take whole (pieces object)) ++ left
+  pub short : length left < length (slice_index_or (pieces object) whole [])
+  pub place : at ≡ length (concat (take whole (pieces object)))
+
+-- the numbers that may not stand in a field: the form is 1, the source has at most 1,048,576 bytes, there are at most 4,177,920 words
+abbrev pub IsOutOfRange : ℕ → ℕ → Type 0
+IsOutOfRange zero value = ⊥
+IsOutOfRange (suc zero) value = value ≢ 1
+IsOutOfRange (suc (suc zero)) value = 1048576 < value
+IsOutOfRange (suc (suc (suc zero))) value = 4177920 < value
+IsOutOfRange (suc (suc (suc (suc field)))) value = ⊥
+
+-- the first fields of an object are whole, and the next one, which begins at `at`, has a number that may not stand there
+pub record HasField (bytes : List ℕ) (at value : ℕ) : Type 0 where
+  pub object : Parts
+  pub in_range : IsInRange object
+  pub whole : ℕ
+  pub left : List ℕ
+  pub spelled : bytes ≡ concat (take whole (pieces object)) ++ (word value ++ left)
+  pub word : value < 2 ^ 32
+  pub out : IsOutOfRange whole value
+  pub place : at ≡ length (concat (take whole (pieces object)))
+
+-- an object is whole, and a byte follows, at `at`
+pub record GoesOn (bytes : List ℕ) (at : ℕ) : Type 0 where
+  pub object : Parts
+  pub in_range : IsInRange object
+  pub left : List ℕ
+  pub spelled : bytes ≡ spelling object ++ left
+  pub more : 0 < length left
+  pub place : at ≡ length (spelling object)
+
+-- what is answered of bytes
+abbrev pub IsAnswer : List ℕ → Result Parts ObjectFault → Type 0
+IsAnswer bytes (Ok o) = IsInRange o × (bytes ≡ spelling o)
+IsAnswer bytes (Err Magic) = (4 ≤ length bytes) × (take 4 bytes ≢ codes "CVMO")
+IsAnswer bytes (Err (Truncated at)) = EndsWithin bytes at
+IsAnswer bytes (Err (Field at value)) = HasField bytes at value
+IsAnswer bytes (Err (Trailing at)) = GoesOn bytes at
+IsAnswer bytes (Err Memory) = ⊥
+
+-- an object may also be answered by want of memory, a fault may not
+abbrev pub Gives : Result Parts ObjectFault → Result Parts ObjectFault → Type 0
+Gives result (Ok o) = (result ≡ Ok o) ⊎ (result ≡ Err Memory)
+Gives result (Err fault) = result ≡ Err fault
+
+-- what holds unless memory ran out
+abbrev pub UnlessMemory : Result Parts ObjectFault → Type 0 → Type 0
+UnlessMemory (Ok o) P = P
+UnlessMemory (Err Magic) P = P
+UnlessMemory (Err (Truncated at)) P = P
+UnlessMemory (Err (Field at value)) P = P
+UnlessMemory (Err (Trailing at)) P = P
+UnlessMemory (Err Memory) P = Unit {0}

@@ -1,0 +1,23 @@
+-- The one spelling of an object, and which objects have one.
+use Rattle.std.specs.Prelude.{ℕ, ◌<◌, ◌≤◌, ◌^◌, All, List, [], ◌∷◌, length, codes}
+use Rattle.std.specs.Int.{to_le_bytes, w32}
+use Rattle.std.specs.List.{concat, flat_map}
+use Rattle.object_file.specs.Parts.{Parts}
+
+-- the four bytes of a word, the lowest first
+unfoldable pub word : ℕ → List ℕ
+word n = to_le_bytes w32 n
+
+-- the four fields of an object and its two parts, in the order of the file
+abbrev pub pieces : Parts → List (List ℕ)
+pieces o = codes "CVMO" ∷ word 1 ∷ word (length o.source) ∷ word (length o.words) ∷ o.source ∷ flat_map word o.words ∷ []
+
+-- the bytes of an object: its pieces, one after another
+abbrev pub spelling : Parts → List ℕ
+spelling o = concat (pieces o)
+
+-- an object of a size that a file may have, of words of 32 bits
+pub record IsInRange (o : Parts) : Type 0 where
+  pub source : length o.source ≤ 1048576
+  pub words : length o.words ≤ 4177920
+  pub bits : All (λ w. w < 2 ^ 32) o.words

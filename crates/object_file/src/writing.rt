@@ -1,0 +1,53 @@
+// An object to bytes.
+
+ghost use Rattle.std.specs.Prelude.{◌≡◌, ◌≤◌, ◌<◌, ◌^◌, ◌++◌, All, length, OnOk, IfOk, Ok};
+ghost use Rattle.std.specs.List.{flat_map};
+ghost use Rattle.object_file.specs.Format.{word, spelling};
+ghost use Rattle.object_file.specs.Answer.{IsAnswer};
+
+use crate::object::Object;
+use byteorder::{ByteOrder, LittleEndian};
+use std::alloc::{AllocError, Global};
+
+/// Writes an object: its one spelling, which reads as that object.
+///
+/// The source has at most 1,048,576 bytes, and there are at most 4,177,920
+/// words.
+pub fn write(alloc: Global, object: &Object) -> Result<Vec<u8>, AllocError>
+    requires source { length object.now.source ≤ 1048576 }
+    requires words { length object.now.words ≤ 4177920 }
+    ensures spelled { IfOk result (λ bytes. bytes.items ≡ spelling object.now) }
+    ensures read_back { IfOk result (λ bytes. IsAnswer bytes.items (Ok object.now)) }
+{
+    let source_length = object.source.len();
+    let word_count = object.words.len();
+    let mut bytes = Vec::with_capacity(alloc, 16 + source_length + 4 * word_count)?;
+    bytes.extend_from_slice(b"CVMO")?;
+    push_word(&mut bytes, 1)?;
+    push_word(&mut bytes, source_length as u32)?;
+    push_word(&mut bytes, word_count as u32)?;
+    bytes.extend_from_slice(&object.source)?;
+    push_words(&mut bytes, &object.words)?;
+    Ok(bytes)
+}
+
+// Writes words at the end.
+fn push_words(bytes: &mut Vec<u8>, words: &[u32]) -> Result<(), AllocError>
+    ensures written { OnOk result (bytes.new.items ≡ bytes.old.items ++ flat_map word words.now) }
+    ensures bits { All (λ w. w < 2 ^ 32) words.now }
+{
+    for number in words {
+        push_word(bytes, *number)?;
+    }
+    Ok(())
+}
+
+// Writes a word at the end.
+#[tactic(auto, unfolding(crate::specs::Format::word))]
+fn push_word(bytes: &mut Vec<u8>, number: u32) -> Result<(), AllocError>
+    ensures { OnOk result (bytes.new.items ≡ bytes.old.items ++ word number) }
+{
+    let mut word = [0; 4];
+    LittleEndian::write_u32(&mut word, number);
+    bytes.extend_from_slice(&word)
+}
