@@ -1,6 +1,5 @@
 -- What is so of bytes is what the reading gives, for each answer; so there is at most one.
-use Rattle.std.proofs.Common.{◌≡◌, ◌≢◌, ℕ, zero, suc, ◌+◌, ◌*◌, ◌^◌, ◌<◌, ◌≤◌, List, [], ◌∷◌, ◌++◌, length, get_or, take, Result, Ok, Err, refl, sym, ap, ◌∙◌, append_assoc, arith}
-use Rattle.std.specs.Prelude.{codes}
+use Rattle.std.proofs.Common.{◌≡◌, ℕ, zero, suc, ◌+◌, ◌*◌, ◌^◌, ◌<◌, List, [], ◌∷◌, ◌++◌, length, get_or, take, Result, Ok, Err, refl, sym, ap, ◌∙◌, append_assoc, arith}
 use Rattle.std.specs.List.{concat, flat_map}
 use Rattle.std.proofs.lemmas.List.{length-append, append-nil}
 use Rattle.std.proofs.lemmas.List.Elements.{recursion_from_All}
@@ -57,8 +56,15 @@ length-front_3 o = omega (arith, length-append (word 1) (word (length o.source) 
 
 length-four : (o : Parts) (last : List ℕ) → length (onto (take 4 (pieces o)) last) ≡ 16 + length last
 length-four o last =
-    omega (arith, length-append (word 1) (word (length o.source) ++ (word (length o.words) ++ last)), length-append (word (length o.source)) (word (length o.words) ++ last),
-    length-append (word (length o.words)) last, length-word 1, length-word (length o.source), length-word (length o.words))
+    omega (
+      arith,
+      length-append (word 1) (word (length o.source) ++ (word (length o.words) ++ last)),
+      length-append (word (length o.source)) (word (length o.words) ++ last),
+      length-append (word (length o.words)) last,
+      length-word 1,
+      length-word (length o.source),
+      length-word (length o.words),
+    )
 
 pub length-front_4 : (o : Parts) → length (concat (take 4 (pieces o))) ≡ 16
 length-front_4 o = length-four o []
@@ -73,25 +79,25 @@ length-spelling o =
 
 -- ---- each answer
 
-failed_at : (bytes left : List ℕ) (at place : ℕ) → header_of bytes ≡ failed (Truncated place) → at ≡ place → header_of bytes ≡ failed (Truncated at)
-failed_at bytes left at place is same = is ∙ ap (λ (n : ℕ). failed (Truncated n)) (sym same)
+failed_at : (bytes : List ℕ) (at place : ℕ) → header_of bytes ≡ failed (Truncated place) → at ≡ place → header_of bytes ≡ failed (Truncated at)
+failed_at bytes at place is same = is ∙ ap (λ (n : ℕ). failed (Truncated n)) (sym same)
 
 field_at : (bytes : List ℕ) (at place value : ℕ) → header_of bytes ≡ failed (Field place value) → at ≡ place → header_of bytes ≡ failed (Field at value)
 field_at bytes at place value is same = is ∙ ap (λ (n : ℕ). failed (Field n value)) (sym same)
 
 -- bytes that end within a piece
 ends : (o : Parts) (fits : IsInRange o) (whole : ℕ) (bytes left : List ℕ) (at : ℕ) → bytes ≡ concat (take whole (pieces o)) ++ left → length left < length (get_or (pieces o) whole []) → at ≡ length (concat (take whole (pieces o))) → header_of bytes ≡ failed (Truncated at)
-ends o fits zero bytes left at is short place = failed_at bytes left at 0 (ap header_of is ∙ header_short left short) place
+ends o fits zero bytes left at is short place = failed_at bytes at 0 (ap header_of is ∙ header_short left short) place
 ends o fits (suc zero) bytes left at is short place =
-    failed_at bytes left at 4 (ap header_of is ∙ behind_1 o left ∙ form_short left (omega (arith, length-word 1))) place
+    failed_at bytes at 4 (ap header_of is ∙ behind_1 o left ∙ form_short left (omega (arith, length-word 1))) place
 ends o fits (suc (suc zero)) bytes left at is short place =
-    failed_at bytes left at 8 (ap header_of is ∙ behind_2 o left ∙ length_short left (omega (arith, length-word (length o.source)))) (place ∙ length-front_2 o)
+    failed_at bytes at 8 (ap header_of is ∙ behind_2 o left ∙ length_short left (omega (arith, length-word (length o.source)))) (place ∙ length-front_2 o)
 ends o fits (suc (suc (suc zero))) bytes left at is short place =
-    failed_at bytes left at 12 (ap header_of is ∙ behind_3 o left fits ∙ count_short (length o.source) left (omega (arith, length-word (length o.words)))) (place ∙ length-front_3 o)
+    failed_at bytes at 12 (ap header_of is ∙ behind_3 o left fits ∙ count_short (length o.source) left (omega (arith, length-word (length o.words)))) (place ∙ length-front_3 o)
 ends o fits (suc (suc (suc (suc zero)))) bytes left at is short place =
-    failed_at bytes left at 16 (ap header_of is ∙ behind_4 o left fits ∙ source_short (length o.source) (length o.words) left short) (place ∙ length-front_4 o)
+    failed_at bytes at 16 (ap header_of is ∙ behind_4 o left fits ∙ source_short (length o.source) (length o.words) left short) (place ∙ length-front_4 o)
 ends o fits (suc (suc (suc (suc (suc zero))))) bytes left at is short place =
-    failed_at bytes left at (16 + length o.source) (ap header_of is ∙ behind_5 o left fits ∙ words_short (length o.words) o.source left (omega (arith, length-words o.words))) (place ∙ length-front_5 o)
+    failed_at bytes at (16 + length o.source) (ap header_of is ∙ behind_5 o left fits ∙ words_short (length o.words) o.source left (omega (arith, length-words o.words))) (place ∙ length-front_5 o)
 ends o fits (suc (suc (suc (suc (suc (suc whole)))))) bytes left at is short place = absurd (omega arith)
 
 -- bytes with a number that may not stand in its field
@@ -127,7 +133,7 @@ pub read_so : (bytes : List ℕ) (r : Result Parts ObjectFault) → IsAnswer byt
 read_so bytes (Ok o) is = ap answer is.1 ∙ spelled o is.0
 read_so bytes (Err Magic) is = answer_by bytes (failed Magic) (header_other bytes is.0 is.1)
 read_so bytes (Err (Truncated at)) is = answer_by bytes (failed (Truncated at)) (ends is.object is.in_range is.whole bytes is.left at is.spelled is.short is.place)
-read_so bytes (Err (Field at value)) is = answer_by bytes (failed (Field at value)) (out is.object is.in_range is.whole bytes is.left at value is.spelled is.word is.out is.place)
+read_so bytes (Err (Field at value)) is = answer_by bytes (failed (Field at value)) (out is.object is.in_range is.whole bytes is.left at value is.spelled is.bits is.out is.place)
 read_so bytes (Err (Trailing at)) is =
     let o = is.object in
     answer_by bytes (failed (Trailing at))

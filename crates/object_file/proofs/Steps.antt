@@ -1,12 +1,11 @@
 -- What each step of the reading makes of bytes that begin as an object does: it goes on behind a field that is as it is to be, and
 -- stops with the field's fault otherwise.
-use Rattle.std.proofs.Common.{◌≡◌, ◌≢◌, ℕ, ◌+◌, ◌*◌, ◌^◌, ◌<◌, ◌≤◌, Bool, true, false, cond, ltb, ◌||◌, List, [], ◌∷◌, ◌++◌, length, take, drop, Result, Ok, Err, inl, inr, refl, sym, ap, ◌∙◌, arith}
+use Rattle.std.proofs.Common.{◌≡◌, ◌≢◌, ℕ, ◌+◌, ◌*◌, ◌^◌, ◌<◌, ◌≤◌, true, false, ltb, ◌||◌, List, ◌++◌, length, take, Result, Ok, Err, inl, inr, refl, ap, ◌∙◌, arith}
 use Rattle.std.specs.Prelude.{codes}
 use Rattle.std.specs.Str.{bytes_eq}
 use Rattle.std.proofs.lemmas.Bool.{lt-ltb, le-ltb, false_from_ne_true, cond-true, cond-false, cases_order, or_left, or_from, or_right}
-use Rattle.std.proofs.lemmas.List.{take_at, drop_at, length-append, length-drop}
+use Rattle.std.proofs.lemmas.List.{take_at, drop_at, length-append}
 use Rattle.std.proofs.lemmas.Slice.Eq.{bytes_eq-Decides}
-use Rattle.byteorder.specs.Endian.{little_number}
 use Rattle.object_file.specs.declared.fault.ObjectFault.{ObjectFault}
 use Rattle.object_file.specs.declared.fault.ObjectFault.TheVariants.{Magic, Truncated, Trailing, Field}
 use Rattle.object_file.specs.Format.{word}

@@ -1,11 +1,11 @@
 -- Of each list of bytes there is an answer: the bytes are taken apart from the left, field by field and part by part, until one isn't
 -- as it is to be. So what the reading gives is so of the bytes.
-use Rattle.std.proofs.Common.{◌≡◌, ◌≢◌, ℕ, zero, suc, ◌+◌, ◌*◌, ◌^◌, ◌<◌, ◌≤◌, Bool, true, false, List, [], ◌∷◌, ◌++◌, length, get_or, take, drop, replicate, Result, Ok, Err, inl, inr, refl, sym, ap, subst, ◌∙◌, append_assoc, arith}
+use Rattle.std.proofs.Common.{◌≡◌, ℕ, zero, suc, ◌+◌, ◌*◌, ◌^◌, ◌<◌, ◌≤◌, List, [], ◌∷◌, ◌++◌, length, get_or, take, drop, replicate, Result, Ok, Err, inl, inr, refl, sym, ap, subst, ◌∙◌, arith}
 use Rattle.std.specs.Prelude.{codes}
 use Rattle.std.specs.Str.{bytes_eq}
 use Rattle.std.specs.List.{concat, flat_map, AllByRecursion}
 use Rattle.std.proofs.lemmas.Bool.{cases_lt, cases_eq, cases_Bool, both_ways}
-use Rattle.std.proofs.lemmas.List.{length-append, append-nil, length-take, length-drop, take-append-drop, length-replicate}
+use Rattle.std.proofs.lemmas.List.{append-nil, length-take, take-append-drop, length-replicate}
 use Rattle.std.proofs.lemmas.List.Elements.{All-from_recursion}
 use Rattle.std.proofs.lemmas.Slice.Eq.{bytes_eq-Decides}
 use Rattle.object_file.specs.declared.fault.ObjectFault.{ObjectFault}
@@ -16,7 +16,7 @@ use Rattle.object_file.specs.Answer.{IsAnswer, IsOutOfRange, Gives, UnlessMemory
 use Rattle.object_file.specs.Reading.{header_of, words_of, object_of, answer}
 use Rattle.object_file.proofs.Words.{length-word, length-words, IsBytes, IsBytes-drop, IsBytes-take, Front, front, Made, made}
 use Rattle.object_file.proofs.Steps.{failed}
-use Rattle.object_file.proofs.Answers.{onto, concat-append, length-front_2, length-front_3, length-front_4, length-front_5, length-spelling, answer_by, read_so}
+use Rattle.object_file.proofs.Answers.{onto, concat-append, length-front_2, length-front_3, length-front_4, length-front_5, answer_by, read_so}
 
 -- an answer that is so of the bytes
 abbrev pub Answered : List ℕ → Type 0
@@ -48,20 +48,20 @@ cut : (o : Parts) (fits : IsInRange o) (whole : ℕ) (bytes left : List ℕ) (at
 cut o fits whole bytes left at is short place = (Err (Truncated at), record { object = o; in_range = fits; whole = whole; left = left; spelled = is; short = short; place = place })
 
 wrong : (o : Parts) (fits : IsInRange o) (whole : ℕ) (bytes left : List ℕ) (at value : ℕ) → bytes ≡ concat (take whole (pieces o)) ++ (word value ++ left) → value < 2 ^ 32 → IsOutOfRange whole value → at ≡ length (concat (take whole (pieces o))) → Answered bytes
-wrong o fits whole bytes left at value is small out place = (Err (Field at value), record { object = o; in_range = fits; whole = whole; left = left; spelled = is; word = small; out = out; place = place })
+wrong o fits whole bytes left at value is small out place = (Err (Field at value), record { object = o; in_range = fits; whole = whole; left = left; spelled = is; bits = small; out = out; place = place })
 
 -- the fields of an object whose parts have these sizes
 fields_of : (o : Parts) (n k : ℕ) (rest : List ℕ) → length o.source ≡ n → length o.words ≡ k → codes "CVMO" ++ (word 1 ++ (word n ++ (word k ++ rest))) ≡ onto (take 4 (pieces o)) rest
 fields_of o n k rest e f = ap (λ (m : ℕ). codes "CVMO" ++ (word 1 ++ (word m ++ (word k ++ rest)))) (sym e) ∙ ap (λ (m : ℕ). codes "CVMO" ++ (word 1 ++ (word (length o.source) ++ (word m ++ rest)))) (sym f)
 
 -- behind the source and the words
-behind_parts : (o : Parts) (fits : IsInRange o) (bytes left : List ℕ) → bytes ≡ spelling o ++ left → Answered bytes
-behind_parts o fits bytes [] is = (Ok o, (fits, is ∙ append-nil (spelling o)))
-behind_parts o fits bytes (b ∷ left) is = (Err (Trailing (length (spelling o))), record { object = o; in_range = fits; left = b ∷ left; spelled = is; more = omega arith; place = refl })
+answered_behind_parts : (o : Parts) (fits : IsInRange o) (bytes left : List ℕ) → bytes ≡ spelling o ++ left → Answered bytes
+answered_behind_parts o fits bytes [] is = (Ok o, (fits, is ∙ append-nil (spelling o)))
+answered_behind_parts o fits bytes (b ∷ left) is = (Err (Trailing (length (spelling o))), record { object = o; in_range = fits; left = b ∷ left; spelled = is; more = omega arith; place = refl })
 
 -- behind the source
-behind_source : (source : List ℕ) (k : ℕ) (bytes rest : List ℕ) → length source ≤ 1048576 → k ≤ 4177920 → IsBytes rest → bytes ≡ codes "CVMO" ++ (word 1 ++ (word (length source) ++ (word k ++ (source ++ rest)))) → Answered bytes
-behind_source source k bytes rest few many fits is =
+answered_behind_source : (source : List ℕ) (k : ℕ) (bytes rest : List ℕ) → length source ≤ 1048576 → k ≤ 4177920 → IsBytes rest → bytes ≡ codes "CVMO" ++ (word 1 ++ (word (length source) ++ (word k ++ (source ++ rest)))) → Answered bytes
+answered_behind_source source k bytes rest few many fits is =
     elim (cases_lt (length rest) (4 * k)) [
       | inl short ↦
           let o : Parts = some_words source k in
@@ -75,12 +75,12 @@ behind_source source k bytes rest few many fits is =
           let spelled : bytes ≡ spelling o ++ drop (4 * k) rest =
           is ∙ fields_of o (length source) k (source ++ rest) refl m.counted ∙ ap (λ (l : List ℕ). onto (take 4 (pieces o)) (source ++ l)) parted
           ∙ sym (concat-append (pieces o) (drop (4 * k) rest)) in
-          behind_parts o in_range bytes (drop (4 * k) rest) spelled
+          answered_behind_parts o in_range bytes (drop (4 * k) rest) spelled
     ]
 
 -- behind the four fields
-behind_fields : (n k : ℕ) (bytes rest : List ℕ) → n ≤ 1048576 → k ≤ 4177920 → IsBytes rest → bytes ≡ codes "CVMO" ++ (word 1 ++ (word n ++ (word k ++ rest))) → Answered bytes
-behind_fields n k bytes rest few many fits is =
+answered_behind_fields : (n k : ℕ) (bytes rest : List ℕ) → n ≤ 1048576 → k ≤ 4177920 → IsBytes rest → bytes ≡ codes "CVMO" ++ (word 1 ++ (word n ++ (word k ++ rest))) → Answered bytes
+answered_behind_fields n k bytes rest few many fits is =
     elim (cases_lt (length rest) n) [
       | inl short ↦
           let o : Parts = some n k in
@@ -91,12 +91,12 @@ behind_fields n k bytes rest few many fits is =
           let parted : codes "CVMO" ++ (word 1 ++ (word n ++ (word k ++ rest))) ≡ codes "CVMO" ++ (word 1 ++ (word (length (take n rest)) ++ (word k ++ (take n rest ++ drop n rest)))) =
           ap (λ (l : List ℕ). codes "CVMO" ++ (word 1 ++ (word n ++ (word k ++ l)))) (sym (take-append-drop n rest))
           ∙ ap (λ (m : ℕ). codes "CVMO" ++ (word 1 ++ (word m ++ (word k ++ (take n rest ++ drop n rest))))) (sym size) in
-          behind_source (take n rest) k bytes (drop n rest) (omega arith) many (IsBytes-drop n rest fits) (is ∙ parted)
+          answered_behind_source (take n rest) k bytes (drop n rest) (omega arith) many (IsBytes-drop n rest fits) (is ∙ parted)
     ]
 
 -- behind the source's length
-behind_length : (n : ℕ) (bytes rest : List ℕ) → n ≤ 1048576 → IsBytes rest → bytes ≡ codes "CVMO" ++ (word 1 ++ (word n ++ rest)) → Answered bytes
-behind_length n bytes rest few fits is =
+answered_behind_length : (n : ℕ) (bytes rest : List ℕ) → n ≤ 1048576 → IsBytes rest → bytes ≡ codes "CVMO" ++ (word 1 ++ (word n ++ rest)) → Answered bytes
+answered_behind_length n bytes rest few fits is =
     let o : Parts = some n 0 in
     let in_range : IsInRange o = sized_in_range n 0 few (omega arith) in
     let spelled : bytes ≡ concat (take 3 (pieces o)) ++ rest =
@@ -107,13 +107,13 @@ behind_length n bytes rest few fits is =
           let f : Front rest = front rest fits long in
           elim (cases_lt 4177920 f.number) [
             | inl many ↦ wrong o in_range 3 bytes f.rest 12 f.number (spelled ∙ ap (λ (l : List ℕ). concat (take 3 (pieces o)) ++ l) f.is) f.small many (sym (length-front_3 o))
-            | inr fewer ↦ behind_fields n f.number bytes f.rest few fewer f.fits (is ∙ ap (λ (l : List ℕ). codes "CVMO" ++ (word 1 ++ (word n ++ l))) f.is)
+            | inr fewer ↦ answered_behind_fields n f.number bytes f.rest few fewer f.fits (is ∙ ap (λ (l : List ℕ). codes "CVMO" ++ (word 1 ++ (word n ++ l))) f.is)
           ]
     ]
 
 -- behind the form
-behind_form : (bytes rest : List ℕ) → IsBytes rest → bytes ≡ codes "CVMO" ++ (word 1 ++ rest) → Answered bytes
-behind_form bytes rest fits is =
+answered_behind_form : (bytes rest : List ℕ) → IsBytes rest → bytes ≡ codes "CVMO" ++ (word 1 ++ rest) → Answered bytes
+answered_behind_form bytes rest fits is =
     let o : Parts = some 0 0 in
     let in_range : IsInRange o = sized_in_range 0 0 (omega arith) (omega arith) in
     let spelled : bytes ≡ concat (take 2 (pieces o)) ++ rest = is ∙ sym (concat-append (take 2 (pieces o)) rest) in
@@ -123,13 +123,13 @@ behind_form bytes rest fits is =
           let f : Front rest = front rest fits long in
           elim (cases_lt 1048576 f.number) [
             | inl many ↦ wrong o in_range 2 bytes f.rest 8 f.number (spelled ∙ ap (λ (l : List ℕ). concat (take 2 (pieces o)) ++ l) f.is) f.small many (sym (length-front_2 o))
-            | inr few ↦ behind_length f.number bytes f.rest few f.fits (is ∙ ap (λ (l : List ℕ). codes "CVMO" ++ (word 1 ++ l)) f.is)
+            | inr few ↦ answered_behind_length f.number bytes f.rest few f.fits (is ∙ ap (λ (l : List ℕ). codes "CVMO" ++ (word 1 ++ l)) f.is)
           ]
     ]
 
 -- behind the mark
-behind_mark : (bytes rest : List ℕ) → IsBytes rest → bytes ≡ codes "CVMO" ++ rest → Answered bytes
-behind_mark bytes rest fits is =
+answered_behind_mark : (bytes rest : List ℕ) → IsBytes rest → bytes ≡ codes "CVMO" ++ rest → Answered bytes
+answered_behind_mark bytes rest fits is =
     let o : Parts = some 0 0 in
     let in_range : IsInRange o = sized_in_range 0 0 (omega arith) (omega arith) in
     elim (cases_lt (length rest) 4) [
@@ -137,7 +137,7 @@ behind_mark bytes rest fits is =
       | inr long ↦
           let f : Front rest = front rest fits long in
           elim (cases_eq f.number 1) [
-            | inl one ↦ behind_form bytes f.rest f.fits (is ∙ ap (λ (l : List ℕ). codes "CVMO" ++ l) (f.is ∙ ap (λ (n : ℕ). word n ++ f.rest) one))
+            | inl one ↦ answered_behind_form bytes f.rest f.fits (is ∙ ap (λ (l : List ℕ). codes "CVMO" ++ l) (f.is ∙ ap (λ (n : ℕ). word n ++ f.rest) one))
             | inr other ↦ wrong o in_range 1 bytes f.rest 4 f.number (is ∙ ap (λ (l : List ℕ). codes "CVMO" ++ l) f.is) f.small other refl
           ]
     ]
@@ -150,7 +150,7 @@ some_answer bytes fits =
       | inr long ↦
           elim (cases_Bool (bytes_eq (take 4 bytes) (codes "CVMO"))) [
             | inl same ↦
-                behind_mark bytes (drop 4 bytes) (IsBytes-drop 4 bytes fits)
+                answered_behind_mark bytes (drop 4 bytes) (IsBytes-drop 4 bytes fits)
                 (sym (take-append-drop 4 bytes) ∙ ap (λ (l : List ℕ). l ++ drop 4 bytes) ((bytes_eq-Decides (take 4 bytes) (codes "CVMO")).0 same))
             | inr apart ↦ (Err Magic, (long, λ same. both_ways (bytes_eq (take 4 bytes) (codes "CVMO")) apart ((bytes_eq-Decides (take 4 bytes) (codes "CVMO")).1 same)))
           ]

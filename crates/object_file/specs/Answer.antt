@@ -1,5 +1,5 @@
 -- What is answered of bytes: the object that they spell, or what stands first where no object has it.
-use Rattle.std.specs.Prelude.{ℕ, ◌≡◌, ◌≢◌, ◌+◌, ◌*◌, ◌≤◌, ◌<◌, ◌^◌, ◌⊎◌, zero, suc, List, [], ◌∷◌, ◌++◌, length, take, codes, slice_index_or, Result, Ok, Err}
+use Rattle.std.specs.Prelude.{ℕ, ◌≡◌, ◌≢◌, ◌≤◌, ◌<◌, ◌^◌, ◌⊎◌, zero, suc, List, [], ◌++◌, length, take, codes, slice_index_or, Result, Ok, Err}
 use Rattle.std.specs.List.{concat}
 use Rattle.object_file.specs.declared.fault.ObjectFault.{ObjectFault}
 use Rattle.object_file.specs.declared.fault.ObjectFault.TheVariants.{Magic, Truncated, Trailing, Field, Memory}
@@ -16,7 +16,8 @@ pub record EndsWithin (bytes : List ℕ) (at : ℕ) : Type 0 where
   pub short : length left < length (slice_index_or (pieces object) whole [])
   pub place : at ≡ length (concat (take whole (pieces object)))
 
--- the numbers that may not stand in a field: the form is 1, the source has at most 1,048,576 bytes, there are at most 4,177,920 words
+-- the numbers that may not stand behind so many whole pieces: the form is 1, a source has at most 1,048,576 bytes, and there are at
+-- most 4,177,920 words
 abbrev pub IsOutOfRange : ℕ → ℕ → Type 0
 IsOutOfRange zero value = ⊥
 IsOutOfRange (suc zero) value = value ≢ 1
@@ -25,18 +26,18 @@ IsOutOfRange (suc (suc (suc zero))) value = 4177920 < value
 IsOutOfRange (suc (suc (suc (suc field)))) value = ⊥
 
 -- the first fields of an object are whole, and the next one, which begins at `at`, has a number that may not stand there
-pub record HasField (bytes : List ℕ) (at value : ℕ) : Type 0 where
+pub record HasWrongField (bytes : List ℕ) (at value : ℕ) : Type 0 where
   pub object : Parts
   pub in_range : IsInRange object
   pub whole : ℕ
   pub left : List ℕ
   pub spelled : bytes ≡ concat (take whole (pieces object)) ++ (word value ++ left)
-  pub word : value < 2 ^ 32
+  pub bits : value < 2 ^ 32
   pub out : IsOutOfRange whole value
   pub place : at ≡ length (concat (take whole (pieces object)))
 
--- an object is whole, and a byte follows, at `at`
-pub record GoesOn (bytes : List ℕ) (at : ℕ) : Type 0 where
+-- an object is whole, and bytes follow, from `at` on
+pub record GoesOnAt (bytes : List ℕ) (at : ℕ) : Type 0 where
   pub object : Parts
   pub in_range : IsInRange object
   pub left : List ℕ
@@ -49,8 +50,8 @@ abbrev pub IsAnswer : List ℕ → Result Parts ObjectFault → Type 0
 IsAnswer bytes (Ok o) = IsInRange o × (bytes ≡ spelling o)
 IsAnswer bytes (Err Magic) = (4 ≤ length bytes) × (take 4 bytes ≢ codes "CVMO")
 IsAnswer bytes (Err (Truncated at)) = EndsWithin bytes at
-IsAnswer bytes (Err (Field at value)) = HasField bytes at value
-IsAnswer bytes (Err (Trailing at)) = GoesOn bytes at
+IsAnswer bytes (Err (Field at value)) = HasWrongField bytes at value
+IsAnswer bytes (Err (Trailing at)) = GoesOnAt bytes at
 IsAnswer bytes (Err Memory) = ⊥
 
 -- an object may also be answered by want of memory, a fault may not

@@ -86,7 +86,11 @@ fn number(bytes: &[u8], at: u64, least: u32, most: u32) -> Result<(u32, &[u8]), 
 // The two parts, of so many bytes and so many words, behind the 16 bytes of
 // the fields.
 #[tactic(auto, unfolding(crate::specs::Reading::parts_at))]
-fn split_parts(bytes: &[u8], source_length: u32, word_count: u32) -> Result<(&[u8], &[u8]), ObjectFault>
+fn split_parts(
+    bytes: &[u8],
+    source_length: u32,
+    word_count: u32,
+) -> Result<(&[u8], &[u8]), ObjectFault>
     ensures parts { Comes (λ x. (x.0.now, x.1.now)) result (parts_at source_length word_count bytes.now) }
     ensures whole { IfOk result (λ x. length x.1.now % 4 ≡ 0) }
 {

@@ -2,7 +2,6 @@
 use Rattle.std.proofs.Common.{◌≡◌, ◌<◌, ◌^◌, All, List, ℕ, ap, subst, ◌∙◌, arith}
 use Rattle.std.proofs.lemmas.Grind.{common_steps}
 use Rattle.object_file.specs.Parts.{Parts}
-use Rattle.object_file.specs.Format.{spelling}
 use Rattle.object_file.proofs.writing.write.Goals as goal
 
 pub returns-clause-spelled : goal.returns-clause-spelled
