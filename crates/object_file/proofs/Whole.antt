@@ -195,14 +195,14 @@ pub object_so : (bytes : List ℕ) → IsBytes bytes → (source words : List �
 object_so bytes fits source words is = subst (λ (r : Result Parts ObjectFault). IsAnswer bytes r) (answer_found bytes source words is) (answer_so bytes fits)
 
 gives_object : (o : Parts) (a : Result Parts ObjectFault) → a ≡ Ok o → Gives (Ok o) a
-gives_object o (Ok p) is = inl (sym is)
+gives_object o (Ok p) is = cc
 gives_object o (Err f) is = absurd cc
 
 pub object_only : (bytes source words : List ℕ) → header_of bytes ≡ Ok (source, words) → (a : Result Parts ObjectFault) → IsAnswer bytes a → Gives (Ok (found source words)) a
 object_only bytes source words is a so = gives_object (found source words) a (sym (read_so bytes a so) ∙ answer_found bytes source words is)
 
 gives_memory : (o : Parts) (a : Result Parts ObjectFault) → a ≡ Ok o → Gives (Err Memory) a
-gives_memory o (Ok p) is = inr refl
+gives_memory o (Ok p) is = refl
 gives_memory o (Err f) is = absurd cc
 
 -- memory runs out only where the bytes are an object

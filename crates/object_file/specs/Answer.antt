@@ -1,5 +1,5 @@
 -- What is answered of bytes: the object that they spell, or what stands first where no object has it.
-use Rattle.std.specs.Prelude.{ℕ, ◌≡◌, ◌≢◌, ◌≤◌, ◌<◌, ◌^◌, ◌⊎◌, zero, suc, List, [], ◌++◌, length, take, codes, slice_index_or, Result, Ok, Err}
+use Rattle.std.specs.Prelude.{ℕ, ◌≡◌, ◌≢◌, ◌≤◌, ◌<◌, ◌^◌, zero, suc, List, [], ◌++◌, length, take, codes, slice_index_or, Result, Ok, Err, MatchResult}
 use Rattle.std.specs.List.{concat}
 use Rattle.object_file.specs.declared.fault.ObjectFault.{ObjectFault}
 use Rattle.object_file.specs.declared.fault.ObjectFault.TheVariants.{Magic, Truncated, Trailing, Field, Memory}
@@ -56,7 +56,7 @@ IsAnswer bytes (Err Memory) = ⊥
 
 -- an object may also be answered by want of memory, a fault may not
 abbrev pub Gives : Result Parts ObjectFault → Result Parts ObjectFault → Type 0
-Gives result (Ok o) = (result ≡ Ok o) ⊎ (result ≡ Err Memory)
+Gives result (Ok o) = MatchResult result (λ p. p ≡ o) (λ e. e ≡ Memory)
 Gives result (Err fault) = result ≡ Err fault
 
 -- what holds unless memory ran out
