@@ -1,5 +1,6 @@
-// The words are those of another assembler, that of GNU Binutils 2.40 (`mips-linux-gnu-as -mips32 -EB`). The effects are
-// by hand.
+// The words are those that another assembler gives, that of GNU Binutils 2.40 (`mips-linux-gnu-as -mips32 -EB`). The
+// values that are set and the overflows are those that QEMU 7.2 gives (`qemu-mips`). What jumps and branches do is by
+// hand, since that processor has a delay slot.
 
 use crate::{Effect, Inst, decode, effect_of, encode, mips32, mnemonic_of};
 
