@@ -4,6 +4,8 @@ ghost use Rattle.std.specs.Prelude.{◌≡◌, option_map, find, map, bytes_eq};
 ghost use Rattle.mips_asm.specs.Form.{forms, form_of};
 ghost use Rattle.mips_asm.specs.View.{form_view};
 
+use crate::instruction_rows::rows;
+
 /// A field of the word that names a register.
 #[derive(Clone, Copy)]
 pub enum Field {
@@ -98,8 +100,8 @@ const NONE: [Operand; 0] = [];
 
 const RT_MEMORY: [Operand; 2] = [Operand::Register(Field::Rt), Operand::Memory];
 
-macro_rules! rows {
-    ($($mnemonic:literal, $word:literal, $operands:ident;)*) => {
+macro_rules! forms {
+    ($($mnemonic:literal, $word:literal, $operands:ident, $inst:pat, [$($written:expr),*] $(unless $absent:expr)?;)*) => {
         [$(Form {
             mnemonic: $mnemonic,
             word: $word,
@@ -113,48 +115,7 @@ macro_rules! rows {
 fn all_forms() -> [Form; 40]
     ensures { map form_view result ≡ forms }
 {
-    rows! {
-        "sll", 0x0000_0000, RD_RT_SA;
-        "srl", 0x0000_0002, RD_RT_SA;
-        "sra", 0x0000_0003, RD_RT_SA;
-        "sllv", 0x0000_0004, RD_RT_RS;
-        "srlv", 0x0000_0006, RD_RT_RS;
-        "srav", 0x0000_0007, RD_RT_RS;
-        "jr", 0x0000_0008, RS;
-        "jalr", 0x0000_0009, RD_RS;
-        "syscall", 0x0000_000c, CODE;
-        "add", 0x0000_0020, RD_RS_RT;
-        "addu", 0x0000_0021, RD_RS_RT;
-        "sub", 0x0000_0022, RD_RS_RT;
-        "subu", 0x0000_0023, RD_RS_RT;
-        "and", 0x0000_0024, RD_RS_RT;
-        "or", 0x0000_0025, RD_RS_RT;
-        "xor", 0x0000_0026, RD_RS_RT;
-        "nor", 0x0000_0027, RD_RS_RT;
-        "slt", 0x0000_002a, RD_RS_RT;
-        "sltu", 0x0000_002b, RD_RS_RT;
-        "bltz", 0x0400_0000, RS_BRANCH;
-        "bgez", 0x0401_0000, RS_BRANCH;
-        "j", 0x0800_0000, JUMP;
-        "jal", 0x0c00_0000, JUMP;
-        "beq", 0x1000_0000, RS_RT_BRANCH;
-        "bne", 0x1400_0000, RS_RT_BRANCH;
-        "blez", 0x1800_0000, RS_BRANCH;
-        "bgtz", 0x1c00_0000, RS_BRANCH;
-        "addi", 0x2000_0000, RT_RS_SIGNED;
-        "addiu", 0x2400_0000, RT_RS_SIGNED;
-        "slti", 0x2800_0000, RT_RS_SIGNED;
-        "sltiu", 0x2c00_0000, RT_RS_SIGNED;
-        "andi", 0x3000_0000, RT_RS_UNSIGNED;
-        "ori", 0x3400_0000, RT_RS_UNSIGNED;
-        "xori", 0x3800_0000, RT_RS_UNSIGNED;
-        "lui", 0x3c00_0000, RT_UNSIGNED;
-        "mfc0", 0x4000_0000, RT_SPECIAL;
-        "mtc0", 0x4080_0000, RT_SPECIAL;
-        "eret", 0x4200_0018, NONE;
-        "lw", 0x8c00_0000, RT_MEMORY;
-        "sw", 0xac00_0000, RT_MEMORY;
-    }
+    rows!(forms)
 }
 
 // The first of these forms with this mnemonic.

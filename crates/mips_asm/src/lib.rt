@@ -5,6 +5,7 @@ mod assembly;
 mod cut;
 mod fault;
 mod form;
+mod instruction_rows;
 mod line;
 mod listing;
 mod number;

@@ -6,6 +6,7 @@ ghost use Rattle.mips_asm.specs.Assembled.{assembled};
 ghost use Rattle.mips_asm.specs.Back.{ReadsBack};
 ghost use Rattle.mips_asm.specs.Listing.{operands as operands_of, separator_at, written, listed, line_for, line_of, listing};
 
+use crate::instruction_rows::rows;
 use cvm_text::{decimal, decimal_u64, hex8};
 use mips_table::{Inst, decode, mnemonic_of};
 use std::alloc::{AllocError, Global};
@@ -88,62 +89,27 @@ fn put_operands(out: &mut Vec<u8>, operands: &[Written]) -> Result<(), AllocErro
     Ok(())
 }
 
+macro_rules! operand_arms {
+    (
+        $input:expr, $out:expr,
+        $($mnemonic:literal, $word:literal, $operands:ident, $inst:pat, [$($written:expr),*] $(unless $absent:expr)?;)*
+    ) => {
+        match $input {
+            $($inst => {
+                $(if $absent {
+                    return Ok(());
+                })?
+                put_operands($out, &[$($written),*])
+            })*
+        }
+    };
+}
+
 // Appends the operands of an instruction.
 fn put_operands_of(out: &mut Vec<u8>, inst: &Inst) -> Result<(), AllocError>
     ensures { OnOk result (out.new.items ≡ out.old.items ++ listed (codes " ") (operands_of inst.now)) }
 {
-    match *inst {
-        Inst::Sll { rd, rt, sa } | Inst::Srl { rd, rt, sa } | Inst::Sra { rd, rt, sa } => {
-            put_operands(out, &[Register(rd), Register(rt), Number(sa)])
-        }
-        Inst::Sllv { rd, rt, rs } | Inst::Srlv { rd, rt, rs } | Inst::Srav { rd, rt, rs } => {
-            put_operands(out, &[Register(rd), Register(rt), Register(rs)])
-        }
-        Inst::Jr { rs } => put_operands(out, &[Register(rs)]),
-        Inst::Jalr { rd, rs } => put_operands(out, &[Register(rd), Register(rs)]),
-        Inst::Syscall { code: 0 } | Inst::Eret => Ok(()),
-        Inst::Syscall { code } => put_operands(out, &[Number(code)]),
-        Inst::Add { rd, rs, rt }
-        | Inst::Addu { rd, rs, rt }
-        | Inst::Sub { rd, rs, rt }
-        | Inst::Subu { rd, rs, rt }
-        | Inst::And { rd, rs, rt }
-        | Inst::Or { rd, rs, rt }
-        | Inst::Xor { rd, rs, rt }
-        | Inst::Nor { rd, rs, rt }
-        | Inst::Slt { rd, rs, rt }
-        | Inst::Sltu { rd, rs, rt } => put_operands(
-            out,
-            &[Register(rd), Register(rs), Register(rt)],
-        ),
-        Inst::Bltz { rs, imm }
-        | Inst::Bgez { rs, imm }
-        | Inst::Blez { rs, imm }
-        | Inst::Bgtz { rs, imm } => { put_operands(out, &[Register(rs), Signed(imm)]) }
-        Inst::J { index } | Inst::Jal { index } => put_operands(out, &[Number(index)]),
-        Inst::Beq { rs, rt, imm } | Inst::Bne { rs, rt, imm } => put_operands(
-            out,
-            &[Register(rs), Register(rt), Signed(imm)],
-        ),
-        Inst::Addi { rt, rs, imm }
-        | Inst::Addiu { rt, rs, imm }
-        | Inst::Slti { rt, rs, imm }
-        | Inst::Sltiu { rt, rs, imm } => {
-            put_operands(out, &[Register(rt), Register(rs), Signed(imm)])
-        }
-        Inst::Andi { rt, rs, imm } | Inst::Ori { rt, rs, imm } | Inst::Xori { rt, rs, imm } => {
-            put_operands(out, &[Register(rt), Register(rs), Number(imm)])
-        }
-        Inst::Lui { rt, imm } => put_operands(out, &[Register(rt), Number(imm)]),
-        Inst::Mfc0 { rt, special } | Inst::Mtc0 { rt, special } => put_operands(
-            out,
-            &[Register(rt), Special(special)],
-        ),
-        Inst::Lw { rt, rs, imm } | Inst::Sw { rt, rs, imm } => put_operands(
-            out,
-            &[Register(rt), Address(imm, rs)],
-        ),
-    }
+    rows!(operand_arms, *inst, out)
 }
 
 // Appends the text of a word that is this instruction, or none.

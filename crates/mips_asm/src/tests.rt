@@ -1,8 +1,31 @@
 use super::*;
-use std::alloc::Global;
+use std::alloc::{AllocError, Global};
+use std::process::Abort;
+use std::test::Fail;
 
-fn answer(rt: &HostRuntime, text: &str) -> Result<Vec<u32>, AsmFault> {
-    assemble(rt.alloc(), text.as_bytes())
+// The text has these words.
+fn has_words(test: &impl Abort, alloc: Global, text: &str, wanted: &[u32]) {
+    match assemble(alloc, text.as_bytes()) {
+        Ok(words) => assert_eq!(test; words.as_slice(), wanted, "{text}"),
+        Err(_) => panic!(test; "{text}"),
+    }
+}
+
+// The text has this fault.
+fn has_fault(test: &impl Abort, alloc: Global, text: &str, wanted: AsmFault) {
+    match assemble(alloc, text.as_bytes()) {
+        Ok(_) => panic!(test; "{text}"),
+        Err(fault) => assert!(test; fault == wanted, "{text}"),
+    }
+}
+
+// A text of so many lines, each of one word.
+fn lines_of_one_word(alloc: Global, count: u32) -> Result<Vec<u8>, AllocError> {
+    let mut text = Vec::new(alloc);
+    for _ in 0..count {
+        text.extend_from_slice(b".word 0\n")?;
+    }
+    Ok(text)
 }
 
 #[test]
@@ -35,10 +58,7 @@ fn texts_with_words(rt: HostRuntime) {
         ("r1: bgez r4, r1\nbltz r4, -0", &[0x0481ffff, 0x04800000]),
     ];
     for (text, wanted) in rows {
-        match answer(&rt, text) {
-            Ok(words) => assert_eq!(rt; words.as_slice(), wanted, "{text}"),
-            Err(_) => panic!(rt; "{text}"),
-        }
+        has_words(&rt, rt.alloc(), text, wanted);
     }
 }
 
@@ -73,12 +93,10 @@ fn texts_with_faults(rt: HostRuntime) {
             AsmFault::LabelTwice { line: 2 },
         ),
         (".zero 65536\nsyscall", AsmFault::TooLong),
+        (".zero 65536\n.zero 65536", AsmFault::TooLong),
     ];
     for (text, wanted) in rows {
-        match answer(&rt, text) {
-            Ok(_) => panic!(rt; "{text}"),
-            Err(fault) => assert!(rt; fault == wanted, "{text}"),
-        }
+        has_fault(&rt, rt.alloc(), text, wanted);
     }
 }
 
@@ -96,41 +114,67 @@ fn texts_of_words(rt: HostRuntime) {
     }
 }
 
-// A line of each further form, with its word by the formats of the MIPS32 Architecture (volume II, the
-// instruction's own page): the fields opcode, rs, rt, rd, sa and funct, or opcode, rs, rt and the immediate.
+#[test]
+fn one_word_more_than_a_text_may_have(rt: HostRuntime) -> Result<(), Fail> {
+    let most = assemble(rt.alloc(), b".zero 65536")?;
+    assert_eq!(rt; most.len(), 65536);
+    let longer = lines_of_one_word(rt.alloc(), 65537)?;
+    assert!(rt; matches!(assemble(rt.alloc(), &longer), Err(AsmFault::TooLong)));
+    Ok(())
+}
+
+// A line of each instruction, with its word by another assembler, that of GNU Binutils 2.40: the lines were assembled by
+// `mips-linux-gnu-as -mips32 -EB` with noreorder, noat and nomacro set, and the words read back by
+// `mips-linux-gnu-objdump -d`. That assembler writes `$1` for `r1` and for `c1`, `.+4+4*B` for a branch over B words, and
+// the address 4 * T for the index T of a jump.
+const LINES: [(&str, u32); 41] = [
+    ("sll r4, r5, 7", 0x0005_21c0),
+    ("srl r6, r7, 31", 0x0007_37c2),
+    ("sra r2, r31, 1", 0x001f_1043),
+    ("sllv r8, r9, r10", 0x0149_4004),
+    ("srlv r11, r12, r13", 0x01ac_5806),
+    ("srav r14, r15, r16", 0x020f_7007),
+    ("jr r31", 0x03e0_0008),
+    ("jalr r20, r25", 0x0320_a009),
+    ("syscall", 0x0000_000c),
+    ("syscall 1048574", 0x03ff_ff8c),
+    ("add r17, r18, r19", 0x0253_8820),
+    ("addu r3, r28, r7", 0x0387_1821),
+    ("sub r20, r21, r22", 0x02b6_a022),
+    ("subu r23, r24, r25", 0x0319_b823),
+    ("and r26, r27, r28", 0x037c_d024),
+    ("or r29, r30, r31", 0x03df_e825),
+    ("xor r1, r2, r3", 0x0043_0826),
+    ("nor r4, r0, r6", 0x0006_2027),
+    ("slt r7, r8, r9", 0x0109_382a),
+    ("sltu r10, r11, r12", 0x016c_502b),
+    ("bltz r21, 1000", 0x06a0_03e8),
+    ("bgez r10, -1000", 0x0541_fc18),
+    ("j 1", 0x0800_0001),
+    ("jal 67108863", 0x0fff_ffff),
+    ("beq r13, r14, -32768", 0x11ae_8000),
+    ("bne r30, r1, 258", 0x17c1_0102),
+    ("blez r15, 32767", 0x19e0_7fff),
+    ("bgtz r16, -1", 0x1e00_ffff),
+    ("addi r17, r18, -5", 0x2251_fffb),
+    ("addiu r24, r9, 32767", 0x2538_7fff),
+    ("slti r19, r20, -32768", 0x2a93_8000),
+    ("sltiu r21, r22, 32767", 0x2ed5_7fff),
+    ("andi r23, r24, 65535", 0x3317_ffff),
+    ("ori r12, r19, 4660", 0x366c_1234),
+    ("xori r25, r26, 0x8000", 0x3b59_8000),
+    ("lui r14, 0xfedc", 0x3c0e_fedc),
+    ("mfc0 r29, c7", 0x401d_3800),
+    ("mtc0 r11, c4", 0x408b_2000),
+    ("eret", 0x4200_0018),
+    ("lw r27, 32764(r26)", 0x8f5b_7ffc),
+    ("sw r18, -32768(r5)", 0xacb2_8000),
+];
+
 #[test]
 fn lines_of_each_form(rt: HostRuntime) {
-    let rows = [
-        ("sll r4, r5, 7", 0x000521c0),
-        ("srl r6, r7, 31", 0x000737c2),
-        ("sllv r8, r9, r10", 0x01494004),
-        ("srlv r11, r12, r13", 0x01ac5806),
-        ("srav r14, r15, r16", 0x020f7007),
-        ("jr r31", 0x03e00008),
-        ("add r17, r18, r19", 0x02538820),
-        ("sub r20, r21, r22", 0x02b6a022),
-        ("subu r23, r24, r25", 0x0319b823),
-        ("and r26, r27, r28", 0x037cd024),
-        ("or r29, r30, r31", 0x03dfe825),
-        ("xor r1, r2, r3", 0x00430826),
-        ("nor r4, r0, r6", 0x00062027),
-        ("slt r7, r8, r9", 0x0109382a),
-        ("sltu r10, r11, r12", 0x016c502b),
-        ("beq r13, r14, -32768", 0x11ae8000),
-        ("blez r15, 32767", 0x19e07fff),
-        ("bgtz r16, -1", 0x1e00ffff),
-        ("addi r17, r18, -5", 0x2251fffb),
-        ("slti r19, r20, -32768", 0x2a938000),
-        ("sltiu r21, r22, 32767", 0x2ed57fff),
-        ("andi r23, r24, 65535", 0x3317ffff),
-        ("xori r25, r26, 0x8000", 0x3b598000),
-        ("jal 67108863", 0x0fffffff),
-    ];
-    for (text, wanted) in rows {
-        match answer(&rt, text) {
-            Ok(words) => assert_eq!(rt; words.as_slice(), [wanted].as_slice(), "{text}"),
-            Err(_) => panic!(rt; "{text}"),
-        }
+    for (text, wanted) in LINES {
+        has_words(&rt, rt.alloc(), text, &[wanted]);
     }
 }
 

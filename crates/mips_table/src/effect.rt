@@ -9,6 +9,7 @@ use crate::arith::{
     shifted_left, shifted_right, shifted_signed, sum, sum_overflows,
 };
 use crate::inst::Inst;
+use crate::instruction_rows::effects;
 
 /// What an instruction asks for.
 ///
@@ -126,6 +127,17 @@ fn goes(next: u32) -> Effect
     }
 }
 
+// Control goes elsewhere, and a register gets the address of the next instruction.
+fn link(register: u32, to: u32, pc: u32) -> Effect
+    ensures { result ≡ Effect.Set register (next pc) to }
+{
+    Effect::Set {
+        register,
+        value: next(pc),
+        next: to,
+    }
+}
+
 fn load(register: u32, address: u32) -> Effect
     ensures { result ≡ Effect.Load register address }
 {
@@ -138,59 +150,19 @@ fn store(address: u32, value: u32) -> Effect
     Effect::Store { address, value }
 }
 
+macro_rules! effect_arms {
+    ($input:expr, $($inst:pat, $effect:expr;)*) => {
+        match $input {
+            $($inst => $effect,)*
+        }
+    };
+}
+
 /// The effect of an instruction at pc, by the registers' values.
 pub fn effect_of(inst: &Inst, pc: u32, regs: &[u32; 32]) -> Effect
     requires { InRange inst.now }
     ensures value { result ≡ effect_of inst.now pc (slice_index regs.now) }
     ensures register { HasRegister result }
 {
-    let inst = *inst;
-    match inst {
-        Inst::Sll { rd, rt, sa } => set(rd, shifted_left(read(regs, rt), sa), pc),
-        Inst::Srl { rd, rt, sa } => set(rd, shifted_right(read(regs, rt), sa), pc),
-        Inst::Sra { rd, rt, sa } => set(rd, shifted_signed(read(regs, rt), sa), pc),
-        Inst::Sllv { rd, rt, rs } => set(rd, shifted_left(read(regs, rt), amount(regs, rs)), pc),
-        Inst::Srlv { rd, rt, rs } => set(rd, shifted_right(read(regs, rt), amount(regs, rs)), pc),
-        Inst::Srav { rd, rt, rs } => set(rd, shifted_signed(read(regs, rt), amount(regs, rs)), pc),
-        Inst::Jr { rs } => goes(read(regs, rs)),
-        Inst::Jalr { rd, rs } => Effect::Set {
-            register: rd,
-            value: next(pc),
-            next: read(regs, rs),
-        },
-        Inst::Syscall { .. } => Effect::Call,
-        Inst::Add { rd, rs, rt } => set_sum(rd, read(regs, rs), read(regs, rt), pc),
-        Inst::Addu { rd, rs, rt } => set(rd, sum(read(regs, rs), read(regs, rt)), pc),
-        Inst::Sub { rd, rs, rt } => set_difference(rd, read(regs, rs), read(regs, rt), pc),
-        Inst::Subu { rd, rs, rt } => set(rd, difference(read(regs, rs), read(regs, rt)), pc),
-        Inst::And { rd, rs, rt } => set(rd, read(regs, rs) & read(regs, rt), pc),
-        Inst::Or { rd, rs, rt } => set(rd, read(regs, rs) | read(regs, rt), pc),
-        Inst::Xor { rd, rs, rt } => set(rd, read(regs, rs) ^ read(regs, rt), pc),
-        Inst::Nor { rd, rs, rt } => set(rd, nor(read(regs, rs), read(regs, rt)), pc),
-        Inst::Slt { rd, rs, rt } => set(rd, flag(less(read(regs, rs), read(regs, rt))), pc),
-        Inst::Sltu { rd, rs, rt } => set(rd, flag(read(regs, rs) < read(regs, rt)), pc),
-        Inst::Bltz { rs, imm } => goes(branch(pc, imm, is_negative(read(regs, rs)))),
-        Inst::Bgez { rs, imm } => goes(branch(pc, imm, !is_negative(read(regs, rs)))),
-        Inst::J { index } => goes(jump(pc, index)),
-        Inst::Jal { index } => Effect::Set {
-            register: 31,
-            value: next(pc),
-            next: jump(pc, index),
-        },
-        Inst::Beq { rs, rt, imm } => goes(branch(pc, imm, read(regs, rs) == read(regs, rt))),
-        Inst::Bne { rs, rt, imm } => goes(branch(pc, imm, read(regs, rs) != read(regs, rt))),
-        Inst::Blez { rs, imm } => goes(branch(pc, imm, !is_positive(read(regs, rs)))),
-        Inst::Bgtz { rs, imm } => goes(branch(pc, imm, is_positive(read(regs, rs)))),
-        Inst::Addi { rt, rs, imm } => set_sum(rt, read(regs, rs), extended(imm), pc),
-        Inst::Addiu { rt, rs, imm } => set(rt, sum(read(regs, rs), extended(imm)), pc),
-        Inst::Slti { rt, rs, imm } => set(rt, flag(less(read(regs, rs), extended(imm))), pc),
-        Inst::Sltiu { rt, rs, imm } => set(rt, flag(read(regs, rs) < extended(imm)), pc),
-        Inst::Andi { rt, rs, imm } => set(rt, read(regs, rs) & imm, pc),
-        Inst::Ori { rt, rs, imm } => set(rt, read(regs, rs) | imm, pc),
-        Inst::Xori { rt, rs, imm } => set(rt, read(regs, rs) ^ imm, pc),
-        Inst::Lui { rt, imm } => set(rt, imm << 16, pc),
-        Inst::Mfc0 { .. } | Inst::Mtc0 { .. } | Inst::Eret => Effect::System,
-        Inst::Lw { rt, rs, imm } => load(rt, sum(read(regs, rs), extended(imm))),
-        Inst::Sw { rt, rs, imm } => store(sum(read(regs, rs), extended(imm)), read(regs, rt)),
-    }
+    effects!(effect_arms, *inst, pc, regs)
 }

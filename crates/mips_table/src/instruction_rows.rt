@@ -1,6 +1,8 @@
-// The rows of the instruction table, each listed once: the instruction, its mnemonic, the mask and the value that its
-// words have under it, and its word by its fields. `rows!` hands them all to another macro, which makes code of them.
+// What is said of each instruction, on one line in each of three lists: its row, its place and its effect. Each list is a
+// macro that hands its lines to another macro, which makes the arms of a function or the rows of a table.
 
+// The rows of the instruction table: the instruction, its mnemonic, the mask and the value that its words have under it,
+// and its word by its fields.
 macro_rules! rows {
     ($make:ident $(, $input:expr)?) => {
         $make! {
@@ -49,4 +51,126 @@ macro_rules! rows {
     };
 }
 
+// Where each instruction is told from the others: by a value of one field of its word, and a test that the fields it
+// doesn't use are 0. There are four places, and each instruction stands in one of them, on a line of its own. `places!`
+// hands the lines of a place to another macro, after its input, the fields and the field that tells.
+macro_rules! places {
+    // Opcode 0: the function number.
+    (funct, $make:ident, $($input:tt)*) => {
+        $make! {
+            ($($input)*) Fields { rs, rt, rd, sa, funct, code, .. }, funct;
+            0x00 if rs == 0 => Inst::Sll { rd, rt, sa };
+            0x02 if rs == 0 => Inst::Srl { rd, rt, sa };
+            0x03 if rs == 0 => Inst::Sra { rd, rt, sa };
+            0x04 if sa == 0 => Inst::Sllv { rd, rt, rs };
+            0x06 if sa == 0 => Inst::Srlv { rd, rt, rs };
+            0x07 if sa == 0 => Inst::Srav { rd, rt, rs };
+            0x08 if rt == 0 && rd == 0 && sa == 0 => Inst::Jr { rs };
+            0x09 if rt == 0 && sa == 0 => Inst::Jalr { rd, rs };
+            0x0c => Inst::Syscall { code };
+            0x20 if sa == 0 => Inst::Add { rd, rs, rt };
+            0x21 if sa == 0 => Inst::Addu { rd, rs, rt };
+            0x22 if sa == 0 => Inst::Sub { rd, rs, rt };
+            0x23 if sa == 0 => Inst::Subu { rd, rs, rt };
+            0x24 if sa == 0 => Inst::And { rd, rs, rt };
+            0x25 if sa == 0 => Inst::Or { rd, rs, rt };
+            0x26 if sa == 0 => Inst::Xor { rd, rs, rt };
+            0x27 if sa == 0 => Inst::Nor { rd, rs, rt };
+            0x2a if sa == 0 => Inst::Slt { rd, rs, rt };
+            0x2b if sa == 0 => Inst::Sltu { rd, rs, rt };
+        }
+    };
+    // Opcode 1: the number in the place of a register.
+    (sign, $make:ident, $($input:tt)*) => {
+        $make! {
+            ($($input)*) Fields { rs, rt, imm, .. }, rt;
+            0 => Inst::Bltz { rs, imm };
+            1 => Inst::Bgez { rs, imm };
+        }
+    };
+    // Opcode 10, hexadecimal: the number in the place of another register.
+    (system, $make:ident, $($input:tt)*) => {
+        $make! {
+            ($($input)*) Fields { rs, rt, rd, sa, funct, .. }, rs;
+            0 if sa == 0 && funct == 0 && rd <= 8 => Inst::Mfc0 { rt, special: rd };
+            4 if sa == 0 && funct == 0 && rd <= 8 => Inst::Mtc0 { rt, special: rd };
+            16 if rt == 0 && rd == 0 && sa == 0 && funct == 0x18 => Inst::Eret;
+        }
+    };
+    // All others: the opcode.
+    (opcode, $make:ident, $($input:tt)*) => {
+        $make! {
+            ($($input)*) Fields { opcode, rs, rt, imm, index, .. }, opcode;
+            0x02 => Inst::J { index };
+            0x03 => Inst::Jal { index };
+            0x04 => Inst::Beq { rs, rt, imm };
+            0x05 => Inst::Bne { rs, rt, imm };
+            0x06 if rt == 0 => Inst::Blez { rs, imm };
+            0x07 if rt == 0 => Inst::Bgtz { rs, imm };
+            0x08 => Inst::Addi { rt, rs, imm };
+            0x09 => Inst::Addiu { rt, rs, imm };
+            0x0a => Inst::Slti { rt, rs, imm };
+            0x0b => Inst::Sltiu { rt, rs, imm };
+            0x0c => Inst::Andi { rt, rs, imm };
+            0x0d => Inst::Ori { rt, rs, imm };
+            0x0e => Inst::Xori { rt, rs, imm };
+            0x0f if rs == 0 => Inst::Lui { rt, imm };
+            0x23 => Inst::Lw { rt, rs, imm };
+            0x2b => Inst::Sw { rt, rs, imm };
+        }
+    };
+}
+
+// What each instruction does: its effect at a pc, by the registers. `effects!` hands its lines to another macro, after
+// the instruction.
+macro_rules! effects {
+    ($make:ident, $inst:expr, $pc:ident, $regs:ident) => {
+        $make! {
+            $inst,
+            Inst::Sll { rd, rt, sa }, set(rd, shifted_left(read($regs, rt), sa), $pc);
+            Inst::Srl { rd, rt, sa }, set(rd, shifted_right(read($regs, rt), sa), $pc);
+            Inst::Sra { rd, rt, sa }, set(rd, shifted_signed(read($regs, rt), sa), $pc);
+            Inst::Sllv { rd, rt, rs }, set(rd, shifted_left(read($regs, rt), amount($regs, rs)), $pc);
+            Inst::Srlv { rd, rt, rs }, set(rd, shifted_right(read($regs, rt), amount($regs, rs)), $pc);
+            Inst::Srav { rd, rt, rs }, set(rd, shifted_signed(read($regs, rt), amount($regs, rs)), $pc);
+            Inst::Jr { rs }, goes(read($regs, rs));
+            Inst::Jalr { rd, rs }, link(rd, read($regs, rs), $pc);
+            Inst::Syscall { .. }, Effect::Call;
+            Inst::Add { rd, rs, rt }, set_sum(rd, read($regs, rs), read($regs, rt), $pc);
+            Inst::Addu { rd, rs, rt }, set(rd, sum(read($regs, rs), read($regs, rt)), $pc);
+            Inst::Sub { rd, rs, rt }, set_difference(rd, read($regs, rs), read($regs, rt), $pc);
+            Inst::Subu { rd, rs, rt }, set(rd, difference(read($regs, rs), read($regs, rt)), $pc);
+            Inst::And { rd, rs, rt }, set(rd, read($regs, rs) & read($regs, rt), $pc);
+            Inst::Or { rd, rs, rt }, set(rd, read($regs, rs) | read($regs, rt), $pc);
+            Inst::Xor { rd, rs, rt }, set(rd, read($regs, rs) ^ read($regs, rt), $pc);
+            Inst::Nor { rd, rs, rt }, set(rd, nor(read($regs, rs), read($regs, rt)), $pc);
+            Inst::Slt { rd, rs, rt }, set(rd, flag(less(read($regs, rs), read($regs, rt))), $pc);
+            Inst::Sltu { rd, rs, rt }, set(rd, flag(read($regs, rs) < read($regs, rt)), $pc);
+            Inst::Bltz { rs, imm }, goes(branch($pc, imm, is_negative(read($regs, rs))));
+            Inst::Bgez { rs, imm }, goes(branch($pc, imm, !is_negative(read($regs, rs))));
+            Inst::J { index }, goes(jump($pc, index));
+            Inst::Jal { index }, link(31, jump($pc, index), $pc);
+            Inst::Beq { rs, rt, imm }, goes(branch($pc, imm, read($regs, rs) == read($regs, rt)));
+            Inst::Bne { rs, rt, imm }, goes(branch($pc, imm, read($regs, rs) != read($regs, rt)));
+            Inst::Blez { rs, imm }, goes(branch($pc, imm, !is_positive(read($regs, rs))));
+            Inst::Bgtz { rs, imm }, goes(branch($pc, imm, is_positive(read($regs, rs))));
+            Inst::Addi { rt, rs, imm }, set_sum(rt, read($regs, rs), extended(imm), $pc);
+            Inst::Addiu { rt, rs, imm }, set(rt, sum(read($regs, rs), extended(imm)), $pc);
+            Inst::Slti { rt, rs, imm }, set(rt, flag(less(read($regs, rs), extended(imm))), $pc);
+            Inst::Sltiu { rt, rs, imm }, set(rt, flag(read($regs, rs) < extended(imm)), $pc);
+            Inst::Andi { rt, rs, imm }, set(rt, read($regs, rs) & imm, $pc);
+            Inst::Ori { rt, rs, imm }, set(rt, read($regs, rs) | imm, $pc);
+            Inst::Xori { rt, rs, imm }, set(rt, read($regs, rs) ^ imm, $pc);
+            Inst::Lui { rt, imm }, set(rt, imm << 16, $pc);
+            Inst::Mfc0 { .. }, Effect::System;
+            Inst::Mtc0 { .. }, Effect::System;
+            Inst::Eret, Effect::System;
+            Inst::Lw { rt, rs, imm }, load(rt, sum(read($regs, rs), extended(imm)));
+            Inst::Sw { rt, rs, imm }, store(sum(read($regs, rs), extended(imm)), read($regs, rt));
+        }
+    };
+}
+
+pub(crate) use effects;
+pub(crate) use places;
 pub(crate) use rows;
