@@ -24,6 +24,8 @@ macro_rules! inst_at {
 }
 
 // Opcode 0: told apart by the function number.
+// The five functions are inlined into a step, so that one jump serves an instruction's decoding, its effect and what is done.
+#[inline(always)]
 fn by_funct(f: &Fields) -> Option<Inst>
     ensures { result ≡ by_funct f.now }
 {
@@ -31,6 +33,7 @@ fn by_funct(f: &Fields) -> Option<Inst>
 }
 
 // Opcode 1: the branches on a sign.
+#[inline(always)]
 fn by_sign(f: &Fields) -> Option<Inst>
     ensures { result ≡ by_sign f.now }
 {
@@ -38,6 +41,7 @@ fn by_sign(f: &Fields) -> Option<Inst>
 }
 
 // Opcode 10, hexadecimal: the special registers.
+#[inline(always)]
 fn of_system(f: &Fields) -> Option<Inst>
     ensures { result ≡ of_system f.now }
 {
@@ -45,6 +49,7 @@ fn of_system(f: &Fields) -> Option<Inst>
 }
 
 // The instruction of the fields of a word; unused fields must be 0.
+#[inline(always)]
 fn inst_of(f: &Fields) -> Option<Inst>
     ensures { result ≡ inst_of f.now }
 {
@@ -52,6 +57,7 @@ fn inst_of(f: &Fields) -> Option<Inst>
 }
 
 /// The instruction of a word: the one that `encode` gives this word, if there is one.
+#[inline(always)]
 pub fn decode(word: u32) -> Option<Inst>
     ensures value { result ≡ decoding word }
     ensures found { IfSome result (λ i. InRange i × (encoding i ≡ word)) }
