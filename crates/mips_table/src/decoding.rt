@@ -23,8 +23,10 @@ macro_rules! inst_at {
     }};
 }
 
+// The five functions from here on are inlined into a step, so that one jump serves an instruction's decoding, its effect
+// and what is done.
+
 // Opcode 0: told apart by the function number.
-// The five functions are inlined into a step, so that one jump serves an instruction's decoding, its effect and what is done.
 #[inline(always)]
 fn by_funct(f: &Fields) -> Option<Inst>
     ensures { result ≡ by_funct f.now }
