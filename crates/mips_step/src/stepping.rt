@@ -1,9 +1,9 @@
 // One step.
-ghost use Rattle.std.specs.Prelude.{◌≡◌};
-ghost use Rattle.mips_table.specs.Core.{move};
-ghost use Rattle.mips_table.specs.Effect.{HasRegister};
+ghost use Rattle.std.specs.Prelude.{◌≡◌, ◌<◌, ℕ};
+ghost use Rattle.mips_table.specs.Core.{move, write};
+ghost use Rattle.mips_table.specs.Effect.{HasRegister, next as next_of};
 ghost use Rattle.mips_step.specs.Ends.{Ends};
-ghost use Rattle.mips_step.specs.Step.{Performs, Steps};
+ghost use Rattle.mips_step.specs.Step.{Access, Performs, Steps, done};
 
 use crate::bus::{Bus, MemoryBus};
 use crate::cpu::{Cpu, Outcome};
@@ -52,29 +52,8 @@ fn perform<B: Bus>(cpu: &mut Cpu, bus: &mut B, word: u32, effect: Effect) -> Out
             cpu.pc = next;
             Outcome::Done
         }
-        Effect::Load { register, address } => {
-            if address % 4 != 0 {
-                return Outcome::Trap(Cause::DataAlign, address);
-            }
-            if !bus.may_load(address) {
-                return Outcome::Trap(Cause::DataFault, address);
-            }
-            let value = bus.load(address);
-            cpu.write(register, value);
-            cpu.pc = next(cpu.pc);
-            Outcome::Done
-        }
-        Effect::Store { address, value } => {
-            if address % 4 != 0 {
-                return Outcome::Trap(Cause::DataAlign, address);
-            }
-            if !bus.may_store(address) {
-                return Outcome::Trap(Cause::DataFault, address);
-            }
-            bus.store(address, value);
-            cpu.pc = next(cpu.pc);
-            Outcome::Done
-        }
+        Effect::Load { register, address } => load(cpu, bus, register, address),
+        Effect::Store { address, value } => store(cpu, bus, address, value),
         Effect::Overflow => {
             cpu.pc = next(cpu.pc);
             Outcome::Trap(Cause::Overflow, word)
@@ -85,6 +64,48 @@ fn perform<B: Bus>(cpu: &mut Cpu, bus: &mut B, word: u32, effect: Effect) -> Out
         }
         Effect::System => Outcome::Trap(Cause::Illegal, word),
     }
+}
+
+// Loads the word at an address into a register.
+#[inline(always)]
+fn load<B: Bus>(cpu: &mut Cpu, bus: &mut B, register: u32, address: u32) -> Outcome
+    requires { register < 32 }
+    ensures { Access B.may_fetch B.may_load B.may_store B.loads B.stores (B.may_load bus.old address)
+        (record { pc = cpu.old.pc; regs = cpu.old.regs }) address bus.old
+        (record { outcome = result; core = record { pc = cpu.new.pc; regs = cpu.new.regs } }) bus.new
+        ((value : ℕ) × B.loads bus.old address value bus.new
+        × (record { outcome = result; core = record { pc = cpu.new.pc; regs = cpu.new.regs } } ≡ done (next_of cpu.old.pc) (write cpu.old.regs register value))) }
+{
+    if address % 4 != 0 {
+        return Outcome::Trap(Cause::DataAlign, address);
+    }
+    if !bus.may_load(address) {
+        return Outcome::Trap(Cause::DataFault, address);
+    }
+    let value = bus.load(address);
+    cpu.write(register, value);
+    cpu.pc = next(cpu.pc);
+    Outcome::Done
+}
+
+// Stores a word at an address.
+#[inline(always)]
+fn store<B: Bus>(cpu: &mut Cpu, bus: &mut B, address: u32, value: u32) -> Outcome
+    ensures { Access B.may_fetch B.may_load B.may_store B.loads B.stores (B.may_store bus.old address)
+        (record { pc = cpu.old.pc; regs = cpu.old.regs }) address bus.old
+        (record { outcome = result; core = record { pc = cpu.new.pc; regs = cpu.new.regs } }) bus.new
+        (B.stores bus.old address value bus.new
+        × (record { outcome = result; core = record { pc = cpu.new.pc; regs = cpu.new.regs } } ≡ done (next_of cpu.old.pc) cpu.old.regs)) }
+{
+    if address % 4 != 0 {
+        return Outcome::Trap(Cause::DataAlign, address);
+    }
+    if !bus.may_store(address) {
+        return Outcome::Trap(Cause::DataFault, address);
+    }
+    bus.store(address, value);
+    cpu.pc = next(cpu.pc);
+    Outcome::Done
 }
 
 /// One user instruction over a bus that is a memory: what comes of it is the move of that memory.
