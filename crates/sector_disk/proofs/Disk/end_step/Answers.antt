@@ -1,5 +1,5 @@
 -- No command is under way.
-use Rattle.std.proofs.Common.{◌≡◌, sym, ap, ◌∙◌}
+use Rattle.std.proofs.Common.{sym, ap, ◌∙◌}
 use Rattle.mips_runs.specs.Device.{is_busy}
 use Rattle.sector_disk.specs.Ports.{Ports}
 use Rattle.sector_disk.proofs.Ends.{idle_stays, not_busy}
