@@ -1,0 +1,63 @@
+// The command under way, and its transfer.
+ghost use Rattle.std.specs.Prelude.{◌≡◌, ◌+◌, ◌*◌, ◌<◌, ◌≤◌, length, ℕ, List, OnOk, OnErr};
+ghost use Rattle.cvm_outside.specs.Causes.{Counts};
+ghost use Rattle.cvm_outside.specs.Told.{Tells, sector_of, with_sector};
+ghost use Rattle.frame_store.specs.Words.{frame_of, with_frame};
+ghost use Rattle.mips_runs.specs.Device.{is_busy as is_under_way};
+ghost use Rattle.sector_disk.specs.Transfers.{pending_of};
+
+use cvm_outside::{DiskFault, Sectors};
+use frame_store::Frames;
+
+/// The command under way: how many steps end before its transfer, and the sector that it names.
+#[derive(Clone, Copy)]
+pub(crate) enum Transfer {
+    Idle,
+    Reading { left: u64, sector: u32 },
+    Writing { left: u64, sector: u32 },
+}
+
+impl Transfer {
+    /// Whether a command is under way.
+    pub(crate) fn is_busy(self) -> bool
+        ensures { result ≡ is_under_way (pending_of self) }
+    {
+        !matches!(self, Transfer::Idle)
+    }
+}
+
+/// Reads a sector straight into a frame.
+pub(crate) fn read_sector<D: Sectors>(
+    disk: &mut D,
+    sector: u32,
+    frames: &mut Frames,
+    buffer: u32,
+) -> Result<(), DiskFault>
+    requires sector { sector < D.size disk.old }
+    requires frame { 1024 * buffer + 1024 ≤ length frames.old }
+    ensures size { D.size disk.new ≡ D.size disk.old }
+    ensures sectors { D.sectors disk.new ≡ D.sectors disk.old }
+    ensures frames { frames.new ≡ with_frame frames.old buffer (frame_of frames.new buffer) }
+    ensures length { length frames.new ≡ length frames.old }
+    ensures words { OnOk result (Tells (sector_of (D.sectors disk.old) sector) (frame_of frames.new buffer)) }
+    ensures count { Counts (D.faults disk.old) (D.faults disk.new) result }
+{
+    disk.read(sector, frames.lend_mut(buffer))
+}
+
+/// Writes a frame straight to a sector.
+pub(crate) fn write_sector<D: Sectors>(
+    disk: &mut D,
+    sector: u32,
+    frames: &Frames,
+    buffer: u32,
+) -> Result<(), DiskFault>
+    requires sector { sector < D.size disk.old }
+    requires frame { 1024 * buffer + 1024 ≤ length frames.now }
+    ensures size { D.size disk.new ≡ D.size disk.old }
+    ensures words { OnOk result (D.sectors disk.new ≡ with_sector (D.sectors disk.old) sector (frame_of frames.now buffer)) }
+    ensures torn { OnErr result ((words : List ℕ) × (D.sectors disk.new ≡ with_sector (D.sectors disk.old) sector words)) }
+    ensures count { Counts (D.faults disk.old) (D.faults disk.new) result }
+{
+    disk.write(sector, frames.lend(buffer))
+}
