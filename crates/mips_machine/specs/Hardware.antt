@@ -1,0 +1,62 @@
+-- The machine but for its schedule and the number of its steps.
+use Rattle.std.specs.Prelude.{◌≡◌, ℕ, ◌+◌, ◌≤◌, Bool, List, Option, Some, None, ◌==◌, if◌then◌else◌}
+use Rattle.mips_runs.specs.Device.{Outside, POWER, port_write}
+use Rattle.mips_runs.specs.Fits.{NamesSector}
+use Rattle.mips_runs.specs.Machine.{State, Coming, Interrupt, Done, done}
+use Rattle.sector_disk.specs.Ports.{Ports, device_of}
+use Rattle.mips_machine.specs.declared.event.Event.{Event}
+use Rattle.mips_machine.specs.declared.event.Event.TheVariants.{Ran, Taken, Power, Off}
+
+-- pc, registers, special registers, memory, the disk's ports and buffer, the viewed words, the latches and the power word
+pub record Hardware : Type 0 where
+  pub pc : ℕ
+  pub regs : List ℕ
+  pub special : List ℕ
+  pub memory : List ℕ
+  pub ports : Ports
+  pub buffer : List ℕ
+  pub viewed : List ℕ
+  pub mask : ℕ
+  pub reset : Bool
+  pub off : Option ℕ
+
+-- the state with these parts after so many steps
+abbrev pub state_in : Hardware → ℕ → List (List ℕ) → State
+state_in h time sectors = record {
+  pc = h.pc;
+  regs = h.regs;
+  special = h.special;
+  memory = h.memory;
+  device = device_of h.ports h.buffer sectors;
+  mask = h.mask;
+  reset = h.reset;
+  off = h.off;
+  time = time;
+}
+
+-- a machine that is still on ran, and one with a power word was switched off
+abbrev pub event_by : Option ℕ → Event
+event_by None = Ran
+event_by (Some word) = Power word
+
+-- what a step of a machine that is on is told as
+abbrev pub told_as : Coming → Event
+told_as (Interrupt cause edata epc) = Taken cause
+told_as (Done after) = event_by after.off
+
+-- a write outside memory
+abbrev pub sent : Outside → State → ℕ → ℕ → State
+sent x s k value =
+    if k == POWER then record s { off = Some value } else
+    record s { device = port_write x.busy x.count s.device k value }
+
+-- this state and event are those of what comes of a state
+pub record Comes (old : State) (coming : Coming) (new : State) (event : Event) : Type 0 where
+  pub state : new ≡ done old coming
+  pub event : event ≡ told_as coming
+
+-- what an instruction or an interrupt keeps, on a disk of so many sectors
+pub record Keeps (count : ℕ) (old new : Hardware) : Type 0 where
+  pub viewed : new.viewed ≡ old.viewed
+  pub commands : new.ports.commands ≤ old.ports.commands + 1
+  pub sector : NamesSector count old.ports.pending → NamesSector count new.ports.pending
