@@ -18,7 +18,7 @@ ghost use Rattle.sector_disk.specs.Ports.{idle, device_of, ports_of, EndsStep, T
 mod tests;
 mod transfer;
 
-use crate::transfer::{Transfer, read_sector, write_sector};
+use crate::transfer::{Transfer, put_word, read_sector, write_sector};
 use cvm_outside::{DiskFault, Sectors};
 use frame_store::Frames;
 use std::marker::Model;
@@ -100,6 +100,7 @@ impl Disk {
     /// the number `commands()`, in steps. While a command is under way the write is lost, and so it
     /// is where no port of the disk is. A command other than 1 and 2 is lost, and so is one whose
     /// sector is not below `count`; a command that is lost gets no number.
+    #[tactic(auto, using(crate::proofs::Buffers::with_own_frame))]
     pub fn write_port(
         &mut self,
         frames: &mut Frames,
@@ -125,7 +126,7 @@ impl Disk {
         if word == CONTROL {
             self.begin(value, count, busy);
         } else if word >= FIRST && word < REGISTER {
-            frames.lend_mut(buffer)[(word - FIRST) as usize] = value;
+            put_word(frames, buffer, word - FIRST, value);
         } else if word == REGISTER {
             self.sector = value;
         }
@@ -160,6 +161,7 @@ impl Disk {
     /// A fault of the disk, only where a transfer is due. The transfer is done with then. Where it
     /// was a read the buffer may hold anything; where it was a write the sector may, and the buffer
     /// is as before.
+    #[tactic(auto, using(crate::proofs::Buffers::with_own_frame))]
     #[inline]
     pub fn end_step<D: Sectors>(
         &mut self,
@@ -187,6 +189,7 @@ impl Disk {
 
     /// The end of a step in which a command is under way: its transfer is done where it is due, and
     /// else one step nearer.
+    #[tactic(auto, using(crate::proofs::Buffers::with_own_frame))]
     #[inline(never)]
     fn count<D: Sectors>(
         &mut self,

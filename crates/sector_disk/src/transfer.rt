@@ -1,5 +1,5 @@
 // The command under way, and its transfer.
-ghost use Rattle.std.specs.Prelude.{◌≡◌, ◌+◌, ◌*◌, ◌<◌, ◌≤◌, length, ℕ, List, OnOk, OnErr};
+ghost use Rattle.std.specs.Prelude.{◌≡◌, ◌+◌, ◌*◌, ◌<◌, ◌≤◌, length, slice_set, ℕ, List, OnOk, OnErr};
 ghost use Rattle.cvm_outside.specs.Causes.{Counts};
 ghost use Rattle.cvm_outside.specs.Told.{Tells, sector_of, with_sector};
 ghost use Rattle.frame_store.specs.Words.{frame_of, with_frame};
@@ -7,7 +7,7 @@ ghost use Rattle.mips_runs.specs.Device.{is_busy as is_under_way};
 ghost use Rattle.sector_disk.specs.Transfers.{pending_of};
 
 use cvm_outside::{DiskFault, Sectors};
-use frame_store::Frames;
+use frame_store::{Frames, a_frame_is_its_part};
 
 /// The command under way: how many steps end before its transfer, and the sector that it names.
 #[derive(Clone, Copy)]
@@ -42,6 +42,7 @@ pub(crate) fn read_sector<D: Sectors>(
     ensures words { OnOk result (Tells (sector_of (D.sectors disk.old) sector) (frame_of frames.new buffer)) }
     ensures count { Counts (D.faults disk.old) (D.faults disk.new) result }
 {
+    a_frame_is_its_part();
     disk.read(sector, frames.lend_mut(buffer))
 }
 
@@ -60,4 +61,16 @@ pub(crate) fn write_sector<D: Sectors>(
     ensures count { Counts (D.faults disk.old) (D.faults disk.new) result }
 {
     disk.write(sector, frames.lend(buffer))
+}
+
+/// Sets word `i` of a frame.
+pub(crate) fn put_word(frames: &mut Frames, buffer: u32, i: u32, value: u32)
+    requires word { i < 1024 }
+    requires frame { 1024 * buffer + 1024 ≤ length frames.old }
+    ensures words { frame_of frames.new buffer ≡ slice_set (frame_of frames.old buffer) i value }
+    ensures frames { frames.new ≡ with_frame frames.old buffer (frame_of frames.new buffer) }
+    ensures length { length frames.new ≡ length frames.old }
+{
+    a_frame_is_its_part();
+    frames.lend_mut(buffer)[i as usize] = value;
 }

@@ -1,0 +1,16 @@
+-- The frame holds what came, and the store is as long as before.
+use Rattle.std.proofs.Common.{◌≡◌, sym, ap}
+use Rattle.frame_store.specs.Words.{frame_of, with_frame}
+use Rattle.sector_disk.proofs.transfer.read_sector.Goals as goal
+
+pub returns-clause-frames : goal.returns-clause-frames
+returns-clause-frames g c =
+    ap (with_frame c.args.frames.now c.args.buffer) (sym (c.a_frame_is_its_part.ensures.same_frame c.args.frames.now c.args.buffer c.read.new.into c.requires.frame c.read.ensures.whole))
+
+pub returns-clause-length : goal.returns-clause-length
+returns-clause-length g c = c.a_frame_is_its_part.ensures.same_length c.args.frames.now c.args.buffer c.read.new.into c.requires.frame c.read.ensures.whole
+
+pub returns-clause-words : goal.returns-clause-words
+returns-clause-words g c =
+    let e = c.a_frame_is_its_part.ensures.same_frame c.args.frames.now c.args.buffer c.read.new.into c.requires.frame c.read.ensures.whole in
+    rw e c.read.ensures.words
