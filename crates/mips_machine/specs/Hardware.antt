@@ -1,9 +1,9 @@
 -- The machine but for its schedule and the number of its steps.
-use Rattle.std.specs.Prelude.{◌≡◌, ℕ, ◌+◌, ◌≤◌, Bool, List, Option, Some, None, ◌==◌, if◌then◌else◌}
+use Rattle.std.specs.Prelude.{◌≡◌, ℕ, ◌+◌, ◌*◌, ◌≤◌, Bool, true, List, replicate, Option, Some, None, ◌==◌, if◌then◌else◌}
 use Rattle.mips_runs.specs.Device.{Outside, POWER, port_write}
 use Rattle.mips_runs.specs.Fits.{NamesSector}
 use Rattle.mips_runs.specs.Machine.{State, Coming, Interrupt, Done, done}
-use Rattle.sector_disk.specs.Ports.{Ports, device_of}
+use Rattle.sector_disk.specs.Ports.{Ports, idle, device_of}
 use Rattle.mips_machine.specs.declared.event.Event.{Event}
 use Rattle.mips_machine.specs.declared.event.Event.TheVariants.{Ran, Taken, Power, Off}
 
@@ -19,6 +19,21 @@ pub record Hardware : Type 0 where
   pub mask : ℕ
   pub reset : Bool
   pub off : Option ℕ
+
+-- all is 0 but the reset latch, which is set; the memory has so many frames
+abbrev pub starting : ℕ → Hardware
+starting frames = record {
+  pc = 0;
+  regs = replicate 32 0;
+  special = replicate 9 0;
+  memory = replicate (1024 * frames) 0;
+  ports = idle;
+  buffer = replicate 1024 0;
+  viewed = replicate 1024 0;
+  mask = 0;
+  reset = true;
+  off = None;
+}
 
 -- the state with these parts after so many steps
 abbrev pub state_in : Hardware → ℕ → List (List ℕ) → State
@@ -51,9 +66,9 @@ sent x s k value =
     record s { device = port_write x.busy x.count s.device k value }
 
 -- this state and event are those of what comes of a state
-pub record Comes (old : State) (coming : Coming) (new : State) (event : Event) : Type 0 where
+pub record Comes (old : State) (coming : Coming) (new : State) (told : Event) : Type 0 where
   pub state : new ≡ done old coming
-  pub event : event ≡ told_as coming
+  pub event : told ≡ told_as coming
 
 -- what an instruction or an interrupt keeps, on a disk of so many sectors
 pub record Keeps (count : ℕ) (old new : Hardware) : Type 0 where

@@ -29,13 +29,13 @@ before_count x s = (done (latched x s) (coming x (latched x s))).device
 
 -- With some sectors, as many as the disk has and those that are told where they are told, the machine made its step, and the
 -- disk has the sectors that come of it.
-pub record Steps (count : ℕ) (old new : Held) (told retold : Option (List (List ℕ))) (event : Event) : Type 0 where
+pub record Steps (count : ℕ) (old new : Held) (told retold : Option (List (List ℕ))) (answer : Event) : Type 0 where
   pub sectors : List (List ℕ)
   pub many : length sectors ≡ count
   pub given : IfSome told (λ ss. sectors ≡ ss)
   pub state : (x : Outside) → Gives old.rows count x → state_of new (step x (state_of old sectors)).device.sectors ≡ step x (state_of old sectors)
   pub left : (x : Outside) → Gives old.rows count x → retold ≡ option_map (λ _. (step x (state_of old sectors)).device.sectors) told
-  pub event : (x : Outside) → Gives old.rows count x → event ≡ event_of x (state_of old sectors)
+  pub event : (x : Outside) → Gives old.rows count x → answer ≡ event_of x (state_of old sectors)
 
 -- With any sectors, the machine made its step but for the buffer, and the transfer that was due failed.
 pub record Fails (count : ℕ) (old new : Held) (told retold : Option (List (List ℕ))) : Type 0 where

@@ -1,5 +1,5 @@
 // The special registers, the memory and the ports, as the processor reads and writes them.
-ghost use Rattle.std.specs.Prelude.{◌≡◌, ◌≢◌, ℕ, ◌+◌, ◌*◌, ◌/◌, ◌<◌, ◌≤◌, ◌^◌, List, length, replicate, slice_index, slice_set, None, OnOk, OnErr, refl, IfOk, is_some, true, false, nat_lt, if◌then◌else◌};
+ghost use Rattle.std.specs.Prelude.{◌≡◌, ℕ, ◌+◌, ◌-◌, ◌*◌, ◌/◌, ◌<◌, ◌≤◌, ◌^◌, List, [], length, replicate, slice_index, slice_set, OnOk, OnErr, refl, IfOk};
 ghost use Rattle.cvm_outside.specs.Causes.{Counts};
 ghost use Rattle.cvm_outside.specs.Told.{Tells, sector_of};
 ghost use Rattle.mips_step.specs.Ends.{Reads};
@@ -41,7 +41,7 @@ pub(crate) struct Board {
 }
 
 impl Model for Board {
-    ghost use Rattle.std.specs.Prelude.{◌≡◌, ◌+◌, ◌*◌, ◌/◌, take};
+    ghost use Rattle.std.specs.Prelude.{◌≡◌, ◌+◌, ◌*◌, ◌/◌, length, take};
     ghost use Rattle.frame_store.specs.Words.{frame_of};
     ghost use Rattle.mips_machine.specs.Board.{Board};
 

@@ -1,10 +1,13 @@
 // One step's interrupt or instruction.
-ghost use Rattle.std.specs.Prelude.{◌≡◌, ℕ, ◌+◌, ◌*◌, ◌/◌, ◌<◌, ◌≤◌, ◌^◌, ◌-◌, List, length, slice_index, None};
-ghost use Rattle.mips_runs.specs.Device.{Outside, Happens};
+ghost use Rattle.std.specs.Prelude.{◌≡◌, ℕ, ◌+◌, ◌*◌, ◌/◌, ◌<◌, ◌≤◌, ◌^◌, ◌-◌, List, length, slice_index, slice_set, bit_or, None, IfOk, OnOk, OnErr};
+ghost use Rattle.cvm_outside.specs.Causes.{Counts};
+ghost use Rattle.cvm_outside.specs.Told.{Tells, sector_of};
+ghost use Rattle.mips_runs.specs.Device.{Outside, counted};
+ghost use Rattle.mips_runs.specs.Fits.{NamesSector};
+ghost use Rattle.sector_disk.specs.Ports.{device_of, ports_of, EndsStep, TransferFails};
 ghost use Rattle.mips_runs.specs.Machine.{taken, number_of, seen, moved, coming};
-ghost use Rattle.mips_table.specs.Core.{move, Asked, write as written_to};
-ghost use Rattle.schedule_file.specs.Rows.{lines_at, busy_of};
-ghost use Rattle.mips_machine.specs.Hardware.{state_in, sent, event_by, Comes, Keeps};
+ghost use Rattle.mips_table.specs.Core.{move, Asked};
+ghost use Rattle.mips_machine.specs.Hardware.{starting, state_in, sent, event_by, Comes, Keeps};
 ghost use Rattle.mips_machine.specs.Steps.{Gives};
 
 use crate::board::{Board, PortWrite};
@@ -14,7 +17,7 @@ use mips_interrupts::SR;
 use mips_step::{Cpu, Outcome, step_in_memory};
 use mips_table::effect::next;
 use mips_table::{Cause, Inst, decode};
-use schedule_file::Schedule;
+use schedule_file::{Lines, Schedule};
 use std::alloc::{AllocError, Global};
 use std::marker::Model;
 
@@ -44,6 +47,40 @@ impl Model for Hardware {
 }
 
 impl Hardware {
+    /// All is 0 but the reset latch, which is set; the memory has so many frames.
+    pub(crate) fn new(alloc: Global, frames: u32) -> Result<Hardware, AllocError>
+        requires some { 1 ≤ frames }
+        requires few { frames ≤ 65000 }
+        ensures { IfOk result (λ h. h ≡ starting frames) }
+    {
+        Ok(Hardware {
+            cpu: Cpu {
+                pc: 0,
+                regs: [0; 32],
+            },
+            board: Board::new(alloc, frames)?,
+            mask: 0,
+            reset: true,
+            off: None,
+        })
+    }
+
+    /// The power word, once the machine is off.
+    #[inline]
+    pub(crate) fn off(&self) -> Option<u32>
+        ensures { result ≡ self.now.off }
+    {
+        self.off
+    }
+
+    /// Lines are latched.
+    #[inline]
+    pub(crate) fn latch(&mut self, lines: Lines)
+        ensures { self.new ≡ record self.old { mask = bit_or self.old.mask lines.0 } }
+    {
+        self.mask |= lines.0;
+    }
+
     /// Takes the interrupt with the least cause that comes, or else makes one instruction. The disk has `count` sectors.
     #[inline]
     pub(crate) fn act(&mut self, schedule: &Schedule, count: u32) -> Event
@@ -140,5 +177,80 @@ impl Hardware {
             _ => return self.interrupt(Cause::Illegal, word),
         }
         Event::Ran
+    }
+
+    /// The end of a step: the disk counts.
+    #[inline]
+    pub(crate) fn end_step<D: Sectors>(&mut self, disk: &mut D) -> Result<(), DiskFault>
+        requires { NamesSector (D.size disk.old) self.old.ports.pending }
+        ensures ended { OnOk result (EndsStep (D.size disk.old) self.old.ports self.new.ports self.old.buffer self.new.buffer (D.sectors disk.old) (D.sectors disk.new)) }
+        ensures fault { OnErr result (TransferFails self.old.ports.pending self.old.buffer self.new.buffer (D.sectors disk.old) (D.sectors disk.new)) }
+        ensures ports { (sectors : List (List ℕ)) → self.new.ports ≡ ports_of (counted (device_of self.old.ports self.old.buffer sectors)) }
+        ensures hardware { self.new ≡ record self.old { ports = self.new.ports; buffer = self.new.buffer } }
+        ensures under_way { NamesSector (D.size disk.new) self.new.ports.pending }
+        ensures size { D.size disk.new ≡ D.size disk.old }
+        ensures count { Counts (D.faults disk.old) (D.faults disk.new) result }
+    {
+        self.board.end_step(disk)
+    }
+
+    /// The word of memory with this number.
+    pub(crate) fn word(&self, word: u32) -> u32
+        requires { word < length self.now.memory }
+        ensures { result ≡ slice_index self.now.memory word }
+    {
+        self.board.word(word)
+    }
+
+    /// Sets a word of memory.
+    pub(crate) fn set_word(&mut self, word: u32, value: u32)
+        requires { word < length self.old.memory }
+        ensures { self.new ≡ record self.old { memory = slice_set self.old.memory word value } }
+    {
+        self.board.set_word(word, value);
+    }
+
+    /// The special register with this number.
+    pub(crate) fn special(&self, special: u32) -> u32
+        requires { special ≤ 8 }
+        ensures { result ≡ slice_index self.now.special special }
+    {
+        self.board.special(special)
+    }
+
+    /// The register with this number.
+    pub(crate) fn reg(&self, r: u32) -> u32
+        requires { r < 32 }
+        ensures { result ≡ slice_index self.now.regs r }
+    {
+        self.cpu.regs[r as usize]
+    }
+
+    /// The address of the next instruction.
+    pub(crate) fn pc(&self) -> u32
+        ensures { result ≡ self.now.pc }
+    {
+        self.cpu.pc
+    }
+
+    /// Reads a sector into the frame that is viewed.
+    pub(crate) fn view_sector<D: Sectors>(&mut self, disk: &mut D, i: u32) -> Result<(), DiskFault>
+        requires { i < D.size disk.old }
+        ensures hardware { self.new ≡ record self.old { viewed = self.new.viewed } }
+        ensures words { OnOk result (Tells (sector_of (D.sectors disk.old) i) self.new.viewed) }
+        ensures whole { length self.new.viewed ≡ 1024 }
+        ensures size { D.size disk.new ≡ D.size disk.old }
+        ensures sectors { D.sectors disk.new ≡ D.sectors disk.old }
+        ensures count { Counts (D.faults disk.old) (D.faults disk.new) result }
+    {
+        self.board.view_sector(disk, i)
+    }
+
+    /// A word of the frame that is viewed.
+    pub(crate) fn viewed(&self, word: u32) -> u32
+        requires { word < 1024 }
+        ensures { result ≡ slice_index self.now.viewed word }
+    {
+        self.board.viewed(word)
     }
 }

@@ -7,11 +7,9 @@ ghost use Rattle.mips_runs.specs.Machine.{start};
 ghost use Rattle.mips_machine.specs.Machine.{Held, state_of};
 ghost use Rattle.mips_machine.specs.Steps.{Steps, Fails};
 
-use crate::board::Board;
 use crate::event::Event;
 use crate::hardware::Hardware;
 use cvm_outside::{DiskFault, Sectors};
-use mips_step::Cpu;
 use schedule_file::Schedule;
 use std::alloc::{AllocError, Global};
 use std::marker::Model;
@@ -55,19 +53,8 @@ impl Machine {
         ensures rows { IfOk result (λ m. m.rows ≡ schedule) }
         ensures viewed { IfOk result (λ m. m.viewed ≡ replicate 1024 0) }
     {
-        let board = Board::new(alloc, frames)?;
-        let hardware = Hardware {
-            cpu: Cpu {
-                pc: 0,
-                regs: [0; 32],
-            },
-            board,
-            mask: 0,
-            reset: true,
-            off: None,
-        };
         Ok(Machine {
-            hardware,
+            hardware: Hardware::new(alloc, frames)?,
             schedule,
             next_line: 0,
             steps: 0,
@@ -94,15 +81,16 @@ impl Machine {
         ensures size { D.size disk.new ≡ D.size disk.old }
         ensures count { Counts (D.faults disk.old) (D.faults disk.new) result }
     {
-        if let Some(word) = self.hardware.off {
+        if let Some(word) = self.hardware.off() {
             return Ok(Event::Off(word));
         }
-        let (lines, next_line) = self.schedule.raised_from(self.next_line, self.steps);
-        self.hardware.mask |= lines.0;
+        let at = self.next_line;
+        let (lines, next_line) = self.schedule.raised_from(at, self.steps);
+        self.hardware.latch(lines);
         let event = self.hardware.act(&self.schedule, disk.count());
         self.next_line = next_line;
         self.steps += 1;
-        self.hardware.board.end_step(disk)?;
+        self.hardware.end_step(disk)?;
         Ok(event)
     }
 
@@ -112,7 +100,7 @@ impl Machine {
         requires inside { address / 4 < length self.now.memory }
         ensures { result ≡ slice_index self.now.memory (address / 4) }
     {
-        self.hardware.board.word(address / 4)
+        self.hardware.word(address / 4)
     }
 
     /// Sets the word of memory at an address in bytes, which is a multiple of 4 inside memory, and no other.
@@ -121,7 +109,7 @@ impl Machine {
         requires inside { address / 4 < length self.old.memory }
         ensures { self.new ≡ record self.old { memory = slice_set self.old.memory (address / 4) value } }
     {
-        self.hardware.board.set_word(address / 4, value);
+        self.hardware.set_word(address / 4, value);
     }
 
     /// The special register with this number, from 0 to 8.
@@ -129,7 +117,7 @@ impl Machine {
         requires { rd ≤ 8 }
         ensures { result ≡ slice_index self.now.special rd }
     {
-        self.hardware.board.special(rd)
+        self.hardware.special(rd)
     }
 
     /// The register with this number, from 0 to 31.
@@ -137,14 +125,14 @@ impl Machine {
         requires { r ≤ 31 }
         ensures { result ≡ slice_index self.now.regs r }
     {
-        self.hardware.cpu.regs[r as usize]
+        self.hardware.reg(r)
     }
 
     /// The address of the next instruction, in bytes.
     pub fn pc(&self) -> u32
         ensures { result ≡ self.now.pc }
     {
-        self.hardware.cpu.pc
+        self.hardware.pc()
     }
 
     /// How many steps the machine made. Steps that find it off don't count.
@@ -168,7 +156,7 @@ impl Machine {
         ensures sectors { D.sectors disk.new ≡ D.sectors disk.old }
         ensures count { Counts (D.faults disk.old) (D.faults disk.new) result }
     {
-        self.hardware.board.view_sector(disk, i)
+        self.hardware.view_sector(disk, i)
     }
 
     /// The word with this number, below 1,024, of the sector that was viewed last.
@@ -176,6 +164,6 @@ impl Machine {
         requires { word < 1024 }
         ensures { result ≡ slice_index self.now.viewed word }
     {
-        self.hardware.board.viewed(word)
+        self.hardware.viewed(word)
     }
 }
