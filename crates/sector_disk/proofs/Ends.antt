@@ -1,5 +1,5 @@
 -- The end of a step, by the command that was under way: which sectors the disk is said to have had.
-use Rattle.std.proofs.Common.{◌≡◌, ℕ, zero, suc, ◌-◌, ◌<◌, Bool, false, subst, sub-one, List, [], length, get_or, set, replicate, refl, sym, ap, ◌∙◌, arith, get_or-set_same, Some, None}
+use Rattle.std.proofs.Common.{◌≡◌, ℕ, zero, suc, ◌-◌, ◌<◌, false, subst, sub-one, List, [], length, get_or, set, replicate, refl, sym, ap, ◌∙◌, arith, get_or-set_same, Some, None}
 use Rattle.std.specs.Prelude.{Option, IfSome, Result, Ok, Err, OnOk}
 use Rattle.std.proofs.lemmas.List.{length-replicate, length-set}
 use Rattle.cvm_outside.specs.Told.{Tells, sector_of, with_sector}

@@ -82,12 +82,13 @@ impl Disk {
         requires { 1024 * buffer + 1024 ≤ length frames.now }
         ensures { (sectors : List (List ℕ)) → result ≡ port_read (device_of self.now (frame_of frames.now buffer) sectors) (address / 4) }
     {
+        let busy = self.transfer.is_busy();
         let word = address / 4;
         if word == CONTROL {
-            return u32::from(self.transfer.is_busy());
+            return u32::from(busy);
         }
         if word >= FIRST && word < REGISTER {
-            if self.transfer.is_busy() {
+            if busy {
                 return 0;
             }
             return frames.lend(buffer)[(word - FIRST) as usize];
@@ -180,11 +181,10 @@ impl Disk {
         ensures size { D.size disk.new ≡ D.size disk.old }
         ensures count { Counts (D.faults disk.old) (D.faults disk.new) result }
     {
-        if self.transfer.is_busy() {
-            self.count(frames, buffer, disk)
-        } else {
-            Ok(())
+        if !self.transfer.is_busy() {
+            return Ok(());
         }
+        self.count(frames, buffer, disk)
     }
 
     /// The end of a step in which a command is under way: its transfer is done where it is due, and

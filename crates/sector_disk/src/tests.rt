@@ -35,17 +35,18 @@ impl Model for Desk {
 }
 
 impl Desk {
-    /// Each sector begins with 90 and its number. The calls of the disk that are in `fail` fail.
+    /// The words of sectors 2, 5 and 7 are 92, 95 and 97. The calls of the disk that are in `fail`
+    /// fail; three were made.
     fn new(alloc: Global, fail: Vec<u64>) -> Result<Desk, AllocError> {
-        let mut desk = Desk {
+        let mut sectors = MemSectors::new(alloc, 8, fail)?;
+        let _ = sectors.write(2, &[92; 1024]);
+        let _ = sectors.write(5, &[95; 1024]);
+        let _ = sectors.write(7, &[97; 1024]);
+        Ok(Desk {
             ports: Disk::new(),
             frames: Frames::new(alloc, 3)?,
-            sectors: MemSectors::new(alloc, 8, fail)?,
-        };
-        for i in 0..8 {
-            let _ = desk.sectors.write(i, &[90 + i; 1024]);
-        }
-        Ok(desk)
+            sectors,
+        })
     }
 
     /// A step that writes a port: whether its end met no fault.
@@ -154,10 +155,10 @@ fn a_write_puts_the_buffer_into_its_sector(rt: HostRuntime) -> Result<(), Fail> 
 
 #[test]
 fn a_fault_ends_its_transfer(rt: HostRuntime) -> Result<(), Fail> {
-    let mut desk = Desk::new(rt.alloc(), vec![in rt.alloc(); 8, 10]?)?;
+    let mut desk = Desk::new(rt.alloc(), vec![in rt.alloc(); 3, 5]?)?;
     assert!(rt; desk.write(SECTOR, 5, 0));
     assert!(rt; desk.write(CONTROL, 1, 1));
-    assert!(rt; !desk.rest(), "call 8 is listed");
+    assert!(rt; !desk.rest(), "call 3 is listed");
     assert_eq!(rt; desk.read(CONTROL), 0);
     assert_eq!(rt; desk.read(SECTOR), 5);
     assert_eq!(rt; desk.ports.commands(), 1);
@@ -166,7 +167,7 @@ fn a_fault_ends_its_transfer(rt: HostRuntime) -> Result<(), Fail> {
     assert!(rt; desk.rest());
     assert!(rt; desk.write(CONTROL, 1, 0));
     assert_eq!(rt; desk.read(BUFFER), 95);
-    assert!(rt; !desk.write(CONTROL, 2, 0), "call 10 is listed");
+    assert!(rt; !desk.write(CONTROL, 2, 0), "call 5 is listed");
     assert_eq!(rt; desk.read(BUFFER), 95);
     assert!(rt; desk.rest());
     Ok(())

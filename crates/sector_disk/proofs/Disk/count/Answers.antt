@@ -1,5 +1,5 @@
 -- The end of a step, by the command that was under way.
-use Rattle.std.proofs.Common.{◌≡◌, ◌-◌, sym, ap, ◌∙◌, arith}
+use Rattle.std.proofs.Common.{◌-◌, sym, ap, ◌∙◌, arith}
 use Rattle.mips_runs.specs.Device.{Pending}
 use Rattle.mips_runs.specs.Device as device
 use Rattle.sector_disk.specs.Ports.{Ports}

@@ -1,6 +1,6 @@
 -- The frame holds what came, and the store is as long as before.
-use Rattle.std.proofs.Common.{◌≡◌, sym, ap}
-use Rattle.frame_store.specs.Words.{frame_of, with_frame}
+use Rattle.std.proofs.Common.{sym, ap}
+use Rattle.frame_store.specs.Words.{with_frame}
 use Rattle.sector_disk.proofs.transfer.read_sector.Goals as goal
 
 pub returns-clause-frames : goal.returns-clause-frames
