@@ -1,6 +1,8 @@
 -- The memory and the ports as the processor reads and writes them.
-use Rattle.std.specs.Prelude.{ℕ, ◌/◌, false, nat_lt, if◌then◌else◌, List, [], length, replicate, slice_set, Option, Some, None, true}
-use Rattle.mips_table.specs.Core.{Memory}
+use Rattle.std.specs.Prelude.{◌≡◌, ℕ, ◌/◌, false, nat_lt, if◌then◌else◌, List, [], length, replicate, slice_set, Option, Some, None, true}
+use Rattle.mips_table.specs.Core.{Memory, move}
+use Rattle.mips_step.specs.Step.{Core, End}
+use Rattle.mips_step.specs.Ends.{Ends}
 use Rattle.mips_runs.specs.Machine.{State, located, seen}
 use Rattle.sector_disk.specs.Ports.{Ports, device_of}
 use Rattle.mips_machine.specs.declared.board.PortWrite.{PortWrite}
@@ -34,3 +36,7 @@ stored_at b (Some address) value =
 -- a store
 abbrev pub stored : Board → ℕ → ℕ → Board
 stored b address value = stored_at b (located (around b) true address) value
+
+-- one instruction over the board ends so
+unfoldable pub Instructs : Core → Board → End → Board → Type 0
+Instructs core old end new = Ends (λ before address value after. after ≡ stored before address value) core old (move (shown old) core.pc core.regs) end new

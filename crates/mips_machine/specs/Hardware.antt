@@ -1,8 +1,9 @@
 -- The machine but for its schedule and the number of its steps.
 use Rattle.std.specs.Prelude.{◌≡◌, ℕ, ◌+◌, ◌*◌, ◌≤◌, Bool, true, List, replicate, Option, Some, None, ◌==◌, if◌then◌else◌}
+use Rattle.mips_table.specs.Core.{Asked, move}
 use Rattle.mips_runs.specs.Device.{Outside, POWER, port_write}
 use Rattle.mips_runs.specs.Fits.{NamesSector}
-use Rattle.mips_runs.specs.Machine.{State, Coming, Interrupt, Done, done}
+use Rattle.mips_runs.specs.Machine.{State, Coming, Interrupt, Done, seen, moved, coming, done}
 use Rattle.sector_disk.specs.Ports.{Ports, idle, device_of}
 use Rattle.mips_machine.specs.declared.event.Event.{Event}
 use Rattle.mips_machine.specs.declared.event.Event.TheVariants.{Ran, Taken, Power, Off}
@@ -58,6 +59,18 @@ event_by (Some word) = Power word
 abbrev pub told_as : Coming → Event
 told_as (Interrupt cause edata epc) = Taken cause
 told_as (Done after) = event_by after.off
+
+-- what comes of an instruction
+unfoldable pub instructed : Outside → State → Coming
+instructed x s = moved x s (move (seen s) s.pc s.regs)
+
+-- what comes of a word that is illegal for users
+unfoldable pub asked : Outside → State → ℕ → Coming
+asked x s word = moved x s (Asked word)
+
+-- the interrupt with the least cause that comes, or else the instruction
+unfoldable pub chosen : Outside → State → Coming
+chosen x s = coming x s
 
 -- a write outside memory
 abbrev pub sent : Outside → State → ℕ → ℕ → State

@@ -20,11 +20,11 @@ event_if x s (Some word) = Off word
 event_if x s None = told_as (coming x (latched x s))
 
 -- what the step of a state is told as: it finds the machine off, takes an interrupt, switches the machine off, or is none of these
-abbrev pub event_of : Outside → State → Event
+unfoldable pub event_of : Outside → State → Event
 event_of x s = event_if x s s.off
 
 -- the device before it counts at the end of the step of a machine that is on
-abbrev pub before_count : Outside → State → Device
+unfoldable pub before_count : Outside → State → Device
 before_count x s = (done (latched x s) (coming x (latched x s))).device
 
 -- With some sectors, as many as the disk has and those that are told where they are told, the machine made its step, and the

@@ -5,9 +5,9 @@ ghost use Rattle.cvm_outside.specs.Told.{Tells, sector_of};
 ghost use Rattle.mips_runs.specs.Device.{Outside, counted};
 ghost use Rattle.mips_runs.specs.Fits.{NamesSector};
 ghost use Rattle.sector_disk.specs.Ports.{device_of, ports_of, EndsStep, TransferFails};
-ghost use Rattle.mips_runs.specs.Machine.{taken, number_of, seen, moved, coming};
-ghost use Rattle.mips_table.specs.Core.{move, Asked};
-ghost use Rattle.mips_machine.specs.Hardware.{starting, state_in, sent, event_by, Comes, Keeps};
+ghost use Rattle.mips_runs.specs.Machine.{taken, number_of};
+ghost use Rattle.mips_machine.specs.Board.{Instructs};
+ghost use Rattle.mips_machine.specs.Hardware.{starting, state_in, instructed, asked, chosen, sent, event_by, Comes, Keeps};
 ghost use Rattle.mips_machine.specs.Steps.{Gives};
 
 use crate::board::{Board, PortWrite};
@@ -44,6 +44,15 @@ impl Model for Hardware {
         mask = h.mask; reset = h.reset; off = h.off } };
 
     ghost invariant = { λ h. h.board.asked ≡ None };
+}
+
+/// One instruction of the processor over the board.
+#[tactic(auto, unfolding(crate::specs::Board::Instructs))]
+#[inline]
+fn instruct(cpu: &mut Cpu, board: &mut Board) -> Outcome
+    ensures { Instructs (record { pc = cpu.old.pc; regs = cpu.old.regs }) board.old (record { outcome = result; core = record { pc = cpu.new.pc; regs = cpu.new.regs } }) board.new }
+{
+    step_in_memory(cpu, board)
 }
 
 impl Hardware {
@@ -87,7 +96,7 @@ impl Hardware {
         requires on { self.old.off ≡ None }
         requires room { self.old.ports.commands < 2 ^ 64 - 1 }
         ensures comes { (x : Outside) (time : ℕ) (sectors : List (List ℕ)) → Gives schedule.now count x
-            → Comes (state_in self.old time sectors) (coming x (state_in self.old time sectors)) (state_in self.new time sectors) result }
+            → Comes (state_in self.old time sectors) (chosen x (state_in self.old time sectors)) (state_in self.new time sectors) result }
         ensures keeps { Keeps count self.old self.new }
     {
         if self.reset {
@@ -117,16 +126,18 @@ impl Hardware {
         requires on { self.old.off ≡ None }
         requires room { self.old.ports.commands < 2 ^ 64 - 1 }
         ensures comes { (x : Outside) (time : ℕ) (sectors : List (List ℕ)) → Gives schedule.now count x
-            → Comes (state_in self.old time sectors) (moved x (state_in self.old time sectors) (move (seen (state_in self.old time sectors)) self.old.pc self.old.regs)) (state_in self.new time sectors) result }
+            → Comes (state_in self.old time sectors) (instructed x (state_in self.old time sectors)) (state_in self.new time sectors) result }
         ensures keeps { Keeps count self.old self.new }
     {
-        match step_in_memory(&mut self.cpu, &mut self.board) {
+        match instruct(&mut self.cpu, &mut self.board) {
             Outcome::Done => match self.board.take_asked() {
                 None => Event::Ran,
                 Some(write) => self.write_port(write, schedule, count),
             },
-            Outcome::Trap(Cause::Illegal, word) => self.illegal(word),
-            Outcome::Trap(cause, edata) => self.interrupt(cause, edata),
+            Outcome::Trap(cause, edata) => match cause {
+                Cause::Illegal => self.illegal(edata),
+                _ => self.interrupt(cause, edata),
+            },
         }
     }
 
@@ -151,12 +162,13 @@ impl Hardware {
     }
 
     /// Makes an instruction on special registers in system mode. Any other word is illegal here.
+    #[tactic(auto, unfolding(crate::specs::Hardware::asked))]
     #[cold]
     #[inline(never)]
     fn illegal(&mut self, word: u32) -> Event
         requires { self.old.off ≡ None }
         ensures comes { (x : Outside) (time : ℕ) (sectors : List (List ℕ))
-            → Comes (state_in self.old time sectors) (moved x (state_in self.old time sectors) (Asked word)) (state_in self.new time sectors) result }
+            → Comes (state_in self.old time sectors) (asked x (state_in self.old time sectors) word) (state_in self.new time sectors) result }
         ensures keeps { (count : ℕ) → Keeps count self.old self.new }
     {
         if !self.board.in_system() {

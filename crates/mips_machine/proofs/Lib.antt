@@ -1,0 +1,4 @@
+pub mod Execute
+pub mod Parts
+pub mod Ports
+pub mod Traps
