@@ -1,6 +1,6 @@
 -- What the processor's step says of a board is what comes of the machine's state: an instruction that ran, a write outside memory
 -- that is still to be done, a trap, and a word that may be an instruction on special registers.
-use Rattle.std.proofs.Common.{◌≡◌, ℕ, ◌/◌, Bool, true, false, cond, Option, Some, None, List, length, refl, sym, ap, ◌∙◌, subst}
+use Rattle.std.proofs.Common.{◌≡◌, ℕ, ◌+◌, ◌/◌, ◌≤◌, Bool, true, false, cond, Option, Some, None, List, length, refl, sym, ap, ◌∙◌, subst, arith}
 use Rattle.std.specs.Prelude.{◌==◌, nat_lt, slice_set, if◌then◌else◌}
 use Rattle.mips_table.specs.declared.cause.Cause.{Cause}
 use Rattle.mips_table.specs.declared.cause.Cause.TheVariants as causes
@@ -11,13 +11,14 @@ use Rattle.mips_step.specs.declared.cpu.Outcome.TheVariants.{Done, Trap}
 use Rattle.mips_step.specs.Step.{Core, End}
 use Rattle.mips_step.specs.Ends.{Ends}
 use Rattle.mips_runs.specs.Device.{Outside, POWER, port_write}
+use Rattle.mips_runs.specs.Fits.{NamesSector}
 use Rattle.mips_runs.specs.Machine.{State, Coming, Interrupt, in_system, located, written_at, number_of, taken, requested, cleared, moved}
 use Rattle.mips_runs.specs.Machine as machine
 use Rattle.mips_machine.specs.declared.board.PortWrite.{PortWrite}
 use Rattle.mips_machine.specs.declared.event.Event.{Event}
 use Rattle.mips_machine.specs.declared.event.Event.TheVariants as events
 use Rattle.mips_machine.specs.Board.{Board, around, shown, stored, stored_at, Instructs}
-use Rattle.mips_machine.specs.Hardware.{Hardware, state_in, event_by, told_as, instructed, asked, sent, Comes}
+use Rattle.mips_machine.specs.Hardware.{Hardware, state_in, event_by, told_as, instructed, asked, sent, Comes, Keeps}
 use Rattle.mips_machine.proofs.Traps.{IsTrap, Traps, move_traps}
 
 -- the board of the machine, with no write that is still to be done
@@ -183,3 +184,52 @@ module _ (x : Outside) (h : Hardware) (on : h.off ≡ None) (time : ℕ) (sector
       Comes (state_in (with_board h end.core b) time sectors) (asked x (state_in (with_board h end.core b) time sectors) word) (state_in new time sectors) told → Comes (state_in h time sectors) (instructed x (state_in h time sectors)) (state_in new time sectors) told
   unfolding instructed asked
   illegal_is word new told o c = illegal x h on time sectors (move (shown (board_of h)) h.pc h.regs) end b word new told (move_traps (shown (board_of h)) h.pc h.regs) moves o c
+
+-- what an instruction leaves of a board: a store changes neither the ports nor what is viewed
+pub record Leaves (old new : Board) : Type 0 where
+  pub ports : new.ports ≡ old.ports
+  pub viewed : new.viewed ≡ old.viewed
+
+store_leaves : (old new : Board) (value : ℕ) (o : Option ℕ) → new ≡ stored_at old o value → Leaves old new
+store_leaves old new value None e = record { ports = ap (λ b. b.ports) e; viewed = ap (λ b. b.viewed) e }
+store_leaves old new value (Some address) e = by_place (nat_lt (address / 4) (length old.memory)) e
+  where
+    by_place : (c : Bool) → new ≡ cond c (record old { memory = slice_set old.memory (address / 4) value }) (record old { asked = Some (record { address = address; value = value }) }) → Leaves old new
+    by_place true e = record { ports = ap (λ b. b.ports) e; viewed = ap (λ b. b.viewed) e }
+    by_place false e = record { ports = ap (λ b. b.ports) e; viewed = ap (λ b. b.viewed) e }
+
+move_leaves : (core : Core) (old new : Board) (m : Move) (end : End) → Ends Writes core old m end new → Leaves old new
+move_leaves core old new (Ran pc regs) end e = record { ports = ap (λ b. b.ports) e.1; viewed = ap (λ b. b.viewed) e.1 }
+move_leaves core old new (Stored pc regs address value) end e = store_leaves old new value (located (around old) true address) e.1
+move_leaves core old new (Trapped cause edata epc) end e = record { ports = ap (λ b. b.ports) e.1; viewed = ap (λ b. b.viewed) e.1 }
+move_leaves core old new (Asked word) end e = record { ports = ap (λ b. b.ports) e.1; viewed = ap (λ b. b.viewed) e.1 }
+
+pub leaves : (core : Core) (old new : Board) (end : End) → Instructs core old end new → Leaves old new
+unfolding Instructs
+leaves core old new end e = move_leaves core old new (move (shown old) core.pc core.regs) end e
+
+-- a trap leaves the whole board
+trap_leaves : (core : Core) (old new : Board) (m : Move) (end : End) (cause : Cause) (edata : ℕ) → Ends Writes core old m end new → end.outcome ≡ Trap cause edata → new ≡ old
+trap_leaves core old new (Ran pc regs) end cause edata e o = let k = ap (λ v. v.outcome) e.0 in absurd (cc)
+trap_leaves core old new (Stored pc regs address value) end cause edata e o = let k = ap (λ v. v.outcome) e.0 in absurd (cc)
+trap_leaves core old new (Trapped why what epc) end cause edata e o = e.1
+trap_leaves core old new (Asked word) end cause edata e o = e.1
+
+pub traps_leave : (core : Core) (old new : Board) (end : End) (cause : Cause) (edata : ℕ) → Instructs core old end new → end.outcome ≡ Trap cause edata → new ≡ old
+unfolding Instructs
+traps_leave core old new end cause edata e o = trap_leaves core old new (move (shown old) core.pc core.regs) end cause edata e o
+
+-- ports and viewed words that stay are kept
+pub keeps_after : (count : ℕ) (old mid new : Hardware) → mid.ports ≡ old.ports → mid.viewed ≡ old.viewed → Keeps count mid new → Keeps count old new
+keeps_after count old mid new p v k = record {
+  viewed = k.viewed ∙ v;
+  commands = subst (λ q. new.ports.commands ≤ q.commands + 1) p k.commands;
+  sector = λ n. k.sector (subst (λ q. NamesSector count q.pending) (sym p) n);
+}
+
+pub keeps_same : (count : ℕ) (old new : Hardware) → new.ports ≡ old.ports → new.viewed ≡ old.viewed → Keeps count old new
+keeps_same count old new p v = record {
+  viewed = v;
+  commands = subst (λ q. q.commands ≤ old.ports.commands + 1) (sym p) (omega arith);
+  sector = λ n. subst (λ q. NamesSector count q.pending) (sym p) n;
+}
