@@ -1,3 +1,4 @@
+pub mod Choose
 pub mod Execute
 pub mod Parts
 pub mod Ports
