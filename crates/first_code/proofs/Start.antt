@@ -12,7 +12,8 @@ use Rattle.c0_tree.specs.Tree.{CAssign, CUnit}
 use Rattle.c0_tree.specs.First.{IsFirstAssign, IsFirst}
 use Rattle.mips_table.specs.declared.inst.Inst.{Inst}
 use Rattle.mips_table.specs.Encoding.{encoding}
-use Rattle.first_machine.specs.Machine.{State, step, run, taken, loaded, word_at}
+use Rattle.mips_runs.specs.Machine.{taken}
+use Rattle.first_machine.specs.Machine.{State, step, run, loaded, word_at}
 use Rattle.first_machine.specs.Turns.{in_user}
 use Rattle.first_code.specs.Meaning.{value, executed, start_values, final_values}
 use Rattle.first_code.specs.Code.{kernel_code, words_of, globals_page, globals_at, frames_of, linked}

@@ -7,7 +7,8 @@ use Rattle.mips_step.specs.declared.cpu.Outcome.{Outcome}
 use Rattle.mips_step.specs.declared.cpu.Outcome.TheVariants.{Done, Trap}
 use Rattle.mips_step.specs.Step.{Core, End}
 use Rattle.mips_step.specs.Ends.{Ends}
-use Rattle.first_machine.specs.Machine.{State, POWER, seen, interrupted, cause_number, moved}
+use Rattle.first_machine.specs.Machine.{State, POWER, seen, interrupted, moved}
+use Rattle.mips_runs.specs.Machine.{number_of}
 use Rattle.first_machine.specs.Storage.{Storage, after_store}
 
 -- the storage of a machine
@@ -24,7 +25,7 @@ together s core t = record s { pc = core.pc; regs = core.regs; memory = t.words;
 -- the interrupt that a trap comes to
 abbrev pub finished : State → Outcome → State
 finished s Done = s
-finished s (Trap cause edata) = interrupted s (cause_number cause) edata s.pc
+finished s (Trap cause edata) = interrupted s (number_of cause) edata s.pc
 
 store_is : (s : State) (pc : ℕ) (regs : List ℕ) (address value : ℕ) (b : Bool) →
     together s (record { pc = pc; regs = regs }) (cond b (record (storage_of s) { power = Some value }) (record (storage_of s) { words = slice_set s.memory (address / 4) value }))

@@ -1,8 +1,7 @@
 -- The machine of the first path, one step at a time: a processor in system mode, its memory, the reset and the power port.
 use Rattle.std.specs.Prelude.{ℕ, zero, suc, ◌-◌, ◌*◌, ◌/◌, Bool, true, false, if◌then◌else◌, ◌==◌, List, [], ◌∷◌, ◌++◌, length, replicate, slice_index, slice_set, Option, Some, None}
-use Rattle.mips_table.specs.declared.cause.Cause.{Cause}
-use Rattle.mips_table.specs.declared.cause.Cause.TheVariants.{Reset, External, FetchAlign, FetchFault, Illegal, Overflow, Syscall, DataAlign, DataFault}
 use Rattle.mips_table.specs.Core.{Memory, Move, Ran, Stored, Trapped, Asked, move}
+use Rattle.mips_runs.specs.Machine.{number_of, taken}
 
 -- pc, registers 0 to 31, the nine special registers, the words of memory, the reset latch, and the power word once it is off
 pub record State : Type 0 where
@@ -25,23 +24,6 @@ word_at memory address = slice_index memory (address / 4)
 abbrev pub seen : State → Memory
 seen s = record { may_fetch = λ _. true; may_load = λ _. true; may_store = λ _. true; word = word_at s.memory }
 
--- the number of a cause
-abbrev pub cause_number : Cause → ℕ
-cause_number Reset = 0
-cause_number External = 1
-cause_number FetchAlign = 2
-cause_number FetchFault = 3
-cause_number Illegal = 4
-cause_number Overflow = 5
-cause_number Syscall = 6
-cause_number DataAlign = 7
-cause_number DataFault = 8
-
--- the special registers once an interrupt is taken: sr, esr, cause, epc, edata, pto, ptl, mode, emode
-abbrev pub taken : List ℕ → ℕ → ℕ → ℕ → List ℕ
-taken special cause edata epc =
-    0 ∷ slice_index special 0 ∷ cause ∷ epc ∷ edata ∷ slice_index special 5 ∷ slice_index special 6 ∷ 0 ∷ slice_index special 7 ∷ []
-
 -- an interrupt: no register and no memory changes
 abbrev pub interrupted : State → ℕ → ℕ → ℕ → State
 interrupted s cause edata epc = record s { pc = 0; special = taken s.special cause edata epc }
@@ -54,7 +36,7 @@ stored s address value = if address == POWER then record s { off = Some value } 
 abbrev pub moved : State → Move → State
 moved s (Ran pc regs) = record s { pc = pc; regs = regs }
 moved s (Stored pc regs address value) = record (stored s address value) { pc = pc; regs = regs }
-moved s (Trapped cause edata epc) = interrupted s (cause_number cause) edata epc
+moved s (Trapped cause edata epc) = interrupted s (number_of cause) edata epc
 moved s (Asked word) = interrupted s 4 word s.pc
 
 -- one step of a machine that is on

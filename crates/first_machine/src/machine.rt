@@ -1,6 +1,6 @@
 // The machine, its steps and its turns.
 ghost use Rattle.std.specs.Prelude.{◌≡◌, ◌+◌, ◌*◌, ◌/◌, ◌%◌, ◌<◌, ◌≤◌, ℕ, length, slice_index, IfOk, OnOk, OnErr, MatchResult};
-ghost use Rattle.first_machine.specs.Machine.{cause_number};
+ghost use Rattle.mips_runs.specs.Machine.{number_of as number_in};
 
 use crate::ram::Ram;
 use crate::special::{SPECIAL_COUNT, Special};
@@ -44,7 +44,7 @@ impl Model for Machine {
 
 // The number of a cause, from 0 to 8.
 fn number_of(cause: Cause) -> u32
-    ensures { result ≡ cause_number cause }
+    ensures { result ≡ number_in cause }
 {
     cause as u32
 }
@@ -110,7 +110,7 @@ impl Machine {
 
     // Takes an interrupt. The pc is where the interrupted program goes on.
     fn interrupt(&mut self, cause: Cause, edata: u32)
-        ensures { self.new ≡ interrupted self.old (cause_number cause) edata self.old.pc }
+        ensures { self.new ≡ interrupted self.old (number_in cause) edata self.old.pc }
     {
         let [status, _, _, _, _, table_origin, table_length, mode, _] = self.special;
         self.special = [

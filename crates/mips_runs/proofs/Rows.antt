@@ -2,9 +2,9 @@
 use Rattle.std.proofs.Common.{◌≡◌, ℕ, ◌^◌, ◌<◌, Some, refl, sym, ◌∙◌, subst, arith}
 use Rattle.std.specs.Prelude.{◌==◌, if◌then◌else◌}
 use Rattle.std.proofs.lemmas.Bool.{cond_both, cond-false, ne_eqb}
-use Rattle.mips_runs.specs.Device.{Outside}
+use Rattle.mips_runs.specs.Device.{Outside, Happens}
 use Rattle.mips_runs.specs.Machine.{start, run, step}
-use Rattle.mips_runs.specs.Samples.{waiting, reading, ending, sectors, lines, busy, Happens, Waited, ReadIn, guarding, blank, guarded_lines, guarded_busy, Guarded}
+use Rattle.mips_runs.specs.Samples.{waiting, reading, ending, sectors, lines, busy, Waited, ReadIn, guarding, blank, guarded_lines, guarded_busy, Guarded}
 
 -- the outside with these parts
 abbrev with_parts : (f b : ℕ → ℕ) (n last : ℕ) → ((t : ℕ) → last < t → f t ≡ 0) → ((t : ℕ) → f t < 2 ^ 8) → Outside

@@ -40,6 +40,12 @@ pub record Outside : Type 0 where
   pub ends : (t : ℕ) → last < t → lines t ≡ 0
   pub eight : (t : ℕ) → lines t < 2 ^ 8
 
+-- the outside has these lines, busy times and number of sectors
+pub record Happens (l b : ℕ → ℕ) (n : ℕ) (x : Outside) : Type 0 where
+  pub lines : x.lines ≡ l
+  pub busy : x.busy ≡ b
+  pub count : x.count ≡ n
+
 -- whether a command is under way
 abbrev pub is_busy : Pending → Bool
 is_busy Idle = false

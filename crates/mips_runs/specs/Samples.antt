@@ -2,7 +2,7 @@
 use Rattle.std.specs.Prelude.{◌≡◌, ℕ, ◌-◌, ◌^◌, ◌==◌, if◌then◌else◌, List, [], ◌∷◌, ◌++◌, length, replicate, take, drop, slice_index}
 use Rattle.mips_table.specs.declared.inst.Inst.TheVariants.{Syscall, Bne, J, Addi, Addiu, Andi, Ori, Lui, Srlv, Mfc0, Mtc0, Eret, Lw, Sw}
 use Rattle.mips_table.specs.Encoding.{encoding}
-use Rattle.mips_runs.specs.Device.{Outside, sector_of}
+use Rattle.mips_runs.specs.Device.{sector_of}
 use Rattle.mips_runs.specs.Machine.{State}
 
 -- the words of a memory of one frame: these, and then zeros
@@ -33,12 +33,6 @@ lines t = if t == 5 then 9 else 0
 -- command 0 takes 3 steps more
 abbrev pub busy : ℕ → ℕ
 busy n = if n == 0 then 3 else 0
-
--- the outside has these lines, busy times and sectors
-pub record Happens (l b : ℕ → ℕ) (n : ℕ) (x : Outside) : Type 0 where
-  pub lines : x.lines ≡ l
-  pub busy : x.busy ≡ b
-  pub count : x.count ≡ n
 
 -- the reset and an external interrupt are taken at steps 0 and 5, and what the special registers and pc are then
 pub record Waited (s : State) : Type 0 where

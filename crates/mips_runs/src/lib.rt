@@ -4,13 +4,13 @@
 #![tactic(auto)]
 
 ghost use Rattle.std.specs.Prelude.{◌≡◌, ℕ, List, length, All, Some};
-ghost use Rattle.mips_runs.specs.Device.{Outside};
+ghost use Rattle.mips_runs.specs.Device.{Outside, Happens};
 ghost use Rattle.mips_runs.specs.Machine.{State, start, run};
 ghost use Rattle.mips_runs.specs.Fits.{IsWord, IsPage, Fits, StaysFitting};
 ghost use Rattle.mips_runs.specs.Lowering.{MachineFollows, FlatFollows};
 ghost use Rattle.mips_runs.specs.Borders.{InterruptsAreTaken, EretLeaves, PowerEnds};
 ghost use Rattle.mips_runs.specs.Premises.{OnMachine, OnFlat, Raises};
-ghost use Rattle.mips_runs.specs.Samples.{waiting, reading, ending, sectors, lines, busy, Happens, Waited, ReadIn, guarding, blank, guarded_lines, guarded_busy, Guarded};
+ghost use Rattle.mips_runs.specs.Samples.{waiting, reading, ending, sectors, lines, busy, Waited, ReadIn, guarding, blank, guarded_lines, guarded_busy, Guarded};
 
 /// The machine at its start has words below 2^32 and lists of their lengths.
 pub fn a_new_machine_fits()

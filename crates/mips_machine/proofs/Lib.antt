@@ -1,0 +1,5 @@
+pub mod Choose
+pub mod Execute
+pub mod Parts
+pub mod Ports
+pub mod Traps

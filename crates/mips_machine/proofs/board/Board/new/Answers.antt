@@ -1,0 +1,10 @@
+-- A store of zeros, as memory, buffer and viewed words.
+use Rattle.std.proofs.Common.{◌≡◌, ◌+◌, ◌*◌, ◌/◌, ℕ, replicate, take, ap, ◌∙◌, arith, None}
+use Rattle.std.proofs.lemmas.List.{take-replicate}
+use Rattle.frame_store.specs.Words.{frame_of}
+use Rattle.mips_machine.proofs.Parts.{board_in, started}
+use Rattle.mips_machine.proofs.board.Board.new.Goals as goal
+
+pub returns : goal.returns
+returns c =
+    ap (λ f. board_in (replicate 9 0) f (1024 * c.args.frames) c.new-2.result None) c.in_ok-new.ensures ∙ ap (λ d. board_in (replicate 9 0) (replicate (1024 * (c.args.frames + 2)) 0) (1024 * c.args.frames) d None) c.new-2.ensures ∙ started c.args.frames

@@ -1,0 +1,4 @@
+pub mod Board
+pub mod Hardware
+pub mod Machine
+pub mod Steps
