@@ -1,15 +1,15 @@
 -- What contracts see of the tree.
 use Rattle.std.specs.Prelude.{map}
-use Rattle.c0_tree.specs.Tree.{CName, CExpr, number, variable, sum, difference, CAssign, CUnit}
-use Rattle.c0_tree.specs.declared.tree.Name.{Name}
-use Rattle.c0_tree.specs.declared.tree.Decl.{Decl}
-use Rattle.c0_tree.specs.declared.tree.BinaryOp.{BinaryOp}
-use Rattle.c0_tree.specs.declared.tree.BinaryOp.TheVariants.{Add, Sub}
-use Rattle.c0_tree.specs.declared.tree.Expr.{Expr, fold-Expr}
-use Rattle.c0_tree.specs.declared.tree.Expr.TheOpen.{Expr-F}
-use Rattle.c0_tree.specs.declared.tree.Stmt.{Stmt}
-use Rattle.c0_tree.specs.declared.tree.Stmt.TheVariants.{Assign}
-use Rattle.c0_tree.specs.declared.tree.Unit.{Unit as RustUnit}
+use Rattle.first_tree.specs.Tree.{CName, CExpr, number, variable, sum, difference, CAssign, CUnit}
+use Rattle.first_tree.specs.declared.tree.Name.{Name}
+use Rattle.first_tree.specs.declared.tree.Decl.{Decl}
+use Rattle.first_tree.specs.declared.tree.BinaryOp.{BinaryOp}
+use Rattle.first_tree.specs.declared.tree.BinaryOp.TheVariants.{Add, Sub}
+use Rattle.first_tree.specs.declared.tree.Expr.{Expr, fold-Expr}
+use Rattle.first_tree.specs.declared.tree.Expr.TheOpen.{Expr-F}
+use Rattle.first_tree.specs.declared.tree.Stmt.{Stmt}
+use Rattle.first_tree.specs.declared.tree.Stmt.TheVariants.{Assign}
+use Rattle.first_tree.specs.declared.tree.Unit.{Unit as RustUnit}
 
 -- a name with its text as a list
 abbrev pub name_view : Name → CName
