@@ -3,10 +3,10 @@
 //! Each list of the tree is in source order. Spans are of bytes of the source, counted from 0.
 #![tactic(auto)]
 
-pub mod primitives;
+pub mod primitive;
 pub mod tree;
 
-pub use primitives::{Primitive, Scalar, primitives};
+pub use primitive::{Primitive, Scalar, primitives};
 pub use tree::{
     AsmText, BinaryOp, Body, CType, Code, Decl, Expr, Function, Kind, Name, Span, Stmt, StructDef,
     UnaryOp, Unit,
