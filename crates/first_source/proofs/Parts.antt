@@ -3,15 +3,15 @@ use Rattle.std.proofs.Common.{◌≡◌, ℕ, ◌<◌, ◌≤◌, Bool, true, fa
 use Rattle.std.specs.Prelude.{nat_lt, Option, Some, None, Ok}
 use Rattle.std.specs.Borrow.{Bor}
 use Rattle.std.proofs.lemmas.Bool.{ltb-true, lt-ltb}
-use Rattle.c0_tree.specs.Tree.{CName, CExpr, sum, difference, CAssign}
-use Rattle.c0_tree.specs.View.{name_view, decl_view, expr_view, binary_view, stmt_view}
-use Rattle.c0_tree.specs.declared.tree.Name.{Name}
-use Rattle.c0_tree.specs.declared.tree.Decl.{Decl}
-use Rattle.c0_tree.specs.declared.tree.Expr.{Expr}
-use Rattle.c0_tree.specs.declared.tree.Stmt.{Stmt}
-use Rattle.c0_tree.specs.declared.tree.Stmt.TheVariants.{Assign}
-use Rattle.c0_tree.specs.declared.tree.BinaryOp.{BinaryOp}
-use Rattle.c0_tree.specs.declared.tree.BinaryOp.TheVariants.{Add, Sub}
+use Rattle.first_tree.specs.Tree.{CName, CExpr, sum, difference, CAssign}
+use Rattle.first_tree.specs.View.{name_view, decl_view, expr_view, binary_view, stmt_view}
+use Rattle.first_tree.specs.declared.tree.Name.{Name}
+use Rattle.first_tree.specs.declared.tree.Decl.{Decl}
+use Rattle.first_tree.specs.declared.tree.Expr.{Expr}
+use Rattle.first_tree.specs.declared.tree.Stmt.{Stmt}
+use Rattle.first_tree.specs.declared.tree.Stmt.TheVariants.{Assign}
+use Rattle.first_tree.specs.declared.tree.BinaryOp.{BinaryOp}
+use Rattle.first_tree.specs.declared.tree.BinaryOp.TheVariants.{Add, Sub}
 use Rattle.first_source.specs.Lexis.{Lexeme, name, number, int_word, return_word, mark, other, end}
 use Rattle.first_source.specs.Lexis as lexis
 use Rattle.first_source.specs.Tokens.{lexeme_view}

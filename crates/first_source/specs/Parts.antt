@@ -2,14 +2,14 @@
 use Rattle.std.specs.Prelude.{ℕ, ◌≡◌, ◌≤◌, ◌<◌, List, [], ◌∷◌, ◌++◌, length, map, true, false, Option, Some, None, MatchOption, Result, Ok, Err}
 use Rattle.std.specs.Borrow.{Bor}
 use Rattle.std.specs.Global.{Vec}
-use Rattle.c0_tree.specs.View.{name_view, decl_view, expr_view, stmt_view, unit_view}
-use Rattle.c0_tree.specs.declared.tree.Name.{Name}
-use Rattle.c0_tree.specs.declared.tree.Decl.{Decl}
-use Rattle.c0_tree.specs.declared.tree.Expr.{Expr}
-use Rattle.c0_tree.specs.declared.tree.Stmt.{Stmt}
-use Rattle.c0_tree.specs.declared.tree.Unit.{Unit as RustUnit}
-use Rattle.c0_tree.specs.declared.tree.BinaryOp.{BinaryOp}
-use Rattle.c0_tree.specs.declared.tree.BinaryOp.TheVariants.{Add, Sub}
+use Rattle.first_tree.specs.View.{name_view, decl_view, expr_view, stmt_view, unit_view}
+use Rattle.first_tree.specs.declared.tree.Name.{Name}
+use Rattle.first_tree.specs.declared.tree.Decl.{Decl}
+use Rattle.first_tree.specs.declared.tree.Expr.{Expr}
+use Rattle.first_tree.specs.declared.tree.Stmt.{Stmt}
+use Rattle.first_tree.specs.declared.tree.Unit.{Unit as RustUnit}
+use Rattle.first_tree.specs.declared.tree.BinaryOp.{BinaryOp}
+use Rattle.first_tree.specs.declared.tree.BinaryOp.TheVariants.{Add, Sub}
 use Rattle.first_source.specs.Lexis.{Lexeme, name, number, int_word, mark}
 use Rattle.first_source.specs.Lexis as lexis
 use Rattle.first_source.specs.Tokens.{token_view, lexeme_view}

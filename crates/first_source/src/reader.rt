@@ -1,9 +1,9 @@
 // The reader: recursive descent over the tokens.
 ghost use Rattle.std.specs.Prelude.{◌≡◌, ℕ, ◌≤◌, ◌<◌, ◌∷◌, [], length, map, IfOk, IfErr, MatchResult};
-ghost use Rattle.c0_tree.specs.Tree.{CUnit, CName};
-ghost use Rattle.c0_tree.specs.Tree as tree;
-ghost use Rattle.c0_tree.specs.First.{IsFirst};
-ghost use Rattle.c0_tree.specs.View.{name_view, decl_view, expr_view, binary_view, unit_view};
+ghost use Rattle.first_tree.specs.Tree.{CUnit, CName};
+ghost use Rattle.first_tree.specs.Tree as tree;
+ghost use Rattle.first_tree.specs.First.{IsFirst};
+ghost use Rattle.first_tree.specs.View.{name_view, decl_view, expr_view, binary_view, unit_view};
 ghost use Rattle.first_source.specs.Form.{taken_names};
 ghost use Rattle.first_source.specs.Tokens.{lexeme_view};
 ghost use Rattle.first_source.specs.Reading.{Reads, named};
@@ -13,7 +13,7 @@ ghost use Rattle.first_source.specs.Parts.{seen, texts, scope_of, IsAt, Next, Ta
 ghost use Rattle.first_source.specs.declared.reader.SourceFault.TheVariants.{Memory};
 
 use crate::tokens::{Lexeme, Token, tokens};
-use c0_tree::{BinaryOp, CType, Code, Decl, Expr, Function, Name, Stmt, Unit};
+use first_tree::{BinaryOp, CType, Code, Decl, Expr, Function, Name, Stmt, Unit};
 use std::alloc::{AllocError, AllocFailed, Global};
 
 const MOST_GLOBALS: usize = 1000;

@@ -1,7 +1,7 @@
 -- A turn of the loop reads one assignment.
 use Rattle.std.proofs.Common.{rules, ◌≡◌, ◌<◌, List, [], ◌∷◌, ◌++◌, length, map, refl, sym, ap, ◌∙◌, arith, length-append, false}
 use Rattle.std.proofs.lemmas.Result.{err_from_is_err_and}
-use Rattle.c0_tree.specs.View.{stmt_view}
+use Rattle.first_tree.specs.View.{stmt_view}
 use Rattle.first_source.specs.Lexis.{return_word, name}
 use Rattle.first_source.specs.Tokens.{lexeme_view}
 use Rattle.first_source.specs.Form.{Assignment, Source}

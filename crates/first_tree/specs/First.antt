@@ -1,7 +1,7 @@
 -- The kernels of the first path: what is known of such a unit once its source is read.
 use Rattle.std.specs.Prelude.{◌≡◌, ℕ, ◌+◌, ◌^◌, ◌<◌, ◌≤◌, length}
 use Rattle.std.specs.List.{AllByRecursion}
-use Rattle.c0_tree.specs.Tree.{CExpr, number, variable, sum, difference, CAssign, CUnit}
+use Rattle.first_tree.specs.Tree.{CExpr, number, variable, sum, difference, CAssign, CUnit}
 
 -- numbers fit 31 bits, and each variable is one of so many globals
 abbrev pub IsResolved : ℕ → CExpr → Type 0
