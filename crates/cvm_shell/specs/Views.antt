@@ -1,8 +1,8 @@
 -- What contracts see of the enums and structs of the code.
 use Rattle.std.specs.Prelude.{ℕ, Result, MatchResult, ⊤}
 use Rattle.std.specs.Global.{Vec}
-use Rattle.first_tree.specs.View.{unit_view}
-use Rattle.first_tree.specs.declared.tree.Unit.{Unit as Tree}
+use Rattle.c0_tree.specs.FirstView.{unit_view}
+use Rattle.c0_tree.specs.declared.tree.Unit.{Unit as Tree}
 use Rattle.cvm_shell.specs.Command as command
 use Rattle.cvm_shell.specs.Refusal as refusal
 use Rattle.cvm_shell.specs.Plan.{Plan, boots, refuses}

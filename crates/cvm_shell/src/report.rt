@@ -5,15 +5,15 @@ ghost use Rattle.std.specs.Int.{cast_unsigned, w32};
 ghost use Rattle.std.specs.Io.KnownBytes.{append_known};
 ghost use Rattle.cvm_outside.specs.Causes.{Counts};
 ghost use Rattle.cvm_outside.specs.Told.{AppendsPart};
-ghost use Rattle.first_tree.specs.First.{IsFirst};
-ghost use Rattle.first_tree.specs.View.{unit_view};
+ghost use Rattle.c0_tree.specs.First.{IsFirst};
+ghost use Rattle.c0_tree.specs.FirstView.{unit_view};
 ghost use Rattle.first_code.specs.Meaning.{final_values};
 ghost use Rattle.first_machine.specs.Machine.{word_at};
 ghost use Rattle.cvm_shell.specs.Cvm.{halted};
 ghost use Rattle.cvm_shell.specs.Text.{row_text, global_text, globals_text};
 
 use arrayvec::ArrayString;
-use first_tree::Unit;
+use c0_tree::Unit;
 use cvm_outside::{Sink, SinkFault};
 use cvm_text::{decimal, decimal_u64, hex8};
 use first_machine::{Begun, Machine};

@@ -4,15 +4,15 @@ use Rattle.std.specs.List.{AllByRecursion}
 use Rattle.std.proofs.Math.Seq.{drop-cons}
 use Rattle.std.proofs.Common.{◌≡◌, ℕ, suc, subst, ◌+◌, ◌*◌, ◌<◌, ◌≤◌, ◌^◌, List, [], ◌∷◌, ◌++◌, length, map, refl, sym, ap, ◌∙◌, arith, append_assoc}
 use Rattle.std.proofs.lemmas.List.{map-append}
-use Rattle.first_tree.specs.Tree.{CExpr, number, variable, sum, difference, CAssign}
-use Rattle.first_tree.specs.First.{atoms, IsResolved, IsFirstAssign}
-use Rattle.first_tree.specs.View.{binary_view, expr_step, expr_view, stmt_view}
-use Rattle.first_tree.specs.declared.tree.Expr.{Expr, fold-roll-Expr}
-use Rattle.first_tree.specs.declared.tree.Expr.TheVariants.{Binary, rolls-Binary}
+use Rattle.c0_tree.specs.FirstTree.{CExpr, number, variable, sum, difference, CAssign}
+use Rattle.c0_tree.specs.First.{atoms, IsResolved, IsFirstAssign}
+use Rattle.c0_tree.specs.FirstView.{binary_view, expr_step, expr_view, stmt_view}
+use Rattle.c0_tree.specs.declared.tree.Expr.{Expr, fold-roll-Expr}
+use Rattle.c0_tree.specs.declared.tree.Expr.TheVariants.{Binary, rolls-Binary}
 use Rattle.std.specs.Global.{Box}
-use Rattle.first_tree.specs.declared.tree.Stmt.{Stmt}
-use Rattle.first_tree.specs.declared.tree.BinaryOp.{BinaryOp}
-use Rattle.first_tree.specs.declared.tree.BinaryOp.TheVariants.{Add, Sub}
+use Rattle.c0_tree.specs.declared.tree.Stmt.{Stmt}
+use Rattle.c0_tree.specs.declared.tree.BinaryOp.{BinaryOp}
+use Rattle.c0_tree.specs.declared.tree.BinaryOp.TheVariants.{Add, Sub}
 use Rattle.mips_table.specs.Encoding.{encoding}
 use Rattle.first_code.specs.Code.{value_code}
 use Rattle.first_code.specs.Emit.{operation_of, IsPlaced, IsPlacedAssign}

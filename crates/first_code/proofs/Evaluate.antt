@@ -4,8 +4,8 @@ use Rattle.std.proofs.Common.{◌≡◌, ◌≢◌, ℕ, ◌+◌, ◌-◌, ◌*�
 use Rattle.std.proofs.lemmas.List.{length-append, get_or-set_same, get_or-set_other}
 use Rattle.std.proofs.lemmas.Bool.{lt-ltb}
 use Rattle.std.proofs.Math.Nat.{ne_of_gt}
-use Rattle.first_tree.specs.Tree.{CName, CExpr, number, variable, sum, difference}
-use Rattle.first_tree.specs.First.{IsResolved, atoms}
+use Rattle.c0_tree.specs.FirstTree.{CName, CExpr, number, variable, sum, difference}
+use Rattle.c0_tree.specs.First.{IsResolved, atoms}
 use Rattle.mips_table.specs.declared.inst.Inst.{Inst}
 use Rattle.mips_table.specs.declared.inst.Inst.TheVariants.{Addu, Subu, Ori, Lui, Lw}
 use Rattle.mips_table.specs.declared.effect.Effect.TheVariants.{Set, Load}

@@ -2,8 +2,8 @@
 use Rattle.std.specs.List.{AllByRecursion}
 use Rattle.std.proofs.Common.{◌≡◌, ℕ, ◌+◌, ◌*◌, ◌/◌, ◌≤◌, List, [], ◌∷◌, ◌++◌, length, refl, ap, ◌∙◌, arith}
 use Rattle.std.proofs.lemmas.List.{length-append}
-use Rattle.first_tree.specs.Tree.{CExpr, number, variable, sum, difference, CAssign, CUnit}
-use Rattle.first_tree.specs.First.{atoms, IsFirstAssign, IsFirst}
+use Rattle.c0_tree.specs.FirstTree.{CExpr, number, variable, sum, difference, CAssign, CUnit}
+use Rattle.c0_tree.specs.First.{atoms, IsFirstAssign, IsFirst}
 use Rattle.mips_table.specs.declared.inst.Inst.{Inst}
 use Rattle.mips_table.specs.declared.inst.Inst.TheVariants.{Addu, Subu, Sw}
 use Rattle.first_code.specs.Code.{FIRST, value_code, stmt_code, kernel_code, words_of, globals_at, globals_page, place_of}

@@ -5,8 +5,8 @@ use Rattle.std.specs.Int.RustNames.{FitsSigned}
 use Rattle.std.proofs.Common.{◌≡◌, ℕ, ◌+◌, ◌*◌, ◌/◌, ◌%◌, ◌^◌, ◌<◌, List, length, sym, ap, ◌∙◌, arith}
 use Rattle.std.proofs.lemmas.Int.{ints, to_z-of_z, of_z-to_z, wrapping_add_onto, wrapping_sub_onto, SFits-int_wrap, fits_signed_from_abs}
 use Rattle.std.proofs.lemmas.Nat.{or_shifted}
-use Rattle.first_tree.specs.Tree.{CExpr, number, variable, sum, difference}
-use Rattle.first_tree.specs.First.{IsResolved}
+use Rattle.c0_tree.specs.FirstTree.{CExpr, number, variable, sum, difference}
+use Rattle.c0_tree.specs.First.{IsResolved}
 use Rattle.mips_table.specs.Arith as arithmetic
 use Rattle.first_code.specs.Meaning.{value}
 

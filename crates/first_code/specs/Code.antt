@@ -1,6 +1,6 @@
 -- The words of a kernel: they assign the globals, which stand in the next page, and end with a store of 0 to the power port.
 use Rattle.std.specs.Prelude.{ℕ, ◌+◌, ◌*◌, ◌/◌, ◌%◌, ◌^◌, List, [], ◌∷◌, ◌++◌, length, map}
-use Rattle.first_tree.specs.Tree.{CName, CExpr, number, variable, sum, difference, CAssign, CUnit}
+use Rattle.c0_tree.specs.FirstTree.{CName, CExpr, number, variable, sum, difference, CAssign, CUnit}
 use Rattle.mips_table.specs.declared.inst.Inst.{Inst}
 use Rattle.mips_table.specs.declared.inst.Inst.TheVariants.{Addu, Subu, Ori, Lui, Lw, Sw}
 use Rattle.mips_table.specs.Encoding.{encoding}

@@ -1,9 +1,9 @@
 -- What the words of a kernel need so that each has its encoding: small numbers, and addresses that an offset can hold.
 use Rattle.std.specs.Prelude.{ℕ, ◌+◌, ◌^◌, ◌<◌, ◌≤◌}
-use Rattle.first_tree.specs.Tree.{CExpr, number, variable, sum, difference, CAssign}
-use Rattle.first_tree.specs.First.{atoms}
-use Rattle.first_tree.specs.declared.tree.BinaryOp.{BinaryOp}
-use Rattle.first_tree.specs.declared.tree.BinaryOp.TheVariants.{Add, Sub}
+use Rattle.c0_tree.specs.FirstTree.{CExpr, number, variable, sum, difference, CAssign}
+use Rattle.c0_tree.specs.First.{atoms}
+use Rattle.c0_tree.specs.declared.tree.BinaryOp.{BinaryOp}
+use Rattle.c0_tree.specs.declared.tree.BinaryOp.TheVariants.{Add, Sub}
 use Rattle.mips_table.specs.declared.inst.Inst.{Inst}
 use Rattle.mips_table.specs.declared.inst.Inst.TheVariants.{Addu, Subu}
 use Rattle.first_code.specs.Code.{place_of}

@@ -1,7 +1,7 @@
 -- What a kernel of the first path means: sums of 32-bit integers that wrap, and assignments.
 use Rattle.std.specs.Prelude.{ℤ, pos, ◌+ℤ◌, ◌-ℤ◌, List, [], ◌∷◌, length, replicate, slice_index_or, slice_set}
 use Rattle.std.specs.Int.{int_wrap, w32}
-use Rattle.first_tree.specs.Tree.{CExpr, number, variable, sum, difference, CAssign, CUnit}
+use Rattle.c0_tree.specs.FirstTree.{CExpr, number, variable, sum, difference, CAssign, CUnit}
 
 -- the value of an expression where the globals have these values
 abbrev pub value : List ℤ → CExpr → ℤ

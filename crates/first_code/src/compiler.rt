@@ -1,14 +1,14 @@
 // The compiler of the first path.
 ghost use Rattle.std.specs.Prelude.{◌≡◌, ◌<◌, ◌≤◌, ◌*◌, ◌+◌, ℕ, length, IfOk};
-ghost use Rattle.first_tree.specs.First.{IsFirst};
-ghost use Rattle.first_tree.specs.Tree.{CUnit};
-ghost use Rattle.first_tree.specs.View.{unit_view};
+ghost use Rattle.c0_tree.specs.First.{IsFirst};
+ghost use Rattle.c0_tree.specs.FirstTree.{CUnit};
+ghost use Rattle.c0_tree.specs.FirstView.{unit_view};
 ghost use Rattle.first_code.specs.Code.{linked, globals_at, frames_of, words_of};
 ghost use Rattle.first_code.specs.Runs.{KernelRuns};
 
 use crate::count::kernel_words;
 use crate::emit::emit_kernel;
-use first_tree::Unit;
+use c0_tree::Unit;
 use mips_table::decoding::decoding_of_encoding;
 use std::alloc::{AllocError, Global};
 

@@ -1,10 +1,10 @@
 // How many words the code of a kernel is.
 ghost use Rattle.std.specs.Prelude.{◌≡◌, ℕ, ◌+◌, ◌*◌, ◌≤◌, length};
-ghost use Rattle.first_tree.specs.First.{atoms, IsFirst};
-ghost use Rattle.first_tree.specs.View.{expr_view, stmt_view, unit_view};
+ghost use Rattle.c0_tree.specs.First.{atoms, IsFirst};
+ghost use Rattle.c0_tree.specs.FirstView.{expr_view, stmt_view, unit_view};
 ghost use Rattle.first_code.specs.Code.{value_code, stmt_code, words_of};
 
-use first_tree::{Expr, Stmt, Unit};
+use c0_tree::{Expr, Stmt, Unit};
 
 /// The words that bring the value of an expression into a register, whichever it is and wherever the globals stand.
 pub fn expr_words(expr: &Expr) -> u32

@@ -1,14 +1,14 @@
 // The words of expressions and statements.
 ghost use Rattle.std.specs.Prelude.{◌≡◌, ℕ, ◌+◌, ◌*◌, ◌<◌, ◌≤◌, ◌^◌, ◌++◌, ◌∷◌, [], map, length, OnOk};
-ghost use Rattle.first_tree.specs.First.{atoms, IsFirst};
-ghost use Rattle.first_tree.specs.Tree.{number as numeral};
-ghost use Rattle.first_tree.specs.View.{expr_view, stmt_view, unit_view};
+ghost use Rattle.c0_tree.specs.First.{atoms, IsFirst};
+ghost use Rattle.c0_tree.specs.FirstTree.{number as numeral};
+ghost use Rattle.c0_tree.specs.FirstView.{expr_view, stmt_view, unit_view};
 ghost use Rattle.mips_table.specs.declared.inst.Inst.TheVariants.{Sw};
 ghost use Rattle.mips_table.specs.Encoding.{InRange, encoding};
 ghost use Rattle.first_code.specs.Code.{value_code, stmt_code, kernel_code};
 ghost use Rattle.first_code.specs.Emit.{operation_of, IsPlaced, IsPlacedAssign};
 
-use first_tree::{BinaryOp, Expr, Stmt, Unit};
+use c0_tree::{BinaryOp, Expr, Stmt, Unit};
 use mips_table::{Inst, encode};
 use std::alloc::AllocError;
 

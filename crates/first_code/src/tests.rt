@@ -1,10 +1,10 @@
 // The words of a small kernel, made by hand.
 ghost use Rattle.std.specs.Prelude.{◌≡◌, ℕ, IfOk};
-ghost use Rattle.first_tree.specs.First.{IsFirst, IsFirstAssign};
-ghost use Rattle.first_tree.specs.View.{stmt_view, unit_view};
+ghost use Rattle.c0_tree.specs.First.{IsFirst, IsFirstAssign};
+ghost use Rattle.c0_tree.specs.FirstView.{stmt_view, unit_view};
 
 use crate::compiler::compile;
-use first_tree::{BinaryOp, CType, Code, Decl, Expr, Function, Name, Stmt, Unit};
+use c0_tree::{BinaryOp, CType, Code, Decl, Expr, Function, Name, Stmt, Unit};
 use std::alloc::{AllocError, Global};
 
 // A name of the only global, or of dispatch.

@@ -1,7 +1,7 @@
 -- An expression of two parts: its registers are enough for both, and its words are theirs and one more.
 use Rattle.std.proofs.Common.{rules}
-use Rattle.first_tree.specs.View.{expr_view}
-use Rattle.first_tree.specs.declared.tree.Expr.{the_lemmas}
+use Rattle.c0_tree.specs.FirstView.{expr_view}
+use Rattle.c0_tree.specs.declared.tree.Expr.{the_lemmas}
 use Rattle.first_code.proofs.Emitted.{binary_seen, binary_registers, binary_placed, binary_words}
 use Rattle.first_code.proofs.emit.+emit_expr.Goals as goal
 

@@ -1,7 +1,7 @@
 -- A turn of the loop opens one name more.
 use Rattle.std.proofs.Common.{◌≡◌, get_or, true, false, ap, sym, ◌∙◌, arith}
 use Rattle.std.specs.Str.{bytes_eq}
-use Rattle.first_tree.specs.declared.tree.Decl.{Decl}
+use Rattle.c0_tree.specs.declared.tree.Decl.{Decl}
 use Rattle.first_source.proofs.Names.{new_found, new_passed, place_found, place_passed, map_length}
 use Rattle.first_source.proofs.reader.place_of.Goals as goal
 
