@@ -1,7 +1,13 @@
-// The tree of a C0 source, as far as the kernels that are built today need it: int globals, one function of
-// assignments of sums.
+//! The tree of a C0 source, and the table of the primitives.
+//!
+//! Each list of the tree is in source order. Spans are of bytes of the source, counted from 0.
 #![tactic(auto)]
 
+pub mod primitive;
 pub mod tree;
 
-pub use tree::{BinaryOp, CType, Code, Decl, Expr, Function, Name, Stmt, Unit};
+pub use primitive::{Primitive, Scalar, primitives};
+pub use tree::{
+    AsmText, BinaryOp, Body, CType, Code, Decl, Expr, Function, Kind, Name, Span, Stmt, StructDef,
+    UnaryOp, Unit,
+};

@@ -7,7 +7,7 @@ use Rattle.std.proofs.lemmas.Int.{to_z-of_z}
 use Rattle.std.proofs.lemmas.List.{length-map}
 use Rattle.cvm_outside.specs.Told.{AppendsPart}
 use Rattle.c0_tree.specs.First.{IsFirst}
-use Rattle.c0_tree.specs.View.{unit_view, decl_view}
+use Rattle.c0_tree.specs.FirstView.{unit_view, decl_view}
 use Rattle.c0_tree.specs.declared.tree.Decl.{Decl}
 use Rattle.c0_tree.specs.declared.tree.Unit.{Unit as Tree}
 use Rattle.first_code.specs.Meaning.{final_values}

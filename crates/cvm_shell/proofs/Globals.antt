@@ -4,8 +4,8 @@ use Rattle.std.specs.Prelude.{Option}
 use Rattle.std.specs.Io.KnownBytes.{append_known}
 use Rattle.cvm_outside.specs.Told.{AppendsPart}
 use Rattle.cvm_outside.proofs.Parts.{puts-both, part-front, part-back}
-use Rattle.c0_tree.specs.Tree.{CName}
-use Rattle.c0_tree.specs.View.{decl_view}
+use Rattle.c0_tree.specs.FirstTree.{CName}
+use Rattle.c0_tree.specs.FirstView.{decl_view}
 use Rattle.c0_tree.specs.declared.tree.Decl.{Decl}
 use Rattle.cvm_shell.specs.Text.{global_text, globals_text}
 

@@ -7,7 +7,7 @@ use Rattle.std.proofs.lemmas.List.{length-set, length-replicate, length-append}
 use Rattle.mips_table.specs.Core.{Move, Ran, Stored, Trapped, Asked, move}
 use Rattle.cvm_outside.specs.Told.{AppendsPart}
 use Rattle.cvm_outside.proofs.Parts.{append_known-nil}
-use Rattle.c0_tree.specs.Tree.{CUnit, CExpr}
+use Rattle.c0_tree.specs.FirstTree.{CUnit, CExpr}
 use Rattle.c0_tree.specs.First.{IsFirst}
 use Rattle.first_machine.specs.Machine.{State, step, stepped, moved, seen, is_on, run, loaded, word_at, POWER}
 use Rattle.first_machine.specs.Turns.{complete, is_end}

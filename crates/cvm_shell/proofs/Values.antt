@@ -5,7 +5,7 @@ use Rattle.std.specs.Int.{w32, cast_signed, cast_unsigned}
 use Rattle.std.specs.List.{AllByRecursion}
 use Rattle.std.proofs.lemmas.Int.{SFits-int_wrap, to_z-of_z}
 use Rattle.std.proofs.lemmas.List.{length-set, length-replicate}
-use Rattle.c0_tree.specs.Tree.{CExpr, number, variable, sum, difference, CAssign, CUnit}
+use Rattle.c0_tree.specs.FirstTree.{CExpr, number, variable, sum, difference, CAssign, CUnit}
 use Rattle.c0_tree.specs.First.{IsResolved, IsFirst, IsFirstAssign}
 use Rattle.first_code.specs.Meaning.{value, executed, start_values, final_values}
 

@@ -1,7 +1,7 @@
 -- The claim of the whole: what a boot of a kernel prints, and how it ends.
 use Rattle.std.specs.Prelude.{◌≡◌, ℕ, ◌<◌, Bool, true, false, List, [], ◌++◌, Option}
 use Rattle.std.specs.Io.KnownBytes.{append_known}
-use Rattle.c0_tree.specs.Tree.{CUnit}
+use Rattle.c0_tree.specs.FirstTree.{CUnit}
 use Rattle.first_machine.specs.Machine.{State}
 use Rattle.first_machine.specs.Turns.{complete, is_end, end_within}
 use Rattle.first_code.specs.Runs.{start_of}

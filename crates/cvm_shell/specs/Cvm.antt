@@ -1,6 +1,6 @@
 -- The run of a kernel over no users, turn by turn: what it means, with no machine in it.
 use Rattle.std.specs.Prelude.{ℕ, ℤ, pos, negsuc, zero, suc, List}
-use Rattle.c0_tree.specs.Tree.{CUnit}
+use Rattle.c0_tree.specs.FirstTree.{CUnit}
 use Rattle.first_code.specs.Meaning.{value, executed, start_values}
 
 pub data Standing : Type 0 where

@@ -1,7 +1,7 @@
 -- What the files of a boot come to, before anything is run, in the order of work.
 use Rattle.std.specs.Prelude.{◌≡◌, ◌≢◌, ℕ, ◌<◌, ◌≤◌, List, [], length}
 use Rattle.cvm_outside.specs.Told.{TOO_LONG}
-use Rattle.c0_tree.specs.Tree.{CUnit}
+use Rattle.c0_tree.specs.FirstTree.{CUnit}
 use Rattle.first_source.specs.Reading.{Reads, Breaks}
 use Rattle.cvm_shell.specs.Refusal.{Refusal, not_built, too_long}
 use Rattle.cvm_shell.specs.Image as file

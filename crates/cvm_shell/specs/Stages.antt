@@ -4,7 +4,7 @@ use Rattle.cvm_outside.specs.Causes.{Rose}
 use Rattle.cvm_outside.specs.Told.{AppendsPart}
 use Rattle.cvm_outside.specs.declared.shelf.ShelfFault.{ShelfFault}
 use Rattle.cvm_outside.specs.declared.shelf.ShelfFault.TheVariants as fault
-use Rattle.c0_tree.specs.Tree.{CUnit}
+use Rattle.c0_tree.specs.FirstTree.{CUnit}
 use Rattle.mips_asm.specs.declared.fault.AsmFault.{AsmFault}
 use Rattle.mips_asm.specs.declared.fault.AsmFault.TheVariants as text
 use Rattle.cvm_shell.specs.declared.boot.Stop.{Stop}

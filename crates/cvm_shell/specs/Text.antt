@@ -2,7 +2,7 @@
 use Rattle.std.specs.Prelude.{ℕ, zero, suc, ℤ, List, [], ◌∷◌, ◌++◌, decimal, codes}
 use Rattle.std.specs.Fmt.{signed_decimal}
 use Rattle.cvm_text.specs.Hex.{hex8}
-use Rattle.c0_tree.specs.Tree.{CName, CUnit}
+use Rattle.c0_tree.specs.FirstTree.{CName, CUnit}
 use Rattle.cvm_shell.specs.Cvm.{Standing, running, halted, bad_user, Cvm, cvm}
 
 -- who is next after a dispatch

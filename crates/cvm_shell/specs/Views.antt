@@ -1,7 +1,7 @@
 -- What contracts see of the enums and structs of the code.
 use Rattle.std.specs.Prelude.{ℕ, Result, MatchResult, ⊤}
 use Rattle.std.specs.Global.{Vec}
-use Rattle.c0_tree.specs.View.{unit_view}
+use Rattle.c0_tree.specs.FirstView.{unit_view}
 use Rattle.c0_tree.specs.declared.tree.Unit.{Unit as Tree}
 use Rattle.cvm_shell.specs.Command as command
 use Rattle.cvm_shell.specs.Refusal as refusal

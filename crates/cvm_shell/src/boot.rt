@@ -3,7 +3,7 @@ ghost use Rattle.std.specs.Prelude.{◌≡◌, ◌≢◌, ◌<◌, ◌≤◌, �
 ghost use Rattle.cvm_outside.specs.Causes.{Rose};
 ghost use Rattle.cvm_outside.specs.Told.{TOO_LONG};
 ghost use Rattle.c0_tree.specs.First.{IsFirst};
-ghost use Rattle.c0_tree.specs.View.{unit_view};
+ghost use Rattle.c0_tree.specs.FirstView.{unit_view};
 ghost use Rattle.cvm_shell.specs.Command.{IsBoot};
 ghost use Rattle.cvm_shell.specs.Outcome.{ComesTo};
 ghost use Rattle.cvm_shell.specs.Plan.{Plan, Plans};

@@ -5,7 +5,7 @@ ghost use Rattle.std.specs.Prelude.{◌≡◌, ◌≢◌, ◌⊎◌, ◌<◌, �
 ghost use Rattle.std.specs.Io.KnownBytes.{append_known};
 ghost use Rattle.cvm_outside.specs.Causes.{Rose};
 ghost use Rattle.cvm_outside.specs.Told.{AppendsPart, retold, TOO_LONG};
-ghost use Rattle.c0_tree.specs.Tree.{CUnit};
+ghost use Rattle.c0_tree.specs.FirstTree.{CUnit};
 ghost use Rattle.mips_asm.specs.Assembled.{assembled};
 ghost use Rattle.mips_asm.specs.declared.fault.AsmFault.{AsmFault};
 ghost use Rattle.cvm_shell.specs.Boot.{Boots};

@@ -6,7 +6,7 @@ ghost use Rattle.std.specs.Io.KnownBytes.{append_known};
 ghost use Rattle.cvm_outside.specs.Causes.{Counts};
 ghost use Rattle.cvm_outside.specs.Told.{AppendsPart};
 ghost use Rattle.c0_tree.specs.First.{IsFirst};
-ghost use Rattle.c0_tree.specs.View.{unit_view};
+ghost use Rattle.c0_tree.specs.FirstView.{unit_view};
 ghost use Rattle.first_code.specs.Meaning.{final_values};
 ghost use Rattle.first_machine.specs.Machine.{word_at};
 ghost use Rattle.cvm_shell.specs.Cvm.{halted};

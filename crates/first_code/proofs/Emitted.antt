@@ -4,23 +4,24 @@ use Rattle.std.specs.List.{AllByRecursion}
 use Rattle.std.proofs.Math.Seq.{drop-cons}
 use Rattle.std.proofs.Common.{◌≡◌, ℕ, suc, subst, ◌+◌, ◌*◌, ◌<◌, ◌≤◌, ◌^◌, List, [], ◌∷◌, ◌++◌, length, map, refl, sym, ap, ◌∙◌, arith, append_assoc}
 use Rattle.std.proofs.lemmas.List.{map-append}
-use Rattle.c0_tree.specs.Tree.{CExpr, number, variable, sum, difference, CAssign}
+use Rattle.c0_tree.specs.FirstTree.{CExpr, number, variable, sum, difference, other, CAssign}
 use Rattle.c0_tree.specs.First.{atoms, IsResolved, IsFirstAssign}
-use Rattle.c0_tree.specs.View.{binary_view, expr_step, expr_view, stmt_view}
+use Rattle.c0_tree.specs.FirstView.{binary_view, expr_step, expr_view, stmt_view}
 use Rattle.c0_tree.specs.declared.tree.Expr.{Expr, fold-roll-Expr}
 use Rattle.c0_tree.specs.declared.tree.Expr.TheVariants.{Binary, rolls-Binary}
 use Rattle.std.specs.Global.{Box}
+use Rattle.c0_tree.specs.declared.tree.Span.{Span}
 use Rattle.c0_tree.specs.declared.tree.Stmt.{Stmt}
 use Rattle.c0_tree.specs.declared.tree.BinaryOp.{BinaryOp}
 use Rattle.c0_tree.specs.declared.tree.BinaryOp.TheVariants.{Add, Sub}
 use Rattle.mips_table.specs.Encoding.{encoding}
 use Rattle.first_code.specs.Code.{value_code}
-use Rattle.first_code.specs.Emit.{operation_of, IsPlaced, IsPlacedAssign}
+use Rattle.first_code.specs.Emit.{IsSum, operation_of, IsPlaced, IsPlacedAssign}
 use Rattle.first_code.proofs.Evaluate.{atoms_positive}
 
 -- what is seen of an expression of two parts
-pub binary_seen : (e : Expr) (op : BinaryOp) (left right : Box Expr) → e ≡ Binary op left right → expr_view e ≡ binary_view op (expr_view left.value) (expr_view right.value)
-binary_seen e op left right same = ap expr_view (same ∙ sym (rolls-Binary op left right)) ∙ fold-roll-Expr CExpr expr_step _
+pub binary_seen : (e : Expr) (span : Span) (op : BinaryOp) (left right : Box Expr) → e ≡ Binary span op left right → expr_view e ≡ binary_view op (expr_view left.value) (expr_view right.value)
+binary_seen e span op left right same = ap expr_view (same ∙ sym (rolls-Binary span op left right)) ∙ fold-roll-Expr CExpr expr_step _
 
 -- the registers of an expression of two parts are enough for its parts
 pub record Enough (r : ℕ) (a b : CExpr) : Type 0 where
@@ -34,22 +35,31 @@ enough r a b h =
     let some_b : 0 < atoms b = atoms_positive b in
     record { left = omega arith; right = omega arith; both = omega arith }
 
-pub binary_registers : (op : BinaryOp) (r : ℕ) (a b : CExpr) → r + atoms (binary_view op a b) ≤ 32 → Enough r a b
-binary_registers Add r a b h = enough r a b h
-binary_registers Sub r a b h = enough r a b h
+-- only a sum or a difference is placed
+pub binary_sum : (op : BinaryOp) (at : ℕ) (a b : CExpr) → IsPlaced at (binary_view op a b) → IsSum op
+binary_sum Add at a b h = tt
+binary_sum Sub at a b h = tt
+binary_sum _ at a b h = h
+
+pub binary_registers : (op : BinaryOp) (r : ℕ) (a b : CExpr) → IsSum op → r + atoms (binary_view op a b) ≤ 32 → Enough r a b
+binary_registers Add r a b s h = enough r a b h
+binary_registers Sub r a b s h = enough r a b h
+binary_registers _ r a b s h = absurd s
 
 pub binary_placed : (op : BinaryOp) (at : ℕ) (a b : CExpr) → IsPlaced at (binary_view op a b) → IsPlaced at a × IsPlaced at b
 binary_placed Add at a b h = h
 binary_placed Sub at a b h = h
+binary_placed _ at a b h = absurd h
 
 -- the words of an expression of two parts, after others
-binary_code : (op : BinaryOp) (at r : ℕ) (a b : CExpr) → value_code at r (binary_view op a b) ≡ value_code at r a ++ (value_code at (r + 1) b ++ operation_of op r ∷ [])
-binary_code Add at r a b = refl
-binary_code Sub at r a b = refl
+binary_code : (op : BinaryOp) (at r : ℕ) (a b : CExpr) → IsSum op → value_code at r (binary_view op a b) ≡ value_code at r a ++ (value_code at (r + 1) b ++ operation_of op r ∷ [])
+binary_code Add at r a b s = refl
+binary_code Sub at r a b s = refl
+binary_code _ at r a b s = absurd s
 
-pub binary_words : (op : BinaryOp) (at r : ℕ) (a b : CExpr) (before : List ℕ) →
+pub binary_words : (op : BinaryOp) (at r : ℕ) (a b : CExpr) (before : List ℕ) → IsSum op →
     ((before ++ map encoding (value_code at r a)) ++ map encoding (value_code at (r + 1) b)) ++ encoding (operation_of op r) ∷ [] ≡ before ++ map encoding (value_code at r (binary_view op a b))
-binary_words op at r a b before = rw (binary_code op at r a b) (simp (map-append, append_assoc) refl)
+binary_words op at r a b before s = rw (binary_code op at r a b s) (simp (map-append, append_assoc) refl)
 
 -- a kernel's expressions and assignments have their encodings where the globals end below 2 ^ 15
 placed_value : (at count : ℕ) (e : CExpr) → at + 4 * count ≤ 2 ^ 15 → IsResolved count e → IsPlaced at e
@@ -57,6 +67,7 @@ placed_value at count (number n) room h = h
 placed_value at count (variable x) room h = omega arith
 placed_value at count (sum a b) room h = (placed_value at count a room h.0, placed_value at count b room h.1)
 placed_value at count (difference a b) room h = (placed_value at count a room h.0, placed_value at count b room h.1)
+placed_value at count other room h = h
 
 placed_assign : (at count : ℕ) (s : CAssign) → at + 4 * count ≤ 2 ^ 15 → IsFirstAssign count s → IsPlacedAssign at s
 placed_assign at count s room h =

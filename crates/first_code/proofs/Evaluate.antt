@@ -4,7 +4,7 @@ use Rattle.std.proofs.Common.{◌≡◌, ◌≢◌, ℕ, ◌+◌, ◌-◌, ◌*�
 use Rattle.std.proofs.lemmas.List.{length-append, get_or-set_same, get_or-set_other}
 use Rattle.std.proofs.lemmas.Bool.{lt-ltb}
 use Rattle.std.proofs.Math.Nat.{ne_of_gt}
-use Rattle.c0_tree.specs.Tree.{CName, CExpr, number, variable, sum, difference}
+use Rattle.c0_tree.specs.FirstTree.{CName, CExpr, number, variable, sum, difference, other}
 use Rattle.c0_tree.specs.First.{IsResolved, atoms}
 use Rattle.mips_table.specs.declared.inst.Inst.{Inst}
 use Rattle.mips_table.specs.declared.inst.Inst.TheVariants.{Addu, Subu, Ori, Lui, Lw}
@@ -138,6 +138,7 @@ atoms_positive (number n) = omega arith
 atoms_positive (variable x) = omega arith
 atoms_positive (sum a b) = omega (arith, atoms_positive a)
 atoms_positive (difference a b) = omega (arith, atoms_positive a)
+atoms_positive other = omega arith
 
 -- the first of two runs keeps its word where the second works in the registers above
 kept : (s : State) (p q m n r x y : ℕ) (a : Comes s p m r r x) (b : Comes a.t q n (r + 1) (r + 1) y) → slice_index b.t.regs r ≡ x
@@ -211,3 +212,4 @@ evaluates law at base globals (difference a b) s r p h =
     two_come law at base globals a b (evaluates law at base globals a) (evaluates law at base globals b) s r p (Subu r r (r + 1)) arithmetic.difference (word (value globals (difference a b)))
     h.ready h.holds h.resolved.0 h.resolved.1 h.positive h.registers h.near h.stands (two_registers r (atoms a) (atoms b) h.registers (atoms_positive a) (atoms_positive b))
     (λ pc regs. refl) (word_difference (value globals a) (value globals b) (value_fits globals a h.holds.fits h.resolved.0) (value_fits globals b h.holds.fits h.resolved.1))
+evaluates law at base globals other s r p h = absurd h.resolved

@@ -2,7 +2,7 @@
 use Rattle.std.specs.List.{AllByRecursion}
 use Rattle.std.proofs.Common.{◌≡◌, ℕ, ◌+◌, ◌*◌, ◌/◌, ◌≤◌, List, [], ◌∷◌, ◌++◌, length, refl, ap, ◌∙◌, arith}
 use Rattle.std.proofs.lemmas.List.{length-append}
-use Rattle.c0_tree.specs.Tree.{CExpr, number, variable, sum, difference, CAssign, CUnit}
+use Rattle.c0_tree.specs.FirstTree.{CExpr, number, variable, sum, difference, other, CAssign, CUnit}
 use Rattle.c0_tree.specs.First.{atoms, IsFirstAssign, IsFirst}
 use Rattle.mips_table.specs.declared.inst.Inst.{Inst}
 use Rattle.mips_table.specs.declared.inst.Inst.TheVariants.{Addu, Subu, Sw}
@@ -14,6 +14,7 @@ value_words (number n) = 2
 value_words (variable x) = 1
 value_words (sum a b) = value_words a + (value_words b + 1)
 value_words (difference a b) = value_words a + (value_words b + 1)
+value_words other = 0
 
 -- the words of assignments, and the last store's
 abbrev pub kernel_words : List CAssign → ℕ
@@ -28,6 +29,7 @@ value_length at r (number n) = refl
 value_length at r (variable x) = refl
 value_length at r (sum a b) = two_parts (value_code at r a) (value_code at (r + 1) b) (Addu r r (r + 1)) (value_words a) (value_words b) (value_length at r a) (value_length at (r + 1) b)
 value_length at r (difference a b) = two_parts (value_code at r a) (value_code at (r + 1) b) (Subu r r (r + 1)) (value_words a) (value_words b) (value_length at r a) (value_length at (r + 1) b)
+value_length at r other = refl
 
 pub stmt_length : (at : ℕ) (s : CAssign) → length (stmt_code at s) ≡ value_words s.value + 1
 stmt_length at s = length-append (value_code at FIRST s.value) (Sw FIRST 0 (place_of at s.place) ∷ []) ∙ ap (λ n. n + 1) (value_length at FIRST s.value)
@@ -42,6 +44,7 @@ value_words_few (number n) = omega arith
 value_words_few (variable x) = omega arith
 value_words_few (sum a b) = omega (arith, value_words_few a, value_words_few b)
 value_words_few (difference a b) = omega (arith, value_words_few a, value_words_few b)
+value_words_few other = omega arith
 
 pub kernel_words_few : (count : ℕ) (stmts : List CAssign) → AllByRecursion (IsFirstAssign count) stmts → kernel_words stmts ≤ 27 * length stmts + 1
 kernel_words_few count [] h = omega arith

@@ -8,7 +8,7 @@ use Rattle.std.proofs.Math.Seq.{get_or-append_seam}
 use Rattle.std.proofs.lemmas.Bool.Decides.{leb_tells}
 use Rattle.std.proofs.lemmas.Int.{fits_signed_from_abs}
 use Rattle.std.proofs.lemmas.List.{length-append, length-set, length-map, length-replicate, get_or-append-add, get_or-replicate}
-use Rattle.c0_tree.specs.Tree.{CAssign, CUnit}
+use Rattle.c0_tree.specs.FirstTree.{CAssign, CUnit}
 use Rattle.c0_tree.specs.First.{IsFirstAssign, IsFirst}
 use Rattle.mips_table.specs.declared.inst.Inst.{Inst}
 use Rattle.mips_table.specs.Encoding.{encoding}

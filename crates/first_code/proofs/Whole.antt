@@ -3,7 +3,7 @@ use Rattle.std.specs.Prelude.{ℤ, slice_index, slice_set}
 use Rattle.std.specs.List.{AllByRecursion}
 use Rattle.std.proofs.Common.{◌≡◌, ℕ, ◌+◌, ◌^◌, ◌<◌, ◌≤◌, List, [], ◌∷◌, ◌++◌, length, Some, refl, sym, ◌∙◌, subst, arith}
 use Rattle.std.proofs.lemmas.List.{length-append, length-set}
-use Rattle.c0_tree.specs.Tree.{CAssign}
+use Rattle.c0_tree.specs.FirstTree.{CAssign}
 use Rattle.c0_tree.specs.First.{IsFirstAssign}
 use Rattle.mips_table.specs.declared.inst.Inst.{Inst}
 use Rattle.mips_table.specs.declared.inst.Inst.TheVariants.{Sw}

@@ -5,7 +5,7 @@ use Rattle.std.specs.Int.RustNames.{FitsSigned}
 use Rattle.std.proofs.Common.{◌≡◌, ℕ, ◌+◌, ◌*◌, ◌/◌, ◌%◌, ◌^◌, ◌<◌, List, length, sym, ap, ◌∙◌, arith}
 use Rattle.std.proofs.lemmas.Int.{ints, to_z-of_z, of_z-to_z, wrapping_add_onto, wrapping_sub_onto, SFits-int_wrap, fits_signed_from_abs}
 use Rattle.std.proofs.lemmas.Nat.{or_shifted}
-use Rattle.c0_tree.specs.Tree.{CExpr, number, variable, sum, difference}
+use Rattle.c0_tree.specs.FirstTree.{CExpr, number, variable, sum, difference, other}
 use Rattle.c0_tree.specs.First.{IsResolved}
 use Rattle.mips_table.specs.Arith as arithmetic
 use Rattle.first_code.specs.Meaning.{value}
@@ -45,3 +45,4 @@ value_fits globals (number n) f h = fits_signed_from_abs w32 (pos n) h
 value_fits globals (variable x) f h = f x.number h
 value_fits globals (sum a b) f h = SFits-int_wrap w32 _
 value_fits globals (difference a b) f h = SFits-int_wrap w32 _
+value_fits globals other f h = absurd h

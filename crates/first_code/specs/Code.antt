@@ -1,6 +1,6 @@
 -- The words of a kernel: they assign the globals, which stand in the next page, and end with a store of 0 to the power port.
 use Rattle.std.specs.Prelude.{ℕ, ◌+◌, ◌*◌, ◌/◌, ◌%◌, ◌^◌, List, [], ◌∷◌, ◌++◌, length, map}
-use Rattle.c0_tree.specs.Tree.{CName, CExpr, number, variable, sum, difference, CAssign, CUnit}
+use Rattle.c0_tree.specs.FirstTree.{CName, CExpr, number, variable, sum, difference, other, CAssign, CUnit}
 use Rattle.mips_table.specs.declared.inst.Inst.{Inst}
 use Rattle.mips_table.specs.declared.inst.Inst.TheVariants.{Addu, Subu, Ori, Lui, Lw, Sw}
 use Rattle.mips_table.specs.Encoding.{encoding}
@@ -19,6 +19,7 @@ value_code at r (number n) = Lui r (n / 2 ^ 16) ∷ Ori r r (n % 2 ^ 16) ∷ []
 value_code at r (variable x) = Lw r 0 (place_of at x) ∷ []
 value_code at r (sum a b) = value_code at r a ++ (value_code at (r + 1) b ++ Addu r r (r + 1) ∷ [])
 value_code at r (difference a b) = value_code at r a ++ (value_code at (r + 1) b ++ Subu r r (r + 1) ∷ [])
+value_code at r other = []
 
 -- an assignment
 abbrev pub stmt_code : ℕ → CAssign → List Inst

@@ -1,14 +1,15 @@
 -- What a kernel of the first path means: sums of 32-bit integers that wrap, and assignments.
 use Rattle.std.specs.Prelude.{ℤ, pos, ◌+ℤ◌, ◌-ℤ◌, List, [], ◌∷◌, length, replicate, slice_index_or, slice_set}
 use Rattle.std.specs.Int.{int_wrap, w32}
-use Rattle.c0_tree.specs.Tree.{CExpr, number, variable, sum, difference, CAssign, CUnit}
+use Rattle.c0_tree.specs.FirstTree.{CExpr, number, variable, sum, difference, other, CAssign, CUnit}
 
--- the value of an expression where the globals have these values
+-- the value of an expression where the globals have these values; no kernel has one of another kind
 abbrev pub value : List ℤ → CExpr → ℤ
 value globals (number n) = pos n
 value globals (variable x) = slice_index_or globals x.number (pos 0)
 value globals (sum a b) = int_wrap w32 (value globals a +ℤ value globals b)
 value globals (difference a b) = int_wrap w32 (value globals a -ℤ value globals b)
+value globals other = pos 0
 
 -- the globals after these assignments
 abbrev pub executed : List CAssign → List ℤ → List ℤ

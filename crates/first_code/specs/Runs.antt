@@ -1,7 +1,7 @@
 -- That the run of a kernel's words is what the kernel means.
 use Rattle.std.specs.Prelude.{◌≡◌, ℕ, pos, ◌+◌, ◌*◌, ◌<◌, ◌≤◌, length, slice_index_or, false, Some, None}
 use Rattle.std.specs.Int.{cast_unsigned, w32}
-use Rattle.c0_tree.specs.Tree.{CUnit}
+use Rattle.c0_tree.specs.FirstTree.{CUnit}
 use Rattle.first_machine.specs.Machine.{State, run, loaded, word_at}
 use Rattle.first_machine.specs.Turns.{in_user}
 use Rattle.first_code.specs.Meaning.{final_values}

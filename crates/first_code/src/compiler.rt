@@ -1,8 +1,8 @@
 // The compiler of the first path.
 ghost use Rattle.std.specs.Prelude.{◌≡◌, ◌<◌, ◌≤◌, ◌*◌, ◌+◌, ℕ, length, IfOk};
 ghost use Rattle.c0_tree.specs.First.{IsFirst};
-ghost use Rattle.c0_tree.specs.Tree.{CUnit};
-ghost use Rattle.c0_tree.specs.View.{unit_view};
+ghost use Rattle.c0_tree.specs.FirstTree.{CUnit};
+ghost use Rattle.c0_tree.specs.FirstView.{unit_view};
 ghost use Rattle.first_code.specs.Code.{linked, globals_at, frames_of, words_of};
 ghost use Rattle.first_code.specs.Runs.{KernelRuns};
 

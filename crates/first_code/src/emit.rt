@@ -1,13 +1,14 @@
 // The words of expressions and statements.
 ghost use Rattle.std.specs.Prelude.{◌≡◌, ℕ, ◌+◌, ◌*◌, ◌<◌, ◌≤◌, ◌^◌, ◌++◌, ◌∷◌, [], map, length, OnOk};
 ghost use Rattle.c0_tree.specs.First.{atoms, IsFirst};
-ghost use Rattle.c0_tree.specs.Tree.{number as numeral};
-ghost use Rattle.c0_tree.specs.View.{expr_view, stmt_view, unit_view};
+ghost use Rattle.c0_tree.specs.FirstTree.{number as numeral};
+ghost use Rattle.c0_tree.specs.FirstView.{expr_view, assign_view, stmt_view, unit_view};
 ghost use Rattle.mips_table.specs.declared.inst.Inst.TheVariants.{Sw};
 ghost use Rattle.mips_table.specs.Encoding.{InRange, encoding};
 ghost use Rattle.first_code.specs.Code.{value_code, stmt_code, kernel_code};
-ghost use Rattle.first_code.specs.Emit.{operation_of, IsPlaced, IsPlacedAssign};
+ghost use Rattle.first_code.specs.Emit.{IsSum, operation_of, IsPlaced, IsPlacedAssign};
 
+use crate::statements::{statements, variable_of};
 use c0_tree::{BinaryOp, Expr, Stmt, Unit};
 use mips_table::{Inst, encode};
 use std::alloc::AllocError;
@@ -43,9 +44,10 @@ fn emit_store(words: &mut Vec<u32>, register: u32, offset: u32) -> Result<(), Al
     )
 }
 
-// The instruction that applies an operator to a register and the one after it.
+// The instruction that applies the operator of a sum or of a difference to a register and the one after it.
 fn operation(op: BinaryOp, register: u32) -> Inst
-    requires { register + 1 < 32 }
+    requires sum { IsSum op }
+    requires register { register + 1 < 32 }
     ensures range { InRange result }
     ensures value { result ≡ operation_of op register }
 {
@@ -53,6 +55,7 @@ fn operation(op: BinaryOp, register: u32) -> Inst
     match op {
         BinaryOp::Add => Inst::Addu { rd, rs, rt },
         BinaryOp::Sub => Inst::Subu { rd, rs, rt },
+        _ => unreachable!(),
     }
 }
 
@@ -91,7 +94,7 @@ pub fn emit_expr(
     ensures { OnOk result (words.new.items ≡ words.old.items ++ map encoding (value_code globals register (expr_view expr.now))) }
 {
     match expr {
-        Expr::Num(number) => emit_number(words, register, *number),
+        Expr::Num(_, number) => emit_number(words, register, *number),
         Expr::Var(name) => emit(
             words,
             Inst::Lw {
@@ -100,11 +103,20 @@ pub fn emit_expr(
                 imm: globals + 4 * name.number,
             },
         ),
-        Expr::Binary(op, left, right) => {
+        Expr::Binary(_, op, left, right) => {
             emit_expr(words, globals, register, left)?;
             emit_expr(words, globals, register + 1, right)?;
             emit(words, operation(*op, register))
         }
+        Expr::True(_)
+        | Expr::False(_)
+        | Expr::Null(_)
+        | Expr::Field(_, _, _)
+        | Expr::Arrow(_, _, _)
+        | Expr::Index(_, _, _)
+        | Expr::Deref(_, _)
+        | Expr::AddressOf(_, _)
+        | Expr::Unary(_, _, _) => unreachable!(),
     }
 }
 
@@ -114,11 +126,28 @@ pub fn emit_stmt(words: &mut Vec<u32>, globals: u32, stmt: &Stmt) -> Result<(), 
     ensures { OnOk result (words.new.items ≡ words.old.items ++ map encoding (stmt_code globals (stmt_view stmt.now))) }
 {
     match stmt {
-        Stmt::Assign { place, value } => {
-            emit_expr(words, globals, FIRST, value)?;
-            emit_store(words, FIRST, globals + 4 * place.number)
+        Stmt::Assign { place, value, .. } => emit_assign(words, globals, place, value),
+        Stmt::Call { .. } | Stmt::New { .. } | Stmt::If { .. } | Stmt::While { .. } => {
+            unreachable!()
         }
     }
+}
+
+// Appends the words of an assignment.
+fn emit_assign(
+    words: &mut Vec<u32>,
+    globals: u32,
+    place: &Expr,
+    value: &Expr,
+) -> Result<(), AllocError>
+    requires { IsPlacedAssign globals (assign_view (expr_view place.now) (expr_view value.now)) }
+    ensures { OnOk result (words.new.items ≡ words.old.items ++ map encoding (stmt_code globals (assign_view (expr_view place.now) (expr_view value.now)))) }
+{
+    let Some(place) = variable_of(place) else {
+        unreachable!();
+    };
+    emit_expr(words, globals, FIRST, value)?;
+    emit_store(words, FIRST, globals + 4 * place.number)
 }
 
 /// Appends the words of a kernel: its assignments, and the store that switches the machine off. The first global is at the
@@ -128,8 +157,7 @@ pub fn emit_kernel(words: &mut Vec<u32>, globals: u32, unit: &Unit) -> Result<()
     requires room { globals + 4 * length (unit_view unit.now).globals ≤ 2 ^ 15 }
     ensures { OnOk result (words.new.items ≡ words.old.items ++ map encoding (kernel_code globals (unit_view unit.now).stmts)) }
 {
-    let stmts = &unit.dispatch.body.stmts;
-    for stmt in stmts {
+    for stmt in statements(unit) {
         emit_stmt(words, globals, stmt)?;
     }
     emit_store(words, 0, POWER_OFFSET)

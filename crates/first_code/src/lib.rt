@@ -4,6 +4,7 @@
 pub mod compiler;
 mod count;
 mod emit;
+mod statements;
 #[cfg(test)]
 mod tests;
 

@@ -1,18 +1,23 @@
 // The words of a small kernel, made by hand.
 ghost use Rattle.std.specs.Prelude.{◌≡◌, ℕ, IfOk};
 ghost use Rattle.c0_tree.specs.First.{IsFirst, IsFirstAssign};
-ghost use Rattle.c0_tree.specs.View.{stmt_view, unit_view};
+ghost use Rattle.c0_tree.specs.FirstView.{stmt_view, unit_view};
 
 use crate::compiler::compile;
-use c0_tree::{BinaryOp, CType, Code, Decl, Expr, Function, Name, Stmt, Unit};
+use c0_tree::{BinaryOp, Body, CType, Code, Decl, Expr, Function, Kind, Name, Span, Stmt, Unit};
 use std::alloc::{AllocError, Global};
 
+// No test asks where a part stands.
+const NOWHERE: Span = Span { start: 0, end: 0 };
+
 // A name of the only global, or of dispatch.
-fn name(alloc: Global, letter: u8) -> Result<Name, AllocError>
+fn name(alloc: Global, letter: u8, kind: Kind) -> Result<Name, AllocError>
     ensures { IfOk result (λ x. x.number ≡ 0) }
 {
     Ok(Name {
         bytes: vec![in alloc; letter]?,
+        span: NOWHERE,
+        kind,
         number: 0,
     })
 }
@@ -21,11 +26,12 @@ fn name(alloc: Global, letter: u8) -> Result<Name, AllocError>
 fn assignment(alloc: Global) -> Result<Stmt, AllocError>
     ensures { IfOk result (λ s. IsFirstAssign 1 (stmt_view s)) }
 {
-    let two = Box::new(alloc, Expr::Num(2))?;
-    let five = Box::new(alloc, Expr::Num(5))?;
+    let two = Box::new(alloc, Expr::Num(NOWHERE, 2))?;
+    let five = Box::new(alloc, Expr::Num(NOWHERE, 5))?;
     Ok(Stmt::Assign {
-        place: name(alloc, b'x')?,
-        value: Expr::Binary(BinaryOp::Sub, two, five),
+        span: NOWHERE,
+        place: Expr::Var(name(alloc, b'x', Kind::Global)?),
+        value: Expr::Binary(NOWHERE, BinaryOp::Sub, two, five),
     })
 }
 
@@ -35,20 +41,26 @@ fn difference(alloc: Global) -> Result<Unit, AllocError>
 {
     let global = Decl {
         ty: CType::Int,
-        name: name(alloc, b'x')?,
+        ty_span: NOWHERE,
+        name: name(alloc, b'x', Kind::Global)?,
     };
     let stmts = vec![in alloc; assignment(alloc)?]?;
+    let dispatch = Function {
+        answer: CType::Int,
+        answer_span: NOWHERE,
+        name: name(alloc, b'd', Kind::Function)?,
+        params: Vec::new(alloc),
+        body: Body::Code(Code {
+            locals: Vec::new(alloc),
+            stmts,
+            answer: Expr::Num(NOWHERE, 0),
+        }),
+    };
     Ok(Unit {
+        length: 0,
+        structs: Vec::new(alloc),
         globals: vec![in alloc; global]?,
-        dispatch: Function {
-            answer: CType::Int,
-            name: name(alloc, b'd')?,
-            params: Vec::new(alloc),
-            body: Code {
-                stmts,
-                answer: Expr::Num(0),
-            },
-        },
+        functions: vec![in alloc; dispatch]?,
     })
 }
 

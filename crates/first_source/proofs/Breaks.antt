@@ -1,7 +1,7 @@
 -- A text breaks the form at one place at most: of two lists of tokens that are cut at two places, one front holds the other with
 -- its token, and what holds the beginnings of a source is closed under prefixes. So the answer of the reader is the only one.
 use Rattle.std.proofs.Common.{◌≡◌, ℕ, List, [], ◌∷◌, ◌++◌, refl, sym, ap, ◌∙◌, subst, append_assoc, map}
-use Rattle.c0_tree.specs.Tree.{CUnit}
+use Rattle.c0_tree.specs.FirstTree.{CUnit}
 use Rattle.first_source.specs.Lexis.{Lexeme, Token, tokens_of}
 use Rattle.first_source.specs.Reading.{Reads, Breaks, IsBeginning}
 

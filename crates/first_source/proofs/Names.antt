@@ -3,7 +3,7 @@ use Rattle.std.proofs.Common.{◌≡◌, ℕ, suc, ◌+◌, ◌<◌, Bool, true,
 use Rattle.std.specs.Str.{bytes_eq}
 use Rattle.std.specs.List.{AllByRecursion}
 use Rattle.std.proofs.lemmas.Slice.Eq.{bytes_eq-Decides}
-use Rattle.c0_tree.specs.Tree.{CName}
+use Rattle.c0_tree.specs.FirstTree.{CName}
 use Rattle.first_source.specs.Form.{IsNew, AreDistinct, IsAmong}
 use Rattle.first_source.specs.Reading.{place_in, named}
 use Rattle.first_source.specs.Stages.{is_new}

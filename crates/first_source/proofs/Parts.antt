@@ -3,13 +3,10 @@ use Rattle.std.proofs.Common.{◌≡◌, ℕ, ◌<◌, ◌≤◌, Bool, true, fa
 use Rattle.std.specs.Prelude.{nat_lt, Option, Some, None, Ok}
 use Rattle.std.specs.Borrow.{Bor}
 use Rattle.std.proofs.lemmas.Bool.{ltb-true, lt-ltb}
-use Rattle.c0_tree.specs.Tree.{CName, CExpr, sum, difference, CAssign}
-use Rattle.c0_tree.specs.View.{name_view, decl_view, expr_view, binary_view, stmt_view}
-use Rattle.c0_tree.specs.declared.tree.Name.{Name}
+use Rattle.c0_tree.specs.FirstTree.{CName, CExpr, sum, difference, CAssign}
+use Rattle.c0_tree.specs.FirstView.{name_view, decl_view, binary_view, stmt_view}
 use Rattle.c0_tree.specs.declared.tree.Decl.{Decl}
-use Rattle.c0_tree.specs.declared.tree.Expr.{Expr}
 use Rattle.c0_tree.specs.declared.tree.Stmt.{Stmt}
-use Rattle.c0_tree.specs.declared.tree.Stmt.TheVariants.{Assign}
 use Rattle.c0_tree.specs.declared.tree.BinaryOp.{BinaryOp}
 use Rattle.c0_tree.specs.declared.tree.BinaryOp.TheVariants.{Add, Sub}
 use Rattle.first_source.specs.Lexis.{Lexeme, name, number, int_word, return_word, mark, other, end}
@@ -64,36 +61,45 @@ globals_more ds new d text n e v is m h =
 
 -- an operator
 abbrev pub is_minus : BinaryOp → Bool
-is_minus Add = false
 is_minus Sub = true
+is_minus _ = false
 
-step_of : (l : Lexeme) (o : Option BinaryOp) (op : BinaryOp) → Behind l o → o ≡ Some op → l ≡ mark (if is_minus op then 45 else 43)
-step_of l None op h e = absurd (no_name op e)
-step_of l (Some Add) Add h e = h
-step_of l (Some Add) Sub h e = absurd (wrong e) where
-  wrong : Some Add ≡ Some Sub → ⊥
-  wrong e = cc
-step_of l (Some Sub) Add h e = absurd (wrong e) where
-  wrong : Some Sub ≡ Some Add → ⊥
-  wrong e = cc
-step_of l (Some Sub) Sub h e = h
+-- the operator of a sum or of a difference
+abbrev pub IsSum : BinaryOp → Type 0
+IsSum Add = Unit {0}
+IsSum Sub = Unit {0}
+IsSum _ = ⊥
+
+sum_of : (l : Lexeme) (op : BinaryOp) → Behind l (Some op) → IsSum op
+sum_of l Add h = tt
+sum_of l Sub h = tt
+sum_of l _ h = h
+
+-- an operator that was read is one of these two
+pub operator_sum : (l : Lexeme) (o : Option BinaryOp) (op : BinaryOp) → Behind l o → o ≡ Some op → IsSum op
+operator_sum l o op h e = sum_of l op (subst (λ (x : Option BinaryOp). Behind l x) e h)
+
+step_of : (l : Lexeme) (o : Option BinaryOp) (op : BinaryOp) → Behind l o → o ≡ Some op → Behind l (Some op)
+step_of l o op h e = subst (λ (x : Option BinaryOp). Behind l x) e h
 
 pub operator_led : (t : Token) (ts rest : List Token) (o : Option BinaryOp) (op : BinaryOp) → ts ≡ t ∷ rest → Behind (lexeme_view t.lexeme) o → o ≡ Some op → (s : Source) (a : Assignment) → length a.steps < 8 → run (seen ts) (after_atom s a) ≡ run (seen rest) (after_operator s a (is_minus op))
 operator_led t ts rest o Add e b is s a few =
     led t ts rest (mark 43) (after_atom s a) (after_operator s a false) e (step_of (lexeme_view t.lexeme) o Add b is) (rw (lt-ltb (length a.steps) 8 few) refl)
 operator_led t ts rest o Sub e b is s a few =
     led t ts rest (mark 45) (after_atom s a) (after_operator s a true) e (step_of (lexeme_view t.lexeme) o Sub b is) (rw (lt-ltb (length a.steps) 8 few) refl)
+operator_led t ts rest o op e b is s a few = absurd (step_of (lexeme_view t.lexeme) o op b is)
 
 -- one operand more
 chain_snoc : (gs : List (List ℕ)) (steps : List Step) (e : CExpr) (t : Step) → chain_tree gs e (steps ++ t ∷ []) ≡ (if t.minus then difference (chain_tree gs e steps) (atom_tree gs t.atom) else sum (chain_tree gs e steps) (atom_tree gs t.atom))
 chain_snoc gs [] e t = refl
 chain_snoc gs (x ∷ steps) e t = chain_snoc gs steps (if x.minus then difference e (atom_tree gs x.atom) else sum e (atom_tree gs x.atom)) t
 
-pub value_more : (gs : List (List ℕ)) (first : Atom) (steps : List Step) (op : BinaryOp) (v l r : CExpr) (a : Atom) → v ≡ binary_view op l r → l ≡ chain_tree gs (atom_tree gs first) steps → r ≡ atom_tree gs a → v ≡ chain_tree gs (atom_tree gs first) (steps ++ record { minus = is_minus op; atom = a } ∷ [])
-value_more gs first steps Add v l r a e p q =
+pub value_more : (gs : List (List ℕ)) (first : Atom) (steps : List Step) (op : BinaryOp) (v l r : CExpr) (a : Atom) → IsSum op → v ≡ binary_view op l r → l ≡ chain_tree gs (atom_tree gs first) steps → r ≡ atom_tree gs a → v ≡ chain_tree gs (atom_tree gs first) (steps ++ record { minus = is_minus op; atom = a } ∷ [])
+value_more gs first steps Add v l r a i e p q =
     e ∙ ap (λ x. sum x r) p ∙ ap (λ x. sum (chain_tree gs (atom_tree gs first) steps) x) q ∙ sym (chain_snoc gs steps (atom_tree gs first) record { minus = false; atom = a })
-value_more gs first steps Sub v l r a e p q =
+value_more gs first steps Sub v l r a i e p q =
     e ∙ ap (λ x. difference x r) p ∙ ap (λ x. difference (chain_tree gs (atom_tree gs first) steps) x) q ∙ sym (chain_snoc gs steps (atom_tree gs first) record { minus = true; atom = a })
+value_more gs first steps op v l r a i e p q = absurd i
 
 -- the word return
 pub is_return : (l : Lexeme) → is_same l return_word ≡ true → l ≡ return_word
@@ -124,11 +130,12 @@ pub place_follows : (s : Source) (done : List Assignment) (text : List ℕ) → 
 place_follows s done text few seen_name = rw (lt-ltb (length done) 100 few) (rw seen_name refl)
 
 -- one assignment more
-pub stmts_more : (gs : List (List ℕ)) (old new : List Stmt) (place : Name) (value : Expr) (done : List Assignment) (a : Assignment) → new ≡ old ++ Assign place value ∷ [] → map stmt_view old ≡ map (assignment_tree gs) done → name_view place ≡ named gs a.place → expr_view value ≡ chain_tree gs (atom_tree gs a.first) a.steps → map stmt_view new ≡ map (assignment_tree gs) (done ++ a ∷ [])
-stmts_more gs old new place value done a e h p v =
-    ap (map stmt_view) e ∙ map_snoc stmt_view old (Assign place value)
-    ∙ ap (λ (l : List CAssign). l ++ stmt_view (Assign place value) ∷ []) h
-    ∙ ap (λ (x : CName). map (assignment_tree gs) done ++ (let y : CAssign = record { place = x; value = expr_view value } in y) ∷ []) p
+pub stmts_more : (gs : List (List ℕ)) (old new : List Stmt) (stmt : Stmt) (place : CName) (value : CExpr) (done : List Assignment) (a : Assignment) → new ≡ old ++ stmt ∷ [] → stmt_view stmt ≡ record { place = place; value = value } → map stmt_view old ≡ map (assignment_tree gs) done → place ≡ named gs a.place → value ≡ chain_tree gs (atom_tree gs a.first) a.steps → map stmt_view new ≡ map (assignment_tree gs) (done ++ a ∷ [])
+stmts_more gs old new stmt place value done a e d h p v =
+    ap (map stmt_view) e ∙ map_snoc stmt_view old stmt
+    ∙ ap (λ (l : List CAssign). l ++ stmt_view stmt ∷ []) h
+    ∙ ap (λ (x : CAssign). map (assignment_tree gs) done ++ x ∷ []) d
+    ∙ ap (λ (x : CName). map (assignment_tree gs) done ++ (let y : CAssign = record { place = x; value = value } in y) ∷ []) p
     ∙ ap (λ (x : CExpr). map (assignment_tree gs) done ++ (let y : CAssign = record { place = named gs a.place; value = x } in y) ∷ []) v
     ∙ sym (map_snoc (assignment_tree gs) done a)
 

@@ -3,10 +3,10 @@ use Rattle.std.proofs.Common.{◌≡◌, ℕ, suc, ◌+◌, ◌<◌, Bool, true,
 use Rattle.std.specs.Prelude.{Option, Some, None, Result, Ok, Err, IfOk, IfErr, MatchResult}
 use Rattle.std.specs.List.{AllByRecursion}
 use Rattle.std.proofs.lemmas.List.{append-nil}
-use Rattle.c0_tree.specs.Tree.{CExpr, CName, CUnit, CAssign}
-use Rattle.c0_tree.specs.Tree as tree
+use Rattle.c0_tree.specs.FirstTree.{CExpr, CName, CUnit, CAssign}
+use Rattle.c0_tree.specs.FirstTree as tree
 use Rattle.c0_tree.specs.First.{IsResolved, atoms, IsFirstAssign, IsFirst}
-use Rattle.c0_tree.specs.View.{unit_view}
+use Rattle.c0_tree.specs.FirstView.{unit_view}
 use Rattle.c0_tree.specs.declared.tree.Unit.{Unit as RustUnit}
 use Rattle.first_source.specs.Lexis.{Lexeme, other, end, Token, is_last, tokens_of}
 use Rattle.first_source.specs.Form.{Atom, variable, literal, Step, Assignment, Source, tail_lexemes, lexemes_of, IsAtom, IsAssignment, IsProper}

@@ -2,11 +2,12 @@
 use Rattle.std.specs.Prelude.{ℕ, ◌≡◌, ◌≤◌, ◌<◌, List, [], ◌∷◌, ◌++◌, length, map, true, false, Option, Some, None, MatchOption, Result, Ok, Err}
 use Rattle.std.specs.Borrow.{Bor}
 use Rattle.std.specs.Global.{Vec}
-use Rattle.c0_tree.specs.View.{name_view, decl_view, expr_view, stmt_view, unit_view}
+use Rattle.c0_tree.specs.FirstTree as tree
+use Rattle.c0_tree.specs.FirstView.{name_view, decl_view, expr_view, stmt_view, unit_view}
 use Rattle.c0_tree.specs.declared.tree.Name.{Name}
 use Rattle.c0_tree.specs.declared.tree.Decl.{Decl}
 use Rattle.c0_tree.specs.declared.tree.Expr.{Expr}
-use Rattle.c0_tree.specs.declared.tree.Stmt.{Stmt}
+use Rattle.c0_tree.specs.declared.tree.Code.{Code}
 use Rattle.c0_tree.specs.declared.tree.Unit.{Unit as RustUnit}
 use Rattle.c0_tree.specs.declared.tree.BinaryOp.{BinaryOp}
 use Rattle.c0_tree.specs.declared.tree.BinaryOp.TheVariants.{Add, Sub}
@@ -17,6 +18,7 @@ use Rattle.first_source.specs.Form.{Atom, variable, Step, Assignment, Source}
 use Rattle.first_source.specs.Reading.{named, place_in, atom_tree, chain_tree, assignment_tree, tree_of}
 use Rattle.first_source.specs.Stages.{HeadPlace, Stage, at_item, after_int, after_global, in_head, opening, brace, at_statement, after_place, after_return, only_after, name_after, atom_after, follow_atom, is_new, is_visible, may_follow, when, with_globals, accepted, stuck, settle, follow, run}
 use Rattle.first_source.specs.declared.tokens.Token.{Token}
+use Rattle.first_source.specs.declared.reader.Heading.{Heading}
 use Rattle.first_source.specs.declared.reader.Params.{Params}
 use Rattle.first_source.specs.declared.reader.Scope.{Scope}
 use Rattle.first_source.specs.declared.reader.SourceFault.{SourceFault}
@@ -70,8 +72,8 @@ ItemRead globals ts (Ok p) = MatchOption p.0 (run ts (after_int globals) ≡ run
 ItemRead globals ts (Err f) = Fails (after_int globals) ts f
 
 -- the globals were read, each numbered by its place
-abbrev pub GlobalsRead : List lexis.Token → Result (Vec Decl × Bor (List Token)) SourceFault → Type 0
-GlobalsRead ts (Ok p) = (length (texts p.0.items) ≤ 1000) × (map decl_view p.0.items ≡ map (named (texts p.0.items)) (texts p.0.items)) × (run ts (at_item []) ≡ run (seen p.1.now) (in_head opening (with_globals (texts p.0.items))))
+abbrev pub GlobalsRead : List lexis.Token → Result (Vec Decl × Heading × Bor (List Token)) SourceFault → Type 0
+GlobalsRead ts (Ok p) = (length (texts p.0.items) ≤ 1000) × (map decl_view p.0.items ≡ map (named (texts p.0.items)) (texts p.0.items)) × (run ts (at_item []) ≡ run (seen p.2.now) (in_head opening (with_globals (texts p.0.items))))
 GlobalsRead ts (Err f) = Fails (at_item []) ts f
 
 -- a source's names, with no assignment yet
@@ -113,6 +115,7 @@ abbrev pub Behind : Lexeme → Option BinaryOp → Type 0
 Behind l None = l ≡ mark 59
 Behind l (Some Add) = l ≡ mark 43
 Behind l (Some Sub) = l ≡ mark 45
+Behind l (Some _) = ⊥
 
 -- an operator or a semicolon
 abbrev pub OperatorRead : Token → Result (Option BinaryOp) SourceFault → Type 0
@@ -124,13 +127,13 @@ abbrev pub with_done : Source → List Assignment → Source
 with_done s done = record s { assignments = done }
 
 -- what is assigned was read, to its semicolon
-abbrev pub ValueRead : Source → List lexis.Token → Result (Expr × Bor (List Token)) SourceFault → Type 0
-ValueRead s ts (Ok p) = (first : Atom) × (steps : List Step) × (expr_view p.0 ≡ chain_tree s.globals (atom_tree s.globals first) steps) × ((done : List Assignment) (place : List ℕ) → run ts (after_place (with_done s done) place) ≡ run (seen p.1.now) (at_statement (with_done s (done ++ record { place = place; first = first; steps = steps } ∷ []))))
+abbrev pub ValueRead : Source → List lexis.Token → Result (Expr × ℕ × Bor (List Token)) SourceFault → Type 0
+ValueRead s ts (Ok p) = (first : Atom) × (steps : List Step) × (expr_view p.0 ≡ chain_tree s.globals (atom_tree s.globals first) steps) × ((done : List Assignment) (place : List ℕ) → run ts (after_place (with_done s done) place) ≡ run (seen p.2.now) (at_statement (with_done s (done ++ record { place = place; first = first; steps = steps } ∷ []))))
 ValueRead s ts (Err f) = (done : List Assignment) (place : List ℕ) → Fails (after_place (with_done s done) place) ts f
 
 -- the assignments and the tail were read
-abbrev pub BodyRead : Source → List lexis.Token → Result (Vec Stmt) SourceFault → Type 0
-BodyRead s ts (Ok stmts) = (done : List Assignment) × (map stmt_view stmts.items ≡ map (assignment_tree s.globals) done) × (run ts (in_head brace s) ≡ accepted (with_done s done))
+abbrev pub BodyRead : Source → List lexis.Token → Result Code SourceFault → Type 0
+BodyRead s ts (Ok c) = (done : List Assignment) × (c.locals.items ≡ []) × (expr_view c.answer ≡ tree.number 0) × (map stmt_view c.stmts.items ≡ map (assignment_tree s.globals) done) × (run ts (in_head brace s) ≡ accepted (with_done s done))
 BodyRead s ts (Err f) = Fails (in_head brace s) ts f
 
 -- the tail was read

@@ -1,8 +1,8 @@
 -- What is read from a source, and where it breaks the form.
 use Rattle.std.specs.Prelude.{◌≡◌, ℕ, suc, List, [], ◌∷◌, ◌++◌, map, if◌then◌else◌}
 use Rattle.std.specs.Str.{bytes_eq}
-use Rattle.c0_tree.specs.Tree.{CName, CExpr, CAssign, CUnit}
-use Rattle.c0_tree.specs.Tree as tree
+use Rattle.c0_tree.specs.FirstTree.{CName, CExpr, CAssign, CUnit}
+use Rattle.c0_tree.specs.FirstTree as tree
 use Rattle.first_source.specs.Lexis.{Lexeme, Token, tokens_of}
 use Rattle.first_source.specs.Form.{Atom, variable, literal, Step, Assignment, Source, lexemes_of, IsProper}
 

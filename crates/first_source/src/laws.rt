@@ -1,6 +1,6 @@
 // Laws of the form.
 ghost use Rattle.std.specs.Prelude.{◌≡◌, ℕ, List};
-ghost use Rattle.c0_tree.specs.Tree.{CUnit};
+ghost use Rattle.c0_tree.specs.FirstTree.{CUnit};
 ghost use Rattle.first_source.specs.Reading.{Reads, Breaks};
 
 /// A law: a source breaks the form at one byte at most, and one that is read breaks it at none.

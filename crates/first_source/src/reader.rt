@@ -1,9 +1,9 @@
 // The reader: recursive descent over the tokens.
-ghost use Rattle.std.specs.Prelude.{◌≡◌, ℕ, ◌≤◌, ◌<◌, ◌∷◌, [], length, map, IfOk, IfErr, MatchResult};
-ghost use Rattle.c0_tree.specs.Tree.{CUnit, CName};
-ghost use Rattle.c0_tree.specs.Tree as tree;
+ghost use Rattle.std.specs.Prelude.{◌≡◌, ℕ, ◌≤◌, ◌<◌, ◌∷◌, [], length, map, min, IfOk, IfErr, MatchResult};
+ghost use Rattle.c0_tree.specs.FirstTree.{CUnit, CName};
+ghost use Rattle.c0_tree.specs.FirstTree as tree;
 ghost use Rattle.c0_tree.specs.First.{IsFirst};
-ghost use Rattle.c0_tree.specs.View.{name_view, decl_view, expr_view, binary_view, unit_view};
+ghost use Rattle.c0_tree.specs.FirstView.{name_view, decl_view, expr_view, binary_view, stmt_view, unit_view};
 ghost use Rattle.first_source.specs.Form.{taken_names};
 ghost use Rattle.first_source.specs.Tokens.{lexeme_view};
 ghost use Rattle.first_source.specs.Reading.{Reads, named};
@@ -13,7 +13,7 @@ ghost use Rattle.first_source.specs.Parts.{seen, texts, scope_of, IsAt, Next, Ta
 ghost use Rattle.first_source.specs.declared.reader.SourceFault.TheVariants.{Memory};
 
 use crate::tokens::{Lexeme, Token, tokens};
-use c0_tree::{BinaryOp, CType, Code, Decl, Expr, Function, Name, Stmt, Unit};
+use c0_tree::{BinaryOp, Body, CType, Code, Decl, Expr, Function, Kind, Name, Span, Stmt, Unit};
 use std::alloc::{AllocError, AllocFailed, Global};
 
 const MOST_GLOBALS: usize = 1000;
@@ -59,12 +59,20 @@ impl<T: Drop> From<AllocFailed<T>> for SourceFault {
     }
 }
 
-// The parameters of dispatch.
+// Where the type and the name of a declaration stand.
+#[derive(Clone, Copy, Drop)]
+struct Heading {
+    ty: Span,
+    name: Span,
+}
+
+// The parameters of dispatch, and where each stands.
 #[derive(Clone, Copy, Drop)]
 struct Params<'a> {
     cause: &'a [u8],
     data: &'a [u8],
     user: &'a [u8],
+    headings: [Heading; 3],
 }
 
 // The names that stand for something between the braces.
@@ -78,6 +86,9 @@ struct Scope<'a> {
 ///
 /// `NotBuilt` names the first token that breaks the form: the tokens before it begin some source of the form, and with it
 /// they don't. A source that ends too early breaks it at its end.
+///
+/// The spans are those of the tokens, an assignment's to its semicolon; a place past 2^32 - 1 is told as 2^32 - 1. A name
+/// that is declared or used has the kind of what it stands for: a global, a function, or for a parameter a local.
 pub fn read(alloc: Global, source: &[u8]) -> Result<Unit, SourceFault>
     ensures found { IfOk result (λ u. Reads source.now (unit_view u)) }
     ensures only { (u : CUnit) → Reads source.now u → MatchResult result (λ v. unit_view v ≡ u) (λ f. f ≡ SourceFault.Memory) }
@@ -85,16 +96,16 @@ pub fn read(alloc: Global, source: &[u8]) -> Result<Unit, SourceFault>
     ensures fault { IfErr result (FaultIs source.now) }
 {
     let tokens = tokens(alloc, source)?;
-    read_unit(alloc, &tokens)
+    read_unit(alloc, told(source.len()), &tokens)
 }
 
-// A whole source, to its end.
-fn read_unit<'a>(alloc: Global, ts: &'a [Token<'a>]) -> Result<Unit, SourceFault>
+// A whole source of so many bytes, to its end.
+fn read_unit<'a>(alloc: Global, length: u32, ts: &'a [Token<'a>]) -> Result<Unit, SourceFault>
     ensures { WholeRead (seen ts.now) result }
 {
-    let (globals, rest) = read_globals(alloc, ts)?;
+    let (globals, heading, rest) = read_globals(alloc, ts)?;
     let (params, rest) = read_params(rest)?;
-    let stmts = read_body(
+    let code = read_body(
         alloc,
         Scope {
             globals: &globals,
@@ -104,37 +115,50 @@ fn read_unit<'a>(alloc: Global, ts: &'a [Token<'a>]) -> Result<Unit, SourceFault
     )?;
     let dispatch = Function {
         answer: CType::Int,
-        name: name(alloc, b"dispatch", 0)?,
+        answer_span: heading.ty,
+        name: name(alloc, b"dispatch", heading.name, Kind::Function, 0)?,
         params: declared(alloc, params)?,
-        body: Code {
-            stmts,
-            answer: literal(0),
-        },
+        body: Body::Code(code),
     };
-    Ok(Unit { globals, dispatch })
+    Ok(Unit {
+        length,
+        structs: Vec::new(alloc),
+        globals,
+        functions: vec![in alloc; dispatch]?,
+    })
 }
 
-// The globals, to the name of dispatch.
+// The globals, to the name of dispatch, whose heading stands behind them.
 fn read_globals<'a>(
     alloc: Global,
     ts: &'a [Token<'a>],
-) -> Result<(Vec<Decl>, &'a [Token<'a>]), SourceFault>
+) -> Result<(Vec<Decl>, Heading, &'a [Token<'a>]), SourceFault>
     ensures { GlobalsRead (seen ts.now) result }
 {
     let mut globals = Vec::new(alloc);
+    let mut current = heading_of(ts);
     let mut rest = expect(ts, Lexeme::Int)?;
     'items: loop {
         let (item, behind) = read_item(&globals, rest)?;
         let Some(text) = item else {
-            return Ok((globals, behind));
+            return Ok((globals, current, behind));
         };
         let behind = expect(behind, Lexeme::Mark(b';'))?;
+        let following = heading_of(behind);
         rest = expect(behind, Lexeme::Int)?;
-        let name = name(alloc, text, globals.len() as u32)?;
+        let name = name(
+            alloc,
+            text,
+            current.name,
+            Kind::Global,
+            globals.len() as u32,
+        )?;
         globals.push(Decl {
             ty: CType::Int,
+            ty_span: current.ty,
             name,
         })?;
+        current = following;
     }
 }
 
@@ -164,13 +188,22 @@ fn read_params<'a>(ts: &'a [Token<'a>]) -> Result<(Params<'a>, &'a [Token<'a>]),
     ensures { ParamsRead (seen ts.now) result }
 {
     let rest = expect(ts, Lexeme::Mark(b'('))?;
+    let first = heading_of(rest);
     let (cause, rest) = read_param(&[], rest)?;
     let rest = expect(rest, Lexeme::Mark(b','))?;
+    let second = heading_of(rest);
     let (data, rest) = read_param(&[cause], rest)?;
     let rest = expect(rest, Lexeme::Mark(b','))?;
+    let third = heading_of(rest);
     let (user, rest) = read_param(&[cause, data], rest)?;
     let rest = expect(rest, Lexeme::Mark(b')'))?;
-    Ok((Params { cause, data, user }, rest))
+    let params = Params {
+        cause,
+        data,
+        user,
+        headings: [first, second, third],
+    };
+    Ok((params, rest))
 }
 
 // A parameter whose name isn't among those before it.
@@ -193,7 +226,7 @@ fn read_param<'a>(
 }
 
 // The assignments and the return in their braces, to the end of the source.
-fn read_body<'a>(alloc: Global, scope: Scope, ts: &'a [Token<'a>]) -> Result<Vec<Stmt>, SourceFault>
+fn read_body<'a>(alloc: Global, scope: Scope, ts: &'a [Token<'a>]) -> Result<Code, SourceFault>
     requires { length scope.globals.now ≤ 1000 }
     ensures { BodyRead (scope_of scope.entry) (seen ts.now) result }
 {
@@ -203,42 +236,55 @@ fn read_body<'a>(alloc: Global, scope: Scope, ts: &'a [Token<'a>]) -> Result<Vec
         let (token, behind) = next(rest)?;
         if is_same(token.lexeme, Lexeme::Return) {
             read_tail(behind)?;
-            return Ok(stmts);
+            return Ok(Code {
+                locals: Vec::new(alloc),
+                stmts,
+                answer: literal(front(behind), 0),
+            });
         }
         if stmts.len() >= MOST_ASSIGNMENTS {
             return Err(refusal(token));
         }
         let place = read_name(alloc, scope, token)?;
-        let (value, behind) = read_value(alloc, scope, behind)?;
-        stmts.push(Stmt::Assign { place, value })?;
+        let (value, end, behind) = read_value(alloc, scope, behind)?;
+        let span = Span {
+            start: told(token.at),
+            end,
+        };
+        stmts.push(assignment(span, place, value))?;
         rest = behind;
     }
 }
 
-// What is assigned, from its `=` to its semicolon.
+// What is assigned, from its `=` to its semicolon, and the byte behind that.
 fn read_value<'a>(
     alloc: Global,
     scope: Scope,
     ts: &'a [Token<'a>],
-) -> Result<(Expr, &'a [Token<'a>]), SourceFault>
+) -> Result<(Expr, u32, &'a [Token<'a>]), SourceFault>
     requires { length scope.globals.now ≤ 1000 }
     ensures reads { ValueRead (scope_of scope.entry) (seen ts.now) result }
-    ensures shorter { IfOk result (λ p. length p.1.now < length ts.now) }
+    ensures shorter { IfOk result (λ p. length p.2.now < length ts.now) }
 {
     let rest = expect(ts, Lexeme::Mark(b'='))?;
+    let start = front(rest).start;
     let (mut value, mut rest) = read_atom(alloc, scope, rest)?;
     let mut operators = 0;
     'operators: loop {
         let (token, behind) = next(rest)?;
         let Some(op) = operator(token)? else {
-            return Ok((value, behind));
+            return Ok((value, span_of(token).end, behind));
         };
         if operators >= MOST_OPERATORS {
             return Err(refusal(token));
         }
         operators += 1;
+        let span = Span {
+            start,
+            end: front(behind).end,
+        };
         let (right, behind) = read_atom(alloc, scope, behind)?;
-        value = binary(alloc, op, value, right)?;
+        value = binary(alloc, span, op, value, right)?;
         rest = behind;
     }
 }
@@ -255,7 +301,7 @@ fn read_atom<'a>(
 {
     let (token, rest) = next(ts)?;
     match number_of(token) {
-        Some(value) => Ok((literal(value), rest)),
+        Some(value) => Ok((literal(span_of(token), value), rest)),
         None => Ok((variable(read_name(alloc, scope, token)?), rest)),
     }
 }
@@ -269,7 +315,7 @@ fn read_name(alloc: Global, scope: Scope, token: Token) -> Result<Name, SourceFa
         return Err(refusal(token));
     };
     match look_up(scope, text) {
-        Some(number) => name(alloc, text, number),
+        Some(number) => name(alloc, text, span_of(token), Kind::Global, number),
         None => Err(refusal(token)),
     }
 }
@@ -410,18 +456,31 @@ fn look_up(scope: Scope, text: &[u8]) -> Option<u32>
     requires { length scope.globals.now ≤ 1000 }
     ensures { LooksUp (scope_of scope.entry) text.now result }
 {
-    let Params { cause, data, user } = scope.params;
+    let Params {
+        cause,
+        data,
+        user,
+        ..
+    } = scope.params;
     if !is_new(&[cause, data, user], text) {
         return None;
     }
     place_of(scope.globals, text).map(|place| place as u32)
 }
 
-fn name(alloc: Global, text: &[u8], number: u32) -> Result<Name, SourceFault>
+fn name(
+    alloc: Global,
+    text: &[u8],
+    span: Span,
+    kind: Kind,
+    number: u32,
+) -> Result<Name, SourceFault>
     ensures { MatchResult result (λ x. name_view x ≡ record { text = text.now; number = number }) (λ f. f ≡ SourceFault.Memory) }
 {
     Ok(Name {
         bytes: text.to_vec(alloc)?,
+        span,
+        kind,
         number,
     })
 }
@@ -430,26 +489,30 @@ fn name(alloc: Global, text: &[u8], number: u32) -> Result<Name, SourceFault>
 fn declared(alloc: Global, params: Params) -> Result<Vec<Decl>, SourceFault>
     ensures { Declared params.entry result }
 {
+    let [first, second, third] = params.headings;
     let mut decls = Vec::new(alloc);
     decls.push(Decl {
         ty: CType::Int,
-        name: name(alloc, params.cause, 0)?,
+        ty_span: first.ty,
+        name: name(alloc, params.cause, first.name, Kind::Local, 0)?,
     })?;
     decls.push(Decl {
         ty: CType::Int,
-        name: name(alloc, params.data, 1)?,
+        ty_span: second.ty,
+        name: name(alloc, params.data, second.name, Kind::Local, 1)?,
     })?;
     decls.push(Decl {
         ty: CType::Int,
-        name: name(alloc, params.user, 2)?,
+        ty_span: third.ty,
+        name: name(alloc, params.user, third.name, Kind::Local, 2)?,
     })?;
     Ok(decls)
 }
 
-fn literal(value: u32) -> Expr
+fn literal(span: Span, value: u32) -> Expr
     ensures { expr_view result ≡ tree.number value }
 {
-    Expr::Num(value)
+    Expr::Num(span, value)
 }
 
 fn variable(name: Name) -> Expr
@@ -458,10 +521,94 @@ fn variable(name: Name) -> Expr
     Expr::Var(name)
 }
 
-fn binary(alloc: Global, op: BinaryOp, left: Expr, right: Expr) -> Result<Expr, SourceFault>
+fn binary(
+    alloc: Global,
+    span: Span,
+    op: BinaryOp,
+    left: Expr,
+    right: Expr,
+) -> Result<Expr, SourceFault>
     ensures { MatchResult result (λ e. expr_view e ≡ binary_view op (expr_view left) (expr_view right)) (λ f. f ≡ SourceFault.Memory) }
 {
-    Ok(Expr::Binary(op, Box::new(alloc, left)?, Box::new(alloc, right)?))
+    Ok(Expr::Binary(span, op, Box::new(alloc, left)?, Box::new(alloc, right)?))
+}
+
+fn assignment(span: Span, place: Name, value: Expr) -> Stmt
+    ensures { stmt_view result ≡ record { place = name_view place; value = expr_view value } }
+{
+    Stmt::Assign {
+        span,
+        place: variable(place),
+        value,
+    }
+}
+
+// A place in the source, as spans tell it.
+fn told(at: usize) -> u32
+    ensures { result ≡ min at 4294967295 }
+{
+    if at < 4294967295 {
+        at as u32
+    } else {
+        4294967295
+    }
+}
+
+// Where a token stands.
+fn span_of(token: Token) -> Span {
+    let start = told(token.at);
+    Span {
+        start,
+        end: start.saturating_add(token_len(token.lexeme)),
+    }
+}
+
+// Where the first of these tokens stands.
+fn front(ts: &[Token]) -> Span {
+    match ts {
+        [first, ..] => span_of(*first),
+        [] => Span { start: 0, end: 0 },
+    }
+}
+
+// Where a type and a name stand, which come first.
+fn heading_of(ts: &[Token]) -> Heading {
+    let behind = match ts {
+        [_, behind @ ..] => behind,
+        [] => ts,
+    };
+    Heading {
+        ty: front(ts),
+        name: front(behind),
+    }
+}
+
+// How many bytes a token of the form has.
+fn token_len(lexeme: Lexeme) -> u32 {
+    match lexeme {
+        Lexeme::Name(text) => told(text.len()),
+        Lexeme::Number(number) => digits(number),
+        Lexeme::Int => 3,
+        Lexeme::Return => 6,
+        Lexeme::Mark(_) => 1,
+        Lexeme::Other | Lexeme::End => 0,
+    }
+}
+
+// How many digits a number has.
+fn digits(number: u32) -> u32 {
+    match number {
+        0..=9 => 1,
+        10..=99 => 2,
+        100..=999 => 3,
+        1000..=9999 => 4,
+        10000..=99999 => 5,
+        100000..=999999 => 6,
+        1000000..=9999999 => 7,
+        10000000..=99999999 => 8,
+        100000000..=999999999 => 9,
+        1000000000.. => 10,
+    }
 }
 
 #[cfg(test)]
@@ -477,9 +624,25 @@ mod tests {
         assert!(rt;
             unit.globals.len() == 1 && unit.globals[0].name.bytes.as_slice() == b"x".as_slice()
         );
-        assert!(rt; unit.dispatch.params.len() == 3 && unit.dispatch.body.stmts.len() == 1);
-        let Stmt::Assign { place, value } = &unit.dispatch.body.stmts[0];
-        assert!(rt; place.number == 0 && matches!(value, Expr::Binary(BinaryOp::Sub, _, _)));
+        assert!(rt; unit.length == 75 && unit.functions.len() == 1);
+        let dispatch = &unit.functions[0];
+        assert!(rt; dispatch.params.len() == 3);
+        assert_eq!(rt; dispatch.name.span, Span { start: 11, end: 19 });
+        let Body::Code(code) = &dispatch.body else {
+            panic!(rt; "no code");
+        };
+        assert!(rt; code.stmts.len() == 1);
+        let Stmt::Assign {
+            span,
+            place: Expr::Var(place),
+            value: Expr::Binary(whole, BinaryOp::Sub, _, _),
+        } = &code.stmts[0]
+        else {
+            panic!(rt; "no difference");
+        };
+        assert!(rt; place.number == 0 && place.kind == Kind::Global);
+        assert_eq!(rt; *span, Span { start: 53, end: 63 });
+        assert_eq!(rt; *whole, Span { start: 57, end: 62 });
     }
 
     #[test]

@@ -1,5 +1,5 @@
 use Rattle.std.proofs.Common.{sym, subst}
-use Rattle.c0_tree.specs.View.{unit_view}
+use Rattle.c0_tree.specs.FirstView.{unit_view}
 use Rattle.cvm_shell.specs.declared.boot.Stop.{Stop}
 use Rattle.cvm_shell.specs.declared.refusal.Refusal.{Refusal}
 use Rattle.cvm_shell.specs.Outcome.{ComesTo, boot_refused}

@@ -1,5 +1,5 @@
 use Rattle.cvm_shell.proofs.KernelTurn.{start_is, finished_from, short_from, kernel_done, kernel_part, globals_inside, global_word}
-use Rattle.c0_tree.specs.View.{unit_view}
+use Rattle.c0_tree.specs.FirstView.{unit_view}
 use Rattle.cvm_shell.proofs.boot.run_kernel.Goals as goal
 
 pub returns-in_default-finish_turn-clause-ends : goal.returns-in_default-finish_turn-clause-ends

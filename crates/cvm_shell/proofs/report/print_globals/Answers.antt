@@ -1,7 +1,7 @@
 use Rattle.std.proofs.Common.{◌<◌, ◌∙◌, length, map, ap, arith}
 use Rattle.std.proofs.lemmas.Result.{err_from_is_err_and}
 use Rattle.std.proofs.lemmas.List.{length-map}
-use Rattle.c0_tree.specs.View.{decl_view}
+use Rattle.c0_tree.specs.FirstView.{decl_view}
 use Rattle.cvm_shell.proofs.GlobalRows.{Round, round_more, round_part}
 use Rattle.cvm_shell.proofs.report.print_globals.Goals as goal
 

@@ -1,6 +1,6 @@
 use Rattle.std.proofs.Common.{◌≡◌, take}
 use Rattle.std.specs.Io.KnownBytes.{append_known}
-use Rattle.c0_tree.specs.View.{unit_view}
+use Rattle.c0_tree.specs.FirstView.{unit_view}
 use Rattle.first_code.specs.Meaning.{final_values}
 use Rattle.cvm_shell.specs.Text.{globals_text}
 use Rattle.cvm_shell.proofs.report.print_globals.Given as goal

@@ -2,7 +2,7 @@ use Rattle.std.proofs.Common.{◌++◌}
 use Rattle.std.specs.Prelude.{codes}
 use Rattle.std.proofs.lemmas.Result.{err_from_is_err_and}
 use Rattle.cvm_outside.proofs.Parts.{part-front}
-use Rattle.c0_tree.specs.View.{unit_view}
+use Rattle.c0_tree.specs.FirstView.{unit_view}
 use Rattle.first_code.specs.Meaning.{final_values}
 use Rattle.cvm_shell.specs.Cvm.{halted}
 use Rattle.cvm_shell.specs.Text.{row_text, globals_text}

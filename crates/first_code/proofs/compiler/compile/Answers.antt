@@ -1,6 +1,6 @@
 -- The words stand before the globals, and their run is what the kernel means, as the law says of every kernel.
 use Rattle.std.proofs.Common.{rules, ◌≡◌, length, arith, ap}
-use Rattle.c0_tree.specs.View.{unit_view}
+use Rattle.c0_tree.specs.FirstView.{unit_view}
 use Rattle.first_code.specs.Code.{linked, words_of}
 use Rattle.first_code.proofs.Start.{linked_length}
 use Rattle.first_code.proofs.compiler.compile.Goals as goal

@@ -3,7 +3,7 @@ use Rattle.std.specs.Prelude.{drop}
 use Rattle.std.specs.List.{AllByRecursion}
 use Rattle.std.proofs.Common.{◌≡◌, ◌+◌, ◌*◌, ◌≤◌, length, map}
 use Rattle.c0_tree.specs.First.{IsFirstAssign}
-use Rattle.c0_tree.specs.View.{stmt_view, unit_view}
+use Rattle.c0_tree.specs.FirstView.{stmt_view, unit_view}
 use Rattle.first_code.specs.Code.{kernel_code, words_of}
 use Rattle.first_code.proofs.count.kernel_words.Given as goal
 

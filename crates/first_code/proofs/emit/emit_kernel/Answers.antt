@@ -1,6 +1,6 @@
 -- The next statement is one of the kernel's, so its words have their encodings.
 use Rattle.std.proofs.Common.{length}
-use Rattle.c0_tree.specs.View.{unit_view}
+use Rattle.c0_tree.specs.FirstView.{unit_view}
 use Rattle.first_code.proofs.Emitted.{next_placed}
 use Rattle.first_code.proofs.emit.emit_kernel.Goals as goal
 

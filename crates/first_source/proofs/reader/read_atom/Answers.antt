@@ -1,7 +1,7 @@
 -- A number, or the name of a visible global.
 use Rattle.std.proofs.Common.{ap, ◌∙◌}
 use Rattle.std.proofs.lemmas.Result.{err_from_is_err_and}
-use Rattle.c0_tree.specs.Tree as tree
+use Rattle.c0_tree.specs.FirstTree as tree
 use Rattle.first_source.specs.Lexis.{name, number}
 use Rattle.first_source.specs.Form.{variable, literal}
 use Rattle.first_source.specs.Parts.{scope_of}

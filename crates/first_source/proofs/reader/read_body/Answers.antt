@@ -1,7 +1,7 @@
 -- A turn of the loop reads one assignment.
 use Rattle.std.proofs.Common.{rules, ◌≡◌, ◌<◌, List, [], ◌∷◌, ◌++◌, length, map, refl, sym, ap, ◌∙◌, arith, length-append, false}
 use Rattle.std.proofs.lemmas.Result.{err_from_is_err_and}
-use Rattle.c0_tree.specs.View.{stmt_view}
+use Rattle.c0_tree.specs.FirstView.{stmt_view}
 use Rattle.first_source.specs.Lexis.{return_word, name}
 use Rattle.first_source.specs.Tokens.{lexeme_view}
 use Rattle.first_source.specs.Form.{Assignment, Source}
@@ -77,7 +77,7 @@ statements-preserved c =
     let a : Assignment = record { place = n.0; first = v.0; steps = v.1 } in (
       i.0 ++ a ∷ [],
       record {
-        stmts = stmts_more s.globals c.statements.stmts.items c.push.new.self.items c.in_ok-place.place c.in_ok-value.value i.0 a c.in_ok-push.ensures.items i.1.stmts n.3 v.2;
+        stmts = stmts_more s.globals c.statements.stmts.items c.push.new.self.items _ _ _ i.0 a c.in_ok-push.ensures.items c.assignment.ensures i.1.stmts n.3 v.2;
         few = omega (arith, few, length-append i.0 (a ∷ []));
         same = i.1.same
             ∙ led c.in_ok-token.token c.statements.rest.now c.in_ok-token.behind.now (name n.0) (at_statement (with_done s i.0)) (after_place (with_done s i.0) n.0) c.in_ok-token.ensures n.1 (place_follows s i.0 n.0 few n.2)

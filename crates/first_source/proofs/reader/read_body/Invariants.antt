@@ -1,6 +1,6 @@
 -- The assignments so far, and the stage behind them.
 use Rattle.std.proofs.Common.{◌≡◌, ◌≤◌, List, length, map}
-use Rattle.c0_tree.specs.View.{stmt_view}
+use Rattle.c0_tree.specs.FirstView.{stmt_view}
 use Rattle.first_source.specs.Form.{Assignment}
 use Rattle.first_source.specs.Reading.{assignment_tree}
 use Rattle.first_source.specs.Stages.{in_head, brace, at_statement, run}

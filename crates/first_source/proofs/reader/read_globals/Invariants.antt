@@ -1,6 +1,6 @@
 -- The globals so far, and the stage behind a further int.
 use Rattle.std.proofs.Common.{◌≡◌, ◌≤◌, [], length, map}
-use Rattle.c0_tree.specs.View.{decl_view}
+use Rattle.c0_tree.specs.FirstView.{decl_view}
 use Rattle.first_source.specs.Reading.{named}
 use Rattle.first_source.specs.Stages.{at_item, after_int, run}
 use Rattle.first_source.specs.Parts.{seen, texts}

@@ -5,9 +5,8 @@ use Rattle.first_source.specs.Form.{Atom, Step, Assignment}
 use Rattle.first_source.specs.Stages.{after_place, after_equals, after_atom, after_operator, of_first, with_step}
 use Rattle.first_source.specs.Parts.{seen, scope_of, with_done}
 use Rattle.first_source.proofs.Turns.{fails_on}
-use Rattle.first_source.proofs.Parts.{is_minus, operator_led, value_more}
+use Rattle.first_source.proofs.Parts.{is_minus, operator_sum, operator_led, value_more}
 use Rattle.first_source.proofs.reader.read_value.Goals as goal
-use Rattle.first_source.proofs.reader.read_value.Goals.{in-Var-4, in-Binary-4, in-Num-4}
 
 -- an assignment's parts so far
 abbrev so_far : List ℕ → Atom → List Step → Assignment
@@ -72,7 +71,7 @@ operators-preserved c =
       record {
         count = omega (arith, longer, i.2.count);
         few = omega (arith, longer, few);
-        value = value_more (scope_of c.args.scope).globals i.0 i.1 c.in-Some.op _ _ _ r.0 c.in_ok-value-2.ensures i.2.value r.1;
+        value = value_more (scope_of c.args.scope).globals i.0 i.1 c.in-Some.op _ _ _ r.0 (operator_sum _ c.in_ok-op.field-0 c.in-Some.op c.in_ok-op.ensures c.in-Some.is) c.in_ok-value-2.ensures i.2.value r.1;
         same = λ (done : List Assignment) (place : List ℕ).
             let s = with_done (scope_of c.args.scope) done in
             let a = so_far place i.0 i.1 in

@@ -1,6 +1,6 @@
 -- The operands so far, and the stage behind them.
 use Rattle.std.proofs.Common.{ℕ, ◌≡◌, ◌<◌, ◌≤◌, List, length}
-use Rattle.c0_tree.specs.View.{expr_view}
+use Rattle.c0_tree.specs.FirstView.{expr_view}
 use Rattle.first_source.specs.Form.{Atom, Step, Assignment}
 use Rattle.first_source.specs.Reading.{atom_tree, chain_tree}
 use Rattle.first_source.specs.Stages.{after_place, after_atom, run}
