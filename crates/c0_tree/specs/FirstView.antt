@@ -1,5 +1,5 @@
--- What contracts of the first path see of the tree. Spans and kinds are left out; whatever is no part of such a kernel is seen as
--- an expression of another kind, so a tree that has the form in this view has nothing else in it.
+-- What contracts of the first path see of the tree. Spans, kinds and types are left out. A struct, a local, a second function, an asm
+-- body, and a statement or an expression that is no part of such a kernel are seen as an expression of another kind.
 use Rattle.std.specs.Prelude.{List, [], ◌∷◌, map}
 use Rattle.c0_tree.specs.FirstTree.{CName, CExpr, number, variable, sum, difference, other, CAssign, CUnit}
 use Rattle.c0_tree.specs.declared.tree.Name.{Name}

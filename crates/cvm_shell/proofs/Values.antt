@@ -5,7 +5,7 @@ use Rattle.std.specs.Int.{w32, cast_signed, cast_unsigned}
 use Rattle.std.specs.List.{AllByRecursion}
 use Rattle.std.proofs.lemmas.Int.{SFits-int_wrap, to_z-of_z}
 use Rattle.std.proofs.lemmas.List.{length-set, length-replicate}
-use Rattle.c0_tree.specs.FirstTree.{CExpr, number, variable, sum, difference, CAssign, CUnit}
+use Rattle.c0_tree.specs.FirstTree.{CExpr, number, variable, sum, difference, other, CAssign, CUnit}
 use Rattle.c0_tree.specs.First.{IsResolved, IsFirst, IsFirstAssign}
 use Rattle.first_code.specs.Meaning.{value, executed, start_values, final_values}
 
@@ -18,6 +18,7 @@ value_fits count vs fit (number n) h = record { sfits = h }
 value_fits count vs fit (variable x) h = fit x.number
 value_fits count vs fit (sum a b) h = SFits-int_wrap w32 _
 value_fits count vs fit (difference a b) h = SFits-int_wrap w32 _
+value_fits count vs fit other h = absurd h
 
 set_fits : (vs : List ℤ) (i : ℕ) (v : ℤ) → Fit vs → FitsSigned w32 v → Fit (slice_set vs i v)
 set_fits [] i v fit h k = fit k
