@@ -77,6 +77,7 @@ impl Machine {
         ensures off { IfSome self.old.off (λ word. (result ≡ Ok (Event.Off word)) × (self.new ≡ self.old) × (disk.new ≡ disk.old)) }
         ensures rows { self.new.rows ≡ self.old.rows }
         ensures viewed { self.new.viewed ≡ self.old.viewed }
+        ensures memory { length self.new.memory ≡ length self.old.memory }
         ensures sector { NamesSector (D.size disk.new) self.new.ports.pending }
         ensures size { D.size disk.new ≡ D.size disk.old }
         ensures count { Counts (D.faults disk.old) (D.faults disk.new) result }
