@@ -4,7 +4,7 @@ ghost use Rattle.cvm_outside.specs.Causes.{Counts};
 ghost use Rattle.cvm_outside.specs.Told.{Tells, sector_of};
 ghost use Rattle.mips_runs.specs.Fits.{NamesSector};
 ghost use Rattle.mips_runs.specs.Machine.{start};
-ghost use Rattle.mips_machine.specs.Machine.{Held, state_of};
+ghost use Rattle.mips_machine.specs.Machine.{started, state_of};
 ghost use Rattle.mips_machine.specs.Steps.{Steps, Fails};
 
 use crate::event::Event;
@@ -50,8 +50,7 @@ impl Machine {
         requires some { 1 ≤ frames }
         requires few { frames ≤ 65000 }
         ensures state { IfOk result (λ m. (sectors : List (List ℕ)) → state_of m sectors ≡ start (replicate (1024 * frames) 0) sectors) }
-        ensures rows { IfOk result (λ m. m.rows ≡ schedule) }
-        ensures viewed { IfOk result (λ m. m.viewed ≡ replicate 1024 0) }
+        ensures held { IfOk result (λ m. m ≡ started frames schedule) }
     {
         Ok(Machine {
             hardware: Hardware::new(alloc, frames)?,
