@@ -79,7 +79,7 @@ module _ (x : Outside) (h : Hardware) (on : h.off ≡ None) (time : ℕ) (sector
           let kept : PortWrite = record { address = address; value = value } in
           let same : w ≡ kept = let k = ap (λ c. c.asked) e in cc in
           let there : state_in new time sectors ≡ sent x (record s { pc = pc; regs = regs }) (address / 4) value =
-            is ∙ ap (λ c. sent x (state_in (with_board h (record { pc = pc; regs = regs }) c) time sectors) (w.address / 4) w.value) e ∙ ap (λ (v : PortWrite). sent x (record s { pc = pc; regs = regs }) (v.address / 4) v.value) same in
+          is ∙ ap (λ c. sent x (state_in (with_board h (record { pc = pc; regs = regs }) c) time sectors) (w.address / 4) w.value) e ∙ ap (λ (v : PortWrite). sent x (record s { pc = pc; regs = regs }) (v.address / 4) v.value) same in
           let after : state_in new time sectors ≡ record (sent x s (address / 4) value) { pc = pc; regs = regs } = there ∙ sent_with x s pc regs (address / 4) value in
           record { state = after; event = t ∙ ap (λ v. event_by v.off) after }
 
@@ -151,7 +151,7 @@ module _ (x : Outside) (h : Hardware) (on : h.off ≡ None) (time : ℕ) (sector
       let here : with_board h end.core b ≡ h = ap (λ (v : End). with_board h v.core b) e.0 ∙ ap (λ (v : Board). with_board h (record { pc = epc; regs = h.regs }) v) e.1 ∙ ap (λ (v : ℕ). record h { pc = v }) is.1 in
       let g = subst State_of here c in
       let coming : moved x s (Asked word) ≡ moved x s (Trapped why what epc) =
-        no_instruction word (ap decoding d ∙ is.0) ∙ ap (λ v. Interrupt causes.Illegal v h.pc) d ∙ ap (λ v. Interrupt causes.Illegal what v) (sym is.1) ∙ ap (λ v. Interrupt v what epc) (sym w) in
+      no_instruction word (ap decoding d ∙ is.0) ∙ ap (λ v. Interrupt causes.Illegal v h.pc) d ∙ ap (λ v. Interrupt causes.Illegal what v) (sym is.1) ∙ ap (λ v. Interrupt v what epc) (sym w) in
       subst (λ v. Comes s v (state_in new time sectors) told) coming g
   illegal (Asked what) end b word new told p e o c =
       let outcomes : Trap causes.Illegal word ≡ Trap causes.Illegal what = sym o ∙ ap (λ v. v.outcome) e.0 in

@@ -76,43 +76,43 @@ module _ (start lit acted left : Hardware) (rows : Rows) (time lines count : ℕ
     (comes : (x : Outside) (t : ℕ) (sectors : List (List ℕ)) → Gives rows count x → Comes (state_in lit t sectors) (chosen x (state_in lit t sectors)) (state_in acted t sectors) told_event)
     (ends : left ≡ record acted { ports = left.ports; buffer = left.buffer })
   where
-  is_latched : (x : Outside) → Gives rows count x → (sectors : List (List ℕ)) → state_in lit time sectors ≡ latched x (state_in start time sectors)
-  is_latched x g sectors =
-      ap (λ (h : Hardware). state_in h time sectors) latches ∙ ap (λ m. state_in (record start { mask = bit_or start.mask m }) time sectors) (raised ∙ ap (λ f. f time) (sym g.lines))
+    is_latched : (x : Outside) → Gives rows count x → (sectors : List (List ℕ)) → state_in lit time sectors ≡ latched x (state_in start time sectors)
+    is_latched x g sectors =
+        ap (λ (h : Hardware). state_in h time sectors) latches ∙ ap (λ m. state_in (record start { mask = bit_or start.mask m }) time sectors) (raised ∙ ap (λ f. f time) (sym g.lines))
 
-  comes_latched : (x : Outside) → Gives rows count x → (sectors : List (List ℕ)) →
-      Comes (latched x (state_in start time sectors)) (chosen x (latched x (state_in start time sectors))) (state_in acted time sectors) told_event
-  comes_latched x g sectors = subst (λ (v : State). Comes v (chosen x v) (state_in acted time sectors) told_event) (is_latched x g sectors) (comes x time sectors g)
+    comes_latched : (x : Outside) → Gives rows count x → (sectors : List (List ℕ)) →
+        Comes (latched x (state_in start time sectors)) (chosen x (latched x (state_in start time sectors))) (state_in acted time sectors) told_event
+    comes_latched x g sectors = subst (λ (v : State). Comes v (chosen x v) (state_in acted time sectors) told_event) (is_latched x g sectors) (comes x time sectors g)
 
-  step_is : (x : Outside) → Gives rows count x → (sectors : List (List ℕ)) → step x (state_in start time sectors) ≡ ended (state_in acted time sectors)
-  step_is x g sectors = on_step x (state_in start time sectors) (state_in acted time sectors) on (comes_latched x g sectors).state
+    step_is : (x : Outside) → Gives rows count x → (sectors : List (List ℕ)) → step x (state_in start time sectors) ≡ ended (state_in acted time sectors)
+    step_is x g sectors = on_step x (state_in start time sectors) (state_in acted time sectors) on (comes_latched x g sectors).state
 
-  -- the disk answered
-  pub steps : (told retold : Option (List (List ℕ))) → EndsStep count acted.ports left.ports acted.buffer left.buffer told retold → Steps count (held start rows time) (held left rows (time + 1)) told retold told_event
-  steps told retold e =
-      let d : Device = device_of acted.ports acted.buffer e.sectors in
-      let there : state_in left (time + 1) (counted d).sectors ≡ ended (state_in acted time e.sectors) =
+    -- the disk answered
+    pub steps : (told retold : Option (List (List ℕ))) → EndsStep count acted.ports left.ports acted.buffer left.buffer told retold → Steps count (held start rows time) (held left rows (time + 1)) told retold told_event
+    steps told retold e =
+        let d : Device = device_of acted.ports acted.buffer e.sectors in
+        let there : state_in left (time + 1) (counted d).sectors ≡ ended (state_in acted time e.sectors) =
         ap (λ (h : Hardware). state_in h (time + 1) (counted d).sectors) ends ∙ ap (λ (v : Device). record (state_in acted (time + 1) (counted d).sectors) { device = v }) e.device in
-      record {
-        sectors = e.sectors;
-        many = e.many;
-        given = e.given;
-        state = λ x g. subst (λ (v : State). state_of (held left rows (time + 1)) v.device.sectors ≡ v) (sym (step_is x g e.sectors)) there;
-        left = λ x g. e.left ∙ ap (λ (v : State). option_map (λ _. v.device.sectors) told) (sym (step_is x g e.sectors));
-        event = λ x g. on_event x (state_in start time e.sectors) told_event on (comes_latched x g e.sectors).event;
-      }
+        record {
+          sectors = e.sectors;
+          many = e.many;
+          given = e.given;
+          state = λ x g. subst (λ (v : State). state_of (held left rows (time + 1)) v.device.sectors ≡ v) (sym (step_is x g e.sectors)) there;
+          left = λ x g. e.left ∙ ap (λ (v : State). option_map (λ _. v.device.sectors) told) (sym (step_is x g e.sectors));
+          event = λ x g. on_event x (state_in start time e.sectors) told_event on (comes_latched x g e.sectors).event;
+        }
 
-  -- the disk failed
-  pub fails : (told retold : Option (List (List ℕ))) → ((sectors : List (List ℕ)) → left.ports ≡ ports_of (counted (device_of acted.ports acted.buffer sectors))) →
-      TransferFails acted.ports.pending acted.buffer left.buffer told retold → Fails count (held start rows time) (held left rows (time + 1)) told retold
-  fails told retold ports f = record {
-    state = λ x g sectors.
-      let d : Device = device_of acted.ports acted.buffer sectors in
-      let new : Held = held left rows (time + 1) in
-      let there : state_of (record new { buffer = (counted d).buffer }) (counted d).sectors ≡ ended (state_in acted time sectors) =
-        ap (λ (h : Hardware). record (state_in h (time + 1) (counted d).sectors) { device = device_of left.ports (counted d).buffer (counted d).sectors }) ends
-        ∙ ap (λ p. record (state_in acted (time + 1) (counted d).sectors) { device = device_of p (counted d).buffer (counted d).sectors }) (ports sectors) in
-      subst (λ (v : State). state_of (record new { buffer = v.device.buffer }) v.device.sectors ≡ v) (sym (step_is x g sectors)) there;
-    disk = λ x g sectors.
-      subst (λ (v : Device). TransferFails v.pending v.buffer left.buffer told retold) (sym (before_is x (state_in start time sectors) (state_in acted time sectors) (comes_latched x g sectors).state)) f;
-  }
+    -- the disk failed
+    pub fails : (told retold : Option (List (List ℕ))) → ((sectors : List (List ℕ)) → left.ports ≡ ports_of (counted (device_of acted.ports acted.buffer sectors))) →
+        TransferFails acted.ports.pending acted.buffer left.buffer told retold → Fails count (held start rows time) (held left rows (time + 1)) told retold
+    fails told retold ports f = record {
+      state = λ x g sectors.
+          let d : Device = device_of acted.ports acted.buffer sectors in
+          let new : Held = held left rows (time + 1) in
+          let there : state_of (record new { buffer = (counted d).buffer }) (counted d).sectors ≡ ended (state_in acted time sectors) =
+          ap (λ (h : Hardware). record (state_in h (time + 1) (counted d).sectors) { device = device_of left.ports (counted d).buffer (counted d).sectors }) ends
+          ∙ ap (λ p. record (state_in acted (time + 1) (counted d).sectors) { device = device_of p (counted d).buffer (counted d).sectors }) (ports sectors) in
+          subst (λ (v : State). state_of (record new { buffer = v.device.buffer }) v.device.sectors ≡ v) (sym (step_is x g sectors)) there;
+      disk = λ x g sectors.
+          subst (λ (v : Device). TransferFails v.pending v.buffer left.buffer told retold) (sym (before_is x (state_in start time sectors) (state_in acted time sectors) (comes_latched x g sectors).state)) f;
+    }

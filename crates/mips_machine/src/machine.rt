@@ -34,8 +34,20 @@ impl Model for Machine {
 
     ghost Value = { Held };
 
-    ghost view = { λ m. record { pc = m.hardware.pc; regs = m.hardware.regs; special = m.hardware.special; memory = m.hardware.memory; ports = m.hardware.ports; buffer = m.hardware.buffer;
-        mask = m.hardware.mask; reset = m.hardware.reset; off = m.hardware.off; time = m.steps; rows = m.schedule; viewed = m.hardware.viewed } };
+    ghost view = { λ m. record {
+      pc = m.hardware.pc;
+      regs = m.hardware.regs;
+      special = m.hardware.special;
+      memory = m.hardware.memory;
+      ports = m.hardware.ports;
+      buffer = m.hardware.buffer;
+      mask = m.hardware.mask;
+      reset = m.hardware.reset;
+      off = m.hardware.off;
+      time = m.steps;
+      rows = m.schedule;
+      viewed = m.hardware.viewed;
+    } };
 
     ghost invariant = { λ m. IsNextAt m.schedule m.next_line m.steps × (m.hardware.ports.commands ≤ m.steps) };
 }

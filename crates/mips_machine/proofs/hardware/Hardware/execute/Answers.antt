@@ -18,7 +18,7 @@ write_port-requires-clause-room c =
     let h : Hardware = record { pc = i.cpu.pc; regs = i.cpu.regs; special = i.board.special; memory = i.board.memory; ports = i.board.ports; buffer = i.board.buffer; viewed = i.board.viewed; mask = i.mask; reset = i.reset; off = i.off } in
     let end : End = record { outcome = c.instruct.result; core = record { pc = c.instruct.new.cpu.pc; regs = c.instruct.new.cpu.regs } } in
     let ports : c.take_asked.new.self.ports ≡ c.args.self.now.ports =
-      ap (λ (b : Board). b.ports) c.take_asked.ensures.board ∙ (leaves (core_of h) i.board c.instruct.new.board end c.instruct.ensures).ports ∙ ap (λ (v : Hardware). v.ports) c.self.view_is in
+    ap (λ (b : Board). b.ports) c.take_asked.ensures.board ∙ (leaves (core_of h) i.board c.instruct.new.board end c.instruct.ensures).ports ∙ ap (λ (v : Hardware). v.ports) c.self.view_is in
     subst (λ (p : Ports). p.commands < 2 ^ 64 - 1) (sym ports) c.requires.room
 
 pub invariant_of-self-in-Illegal : goal.invariant_of-self-in-Illegal
@@ -113,10 +113,10 @@ returns-in_default c =
     let l = leaves (core_of h) i.board c.instruct.new.board end c.instruct.ensures in
     record {
       comes = λ x time sectors g.
-        let P : Hardware → Type 0 = λ v. Comes (state_in v time sectors) (instructed x (state_in v time sectors)) (state_in c.interrupt.new.self time sectors) c.interrupt.result in
-        subst P c.self.view_is (trapped_is x h on time sectors i.board same end c.instruct.new.board c.instruct.ensures c.in-Trap.cause c.in-Trap.edata c.interrupt.new.self c.interrupt.result c.in-Trap.is c.in_default.not-Illegal c.interrupt.ensures.hardware c.interrupt.ensures.event);
+          let P : Hardware → Type 0 = λ v. Comes (state_in v time sectors) (instructed x (state_in v time sectors)) (state_in c.interrupt.new.self time sectors) c.interrupt.result in
+          subst P c.self.view_is (trapped_is x h on time sectors i.board same end c.instruct.new.board c.instruct.ensures c.in-Trap.cause c.in-Trap.edata c.interrupt.new.self c.interrupt.result c.in-Trap.is c.in_default.not-Illegal c.interrupt.ensures.hardware c.interrupt.ensures.event);
       keeps = keeps_same c.args.count c.args.self.now c.interrupt.new.self
-        (ap (λ (v : Hardware). length v.memory) c.interrupt.ensures.hardware ∙ l.memory ∙ ap (λ (v : Hardware). length v.memory) c.self.view_is)
-        (ap (λ (v : Hardware). v.ports) c.interrupt.ensures.hardware ∙ l.ports ∙ ap (λ (v : Hardware). v.ports) c.self.view_is)
-        (ap (λ (v : Hardware). v.viewed) c.interrupt.ensures.hardware ∙ l.viewed ∙ ap (λ (v : Hardware). v.viewed) c.self.view_is);
+          (ap (λ (v : Hardware). length v.memory) c.interrupt.ensures.hardware ∙ l.memory ∙ ap (λ (v : Hardware). length v.memory) c.self.view_is)
+          (ap (λ (v : Hardware). v.ports) c.interrupt.ensures.hardware ∙ l.ports ∙ ap (λ (v : Hardware). v.ports) c.self.view_is)
+          (ap (λ (v : Hardware). v.viewed) c.interrupt.ensures.hardware ∙ l.viewed ∙ ap (λ (v : Hardware). v.viewed) c.self.view_is);
     }

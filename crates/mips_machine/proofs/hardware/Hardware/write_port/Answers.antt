@@ -13,7 +13,7 @@ returns-clause-keeps c =
     let b : Board = c.self.inside.board in
     let busy : ℕ → ℕ = λ _. c.busy_of-busy.result in
     let numbered : c.write_port.new.self.ports.commands ≤ b.ports.commands + 1 =
-      rw (ap (λ (d : Device). d.commands) (c.write_port.ensures.device [] busy refl)) (write_numbers busy c.args.count (device_of b.ports b.buffer []) (c.args.write.address / 4) c.args.write.value) in
+    rw (ap (λ (d : Device). d.commands) (c.write_port.ensures.device [] busy refl)) (write_numbers busy c.args.count (device_of b.ports b.buffer []) (c.args.write.address / 4) c.args.write.value) in
     record {
       memory = ap (λ (v : Board). length v.memory) c.write_port.ensures.board ∙ ap (λ (h : Hardware). length h.memory) c.self.view_is;
       viewed = ap (λ (v : Board). v.viewed) c.write_port.ensures.board ∙ ap (λ (h : Hardware). h.viewed) c.self.view_is;
