@@ -1,6 +1,6 @@
 -- What the processor's step says of a board is what comes of the machine's state: an instruction that ran, a write outside memory
 -- that is still to be done, a trap, and a word that may be an instruction on special registers.
-use Rattle.std.proofs.Common.{◌≡◌, ℕ, ◌+◌, ◌/◌, ◌≤◌, Bool, true, false, cond, Option, Some, None, List, length, refl, sym, ap, ◌∙◌, subst, arith}
+use Rattle.std.proofs.Common.{◌≡◌, ℕ, ◌+◌, ◌/◌, ◌≤◌, Bool, true, false, cond, Option, Some, None, List, length, refl, sym, ap, ◌∙◌, subst, arith, length-set}
 use Rattle.std.specs.Prelude.{◌==◌, nat_lt, slice_set, if◌then◌else◌}
 use Rattle.mips_table.specs.declared.cause.Cause.{Cause}
 use Rattle.mips_table.specs.declared.cause.Cause.TheVariants as causes
@@ -79,7 +79,7 @@ module _ (x : Outside) (h : Hardware) (on : h.off ≡ None) (time : ℕ) (sector
           let kept : PortWrite = record { address = address; value = value } in
           let same : w ≡ kept = let k = ap (λ c. c.asked) e in cc in
           let there : state_in new time sectors ≡ sent x (record s { pc = pc; regs = regs }) (address / 4) value =
-            is ∙ ap (λ c. sent x (state_in (with_board h (record { pc = pc; regs = regs }) c) time sectors) (w.address / 4) w.value) e ∙ ap (λ (v : PortWrite). sent x (record s { pc = pc; regs = regs }) (v.address / 4) v.value) same in
+          is ∙ ap (λ c. sent x (state_in (with_board h (record { pc = pc; regs = regs }) c) time sectors) (w.address / 4) w.value) e ∙ ap (λ (v : PortWrite). sent x (record s { pc = pc; regs = regs }) (v.address / 4) v.value) same in
           let after : state_in new time sectors ≡ record (sent x s (address / 4) value) { pc = pc; regs = regs } = there ∙ sent_with x s pc regs (address / 4) value in
           record { state = after; event = t ∙ ap (λ v. event_by v.off) after }
 
@@ -151,7 +151,7 @@ module _ (x : Outside) (h : Hardware) (on : h.off ≡ None) (time : ℕ) (sector
       let here : with_board h end.core b ≡ h = ap (λ (v : End). with_board h v.core b) e.0 ∙ ap (λ (v : Board). with_board h (record { pc = epc; regs = h.regs }) v) e.1 ∙ ap (λ (v : ℕ). record h { pc = v }) is.1 in
       let g = subst State_of here c in
       let coming : moved x s (Asked word) ≡ moved x s (Trapped why what epc) =
-        no_instruction word (ap decoding d ∙ is.0) ∙ ap (λ v. Interrupt causes.Illegal v h.pc) d ∙ ap (λ v. Interrupt causes.Illegal what v) (sym is.1) ∙ ap (λ v. Interrupt v what epc) (sym w) in
+      no_instruction word (ap decoding d ∙ is.0) ∙ ap (λ v. Interrupt causes.Illegal v h.pc) d ∙ ap (λ v. Interrupt causes.Illegal what v) (sym is.1) ∙ ap (λ v. Interrupt v what epc) (sym w) in
       subst (λ v. Comes s v (state_in new time sectors) told) coming g
   illegal (Asked what) end b word new told p e o c =
       let outcomes : Trap causes.Illegal word ≡ Trap causes.Illegal what = sym o ∙ ap (λ v. v.outcome) e.0 in
@@ -185,24 +185,25 @@ module _ (x : Outside) (h : Hardware) (on : h.off ≡ None) (time : ℕ) (sector
   unfolding instructed asked
   illegal_is word new told o c = illegal x h on time sectors (move (shown (board_of h)) h.pc h.regs) end b word new told (move_traps (shown (board_of h)) h.pc h.regs) moves o c
 
--- what an instruction leaves of a board: a store changes neither the ports nor what is viewed
+-- what an instruction leaves of a board: a store changes neither the ports nor what is viewed, nor how many words there are
 pub record Leaves (old new : Board) : Type 0 where
+  pub memory : length new.memory ≡ length old.memory
   pub ports : new.ports ≡ old.ports
   pub viewed : new.viewed ≡ old.viewed
 
 store_leaves : (old new : Board) (value : ℕ) (o : Option ℕ) → new ≡ stored_at old o value → Leaves old new
-store_leaves old new value None e = record { ports = ap (λ b. b.ports) e; viewed = ap (λ b. b.viewed) e }
+store_leaves old new value None e = record { memory = ap (λ b. length b.memory) e; ports = ap (λ b. b.ports) e; viewed = ap (λ b. b.viewed) e }
 store_leaves old new value (Some address) e = by_place (nat_lt (address / 4) (length old.memory)) e
   where
     by_place : (c : Bool) → new ≡ cond c (record old { memory = slice_set old.memory (address / 4) value }) (record old { asked = Some (record { address = address; value = value }) }) → Leaves old new
-    by_place true e = record { ports = ap (λ b. b.ports) e; viewed = ap (λ b. b.viewed) e }
-    by_place false e = record { ports = ap (λ b. b.ports) e; viewed = ap (λ b. b.viewed) e }
+    by_place true e = record { memory = ap (λ b. length b.memory) e ∙ length-set old.memory (address / 4) value; ports = ap (λ b. b.ports) e; viewed = ap (λ b. b.viewed) e }
+    by_place false e = record { memory = ap (λ b. length b.memory) e; ports = ap (λ b. b.ports) e; viewed = ap (λ b. b.viewed) e }
 
 move_leaves : (core : Core) (old new : Board) (m : Move) (end : End) → Ends Writes core old m end new → Leaves old new
-move_leaves core old new (Ran pc regs) end e = record { ports = ap (λ b. b.ports) e.1; viewed = ap (λ b. b.viewed) e.1 }
+move_leaves core old new (Ran pc regs) end e = record { memory = ap (λ b. length b.memory) e.1; ports = ap (λ b. b.ports) e.1; viewed = ap (λ b. b.viewed) e.1 }
 move_leaves core old new (Stored pc regs address value) end e = store_leaves old new value (located (around old) true address) e.1
-move_leaves core old new (Trapped cause edata epc) end e = record { ports = ap (λ b. b.ports) e.1; viewed = ap (λ b. b.viewed) e.1 }
-move_leaves core old new (Asked word) end e = record { ports = ap (λ b. b.ports) e.1; viewed = ap (λ b. b.viewed) e.1 }
+move_leaves core old new (Trapped cause edata epc) end e = record { memory = ap (λ b. length b.memory) e.1; ports = ap (λ b. b.ports) e.1; viewed = ap (λ b. b.viewed) e.1 }
+move_leaves core old new (Asked word) end e = record { memory = ap (λ b. length b.memory) e.1; ports = ap (λ b. b.ports) e.1; viewed = ap (λ b. b.viewed) e.1 }
 
 pub leaves : (core : Core) (old new : Board) (end : End) → Instructs core old end new → Leaves old new
 unfolding Instructs
@@ -220,15 +221,17 @@ unfolding Instructs
 traps_leave core old new end cause edata e o = trap_leaves core old new (move (shown old) core.pc core.regs) end cause edata e o
 
 -- ports and viewed words that stay are kept
-pub keeps_after : (count : ℕ) (old mid new : Hardware) → mid.ports ≡ old.ports → mid.viewed ≡ old.viewed → Keeps count mid new → Keeps count old new
-keeps_after count old mid new p v k = record {
+pub keeps_after : (count : ℕ) (old mid new : Hardware) → length mid.memory ≡ length old.memory → mid.ports ≡ old.ports → mid.viewed ≡ old.viewed → Keeps count mid new → Keeps count old new
+keeps_after count old mid new m p v k = record {
+  memory = k.memory ∙ m;
   viewed = k.viewed ∙ v;
   commands = subst (λ q. new.ports.commands ≤ q.commands + 1) p k.commands;
   sector = λ n. k.sector (subst (λ q. NamesSector count q.pending) (sym p) n);
 }
 
-pub keeps_same : (count : ℕ) (old new : Hardware) → new.ports ≡ old.ports → new.viewed ≡ old.viewed → Keeps count old new
-keeps_same count old new p v = record {
+pub keeps_same : (count : ℕ) (old new : Hardware) → length new.memory ≡ length old.memory → new.ports ≡ old.ports → new.viewed ≡ old.viewed → Keeps count old new
+keeps_same count old new m p v = record {
+  memory = m;
   viewed = v;
   commands = subst (λ q. q.commands ≤ old.ports.commands + 1) (sym p) (omega arith);
   sector = λ n. subst (λ q. NamesSector count q.pending) (sym p) n;

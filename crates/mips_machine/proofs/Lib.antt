@@ -3,3 +3,4 @@ pub mod Execute
 pub mod Parts
 pub mod Ports
 pub mod Traps
+pub mod Whole

@@ -1,5 +1,5 @@
 -- The machine but for its schedule and the number of its steps.
-use Rattle.std.specs.Prelude.{◌≡◌, ℕ, ◌+◌, ◌*◌, ◌≤◌, Bool, true, List, replicate, Option, Some, None, ◌==◌, if◌then◌else◌}
+use Rattle.std.specs.Prelude.{◌≡◌, ℕ, ◌+◌, ◌*◌, ◌≤◌, Bool, true, List, length, replicate, Option, Some, None, ◌==◌, if◌then◌else◌}
 use Rattle.mips_table.specs.Core.{Asked, move}
 use Rattle.mips_runs.specs.Device.{Outside, POWER, port_write}
 use Rattle.mips_runs.specs.Fits.{NamesSector}
@@ -85,6 +85,7 @@ pub record Comes (old : State) (coming : Coming) (new : State) (told : Event) : 
 
 -- what an instruction or an interrupt keeps, on a disk of so many sectors
 pub record Keeps (count : ℕ) (old new : Hardware) : Type 0 where
+  pub memory : length new.memory ≡ length old.memory
   pub viewed : new.viewed ≡ old.viewed
   pub commands : new.ports.commands ≤ old.ports.commands + 1
   pub sector : NamesSector count old.ports.pending → NamesSector count new.ports.pending

@@ -19,6 +19,23 @@ pub record Held : Type 0 where
   pub rows : Rows
   pub viewed : List ℕ
 
+-- a machine at its start: the reset is latched, and all else is 0; it has so many frames of memory
+abbrev pub started : ℕ → Rows → Held
+started frames rows = record {
+  pc = 0;
+  regs = replicate 32 0;
+  special = replicate 9 0;
+  memory = replicate (1024 * frames) 0;
+  ports = idle;
+  buffer = replicate 1024 0;
+  mask = 0;
+  reset = true;
+  off = None;
+  time = 0;
+  rows = rows;
+  viewed = replicate 1024 0;
+}
+
 -- the state, with these sectors
 abbrev pub state_of : Held → List (List ℕ) → State
 state_of held sectors = record {

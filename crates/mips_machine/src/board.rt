@@ -47,8 +47,14 @@ impl Model for Board {
 
     ghost Value = { Board };
 
-    ghost view = { λ b. record { special = b.special.regs; memory = take b.words b.frames; ports = b.disk; buffer = frame_of b.frames (b.words / 1024);
-        viewed = frame_of b.frames (b.words / 1024 + 1); asked = b.asked } };
+    ghost view = { λ b. record {
+      special = b.special.regs;
+      memory = take b.words b.frames;
+      ports = b.disk;
+      buffer = frame_of b.frames (b.words / 1024);
+      viewed = frame_of b.frames (b.words / 1024 + 1);
+      asked = b.asked;
+    } };
 
     ghost invariant = { λ b. (b.words ≡ 1024 * (b.words / 1024)) × (length b.frames ≡ b.words + 2048) };
 }
@@ -179,7 +185,8 @@ impl Board {
     fn read_port(&self, address: u32) -> u32
         ensures { result ≡ port_read (device_of self.now.ports self.now.buffer []) (address / 4) }
     {
-        self.disk.read_port(&self.frames, self.words / 1024, address)
+        self.disk
+            .read_port(&self.frames, self.words / 1024, address)
     }
 
     /// A write to a physical address: of memory it is done, and another one is kept.
@@ -280,8 +287,14 @@ impl Board {
     {
         a_frame_is_its_part();
         let buffer = self.words / 1024;
-        self.disk
-            .write_port(&mut self.frames, buffer, write.address, write.value, count, busy);
+        self.disk.write_port(
+            &mut self.frames,
+            buffer,
+            write.address,
+            write.value,
+            count,
+            busy,
+        );
     }
 
     /// The end of a step: the disk counts.

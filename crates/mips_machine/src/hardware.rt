@@ -40,8 +40,18 @@ impl Model for Hardware {
 
     ghost Value = { Hardware };
 
-    ghost view = { λ h. record { pc = h.cpu.pc; regs = h.cpu.regs; special = h.board.special; memory = h.board.memory; ports = h.board.ports; buffer = h.board.buffer; viewed = h.board.viewed;
-        mask = h.mask; reset = h.reset; off = h.off } };
+    ghost view = { λ h. record {
+      pc = h.cpu.pc;
+      regs = h.cpu.regs;
+      special = h.board.special;
+      memory = h.board.memory;
+      ports = h.board.ports;
+      buffer = h.board.buffer;
+      viewed = h.board.viewed;
+      mask = h.mask;
+      reset = h.reset;
+      off = h.off;
+    } };
 
     ghost invariant = { λ h. h.board.asked ≡ None };
 }

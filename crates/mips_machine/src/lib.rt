@@ -16,3 +16,5 @@ pub use event::Event;
 pub use machine::Machine;
 pub use mips_table::Cause;
 
+#[cfg(test)]
+mod tests;

@@ -4,7 +4,7 @@ ghost use Rattle.cvm_outside.specs.Causes.{Counts};
 ghost use Rattle.cvm_outside.specs.Told.{Tells, sector_of};
 ghost use Rattle.mips_runs.specs.Fits.{NamesSector};
 ghost use Rattle.mips_runs.specs.Machine.{start};
-ghost use Rattle.mips_machine.specs.Machine.{Held, state_of};
+ghost use Rattle.mips_machine.specs.Machine.{started, state_of};
 ghost use Rattle.mips_machine.specs.Steps.{Steps, Fails};
 
 use crate::event::Event;
@@ -34,8 +34,20 @@ impl Model for Machine {
 
     ghost Value = { Held };
 
-    ghost view = { λ m. record { pc = m.hardware.pc; regs = m.hardware.regs; special = m.hardware.special; memory = m.hardware.memory; ports = m.hardware.ports; buffer = m.hardware.buffer;
-        mask = m.hardware.mask; reset = m.hardware.reset; off = m.hardware.off; time = m.steps; rows = m.schedule; viewed = m.hardware.viewed } };
+    ghost view = { λ m. record {
+      pc = m.hardware.pc;
+      regs = m.hardware.regs;
+      special = m.hardware.special;
+      memory = m.hardware.memory;
+      ports = m.hardware.ports;
+      buffer = m.hardware.buffer;
+      mask = m.hardware.mask;
+      reset = m.hardware.reset;
+      off = m.hardware.off;
+      time = m.steps;
+      rows = m.schedule;
+      viewed = m.hardware.viewed;
+    } };
 
     ghost invariant = { λ m. IsNextAt m.schedule m.next_line m.steps × (m.hardware.ports.commands ≤ m.steps) };
 }
@@ -50,8 +62,7 @@ impl Machine {
         requires some { 1 ≤ frames }
         requires few { frames ≤ 65000 }
         ensures state { IfOk result (λ m. (sectors : List (List ℕ)) → state_of m sectors ≡ start (replicate (1024 * frames) 0) sectors) }
-        ensures rows { IfOk result (λ m. m.rows ≡ schedule) }
-        ensures viewed { IfOk result (λ m. m.viewed ≡ replicate 1024 0) }
+        ensures held { IfOk result (λ m. m ≡ started frames schedule) }
     {
         Ok(Machine {
             hardware: Hardware::new(alloc, frames)?,
@@ -77,6 +88,7 @@ impl Machine {
         ensures off { IfSome self.old.off (λ word. (result ≡ Ok (Event.Off word)) × (self.new ≡ self.old) × (disk.new ≡ disk.old)) }
         ensures rows { self.new.rows ≡ self.old.rows }
         ensures viewed { self.new.viewed ≡ self.old.viewed }
+        ensures memory { length self.new.memory ≡ length self.old.memory }
         ensures sector { NamesSector (D.size disk.new) self.new.ports.pending }
         ensures size { D.size disk.new ≡ D.size disk.old }
         ensures count { Counts (D.faults disk.old) (D.faults disk.new) result }

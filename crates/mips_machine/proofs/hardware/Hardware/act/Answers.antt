@@ -34,11 +34,11 @@ returns-clause-comes c x time sectors g =
     let i = c.self.inside in
     let h : Hardware = record { pc = i.cpu.pc; regs = i.cpu.regs; special = i.board.special; memory = i.board.memory; ports = i.board.ports; buffer = i.board.buffer; viewed = i.board.viewed; mask = i.mask; reset = i.reset; off = i.off } in
     let same : chosen x (state_in h time sectors) ≡ instructed x (state_in h time sectors) =
-      elim c.else-special-eq1.branch [
-        else-special-eq1-via-then-special-eq1+else-self-ne0 w ↦ chosen_without_lines x (state_in h time sectors) c.if-self.false w.if-self-ne0.false
-        | else-special-eq1-via-else-special-eq1 w ↦ chosen_with_sr_0 x (state_in h time sectors) c.if-self.false (λ e. w.if-special-eq1.false (c.special.ensures ∙ e))
-      ] in
+    elim c.else-special-eq1.branch [
+      | else-special-eq1-via-then-special-eq1+else-self-ne0 w ↦ chosen_without_lines x (state_in h time sectors) c.if-self.false w.if-self-ne0.false
+      | else-special-eq1-via-else-special-eq1 w ↦ chosen_with_sr_0 x (state_in h time sectors) c.if-self.false (λ e. w.if-special-eq1.false (c.special.ensures ∙ e))
+    ] in
     let here : chosen x (state_in c.args.self.now time sectors) ≡ instructed x (state_in c.args.self.now time sectors) =
-      let P : Hardware → Type 0 = λ v. chosen x (state_in v time sectors) ≡ instructed x (state_in v time sectors) in subst P c.self.view_is same in
+    let P : Hardware → Type 0 = λ v. chosen x (state_in v time sectors) ≡ instructed x (state_in v time sectors) in subst P c.self.view_is same in
     let Q : Coming → Type 0 = λ v. Comes (state_in c.args.self.now time sectors) v (state_in c.execute.new.self time sectors) c.execute.result in
     subst Q (sym here) (c.execute.ensures.comes x time sectors g)

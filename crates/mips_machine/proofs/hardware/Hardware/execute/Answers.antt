@@ -1,6 +1,6 @@
 -- What the processor's step promises over the board is what comes of the machine's state: callers see the state now, whose
 -- fields the code keeps.
-use Rattle.std.proofs.Common.{◌≡◌, ◌<◌, ◌-◌, ◌^◌, ◌/◌, ℕ, None, List, refl, sym, ap, ◌∙◌, subst}
+use Rattle.std.proofs.Common.{◌≡◌, ◌<◌, ◌-◌, ◌^◌, ◌/◌, ℕ, None, List, length, refl, sym, ap, ◌∙◌, subst}
 use Rattle.mips_table.specs.declared.cause.Cause.TheVariants as causes
 use Rattle.mips_step.specs.declared.cpu.Outcome.TheVariants.{Trap}
 use Rattle.mips_step.specs.Step.{End}
@@ -18,7 +18,7 @@ write_port-requires-clause-room c =
     let h : Hardware = record { pc = i.cpu.pc; regs = i.cpu.regs; special = i.board.special; memory = i.board.memory; ports = i.board.ports; buffer = i.board.buffer; viewed = i.board.viewed; mask = i.mask; reset = i.reset; off = i.off } in
     let end : End = record { outcome = c.instruct.result; core = record { pc = c.instruct.new.cpu.pc; regs = c.instruct.new.cpu.regs } } in
     let ports : c.take_asked.new.self.ports ≡ c.args.self.now.ports =
-      ap (λ (b : Board). b.ports) c.take_asked.ensures.board ∙ (leaves (core_of h) i.board c.instruct.new.board end c.instruct.ensures).ports ∙ ap (λ (v : Hardware). v.ports) c.self.view_is in
+    ap (λ (b : Board). b.ports) c.take_asked.ensures.board ∙ (leaves (core_of h) i.board c.instruct.new.board end c.instruct.ensures).ports ∙ ap (λ (v : Hardware). v.ports) c.self.view_is in
     subst (λ (p : Ports). p.commands < 2 ^ 64 - 1) (sym ports) c.requires.room
 
 pub invariant_of-self-in-Illegal : goal.invariant_of-self-in-Illegal
@@ -53,6 +53,7 @@ returns-in-None-clause-keeps c =
     let end : End = record { outcome = c.instruct.result; core = record { pc = c.instruct.new.cpu.pc; regs = c.instruct.new.cpu.regs } } in
     let l = leaves (core_of h) i.board c.instruct.new.board end c.instruct.ensures in
     keeps_same c.args.count c.args.self.now (with_board h end.core c.take_asked.new.self)
+    (ap (λ (b : Board). length b.memory) c.take_asked.ensures.board ∙ l.memory ∙ ap (λ (v : Hardware). length v.memory) c.self.view_is)
     (ap (λ (b : Board). b.ports) c.take_asked.ensures.board ∙ l.ports ∙ ap (λ (v : Hardware). v.ports) c.self.view_is)
     (ap (λ (b : Board). b.viewed) c.take_asked.ensures.board ∙ l.viewed ∙ ap (λ (v : Hardware). v.viewed) c.self.view_is)
 
@@ -76,6 +77,7 @@ returns-in-Some-clause-keeps c =
     let end : End = record { outcome = c.instruct.result; core = record { pc = c.instruct.new.cpu.pc; regs = c.instruct.new.cpu.regs } } in
     let l = leaves (core_of h) i.board c.instruct.new.board end c.instruct.ensures in
     keeps_after c.args.count c.args.self.now (with_board h end.core c.take_asked.new.self) c.write_port.new.self
+    (ap (λ (b : Board). length b.memory) c.take_asked.ensures.board ∙ l.memory ∙ ap (λ (v : Hardware). length v.memory) c.self.view_is)
     (ap (λ (b : Board). b.ports) c.take_asked.ensures.board ∙ l.ports ∙ ap (λ (v : Hardware). v.ports) c.self.view_is)
     (ap (λ (b : Board). b.viewed) c.take_asked.ensures.board ∙ l.viewed ∙ ap (λ (v : Hardware). v.viewed) c.self.view_is)
     c.write_port.ensures.keeps
@@ -98,7 +100,7 @@ returns-in-Illegal-clause-keeps c =
     let h : Hardware = record { pc = i.cpu.pc; regs = i.cpu.regs; special = i.board.special; memory = i.board.memory; ports = i.board.ports; buffer = i.board.buffer; viewed = i.board.viewed; mask = i.mask; reset = i.reset; off = i.off } in
     let end : End = record { outcome = c.instruct.result; core = record { pc = c.instruct.new.cpu.pc; regs = c.instruct.new.cpu.regs } } in
     let l = leaves (core_of h) i.board c.instruct.new.board end c.instruct.ensures in
-    keeps_after c.args.count c.args.self.now (with_board h end.core c.instruct.new.board) c.illegal.new.self (l.ports ∙ ap (λ (v : Hardware). v.ports) c.self.view_is) (l.viewed ∙ ap (λ (v : Hardware). v.viewed) c.self.view_is)
+    keeps_after c.args.count c.args.self.now (with_board h end.core c.instruct.new.board) c.illegal.new.self (l.memory ∙ ap (λ (v : Hardware). length v.memory) c.self.view_is) (l.ports ∙ ap (λ (v : Hardware). v.ports) c.self.view_is) (l.viewed ∙ ap (λ (v : Hardware). v.viewed) c.self.view_is)
     (c.illegal.ensures.keeps c.args.count)
 
 pub returns-in_default : goal.returns-in_default
@@ -111,9 +113,10 @@ returns-in_default c =
     let l = leaves (core_of h) i.board c.instruct.new.board end c.instruct.ensures in
     record {
       comes = λ x time sectors g.
-        let P : Hardware → Type 0 = λ v. Comes (state_in v time sectors) (instructed x (state_in v time sectors)) (state_in c.interrupt.new.self time sectors) c.interrupt.result in
-        subst P c.self.view_is (trapped_is x h on time sectors i.board same end c.instruct.new.board c.instruct.ensures c.in-Trap.cause c.in-Trap.edata c.interrupt.new.self c.interrupt.result c.in-Trap.is c.in_default.not-Illegal c.interrupt.ensures.hardware c.interrupt.ensures.event);
+          let P : Hardware → Type 0 = λ v. Comes (state_in v time sectors) (instructed x (state_in v time sectors)) (state_in c.interrupt.new.self time sectors) c.interrupt.result in
+          subst P c.self.view_is (trapped_is x h on time sectors i.board same end c.instruct.new.board c.instruct.ensures c.in-Trap.cause c.in-Trap.edata c.interrupt.new.self c.interrupt.result c.in-Trap.is c.in_default.not-Illegal c.interrupt.ensures.hardware c.interrupt.ensures.event);
       keeps = keeps_same c.args.count c.args.self.now c.interrupt.new.self
-        (ap (λ (v : Hardware). v.ports) c.interrupt.ensures.hardware ∙ l.ports ∙ ap (λ (v : Hardware). v.ports) c.self.view_is)
-        (ap (λ (v : Hardware). v.viewed) c.interrupt.ensures.hardware ∙ l.viewed ∙ ap (λ (v : Hardware). v.viewed) c.self.view_is);
+          (ap (λ (v : Hardware). length v.memory) c.interrupt.ensures.hardware ∙ l.memory ∙ ap (λ (v : Hardware). length v.memory) c.self.view_is)
+          (ap (λ (v : Hardware). v.ports) c.interrupt.ensures.hardware ∙ l.ports ∙ ap (λ (v : Hardware). v.ports) c.self.view_is)
+          (ap (λ (v : Hardware). v.viewed) c.interrupt.ensures.hardware ∙ l.viewed ∙ ap (λ (v : Hardware). v.viewed) c.self.view_is);
     }
