@@ -1,0 +1,3 @@
+pub mod Ty
+pub mod Env
+pub mod Fault
