@@ -1,3 +1,10 @@
 pub mod Ty
 pub mod Env
 pub mod Fault
+pub mod Words
+pub mod Declared
+pub mod Names
+pub mod Asm
+pub mod Limits
+pub mod Resolved
+pub mod Typed
