@@ -1,3 +1,5 @@
 pub mod Ty
 pub mod Env
 pub mod Fault
+pub mod Expression
+pub mod Judgement
