@@ -1,0 +1,3 @@
+pub mod Ty
+pub mod Order
+pub mod Least

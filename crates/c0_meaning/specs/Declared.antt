@@ -1,10 +1,10 @@
 -- The faults of a type that is declared, or that `new` names.
 use Rattle.std.specs.Prelude.{ℕ, Bool, true, false, ◌||◌, ◌==◌, nat_lt, if◌then◌else◌, List, [], ◌∷◌, ◌++◌, is_some}
 use Rattle.c0_tree.specs.declared.tree.Span.{Span}
-use Rattle.c0_tree.specs.Tree.{CTy, int, bool, pointer, named, array, CDecl, CStruct}
+use Rattle.c0_tree.specs.Tree.{CTy, int, bool, pointer, named, array, CDecl}
 use Rattle.c0_meaning.specs.Ty.{Ty, ty_of, same_ty, is_scalar}
 use Rattle.c0_meaning.specs.Ty as ty
-use Rattle.c0_meaning.specs.Env.{struct_named}
+use Rattle.c0_meaning.specs.Env.{Shape, first_named}
 use Rattle.c0_meaning.specs.Fault.{Fault, fault, UNKNOWN_NAME, WRONG_TYPE, TYPE_TOO_LARGE, EMPTY_ARRAY}
 use Rattle.c0_meaning.specs.Words.{words}
 
@@ -17,11 +17,11 @@ abbrev pub fault_if : Bool → ℕ → Span → List Fault
 fault_if wrong number span = if wrong then fault number span ∷ [] else []
 
 -- the names in a type that no struct has, also behind a pointer
-abbrev pub unknown_structs : List CStruct → CTy → List Fault
+abbrev pub unknown_structs : List Shape → CTy → List Fault
 unknown_structs structs int = []
 unknown_structs structs bool = []
 unknown_structs structs (pointer t) = unknown_structs structs t
-unknown_structs structs (named x) = if is_some (struct_named structs x.text) then [] else fault UNKNOWN_NAME x.span ∷ []
+unknown_structs structs (named x) = if is_some (first_named (λ s. s.text) x.text 0 structs) then [] else fault UNKNOWN_NAME x.span ∷ []
 unknown_structs structs (array t n) = unknown_structs structs t
 
 -- whether a length 0 is written in a type, also behind a pointer
@@ -33,18 +33,18 @@ has_empty_array (named x) = false
 has_empty_array (array t n) = (n == 0) || has_empty_array t
 
 -- whether a type has too many words: what is behind a pointer isn't measured
-abbrev pub is_too_large : List CStruct → Ty → Bool
+abbrev pub is_too_large : List Shape → Ty → Bool
 is_too_large structs t = nat_lt MAX_TYPE_WORDS (words structs t)
 
 -- the faults of a declared type, which stands at this span
-abbrev pub type_faults : List CStruct → CTy → Span → List Fault
+abbrev pub type_faults : List Shape → CTy → Span → List Fault
 type_faults structs t span =
     unknown_structs structs t
     ++ (fault_if (has_empty_array t) EMPTY_ARRAY span
     ++ fault_if (is_too_large structs (ty_of t)) TYPE_TOO_LARGE span)
 
 -- the faults in the types of declarations
-abbrev pub declared_faults : List CStruct → List CDecl → List Fault
+abbrev pub declared_faults : List Shape → List CDecl → List Fault
 declared_faults structs [] = []
 declared_faults structs (d ∷ rest) = type_faults structs d.ty d.ty_span ++ declared_faults structs rest
 

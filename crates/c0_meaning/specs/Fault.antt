@@ -1,5 +1,5 @@
 -- The faults of a unit, and the one that answers.
-use Rattle.std.specs.Prelude.{◌≡◌, ◌⊎◌, ℕ, Bool, false, ◌&&◌, ◌||◌, ◌==◌, nat_lt, if◌then◌else◌, List, [], ◌∷◌, Option, Some, None}
+use Rattle.std.specs.Prelude.{◌≡◌, ◌⊎◌, ◌↔◌, ℕ, Bool, true, false, ◌&&◌, ◌||◌, ◌==◌, nat_lt, if◌then◌else◌, List, [], ◌∷◌, ◌++◌, Option, Some, None}
 use Rattle.c0_tree.specs.declared.tree.Span.{Span}
 
 -- the number of a fault, its span, and the line of the asm text, counted from 1, where it is a line that isn't allowed (else 0)
@@ -104,3 +104,29 @@ kept (Some g) f = if comes_before f g then Some f else Some g
 abbrev pub kept_all : Option Fault → List Fault → Option Fault
 kept_all met [] = met
 kept_all met (f ∷ rest) = kept_all (kept met f) rest
+
+-- a law: of two faults that differ one comes before the other, and not both
+pub record OrderIsTotal : Type 0 where
+  pub one : (a b : Fault) → comes_before a b ≡ false → comes_before b a ≡ false → a ≡ b
+  pub not_both : (a b : Fault) → comes_before a b ≡ true → comes_before b a ≡ false
+  pub onward : (a b c : Fault) → comes_before a b ≡ true → comes_before b c ≡ true → comes_before a c ≡ true
+
+-- a law: a list has a least fault exactly where it has a fault, and it has no second one
+pub record LeastIsThere : Type 0 where
+  pub some : (faults : List Fault) (f : Fault) → Stands faults f → (g : Fault) × IsLeast faults g
+  pub none : (f : Fault) → IsLeast [] f → ⊥
+  pub only : (faults : List Fault) (f g : Fault) → IsLeast faults f → IsLeast faults g → f ≡ g
+
+-- a law: what is kept of a list is its least fault, and nothing is kept where no fault stands
+pub record KeptIsLeast : Type 0 where
+  pub least : (faults : List Fault) (f : Fault) → kept_all None faults ≡ Some f ↔ IsLeast faults f
+  pub none : (faults : List Fault) → kept_all None faults ≡ None ↔ (faults ≡ [])
+
+-- a law: lists of the same faults leave the same kept, in whatever order they are met and however often
+abbrev pub MeetingIsFree : Type 0
+MeetingIsFree = (met : Option Fault) (fs gs : List Fault) → ((f : Fault) → Stands fs f ↔ Stands gs f) → kept_all met fs ≡ kept_all met gs
+
+-- a law: what two lists leave, met one after the other, is what they leave joined, in either order
+pub record MeetingJoins : Type 0 where
+  pub joined : (met : Option Fault) (fs gs : List Fault) → kept_all met (fs ++ gs) ≡ kept_all (kept_all met fs) gs
+  pub swapped : (met : Option Fault) (fs gs : List Fault) → kept_all (kept_all met fs) gs ≡ kept_all (kept_all met gs) fs

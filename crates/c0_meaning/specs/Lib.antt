@@ -8,3 +8,5 @@ pub mod Asm
 pub mod Limits
 pub mod Resolved
 pub mod Typed
+pub mod Expression
+pub mod Judgement

@@ -1,11 +1,12 @@
 -- How large functions and units may be, and which function a kernel must have.
-use Rattle.std.specs.Prelude.{ℕ, ◌+◌, Bool, true, false, not, ◌&&◌, nat_lt, if◌then◌else◌, List, [], ◌∷◌, ◌++◌, length, codes}
+use Rattle.std.specs.Prelude.{ℕ, ◌+◌, Bool, true, false, not, ◌&&◌, nat_lt, if◌then◌else◌, List, [], ◌∷◌, ◌++◌, length, map, codes}
 use Rattle.std.specs.Str.{bytes_eq}
 use Rattle.std.specs.List.{list_any}
 use Rattle.c0_tree.specs.declared.tree.Span.{Span}
-use Rattle.c0_tree.specs.Tree.{CDecl, CBody, code, asm, CFunction, CStruct, CUnit}
+use Rattle.c0_tree.specs.Tree.{CDecl, CBody, code, asm, CFunction, CUnit}
 use Rattle.c0_tree.specs.Size.{function_nodes}
 use Rattle.c0_meaning.specs.Ty.{int, ty_of, same_ty}
+use Rattle.c0_meaning.specs.Env.{Shape, shape_of, typed_of}
 use Rattle.c0_meaning.specs.Fault.{Fault, TOO_MANY_NODES, UNIT_TOO_LARGE, GLOBALS_TOO_LARGE, NO_DISPATCH, TOO_MANY_PARAMETERS}
 use Rattle.c0_meaning.specs.Words.{all_words}
 use Rattle.c0_meaning.specs.Declared.{fault_if}
@@ -51,8 +52,8 @@ abbrev pub max_parameters : Bool → ℕ
 max_parameters in_asm = if in_asm then 4 else 8
 
 -- the words of a function's frame: its parameters, its locals, and three more
-abbrev pub frame : List CStruct → CFunction → ℕ
-frame structs f = all_words structs f.params + all_words structs (locals_of f.body) + 3
+abbrev pub frame : List Shape → CFunction → ℕ
+frame structs f = all_words structs (map typed_of f.params) + all_words structs (map typed_of (locals_of f.body)) + 3
 
 -- whether these are three parameters of type int
 abbrev pub are_three_ints : List CDecl → Bool
@@ -77,7 +78,7 @@ size_faults f =
 abbrev pub unit_size_faults : CUnit → List Fault
 unit_size_faults u =
     fault_if (nat_lt MAX_UNIT_NODES (all_nodes u.functions)) UNIT_TOO_LARGE (whole u.length)
-    ++ fault_if (nat_lt MAX_GLOBAL_WORDS (all_words u.structs u.globals)) GLOBALS_TOO_LARGE (whole u.length)
+    ++ fault_if (nat_lt MAX_GLOBAL_WORDS (all_words (map shape_of u.structs) (map typed_of u.globals))) GLOBALS_TOO_LARGE (whole u.length)
 
 -- the fault of a kernel that has no `dispatch`
 abbrev pub dispatch_faults : CUnit → List Fault

@@ -1,11 +1,6 @@
-//! What a C0 unit means: the types of its expressions, and which faults stand in it.
+//! What a C0 unit means: the types of its expressions and statements, and which faults stand in it.
 //!
-//! The definitions are in `specs/`.
+//! The definitions are in `specs/`, and the functions of [`laws`] carry what is proved of them.
 #![tactic(auto)]
 
-/// A law: types are equal where they are written the same.
-pub fn types_are_equal_as_written()
-    ensures { TypesEqualAsWritten }
-{}
-
-ghost use Rattle.c0_meaning.specs.Ty.{TypesEqualAsWritten};
+pub mod laws;

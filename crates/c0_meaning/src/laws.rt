@@ -1,0 +1,35 @@
+// The laws of the definitions: each function says one, and does nothing.
+
+ghost use Rattle.c0_meaning.specs.Fault.{KeptIsLeast, LeastIsThere, MeetingIsFree, MeetingJoins, OrderIsTotal};
+ghost use Rattle.c0_meaning.specs.Ty.{TypesEqualAsWritten};
+
+/// Types are equal where they are written the same.
+pub fn types_are_equal_as_written()
+    ensures { TypesEqualAsWritten }
+{
+}
+
+/// Of two faults one comes first.
+pub fn fault_order_is_total()
+    ensures { OrderIsTotal }
+{
+}
+
+/// Where faults stand there is one that answers, and no second.
+pub fn least_fault_is_there()
+    ensures { LeastIsThere }
+{
+}
+
+/// The running minimum over a list is its least fault.
+pub fn kept_fault_is_least()
+    ensures { KeptIsLeast }
+{
+}
+
+/// The running minimum doesn't depend on the order in which faults are met.
+pub fn meeting_is_free_of_order()
+    ensures free { MeetingIsFree }
+    ensures joins { MeetingJoins }
+{
+}
