@@ -8,5 +8,6 @@ pub mod Asm
 pub mod Limits
 pub mod Resolved
 pub mod Typed
+pub mod Unit
 pub mod Expression
 pub mod Judgement
