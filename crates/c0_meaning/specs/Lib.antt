@@ -8,6 +8,7 @@ pub mod Asm
 pub mod Limits
 pub mod Resolved
 pub mod Typed
+pub mod Sound
 pub mod Unit
 pub mod Expression
 pub mod Judgement
