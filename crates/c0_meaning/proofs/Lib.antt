@@ -1,3 +1,6 @@
 pub mod Ty
 pub mod Order
 pub mod Least
+pub mod Operands
+pub mod Typed
+pub mod Faultless

@@ -1,6 +1,7 @@
 // The laws of the definitions: each function says one, and does nothing.
 
 ghost use Rattle.c0_meaning.specs.Fault.{KeptIsLeast, LeastIsThere, MeetingIsFree, MeetingJoins, OrderIsTotal};
+ghost use Rattle.c0_meaning.specs.Judgement.{FaultlessIsTyped, HasOneType, TypedIsFaultless};
 ghost use Rattle.c0_meaning.specs.Ty.{TypesEqualAsWritten};
 
 /// Types are equal where they are written the same.
@@ -31,5 +32,13 @@ pub fn kept_fault_is_least()
 pub fn meeting_is_free_of_order()
     ensures free { MeetingIsFree }
     ensures joins { MeetingJoins }
+{
+}
+
+/// What has a type by the rules is exactly what no fault stands in, and it has one type.
+pub fn expressions_are_typed_or_faulty()
+    ensures typed { TypedIsFaultless }
+    ensures faultless { FaultlessIsTyped }
+    ensures unique { HasOneType }
 {
 }
