@@ -4,3 +4,5 @@ pub mod Least
 pub mod Operands
 pub mod Typed
 pub mod Faultless
+pub mod Given
+pub mod Statements

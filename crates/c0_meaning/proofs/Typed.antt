@@ -19,7 +19,7 @@ record Good (env : Env) (e : CExpr) (t : Ty) : Type 0 where
   typed : verdict env e ≡ has t
   clean : faults env e ≡ []
 
-no_faults : (fs gs : List Fault) → fs ≡ [] → gs ≡ [] → fs ++ gs ≡ []
+pub no_faults : (fs gs : List Fault) → fs ≡ [] → gs ≡ [] → fs ++ gs ≡ []
 no_faults fs gs a b = ap (λ (x : List Fault). x ++ gs) a ∙ b
 
 in_place : (s at : Span) (f : CName) (place : Bool) (found : Option (ℕ × Typed)) (p : ℕ × Typed) (x : List ℕ) → place ≡ true → found ≡ Some p
@@ -163,6 +163,9 @@ good env _ _ (logic q h k) = two env _ _ _ _ _ _ _ (logic_gives _ _ q) (good env
 good env _ _ (equality q a h k) = two env _ _ _ _ _ _ _ (equality_gives _ _ _ q a) (good env _ _ h) (good env _ _ k)
 good env _ _ (null_left q h) = null_first env _ _ _ _ _ q (good env _ _ h)
 good env _ _ (null_right q h) = null_second env _ _ _ _ _ q (good env _ _ h)
+
+pub typed_no_null : (env : Env) (e : CExpr) (t : Ty) → HasType env e t → is_null e ≡ false
+typed_no_null env e t h = not_null env e t (good env e t h).typed
 
 pub typed_is_faultless : TypedIsFaultless
 typed_is_faultless env e t h = ((good env e t h).clean, ap given (good env e t h).typed)

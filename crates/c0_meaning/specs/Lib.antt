@@ -3,3 +3,5 @@ pub mod Env
 pub mod Fault
 pub mod Expression
 pub mod Judgement
+pub mod Statement
+pub mod Rules

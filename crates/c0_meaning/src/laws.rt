@@ -2,6 +2,7 @@
 
 ghost use Rattle.c0_meaning.specs.Fault.{KeptIsLeast, LeastIsThere, MeetingIsFree, MeetingJoins, OrderIsTotal};
 ghost use Rattle.c0_meaning.specs.Judgement.{FaultlessIsTyped, HasOneType, TypedIsFaultless};
+ghost use Rattle.c0_meaning.specs.Rules.{StatementsAreFaultless, TestedIsFaultless};
 ghost use Rattle.c0_meaning.specs.Ty.{TypesEqualAsWritten};
 
 /// Types are equal where they are written the same.
@@ -40,5 +41,12 @@ pub fn expressions_are_typed_or_faulty()
     ensures typed { TypedIsFaultless }
     ensures faultless { FaultlessIsTyped }
     ensures unique { HasOneType }
+{
+}
+
+/// Statements, conditions and returned expressions are typed by the rules exactly where no fault stands in them.
+pub fn statements_are_typed_or_faulty()
+    ensures statements { StatementsAreFaultless }
+    ensures tested { TestedIsFaultless }
 {
 }
