@@ -5,3 +5,8 @@ pub mod Capped
 pub mod Sized
 pub mod Order
 pub mod Least
+pub mod Operands
+pub mod Typed
+pub mod Faultless
+pub mod Given
+pub mod Statements

@@ -76,14 +76,18 @@ EMPTY_ARRAY = 35
 abbrev pub fault : ℕ → Span → Fault
 fault number span = record { number = number; span = span; line = 0 }
 
+-- whether a fault comes before another of the same first byte and number
+abbrev pub comes_shorter : Fault → Fault → Bool
+comes_shorter a b = nat_lt a.span.end b.span.end || ((a.span.end == b.span.end) && nat_lt a.line b.line)
+
+-- whether a fault comes before another of the same first byte
+abbrev pub comes_lower : Fault → Fault → Bool
+comes_lower a b = nat_lt a.number b.number || ((a.number == b.number) && comes_shorter a b)
+
 -- whether a fault comes before another: by the first byte of its span, then by its number; the end of the span and the line make the
 -- order total
 abbrev pub comes_before : Fault → Fault → Bool
-comes_before a b =
-    nat_lt a.span.start b.span.start
-    || ((a.span.start == b.span.start) && (nat_lt a.number b.number
-    || ((a.number == b.number) && (nat_lt a.span.end b.span.end
-    || ((a.span.end == b.span.end) && nat_lt a.line b.line)))))
+comes_before a b = nat_lt a.span.start b.span.start || ((a.span.start == b.span.start) && comes_lower a b)
 
 -- a fault is one of a list
 abbrev pub Stands : List Fault → Fault → Type 0

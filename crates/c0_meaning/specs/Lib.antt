@@ -12,3 +12,5 @@ pub mod Sound
 pub mod Unit
 pub mod Expression
 pub mod Judgement
+pub mod Statement
+pub mod Rules

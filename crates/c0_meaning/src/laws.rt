@@ -1,6 +1,8 @@
 // The laws of the definitions: each function says one, and does nothing.
 
 ghost use Rattle.c0_meaning.specs.Fault.{KeptIsLeast, LeastIsThere, MeetingIsFree, MeetingJoins, OrderIsTotal};
+ghost use Rattle.c0_meaning.specs.Judgement.{FaultlessIsTyped, HasOneType, TypedIsFaultless};
+ghost use Rattle.c0_meaning.specs.Rules.{StatementsAreFaultless, TestedIsFaultless};
 ghost use Rattle.c0_meaning.specs.Ty.{TypesEqualAsWritten};
 ghost use Rattle.c0_meaning.specs.Words.{HoldsAsTested, WordsAreThose};
 
@@ -44,5 +46,20 @@ pub fn holding_is_as_tested()
 /// The words of a type by the words of its parts.
 pub fn words_are_those_of_the_parts()
     ensures { WordsAreThose }
+{
+}
+
+/// What has a type by the rules is exactly what no fault stands in, and it has one type.
+pub fn expressions_are_typed_or_faulty()
+    ensures typed { TypedIsFaultless }
+    ensures faultless { FaultlessIsTyped }
+    ensures unique { HasOneType }
+{
+}
+
+/// Statements, conditions and returned expressions are typed by the rules exactly where no fault stands in them.
+pub fn statements_are_typed_or_faulty()
+    ensures statements { StatementsAreFaultless }
+    ensures tested { TestedIsFaultless }
 {
 }
