@@ -3,6 +3,7 @@ pub mod Holding
 pub mod Opening
 pub mod Capped
 pub mod Sized
+pub mod WellFormed
 pub mod Order
 pub mod Least
 pub mod Operands

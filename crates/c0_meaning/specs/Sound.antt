@@ -8,6 +8,7 @@ use Rattle.c0_meaning.specs.Env.{Shape, shape_of, typed_of}
 use Rattle.c0_meaning.specs.Words.{fields_named, holds, words}
 use Rattle.c0_meaning.specs.Declared.{MAX_TYPE_WORDS, has_empty_array}
 use Rattle.c0_meaning.specs.Resolved.{IsResolved}
+use Rattle.c0_meaning.specs.Limits.{MAX_FUNCTION_NODES, locals_of}
 
 -- how many elements that are no arrays a type has
 abbrev pub elements : CTy → ℕ
@@ -44,3 +45,9 @@ pub record IsSizedStruct (structs : List Shape) (s : CStruct) : Type 0 where
 -- each struct is so
 abbrev pub AreSized : List CStruct → Type 0
 AreSized structs = All (IsSizedStruct (map shape_of structs)) structs
+
+-- a function whose parameters and locals have few words and are few
+pub record IsSizedFunction (structs : List Shape) (f : CFunction) : Type 0 where
+  pub params : All (λ d. IsSized structs d.ty) f.params
+  pub locals : All (λ d. IsSized structs d.ty) (locals_of f.body)
+  pub few : length f.params + length (locals_of f.body) ≤ MAX_FUNCTION_NODES

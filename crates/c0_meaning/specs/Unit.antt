@@ -132,7 +132,7 @@ stmts_length (next s rest) = suc (stmts_length rest)
 abbrev mutual
   pub is_plain_stmt : CStmt → Bool
   is_plain_stmt (assign s p v) = is_plain_expr p && is_plain_expr v
-  is_plain_stmt (call s p cs f args) = is_plain_expr p && (is_short f.text && (is_short args && list_all is_plain_expr args))
+  is_plain_stmt (call s p cs f args) = is_plain_expr p && (is_short args && list_all is_plain_expr args)
   is_plain_stmt (new s p t ts) = is_plain_expr p
   is_plain_stmt (choice s t a b) = is_plain_expr t && (nat_lt (stmts_length a) (2 ^ 32) && (nat_lt (stmts_length b) (2 ^ 32) && (are_plain_stmts a && are_plain_stmts b)))
   is_plain_stmt (loop s t b) = is_plain_expr t && (nat_lt (stmts_length b) (2 ^ 32) && are_plain_stmts b)

@@ -5,3 +5,5 @@
 
 pub mod laws;
 pub mod sizes;
+
+pub use sizes::{frame_words, words_of};

@@ -1,6 +1,12 @@
 // How many words types and frames take.
 
-ghost use Rattle.std.specs.Prelude.{◌≡◌, ◌≤◌, ◌<◌, ◌-◌, ◌^◌, min, map, option_map, length};
+ghost use Rattle.std.specs.Prelude.{◌≡◌, ◌≤◌, ◌<◌, ◌-◌, ◌*◌, ◌^◌, List, Some, min, map, option_map, length, slice_get};
+ghost use Rattle.std.specs.List.{All};
+ghost use Rattle.c0_tree.specs.Tree.{CFunction};
+ghost use Rattle.c0_tree.specs.Primitives.{CPrimitive};
+ghost use Rattle.c0_meaning.specs.Limits.{MAX_FUNCTION_NODES, frame};
+ghost use Rattle.c0_meaning.specs.Resolved.{IsResolved};
+ghost use Rattle.c0_meaning.specs.Unit.{IsWellFormed};
 ghost use Rattle.c0_tree.specs.View.{type_view, struct_view, decl_view, unit_view, name_view};
 ghost use Rattle.c0_meaning.specs.Ty.{ty_of, named};
 ghost use Rattle.c0_meaning.specs.Env.{shape_of, typed_of};
@@ -8,7 +14,7 @@ ghost use Rattle.c0_meaning.specs.Words.{words, all_words};
 ghost use Rattle.c0_meaning.specs.Declared.{MAX_TYPE_WORDS};
 ghost use Rattle.c0_meaning.specs.Sound.{elements as elements_in, struct_in as struct_name_in, shapes, IsSized, IsSizedStruct, AreSized};
 
-use c0_tree::{CType, StructDef, Unit};
+use c0_tree::{Body, CType, Decl, StructDef, Unit};
 
 // How many elements that are no arrays a type has, at most 2^32 - 1.
 fn elements(ty: &CType) -> u32
@@ -61,4 +67,44 @@ fn struct_words(def: &StructDef, unit: &Unit) -> u32
         words += type_words(&field.ty, unit);
     }
     words
+}
+
+/// The words of a type: a scalar has 1, a struct those of its fields, an array its length times those of its element.
+pub fn words_of(ty: &CType, unit: &Unit) -> u32
+    requires well_formed { (primitives : List CPrimitive) × IsWellFormed primitives (unit_view unit.now) }
+    requires resolved { IsResolved (shapes (unit_view unit.now)) (type_view ty.now) }
+    requires small { words (shapes (unit_view unit.now)) (ty_of (type_view ty.now)) ≤ MAX_TYPE_WORDS }
+    ensures { result ≡ words (shapes (unit_view unit.now)) (ty_of (type_view ty.now)) }
+{
+    type_words(ty, unit)
+}
+
+// The words of declarations.
+fn decls_words(decls: &[Decl], unit: &Unit) -> u64
+    requires structs { AreSized (unit_view unit.now).structs }
+    requires decls { All (λ d. IsSized (shapes (unit_view unit.now)) d.ty) (map decl_view decls.now) }
+    requires few { length decls.now ≤ MAX_FUNCTION_NODES }
+    ensures value { result ≡ all_words (shapes (unit_view unit.now)) (map typed_of (map decl_view decls.now)) }
+    ensures small { result ≤ length decls.now * MAX_TYPE_WORDS }
+{
+    let mut words = 0;
+    for decl in decls {
+        words += u64::from(type_words(&decl.ty, unit));
+    }
+    words
+}
+
+/// The words of a function's frame: those of its parameters and of its locals, and three more. An asm function has no
+/// locals.
+pub fn frame_words(unit: &Unit, function: u32) -> u64
+    requires well_formed { (primitives : List CPrimitive) × IsWellFormed primitives (unit_view unit.now) }
+    requires in_range { function < length unit.now.functions.items }
+    ensures { (f : CFunction) → slice_get (unit_view unit.now).functions function ≡ Some f → result ≡ frame (shapes (unit_view unit.now)) f }
+{
+    let function = &unit.functions[function as usize];
+    let params = decls_words(&function.params, unit);
+    match &function.body {
+        Body::Code(code) => params + decls_words(&code.locals, unit) + 3,
+        Body::Asm(_) => params + 3,
+    }
 }
