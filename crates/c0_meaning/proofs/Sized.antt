@@ -5,24 +5,24 @@ use Rattle.std.proofs.lemmas.Slice.Eq.{bytes_eq-Decides}
 use Rattle.std.proofs.Math.Nat.{mul_assoc, mul-one}
 use Rattle.std.specs.Str.{bytes_eq}
 use Rattle.std.specs.Prelude.{option_map}
-use Rattle.std.proofs.lemmas.List.{get_or-map, length-map, drop_all}
+use Rattle.std.proofs.lemmas.List.{get_or-map, length-map, drop_all, drop_more}
 use Rattle.c0_tree.specs.declared.tree.StructDef.{StructDef}
 use Rattle.c0_tree.specs.declared.tree.Decl.{Decl}
-use Rattle.c0_tree.specs.View.{struct_view, decl_view, type_view}
+use Rattle.c0_tree.specs.declared.tree.Function.{Function}
+use Rattle.c0_tree.specs.View.{struct_view, decl_view, type_view, function_view}
 use Rattle.std.specs.Prelude.{slice_get, slice_index_or}
 use Rattle.std.specs.List.{All}
-use Rattle.c0_tree.specs.Tree.{CTy, int, bool, pointer, named, array, CName, CDecl, CStruct}
+use Rattle.c0_tree.specs.Tree.{CTy, int, bool, pointer, named, array, CName, CDecl, CStruct, CFunction}
 use Rattle.c0_meaning.specs.Ty.{Ty, ty_of}
 use Rattle.c0_meaning.specs.Ty as ty
 use Rattle.c0_meaning.specs.Env.{Typed, Shape, first_named, fields_of, shape_of, typed_of}
 use Rattle.c0_meaning.specs.Words.{is_made_of, fields_named, have_field, has_field_of, holds, struct_words, words, all_words}
 use Rattle.c0_meaning.specs.Declared.{MAX_TYPE_WORDS}
 use Rattle.c0_meaning.specs.Resolved.{IsResolved}
-use Rattle.c0_meaning.specs.Sound.{elements, struct_in, IsSized, IsSizedStruct, AreSized}
+use Rattle.c0_meaning.specs.Sound.{elements, struct_in, IsSized, IsSizedStruct, IsSizedFunction, AreSized}
 use Rattle.c0_meaning.proofs.Holding.{Among}
 use Rattle.c0_meaning.proofs.Opening.{rank, rank_falls, fields_words}
 use Rattle.c0_meaning.proofs.Capped.{capped_factor}
-use Rattle.std.proofs.Math.Seq.{drop-cons}
 
 abbrev pub weight_in : List Shape → Option CName → ℕ
 weight_in structs None = 0
@@ -189,8 +189,8 @@ field_call_falls items def i d sized here below =
 
 -- the words of what is left of declarations, one of them taken
 pub words_left : (structs : List Shape) (decls : List Decl) (i : ℕ) (d : Decl) → i < length decls →
-  all_words structs (map typed_of (map decl_view (drop i decls))) ≡ words structs (ty_of (type_view (get_or decls i d).ty)) + all_words structs (map typed_of (map decl_view (drop (suc i) decls)))
-words_left structs decls i d below = ap (λ (ds : List Decl). all_words structs (map typed_of (map decl_view ds))) (drop-cons decls i d below)
+  all_words structs (map typed_of (map decl_view (drop i decls))) ≡ words structs (ty_of (type_view (get_or decls i d).ty)) + all_words structs (map typed_of (map decl_view (drop (i + 1) decls)))
+words_left structs decls i d below = ap (λ (ds : List Decl). all_words structs (map typed_of (map decl_view ds))) (drop_more decls i d below)
 
 -- nothing is left at the end
 pub none_left : (structs : List Shape) (decls : List Decl) (i : ℕ) → length decls ≤ i → all_words structs (map typed_of (map decl_view (drop i decls))) ≡ 0
@@ -218,3 +218,20 @@ no_struct t o e f = none_of (struct_in t) (sym e ∙ f)
     none_of : (p : Option CName) → option_map (λ x. x.number) p ≡ None → p ≡ None
     none_of None h = refl
     none_of (Some x) h = cc
+
+-- a declaration at a place
+pub decl_sized : (structs : List Shape) (decls : List Decl) (i : ℕ) (d : Decl) → All (λ e. IsSized structs e.ty) (map decl_view decls) → i < length decls → IsSized structs (type_view (get_or decls i d).ty)
+decl_sized structs decls i d sized below =
+    let len : length (map decl_view decls) ≡ length decls = length-map decls decl_view in
+    subst (λ (x : CDecl). IsSized structs x.ty) (get_or-map decl_view decls i d (decl_view d) below) (sized i (decl_view d) (omega arith))
+
+-- a function at a place
+pub function_at : (structs : List Shape) (items : List Function) (n : ℕ) (d : Function) → All (IsSizedFunction structs) (map function_view items) → n < length items → IsSizedFunction structs (function_view (get_or items n d))
+function_at structs items n d sized below =
+    let len : length (map function_view items) ≡ length items = length-map items function_view in
+    subst (IsSizedFunction structs) (get_or-map function_view items n d (function_view d) below) (sized n (function_view d) (omega arith))
+
+pub function_there : (items : List Function) (n : ℕ) (d : Function) (f : CFunction) → slice_get (map function_view items) n ≡ Some f → function_view (get_or items n d) ≡ f
+function_there [] n d f h = cc
+function_there (g ∷ rest) zero d f h = cc
+function_there (g ∷ rest) (suc n) d f h = function_there rest n d f h

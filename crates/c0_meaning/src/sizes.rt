@@ -7,14 +7,14 @@ ghost use Rattle.c0_tree.specs.Primitives.{CPrimitive};
 ghost use Rattle.c0_meaning.specs.Limits.{MAX_FUNCTION_NODES, frame};
 ghost use Rattle.c0_meaning.specs.Resolved.{IsResolved};
 ghost use Rattle.c0_meaning.specs.Unit.{IsWellFormed};
-ghost use Rattle.c0_tree.specs.View.{type_view, struct_view, decl_view, unit_view, name_view};
+ghost use Rattle.c0_tree.specs.View.{type_view, struct_view, decl_view, function_view, unit_view, name_view};
 ghost use Rattle.c0_meaning.specs.Ty.{ty_of, named};
 ghost use Rattle.c0_meaning.specs.Env.{shape_of, typed_of};
 ghost use Rattle.c0_meaning.specs.Words.{words, all_words};
 ghost use Rattle.c0_meaning.specs.Declared.{MAX_TYPE_WORDS};
-ghost use Rattle.c0_meaning.specs.Sound.{elements as elements_in, struct_in as struct_name_in, shapes, IsSized, IsSizedStruct, AreSized};
+ghost use Rattle.c0_meaning.specs.Sound.{elements as elements_in, struct_in as struct_name_in, shapes, IsSized, IsSizedStruct, IsSizedFunction, AreSized};
 
-use c0_tree::{Body, CType, Decl, StructDef, Unit};
+use c0_tree::{Body, CType, Decl, Function, StructDef, Unit};
 
 // How many elements that are no arrays a type has, at most 2^32 - 1.
 fn elements(ty: &CType) -> u32
@@ -94,6 +94,19 @@ fn decls_words(decls: &[Decl], unit: &Unit) -> u64
     words
 }
 
+// The words of a function's frame.
+fn function_words(function: &Function, unit: &Unit) -> u64
+    requires structs { AreSized (unit_view unit.now).structs }
+    requires function { IsSizedFunction (shapes (unit_view unit.now)) (function_view function.now) }
+    ensures { result ≡ frame (shapes (unit_view unit.now)) (function_view function.now) }
+{
+    let params = decls_words(&function.params, unit);
+    match &function.body {
+        Body::Code(code) => params + decls_words(&code.locals, unit) + 3,
+        Body::Asm(_) => params + 3,
+    }
+}
+
 /// The words of a function's frame: those of its parameters and of its locals, and three more. An asm function has no
 /// locals.
 pub fn frame_words(unit: &Unit, function: u32) -> u64
@@ -101,10 +114,5 @@ pub fn frame_words(unit: &Unit, function: u32) -> u64
     requires in_range { function < length unit.now.functions.items }
     ensures { (f : CFunction) → slice_get (unit_view unit.now).functions function ≡ Some f → result ≡ frame (shapes (unit_view unit.now)) f }
 {
-    let function = &unit.functions[function as usize];
-    let params = decls_words(&function.params, unit);
-    match &function.body {
-        Body::Code(code) => params + decls_words(&code.locals, unit) + 3,
-        Body::Asm(_) => params + 3,
-    }
+    function_words(&unit.functions[function as usize], unit)
 }
