@@ -1,7 +1,8 @@
 // One line of an asm text.
 
-ghost use Rattle.std.specs.Prelude.{◌≡◌, ◌==◌, IfOk, slice_index, not, ◌&&◌};
-ghost use Rattle.std.specs.List.{list_any};
+ghost use Rattle.std.specs.Prelude.{◌≡◌, ◌==◌, ◌≤◌, length, IfOk, slice_index, not, ◌&&◌};
+ghost use Rattle.std.specs.List.{list_any, prefix_len};
+ghost use Rattle.std.specs.Char.{is_ascii_whitespace};
 ghost use Rattle.mips_asm.specs.Text.{content as content_of, trim_start as trim_start_of};
 ghost use Rattle.c0_meaning.specs.Asm.{may_use as may_use_of, is_allowed as is_allowed_of, is_allowed_word as is_allowed_word_of};
 ghost use Rattle.c0_asm_text.specs.AsmText.{is_plain as is_plain_of, allowed as allowed_of, line_words};
@@ -69,7 +70,25 @@ fn is_allowed(inst: Inst) -> bool
         Inst::Ori { rt, rs, .. } => both(rt, rs),
         Inst::Xori { rt, rs, .. } => both(rt, rs),
         Inst::Lui { rt, .. } => may_use(rt),
-        _ => false,
+        Inst::Jr { .. } => false,
+        Inst::Jalr { .. } => false,
+        Inst::Syscall { .. } => false,
+        Inst::Add { .. } => false,
+        Inst::Sub { .. } => false,
+        Inst::Bltz { .. } => false,
+        Inst::Bgez { .. } => false,
+        Inst::J { .. } => false,
+        Inst::Jal { .. } => false,
+        Inst::Beq { .. } => false,
+        Inst::Bne { .. } => false,
+        Inst::Blez { .. } => false,
+        Inst::Bgtz { .. } => false,
+        Inst::Addi { .. } => false,
+        Inst::Mfc0 { .. } => false,
+        Inst::Mtc0 { .. } => false,
+        Inst::Eret => false,
+        Inst::Lw { .. } => false,
+        Inst::Sw { .. } => false,
     }
 }
 
@@ -83,12 +102,27 @@ pub fn is_allowed_word(word: u32) -> bool
     }
 }
 
+// How many bytes stand before the first of a kind.
+pub(crate) fn len_before(byte: u8, text: &[u8]) -> usize
+    ensures value { result ≡ prefix_len (λ c. not (c == byte)) text.now }
+    ensures within { result ≤ length text.now }
+{
+    text.iter().take_while(|c| **c != byte).count()
+}
+
+// How many blanks a line begins with.
+fn blanks(line: &[u8]) -> usize
+    ensures value { result ≡ prefix_len is_ascii_whitespace line.now }
+    ensures within { result ≤ length line.now }
+{
+    line.iter().take_while(|c| c.is_ascii_whitespace()).count()
+}
+
 // The bytes before the comment.
 fn content(line: &[u8]) -> &[u8]
     ensures { result.now ≡ content_of line.now }
 {
-    let len = line.iter().take_while(|c| **c != b'#').count();
-    &line[..len]
+    &line[..len_before(b'#', line)]
 }
 
 // Whether a line has a label or what looks like one.
@@ -102,7 +136,7 @@ fn has_colon(line: &[u8]) -> bool
 fn has_dot(line: &[u8]) -> bool
     ensures { result ≡ (slice_index (trim_start_of line.now) 0 == 46) }
 {
-    let text = line.trim_ascii_start();
+    let text = &line[blanks(line)..];
     !text.is_empty() && text[0] == b'.'
 }
 
