@@ -1,6 +1,6 @@
 -- One more line of a text.
-use Rattle.std.proofs.Common.{◌≡◌, ◌==◌, ℕ, zero, suc, ◌+◌, ◌<◌, ◌≤◌, Bool, true, false, not, ◌&&◌, cond, ◌⊎◌, inl, inr, Option, Some, None, Result, Ok, Err, is_some, List, [], ◌∷◌, ◌++◌, length, append_assoc, refl, sym, ap, ◌∙◌, subst, arith}
-use Rattle.std.proofs.lemmas.Bool.{cases_Bool, cond-true, cond-false, and_from}
+use Rattle.std.proofs.Common.{◌≡◌, ℕ, ◌+◌, ◌≤◌, Bool, true, false, ◌&&◌, cond, Option, Some, None, Result, Ok, Err, is_some, List, [], ◌∷◌, ◌++◌, length, append_assoc, refl, sym, ap, ◌∙◌, arith}
+use Rattle.std.proofs.lemmas.Bool.{and_from}
 use Rattle.std.specs.Option.{option_or, IfSome}
 use Rattle.std.specs.List.{list_all}
 use Rattle.mips_asm.specs.declared.fault.AsmFault.{AsmFault}
@@ -27,7 +27,7 @@ either (Some n) b number next = refl
 
 -- the first line that isn't allowed
 pub bad_step : (old : Option ℕ) (number : ℕ) (line : List ℕ) (v : Option (List ℕ)) (lines rest : List (List ℕ)) (whole : Option ℕ) → v ≡ line_words line → lines ≡ line ∷ rest → option_or old (first_bad number lines) ≡ whole →
-  option_or (option_or old (cond (is_some v) None (Some number))) (first_bad (number + 1) rest) ≡ whole
+    option_or (option_or old (cond (is_some v) None (Some number))) (first_bad (number + 1) rest) ≡ whole
 bad_step old number line v lines rest whole e f h =
     either old (is_some v) number (first_bad (number + 1) rest)
     ∙ (ap (λ (o : Option (List ℕ)). option_or old (cond (is_some o) (first_bad (number + 1) rest) (Some number))) e
@@ -52,8 +52,8 @@ ok_words : (ws : List ℕ) → list_all is_allowed_word (words_if (allowed ws)) 
 ok_words [] = refl
 ok_words (w ∷ []) =
     elim (is_allowed_word w) as (λ b. is_allowed_word w ≡ b → list_all is_allowed_word (words_if (cond b (Some (w ∷ [])) None)) ≡ true) [
-      true ↦ λ e. and_from (is_allowed_word w) true e refl
-    | false ↦ λ e. refl
+      | true ↦ λ e. and_from (is_allowed_word w) true e refl
+      | false ↦ λ e. refl
     ] refl
 ok_words (w ∷ (v ∷ ws)) = refl
 
@@ -65,16 +65,16 @@ line_allowed : (line : List ℕ) → list_all is_allowed_word (words_if (line_wo
 unfolding line_words
 line_allowed line =
     elim (is_plain line) as (λ b. list_all is_allowed_word (words_if (cond b (of_assembled (assembled line)) None)) ≡ true) [
-      true ↦ result_words (assembled line)
-    | false ↦ refl
+      | true ↦ result_words (assembled line)
+      | false ↦ refl
     ]
 
 joined : (xs ys : List ℕ) → list_all is_allowed_word xs ≡ true → list_all is_allowed_word ys ≡ true → list_all is_allowed_word (xs ++ ys) ≡ true
 joined [] ys p q = q
 joined (x ∷ xs) ys p q = elim (is_allowed_word x) as (λ b. (b && list_all is_allowed_word xs) ≡ true → (b && list_all is_allowed_word (xs ++ ys)) ≡ true) [
-      true ↦ λ e. joined xs ys e q
-    | false ↦ λ e. e
-    ] p
+  | true ↦ λ e. joined xs ys e q
+  | false ↦ λ e. e
+] p
 
 pub words_allowed : (lines : List (List ℕ)) → are_allowed_words (words_in lines) ≡ true
 words_allowed [] = refl

@@ -1,6 +1,5 @@
 -- What contracts see of a line that was read.
-use Rattle.std.specs.Prelude.{ℕ, List, [], ◌∷◌, ◌++◌, Option, Some, None, if◌then◌else◌, is_some}
-use Rattle.std.specs.List.{slice_split}
+use Rattle.std.specs.Prelude.{ℕ, List, [], ◌∷◌, Option, Some, None}
 use Rattle.c0_asm_text.specs.declared.line.Line.{Line}
 use Rattle.c0_asm_text.specs.declared.line.Line.TheVariants.{Blank, Word, NotAllowed}
 use Rattle.std.specs.Borrow.{Bor}

@@ -1,14 +1,13 @@
 -- The rules that a unit has to meet, outside of statements and expressions.
-use Rattle.std.specs.Prelude.{◌≡◌, ◌≢◌, ℕ, ◌<◌, ◌≤◌, Bool, true, false, ◌||◌, List, [], ◌∷◌, ◌++◌, length, map, IsTrue, is_some, slice_get, Some}
-use Rattle.std.specs.List.{All, Any}
-use Rattle.c0_tree.specs.Tree.{CName, CTy, int, bool, pointer, named, array, CDecl, CStruct, CFunction, CUnit}
-use Rattle.c0_tree.specs.Primitives.{CPrimitive}
+use Rattle.std.specs.Prelude.{◌≡◌, ℕ, ◌≤◌, false, List, ◌++◌, length, map, IsTrue, is_some, slice_get, Some}
+use Rattle.std.specs.List.{All}
+use Rattle.c0_tree.specs.Tree.{CTy, int, bool, pointer, named, array, CDecl, CStruct, CFunction}
 use Rattle.c0_meaning.specs.Ty as ty
 use Rattle.c0_meaning.specs.Ty.{ty_of}
 use Rattle.c0_meaning.specs.Env.{Shape, shape_of, first_named}
-use Rattle.c0_meaning.specs.Words.{Holds, words, all_words}
+use Rattle.c0_meaning.specs.Words.{Holds, words}
 use Rattle.c0_meaning.specs.Declared.{MAX_TYPE_WORDS, has_empty_array, may_pass}
-use Rattle.c0_meaning.specs.Limits.{MAX_FUNCTION_NODES, MAX_UNIT_NODES, MAX_GLOBAL_WORDS, is_asm, locals_of, words_held, nodes_of, all_nodes, max_parameters, is_dispatch}
+use Rattle.c0_meaning.specs.Limits.{MAX_FUNCTION_NODES, is_asm, locals_of, nodes_of, max_parameters}
 use Rattle.c0_meaning.specs.Resolved.{IsResolved}
 
 -- each name in a type is that of a struct

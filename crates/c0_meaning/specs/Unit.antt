@@ -1,8 +1,8 @@
 -- The faults of a whole unit, and what a unit without faults meets.
-use Rattle.std.specs.Prelude.{◌≡◌, ℕ, suc, ◌^◌, ◌&&◌, nat_lt, nat_le, Bool, true, false, List, [], ◌∷◌, ◌++◌, length, map, IsTrue}
+use Rattle.std.specs.Prelude.{◌≡◌, ℕ, suc, ◌^◌, ◌&&◌, nat_lt, nat_le, Bool, true, List, [], ◌∷◌, ◌++◌, length, map, IsTrue}
 use Rattle.std.specs.List.{All, list_all}
 use Rattle.c0_tree.specs.declared.tree.Kind.TheVariants.{Global, Local, Function}
-use Rattle.c0_tree.specs.Tree.{CTy, CExpr, num, true_, false_, null, var, field, arrow, index, deref, address, unary, binary, CStmt, assign, call, new, choice, loop, CStmts, done, next, CDecl, CStruct, CBody, code, asm, CFunction, CUnit}
+use Rattle.c0_tree.specs.Tree.{CExpr, num, true_, false_, null, var, field, arrow, index, deref, address, unary, binary, CStmt, assign, call, new, choice, loop, CStmts, done, next, CStruct, CBody, code, asm, CFunction, CUnit}
 use Rattle.c0_tree.specs.Primitives.{CPrimitive}
 use Rattle.c0_meaning.specs.Ty.{ty_of}
 use Rattle.c0_meaning.specs.Ty as ty

@@ -9,57 +9,48 @@ ghost use Rattle.c0_meaning.specs.Words.{HoldsAsTested, WordsAreThose};
 /// Types are equal where they are written the same.
 pub fn types_are_equal_as_written()
     ensures { TypesEqualAsWritten }
-{
-}
+{}
 
 /// Of two faults one comes first.
 pub fn fault_order_is_total()
     ensures { OrderIsTotal }
-{
-}
+{}
 
 /// Where faults stand there is one that answers, and no second.
 pub fn least_fault_is_there()
     ensures { LeastIsThere }
-{
-}
+{}
 
 /// The running minimum over a list is its least fault.
 pub fn kept_fault_is_least()
     ensures { KeptIsLeast }
-{
-}
+{}
 
 /// The running minimum doesn't depend on the order in which faults are met.
 pub fn meeting_is_free_of_order()
     ensures free { MeetingIsFree }
     ensures joins { MeetingJoins }
-{
-}
+{}
 
 /// Whether a struct holds another is found by the test.
 pub fn holding_is_as_tested()
     ensures { HoldsAsTested }
-{
-}
+{}
 
 /// The words of a type by the words of its parts.
 pub fn words_are_those_of_the_parts()
     ensures { WordsAreThose }
-{
-}
+{}
 
 /// What has a type by the rules is exactly what no fault stands in, and it has one type.
 pub fn expressions_are_typed_or_faulty()
     ensures typed { TypedIsFaultless }
     ensures faultless { FaultlessIsTyped }
     ensures unique { HasOneType }
-{
-}
+{}
 
 /// Statements, conditions and returned expressions are typed by the rules exactly where no fault stands in them.
 pub fn statements_are_typed_or_faulty()
     ensures statements { StatementsAreFaultless }
     ensures tested { TestedIsFaultless }
-{
-}
+{}

@@ -50,9 +50,7 @@ fn type_words(ty: &CType, unit: &Unit) -> u32
 {
     match struct_in(ty) {
         None => elements(ty),
-        Some(number) => {
-            elements(ty) * struct_words(&unit.structs[number as usize], unit)
-        }
+        Some(number) => { elements(ty) * struct_words(&unit.structs[number as usize], unit) }
     }
 }
 

@@ -1,4 +1,4 @@
-use Rattle.std.proofs.Common.{◌≡◌, ◌==◌, ◌+◌, ◌∷◌, List, ℕ, take, drop, length, sym, ap, ◌∙◌}
+use Rattle.std.proofs.Common.{◌==◌, ◌+◌, ◌∷◌, List, ℕ, take, sym, ap, ◌∙◌}
 use Rattle.std.proofs.lemmas.List.{take_rest}
 use Rattle.mips_asm.specs.Text.{lines_of}
 use Rattle.c0_asm_text.proofs.Cuts.{first_part, only_part}

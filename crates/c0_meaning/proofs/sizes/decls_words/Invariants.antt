@@ -9,7 +9,7 @@ use Rattle.c0_meaning.proofs.sizes.decls_words.Given as goal
 abbrev pub invariant-loop-decl : goal.invariant-loop-decl
 invariant-loop-decl l = record {
   value :
-    l.words + all_words (shapes (unit_view l.unit)) (map typed_of (map decl_view (drop l.decl-index l.decls)))
-    ≡ all_words (shapes (unit_view l.unit)) (map typed_of (map decl_view l.decls));
+      l.words + all_words (shapes (unit_view l.unit)) (map typed_of (map decl_view (drop l.decl-index l.decls)))
+      ≡ all_words (shapes (unit_view l.unit)) (map typed_of (map decl_view l.decls));
   small : l.words ≤ l.decl-index * MAX_TYPE_WORDS;
 }
