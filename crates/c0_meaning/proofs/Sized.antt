@@ -17,7 +17,7 @@ use Rattle.c0_meaning.specs.Ty.{Ty, ty_of}
 use Rattle.c0_meaning.specs.Ty as ty
 use Rattle.c0_meaning.specs.Env.{Typed, Shape, first_named, shape_of, typed_of}
 use Rattle.c0_meaning.specs.Words.{is_made_of, have_field, holds, words, all_words}
-use Rattle.c0_meaning.specs.Declared.{MAX_TYPE_WORDS}
+use Rattle.c0_meaning.specs.DeclaredTypes.{MAX_TYPE_WORDS}
 use Rattle.c0_meaning.specs.Resolved.{IsResolved}
 use Rattle.c0_meaning.specs.Sound.{elements, struct_in, IsSized, IsSizedStruct, IsSizedFunction, AreSized}
 use Rattle.c0_meaning.proofs.Holding.{Among}

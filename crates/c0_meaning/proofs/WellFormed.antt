@@ -17,7 +17,7 @@ use Rattle.c0_meaning.specs.Ty as ty
 use Rattle.c0_meaning.specs.Env.{Env, Shape, first_named, fields_of, shape_of, typed_of, env_of}
 use Rattle.c0_meaning.specs.Fault.{fault, NAME_TWICE, STRUCT_HOLDS_ITSELF, TYPE_TOO_LARGE, EMPTY_ARRAY, TOO_MANY_PARAMETERS, TOO_MANY_NODES}
 use Rattle.c0_meaning.specs.Words.{fields_named, holds, words}
-use Rattle.c0_meaning.specs.Declared.{MAX_TYPE_WORDS, fault_if, unknown_structs, has_empty_array, is_too_large, type_faults, declared_faults, pass_fault, pass_faults}
+use Rattle.c0_meaning.specs.DeclaredTypes.{MAX_TYPE_WORDS, fault_if, unknown_structs, has_empty_array, is_too_large, type_faults, declared_faults, pass_fault, pass_faults}
 use Rattle.c0_meaning.specs.Names.{is_among, twice_faults, struct_name_faults, unit_name_faults, decl_name_faults}
 use Rattle.c0_meaning.specs.Limits.{MAX_FUNCTION_NODES, is_asm, locals_of, words_held, nodes_of, max_parameters}
 use Rattle.c0_meaning.specs.Resolved.{looked_up, resolved_type, resolved_decls, resolved_structs, IsResolved}
@@ -86,10 +86,10 @@ decls_sized structs kind k (d ∷ rest) h r =
     (decls_sized structs kind (suc k) rest (none_in_right (type_faults structs d.ty d.ty_span) (declared_faults structs rest) h) (tail_same _ _ _ _ r))
 
 -- a text that is not in a joined list is in none of its parts
-among_parts : (xs ys : List (List ℕ)) (x : List ℕ) → is_among (xs ++ ys) x ≡ false → (is_among xs x ≡ false) × (is_among ys x ≡ false)
+pub among_parts : (xs ys : List (List ℕ)) (x : List ℕ) → is_among (xs ++ ys) x ≡ false → (is_among xs x ≡ false) × (is_among ys x ≡ false)
 among_parts xs ys x h = or_parts (is_among xs x) (is_among ys x) (sym (list_any-append (λ t. bytes_eq t x) xs ys) ∙ h)
 
-not_twice : (b : Bool) (span : Span) → cond b (fault NAME_TWICE span ∷ []) [] ≡ [] → b ≡ false
+pub not_twice : (b : Bool) (span : Span) → cond b (fault NAME_TWICE span ∷ []) [] ≡ [] → b ≡ false
 not_twice false span h = refl
 not_twice true span h = cc
 
@@ -101,7 +101,7 @@ not_before before (s ∷ rest) (suc i) d h below =
     (among_parts before (s.name.text ∷ []) (get_or rest i d).name.text
     (not_before (before ++ s.name.text ∷ []) rest i d (none_in_right (cond (is_among before s.name.text) (fault NAME_TWICE s.name.span ∷ []) []) _ h) (omega arith))).0
 
-no_or : (b : Bool) → (b || false) ≡ false → b ≡ false
+pub no_or : (b : Bool) → (b || false) ≡ false → b ≡ false
 no_or true h = h
 no_or false h = h
 

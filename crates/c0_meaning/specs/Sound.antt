@@ -6,7 +6,7 @@ use Rattle.c0_meaning.specs.Ty.{ty_of}
 use Rattle.c0_meaning.specs.Ty as ty
 use Rattle.c0_meaning.specs.Env.{Shape, shape_of, typed_of}
 use Rattle.c0_meaning.specs.Words.{fields_named, holds, words}
-use Rattle.c0_meaning.specs.Declared.{MAX_TYPE_WORDS}
+use Rattle.c0_meaning.specs.DeclaredTypes.{MAX_TYPE_WORDS}
 use Rattle.c0_meaning.specs.Resolved.{IsResolved}
 use Rattle.c0_meaning.specs.Limits.{MAX_FUNCTION_NODES, locals_of}
 

@@ -2,8 +2,11 @@
 
 ghost use Rattle.c0_meaning.specs.Fault.{KeptIsLeast, LeastIsThere, MeetingIsFree, MeetingJoins, OrderIsTotal};
 ghost use Rattle.c0_meaning.specs.Judgement.{FaultlessIsTyped, HasOneType, TypedIsFaultless};
+ghost use Rattle.c0_meaning.specs.Rows.{AreNamesRight, AreSizesRight, AreTypesRight};
 ghost use Rattle.c0_meaning.specs.Rules.{StatementsAreFaultless, TestedIsFaultless};
 ghost use Rattle.c0_meaning.specs.Ty.{TypesEqualAsWritten};
+ghost use Rattle.c0_meaning.specs.Typed.{UnitsAreFaultless};
+ghost use Rattle.c0_meaning.specs.Unit.{FaultlessIsChecked};
 ghost use Rattle.c0_meaning.specs.Words.{HoldsAsTested, WordsAreThose};
 
 /// Types are equal where they are written the same.
@@ -54,3 +57,23 @@ pub fn statements_are_typed_or_faulty()
     ensures statements { StatementsAreFaultless }
     ensures tested { TestedIsFaultless }
 {}
+
+/// A kernel's unit in which no fault stands, its names resolved, is one that can be kept as checked.
+pub fn faultless_units_are_checked()
+    ensures { FaultlessIsChecked }
+{
+}
+
+/// Worked rows of the definitions of sizes, declared types and names.
+pub fn worked_rows()
+    ensures sizes { AreSizesRight }
+    ensures types { AreTypesRight }
+    ensures names { AreNamesRight }
+{
+}
+
+/// A unit is typed by the rules exactly where no fault stands in it.
+pub fn units_are_typed_or_faulty()
+    ensures { UnitsAreFaultless }
+{
+}
