@@ -1,9 +1,11 @@
 // A kernel's unit that is known to be typed.
 
 ghost use Rattle.std.specs.Prelude.{◌≡◌};
+ghost use Rattle.std.specs.Coded.{codes};
 ghost use Rattle.c0_tree.specs.Primitives.{kernel_primitives};
-ghost use Rattle.c0_tree.specs.Tree.{CUnit};
 ghost use Rattle.c0_tree.specs.View.{unit_view};
+ghost use Rattle.c0_tree.specs.declared.tree.Unit.{Unit as Source};
+ghost use Rattle.c0_tree.specs.contracts.tree.Unit as source;
 ghost use Rattle.c0_meaning.specs.Unit.{IsChecked, IsWellFormed};
 
 use c0_tree::Unit;
@@ -16,9 +18,11 @@ pub struct Checked {
 }
 
 impl Model for Checked {
-    ghost Value = { CUnit };
+    ghost Value = { Source };
 
-    ghost view = { λ c. unit_view c.unit };
+    ghost coded = { Prim.hlevel (codes, source.the_row.coded) };
+
+    ghost view = { λ c. c.unit };
 
     ghost invariant = { λ c. IsChecked (unit_view c.unit) };
 }
@@ -27,16 +31,16 @@ impl Checked {
     /// Keeps a unit that meets the rules.
     pub fn new(unit: Unit) -> Checked
         requires { IsChecked (unit_view unit) }
-        ensures { result ≡ unit_view unit }
+        ensures { result ≡ unit }
     {
         Checked { unit }
     }
 
     /// Lends the unit.
     pub fn unit(&self) -> &Unit
-        ensures same { unit_view result.now ≡ self.now }
-        ensures checked { IsChecked (unit_view result.now) }
-        ensures well_formed { IsWellFormed kernel_primitives (unit_view result.now) }
+        ensures same { result.now ≡ self.now }
+        ensures checked { IsChecked (unit_view self.now) }
+        ensures well_formed { IsWellFormed kernel_primitives (unit_view self.now) }
     {
         &self.unit
     }
