@@ -104,12 +104,12 @@ once_none before [] o = refl
 once_none before (x ∷ rest) o =
     join_none _ _ (cond-false (is_among before x.text) (fault NAME_TWICE x.span ∷ []) [] (o.new 0 x.text refl))
     (once_none (before ++ x.text ∷ []) rest
-      (record {
-        new = λ i y e. list_any-append (λ t. bytes_eq t y) before (x.text ∷ [])
+    (record {
+      new = λ i y e. list_any-append (λ t. bytes_eq t y) before (x.text ∷ [])
           ∙ or_from (is_among before y) (bytes_eq x.text y || false) (o.new (suc i) y e)
-            (or_from (bytes_eq x.text y) false (differ x.text y (λ same. let clash : 0 ≡ suc i = o.apart 0 (suc i) y (ap Some same) e in absurd (omega arith))) refl);
-        apart = λ i j y e f. let g : suc i ≡ suc j = o.apart (suc i) (suc j) y e f in omega arith;
-      }))
+          (or_from (bytes_eq x.text y) false (differ x.text y (λ same. let clash : 0 ≡ suc i = o.apart 0 (suc i) y (ap Some same) e in absurd (omega arith))) refl);
+      apart = λ i j y e f. let g : suc i ≡ suc j = o.apart (suc i) (suc j) y e f in omega arith;
+    }))
 
 none_once : (before : List (List ℕ)) (names : List CName) → twice_faults before names ≡ [] → AreSetOnce before (map (λ x. x.text) names)
 none_once before [] h = record { new = λ i x e. cc; apart = λ i j x e f. cc }
@@ -196,9 +196,10 @@ body_none env result (code locals stmts answer) t =
 body_none env result (asm text span words) t = refl
 
 none_body : (env : Env) (result : ty.Ty) (body : CBody) → faults_in env result body ≡ [] → IsTypedBody env result body
-none_body env result (code locals stmts answer) h =
-    ((statements_are_faultless (type_faults env.structs) env stmts).1 (none_in_left (stmts_faults (type_faults env.structs) env stmts) _ h),
-    (tested_is_faultless env result answer).1 (none_in_right (stmts_faults (type_faults env.structs) env stmts) _ h))
+none_body env result (code locals stmts answer) h = (
+  (statements_are_faultless (type_faults env.structs) env stmts).1 (none_in_left (stmts_faults (type_faults env.structs) env stmts) _ h),
+  (tested_is_faultless env result answer).1 (none_in_right (stmts_faults (type_faults env.structs) env stmts) _ h),
+)
 none_body env result (asm text span words) h = tt
 
 functions_none : (primitives : List CPrimitive) (u : CUnit) (functions : List CFunction) → All (IsTypedFunction primitives u) functions → functions_faults primitives u functions ≡ []

@@ -61,19 +61,16 @@ pub fn statements_are_typed_or_faulty()
 /// A kernel's unit in which no fault stands, its names resolved, is one that can be kept as checked.
 pub fn faultless_units_are_checked()
     ensures { FaultlessIsChecked }
-{
-}
+{}
 
 /// Worked rows of the definitions of sizes, declared types and names.
 pub fn worked_rows()
     ensures sizes { AreSizesRight }
     ensures types { AreTypesRight }
     ensures names { AreNamesRight }
-{
-}
+{}
 
 /// A unit is typed by the rules exactly where no fault stands in it.
 pub fn units_are_typed_or_faulty()
     ensures { UnitsAreFaultless }
-{
-}
+{}

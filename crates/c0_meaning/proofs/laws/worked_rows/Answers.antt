@@ -5,9 +5,17 @@ use Rattle.c0_meaning.proofs.laws.worked_rows.Goals as goal
 pub returns-clause-sizes : goal.returns-clause-sizes
 unfolding holds struct_words
 returns-clause-sizes c = record {
-    small = refl; nested = refl; product = refl; undefined = refl; through_pointer = refl; through_array = refl;
-    both = refl; merely = refl; cycle = refl; above = refl;
-  }
+  small = refl;
+  nested = refl;
+  product = refl;
+  undefined = refl;
+  through_pointer = refl;
+  through_array = refl;
+  both = refl;
+  merely = refl;
+  cycle = refl;
+  above = refl;
+}
 
 pub returns-clause-types : goal.returns-clause-types
 unfolding holds struct_words
