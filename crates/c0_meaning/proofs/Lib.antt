@@ -1,0 +1,14 @@
+pub mod Ty
+pub mod Holding
+pub mod Opening
+pub mod Capped
+pub mod Sized
+pub mod WellFormed
+pub mod Units
+pub mod Order
+pub mod Least
+pub mod Operands
+pub mod Typed
+pub mod Faultless
+pub mod Given
+pub mod Statements

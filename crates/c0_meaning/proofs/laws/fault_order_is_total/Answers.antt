@@ -1,0 +1,5 @@
+use Rattle.c0_meaning.proofs.Order.{order_is_total}
+use Rattle.c0_meaning.proofs.laws.fault_order_is_total.Goals as goal
+
+pub returns : goal.returns
+returns c = order_is_total

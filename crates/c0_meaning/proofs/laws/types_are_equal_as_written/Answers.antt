@@ -1,0 +1,5 @@
+use Rattle.c0_meaning.proofs.Ty.{equal_as_written}
+use Rattle.c0_meaning.proofs.laws.types_are_equal_as_written.Goals as goal
+
+pub returns : goal.returns
+returns c = equal_as_written

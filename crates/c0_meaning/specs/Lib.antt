@@ -1,0 +1,17 @@
+pub mod Ty
+pub mod Env
+pub mod Fault
+pub mod Words
+pub mod DeclaredTypes
+pub mod Names
+pub mod Asm
+pub mod Limits
+pub mod Resolved
+pub mod Sound
+pub mod Unit
+pub mod Rows
+pub mod Expression
+pub mod Judgement
+pub mod Statement
+pub mod Rules
+pub mod Typed

@@ -1,0 +1,11 @@
+//! What a C0 unit means: the types of its expressions and statements, and which faults stand in it.
+//!
+//! The definitions are in `specs/`, and the functions of [`laws`] carry what is proved of them.
+#![tactic(auto)]
+
+pub mod checked;
+pub mod laws;
+pub mod sizes;
+
+pub use checked::Checked;
+pub use sizes::{frame_words, words_of};
