@@ -1,3 +1,4 @@
 pub mod Names
 pub mod Met
 pub mod Scope
+pub mod Check
