@@ -1,4 +1,9 @@
 pub mod Ty
+pub mod Holding
+pub mod Opening
+pub mod Capped
+pub mod Sized
+pub mod WellFormed
 pub mod Order
 pub mod Least
 pub mod Operands

@@ -1,6 +1,15 @@
 pub mod Ty
 pub mod Env
 pub mod Fault
+pub mod Words
+pub mod Declared
+pub mod Names
+pub mod Asm
+pub mod Limits
+pub mod Resolved
+pub mod Typed
+pub mod Sound
+pub mod Unit
 pub mod Expression
 pub mod Judgement
 pub mod Statement

@@ -4,6 +4,7 @@ ghost use Rattle.c0_meaning.specs.Fault.{KeptIsLeast, LeastIsThere, MeetingIsFre
 ghost use Rattle.c0_meaning.specs.Judgement.{FaultlessIsTyped, HasOneType, TypedIsFaultless};
 ghost use Rattle.c0_meaning.specs.Rules.{StatementsAreFaultless, TestedIsFaultless};
 ghost use Rattle.c0_meaning.specs.Ty.{TypesEqualAsWritten};
+ghost use Rattle.c0_meaning.specs.Words.{HoldsAsTested, WordsAreThose};
 
 /// Types are equal where they are written the same.
 pub fn types_are_equal_as_written()
@@ -33,6 +34,18 @@ pub fn kept_fault_is_least()
 pub fn meeting_is_free_of_order()
     ensures free { MeetingIsFree }
     ensures joins { MeetingJoins }
+{
+}
+
+/// Whether a struct holds another is found by the test.
+pub fn holding_is_as_tested()
+    ensures { HoldsAsTested }
+{
+}
+
+/// The words of a type by the words of its parts.
+pub fn words_are_those_of_the_parts()
+    ensures { WordsAreThose }
 {
 }
 

@@ -4,3 +4,6 @@
 #![tactic(auto)]
 
 pub mod laws;
+pub mod sizes;
+
+pub use sizes::{frame_words, words_of};

@@ -1,0 +1,22 @@
+use Rattle.std.proofs.Common.{rules, ◌≡◌, ◌<◌, ℕ, length, subst, sym, ap, ◌∙◌}
+use Rattle.c0_tree.specs.declared.tree.Function.{Function}
+use Rattle.c0_tree.specs.Tree.{CFunction}
+use Rattle.c0_tree.specs.View.{unit_view, function_view}
+use Rattle.c0_meaning.specs.Limits.{frame}
+use Rattle.c0_meaning.specs.Sound.{shapes, IsSizedFunction}
+use Rattle.c0_meaning.proofs.Sized.{function_at, function_there}
+use Rattle.c0_meaning.proofs.WellFormed.{well_formed_sized, well_formed_functions}
+use Rattle.c0_meaning.proofs.sizes.frame_words.Goals as goal
+
+pub function_words-requires : goal.function_words-requires
+function_words-requires c =
+    record {
+      structs = well_formed_sized _ _ c.requires.well_formed.1;
+      function = subst (λ (f : Function). IsSizedFunction (shapes (unit_view c.args.unit.now)) (function_view f)) (sym c.index.ensures)
+        (function_at (shapes (unit_view c.args.unit.now)) c.args.unit.now.functions.items c.args.function c.index.result.now (well_formed_functions _ _ c.requires.well_formed.1) c.requires.in_range);
+    }
+
+pub returns : goal.returns
+returns c = λ f h.
+    c.function_words.ensures
+    ∙ ap (frame (shapes (unit_view c.args.unit.now))) (ap function_view c.index.ensures ∙ function_there c.args.unit.now.functions.items c.args.function c.index.result.now f h)

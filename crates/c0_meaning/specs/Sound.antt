@@ -1,0 +1,53 @@
+-- What sizes need of a unit: its structs are defined, small and resolved.
+use Rattle.std.specs.Prelude.{◌≡◌, ℕ, ◌*◌, ◌+◌, ◌<◌, ◌≤◌, false, List, map, length, Option, Some, None}
+use Rattle.std.specs.List.{All}
+use Rattle.c0_tree.specs.Tree.{CTy, int, bool, pointer, named, array, CName, CDecl, CStruct, CFunction, CUnit}
+use Rattle.c0_meaning.specs.Ty.{ty_of}
+use Rattle.c0_meaning.specs.Ty as ty
+use Rattle.c0_meaning.specs.Env.{Shape, shape_of, typed_of}
+use Rattle.c0_meaning.specs.Words.{fields_named, holds, words}
+use Rattle.c0_meaning.specs.Declared.{MAX_TYPE_WORDS, has_empty_array}
+use Rattle.c0_meaning.specs.Resolved.{IsResolved}
+use Rattle.c0_meaning.specs.Limits.{MAX_FUNCTION_NODES, locals_of}
+
+-- how many elements that are no arrays a type has
+abbrev pub elements : CTy → ℕ
+elements int = 1
+elements bool = 1
+elements (pointer t) = 1
+elements (named x) = 1
+elements (array t n) = n * elements t
+
+-- the struct that a type is, or is an array of
+abbrev pub struct_in : CTy → Option CName
+struct_in int = None
+struct_in bool = None
+struct_in (pointer t) = None
+struct_in (named x) = Some x
+struct_in (array t n) = struct_in t
+
+-- the shapes of a unit's structs
+abbrev pub shapes : CUnit → List Shape
+shapes u = map shape_of u.structs
+
+-- a type of few words, its names resolved
+pub record IsSized (structs : List Shape) (t : CTy) : Type 0 where
+  pub resolved : IsResolved structs t
+  pub small : words structs (ty_of t) ≤ MAX_TYPE_WORDS
+
+-- a struct that is the first of its name, doesn't hold itself, and has few words and fields of few words
+pub record IsSizedStruct (structs : List Shape) (s : CStruct) : Type 0 where
+  pub first : fields_named structs s.name.text ≡ map typed_of s.fields
+  pub loose : holds structs s.name.text s.name.text ≡ false
+  pub small : words structs (ty.named s.name.text) ≤ MAX_TYPE_WORDS
+  pub fields : All (λ d. IsSized structs d.ty) s.fields
+
+-- each struct is so
+abbrev pub AreSized : List CStruct → Type 0
+AreSized structs = All (IsSizedStruct (map shape_of structs)) structs
+
+-- a function whose parameters and locals have few words and are few
+pub record IsSizedFunction (structs : List Shape) (f : CFunction) : Type 0 where
+  pub params : All (λ d. IsSized structs d.ty) f.params
+  pub locals : All (λ d. IsSized structs d.ty) (locals_of f.body)
+  pub few : length f.params + length (locals_of f.body) ≤ MAX_FUNCTION_NODES
