@@ -1,3 +1,4 @@
 pub mod NamesLemmas
 pub mod Numbered
 pub mod Node
+pub mod StructsTell

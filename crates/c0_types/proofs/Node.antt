@@ -15,6 +15,10 @@ pub kept_all-append : (met : Option Fault) (fs gs : List Fault) → kept_all met
 kept_all-append met [] gs = refl
 kept_all-append met (f ∷ fs) gs = kept_all-append (kept met f) fs gs
 
+-- faults that are met one list after the other
+pub two_met : (m m1 m2 : Option Fault) (fs gs : List Fault) → m1 ≡ kept_all m fs → m2 ≡ kept_all m1 gs → m2 ≡ kept_all m (fs ++ gs)
+two_met m m1 m2 fs gs a b = b ∙ (ap (λ x. kept_all x gs) a ∙ sym (kept_all-append m fs gs))
+
 -- the same of an expression that is seen otherwise
 pub seen : (env : Env) (x y : CExpr) (t : Option Ty) (m n : Option Fault) (new after : CExpr) → x ≡ y → new ≡ after → Checks env y t m n after → Checks env x t m n new
 seen env x y t m n new after e k w = (

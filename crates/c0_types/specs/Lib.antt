@@ -2,3 +2,4 @@ pub mod Names
 pub mod Met
 pub mod Scope
 pub mod Check
+pub mod Structs

@@ -8,3 +8,4 @@ pub mod names;
 pub mod rules;
 pub mod scope;
 pub mod shape;
+pub mod types;
