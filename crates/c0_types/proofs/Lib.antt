@@ -2,3 +2,4 @@ pub mod NamesLemmas
 pub mod Numbered
 pub mod Node
 pub mod StructsTell
+pub mod PartLemmas

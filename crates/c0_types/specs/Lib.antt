@@ -3,3 +3,4 @@ pub mod Met
 pub mod Scope
 pub mod Check
 pub mod Structs
+pub mod Stmts

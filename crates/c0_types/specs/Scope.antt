@@ -1,5 +1,5 @@
 -- What contracts see of the names that a body is checked with.
-use Rattle.std.specs.Prelude.{◌≡◌, ◌+◌, get_or, ◌<◌, ◌^◌, ℕ, List, map, ◌++◌, length, Bool, true, false, Option, Some, None, slice_get}
+use Rattle.std.specs.Prelude.{◌≡◌, ◌+◌, min, get_or, ◌<◌, ◌^◌, ℕ, List, map, ◌++◌, length, Bool, true, false, Option, Some, None, slice_get}
 use Rattle.std.specs.Option.{option_map}
 use Rattle.std.specs.Borrow.{Bor}
 use Rattle.std.specs.declared.vec.Vec.{Vec}
@@ -11,14 +11,16 @@ use Rattle.c0_tree.specs.declared.tree.Function.{Function}
 use Rattle.c0_tree.specs.declared.primitive.Primitive.{Primitive}
 use Rattle.c0_tree.specs.View.{type_view, decl_view, struct_view, function_view}
 use Rattle.c0_tree.specs.Primitives.{primitive_view}
-use Rattle.c0_meaning.specs.Ty.{Ty, int, bool, pointer, ty_of}
+use Rattle.c0_meaning.specs.Ty.{Ty, int, bool, pointer, named, ty_of}
 use Rattle.c0_meaning.specs.Env.{Typed, Shape, Signature, Env, typed_of, shape_of, signature_of, primitive_signature, first_named, callee_of}
 use Rattle.c0_meaning.specs.Env as spec
 use Rattle.c0_tree.specs.declared.tree.Kind.TheVariants as kind
 use Rattle.c0_types.specs.declared.scope.Variable.{Variable}
 use Rattle.c0_types.specs.declared.scope.Callee.{Callee}
 use Rattle.c0_types.specs.declared.scope.Callee.TheVariants.{Primitive as CallsPrimitive, Function as CallsFunction}
+use Rattle.c0_meaning.specs.Words.{words}
 use Rattle.c0_types.specs.Names.{look, number_named}
+use Rattle.c0_types.specs.Structs.{WORDS_CAP}
 use Rattle.c0_types.specs.declared.scope.Scope.{Scope}
 use Rattle.c0_types.specs.declared.scope.Found.{Found}
 use Rattle.c0_types.specs.declared.scope.Found.TheVariants.{Nothing, Int, Bool as Boolean, To, Of}
@@ -87,6 +89,8 @@ pub record FieldsTell {A S : Type 0} (names : List (IndexMap (Vec ℕ A) ℕ S))
 -- the maps of a scope tell the numbers of its lists, and those of parameters and locals fit their type
 pub record Knows (scope : Scope) : Type 0 where
   pub structs : Tells (λ s. s.text) scope.struct_names.now (map shape_view scope.structs.now)
+  pub sizes : (text : List ℕ) (n : ℕ) → look scope.struct_names.now text ≡ Some n
+    → get_or scope.struct_words.now n 0 ≡ min (words (map shape_view scope.structs.now) (named text)) WORDS_CAP
   pub fields : FieldsTell scope.field_names.now scope.structs.now
   pub globals : Tells (λ v. v.text) scope.global_names.now (map typed_view scope.globals.now)
   pub functions : Tells (λ s. s.text) scope.function_names.now (map signature_view scope.functions.now)

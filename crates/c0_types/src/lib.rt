@@ -5,6 +5,8 @@ pub mod check;
 pub mod fault;
 pub mod form;
 pub mod names;
+pub mod need;
+pub mod parts;
 pub mod rules;
 pub mod scope;
 pub mod shape;

@@ -43,8 +43,8 @@ pub fn element<'a>(span: Span, part: Form<'a>, index: Form<'_>, least: &mut Opti
     }
 }
 
-// Whether there is no type.
-fn is_nothing(form: Form<'_>) -> bool
+/// Whether there is no type.
+pub fn is_nothing(form: Form<'_>) -> bool
     ensures { result ≡ is_none (form_view form.entry) }
 {
     match form {
@@ -306,8 +306,8 @@ fn bools<'a>(
     }
 }
 
-// Whether it is an int, a bool or a pointer.
-fn is_scalar_form(form: Form<'_>) -> bool
+/// Whether it is an int, a bool or a pointer.
+pub fn is_scalar_form(form: Form<'_>) -> bool
     ensures { IfSome (form_view form.entry) (λ t. result ≡ is_scalar t) }
 {
     match form {

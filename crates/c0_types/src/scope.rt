@@ -15,6 +15,8 @@ pub struct Scope<'a> {
     pub structs: &'a [StructDef],
     /// The number of the struct of each name.
     pub struct_names: &'a Names,
+    /// The words of each struct, up to one more than it may have.
+    pub struct_words: &'a [u32],
     /// For each struct the number of the field of each name.
     pub field_names: &'a [Names],
     /// The globals of the unit.
