@@ -3,3 +3,4 @@ pub mod Numbered
 pub mod Node
 pub mod StructsTell
 pub mod PartLemmas
+pub mod InPlace

@@ -9,7 +9,7 @@ use Rattle.c0_meaning.specs.Fault.{Fault, kept_all}
 use Rattle.c0_meaning.specs.Expression.{span_of, resolved}
 use Rattle.c0_meaning.specs.Declared.{type_faults}
 use Rattle.c0_meaning.specs.Resolved.{resolved_type}
-use Rattle.c0_meaning.specs.Statement.{given_faults, deep_faults, left_type, left_faults, stmt_faults, stmts_faults, stmt_resolved, stmts_resolved}
+use Rattle.c0_meaning.specs.Statement.{args_faults, given_faults, deep_faults, left_type, left_faults, stmt_faults, stmts_faults, stmt_resolved, stmts_resolved}
 
 -- an expression is checked where a type may be asked: its faults are met, and its names are resolved
 abbrev pub ChecksGiven : Env → Option Ty → CExpr → Option Fault → Option Fault → CExpr → Type 0
@@ -47,3 +47,7 @@ ChecksStmt env s old new after = (new ≡ kept_all old (faults_of_stmt env s)) �
 -- statements are checked
 abbrev pub ChecksStmts : Env → CStmts → Option Fault → Option Fault → CStmts → Type 0
 ChecksStmts env ss old new after = (new ≡ kept_all old (faults_of_stmts env ss)) × (after ≡ resolved_of_stmts env ss)
+
+-- arguments are checked, of which these types are asked
+abbrev pub ChecksArgs : Env → List Ty → List CExpr → Option Fault → Option Fault → List CExpr → Type 0
+ChecksArgs env params es old new after = (new ≡ kept_all old (args_faults env params es)) × (after ≡ map (resolved env) es)

@@ -1,6 +1,7 @@
 //! The check of a C0 unit: it types expressions and statements, resolves their names in place, and finds the fault that answers.
 #![tactic(auto)]
 
+pub mod calls;
 pub mod check;
 pub mod fault;
 pub mod form;
