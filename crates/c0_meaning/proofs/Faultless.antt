@@ -9,7 +9,7 @@ use Rattle.c0_tree.specs.Tree.{CName, CExpr, num, true_, false_, null, var, fiel
 use Rattle.c0_meaning.specs.Ty.{Ty, int, bool, pointer, named, array, same_ty, is_scalar}
 use Rattle.c0_meaning.specs.Env.{Env, Typed, Variable, variable_named, field_named}
 use Rattle.c0_meaning.specs.Fault.{Fault, fault, WRONG_TYPE}
-use Rattle.c0_meaning.specs.Expression.{Verdict, has, wrong, given, own, one, both, span_of, is_place, is_local, is_null, is_pointer, filled, asked, asked_faults, variable_rule, member_rule, member, target, field_rule, place_field_rule, arrow_rule, element_rule, index_rule, deref_rule, address_rule, unary_rule, ints_rule, bools_rule, alike_rule, binary_rule, compares, asks, verdict, type_of, faults}
+use Rattle.c0_meaning.specs.Expression.{Verdict, has, wrong, given, own, one, both, span_of, is_place, is_local, is_null, is_pointer, filled, asked, asked_faults, variable_rule, sought_rule, member, target, field_rule, place_field_rule, arrow_rule, element_rule, index_rule, deref_rule, address_rule, unary_rule, ints_rule, bools_rule, alike_rule, binary_rule, compares, asks, verdict, type_of, faults}
 use Rattle.c0_meaning.specs.Judgement.{IsArithmetic, add, sub, mul, div, rem, IsOrder, lt, le, gt, ge, IsEquality, eq, ne, IsLogical, and, or, HasType, a_number, a_true, a_false, a_variable, a_field, a_target_field, an_element, a_target, an_address, a_negative, a_negation, arithmetic, order, logic, equality, null_left, null_right, FaultlessIsTyped}
 use Rattle.c0_meaning.proofs.Ty.{equal-same_ty}
 use Rattle.c0_meaning.proofs.Operands.{right_free, Filled, filled_tells}
@@ -108,12 +108,12 @@ of_address env s at e t true true p l h x = nonempty x
 of_address env s at e t false l' p l h x = nonempty x
 
 of_member : (env : Env) (s : Span) (e : CExpr) (f : CName) (x : List ℕ) (found : Option (ℕ × Typed)) → is_place e ≡ true → HasType env e (named x)
-    → field_named env x f.text ≡ found → own (member_rule f found) ≡ [] → IsTyped env (field s e f)
+    → field_named env x f.text ≡ found → own (sought_rule f.span found) ≡ [] → IsTyped env (field s e f)
 of_member env s e f x (Some p) place h found k = (p.1.ty, a_field place h found)
 of_member env s e f x None place h found k = nonempty k
 
 of_struct : (env : Env) (s : Span) (e : CExpr) (f : CName) (t : Ty) → is_place e ≡ true → HasType env e t
-    → own (field_rule s f (member env (Some t) f.text) t) ≡ [] → IsTyped env (field s e f)
+    → own (field_rule s f.span (member env (Some t) f.text) t) ≡ [] → IsTyped env (field s e f)
 of_struct env s e f (named x) place h k = of_member env s e f x (field_named env x f.text) place h refl k
 of_struct env s e f int place h k = nonempty k
 of_struct env s e f bool place h k = nonempty k
@@ -121,17 +121,17 @@ of_struct env s e f (pointer t) place h k = nonempty k
 of_struct env s e f (array t n) place h k = nonempty k
 
 of_field : (env : Env) (s at : Span) (e : CExpr) (f : CName) (t : Ty) (p : Bool) → is_place e ≡ p → HasType env e t
-    → own (place_field_rule s p at f (member env (Some t) f.text) t) ≡ [] → IsTyped env (field s e f)
+    → own (place_field_rule s p at f.span (member env (Some t) f.text) t) ≡ [] → IsTyped env (field s e f)
 of_field env s at e f t true place h k = of_struct env s e f t place h k
 of_field env s at e f t false place h k = nonempty k
 
 of_target_member : (env : Env) (s : Span) (e : CExpr) (f : CName) (x : List ℕ) (found : Option (ℕ × Typed)) → HasType env e (pointer (named x))
-    → field_named env x f.text ≡ found → own (member_rule f found) ≡ [] → IsTyped env (arrow s e f)
+    → field_named env x f.text ≡ found → own (sought_rule f.span found) ≡ [] → IsTyped env (arrow s e f)
 of_target_member env s e f x (Some p) h found k = (p.1.ty, a_target_field h found)
 of_target_member env s e f x None h found k = nonempty k
 
 of_target_struct : (env : Env) (s : Span) (e : CExpr) (f : CName) (t : Ty) → HasType env e (pointer t)
-    → own (field_rule s f (member env (Some t) f.text) t) ≡ [] → IsTyped env (arrow s e f)
+    → own (field_rule s f.span (member env (Some t) f.text) t) ≡ [] → IsTyped env (arrow s e f)
 of_target_struct env s e f (named x) h k = of_target_member env s e f x (field_named env x f.text) h refl k
 of_target_struct env s e f int h k = nonempty k
 of_target_struct env s e f bool h k = nonempty k
@@ -139,7 +139,7 @@ of_target_struct env s e f (pointer t) h k = nonempty k
 of_target_struct env s e f (array t n) h k = nonempty k
 
 of_arrow : (env : Env) (s : Span) (e : CExpr) (f : CName) (t : Ty) → HasType env e t
-    → own (arrow_rule s f (member env (target (Some t)) f.text) t) ≡ [] → IsTyped env (arrow s e f)
+    → own (arrow_rule s f.span (member env (target (Some t)) f.text) t) ≡ [] → IsTyped env (arrow s e f)
 of_arrow env s e f (pointer t) h k = of_target_struct env s e f t h k
 of_arrow env s e f int h k = nonempty k
 of_arrow env s e f bool h k = nonempty k
@@ -213,10 +213,10 @@ faultless_is_typed env (var y) x = of_variable env y (variable_named env y.text)
 faultless_is_typed env (field s e f) x =
     let a = faultless_is_typed env e (left_nil (faults env e) _ x) in
     of_field env s (span_of e) e f a.0 (is_place e) refl a.1
-    (open_one env e a.0 (λ o. one o (place_field_rule s (is_place e) (span_of e) f (member env o f.text))) a.1 (right_nil (faults env e) _ x))
+    (open_one env e a.0 (λ o. one o (place_field_rule s (is_place e) (span_of e) f.span (member env o f.text))) a.1 (right_nil (faults env e) _ x))
 faultless_is_typed env (arrow s e f) x =
     let a = faultless_is_typed env e (left_nil (faults env e) _ x) in
-    of_arrow env s e f a.0 a.1 (open_one env e a.0 (λ o. one o (arrow_rule s f (member env (target o) f.text))) a.1 (right_nil (faults env e) _ x))
+    of_arrow env s e f a.0 a.1 (open_one env e a.0 (λ o. one o (arrow_rule s f.span (member env (target o) f.text))) a.1 (right_nil (faults env e) _ x))
 faultless_is_typed env (index s e i) x =
     let a = faultless_is_typed env e (left_nil (faults env e) _ x) in
     let r = right_nil (faults env e) _ x in

@@ -140,10 +140,10 @@ abbrev pub variable_rule : CName → Option Variable → Verdict
 variable_rule x None = wrong (fault UNKNOWN_NAME x.span)
 variable_rule x (Some v) = has v.ty
 
--- a field that was sought
-abbrev pub member_rule : CName → Option (ℕ × Typed) → Verdict
-member_rule f None = wrong (fault UNKNOWN_NAME f.span)
-member_rule f (Some found) = has found.1.ty
+-- a field that was sought by a name at this span
+abbrev pub sought_rule : Span → Option (ℕ × Typed) → Verdict
+sought_rule at None = wrong (fault UNKNOWN_NAME at)
+sought_rule at (Some found) = has found.1.ty
 
 -- the field of this name, where a type is a struct
 abbrev pub member : Env → Option Ty → List ℕ → Option (ℕ × Typed)
@@ -163,25 +163,25 @@ target (Some (pointer t)) = Some t
 target (Some (named x)) = None
 target (Some (array t n)) = None
 
--- a field of a value of a type
-abbrev pub field_rule : Span → CName → Option (ℕ × Typed) → Ty → Verdict
-field_rule s f found int = wrong (fault WRONG_TYPE s)
-field_rule s f found bool = wrong (fault WRONG_TYPE s)
-field_rule s f found (pointer t) = wrong (fault WRONG_TYPE s)
-field_rule s f found (named x) = member_rule f found
-field_rule s f found (array t n) = wrong (fault WRONG_TYPE s)
+-- a field of a value of a type: where the field's name stands, and the field that the type has
+abbrev pub field_rule : Span → Span → Option (ℕ × Typed) → Ty → Verdict
+field_rule s at found int = wrong (fault WRONG_TYPE s)
+field_rule s at found bool = wrong (fault WRONG_TYPE s)
+field_rule s at found (pointer t) = wrong (fault WRONG_TYPE s)
+field_rule s at found (named x) = sought_rule at found
+field_rule s at found (array t n) = wrong (fault WRONG_TYPE s)
 
--- `e.f`: whether e is a place and where it stands, the field that e's type has, and e's type
-abbrev pub place_field_rule : Span → Bool → Span → CName → Option (ℕ × Typed) → Ty → Verdict
-place_field_rule s place at f found t = if place then field_rule s f found t else wrong (fault NOT_A_PLACE at)
+-- `e.f`: whether e is a place and where it stands, where f stands and the field that e's type has, and e's type
+abbrev pub place_field_rule : Span → Bool → Span → Span → Option (ℕ × Typed) → Ty → Verdict
+place_field_rule s place part at found t = if place then field_rule s at found t else wrong (fault NOT_A_PLACE part)
 
--- `e->f`: the field that the type behind the pointer has, and e's type
-abbrev pub arrow_rule : Span → CName → Option (ℕ × Typed) → Ty → Verdict
-arrow_rule s f found int = wrong (fault WRONG_TYPE s)
-arrow_rule s f found bool = wrong (fault WRONG_TYPE s)
-arrow_rule s f found (pointer t) = field_rule s f found t
-arrow_rule s f found (named x) = wrong (fault WRONG_TYPE s)
-arrow_rule s f found (array t n) = wrong (fault WRONG_TYPE s)
+-- `e->f`: where f stands and the field that the type behind the pointer has, and e's type
+abbrev pub arrow_rule : Span → Span → Option (ℕ × Typed) → Ty → Verdict
+arrow_rule s at found int = wrong (fault WRONG_TYPE s)
+arrow_rule s at found bool = wrong (fault WRONG_TYPE s)
+arrow_rule s at found (pointer t) = field_rule s at found t
+arrow_rule s at found (named x) = wrong (fault WRONG_TYPE s)
+arrow_rule s at found (array t n) = wrong (fault WRONG_TYPE s)
 
 -- an element, by the types of the place and of the index
 abbrev pub element_rule : Span → Ty → Ty → Verdict
@@ -269,8 +269,8 @@ verdict env (false_ s) = has bool
 verdict env (null s) = wrong (fault WRONG_TYPE s)
 verdict env (var x) = variable_rule x (variable_named env x.text)
 verdict env (field s e f) =
-    one (given (verdict env e)) (place_field_rule s (is_place e) (span_of e) f (member env (given (verdict env e)) f.text))
-verdict env (arrow s e f) = one (given (verdict env e)) (arrow_rule s f (member env (target (given (verdict env e))) f.text))
+    one (given (verdict env e)) (place_field_rule s (is_place e) (span_of e) f.span (member env (given (verdict env e)) f.text))
+verdict env (arrow s e f) = one (given (verdict env e)) (arrow_rule s f.span (member env (target (given (verdict env e))) f.text))
 verdict env (index s e i) = both (given (verdict env e)) (given (verdict env i)) (index_rule s (is_place e) (span_of e))
 verdict env (deref s e) = one (given (verdict env e)) (deref_rule s)
 verdict env (address s e) = one (given (verdict env e)) (address_rule (is_place e) (is_local env e) (span_of e))

@@ -1,6 +1,7 @@
 // Faults, and the least of those met.
 
 ghost use Rattle.std.specs.Prelude.{◌≡◌};
+ghost use Rattle.c0_meaning.specs.DeclaredTypes.{fault_if};
 ghost use Rattle.c0_meaning.specs.Fault as spec;
 ghost use Rattle.c0_types.specs.Met.{fault_view, met_view, number_of};
 
@@ -132,4 +133,13 @@ pub fn meet_at(least: &mut Option<Fault>, mistake: Mistake, span: Span)
             line: 0,
         },
     );
+}
+
+/// Keeps the least of the faults met before and, where something is wrong, a mistake at this span.
+pub fn meet_if(least: &mut Option<Fault>, wrong: bool, mistake: Mistake, span: Span)
+    ensures { met_view least.new ≡ spec.kept_all (met_view least.old) (fault_if wrong (number_of mistake) span) }
+{
+    if wrong {
+        meet_at(least, mistake, span);
+    }
 }

@@ -1,0 +1,53 @@
+-- What contracts see of the check of statements.
+use Rattle.std.specs.Prelude.{◌≡◌, ℕ, List, [], ◌++◌, map, Option, Some, None}
+use Rattle.c0_tree.specs.declared.tree.Span.{Span}
+use Rattle.c0_tree.specs.Tree.{CTy, CExpr, CStmt, CStmts}
+use Rattle.c0_tree.specs.Size.{need}
+use Rattle.c0_meaning.specs.Ty.{Ty}
+use Rattle.c0_meaning.specs.Env.{Env}
+use Rattle.c0_meaning.specs.Fault.{Fault, kept_all}
+use Rattle.c0_meaning.specs.Expression.{span_of, resolved}
+use Rattle.c0_meaning.specs.DeclaredTypes.{type_faults}
+use Rattle.c0_meaning.specs.Resolved.{resolved_type}
+use Rattle.c0_meaning.specs.Statement.{args_faults, given_faults, deep_faults, left_type, left_faults, stmt_faults, stmts_faults, stmt_resolved, stmts_resolved}
+
+-- an expression is checked where a type may be asked: its faults are met, and its names are resolved
+abbrev pub ChecksGiven : Env → Option Ty → CExpr → Option Fault → Option Fault → CExpr → Type 0
+ChecksGiven env want e old new after = (new ≡ kept_all old (given_faults env want e)) × (after ≡ resolved env e)
+
+-- a condition or a returned expression is checked
+abbrev pub ChecksTested : Env → Option Ty → CExpr → Option Fault → Option Fault → CExpr → Type 0
+ChecksTested env want e old new after =
+    (new ≡ kept_all old (given_faults env want e ++ deep_faults (span_of e) (need e))) × (after ≡ resolved env e)
+
+-- a left side is checked
+abbrev pub ChecksLeft : Env → CExpr → Option Ty → Option Fault → Option Fault → CExpr → Type 0
+ChecksLeft env p type old new after = (type ≡ left_type env p) × (new ≡ kept_all old (left_faults env p)) × (after ≡ resolved env p)
+
+-- the faults of a statement in an environment
+abbrev pub faults_of_stmt : Env → CStmt → List Fault
+faults_of_stmt env s = stmt_faults (type_faults env.structs) env s
+
+-- the faults of a list of statements, in an environment
+abbrev pub faults_of_stmts : Env → CStmts → List Fault
+faults_of_stmts env ss = stmts_faults (type_faults env.structs) env ss
+
+-- a statement with its names resolved
+abbrev pub resolved_of_stmt : Env → CStmt → CStmt
+resolved_of_stmt env s = stmt_resolved (resolved_type env.structs) env s
+
+-- a list of statements with its names resolved
+abbrev pub resolved_of_stmts : Env → CStmts → CStmts
+resolved_of_stmts env ss = stmts_resolved (resolved_type env.structs) env ss
+
+-- a statement is checked
+abbrev pub ChecksStmt : Env → CStmt → Option Fault → Option Fault → CStmt → Type 0
+ChecksStmt env s old new after = (new ≡ kept_all old (faults_of_stmt env s)) × (after ≡ resolved_of_stmt env s)
+
+-- statements are checked
+abbrev pub ChecksStmts : Env → CStmts → Option Fault → Option Fault → CStmts → Type 0
+ChecksStmts env ss old new after = (new ≡ kept_all old (faults_of_stmts env ss)) × (after ≡ resolved_of_stmts env ss)
+
+-- arguments are checked, of which these types are asked
+abbrev pub ChecksArgs : Env → List Ty → List CExpr → Option Fault → Option Fault → List CExpr → Type 0
+ChecksArgs env params es old new after = (new ≡ kept_all old (args_faults env params es)) × (after ≡ map (resolved env) es)
