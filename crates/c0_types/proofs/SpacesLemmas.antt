@@ -7,7 +7,9 @@ use mathlib.Core.Path.{fun_ext}
 use Rattle.c0_tree.specs.Tree.{CName, CDecl}
 use Rattle.c0_meaning.specs.Fault.{Fault, fault, kept, kept_all, NAME_TWICE}
 use Rattle.c0_types.specs.Names.{number_named}
-use Rattle.c0_types.specs.Spaces.{twice_by}
+use Rattle.c0_types.specs.Spaces.{twice_by, TwiceByTestIsTwice}
+use Rattle.c0_meaning.specs.Names.{is_among, twice_faults}
+use Rattle.std.proofs.lemmas.List.Folds.{list_any-append}
 
 numbers_in : (b : Bool) (o : Option ℕ) (n : ℕ) (rest here : Option ℕ) (e : here ≡ cond b (Some n) rest) → option_or (option_or o (cond b (Some n) None)) rest ≡ option_or o here
 numbers_in b (Some v) n rest here e = refl
@@ -45,3 +47,18 @@ met_step old new x rest n m m' names e =
     ∙ (ap (λ (seen : List ℕ → Bool). kept_all (kept_all m (cond (is_some (old x.text)) (fault NAME_TWICE x.span ∷ []) [])) (twice_by seen rest))
         (fun_ext (λ q. ap is_some (names q) ∙ seen_more (old q) (bytes_eq x.text q) n))
     ∙ sym (joined m (cond (is_some (old x.text)) (fault NAME_TWICE x.span ∷ []) []) (twice_by (λ q. is_some (old q) || bytes_eq x.text q) rest)))
+
+among_more : (before : List (List ℕ)) (x q : List ℕ) (b : Bool) → b ≡ is_among before q → (b || bytes_eq x q) ≡ is_among (before ++ x ∷ []) q
+among_more before x q b e =
+    ap (λ (c : Bool). c || bytes_eq x q) e ∙ (ap (λ (c : Bool). is_among before q || c) (sym (or_false (bytes_eq x q))) ∙ sym (list_any-append (λ t. bytes_eq t q) before (x ∷ [])))
+  where
+    or_false : (c : Bool) → (c || false) ≡ c
+    or_false true = refl
+    or_false false = refl
+
+pub twice_by_is : TwiceByTestIsTwice
+twice_by_is before [] seen h = refl
+twice_by_is before (x ∷ rest) seen h =
+    ap (λ (b : Bool). cond b (fault NAME_TWICE x.span ∷ []) [] ++ twice_by (λ q. seen q || bytes_eq x.text q) rest) (h x.text)
+    ∙ ap (λ (fs : List Fault). cond (is_among before x.text) (fault NAME_TWICE x.span ∷ []) [] ++ fs)
+      (twice_by_is (before ++ x.text ∷ []) rest (λ q. seen q || bytes_eq x.text q) (λ q. among_more before x.text q (seen q) (h q)))
