@@ -3,4 +3,5 @@
 
 pub mod fault;
 pub mod names;
+pub mod nodes;
 pub mod spaces;

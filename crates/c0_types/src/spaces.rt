@@ -56,5 +56,4 @@ pub fn declare_all(
 /// A law: by a test of what is set before, the names set twice are those by the list of what is set before.
 pub fn twice_by_test_is_twice()
     ensures { TwiceByTestIsTwice }
-{
-}
+{}
