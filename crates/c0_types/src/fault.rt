@@ -103,7 +103,8 @@ impl Fault {
     fn is_shorter(&self, other: &Fault) -> bool
         ensures { result ≡ spec.comes_shorter (fault_view self.now) (fault_view other.now) }
     {
-        self.span.end < other.span.end || (self.span.end == other.span.end && self.line < other.line)
+        self.span.end < other.span.end
+            || (self.span.end == other.span.end && self.line < other.line)
     }
 }
 

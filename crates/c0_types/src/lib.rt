@@ -6,6 +6,7 @@ pub mod check;
 pub mod fault;
 pub mod form;
 pub mod names;
+pub mod nodes;
 pub mod spaces;
 pub mod need;
 pub mod parts;

@@ -4,7 +4,7 @@ ghost use Rattle.std.specs.Prelude.{◌≡◌, ◌<◌, ◌+◌, ◌^◌, ◌∷
 ghost use Rattle.std.specs.Str.{bytes_eq};
 ghost use Rattle.std.specs.Option.{option_or};
 ghost use Rattle.c0_meaning.specs.Fault.{fault, kept_all, NAME_TWICE};
-ghost use Rattle.c0_types.specs.Spaces.{twice_by};
+ghost use Rattle.c0_types.specs.Spaces.{twice_by, TwiceByTestIsTwice};
 ghost use Rattle.c0_tree.specs.View.{decl_view};
 ghost use Rattle.c0_types.specs.Met.{met_view};
 ghost use Rattle.c0_types.specs.Names.{look, number_named};
@@ -52,3 +52,8 @@ pub fn declare_all(
     }
     Ok(())
 }
+
+/// A law: by a test of what is set before, the names set twice are those by the list of what is set before.
+pub fn twice_by_test_is_twice()
+    ensures { TwiceByTestIsTwice }
+{}

@@ -19,12 +19,12 @@ loop-decl-preserved c =
     record {
       at = omega (arith, c.loop-decl.invariant.at);
       names = λ q.
-        names_step (look c.loop-decl.names q) (look c.declare.new.names q) (decl_view c.decl-item.result) (map decl_view rest) c.loop-decl.number q (c.in_ok-declare.ensures.names q)
-        ∙ (ap (λ (ds : List Decl). option_or (look c.loop-decl.names q) (number_named (λ d. d.name.text) q c.loop-decl.number (map decl_view ds))) (sym left)
-        ∙ c.loop-decl.invariant.names q);
+          names_step (look c.loop-decl.names q) (look c.declare.new.names q) (decl_view c.decl-item.result) (map decl_view rest) c.loop-decl.number q (c.in_ok-declare.ensures.names q)
+          ∙ (ap (λ (ds : List Decl). option_or (look c.loop-decl.names q) (number_named (λ d. d.name.text) q c.loop-decl.number (map decl_view ds))) (sym left)
+          ∙ c.loop-decl.invariant.names q);
       met =
-        met_step (look c.loop-decl.names) (look c.declare.new.names) (decl_view c.decl-item.result).name (map (λ d. d.name) (map decl_view rest)) c.loop-decl.number (met_view c.loop-decl.least) (met_view c.declare.new.least)
+          met_step (look c.loop-decl.names) (look c.declare.new.names) (decl_view c.decl-item.result).name (map (λ d. d.name) (map decl_view rest)) c.loop-decl.number (met_view c.loop-decl.least) (met_view c.declare.new.least)
           c.in_ok-declare.ensures.names c.in_ok-declare.ensures.met
-        ∙ (ap (λ (ds : List Decl). kept_all (met_view c.loop-decl.least) (twice_by (λ q. is_some (look c.loop-decl.names q)) (map (λ d. d.name) (map decl_view ds)))) (sym left)
-        ∙ c.loop-decl.invariant.met);
+          ∙ (ap (λ (ds : List Decl). kept_all (met_view c.loop-decl.least) (twice_by (λ q. is_some (look c.loop-decl.names q)) (map (λ d. d.name) (map decl_view ds)))) (sym left)
+          ∙ c.loop-decl.invariant.met);
     }
