@@ -1,16 +1,16 @@
 -- The parts of statements: what the checks of expressions make of them.
 use Rattle.std.proofs.Common.{◌≡◌, ℕ, zero, suc, ◌+◌, ◌<◌, length, get_or, slice_get, add-one, Bool, List, [], ◌∷◌, ◌++◌, Option, Some, None, nat_lt, if◌then◌else◌, refl, sym, ap, ◌∙◌}
 use Rattle.c0_tree.specs.declared.tree.Span.{Span}
-use Rattle.c0_tree.specs.Tree.{CExpr}
+use Rattle.c0_tree.specs.Tree.{CName, CTy, CExpr}
 use Rattle.c0_tree.specs.Size.{need}
-use Rattle.c0_meaning.specs.Ty.{Ty}
-use Rattle.c0_meaning.specs.Env.{Env}
+use Rattle.c0_meaning.specs.Ty.{Ty, pointer, ty_of}
+use Rattle.c0_meaning.specs.Env.{Env, Callee, callee_named}
 use Rattle.c0_meaning.specs.Fault.{Fault, fault, kept_all, TOO_DEEP}
-use Rattle.c0_meaning.specs.DeclaredTypes.{fault_if}
+use Rattle.c0_meaning.specs.DeclaredTypes.{fault_if, type_faults}
 use Rattle.c0_meaning.specs.Expression.{Verdict, own, one, both, is_place, span_of, asked, asked_faults, type_of, faults}
-use Rattle.c0_meaning.specs.Statement.{MAX_NEED, same_rule, given_verdict, given_faults, deep_faults, left_rule, left_faults, first_of, rest_of, args_faults}
+use Rattle.c0_meaning.specs.Statement.{MAX_NEED, same_rule, given_verdict, given_faults, deep_faults, left_rule, left_type, left_faults, result_faults, callee_faults, params_of, first_of, rest_of, args_faults, assign_need, call_need, new_need, assign_faults, call_faults, new_faults}
 use Rattle.c0_types.specs.Check.{Settles, Checks, ChecksAsked}
-use Rattle.c0_types.specs.Stmts.{ChecksGiven, ChecksTested, ChecksLeft}
+use Rattle.c0_types.specs.Stmts.{ChecksGiven, ChecksTested, ChecksLeft, ChecksArgs}
 use Rattle.c0_types.proofs.Node.{kept_all-append, two_met, one_part}
 use Rattle.c0_types.proofs.InPlace.{rest, rest-next}
 
@@ -63,3 +63,44 @@ args_step env ps es i e want m n target within was asked met inv =
     ∙ (ap (λ x. kept_all (kept_all m (given_faults env (first_of (rest i ps)) e)) (args_faults env x (rest (i + 1) es))) (sym params)
     ∙ (sym (kept_all-append m (given_faults env (first_of (rest i ps)) e) (args_faults env (rest_of (rest i ps)) (rest (i + 1) es)))
     ∙ (ap (λ l. kept_all m (args_faults env (rest i ps) l)) (sym next) ∙ inv)))
+
+-- the fault of what needs too many registers
+deep_met : (s : Span) (registers : ℕ) (deep : Bool) (m n : Option Fault) → deep ≡ nat_lt MAX_NEED registers → n ≡ kept_all m (fault_if deep TOO_DEEP s) → n ≡ kept_all m (deep_faults s registers)
+deep_met s registers deep m n d met = met ∙ ap (λ b. kept_all m (fault_if b TOO_DEEP s)) d
+
+pub assign_met : (env : Env) (s : Span) (p v after value : CExpr) (t : Option Ty) (deep : Bool) (m n n' n'' : Option Fault)
+    → ChecksLeft env p t m n after → ChecksGiven env t v n n' value → deep ≡ nat_lt MAX_NEED (assign_need p v) → n'' ≡ kept_all n' (fault_if deep TOO_DEEP s)
+    → n'' ≡ kept_all m (assign_faults env s p v)
+assign_met env s p v after value t deep m n n' n'' l g d met =
+    two_met m n n'' (left_faults env p) (given_faults env (left_type env p) v ++ deep_faults s (assign_need p v)) l.1
+    (two_met n n' n'' (given_faults env (left_type env p) v) (deep_faults s (assign_need p v)) (g.0 ∙ ap (λ x. kept_all n (given_faults env x v)) l.0)
+    (deep_met s (assign_need p v) deep n' n'' d met))
+
+pub call_met : (env : Env) (s cs : Span) (p after : CExpr) (f : CName) (args after_args : List CExpr) (t w : Option Ty) (found : Option Callee) (count : ℕ) (deep : Bool) (m n n1 n2 n3 : Option Fault)
+    → ChecksLeft env p t m n after → w ≡ t → found ≡ callee_named env f.text → count ≡ length args
+    → n1 ≡ kept_all n (callee_faults cs f w count found) → ChecksArgs env (params_of found) args n1 n2 after_args
+    → deep ≡ nat_lt MAX_NEED (call_need p args) → n3 ≡ kept_all n2 (fault_if deep TOO_DEEP s)
+    → n3 ≡ kept_all m (call_faults env s p cs f args)
+call_met env s cs p after f args after_args t w found count deep m n n1 n2 n3 l k e h a b d met =
+    let callee = callee_faults cs f (left_type env p) (length args) (callee_named env f.text) in
+    let given = args_faults env (params_of (callee_named env f.text)) args in
+    two_met m n n3 (left_faults env p) (callee ++ (given ++ deep_faults s (call_need p args))) l.1
+    (two_met n n1 n3 callee (given ++ deep_faults s (call_need p args))
+    (a ∙ (ap (λ x. kept_all n (callee_faults cs f x count found)) (k ∙ l.0)
+    ∙ (ap (λ x. kept_all n (callee_faults cs f (left_type env p) x found)) h ∙ ap (λ x. kept_all n (callee_faults cs f (left_type env p) (length args) x)) e)))
+    (two_met n1 n2 n3 given (deep_faults s (call_need p args)) (b.0 ∙ ap (λ x. kept_all n1 (args_faults env (params_of x) args)) e)
+    (deep_met s (call_need p args) deep n2 n3 d met)))
+
+pub new_met : (env : Env) (s ts : Span) (p after : CExpr) (ty : CTy) (t : Option Ty) (deep : Bool) (m n n1 n2 n3 : Option Fault)
+    → ((m : Option Fault) (fs gs : List Fault) → kept_all (kept_all m fs) gs ≡ kept_all (kept_all m gs) fs)
+    → ChecksLeft env p t m n after → n1 ≡ kept_all n (result_faults ts t (pointer (ty_of ty)))
+    → n2 ≡ kept_all n1 (type_faults env.structs ty ts) → deep ≡ nat_lt MAX_NEED (new_need p) → n3 ≡ kept_all n2 (fault_if deep TOO_DEEP s)
+    → n3 ≡ kept_all m (new_faults (type_faults env.structs) env s p ty ts)
+new_met env s ts p after ty t deep m n n1 n2 n3 swap l a b d met =
+    let declared = type_faults env.structs ty ts in
+    let stored = result_faults ts (left_type env p) (pointer (ty_of ty)) in
+    let both : n2 ≡ kept_all (kept_all n declared) stored =
+      b ∙ (ap (λ x. kept_all x declared) (a ∙ ap (λ x. kept_all n (result_faults ts x (pointer (ty_of ty)))) l.0) ∙ swap n stored declared) in
+    two_met m n n3 (left_faults env p) (declared ++ (stored ++ deep_faults s (new_need p))) l.1
+    (two_met n (kept_all n declared) n3 declared (stored ++ deep_faults s (new_need p)) refl
+    (two_met (kept_all n declared) n2 n3 stored (deep_faults s (new_need p)) both (deep_met s (new_need p) deep n2 n3 d met)))

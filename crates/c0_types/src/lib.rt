@@ -13,4 +13,5 @@ pub mod parts;
 pub mod rules;
 pub mod scope;
 pub mod shape;
+pub mod stmts;
 pub mod types;
