@@ -98,6 +98,16 @@ impl Desk {
         None
     }
 
+    /// Registers 4 to 7.
+    fn status(&self) -> [u32; 4] {
+        [
+            self.machine.reg(4),
+            self.machine.reg(5),
+            self.machine.reg(6),
+            self.machine.reg(7),
+        ]
+    }
+
     /// esr, eca, epc and edata.
     fn saved(&self) -> [u32; 4] {
         [
@@ -185,8 +195,7 @@ fn a_sector_is_read(rt: HostRuntime) -> Result<(), Fail> {
     let mut desk = Desk::new(rt.alloc(), &READ, b"busy 0 3\n", none)?;
     desk.load(5, &LOOK);
     assert!(rt; desk.run(11));
-    let status = [4, 5, 6, 7].map(|r| desk.machine.reg(r));
-    assert_eq!(rt; status, [1, 1, 1, 0]);
+    assert_eq!(rt; desk.status(), [1, 1, 1, 0]);
     assert_eq!(rt; desk.machine.reg(8), 99);
     assert!(rt; desk.machine.view_sector(&mut desk.disk, 7).is_ok());
     assert_eq!(rt; desk.machine.viewed(1023), 99);
@@ -202,11 +211,9 @@ fn a_failing_read_changes_the_buffer_alone(rt: HostRuntime) -> Result<(), Fail> 
     assert!(rt; desk.run(6));
     assert_eq!(rt; desk.step(), Err(DiskFault::Failed));
     assert_eq!(rt; desk.machine.steps(), 7);
-    assert_eq!(rt; desk.machine.reg(4), 1);
     assert_eq!(rt; desk.now(), [24, 0, 0, 0]);
     assert!(rt; desk.run(3));
-    let status = [5, 6, 7].map(|r| desk.machine.reg(r));
-    assert_eq!(rt; status, [0, 0, 0]);
+    assert_eq!(rt; desk.status(), [1, 0, 0, 0]);
     Ok(())
 }
 
@@ -243,8 +250,7 @@ fn a_command_that_comes_too_early_is_lost(rt: HostRuntime) -> Result<(), Fail> {
     desk.load(5, &lost);
     desk.load(9, &LOOK);
     assert!(rt; desk.run(15));
-    let status = [4, 5, 6, 7].map(|r| desk.machine.reg(r));
-    assert_eq!(rt; status, [1, 1, 1, 1]);
+    assert_eq!(rt; desk.status(), [1, 1, 1, 1]);
     assert_eq!(rt; desk.machine.reg(8), 99);
     Ok(())
 }
@@ -265,8 +271,9 @@ fn past_memory_reads_0_and_writes_are_lost(rt: HostRuntime) -> Result<(), Fail> 
     let none = Vec::new(rt.alloc());
     let mut desk = Desk::new(rt.alloc(), &words, b"", none)?;
     assert!(rt; desk.run(10));
-    let read = [2, 3, 4].map(|r| desk.machine.reg(r));
-    assert_eq!(rt; read, [0, 5, 0]);
+    assert_eq!(rt; desk.machine.reg(2), 0);
+    assert_eq!(rt; desk.machine.reg(3), 5);
+    assert_eq!(rt; desk.machine.reg(4), 0);
     assert_eq!(rt; desk.word(4095), 5);
     assert_eq!(rt; desk.machine.pc(), 0x1_0000);
     Ok(())
