@@ -1,17 +1,21 @@
 -- How what is read, or refused, of the parts of a piece makes what is read, or refused, of the piece.
 use Rattle.std.proofs.Common.{◌≡◌, ℕ, ◌+◌, ◌<◌, ◌≤◌, List, [], ◌∷◌, ◌++◌, length, refl, sym, ap, ◌∙◌, subst, arith, Option, Some, None}
-use Rattle.std.specs.Prelude.{Bool, true, false, cond, eqb, ◌||◌}
+use Rattle.std.specs.Prelude.{Bool, true, false, cond, not, eqb, ◌&&◌, ◌||◌}
 use Rattle.std.proofs.lemmas.Bool.{eq-eqb}
-use Rattle.c0_tokens.specs.Tokens.{CToken, CLexeme, name, fixed, token_view, lexeme_view}
+use Rattle.c0_tokens.specs.Tokens.{CToken, CLexeme, name, number, fixed, token_view, lexeme_view}
 use Rattle.c0_tokens.specs.declared.token.Mark.{Mark}
+use Rattle.c0_tokens.specs.declared.token.Mark.TheVariants.{OpenParen}
 use Rattle.c0_tokens.specs.declared.token.Token.{Token}
-use Rattle.c0_parser.specs.Sorts.{Sort, mark, a_name, mark_place, place, sort, among}
+use Rattle.c0_parser.specs.Sorts.{Sort, mark, a_name, a_number, mark_place, place, sort, among}
 use Rattle.c0_parser.specs.Value.{Value, token, pair, none, snoc, name_at, text_of}
 use Rattle.c0_tree.specs.declared.tree.Kind.TheVariants.{Unresolved}
 use Rattle.c0_tree.specs.Tree.{CName}
-use Rattle.c0_parser.specs.Grammar.{Rule, Piece, one_of, sign, ◌▸◌, ◌or◌, many, maybe, the, production, meaning, NAME}
-use Rattle.c0_parser.specs.Machine.{State, at, Task, want, more, act, paired, listed, meant, picks, heads, kind, starts, Leads, still, go}
-use Rattle.c0_parser.specs.Contract.{seen, Goes, Stuck, Refuses, GoesOn, Fails}
+use Rattle.c0_parser.specs.Grammar.{Rule, Piece, one_of, sign, ◌▸◌, ◌or◌, many, maybe, the, production, meaning, NAME, NUMBER}
+use Rattle.c0_parser.specs.Machine.{State, at, Task, want, more, act, paired, listed, meant, picks, heads, kind, nullable, starts, Leads, still, go}
+use Rattle.c0_parser.specs.Contract.{seen, Goes, Stuck, Refuses, GoesOn, Fails, Gives, GivesAny}
+use Rattle.std.specs.Prelude.{Result, Ok, Err}
+use Rattle.std.specs.Result.{IsErrAnd}
+use Rattle.std.specs.Borrow.{Bor}
 use Rattle.c0_parser.specs.declared.reader.Halt.{Halt}
 use Rattle.c0_parser.specs.declared.reader.Halt.TheVariants.{Memory, Left}
 use Rattle.c0_parser.proofs.Runs.{then_leads}
@@ -159,3 +163,58 @@ named_at text t bytes h e = ap (λ l. name_of l t) (ap text_of h ∙ sym e)
 
 pub fails_name : (ts : List Token) → heads NAME (seen ts) ≡ false → Fails NAME (seen ts) (Left (length ts))
 fails_name ts h = fails_by (length ts) (refuses_one a_name [] (seen ts) h) (seen_length ts)
+
+-- a number that stands next
+pub goes_number : (n : ℕ) (t : Token) (ts rest : List Token) → ts ≡ t ∷ rest → lexeme_view t.lexeme ≡ number n → Goes NUMBER (seen ts) (token (token_view t)) (seen rest)
+goes_number n t ts rest e h = goes_one a_number [] (token_view t) (seen ts) (seen rest) (ap seen e) (ap (λ x. among (a_number ∷ []) (place (sort x))) h)
+
+pub fails_number : (ts : List Token) → heads NUMBER (seen ts) ≡ false → Fails NUMBER (seen ts) (Left (length ts))
+fails_number ts h = fails_by (length ts) (refuses_one a_number [] (seen ts) h) (seen_length ts)
+
+-- what begins a piece, and which of two pieces comes
+pub heads_or : (a b : Piece) (ts : List CToken) → heads a ts ≡ false → heads b ts ≡ false → heads (a or b) ts ≡ false
+heads_or a b [] f g = refl
+heads_or a b (t ∷ ts) f g = ap (λ x. x || starts b (kind t)) f ∙ g
+
+pub heads_not : (a b : Piece) (ts : List CToken) → nullable a ≡ false → heads a ts ≡ false → heads (a ▸ b) ts ≡ false
+heads_not a b [] n f = refl
+heads_not a b (t ∷ ts) n f = ap (λ x. x || (nullable a && starts b (kind t))) f ∙ ap (λ x. x && starts b (kind t)) n
+
+pub picks_not : (a b : Piece) (ts : List CToken) → heads a ts ≡ false → picks a b ts ≡ false
+picks_not a b [] f = refl
+picks_not a b (t ∷ ts) f = ap (λ x. x && (not (starts b (kind t)) || heads (sign OpenParen) ts)) f
+
+pub mark_kind : {m : Mark} {l : CLexeme} → l ≡ fixed m → place (sort l) ≡ mark_place m
+mark_kind e = ap (λ l. place (sort l)) e
+
+-- a piece that begins with tokens of this sort
+pub heads_at : (p : Piece) (k : ℕ) (t : Token) (ts rest : List Token) → ts ≡ t ∷ rest → kind (token_view t) ≡ k → starts p k ≡ true → heads p (seen ts) ≡ true
+heads_at p k t ts rest e f h = ap (λ l. heads p (seen l)) e ∙ ap (starts p) f ∙ h
+
+pub picks_at : (a b : Piece) (k : ℕ) (t : Token) (ts rest : List Token) → ts ≡ t ∷ rest → kind (token_view t) ≡ k → starts a k ≡ true → starts b k ≡ false → picks a b (seen ts) ≡ true
+picks_at a b k t ts rest e f g h =
+    ap (λ l. picks a b (seen l)) e ∙ ap (λ x. starts a x && (not (starts b x) || heads (sign OpenParen) (seen rest))) f
+    ∙ ap (λ x. x && (not (starts b k) || heads (sign OpenParen) (seen rest))) g ∙ ap (λ x. not x || heads (sign OpenParen) (seen rest)) h
+
+-- where a `?` leaves
+pub exits : {A : Type 0} (p : Piece) (Is : A → Value → Type 0) (ts : List Token) (r : Result (A × Bor (List Token)) Halt) (e : Halt) → IsErrAnd r (λ y. y ≡ e) → Fails p (seen ts) e → Gives p Is ts r
+exits p Is ts (Ok x) e h f = absurd h
+exits p Is ts (Err y) e h f = subst (Fails p (seen ts)) (sym h) f
+
+pub exits_any : {A : Type 0} (p : Piece) (Is : A → Value → Type 0) (ts : List Token) (r : Result (A × Bor (List Token)) Halt) (e : Halt) → IsErrAnd r (λ y. y ≡ e) → Fails p (seen ts) e → GivesAny p Is ts r
+exits_any p Is ts (Ok x) e h f = absurd h
+exits_any p Is ts (Err y) e h f = subst (Fails p (seen ts)) (sym h) f
+
+-- the first of two pieces, at a token of a known sort
+pub goes_first_at : (a b : Piece) (k : ℕ) {t : Token} {ts rest : List Token} {v : Value} {after : List CToken} → ts ≡ t ∷ rest → kind (token_view t) ≡ k → starts a k ≡ true → starts b k ≡ false → Goes a (seen ts) v after → Goes (a or b) (seen ts) v after
+goes_first_at a b k {t} {ts} {rest} e f g h d = goes_first b (picks_at a b k t ts rest e f g h) d
+
+pub fails_first_at : (a b : Piece) (k : ℕ) {t : Token} {ts rest : List Token} {h : Halt} → ts ≡ t ∷ rest → kind (token_view t) ≡ k → starts a k ≡ true → starts b k ≡ false → Fails a (seen ts) h → Fails (a or b) (seen ts) h
+fails_first_at a b k {t} {ts} {rest} e f g h d = fails_first b (picks_at a b k t ts rest e f g h) d
+
+-- the second of two pieces, where the first cannot begin
+pub goes_second_not : (a : Piece) {b : Piece} {ts rest : List CToken} {v : Value} → heads a ts ≡ false → Goes b ts v rest → Goes (a or b) ts v rest
+goes_second_not a {b} {ts} h d = goes_second a (picks_not a b ts h) d
+
+pub fails_second_not : (a : Piece) {b : Piece} {ts : List CToken} {h : Halt} → heads a ts ≡ false → Fails b ts h → Fails (a or b) ts h
+fails_second_not a {b} {ts} h d = fails_second a (picks_not a b ts h) d

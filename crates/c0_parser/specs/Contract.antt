@@ -1,5 +1,5 @@
 -- What the functions of the reader give, by the machine: for proofs.
-use Rattle.std.specs.Prelude.{ℕ, ◌≡◌, ◌<◌, ◌≤◌, false, List, [], ◌∷◌, map, length, Result, Ok, Err, Option, Some, None}
+use Rattle.std.specs.Prelude.{ℕ, ◌≡◌, ◌<◌, ◌≤◌, true, false, List, [], ◌∷◌, map, length, Result, Ok, Err, Option, Some, None}
 use Rattle.std.specs.Borrow.{Bor}
 use Rattle.c0_tokens.specs.Tokens.{CToken, token_view}
 use Rattle.c0_tokens.specs.declared.token.Token.{Token}

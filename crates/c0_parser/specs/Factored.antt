@@ -5,7 +5,7 @@ use Rattle.c0_tokens.specs.declared.token.Mark.TheVariants.{Int, Bool as Boolean
 use Rattle.c0_tree.specs.Tree.{CDecl, CStruct, CFunction}
 use Rattle.c0_parser.specs.Sorts.{mark, the_end}
 use Rattle.c0_parser.specs.Value.{Value, token, pair, none, snoc, base_value, type_suffixes, decl_of, defined_at, struct_of, struct_in, global_in, function_in}
-use Rattle.c0_parser.specs.Grammar.{Piece, one_of, sign, ◌▸◌, ◌or◌, many, NAME, SUFFIXES, FIELDS, FUNCTION}
+use Rattle.c0_parser.specs.Grammar.{Piece, one_of, sign, ◌▸◌, ◌or◌, many, NAME, BASIC, SUFFIXES, FIELDS, FUNCTION}
 
 -- what stands behind a global's or function's name
 abbrev pub BEHIND : Piece
@@ -17,7 +17,7 @@ DEFINED = SUFFIXES ▸ NAME ▸ BEHIND
 
 -- a struct, a global or a function
 abbrev pub FACTORED : Piece
-FACTORED = sign Struct ▸ NAME ▸ (FIELDS or DEFINED) or one_of (mark Int) (mark Boolean ∷ []) ▸ DEFINED
+FACTORED = sign Struct ▸ NAME ▸ (FIELDS or DEFINED) or BASIC ▸ DEFINED
 
 -- a unit of these, and the end of the source
 abbrev pub SOURCE : Piece

@@ -49,9 +49,20 @@ CALL = NAME ▸ sign OpenParen ▸ ARGS ▸ sign CloseParen
 abbrev pub RIGHT : Piece
 RIGHT = (sign New ▸ the type) or CALL or EXPR
 
--- { "*" | "[" NUMBER "]" }
+-- "int" | "bool"
+abbrev pub BASIC : Piece
+BASIC = one_of (mark Int) (mark Boolean ∷ [])
+
+-- "int" | "bool" | "struct" NAME
+abbrev pub BASE : Piece
+BASE = BASIC or sign Struct ▸ NAME
+
+-- "*" | "[" NUMBER "]"
+abbrev pub SUFFIX : Piece
+SUFFIX = sign Star or sign OpenBracket ▸ NUMBER ▸ sign CloseBracket
+
 abbrev pub SUFFIXES : Piece
-SUFFIXES = many (sign Star or sign OpenBracket ▸ NUMBER ▸ sign CloseBracket)
+SUFFIXES = many SUFFIX
 
 -- type NAME ";"
 abbrev pub LINE : Piece
@@ -68,7 +79,7 @@ production product = the unary ▸ many (one_of (mark Star) (mark Slash ∷ mark
 production unary = one_of (mark Minus) (mark Not ∷ mark Star ∷ mark Ampersand ∷ []) ▸ the unary or the postfix
 production postfix = the primary ▸ many (one_of (mark Dot) (mark Arrow ∷ []) ▸ NAME or sign OpenBracket ▸ EXPR ▸ sign CloseBracket)
 production primary = one_of a_name (a_number ∷ mark True ∷ mark False ∷ mark Null ∷ []) or sign OpenParen ▸ EXPR ▸ sign CloseParen
-production type = (one_of (mark Int) (mark Boolean ∷ []) or sign Struct ▸ NAME) ▸ SUFFIXES
+production type = BASE ▸ SUFFIXES
 production decl = the type ▸ NAME
 production block = sign OpenBrace ▸ many (the statement) ▸ sign CloseBrace
 production statement = the unary ▸ sign Assign ▸ RIGHT ▸ sign Semicolon

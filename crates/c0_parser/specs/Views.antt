@@ -1,5 +1,5 @@
 -- How what the functions of the reader answer stands for the meaning of a piece.
-use Rattle.std.specs.Prelude.{ℕ, ◌≡◌, List, map, Vec}
+use Rattle.std.specs.Prelude.{ℕ, ◌≡◌, List, [], ◌∷◌, ◌++◌, map, Vec, Option, Some, None}
 use Rattle.c0_tokens.specs.Tokens.{CToken, token_view}
 use Rattle.c0_tokens.specs.declared.token.Token.{Token}
 use Rattle.c0_tree.specs.declared.tree.Span.{Span}
@@ -10,12 +10,13 @@ use Rattle.c0_tree.specs.declared.tree.StructDef.{StructDef}
 use Rattle.c0_tree.specs.declared.tree.Function.{Function}
 use Rattle.c0_tree.specs.declared.tree.Stmt.{Stmt}
 use Rattle.c0_tree.specs.declared.tree.Body.{Body}
-use Rattle.c0_tree.specs.Tree.{CExpr, CStmt, assign, call, new}
+use Rattle.c0_tree.specs.Tree.{CTy, pointer, array, CExpr, CStmt, assign, call, new}
 use Rattle.c0_tree.specs.View.{name_view, type_view, expr_view, decl_view, stmt_view, stmts_view, struct_view, body_view, function_view}
-use Rattle.c0_parser.specs.Value.{Value, token, expr, type, decl, stmt, block, body, a_struct, a_global, a_function, place_of, name_at, args_of, stmts, decls, decls_from, params_of, type_suffixes, base_value, stored}
+use Rattle.c0_parser.specs.Value.{Value, token, expr, type, decl, stmt, block, body, a_struct, a_global, a_function, place_of, name_at, args_of, stmts, decls, decls_from, params_of, decls_in, type_suffixes, type_suffixed, number_of, base_value, stored}
 use Rattle.c0_parser.specs.Factored.{factored_value}
 use Rattle.c0_parser.specs.declared.expressions.Part.{Part}
 use Rattle.c0_parser.specs.declared.types.Typed.{Typed}
+use Rattle.c0_parser.specs.declared.types.Suffix.{Suffix}
 use Rattle.c0_parser.specs.declared.statements.Block.{Block}
 use Rattle.c0_parser.specs.declared.statements.Right.{Right}
 use Rattle.c0_parser.specs.declared.statements.Right.TheVariants.{Stored, Called, Made}
@@ -52,6 +53,10 @@ IsBase t v = base_value v ≡ typed t
 -- the suffixes that make one type of another
 abbrev pub AreSuffixes : Typed → Typed → Value → Type 0
 AreSuffixes base t v = type_suffixes (typed base) v ≡ typed t
+
+-- one suffix that makes one type of another
+abbrev pub IsExtended : Typed → Typed → Value → Type 0
+IsExtended base t v = type_suffixed (typed base) v ≡ typed t
 
 -- a declaration
 abbrev pub IsDecl : Decl → Value → Type 0
@@ -103,3 +108,24 @@ item_view (AFunction f) = a_function (function_view f)
 
 abbrev pub IsItem : Item → Value → Type 0
 IsItem i v = factored_value v ≡ item_view i
+
+-- a number
+abbrev pub IsNumber : ℕ → Value → Type 0
+IsNumber n v = (t : CToken) × (v ≡ token t) × (number_of t.lexeme ≡ n)
+
+-- a pointer to a type, or an array of it
+abbrev pub with_length : CTy → Option ℕ → CTy
+with_length t None = pointer t
+with_length t (Some n) = array t n
+
+-- a suffix of a type
+abbrev pub IsSuffix : Suffix → Value → Type 0
+IsSuffix x v = (s : Span) (t : CTy) → type_suffixed (type s t) v ≡ type (record { start = s.start; end = x.end }) (with_length t x.length)
+
+-- a declaration as a part of a list
+abbrev pub IsListed : Decl → Value → Type 0
+IsListed d v = decls_in v ≡ decl_view d ∷ []
+
+-- declarations behind others
+abbrev pub AreMoreLines : {A B : Type 0} → Vec Decl A → Vec Decl B → Value → Type 0
+AreMoreLines first ds v = map decl_view first.items ++ decls v ≡ map decl_view ds.items

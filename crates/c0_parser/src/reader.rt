@@ -1,11 +1,11 @@
 // Tokens in a row.
 
 ghost use Rattle.std.specs.Prelude.{◌≡◌, ◌∷◌, [], false, MatchOption};
-ghost use Rattle.c0_tokens.specs.Tokens.{fixed, name as named, lexeme_view};
-ghost use Rattle.c0_parser.specs.Grammar.{sign, NAME};
+ghost use Rattle.c0_tokens.specs.Tokens.{fixed, name as named, number, lexeme_view};
+ghost use Rattle.c0_parser.specs.Grammar.{sign, NAME, NUMBER};
 ghost use Rattle.c0_parser.specs.Machine.{heads};
 ghost use Rattle.c0_parser.specs.Contract.{seen, Gives};
-ghost use Rattle.c0_parser.specs.Views.{IsToken, IsName};
+ghost use Rattle.c0_parser.specs.Views.{IsToken, IsName, IsNumber};
 ghost use Rattle.c0_parser.specs.declared.reader.Halt.TheVariants.{Memory};
 
 use c0_tokens::{Lexeme, Mark, Token};
@@ -37,7 +37,15 @@ impl<T: Drop> From<AllocFailed<T>> for Halt {
     }
 }
 
-// The first token, and the others.
+/// What was read so far, and the tokens left: what a loop that reads on begins with.
+pub fn begun<'a, T>(value: T, ts: &'a [Token<'a>]) -> (T, &'a [Token<'a>])
+    ensures value { result.0 ≡ value }
+    ensures rest { result.1.now ≡ ts.now }
+{
+    (value, ts)
+}
+
+/// The first token, and the others.
 pub fn next<'a>(ts: &'a [Token<'a>]) -> Option<(Token<'a>, &'a [Token<'a>])>
     ensures { MatchOption result (ts.now ≡ []) (λ p. ts.now ≡ p.0 ∷ p.1.now) }
 {
@@ -47,7 +55,7 @@ pub fn next<'a>(ts: &'a [Token<'a>]) -> Option<(Token<'a>, &'a [Token<'a>])>
     }
 }
 
-// The mark, where it stands next.
+/// The mark, where it stands next.
 pub fn take<'a>(ts: &'a [Token<'a>], wanted: Mark) -> Option<(Token<'a>, &'a [Token<'a>])>
     ensures { MatchOption result (heads (sign wanted) (seen ts.now) ≡ false) (λ p. (ts.now ≡ p.0 ∷ p.1.now) × (lexeme_view p.0.lexeme ≡ fixed wanted)) }
 {
@@ -58,7 +66,7 @@ pub fn take<'a>(ts: &'a [Token<'a>], wanted: Mark) -> Option<(Token<'a>, &'a [To
     }
 }
 
-// The mark, which has to stand next.
+/// The mark, which has to stand next.
 pub fn expect<'a>(ts: &'a [Token<'a>], wanted: Mark) -> Result<(Token<'a>, &'a [Token<'a>]), Halt>
     ensures { Gives (sign wanted) IsToken ts.now result }
 {
@@ -90,6 +98,27 @@ pub fn name<'a>(alloc: Global, ts: &'a [Token<'a>]) -> Result<(Name, &'a [Token<
             let name = Name { bytes, span, kind: Kind::Unresolved, number: 0 };
             Ok((name, rest))
         }
+        None => Err(Halt::Left(ts.len())),
+    }
+}
+
+/// A number and its value, where one stands next.
+pub fn take_number<'a>(ts: &'a [Token<'a>]) -> Option<(Token<'a>, u32, &'a [Token<'a>])>
+    ensures { MatchOption result (heads NUMBER (seen ts.now) ≡ false) (λ p. (ts.now ≡ p.0 ∷ p.2.now) × (lexeme_view p.0.lexeme ≡ number p.1)) }
+{
+    let (t, rest) = next(ts)?;
+    match t.lexeme {
+        Lexeme::Number(value) => Some((t, value, rest)),
+        _ => None,
+    }
+}
+
+/// A number, which has to stand next.
+pub fn number_here<'a>(ts: &'a [Token<'a>]) -> Result<(u32, &'a [Token<'a>]), Halt>
+    ensures { Gives NUMBER IsNumber ts.now result }
+{
+    match take_number(ts) {
+        Some((_, value, rest)) => Ok((value, rest)),
         None => Err(Halt::Left(ts.len())),
     }
 }
