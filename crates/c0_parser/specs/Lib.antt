@@ -5,3 +5,4 @@ pub mod Machine
 pub mod Factored
 pub mod Contract
 pub mod Views
+pub mod Stmts
