@@ -6,3 +6,7 @@ pub mod Calls
 pub mod Follow
 pub mod Steps
 pub mod Stmts
+pub mod Samples
+pub mod Replay
+pub mod Exact
+pub mod Same

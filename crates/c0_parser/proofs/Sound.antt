@@ -73,7 +73,7 @@ means_more a st (v ∷ vs) ys u h =
     let m = h.5.4 in
     (h.0 ++ h.5.0, h.5.1, h.5.2, two ys h.0 h.5.0 h.1 h.5.1 h.3 h.5.3, (m.0, goes_on h.4 m.1, m.2), h.5.5)
 
-no_more_of : (a : Piece) (vs : List Value) → MoreOf a vs [] vs
+pub no_more_of : (a : Piece) (vs : List Value) → MoreOf a vs [] vs
 no_more_of a [] = (none, none, ends, refl)
 no_more_of a (v ∷ vs) = (v, ends, refl)
 

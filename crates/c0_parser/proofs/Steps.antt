@@ -1,18 +1,23 @@
 -- How what is read, or refused, of the parts of a piece makes what is read, or refused, of the piece.
-use Rattle.std.proofs.Common.{◌≡◌, ℕ, ◌+◌, ◌<◌, ◌≤◌, List, [], ◌∷◌, ◌++◌, length, refl, sym, ap, ◌∙◌, subst, arith, Option, Some, None}
+use Rattle.std.proofs.Common.{◌≡◌, ℕ, ◌+◌, ◌<◌, ◌≤◌, List, [], ◌∷◌, ◌++◌, length, map, append_assoc, refl, sym, ap, ◌∙◌, subst, arith, Option, Some, None}
 use Rattle.std.specs.Prelude.{Bool, true, false, cond, not, eqb, ◌&&◌, ◌||◌}
 use Rattle.std.proofs.lemmas.Bool.{eq-eqb}
+use Rattle.std.proofs.lemmas.List.{map-append, append-nil}
+use Rattle.c0_parser.proofs.Tables.{apart, apart_at}
 use Rattle.c0_tokens.specs.Tokens.{CToken, CLexeme, name, number, fixed, token_view, lexeme_view}
 use Rattle.c0_tokens.specs.declared.token.Mark.{Mark}
 use Rattle.c0_tokens.specs.declared.token.Mark.TheVariants.{OpenParen}
 use Rattle.c0_tokens.specs.declared.token.Token.{Token}
 use Rattle.c0_parser.specs.Sorts.{Sort, mark, a_name, a_number, mark_place, place, sort, among}
-use Rattle.c0_parser.specs.Value.{Value, token, pair, none, snoc, name_at, text_of}
+use Rattle.c0_parser.specs.Value.{Value, token, pair, none, snoc, type, decl, name_at, text_of, place_of, across, base_value, decl_value, decls, decls_in}
+use Rattle.c0_tree.specs.declared.tree.Decl.{Decl}
+use Rattle.c0_tree.specs.View.{decl_view}
+use Rattle.c0_tree.specs.declared.tree.Span.{Span}
 use Rattle.c0_tree.specs.declared.tree.Kind.TheVariants.{Unresolved}
-use Rattle.c0_tree.specs.Tree.{CName}
+use Rattle.c0_tree.specs.Tree.{CName, CTy, named, CDecl}
 use Rattle.c0_parser.specs.Grammar.{Rule, Piece, one_of, sign, ◌▸◌, ◌or◌, many, maybe, the, production, meaning, NAME, NUMBER}
 use Rattle.c0_parser.specs.Machine.{State, at, Task, want, more, act, paired, listed, meant, picks, heads, kind, nullable, starts, Leads, still, go}
-use Rattle.c0_parser.specs.Contract.{seen, Goes, Stuck, Refuses, GoesOn, Fails, Gives, GivesAny}
+use Rattle.c0_parser.specs.Contract.{seen, Goes, Stuck, Refuses, GoesOn, Fails, Reading, ReadingAny, Gives, GivesAny}
 use Rattle.std.specs.Prelude.{Result, Ok, Err}
 use Rattle.std.specs.Result.{IsErrAnd}
 use Rattle.std.specs.Borrow.{Bor}
@@ -218,3 +223,92 @@ goes_second_not a {b} {ts} h d = goes_second a (picks_not a b ts h) d
 
 pub fails_second_not : (a : Piece) {b : Piece} {ts : List CToken} {h : Halt} → heads a ts ≡ false → Fails b ts h → Fails (a or b) ts h
 fails_second_not a {b} {ts} h d = fails_second a (picks_not a b ts h) d
+
+-- a mark among those that may stand next
+pub goes_mark : (s : Sort) (ss : List Sort) (m : Mark) (t : Token) (ts rest : List Token) → among (s ∷ ss) (mark_place m) ≡ true → ts ≡ t ∷ rest → lexeme_view t.lexeme ≡ fixed m → Goes (one_of s ss) (seen ts) (token (token_view t)) (seen rest)
+goes_mark s ss m t ts rest h e f = goes_one s ss (token_view t) (seen ts) (seen rest) (ap seen e) (ap (among (s ∷ ss)) (mark_kind f) ∙ h)
+
+pub heads_is : (p : Piece) (k : ℕ) {t : Token} {ts rest : List Token} → ts ≡ t ∷ rest → kind (token_view t) ≡ k → heads p (seen ts) ≡ starts p k
+heads_is p k e f = ap (λ l. heads p (seen l)) e ∙ ap (starts p) f
+
+either : (x y : Bool) → (x || false) ≡ false → (y || false) ≡ false → (x || (y || false)) ≡ false
+either true y f g = f
+either false y f g = g
+
+pub heads_two : (a b : Sort) (ts : List CToken) → heads (one_of a []) ts ≡ false → heads (one_of b []) ts ≡ false → heads (one_of a (b ∷ [])) ts ≡ false
+heads_two a b [] f g = refl
+heads_two a b (t ∷ ts) f g = either (eqb (place a) (kind t)) (eqb (place b) (kind t)) f g
+
+-- where a last call answers
+pub tails : {A : Type 0} (p q : Piece) (Is Js : A → Value → Type 0) (ts us : List Token) (r : Result (A × Bor (List Token)) Halt) → ((x : A × Bor (List Token)) → Reading q Js us x → Reading p Is ts x) → ((h : Halt) → Fails q (seen us) h → Fails p (seen ts) h) → Gives q Js us r → Gives p Is ts r
+tails p q Is Js ts us (Ok x) f g h = f x h
+tails p q Is Js ts us (Err e) f g h = g e h
+
+pub tails_more : {A : Type 0} (p q : Piece) (Is Js : A → Value → Type 0) (ts us : List Token) (r : Result (A × Bor (List Token)) Halt) → ((x : A × Bor (List Token)) → ReadingAny q Js us x → Reading p Is ts x) → ((h : Halt) → Fails q (seen us) h → Fails p (seen ts) h) → GivesAny q Js us r → Gives p Is ts r
+tails_more p q Is Js ts us (Ok x) f g h = f x h
+tails_more p q Is Js ts us (Err e) f g h = g e h
+
+pub tails_any : {A : Type 0} (p q : Piece) (Is Js : A → Value → Type 0) (ts us : List Token) (r : Result (A × Bor (List Token)) Halt) → ((x : A × Bor (List Token)) → ReadingAny q Js us x → ReadingAny p Is ts x) → ((h : Halt) → Fails q (seen us) h → Fails p (seen ts) h) → GivesAny q Js us r → GivesAny p Is ts r
+tails_any p q Is Js ts us (Ok x) f g h = f x h
+tails_any p q Is Js ts us (Err e) f g h = g e h
+
+-- lists: the first state, and one more part
+pub list_begins : (a : Piece) (ts rest : List Token) → rest ≡ ts → GoesOn a (seen ts) none (seen rest) none
+list_begins a ts rest e = subst (λ l. GoesOn a (seen ts) none (seen l) none) (sym e) (list_starts a (seen ts) none)
+
+pub list_more : {a : Piece} {ts after : List CToken} {mid here : List Token} {w x : Value} → GoesOn a ts none (seen mid) w → here ≡ mid → heads a (seen mid) ≡ true → Goes a (seen here) x after → GoesOn a ts none after (snoc w x)
+list_more {a} {ts} {after} {mid} {here} {w} {x} g e h f = list_item g h (subst (λ l. Goes a (seen l) x after) e f)
+
+pub fails_list : {a : Piece} {ts : List CToken} {mid here : List Token} {v : Value} {h : Halt} → GoesOn a ts none (seen mid) v → here ≡ mid → heads a (seen mid) ≡ true → Fails a (seen here) h → Fails (many a) ts h
+fails_list {a} {ts} {mid} {here} {v} {h} g e i f = fails_many g i (subst (λ l. Fails a (seen l) h) e f)
+
+-- one more element of a list, and of what it stands for
+pub mapped_more : {A B : Type 0} (f : A → B) (xs ys : List A) (x : A) (bs : List B) → bs ≡ map f xs → ys ≡ xs ++ x ∷ [] → bs ++ f x ∷ [] ≡ map f ys
+mapped_more f xs ys x bs e g = ap (λ l. l ++ f x ∷ []) e ∙ sym (map-append f xs (x ∷ [])) ∙ ap (map f) (sym g)
+
+-- what begins a declaration begins a line
+pub heads_then : (a b : Piece) (ts : List CToken) → heads a ts ≡ true → heads (a ▸ b) ts ≡ true
+heads_then a b [] h = h
+heads_then a b (t ∷ ts) h = ap (λ x. x || (nullable a && starts b (kind t))) h
+
+-- the first of two pieces that no token begins together
+picks_apart : (a b : Piece) (ts : List CToken) → apart (starts a) (starts b) ≡ true → heads a ts ≡ true → picks a b ts ≡ true
+picks_apart a b [] h f = f
+picks_apart a b (t ∷ ts) h f = ap (λ x. x && (not (starts b (kind t)) || heads (sign OpenParen) ts)) f ∙ ap (λ x. not x || heads (sign OpenParen) ts) (apart_at (starts a) (starts b) t h f)
+
+pub goes_first_heads : (a b : Piece) {ts rest : List CToken} {v : Value} → apart (starts a) (starts b) ≡ true → heads a ts ≡ true → Goes a ts v rest → Goes (a or b) ts v rest
+goes_first_heads a b {ts} h f g = goes_first b (picks_apart a b ts h f) g
+
+pub fails_first_heads : (a b : Piece) {ts : List CToken} {h : Halt} → apart (starts a) (starts b) ≡ true → heads a ts ≡ true → Fails a ts h → Fails (a or b) ts h
+fails_first_heads a b {ts} h f g = fails_first b (picks_apart a b ts h f) g
+
+-- the meanings of small productions
+abbrev pub decl_with : Span → CTy → CName → CDecl
+decl_with s t n = record { ty = t; ty_span = s; name = n }
+
+pub struct_base : (a b : Value) (t x : CToken) (s : Span) (n : CName) → a ≡ token t → b ≡ token x → name_at x ≡ n → place_of x ≡ s → base_value (pair a b) ≡ type (across (place_of t) s) (named n)
+struct_base a b t x s n e f g h =
+    ap (λ v. base_value (pair v b)) e ∙ ap (λ v. base_value (pair (token t) v)) f ∙ ap (λ m. type (across (place_of t) (place_of x)) (named m)) g ∙ ap (λ p. type (across (place_of t) p) (named n)) h
+
+pub decl_meaning : (a b : Value) (s : Span) (t : CTy) (x : CToken) (n : CName) → a ≡ type s t → b ≡ token x → name_at x ≡ n → decl_value (pair a b) ≡ decl (decl_with s t n)
+decl_meaning a b s t x n e f g =
+    ap (λ v. decl_value (pair v b)) e ∙ ap (λ v. decl_value (pair (type s t) v)) f ∙ ap (λ m. decl (decl_with s t m)) g
+
+-- one more declaration behind others
+pub more_decls : (first list more_ : List Decl) (d : Decl) (v x : Value) → map decl_view first ++ decls v ≡ map decl_view list → decls_in x ≡ decl_view d ∷ [] → more_ ≡ list ++ d ∷ [] → map decl_view first ++ decls (snoc v x) ≡ map decl_view more_
+more_decls first list more_ d v x e f g =
+    sym (append_assoc (map decl_view first) (decls v) (decls_in x)) ∙ ap (λ l. l ++ decls_in x) e ∙ ap (λ l. map decl_view list ++ l) f
+    ∙ sym (map-append decl_view list (d ∷ [])) ∙ ap (map decl_view) (sym g)
+
+pub no_decls : (first list : List Decl) → list ≡ first → map decl_view first ++ decls none ≡ map decl_view list
+no_decls first list e = append-nil (map decl_view first) ∙ ap (map decl_view) (sym e)
+
+pub comma_decl : (a b : Value) (d : Decl) {t : CToken} → a ≡ token t → b ≡ decl (decl_view d) → decls_in (pair a b) ≡ decl_view d ∷ []
+comma_decl a b d {t} e f = ap (λ v. decls_in (pair v b)) e ∙ ap (λ v. decls_in (pair (token t) v)) f
+
+-- a part that is there, where the same tokens stand under another name
+pub goes_with_at : {a : Piece} {ts here : List Token} {rest : List CToken} {v : Value} → here ≡ ts → heads a (seen ts) ≡ true → Goes a (seen here) v rest → Goes (maybe a) (seen ts) (snoc none v) rest
+goes_with_at {a} {ts} {here} {rest} {v} e h f = goes_with h (subst (λ l. Goes a (seen l) v rest) e f)
+
+pub fails_with_at : {a : Piece} {ts here : List Token} {h : Halt} → here ≡ ts → heads a (seen ts) ≡ true → Fails a (seen here) h → Fails (maybe a) (seen ts) h
+fails_with_at {a} {ts} {here} {h} e i f = fails_with i (subst (λ l. Fails a (seen l) h) e f)

@@ -6,3 +6,4 @@ pub mod Factored
 pub mod Contract
 pub mod Views
 pub mod Stmts
+pub mod Faults

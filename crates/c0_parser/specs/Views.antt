@@ -10,10 +10,10 @@ use Rattle.c0_tree.specs.declared.tree.StructDef.{StructDef}
 use Rattle.c0_tree.specs.declared.tree.Function.{Function}
 use Rattle.c0_tree.specs.declared.tree.Stmt.{Stmt}
 use Rattle.c0_tree.specs.declared.tree.Body.{Body}
-use Rattle.c0_tree.specs.Tree.{CTy, pointer, array, CExpr, CStmt, assign, call, new}
+use Rattle.c0_tree.specs.Tree.{CTy, pointer, array, CExpr, CStmt, assign, call, new, CName, asm}
 use Rattle.c0_tree.specs.View.{name_view, type_view, expr_view, decl_view, stmt_view, stmts_view, struct_view, body_view, function_view}
-use Rattle.c0_parser.specs.Value.{Value, token, expr, type, decl, stmt, block, body, a_struct, a_global, a_function, place_of, name_at, args_of, stmts, decls, decls_from, params_of, decls_in, type_suffixes, type_suffixed, number_of, base_value, stored}
-use Rattle.c0_parser.specs.Factored.{factored_value}
+use Rattle.c0_parser.specs.Value.{Value, token, pair, expr, type, decl, stmt, block, body, a_struct, a_global, a_function, place_of, name_at, text_of, defined, struct_of, args_of, stmts, decls, decls_from, params_of, decls_in, type_suffixes, type_suffixed, number_of, base_value, stored}
+use Rattle.c0_parser.specs.Factored.{factored_value, declared_as, told}
 use Rattle.c0_parser.specs.declared.expressions.Part.{Part}
 use Rattle.c0_parser.specs.declared.types.Typed.{Typed}
 use Rattle.c0_parser.specs.declared.types.Suffix.{Suffix}
@@ -129,3 +129,32 @@ IsListed d v = decls_in v ≡ decl_view d ∷ []
 -- declarations behind others
 abbrev pub AreMoreLines : {A B : Type 0} → Vec Decl A → Vec Decl B → Value → Type 0
 AreMoreLines first ds v = map decl_view first.items ++ decls v ≡ map decl_view ds.items
+
+-- the text of an asm body
+abbrev pub IsAsm : Body → Value → Type 0
+IsAsm b v = (t : CToken) × (v ≡ token t) × (asm (text_of t.lexeme) (place_of t) [] ≡ body_view b)
+
+-- what stands behind the name of a global or a function
+abbrev pub IsBehind : Decl → Item → Value → Type 0
+IsBehind d i v = defined (decl_view d) v ≡ item_view i
+
+-- a global or a function behind the first word or words of its type
+pub record IsDefined (base : Typed) (i : Item) (v : Value) : Type 0 where
+  pub suffixes : Value
+  pub others : Value
+  pub span : Span
+  pub ty : CTy
+  pub parts : v ≡ pair suffixes others
+  pub typed_so : type_suffixes (typed base) suffixes ≡ type span ty
+  pub is : declared_as (typed base) v ≡ item_view i
+
+-- a struct of this name, from its brace on
+pub record IsStruct (x : Name) (i : Item) (v : Value) : Type 0 where
+  pub brace : CToken
+  pub others : Value
+  pub parts : v ≡ pair (token brace) others
+  pub is : (y : CToken) → name_at y ≡ name_view x → struct_of y v ≡ item_view i
+
+-- a struct, or a global or function of a struct type, behind `struct` and a name
+abbrev pub IsTold : CToken → CName → Item → Value → Type 0
+IsTold t x i v = (y : CToken) → name_at y ≡ x → told t y v ≡ item_view i

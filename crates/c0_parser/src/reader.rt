@@ -1,8 +1,9 @@
 // Tokens in a row.
 
 ghost use Rattle.std.specs.Prelude.{◌≡◌, ◌∷◌, [], false, MatchOption};
-ghost use Rattle.c0_tokens.specs.Tokens.{fixed, name as named, number, lexeme_view};
-ghost use Rattle.c0_parser.specs.Grammar.{sign, NAME, NUMBER};
+ghost use Rattle.c0_tokens.specs.Tokens.{fixed, name as named, number, asm_text, lexeme_view};
+ghost use Rattle.c0_parser.specs.Sorts.{an_asm_text};
+ghost use Rattle.c0_parser.specs.Grammar.{one_of, sign, NAME, NUMBER};
 ghost use Rattle.c0_parser.specs.Machine.{heads};
 ghost use Rattle.c0_parser.specs.Contract.{seen, Gives};
 ghost use Rattle.c0_parser.specs.Views.{IsToken, IsName, IsNumber};
@@ -120,5 +121,16 @@ pub fn number_here<'a>(ts: &'a [Token<'a>]) -> Result<(u32, &'a [Token<'a>]), Ha
     match take_number(ts) {
         Some((_, value, rest)) => Ok((value, rest)),
         None => Err(Halt::Left(ts.len())),
+    }
+}
+
+/// An asm text and its bytes, where one stands next.
+pub fn take_asm<'a>(ts: &'a [Token<'a>]) -> Option<(Token<'a>, &'a [u8], &'a [Token<'a>])>
+    ensures { MatchOption result (heads (one_of an_asm_text []) (seen ts.now) ≡ false) (λ p. (ts.now ≡ p.0 ∷ p.2.now) × (lexeme_view p.0.lexeme ≡ asm_text p.1.now)) }
+{
+    let (t, rest) = next(ts)?;
+    match t.lexeme {
+        Lexeme::AsmText(text) => Some((t, text, rest)),
+        _ => None,
     }
 }

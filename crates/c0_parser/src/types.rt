@@ -1,18 +1,20 @@
 // Types and declarations.
 
 ghost use Rattle.std.specs.Prelude.{◌≡◌, true, false, MatchOption, MatchResult};
-ghost use Rattle.c0_tree.specs.View.{type_view};
+ghost use Rattle.c0_tree.specs.View.{type_view, name_view};
+ghost use Rattle.c0_tree.specs.Tree.{int, bool, named};
+ghost use Rattle.c0_tokens.specs.Tokens.{token_view};
 ghost use Rattle.c0_parser.specs.declared.reader.Halt.TheVariants.{Memory};
-ghost use Rattle.c0_parser.specs.Value.{type as type_at};
+ghost use Rattle.c0_parser.specs.Value.{type as type_at, place_of, across};
 ghost use Rattle.c0_tokens.specs.declared.token.Mark.TheVariants.{Comma};
 ghost use Rattle.c0_parser.specs.Grammar.{the, type, decl, sign, ◌▸◌, many, maybe, LINE, BASIC, BASE, SUFFIX, SUFFIXES};
-ghost use Rattle.c0_parser.specs.Contract.{seen, Gives, GivesAny};
+ghost use Rattle.c0_parser.specs.Contract.{seen, Gives, GivesAny, Reading};
 ghost use Rattle.c0_parser.specs.Machine.{heads};
 ghost use Rattle.c0_parser.specs.Views.{typed, IsBase, IsListed, AreMoreLines, IsExtended, with_length, IsSuffix, IsTyped, AreSuffixes, IsDecl, AreLines, AreFields, AreParams};
 
 use crate::reader::{Halt, begun, expect, name, next, number_here, take};
 use c0_tokens::{Lexeme, Mark, Token};
-use c0_tree::{CType, Decl, Span};
+use c0_tree::{CType, Decl, Name, Span};
 use std::alloc::Global;
 
 /// A type, and where it stands.
@@ -99,33 +101,51 @@ pub fn suffixes<'a>(
     Ok((whole, rest))
 }
 
-/// `int` or `bool`.
-pub fn basic<'a>(ts: &'a [Token<'a>]) -> Result<(Typed, &'a [Token<'a>]), Halt>
-    ensures { Gives BASIC IsBase ts.now result }
+// `int`.
+fn int_at(t: &Token<'_>) -> Typed
+    ensures { typed result ≡ type_at (place_of (token_view t.now)) int }
+{
+    let span = Span { start: t.start, end: t.end };
+    Typed { ty: CType::Int, span }
+}
+
+// `bool`.
+fn bool_at(t: &Token<'_>) -> Typed
+    ensures { typed result ≡ type_at (place_of (token_view t.now)) bool }
+{
+    let span = Span { start: t.start, end: t.end };
+    Typed { ty: CType::Bool, span }
+}
+
+/// The struct of this name, behind the word `struct`.
+pub fn struct_at(t: &Token<'_>, name: Name) -> Typed
+    ensures { typed result ≡ type_at (across (place_of (token_view t.now)) name.span) (named (name_view name)) }
+{
+    let span = Span { start: t.start, end: name.span.end };
+    Typed { ty: CType::Named(name), span }
+}
+
+/// `int` or `bool`, where one stands next.
+pub fn take_basic<'a>(ts: &'a [Token<'a>]) -> Option<(Typed, &'a [Token<'a>])>
+    ensures { MatchOption result (heads BASIC (seen ts.now) ≡ false) (λ p. (heads BASIC (seen ts.now) ≡ true) × Reading BASIC IsBase ts.now p) }
 {
     if let Some((t, rest)) = take(ts, Mark::Int) {
-        let span = Span { start: t.start, end: t.end };
-        return Ok((Typed { ty: CType::Int, span }, rest));
+        return Some((int_at(&t), rest));
     }
-    if let Some((t, rest)) = take(ts, Mark::Bool) {
-        let span = Span { start: t.start, end: t.end };
-        return Ok((Typed { ty: CType::Bool, span }, rest));
-    }
-    Err(Halt::Left(ts.len()))
+    let (t, rest) = take(ts, Mark::Bool)?;
+    Some((bool_at(&t), rest))
 }
 
 // The first word or words of a type.
 fn base<'a>(alloc: Global, ts: &'a [Token<'a>]) -> Result<(Typed, &'a [Token<'a>]), Halt>
     ensures { Gives BASE IsBase ts.now result }
 {
-    match take(ts, Mark::Struct) {
-        Some((t, rest)) => {
-            let (name, rest) = name(alloc, rest)?;
-            let span = Span { start: t.start, end: name.span.end };
-            Ok((Typed { ty: CType::Named(name), span }, rest))
-        }
-        None => basic(ts),
+    if let Some((basic, rest)) = take_basic(ts) {
+        return Ok((basic, rest));
     }
+    let (t, rest) = expect(ts, Mark::Struct)?;
+    let (name, rest) = name(alloc, rest)?;
+    Ok((struct_at(&t, name), rest))
 }
 
 /// A type.
