@@ -1,6 +1,12 @@
 //! The tokens of a C0 source.
 #![tactic(auto)]
 
+pub mod laws;
+pub mod lexer;
+pub mod nesting;
+pub mod spelling;
 pub mod token;
 
+pub use laws::tokens_stand_in_order;
+pub use lexer::{MAX_SOURCE, tokens};
 pub use token::{Lexeme, Mark, Token, TokenFault};
