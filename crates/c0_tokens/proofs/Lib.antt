@@ -1,0 +1,5 @@
+pub mod Runs
+pub mod Spelt
+pub mod Shorter
+pub mod Steps
+pub mod Ends

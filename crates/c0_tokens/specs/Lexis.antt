@@ -78,13 +78,21 @@ mark_cut text =
 abbrev pub asm_cut : List ℕ → Cut
 asm_cut rest = record { lexeme = asm_text (before_first is_close_brace rest); rest = after_first is_close_brace rest }
 
+-- the reserved word or name that all letters, digits and _ at the front are
+abbrev pub word_cut : List ℕ → Cut
+word_cut text = record { lexeme = word_lexeme (take_while is_word_byte text); rest = drop (length (take_while is_word_byte text)) text }
+
+-- the number that all digits at the front are
+abbrev pub number_cut : List ℕ → Cut
+number_cut text = record { lexeme = number_lexeme (take_while is_digit text); rest = drop (length (take_while is_digit text)) text }
+
 -- the longest token at the front of bytes where no blank or comment stands, and whether the token before it was the word asm
 abbrev pub cut : Bool → List ℕ → Cut
 cut after_asm [] = record { lexeme = end; rest = [] }
 cut after_asm (a ∷ rest) =
     if after_asm && (a == 123) then asm_cut rest else
-    if is_letter a then record { lexeme = word_lexeme (take_while is_word_byte (a ∷ rest)); rest = drop (length (take_while is_word_byte (a ∷ rest))) (a ∷ rest) } else
-    if is_digit a then record { lexeme = number_lexeme (take_while is_digit (a ∷ rest)); rest = drop (length (take_while is_digit (a ∷ rest))) (a ∷ rest) } else
+    if is_letter a then word_cut (a ∷ rest) else
+    if is_digit a then number_cut (a ∷ rest) else
     mark_cut (a ∷ rest)
 
 -- whether an opening brace stands at the front and no closing one after it

@@ -1,7 +1,7 @@
 // The tokens of a source.
 ghost use Rattle.std.specs.Prelude.{◌≡◌, ◌<◌, ◌≤◌, ◌+◌, true, false, not, ◌==◌, ◌&&◌, length, drop, map, IfOk, SomeIff};
 ghost use Rattle.std.specs.List.{AllPass, prefix_len, position_or_len};
-ghost use Rattle.c0_tokens.specs.Lexis.{is_digit as is_digit_of, is_letter as is_letter_of, is_word_byte as is_word_byte_of, is_blank as is_blank_of, is_close_brace, gap, digits_value as digits_value_of, number_lexeme as number_lexeme_of, word_lexeme as word_lexeme_of, mark_cut as mark_cut_of, cut, is_unclosed as is_unclosed_of, next_text as next_text_of, is_asm as is_asm_of, is_last as is_last_of};
+ghost use Rattle.c0_tokens.specs.Lexis.{is_digit as is_digit_of, is_letter as is_letter_of, is_word_byte as is_word_byte_of, is_blank as is_blank_of, is_close_brace, gap, digits_value as digits_value_of, number_lexeme as number_lexeme_of, word_lexeme as word_lexeme_of, mark_cut as mark_cut_of, asm_cut as asm_cut_of, word_cut as word_cut_of, number_cut as number_cut_of, cut, is_unclosed as is_unclosed_of, next_text as next_text_of, is_asm as is_asm_of, is_last as is_last_of};
 ghost use Rattle.c0_tokens.specs.Nesting.{tokens_of};
 ghost use Rattle.c0_tokens.specs.Tokens.{lexeme_view, token_view};
 ghost use Rattle.c0_tokens.specs.View.{cut_view};
@@ -117,6 +117,14 @@ fn number_lexeme<'a>(digits: &[u8]) -> Lexeme<'a>
     }
 }
 
+// The bytes after so many.
+fn after(text: &[u8], len: usize) -> &[u8]
+    requires { len ≤ length text.now }
+    ensures { result.now ≡ drop len text.now }
+{
+    &text[len..]
+}
+
 // The longest mark at the front of a text that isn't empty, or the byte that begins none.
 fn mark_cut(text: &[u8]) -> Cut<'_>
     requires { 0 < length text.now }
@@ -125,11 +133,11 @@ fn mark_cut(text: &[u8]) -> Cut<'_>
     match front_mark(text) {
         Some(spelling) => Cut {
             lexeme: Lexeme::Fixed(spelling.mark),
-            rest: &text[spelling.text.len()..],
+            rest: after(text, spelling.text.len()),
         },
         None => Cut {
             lexeme: Lexeme::Faulty(TokenFault::BadByte),
-            rest: &text[1..],
+            rest: after(text, 1),
         },
     }
 }
@@ -141,39 +149,60 @@ fn is_unclosed(text: &[u8]) -> bool
     !text.is_empty() && text[0] == b'{' && body_len(&text[1..]) == text.len() - 1
 }
 
+// The asm text that follows an opening brace.
+fn asm_cut(text: &[u8]) -> Cut<'_>
+    requires { position_or_len is_close_brace text.now < length text.now }
+    ensures { cut_view result ≡ asm_cut_of text.now }
+{
+    let len = body_len(text);
+    Cut {
+        lexeme: Lexeme::AsmText(&text[..len]),
+        rest: &text[len + 1..],
+    }
+}
+
+// The reserved word or the name at the front of a text.
+fn word_cut(text: &[u8]) -> Cut<'_>
+    ensures { cut_view result ≡ word_cut_of text.now }
+{
+    let (word, rest) = text.split_at(word_len(text));
+    Cut {
+        lexeme: word_lexeme(word),
+        rest,
+    }
+}
+
+// The number at the front of a text that begins with a digit.
+fn number_cut(text: &[u8]) -> Cut<'_>
+    requires { 0 < prefix_len is_digit_of text.now }
+    ensures { cut_view result ≡ number_cut_of text.now }
+{
+    let (digits, rest) = text.split_at(digits_len(text));
+    Cut {
+        lexeme: number_lexeme(digits),
+        rest,
+    }
+}
+
 // The longest token at the front of a text where no gap stands, and whether the word `asm` came before it.
 fn first_token(text: &[u8], after_asm: bool) -> Cut<'_>
     requires { after_asm && is_unclosed_of text.now ≡ false }
     ensures { cut_view result ≡ cut after_asm text.now }
 {
     if text.is_empty() {
-        return Cut {
+        Cut {
             lexeme: Lexeme::End,
             rest: text,
-        };
+        }
+    } else if after_asm && text[0] == b'{' {
+        asm_cut(after(text, 1))
+    } else if is_letter(text[0]) {
+        word_cut(text)
+    } else if is_digit(text[0]) {
+        number_cut(text)
+    } else {
+        mark_cut(text)
     }
-    if after_asm && text[0] == b'{' {
-        let (body, rest) = text[1..].split_at(body_len(&text[1..]));
-        return Cut {
-            lexeme: Lexeme::AsmText(body),
-            rest: &rest[1..],
-        };
-    }
-    if is_letter(text[0]) {
-        let (word, rest) = text.split_at(word_len(text));
-        return Cut {
-            lexeme: word_lexeme(word),
-            rest,
-        };
-    }
-    if is_digit(text[0]) {
-        let (digits, rest) = text.split_at(digits_len(text));
-        return Cut {
-            lexeme: number_lexeme(digits),
-            rest,
-        };
-    }
-    mark_cut(text)
 }
 
 // How many bytes the blank or the comment at the front has, or 0 where neither stands there.
