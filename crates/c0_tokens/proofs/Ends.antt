@@ -42,13 +42,15 @@ order (suc n) size from d after_asm text h inside at =
     let lexeme = at_depth d c.lexeme in
     let within : length here ≤ length text = next_within after_asm text in
     let less : length c.rest ≤ length here = left_within after_asm here in
-    let after = nested (depth_after d c.lexeme) (if is_last c.lexeme then [] else tokens_within n size (is_asm c.lexeme) c.rest) in
-    (omega arith, omega arith,
-    (λ e. let some : length c.rest < length here = left_shorter after_asm here (keeps_last d c.lexeme e) in omega arith),
-    order_after (size - length c.rest) size (is_last lexeme) after (omega arith)
-    (λ e. let plain : is_last c.lexeme ≡ false = keeps_last d c.lexeme e in
-    let shorter : length c.rest < length text = next_shorter after_asm text plain in
-    rw plain (order n size (size - length c.rest) (depth_after d c.lexeme) (is_asm c.lexeme) c.rest (omega arith) (omega arith) (omega arith))))
+    let after = nested (depth_after d c.lexeme) (if is_last c.lexeme then [] else tokens_within n size (is_asm c.lexeme) c.rest) in (
+      omega arith,
+      omega arith,
+      (λ e. let some : length c.rest < length here = left_shorter after_asm here (keeps_last d c.lexeme e) in omega arith),
+      order_after (size - length c.rest) size (is_last lexeme) after (omega arith)
+          (λ e. let plain : is_last c.lexeme ≡ false = keeps_last d c.lexeme e in
+          let shorter : length c.rest < length text = next_shorter after_asm text plain in
+          rw plain (order n size (size - length c.rest) (depth_after d c.lexeme) (is_asm c.lexeme) c.rest (omega arith) (omega arith) (omega arith))),
+    )
 
 pub source_order : (source : List ℕ) → InOrder 0 (length source) (tokens_of source)
 source_order source = order (length source + 1) (length source) 0 outside false source (omega arith) (omega arith) (omega arith)

@@ -9,7 +9,6 @@ use Rattle.c0_tokens.specs.Tokens.{CToken, fixed, faulty}
 use Rattle.c0_tokens.specs.declared.token.TokenFault.TheVariants.{BadByte}
 use Rattle.c0_tokens.specs.Spelling.{Spelling, marks}
 use Rattle.c0_tokens.specs.Lexis.{gap, Cut, cut, asm_cut, mark_cut, word_cut, number_cut, next_text, is_unclosed, is_asm, is_last, is_letter, is_digit, is_word_byte, is_close_brace, tokens_within}
-use Rattle.c0_tokens.proofs.Runs.{gap_within}
 use Rattle.c0_tokens.proofs.Spelt.{mark_has_byte}
 
 -- a run whose first byte passes leaves less of the text

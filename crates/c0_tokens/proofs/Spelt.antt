@@ -1,5 +1,5 @@
 -- Looking a spelling up in a table: what is found passes the test, has a byte, and is the same in the code's table and in the definition's.
-use Rattle.std.proofs.Common.{◌≡◌, ℕ, ◌<◌, ◌≤◌, Bool, true, false, cond, List, [], ◌∷◌, length, take, drop, Option, Some, None, refl, ap, sym, ◌∙◌, subst, find, map, nat_lt, ◌==◌, ◌&&◌, arith}
+use Rattle.std.proofs.Common.{◌≡◌, ℕ, ◌<◌, ◌≤◌, Bool, true, false, cond, List, [], ◌∷◌, length, drop, Option, Some, refl, ap, sym, subst, find, map, nat_lt, ◌==◌, ◌&&◌, arith}
 use Rattle.std.specs.Prelude.{option_map}
 use Rattle.std.specs.List.{list_all, starts_with}
 use Rattle.std.proofs.lemmas.Bool.Decides.{Decides-eqb}
@@ -28,11 +28,11 @@ pub find_passes : {X : Type 0} (p : X → Bool) (xs : List X) (x : X) → find p
 find_passes p [] x e = absurd (none-some x e)
 find_passes p (y ∷ ys) x e = found_case (λ z. p z ≡ true) (p y) y x (find p ys) e (λ h. h) (find_passes p ys x)
 
-both_left : (a b : Bool) → (a && b) ≡ true → a ≡ true
+pub both_left : (a b : Bool) → (a && b) ≡ true → a ≡ true
 both_left true b e = refl
 both_left false b e = e
 
-both_right : (a b : Bool) → (a && b) ≡ true → b ≡ true
+pub both_right : (a b : Bool) → (a && b) ≡ true → b ≡ true
 both_right true b e = e
 both_right false b e = absurd cc
 

@@ -1,11 +1,11 @@
 -- One token after another: what is left of a source gives its next token and what is left after it.
-use Rattle.std.proofs.Common.{◌≡◌, ℕ, zero, suc, ◌+◌, ◌-◌, ◌<◌, ◌≤◌, Bool, true, false, ◌++◌, List, [], ◌∷◌, length, map, refl, ap, sym, ◌∙◌, subst, arith, add-one, true≢false, append_assoc, if◌then◌else◌}
+use Rattle.std.proofs.Common.{◌≡◌, ℕ, suc, ◌+◌, ◌-◌, ◌<◌, ◌≤◌, Bool, true, false, ◌++◌, List, [], ◌∷◌, length, map, refl, ap, sym, ◌∙◌, subst, arith, add-one, true≢false, append_assoc, if◌then◌else◌}
 use Rattle.std.proofs.lemmas.List.{map-append}
 use Rattle.c0_tokens.specs.Tokens.{CLexeme, name, number, asm_text, fixed, faulty, end, CToken}
 use Rattle.c0_tokens.specs.declared.token.TokenFault.TheVariants.{TooNested}
 use Rattle.c0_tokens.specs.Lexis.{Cut, cut, next_text, is_asm, is_last, tokens_within}
 use Rattle.c0_tokens.specs.Nesting.{Depth, depth_after, at_depth, is_too_nested, nested, opens, closes, ends_run}
-use Rattle.c0_tokens.proofs.Shorter.{next_cut, next_token, next_shorter, next_within, left_within, enough}
+use Rattle.c0_tokens.proofs.Shorter.{next_cut, next_shorter, next_within, left_within, enough}
 
 -- the tokens of what is left of a source, from a depth on
 abbrev pub left : ℕ → Depth → Bool → List ℕ → List CToken

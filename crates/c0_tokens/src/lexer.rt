@@ -6,11 +6,10 @@ ghost use Rattle.c0_tokens.specs.Nesting.{tokens_of};
 ghost use Rattle.c0_tokens.specs.Tokens.{lexeme_view, token_view};
 ghost use Rattle.c0_tokens.specs.View.{cut_view};
 
-use std::alloc::{AllocError, Global};
-
 use crate::nesting::Depth;
 use crate::spelling::{front_mark, reserved};
 use crate::token::{Lexeme, Mark, Token, TokenFault};
+use std::alloc::{AllocError, Global};
 
 /// The most bytes of a source: 1,048,576.
 pub const MAX_SOURCE: usize = 1048576;

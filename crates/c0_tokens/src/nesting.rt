@@ -51,7 +51,10 @@ impl Depth {
     pub fn outside() -> Depth
         ensures { depth_view result ≡ outside }
     {
-        Depth { brackets: 0, run: 0 }
+        Depth {
+            brackets: 0,
+            run: 0,
+        }
     }
 
     fn is_too_nested(&self, lexeme: &Lexeme<'_>) -> bool

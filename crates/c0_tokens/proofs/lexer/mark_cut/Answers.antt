@@ -1,5 +1,5 @@
 -- A mark that is in the table stands at the front, so it is no longer than the text.
-use Rattle.std.proofs.Common.{◌≡◌, ◌∙◌, ◌==◌, ap, sym, refl}
+use Rattle.std.proofs.Common.{◌∙◌, ◌==◌, ap, sym, refl}
 use Rattle.std.specs.Prelude.{option_map}
 use Rattle.std.specs.List.{starts_with}
 use Rattle.c0_tokens.specs.Spelling.{marks}

@@ -1,5 +1,5 @@
 -- A word that is in the table is reserved.
-use Rattle.std.proofs.Common.{◌≡◌, ◌∙◌, ap, sym, refl}
+use Rattle.std.proofs.Common.{◌∙◌, ap, sym, refl}
 use Rattle.std.specs.Prelude.{option_map}
 use Rattle.c0_tokens.specs.Lexis.{word_lexeme}
 use Rattle.c0_tokens.specs.View.{spelling_view}
