@@ -1,0 +1,6 @@
+pub mod Runs
+pub mod Sound
+pub mod Tables
+pub mod Complete
+pub mod Calls
+pub mod Follow

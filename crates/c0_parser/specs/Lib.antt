@@ -1,0 +1,4 @@
+pub mod Sorts
+pub mod Value
+pub mod Grammar
+pub mod Machine
