@@ -116,16 +116,16 @@ Follows p xs v = (rest : List CToken) (st : List Task) (vs : List Value) → Sto
 abbrev pub Reads : Piece → List CToken → Value → Type 0
 Reads p xs v = (rest : List CToken) (st : List Task) (vs : List Value) → Stops p rest → Leads (at (xs ++ rest) (want p ∷ st) vs) (at rest st (v ∷ vs))
 
-cond_true : {A : Type 0} (b : Bool) (x y : A) → b ≡ true → cond b x y ≡ x
+pub cond_true : {A : Type 0} (b : Bool) (x y : A) → b ≡ true → cond b x y ≡ x
 cond_true true x y e = refl
 cond_true false x y e = cc
 
-cond_false : {A : Type 0} (b : Bool) (x y : A) → b ≡ false → cond b x y ≡ y
+pub cond_false : {A : Type 0} (b : Bool) (x y : A) → b ≡ false → cond b x y ≡ y
 cond_false true x y e = cc
 cond_false false x y e = refl
 
 -- nothing more of a list follows
-more_ends : (a : Piece) (ts : List CToken) (st : List Task) (vs : List Value) → heads a ts ≡ false → Leads (at ts (more a ∷ st) vs) (at ts st vs)
+pub more_ends : (a : Piece) (ts : List CToken) (st : List Task) (vs : List Value) → heads a ts ≡ false → Leads (at ts (more a ∷ st) vs) (at ts st vs)
 more_ends a ts st vs h = go _ (at ts st vs) _ (ap Some (cond_false (heads a ts) _ _ h)) (still _)
 
 not_heads : (a : Piece) (ts : List CToken) → Stops (many a) ts → heads a ts ≡ false

@@ -4,3 +4,4 @@ pub mod Tables
 pub mod Complete
 pub mod Calls
 pub mod Follow
+pub mod Steps

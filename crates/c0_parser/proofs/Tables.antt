@@ -7,7 +7,8 @@ use Rattle.c0_tokens.specs.declared.token.Mark.TheVariants.{Int, Bool as Boolean
 use Rattle.c0_tokens.specs.Tokens.{CLexeme, CToken, name, number, asm_text, fixed, faulty, end}
 use Rattle.c0_parser.specs.Sorts.{Sort, mark, a_name, a_number, an_asm_text, the_end, a_fault, sort, mark_place, place, among}
 use Rattle.c0_parser.specs.Grammar.{Rule, disjunction, conjunction, equality, relation, sum, product, unary, postfix, primary, type, decl, block, statement, code, body, Piece, one_of, ◌▸◌, ◌or◌, many, maybe, the, production}
-use Rattle.c0_parser.specs.Machine.{kind, nullable, starts, rule_starts, SOURCE}
+use Rattle.c0_parser.specs.Machine.{kind, nullable, starts, rule_starts}
+use Rattle.c0_parser.specs.Factored.{SOURCE}
 
 abbrev postfix_on : List Sort
 postfix_on = mark Dot ∷ mark Arrow ∷ mark OpenBracket ∷ []

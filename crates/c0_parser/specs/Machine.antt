@@ -1,10 +1,10 @@
 -- The grammar as a machine that reads token by token, with a stack of what is still wanted and a stack of what was read: for proofs.
 use Rattle.std.specs.Prelude.{ℕ, ◌≡◌, Bool, true, false, not, ◌&&◌, ◌||◌, cond, Option, Some, None, List, [], ◌∷◌}
 use Rattle.c0_tokens.specs.Tokens.{CToken}
-use Rattle.c0_tokens.specs.declared.token.Mark.TheVariants.{Int, Bool as Boolean, Struct, Semicolon, If, While, True, False, Null, Asm, OpenBrace, OpenParen, Minus, Star, Not, Ampersand}
-use Rattle.c0_parser.specs.Sorts.{Sort, mark, a_name, a_number, the_end, sort, place, among}
+use Rattle.c0_tokens.specs.declared.token.Mark.TheVariants.{Int, Bool as Boolean, Struct, If, While, True, False, Null, Asm, OpenBrace, OpenParen, Minus, Star, Not, Ampersand}
+use Rattle.c0_parser.specs.Sorts.{Sort, mark, a_name, a_number, sort, place, among}
 use Rattle.c0_parser.specs.Value.{Value, token, pair, none, snoc}
-use Rattle.c0_parser.specs.Grammar.{Rule, disjunction, conjunction, equality, relation, sum, product, unary, postfix, primary, type, decl, block, statement, code, body, Piece, one_of, sign, ◌▸◌, ◌or◌, many, maybe, the, production, meaning, NAME, SUFFIXES, FIELDS, FUNCTION}
+use Rattle.c0_parser.specs.Grammar.{Rule, disjunction, conjunction, equality, relation, sum, product, unary, postfix, primary, type, decl, block, statement, code, body, Piece, one_of, sign, ◌▸◌, ◌or◌, many, maybe, the, production, meaning}
 
 -- the number of a token's sort
 abbrev pub kind : CToken → ℕ
@@ -109,15 +109,3 @@ step (at ts (act f ∷ st) vs) = Some (at ts st (f vs))
 pub data Leads : State → State → Type 0 where
   still : (s : State) → Leads s s
   go : (a b c : State) → step a ≡ Some b → Leads b c → Leads a c
-
--- what stands behind the first token of a declaration's type
-abbrev pub DEFINED : Piece
-DEFINED = SUFFIXES ▸ NAME ▸ (sign Semicolon or FUNCTION)
-
--- a struct, a global or a function, told apart by one token at a time
-abbrev pub FACTORED : Piece
-FACTORED = sign Struct ▸ NAME ▸ (FIELDS or DEFINED) or one_of (mark Int) (mark Boolean ∷ []) ▸ DEFINED
-
--- a unit of these, and the end of the source
-abbrev pub SOURCE : Piece
-SOURCE = many FACTORED ▸ one_of the_end []

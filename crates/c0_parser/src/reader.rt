@@ -1,0 +1,86 @@
+// Tokens in a row.
+
+ghost use Rattle.std.specs.Prelude.{◌≡◌, ◌∷◌, [], false, MatchOption};
+ghost use Rattle.c0_tokens.specs.Tokens.{fixed, lexeme_view};
+ghost use Rattle.c0_parser.specs.Grammar.{sign, NAME};
+ghost use Rattle.c0_parser.specs.Machine.{heads};
+ghost use Rattle.c0_parser.specs.Contract.{seen, Gives};
+ghost use Rattle.c0_parser.specs.Views.{IsToken, IsName};
+ghost use Rattle.c0_parser.specs.declared.reader.Halt.TheVariants.{Memory};
+
+use c0_tokens::{Lexeme, Mark, Token};
+use c0_tree::{Kind, Name, Span};
+use std::alloc::{AllocError, AllocFailed, Global};
+
+/// Why a part was not read.
+#[derive(Debug, Drop)]
+pub enum Halt {
+    /// There is no memory for it.
+    Memory,
+    /// So many tokens are left, the first that cannot be in front.
+    Left(usize),
+}
+
+impl From<AllocError> for Halt {
+    ghost from_gives = { λ _ e. e ≡ Memory };
+
+    fn from(_: AllocError) -> Self {
+        Halt::Memory
+    }
+}
+
+impl<T: Drop> From<AllocFailed<T>> for Halt {
+    ghost from_gives = { λ _ e. e ≡ Memory };
+
+    fn from(_: AllocFailed<T>) -> Self {
+        Halt::Memory
+    }
+}
+
+// The first token, and the others.
+pub fn next<'a>(ts: &'a [Token<'a>]) -> Option<(Token<'a>, &'a [Token<'a>])>
+    ensures { MatchOption result (ts.now ≡ []) (λ p. ts.now ≡ p.0 ∷ p.1.now) }
+{
+    match ts {
+        [] => None,
+        [t, rest @ ..] => Some((*t, rest)),
+    }
+}
+
+// The mark, where it stands next.
+pub fn take<'a>(ts: &'a [Token<'a>], wanted: Mark) -> Option<(Token<'a>, &'a [Token<'a>])>
+    ensures { MatchOption result (heads (sign wanted) (seen ts.now) ≡ false) (λ p. (ts.now ≡ p.0 ∷ p.1.now) × (lexeme_view p.0.lexeme ≡ fixed wanted)) }
+{
+    let (t, rest) = next(ts)?;
+    match t.lexeme {
+        Lexeme::Fixed(mark) if mark == wanted => Some((t, rest)),
+        _ => None,
+    }
+}
+
+// The mark, which has to stand next.
+pub fn expect<'a>(ts: &'a [Token<'a>], wanted: Mark) -> Result<(Token<'a>, &'a [Token<'a>]), Halt>
+    ensures { Gives (sign wanted) IsToken ts.now result }
+{
+    match take(ts, wanted) {
+        Some((t, rest)) => Ok((t, rest)),
+        None => Err(Halt::Left(ts.len())),
+    }
+}
+
+/// A name, which has to stand next.
+pub fn name<'a>(alloc: Global, ts: &'a [Token<'a>]) -> Result<(Name, &'a [Token<'a>]), Halt>
+    ensures { Gives NAME IsName ts.now result }
+{
+    match next(ts) {
+        Some((t, rest)) => match t.lexeme {
+            Lexeme::Name(text) => {
+                let span = Span { start: t.start, end: t.end };
+                let bytes = Vec::from_slice(alloc, text)?;
+                Ok((Name { bytes, span, kind: Kind::Unresolved, number: 0 }, rest))
+            }
+            _ => Err(Halt::Left(ts.len())),
+        },
+        None => Err(Halt::Left(0)),
+    }
+}
