@@ -5,3 +5,4 @@ pub mod Complete
 pub mod Calls
 pub mod Follow
 pub mod Steps
+pub mod Exprs

@@ -5,3 +5,5 @@ pub mod Machine
 pub mod Factored
 pub mod Contract
 pub mod Views
+pub mod Levels
+pub mod Tails
