@@ -2,12 +2,14 @@
 use Rattle.std.proofs.Common.{◌≡◌, ℕ, ◌+◌, ◌<◌, ◌≤◌, List, [], ◌∷◌, ◌++◌, length, refl, sym, ap, ◌∙◌, subst, arith, Option, Some, None}
 use Rattle.std.specs.Prelude.{Bool, true, false, cond, eqb, ◌||◌}
 use Rattle.std.proofs.lemmas.Bool.{eq-eqb}
-use Rattle.c0_tokens.specs.Tokens.{CToken, CLexeme, fixed, token_view, lexeme_view}
+use Rattle.c0_tokens.specs.Tokens.{CToken, CLexeme, name, fixed, token_view, lexeme_view}
 use Rattle.c0_tokens.specs.declared.token.Mark.{Mark}
 use Rattle.c0_tokens.specs.declared.token.Token.{Token}
-use Rattle.c0_parser.specs.Sorts.{Sort, mark, mark_place, place, sort, among}
-use Rattle.c0_parser.specs.Value.{Value, token, pair, none, snoc}
-use Rattle.c0_parser.specs.Grammar.{Rule, Piece, one_of, sign, ◌▸◌, ◌or◌, many, maybe, the, production, meaning}
+use Rattle.c0_parser.specs.Sorts.{Sort, mark, a_name, mark_place, place, sort, among}
+use Rattle.c0_parser.specs.Value.{Value, token, pair, none, snoc, name_at, text_of}
+use Rattle.c0_tree.specs.declared.tree.Kind.TheVariants.{Unresolved}
+use Rattle.c0_tree.specs.Tree.{CName}
+use Rattle.c0_parser.specs.Grammar.{Rule, Piece, one_of, sign, ◌▸◌, ◌or◌, many, maybe, the, production, meaning, NAME}
 use Rattle.c0_parser.specs.Machine.{State, at, Task, want, more, act, paired, listed, meant, picks, heads, kind, starts, Leads, still, go}
 use Rattle.c0_parser.specs.Contract.{seen, Goes, Stuck, Refuses, GoesOn, Fails}
 use Rattle.c0_parser.specs.declared.reader.Halt.{Halt}
@@ -144,3 +146,16 @@ seen_length (t ∷ ts) = omega (arith, seen_length ts)
 
 pub fails_sign : (m : Mark) (ts : List Token) → heads (sign m) (seen ts) ≡ false → Fails (sign m) (seen ts) (Left (length ts))
 fails_sign m ts h = fails_by (length ts) (refuses_one (mark m) [] (seen ts) h) (seen_length ts)
+
+-- a name that stands next
+pub goes_name : (text : List ℕ) (t : Token) (ts rest : List Token) → ts ≡ t ∷ rest → lexeme_view t.lexeme ≡ name text → Goes NAME (seen ts) (token (token_view t)) (seen rest)
+goes_name text t ts rest e h = goes_one a_name [] (token_view t) (seen ts) (seen rest) (ap seen e) (ap (λ x. among (a_name ∷ []) (place (sort x))) h)
+
+abbrev name_of : List ℕ → Token → CName
+name_of l t = record { text = l; span = record { start = t.start; end = t.end }; kind = Unresolved; number = 0 }
+
+pub named_at : (text : List ℕ) (t : Token) (bytes : List ℕ) → lexeme_view t.lexeme ≡ name text → bytes ≡ text → name_at (token_view t) ≡ name_of bytes t
+named_at text t bytes h e = ap (λ l. name_of l t) (ap text_of h ∙ sym e)
+
+pub fails_name : (ts : List Token) → heads NAME (seen ts) ≡ false → Fails NAME (seen ts) (Left (length ts))
+fails_name ts h = fails_by (length ts) (refuses_one a_name [] (seen ts) h) (seen_length ts)

@@ -1,7 +1,7 @@
 // Tokens in a row.
 
 ghost use Rattle.std.specs.Prelude.{◌≡◌, ◌∷◌, [], false, MatchOption};
-ghost use Rattle.c0_tokens.specs.Tokens.{fixed, lexeme_view};
+ghost use Rattle.c0_tokens.specs.Tokens.{fixed, name as named, lexeme_view};
 ghost use Rattle.c0_parser.specs.Grammar.{sign, NAME};
 ghost use Rattle.c0_parser.specs.Machine.{heads};
 ghost use Rattle.c0_parser.specs.Contract.{seen, Gives};
@@ -68,19 +68,28 @@ pub fn expect<'a>(ts: &'a [Token<'a>], wanted: Mark) -> Result<(Token<'a>, &'a [
     }
 }
 
+/// A name and its text, where one stands next.
+pub fn take_name<'a>(ts: &'a [Token<'a>]) -> Option<(Token<'a>, &'a [u8], &'a [Token<'a>])>
+    ensures { MatchOption result (heads NAME (seen ts.now) ≡ false) (λ p. (ts.now ≡ p.0 ∷ p.2.now) × (lexeme_view p.0.lexeme ≡ named p.1.now)) }
+{
+    let (t, rest) = next(ts)?;
+    match t.lexeme {
+        Lexeme::Name(text) => Some((t, text, rest)),
+        _ => None,
+    }
+}
+
 /// A name, which has to stand next.
 pub fn name<'a>(alloc: Global, ts: &'a [Token<'a>]) -> Result<(Name, &'a [Token<'a>]), Halt>
     ensures { Gives NAME IsName ts.now result }
 {
-    match next(ts) {
-        Some((t, rest)) => match t.lexeme {
-            Lexeme::Name(text) => {
-                let span = Span { start: t.start, end: t.end };
-                let bytes = Vec::from_slice(alloc, text)?;
-                Ok((Name { bytes, span, kind: Kind::Unresolved, number: 0 }, rest))
-            }
-            _ => Err(Halt::Left(ts.len())),
-        },
-        None => Err(Halt::Left(0)),
+    match take_name(ts) {
+        Some((t, text, rest)) => {
+            let bytes = Vec::from_slice(alloc, text)?;
+            let span = Span { start: t.start, end: t.end };
+            let name = Name { bytes, span, kind: Kind::Unresolved, number: 0 };
+            Ok((name, rest))
+        }
+        None => Err(Halt::Left(ts.len())),
     }
 }
