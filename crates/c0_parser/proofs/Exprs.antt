@@ -19,7 +19,7 @@ use Rattle.c0_parser.specs.declared.expressions.Level.{Level}
 use Rattle.c0_parser.specs.declared.expressions.Level.TheVariants.{Disjunction, Conjunction, Equality, Relation, Sum, Product}
 use Rattle.c0_parser.specs.declared.expressions.Part.{Part}
 use Rattle.c0_parser.specs.declared.reader.Halt.{Halt}
-use Rattle.c0_parser.proofs.Steps.{goes_one, refuses_one, goes_both, goes_first, goes_second, goes_the, goes_with, goes_many, list_item, fails_left, fails_right, fails_first, fails_second, fails_the, fails_with, fails_many, fails_by, shorter}
+use Rattle.c0_parser.proofs.Steps.{goes_one, refuses_one, goes_both, goes_first, goes_second, goes_the, goes_with, goes_many, refuses_the, refuses_second, refuses_left, list_item, fails_left, fails_right, fails_first, fails_second, fails_the, fails_with, fails_many, fails_by, shorter}
 use Rattle.c0_parser.proofs.Complete.{picks_first}
 use Rattle.c0_parser.proofs.Tables.{no_yes}
 
@@ -160,3 +160,111 @@ pair_gives l ts rest left v (Ok r) e g is inside a =
     level_meaning l (pair v a.0) ∙ ap (λ x. chained x a.0) is ∙ a.2,
     omega (arith, inside, a.3))
 pair_gives l ts rest left v (Err h) e g is inside f = fails_the (rule_of l) (subst (λ p. Fails p (seen ts) h) (sym (production_pair l e)) (fails_right g f))
+
+-- suffixes
+
+-- a primary so far, and the suffixes behind it
+pub record SuffixesSoFar (ts : List Token) (left : Part) (rest : List Token) : Type 0 where
+  pub first : Value
+  pub mid : List CToken
+  pub parts : Value
+  pub begun : Goes (the primary) (seen ts) first mid
+  pub on : GoesOn SUFFIX mid none (seen rest) parts
+  pub is : IsPart left (suffixes first parts)
+  pub inside : length rest < length ts
+
+pub suffixes_more : (ts rest after : List Token) (left whole : Part) (v : Value) → SuffixesSoFar ts left rest → heads SUFFIX (seen rest) ≡ true → Goes SUFFIX (seen rest) v (seen after) → IsPart whole (suffixed (part_value left) v)
+    → length after < length rest → SuffixesSoFar ts whole after
+suffixes_more ts rest after left whole v c h g is inside = record {
+  first = c.first;
+  mid = c.mid;
+  parts = snoc c.parts v;
+  begun = c.begun;
+  on = list_item c.on h g;
+  is = ap (λ x. suffixed x v) c.is ∙ is;
+  inside = omega (arith, c.inside, inside);
+}
+
+pub suffixes_end : (ts rest : List Token) (left : Part) → SuffixesSoFar ts left rest → heads SUFFIX (seen rest) ≡ false → (v : Value) × Goes (the postfix) (seen ts) v (seen rest) × IsPart left v × (length rest < length ts)
+suffixes_end ts rest left c h = (suffixes c.first c.parts, goes_the postfix (goes_both c.begun (goes_many c.on h)), c.is, c.inside)
+
+pub suffixes_fail : (ts rest : List Token) (left : Part) (h : Halt) → SuffixesSoFar ts left rest → heads SUFFIX (seen rest) ≡ true → Fails SUFFIX (seen rest) h → Fails (the postfix) (seen ts) h
+suffixes_fail ts rest left h c e f = fails_the postfix (fails_right c.begun (fails_many c.on e f))
+
+-- whether a suffix begins with one of its three marks
+pub suffix_heads : (ts : List CToken) → heads SUFFIX ts ≡ heads_any (mark Dot ∷ mark Arrow ∷ mark OpenBracket ∷ []) ts
+suffix_heads [] = refl
+suffix_heads (t ∷ ts) = three (eqb (place (mark Dot)) (kind t)) (eqb (place (mark Arrow)) (kind t)) (eqb (place (mark OpenBracket)) (kind t))
+  where
+  three : (a b c : Bool) → (((a || (b || false)) || false) || ((c || false) || false)) ≡ (a || (b || (c || false)))
+  three true b c = refl
+  three false true c = refl
+  three false false true = refl
+  three false false false = refl
+
+-- the piece of a field, and of an element
+abbrev pub FIELD : Piece
+FIELD = one_of (mark Dot) (mark Arrow ∷ []) ▸ NAME
+
+abbrev pub ELEMENT : Piece
+ELEMENT = sign OpenBracket ▸ EXPR ▸ sign CloseBracket
+
+not_headed : (a b : Piece) (ts : List CToken) → heads a ts ≡ false → picks a b ts ≡ false
+not_headed a b [] h = refl
+not_headed a b (t ∷ ts) h = ap (λ x. x && (not (starts b (kind t)) || heads (sign OpenParen) ts)) h
+
+-- an opening bracket picks an element
+pub picks_element : (t : Token) (ts rest : List Token) → ts ≡ t ∷ rest → lexeme_view t.lexeme ≡ fixed OpenBracket → picks FIELD ELEMENT (seen ts) ≡ false
+picks_element t ts rest e h =
+    not_headed FIELD ELEMENT (seen ts) (ap (λ l. heads FIELD (seen l)) e ∙ ap (λ x. starts FIELD (kind (record { lexeme = x; start = t.start; stop = t.end }))) h)
+
+-- `.` or `->` picks a field
+pub picks_field : (t : Token) (ts rest : List Token) → ts ≡ t ∷ rest → among (mark Dot ∷ mark Arrow ∷ []) (kind (token_view t)) ≡ true → picks FIELD ELEMENT (seen ts) ≡ true
+picks_field t ts rest e h =
+    ap (λ l. picks FIELD ELEMENT (seen l)) e ∙ picks_first FIELD ELEMENT (token_view t ∷ []) (seen rest) refl refl (or_none (among (mark Dot ∷ mark Arrow ∷ []) (kind (token_view t))) ∙ h)
+
+-- where a suffix begins, and with no opening bracket, it is a field
+pub field_here : (ts : List CToken) → heads SUFFIX ts ≡ true → heads (sign OpenBracket) ts ≡ false → heads_any (mark Dot ∷ mark Arrow ∷ []) ts ≡ true
+field_here [] h e = no_yes h
+field_here (t ∷ ts) h e = two (eqb (place (mark Dot)) (kind t)) (eqb (place (mark Arrow)) (kind t)) (eqb (place (mark OpenBracket)) (kind t) || false) h e
+  where
+  two : (a b c : Bool) → (((a || (b || false)) || false) || (c || false)) ≡ true → c ≡ false → (a || (b || false)) ≡ true
+  two true b c h e = refl
+  two false true c h e = refl
+  two false false true h e = no_yes (sym e)
+  two false false false h e = no_yes h
+
+-- unary expressions
+
+abbrev pub PREFIX : Piece
+PREFIX = one_of (mark Minus) (mark Not ∷ mark Star ∷ mark Ampersand ∷ [])
+
+abbrev pub PREFIXED : Piece
+PREFIXED = PREFIX ▸ the unary
+
+pub goes_prefix : (t : Token) (ts rest : List Token) → ts ≡ t ∷ rest → among (mark Minus ∷ mark Not ∷ mark Star ∷ mark Ampersand ∷ []) (kind (token_view t)) ≡ true → Goes PREFIX (seen ts) (token (token_view t)) (seen rest)
+goes_prefix t ts rest e h = goes_one _ _ (token_view t) (seen ts) (seen rest) (ap seen e) h
+
+pub picks_prefixed : (t : Token) (ts rest : List Token) → ts ≡ t ∷ rest → among (mark Minus ∷ mark Not ∷ mark Star ∷ mark Ampersand ∷ []) (kind (token_view t)) ≡ true → picks PREFIXED (the postfix) (seen ts) ≡ true
+picks_prefixed t ts rest e h =
+    ap (λ l. picks PREFIXED (the postfix) (seen l)) e
+    ∙ picks_first PREFIXED (the postfix) (token_view t ∷ []) (seen rest) refl refl (or_none (among (mark Minus ∷ mark Not ∷ mark Star ∷ mark Ampersand ∷ []) (kind (token_view t))) ∙ h)
+
+pub picks_postfix : (ts : List CToken) → heads_any (mark Minus ∷ mark Not ∷ mark Star ∷ mark Ampersand ∷ []) ts ≡ false → picks PREFIXED (the postfix) ts ≡ false
+picks_postfix ts h = not_headed PREFIXED (the postfix) ts (heads_any_pair (mark Minus) (mark Not ∷ mark Star ∷ mark Ampersand ∷ []) (the unary) ts ∙ h)
+
+-- primaries
+
+abbrev pub PARENS : Piece
+PARENS = sign OpenParen ▸ EXPR ▸ sign CloseParen
+
+pub picks_parens : (t : Token) (ts rest : List Token) → ts ≡ t ∷ rest → lexeme_view t.lexeme ≡ fixed OpenParen → picks LITERAL PARENS (seen ts) ≡ false
+picks_parens t ts rest e h =
+    not_headed LITERAL PARENS (seen ts) (ap (λ l. heads LITERAL (seen l)) e ∙ ap (λ x. starts LITERAL (kind (record { lexeme = x; start = t.start; stop = t.end }))) h)
+
+pub picks_literal : (t : CToken) (ts rest : List CToken) → ts ≡ t ∷ rest → among (a_name ∷ a_number ∷ mark True ∷ mark False ∷ mark Null ∷ []) (kind t) ≡ true → picks LITERAL PARENS ts ≡ true
+picks_literal t ts rest e h = ap (λ l. picks LITERAL PARENS l) e ∙ picks_first LITERAL PARENS (t ∷ []) rest refl refl h
+
+-- neither a literal nor an opening parenthesis
+pub fails_primary : (ts : List Token) → heads LITERAL (seen ts) ≡ false → heads (sign OpenParen) (seen ts) ≡ false → Refuses (the primary) (seen ts) (seen ts)
+fails_primary ts h e = refuses_the primary (refuses_second LITERAL (not_headed LITERAL PARENS (seen ts) h) (refuses_left (EXPR ▸ sign CloseParen) (refuses_one (mark OpenParen) [] (seen ts) e)))
