@@ -10,3 +10,4 @@ pub mod Samples
 pub mod Replay
 pub mod Exact
 pub mod Same
+pub mod Exprs

@@ -7,3 +7,5 @@ pub mod Contract
 pub mod Views
 pub mod Stmts
 pub mod Faults
+pub mod Levels
+pub mod Tails

@@ -1,6 +1,15 @@
 //! The tokens of a C0 source.
 #![tactic(auto)]
 
+pub mod laws;
+pub mod lexer;
+pub mod nesting;
+pub mod spelling;
 pub mod token;
 
+pub use laws::{longest_mark_is_cut, tokens_are_few_and_small, tokens_stand_in_order};
+pub use lexer::{MAX_SOURCE, tokens};
 pub use token::{Lexeme, Mark, Token, TokenFault};
+
+#[cfg(test)]
+mod tests;
