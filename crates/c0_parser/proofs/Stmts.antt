@@ -1,7 +1,7 @@
 -- What the parts of a statement mean together, and which alternative of a statement comes: the functions that read statements cite these.
-use Rattle.std.proofs.Common.{◌≡◌, List, [], ◌∷◌, ◌++◌, map, length, refl, sym, ap, ◌∙◌, subst, Option, Some, None, Result, Ok, Err}
+use Rattle.std.proofs.Common.{◌≡◌, List, [], ◌∷◌, ◌++◌, map, length, append_assoc, refl, sym, ap, ◌∙◌, subst, Option, Some, None, Result, Ok, Err}
 use Rattle.std.specs.Prelude.{IsErrAnd, Bool, true, false, not, eqb, ◌&&◌, ◌||◌}
-use Rattle.std.proofs.lemmas.List.{map-append}
+use Rattle.std.proofs.lemmas.List.{map-append, append-nil}
 use Rattle.std.proofs.lemmas.Bool.{false≢true, eqb-true}
 use Rattle.std.specs.Borrow.{Bor}
 use Rattle.c0_tokens.specs.declared.token.Mark.{Mark}
@@ -10,11 +10,12 @@ use Rattle.c0_tokens.specs.declared.token.Token.{Token}
 use Rattle.c0_tokens.specs.Tokens.{CToken, token_view}
 use Rattle.c0_tree.specs.declared.tree.Span.{Span}
 use Rattle.c0_tree.specs.declared.tree.Name.{Name}
+use Rattle.c0_tree.specs.declared.tree.Expr.{Expr}
 use Rattle.c0_tree.specs.declared.tree.Stmt.{Stmt}
 use Rattle.c0_tree.specs.Tree.{CExpr, CStmt, CDecl, call, code}
 use Rattle.c0_tree.specs.View.{name_view, expr_view, stmt_view, stmts_of}
 use Rattle.c0_parser.specs.Sorts.{mark_place, among}
-use Rattle.c0_parser.specs.Value.{Value, token, pair, none, snoc, expr, stmt, block, body, name_at, args_of, stored, stmts, decls, chosen, statement_value, block_value, code_value}
+use Rattle.c0_parser.specs.Value.{Value, token, pair, none, snoc, expr, stmt, block, body, name_at, args_of, stored, stmts, decls, exprs, exprs_in, chosen, statement_value, block_value, code_value}
 use Rattle.c0_parser.specs.Grammar.{Piece, sign, ◌▸◌, ◌or◌, many, the, unary, statement, block as a_block, EXPR, RIGHT}
 use Rattle.c0_parser.specs.Machine.{heads, picks, starts, kind, expr_starts}
 use Rattle.c0_parser.specs.Contract.{seen, Goes, Fails, GoesOn, Gives}
@@ -161,3 +162,15 @@ goes_further p ts mid here after v w f h g = list_item f h.1 (subst (λ l. Goes 
 
 pub fails_further : (p : Piece) (ts mid here : List Token) (v : Value) (x : Halt) → GoesOn p (seen ts) none (seen mid) v → (here ≡ mid) × (heads p (seen mid) ≡ true) → Fails p (seen here) x → Fails (many p) (seen ts) x
 fails_further p ts mid here v x f h g = fails_many f h.1 (subst (λ l. Fails p (seen l) x) h.0 g)
+
+-- arguments
+pub no_args : (first list : List Expr) → list ≡ first → map expr_view first ++ exprs none ≡ map expr_view list
+no_args first list e = append-nil (map expr_view first) ∙ ap (map expr_view) (sym e)
+
+pub more_args : (first list longer : List Expr) (a : Part) (v x : Value) (t : CToken) → map expr_view first ++ exprs v ≡ map expr_view list → IsPart a x → longer ≡ list ++ (a.expr ∷ []) → map expr_view first ++ exprs (snoc v (pair (token t) x)) ≡ map expr_view longer
+more_args first list longer a v x t e f g =
+    sym (append_assoc (map expr_view first) (exprs v) (exprs_in (pair (token t) x))) ∙ ap (λ l. l ++ exprs_in (pair (token t) x)) e
+    ∙ ap (λ y. map expr_view list ++ exprs_in (pair (token t) y)) f ∙ sym (map-append expr_view list (a.expr ∷ [])) ∙ ap (map expr_view) (sym g)
+
+pub one_arg : (a : Part) (empty one : List Expr) (v : Value) → IsPart a v → empty ≡ [] → one ≡ empty ++ (a.expr ∷ []) → exprs_in v ≡ map expr_view one
+one_arg a empty one v e f g = ap exprs_in e ∙ sym (ap (map expr_view) (g ∙ ap (λ l. l ++ (a.expr ∷ [])) f))

@@ -1,5 +1,5 @@
 -- The pieces of statements that functions of their own read, and how what these answer stands for the meaning: for proofs.
-use Rattle.std.specs.Prelude.{◌≡◌, ◌<◌, List, length, Result, Ok, Err, Option, Some, None}
+use Rattle.std.specs.Prelude.{◌≡◌, ◌<◌, List, ◌++◌, map, length, Vec, Result, Ok, Err, Option, Some, None}
 use Rattle.std.specs.Borrow.{Bor}
 use Rattle.c0_tokens.specs.declared.token.Mark.{Mark}
 use Rattle.c0_tokens.specs.declared.token.Mark.TheVariants.{If, Else, While, Return, OpenParen, CloseParen, CloseBrace, Assign, Semicolon}
@@ -10,7 +10,7 @@ use Rattle.c0_tree.specs.declared.tree.Expr.{Expr}
 use Rattle.c0_tree.specs.declared.tree.Stmt.{Stmt}
 use Rattle.c0_tree.specs.Tree.{CStmt, choice, loop, done}
 use Rattle.c0_tree.specs.View.{expr_view, stmt_view, stmts_view}
-use Rattle.c0_parser.specs.Value.{Value, token, pair, none, snoc, expr, stmt, block, statement_value, chosen}
+use Rattle.c0_parser.specs.Value.{Value, token, pair, none, snoc, expr, stmt, block, statement_value, chosen, exprs}
 use Rattle.c0_parser.specs.Grammar.{Piece, sign, ◌▸◌, maybe, the, unary, block as a_block, EXPR, RIGHT}
 use Rattle.c0_parser.specs.Contract.{seen, Goes, Fails}
 use Rattle.c0_parser.specs.declared.reader.Halt.{Halt}
@@ -74,3 +74,7 @@ pub record Opened (m : Mark) (ts : List CToken) (t : Test) (rest : List CToken) 
 abbrev pub Opens : Mark → List Token → Result (Test × Bor (List Token)) Halt → Type 0
 Opens m ts (Ok r) = Opened m (seen ts) r.0 (seen r.1.now) × (length r.1.now < length ts)
 Opens m ts (Err h) = (p : Piece) → Fails (TESTED m p) (seen ts) h
+
+-- arguments behind others
+abbrev pub AreMoreArgs : {A B : Type 0} → Vec Expr A → Vec Expr B → Value → Type 0
+AreMoreArgs first es v = map expr_view first.items ++ exprs v ≡ map expr_view es.items

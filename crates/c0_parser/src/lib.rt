@@ -1,6 +1,7 @@
 //! Reading a C0 source.
 #![tactic(auto)]
 
+mod arguments;
 mod expressions;
 mod items;
 mod reader;

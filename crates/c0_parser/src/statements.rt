@@ -4,12 +4,13 @@ ghost use Rattle.std.specs.Prelude.{◌≡◌, true, false, MatchOption};
 ghost use Rattle.c0_tree.specs.View.{expr_view, stmt_view};
 ghost use Rattle.c0_parser.specs.Sorts.{mark_place, among};
 ghost use Rattle.c0_parser.specs.Grammar.{the, statement, block, many, maybe, sign, ◌▸◌, code, CALL, EXPR, RIGHT};
-ghost use Rattle.c0_parser.specs.Machine.{heads, picks, expr_starts, rule_starts};
+ghost use Rattle.c0_parser.specs.Machine.{heads, picks, rule_starts};
 ghost use Rattle.c0_parser.specs.Contract.{seen, Gives, GivesAny};
 ghost use Rattle.c0_parser.specs.Views.{IsStmt, AreStmts, IsBlock, IsRight, IsBody, right_stmt};
 ghost use Rattle.c0_parser.specs.Stmts.{ASSIGNMENT, CHOICE, LOOP, OTHERWISE, RETURNED, IsStmtOf, IsOtherwise, IsReturned, Opens, choice_view, loop_view};
 
-use crate::expressions::{arguments, expression, unary};
+use crate::arguments::{arguments, mark_starts_expression};
+use crate::expressions::{expression, unary};
 use crate::reader::{Halt, begun, expect, name, next, take, take_name};
 use crate::types::{lines, type_of};
 use c0_tokens::{Lexeme, Mark, Token};
@@ -150,20 +151,6 @@ fn test_behind<'a>(
         expr: part.expr,
     };
     Ok((test, rest))
-}
-
-// Whether an expression begins with the mark.
-fn mark_starts_expression(mark: Mark) -> bool
-    ensures { result ≡ among expr_starts (mark_place mark) }
-{
-    mark == Mark::Minus
-        || mark == Mark::Not
-        || mark == Mark::Star
-        || mark == Mark::Ampersand
-        || mark == Mark::True
-        || mark == Mark::False
-        || mark == Mark::Null
-        || mark == Mark::OpenParen
 }
 
 // Whether a statement begins with the mark.
