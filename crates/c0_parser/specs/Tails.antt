@@ -24,9 +24,17 @@ part_value p = expr p.span (expr_view p.expr)
 abbrev pub LITERAL : Piece
 LITERAL = one_of a_name (a_number ∷ mark True ∷ mark False ∷ mark Null ∷ [])
 
--- .NAME, ->NAME or [ expr ]
+-- .NAME or ->NAME
+abbrev pub FIELD : Piece
+FIELD = one_of (mark Dot) (mark Arrow ∷ []) ▸ NAME
+
+-- [ expr ]
+abbrev pub ELEMENT : Piece
+ELEMENT = sign OpenBracket ▸ EXPR ▸ sign CloseBracket
+
+-- what may stand behind a primary
 abbrev pub SUFFIX : Piece
-SUFFIX = one_of (mark Dot) (mark Arrow ∷ []) ▸ NAME or sign OpenBracket ▸ EXPR ▸ sign CloseBracket
+SUFFIX = FIELD or ELEMENT
 
 -- the first token is none of these marks, or is one of them
 abbrev pub TakesAny : List Mark → List Token → Option (Token × Bor (List Token)) → Type 0

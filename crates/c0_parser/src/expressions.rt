@@ -1,16 +1,16 @@
 // Expressions, by recursive descent.
 
-ghost use Rattle.std.specs.Prelude.{◌≡◌, ◌∷◌, [], ◌+◌, ◌≤◌, length, true, false, map, MatchOption, MatchResult};
+ghost use Rattle.std.specs.Prelude.{◌≡◌, ◌∷◌, [], ◌+◌, true, MatchOption, MatchResult};
 ghost use Rattle.c0_tokens.specs.Tokens.{CToken, token_view, lexeme_view};
-ghost use Rattle.c0_tokens.specs.declared.token.Mark.TheVariants.{True, False, Null, Comma};
+ghost use Rattle.c0_tokens.specs.declared.token.Mark.TheVariants.{True, False, Null};
 ghost use Rattle.c0_parser.specs.Sorts.{mark, place as sort_place, sort, among, a_name, a_number};
 ghost use Rattle.c0_parser.specs.Value.{token, pair, name_at, literal as literal_of_token, operator as operator_of, across as across_of, place_of, suffixed, joined, chained, primary_value, unary_value};
-ghost use Rattle.c0_parser.specs.Grammar.{EXPR, ARGS, the, many, maybe, disjunction, unary, postfix, primary};
+ghost use Rattle.c0_parser.specs.Grammar.{EXPR, the, maybe, unary, postfix, primary};
 ghost use Rattle.c0_parser.specs.Machine.{heads};
 ghost use Rattle.c0_parser.specs.Contract.{seen, Gives, GivesAny};
-ghost use Rattle.c0_parser.specs.Views.{IsPart, AreArgs};
+ghost use Rattle.c0_parser.specs.Views.{IsPart};
 ghost use Rattle.c0_parser.specs.Levels.{rule_of, operand_of, marks_of, operation, chains, level_place};
-ghost use Rattle.c0_parser.specs.Tails.{part_value, GivesLiteral, TakesAny, SUFFIX};
+ghost use Rattle.c0_parser.specs.Tails.{part_value, GivesLiteral, TakesAny, FIELD, SUFFIX};
 ghost use Rattle.c0_parser.specs.declared.reader.Halt.TheVariants.{Memory};
 ghost use Rattle.c0_tree.specs.declared.tree.Kind.TheVariants.{Unresolved};
 ghost use Rattle.c0_tree.specs.View.{expr_view, name_view};
@@ -164,7 +164,13 @@ fn prefixed(alloc: Global, sign: &Token<'_>, part: Part) -> Result<Part, Halt>
 }
 
 // An element of an array.
-fn element(alloc: Global, left: Part, open: &Token<'_>, inner: Part, close: &Token<'_>) -> Result<Part, Halt>
+fn element(
+    alloc: Global,
+    left: Part,
+    open: &Token<'_>,
+    inner: Part,
+    close: &Token<'_>,
+) -> Result<Part, Halt>
     ensures { MatchResult result (λ p. IsPart p (suffixed (part_value left) (pair (token (token_view open.now)) (pair (part_value inner) (token (token_view close.now)))))) (λ h. h ≡ Memory) }
 {
     let span = across(left.span, place(close));
@@ -189,6 +195,16 @@ fn field(alloc: Global, left: Part, sign: &Token<'_>, name: Name) -> Result<Part
     Ok(Part { expr, span })
 }
 
+// An expression in parentheses.
+fn in_parens(inner: Part, open: &Token<'_>, close: &Token<'_>) -> Part
+    ensures { IsPart result (primary_value (pair (token (token_view open.now)) (pair (part_value inner) (token (token_view close.now))))) }
+{
+    Part {
+        expr: inner.expr,
+        span: across(place(open), place(close)),
+    }
+}
+
 // A name as it is read.
 fn name_of(alloc: Global, token: &Token<'_>, text: &[u8]) -> Result<Name, Halt>
     ensures { MatchResult result (λ x. name_view x ≡ record { text = text.now; span = place_of (token_view token.now); kind = Unresolved; number = 0 }) (λ h. h ≡ Memory) }
@@ -209,9 +225,7 @@ fn is_literal(lexeme: &Lexeme<'_>) -> bool
 {
     matches!(
         lexeme,
-        Lexeme::Name(_)
-            | Lexeme::Number(_)
-            | Lexeme::Fixed(Mark::True | Mark::False | Mark::Null)
+        Lexeme::Name(_) | Lexeme::Number(_) | Lexeme::Fixed(Mark::True | Mark::False | Mark::Null)
     )
 }
 
@@ -260,35 +274,47 @@ fn primary<'a>(alloc: Global, ts: &'a [Token<'a>]) -> Result<(Part, &'a [Token<'
         Some((open, rest)) => {
             let (inner, rest) = binary(alloc, Level::Disjunction, rest)?;
             let (close, rest) = expect(rest, Mark::CloseParen)?;
-            let span = across(place(&open), place(&close));
-            Ok((
-                Part {
-                    expr: inner.expr,
-                    span,
-                },
-                rest,
-            ))
+            Ok((in_parens(inner, &open, &close), rest))
         }
         None => literal(alloc, ts),
     }
 }
 
+// A field of what was read.
+fn field_of<'a>(
+    alloc: Global,
+    left: Part,
+    ts: &'a [Token<'a>],
+) -> Result<(Part, &'a [Token<'a>]), Halt>
+    ensures { Gives FIELD (λ p x. IsPart p (suffixed (part_value left) x)) ts.now result }
+{
+    match take_any(ts, &[Mark::Dot, Mark::Arrow]) {
+        Some((sign, rest)) => {
+            let (name, rest) = name(alloc, rest)?;
+            Ok((field(alloc, left, &sign, name)?, rest))
+        }
+        None => Err(Halt::Left(ts.len())),
+    }
+}
+
 // A field or an element of what was read.
 #[cycle(exprs)]
-fn suffix<'a>(alloc: Global, left: Part, ts: &'a [Token<'a>]) -> Result<(Part, &'a [Token<'a>]), Halt>
+fn suffix<'a>(
+    alloc: Global,
+    left: Part,
+    ts: &'a [Token<'a>],
+) -> Result<(Part, &'a [Token<'a>]), Halt>
     requires { heads SUFFIX (seen ts.now) ≡ true }
     ensures { Gives SUFFIX (λ p x. IsPart p (suffixed (part_value left) x)) ts.now result }
 {
-    if let Some((open, rest)) = take(ts, Mark::OpenBracket) {
-        let (inner, rest) = binary(alloc, Level::Disjunction, rest)?;
-        let (close, rest) = expect(rest, Mark::CloseBracket)?;
-        return Ok((element(alloc, left, &open, inner, &close)?, rest));
+    match take(ts, Mark::OpenBracket) {
+        Some((open, rest)) => {
+            let (inner, rest) = binary(alloc, Level::Disjunction, rest)?;
+            let (close, rest) = expect(rest, Mark::CloseBracket)?;
+            Ok((element(alloc, left, &open, inner, &close)?, rest))
+        }
+        None => field_of(alloc, left, ts),
     }
-    let Some((sign, rest)) = take_any(ts, &[Mark::Dot, Mark::Arrow]) else {
-        return Err(Halt::Left(ts.len()));
-    };
-    let (name, rest) = name(alloc, rest)?;
-    Ok((field(alloc, left, &sign, name)?, rest))
 }
 
 // A primary, and all fields and elements behind it.
@@ -321,7 +347,11 @@ pub fn unary<'a>(alloc: Global, ts: &'a [Token<'a>]) -> Result<(Part, &'a [Token
 
 // An operand of a level's operators.
 #[cycle(exprs)]
-fn operand<'a>(alloc: Global, level: Level, ts: &'a [Token<'a>]) -> Result<(Part, &'a [Token<'a>]), Halt>
+fn operand<'a>(
+    alloc: Global,
+    level: Level,
+    ts: &'a [Token<'a>],
+) -> Result<(Part, &'a [Token<'a>]), Halt>
     ensures { Gives (the (operand_of level)) IsPart ts.now result }
 {
     match level.tighter() {
@@ -332,7 +362,12 @@ fn operand<'a>(alloc: Global, level: Level, ts: &'a [Token<'a>]) -> Result<(Part
 
 // The operator and right operand behind a left operand, if there is one.
 #[cycle(exprs)]
-fn comparison<'a>(alloc: Global, level: Level, left: Part, ts: &'a [Token<'a>]) -> Result<(Part, &'a [Token<'a>]), Halt>
+fn comparison<'a>(
+    alloc: Global,
+    level: Level,
+    left: Part,
+    ts: &'a [Token<'a>],
+) -> Result<(Part, &'a [Token<'a>]), Halt>
     ensures { GivesAny (maybe (operation level)) (λ p v. IsPart p (chained (part_value left) v)) ts.now result }
 {
     let Some((sign, behind)) = take_any(ts, level.marks()) else {
@@ -344,7 +379,11 @@ fn comparison<'a>(alloc: Global, level: Level, left: Part, ts: &'a [Token<'a>]) 
 
 // The operators of a level and their operands.
 #[cycle(exprs)]
-fn binary<'a>(alloc: Global, level: Level, ts: &'a [Token<'a>]) -> Result<(Part, &'a [Token<'a>]), Halt>
+fn binary<'a>(
+    alloc: Global,
+    level: Level,
+    ts: &'a [Token<'a>],
+) -> Result<(Part, &'a [Token<'a>]), Halt>
     ensures { Gives (the (rule_of level)) IsPart ts.now result }
 {
     let (mut left, mut rest) = operand(alloc, level, ts)?;
@@ -364,11 +403,4 @@ pub fn expression<'a>(alloc: Global, ts: &'a [Token<'a>]) -> Result<(Part, &'a [
     ensures { Gives EXPR IsPart ts.now result }
 {
     binary(alloc, Level::Disjunction, ts)
-}
-
-/// The arguments of a call, up to its `)`.
-pub fn arguments<'a>(alloc: Global, ts: &'a [Token<'a>]) -> Result<(Vec<Expr>, &'a [Token<'a>]), Halt>
-    ensures { GivesAny ARGS AreArgs ts.now result }
-{
-    Err(Halt::Memory)
 }
