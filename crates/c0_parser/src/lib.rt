@@ -7,3 +7,6 @@ mod items;
 mod reader;
 mod statements;
 mod types;
+
+#[cfg(test)]
+mod tests;
