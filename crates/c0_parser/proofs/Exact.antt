@@ -127,7 +127,7 @@ not_stuck xs t others v s d =
       one_end _ _ _ s.leads (accepts xs v d) (cond_false (among (s.sort ∷ s.sorts) (kind t)) _ _ s.refused) refl in
     absurd (omega (arith, ap length (ap left_of h)))
 
-whole_means : (xs : List CToken) (u : Value) → Means (want SOURCE ∷ []) [] xs u → (v : Value) × Derives SOURCE xs v
+pub whole_means : (xs : List CToken) (u : Value) → Means (want SOURCE ∷ []) [] xs u → (v : Value) × Derives SOURCE xs v
 whole_means xs u m = (m.2, subst (λ l. Derives SOURCE l m.2) (sym (m.3 ∙ ap (λ l. m.0 ++ l) m.5.0 ∙ append-nil m.0)) m.4)
 
 not_all : (ts xs : List CToken) (t : CToken) (more : List CToken) (v : Value) → EndsSource ts → ts ≡ xs ++ [] → Derives SOURCE (xs ++ t ∷ more) v → ⊥
@@ -160,6 +160,7 @@ first_bad ts (t ∷ behind) e f =
 
 -- what is read is derived
 pub derived : (ts : List CToken) (v : Value) → Goes SOURCE ts v [] → Derives SOURCE ts v
+unfolding whole_means
 derived ts v g =
     let b = back _ _ (g.by [] []) in
     let m = b.2 [] v (refl, refl) in

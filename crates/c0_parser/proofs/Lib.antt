@@ -11,3 +11,5 @@ pub mod Replay
 pub mod Exact
 pub mod Same
 pub mod Exprs
+pub mod Parts
+pub mod Sources

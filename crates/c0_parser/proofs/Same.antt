@@ -74,10 +74,10 @@ from_factored (second (both (taken i is t h) (both {xs = xs} {v = l} d (both {ys
 }
 
 -- two lists of items with the same meanings
-record SameItems (v w : Value) : Type 0 where
-  same_structs : structs v ≡ factored_structs w
-  same_globals : globals v ≡ factored_globals w
-  same_functions : functions v ≡ factored_functions w
+pub record SameItems (v w : Value) : Type 0 where
+  pub same_structs : structs v ≡ factored_structs w
+  pub same_globals : globals v ≡ factored_globals w
+  pub same_functions : functions v ≡ factored_functions w
 
 record OtherList (p : Piece) (xs : List CToken) (f : Value → Type 0) : Type 0 where
   value : Value
@@ -104,3 +104,10 @@ items_from (one_more {v = w} {w = y} d e) =
     let l = items_from d in
     let i = from_factored e in
     record { value = snoc l.value i.value; derives = one_more l.derives i.derives; same = one_more_same l.value w i.value y l.same i.same }
+
+-- the same of units
+pub unit_to : (xs : List CToken) (v : Value) → Derives UNIT xs v → (items : Value) × (stop : Value) × (others : Value) × (v ≡ pair items stop) × Derives SOURCE xs (pair others stop) × SameItems items others
+unit_to _ _ (both {v = v} {w = s} d e) = let l = items_to d in (v, s, l.value, refl, both l.derives e, l.same)
+
+pub unit_from : (xs : List CToken) (w : Value) → Derives SOURCE xs w → (items : Value) × (stop : Value) × (others : Value) × (w ≡ pair items stop) × Derives UNIT xs (pair others stop) × SameItems others items
+unit_from _ _ (both {v = v} {w = s} d e) = let l = items_from d in (v, s, l.value, refl, both l.derives e, l.same)

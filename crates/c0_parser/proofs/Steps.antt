@@ -29,7 +29,7 @@ use Rattle.c0_parser.proofs.Complete.{cond_true, cond_false, more_ends}
 pub then_stuck : (a b : State) (rest : List CToken) → Leads a b → Stuck b rest → Stuck a rest
 then_stuck a b rest f s = record { sort = s.sort; sorts = s.sorts; tasks = s.tasks; values = s.values; leads = then_leads a b _ f s.leads; refused = s.refused }
 
-goes_one : (s : Sort) (ss : List Sort) (t : CToken) (ts rest : List CToken) → ts ≡ t ∷ rest → among (s ∷ ss) (kind t) ≡ true → Goes (one_of s ss) ts (token t) rest
+pub goes_one : (s : Sort) (ss : List Sort) (t : CToken) (ts rest : List CToken) → ts ≡ t ∷ rest → among (s ∷ ss) (kind t) ≡ true → Goes (one_of s ss) ts (token t) rest
 goes_one s ss t ts rest e h = record { by = λ st vs. subst (λ l. Leads (at l (want (one_of s ss) ∷ st) vs) (at rest st (token t ∷ vs))) (sym e) (go _ (at rest st (token t ∷ vs)) _ (cond_true (among (s ∷ ss) (kind t)) _ _ h) (still _)) }
 
 pub refuses_one : (s : Sort) (ss : List Sort) (ts : List CToken) → heads (one_of s ss) ts ≡ false → Refuses (one_of s ss) ts ts
@@ -312,3 +312,17 @@ goes_with_at {a} {ts} {here} {rest} {v} e h f = goes_with h (subst (λ l. Goes a
 
 pub fails_with_at : {a : Piece} {ts here : List Token} {h : Halt} → here ≡ ts → heads a (seen ts) ≡ true → Fails a (seen here) h → Fails (maybe a) (seen ts) h
 fails_with_at {a} {ts} {here} {h} e i f = fails_with i (subst (λ l. Fails a (seen l) h) e f)
+
+pub one_decl : (before after : List Decl) (d : Decl) → before ≡ [] → after ≡ before ++ d ∷ [] → map decl_view after ≡ decl_view d ∷ []
+one_decl before after d e f = ap (map decl_view) (f ∙ ap (λ l. l ++ d ∷ []) e)
+
+-- the second of two pieces that no token begins together
+picks_second_heads : (a b : Piece) (ts : List CToken) → apart (starts b) (starts a) ≡ true → heads b ts ≡ true → picks a b ts ≡ false
+picks_second_heads a b [] h f = refl
+picks_second_heads a b (t ∷ ts) h f = ap (λ x. x && (not (starts b (kind t)) || heads (sign OpenParen) ts)) (apart_at (starts b) (starts a) t h f)
+
+pub goes_second_heads : (a b : Piece) {ts rest : List CToken} {v : Value} → apart (starts b) (starts a) ≡ true → heads b ts ≡ true → Goes b ts v rest → Goes (a or b) ts v rest
+goes_second_heads a b {ts} h f g = goes_second a (picks_second_heads a b ts h f) g
+
+pub fails_second_heads : (a b : Piece) {ts : List CToken} {h : Halt} → apart (starts b) (starts a) ≡ true → heads b ts ≡ true → Fails b ts h → Fails (a or b) ts h
+fails_second_heads a b {ts} h f g = fails_second a (picks_second_heads a b ts h f) g

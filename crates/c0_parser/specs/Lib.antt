@@ -9,3 +9,4 @@ pub mod Stmts
 pub mod Faults
 pub mod Levels
 pub mod Tails
+pub mod Whole

@@ -50,6 +50,10 @@ IsTyped t v = v ≡ typed t
 abbrev pub IsBase : Typed → Value → Type 0
 IsBase t v = base_value v ≡ typed t
 
+-- the one word of a type
+abbrev pub IsBasic : Typed → Value → Type 0
+IsBasic t v = (x : CToken) × (v ≡ token x) × (base_value (token x) ≡ typed t)
+
 -- the suffixes that make one type of another
 abbrev pub AreSuffixes : Typed → Typed → Value → Type 0
 AreSuffixes base t v = type_suffixes (typed base) v ≡ typed t

@@ -10,7 +10,7 @@ ghost use Rattle.c0_tokens.specs.declared.token.Mark.TheVariants.{Comma};
 ghost use Rattle.c0_parser.specs.Grammar.{the, type, decl, sign, ◌▸◌, many, maybe, LINE, BASIC, BASE, SUFFIX, SUFFIXES};
 ghost use Rattle.c0_parser.specs.Contract.{seen, Gives, GivesAny, Reading};
 ghost use Rattle.c0_parser.specs.Machine.{heads};
-ghost use Rattle.c0_parser.specs.Views.{typed, IsBase, IsListed, AreMoreLines, IsExtended, with_length, IsSuffix, IsTyped, AreSuffixes, IsDecl, AreLines, AreFields, AreParams};
+ghost use Rattle.c0_parser.specs.Views.{typed, IsBase, IsBasic, IsListed, AreMoreLines, IsExtended, with_length, IsSuffix, IsTyped, AreSuffixes, IsDecl, AreLines, AreFields, AreParams};
 
 use crate::reader::{Halt, begun, expect, name, next, number_here, take};
 use c0_tokens::{Lexeme, Mark, Token};
@@ -127,7 +127,7 @@ pub fn struct_at(t: &Token<'_>, name: Name) -> Typed
 
 /// `int` or `bool`, where one stands next.
 pub fn take_basic<'a>(ts: &'a [Token<'a>]) -> Option<(Typed, &'a [Token<'a>])>
-    ensures { MatchOption result (heads BASIC (seen ts.now) ≡ false) (λ p. (heads BASIC (seen ts.now) ≡ true) × Reading BASIC IsBase ts.now p) }
+    ensures { MatchOption result (heads BASIC (seen ts.now) ≡ false) (λ p. (heads BASIC (seen ts.now) ≡ true) × Reading BASIC IsBasic ts.now p) }
 {
     if let Some((t, rest)) = take(ts, Mark::Int) {
         return Some((int_at(&t), rest));
@@ -175,8 +175,8 @@ fn line<'a>(alloc: Global, ts: &'a [Token<'a>]) -> Result<(Decl, &'a [Token<'a>]
     Ok((decl, rest))
 }
 
-// The tokens, where a declaration begins.
-fn type_ahead<'a>(ts: &'a [Token<'a>]) -> Option<&'a [Token<'a>]>
+/// The tokens, where a declaration begins.
+pub fn type_ahead<'a>(ts: &'a [Token<'a>]) -> Option<&'a [Token<'a>]>
     ensures { MatchOption result (heads (the decl) (seen ts.now) ≡ false) (λ p. (p.now ≡ ts.now) × (heads (the decl) (seen ts.now) ≡ true)) }
 {
     let (t, _) = next(ts)?;

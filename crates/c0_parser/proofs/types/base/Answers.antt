@@ -1,5 +1,6 @@
 use Rattle.std.proofs.Common.{refl, sym, ap, ◌∙◌, arith}
 use Rattle.c0_parser.specs.Grammar.{sign, NAME, BASIC, BASE}
+use Rattle.c0_parser.specs.Value.{base_value}
 use Rattle.c0_parser.specs.Views.{IsBase}
 use Rattle.c0_parser.proofs.Steps.{struct_base, goes_both, goes_first_heads, goes_second_not, fails_left, fails_right, fails_second_not, exits}
 use Rattle.c0_tokens.specs.declared.token.Mark.TheVariants.{Struct}
@@ -7,7 +8,7 @@ use Rattle.c0_parser.specs.Grammar.{◌▸◌}
 use Rattle.c0_parser.proofs.types.base.Goals as goal
 
 pub returns-in-Some : goal.returns-in-Some
-returns-in-Some c = let b = c.in-Some.ensures in (b.1.0, goes_first_heads BASIC (sign Struct ▸ NAME) refl b.0 b.1.1, b.1.2, b.1.3)
+returns-in-Some c = let b = c.in-Some.ensures in (b.1.0, goes_first_heads BASIC (sign Struct ▸ NAME) refl b.0 b.1.1, ap base_value b.1.2.1 ∙ b.1.2.2, b.1.3)
 
 pub returns-in_err-t : goal.returns-in_err-t
 returns-in_err-t c = exits BASE IsBase _ _ _ c.from_residual.ensures.1 (fails_second_not BASIC c.in_default.ensures (fails_left NAME c.in_err-t.ensures))
