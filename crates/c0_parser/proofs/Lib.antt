@@ -1,0 +1,15 @@
+pub mod Runs
+pub mod Sound
+pub mod Tables
+pub mod Complete
+pub mod Calls
+pub mod Follow
+pub mod Steps
+pub mod Stmts
+pub mod Samples
+pub mod Replay
+pub mod Exact
+pub mod Same
+pub mod Exprs
+pub mod Parts
+pub mod Sources

@@ -1,0 +1,48 @@
+-- Runs of the machine, one after another; and where a run ends, it ends in one state.
+use Rattle.std.proofs.Common.{◌≡◌, ℕ, zero, suc, List, [], ◌∷◌, refl, sym, ap, ◌∙◌, subst, Option, Some, None}
+use Rattle.std.specs.Prelude.{Bool, true, false, cond}
+use Rattle.c0_tokens.specs.Tokens.{CToken}
+use Rattle.c0_parser.specs.Value.{Value}
+use Rattle.c0_parser.specs.Machine.{State, at, step, Leads, still, go}
+
+pub then_leads : (a b c : State) → Leads a b → Leads b c → Leads a c
+then_leads _ _ c (still s) g = g
+then_leads _ _ c (go a b d e f) g = go a b c e (then_leads b d c f g)
+
+same_some : (a b : State) → Some a ≡ Some b → a ≡ b
+same_some a b e = cc
+
+some_none : (a : State) (o : Option State) → o ≡ Some a → o ≡ None → ⊥
+some_none a o e f = cc
+
+-- a run that ends goes on from each state that is led to
+pub onward : (a b c : State) → Leads a b → Leads a c → step c ≡ None → Leads b c
+onward _ _ c (still s) g h = g
+onward _ _ _ (go a b d e f) (still s) h = absurd (some_none b (step a) e h)
+onward _ _ _ (go a b d e f) (go a2 b2 c e2 f2) h = onward b d c f (subst (λ x. Leads x c) (same_some b2 b (sym e2 ∙ e)) f2) h
+
+-- two ends are one
+pub one_end : (a b c : State) → Leads a b → Leads a c → step b ≡ None → step c ≡ None → b ≡ c
+one_end a b c f g h i = last b c (onward a b c f g i) h
+  where
+  last : (b c : State) → Leads b c → step b ≡ None → b ≡ c
+  last _ _ (still s) h = refl
+  last _ _ (go a b c e f) h = absurd (some_none b (step a) e h)
+
+-- the next state, or the same one where there is none
+abbrev pub or_same : Option State → State → State
+or_same (Some b) a = b
+or_same None a = a
+
+-- so many steps on
+abbrev pub gone : ℕ → State → State
+gone zero s = s
+gone (suc n) s = gone n (or_same (step s) s)
+
+next_leads : (s : State) (o : Option State) → step s ≡ o → Leads s (or_same o s)
+next_leads s (Some b) e = go s b b e (still b)
+next_leads s None e = still s
+
+pub steps : (n : ℕ) (s : State) → Leads s (gone n s)
+steps zero s = still s
+steps (suc n) s = then_leads s _ _ (next_leads s (step s) refl) (steps n (or_same (step s) s))

@@ -1,0 +1,14 @@
+-- So far the arguments that were read first, and those of the list of commas and expressions.
+use Rattle.std.proofs.Common.{◌≡◌, ◌≤◌, ◌++◌, length, map}
+use Rattle.c0_tree.specs.View.{expr_view}
+use Rattle.c0_tokens.specs.declared.token.Mark.TheVariants.{Comma}
+use Rattle.c0_parser.specs.Value.{Value, none, exprs}
+use Rattle.c0_parser.specs.Grammar.{sign, ◌▸◌, EXPR}
+use Rattle.c0_parser.specs.Contract.{seen, GoesOn}
+use Rattle.c0_parser.proofs.arguments.more_arguments.Given as goal
+
+abbrev pub invariant-loop-behind : goal.invariant-loop-behind
+invariant-loop-behind l = (v : Value) × GoesOn (sign Comma ▸ EXPR) (seen l.fn.ts) none (seen l.rest) v × (map expr_view l.fn.first.items ++ exprs v ≡ map expr_view l.list.items) × (length l.rest ≤ length l.fn.ts)
+
+abbrev pub decreases-loop-behind : goal.decreases-loop-behind
+decreases-loop-behind l = length l.rest

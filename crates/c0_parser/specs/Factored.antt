@@ -1,0 +1,51 @@
+-- A unit once more, so that one token at a time tells a struct, a global and a function apart: for proofs.
+use Rattle.std.specs.Prelude.{List, [], ◌∷◌, ◌++◌}
+use Rattle.c0_tokens.specs.Tokens.{CToken}
+use Rattle.c0_tokens.specs.declared.token.Mark.TheVariants.{Int, Bool as Boolean, Struct, Semicolon}
+use Rattle.c0_tree.specs.Tree.{CDecl, CStruct, CFunction}
+use Rattle.c0_parser.specs.Sorts.{mark, the_end}
+use Rattle.c0_parser.specs.Value.{Value, token, pair, none, snoc, base_value, type_suffixes, decl_of, defined_at, struct_of, struct_in, global_in, function_in}
+use Rattle.c0_parser.specs.Grammar.{Piece, one_of, sign, ◌▸◌, ◌or◌, many, NAME, BASIC, SUFFIXES, FIELDS, FUNCTION}
+
+-- what stands behind a global's or function's name
+abbrev pub BEHIND : Piece
+BEHIND = sign Semicolon or FUNCTION
+
+-- what stands behind the first word or words of a declaration's type
+abbrev pub DEFINED : Piece
+DEFINED = SUFFIXES ▸ NAME ▸ BEHIND
+
+-- a struct, a global or a function
+abbrev pub FACTORED : Piece
+FACTORED = sign Struct ▸ NAME ▸ (FIELDS or DEFINED) or BASIC ▸ DEFINED
+
+-- a unit of these, and the end of the source
+abbrev pub SOURCE : Piece
+SOURCE = many FACTORED ▸ one_of the_end []
+
+-- a global or a function, from the first part of its type on
+abbrev pub declared_as : Value → Value → Value
+declared_as base (pair l (pair (token x) v)) = defined_at (decl_of (type_suffixes base l) x) v
+declared_as base _ = none
+
+-- behind `struct` and a name
+abbrev pub told : CToken → CToken → Value → Value
+told t x (pair (token open_) v) = struct_of x (pair (token open_) v)
+told t x v = declared_as (base_value (pair (token t) (token x))) v
+
+abbrev pub factored_value : Value → Value
+factored_value (pair (token t) (pair (token x) v)) = told t x v
+factored_value (pair (token t) v) = declared_as (base_value (token t)) v
+factored_value _ = none
+
+abbrev pub factored_structs : Value → List CStruct
+factored_structs (snoc l x) = factored_structs l ++ struct_in (factored_value x)
+factored_structs _ = []
+
+abbrev pub factored_globals : Value → List CDecl
+factored_globals (snoc l x) = factored_globals l ++ global_in (factored_value x)
+factored_globals _ = []
+
+abbrev pub factored_functions : Value → List CFunction
+factored_functions (snoc l x) = factored_functions l ++ function_in (factored_value x)
+factored_functions _ = []

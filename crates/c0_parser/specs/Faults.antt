@@ -1,0 +1,42 @@
+-- What a source reads as, and why it reads as nothing.
+use Rattle.std.specs.Prelude.{ℕ, ◌≡◌, ◌<◌, ◌≤◌, List, [], ◌∷◌, ◌++◌, length}
+use Rattle.c0_tokens.specs.declared.token.TokenFault.TheVariants as token_fault
+use Rattle.c0_tokens.specs.Tokens.{CToken, CLexeme, faulty}
+use Rattle.c0_tokens.specs.Nesting.{tokens_of}
+use Rattle.c0_tree.specs.Tree.{CUnit}
+use Rattle.c0_parser.specs.Value.{Value, pair, unit_of}
+use Rattle.c0_parser.specs.Grammar.{UNIT, Derives}
+use Rattle.c0_parser.specs.declared.fault.ReadFault.{ReadFault}
+use Rattle.c0_parser.specs.declared.fault.ReadFault.TheVariants.{BadByte, BadNumber, Unexpected, TooNested, SourceTooLong, Memory}
+
+-- the tokens of a source derive this tree
+abbrev pub Reads : List ℕ → CUnit → Type 0
+Reads source u = (items : Value) × (stop : Value) × Derives UNIT (tokens_of source) (pair items stop) × (unit_of (length source) items ≡ u)
+
+-- tokens begin some unit with the end of its source
+abbrev pub IsPrefix : List CToken → Type 0
+IsPrefix ts = (more : List CToken) × (v : Value) × Derives UNIT (ts ++ more) v
+
+-- a token is the first that cannot be: those before it begin some unit, and with it they begin none
+pub record IsFirstBad (ts : List CToken) (t : CToken) : Type 0 where
+  pub before : List CToken
+  pub behind : List CToken
+  pub stands : ts ≡ before ++ t ∷ behind
+  pub good : IsPrefix before
+  pub bad : IsPrefix (before ++ t ∷ []) → ⊥
+
+-- the fault of a token that cannot be where it stands: its own, or that it is unexpected
+abbrev pub fault_by : CLexeme → ℕ → ReadFault
+fault_by (faulty token_fault.BadByte) place = BadByte place
+fault_by (faulty token_fault.BadNumber) place = BadNumber place
+fault_by (faulty token_fault.TooNested) place = TooNested place
+fault_by _ place = Unexpected place
+
+abbrev pub fault_at : CToken → ReadFault
+fault_at t = fault_by t.lexeme t.start
+
+-- why a source has no tree: it is too long, or this is the fault of its first token that cannot be; want of memory says nothing
+abbrev pub FaultIs : List ℕ → ReadFault → Type 0
+FaultIs source Memory = Unit {0}
+FaultIs source SourceTooLong = 1048576 < length source
+FaultIs source f = (length source ≤ 1048576) × ((t : CToken) × IsFirstBad (tokens_of source) t × (f ≡ fault_at t))

@@ -1,0 +1,12 @@
+pub mod Sorts
+pub mod Value
+pub mod Grammar
+pub mod Machine
+pub mod Factored
+pub mod Contract
+pub mod Views
+pub mod Stmts
+pub mod Faults
+pub mod Levels
+pub mod Tails
+pub mod Whole

@@ -1,0 +1,36 @@
+-- What the functions of a whole source give.
+use Rattle.std.specs.Prelude.{◌≡◌, ◌++◌, List, map, Result, Ok, Err}
+use Rattle.c0_tokens.specs.Tokens.{CToken}
+use Rattle.c0_tokens.specs.declared.token.Token.{Token}
+use Rattle.c0_tree.specs.View.{struct_view, decl_view, function_view}
+use Rattle.c0_parser.specs.Value.{Value, pair, struct_in, global_in, function_in}
+use Rattle.c0_parser.specs.Factored.{SOURCE, factored_structs, factored_globals, factored_functions}
+use Rattle.c0_parser.specs.Contract.{seen, Goes, Fails}
+use Rattle.c0_parser.specs.Views.{item_view}
+use Rattle.c0_parser.specs.declared.items.Item.{Item}
+use Rattle.c0_parser.specs.declared.reader.Halt.{Halt}
+use Rattle.c0_parser.specs.declared.source.Items.{Items}
+
+-- the items of a list
+pub record AreItems (i : Items) (v : Value) : Type 0 where
+  pub same_structs : factored_structs v ≡ map struct_view i.structs.items
+  pub same_globals : factored_globals v ≡ map decl_view i.globals.items
+  pub same_functions : factored_functions v ≡ map function_view i.functions.items
+
+-- one more item
+pub record IsAdded (before : Items) (item : Item) (i : Items) : Type 0 where
+  pub more_structs : map struct_view i.structs.items ≡ map struct_view before.structs.items ++ struct_in (item_view item)
+  pub more_globals : map decl_view i.globals.items ≡ map decl_view before.globals.items ++ global_in (item_view item)
+  pub more_functions : map function_view i.functions.items ≡ map function_view before.functions.items ++ function_in (item_view item)
+
+-- a source is read to its end
+pub record ReadsWhole (ts : List Token) (i : Items) : Type 0 where
+  pub items : Value
+  pub stop : Value
+  pub rest : List CToken
+  pub goes : Goes SOURCE (seen ts) (pair items stop) rest
+  pub are : AreItems i items
+
+abbrev pub Whole : List Token → Result Items Halt → Type 0
+Whole ts (Ok i) = ReadsWhole ts i
+Whole ts (Err h) = Fails SOURCE (seen ts) h

@@ -1,0 +1,129 @@
+// Structs, globals and functions.
+
+ghost use Rattle.std.specs.Prelude.{[]};
+ghost use Rattle.c0_tokens.specs.Tokens.{token_view};
+ghost use Rattle.c0_parser.specs.Sorts.{an_asm_text};
+ghost use Rattle.c0_tree.specs.View.{name_view};
+ghost use Rattle.c0_parser.specs.Grammar.{the, one_of, ◌or◌, code, body, FIELDS, FUNCTION};
+ghost use Rattle.c0_parser.specs.Factored.{FACTORED, BEHIND, DEFINED};
+ghost use Rattle.c0_parser.specs.Contract.{Gives};
+ghost use Rattle.c0_parser.specs.Views.{IsAsm, IsBody, IsItem, IsBehind, IsDefined, IsStruct, IsTold};
+
+use crate::reader::{Halt, expect, name, take, take_asm};
+use crate::statements::code;
+use crate::types::{Typed, fields, parameters, struct_at, suffixes, take_basic};
+use c0_tokens::{Mark, Token};
+use c0_tree::{AsmText, Body, Decl, Function, Name, Span, StructDef};
+use std::alloc::Global;
+
+/// A struct, a global or a function.
+#[derive(Drop)]
+pub enum Item {
+    AStruct(StructDef),
+    AGlobal(Decl),
+    AFunction(Function),
+}
+
+// The text of an asm body.
+fn asm_body<'a>(alloc: Global, ts: &'a [Token<'a>]) -> Result<(Body, &'a [Token<'a>]), Halt>
+    ensures { Gives (one_of an_asm_text []) IsAsm ts.now result }
+{
+    match take_asm(ts) {
+        Some((t, text, rest)) => {
+            let bytes = Vec::from_slice(alloc, text)?;
+            let span = Span { start: t.start, end: t.end };
+            let asm = AsmText { bytes, span, words: Vec::new(alloc) };
+            Ok((Body::Asm(asm), rest))
+        }
+        None => Err(Halt::Left(ts.len())),
+    }
+}
+
+/// What a function does.
+pub fn body<'a>(alloc: Global, ts: &'a [Token<'a>]) -> Result<(Body, &'a [Token<'a>]), Halt>
+    ensures { Gives (the body) IsBody ts.now result }
+{
+    if let Some((_, _)) = take(ts, Mark::OpenBrace) {
+        return code(alloc, ts);
+    }
+    let (_, rest) = expect(ts, Mark::Asm)?;
+    asm_body(alloc, rest)
+}
+
+// A function, from its `(` on.
+fn function<'a>(alloc: Global, decl: Decl, ts: &'a [Token<'a>]) -> Result<(Item, &'a [Token<'a>]), Halt>
+    ensures { Gives FUNCTION (IsBehind decl) ts.now result }
+{
+    let (_, rest) = expect(ts, Mark::OpenParen)?;
+    let (params, rest) = parameters(alloc, rest)?;
+    let (_, rest) = expect(rest, Mark::CloseParen)?;
+    let (body, rest) = body(alloc, rest)?;
+    let function = Function {
+        answer: decl.ty,
+        answer_span: decl.ty_span,
+        name: decl.name,
+        params,
+        body,
+    };
+    Ok((Item::AFunction(function), rest))
+}
+
+// What stands behind the name of a global or a function.
+fn behind<'a>(alloc: Global, decl: Decl, ts: &'a [Token<'a>]) -> Result<(Item, &'a [Token<'a>]), Halt>
+    ensures { Gives BEHIND (IsBehind decl) ts.now result }
+{
+    match take(ts, Mark::Semicolon) {
+        Some((_, rest)) => Ok((Item::AGlobal(decl), rest)),
+        None => function(alloc, decl, ts),
+    }
+}
+
+// A global or a function, behind the first word or words of its type.
+fn defined<'a>(alloc: Global, base: Typed, ts: &'a [Token<'a>]) -> Result<(Item, &'a [Token<'a>]), Halt>
+    ensures { Gives DEFINED (IsDefined base) ts.now result }
+{
+    let (typed, rest) = suffixes(alloc, base, ts)?;
+    let (name, rest) = name(alloc, rest)?;
+    let decl = Decl { ty: typed.ty, ty_span: typed.span, name };
+    behind(alloc, decl, rest)
+}
+
+// A struct, from its `{` on.
+fn structure<'a>(alloc: Global, name: Name, ts: &'a [Token<'a>]) -> Result<(Item, &'a [Token<'a>]), Halt>
+    ensures { Gives FIELDS (IsStruct name) ts.now result }
+{
+    let (_, rest) = expect(ts, Mark::OpenBrace)?;
+    let (fields, rest) = fields(alloc, rest)?;
+    let (_, rest) = expect(rest, Mark::CloseBrace)?;
+    let (_, rest) = expect(rest, Mark::Semicolon)?;
+    Ok((Item::AStruct(StructDef { name, fields }), rest))
+}
+
+// A struct, or a global or function of a struct type, behind `struct` and a name.
+fn told<'a>(
+    alloc: Global,
+    word: &Token<'_>,
+    name: Name,
+    ts: &'a [Token<'a>],
+) -> Result<(Item, &'a [Token<'a>]), Halt>
+    ensures { Gives (FIELDS or DEFINED) (IsTold (token_view word.now) (name_view name)) ts.now result }
+{
+    match take(ts, Mark::OpenBrace) {
+        Some((_, _)) => structure(alloc, name, ts),
+        None => defined(alloc, struct_at(word, name), ts),
+    }
+}
+
+/// A struct, a global or a function.
+pub fn next_item<'a>(alloc: Global, ts: &'a [Token<'a>]) -> Result<(Item, &'a [Token<'a>]), Halt>
+    ensures { Gives FACTORED IsItem ts.now result }
+{
+    if let Some((word, rest)) = take(ts, Mark::Struct) {
+        let (name, rest) = name(alloc, rest)?;
+        return told(alloc, &word, name, rest);
+    }
+    match take_basic(ts) {
+        Some((base, rest)) => defined(alloc, base, rest),
+        None => Err(Halt::Left(ts.len())),
+    }
+}

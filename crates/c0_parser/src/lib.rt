@@ -1,0 +1,17 @@
+//! The tree of a C0 source, or its first token that cannot be where it stands.
+#![tactic(auto)]
+
+mod arguments;
+mod expressions;
+mod fault;
+mod items;
+mod reader;
+mod source;
+mod statements;
+mod types;
+
+pub use fault::ReadFault;
+pub use source::parse;
+
+#[cfg(test)]
+mod tests;
