@@ -30,7 +30,7 @@ name_at_open t u r rest v text e f l s =
     let named : t ≡ record { lexeme = name text; start = t.start; stop = t.stop } = ap (λ x. record { lexeme = x; start = t.start; stop = t.stop }) e in
     let opened : u ≡ record { lexeme = fixed OpenParen; start = u.start; stop = u.stop } = ap (λ x. record { lexeme = x; start = u.start; stop = u.stop }) f in
     let l2 : Leads (at (record { lexeme = name text; start = t.start; stop = t.stop } ∷ record { lexeme = fixed OpenParen; start = u.start; stop = u.stop } ∷ r) (want EXPR ∷ []) []) (at rest [] (v ∷ []))
-          = subst (λ x. Leads (at (record { lexeme = name text; start = t.start; stop = t.stop } ∷ x ∷ r) (want EXPR ∷ []) []) (at rest [] (v ∷ []))) opened (subst (λ x. Leads (at (x ∷ u ∷ r) (want EXPR ∷ []) []) (at rest [] (v ∷ []))) named l) in
+    = subst (λ x. Leads (at (record { lexeme = name text; start = t.start; stop = t.stop } ∷ x ∷ r) (want EXPR ∷ []) []) (at rest [] (v ∷ []))) opened (subst (λ x. Leads (at (x ∷ u ∷ r) (want EXPR ∷ []) []) (at rest [] (v ∷ []))) named l) in
     let ends = name_ends text t.start t.stop u.start u.stop r in
     stops_open u.start u.stop r (subst (Stops EXPR) (ap left_of (one_end _ _ _ l2 ends.1 refl refl)) s)
 

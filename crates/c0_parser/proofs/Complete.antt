@@ -103,9 +103,9 @@ stops_before : (a b : Piece) (ys rest : List CToken) → apart (starts b) (goes_
 stops_before a b [] [] h f s = tt
 stops_before a b [] (t ∷ rest) h f s = or_right_of (nullable b) (goes_on a (kind t)) f (or_right (goes_on b (kind t)) (nullable b && goes_on a (kind t)) s)
   where
-  or_right_of : (x y : Bool) → x ≡ true → (x && y) ≡ false → y ≡ false
-  or_right_of true y e h = h
-  or_right_of false y e h = cc
+    or_right_of : (x y : Bool) → x ≡ true → (x && y) ≡ false → y ≡ false
+    or_right_of true y e h = h
+    or_right_of false y e h = cc
 stops_before a b (t ∷ ys) rest h f s = apart_at (starts b) (goes_on a) t h f
 
 -- what is read of a piece: a list leaves open whether more of it follows
@@ -135,7 +135,7 @@ not_heads a (t ∷ ts) s = or_left (starts a (kind t)) (goes_on a (kind t)) s
 list_full : (a : Piece) (xs : List CToken) (v : Value) → Follows (many a) xs v → Reads (many a) xs v
 list_full a xs v f rest st vs s =
     go _ (at (xs ++ rest) (more a ∷ st) (none ∷ vs)) _ refl
-      (then_leads _ _ _ (f rest st vs (stops_one (many a) a rest (λ k h. or_right (starts a k) (goes_on a k) h) s)) (more_ends a rest st (v ∷ vs) (not_heads a rest s)))
+    (then_leads _ _ _ (f rest st vs (stops_one (many a) a rest (λ k h. or_right (starts a k) (goes_on a k) h) s)) (more_ends a rest st (v ∷ vs) (not_heads a rest s)))
 
 pub full : (p : Piece) (xs : List CToken) (v : Value) → Follows p xs v → Reads p xs v
 full (one_of s ss) xs v f = f
@@ -151,15 +151,15 @@ reads_one s ss t h rest st vs stops = go _ (at rest st (token t ∷ vs)) _ (cond
 pub reads_both : (a b : Piece) (xs ys : List CToken) (v w : Value) → apart (starts b) (goes_on a) ≡ true → Begins b ys → Reads a xs v → Reads b ys w → Reads (a ▸ b) (xs ++ ys) (pair v w)
 reads_both a b xs ys v w h g f e rest st vs s =
     go _ (at ((xs ++ ys) ++ rest) (want a ∷ want b ∷ act paired ∷ st) vs) _ refl
-      (subst (λ l. Leads (at l (want a ∷ want b ∷ act paired ∷ st) vs) (at rest st (pair v w ∷ vs))) (sym (append_assoc xs ys rest))
-        (then_leads _ _ _ (f (ys ++ rest) (want b ∷ act paired ∷ st) vs (stops_before a b ys rest h g s))
-          (then_leads _ _ _ (e rest (act paired ∷ st) (v ∷ vs) (stops_one (a ▸ b) b rest (λ k x. or_left (goes_on b k) (nullable b && goes_on a k) x) s))
-            (go _ (at rest st (pair v w ∷ vs)) _ refl (still _)))))
+    (subst (λ l. Leads (at l (want a ∷ want b ∷ act paired ∷ st) vs) (at rest st (pair v w ∷ vs))) (sym (append_assoc xs ys rest))
+    (then_leads _ _ _ (f (ys ++ rest) (want b ∷ act paired ∷ st) vs (stops_before a b ys rest h g s))
+    (then_leads _ _ _ (e rest (act paired ∷ st) (v ∷ vs) (stops_one (a ▸ b) b rest (λ k x. or_left (goes_on b k) (nullable b && goes_on a k) x) s))
+    (go _ (at rest st (pair v w ∷ vs)) _ refl (still _)))))
 
 pub reads_first : (a b : Piece) (xs : List CToken) (v : Value) → ((rest : List CToken) → picks a b (xs ++ rest) ≡ true) → Reads a xs v → Reads (a or b) xs v
 reads_first a b xs v h f rest st vs s =
     go _ (at (xs ++ rest) (want a ∷ st) vs) _ (ap (λ p. Some (at (xs ++ rest) (want p ∷ st) vs)) (cond_true (picks a b (xs ++ rest)) a b (h rest)))
-      (f rest st vs (stops_one (a or b) a rest (λ k x. or_left (goes_on a k) (goes_on b k) x) s))
+    (f rest st vs (stops_one (a or b) a rest (λ k x. or_left (goes_on a k) (goes_on b k) x) s))
 
 pub reads_second : (a b : Piece) (xs : List CToken) (v : Value) → ((rest : List CToken) → Stops b rest → picks a b (xs ++ rest) ≡ false) → Reads b xs v → Reads (a or b) xs v
 reads_second a b xs v h f rest st vs s =
@@ -176,17 +176,17 @@ reads_left_out a rest st vs s = go _ (at rest st (none ∷ vs)) _ (ap Some (cond
 pub reads_there : (a : Piece) (xs : List CToken) (v : Value) → nullable a ≡ false → Begins a xs → Reads a xs v → Reads (maybe a) xs (snoc none v)
 reads_there a xs v h g f rest st vs s =
     go _ (at (xs ++ rest) (want a ∷ act listed ∷ st) (none ∷ vs)) _ (ap Some (cond_true (heads a (xs ++ rest)) _ _ (heads_first a xs rest h g)))
-      (then_leads _ _ _ (f rest (act listed ∷ st) (none ∷ vs) (stops_one (maybe a) a rest (λ k x. or_right (starts a k) (goes_on a k) x) s))
-        (go _ (at rest st (snoc none v ∷ vs)) _ refl (still _)))
+    (then_leads _ _ _ (f rest (act listed ∷ st) (none ∷ vs) (stops_one (maybe a) a rest (λ k x. or_right (starts a k) (goes_on a k) x) s))
+    (go _ (at rest st (snoc none v ∷ vs)) _ refl (still _)))
 
 pub reads_made : (r : Rule) (xs : List CToken) (v : Value) → Reads (production r) xs v → Reads (the r) xs (meaning r v)
 reads_made r xs v f rest st vs s =
     go _ (at (xs ++ rest) (want (production r) ∷ act (meant r) ∷ st) vs) _ refl
-      (then_leads _ _ _ (f rest (act (meant r) ∷ st) vs (stops_rule r rest s)) (go _ (at rest st (meaning r v ∷ vs)) _ refl (still _)))
+    (then_leads _ _ _ (f rest (act (meant r) ∷ st) vs (stops_rule r rest s)) (go _ (at rest st (meaning r v ∷ vs)) _ refl (still _)))
   where
-  stops_rule : (r : Rule) (ts : List CToken) → Stops (the r) ts → Stops (production r) ts
-  stops_rule r [] h = tt
-  stops_rule r (t ∷ ts) h = not_both (goes_on (production r) (kind t)) (among (rule_on r) (kind t)) (within_at (goes_on (production r)) (among (rule_on r)) t (all_on r)) h
+    stops_rule : (r : Rule) (ts : List CToken) → Stops (the r) ts → Stops (production r) ts
+    stops_rule r [] h = tt
+    stops_rule r (t ∷ ts) h = not_both (goes_on (production r) (kind t)) (among (rule_on r) (kind t)) (within_at (goes_on (production r)) (among (rule_on r)) t (all_on r)) h
 
 pub follows_no_more : (a : Piece) → Follows (many a) [] none
 follows_no_more a rest st vs s = still _
@@ -194,13 +194,13 @@ follows_no_more a rest st vs s = still _
 pub follows_one_more : (a : Piece) (xs ys : List CToken) (v w : Value) → nullable a ≡ false → apart (starts a) (goes_on a) ≡ true → Begins a ys → Follows (many a) xs v → Reads a ys w → Follows (many a) (xs ++ ys) (snoc v w)
 follows_one_more a xs ys v w n h g f e rest st vs s =
     subst (λ l. Leads (at l (more a ∷ st) (none ∷ vs)) (at rest (more a ∷ st) (snoc v w ∷ vs))) (sym (append_assoc xs ys rest))
-      (then_leads _ _ _ (f (ys ++ rest) st vs (stops_item a ys rest n h g))
-        (go _ (at (ys ++ rest) (want a ∷ act listed ∷ more a ∷ st) (v ∷ vs)) _ (ap Some (cond_true (heads a (ys ++ rest)) _ _ (heads_first a ys rest n g)))
-          (then_leads _ _ _ (e rest (act listed ∷ more a ∷ st) (v ∷ vs) s) (go _ (at rest (more a ∷ st) (snoc v w ∷ vs)) _ refl (still _)))))
+    (then_leads _ _ _ (f (ys ++ rest) st vs (stops_item a ys rest n h g))
+    (go _ (at (ys ++ rest) (want a ∷ act listed ∷ more a ∷ st) (v ∷ vs)) _ (ap Some (cond_true (heads a (ys ++ rest)) _ _ (heads_first a ys rest n g)))
+    (then_leads _ _ _ (e rest (act listed ∷ more a ∷ st) (v ∷ vs) s) (go _ (at rest (more a ∷ st) (snoc v w ∷ vs)) _ refl (still _)))))
   where
-  stops_item : (a : Piece) (ys rest : List CToken) → nullable a ≡ false → apart (starts a) (goes_on a) ≡ true → Begins a ys → Stops a (ys ++ rest)
-  stops_item a [] rest n h f = absurd (true_false (nullable a) f n)
-  stops_item a (t ∷ ys) rest n h f = apart_at (starts a) (goes_on a) t h f
+    stops_item : (a : Piece) (ys rest : List CToken) → nullable a ≡ false → apart (starts a) (goes_on a) ≡ true → Begins a ys → Stops a (ys ++ rest)
+    stops_item a [] rest n h f = absurd (true_false (nullable a) f n)
+    stops_item a (t ∷ ys) rest n h f = apart_at (starts a) (goes_on a) t h f
 
 pub not_of : (a : Bool) → not a ≡ true → a ≡ false
 not_of true h = sym h
@@ -215,6 +215,6 @@ pub picks_second : (a b : Piece) (xs rest : List CToken) → apart (starts a) (s
 picks_second a b [] rest h n f = absurd (true_false (nullable b) f n)
 picks_second a b (t ∷ xs) rest h n f = ap (λ x. x && (not (starts b (kind t)) || heads (sign OpenParen) (xs ++ rest))) (flip (starts a (kind t)) (starts b (kind t)) (apart_at (starts a) (starts b) t h) f)
   where
-  flip : (x y : Bool) → (x ≡ true → y ≡ false) → y ≡ true → x ≡ false
-  flip true y g e = absurd (true_false y e (g refl))
-  flip false y g e = refl
+    flip : (x y : Bool) → (x ≡ true → y ≡ false) → y ≡ true → x ≡ false
+    flip true y g e = absurd (true_false y e (g refl))
+    flip false y g e = refl

@@ -124,7 +124,7 @@ one_meaning xs v w d e = same_value v w (ap value_of (one_end _ _ _ (accepts xs 
 not_stuck : (xs : List CToken) (t : CToken) (others : List CToken) (v : Value) → Stuck (at xs (want SOURCE ∷ []) []) (t ∷ others) → Derives SOURCE xs v → ⊥
 not_stuck xs t others v s d =
     let h : at (t ∷ others) (want (one_of s.sort s.sorts) ∷ s.tasks) s.values ≡ at [] [] (v ∷ []) =
-      one_end _ _ _ s.leads (accepts xs v d) (cond_false (among (s.sort ∷ s.sorts) (kind t)) _ _ s.refused) refl in
+    one_end _ _ _ s.leads (accepts xs v d) (cond_false (among (s.sort ∷ s.sorts) (kind t)) _ _ s.refused) refl in
     absurd (omega (arith, ap length (ap left_of h)))
 
 pub whole_means : (xs : List CToken) (u : Value) → Means (want SOURCE ∷ []) [] xs u → (v : Value) × Derives SOURCE xs v
@@ -148,15 +148,19 @@ first_bad ts (t ∷ behind) e f =
     let b = back _ _ s.leads in
     let c = completes_one s.sort s.sorts s.tasks s.values in
     let d = whole_means _ c.2 (b.2 (c.0 ∷ c.1) c.2 c.3) in
-    let stop : Stop (at (t ∷ behind) (want (one_of s.sort s.sorts) ∷ s.tasks) s.values) t behind = record { sort = s.sort; sorts = s.sorts; tasks = s.tasks; values = s.values; is = refl; refused = s.refused } in
-    (t, behind, refl, record {
-      before = b.0;
-      stands = b.1;
-      more = c.0 ∷ c.1;
-      value = d.0;
-      good = d.1;
-      bad = λ others v g. not_stuck (b.0 ++ t ∷ others) t others v (replay _ _ s.leads t behind others b.0 stop (source_good, tt) b.1) g;
-    })
+    let stop : Stop (at (t ∷ behind) (want (one_of s.sort s.sorts) ∷ s.tasks) s.values) t behind = record { sort = s.sort; sorts = s.sorts; tasks = s.tasks; values = s.values; is = refl; refused = s.refused } in (
+      t,
+      behind,
+      refl,
+      record {
+        before = b.0;
+        stands = b.1;
+        more = c.0 ∷ c.1;
+        value = d.0;
+        good = d.1;
+        bad = λ others v g. not_stuck (b.0 ++ t ∷ others) t others v (replay _ _ s.leads t behind others b.0 stop (source_good, tt) b.1) g;
+      },
+    )
 
 -- what is read is derived
 pub derived : (ts : List CToken) (v : Value) → Goes SOURCE ts v [] → Derives SOURCE ts v

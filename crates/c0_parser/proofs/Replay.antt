@@ -130,8 +130,8 @@ not_both x a b t after st vs (inr h) e f g =
     let c = call_shape a b h in
     let n = is_name t.lexeme (or_false (among (a_name ∷ []) (kind t)) (subst (λ p. starts p (kind t) ≡ true) c.1 f)) in
     call_not_stuck x (sign OpenParen ▸ c.0) t n.0 after st vs n.1
-      (subst (λ p. Ends (at (t ∷ after) (want (cond x (NAME ▸ sign OpenParen ▸ c.0) p) ∷ st) vs) t after) c.2
-        (subst (λ p. Ends (at (t ∷ after) (want (cond x p b) ∷ st) vs) t after) c.1 e))
+    (subst (λ p. Ends (at (t ∷ after) (want (cond x (NAME ▸ sign OpenParen ▸ c.0) p) ∷ st) vs) t after) c.2
+    (subst (λ p. Ends (at (t ∷ after) (want (cond x p b) ∷ st) vs) t after) c.1 e))
 
 good_told : (a b : Piece) → good (a or b) ≡ true → (apart (starts a) (starts b) ≡ true) ⊎ (call_or_expr a b ≡ true)
 good_told a b g = told_of (apart (starts a) (starts b)) (call_or_expr a b) (and_right (not (nullable b)) _ (and_right (not (nullable a)) _ (and_right (good b) _ (and_right (good a) _ g))))
@@ -170,9 +170,12 @@ unfolding Again
 again_or a b [] t after others st vs g h =
     let e : picks a b (t ∷ after) ≡ picks a b (t ∷ others) = one_picks (starts a (kind t)) (starts b (kind t)) (heads (sign OpenParen) after) (heads (sign OpenParen) others) (not_both (picks a b (t ∷ after)) a b t after st vs (good_told a b g) h) in
     ([], refl, go _ (at (t ∷ others) (want (cond (picks a b (t ∷ after)) a b) ∷ st) vs) _ (ap (λ c. Some (at (t ∷ others) (want (cond c a b) ∷ st) vs)) (sym e)) (still _))
-again_or a b (x ∷ xs) t after others st vs g h =
-    (x ∷ xs, refl, go _ (at (x ∷ (xs ++ t ∷ others)) (want (cond (picks a b (x ∷ (xs ++ t ∷ after))) a b) ∷ st) vs) _
-      (ap (λ c. Some (at (x ∷ (xs ++ t ∷ others)) (want (cond c a b) ∷ st) vs)) (sym (same_picks a b x xs t after others))) (still _))
+again_or a b (x ∷ xs) t after others st vs g h = (
+  x ∷ xs,
+  refl,
+  go _ (at (x ∷ (xs ++ t ∷ others)) (want (cond (picks a b (x ∷ (xs ++ t ∷ after))) a b) ∷ st) vs) _
+      (ap (λ c. Some (at (x ∷ (xs ++ t ∷ others)) (want (cond c a b) ∷ st) vs)) (sym (same_picks a b x xs t after others))) (still _),
+)
 
 again_maybe : (a : Piece) (xs : List CToken) (t : CToken) (after others : List CToken) (st : List Task) (vs : List Value) (b : Bool) → heads a (xs ++ t ∷ others) ≡ b →
     AgainIn xs t after others (at (xs ++ t ∷ after) (want (maybe a) ∷ st) vs) (Some (cond b (at (xs ++ t ∷ after) (want a ∷ act listed ∷ st) (none ∷ vs)) (at (xs ++ t ∷ after) st (none ∷ vs))))

@@ -25,9 +25,9 @@ onward _ _ _ (go a b d e f) (go a2 b2 c e2 f2) h = onward b d c f (subst (λ x. 
 pub one_end : (a b c : State) → Leads a b → Leads a c → step b ≡ None → step c ≡ None → b ≡ c
 one_end a b c f g h i = last b c (onward a b c f g i) h
   where
-  last : (b c : State) → Leads b c → step b ≡ None → b ≡ c
-  last _ _ (still s) h = refl
-  last _ _ (go a b c e f) h = absurd (some_none b (step a) e h)
+    last : (b c : State) → Leads b c → step b ≡ None → b ≡ c
+    last _ _ (still s) h = refl
+    last _ _ (go a b c e f) h = absurd (some_none b (step a) e h)
 
 -- the next state, or the same one where there is none
 abbrev pub or_same : Option State → State → State

@@ -80,9 +80,9 @@ read_to_end ts rest v h g =
     let none_left : rest ≡ [] = nothing_behind (b.0 ++ []) rest d.0 d.1 (subst EndsOnce (b.1 ∙ ap (λ l. l ++ rest) (sym (all_of b.0))) h) in
     derived ts v (subst (Goes SOURCE ts v) none_left g)
   where
-  all_of : (l : List CToken) → l ++ [] ≡ l
-  all_of [] = refl
-  all_of (x ∷ l) = ap (λ m. x ∷ m) (all_of l)
+    all_of : (l : List CToken) → l ++ [] ≡ l
+    all_of [] = refl
+    all_of (x ∷ l) = ap (λ m. x ∷ m) (all_of l)
 
 abbrev unit_with : ℕ → List CStruct → List CDecl → List CFunction → CUnit
 unit_with n ss gs fs = record { length = n; structs = ss; globals = gs; functions = fs }
@@ -135,16 +135,20 @@ pub is_first_bad : (source : List ℕ) (rest : List CToken) → EndsOnce (tokens
 is_first_bad source rest h f =
     let b = first_bad (tokens_of source) rest (ends (tokens_of source) h) f in
     let k = b.3 in
-    let g = unit_from _ _ k.good in
-    (b.0, b.1, b.2, record {
-      before = k.before;
-      behind = b.1;
-      stands = k.stands;
-      good = (k.more, pair g.2 g.1, g.4);
-      bad = λ p.
-        let m = unit_to _ _ p.2 in
-        k.bad p.0 (pair m.2 m.1) (subst (λ l. Derives SOURCE l (pair m.2 m.1)) (append_assoc k.before (b.0 ∷ []) p.0) m.4);
-    })
+    let g = unit_from _ _ k.good in (
+      b.0,
+      b.1,
+      b.2,
+      record {
+        before = k.before;
+        behind = b.1;
+        stands = k.stands;
+        good = (k.more, pair g.2 g.1, g.4);
+        bad = λ p.
+            let m = unit_to _ _ p.2 in
+            k.bad p.0 (pair m.2 m.1) (subst (λ l. Derives SOURCE l (pair m.2 m.1)) (append_assoc k.before (b.0 ∷ []) p.0) m.4);
+      },
+    )
 
 -- the fault of a token
 fault_shown : (source : List ℕ) (t : CToken) (l : CLexeme) → l ≡ t.lexeme → length source ≤ 1048576 → IsFirstBad (tokens_of source) t → FaultIs source (fault_by l t.start)

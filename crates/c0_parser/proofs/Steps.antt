@@ -36,16 +36,20 @@ pub refuses_one : (s : Sort) (ss : List Sort) (ts : List CToken) → heads (one_
 refuses_one s ss ts h = record { by = λ st vs. record { sort = s; sorts = ss; tasks = st; values = vs; leads = still _; refused = h } }
 
 pub goes_both : {a b : Piece} {ts mid rest : List CToken} {v w : Value} → Goes a ts v mid → Goes b mid w rest → Goes (a ▸ b) ts (pair v w) rest
-goes_both {a} {b} {ts} {mid} {rest} {v} {w} f g = record { by = λ st vs.
-  go _ (at ts (want a ∷ want b ∷ act paired ∷ st) vs) _ refl
-    (then_leads _ _ _ (f.by (want b ∷ act paired ∷ st) vs) (then_leads _ _ _ (g.by (act paired ∷ st) (v ∷ vs)) (go _ (at rest st (pair v w ∷ vs)) _ refl (still _)))) }
+goes_both {a} {b} {ts} {mid} {rest} {v} {w} f g = record {
+  by = λ st vs.
+      go _ (at ts (want a ∷ want b ∷ act paired ∷ st) vs) _ refl
+      (then_leads _ _ _ (f.by (want b ∷ act paired ∷ st) vs) (then_leads _ _ _ (g.by (act paired ∷ st) (v ∷ vs)) (go _ (at rest st (pair v w ∷ vs)) _ refl (still _))));
+}
 
 pub refuses_left : {a : Piece} (b : Piece) {ts rest : List CToken} → Refuses a ts rest → Refuses (a ▸ b) ts rest
 refuses_left {a} b {ts} {rest} f = record { by = λ st vs. then_stuck _ _ rest (go _ (at ts (want a ∷ want b ∷ act paired ∷ st) vs) _ refl (still _)) (f.by (want b ∷ act paired ∷ st) vs) }
 
 pub refuses_right : {a b : Piece} {ts mid rest : List CToken} {v : Value} → Goes a ts v mid → Refuses b mid rest → Refuses (a ▸ b) ts rest
-refuses_right {a} {b} {ts} {mid} {rest} {v} f g = record { by = λ st vs.
-  then_stuck _ _ rest (go _ (at ts (want a ∷ want b ∷ act paired ∷ st) vs) _ refl (f.by (want b ∷ act paired ∷ st) vs)) (g.by (act paired ∷ st) (v ∷ vs)) }
+refuses_right {a} {b} {ts} {mid} {rest} {v} f g = record {
+  by = λ st vs.
+      then_stuck _ _ rest (go _ (at ts (want a ∷ want b ∷ act paired ∷ st) vs) _ refl (f.by (want b ∷ act paired ∷ st) vs)) (g.by (act paired ∷ st) (v ∷ vs));
+}
 
 to_first : (a b : Piece) (ts : List CToken) (st : List Task) (vs : List Value) → picks a b ts ≡ true → Leads (at ts (want (a or b) ∷ st) vs) (at ts (want a ∷ st) vs)
 to_first a b ts st vs h = go _ (at ts (want a ∷ st) vs) _ (ap (λ p. Some (at ts (want p ∷ st) vs)) (cond_true (picks a b ts) a b h)) (still _)
@@ -66,8 +70,10 @@ pub refuses_second : (a : Piece) {b : Piece} {ts rest : List CToken} → picks a
 refuses_second a {b} {ts} {rest} h f = record { by = λ st vs. then_stuck _ _ rest (to_second a b ts st vs h) (f.by st vs) }
 
 pub goes_the : (r : Rule) {ts rest : List CToken} {v : Value} → Goes (production r) ts v rest → Goes (the r) ts (meaning r v) rest
-goes_the r {ts} {rest} {v} f = record { by = λ st vs.
-  go _ (at ts (want (production r) ∷ act (meant r) ∷ st) vs) _ refl (then_leads _ _ _ (f.by (act (meant r) ∷ st) vs) (go _ (at rest st (meaning r v ∷ vs)) _ refl (still _))) }
+goes_the r {ts} {rest} {v} f = record {
+  by = λ st vs.
+      go _ (at ts (want (production r) ∷ act (meant r) ∷ st) vs) _ refl (then_leads _ _ _ (f.by (act (meant r) ∷ st) vs) (go _ (at rest st (meaning r v ∷ vs)) _ refl (still _)));
+}
 
 pub refuses_the : (r : Rule) {ts rest : List CToken} → Refuses (production r) ts rest → Refuses (the r) ts rest
 refuses_the r {ts} {rest} f = record { by = λ st vs. then_stuck _ _ rest (go _ (at ts (want (production r) ∷ act (meant r) ∷ st) vs) _ refl (still _)) (f.by (act (meant r) ∷ st) vs) }
@@ -79,8 +85,10 @@ to_there : (a : Piece) (ts : List CToken) (st : List Task) (vs : List Value) →
 to_there a ts st vs h = go _ (at ts (want a ∷ act listed ∷ st) (none ∷ vs)) _ (ap Some (cond_true (heads a ts) _ _ h)) (still _)
 
 pub goes_with : {a : Piece} {ts rest : List CToken} {v : Value} → heads a ts ≡ true → Goes a ts v rest → Goes (maybe a) ts (snoc none v) rest
-goes_with {a} {ts} {rest} {v} h f = record { by = λ st vs.
-  then_leads _ _ _ (to_there a ts st vs h) (then_leads _ _ _ (f.by (act listed ∷ st) (none ∷ vs)) (go _ (at rest st (snoc none v ∷ vs)) _ refl (still _))) }
+goes_with {a} {ts} {rest} {v} h f = record {
+  by = λ st vs.
+      then_leads _ _ _ (to_there a ts st vs h) (then_leads _ _ _ (f.by (act listed ∷ st) (none ∷ vs)) (go _ (at rest st (snoc none v ∷ vs)) _ refl (still _)));
+}
 
 pub refuses_with : {a : Piece} {ts rest : List CToken} → heads a ts ≡ true → Refuses a ts rest → Refuses (maybe a) ts rest
 refuses_with {a} {ts} {rest} h f = record { by = λ st vs. then_stuck _ _ rest (to_there a ts st vs h) (f.by (act listed ∷ st) (none ∷ vs)) }
@@ -93,17 +101,23 @@ to_item : (a : Piece) (ts : List CToken) (st : List Task) (vs : List Value) → 
 to_item a ts st vs h = go _ (at ts (want a ∷ act listed ∷ more a ∷ st) vs) _ (ap Some (cond_true (heads a ts) _ _ h)) (still _)
 
 pub list_item : {a : Piece} {ts mid rest : List CToken} {v w x : Value} → GoesOn a ts v mid w → heads a mid ≡ true → Goes a mid x rest → GoesOn a ts v rest (snoc w x)
-list_item {a} {ts} {mid} {rest} {v} {w} {x} f h g = record { by = λ st vs.
-  then_leads _ _ _ (f.by st vs) (then_leads _ _ _ (to_item a mid st (w ∷ vs) h)
-    (then_leads _ _ _ (g.by (act listed ∷ more a ∷ st) (w ∷ vs)) (go _ (at rest (more a ∷ st) (snoc w x ∷ vs)) _ refl (still _)))) }
+list_item {a} {ts} {mid} {rest} {v} {w} {x} f h g = record {
+  by = λ st vs.
+      then_leads _ _ _ (f.by st vs) (then_leads _ _ _ (to_item a mid st (w ∷ vs) h)
+      (then_leads _ _ _ (g.by (act listed ∷ more a ∷ st) (w ∷ vs)) (go _ (at rest (more a ∷ st) (snoc w x ∷ vs)) _ refl (still _))));
+}
 
 pub goes_many : {a : Piece} {ts rest : List CToken} {v : Value} → GoesOn a ts none rest v → heads a rest ≡ false → Goes (many a) ts v rest
-goes_many {a} {ts} {rest} {v} f h = record { by = λ st vs.
-  go _ (at ts (more a ∷ st) (none ∷ vs)) _ refl (then_leads _ _ _ (f.by st vs) (more_ends a rest st (v ∷ vs) h)) }
+goes_many {a} {ts} {rest} {v} f h = record {
+  by = λ st vs.
+      go _ (at ts (more a ∷ st) (none ∷ vs)) _ refl (then_leads _ _ _ (f.by st vs) (more_ends a rest st (v ∷ vs) h));
+}
 
 pub refuses_many : {a : Piece} {ts mid rest : List CToken} {v : Value} → GoesOn a ts none mid v → heads a mid ≡ true → Refuses a mid rest → Refuses (many a) ts rest
-refuses_many {a} {ts} {mid} {rest} {v} f h g = record { by = λ st vs.
-  then_stuck _ _ rest (go _ (at ts (more a ∷ st) (none ∷ vs)) _ refl (then_leads _ _ _ (f.by st vs) (to_item a mid st (v ∷ vs) h))) (g.by (act listed ∷ more a ∷ st) (v ∷ vs)) }
+refuses_many {a} {ts} {mid} {rest} {v} f h g = record {
+  by = λ st vs.
+      then_stuck _ _ rest (go _ (at ts (more a ∷ st) (none ∷ vs)) _ refl (then_leads _ _ _ (f.by st vs) (to_item a mid st (v ∷ vs) h))) (g.by (act listed ∷ more a ∷ st) (v ∷ vs));
+}
 
 -- the same for the fault that is answered
 memory_left : (n : ℕ) → Memory ≡ Left n → ⊥

@@ -305,5 +305,5 @@ is_mark m end e = absurd (omega (arith, mark_late m, eqb-true (mark_place m) 3 (
 pub no_yes : {A : Type 0} → false ≡ true → A
 no_yes e = absurd (cc_of e)
   where
-  cc_of : false ≡ true → ⊥
-  cc_of e = cc
+    cc_of : false ≡ true → ⊥
+    cc_of e = cc

@@ -14,7 +14,6 @@ pub data Rule : Type 0 where
 
 infixr 20 ◌▸◌
 infixr 10 ◌or◌
-
 pub data Piece : Type 0 where
   one_of : Sort → List Sort → Piece
   ◌▸◌ : Piece → Piece → Piece

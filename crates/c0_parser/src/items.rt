@@ -31,8 +31,15 @@ fn asm_body<'a>(alloc: Global, ts: &'a [Token<'a>]) -> Result<(Body, &'a [Token<
     match take_asm(ts) {
         Some((t, text, rest)) => {
             let bytes = Vec::from_slice(alloc, text)?;
-            let span = Span { start: t.start, end: t.end };
-            let asm = AsmText { bytes, span, words: Vec::new(alloc) };
+            let span = Span {
+                start: t.start,
+                end: t.end,
+            };
+            let asm = AsmText {
+                bytes,
+                span,
+                words: Vec::new(alloc),
+            };
             Ok((Body::Asm(asm), rest))
         }
         None => Err(Halt::Left(ts.len())),
@@ -51,7 +58,11 @@ pub fn body<'a>(alloc: Global, ts: &'a [Token<'a>]) -> Result<(Body, &'a [Token<
 }
 
 // A function, from its `(` on.
-fn function<'a>(alloc: Global, decl: Decl, ts: &'a [Token<'a>]) -> Result<(Item, &'a [Token<'a>]), Halt>
+fn function<'a>(
+    alloc: Global,
+    decl: Decl,
+    ts: &'a [Token<'a>],
+) -> Result<(Item, &'a [Token<'a>]), Halt>
     ensures { Gives FUNCTION (IsBehind decl) ts.now result }
 {
     let (_, rest) = expect(ts, Mark::OpenParen)?;
@@ -69,7 +80,11 @@ fn function<'a>(alloc: Global, decl: Decl, ts: &'a [Token<'a>]) -> Result<(Item,
 }
 
 // What stands behind the name of a global or a function.
-fn behind<'a>(alloc: Global, decl: Decl, ts: &'a [Token<'a>]) -> Result<(Item, &'a [Token<'a>]), Halt>
+fn behind<'a>(
+    alloc: Global,
+    decl: Decl,
+    ts: &'a [Token<'a>],
+) -> Result<(Item, &'a [Token<'a>]), Halt>
     ensures { Gives BEHIND (IsBehind decl) ts.now result }
 {
     match take(ts, Mark::Semicolon) {
@@ -79,17 +94,29 @@ fn behind<'a>(alloc: Global, decl: Decl, ts: &'a [Token<'a>]) -> Result<(Item, &
 }
 
 // A global or a function, behind the first word or words of its type.
-fn defined<'a>(alloc: Global, base: Typed, ts: &'a [Token<'a>]) -> Result<(Item, &'a [Token<'a>]), Halt>
+fn defined<'a>(
+    alloc: Global,
+    base: Typed,
+    ts: &'a [Token<'a>],
+) -> Result<(Item, &'a [Token<'a>]), Halt>
     ensures { Gives DEFINED (IsDefined base) ts.now result }
 {
     let (typed, rest) = suffixes(alloc, base, ts)?;
     let (name, rest) = name(alloc, rest)?;
-    let decl = Decl { ty: typed.ty, ty_span: typed.span, name };
+    let decl = Decl {
+        ty: typed.ty,
+        ty_span: typed.span,
+        name,
+    };
     behind(alloc, decl, rest)
 }
 
 // A struct, from its `{` on.
-fn structure<'a>(alloc: Global, name: Name, ts: &'a [Token<'a>]) -> Result<(Item, &'a [Token<'a>]), Halt>
+fn structure<'a>(
+    alloc: Global,
+    name: Name,
+    ts: &'a [Token<'a>],
+) -> Result<(Item, &'a [Token<'a>]), Halt>
     ensures { Gives FIELDS (IsStruct name) ts.now result }
 {
     let (_, rest) = expect(ts, Mark::OpenBrace)?;

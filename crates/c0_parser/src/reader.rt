@@ -95,8 +95,16 @@ pub fn name<'a>(alloc: Global, ts: &'a [Token<'a>]) -> Result<(Name, &'a [Token<
     match take_name(ts) {
         Some((t, text, rest)) => {
             let bytes = Vec::from_slice(alloc, text)?;
-            let span = Span { start: t.start, end: t.end };
-            let name = Name { bytes, span, kind: Kind::Unresolved, number: 0 };
+            let span = Span {
+                start: t.start,
+                end: t.end,
+            };
+            let name = Name {
+                bytes,
+                span,
+                kind: Kind::Unresolved,
+                number: 0,
+            };
             Ok((name, rest))
         }
         None => Err(Halt::Left(ts.len())),

@@ -49,13 +49,19 @@ fn one_suffix<'a>(ts: &'a [Token<'a>]) -> Result<(Suffix, &'a [Token<'a>]), Halt
     ensures { Gives SUFFIX IsSuffix ts.now result }
 {
     if let Some((star, rest)) = take(ts, Mark::Star) {
-        let suffix = Suffix { length: None, end: star.end };
+        let suffix = Suffix {
+            length: None,
+            end: star.end,
+        };
         return Ok((suffix, rest));
     }
     let (_, rest) = expect(ts, Mark::OpenBracket)?;
     let (length, rest) = number_here(rest)?;
     let (close, rest) = expect(rest, Mark::CloseBracket)?;
-    let suffix = Suffix { length: Some(length), end: close.end };
+    let suffix = Suffix {
+        length: Some(length),
+        end: close.end,
+    };
     Ok((suffix, rest))
 }
 
@@ -64,7 +70,10 @@ fn with_suffix(alloc: Global, base: Typed, suffix: Suffix) -> Result<Typed, Halt
     ensures { MatchResult result (λ t. typed t ≡ type_at (record { start = base.span.start; «end» = suffix.end }) (with_length (type_view base.ty) suffix.length)) (λ h. h ≡ Memory) }
 {
     let part = Box::new(alloc, base.ty)?;
-    let span = Span { start: base.span.start, end: suffix.end };
+    let span = Span {
+        start: base.span.start,
+        end: suffix.end,
+    };
     let ty = match suffix.length {
         Some(length) => CType::Array(part, length),
         None => CType::Pointer(part),
@@ -105,24 +114,42 @@ pub fn suffixes<'a>(
 fn int_at(t: &Token<'_>) -> Typed
     ensures { typed result ≡ type_at (place_of (token_view t.now)) int }
 {
-    let span = Span { start: t.start, end: t.end };
-    Typed { ty: CType::Int, span }
+    let span = Span {
+        start: t.start,
+        end: t.end,
+    };
+    Typed {
+        ty: CType::Int,
+        span,
+    }
 }
 
 // `bool`.
 fn bool_at(t: &Token<'_>) -> Typed
     ensures { typed result ≡ type_at (place_of (token_view t.now)) bool }
 {
-    let span = Span { start: t.start, end: t.end };
-    Typed { ty: CType::Bool, span }
+    let span = Span {
+        start: t.start,
+        end: t.end,
+    };
+    Typed {
+        ty: CType::Bool,
+        span,
+    }
 }
 
 /// The struct of this name, behind the word `struct`.
 pub fn struct_at(t: &Token<'_>, name: Name) -> Typed
     ensures { typed result ≡ type_at (across (place_of (token_view t.now)) name.span) (named (name_view name)) }
 {
-    let span = Span { start: t.start, end: name.span.end };
-    Typed { ty: CType::Named(name), span }
+    let span = Span {
+        start: t.start,
+        end: name.span.end,
+    };
+    Typed {
+        ty: CType::Named(name),
+        span,
+    }
 }
 
 /// `int` or `bool`, where one stands next.
@@ -162,7 +189,11 @@ pub fn declaration<'a>(alloc: Global, ts: &'a [Token<'a>]) -> Result<(Decl, &'a 
 {
     let (typed, rest) = type_of(alloc, ts)?;
     let (name, rest) = name(alloc, rest)?;
-    let decl = Decl { ty: typed.ty, ty_span: typed.span, name };
+    let decl = Decl {
+        ty: typed.ty,
+        ty_span: typed.span,
+        name,
+    };
     Ok((decl, rest))
 }
 
@@ -181,7 +212,8 @@ pub fn type_ahead<'a>(ts: &'a [Token<'a>]) -> Option<&'a [Token<'a>]>
 {
     let (t, _) = next(ts)?;
     match t.lexeme {
-        Lexeme::Fixed(mark) if mark == Mark::Int || mark == Mark::Bool || mark == Mark::Struct => Some(ts),
+        Lexeme::Fixed(mark) if mark == Mark::Int || mark == Mark::Bool || mark == Mark::Struct =>
+            Some(ts),
         _ => None,
     }
 }
@@ -238,7 +270,10 @@ fn more_parameters<'a>(
 }
 
 /// Declarations with commas between them: the parameters of a function.
-pub fn parameters<'a>(alloc: Global, ts: &'a [Token<'a>]) -> Result<(Vec<Decl>, &'a [Token<'a>]), Halt>
+pub fn parameters<'a>(
+    alloc: Global,
+    ts: &'a [Token<'a>],
+) -> Result<(Vec<Decl>, &'a [Token<'a>]), Halt>
     ensures { GivesAny (maybe (the decl ▸ many (sign Comma ▸ the decl))) AreParams ts.now result }
 {
     match type_ahead(ts) {

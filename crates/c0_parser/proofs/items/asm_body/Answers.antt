@@ -9,9 +9,12 @@ use Rattle.c0_parser.proofs.items.asm_body.Goals as goal
 pub returns-in_ok-bytes-in-Some : goal.returns-in_ok-bytes-in-Some
 returns-in_ok-bytes-in-Some c =
     let e = c.in-Some.ensures in
-    let n : c.new.result.items ≡ [] = search rules in
-    (_, goes_one an_asm_text [] (token_view c.in-Some.t) (seen c.args.ts.now) (seen c.in-Some.rest.now) (ap seen e.0) (ap (λ x. among (an_asm_text ∷ []) (place (sort x))) e.1),
-      (token_view c.in-Some.t, refl, asm_meaning _ _ _ c.in-Some.t e.1 c.in_ok-bytes-in-Some.ensures.items n), shorter _ _ _ e.0)
+    let n : c.new.result.items ≡ [] = search rules in (
+      _,
+      goes_one an_asm_text [] (token_view c.in-Some.t) (seen c.args.ts.now) (seen c.in-Some.rest.now) (ap seen e.0) (ap (λ x. among (an_asm_text ∷ []) (place (sort x))) e.1),
+      (token_view c.in-Some.t, refl, asm_meaning _ _ _ c.in-Some.t e.1 c.in_ok-bytes-in-Some.ensures.items n),
+      shorter _ _ _ e.0,
+    )
 
 pub returns-in-None : goal.returns-in-None
 returns-in-None c = fails_by (length c.args.ts.now) (refuses_one an_asm_text [] _ c.in-None.ensures) (seen_length _)

@@ -15,5 +15,5 @@ returns-in-Some c =
 pub returns-in-None : goal.returns-in-None
 returns-in-None c =
     tails BEHIND FUNCTION (IsBehind c.args.decl) (IsBehind c.args.decl) _ _ _
-      (λ x r. (_, goes_second_not (sign Semicolon) c.in-None.ensures r.1, r.2, r.3))
-      (λ h f. fails_second_not (sign Semicolon) c.in-None.ensures f) c.function.ensures
+    (λ x r. (_, goes_second_not (sign Semicolon) c.in-None.ensures r.1, r.2, r.3))
+    (λ h f. fails_second_not (sign Semicolon) c.in-None.ensures f) c.function.ensures

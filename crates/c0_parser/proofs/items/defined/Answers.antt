@@ -18,5 +18,5 @@ returns c =
     let t = c.in_ok-typed.ensures in
     let n = c.in_ok-name.ensures in
     tails DEFINED BEHIND (IsDefined c.args.base) (IsBehind (record { ty = c.in_ok-typed.typed.ty; ty_span = c.in_ok-typed.typed.span; name = c.in_ok-name.name })) _ _ _
-      (λ x r. (_, goes_both t.1 (goes_both n.1 r.1), record { suffixes = t.0; others = pair n.0 r.0; span = _; ty = _; parts = refl; typed_so = t.2; is = defined_meaning (typed c.args.base) t.0 n.0 r.0 _ _ _ _ t.2 n.2.1 n.2.2 ∙ r.2 }, omega (arith, t.3, n.3, r.3)))
-      (λ h f. fails_right t.1 (fails_right n.1 f)) c.behind.ensures
+    (λ x r. (_, goes_both t.1 (goes_both n.1 r.1), record { suffixes = t.0; others = pair n.0 r.0; span = _; ty = _; parts = refl; typed_so = t.2; is = defined_meaning (typed c.args.base) t.0 n.0 r.0 _ _ _ _ t.2 n.2.1 n.2.2 ∙ r.2 }, omega (arith, t.3, n.3, r.3)))
+    (λ h f. fails_right t.1 (fails_right n.1 f)) c.behind.ensures

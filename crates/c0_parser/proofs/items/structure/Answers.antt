@@ -25,6 +25,9 @@ returns c =
     let o = c.in_ok-rest.ensures in
     let f = c.in_ok-fields.ensures in
     let q = c.in_ok-rest-2.ensures in
-    let s = c.in_ok-rest-3.ensures in
-    (_, goes_both o.1 (goes_both f.1 (goes_both q.1 s.1)),
-      record { brace = _; others = pair f.0 (pair q.0 s.0); parts = ap (λ v. pair v (pair f.0 (pair q.0 s.0))) o.2; is = λ y g. struct_meaning y _ _ _ _ _ _ _ _ _ g o.2 f.2 q.2 s.2 }, omega (arith, o.3, f.3, q.3, s.3))
+    let s = c.in_ok-rest-3.ensures in (
+      _,
+      goes_both o.1 (goes_both f.1 (goes_both q.1 s.1)),
+      record { brace = _; others = pair f.0 (pair q.0 s.0); parts = ap (λ v. pair v (pair f.0 (pair q.0 s.0))) o.2; is = λ y g. struct_meaning y _ _ _ _ _ _ _ _ _ g o.2 f.2 q.2 s.2 },
+      omega (arith, o.3, f.3, q.3, s.3),
+    )

@@ -18,7 +18,7 @@ pub fault_from_end-requires : goal.fault_from_end-requires
 fault_from_end-requires c =
     let source = c.args.source.now in
     fits source c.deref.result.now c.deref-in-Err-Left.result.now c.in-Err-Left.left (ap seen c.deref.ensures.value ∙ c.in_ok-tokens.ensures) (ap seen c.deref-in-Err-Left.ensures.value ∙ c.in_ok-tokens.ensures)
-      (c.tokens_stand_in_order.ensures.ends source) (subst (Fails SOURCE (seen c.deref.result.now)) c.in-Err-Left.field-0-is c.in-Err-Left.ensures)
+    (c.tokens_stand_in_order.ensures.ends source) (subst (Fails SOURCE (seen c.deref.result.now)) c.in-Err-Left.field-0-is c.in-Err-Left.ensures)
 
 pub returns-clause-only : goal.returns-clause-only
 returns-clause-only c = λ u le r.
@@ -29,5 +29,5 @@ pub returns-clause-fault : goal.returns-clause-fault
 returns-clause-fault c =
     let source = c.args.source.now in
     fault_told source c.deref.result.now c.deref-in-Err-Left.result.now c.in-Err-Left.left _ c.if-source-gt-MAX_SOURCE.false
-      (ap seen c.deref.ensures.value ∙ c.in_ok-tokens.ensures) (ap seen c.deref-in-Err-Left.ensures.value ∙ c.in_ok-tokens.ensures)
-      (c.tokens_stand_in_order.ensures.ends source) (subst (Fails SOURCE (seen c.deref.result.now)) c.in-Err-Left.field-0-is c.in-Err-Left.ensures) c.fault_from_end.ensures
+    (ap seen c.deref.ensures.value ∙ c.in_ok-tokens.ensures) (ap seen c.deref-in-Err-Left.ensures.value ∙ c.in_ok-tokens.ensures)
+    (c.tokens_stand_in_order.ensures.ends source) (subst (Fails SOURCE (seen c.deref.result.now)) c.in-Err-Left.field-0-is c.in-Err-Left.ensures) c.fault_from_end.ensures

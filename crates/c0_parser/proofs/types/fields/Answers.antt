@@ -14,5 +14,5 @@ returns c =
     let b = c.in_ok-first.ensures in
     let n : c.new-list.result.items ≡ [] = search rules in
     tails_more (LINE ▸ many LINE) (many LINE) AreFields (AreMoreLines c.push.new.self) _ _ _
-      (λ x r. (_, goes_both b.1 r.1, ap (λ l. l ++ decls r.0) (b.2 ∙ sym (one_decl _ _ _ n c.in_ok-push.ensures.items)) ∙ r.2, omega (arith, b.3, r.3)))
-      (λ h f. fails_right b.1 f) c.more_lines.ensures
+    (λ x r. (_, goes_both b.1 r.1, ap (λ l. l ++ decls r.0) (b.2 ∙ sym (one_decl _ _ _ n c.in_ok-push.ensures.items)) ∙ r.2, omega (arith, b.3, r.3)))
+    (λ h f. fails_right b.1 f) c.more_lines.ensures

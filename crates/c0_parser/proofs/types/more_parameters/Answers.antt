@@ -19,7 +19,7 @@ returns-in_err-decl c =
     let i = c.loop-behind.invariant in
     let e = c.in-Some.ensures in
     exits_any (many (sign Comma ▸ the decl)) (AreMoreLines c.args.first) _ _ _ c.from_residual.ensures.1
-      (fails_many i.1 (heads_is (sign Comma ▸ the decl) (mark_place Comma) e.0 (mark_kind e.1)) (fails_right (goes_sign _ _ _ _ e.0 e.1) c.in_err-decl.ensures))
+    (fails_many i.1 (heads_is (sign Comma ▸ the decl) (mark_place Comma) e.0 (mark_kind e.1)) (fails_right (goes_sign _ _ _ _ e.0 e.1) c.in_err-decl.ensures))
 
 pub loop-behind-preserved : goal.loop-behind-preserved
 loop-behind-preserved c =

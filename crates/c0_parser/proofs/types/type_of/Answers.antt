@@ -12,5 +12,5 @@ pub returns : goal.returns
 returns c =
     let b = c.in_ok-base.ensures in
     tails_more (the type) SUFFIXES IsTyped (AreSuffixes c.in_ok-base.base) _ _ _
-      (λ x r. (_, goes_the type (goes_both b.1 r.1), ap (λ t. type_suffixes t r.0) b.2 ∙ r.2, omega (arith, b.3, r.3)))
-      (λ h f. fails_the type (fails_right b.1 f)) c.suffixes.ensures
+    (λ x r. (_, goes_the type (goes_both b.1 r.1), ap (λ t. type_suffixes t r.0) b.2 ∙ r.2, omega (arith, b.3, r.3)))
+    (λ h f. fails_the type (fails_right b.1 f)) c.suffixes.ensures
