@@ -4,3 +4,4 @@ pub mod Node
 pub mod StructsTell
 pub mod PartLemmas
 pub mod InPlace
+pub mod StmtLemmas

@@ -9,9 +9,9 @@ ghost use Rattle.c0_meaning.specs.Resolved.{resolved_type};
 ghost use Rattle.c0_meaning.specs.Statement as spec;
 ghost use Rattle.c0_tree.specs.View.{expr_view, name_view, stmt_view, stmts_view, type_view};
 ghost use Rattle.c0_types.specs.Met.{met_view};
-ghost use Rattle.c0_meaning.specs.Ty.{pointer};
+ghost use Rattle.c0_meaning.specs.Ty.{bool, pointer};
 ghost use Rattle.c0_types.specs.Scope.{Knows, env_view, found_view, ty_view};
-ghost use Rattle.c0_types.specs.Stmts.{ChecksStmt, ChecksStmts};
+ghost use Rattle.c0_types.specs.Stmts.{ChecksStmt, ChecksStmts, choice_faults, loop_faults, resolved_of_stmts};
 
 use crate::calls::{check_args, meet_callee, name_callee};
 use crate::fault::{Fault, Mistake, meet_if};
@@ -105,6 +105,15 @@ fn check_new(
     meet_if(least, deep, Mistake::TooDeep, span);
 }
 
+// A condition.
+fn check_condition(scope: &Scope<'_>, test: &mut Expr, least: &mut Option<Fault>)
+    requires { Knows scope.now }
+    ensures met { met_view least.new ≡ kept_all (met_view least.old) (spec.tested_faults (env_view scope.now) bool (expr_view test.old)) }
+    ensures named { expr_view test.new ≡ resolved (env_view scope.now) (expr_view test.old) }
+{
+    check_tested(scope, Found::Bool, test, least);
+}
+
 /// Checks a statement: its names are resolved, and the least fault is kept.
 #[cycle(statement)]
 pub fn check_stmt(scope: &Scope<'_>, stmt: &mut Stmt, least: &mut Option<Fault>)
@@ -134,16 +143,55 @@ pub fn check_stmt(scope: &Scope<'_>, stmt: &mut Stmt, least: &mut Option<Fault>)
             ty,
             ty_span,
         } => check_new(scope, *span, place, ty, *ty_span, least),
-        Stmt::If { test, yes, no, .. } => {
-            check_tested(scope, Found::Bool, test, least);
-            check_stmts(scope, yes.as_mut_slice(), least);
-            check_stmts(scope, no.as_mut_slice(), least);
-        }
-        Stmt::While { test, body, .. } => {
-            check_tested(scope, Found::Bool, test, least);
-            check_stmts(scope, body.as_mut_slice(), least);
-        }
+        Stmt::If {
+            span: _span,
+            test,
+            yes,
+            no,
+        } => check_choice(scope, test, yes, no, least),
+        Stmt::While {
+            span: _span,
+            test,
+            body,
+        } => check_loop(scope, test, body, least),
     }
+}
+
+// `if (test) { yes } else { no }`
+#[cycle(statement)]
+fn check_choice(
+    scope: &Scope<'_>,
+    test: &mut Expr,
+    yes: &mut Vec<Stmt>,
+    no: &mut Vec<Stmt>,
+    least: &mut Option<Fault>,
+)
+    requires { Knows scope.now }
+    ensures met { met_view least.new ≡ kept_all (met_view least.old) (choice_faults (env_view scope.now) (expr_view test.old) (stmts_view yes.old.items) (stmts_view no.old.items)) }
+    ensures test { expr_view test.new ≡ resolved (env_view scope.now) (expr_view test.old) }
+    ensures yes { stmts_view yes.new.items ≡ resolved_of_stmts (env_view scope.now) (stmts_view yes.old.items) }
+    ensures no { stmts_view no.new.items ≡ resolved_of_stmts (env_view scope.now) (stmts_view no.old.items) }
+{
+    check_condition(scope, test, least);
+    check_stmts(scope, yes.as_mut_slice(), least);
+    check_stmts(scope, no.as_mut_slice(), least);
+}
+
+// `while (test) { body }`
+#[cycle(statement)]
+fn check_loop(
+    scope: &Scope<'_>,
+    test: &mut Expr,
+    body: &mut Vec<Stmt>,
+    least: &mut Option<Fault>,
+)
+    requires { Knows scope.now }
+    ensures met { met_view least.new ≡ kept_all (met_view least.old) (loop_faults (env_view scope.now) (expr_view test.old) (stmts_view body.old.items)) }
+    ensures test { expr_view test.new ≡ resolved (env_view scope.now) (expr_view test.old) }
+    ensures body { stmts_view body.new.items ≡ resolved_of_stmts (env_view scope.now) (stmts_view body.old.items) }
+{
+    check_condition(scope, test, least);
+    check_stmts(scope, body.as_mut_slice(), least);
 }
 
 /// Checks statements one after another.
