@@ -55,7 +55,7 @@ given_clean env e t (a_value h) = subst (Clean env t e) (sym (unfilled (Some t) 
   where
     here : Clean env t e false
     here = no_faults _ _ (typed_is_faultless env e t h).0
-      (ap (λ o. own (both (Some t) o (same_rule (span_of e)))) (type_is env e t h) ∙ same_clean (span_of e) t)
+        (ap (λ o. own (both (Some t) o (same_rule (span_of e)))) (type_is env e t h) ∙ same_clean (span_of e) t)
 given_clean env _ _ (a_null {s = s} {t = t}) = same_clean s (pointer t)
 
 pub clean_given : (env : Env) (e : CExpr) (t : Ty) → given_faults env (Some t) e ≡ [] → IsGiven env e t
@@ -74,7 +74,7 @@ clean_given env e t h = by_test (filled (Some t) e) refl h
     by_test false f h =
         let v = faultless_is_typed env e (left_nil (faults env e) _ h) in
         let same = clean_same (span_of e) t v.0
-          (ap (λ o. own (both (Some t) o (same_rule (span_of e)))) (sym (type_is env e v.0 v.1)) ∙ right_nil (faults env e) _ h) in
+        (ap (λ o. own (both (Some t) o (same_rule (span_of e)))) (sym (type_is env e v.0 v.1)) ∙ right_nil (faults env e) _ h) in
         a_value (subst (HasType env e) (sym same) v.1)
 
 tested_clean : (env : Env) (t : Ty) (e : CExpr) → IsTested env e t → tested_faults env t e ≡ []
@@ -83,7 +83,7 @@ tested_clean env t e h = no_faults _ _ (given_clean env e t h.value) (shallow_cl
 clean_tested : (env : Env) (t : Ty) (e : CExpr) → tested_faults env t e ≡ [] → IsTested env e t
 clean_tested env t e h = record {
   value = clean_given env e t (left_nil (given_faults env (Some t) e) _ h);
-  shallow = clean_shallow (span_of e) (need e) (right_nil (given_faults env (Some t) e) _ h)
+  shallow = clean_shallow (span_of e) (need e) (right_nil (given_faults env (Some t) e) _ h);
 }
 
 pub tested_is_faultless : TestedIsFaultless
@@ -97,15 +97,15 @@ pub record Left (env : Env) (p : CExpr) (t : Ty) : Type 0 where
 pub left_clean : (env : Env) (p : CExpr) (t : Ty) → IsLeft env p t → Left env p t
 left_clean env p t h =
     let v : left_verdict env p ≡ has t =
-      ap (λ o. one o (left_rule (is_place p) (span_of p))) (type_is env p t h.typed)
-      ∙ (ap (λ b. left_rule b (span_of p) t) h.place ∙ ap (λ (b : Bool). if b then has t else wrong (fault WRONG_TYPE (span_of p))) h.scalar) in
+    ap (λ o. one o (left_rule (is_place p) (span_of p))) (type_is env p t h.typed)
+    ∙ (ap (λ b. left_rule b (span_of p) t) h.place ∙ ap (λ (b : Bool). if b then has t else wrong (fault WRONG_TYPE (span_of p))) h.scalar) in
     record { clean = no_faults _ _ (typed_is_faultless env p t h.typed).0 (ap own v); asks = ap given v }
 
 pub clean_left : (env : Env) (p : CExpr) → left_faults env p ≡ [] → (t : Ty) × IsLeft env p t
 clean_left env p h =
     let v = faultless_is_typed env p (left_nil (faults env p) _ h) in
     let r : own (left_rule (is_place p) (span_of p) v.0) ≡ [] =
-      ap (λ o. own (one o (left_rule (is_place p) (span_of p)))) (sym (type_is env p v.0 v.1)) ∙ right_nil (faults env p) _ h in
+    ap (λ o. own (one o (left_rule (is_place p) (span_of p)))) (sym (type_is env p v.0 v.1)) ∙ right_nil (faults env p) _ h in
     let q = tests (span_of p) v.0 (is_place p) (is_scalar v.0) r in
     (v.0, record { place = q.0; scalar = q.1; typed = v.1 })
   where

@@ -44,26 +44,26 @@ kept_of g [] = record { one = g; is = refl; stands = inl refl; least = λ h i. a
 kept_of g (k ∷ fs) = by_test (comes_before k g) refl (kept_of g fs) (kept_of k fs)
   where
     among : (f : Fault) → comes_before g f ≡ false → comes_before k f ≡ false → ((h : Fault) → Stands fs h → comes_before h f ≡ false)
-      → (h : Fault) → Stands (g ∷ k ∷ fs) h → comes_before h f ≡ false
+        → (h : Fault) → Stands (g ∷ k ∷ fs) h → comes_before h f ≡ false
     among f a b c h (inl e) = subst (λ v. comes_before v f ≡ false) e a
     among f a b c h (inr (inl e)) = subst (λ v. comes_before v f ≡ false) e b
     among f a b c h (inr (inr i)) = c h i
 
     by_test : (x : Bool) → comes_before k g ≡ x → KeptOf g fs → KeptOf k fs → KeptOf g (k ∷ fs)
     by_test true e v w = record {
-        one = w.one;
-        is = ap (λ (x : Bool). kept_all (if x then Some k else Some g) fs) e ∙ w.is;
-        stands = inr w.stands;
-        least = among w.one
+      one = w.one;
+      is = ap (λ (x : Bool). kept_all (if x then Some k else Some g) fs) e ∙ w.is;
+      stands = inr w.stands;
+      least = among w.one
           (not_before_onward g k w.one (not_both_come k g e) (w.least k (inl refl)))
-          (w.least k (inl refl)) (λ h i. w.least h (inr i))
-      }
+          (w.least k (inl refl)) (λ h i. w.least h (inr i));
+    }
     by_test false e v w = record {
-        one = v.one;
-        is = ap (λ (x : Bool). kept_all (if x then Some k else Some g) fs) e ∙ v.is;
-        stands = elim v.stands [ inl p ↦ inl p | inr i ↦ inr (inr i) ];
-        least = among v.one (v.least g (inl refl)) (not_before_onward k g v.one e (v.least g (inl refl))) (λ h i. v.least h (inr i))
-      }
+      one = v.one;
+      is = ap (λ (x : Bool). kept_all (if x then Some k else Some g) fs) e ∙ v.is;
+      stands = elim v.stands [ inl p ↦ inl p | inr i ↦ inr (inr i) ];
+      least = among v.one (v.least g (inl refl)) (not_before_onward k g v.one e (v.least g (inl refl))) (λ h i. v.least h (inr i));
+    }
 
 -- a list that has a fault has a least one, and that is kept
 record Found (fs : List Fault) : Type 0 where

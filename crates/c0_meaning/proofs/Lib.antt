@@ -4,6 +4,7 @@ pub mod Opening
 pub mod Capped
 pub mod Sized
 pub mod WellFormed
+pub mod Units
 pub mod Order
 pub mod Least
 pub mod Operands

@@ -1,13 +1,13 @@
 -- The words of a struct don't depend on how deep structs are opened, once that is deep enough: what a struct that doesn't hold itself
 -- holds, each of its parts holds less of.
-use Rattle.std.proofs.Common.{◌≡◌, ◌⊎◌, inl, inr, ℕ, zero, suc, ◌+◌, ◌*◌, ◌<◌, ◌≤◌, Bool, true, false, ◌||◌, cond, IsTrue, List, [], ◌∷◌, length, map, Option, Some, None, refl, sym, ap, ◌∙◌, subst, arith}
-use Rattle.std.proofs.lemmas.Bool.{or_left, or_right, false≢true, cond-true, cond-false, false_from_ne_true, cases_Bool, both_ways}
+use Rattle.std.proofs.Common.{◌≡◌, ◌⊎◌, inl, inr, ℕ, zero, suc, ◌+◌, ◌*◌, ◌<◌, ◌≤◌, Bool, true, false, cond, List, [], ◌∷◌, length, map, Some, refl, sym, ap, ◌∙◌, subst, arith}
+use Rattle.std.proofs.lemmas.Bool.{or_left, or_right, false≢true, cond-true, cond-false, false_from_ne_true, cases_Bool}
 use Rattle.std.proofs.lemmas.Slice.Eq.{bytes_eq-Decides}
 use Rattle.std.specs.Str.{bytes_eq}
 use Rattle.c0_meaning.specs.Ty.{Ty, int, bool, pointer, named, array}
 use Rattle.c0_meaning.specs.Env.{Typed, Shape, first_named, fields_of}
-use Rattle.c0_meaning.specs.Words.{is_made_of, fields_named, have_field, has_field_of, Holds, by_field, by_part, holds, words_with, all_words_with, words_within, struct_words, words, all_words, WordsAreThose}
-use Rattle.c0_meaning.proofs.Holding.{Among, holds_both, holds_as_tested}
+use Rattle.c0_meaning.specs.Words.{is_made_of, fields_named, have_field, has_field_of, by_field, by_part, holds, words_with, all_words_with, words_within, struct_words, words, all_words, WordsAreThose}
+use Rattle.c0_meaning.proofs.Holding.{Among, holds_as_tested}
 
 -- how many pass a test
 abbrev count : (Shape → Bool) → List Shape → ℕ
@@ -38,8 +38,8 @@ count_lt : (p q : Shape → Bool) (xs : List Shape) (t : List ℕ) → ((s : Sha
 count_lt p q [] t h among lacks passes = absurd among
 count_lt p q (s ∷ rest) t h among lacks passes =
     elim among [
-      inl same ↦ none_one (p s) (q s) (count p rest) (count q rest) (lacks s same) (passes s same) (count_le p q rest h)
-    | inr later ↦ one_lt (p s) (q s) (count p rest) (count q rest) (h s) (count_lt p q rest t h later lacks passes)
+      | inl same ↦ none_one (p s) (q s) (count p rest) (count q rest) (lacks s same) (passes s same) (count_le p q rest h)
+      | inr later ↦ one_lt (p s) (q s) (count p rest) (count q rest) (h s) (count_lt p q rest t h later lacks passes)
     ]
 
 count_all : (xs : List Shape) → count (λ s. true) xs ≡ length xs
@@ -66,19 +66,19 @@ unfolding rank
 rank_below structs x among loose =
     subst (λ (n : ℕ). count (λ s. holds structs x s.text) structs < n) (count_all structs)
     (count_lt (λ s. holds structs x s.text) (λ s. true) structs x (λ s h. refl) among
-      (λ s same. subst (λ (t : List ℕ). holds structs x t ≡ false) (sym same) loose) (λ s same. refl))
+    (λ s same. subst (λ (t : List ℕ). holds structs x t ≡ false) (sym same) loose) (λ s same. refl))
 
 -- what a search finds
 found_among : (structs : List Shape) (x : List ℕ) (k : ℕ) → ((fields_of (first_named (λ s. s.text) x k structs) ≡ []) ⊎ Among (map (λ s. s.text) structs) x)
 found_among [] x k = inl refl
 found_among (s ∷ rest) x k =
     elim (cases_Bool (bytes_eq s.text x)) [
-      inl e ↦ inr (inl ((bytes_eq-Decides s.text x).0 e))
-    | inr e ↦
-        elim (found_among rest x (suc k)) [
-          inl none ↦ inl (ap fields_of (cond-false (bytes_eq s.text x) (Some (k, s)) (first_named (λ s. s.text) x (suc k) rest) e) ∙ none)
-        | inr later ↦ inr (inr later)
-        ]
+      | inl e ↦ inr (inl ((bytes_eq-Decides s.text x).0 e))
+      | inr e ↦
+          elim (found_among rest x (suc k)) [
+            | inl none ↦ inl (ap fields_of (cond-false (bytes_eq s.text x) (Some (k, s)) (first_named (λ s. s.text) x (suc k) rest) e) ∙ none)
+            | inr later ↦ inr (inr later)
+          ]
     ]
 
 -- a struct has no fields, or it is defined
@@ -95,8 +95,8 @@ empty_zero : (structs : List Shape) (k : ℕ) (x : List ℕ) → fields_named st
 empty_zero structs zero x h = refl
 empty_zero structs (suc k) x h =
     elim (cases_Bool (holds structs x x)) [
-      inl e ↦ cond-true (holds structs x x) 0 (all_words_with (words_within k structs) (fields_named structs x)) e
-    | inr e ↦ cond-false (holds structs x x) 0 (all_words_with (words_within k structs) (fields_named structs x)) e ∙ ap (all_words_with (words_within k structs)) h
+      | inl e ↦ cond-true (holds structs x x) 0 (all_words_with (words_within k structs) (fields_named structs x)) e
+      | inr e ↦ cond-false (holds structs x x) 0 (all_words_with (words_within k structs) (fields_named structs x)) e ∙ ap (all_words_with (words_within k structs)) h
     ]
 
 -- a struct that doesn't hold itself, opened once
@@ -124,47 +124,47 @@ deep_enough structs zero m x p q = absurd (omega arith)
 deep_enough structs (suc k) zero x p q = absurd (omega arith)
 deep_enough structs (suc k) (suc m) x p q =
     elim (cases_Bool (holds structs x x)) [
-      inl e ↦ cycle_zero structs (suc k) x e ∙ sym (cycle_zero structs (suc m) x e)
-    | inr e ↦ opened structs k x e ∙ (all_words_with_same (words_within k structs) (words_within m structs) (fields_named structs x)
-        (λ y field.
+      | inl e ↦ cycle_zero structs (suc k) x e ∙ sym (cycle_zero structs (suc m) x e)
+      | inr e ↦ opened structs k x e ∙ (all_words_with_same (words_within k structs) (words_within m structs) (fields_named structs x)
+          (λ y field.
           elim (cases_Bool (holds structs y y)) [
-            inl c ↦ cycle_zero structs k y c ∙ sym (cycle_zero structs m y c)
-          | inr c ↦
-              elim (is_defined structs y) [
-                inl none ↦ empty_zero structs k y none ∙ sym (empty_zero structs m y none)
-              | inr among ↦
-                  let less : rank structs y < rank structs x = rank_falls structs x y field among c in
-                  deep_enough structs k m y (omega arith) (omega arith)
-              ]
+            | inl c ↦ cycle_zero structs k y c ∙ sym (cycle_zero structs m y c)
+            | inr c ↦
+                elim (is_defined structs y) [
+                  | inl none ↦ empty_zero structs k y none ∙ sym (empty_zero structs m y none)
+                  | inr among ↦
+                      let less : rank structs y < rank structs x = rank_falls structs x y field among c in
+                      deep_enough structs k m y (omega arith) (omega arith)
+                ]
           ])
-        ∙ sym (opened structs m x e))
+          ∙ sym (opened structs m x e))
     ]
 
 -- a part of a struct that doesn't hold itself has the same words at both depths
 part_same : (structs : List Shape) (k : ℕ) (x y : List ℕ) → length structs ≡ suc k → holds structs x x ≡ false → Among (map (λ s. s.text) structs) x → has_field_of structs x y ≡ true → words_within k structs y ≡ words_within (suc k) structs y
 part_same structs k x y len loose there field =
     elim (cases_Bool (holds structs y y)) [
-      inl c ↦ cycle_zero structs k y c ∙ sym (cycle_zero structs (suc k) y c)
-    | inr c ↦
-        elim (is_defined structs y) [
-          inl none ↦ empty_zero structs k y none ∙ sym (empty_zero structs (suc k) y none)
-        | inr among ↦
-            let less : rank structs y < rank structs x = rank_falls structs x y field among c in
-            let few : rank structs x < length structs = rank_below structs x there loose in
-            deep_enough structs k (suc k) y (omega arith) (omega arith)
-        ]
+      | inl c ↦ cycle_zero structs k y c ∙ sym (cycle_zero structs (suc k) y c)
+      | inr c ↦
+          elim (is_defined structs y) [
+            | inl none ↦ empty_zero structs k y none ∙ sym (empty_zero structs (suc k) y none)
+            | inr among ↦
+                let less : rank structs y < rank structs x = rank_falls structs x y field among c in
+                let few : rank structs x < length structs = rank_below structs x there loose in
+                deep_enough structs k (suc k) y (omega arith) (omega arith)
+          ]
     ]
 
 fields_at : (structs : List Shape) (n : ℕ) (x : List ℕ) → length structs ≡ n → holds structs x x ≡ false → words_within n structs x ≡ all_words_with (words_within n structs) (fields_named structs x)
 fields_at structs zero x len loose =
     elim (is_defined structs x) [
-      inl none ↦ sym (ap (all_words_with (words_within zero structs)) none)
-    | inr among ↦ let few : rank structs x < length structs = rank_below structs x among loose in absurd (omega arith)
+      | inl none ↦ sym (ap (all_words_with (words_within zero structs)) none)
+      | inr among ↦ let few : rank structs x < length structs = rank_below structs x among loose in absurd (omega arith)
     ]
 fields_at structs (suc k) x len loose =
     elim (is_defined structs x) [
-      inl none ↦ empty_zero structs (suc k) x none ∙ sym (ap (all_words_with (words_within (suc k) structs)) none)
-    | inr among ↦ opened structs k x loose ∙ all_words_with_same (words_within k structs) (words_within (suc k) structs) (fields_named structs x) (λ y field. part_same structs k x y len loose among field)
+      | inl none ↦ empty_zero structs (suc k) x none ∙ sym (ap (all_words_with (words_within (suc k) structs)) none)
+      | inr among ↦ opened structs k x loose ∙ all_words_with_same (words_within k structs) (words_within (suc k) structs) (fields_named structs x) (λ y field. part_same structs k x y len loose among field)
     ]
 
 -- a struct that doesn't hold itself has the words of its fields

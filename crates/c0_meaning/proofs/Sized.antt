@@ -1,8 +1,8 @@
 -- What sizes need to know of types and structs of few words.
-use Rattle.std.proofs.Common.{◌≡◌, ◌⊎◌, inl, inr, ℕ, zero, suc, ◌+◌, ◌*◌, ◌<◌, ◌≤◌, Bool, true, false, ◌||◌, cond, min, List, [], ◌∷◌, length, map, Option, Some, None, refl, sym, ap, ◌∙◌, subst, arith, get_or, drop}
+use Rattle.std.proofs.Common.{◌≡◌, inl, inr, ℕ, zero, suc, ◌+◌, ◌*◌, ◌<◌, ◌≤◌, true, false, min, List, [], ◌∷◌, length, map, Option, Some, None, refl, sym, ap, ◌∙◌, subst, arith, get_or, drop}
 use Rattle.std.proofs.lemmas.Bool.{cases_Bool, cond-true, cond-false, or_left, or_right}
 use Rattle.std.proofs.lemmas.Slice.Eq.{bytes_eq-Decides}
-use Rattle.std.proofs.Math.Nat.{mul_assoc, mul-one}
+use Rattle.std.proofs.Math.Nat.{mul_assoc}
 use Rattle.std.specs.Str.{bytes_eq}
 use Rattle.std.specs.Prelude.{option_map}
 use Rattle.std.proofs.lemmas.List.{get_or-map, length-map, drop_all, drop_more}
@@ -10,14 +10,14 @@ use Rattle.c0_tree.specs.declared.tree.StructDef.{StructDef}
 use Rattle.c0_tree.specs.declared.tree.Decl.{Decl}
 use Rattle.c0_tree.specs.declared.tree.Function.{Function}
 use Rattle.c0_tree.specs.View.{struct_view, decl_view, type_view, function_view}
-use Rattle.std.specs.Prelude.{slice_get, slice_index_or}
+use Rattle.std.specs.Prelude.{slice_get}
 use Rattle.std.specs.List.{All}
 use Rattle.c0_tree.specs.Tree.{CTy, int, bool, pointer, named, array, CName, CDecl, CStruct, CFunction}
 use Rattle.c0_meaning.specs.Ty.{Ty, ty_of}
 use Rattle.c0_meaning.specs.Ty as ty
-use Rattle.c0_meaning.specs.Env.{Typed, Shape, first_named, fields_of, shape_of, typed_of}
-use Rattle.c0_meaning.specs.Words.{is_made_of, fields_named, have_field, has_field_of, holds, struct_words, words, all_words}
-use Rattle.c0_meaning.specs.Declared.{MAX_TYPE_WORDS}
+use Rattle.c0_meaning.specs.Env.{Typed, Shape, first_named, shape_of, typed_of}
+use Rattle.c0_meaning.specs.Words.{is_made_of, have_field, holds, words, all_words}
+use Rattle.c0_meaning.specs.DeclaredTypes.{MAX_TYPE_WORDS}
 use Rattle.c0_meaning.specs.Resolved.{IsResolved}
 use Rattle.c0_meaning.specs.Sound.{elements, struct_in, IsSized, IsSizedStruct, IsSizedFunction, AreSized}
 use Rattle.c0_meaning.proofs.Holding.{Among}
@@ -87,14 +87,14 @@ found_at : (structs : List Shape) (x : List ℕ) (k n : ℕ) (s : Shape) → fir
 found_at [] x k n s h = cc
 found_at (r ∷ rest) x k n s h =
     elim (cases_Bool (bytes_eq r.text x)) [
-      inl e ↦
-        let v : ◌≡◌ {A = Option (ℕ × Shape)} (Some (k, r)) (Some (n, s)) = sym (cond-true (bytes_eq r.text x) (Some (k, r)) (first_named (λ s. s.text) x (suc k) rest) e) ∙ h in
-        let w : k ≡ n = ap number_found v in
-        record { place = 0; at = omega arith; below = omega arith; same = λ d. (bytes_eq-Decides r.text x).0 e }
-    | inr e ↦
-        let v : ◌≡◌ {A = Option (ℕ × Shape)} (first_named (λ s. s.text) x (suc k) rest) (Some (n, s)) = sym (cond-false (bytes_eq r.text x) (Some (k, r)) (first_named (λ s. s.text) x (suc k) rest) e) ∙ h in
-        let f = found_at rest x (suc k) n s v in
-        record { place = suc f.place; at = omega arith; below = omega arith; same = f.same }
+      | inl e ↦
+          let v : ◌≡◌ {A = Option (ℕ × Shape)} (Some (k, r)) (Some (n, s)) = sym (cond-true (bytes_eq r.text x) (Some (k, r)) (first_named (λ s. s.text) x (suc k) rest) e) ∙ h in
+          let w : k ≡ n = ap number_found v in
+          record { place = 0; at = omega arith; below = omega arith; same = λ d. (bytes_eq-Decides r.text x).0 e }
+      | inr e ↦
+          let v : ◌≡◌ {A = Option (ℕ × Shape)} (first_named (λ s. s.text) x (suc k) rest) (Some (n, s)) = sym (cond-false (bytes_eq r.text x) (Some (k, r)) (first_named (λ s. s.text) x (suc k) rest) e) ∙ h in
+          let f = found_at rest x (suc k) n s v in
+          record { place = suc f.place; at = omega arith; below = omega arith; same = f.same }
     ]
 
 some_number : (o : Option CName) (n : ℕ) → option_map (λ x. x.number) o ≡ Some n → (x : CName) × ((o ≡ Some x) × (x.number ≡ n))
@@ -130,7 +130,7 @@ is_made_of_struct items t n o e f r =
       name = w.0;
       made = w.1.0;
       below = below;
-      same = λ d. ap (λ (s : Shape). s.text) (sym (view_at items n d below)) ∙ subst (λ (k : ℕ). (get_or (map shape_of (map struct_view items)) k (shape_of (struct_view d))).text ≡ w.0.text) p (g.same (shape_of (struct_view d)))
+      same = λ d. ap (λ (s : Shape). s.text) (sym (view_at items n d below)) ∙ subst (λ (k : ℕ). (get_or (map shape_of (map struct_view items)) k (shape_of (struct_view d))).text ≡ w.0.text) p (g.same (shape_of (struct_view d)));
     }
 
 pub sized_at : (items : List StructDef) (n : ℕ) (d : StructDef) → AreSized (map struct_view items) → n < length items → IsSizedStruct (map shape_of (map struct_view items)) (struct_view (get_or items n d))
@@ -172,24 +172,24 @@ falls_for structs t owner (Some x) e h = let less : rank structs x.text < rank s
 
 -- a call for a field of a struct
 pub field_call_falls : (items : List StructDef) (def : StructDef) (i : ℕ) (d : Decl) → AreSized (map struct_view items) → IsSizedStruct (map shape_of (map struct_view items)) (struct_view def) → i < length def.fields.items →
-  type_weight (map shape_of (map struct_view items)) (type_view (get_or def.fields.items i d).ty) < struct_weight (map shape_of (map struct_view items)) (struct_view def)
+    type_weight (map shape_of (map struct_view items)) (type_view (get_or def.fields.items i d).ty) < struct_weight (map shape_of (map struct_view items)) (struct_view def)
 field_call_falls items def i d sized here below =
     let structs : List Shape = map shape_of (map struct_view items) in
     let t : CTy = type_view (get_or def.fields.items i d).ty in
     falls_for structs t (struct_view def).name.text (struct_in t) refl
     (λ x made.
-      let w : IsMadeOf items t x.number = is_made_of_struct items t x.number (option_map (λ y. y.number) (struct_in t)) refl (ap (option_map (λ (y : CName). y.number)) made) (field_sized structs def i d here below).resolved in
-      let same_name : w.name.text ≡ x.text = name_texts w.name x (sym w.made ∙ made) in
-      let s : IsSizedStruct structs (struct_view (get_or items x.number def)) = sized_at items x.number def sized w.below in
-      let e : (struct_view (get_or items x.number def)).name.text ≡ x.text = w.same def ∙ same_name in
-      rank_falls structs (struct_view def).name.text x.text
-        (subst (λ (fs : List Typed). have_field fs x.text ≡ true) (sym here.first) (field_there def.fields.items i d x.text below (made_of t x made)))
-        (subst (Among (map (λ s. s.text) structs)) e (among_at items x.number def w.below))
-        (subst (λ (y : List ℕ). holds structs y y ≡ false) e s.loose))
+    let w : IsMadeOf items t x.number = is_made_of_struct items t x.number (option_map (λ y. y.number) (struct_in t)) refl (ap (option_map (λ (y : CName). y.number)) made) (field_sized structs def i d here below).resolved in
+    let same_name : w.name.text ≡ x.text = name_texts w.name x (sym w.made ∙ made) in
+    let s : IsSizedStruct structs (struct_view (get_or items x.number def)) = sized_at items x.number def sized w.below in
+    let e : (struct_view (get_or items x.number def)).name.text ≡ x.text = w.same def ∙ same_name in
+    rank_falls structs (struct_view def).name.text x.text
+    (subst (λ (fs : List Typed). have_field fs x.text ≡ true) (sym here.first) (field_there def.fields.items i d x.text below (made_of t x made)))
+    (subst (Among (map (λ s. s.text) structs)) e (among_at items x.number def w.below))
+    (subst (λ (y : List ℕ). holds structs y y ≡ false) e s.loose))
 
 -- the words of what is left of declarations, one of them taken
 pub words_left : (structs : List Shape) (decls : List Decl) (i : ℕ) (d : Decl) → i < length decls →
-  all_words structs (map typed_of (map decl_view (drop i decls))) ≡ words structs (ty_of (type_view (get_or decls i d).ty)) + all_words structs (map typed_of (map decl_view (drop (i + 1) decls)))
+    all_words structs (map typed_of (map decl_view (drop i decls))) ≡ words structs (ty_of (type_view (get_or decls i d).ty)) + all_words structs (map typed_of (map decl_view (drop (i + 1) decls)))
 words_left structs decls i d below = ap (λ (ds : List Decl). all_words structs (map typed_of (map decl_view ds))) (drop_more decls i d below)
 
 -- nothing is left at the end

@@ -44,9 +44,9 @@ good_arrow env s e f x p a found =
 good_element : (env : Env) (s : Span) (e i : CExpr) (t : Ty) (n : ℕ) → is_place e ≡ true → Good env e (array t n) → Good env i int → Good env (index s e i) t
 good_element env s e i t n p a b =
     let v : verdict env (index s e i) ≡ has t =
-      ap (λ (x : Verdict). both (given x) (given (verdict env i)) (index_rule s (is_place e) (span_of e))) a.typed
-      ∙ (ap (λ (x : Verdict). both (Some (array t n)) (given x) (index_rule s (is_place e) (span_of e))) b.typed
-      ∙ ap (λ (x : Bool). index_rule s x (span_of e) (array t n) int) p) in
+    ap (λ (x : Verdict). both (given x) (given (verdict env i)) (index_rule s (is_place e) (span_of e))) a.typed
+    ∙ (ap (λ (x : Verdict). both (Some (array t n)) (given x) (index_rule s (is_place e) (span_of e))) b.typed
+    ∙ ap (λ (x : Bool). index_rule s x (span_of e) (array t n) int) p) in
     record { typed = v; clean = no_faults _ _ a.clean (no_faults _ _ b.clean (ap own v)) }
 
 good_target : (env : Env) (s : Span) (e : CExpr) (t : Ty) → Good env e (pointer t) → Good env (deref s e) t
@@ -57,8 +57,8 @@ good_target env s e t a =
 good_address : (env : Env) (s : Span) (e : CExpr) (t : Ty) → is_place e ≡ true → is_local env e ≡ false → Good env e t → Good env (address s e) (pointer t)
 good_address env s e t p l a =
     let v : verdict env (address s e) ≡ has (pointer t) =
-      ap (λ (x : Verdict). one (given x) (address_rule (is_place e) (is_local env e) (span_of e))) a.typed
-      ∙ (ap (λ (x : Bool). address_rule x (is_local env e) (span_of e) t) p ∙ ap (λ (x : Bool). address_rule true x (span_of e) t) l) in
+    ap (λ (x : Verdict). one (given x) (address_rule (is_place e) (is_local env e) (span_of e))) a.typed
+    ∙ (ap (λ (x : Bool). address_rule x (is_local env e) (span_of e) t) p ∙ ap (λ (x : Bool). address_rule true x (span_of e) t) l) in
     record { typed = v; clean = no_faults _ _ a.clean (ap own v) }
 
 good_unary : (env : Env) (s : Span) (o : UnaryOp) (e : CExpr) (t : Ty) → unary_rule s o t ≡ has t → Good env e t → Good env (unary s o e) t
@@ -90,11 +90,11 @@ from_operands env s o a b x y t u r fx fy p q c d rule =
     let left : asked (asks o (type_of env b)) a (type_of env a) ≡ Some t = ap (λ v. if v then asks o (type_of env b) else type_of env a) fx ∙ p in
     let right : asked (asks o (type_of env a)) b (type_of env b) ≡ Some u = ap (λ v. if v then asks o (type_of env a) else type_of env b) fy ∙ q in
     let v : verdict env (binary s o a b) ≡ has r =
-      ap (λ z. both z (asked (asks o (type_of env a)) b (type_of env b)) (binary_rule s o)) left ∙ (ap (λ z. both (Some t) z (binary_rule s o)) right ∙ rule) in
+    ap (λ z. both z (asked (asks o (type_of env a)) b (type_of env b)) (binary_rule s o)) left ∙ (ap (λ z. both (Some t) z (binary_rule s o)) right ∙ rule) in
     record {
       typed = v;
       clean = no_faults _ _ (ap (λ v. if v then [] else faults env a) fx ∙ c)
-        (no_faults _ _ (ap (λ v. if v then [] else faults env b) fy ∙ d) (ap own v))
+          (no_faults _ _ (ap (λ v. if v then [] else faults env b) fy ∙ d) (ap own v));
     }
 
 two : (env : Env) (s : Span) (o : BinaryOp) (a b : CExpr) (t u r : Ty) → binary_rule s o t u ≡ has r → Good env a t → Good env b u → Good env (binary s o a b) r

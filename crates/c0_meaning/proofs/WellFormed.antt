@@ -1,12 +1,11 @@
 -- A well formed unit has structs and functions of few words.
-use Rattle.std.proofs.Common.{◌≡◌, ◌⊎◌, inl, inr, ℕ, zero, suc, ◌+◌, ◌*◌, ◌<◌, ◌≤◌, Bool, true, false, ◌||◌, cond, ltb, is_some, List, [], ◌∷◌, ◌++◌, length, map, Option, Some, None, refl, sym, ap, ◌∙◌, subst, arith, get_or}
-use Rattle.std.proofs.lemmas.Bool.{cases_Bool, cond-true, cond-false, ltb-false, or_parts, false≢true}
+use Rattle.std.proofs.Common.{◌≡◌, ℕ, zero, suc, ◌+◌, ◌<◌, ◌≤◌, Bool, true, false, ◌||◌, cond, ltb, is_some, List, [], ◌∷◌, ◌++◌, length, map, Option, Some, None, refl, sym, ap, ◌∙◌, subst, arith, get_or}
+use Rattle.std.proofs.lemmas.Bool.{cond-true, cond-false, ltb-false, or_parts}
 use Rattle.std.proofs.lemmas.List.Elements.{All-cons, All-nil}
 use Rattle.std.proofs.lemmas.List.Folds.{list_any-append}
 use Rattle.std.proofs.lemmas.Slice.Eq.{bytes_eq-Decides}
 use Rattle.std.specs.Str.{bytes_eq}
-use Rattle.std.specs.Prelude.{slice_get}
-use Rattle.std.specs.List.{All, list_any}
+use Rattle.std.specs.List.{All}
 use Rattle.c0_tree.specs.declared.tree.Span.{Span}
 use Rattle.c0_tree.specs.declared.tree.Kind.{Kind}
 use Rattle.c0_tree.specs.declared.tree.Kind.TheVariants.{Struct, Field, Local}
@@ -15,15 +14,15 @@ use Rattle.c0_tree.specs.Size.{body_nodes}
 use Rattle.c0_tree.specs.Primitives.{CPrimitive}
 use Rattle.c0_meaning.specs.Ty.{Ty, ty_of}
 use Rattle.c0_meaning.specs.Ty as ty
-use Rattle.c0_meaning.specs.Env.{Env, Typed, Shape, first_named, fields_of, shape_of, typed_of, env_of}
-use Rattle.c0_meaning.specs.Fault.{Fault, fault, NAME_TWICE, STRUCT_HOLDS_ITSELF, TYPE_TOO_LARGE, EMPTY_ARRAY, TOO_MANY_PARAMETERS, TOO_MANY_NODES}
+use Rattle.c0_meaning.specs.Env.{Env, Shape, first_named, fields_of, shape_of, typed_of, env_of}
+use Rattle.c0_meaning.specs.Fault.{fault, NAME_TWICE, STRUCT_HOLDS_ITSELF, TYPE_TOO_LARGE, EMPTY_ARRAY, TOO_MANY_PARAMETERS, TOO_MANY_NODES}
 use Rattle.c0_meaning.specs.Words.{fields_named, holds, words}
-use Rattle.c0_meaning.specs.Declared.{MAX_TYPE_WORDS, fault_if, unknown_structs, has_empty_array, is_too_large, type_faults, declared_faults, pass_fault, pass_faults}
+use Rattle.c0_meaning.specs.DeclaredTypes.{MAX_TYPE_WORDS, fault_if, unknown_structs, has_empty_array, is_too_large, type_faults, declared_faults, pass_fault, pass_faults}
 use Rattle.c0_meaning.specs.Names.{is_among, twice_faults, struct_name_faults, unit_name_faults, decl_name_faults}
-use Rattle.c0_meaning.specs.Limits.{MAX_FUNCTION_NODES, is_asm, locals_of, words_held, nodes_of, max_parameters, size_faults, unit_size_faults}
-use Rattle.c0_meaning.specs.Resolved.{standing_for, looked_up, resolved_type, resolved_decls, resolved_structs, IsResolved}
+use Rattle.c0_meaning.specs.Limits.{MAX_FUNCTION_NODES, is_asm, locals_of, words_held, nodes_of, max_parameters}
+use Rattle.c0_meaning.specs.Resolved.{looked_up, resolved_type, resolved_decls, resolved_structs, IsResolved}
 use Rattle.c0_meaning.specs.Sound.{IsSized, IsSizedStruct, AreSized, IsSizedFunction}
-use Rattle.c0_meaning.specs.Unit.{struct_faults, structs_faults, signature_faults, body_faults, functions_faults, unit_faults, resolved_body, resolved_function, resolved_functions, resolved_unit, IsWellFormed}
+use Rattle.c0_meaning.specs.Unit.{struct_faults, structs_faults, signature_faults, body_faults, functions_faults, resolved_body, resolved_functions, IsWellFormed}
 
 -- a joined list without elements has parts without elements
 pub none_in_left : {A : Type 0} (xs ys : List A) → xs ++ ys ≡ [] → xs ≡ []
@@ -55,7 +54,7 @@ named_same : (x y : CName) → named x ≡ named y → x ≡ y
 named_same x y h = cc
 
 name_resolved : (structs : List Shape) (x : CName) (o : Option (ℕ × Shape)) → first_named (λ s. s.text) x.text 0 structs ≡ o →
-  (if_known : cond (is_some o) [] (fault 20 x.span ∷ []) ≡ []) → looked_up Struct o x ≡ x → (x.kind ≡ Struct) × ((s : Shape) × (first_named (λ s. s.text) x.text 0 structs ≡ Some (x.number, s)))
+    (if_known : cond (is_some o) [] (fault 20 x.span ∷ []) ≡ []) → looked_up Struct o x ≡ x → (x.kind ≡ Struct) × ((s : Shape) × (first_named (λ s. s.text) x.text 0 structs ≡ Some (x.number, s)))
 name_resolved structs x None e known r = cc
 name_resolved structs x (Some found) e known r =
     (sym (ap (λ (y : CName). y.kind) r), (found.1, e ∙ ap (λ (n : ℕ). Some (n, found.1)) (ap (λ (y : CName). y.number) r)))
@@ -83,14 +82,14 @@ decls_sized structs kind k [] h r = All-nil (λ (d : CDecl). IsSized structs d.t
 decls_sized structs kind k (d ∷ rest) h r =
     All-cons (λ (d : CDecl). IsSized structs d.ty) d rest
     (type_sized structs d.ty d.ty_span (none_in_left (type_faults structs d.ty d.ty_span) (declared_faults structs rest) h)
-      (ap (λ (e : CDecl). e.ty) (head_same _ _ _ _ r)))
+    (ap (λ (e : CDecl). e.ty) (head_same _ _ _ _ r)))
     (decls_sized structs kind (suc k) rest (none_in_right (type_faults structs d.ty d.ty_span) (declared_faults structs rest) h) (tail_same _ _ _ _ r))
 
 -- a text that is not in a joined list is in none of its parts
-among_parts : (xs ys : List (List ℕ)) (x : List ℕ) → is_among (xs ++ ys) x ≡ false → (is_among xs x ≡ false) × (is_among ys x ≡ false)
+pub among_parts : (xs ys : List (List ℕ)) (x : List ℕ) → is_among (xs ++ ys) x ≡ false → (is_among xs x ≡ false) × (is_among ys x ≡ false)
 among_parts xs ys x h = or_parts (is_among xs x) (is_among ys x) (sym (list_any-append (λ t. bytes_eq t x) xs ys) ∙ h)
 
-not_twice : (b : Bool) (span : Span) → cond b (fault NAME_TWICE span ∷ []) [] ≡ [] → b ≡ false
+pub not_twice : (b : Bool) (span : Span) → cond b (fault NAME_TWICE span ∷ []) [] ≡ [] → b ≡ false
 not_twice false span h = refl
 not_twice true span h = cc
 
@@ -100,22 +99,22 @@ not_before before [] i d h below = absurd (omega arith)
 not_before before (s ∷ rest) zero d h below = not_twice (is_among before s.name.text) s.name.span (none_in_left (cond (is_among before s.name.text) (fault NAME_TWICE s.name.span ∷ []) []) _ h)
 not_before before (s ∷ rest) (suc i) d h below =
     (among_parts before (s.name.text ∷ []) (get_or rest i d).name.text
-      (not_before (before ++ s.name.text ∷ []) rest i d (none_in_right (cond (is_among before s.name.text) (fault NAME_TWICE s.name.span ∷ []) []) _ h) (omega arith))).0
+    (not_before (before ++ s.name.text ∷ []) rest i d (none_in_right (cond (is_among before s.name.text) (fault NAME_TWICE s.name.span ∷ []) []) _ h) (omega arith))).0
 
-no_or : (b : Bool) → (b || false) ≡ false → b ≡ false
+pub no_or : (b : Bool) → (b || false) ≡ false → b ≡ false
 no_or true h = h
 no_or false h = h
 
 -- where names are set once, the search for a struct's name ends at it
 first_of_name : (before : List (List ℕ)) (structs : List CStruct) (k i : ℕ) (d : CStruct) → twice_faults before (map (λ s. s.name) structs) ≡ [] → i < length structs →
-  fields_of (first_named (λ s. s.text) (get_or structs i d).name.text k (map shape_of structs)) ≡ map typed_of (get_or structs i d).fields
+    fields_of (first_named (λ s. s.text) (get_or structs i d).name.text k (map shape_of structs)) ≡ map typed_of (get_or structs i d).fields
 first_of_name before [] k i d h below = absurd (omega arith)
 first_of_name before (s ∷ rest) k zero d h below =
     ap fields_of (cond-true (bytes_eq s.name.text s.name.text) (Some (k, shape_of s)) (first_named (λ r. r.text) s.name.text (suc k) (map shape_of rest)) ((bytes_eq-Decides s.name.text s.name.text).1 refl))
 first_of_name before (s ∷ rest) k (suc i) d h below =
     let later : twice_faults (before ++ s.name.text ∷ []) (map (λ r. r.name) rest) ≡ [] = none_in_right (cond (is_among before s.name.text) (fault NAME_TWICE s.name.span ∷ []) []) _ h in
     let apart : bytes_eq s.name.text (get_or rest i d).name.text ≡ false =
-      no_or _ ((among_parts before (s.name.text ∷ []) (get_or rest i d).name.text (not_before (before ++ s.name.text ∷ []) rest i d later (omega arith))).1) in
+    no_or _ ((among_parts before (s.name.text ∷ []) (get_or rest i d).name.text (not_before (before ++ s.name.text ∷ []) rest i d later (omega arith))).1) in
     ap fields_of (cond-false (bytes_eq s.name.text (get_or rest i d).name.text) (Some (k, shape_of s)) (first_named (λ r. r.text) (get_or rest i d).name.text (suc k) (map shape_of rest)) apart)
     ∙ first_of_name (before ++ s.name.text ∷ []) rest (suc k) i d later (omega arith)
 
@@ -133,7 +132,7 @@ struct_sized structs k s h r first =
 
 -- each struct of a list is sized, where each is the first of its name
 structs_sized : (structs : List Shape) (k : ℕ) (rest : List CStruct) → structs_faults structs rest ≡ [] → resolved_structs structs k rest ≡ rest →
-  ((i : ℕ) (d : CStruct) → i < length rest → fields_named structs (get_or rest i d).name.text ≡ map typed_of (get_or rest i d).fields) → All (IsSizedStruct structs) rest
+    ((i : ℕ) (d : CStruct) → i < length rest → fields_named structs (get_or rest i d).name.text ≡ map typed_of (get_or rest i d).fields) → All (IsSizedStruct structs) rest
 structs_sized structs k [] h r first = All-nil (IsSizedStruct structs)
 structs_sized structs k (s ∷ rest) h r first =
     All-cons (IsSizedStruct structs) s rest
@@ -171,7 +170,7 @@ function_sized structs env f same h p b =
     record {
       params = decls_sized structs Local 0 f.params (none_in_left (declared_faults structs f.params) _ h2) p;
       locals = decls_sized structs Local (length f.params) (locals_of f.body) (none_in_left (declared_faults structs (locals_of f.body)) _ h4)
-        (subst (λ (ss : List Shape). resolved_decls ss Local (length f.params) (locals_of f.body) ≡ locals_of f.body) same (locals_resolved env (length f.params) f.body b));
+          (subst (λ (ss : List Shape). resolved_decls ss Local (length f.params) (locals_of f.body) ≡ locals_of f.body) same (locals_resolved env (length f.params) f.body b));
       few = few_locals (length f.params) f.body (length (words_held f.body)) (ltb-false MAX_FUNCTION_NODES (nodes_of f) (nothing_wrong _ TOO_MANY_NODES f.name.span nodes));
     }
 
@@ -181,8 +180,8 @@ functions_sized primitives u k (f ∷ rest) h r =
     let same = head_same _ _ _ _ r in
     All-cons (IsSizedFunction (map shape_of u.structs)) f rest
     (function_sized (map shape_of u.structs) (env_of primitives u (f.params ++ locals_of f.body)) f refl
-      (none_in_left (signature_faults (map shape_of u.structs) f) (body_faults primitives u f) (none_in_left (signature_faults (map shape_of u.structs) f ++ body_faults primitives u f) (functions_faults primitives u rest) h))
-      (ap (λ (g : CFunction). g.params) same) (ap (λ (g : CFunction). g.body) same))
+    (none_in_left (signature_faults (map shape_of u.structs) f) (body_faults primitives u f) (none_in_left (signature_faults (map shape_of u.structs) f ++ body_faults primitives u f) (functions_faults primitives u rest) h))
+    (ap (λ (g : CFunction). g.params) same) (ap (λ (g : CFunction). g.body) same))
     (functions_sized primitives u (suc k) rest (none_in_right (signature_faults (map shape_of u.structs) f ++ body_faults primitives u f) (functions_faults primitives u rest) h) (tail_same _ _ _ _ r))
 
 -- the functions of a well formed unit are sized

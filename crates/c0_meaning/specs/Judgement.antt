@@ -41,28 +41,28 @@ pub data HasType (env : Env) : CExpr → Ty → Type 0 where
   a_false : {s : Span} → HasType env (false_ s) bool
   a_variable : {x : CName} {v : Variable} → variable_named env x.text ≡ Some v → HasType env (var x) v.ty
   a_field : {s : Span} {e : CExpr} {f : CName} {x : List ℕ} {found : ℕ × Typed}
-    → IsTrue (is_place e) → HasType env e (named x) → field_named env x f.text ≡ Some found → HasType env (field s e f) found.1.ty
+      → IsTrue (is_place e) → HasType env e (named x) → field_named env x f.text ≡ Some found → HasType env (field s e f) found.1.ty
   a_target_field : {s : Span} {e : CExpr} {f : CName} {x : List ℕ} {found : ℕ × Typed}
-    → HasType env e (pointer (named x)) → field_named env x f.text ≡ Some found → HasType env (arrow s e f) found.1.ty
+      → HasType env e (pointer (named x)) → field_named env x f.text ≡ Some found → HasType env (arrow s e f) found.1.ty
   an_element : {s : Span} {e i : CExpr} {t : Ty} {n : ℕ}
-    → IsTrue (is_place e) → HasType env e (array t n) → HasType env i int → HasType env (index s e i) t
+      → IsTrue (is_place e) → HasType env e (array t n) → HasType env i int → HasType env (index s e i) t
   a_target : {s : Span} {e : CExpr} {t : Ty} → HasType env e (pointer t) → HasType env (deref s e) t
   an_address : {s : Span} {e : CExpr} {t : Ty}
-    → IsTrue (is_place e) → is_local env e ≡ false → HasType env e t → HasType env (address s e) (pointer t)
+      → IsTrue (is_place e) → is_local env e ≡ false → HasType env e t → HasType env (address s e) (pointer t)
   a_negative : {s : Span} {e : CExpr} → HasType env e int → HasType env (unary s Negate e) int
   a_negation : {s : Span} {e : CExpr} → HasType env e bool → HasType env (unary s Not e) bool
   arithmetic : {s : Span} {o : BinaryOp} {a b : CExpr}
-    → IsArithmetic o → HasType env a int → HasType env b int → HasType env (binary s o a b) int
+      → IsArithmetic o → HasType env a int → HasType env b int → HasType env (binary s o a b) int
   order : {s : Span} {o : BinaryOp} {a b : CExpr}
-    → IsOrder o → HasType env a int → HasType env b int → HasType env (binary s o a b) bool
+      → IsOrder o → HasType env a int → HasType env b int → HasType env (binary s o a b) bool
   logic : {s : Span} {o : BinaryOp} {a b : CExpr}
-    → IsLogical o → HasType env a bool → HasType env b bool → HasType env (binary s o a b) bool
+      → IsLogical o → HasType env a bool → HasType env b bool → HasType env (binary s o a b) bool
   equality : {s : Span} {o : BinaryOp} {a b : CExpr} {t : Ty}
-    → IsEquality o → IsTrue (is_scalar t) → HasType env a t → HasType env b t → HasType env (binary s o a b) bool
+      → IsEquality o → IsTrue (is_scalar t) → HasType env a t → HasType env b t → HasType env (binary s o a b) bool
   null_left : {s r : Span} {o : BinaryOp} {b : CExpr} {t : Ty}
-    → IsEquality o → HasType env b (pointer t) → HasType env (binary s o (null r) b) bool
+      → IsEquality o → HasType env b (pointer t) → HasType env (binary s o (null r) b) bool
   null_right : {s r : Span} {o : BinaryOp} {a : CExpr} {t : Ty}
-    → IsEquality o → HasType env a (pointer t) → HasType env (binary s o a (null r)) bool
+      → IsEquality o → HasType env a (pointer t) → HasType env (binary s o a (null r)) bool
 
 -- an expression may stand where a type is asked: it has that type, or it is `null` and a pointer is asked
 pub data IsGiven (env : Env) : CExpr → Ty → Type 0 where

@@ -9,7 +9,7 @@ use Rattle.c0_meaning.specs.Ty.{int, ty_of, same_ty}
 use Rattle.c0_meaning.specs.Env.{Shape, shape_of, typed_of}
 use Rattle.c0_meaning.specs.Fault.{Fault, TOO_MANY_NODES, UNIT_TOO_LARGE, GLOBALS_TOO_LARGE, NO_DISPATCH, TOO_MANY_PARAMETERS}
 use Rattle.c0_meaning.specs.Words.{all_words}
-use Rattle.c0_meaning.specs.Declared.{fault_if}
+use Rattle.c0_meaning.specs.DeclaredTypes.{fault_if}
 
 -- how many nodes a function has at most
 abbrev pub MAX_FUNCTION_NODES : ℕ

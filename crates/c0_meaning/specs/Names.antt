@@ -1,5 +1,5 @@
 -- Names that are set twice in a space.
-use Rattle.std.specs.Prelude.{ℕ, Bool, ◌||◌, nat_lt, if◌then◌else◌, List, [], ◌∷◌, ◌++◌, map, bytes_eq}
+use Rattle.std.specs.Prelude.{ℕ, Bool, nat_lt, if◌then◌else◌, List, [], ◌∷◌, ◌++◌, map, bytes_eq}
 use Rattle.std.specs.List.{list_any}
 use Rattle.c0_tree.specs.Tree.{CName, CDecl, CStruct, CFunction}
 use Rattle.c0_tree.specs.Primitives.{CPrimitive}

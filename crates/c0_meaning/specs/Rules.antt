@@ -32,14 +32,14 @@ pub record IsTested (env : Env) (e : CExpr) (t : Ty) : Type 0 where
 mutual
   pub data IsTyped (declared : CTy → Span → List Fault) (env : Env) : CStmt → Type 0 where
     an_assignment : {s : Span} {p v : CExpr} {t : Ty}
-      → IsLeft env p t → IsGiven env v t → assign_need p v ≤ MAX_NEED → IsTyped declared env (assign s p v)
+        → IsLeft env p t → IsGiven env v t → assign_need p v ≤ MAX_NEED → IsTyped declared env (assign s p v)
     a_call : {s cs : Span} {p : CExpr} {f : CName} {args : List CExpr} {c : Callee}
-      → callee_named env f.text ≡ Some c → IsLeft env p c.answer → AreGiven env args c.params → call_need p args ≤ MAX_NEED
-      → IsTyped declared env (call s p cs f args)
+        → callee_named env f.text ≡ Some c → IsLeft env p c.answer → AreGiven env args c.params → call_need p args ≤ MAX_NEED
+        → IsTyped declared env (call s p cs f args)
     an_object : {s ts : Span} {p : CExpr} {t : CTy}
-      → IsLeft env p (pointer (ty_of t)) → declared t ts ≡ [] → new_need p ≤ MAX_NEED → IsTyped declared env (new s p t ts)
+        → IsLeft env p (pointer (ty_of t)) → declared t ts ≡ [] → new_need p ≤ MAX_NEED → IsTyped declared env (new s p t ts)
     a_choice : {s : Span} {t : CExpr} {a b : CStmts}
-      → IsTested env t bool → AreTyped declared env a → AreTyped declared env b → IsTyped declared env (choice s t a b)
+        → IsTested env t bool → AreTyped declared env a → AreTyped declared env b → IsTyped declared env (choice s t a b)
     a_loop : {s : Span} {t : CExpr} {b : CStmts} → IsTested env t bool → AreTyped declared env b → IsTyped declared env (loop s t b)
 
   pub data AreTyped (declared : CTy → Span → List Fault) (env : Env) : CStmts → Type 0 where

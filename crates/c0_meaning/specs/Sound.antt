@@ -1,12 +1,12 @@
 -- What sizes need of a unit: its structs are defined, small and resolved.
-use Rattle.std.specs.Prelude.{◌≡◌, ℕ, ◌*◌, ◌+◌, ◌<◌, ◌≤◌, false, List, map, length, Option, Some, None}
+use Rattle.std.specs.Prelude.{◌≡◌, ℕ, ◌*◌, ◌+◌, ◌≤◌, false, List, map, length, Option, Some, None}
 use Rattle.std.specs.List.{All}
-use Rattle.c0_tree.specs.Tree.{CTy, int, bool, pointer, named, array, CName, CDecl, CStruct, CFunction, CUnit}
+use Rattle.c0_tree.specs.Tree.{CTy, int, bool, pointer, named, array, CName, CStruct, CFunction, CUnit}
 use Rattle.c0_meaning.specs.Ty.{ty_of}
 use Rattle.c0_meaning.specs.Ty as ty
 use Rattle.c0_meaning.specs.Env.{Shape, shape_of, typed_of}
 use Rattle.c0_meaning.specs.Words.{fields_named, holds, words}
-use Rattle.c0_meaning.specs.Declared.{MAX_TYPE_WORDS, has_empty_array}
+use Rattle.c0_meaning.specs.DeclaredTypes.{MAX_TYPE_WORDS}
 use Rattle.c0_meaning.specs.Resolved.{IsResolved}
 use Rattle.c0_meaning.specs.Limits.{MAX_FUNCTION_NODES, locals_of}
 

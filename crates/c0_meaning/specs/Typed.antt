@@ -1,15 +1,17 @@
--- The rules that a unit has to meet, outside of statements and expressions.
-use Rattle.std.specs.Prelude.{◌≡◌, ◌≢◌, ℕ, ◌<◌, ◌≤◌, Bool, true, false, ◌||◌, List, [], ◌∷◌, ◌++◌, length, map, IsTrue, is_some, slice_get, Some}
-use Rattle.std.specs.List.{All, Any}
-use Rattle.c0_tree.specs.Tree.{CName, CTy, int, bool, pointer, named, array, CDecl, CStruct, CFunction, CUnit}
+-- The rules that a unit has to meet. They know no fault and no order.
+use Rattle.std.specs.Prelude.{◌≡◌, ◌↔◌, ℕ, ◌≤◌, false, List, [], ◌++◌, length, map, IsTrue, is_some, slice_get, Some}
+use Rattle.std.specs.List.{All}
+use Rattle.c0_tree.specs.Tree.{CTy, int, bool, pointer, named, array, CDecl, CStruct, CBody, code, asm, CFunction, CUnit}
 use Rattle.c0_tree.specs.Primitives.{CPrimitive}
 use Rattle.c0_meaning.specs.Ty as ty
 use Rattle.c0_meaning.specs.Ty.{ty_of}
-use Rattle.c0_meaning.specs.Env.{Shape, shape_of, first_named}
+use Rattle.c0_meaning.specs.Env.{Env, Shape, shape_of, typed_of, env_of, first_named}
 use Rattle.c0_meaning.specs.Words.{Holds, words, all_words}
-use Rattle.c0_meaning.specs.Declared.{MAX_TYPE_WORDS, has_empty_array, may_pass}
-use Rattle.c0_meaning.specs.Limits.{MAX_FUNCTION_NODES, MAX_UNIT_NODES, MAX_GLOBAL_WORDS, is_asm, locals_of, words_held, nodes_of, all_nodes, max_parameters, is_dispatch}
-use Rattle.c0_meaning.specs.Resolved.{IsResolved}
+use Rattle.c0_meaning.specs.DeclaredTypes.{MAX_TYPE_WORDS, has_empty_array, may_pass, type_faults}
+use Rattle.c0_meaning.specs.Names.{is_among, unit_names}
+use Rattle.c0_meaning.specs.Limits.{MAX_FUNCTION_NODES, MAX_UNIT_NODES, MAX_GLOBAL_WORDS, is_asm, locals_of, nodes_of, all_nodes, max_parameters}
+use Rattle.c0_meaning.specs.Rules.{AreTyped, IsTested}
+use Rattle.c0_meaning.specs.Unit.{unit_faults}
 
 -- each name in a type is that of a struct
 abbrev pub AreKnown : List Shape → CTy → Type 0
@@ -25,37 +27,53 @@ pub record IsDeclarable (structs : List Shape) (t : CTy) : Type 0 where
   pub full : has_empty_array t ≡ false
   pub small : words structs (ty_of t) ≤ MAX_TYPE_WORDS
 
--- no text stands twice
-abbrev pub AreApart : List (List ℕ) → Type 0
-AreApart texts = (i j : ℕ) (x : List ℕ) → slice_get texts i ≡ Some x → slice_get texts j ≡ Some x → i ≡ j
+-- names that are set where some are set before: none of them is among those, and none stands twice
+pub record AreSetOnce (before names : List (List ℕ)) : Type 0 where
+  pub new : (i : ℕ) (x : List ℕ) → slice_get names i ≡ Some x → is_among before x ≡ false
+  pub apart : (i j : ℕ) (x : List ℕ) → slice_get names i ≡ Some x → slice_get names j ≡ Some x → i ≡ j
 
--- the names of declarations
-abbrev pub decl_texts : List CDecl → List (List ℕ)
-decl_texts decls = map (λ d. d.name.text) decls
+-- the names of declarations are apart
+abbrev pub HaveNamesApart : List CDecl → Type 0
+HaveNamesApart decls = AreSetOnce [] (map (λ x. x.text) (map (λ d. d.name) decls))
 
--- a struct that is typed: it doesn't hold itself, its words are few enough, and its fields have types of their own and names apart
+-- a struct that is typed: it doesn't hold itself, its words are few enough, and its fields have types that may be declared and names apart
 pub record IsTypedStruct (structs : List Shape) (s : CStruct) : Type 0 where
   pub loose : Holds structs s.name.text s.name.text → ⊥
   pub small : words structs (ty.named s.name.text) ≤ MAX_TYPE_WORDS
+  pub apart : HaveNamesApart s.fields
   pub fields : All (λ d. IsDeclarable structs d.ty) s.fields
-  pub apart : AreApart (decl_texts s.fields)
 
 -- a function that is typed, its body apart
 pub record IsTypedSignature (structs : List Shape) (f : CFunction) : Type 0 where
-  pub params : All (λ d. IsDeclarable structs d.ty × IsTrue (may_pass (is_asm f.body) (ty_of d.ty))) f.params
-  pub answer : IsDeclarable structs f.answer × IsTrue (may_pass (is_asm f.body) (ty_of f.answer))
+  pub answer : IsDeclarable structs f.answer
+  pub answer_passes : IsTrue (may_pass (is_asm f.body) (ty_of f.answer))
+  pub params : All (λ d. IsDeclarable structs d.ty) f.params
+  pub params_pass : All (λ d. IsTrue (may_pass (is_asm f.body) (ty_of d.ty))) f.params
   pub locals : All (λ d. IsDeclarable structs d.ty) (locals_of f.body)
-  pub apart : AreApart (decl_texts (f.params ++ locals_of f.body))
+  pub apart : HaveNamesApart (f.params ++ locals_of f.body)
   pub few : length f.params ≤ max_parameters (is_asm f.body)
   pub nodes : nodes_of f ≤ MAX_FUNCTION_NODES
 
--- structs that are typed and have their names resolved
-pub record AreSound (structs : List CStruct) : Type 0 where
-  pub typed : All (IsTypedStruct (map shape_of structs)) structs
-  pub resolved : All (λ s. All (λ d. IsResolved (map shape_of structs) d.ty) s.fields) structs
+-- a body that is typed, in its environment, where its result has this type
+abbrev pub IsTypedBody : Env → ty.Ty → CBody → Type 0
+IsTypedBody env result (code locals stmts answer) = AreTyped (type_faults env.structs) env stmts × IsTested env answer result
+IsTypedBody env result (asm text span words) = Unit {0}
 
--- a function whose declarations are typed and resolved
-pub record IsSound (structs : List Shape) (f : CFunction) : Type 0 where
-  pub typed : IsTypedSignature structs f
-  pub params : All (λ d. IsResolved structs d.ty) f.params
-  pub locals : All (λ d. IsResolved structs d.ty) (locals_of f.body)
+-- a function that is typed
+pub record IsTypedFunction (primitives : List CPrimitive) (u : CUnit) (f : CFunction) : Type 0 where
+  pub signature : IsTypedSignature (map shape_of u.structs) f
+  pub body : IsTypedBody (env_of primitives u (f.params ++ locals_of f.body)) (ty_of f.answer) f.body
+
+-- a unit that is typed, whose asm bodies hold their words; how their texts read and whether it has a `dispatch` is left open
+pub record IsTypedUnit (primitives : List CPrimitive) (u : CUnit) : Type 0 where
+  pub struct_names : AreSetOnce [] (map (λ x. x.text) (map (λ s. s.name) u.structs))
+  pub structs : All (IsTypedStruct (map shape_of u.structs)) u.structs
+  pub names : AreSetOnce (map (λ p. p.name) primitives) (map (λ x. x.text) (unit_names u.globals u.functions))
+  pub globals : All (λ d. IsDeclarable (map shape_of u.structs) d.ty) u.globals
+  pub functions : All (IsTypedFunction primitives u) u.functions
+  pub nodes : all_nodes u.functions ≤ MAX_UNIT_NODES
+  pub words : all_words (map shape_of u.structs) (map typed_of u.globals) ≤ MAX_GLOBAL_WORDS
+
+-- a law: a unit is typed exactly where no fault stands in it
+abbrev pub UnitsAreFaultless : Type 0
+UnitsAreFaultless = (primitives : List CPrimitive) (u : CUnit) → IsTypedUnit primitives u ↔ (unit_faults primitives u ≡ [])

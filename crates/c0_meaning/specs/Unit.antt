@@ -1,15 +1,15 @@
 -- The faults of a whole unit, and what a unit without faults meets.
-use Rattle.std.specs.Prelude.{◌≡◌, ℕ, suc, ◌^◌, ◌&&◌, nat_lt, nat_le, Bool, true, false, List, [], ◌∷◌, ◌++◌, length, map, IsTrue}
+use Rattle.std.specs.Prelude.{◌≡◌, ℕ, suc, ◌^◌, ◌&&◌, nat_lt, nat_le, Bool, true, List, [], ◌∷◌, ◌++◌, length, map, IsTrue}
 use Rattle.std.specs.List.{All, list_all}
 use Rattle.c0_tree.specs.declared.tree.Kind.TheVariants.{Global, Local, Function}
-use Rattle.c0_tree.specs.Tree.{CTy, CExpr, num, true_, false_, null, var, field, arrow, index, deref, address, unary, binary, CStmt, assign, call, new, choice, loop, CStmts, done, next, CDecl, CStruct, CBody, code, asm, CFunction, CUnit}
-use Rattle.c0_tree.specs.Primitives.{CPrimitive}
+use Rattle.c0_tree.specs.Tree.{CExpr, num, true_, false_, null, var, field, arrow, index, deref, address, unary, binary, CStmt, assign, call, new, choice, loop, CStmts, done, next, CStruct, CBody, code, asm, CFunction, CUnit}
+use Rattle.c0_tree.specs.Primitives.{CPrimitive, kernel_primitives}
 use Rattle.c0_meaning.specs.Ty.{ty_of}
 use Rattle.c0_meaning.specs.Ty as ty
 use Rattle.c0_meaning.specs.Env.{Shape, shape_of, Env, env_of}
 use Rattle.c0_meaning.specs.Fault.{Fault, STRUCT_HOLDS_ITSELF, TYPE_TOO_LARGE}
 use Rattle.c0_meaning.specs.Words.{holds}
-use Rattle.c0_meaning.specs.Declared.{fault_if, type_faults, declared_faults, is_too_large, pass_fault, pass_faults}
+use Rattle.c0_meaning.specs.DeclaredTypes.{fault_if, type_faults, declared_faults, is_too_large, pass_fault, pass_faults}
 use Rattle.c0_meaning.specs.Names.{struct_name_faults, unit_name_faults, decl_name_faults}
 use Rattle.c0_meaning.specs.Limits.{is_asm, locals_of, words_held, size_faults, unit_size_faults, dispatch_faults}
 use Rattle.c0_meaning.specs.Resolved.{standing_for, resolved_type, resolved_decls, resolved_structs}
@@ -159,3 +159,12 @@ pub record IsWellFormed (primitives : List CPrimitive) (u : CUnit) : Type 0 wher
   pub typed : unit_faults primitives u ≡ []
   pub resolved : resolved_unit primitives u ≡ u
   pub allowed : AreWordsAllowed u.functions
+
+-- a kernel's unit that is typed, its names resolved
+pub record IsChecked (u : CUnit) : Type 0 where
+  pub well_formed : IsWellFormed kernel_primitives u
+  pub dispatch : dispatch_faults u ≡ []
+
+-- a kernel's unit without faults that holds small numbers, short lists and allowed words, its names resolved, is checked
+abbrev pub FaultlessIsChecked : Type 0
+FaultlessIsChecked = (u : CUnit) → is_plain u ≡ true → kernel_faults kernel_primitives u ≡ [] → resolved_unit kernel_primitives u ≡ u → AreWordsAllowed u.functions → IsChecked u

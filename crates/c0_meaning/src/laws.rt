@@ -2,64 +2,75 @@
 
 ghost use Rattle.c0_meaning.specs.Fault.{KeptIsLeast, LeastIsThere, MeetingIsFree, MeetingJoins, OrderIsTotal};
 ghost use Rattle.c0_meaning.specs.Judgement.{FaultlessIsTyped, HasOneType, TypedIsFaultless};
+ghost use Rattle.c0_meaning.specs.Rows.{AreNamesRight, AreSizesRight, AreTypesRight};
 ghost use Rattle.c0_meaning.specs.Rules.{StatementsAreFaultless, TestedIsFaultless};
 ghost use Rattle.c0_meaning.specs.Ty.{TypesEqualAsWritten};
+ghost use Rattle.c0_meaning.specs.Typed.{UnitsAreFaultless};
+ghost use Rattle.c0_meaning.specs.Unit.{FaultlessIsChecked};
 ghost use Rattle.c0_meaning.specs.Words.{HoldsAsTested, WordsAreThose};
 
 /// Types are equal where they are written the same.
 pub fn types_are_equal_as_written()
     ensures { TypesEqualAsWritten }
-{
-}
+{}
 
 /// Of two faults one comes first.
 pub fn fault_order_is_total()
     ensures { OrderIsTotal }
-{
-}
+{}
 
 /// Where faults stand there is one that answers, and no second.
 pub fn least_fault_is_there()
     ensures { LeastIsThere }
-{
-}
+{}
 
 /// The running minimum over a list is its least fault.
 pub fn kept_fault_is_least()
     ensures { KeptIsLeast }
-{
-}
+{}
 
 /// The running minimum doesn't depend on the order in which faults are met.
 pub fn meeting_is_free_of_order()
     ensures free { MeetingIsFree }
     ensures joins { MeetingJoins }
-{
-}
+{}
 
 /// Whether a struct holds another is found by the test.
 pub fn holding_is_as_tested()
     ensures { HoldsAsTested }
-{
-}
+{}
 
 /// The words of a type by the words of its parts.
 pub fn words_are_those_of_the_parts()
     ensures { WordsAreThose }
-{
-}
+{}
 
 /// What has a type by the rules is exactly what no fault stands in, and it has one type.
 pub fn expressions_are_typed_or_faulty()
     ensures typed { TypedIsFaultless }
     ensures faultless { FaultlessIsTyped }
     ensures unique { HasOneType }
-{
-}
+{}
 
 /// Statements, conditions and returned expressions are typed by the rules exactly where no fault stands in them.
 pub fn statements_are_typed_or_faulty()
     ensures statements { StatementsAreFaultless }
     ensures tested { TestedIsFaultless }
-{
-}
+{}
+
+/// A kernel's unit in which no fault stands, its names resolved, is one that can be kept as checked.
+pub fn faultless_units_are_checked()
+    ensures { FaultlessIsChecked }
+{}
+
+/// Worked rows of the definitions of sizes, declared types and names.
+pub fn worked_rows()
+    ensures sizes { AreSizesRight }
+    ensures types { AreTypesRight }
+    ensures names { AreNamesRight }
+{}
+
+/// A unit is typed by the rules exactly where no fault stands in it.
+pub fn units_are_typed_or_faulty()
+    ensures { UnitsAreFaultless }
+{}

@@ -3,7 +3,9 @@
 //! The definitions are in `specs/`, and the functions of [`laws`] carry what is proved of them.
 #![tactic(auto)]
 
+pub mod checked;
 pub mod laws;
 pub mod sizes;
 
+pub use checked::Checked;
 pub use sizes::{frame_words, words_of};

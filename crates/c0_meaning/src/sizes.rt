@@ -11,7 +11,7 @@ ghost use Rattle.c0_tree.specs.View.{type_view, struct_view, decl_view, function
 ghost use Rattle.c0_meaning.specs.Ty.{ty_of, named};
 ghost use Rattle.c0_meaning.specs.Env.{shape_of, typed_of};
 ghost use Rattle.c0_meaning.specs.Words.{words, all_words};
-ghost use Rattle.c0_meaning.specs.Declared.{MAX_TYPE_WORDS};
+ghost use Rattle.c0_meaning.specs.DeclaredTypes.{MAX_TYPE_WORDS};
 ghost use Rattle.c0_meaning.specs.Sound.{elements as elements_in, struct_in as struct_name_in, shapes, IsSized, IsSizedStruct, IsSizedFunction, AreSized};
 
 use c0_tree::{Body, CType, Decl, Function, StructDef, Unit};
@@ -50,9 +50,7 @@ fn type_words(ty: &CType, unit: &Unit) -> u32
 {
     match struct_in(ty) {
         None => elements(ty),
-        Some(number) => {
-            elements(ty) * struct_words(&unit.structs[number as usize], unit)
-        }
+        Some(number) => { elements(ty) * struct_words(&unit.structs[number as usize], unit) }
     }
 }
 

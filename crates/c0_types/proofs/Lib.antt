@@ -5,3 +5,4 @@ pub mod StructsTell
 pub mod PartLemmas
 pub mod InPlace
 pub mod StmtLemmas
+pub mod SpacesLemmas

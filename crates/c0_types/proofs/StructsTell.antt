@@ -13,7 +13,7 @@ use Rattle.c0_meaning.specs.Ty.{ty_of}
 use Rattle.c0_meaning.specs.Env.{Shape, first_named, fields_of}
 use Rattle.c0_meaning.specs.Fault.{Fault, fault, UNKNOWN_NAME, TYPE_TOO_LARGE, EMPTY_ARRAY}
 use Rattle.c0_meaning.specs.Words.{words, struct_words, all_words_with, fields_named, words_within, holds}
-use Rattle.c0_meaning.specs.Declared.{MAX_TYPE_WORDS, fault_if, unknown_structs, has_empty_array, type_faults}
+use Rattle.c0_meaning.specs.DeclaredTypes.{MAX_TYPE_WORDS, fault_if, unknown_structs, has_empty_array, type_faults}
 use Rattle.c0_meaning.specs.Resolved.{looked_up, standing_for, resolved_type}
 use Rattle.c0_types.specs.Names.{number_named}
 use Rattle.c0_types.specs.Structs.{WORDS_CAP, unknown_name, unknown_by, numbered_struct, numbered_type, listed_words, capped_words, type_faults_by}

@@ -4,3 +4,4 @@ pub mod Scope
 pub mod Check
 pub mod Structs
 pub mod Stmts
+pub mod Spaces

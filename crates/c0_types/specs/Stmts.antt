@@ -7,7 +7,7 @@ use Rattle.c0_meaning.specs.Ty.{Ty, bool}
 use Rattle.c0_meaning.specs.Env.{Env}
 use Rattle.c0_meaning.specs.Fault.{Fault, kept_all}
 use Rattle.c0_meaning.specs.Expression.{span_of, resolved}
-use Rattle.c0_meaning.specs.Declared.{type_faults}
+use Rattle.c0_meaning.specs.DeclaredTypes.{type_faults}
 use Rattle.c0_meaning.specs.Resolved.{resolved_type}
 use Rattle.c0_meaning.specs.Statement.{args_faults, given_faults, tested_faults, deep_faults, left_type, left_faults, stmt_faults, stmts_faults, stmt_resolved, stmts_resolved}
 
@@ -59,3 +59,7 @@ choice_faults env t a b = tested_faults env bool t ++ (faults_of_stmts env a ++ 
 -- the faults of `while`
 abbrev pub loop_faults : Env → CExpr → CStmts → List Fault
 loop_faults env t b = tested_faults env bool t ++ faults_of_stmts env b
+
+-- the faults of the statements of a body, and of the expression that is returned where this type is asked
+abbrev pub code_faults : Env → Ty → CStmts → CExpr → List Fault
+code_faults env result stmts answer = faults_of_stmts env stmts ++ tested_faults env result answer

@@ -10,7 +10,7 @@ use Rattle.c0_meaning.specs.Ty as ty
 use Rattle.c0_meaning.specs.Env.{Shape}
 use Rattle.c0_meaning.specs.Fault.{Fault, fault, UNKNOWN_NAME, TYPE_TOO_LARGE, EMPTY_ARRAY}
 use Rattle.c0_meaning.specs.Words.{words}
-use Rattle.c0_meaning.specs.Declared.{MAX_TYPE_WORDS, fault_if, has_empty_array}
+use Rattle.c0_meaning.specs.DeclaredTypes.{MAX_TYPE_WORDS, fault_if, has_empty_array}
 use Rattle.c0_meaning.specs.Resolved.{standing_for}
 use Rattle.c0_types.specs.Names.{look, number_named}
 

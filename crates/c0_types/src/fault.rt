@@ -1,7 +1,7 @@
 // Faults, and the least of those met.
 
 ghost use Rattle.std.specs.Prelude.{◌≡◌};
-ghost use Rattle.c0_meaning.specs.Declared.{fault_if};
+ghost use Rattle.c0_meaning.specs.DeclaredTypes.{fault_if};
 ghost use Rattle.c0_meaning.specs.Fault as spec;
 ghost use Rattle.c0_types.specs.Met.{fault_view, met_view, number_of};
 
@@ -103,7 +103,8 @@ impl Fault {
     fn is_shorter(&self, other: &Fault) -> bool
         ensures { result ≡ spec.comes_shorter (fault_view self.now) (fault_view other.now) }
     {
-        self.span.end < other.span.end || (self.span.end == other.span.end && self.line < other.line)
+        self.span.end < other.span.end
+            || (self.span.end == other.span.end && self.line < other.line)
     }
 }
 

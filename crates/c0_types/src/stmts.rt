@@ -1,7 +1,7 @@
 // The check of statements.
 
 ghost use Rattle.std.specs.Prelude.{◌≡◌, map};
-ghost use Rattle.c0_meaning.specs.Declared.{type_faults};
+ghost use Rattle.c0_meaning.specs.DeclaredTypes.{type_faults};
 ghost use Rattle.c0_meaning.specs.Env.{Env, callee_named};
 ghost use Rattle.c0_meaning.specs.Expression.{resolved};
 ghost use Rattle.c0_meaning.specs.Fault.{kept_all};

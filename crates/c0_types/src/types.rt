@@ -1,7 +1,7 @@
 // The check of types: their names are resolved, and their faults are met.
 
 ghost use Rattle.std.specs.Prelude.{◌≡◌};
-ghost use Rattle.c0_meaning.specs.Declared as spec;
+ghost use Rattle.c0_meaning.specs.DeclaredTypes as spec;
 ghost use Rattle.c0_meaning.specs.Fault.{kept_all};
 ghost use Rattle.c0_tree.specs.View.{name_view, type_view};
 ghost use Rattle.c0_types.specs.Met.{met_view};

@@ -1,4 +1,4 @@
-use Rattle.std.proofs.Common.{rules, ◌≡◌, ◌*◌, ◌-◌, ◌^◌, min, ℕ, refl, sym, ap, ◌∙◌}
+use Rattle.std.proofs.Common.{rules, ◌≡◌, ◌*◌, min, ℕ, sym, ap, ◌∙◌}
 use Rattle.c0_tree.specs.declared.tree.CType as rust
 use Rattle.c0_tree.specs.declared.tree.CType.TheFolds as folds
 use Rattle.c0_tree.specs.Tree.{CTy, array}

@@ -1,6 +1,6 @@
-use Rattle.std.proofs.Common.{◌≡◌, ◌+◌, ◌*◌, ◌≤◌, ◌<◌, ℕ, List, map, length, slice_index_or, arith, subst, sym, ap, ◌∙◌}
+use Rattle.std.proofs.Common.{◌≡◌, List, slice_index_or, arith, subst, sym, ap, ◌∙◌}
 use Rattle.c0_tree.specs.declared.tree.Decl.{Decl}
-use Rattle.c0_tree.specs.View.{type_view, decl_view, unit_view}
+use Rattle.c0_tree.specs.View.{type_view, unit_view}
 use Rattle.c0_meaning.specs.Ty.{ty_of}
 use Rattle.c0_meaning.specs.Env.{Shape}
 use Rattle.c0_meaning.specs.Words.{words}
@@ -19,8 +19,8 @@ loop-decl-preserved c =
     let item : slice_index_or c.args.decls.now c.loop-decl.decl-index c.decl-item.result ≡ c.decl-item.result = sym c.decl-item.is in
     let left = words_left structs c.args.decls.now c.loop-decl.decl-index c.decl-item.result c.loop-decl-test.true in
     let here : words structs (ty_of (type_view (slice_index_or c.args.decls.now c.loop-decl.decl-index c.decl-item.result).ty)) ≡ c.type_words.result =
-      ap (λ (d : Decl). words structs (ty_of (type_view d.ty))) item ∙ sym c.type_words.ensures in
+    ap (λ (d : Decl). words structs (ty_of (type_view d.ty))) item ∙ sym c.type_words.ensures in
     let sized : IsSized structs (type_view (slice_index_or c.args.decls.now c.loop-decl.decl-index c.decl-item.result).ty) =
-      decl_sized structs c.args.decls.now c.loop-decl.decl-index c.decl-item.result c.requires.decls c.loop-decl-test.true in
+    decl_sized structs c.args.decls.now c.loop-decl.decl-index c.decl-item.result c.requires.decls c.loop-decl-test.true in
     let few = sized.small in
     record { value = omega (arith, c.loop-decl.invariant.value, c.from-words.ensures); small = omega (arith, c.loop-decl.invariant.small, c.from-words.ensures) }

@@ -1,6 +1,5 @@
-use Rattle.std.proofs.Common.{rules, ◌≡◌, ◌<◌, ℕ, length, subst, sym, ap, ◌∙◌}
+use Rattle.std.proofs.Common.{subst, sym, ap, ◌∙◌}
 use Rattle.c0_tree.specs.declared.tree.Function.{Function}
-use Rattle.c0_tree.specs.Tree.{CFunction}
 use Rattle.c0_tree.specs.View.{unit_view, function_view}
 use Rattle.c0_meaning.specs.Limits.{frame}
 use Rattle.c0_meaning.specs.Sound.{shapes, IsSizedFunction}
@@ -13,7 +12,7 @@ function_words-requires c =
     record {
       structs = well_formed_sized _ _ c.requires.well_formed.1;
       function = subst (λ (f : Function). IsSizedFunction (shapes (unit_view c.args.unit.now)) (function_view f)) (sym c.index.ensures)
-        (function_at (shapes (unit_view c.args.unit.now)) c.args.unit.now.functions.items c.args.function c.index.result.now (well_formed_functions _ _ c.requires.well_formed.1) c.requires.in_range);
+          (function_at (shapes (unit_view c.args.unit.now)) c.args.unit.now.functions.items c.args.function c.index.result.now (well_formed_functions _ _ c.requires.well_formed.1) c.requires.in_range);
     }
 
 pub returns : goal.returns

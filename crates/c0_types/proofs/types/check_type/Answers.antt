@@ -2,7 +2,7 @@
 use Rattle.std.proofs.Common.{nat_lt, sym, ap, ◌∙◌, ◌++◌}
 use Rattle.c0_tree.specs.View.{type_view}
 use Rattle.c0_meaning.specs.Fault.{kept_all, EMPTY_ARRAY, TYPE_TOO_LARGE}
-use Rattle.c0_meaning.specs.Declared.{fault_if, has_empty_array, MAX_TYPE_WORDS}
+use Rattle.c0_meaning.specs.DeclaredTypes.{fault_if, has_empty_array, MAX_TYPE_WORDS}
 use Rattle.c0_types.specs.Met.{met_view}
 use Rattle.c0_types.specs.Names.{look}
 use Rattle.c0_types.specs.Structs.{unknown_by, capped_words}

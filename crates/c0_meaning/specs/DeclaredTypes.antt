@@ -1,5 +1,5 @@
 -- The faults of a type that is declared, or that `new` names.
-use Rattle.std.specs.Prelude.{ℕ, Bool, true, false, ◌||◌, ◌==◌, nat_lt, if◌then◌else◌, List, [], ◌∷◌, ◌++◌, is_some}
+use Rattle.std.specs.Prelude.{ℕ, Bool, false, ◌||◌, ◌==◌, nat_lt, if◌then◌else◌, List, [], ◌∷◌, ◌++◌, is_some}
 use Rattle.c0_tree.specs.declared.tree.Span.{Span}
 use Rattle.c0_tree.specs.Tree.{CTy, int, bool, pointer, named, array, CDecl}
 use Rattle.c0_meaning.specs.Ty.{Ty, ty_of, same_ty, is_scalar}

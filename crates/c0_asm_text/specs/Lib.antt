@@ -1,0 +1,2 @@
+pub mod AsmText
+pub mod View
