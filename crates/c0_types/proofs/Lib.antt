@@ -1,7 +1,8 @@
 pub mod NamesLemmas
-pub mod SpacesLemmas
 pub mod Numbered
 pub mod Node
 pub mod StructsTell
 pub mod PartLemmas
 pub mod InPlace
+pub mod StmtLemmas
+pub mod SpacesLemmas

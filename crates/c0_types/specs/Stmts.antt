@@ -3,13 +3,13 @@ use Rattle.std.specs.Prelude.{◌≡◌, ℕ, List, [], ◌++◌, map, Option, S
 use Rattle.c0_tree.specs.declared.tree.Span.{Span}
 use Rattle.c0_tree.specs.Tree.{CTy, CExpr, CStmt, CStmts}
 use Rattle.c0_tree.specs.Size.{need}
-use Rattle.c0_meaning.specs.Ty.{Ty}
+use Rattle.c0_meaning.specs.Ty.{Ty, bool}
 use Rattle.c0_meaning.specs.Env.{Env}
 use Rattle.c0_meaning.specs.Fault.{Fault, kept_all}
 use Rattle.c0_meaning.specs.Expression.{span_of, resolved}
 use Rattle.c0_meaning.specs.DeclaredTypes.{type_faults}
 use Rattle.c0_meaning.specs.Resolved.{resolved_type}
-use Rattle.c0_meaning.specs.Statement.{args_faults, given_faults, deep_faults, left_type, left_faults, stmt_faults, stmts_faults, stmt_resolved, stmts_resolved}
+use Rattle.c0_meaning.specs.Statement.{args_faults, given_faults, tested_faults, deep_faults, left_type, left_faults, stmt_faults, stmts_faults, stmt_resolved, stmts_resolved}
 
 -- an expression is checked where a type may be asked: its faults are met, and its names are resolved
 abbrev pub ChecksGiven : Env → Option Ty → CExpr → Option Fault → Option Fault → CExpr → Type 0
@@ -51,3 +51,15 @@ ChecksStmts env ss old new after = (new ≡ kept_all old (faults_of_stmts env ss
 -- arguments are checked, of which these types are asked
 abbrev pub ChecksArgs : Env → List Ty → List CExpr → Option Fault → Option Fault → List CExpr → Type 0
 ChecksArgs env params es old new after = (new ≡ kept_all old (args_faults env params es)) × (after ≡ map (resolved env) es)
+
+-- the faults of `if`
+abbrev pub choice_faults : Env → CExpr → CStmts → CStmts → List Fault
+choice_faults env t a b = tested_faults env bool t ++ (faults_of_stmts env a ++ faults_of_stmts env b)
+
+-- the faults of `while`
+abbrev pub loop_faults : Env → CExpr → CStmts → List Fault
+loop_faults env t b = tested_faults env bool t ++ faults_of_stmts env b
+
+-- the faults of the statements of a body, and of the expression that is returned where this type is asked
+abbrev pub code_faults : Env → Ty → CStmts → CExpr → List Fault
+code_faults env result stmts answer = faults_of_stmts env stmts ++ tested_faults env result answer
