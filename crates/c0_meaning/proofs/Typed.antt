@@ -30,15 +30,15 @@ good_field : (env : Env) (s : Span) (e : CExpr) (f : CName) (x : List ℕ) (p : 
     → is_place e ≡ true → Good env e (named x) → field_named env x f.text ≡ Some p → Good env (field s e f) p.1.ty
 good_field env s e f x p place a found =
     let v : verdict env (field s e f) ≡ has p.1.ty =
-      ap (λ (w : Verdict). one (given w) (place_field_rule s (is_place e) (span_of e) f.span (member env (given w) f.text))) a.typed
-      ∙ in_place s (span_of e) f.span (is_place e) (field_named env x f.text) p x place found in
+    ap (λ (w : Verdict). one (given w) (place_field_rule s (is_place e) (span_of e) f.span (member env (given w) f.text))) a.typed
+    ∙ in_place s (span_of e) f.span (is_place e) (field_named env x f.text) p x place found in
     record { typed = v; clean = no_faults _ _ a.clean (ap own v) }
 
 good_arrow : (env : Env) (s : Span) (e : CExpr) (f : CName) (x : List ℕ) (p : ℕ × Typed)
     → Good env e (pointer (named x)) → field_named env x f.text ≡ Some p → Good env (arrow s e f) p.1.ty
 good_arrow env s e f x p a found =
     let v : verdict env (arrow s e f) ≡ has p.1.ty =
-      ap (λ (w : Verdict). one (given w) (arrow_rule s f.span (member env (target (given w)) f.text))) a.typed ∙ ap (sought_rule f.span) found in
+    ap (λ (w : Verdict). one (given w) (arrow_rule s f.span (member env (target (given w)) f.text))) a.typed ∙ ap (sought_rule f.span) found in
     record { typed = v; clean = no_faults _ _ a.clean (ap own v) }
 
 good_element : (env : Env) (s : Span) (e i : CExpr) (t : Ty) (n : ℕ) → is_place e ≡ true → Good env e (array t n) → Good env i int → Good env (index s e i) t

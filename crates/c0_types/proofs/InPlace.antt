@@ -76,13 +76,13 @@ pub in_place_step : {T V : Type 0} (view : T → V) (f : V → V) (ys xs : List 
     → map view xs ≡ done f i (map view ys) → i < length ys → x ≡ get_or xs i x → view new ≡ f (view x) → Step view f ys xs i x new
 in_place_step view f ys xs i x new e h at k =
     let was : view x ≡ get_or (map view ys) i (view x) =
-      ap view at ∙ (map-get_or view xs i x ∙ (ap (λ l. get_or l i (view x)) e ∙ done-next f i (map view ys) (view x))) in
+    ap view at ∙ (map-get_or view xs i x ∙ (ap (λ l. get_or l i (view x)) e ∙ done-next f i (map view ys) (view x))) in
     let within : i < length (map view ys) = subst (λ n. i < n) (sym (length-map ys view)) h in
     record {
       changed = map-set view xs i new ∙ (ap (λ l. set l i (view new)) e
-        ∙ (ap (set (done f i (map view ys)) i) (k ∙ ap f was) ∙ done-step f i (map view ys) (view x) within));
+          ∙ (ap (set (done f i (map view ys)) i) (k ∙ ap f was) ∙ done-step f i (map view ys) (view x) within));
       was = was;
-      within = within
+      within = within;
     }
 
 -- at the end all are changed
@@ -96,6 +96,6 @@ in_place_end view f ys xs i e h =
 pub in_place_at : {T V : Type 0} (view : T → V) (f : V → V) (ys xs : List T) (i : ℕ) (x : T)
     → map view xs ≡ done f i (map view ys) → i < length ys → x ≡ get_or xs i x → (view x ≡ get_or (map view ys) i (view x)) × (i < length (map view ys))
 in_place_at view f ys xs i x e h at = (
-    ap view at ∙ (map-get_or view xs i x ∙ (ap (λ l. get_or l i (view x)) e ∙ done-next f i (map view ys) (view x))),
-    subst (λ n. i < n) (sym (length-map ys view)) h,
-  )
+  ap view at ∙ (map-get_or view xs i x ∙ (ap (λ l. get_or l i (view x)) e ∙ done-next f i (map view ys) (view x))),
+  subst (λ n. i < n) (sym (length-map ys view)) h,
+)

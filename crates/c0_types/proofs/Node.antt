@@ -22,10 +22,10 @@ two_met m m1 m2 fs gs a b = b ∙ (ap (λ x. kept_all x gs) a ∙ sym (kept_all-
 -- the same of an expression that is seen otherwise
 pub seen : (env : Env) (x y : CExpr) (t : Option Ty) (m n : Option Fault) (new after : CExpr) → x ≡ y → new ≡ after → Checks env y t m n after → Checks env x t m n new
 seen env x y t m n new after e k w = (
-    w.0 ∙ ap (type_of env) (sym e),
-    w.1 ∙ ap (λ z. kept_all m (faults env z)) (sym e),
-    k ∙ (w.2 ∙ ap (resolved env) (sym e)),
-  )
+  w.0 ∙ ap (type_of env) (sym e),
+  w.1 ∙ ap (λ z. kept_all m (faults env z)) (sym e),
+  k ∙ (w.2 ∙ ap (resolved env) (sym e)),
+)
 
 -- the check of a part that was lent
 pub part : (env : Env) (x y : Expr) (t : Option Ty) (m n : Option Fault) (new : CExpr) → x ≡ y → Checks env (expr_view x) t m n new → Checks env (expr_view y) t m n new
@@ -57,7 +57,7 @@ two_parts env fs gs rule t t' u u' m n n' r v k p q s w =
     let same : v ≡ rule t' u' = s ∙ (ap (λ x. rule x u) p ∙ ap (rule t') q) in (
       w.0 ∙ ap given same,
       w.1 ∙ (ap (λ x. kept_all n (own x)) same ∙ (ap (λ x. kept_all x (own (rule t' u'))) k
-        ∙ (sym (kept_all-append (kept_all m fs) gs (own (rule t' u'))) ∙ sym (kept_all-append m fs (gs ++ own (rule t' u')))))),
+          ∙ (sym (kept_all-append (kept_all m fs) gs (own (rule t' u'))) ∙ sym (kept_all-append m fs (gs ++ own (rule t' u')))))),
     )
 
 numbered_field-span : (f : CName) (found : Option (ℕ × Typed)) → (numbered_field f found).span ≡ f.span
@@ -69,11 +69,11 @@ pub field_node : (env : Env) (s at : Span) (e : CExpr) (f f' : CName) (place : B
     → Settles r n n' (one o (place_field_rule s place at f'.span found)) → Checks env (field s e f) r m n' (field s new f')
 field_node env s at e f f' place t o found m n n' new r w g p a h k q =
     let rule : one o (place_field_rule s place at f'.span found) ≡ one t (place_field_rule s (is_place e) (span_of e) f.span (member env t f.text)) =
-      ap (λ x. one o (place_field_rule s x at f'.span found)) p
-      ∙ (ap (λ x. one o (place_field_rule s (is_place e) x f'.span found)) a
-      ∙ (ap (λ x. one o (place_field_rule s (is_place e) (span_of e) x found)) (ap (λ x. x.span) k ∙ numbered_field-span f found)
-      ∙ (ap (λ x. one o (place_field_rule s (is_place e) (span_of e) f.span x)) h
-      ∙ ap (λ x. one x (place_field_rule s (is_place e) (span_of e) f.span (member env x f.text))) g))) in
+    ap (λ x. one o (place_field_rule s x at f'.span found)) p
+    ∙ (ap (λ x. one o (place_field_rule s (is_place e) x f'.span found)) a
+    ∙ (ap (λ x. one o (place_field_rule s (is_place e) (span_of e) x found)) (ap (λ x. x.span) k ∙ numbered_field-span f found)
+    ∙ (ap (λ x. one o (place_field_rule s (is_place e) (span_of e) f.span x)) h
+    ∙ ap (λ x. one x (place_field_rule s (is_place e) (span_of e) f.span (member env x f.text))) g))) in
     let d = one_part env e (λ x. one x (place_field_rule s (is_place e) (span_of e) f.span (member env x f.text))) t m n n' new r _ w rule q in (
       d.0,
       d.1,
@@ -86,8 +86,8 @@ pub arrow_node : (env : Env) (s : Span) (e : CExpr) (f f' : CName) (t o b : Opti
 arrow_node env s e f f' t o b found m n n' new r w g l h k q =
     let there : found ≡ member env (target o) f.text = h ∙ ap (λ x. member env x f.text) l in
     let rule : one o (arrow_rule s f'.span found) ≡ one t (arrow_rule s f.span (member env (target t) f.text)) =
-      ap (λ x. one o (arrow_rule s x found)) (ap (λ x. x.span) k ∙ numbered_field-span f found)
-      ∙ (ap (λ x. one o (arrow_rule s f.span x)) there ∙ ap (λ x. one x (arrow_rule s f.span (member env (target x) f.text))) g) in
+    ap (λ x. one o (arrow_rule s x found)) (ap (λ x. x.span) k ∙ numbered_field-span f found)
+    ∙ (ap (λ x. one o (arrow_rule s f.span x)) there ∙ ap (λ x. one x (arrow_rule s f.span (member env (target x) f.text))) g) in
     let d = one_part env e (λ x. one x (arrow_rule s f.span (member env (target x) f.text))) t m n n' new r _ w rule q in (
       d.0,
       d.1,
@@ -99,9 +99,9 @@ pub index_node : (env : Env) (s at : Span) (e i : CExpr) (place : Bool) (t o u p
     → Settles r n' n'' (both o p (index_rule s place at)) → Checks env (index s e i) r m n'' (index s new after)
 index_node env s at e i place t o u p m n n' n'' new after r w v g h b a q =
     let rule : both o p (index_rule s place at) ≡ both o p (index_rule s (is_place e) (span_of e)) =
-      ap (λ x. both o p (index_rule s x at)) b ∙ ap (λ x. both o p (index_rule s (is_place e) x)) a in
+    ap (λ x. both o p (index_rule s x at)) b ∙ ap (λ x. both o p (index_rule s (is_place e) x)) a in
     let d = two_parts env (faults env e) (faults env i) (λ x y. both x y (index_rule s (is_place e) (span_of e))) o (type_of env e) p (type_of env i) m n' n'' r _
-      (v.1 ∙ ap (λ x. kept_all x (faults env i)) w.1) (g ∙ w.0) (h ∙ v.0) rule q in (
+    (v.1 ∙ ap (λ x. kept_all x (faults env i)) w.1) (g ∙ w.0) (h ∙ v.0) rule q in (
       d.0,
       d.1,
       ap (λ x. index s x after) w.2 ∙ ap (index s (resolved env e)) v.2,
@@ -112,8 +112,8 @@ pub address_node : (env : Env) (s at : Span) (e : CExpr) (place local : Bool) (t
     → Settles r n n' (one t (address_rule place local at)) → Checks env (address s e) r m n' (address s new)
 address_node env s at e place local t m n n' new r w p l a q =
     let rule : one t (address_rule place local at) ≡ one t (address_rule (is_place e) (is_local env e) (span_of e)) =
-      ap (λ x. one t (address_rule x local at)) p
-      ∙ (ap (λ x. one t (address_rule (is_place e) x at)) l ∙ ap (λ x. one t (address_rule (is_place e) (is_local env e) x)) a) in
+    ap (λ x. one t (address_rule x local at)) p
+    ∙ (ap (λ x. one t (address_rule (is_place e) x at)) l ∙ ap (λ x. one t (address_rule (is_place e) (is_local env e) x)) a) in
     let d = one_part env e (λ x. one x (address_rule (is_place e) (is_local env e) (span_of e))) t m n n' new r _ w rule q in
     (d.0, d.1, ap (address s) w.2)
 
@@ -150,10 +150,10 @@ null_left_node env s o a b u l r' p q m n n' n'' new after r swap h v e w f g k 
     let fs = asked_faults (asks o (type_of env b)) a (faults env a) in
     let gs = asked_faults (asks o (type_of env a)) b (faults env b) in
     let met : n' ≡ kept_all (kept_all m fs) gs =
-      w.1 ∙ (ap (λ x. kept_all n (asked_faults x a (faults env a))) ask
-      ∙ (ap (λ x. kept_all x fs) (v.1 ∙ ap (kept_all m) (plain _ [] (faults env b) free)) ∙ swap m gs fs)) in
+    w.1 ∙ (ap (λ x. kept_all n (asked_faults x a (faults env a))) ask
+    ∙ (ap (λ x. kept_all x fs) (v.1 ∙ ap (kept_all m) (plain _ [] (faults env b) free)) ∙ swap m gs fs)) in
     let d = two_parts env fs gs (λ x y. both x y (binary_rule s o)) p _ r' _ m n' n'' r _ met
-      (f ∙ (w.0 ∙ ap (λ x. asked x a (type_of env a)) ask)) (g ∙ (v.0 ∙ plain _ (asks o (type_of env a)) (type_of env b) free)) refl k in (
+    (f ∙ (w.0 ∙ ap (λ x. asked x a (type_of env a)) ask)) (g ∙ (v.0 ∙ plain _ (asks o (type_of env a)) (type_of env b) free)) refl k in (
       d.0,
       d.1,
       ap (λ x. binary s o x after) w.2 ∙ ap (binary s o (resolved env a)) v.2,
@@ -169,10 +169,10 @@ no_null_left_node env s o a b t l r' p q m n n' n'' new after r h v e w f g k =
     let fs = asked_faults (asks o (type_of env b)) a (faults env a) in
     let gs = asked_faults (asks o (type_of env a)) b (faults env b) in
     let met : n' ≡ kept_all (kept_all m fs) gs =
-      w.1 ∙ (ap (λ x. kept_all n (asked_faults x b (faults env b))) ask
-      ∙ ap (λ x. kept_all x gs) (v.1 ∙ ap (kept_all m) (plain _ [] (faults env a) free))) in
+    w.1 ∙ (ap (λ x. kept_all n (asked_faults x b (faults env b))) ask
+    ∙ ap (λ x. kept_all x gs) (v.1 ∙ ap (kept_all m) (plain _ [] (faults env a) free))) in
     let d = two_parts env fs gs (λ x y. both x y (binary_rule s o)) p _ r' _ m n' n'' r _ met
-      (f ∙ (v.0 ∙ plain _ (asks o (type_of env b)) (type_of env a) free)) (g ∙ (w.0 ∙ ap (λ x. asked x b (type_of env b)) ask)) refl k in (
+    (f ∙ (v.0 ∙ plain _ (asks o (type_of env b)) (type_of env a) free)) (g ∙ (w.0 ∙ ap (λ x. asked x b (type_of env b)) ask)) refl k in (
       d.0,
       d.1,
       ap (λ x. binary s o x after) v.2 ∙ ap (binary s o (resolved env a)) w.2,

@@ -20,26 +20,26 @@ module _ {T A : Type 0} (view : T → A) (name : A → List ℕ) (text : List �
       same e = cc
 
       by_test : (b : Bool) → bytes_eq (name (view t)) text ≡ b
-        → option_map (λ (found : ℕ × A). found.0) (if b then Some (k, view t) else first_named name text (suc k) (map view list)) ≡ Some n
-        → (number_named name text (suc k) (map view list) ≡ Some n → At (suc k) n list) → At k n (t ∷ list)
+          → option_map (λ (found : ℕ × A). found.0) (if b then Some (k, view t) else first_named name text (suc k) (map view list)) ≡ Some n
+          → (number_named name text (suc k) (map view list) ≡ Some n → At (suc k) n list) → At k n (t ∷ list)
       by_test true e h more = record {
         index = 0;
         counted = let s : k ≡ n = same h in omega (arith, s);
         within = omega arith;
-        there = λ d. ap (λ b. if b then Some (k, view t) else first_named name text (suc k) (map view list)) e ∙ ap (λ m. Some (m, view t)) (same h)
+        there = λ d. ap (λ b. if b then Some (k, view t) else first_named name text (suc k) (map view list)) e ∙ ap (λ m. Some (m, view t)) (same h);
       }
       by_test false e h more = let w = more h in record {
         index = suc w.index;
         counted = let c = w.counted in omega (arith, c);
         within = let c = w.within in omega (arith, c);
-        there = λ d. ap (λ b. if b then Some (k, view t) else first_named name text (suc k) (map view list)) e ∙ w.there d
+        there = λ d. ap (λ b. if b then Some (k, view t) else first_named name text (suc k) (map view list)) e ∙ w.there d;
       }
 
   pub number_within : (n : ℕ) (list : List T) → number_named name text 0 (map view list) ≡ Some n → n < length list
   number_within n list h = let w = at 0 n list h in let c = w.counted in let l = w.within in omega (arith, c, l)
 
   pub first_numbered_or : (n : ℕ) (list : List T) (d : T) → number_named name text 0 (map view list) ≡ Some n
-    → first_named name text 0 (map view list) ≡ Some (n, view (get_or list n d))
+      → first_named name text 0 (map view list) ≡ Some (n, view (get_or list n d))
   first_numbered_or n list d h =
       let w = at 0 n list h in
       let same : w.index ≡ n = equal w.index w.counted in
@@ -49,7 +49,7 @@ module _ {T A : Type 0} (view : T → A) (name : A → List ℕ) (text : List �
       equal i c = omega (arith, c)
 
   pub first_numbered : (n : ℕ) (list : List T) (x : T) → number_named name text 0 (map view list) ≡ Some n → x ≡ get_or list n x
-    → first_named name text 0 (map view list) ≡ Some (n, view x)
+      → first_named name text 0 (map view list) ≡ Some (n, view x)
   first_numbered n list x h e = first_numbered_or n list x h ∙ ap (λ y. Some (n, view y)) (sym e)
 
 -- The first of a name in two lists, one after the other.

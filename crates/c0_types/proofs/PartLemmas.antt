@@ -18,7 +18,7 @@ pub given_part : (env : Env) (want a w b : Option Ty) (e : CExpr) (s : Span) (m 
     → ChecksAsked env want e a m n new → w ≡ want → b ≡ a → s ≡ span_of e → n' ≡ kept_all n (own (both w b (same_rule s))) → ChecksGiven env want e m n' new
 given_part env want a w b e s m n n' new c p q k met =
     let rule : both w b (same_rule s) ≡ given_verdict env want e =
-      ap (λ x. both x b (same_rule s)) p ∙ (ap (λ x. both want x (same_rule s)) (q ∙ c.0) ∙ ap (λ x. both want (asked want e (type_of env e)) (same_rule x)) k) in (
+    ap (λ x. both x b (same_rule s)) p ∙ (ap (λ x. both want x (same_rule s)) (q ∙ c.0) ∙ ap (λ x. both want (asked want e (type_of env e)) (same_rule x)) k) in (
       two_met m n n' (asked_faults want e (faults env e)) (own (given_verdict env want e)) c.1 (met ∙ ap (λ x. kept_all n (own x)) rule),
       c.2,
     )
@@ -26,16 +26,16 @@ given_part env want a w b e s m n n' new c p q k met =
 pub tested_part : (env : Env) (want : Option Ty) (e : CExpr) (s : Span) (deep : Bool) (m n n' : Option Fault) (new : CExpr)
     → ChecksGiven env want e m n new → s ≡ span_of e → deep ≡ nat_lt MAX_NEED (need e) → n' ≡ kept_all n (fault_if deep TOO_DEEP s) → ChecksTested env want e m n' new
 tested_part env want e s deep m n n' new c k d met = (
-    two_met m n n' (given_faults env want e) (deep_faults (span_of e) (need e)) c.0
-    (met ∙ (ap (λ x. kept_all n (fault_if deep TOO_DEEP x)) k ∙ ap (λ b. kept_all n (fault_if b TOO_DEEP (span_of e))) d)),
-    c.1,
-  )
+  two_met m n n' (given_faults env want e) (deep_faults (span_of e) (need e)) c.0
+      (met ∙ (ap (λ x. kept_all n (fault_if deep TOO_DEEP x)) k ∙ ap (λ b. kept_all n (fault_if b TOO_DEEP (span_of e))) d)),
+  c.1,
+)
 
 pub left_part : (env : Env) (p : CExpr) (place : Bool) (s : Span) (t r : Option Ty) (m n n' : Option Fault) (new : CExpr)
     → Checks env p t m n new → place ≡ is_place p → s ≡ span_of p → Settles r n n' (one t (left_rule place s)) → ChecksLeft env p r m n' new
 left_part env p place s t r m n n' new c k l q =
     let rule : one t (left_rule place s) ≡ one t (left_rule (is_place p) (span_of p)) =
-      ap (λ x. one t (left_rule x s)) k ∙ ap (λ x. one t (left_rule (is_place p) x)) l in
+    ap (λ x. one t (left_rule x s)) k ∙ ap (λ x. one t (left_rule (is_place p) x)) l in
     let d = one_part env p (λ x. one x (left_rule (is_place p) (span_of p))) t m n n' new r _ c rule q in
     (d.0, d.1, c.2)
 
@@ -100,7 +100,7 @@ new_met env s ts p after ty t deep m n n1 n2 n3 swap l a b d met =
     let declared = type_faults env.structs ty ts in
     let stored = result_faults ts (left_type env p) (pointer (ty_of ty)) in
     let both : n2 ≡ kept_all (kept_all n declared) stored =
-      b ∙ (ap (λ x. kept_all x declared) (a ∙ ap (λ x. kept_all n (result_faults ts x (pointer (ty_of ty)))) l.0) ∙ swap n stored declared) in
+    b ∙ (ap (λ x. kept_all x declared) (a ∙ ap (λ x. kept_all n (result_faults ts x (pointer (ty_of ty)))) l.0) ∙ swap n stored declared) in
     two_met m n n3 (left_faults env p) (declared ++ (stored ++ deep_faults s (new_need p))) l.1
     (two_met n (kept_all n declared) n3 declared (stored ++ deep_faults s (new_need p)) refl
     (two_met (kept_all n declared) n2 n3 stored (deep_faults s (new_need p)) both (deep_met s (new_need p) deep n2 n3 d met)))

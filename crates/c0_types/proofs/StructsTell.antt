@@ -27,21 +27,21 @@ capped_product : (a n m : ℕ) → min (min a m * n) m ≡ min (n * a) m
 capped_product a zero m = grind arith
 capped_product a (suc n) m =
     elim (cases_lt a m) [
-      inl below ↦ let e : min a m ≡ a = omega arith in rw e (ap (λ (k : ℕ). min k m) (mul_comm a (suc n)))
-    | inr above ↦
-        let e : min a m ≡ m = omega arith in
-        let p : m ≤ suc n * m = le_product m (suc n) (omega arith) in
-        let q : a ≤ suc n * a = le_product a (suc n) (omega arith) in
-        let r : m * suc n ≡ suc n * m = mul_comm m (suc n) in
-        rw e (omega arith)
+      | inl below ↦ let e : min a m ≡ a = omega arith in rw e (ap (λ (k : ℕ). min k m) (mul_comm a (suc n)))
+      | inr above ↦
+          let e : min a m ≡ m = omega arith in
+          let p : m ≤ suc n * m = le_product m (suc n) (omega arith) in
+          let q : a ≤ suc n * a = le_product a (suc n) (omega arith) in
+          let r : m * suc n ≡ suc n * m = mul_comm m (suc n) in
+          rw e (omega arith)
     ]
 
 -- what is too large is so up to the cap
 large : (k : ℕ) → nat_lt MAX_TYPE_WORDS (min k WORDS_CAP) ≡ nat_lt MAX_TYPE_WORDS k
 large k = elim (cases_lt k WORDS_CAP) [
-    inl below ↦ let e : min k WORDS_CAP ≡ k = omega arith in ap (nat_lt MAX_TYPE_WORDS) e
+  | inl below ↦ let e : min k WORDS_CAP ≡ k = omega arith in ap (nat_lt MAX_TYPE_WORDS) e
   | inr above ↦ let e : min k WORDS_CAP ≡ WORDS_CAP = omega arith in ap (nat_lt MAX_TYPE_WORDS) e ∙ sym (over k above)
-  ]
+]
   where
     over : (k : ℕ) → WORDS_CAP ≤ k → nat_lt MAX_TYPE_WORDS k ≡ true
     over k h = grind (arith, nat_tests)
@@ -60,9 +60,8 @@ unfolding struct_words
 undefined structs text h = undefined_within structs text (length structs) h
 
 module _ (number : List ℕ → Option ℕ) (sizes : List ℕ) (structs : List Shape)
-  (numbers : (text : List ℕ) → number text ≡ number_named (λ s. s.text) text 0 structs)
-  (sized : (text : List ℕ) (n : ℕ) → number text ≡ Some n → get_or sizes n 0 ≡ min (words structs (ty.named text)) WORDS_CAP) where
-
+    (numbers : (text : List ℕ) → number text ≡ number_named (λ s. s.text) text 0 structs)
+    (sized : (text : List ℕ) (n : ℕ) → number text ≡ Some n → get_or sizes n 0 ≡ min (words structs (ty.named text)) WORDS_CAP) where
   unknown_one : (span : Span) (o : Option (ℕ × Shape)) → unknown_name (option_map (λ found. found.0) o) span ≡ (if is_some o then [] else fault UNKNOWN_NAME span ∷ [])
   unknown_one span None = refl
   unknown_one span (Some p) = refl

@@ -84,13 +84,13 @@ Tells name names list = (text : List ℕ) → look names text ≡ number_named n
 pub record FieldsTell {A S : Type 0} (names : List (IndexMap (Vec ℕ A) ℕ S)) (structs : List StructDef) : Type 0 where
   pub count : length names ≡ length structs
   pub each : (i : ℕ) (n : IndexMap (Vec ℕ A) ℕ S) (s : StructDef) → i < length structs
-    → Tells (λ v. v.text) (get_or names i n) (map typed_view (get_or structs i s).fields.items)
+      → Tells (λ v. v.text) (get_or names i n) (map typed_view (get_or structs i s).fields.items)
 
 -- the maps of a scope tell the numbers of its lists, and those of parameters and locals fit their type
 pub record Knows (scope : Scope) : Type 0 where
   pub structs : Tells (λ s. s.text) scope.struct_names.now (map shape_view scope.structs.now)
   pub sizes : (text : List ℕ) (n : ℕ) → look scope.struct_names.now text ≡ Some n
-    → get_or scope.struct_words.now n 0 ≡ min (words (map shape_view scope.structs.now) (named text)) WORDS_CAP
+      → get_or scope.struct_words.now n 0 ≡ min (words (map shape_view scope.structs.now) (named text)) WORDS_CAP
   pub fields : FieldsTell scope.field_names.now scope.structs.now
   pub globals : Tells (λ v. v.text) scope.global_names.now (map typed_view scope.globals.now)
   pub functions : Tells (λ s. s.text) scope.function_names.now (map signature_view scope.functions.now)

@@ -101,7 +101,12 @@ pub fn meet_callee(
     match callee {
         None => meet_at(least, Mistake::UnknownName, name.span),
         Some(callee) => {
-            meet_if(least, param_count(callee) != count, Mistake::WrongCount, span);
+            meet_if(
+                least,
+                param_count(callee) != count,
+                Mistake::WrongCount,
+                span,
+            );
             meet_other(want, answer_of(callee).form(), span, least);
         }
     }

@@ -29,11 +29,7 @@ fn is_filled(want: Found<'_>, expr: &Expr) -> bool
 fn asked_by<'a>(op: BinaryOp, other: Found<'a>) -> Found<'a>
     ensures { found_view result ≡ spec.asks op (found_view other.entry) }
 {
-    if compares(op) {
-        other
-    } else {
-        Found::Nothing
-    }
+    if compares(op) { other } else { Found::Nothing }
 }
 
 /// The type of an expression, whose names are resolved. The least fault is kept.

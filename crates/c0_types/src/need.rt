@@ -29,12 +29,8 @@ fn binary_need(op: BinaryOp, left: u8, right: u8) -> u8
     ensures small { result < 14 }
 {
     match op {
-        BinaryOp::And => {
-            if left < right { right } else { left }
-        }
-        BinaryOp::Or => {
-            if left < right { right } else { left }
-        }
+        BinaryOp::And => { if left < right { right } else { left } }
+        BinaryOp::Or => { if left < right { right } else { left } }
         _ => above(left, right),
     }
 }

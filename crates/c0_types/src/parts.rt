@@ -23,20 +23,13 @@ use c0_tree::{Expr, Span};
 pub fn meet_other(want: Form<'_>, form: Form<'_>, span: Span, least: &mut Option<Fault>)
     ensures { met_view least.new ≡ kept_all (met_view least.old) (expression.own (expression.both (form_view want.entry) (form_view form.entry) (spec.same_rule span))) }
 {
-    if is_nothing(want) || is_nothing(form) {
-    } else if same_form(want, form) {
-    } else {
+    if is_nothing(want) || is_nothing(form) {} else if same_form(want, form) {} else {
         meet_at(least, Mistake::WrongType, span);
     }
 }
 
 /// An expression where a type may be asked: a right side, an argument, a condition, a returned expression.
-pub fn check_given(
-    scope: &Scope<'_>,
-    want: Found<'_>,
-    expr: &mut Expr,
-    least: &mut Option<Fault>,
-)
+pub fn check_given(scope: &Scope<'_>, want: Found<'_>, expr: &mut Expr, least: &mut Option<Fault>)
     requires { Knows scope.now }
     ensures { ChecksGiven (env_view scope.now) (found_view want.entry) (expr_view expr.old) (met_view least.old) (met_view least.new) (expr_view expr.new) }
 {
@@ -46,12 +39,7 @@ pub fn check_given(
 }
 
 /// A condition or a returned expression, of which this type is asked.
-pub fn check_tested(
-    scope: &Scope<'_>,
-    want: Found<'_>,
-    expr: &mut Expr,
-    least: &mut Option<Fault>,
-)
+pub fn check_tested(scope: &Scope<'_>, want: Found<'_>, expr: &mut Expr, least: &mut Option<Fault>)
     requires { Knows scope.now }
     ensures { ChecksTested (env_view scope.now) (found_view want.entry) (expr_view expr.old) (met_view least.old) (met_view least.new) (expr_view expr.new) }
 {

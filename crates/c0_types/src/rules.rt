@@ -25,7 +25,12 @@ pub fn wrong<'a>(least: &mut Option<Fault>, mistake: Mistake, span: Span) -> Fou
 }
 
 /// `e[i]` where e is a place.
-pub fn element<'a>(span: Span, part: Form<'a>, index: Form<'_>, least: &mut Option<Fault>) -> Found<'a>
+pub fn element<'a>(
+    span: Span,
+    part: Form<'a>,
+    index: Form<'_>,
+    least: &mut Option<Fault>,
+) -> Found<'a>
     ensures settles { Settles (found_view result) (met_view least.old) (met_view least.new) (spec.both (form_view part.entry) (form_view index.entry) (spec.element_rule span)) }
     ensures declared { IsTrue (is_declared result) }
 {
@@ -117,11 +122,7 @@ pub fn number_field(name: &mut Name, found: Option<(u32, &Decl)>)
 }
 
 // A field that was sought.
-fn sought<'a>(
-    at: Span,
-    found: Option<(u32, &'a Decl)>,
-    least: &mut Option<Fault>,
-) -> Found<'a>
+fn sought<'a>(at: Span, found: Option<(u32, &'a Decl)>, least: &mut Option<Fault>) -> Found<'a>
     ensures settles { Settles (found_view result) (met_view least.old) (met_view least.new) (spec.sought_rule at (found_in typed_view found.entry)) }
     ensures declared { IsTrue (is_declared result) }
 {
@@ -261,13 +262,7 @@ fn ints<'a>(
         Form::Nothing => Found::Nothing,
         Form::Int => match right {
             Form::Nothing => Found::Nothing,
-            Form::Int => {
-                if ordered {
-                    Found::Bool
-                } else {
-                    Found::Int
-                }
-            }
+            Form::Int => { if ordered { Found::Bool } else { Found::Int } }
             _ => wrong(least, Mistake::WrongType, span),
         },
         _ => {
@@ -281,12 +276,7 @@ fn ints<'a>(
 }
 
 // Two bools.
-fn bools<'a>(
-    span: Span,
-    left: Form<'_>,
-    right: Form<'_>,
-    least: &mut Option<Fault>,
-) -> Found<'a>
+fn bools<'a>(span: Span, left: Form<'_>, right: Form<'_>, least: &mut Option<Fault>) -> Found<'a>
     ensures { Settles (found_view result) (met_view least.old) (met_view least.new) (spec.both (form_view left.entry) (form_view right.entry) (spec.bools_rule span)) }
 {
     match left {
@@ -321,12 +311,7 @@ pub fn is_scalar_form(form: Form<'_>) -> bool
 }
 
 // Two values of one scalar type.
-fn alike<'a>(
-    span: Span,
-    left: Form<'_>,
-    right: Form<'_>,
-    least: &mut Option<Fault>,
-) -> Found<'a>
+fn alike<'a>(span: Span, left: Form<'_>, right: Form<'_>, least: &mut Option<Fault>) -> Found<'a>
     ensures { Settles (found_view result) (met_view least.old) (met_view least.new) (spec.both (form_view left.entry) (form_view right.entry) (spec.alike_rule span)) }
 {
     if is_nothing(left) || is_nothing(right) {

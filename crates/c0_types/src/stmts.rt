@@ -179,12 +179,7 @@ fn check_choice(
 
 // `while (test) { body }`
 #[cycle(statement)]
-fn check_loop(
-    scope: &Scope<'_>,
-    test: &mut Expr,
-    body: &mut Vec<Stmt>,
-    least: &mut Option<Fault>,
-)
+fn check_loop(scope: &Scope<'_>, test: &mut Expr, body: &mut Vec<Stmt>, least: &mut Option<Fault>)
     requires { Knows scope.now }
     ensures met { met_view least.new ≡ kept_all (met_view least.old) (loop_faults (env_view scope.now) (expr_view test.old) (stmts_view body.old.items)) }
     ensures test { expr_view test.new ≡ resolved (env_view scope.now) (expr_view test.old) }

@@ -18,7 +18,7 @@ loop-index-preserved c =
     let params = params_of (option_map callee_view c.args.callee) in
     let arg = get_or c.loop-index.args c.loop-index.index c.index-args-index.result in
     let s = in_place_step expr_view (resolved env) c.args.args.now c.loop-index.args c.loop-index.index arg c.check_given.new.expr
-      c.loop-index.invariant.0 c.loop-index-test.true (ap (get_or c.loop-index.args c.loop-index.index) c.index-args-index.is) c.check_given.ensures.1 in
+    c.loop-index.invariant.0 c.loop-index-test.true (ap (get_or c.loop-index.args c.loop-index.index) c.index-args-index.is) c.check_given.ensures.1 in
     (s.changed, args_step env params es c.loop-index.index (expr_view arg) _ _ _ _ s.within s.was c.param_of.ensures c.check_given.ensures.0 c.loop-index.invariant.1)
 
 pub returns : goal.returns

@@ -12,5 +12,5 @@ returns-in-Some c =
     let told = sym (c.requires c.args.text.now) ∙ sym c.in-Some.ensures.value in
     record {
       found = sym (first_numbered typed_view (λ v. v.text) c.args.text.now _ c.args.list.now _ told c.index-list-number.is);
-      within = number_within typed_view (λ v. v.text) c.args.text.now _ c.args.list.now told
+      within = number_within typed_view (λ v. v.text) c.args.text.now _ c.args.list.now told;
     }

@@ -54,10 +54,11 @@ check_stmt-returns-in-If t c =
     let test : expr_view c.check_choice.new.test ≡ resolved env (expr_view c.in-If.test) = search rules in
     let yes : stmts_view c.check_choice.new.yes.items ≡ resolved_of_stmts env (stmts_view c.in-If.yes.items) = search rules in
     let no : stmts_view c.check_choice.new.no.items ≡ resolved_of_stmts env (stmts_view c.in-If.no.items) = search rules in
-    let same = ap stmt_view c.in-If.is ∙ view_if c.in-If._span c.in-If.test c.in-If.yes c.in-If.no in
-    (met ∙ ap (λ z. kept_all (met_view c.args.least.now) (faults_of_stmt env z)) (sym same),
+    let same = ap stmt_view c.in-If.is ∙ view_if c.in-If._span c.in-If.test c.in-If.yes c.in-If.no in (
+      met ∙ ap (λ z. kept_all (met_view c.args.least.now) (faults_of_stmt env z)) (sym same),
       choice-resolved env _ c.in-If._span c.check_choice.new.test c.check_choice.new.yes c.check_choice.new.no _ (expr_view c.in-If.test) (stmts_view c.in-If.yes.items) (stmts_view c.in-If.no.items)
-      same (search rules) test yes no)
+          same (search rules) test yes no,
+    )
 
 pub check_stmt-returns-in-While : goal.check_stmt-returns-in-While
 check_stmt-returns-in-While t c =
@@ -65,10 +66,11 @@ check_stmt-returns-in-While t c =
     let met : met_view c.check_loop.new.least ≡ kept_all (met_view c.args.least.now) (loop_faults env (expr_view c.in-While.test) (stmts_view c.in-While.body.items)) = search rules in
     let test : expr_view c.check_loop.new.test ≡ resolved env (expr_view c.in-While.test) = search rules in
     let body : stmts_view c.check_loop.new.body.items ≡ resolved_of_stmts env (stmts_view c.in-While.body.items) = search rules in
-    let same = ap stmt_view c.in-While.is ∙ view_while c.in-While._span c.in-While.test c.in-While.body in
-    (met ∙ ap (λ z. kept_all (met_view c.args.least.now) (faults_of_stmt env z)) (sym same),
+    let same = ap stmt_view c.in-While.is ∙ view_while c.in-While._span c.in-While.test c.in-While.body in (
+      met ∙ ap (λ z. kept_all (met_view c.args.least.now) (faults_of_stmt env z)) (sym same),
       loop-resolved env _ c.in-While._span c.check_loop.new.test c.check_loop.new.body _ (expr_view c.in-While.test) (stmts_view c.in-While.body.items)
-      same (search rules) test body)
+          same (search rules) test body,
+    )
 
 pub check_choice-returns-clause-met : goal.check_choice-returns-clause-met
 check_choice-returns-clause-met t c =
@@ -91,7 +93,7 @@ check_stmts-check_stmt-requires t c =
     let env = env_view c.args.scope.now in
     let stmt = get_or c.loop-stmt.stmts c.loop-stmt.stmt-index c.stmt-item.result in
     let at = in_place_at stmt_view (resolved_of_stmt env) c.args.stmts.now c.loop-stmt.stmts c.loop-stmt.stmt-index stmt
-      c.loop-stmt.invariant.0 c.loop-stmt-test.true (ap (get_or c.loop-stmt.stmts c.loop-stmt.stmt-index) c.stmt-item.is) in
+    c.loop-stmt.invariant.0 c.loop-stmt-test.true (ap (get_or c.loop-stmt.stmts c.loop-stmt.stmt-index) c.stmt-item.is) in
     (stmt_falls (map stmt_view c.args.stmts.now) c.loop-stmt.stmt-index (stmt_view stmt) t c.decreases at.0 at.1, c.requires)
 
 pub check_stmts-loop-stmt-preserved : goal.check_stmts-loop-stmt-preserved
@@ -99,13 +101,14 @@ check_stmts-loop-stmt-preserved t c =
     let env = env_view c.args.scope.now in
     let stmt = get_or c.loop-stmt.stmts c.loop-stmt.stmt-index c.stmt-item.result in
     let s = in_place_step stmt_view (resolved_of_stmt env) c.args.stmts.now c.loop-stmt.stmts c.loop-stmt.stmt-index stmt c.check_stmt.new.stmt
-      c.loop-stmt.invariant.0 c.loop-stmt-test.true (ap (get_or c.loop-stmt.stmts c.loop-stmt.stmt-index) c.stmt-item.is) c.check_stmt.ensures.1 in
+    c.loop-stmt.invariant.0 c.loop-stmt-test.true (ap (get_or c.loop-stmt.stmts c.loop-stmt.stmt-index) c.stmt-item.is) c.check_stmt.ensures.1 in
     (s.changed, stmts_step env (map stmt_view c.args.stmts.now) c.loop-stmt.stmt-index (stmt_view stmt) _ _ _ s.within s.was c.check_stmt.ensures.0 c.loop-stmt.invariant.1)
 
 pub check_stmts-returns : goal.check_stmts-returns
 check_stmts-returns t c =
     let env = env_view c.args.scope.now in
     let last : c.loop-stmt.stmt-index ≡ length c.args.stmts.now = omega (arith, c.loop-stmt.auto.stmt-index-end, c.loop-stmt-test.false) in
-    let e = in_place_end stmt_view (resolved_of_stmt env) c.args.stmts.now c.loop-stmt.stmts c.loop-stmt.stmt-index c.loop-stmt.invariant.0 last in
-    (ap (λ l. kept_all (met_view c.loop-stmt.least) (faults_of_stmts env (stmts_of l))) (sym e.1) ∙ c.loop-stmt.invariant.1,
-      ap stmts_of e.0 ∙ resolved-stmts_of env (map stmt_view c.args.stmts.now))
+    let e = in_place_end stmt_view (resolved_of_stmt env) c.args.stmts.now c.loop-stmt.stmts c.loop-stmt.stmt-index c.loop-stmt.invariant.0 last in (
+      ap (λ l. kept_all (met_view c.loop-stmt.least) (faults_of_stmts env (stmts_of l))) (sym e.1) ∙ c.loop-stmt.invariant.1,
+      ap stmts_of e.0 ∙ resolved-stmts_of env (map stmt_view c.args.stmts.now),
+    )
