@@ -5,3 +5,4 @@ pub mod Size
 pub mod FirstTree
 pub mod FirstView
 pub mod First
+pub mod Plain

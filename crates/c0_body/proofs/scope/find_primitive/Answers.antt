@@ -1,0 +1,13 @@
+-- The number that the map tells is that of the first primitive of the name.
+use Rattle.std.proofs.Common.{sym, ◌∙◌}
+use Rattle.c0_body.specs.Scope.{primitive_signature_view}
+use Rattle.c0_body.proofs.Numbered.{number_within, first_numbered_or}
+use Rattle.c0_body.proofs.scope.find_primitive.Goals as goal
+
+pub bounds-list-number : goal.bounds-list-number
+bounds-list-number c = number_within primitive_signature_view (λ s. s.text) c.args.text.now _ c.args.list.now (sym (c.requires c.args.text.now) ∙ sym c.in-Some.ensures.value)
+
+pub returns-in-Some : goal.returns-in-Some
+returns-in-Some c =
+    sym (first_numbered_or primitive_signature_view (λ s. s.text) c.args.text.now _ c.args.list.now _
+    (sym (c.requires c.args.text.now) ∙ sym c.in-Some.ensures.value))

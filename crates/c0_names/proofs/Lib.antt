@@ -1,0 +1,4 @@
+pub mod NamesLemmas
+pub mod Meeting
+pub mod StructsTell
+pub mod SpacesLemmas

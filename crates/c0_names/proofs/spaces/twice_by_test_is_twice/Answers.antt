@@ -1,0 +1,5 @@
+use Rattle.c0_names.proofs.SpacesLemmas.{twice_by_is}
+use Rattle.c0_names.proofs.spaces.twice_by_test_is_twice.Goals as goal
+
+pub returns : goal.returns
+returns c = twice_by_is

@@ -1,0 +1,4 @@
+pub mod Names
+pub mod Met
+pub mod Structs
+pub mod Spaces

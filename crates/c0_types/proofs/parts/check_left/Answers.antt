@@ -1,7 +1,0 @@
-use Rattle.c0_types.specs.Scope.{env_view}
-use Rattle.c0_types.proofs.PartLemmas.{left_part}
-use Rattle.c0_types.proofs.parts.check_left.Goals as goal
-
-pub returns : goal.returns
-returns c =
-    left_part (env_view c.args.scope.now) _ _ _ _ _ _ _ _ _ c.check-found.ensures.checks c.is_place-place.ensures c.span_of-span.ensures c.left.ensures

@@ -1,7 +1,0 @@
-use Rattle.c0_types.specs.Scope.{env_view}
-use Rattle.c0_types.proofs.PartLemmas.{tested_part}
-use Rattle.c0_types.proofs.parts.check_tested.Goals as goal
-
-pub returns : goal.returns
-returns c =
-    tested_part (env_view c.args.scope.now) _ _ _ _ _ _ _ _ c.check_given.ensures c.span_of-span.ensures c.is_deep-deep.ensures c.meet_if.ensures

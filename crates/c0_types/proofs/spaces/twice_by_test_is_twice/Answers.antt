@@ -1,5 +1,0 @@
-use Rattle.c0_types.proofs.SpacesLemmas.{twice_by_is}
-use Rattle.c0_types.proofs.spaces.twice_by_test_is_twice.Goals as goal
-
-pub returns : goal.returns
-returns c = twice_by_is
