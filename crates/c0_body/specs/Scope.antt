@@ -86,7 +86,7 @@ pub record FieldsTell {A S : Type 0} (names : List (IndexMap (Vec ℕ A) ℕ S))
   pub each : (i : ℕ) (n : IndexMap (Vec ℕ A) ℕ S) (s : StructDef) → i < length structs
       → Tells (λ v. v.text) (get_or names i n) (map typed_view (get_or structs i s).fields.items)
 
--- the maps of a scope tell the numbers of its lists, and those of parameters and locals fit their type
+-- the maps of a scope tell the numbers of its lists
 pub record Knows (scope : Scope) : Type 0 where
   pub structs : Tells (λ s. s.text) scope.struct_names.now (map shape_view scope.structs.now)
   pub sizes : (text : List ℕ) (n : ℕ) → look scope.struct_names.now text ≡ Some n
@@ -95,9 +95,7 @@ pub record Knows (scope : Scope) : Type 0 where
   pub globals : Tells (λ v. v.text) scope.global_names.now (map typed_view scope.globals.now)
   pub functions : Tells (λ s. s.text) scope.function_names.now (map signature_view scope.functions.now)
   pub primitives : Tells (λ s. s.text) scope.primitive_names.now (map primitive_signature_view scope.primitives.now)
-  pub params : Tells (λ v. v.text) scope.param_names.now (map typed_view scope.params.now)
-  pub locals : Tells (λ v. v.text) scope.local_names.now (map typed_view scope.locals.now)
-  pub small : length scope.params.now + length scope.locals.now < 2 ^ 32
+  pub locals : Tells (λ v. v.text) scope.local_names.now (map typed_view scope.params.now ++ map typed_view scope.locals.now)
 
 -- a variable that was found
 abbrev pub variable_view : Variable → spec.Variable

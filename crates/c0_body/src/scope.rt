@@ -33,11 +33,9 @@ pub struct Scope<'a> {
     pub primitive_names: &'a Names,
     /// The parameters of the function.
     pub params: &'a [Decl],
-    /// The number of the parameter of each name.
-    pub param_names: &'a Names,
     /// The locals of the function.
     pub locals: &'a [Decl],
-    /// The number of the local of each name, among the locals alone.
+    /// The number of the parameter or local of each name: its place among the parameters followed by the locals.
     pub local_names: &'a Names,
 }
 
@@ -88,20 +86,31 @@ pub fn find_declared<'a>(names: &Names, list: &'a [Decl], text: &[u8]) -> Option
     }
 }
 
+// The first parameter or local of a name, with its number.
+fn find_local<'a>(scope: &Scope<'a>, text: &[u8]) -> Option<(u32, &'a Decl)>
+    requires { Knows scope.now }
+    ensures { found_in typed_view result ≡ first_named (λ v. v.text) text.now 0 (env_view scope.now).locals }
+{
+    match scope.local_names.get(text) {
+        None => None,
+        Some(number) => {
+            let place = *number as usize;
+            let count = scope.params.len();
+            if place < count {
+                Some((*number, &scope.params[place]))
+            } else {
+                Some((*number, &scope.locals[place - count]))
+            }
+        }
+    }
+}
+
 /// The variable of a name: parameters and locals hide globals.
 pub fn find_variable<'a>(scope: &Scope<'a>, text: &[u8]) -> Option<Variable<'a>>
     requires { Knows scope.now }
     ensures { option_map variable_view result ≡ variable_named (env_view scope.now) text.now }
 {
-    if let Some((number, decl)) = find_declared(scope.param_names, scope.params, text) {
-        return Some(Variable {
-            kind: Kind::Local,
-            number,
-            ty: &decl.ty,
-        });
-    }
-    if let Some((place, decl)) = find_declared(scope.local_names, scope.locals, text) {
-        let number = scope.params.len() as u32 + place;
+    if let Some((number, decl)) = find_local(scope, text) {
         return Some(Variable {
             kind: Kind::Local,
             number,

@@ -84,7 +84,7 @@ module _ (number : List ℕ → Option ℕ) (sizes : List ℕ) (structs : List S
   same_resolved (named x) = ap named (ap (numbered_struct x) (numbers x.text) ∙ looked_one x (first_named (λ s. s.text) x.text 0 structs))
   same_resolved (array t n) = ap (λ u. array u n) (same_resolved t)
 
-  same_words : (t : CTy) → capped_words number sizes t ≡ min (words structs (ty_of t)) WORDS_CAP
+  pub same_words : (t : CTy) → capped_words number sizes t ≡ min (words structs (ty_of t)) WORDS_CAP
   same_words int = refl
   same_words bool = refl
   same_words (pointer t) = refl

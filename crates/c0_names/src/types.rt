@@ -1,7 +1,12 @@
 // The check of types: their names are resolved, and their faults are met.
 
-ghost use Rattle.std.specs.Prelude.{◌≡◌};
+ghost use Rattle.std.specs.Prelude.{◌≡◌, List, min};
 ghost use Rattle.c0_meaning.specs.DeclaredTypes as spec;
+ghost use Rattle.c0_meaning.specs.DeclaredTypes.{type_faults};
+ghost use Rattle.c0_meaning.specs.Env.{Shape};
+ghost use Rattle.c0_meaning.specs.Resolved.{resolved_type};
+ghost use Rattle.c0_meaning.specs.Ty.{ty_of};
+ghost use Rattle.c0_meaning.specs.Words.{words};
 ghost use Rattle.c0_meaning.specs.Fault.{kept_all};
 ghost use Rattle.c0_tree.specs.View.{name_view, type_view};
 ghost use Rattle.c0_names.specs.Met.{met_view};
@@ -59,8 +64,8 @@ fn has_empty_array(ty: &CType) -> bool
     }
 }
 
-/// The words of a type, up to the cap, where the words of each struct are given.
-pub fn capped_words(names: &Names, sizes: &[u32], ty: &CType) -> u32
+/// The words of a type, up to 1,048,577, where those of each struct are given.
+pub fn words_by(names: &Names, sizes: &[u32], ty: &CType) -> u32
     ensures { result ≡ structs.capped_words (look names.now) sizes.now (type_view ty.now) }
 {
     match ty {
@@ -69,10 +74,17 @@ pub fn capped_words(names: &Names, sizes: &[u32], ty: &CType) -> u32
         CType::Pointer(_) => 1,
         CType::Named(name) => struct_words(names, sizes, name.bytes.as_slice()),
         CType::Array(element, size) => {
-            let words = capped_words(names, sizes, element).saturating_mul(*size);
+            let words = words_by(names, sizes, element).saturating_mul(*size);
             if words < WORDS_CAP { words } else { WORDS_CAP }
         }
     }
+}
+
+/// The words of a type, up to 1,048,577.
+pub fn capped_words(names: &Names, sizes: &[u32], ty: &CType) -> u32
+    ensures { (shapes : List Shape) → structs.KnowsStructs names.now sizes.now shapes → result ≡ min (words shapes (ty_of (type_view ty.now))) structs.WORDS_CAP }
+{
+    words_by(names, sizes, ty)
 }
 
 // The words of the struct of a name.
@@ -88,7 +100,7 @@ fn struct_words(names: &Names, sizes: &[u32], text: &[u8]) -> u32
     }
 }
 
-/// Resolves the names in a type that stands at this span, and meets its faults.
+/// Resolves the names in a declared type that stands at this span, and meets its faults.
 pub fn check_type(
     names: &Names,
     sizes: &[u32],
@@ -96,11 +108,11 @@ pub fn check_type(
     span: Span,
     least: &mut Option<Fault>,
 )
-    ensures met { met_view least.new ≡ kept_all (met_view least.old) (structs.type_faults_by (look names.now) sizes.now (type_view ty.old) span) }
-    ensures named { type_view ty.new ≡ structs.numbered_type (look names.now) (type_view ty.old) }
+    ensures met { (shapes : List Shape) → structs.KnowsStructs names.now sizes.now shapes → met_view least.new ≡ kept_all (met_view least.old) (type_faults shapes (type_view ty.old) span) }
+    ensures named { (shapes : List Shape) → structs.KnowsStructs names.now sizes.now shapes → type_view ty.new ≡ resolved_type shapes (type_view ty.old) }
 {
     let empty = has_empty_array(ty);
-    let large = capped_words(names, sizes, ty) > MAX_TYPE_WORDS;
+    let large = words_by(names, sizes, ty) > MAX_TYPE_WORDS;
     name_structs(names, ty, least);
     meet_if(least, empty, Mistake::EmptyArray, span);
     meet_if(least, large, Mistake::TypeTooLarge, span);
