@@ -1,5 +1,6 @@
 -- A name that has a number in a list stands there: the element of that number is the first of the name.
 use Rattle.std.proofs.Common.{◌≡◌, ℕ, zero, suc, ◌+◌, ◌<◌, Bool, true, false, if◌then◌else◌, List, [], ◌∷◌, ◌++◌, ◌-◌, ◌≤◌, length, map, Option, Some, None, get_or, refl, sym, ap, ◌∙◌, subst, bytes_eq, arith}
+use Rattle.std.proofs.lemmas.List.{map-append, length-append, get_or_append_left, get_or-append_right}
 use Rattle.std.specs.Option.{option_map}
 use Rattle.c0_meaning.specs.Env.{first_named}
 use Rattle.c0_names.specs.Names.{number_named}
@@ -51,3 +52,21 @@ module _ {T A : Type 0} (view : T → A) (name : A → List ℕ) (text : List �
   pub first_numbered : (n : ℕ) (list : List T) (x : T) → number_named name text 0 (map view list) ≡ Some n → x ≡ get_or list n x
       → first_named name text 0 (map view list) ≡ Some (n, view x)
   first_numbered n list x h e = first_numbered_or n list x h ∙ ap (λ y. Some (n, view y)) (sym e)
+
+-- The same of two lists, one after the other.
+module _ {T A : Type 0} (view : T → A) (name : A → List ℕ) (text : List ℕ) (n : ℕ) (xs ys : List T)
+    (h : number_named name text 0 (map view xs ++ map view ys) ≡ Some n) where
+  joined : number_named name text 0 (map view (xs ++ ys)) ≡ Some n
+  joined = ap (number_named name text 0) (map-append view xs ys) ∙ h
+
+  pub second_within : length xs ≤ n → n - length xs < length ys
+  second_within k = let w = number_within view name text n (xs ++ ys) joined in let l = length-append xs ys in omega (arith, w, l, k)
+
+  found : (d : T) → first_named name text 0 (map view xs ++ map view ys) ≡ Some (n, view (get_or (xs ++ ys) n d))
+  found d = sym (ap (first_named name text 0) (map-append view xs ys)) ∙ first_numbered_or view name text n (xs ++ ys) d joined
+
+  pub first_of_two : (d : T) → n < length xs → first_named name text 0 (map view xs ++ map view ys) ≡ Some (n, view (get_or xs n d))
+  first_of_two d k = found d ∙ ap (λ y. Some (n, view y)) (get_or_append_left xs ys d n k)
+
+  pub second_of_two : (d : T) → length xs ≤ n → first_named name text 0 (map view xs ++ map view ys) ≡ Some (n, view (get_or ys (n - length xs) d))
+  second_of_two d k = found d ∙ ap (λ y. Some (n, view y)) (get_or-append_right xs ys (length xs) n d refl k)
