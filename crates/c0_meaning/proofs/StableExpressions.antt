@@ -1,16 +1,13 @@
 -- Expressions with their names resolved: their types, faults and sizes stay, and resolving them again changes nothing.
-use Rattle.std.proofs.Common.{◌≡◌, ℕ, Bool, List, [], ◌∷◌, ◌++◌, length, map, Option, Some, None, refl, sym, ap, ◌∙◌}
-use Rattle.std.specs.List.{list_all}
+use Rattle.std.proofs.Common.{◌≡◌, ℕ, List, Option, Some, None, refl, ap, ◌∙◌}
 use Rattle.c0_tree.specs.declared.tree.Span.{Span}
 use Rattle.c0_tree.specs.declared.tree.UnaryOp.{UnaryOp}
 use Rattle.c0_tree.specs.declared.tree.BinaryOp.{BinaryOp}
 use Rattle.c0_tree.specs.Tree.{CName, CExpr, num, true_, false_, null, var, field, arrow, index, deref, address, unary, binary}
-use Rattle.c0_tree.specs.Size.{binary_need, need, args_need, nodes, args_nodes}
-use Rattle.c0_tree.specs.Plain.{is_plain_expr, is_short}
-use Rattle.c0_meaning.specs.Ty.{Ty}
+use Rattle.c0_tree.specs.Size.{need, nodes}
+use Rattle.c0_tree.specs.Plain.{is_plain_expr}
 use Rattle.c0_meaning.specs.Env.{Env, Typed, Variable, variable_named}
-use Rattle.c0_meaning.specs.Fault.{Fault}
-use Rattle.c0_meaning.specs.Expression.{Verdict, own, span_of, is_place, is_local, is_null, variable_rule, member, target, verdict, type_of, faults, numbered_variable, numbered_field, resolved}
+use Rattle.c0_meaning.specs.Expression.{own, span_of, is_place, is_local, is_null, variable_rule, member, target, verdict, type_of, faults, numbered_variable, numbered_field, resolved}
 use Rattle.c0_meaning.proofs.StableTypes.{IsAt}
 
 -- an expression of which the same is read as of another, and that resolving leaves as it is

@@ -1,10 +1,10 @@
 -- Statements with their names resolved: their faults and sizes stay, and resolving them again changes nothing. The same for arguments
 -- and for what is tested.
-use Rattle.std.proofs.Common.{◌≡◌, ℕ, suc, Bool, List, [], ◌∷◌, ◌++◌, length, map, Option, Some, None, refl, sym, ap, ◌∙◌}
+use Rattle.std.proofs.Common.{◌≡◌, ℕ, List, [], ◌∷◌, length, map, Option, Some, None, refl}
 use Rattle.std.specs.List.{list_all}
 use Rattle.c0_tree.specs.declared.tree.Span.{Span}
 use Rattle.c0_tree.specs.Tree.{CName, CTy, CExpr, CStmt, assign, call, new, choice, loop, CStmts, done, next}
-use Rattle.c0_tree.specs.Size.{need, args_need, nodes, args_nodes, stmt_nodes, stmts_nodes}
+use Rattle.c0_tree.specs.Size.{args_need, args_nodes, stmt_nodes, stmts_nodes}
 use Rattle.c0_tree.specs.Plain.{is_plain_expr, stmts_length, is_plain_stmt, are_plain_stmts}
 use Rattle.c0_meaning.specs.Ty.{Ty, bool, ty_of}
 use Rattle.c0_meaning.specs.Env.{Env, Callee, callee_named}

@@ -9,13 +9,11 @@ use Rattle.c0_tree.specs.declared.tree.Kind.TheVariants.{Unresolved, Struct, Fie
 use Rattle.c0_tree.specs.Tree.{CName, CTy, int, bool, pointer, named, array, CDecl, CStruct}
 use Rattle.c0_meaning.specs.Ty.{Ty, ty_of}
 use Rattle.c0_meaning.specs.Ty as ty
-use Rattle.c0_meaning.specs.Env.{Shape, Typed, first_named, shape_of, typed_of}
-use Rattle.c0_meaning.specs.Fault.{Fault, fault, UNKNOWN_NAME, STRUCT_HOLDS_ITSELF, TYPE_TOO_LARGE, EMPTY_ARRAY}
-use Rattle.c0_meaning.specs.Words.{holds}
-use Rattle.c0_meaning.specs.DeclaredTypes.{fault_if, unknown_structs, has_empty_array, is_too_large, type_faults, declared_faults, pass_fault, pass_faults}
-use Rattle.c0_meaning.specs.Names.{is_among, twice_faults, in_source_order, struct_name_faults, decl_name_faults}
+use Rattle.c0_meaning.specs.Env.{Shape, first_named, shape_of, typed_of}
+use Rattle.c0_meaning.specs.DeclaredTypes.{unknown_structs, has_empty_array, type_faults, declared_faults, pass_fault, pass_faults}
+use Rattle.c0_meaning.specs.Names.{twice_faults, in_source_order, struct_name_faults, decl_name_faults}
 use Rattle.c0_meaning.specs.Resolved.{standing_for, looked_up, resolved_type, resolved_decls, resolved_structs}
-use Rattle.c0_meaning.specs.Unit.{struct_faults, structs_faults}
+use Rattle.c0_meaning.specs.Unit.{structs_faults}
 
 -- a name of the same text at the same place
 pub record IsAt (x y : CName) : Type 0 where

@@ -1,24 +1,24 @@
 -- Units with their names resolved: their faults stay, and resolving them again changes nothing.
 use Rattle.std.proofs.Common.{◌≡◌, ℕ, suc, not, ◌&&◌, Bool, IsTrue, List, [], ◌∷◌, ◌++◌, length, map, refl, sym, ap, ◌∙◌, subst}
 use Rattle.std.proofs.lemmas.List.{map-append}
-use Rattle.std.proofs.lemmas.List.Elements.{All-cons, All-nil, All-head, All-tail}
-use Rattle.std.specs.List.{All, list_all, list_any}
+use Rattle.std.proofs.lemmas.List.Elements.{All-cons, All-head, All-tail}
+use Rattle.std.specs.List.{list_all, list_any}
 use Rattle.c0_tree.specs.declared.tree.Span.{Span}
 use Rattle.c0_tree.specs.declared.tree.Kind.{Kind}
 use Rattle.c0_tree.specs.declared.tree.Kind.TheVariants.{Global, Local}
-use Rattle.c0_tree.specs.Tree.{CTy, CExpr, CName, CDecl, CStruct, CStmts, CBody, code, asm, CFunction, CUnit}
+use Rattle.c0_tree.specs.Tree.{CName, CDecl, CStruct, CBody, code, asm, CFunction, CUnit}
 use Rattle.c0_tree.specs.Size.{body_nodes}
 use Rattle.c0_tree.specs.Plain.{is_short, is_plain_body, is_plain}
 use Rattle.c0_tree.specs.Primitives.{CPrimitive}
 use Rattle.c0_meaning.specs.Ty.{Ty, ty_of}
-use Rattle.c0_meaning.specs.Env.{Shape, Typed, Signature, shape_of, typed_of, signature_of, Env, env_of}
+use Rattle.c0_meaning.specs.Env.{Shape, shape_of, typed_of, signature_of, Env, env_of}
 use Rattle.c0_meaning.specs.Fault.{NO_DISPATCH}
 use Rattle.c0_meaning.specs.DeclaredTypes.{fault_if, type_faults, declared_faults}
 use Rattle.c0_meaning.specs.Names.{in_source_order, unit_names, unit_name_faults, decl_name_faults}
 use Rattle.c0_meaning.specs.Limits.{is_asm, words_held, locals_of, nodes_of, all_nodes, are_three_ints, is_dispatch, whole}
 use Rattle.c0_meaning.specs.Resolved.{resolved_type, resolved_decls, resolved_structs}
 use Rattle.c0_meaning.specs.Expression.{resolved}
-use Rattle.c0_meaning.specs.Statement.{tested_faults, stmts_faults, stmts_resolved}
+use Rattle.c0_meaning.specs.Statement.{stmts_resolved}
 use Rattle.c0_meaning.specs.Asm.{are_allowed_words}
 use Rattle.c0_meaning.specs.Unit.{signature_faults, faults_in, body_faults, functions_faults, unit_faults, resolved_body, resolved_function, resolved_functions, resolved_unit, AreWordsAllowed}
 use Rattle.c0_meaning.specs.Stable.{ResolvingIsStable}
