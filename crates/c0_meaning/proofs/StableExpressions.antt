@@ -23,6 +23,7 @@ pub record IsKept (env : Env) (e f : CExpr) : Type 0 where
   pub plain : is_plain_expr f ≡ is_plain_expr e
   pub again : resolved env f ≡ f
 
+-- names
 variable_at : (x : CName) (found : Option Variable) → IsAt x (numbered_variable x found)
 variable_at x None = record { text = refl; span = refl }
 variable_at x (Some v) = record { text = refl; span = refl }
@@ -35,6 +36,7 @@ variable_said : (x y : CName) (found : Option Variable) → IsAt x y → variabl
 variable_said x y None at = cc
 variable_said x y (Some v) at = refl
 
+-- one node of each kind, over parts that are kept
 kept_variable : (env : Env) (x y : CName) → IsAt x y → numbered_variable y (variable_named env x.text) ≡ y → IsKept env (var x) (var y)
 kept_variable env x y at again =
     let said : verdict env (var y) ≡ verdict env (var x) = ap (λ (text : List ℕ). variable_rule y (variable_named env text)) at.text ∙ variable_said x y (variable_named env x.text) at in
@@ -59,7 +61,8 @@ field_again : (f : CName) (found : Option (ℕ × Typed)) → numbered_field (nu
 field_again f None = refl
 field_again f (Some found) = refl
 
-kept_field : (env : Env) (s : Span) (e d : CExpr) (f g : CName) → IsKept env e d → IsAt f g → numbered_field g (member env (type_of env e) f.text) ≡ g
+kept_field : (env : Env) (s : Span) (e d : CExpr) (f g : CName) → IsKept env e d → IsAt f g
+    → numbered_field g (member env (type_of env e) f.text) ≡ g
     → IsKept env (field s e f) (field s d g)
 kept_field env s e d f g k at again =
     let said : verdict env (field s d g) ≡ verdict env (field s e f) = cc in
@@ -76,7 +79,8 @@ kept_field env s e d f g k at again =
       again = cc;
     }
 
-kept_arrow : (env : Env) (s : Span) (e d : CExpr) (f g : CName) → IsKept env e d → IsAt f g → numbered_field g (member env (target (type_of env e)) f.text) ≡ g
+kept_arrow : (env : Env) (s : Span) (e d : CExpr) (f g : CName) → IsKept env e d → IsAt f g
+    → numbered_field g (member env (target (type_of env e)) f.text) ≡ g
     → IsKept env (arrow s e f) (arrow s d g)
 kept_arrow env s e d f g k at again =
     let said : verdict env (arrow s d g) ≡ verdict env (arrow s e f) = cc in
@@ -157,7 +161,8 @@ kept_unary env s o e d k =
       again = cc;
     }
 
-kept_binary : (env : Env) (s : Span) (o : BinaryOp) (a c b d : CExpr) → IsKept env a c → IsKept env b d → IsKept env (binary s o a b) (binary s o c d)
+kept_binary : (env : Env) (s : Span) (o : BinaryOp) (a c b d : CExpr) → IsKept env a c → IsKept env b d
+    → IsKept env (binary s o a b) (binary s o c d)
 kept_binary env s o a c b d k l =
     let said : verdict env (binary s o c d) ≡ verdict env (binary s o a b) = cc in
     record {
@@ -173,6 +178,7 @@ kept_binary env s o a c b d k l =
       again = cc;
     }
 
+-- a node without names and parts
 kept_itself : (env : Env) (e : CExpr) → resolved env e ≡ e → IsKept env e e
 kept_itself env e again = record {
   said = refl;
@@ -194,8 +200,12 @@ kept env (true_ s) = kept_itself env (true_ s) refl
 kept env (false_ s) = kept_itself env (false_ s) refl
 kept env (null s) = kept_itself env (null s) refl
 kept env (var x) = kept_variable env x _ (variable_at x (variable_named env x.text)) (variable_again x (variable_named env x.text))
-kept env (field s e f) = kept_field env s e _ f _ (kept env e) (field_at f (member env (type_of env e) f.text)) (field_again f (member env (type_of env e) f.text))
-kept env (arrow s e f) = kept_arrow env s e _ f _ (kept env e) (field_at f (member env (target (type_of env e)) f.text)) (field_again f (member env (target (type_of env e)) f.text))
+kept env (field s e f) =
+    let found = member env (type_of env e) f.text in
+    kept_field env s e _ f _ (kept env e) (field_at f found) (field_again f found)
+kept env (arrow s e f) =
+    let found = member env (target (type_of env e)) f.text in
+    kept_arrow env s e _ f _ (kept env e) (field_at f found) (field_again f found)
 kept env (index s e i) = kept_index env s e _ i _ (kept env e) (kept env i)
 kept env (deref s e) = kept_deref env s e _ (kept env e)
 kept env (address s e) = kept_address env s e _ (kept env e)

@@ -14,6 +14,7 @@ use Rattle.c0_meaning.specs.Statement.{given_faults, tested_faults, left_type, l
 use Rattle.c0_meaning.proofs.StableTypes.{IsAt}
 use Rattle.c0_meaning.proofs.StableExpressions.{IsKept, kept}
 
+-- where a type may be asked
 given_kept : (env : Env) (want : Option Ty) (e d : CExpr) → IsKept env e d → given_faults env want d ≡ given_faults env want e
 given_kept env want e d k = cc
 
@@ -51,6 +52,7 @@ args_kept env (e ∷ es) =
       again = cc;
     }
 
+-- a called name
 callee_at : (f : CName) (found : Option Callee) → IsAt f (numbered_callee f found)
 callee_at f None = record { text = refl; span = refl }
 callee_at f (Some c) = record { text = refl; span = refl }
@@ -59,7 +61,8 @@ callee_again : (f : CName) (found : Option Callee) → numbered_callee (numbered
 callee_again f None = refl
 callee_again f (Some c) = refl
 
-callee_kept : (s : Span) (f g : CName) (want : Option Ty) (count : ℕ) (found : Option Callee) → IsAt f g → callee_faults s g want count found ≡ callee_faults s f want count found
+callee_kept : (s : Span) (f g : CName) (want : Option Ty) (count : ℕ) (found : Option Callee) → IsAt f g
+    → callee_faults s g want count found ≡ callee_faults s f want count found
 callee_kept s f g want count None at = cc
 callee_kept s f g want count (Some c) at = refl
 
@@ -84,7 +87,9 @@ pub record AreStmtsKept (declared : CTy → Span → List Fault) (settled : CTy 
   pub plain : are_plain_stmts rs ≡ are_plain_stmts ss
   pub again : stmts_resolved settled env rs ≡ rs
 
-assign_kept : (declared : CTy → Span → List Fault) (settled : CTy → CTy) (env : Env) (s : Span) (p q v w : CExpr) → IsKept env p q → IsKept env v w
+-- one statement of each kind, over parts that are kept
+assign_kept : (declared : CTy → Span → List Fault) (settled : CTy → CTy) (env : Env) (s : Span) (p q v w : CExpr) → IsKept env p q
+    → IsKept env v w
     → IsStmtKept declared settled env (assign s p v) (assign s q w)
 assign_kept declared settled env s p q v w k l =
     let left : IsLeftKept env p q = left_kept env p q k in
@@ -142,16 +147,19 @@ next_kept : (declared : CTy → Span → List Fault) (settled : CTy → CTy) (en
 next_kept declared settled env s r ss rs k ks = record { faulty = cc; counted = cc; many = cc; plain = cc; again = cc }
 
 mutual
-  stmt_kept : (declared : CTy → Span → List Fault) (settled : CTy → CTy) (env : Env) → IsSettled declared settled → (s : CStmt) → IsStmtKept declared settled env s (stmt_resolved settled env s)
+  stmt_kept : (declared : CTy → Span → List Fault) (settled : CTy → CTy) (env : Env) → IsSettled declared settled → (s : CStmt)
+      → IsStmtKept declared settled env s (stmt_resolved settled env s)
   stmt_kept declared settled env h (assign s p v) = assign_kept declared settled env s p _ v _ (kept env p) (kept env v)
   stmt_kept declared settled env h (call s p cs f args) =
-      call_kept declared settled env s p _ cs f _ args _ (kept env p) (callee_at f (callee_named env f.text)) (callee_again f (callee_named env f.text)) (args_kept env args)
+      let found = callee_named env f.text in
+      call_kept declared settled env s p _ cs f _ args _ (kept env p) (callee_at f found) (callee_again f found) (args_kept env args)
   stmt_kept declared settled env h (new s p t ts) = new_kept declared settled env s p _ t ts h (kept env p)
   stmt_kept declared settled env h (choice s t a b) =
       choice_kept declared settled env s t _ a _ b _ (kept env t) (stmts_kept declared settled env h a) (stmts_kept declared settled env h b)
   stmt_kept declared settled env h (loop s t b) = loop_kept declared settled env s t _ b _ (kept env t) (stmts_kept declared settled env h b)
 
   -- resolving keeps statements
-  pub stmts_kept : (declared : CTy → Span → List Fault) (settled : CTy → CTy) (env : Env) → IsSettled declared settled → (ss : CStmts) → AreStmtsKept declared settled env ss (stmts_resolved settled env ss)
+  pub stmts_kept : (declared : CTy → Span → List Fault) (settled : CTy → CTy) (env : Env) → IsSettled declared settled → (ss : CStmts)
+      → AreStmtsKept declared settled env ss (stmts_resolved settled env ss)
   stmts_kept declared settled env h done = record { faulty = refl; counted = refl; many = refl; plain = refl; again = refl }
   stmts_kept declared settled env h (next s rest) = next_kept declared settled env s _ rest _ (stmt_kept declared settled env h s) (stmts_kept declared settled env h rest)

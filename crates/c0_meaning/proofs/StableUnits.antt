@@ -6,7 +6,7 @@ use Rattle.std.specs.List.{list_all, list_any}
 use Rattle.c0_tree.specs.declared.tree.Span.{Span}
 use Rattle.c0_tree.specs.declared.tree.Kind.{Kind}
 use Rattle.c0_tree.specs.declared.tree.Kind.TheVariants.{Global, Local}
-use Rattle.c0_tree.specs.Tree.{CName, CDecl, CStruct, CBody, code, asm, CFunction, CUnit}
+use Rattle.c0_tree.specs.Tree.{CName, CTy, CDecl, CStruct, CBody, code, asm, CFunction, CUnit}
 use Rattle.c0_tree.specs.Size.{body_nodes}
 use Rattle.c0_tree.specs.Plain.{is_short, is_plain_body, is_plain}
 use Rattle.c0_tree.specs.Primitives.{CPrimitive}
@@ -26,6 +26,7 @@ use Rattle.c0_meaning.proofs.StableTypes.{bare, type_again, ty_kept, type_faults
 use Rattle.c0_meaning.proofs.StableExpressions.{IsKept, kept}
 use Rattle.c0_meaning.proofs.StableStatements.{tested_kept, IsSettled, AreStmtsKept, stmts_kept}
 
+-- the types behind `new`
 types_settled : (structs : List Shape) → IsSettled (type_faults structs) (resolved_type structs)
 types_settled structs = record { faulty = type_faults_kept structs; same = ty_kept structs; again = type_again structs }
 
@@ -41,7 +42,9 @@ record IsBodyKept (env : Env) (first : ℕ) (b d : CBody) : Type 0 where
 
 body_kept : (env : Env) (first : ℕ) (b : CBody) → IsBodyKept env first b (resolved_body env first b)
 body_kept env first (code locals stmts answer) =
-    let ss : AreStmtsKept (type_faults env.structs) (resolved_type env.structs) env stmts (stmts_resolved (resolved_type env.structs) env stmts) = stmts_kept (type_faults env.structs) (resolved_type env.structs) env (types_settled env.structs) stmts in
+    let settled : CTy → CTy = resolved_type env.structs in
+    let ss : AreStmtsKept (type_faults env.structs) settled env stmts (stmts_resolved settled env stmts) =
+    stmts_kept (type_faults env.structs) settled env (types_settled env.structs) stmts in
     let e : IsKept env answer (resolved env answer) = kept env answer in
     record {
       faulty = λ result. cc (tested_kept env result answer (resolved env answer) e);
@@ -68,10 +71,13 @@ pub record AreAlike (u v : CUnit) : Type 0 where
   pub globals : map typed_of v.globals ≡ map typed_of u.globals
   pub functions : map signature_of v.functions ≡ map signature_of u.functions
 
-env_alike : (primitives : List CPrimitive) (u v : CUnit) (locals others : List CDecl) → AreAlike u v → map typed_of others ≡ map typed_of locals → env_of primitives v others ≡ env_of primitives u locals
+-- so they do
+env_alike : (primitives : List CPrimitive) (u v : CUnit) (locals others : List CDecl) → AreAlike u v
+    → map typed_of others ≡ map typed_of locals → env_of primitives v others ≡ env_of primitives u locals
 env_alike primitives u v locals others alike e = cc
 
-signatures_kept : (primitives : List CPrimitive) (u : CUnit) (k : ℕ) (functions : List CFunction) → map signature_of (resolved_functions primitives u k functions) ≡ map signature_of functions
+signatures_kept : (primitives : List CPrimitive) (u : CUnit) (k : ℕ) (functions : List CFunction)
+    → map signature_of (resolved_functions primitives u k functions) ≡ map signature_of functions
 signatures_kept primitives u k [] = refl
 signatures_kept primitives u k (f ∷ rest) =
     cc (ty_kept (map shape_of u.structs) f.answer, tys_kept (map shape_of u.structs) Local 0 f.params, signatures_kept primitives u (suc k) rest)
@@ -85,14 +91,18 @@ units_alike primitives u = record {
 }
 
 -- functions
-joined_typed : (decls more others rest : List CDecl) → map typed_of others ≡ map typed_of decls → map typed_of rest ≡ map typed_of more → map typed_of (others ++ rest) ≡ map typed_of (decls ++ more)
+-- parameters and locals in one list
+joined_typed : (decls more others rest : List CDecl) → map typed_of others ≡ map typed_of decls → map typed_of rest ≡ map typed_of more
+    → map typed_of (others ++ rest) ≡ map typed_of (decls ++ more)
 joined_typed decls more others rest p q = simp map-append cc
 
-joined_names : (decls more others rest : List CDecl) → map bare (map (λ d. d.name) others) ≡ map bare (map (λ d. d.name) decls) → map bare (map (λ d. d.name) rest) ≡ map bare (map (λ d. d.name) more)
+joined_names : (decls more others rest : List CDecl) → map bare (map (λ d. d.name) others) ≡ map bare (map (λ d. d.name) decls)
+    → map bare (map (λ d. d.name) rest) ≡ map bare (map (λ d. d.name) more)
     → decl_name_faults (others ++ rest) ≡ decl_name_faults (decls ++ more)
 joined_names decls more others rest p q = twice_alike [] (map (λ d. d.name) (decls ++ more)) (map (λ d. d.name) (others ++ rest)) (simp map-append cc)
 
-three_ints_kept : (structs : List Shape) (kind : Kind) (k : ℕ) (decls : List CDecl) → are_three_ints (resolved_decls structs kind k decls) ≡ are_three_ints decls
+three_ints_kept : (structs : List Shape) (kind : Kind) (k : ℕ) (decls : List CDecl)
+    → are_three_ints (resolved_decls structs kind k decls) ≡ are_three_ints decls
 three_ints_kept structs kind k [] = refl
 three_ints_kept structs kind k (a ∷ []) = refl
 three_ints_kept structs kind k (a ∷ b ∷ []) = refl
@@ -109,13 +119,15 @@ record IsFunctionKept (primitives : List CPrimitive) (u v : CUnit) (k : ℕ) (f 
   words : words_held g.body ≡ words_held f.body
   again : resolved_function primitives v k g ≡ g
 
-function_kept : (primitives : List CPrimitive) (u v : CUnit) (k : ℕ) (f : CFunction) → AreAlike u v → IsFunctionKept primitives u v k f (resolved_function primitives u k f)
+function_kept : (primitives : List CPrimitive) (u v : CUnit) (k : ℕ) (f : CFunction) → AreAlike u v
+    → IsFunctionKept primitives u v k f (resolved_function primitives u k f)
 function_kept primitives u v k f alike =
     let structs : List Shape = map shape_of u.structs in
     let env : Env = env_of primitives u (f.params ++ locals_of f.body) in
     let params : List CDecl = resolved_decls structs Local 0 f.params in
     let body : CBody = resolved_body env (length f.params) f.body in
     let b : IsBodyKept env (length f.params) f.body body = body_kept env (length f.params) f.body in
+    let in_asm : Bool = is_asm f.body in
     let many : length params ≡ length f.params = decls_length structs Local 0 f.params in
     let nodes : nodes_of (resolved_function primitives u k f) ≡ nodes_of f = cc (many, b.words, b.counted (length (words_held f.body))) in
     let places : map typed_of (locals_of body) ≡ map typed_of (locals_of f.body) = ap (map typed_of) b.locals ∙ typed_kept structs Local (length f.params) (locals_of f.body) in
@@ -127,7 +139,13 @@ function_kept primitives u v k f alike =
     (ap (λ (ds : List CDecl). map bare (map (λ d. d.name) ds)) b.locals ∙ decl_names_bare structs Local (length f.params) (locals_of f.body)) in
     let answer : ty_of (resolved_type structs f.answer) ≡ ty_of f.answer = ty_kept structs f.answer in
     record {
-      signature = cc (alike.structs, type_faults_kept structs f.answer f.answer_span, pass_kept structs (is_asm f.body) f.answer f.answer_span, declared_kept structs Local 0 f.params, passes_kept structs (is_asm f.body) Local 0 f.params);
+      signature = cc (
+        alike.structs,
+        type_faults_kept structs f.answer f.answer_span,
+        pass_kept structs in_asm f.answer f.answer_span,
+        declared_kept structs Local 0 f.params,
+        passes_kept structs in_asm Local 0 f.params,
+      );
       body = cc (b.faulty (ty_of f.answer));
       counted = nodes;
       dispatch = cc (three_ints_kept structs Local 0 f.params);
@@ -147,7 +165,8 @@ pub record AreFunctionsKept (primitives : List CPrimitive) (u v : CUnit) (k : �
   names : map bare (map (λ f. f.name) gs) ≡ map bare (map (λ f. f.name) fs)
   again : resolved_functions primitives v k gs ≡ gs
 
-pub functions_kept : (primitives : List CPrimitive) (u v : CUnit) (k : ℕ) (fs : List CFunction) → AreAlike u v → AreFunctionsKept primitives u v k fs (resolved_functions primitives u k fs)
+pub functions_kept : (primitives : List CPrimitive) (u v : CUnit) (k : ℕ) (fs : List CFunction) → AreAlike u v
+    → AreFunctionsKept primitives u v k fs (resolved_functions primitives u k fs)
 functions_kept primitives u v k [] alike = record {
   faulty = refl;
   counted = refl;
@@ -175,6 +194,7 @@ functions_kept primitives u v k (f ∷ rest) alike =
     }
 
 -- units
+-- names that are set twice in a unit
 unit_names_kept : (primitives : List CPrimitive) (globals others : List CDecl) (functions gs : List CFunction)
     → map bare (map (λ d. d.name) others) ≡ map bare (map (λ d. d.name) globals) → map bare (map (λ f. f.name) gs) ≡ map bare (map (λ f. f.name) functions)
     → unit_name_faults primitives others gs ≡ unit_name_faults primitives globals functions
@@ -185,18 +205,23 @@ unit_names_kept primitives globals others functions gs p q =
     ∙ (ap (in_source_order (map bare (map (λ d. d.name) globals))) q
     ∙ sym (ordered_bare (map (λ d. d.name) globals) (map (λ f. f.name) functions)))))
 
-same_parts : (n : ℕ) (structs others : List CStruct) (globals more : List CDecl) (fs gs : List CFunction) → others ≡ structs → more ≡ globals → gs ≡ fs
+-- equal parts make equal units
+same_parts : (n : ℕ) (structs others : List CStruct) (globals more : List CDecl) (fs gs : List CFunction) → others ≡ structs
+    → more ≡ globals → gs ≡ fs
     → ◌≡◌ {A = CUnit} (record { length = n; structs = others; globals = more; functions = gs }) (record { length = n; structs = structs; globals = globals; functions = fs })
 same_parts n structs others globals more fs gs a b c = cc
 
-unit_again : (primitives : List CPrimitive) (u : CUnit) (structs : List Shape) → map shape_of u.structs ≡ structs → resolved_structs structs 0 u.structs ≡ u.structs
+-- a unit whose parts resolving leaves as they are
+unit_again : (primitives : List CPrimitive) (u : CUnit) (structs : List Shape) → map shape_of u.structs ≡ structs
+    → resolved_structs structs 0 u.structs ≡ u.structs
     → resolved_decls structs Global 0 u.globals ≡ u.globals → resolved_functions primitives u 0 u.functions ≡ u.functions → resolved_unit primitives u ≡ u
 unit_again primitives u structs same a b c =
     same_parts u.length u.structs _ u.globals _ u.functions _ (ap (λ (shapes : List Shape). resolved_structs shapes 0 u.structs) same ∙ a)
     (ap (λ (shapes : List Shape). resolved_decls shapes Global 0 u.globals) same ∙ b) c
 
 -- the functions of a unit and those of itself resolved
-unit_functions_kept : (primitives : List CPrimitive) (u : CUnit) → AreFunctionsKept primitives u (resolved_unit primitives u) 0 u.functions (resolved_unit primitives u).functions
+unit_functions_kept : (primitives : List CPrimitive) (u : CUnit)
+    → AreFunctionsKept primitives u (resolved_unit primitives u) 0 u.functions (resolved_unit primitives u).functions
 unit_functions_kept primitives u = functions_kept primitives u (resolved_unit primitives u) 0 u.functions (units_alike primitives u)
 
 unit_kept : (primitives : List CPrimitive) (u : CUnit) → unit_faults primitives (resolved_unit primitives u) ≡ unit_faults primitives u
@@ -215,7 +240,8 @@ unit_plain primitives u =
     let fs : AreFunctionsKept primitives u (resolved_unit primitives u) 0 u.functions (resolved_unit primitives u).functions = unit_functions_kept primitives u in
     cc (structs_length structs 0 u.structs, decls_length structs Global 0 u.globals, short_structs_kept structs 0 u.structs)
 
-no_dispatch_kept : (found other : Bool) (span : Span) → other ≡ found → fault_if (not other) NO_DISPATCH span ≡ fault_if (not found) NO_DISPATCH span
+no_dispatch_kept : (found other : Bool) (span : Span) → other ≡ found
+    → fault_if (not other) NO_DISPATCH span ≡ fault_if (not found) NO_DISPATCH span
 no_dispatch_kept found other span e = cc
 
 pub resolving_is_stable : ResolvingIsStable
