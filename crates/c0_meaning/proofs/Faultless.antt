@@ -1,5 +1,5 @@
 -- Where no fault stands there is a type by the rules.
-use Rattle.std.proofs.Common.{◌≡◌, ℕ, Bool, true, false, ◌&&◌, IsTrue, if◌then◌else◌, List, [], ◌∷◌, ◌++◌, Option, Some, None, refl, sym, ap, ◌∙◌, subst}
+use Rattle.std.proofs.Common.{◌≡◌, ℕ, Bool, true, false, ◌&&◌, if◌then◌else◌, List, [], ◌∷◌, ◌++◌, Option, Some, None, refl, sym, ap, ◌∙◌, subst}
 use Rattle.c0_tree.specs.declared.tree.Span.{Span}
 use Rattle.c0_tree.specs.declared.tree.UnaryOp.{UnaryOp}
 use Rattle.c0_tree.specs.declared.tree.UnaryOp.TheVariants.{Negate, Not}
@@ -9,7 +9,7 @@ use Rattle.c0_tree.specs.Tree.{CName, CExpr, num, true_, false_, null, var, fiel
 use Rattle.c0_meaning.specs.Ty.{Ty, int, bool, pointer, named, array, same_ty, is_scalar}
 use Rattle.c0_meaning.specs.Env.{Env, Typed, Variable, variable_named, field_named}
 use Rattle.c0_meaning.specs.Fault.{Fault, fault, WRONG_TYPE}
-use Rattle.c0_meaning.specs.Expression.{Verdict, has, wrong, given, own, one, both, span_of, is_place, is_local, is_null, is_pointer, filled, asked, asked_faults, variable_rule, sought_rule, member, target, field_rule, place_field_rule, arrow_rule, element_rule, index_rule, deref_rule, address_rule, unary_rule, ints_rule, bools_rule, alike_rule, binary_rule, compares, asks, verdict, type_of, faults}
+use Rattle.c0_meaning.specs.Expression.{Verdict, has, wrong, own, one, both, span_of, is_place, is_local, is_null, is_pointer, filled, variable_rule, sought_rule, member, target, field_rule, place_field_rule, arrow_rule, element_rule, index_rule, deref_rule, address_rule, unary_rule, ints_rule, bools_rule, alike_rule, binary_rule, compares, asks, type_of, faults}
 use Rattle.c0_meaning.specs.Judgement.{IsArithmetic, add, sub, mul, div, rem, IsOrder, lt, le, gt, ge, IsEquality, eq, ne, IsLogical, and, or, HasType, a_number, a_true, a_false, a_variable, a_field, a_target_field, an_element, a_target, an_address, a_negative, a_negation, arithmetic, order, logic, equality, null_left, null_right, FaultlessIsTyped}
 use Rattle.c0_meaning.proofs.Ty.{equal-same_ty}
 use Rattle.c0_meaning.proofs.Operands.{right_free, Filled, filled_tells}

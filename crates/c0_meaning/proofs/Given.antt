@@ -1,16 +1,16 @@
 -- An expression that is given where a type is asked: by the rules it may stand there exactly where no fault stands in it. The same for
 -- left sides, for arguments and for what is tested.
-use Rattle.std.proofs.Common.{◌≡◌, ℕ, suc, ◌≤◌, ◌<◌, ◌==◌, ◌↔◌, Bool, true, false, ◌&&◌, IsTrue, nat_lt, if◌then◌else◌, List, [], ◌∷◌, ◌++◌, length, Option, Some, None, refl, sym, ap, ◌∙◌, subst, arith}
+use Rattle.std.proofs.Common.{◌≡◌, ℕ, suc, ◌≤◌, ◌==◌, Bool, true, false, ◌&&◌, nat_lt, if◌then◌else◌, List, [], ◌∷◌, ◌++◌, length, Option, Some, refl, sym, ap, ◌∙◌, subst, arith}
 use Rattle.std.proofs.lemmas.Bool.Decides.{nat_tests}
 use Rattle.c0_tree.specs.declared.tree.Span.{Span}
-use Rattle.c0_tree.specs.Tree.{CName, CTy, CExpr, num, true_, false_, null, var, field, arrow, address, index, deref, unary, binary}
+use Rattle.c0_tree.specs.Tree.{CExpr, null}
 use Rattle.c0_tree.specs.Size.{need}
-use Rattle.c0_meaning.specs.Ty.{Ty, int, bool, pointer, named, array, same_ty, is_scalar}
-use Rattle.c0_meaning.specs.Env.{Env, Callee}
-use Rattle.c0_meaning.specs.Fault.{Fault, fault, WRONG_TYPE, WRONG_COUNT, NOT_A_PLACE, TOO_DEEP}
-use Rattle.c0_meaning.specs.Expression.{Verdict, has, wrong, given, own, one, both, span_of, is_place, is_null, is_pointer, filled, asked, asked_faults, type_of, faults}
+use Rattle.c0_meaning.specs.Ty.{Ty, pointer, same_ty, is_scalar}
+use Rattle.c0_meaning.specs.Env.{Env}
+use Rattle.c0_meaning.specs.Fault.{fault, WRONG_TYPE, WRONG_COUNT, NOT_A_PLACE, TOO_DEEP}
+use Rattle.c0_meaning.specs.Expression.{has, wrong, given, own, one, both, span_of, is_place, is_null, is_pointer, filled, type_of, faults}
 use Rattle.c0_meaning.specs.Judgement.{HasType, IsGiven, a_value, a_null}
-use Rattle.c0_meaning.specs.Statement.{MAX_NEED, deep_faults, same_rule, given_verdict, given_faults, tested_faults, left_rule, left_verdict, left_type, left_faults, result_faults, callee_faults, first_of, rest_of, args_faults}
+use Rattle.c0_meaning.specs.Statement.{MAX_NEED, deep_faults, same_rule, given_faults, tested_faults, left_rule, left_verdict, left_type, left_faults, result_faults, args_faults}
 use Rattle.c0_meaning.specs.Rules.{IsLeft, AreGiven, none, more, IsTested, TestedIsFaultless}
 use Rattle.c0_meaning.proofs.Ty.{same_ty-itself, equal-same_ty}
 use Rattle.c0_meaning.proofs.Operands.{unfilled}

@@ -1,5 +1,5 @@
 -- The least of a list of faults: it is what is kept of the list, whatever the order in which the list is met.
-use Rattle.std.proofs.Common.{◌≡◌, ◌↔◌, ℕ, ◌⊎◌, inl, inr, Bool, true, false, if◌then◌else◌, List, [], ◌∷◌, ◌++◌, Option, Some, None, refl, sym, ap, ◌∙◌, subst}
+use Rattle.std.proofs.Common.{◌≡◌, ◌↔◌, ◌⊎◌, inl, inr, Bool, true, false, if◌then◌else◌, List, [], ◌∷◌, ◌++◌, Option, Some, None, refl, sym, ap, ◌∙◌, subst}
 use Rattle.c0_meaning.specs.Fault.{Fault, comes_before, Stands, IsLeast, kept, kept_all, LeastIsThere, KeptIsLeast, MeetingIsFree, MeetingJoins}
 use Rattle.c0_meaning.proofs.Order.{comes_onward, not_both_come, one_fault}
 

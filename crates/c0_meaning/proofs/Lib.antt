@@ -12,3 +12,7 @@ pub mod Typed
 pub mod Faultless
 pub mod Given
 pub mod Statements
+pub mod StableTypes
+pub mod StableExpressions
+pub mod StableStatements
+pub mod StableUnits

@@ -1,11 +1,10 @@
 -- The operands of a comparison, one of which may be a null that takes the other's type.
-use Rattle.std.proofs.Common.{◌≡◌, ℕ, Bool, true, false, ◌&&◌, if◌then◌else◌, List, [], ◌∷◌, ◌++◌, Option, Some, None, refl, sym, ap, ◌∙◌, subst}
+use Rattle.std.proofs.Common.{◌≡◌, Bool, true, false, ◌&&◌, if◌then◌else◌, Option, None, refl, ap, ◌∙◌}
 use Rattle.c0_tree.specs.declared.tree.BinaryOp.{BinaryOp}
-use Rattle.c0_tree.specs.Tree.{CExpr, num, true_, false_, null, var, field, arrow, index, deref, address, unary, binary}
+use Rattle.c0_tree.specs.Tree.{CExpr, null}
 use Rattle.c0_meaning.specs.Ty.{Ty}
 use Rattle.c0_meaning.specs.Env.{Env}
-use Rattle.c0_meaning.specs.Fault.{Fault}
-use Rattle.c0_meaning.specs.Expression.{given, is_null, is_pointer, filled, asked, asked_faults, compares, asks, type_of, verdict, faults}
+use Rattle.c0_meaning.specs.Expression.{is_null, is_pointer, filled, compares, asks, type_of}
 
 null_has_none : (env : Env) (e : CExpr) → is_null e ≡ true → type_of env e ≡ None
 null_has_none env (null s) h = refl

@@ -1,8 +1,7 @@
 -- The order of faults is total: it compares four numbers in turn, and so each fact about it is one about a single comparison with
 -- the rest of the test left open.
-use Rattle.std.proofs.Common.{◌≡◌, ℕ, ◌<◌, ◌⊎◌, inl, inr, Bool, true, false, ◌&&◌, ◌||◌, ◌==◌, nat_lt, refl, sym, ap, ◌∙◌, arith}
+use Rattle.std.proofs.Common.{◌≡◌, ℕ, ◌<◌, ◌⊎◌, inl, inr, Bool, true, false, ◌&&◌, ◌||◌, ◌==◌, nat_lt, sym, ap, ◌∙◌, arith}
 use Rattle.std.proofs.lemmas.Bool.Decides.{nat_tests}
-use Rattle.c0_tree.specs.declared.tree.Span.{Span}
 use Rattle.c0_meaning.specs.Fault.{Fault, comes_before, OrderIsTotal}
 
 -- x is below y, or they are equal and the rest of the test says so

@@ -1,16 +1,16 @@
 -- Statements are typed by the rules exactly where no fault stands in them.
-use Rattle.std.proofs.Common.{◌≡◌, ℕ, ◌≤◌, ◌==◌, ◌↔◌, Bool, if◌then◌else◌, List, [], ◌∷◌, ◌++◌, length, Option, Some, None, refl, sym, ap, ◌∙◌, subst}
+use Rattle.std.proofs.Common.{◌≡◌, ℕ, ◌≤◌, ◌==◌, if◌then◌else◌, List, [], ◌∷◌, length, Option, Some, None, refl, sym, ap, ◌∙◌, subst}
 use Rattle.c0_tree.specs.declared.tree.Span.{Span}
 use Rattle.c0_tree.specs.Tree.{CName, CTy, CExpr, CStmt, assign, call, new, choice, loop, CStmts, done, next}
 use Rattle.c0_meaning.specs.Ty.{Ty, bool, pointer, ty_of}
 use Rattle.c0_meaning.specs.Env.{Env, Callee, callee_named}
 use Rattle.c0_meaning.specs.Fault.{Fault, fault, WRONG_COUNT}
 use Rattle.c0_meaning.specs.Judgement.{IsGiven}
-use Rattle.c0_meaning.specs.Statement.{MAX_NEED, deep_faults, given_faults, tested_faults, left_type, left_faults, result_faults, callee_faults, params_of, args_faults, assign_need, call_need, new_need, assign_faults, call_faults, new_faults, stmt_faults, stmts_faults}
-use Rattle.c0_meaning.specs.Rules.{IsLeft, AreGiven, IsTested, IsTyped, an_assignment, a_call, an_object, a_choice, a_loop, AreTyped, no_statement, a_statement, StatementsAreFaultless}
+use Rattle.c0_meaning.specs.Statement.{MAX_NEED, given_faults, tested_faults, left_type, left_faults, result_faults, callee_faults, params_of, args_faults, assign_need, call_need, new_need, assign_faults, call_faults, new_faults, stmt_faults, stmts_faults}
+use Rattle.c0_meaning.specs.Rules.{IsLeft, AreGiven, IsTyped, an_assignment, a_call, an_object, a_choice, a_loop, AreTyped, no_statement, a_statement, StatementsAreFaultless}
 use Rattle.c0_meaning.proofs.Typed.{no_faults}
 use Rattle.c0_meaning.proofs.Faultless.{nonempty, left_nil, right_nil}
-use Rattle.c0_meaning.proofs.Given.{shallow_clean, clean_shallow, given_clean, clean_given, tested_is_faultless, Left, left_clean, clean_left, args_clean, args_count, clean_args, result_clean, clean_result, count_clean, clean_count}
+use Rattle.c0_meaning.proofs.Given.{shallow_clean, clean_shallow, given_clean, clean_given, tested_is_faultless, left_clean, clean_left, args_clean, args_count, clean_args, result_clean, clean_result, count_clean, clean_count}
 
 assign_clean : (env : Env) (s : Span) (p v : CExpr) (t : Ty) → IsLeft env p t → IsGiven env v t → assign_need p v ≤ MAX_NEED → assign_faults env s p v ≡ []
 assign_clean env s p v t l g d =

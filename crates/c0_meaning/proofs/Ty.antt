@@ -1,8 +1,7 @@
 -- Types are equal where they are written the same.
-use Rattle.std.proofs.Common.{◌≡◌, ◌↔◌, ℕ, Bool, true, false, ◌&&◌, ◌==◌, IsTrue, List, refl, sym, ap, ◌∙◌, subst, arith}
+use Rattle.std.proofs.Common.{◌≡◌, Bool, true, false, ◌&&◌, ◌==◌, refl, ap, ◌∙◌, subst}
 use Rattle.std.proofs.lemmas.Slice.Eq.{bytes_eq-Decides}
 use Rattle.std.proofs.lemmas.Bool.Decides.{Decides-eqb}
-use Rattle.std.specs.Str.{bytes_eq}
 use Rattle.c0_meaning.specs.Ty.{Ty, int, bool, pointer, named, array, same_ty, TypesEqualAsWritten}
 
 two_tests : (x y : Bool) → (x && y) ≡ true → (x ≡ true) × (y ≡ true)

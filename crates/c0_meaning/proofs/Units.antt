@@ -1,5 +1,5 @@
 -- A unit is typed by the rules exactly where no fault stands in it.
-use Rattle.std.proofs.Common.{◌≡◌, ◌↔◌, ℕ, zero, suc, ◌+◌, ◌<◌, ◌≤◌, Bool, true, false, ◌||◌, cond, ltb, is_some, IsTrue, List, [], ◌∷◌, ◌++◌, length, map, Option, Some, None, refl, sym, ap, ◌∙◌, subst, arith}
+use Rattle.std.proofs.Common.{◌≡◌, ℕ, zero, suc, Bool, true, false, ◌||◌, cond, ltb, is_some, IsTrue, List, [], ◌∷◌, ◌++◌, length, map, Option, Some, refl, ap, ◌∙◌, subst, arith}
 use Rattle.std.proofs.lemmas.Bool.{cond-true, cond-false, ltb-false, le-ltb, or_from, false_from_ne_true, both_ways}
 use Rattle.std.proofs.lemmas.List.Elements.{All-cons, All-nil, All-head, All-tail}
 use Rattle.std.proofs.lemmas.List.Folds.{list_any-append}
@@ -17,10 +17,10 @@ use Rattle.c0_meaning.specs.Fault.{Fault, fault, UNKNOWN_NAME, NAME_TWICE, WRONG
 use Rattle.c0_meaning.specs.Words.{holds, words, all_words}
 use Rattle.c0_meaning.specs.DeclaredTypes.{MAX_TYPE_WORDS, fault_if, unknown_structs, has_empty_array, is_too_large, type_faults, declared_faults, may_pass, pass_fault, pass_faults}
 use Rattle.c0_meaning.specs.Names.{is_among, twice_faults, unit_names, struct_name_faults, unit_name_faults, decl_name_faults}
-use Rattle.c0_meaning.specs.Limits.{MAX_FUNCTION_NODES, MAX_UNIT_NODES, MAX_GLOBAL_WORDS, is_asm, locals_of, nodes_of, all_nodes, max_parameters, size_faults, unit_size_faults, whole}
-use Rattle.c0_meaning.specs.Statement.{stmts_faults, tested_faults}
+use Rattle.c0_meaning.specs.Limits.{MAX_FUNCTION_NODES, MAX_UNIT_NODES, MAX_GLOBAL_WORDS, is_asm, locals_of, nodes_of, all_nodes, max_parameters, whole}
+use Rattle.c0_meaning.specs.Statement.{stmts_faults}
 use Rattle.c0_meaning.specs.Unit.{struct_faults, structs_faults, signature_faults, faults_in, body_faults, functions_faults, unit_faults}
-use Rattle.c0_meaning.specs.Typed.{AreKnown, IsDeclarable, AreSetOnce, HaveNamesApart, IsTypedStruct, IsTypedSignature, IsTypedBody, IsTypedFunction, IsTypedUnit, UnitsAreFaultless}
+use Rattle.c0_meaning.specs.Typed.{AreKnown, IsDeclarable, AreSetOnce, IsTypedStruct, IsTypedSignature, IsTypedBody, IsTypedFunction, IsTypedUnit, UnitsAreFaultless}
 use Rattle.c0_meaning.proofs.Holding.{holds_as_tested}
 use Rattle.c0_meaning.proofs.WellFormed.{none_in_left, none_in_right, nothing_wrong, among_parts, not_twice, no_or}
 use Rattle.c0_meaning.proofs.Given.{tested_is_faultless}

@@ -15,3 +15,4 @@ pub mod Judgement
 pub mod Statement
 pub mod Rules
 pub mod Typed
+pub mod Stable

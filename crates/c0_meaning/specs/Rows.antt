@@ -1,12 +1,12 @@
 -- Worked rows of the definitions: sizes, structs that hold themselves, declared types and names.
-use Rattle.std.specs.Prelude.{◌≡◌, ℕ, Bool, true, false, List, [], ◌∷◌, codes}
+use Rattle.std.specs.Prelude.{◌≡◌, ℕ, true, false, List, [], ◌∷◌, codes}
 use Rattle.c0_tree.specs.declared.tree.Span.{Span}
 use Rattle.c0_tree.specs.declared.tree.Kind.TheVariants.{Unresolved}
 use Rattle.c0_tree.specs.Tree.{CName, CTy}
 use Rattle.c0_tree.specs.Tree as tree
 use Rattle.c0_meaning.specs.Ty.{Ty, int, bool, pointer, named, array}
 use Rattle.c0_meaning.specs.Env.{Typed, Shape}
-use Rattle.c0_meaning.specs.Fault.{Fault, fault}
+use Rattle.c0_meaning.specs.Fault.{fault}
 use Rattle.c0_meaning.specs.Words.{holds, words}
 use Rattle.c0_meaning.specs.DeclaredTypes.{type_faults}
 use Rattle.c0_meaning.specs.Names.{twice_faults, in_source_order}

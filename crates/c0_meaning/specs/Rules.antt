@@ -1,7 +1,7 @@
 -- The rules of statements and of the returned expression. They know no fault, no order and no traversal.
 --
 -- `declared` gives the faults of the type behind `new`, by the type and its span.
-use Rattle.std.specs.Prelude.{ℕ, ◌≡◌, ◌≤◌, ◌↔◌, List, [], ◌∷◌, Some, IsTrue}
+use Rattle.std.specs.Prelude.{◌≡◌, ◌≤◌, ◌↔◌, List, [], ◌∷◌, Some, IsTrue}
 use Rattle.c0_tree.specs.declared.tree.Span.{Span}
 use Rattle.c0_tree.specs.Tree.{CName, CTy, CExpr, CStmt, assign, call, new, choice, loop, CStmts, done, next}
 use Rattle.c0_tree.specs.Size.{need}
@@ -10,7 +10,7 @@ use Rattle.c0_meaning.specs.Env.{Env, Callee, callee_named}
 use Rattle.c0_meaning.specs.Fault.{Fault}
 use Rattle.c0_meaning.specs.Expression.{is_place}
 use Rattle.c0_meaning.specs.Judgement.{HasType, IsGiven}
-use Rattle.c0_meaning.specs.Statement.{MAX_NEED, assign_need, call_need, new_need, tested_faults, stmt_faults, stmts_faults}
+use Rattle.c0_meaning.specs.Statement.{MAX_NEED, assign_need, call_need, new_need, tested_faults, stmts_faults}
 
 -- a left side for values of a type: a place of that scalar type
 pub record IsLeft (env : Env) (p : CExpr) (t : Ty) : Type 0 where

@@ -4,6 +4,7 @@ ghost use Rattle.c0_meaning.specs.Fault.{KeptIsLeast, LeastIsThere, MeetingIsFre
 ghost use Rattle.c0_meaning.specs.Judgement.{FaultlessIsTyped, HasOneType, TypedIsFaultless};
 ghost use Rattle.c0_meaning.specs.Rows.{AreNamesRight, AreSizesRight, AreTypesRight};
 ghost use Rattle.c0_meaning.specs.Rules.{StatementsAreFaultless, TestedIsFaultless};
+ghost use Rattle.c0_meaning.specs.Stable.{ResolvingIsStable};
 ghost use Rattle.c0_meaning.specs.Ty.{TypesEqualAsWritten};
 ghost use Rattle.c0_meaning.specs.Typed.{UnitsAreFaultless};
 ghost use Rattle.c0_meaning.specs.Unit.{FaultlessIsChecked};
@@ -73,4 +74,9 @@ pub fn worked_rows()
 /// A unit is typed by the rules exactly where no fault stands in it.
 pub fn units_are_typed_or_faulty()
     ensures { UnitsAreFaultless }
+{}
+
+/// Resolving the names of a unit changes none of its faults, and resolving them again changes nothing.
+pub fn resolving_is_stable()
+    ensures { ResolvingIsStable }
 {}
