@@ -1,0 +1,37 @@
+-- What contracts see of the answer of the check.
+use Rattle.std.specs.Prelude.{Option, Some, None}
+use Rattle.c0_tree.specs.Tree.{CUnit}
+use Rattle.c0_meaning.specs.Fault as spec
+use Rattle.c0_meaning.specs.Fault.{IsLeast, fault, UNKNOWN_NAME, NAME_TWICE, WRONG_TYPE, WRONG_COUNT, NOT_A_PLACE, LOCAL_ADDRESS, STRUCT_HOLDS_ITSELF, TOO_DEEP, TOO_MANY_NODES, UNIT_TOO_LARGE, GLOBALS_TOO_LARGE, NO_DISPATCH, ASM_NOT_ALLOWED, TOO_MANY_PARAMETERS, TYPE_TOO_LARGE, EMPTY_ARRAY}
+use Rattle.c0_types.specs.declared.fault.TypeFault.{TypeFault}
+use Rattle.c0_types.specs.declared.fault.TypeFault.TheVariants.{UnknownName, NameTwice, WrongType, WrongCount, NotAPlace, LocalAddress, StructHoldsItself, TooDeep, TooManyNodes, UnitTooLarge, GlobalsTooLarge, NoDispatch, AsmNotAllowed, TooManyParameters, TypeTooLarge, EmptyArray, Memory}
+use Rattle.c0_types.specs.Source.{source_faults}
+
+-- the fault that is answered, but for want of memory
+abbrev pub type_fault_view : TypeFault → Option spec.Fault
+type_fault_view (UnknownName s) = Some (fault UNKNOWN_NAME s)
+type_fault_view (NameTwice s) = Some (fault NAME_TWICE s)
+type_fault_view (WrongType s) = Some (fault WRONG_TYPE s)
+type_fault_view (WrongCount s) = Some (fault WRONG_COUNT s)
+type_fault_view (NotAPlace s) = Some (fault NOT_A_PLACE s)
+type_fault_view (LocalAddress s) = Some (fault LOCAL_ADDRESS s)
+type_fault_view (StructHoldsItself s) = Some (fault STRUCT_HOLDS_ITSELF s)
+type_fault_view (TooDeep s) = Some (fault TOO_DEEP s)
+type_fault_view (TooManyNodes s) = Some (fault TOO_MANY_NODES s)
+type_fault_view (UnitTooLarge s) = Some (fault UNIT_TOO_LARGE s)
+type_fault_view (GlobalsTooLarge s) = Some (fault GLOBALS_TOO_LARGE s)
+type_fault_view (NoDispatch s) = Some (fault NO_DISPATCH s)
+type_fault_view (AsmNotAllowed s line) = Some (record { number = ASM_NOT_ALLOWED; span = s; line = line })
+type_fault_view (TooManyParameters s) = Some (fault TOO_MANY_PARAMETERS s)
+type_fault_view (TypeTooLarge s) = Some (fault TYPE_TOO_LARGE s)
+type_fault_view (EmptyArray s) = Some (fault EMPTY_ARRAY s)
+type_fault_view Memory = None
+
+-- no fault comes before the one that is answered; want of memory says nothing
+abbrev pub AnswersLeast : Option spec.Fault → CUnit → Type 0
+AnswersLeast None u = Unit {0}
+AnswersLeast (Some f) u = IsLeast (source_faults u) f
+
+-- a fault is the answer that a unit has, unless it is want of memory
+abbrev pub FaultAnswers : CUnit → TypeFault → Type 0
+FaultAnswers u f = AnswersLeast (type_fault_view f) u
