@@ -1,10 +1,10 @@
 -- The meaning of each piece is plain where its tokens are: numbers are small and no list is long. The value of a piece tells that by
 -- itself, so no lemma has a case on a production.
-use Rattle.std.proofs.Common.{◌≡◌, ℕ, ◌+◌, ◌^◌, ◌<◌, ◌≤◌, Bool, true, false, ◌&&◌, nat_lt, List, [], ◌∷◌, ◌++◌, length, refl, sym, ap, ◌∙◌, subst, arith, length-append}
+use Rattle.std.proofs.Common.{◌≡◌, ℕ, ◌+◌, ◌^◌, ◌≤◌, Bool, true, ◌&&◌, nat_lt, List, [], ◌∷◌, ◌++◌, length, refl, ap, ◌∙◌, arith, length-append}
 use Rattle.std.specs.List.{list_all}
 use Rattle.std.proofs.lemmas.Bool.{and_from, and_parts, lt-ltb, le-leb}
 use Rattle.c0_tokens.specs.declared.token.Mark.TheVariants.{True, False, Dot, Minus, Star, Not}
-use Rattle.c0_tokens.specs.Tokens.{CLexeme, CToken, name, number, asm_text, fixed, faulty, end}
+use Rattle.c0_tokens.specs.Tokens.{CLexeme, CToken, name, number, fixed}
 use Rattle.c0_tokens.specs.Order.{NumberFits}
 use Rattle.c0_tree.specs.declared.tree.Span.{Span}
 use Rattle.c0_tree.specs.Tree.{CExpr, CName, CStmt, CDecl, CStruct, CFunction}

@@ -1,5 +1,5 @@
 -- What a source reads as is plain.
-use Rattle.std.proofs.Common.{◌≡◌, ℕ, ◌+◌, ◌<◌, ◌≤◌, Bool, true, false, List, [], ◌∷◌, ◌++◌, length, refl, ap, subst, arith, length-append}
+use Rattle.std.proofs.Common.{◌≡◌, ℕ, ◌+◌, ◌<◌, ◌≤◌, Bool, true, false, List, [], ◌∷◌, ◌++◌, length, refl, subst, arith, length-append}
 use Rattle.std.specs.Prelude.{not, ◌&&◌}
 use Rattle.std.proofs.lemmas.Bool.{and_parts}
 use Rattle.c0_tokens.specs.Tokens.{CToken}
@@ -7,11 +7,10 @@ use Rattle.c0_tokens.specs.Nesting.{tokens_of}
 use Rattle.c0_tokens.specs.Order.{NumbersFit}
 use Rattle.c0_tree.specs.Tree.{CUnit}
 use Rattle.c0_tree.specs.Plain.{is_plain}
-use Rattle.c0_parser.specs.Value.{Value, none, snoc, unit_of}
-use Rattle.c0_parser.specs.Grammar.{Rule, disjunction, conjunction, equality, relation, sum, product, unary, postfix, primary, type, decl, block, statement, code, body, Piece, one_of, ◌▸◌, ◌or◌, many, maybe, the, production, meaning, ITEM, UNIT, Derives, taken, both, first, second, no_more, one_more, left_out, there, made}
+use Rattle.c0_parser.specs.Value.{Value}
+use Rattle.c0_parser.specs.Grammar.{Rule, disjunction, conjunction, equality, relation, sum, product, unary, postfix, primary, type, decl, block, statement, code, body, Piece, one_of, ◌▸◌, ◌or◌, many, maybe, the, production, meaning, Derives, taken, both, first, second, no_more, one_more, left_out, there, made}
 use Rattle.c0_parser.specs.Machine.{nullable}
 use Rattle.c0_parser.specs.Faults.{Reads}
-use Rattle.c0_parser.proofs.Tables.{good, all_good}
 use Rattle.c0_parser.proofs.Complete.{Begins, begins}
 use Rattle.c0_parser.proofs.PlainTexts.{TextsFit, texts_fit}
 use Rattle.c0_parser.proofs.Plain.{IsSmall, parts, Plain, primary_plain, postfix_plain, unary_plain, chain_plain, type_plain, decl_plain, block_plain, statement_plain, code_plain, body_plain, unit_plain}

@@ -1,5 +1,5 @@
 -- No name and no asm text of a source is longer than the source: each token is cut from what is left of it.
-use Rattle.std.proofs.Common.{◌≡◌, ℕ, zero, suc, ◌+◌, ◌≤◌, Bool, true, false, ◌&&◌, ◌==◌, nat_le, List, [], ◌∷◌, length, drop, Option, Some, None, refl, ap, arith, find, bytes_eq, if◌then◌else◌, length-drop}
+use Rattle.std.proofs.Common.{ℕ, zero, suc, ◌+◌, ◌≤◌, Bool, true, false, ◌&&◌, ◌==◌, nat_le, List, [], ◌∷◌, length, drop, Option, Some, None, arith, find, bytes_eq, if◌then◌else◌, length-drop}
 use Rattle.std.specs.Prelude.{option_map, unwrap_or, take_while}
 use Rattle.std.specs.List.{prefix_len, position_or_len, starts_with}
 use Rattle.std.proofs.lemmas.List.{length-take}

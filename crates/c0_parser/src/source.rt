@@ -21,7 +21,9 @@ use crate::fault::{ReadFault, fault_of};
 use crate::items::{Item, next_item};
 use crate::reader::{Halt, begun, next};
 use crate::types::type_ahead;
-use c0_tokens::{Lexeme, MAX_SOURCE, Token, tokens, tokens_are_few_and_small, tokens_stand_in_order};
+use c0_tokens::{
+    Lexeme, MAX_SOURCE, Token, tokens, tokens_are_few_and_small, tokens_stand_in_order,
+};
 use c0_tree::{Decl, Function, StructDef, Unit};
 use std::alloc::Global;
 
