@@ -13,3 +13,6 @@ pub mod Same
 pub mod Exprs
 pub mod Parts
 pub mod Sources
+pub mod PlainTexts
+pub mod Plain
+pub mod PlainSources

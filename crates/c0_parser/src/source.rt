@@ -1,10 +1,11 @@
 // A whole source.
 
-ghost use Rattle.std.specs.Prelude.{ℕ, ◌≡◌, ◌<◌, ◌≤◌, ◌++◌, ◌∷◌, [], List, length, map, Err, IfOk, IfErr, MatchResult};
+ghost use Rattle.std.specs.Prelude.{ℕ, ◌≡◌, ◌<◌, ◌≤◌, ◌++◌, ◌∷◌, [], List, length, map, true, Err, IfOk, IfErr, MatchResult};
 ghost use Rattle.c0_tokens.specs.Tokens.{token_view};
 ghost use Rattle.c0_tokens.specs.declared.token.Token.{Token as OneToken};
 ghost use Rattle.c0_tree.specs.Tree.{CUnit};
 ghost use Rattle.c0_tree.specs.View.{unit_view};
+ghost use Rattle.c0_tree.specs.Plain.{is_plain};
 ghost use Rattle.c0_parser.specs.Sorts.{the_end};
 ghost use Rattle.c0_parser.specs.Value.{none};
 ghost use Rattle.c0_parser.specs.Machine.{heads};
@@ -20,7 +21,9 @@ use crate::fault::{ReadFault, fault_of};
 use crate::items::{Item, next_item};
 use crate::reader::{Halt, begun, next};
 use crate::types::type_ahead;
-use c0_tokens::{Lexeme, MAX_SOURCE, Token, tokens, tokens_stand_in_order};
+use c0_tokens::{
+    Lexeme, MAX_SOURCE, Token, tokens, tokens_are_few_and_small, tokens_stand_in_order,
+};
 use c0_tree::{Decl, Function, StructDef, Unit};
 use std::alloc::Global;
 
@@ -103,10 +106,12 @@ fn fault_from_end(ts: &[Token<'_>], left: usize) -> ReadFault
 }
 
 /// The tree of a source: of what the grammar derives from its tokens. A source of more than 1,048,576 bytes is refused. Any other source
-/// that has no tree is refused by its first token that cannot be where it stands. Otherwise the one error is want of memory.
+/// that has no tree is refused by its first token that cannot be where it stands. Otherwise the one error is want of memory. The numbers in
+/// the tree's expressions are at most 2147483647, and each of its lists has fewer than 2^32 parts.
 pub fn parse(alloc: Global, source: &[u8]) -> Result<Unit, ReadFault>
     ensures too_long { 1048576 < length source.now → result ≡ Err SourceTooLong }
     ensures found { IfOk result (λ u. Reads source.now (unit_view u)) }
+    ensures plain { IfOk result (λ u. is_plain (unit_view u) ≡ true) }
     ensures only { (u : CUnit) → length source.now ≤ 1048576 → Reads source.now u → MatchResult result (λ x. unit_view x ≡ u) (λ f. f ≡ Memory) }
     ensures fault { IfErr result (λ f. FaultIs source.now f) }
 {
@@ -115,6 +120,7 @@ pub fn parse(alloc: Global, source: &[u8]) -> Result<Unit, ReadFault>
     }
     let tokens = tokens(alloc, source)?;
     tokens_stand_in_order();
+    tokens_are_few_and_small();
     match whole(alloc, &tokens) {
         Ok(items) => Ok(Unit {
             length: source.len() as u32,

@@ -2,12 +2,19 @@ use Rattle.std.proofs.Common.{ap, ◌∙◌, subst}
 use Rattle.c0_parser.specs.Contract.{seen, Fails}
 use Rattle.c0_parser.specs.Factored.{SOURCE}
 use Rattle.c0_parser.proofs.Sources.{reads_found, one_tree, fits, not_read_so, fault_told}
+use Rattle.c0_parser.proofs.PlainSources.{reads_plain}
 use Rattle.c0_parser.proofs.source.parse.Goals as goal
 
 pub returns-in-Ok-clause-found : goal.returns-in-Ok-clause-found
 returns-in-Ok-clause-found c =
     let source = c.args.source.now in
     reads_found source c.deref.result.now c.in-Ok.items (ap seen c.deref.ensures.value ∙ c.in_ok-tokens.ensures) (c.tokens_stand_in_order.ensures.ends source) c.in-Ok.ensures
+
+pub returns-in-Ok-clause-plain : goal.returns-in-Ok-clause-plain
+returns-in-Ok-clause-plain c =
+    let source = c.args.source.now in
+    reads_plain source _ c.if-source-gt-MAX_SOURCE.false (c.tokens_are_few_and_small.ensures.count source) (c.tokens_are_few_and_small.ensures.numbers source)
+    (reads_found source c.deref.result.now c.in-Ok.items (ap seen c.deref.ensures.value ∙ c.in_ok-tokens.ensures) (c.tokens_stand_in_order.ensures.ends source) c.in-Ok.ensures)
 
 pub returns-in-Ok-clause-only : goal.returns-in-Ok-clause-only
 returns-in-Ok-clause-only c = λ u le r.
