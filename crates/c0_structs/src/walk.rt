@@ -81,6 +81,14 @@ impl Walk {
         }
     }
 
+    // Where the last group starts on the path.
+    fn last_start(&self) -> usize
+        requires { 0 < length self.now.groups.items }
+        ensures { result ≡ last_start (state_of self.now) }
+    {
+        self.groups[self.groups.len() - 1].path_start
+    }
+
     // Meets a struct: it is a group of its own, and its edges are left.
     fn meet(
         &mut self,
@@ -130,8 +138,7 @@ impl Walk {
         requires started { last_start (state_of self.old) ≤ length self.old.path.items }
         ensures { state_of self.new ≡ finished holds_itself count (state_of self.old) }
     {
-        let last = self.groups.len() - 1;
-        let start = self.groups[last].path_start;
+        let start = self.last_start();
         mark_all(
             self.marks.as_mut_slice(),
             self.words.as_mut_slice(),
@@ -140,7 +147,7 @@ impl Walk {
             count,
         );
         self.path.truncate(start);
-        self.groups.truncate(last);
+        self.groups.truncate(self.groups.len() - 1);
     }
 
     // Whether the structs of the last group hold themselves: there are several, or the one has itself as a part.
@@ -150,7 +157,7 @@ impl Walk {
         requires told { All (λ v. v < length structs.now) self.now.path.items }
         ensures { result ≡ is_last_cyclic (look names.now) (map struct_view structs.now) (state_of self.now) }
     {
-        let start = self.groups[self.groups.len() - 1].path_start;
+        let start = self.last_start();
         let node = self.path[start];
         let alone = self.path.len() - start <= 1;
         !alone || has_part(names, structs[node as usize].fields.as_slice(), node)
@@ -163,7 +170,7 @@ impl Walk {
         requires told { All (λ v. v < length structs.now) self.now.path.items }
         ensures { result ≡ last_words (look names.now) (map struct_view structs.now) (state_of self.now) }
     {
-        let start = self.groups[self.groups.len() - 1].path_start;
+        let start = self.last_start();
         let node = self.path[start];
         fields_words(
             names,
@@ -199,7 +206,7 @@ impl Walk {
         ensures walk { IsWalkOver (look names.now) (map struct_view structs.now) (state_of self.new) }
         ensures falls { work_over (look names.now) (map struct_view structs.now) (state_of self.new) < work_over (look names.now) (map struct_view structs.now) (state_of self.old) }
     {
-        if place < self.groups[self.groups.len() - 1].path_start {
+        if place < self.last_start() {
             self.join_groups();
         } else {
             self.leave_target();
