@@ -1,6 +1,6 @@
 -- A walk over a graph that finds which numbers lie on a cycle. The numbers that were met and aren't done stand on a path, each of which leads
 -- to the next. The path is cut into groups: what is known so far to lie on one cycle is one group. A group is done when no edge from it is left.
-use Rattle.std.specs.Prelude.{◌≡◌, ◌⊎◌, ℕ, zero, suc, ◌+◌, ◌-◌, ◌<◌, ◌≤◌, min, Bool, true, false, not, ◌||◌, nat_le, List, [], ◌∷◌, ◌++◌, length, drop, take, get_or, Option, None, Some}
+use Rattle.std.specs.Prelude.{◌≡◌, ◌⊎◌, ℕ, zero, suc, ◌+◌, ◌-◌, ◌<◌, ◌≤◌, min, Bool, true, false, ◌||◌, nat_lt, List, [], ◌∷◌, ◌++◌, length, drop, take, get_or, Option, None, Some}
 use Rattle.std.proofs.Math.ListN.{set}
 use Rattle.c0_tree.specs.Tree.{CStruct}
 use Rattle.c0_names.specs.Structs.{WORDS_CAP}
@@ -160,7 +160,7 @@ work_over number structs s = work (edges number structs) s
 -- whether the last group lies on a cycle: it has several structs, or its one struct has itself as a part
 abbrev pub is_last_cyclic : (List ℕ → Option ℕ) → List CStruct → State → Bool
 is_last_cyclic number structs s =
-    not (nat_le (length s.path - last_start s) 1)
+    nat_lt 1 (length s.path - last_start s)
     || has_part number (fields_at structs (node_at s.path (last_start s))) (node_at s.path (last_start s))
 
 -- the words of the fields of the first struct of the last group, up to the cap

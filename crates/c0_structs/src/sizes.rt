@@ -39,6 +39,13 @@ pub fn struct_sizes(
     sizes_of(alloc, names, structs, &walk)
 }
 
+// The number of the first struct of the name of a struct.
+fn first_of_name(names: &Names, def: &StructDef) -> Option<u32>
+    ensures { result ≡ look names.now (struct_view def.now).name.text }
+{
+    names.get(def.name.bytes.as_slice()).copied()
+}
+
 // What the walk found of the first struct of the name of each.
 fn sizes_of(
     alloc: Global,
@@ -52,7 +59,7 @@ fn sizes_of(
     let mut words = Vec::new(alloc);
     let mut holds_itself = Vec::new(alloc);
     for def in structs {
-        let first = names.get(def.name.bytes.as_slice()).copied();
+        let first = first_of_name(names, def);
         words.push(walk.words(first))?;
         holds_itself.push(walk.holds_itself(first))?;
     }

@@ -5,14 +5,14 @@ ghost use Rattle.c0_names.specs.Names.{look};
 ghost use Rattle.c0_structs.specs.Parts as parts;
 ghost use Rattle.c0_names.specs.Structs.{listed_words};
 ghost use Rattle.c0_structs.specs.Parts.{TellsFirst};
-ghost use Rattle.c0_structs.specs.Walk.{state_of, mark_of, IsWalkOver, met, set_all, finished, without_target, joined, last_start, target_of, others_left, work_over, first_state, is_last_cyclic, last_words, listed_cyclic};
+ghost use Rattle.c0_structs.specs.Walk.{state_of, mark_of, node_at, IsWalkOver, met, set_all, finished, without_target, joined, last_start, target_of, others_left, work_over, first_state, is_last_cyclic, last_words, listed_cyclic};
 ghost use Rattle.c0_structs.specs.declared.walk.Mark.TheVariants.{Open};
-ghost use Rattle.c0_tree.specs.View.{struct_view};
+ghost use Rattle.c0_tree.specs.View.{decl_view, struct_view};
 
 use crate::fields::{fields_words, has_part, push_parts};
 use c0_meaning::laws::{holding_is_as_tested, words_are_those_of_the_parts};
 use c0_names::names::Names;
-use c0_tree::StructDef;
+use c0_tree::{Decl, StructDef};
 use std::alloc::{AllocError, Global};
 
 /// How far the walk is with a struct.
@@ -63,6 +63,14 @@ fn mark_all(marks: &mut [Mark], words: &mut [u32], nodes: &[u32], mark: Mark, co
     }
 }
 
+// The fields of a struct.
+fn fields_of(structs: &[StructDef], node: u32) -> &[Decl]
+    requires { node < length structs.now }
+    ensures { map decl_view result.now ≡ parts.fields_at (map struct_view structs.now) node }
+{
+    structs[node as usize].fields.as_slice()
+}
+
 impl Walk {
     // Whether anything is left to do.
     fn is_under_way(&self) -> bool
@@ -107,11 +115,7 @@ impl Walk {
         self.marks[node as usize] = Mark::Open(group.path_start);
         self.path.push(node)?;
         self.groups.push(group)?;
-        push_parts(
-            names,
-            structs[node as usize].fields.as_slice(),
-            &mut self.todo,
-        )
+        push_parts(names, fields_of(structs, node), &mut self.todo)
     }
 
     // Takes off the last edge that is left.
@@ -150,33 +154,51 @@ impl Walk {
         self.groups.truncate(self.groups.len() - 1);
     }
 
+    // The first struct of the last group.
+    fn start_node(&self) -> u32
+        requires grouped { 0 < length self.now.groups.items }
+        requires started { last_start (state_of self.now) < length self.now.path.items }
+        ensures { result ≡ node_at self.now.path.items (last_start (state_of self.now)) }
+    {
+        self.path[self.last_start()]
+    }
+
     // Whether the structs of the last group hold themselves: there are several, or the one has itself as a part.
     fn is_cyclic(&self, names: &Names, structs: &[StructDef]) -> bool
         requires grouped { 0 < length self.now.groups.items }
         requires started { last_start (state_of self.now) < length self.now.path.items }
-        requires told { All (λ v. v < length structs.now) self.now.path.items }
+        requires told { node_at self.now.path.items (last_start (state_of self.now)) < length structs.now }
         ensures { result ≡ is_last_cyclic (look names.now) (map struct_view structs.now) (state_of self.now) }
     {
-        let start = self.last_start();
-        let node = self.path[start];
-        let alone = self.path.len() - start <= 1;
-        !alone || has_part(names, structs[node as usize].fields.as_slice(), node)
+        let node = self.start_node();
+        self.path.len() - self.last_start() > 1 || has_part(names, fields_of(structs, node), node)
     }
 
     // The words of the first struct of the last group.
     fn start_words(&self, names: &Names, structs: &[StructDef]) -> u32
         requires grouped { 0 < length self.now.groups.items }
         requires started { last_start (state_of self.now) < length self.now.path.items }
-        requires told { All (λ v. v < length structs.now) self.now.path.items }
+        requires told { node_at self.now.path.items (last_start (state_of self.now)) < length structs.now }
         ensures { result ≡ last_words (look names.now) (map struct_view structs.now) (state_of self.now) }
     {
-        let start = self.last_start();
-        let node = self.path[start];
-        fields_words(
-            names,
-            self.words.as_slice(),
-            structs[node as usize].fields.as_slice(),
-        )
+        let node = self.start_node();
+        fields_words(names, self.words.as_slice(), fields_of(structs, node))
+    }
+
+    // The struct to which the last edge that is left leads.
+    fn target(&self) -> u32
+        requires { 0 < length self.now.todo.items }
+        ensures { result ≡ target_of (state_of self.now) }
+    {
+        self.todo[self.todo.len() - 1]
+    }
+
+    // The mark of a struct.
+    fn mark(&self, node: u32) -> Mark
+        requires { node < length self.now.marks.items }
+        ensures { result ≡ mark_of self.now.marks.items node }
+    {
+        self.marks[node as usize]
     }
 
     // The last group, of which no edge is left, is done.
@@ -221,8 +243,8 @@ impl Walk {
         ensures walk { OnOk result (IsWalkOver (look names.now) (map struct_view structs.now) (state_of self.new)) }
         ensures falls { OnOk result (work_over (look names.now) (map struct_view structs.now) (state_of self.new) < work_over (look names.now) (map struct_view structs.now) (state_of self.old)) }
     {
-        let target = self.todo[self.todo.len() - 1];
-        match self.marks[target as usize] {
+        let target = self.target();
+        match self.mark(target) {
             Mark::Unseen => self.meet(names, structs, target)?,
             Mark::Open(place) => self.turn_back(names, structs, place),
             Mark::Done(_) => self.leave_target(),

@@ -1,0 +1,9 @@
+use Rattle.std.proofs.Common.{sym, ap, ◌∙◌, map}
+use Rattle.c0_tree.specs.View.{decl_view}
+use Rattle.c0_structs.proofs.Moves.{fields_read}
+use Rattle.c0_structs.proofs.walk.fields_of.Goals as goal
+
+pub returns : goal.returns
+returns c =
+    ap (map decl_view) c.as_slice.ensures.value
+    ∙ ?
