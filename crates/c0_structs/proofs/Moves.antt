@@ -25,10 +25,6 @@ fields_there [] v d h = absurd (omega arith)
 fields_there (s ∷ rest) zero d h = refl
 fields_there (s ∷ rest) (suc v) d h = fields_there rest v d (omega arith)
 
--- the fields of a struct that was read at its place
-pub fields_read : (items : List StructDef) (v : ℕ) (d : StructDef) → v < length items → d ≡ get_or items v d → fields_at (map struct_view items) v ≡ map decl_view d.fields.items
-fields_read items v d lt e = fields_there items v d lt ∙ ap (λ (x : StructDef). map decl_view x.fields.items) (sym e)
-
 -- the work of a number that is met
 met_work : (edges : ℕ → List ℕ) (marks : List Mark) (k v u q : ℕ) → u ≡ k + v → mark_of marks v ≡ Unseen → v < length marks → unseen_work edges k (set marks v (Open q)) + (2 + length (edges u)) ≡ unseen_work edges k marks
 met_work edges [] k v u q at unseen lt = absurd (omega arith)

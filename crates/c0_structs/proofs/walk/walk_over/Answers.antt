@@ -15,4 +15,4 @@ loop-walk-init c =
     let n : length (map struct_view c.args.structs.now) ≡ length c.args.structs.now = length-map c.args.structs.now struct_view in
     let h : IsWalk (edges (look c.args.names.now) (map struct_view c.args.structs.now)) (length (map struct_view c.args.structs.now)) (AreWordsOf (look c.args.names.now) (map struct_view c.args.structs.now)) (first_state (length c.args.structs.now))
         = subst (λ (k : ℕ). IsWalk (edges (look c.args.names.now) (map struct_view c.args.structs.now)) (length (map struct_view c.args.structs.now)) (AreWordsOf (look c.args.names.now) (map struct_view c.args.structs.now)) (first_state k)) n g in
-    let a = c.in_ok-walk.ensures in ?
+    subst (λ (s : State). IsWalk (edges (look c.args.names.now) (map struct_view c.args.structs.now)) (length (map struct_view c.args.structs.now)) (AreWordsOf (look c.args.names.now) (map struct_view c.args.structs.now)) s) (sym c.in_ok-walk.ensures) h
