@@ -30,7 +30,7 @@ declared_as base _ = none
 
 -- behind `struct` and a name
 abbrev pub told : CToken → CToken → Value → Value
-told t x (pair (token open_) v) = struct_of x (pair (token open_) v)
+told t x (pair (token opening) v) = struct_of x (pair (token opening) v)
 told t x v = declared_as (base_value (pair (token t) (token x))) v
 
 abbrev pub factored_value : Value → Value
