@@ -1,9 +1,9 @@
 -- A unit once more, so that one token at a time tells a struct, a global and a function apart: for proofs.
-use Rattle.std.specs.Prelude.{List, [], ◌∷◌, ◌++◌}
+use Rattle.std.specs.Prelude.{List, [], ◌++◌}
 use Rattle.c0_tokens.specs.Tokens.{CToken}
-use Rattle.c0_tokens.specs.declared.token.Mark.TheVariants.{Int, Bool as Boolean, Struct, Semicolon}
+use Rattle.c0_tokens.specs.declared.token.Mark.TheVariants.{Struct, Semicolon}
 use Rattle.c0_tree.specs.Tree.{CDecl, CStruct, CFunction}
-use Rattle.c0_parser.specs.Sorts.{mark, the_end}
+use Rattle.c0_parser.specs.Sorts.{the_end}
 use Rattle.c0_parser.specs.Value.{Value, token, pair, none, snoc, base_value, type_suffixes, decl_of, defined_at, struct_of, struct_in, global_in, function_in}
 use Rattle.c0_parser.specs.Grammar.{Piece, one_of, sign, ◌▸◌, ◌or◌, many, NAME, BASIC, SUFFIXES, FIELDS, FUNCTION}
 

@@ -1,13 +1,13 @@
 -- What the parts of a source mean: the value of each production, from the values of its parts.
 use Rattle.std.specs.Prelude.{ℕ, List, [], ◌∷◌, ◌++◌}
-use Rattle.c0_tokens.specs.declared.token.Mark.TheVariants.{Bool as Boolean, True, False, Dot, Arrow, Equal, NotEqual, Less, AtMost, Greater, AtLeast, Plus, Minus, Star, Slash, Percent, Not, Ampersand, And, Or}
-use Rattle.c0_tokens.specs.Tokens.{CLexeme, CToken, name, number, asm_text, fixed, faulty, end}
+use Rattle.c0_tokens.specs.declared.token.Mark.TheVariants.{Bool as Boolean, True, False, Dot, Equal, NotEqual, Less, AtMost, Greater, AtLeast, Plus, Minus, Star, Slash, Percent, Not, And}
+use Rattle.c0_tokens.specs.Tokens.{CLexeme, CToken, name, number, asm_text, fixed}
 use Rattle.c0_tree.specs.declared.tree.Span.{Span}
 use Rattle.c0_tree.specs.declared.tree.Kind.TheVariants.{Unresolved}
 use Rattle.c0_tree.specs.declared.tree.UnaryOp.TheVariants.{Negate, Not as Complement}
 use Rattle.c0_tree.specs.declared.tree.BinaryOp.{BinaryOp}
 use Rattle.c0_tree.specs.declared.tree.BinaryOp.TheVariants as op
-use Rattle.c0_tree.specs.Tree.{CName, CTy, int, bool, pointer, named, array, CExpr, num, true_, false_, null, var, field, arrow, index, deref, address, unary, binary, CStmt, assign, call, new, choice, loop, CStmts, done, next, CDecl, CStruct, CBody, code, asm, CFunction, CUnit}
+use Rattle.c0_tree.specs.Tree.{CName, CTy, int, bool, pointer, named, array, CExpr, num, true_, false_, null, var, field, arrow, index, deref, address, unary, binary, CStmt, assign, call, new, choice, loop, CStmts, done, CDecl, CStruct, CBody, code, asm, CFunction, CUnit}
 use Rattle.c0_tree.specs.View.{stmts_of}
 
 -- What a part of a source means. An expression and a type have the part of the source that they take, outer parentheses taken in.

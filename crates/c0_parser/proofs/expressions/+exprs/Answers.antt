@@ -1,14 +1,14 @@
 -- Each function reads the pieces of its production, one after the other.
-use Rattle.std.proofs.Common.{◌≡◌, ◌∷◌, [], length, map, refl, sym, ap, ◌∙◌, subst, arith, true, false}
+use Rattle.std.proofs.Common.{◌≡◌, map, refl, sym, ap, ◌∙◌, subst, arith, true, false}
 use Rattle.c0_tokens.specs.Tokens.{token_view}
-use Rattle.c0_tokens.specs.declared.token.Mark.TheVariants.{OpenParen, CloseParen, OpenBracket, CloseBracket}
+use Rattle.c0_tokens.specs.declared.token.Mark.TheVariants.{CloseParen, CloseBracket}
 use Rattle.c0_parser.specs.Sorts.{mark, among}
 use Rattle.c0_parser.specs.Value.{token, pair, none, snoc, joined, chained, suffixed, primary_value, unary_value}
-use Rattle.c0_parser.specs.Grammar.{the, many, maybe, sign, ◌▸◌, EXPR, primary, postfix, unary}
+use Rattle.c0_parser.specs.Grammar.{the, many, maybe, sign, primary, postfix, unary}
 use Rattle.c0_parser.specs.Machine.{kind}
 use Rattle.c0_parser.specs.Contract.{seen}
 use Rattle.c0_parser.specs.Views.{IsPart}
-use Rattle.c0_parser.specs.Levels.{rule_of, marks_of, operation, heads_any}
+use Rattle.c0_parser.specs.Levels.{rule_of, operation, heads_any}
 use Rattle.c0_parser.specs.Tails.{part_value, LITERAL, FIELD, SUFFIX}
 use Rattle.c0_parser.proofs.Steps.{goes_sign, goes_both, goes_first, goes_second, goes_the, goes_with, goes_without, list_starts, fails_left, fails_right, fails_first, fails_second, fails_the, fails_with, exits, exits_any, shorter}
 use Rattle.c0_parser.proofs.Exprs.{chain_more, chain_ends, chain_fails, first_fails, pair_gives, operation_heads, operation_here, goes_operation, fails_operation, suffixes_more, suffixes_end, suffixes_fail, picks_element, picks_prefixed, picks_parens, goes_prefix, literal_gives, postfix_gives, field_gives}

@@ -1,6 +1,5 @@
-use Rattle.std.proofs.Common.{refl, ap, arith}
+use Rattle.std.proofs.Common.{refl, arith}
 use Rattle.c0_parser.specs.Sorts.{mark_place}
-use Rattle.c0_parser.specs.Value.{type}
 use Rattle.c0_parser.specs.Views.{IsSuffix}
 use Rattle.c0_parser.specs.Grammar.{sign, ◌▸◌, NUMBER, SUFFIX}
 use Rattle.c0_tokens.specs.declared.token.Mark.TheVariants.{Star, OpenBracket, CloseBracket}
