@@ -1,5 +1,5 @@
 -- The faults of a function in two parts, as the checker meets them: those of its heading, and those of its body.
-use Rattle.std.specs.Prelude.{ℕ, List, ◌++◌, length, nat_lt}
+use Rattle.std.specs.Prelude.{ℕ, ◌+◌, List, ◌++◌, length, nat_lt}
 use Rattle.c0_tree.specs.declared.tree.Kind.TheVariants.{Local, Function}
 use Rattle.c0_tree.specs.Tree.{CBody, CFunction, CDecl}
 use Rattle.c0_tree.specs.declared.tree.Span.{Span}

@@ -1,0 +1,3 @@
+pub mod DeclaredInPlace
+pub mod DeclaredDecls
+pub mod DeclaredMeeting
