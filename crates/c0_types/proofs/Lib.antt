@@ -1,1 +1,4 @@
 pub mod BodiesNames
+pub mod DeclaredMeeting
+pub mod DeclaredInPlace
+pub mod DeclaredDecls
