@@ -1,5 +1,5 @@
 -- The faults of a unit in parts, as the checker meets them: those outside of bodies, and those of each body.
-use Rattle.std.specs.Prelude.{ℕ, suc, ◌+◌, List, [], ◌∷◌, ◌++◌, length, map, nat_lt}
+use Rattle.std.specs.Prelude.{ℕ, suc, ◌+◌, Bool, ◌&&◌, List, [], ◌∷◌, ◌++◌, length, map, nat_lt}
 use Rattle.c0_tree.specs.declared.tree.Kind.TheVariants.{Local, Global, Function}
 use Rattle.c0_tree.specs.Tree.{CBody, CFunction, CDecl, CUnit}
 use Rattle.c0_tree.specs.declared.tree.Span.{Span}
@@ -13,8 +13,10 @@ use Rattle.c0_meaning.specs.Limits.{is_asm, locals_of, words_held, max_parameter
 use Rattle.c0_meaning.specs.Resolved.{standing_for, resolved_type, resolved_decls, resolved_structs}
 use Rattle.c0_meaning.specs.Unit.{faults_in, structs_faults, resolved_body}
 use Rattle.c0_meaning.specs.Words.{all_words}
+use Rattle.c0_tree.specs.Plain.{is_short, is_plain_body}
 use Rattle.c0_tree.specs.Size.{body_nodes}
-use Rattle.c0_types.specs.Source.{read_body, asm_fault}
+use Rattle.c0_asm_text.specs.AsmText.{text_words, bad_line}
+use Rattle.c0_types.specs.Source.{read_body, asm_fault, line_fault}
 
 -- the faults of a function's heading: of its result, of its parameters, and of their number
 abbrev pub heading_faults : List Shape → CFunction → List Fault
@@ -86,6 +88,12 @@ inner_faults env name params result b =
     ++ (faults_in (with_locals env (params ++ locals_of b)) result b
     ++ asm_fault b)))
 
+-- the faults of an asm body, of a function with this name's span and these parameters
+abbrev pub text_faults : Span → List CDecl → List ℕ → Span → List Fault
+text_faults name params text span =
+    decl_name_faults (params ++ [])
+    ++ (fault_if (nat_lt MAX_FUNCTION_NODES (1 + length params + length (text_words text))) TOO_MANY_NODES name ++ line_fault (bad_line text) span)
+
 -- the faults of a function's body, in the environment of its unit
 abbrev pub faults_of_body : Env → CFunction → List Fault
 faults_of_body env f = inner_faults env f.name.span f.params (ty_of f.answer) f.body
@@ -103,7 +111,15 @@ inner_body env params b = resolved_body (with_locals env (params ++ locals_of b)
 abbrev pub bodied : Env → CFunction → CFunction
 bodied env f = record { answer = f.answer; answer_span = f.answer_span; name = f.name; params = f.params; body = inner_body env f.params f.body }
 
--- the nodes of functions whose asm texts are read
+-- the nodes of a function once its asm text is read
+abbrev pub nodes_read : CFunction → ℕ
+nodes_read f = nodes_with (length f.params) (read_body f.body)
+
+-- the nodes of functions once their asm texts are read
 abbrev pub functions_nodes : List CFunction → ℕ
 functions_nodes [] = 0
-functions_nodes (f ∷ rest) = nodes_with (length f.params) (read_body f.body) + functions_nodes rest
+functions_nodes (f ∷ rest) = nodes_read f + functions_nodes rest
+
+-- whether the lists of a function are short, and its numbers small
+abbrev pub is_plain_function : CFunction → Bool
+is_plain_function f = is_short f.params && is_plain_body f.body

@@ -7,7 +7,6 @@ ghost use Rattle.c0_body.specs.Scope.{Tells, ty_view, typed_view};
 ghost use Rattle.c0_body.specs.Stmts.{code_faults, resolved_of_stmts};
 ghost use Rattle.c0_meaning.specs.Asm.{are_allowed_words};
 ghost use Rattle.c0_meaning.specs.DeclaredTypes.{declared_faults};
-ghost use Rattle.c0_meaning.specs.Env.{Env};
 ghost use Rattle.c0_meaning.specs.Expression.{resolved};
 ghost use Rattle.c0_meaning.specs.Fault.{kept_all};
 ghost use Rattle.c0_meaning.specs.Limits.{words_held};
@@ -20,7 +19,7 @@ ghost use Rattle.c0_tree.specs.Size.{nodes, stmts_nodes};
 ghost use Rattle.c0_tree.specs.Tree.{code};
 ghost use Rattle.c0_tree.specs.View.{body_view, decl_view, expr_view, stmts_view, type_view};
 ghost use Rattle.c0_types.specs.Known.{KnowsUnit, unit_env};
-ghost use Rattle.c0_types.specs.Parts.{inner_body, inner_faults, nodes_with, with_locals};
+ghost use Rattle.c0_types.specs.Parts.{inner_body, inner_faults, nodes_with, text_faults};
 ghost use Rattle.c0_types.specs.Source.{line_fault, read_body};
 
 use crate::decls::check_decls;
@@ -177,7 +176,7 @@ fn check_text(
     requires params { length function.now.params.items < 2 ^ 32 }
     requires text { length text.old.bytes.items < 2 ^ 32 }
     ensures nodes { IfOk result (λ n. n ≡ min (nodes_with (length function.now.params.items) (read_body (body_view (Body.Asm text.old)))) (2 ^ 32 - 1)) }
-    ensures met { OnOk result ((env : Env) → met_view least.new ≡ kept_all (met_view least.old) (inner_faults env function.now.name.span (map decl_view function.now.params.items) (ty_view function.now.answer) (body_view (Body.Asm text.old)))) }
+    ensures met { OnOk result (met_view least.new ≡ kept_all (met_view least.old) (text_faults function.now.name.span (map decl_view function.now.params.items) text.old.bytes.items text.old.span)) }
     ensures read { OnOk result (body_view (Body.Asm text.new) ≡ read_body (body_view (Body.Asm text.old))) }
     ensures allowed { OnOk result (IsTrue (are_allowed_words text.new.words.items)) }
 {

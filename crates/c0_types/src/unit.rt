@@ -1,22 +1,21 @@
 // A whole unit.
 
-ghost use Rattle.std.specs.Prelude.{◌≡◌, ◌<◌, ◌-◌, ◌^◌, ◌&&◌, true, [], List, IfOk, IfErr, OnOk, length, map, min};
-ghost use Rattle.std.specs.List.{All, list_any, list_all};
-ghost use Rattle.c0_meaning.specs.Asm.{are_allowed_words};
+ghost use Rattle.std.specs.Prelude.{◌≡◌, ◌<◌, ◌-◌, ◌^◌, true, [], List, IfOk, IfErr, OnOk, length, map, min, slice_index_or, slice_set};
+ghost use Rattle.std.specs.List.{list_any, list_all};
 ghost use Rattle.c0_meaning.specs.Env.{Shape};
 ghost use Rattle.c0_meaning.specs.Fault.{kept_all};
 ghost use Rattle.c0_meaning.specs.Limits as limits;
-ghost use Rattle.c0_meaning.specs.Unit.{AreWordsAllowed};
 ghost use Rattle.c0_meaning.specs.Ty.{ty_of, same_ty, int};
 ghost use Rattle.c0_names.specs.Met.{met_view};
 ghost use Rattle.c0_names.specs.Structs.{KnowsStructs};
-ghost use Rattle.c0_tree.specs.Plain.{is_plain, is_plain_body, is_short};
+ghost use Rattle.c0_tree.specs.Plain.{is_plain};
 ghost use Rattle.c0_tree.specs.Primitives.{kernel_primitives, primitive_view};
+ghost use Rattle.c0_tree.specs.Tree.{CFunction};
 ghost use Rattle.c0_tree.specs.View.{decl_view, function_view, type_view, unit_view};
 ghost use Rattle.c0_types.specs.Answer.{FaultAnswers};
 ghost use Rattle.c0_types.specs.Known.{KnowsUnit, TellUnit, unit_env};
-ghost use Rattle.c0_types.specs.Parts.{bodied, bodies_faults, faults_of_body, functions_nodes, headed_functions, headings_faults, nodes_with, outer_faults, outer_unit};
-ghost use Rattle.c0_types.specs.Source.{checked_unit, read_body, source_faults};
+ghost use Rattle.c0_types.specs.Parts.{bodied, bodies_faults, faults_of_body, functions_nodes, headed_functions, headings_faults, is_plain_function, nodes_read, outer_faults, outer_unit};
+ghost use Rattle.c0_types.specs.Source.{checked_unit, source_faults};
 
 use crate::bodies::{Declared, check_body};
 use crate::decls::{are_too_large, check_decls};
@@ -78,7 +77,7 @@ fn check_headings(
     least: &mut Option<Fault>,
 )
     requires few { length functions.old < 2 ^ 32 }
-    requires plain { list_all (λ f. is_short f.params && is_plain_body f.body) (map function_view functions.old) ≡ true }
+    requires plain { list_all is_plain_function (map function_view functions.old) ≡ true }
     ensures met { (shapes : List Shape) → KnowsStructs names.now words.now shapes → met_view least.new ≡ kept_all (met_view least.old) (headings_faults shapes (map function_view functions.old)) }
     ensures named { (shapes : List Shape) → KnowsStructs names.now words.now shapes → map function_view functions.new ≡ headed_functions shapes 0 (map function_view functions.old) }
 {
@@ -99,7 +98,10 @@ fn check_body_at(
 ) -> Result<u32, AllocError>
     requires knows { KnowsUnit declared.now functions.old }
     requires within { place < length functions.old }
-    requires plain { list_all (λ f. is_short f.params && is_plain_body f.body) (map function_view functions.old) ≡ true }
+    requires plain { (other : CFunction) → is_plain_function (slice_index_or (map function_view functions.old) place other) ≡ true }
+    ensures nodes { IfOk result (λ n. (other : CFunction) → n ≡ min (nodes_read (slice_index_or (map function_view functions.old) place other)) (2 ^ 32 - 1)) }
+    ensures met { OnOk result ((other : CFunction) → met_view least.new ≡ kept_all (met_view least.old) (faults_of_body (unit_env declared.now functions.old) (slice_index_or (map function_view functions.old) place other))) }
+    ensures resolved { OnOk result ((other : CFunction) → map function_view functions.new ≡ slice_set (map function_view functions.old) place (bodied (unit_env declared.now functions.old) (slice_index_or (map function_view functions.old) place other))) }
 {
     let function = &mut functions[place];
     let empty = Body::Asm(AsmText {
@@ -128,11 +130,10 @@ fn check_bodies(
     least: &mut Option<Fault>,
 ) -> Result<u32, AllocError>
     requires knows { KnowsUnit declared.now functions.old }
-    requires plain { list_all (λ f. is_short f.params && is_plain_body f.body) (map function_view functions.old) ≡ true }
+    requires plain { list_all is_plain_function (map function_view functions.old) ≡ true }
     ensures nodes { IfOk result (λ n. n ≡ min (functions_nodes (map function_view functions.old)) (2 ^ 32 - 1)) }
     ensures met { OnOk result (met_view least.new ≡ kept_all (met_view least.old) (bodies_faults (unit_env declared.now functions.old) (map function_view functions.old))) }
     ensures resolved { OnOk result (map function_view functions.new ≡ map (bodied (unit_env declared.now functions.old)) (map function_view functions.old)) }
-    ensures allowed { OnOk result (AreWordsAllowed (map function_view functions.new)) }
 {
     let mut nodes = 0u32;
     for place in 0..functions.len() {
@@ -189,7 +190,6 @@ fn check_unit(
     requires plain { is_plain (unit_view unit.old) ≡ true }
     ensures met { OnOk result (met_view least.new ≡ kept_all (met_view least.old) (source_faults (unit_view unit.old))) }
     ensures resolved { OnOk result (unit_view unit.new ≡ checked_unit (unit_view unit.old)) }
-    ensures allowed { OnOk result (AreWordsAllowed (unit_view unit.new).functions) }
 {
     meeting_is_free_of_order();
     resolving_is_stable();
