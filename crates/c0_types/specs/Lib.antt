@@ -1,3 +1,5 @@
 pub mod Source
 pub mod Parts
 pub mod Answer
+pub mod Known
+pub mod Told

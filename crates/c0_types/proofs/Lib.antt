@@ -1,0 +1,6 @@
+pub mod BodiesNames
+pub mod DeclaredMeeting
+pub mod DeclaredInPlace
+pub mod DeclaredDecls
+pub mod BodiesScope
+pub mod UnitHeadings
