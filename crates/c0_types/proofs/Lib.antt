@@ -1,3 +1,4 @@
 pub mod DeclaredInPlace
 pub mod DeclaredDecls
 pub mod DeclaredMeeting
+pub mod DeclaredSpaces

@@ -1,3 +1,4 @@
 pub mod Source
 pub mod Parts
 pub mod Answer
+pub mod SourceOrder
