@@ -2,3 +2,4 @@ pub mod DeclaredInPlace
 pub mod DeclaredDecls
 pub mod DeclaredMeeting
 pub mod DeclaredSpaces
+pub mod DeclaredStructs

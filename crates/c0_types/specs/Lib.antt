@@ -2,3 +2,4 @@ pub mod Source
 pub mod Parts
 pub mod Answer
 pub mod SourceOrder
+pub mod NumberedStruct
