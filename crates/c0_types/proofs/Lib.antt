@@ -4,3 +4,5 @@ pub mod DeclaredInPlace
 pub mod DeclaredDecls
 pub mod BodiesScope
 pub mod UnitHeadings
+pub mod DeclaredSpaces
+pub mod DeclaredStructs
