@@ -6,3 +6,4 @@ pub mod BodiesScope
 pub mod UnitHeadings
 pub mod DeclaredSpaces
 pub mod DeclaredStructs
+pub mod UnitPlain
