@@ -1,5 +1,5 @@
 -- Names that are set one after the other: their numbers, and those that are set before in source order.
-use Rattle.std.proofs.Common.{◌≡◌, ℕ, suc, ◌+◌, ◌<◌, ◌-◌, Bool, true, false, ◌||◌, nat_lt, cond, List, [], ◌∷◌, map, length, drop, length-drop, Option, Some, None, is_some, bytes_eq, refl, sym, ap, ◌∙◌, add-one, arith}
+use Rattle.std.proofs.Common.{◌≡◌, ℕ, suc, ◌+◌, ◌<◌, ◌-◌, Bool, true, false, ◌||◌, cond, List, [], ◌∷◌, map, length, drop, length-drop, Option, Some, None, is_some, bytes_eq, refl, sym, ap, ◌∙◌, add-one, arith}
 use Rattle.std.proofs.lemmas.List.{length-map}
 use Rattle.std.specs.Option.{option_or, option_map}
 use Rattle.c0_tree.specs.Tree.{CName}

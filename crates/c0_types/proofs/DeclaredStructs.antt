@@ -1,6 +1,7 @@
 -- Structs that are checked one after the other.
-use Rattle.std.proofs.Common.{◌≡◌, ℕ, suc, ◌+◌, ◌<◌, ◌≤◌, ◌⊎◌, inl, inr, Bool, true, false, nat_lt, min, get_or, set, List, [], ◌∷◌, ◌++◌, length, map, Option, Some, None, cond, get_or-set_same, get_or-set_other, refl, sym, ap, ◌∙◌, subst, arith}
+use Rattle.std.proofs.Common.{◌≡◌, ℕ, suc, ◌+◌, ◌<◌, ◌≤◌, inl, inr, Bool, true, false, nat_lt, min, get_or, set, List, [], ◌∷◌, ◌++◌, length, map, Some, cond, get_or-set_same, get_or-set_other, refl, sym, ap, ◌∙◌, subst, arith}
 use Rattle.std.specs.Option.{option_map}
+use Rattle.std.specs.Str.{bytes_eq}
 use Rattle.std.proofs.lemmas.Bool.{cases_lt}
 use Rattle.std.proofs.lemmas.Bool.Decides.{nat_tests}
 use Rattle.std.proofs.lemmas.List.{length-map, get_or_append_left, get_or_push, get_or_default}
@@ -8,14 +9,11 @@ use Rattle.c0_tree.specs.Tree.{CStruct}
 use Rattle.c0_body.proofs.InPlace.{map-get_or}
 use Rattle.c0_meaning.specs.DeclaredTypes.{MAX_TYPE_WORDS}
 use Rattle.c0_meaning.specs.Env.{Shape, first_named}
-use Rattle.c0_meaning.specs.Fault.{Fault, kept_all}
 use Rattle.c0_meaning.specs.Resolved.{resolved_structs}
 use Rattle.c0_names.specs.Names.{number_named}
 use Rattle.c0_names.specs.Structs.{WORDS_CAP}
-use Rattle.c0_names.proofs.Meeting.{two_met}
 use Rattle.c0_types.specs.NumberedStruct.{numbered_struct}
 use Rattle.c0_types.proofs.DeclaredInPlace.{numbered}
-use Rattle.std.specs.Str.{bytes_eq}
 
 -- all are numbered
 pub structs_numbered : (shapes : List Shape) (k : ℕ) (ss : List CStruct) → numbered (numbered_struct shapes) k (length ss) ss ≡ resolved_structs shapes k ss
@@ -68,10 +66,3 @@ told_more R ms ss i m new h count within here j n s below = elim (cases_lt j i) 
       let same : get_or (set ss i new) j s ≡ new = ap (λ (k : ℕ). get_or (set ss i new) k s) last ∙ get_or-set_same ss i new s within in
       rw (pushed, same) here
 ]
-
--- four lists of faults
-pub four_met : (m m1 m2 m3 m4 : Option Fault) (fs gs hs is : List Fault)
-    → m1 ≡ kept_all m fs → m2 ≡ kept_all m1 gs → m3 ≡ kept_all m2 hs → m4 ≡ kept_all m3 is
-    → m4 ≡ kept_all m (fs ++ (gs ++ (hs ++ is)))
-four_met m m1 m2 m3 m4 fs gs hs is e1 e2 e3 e4 =
-    two_met m m1 m4 fs _ e1 (two_met m1 m2 m4 gs _ e2 (two_met m2 m3 m4 hs is e3 e4))

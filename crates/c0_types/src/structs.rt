@@ -145,15 +145,7 @@ fn check_each(
     let mut number = 0u32;
     for definition in structs.iter_mut() {
         let holds_itself = hold_themselves[number as usize];
-        let fields = check_struct(
-            alloc,
-            names,
-            words,
-            number,
-            holds_itself,
-            definition,
-            least,
-        )?;
+        let fields = check_struct(alloc, names, words, number, holds_itself, definition, least)?;
         field_names.push(fields)?;
         number += 1;
     }

@@ -1,5 +1,5 @@
 -- The structs so far are checked, and the faults of the others are still to be met.
-use Rattle.std.proofs.Common.{◌≡◌, ◌<◌, ℕ, List, get_or, length, map}
+use Rattle.std.proofs.Common.{◌≡◌, ◌<◌, ℕ, get_or, length, map}
 use Rattle.c0_tree.specs.declared.tree.StructDef.{StructDef}
 use Rattle.c0_tree.specs.View.{struct_view}
 use Rattle.c0_body.specs.Scope.{Tells, typed_view}

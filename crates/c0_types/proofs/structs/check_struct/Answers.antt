@@ -1,5 +1,5 @@
 -- The faults are met in their order, and the fields have their numbers by the names that they keep.
-use Rattle.std.proofs.Common.{◌≡◌, ◌++◌, ℕ, List, length, take, drop, map, sym, ap, ◌∙◌, arith}
+use Rattle.std.proofs.Common.{◌≡◌, ◌++◌, List, length, take, drop, map, sym, ap, ◌∙◌, arith}
 use Rattle.std.proofs.lemmas.Grind.{common_steps}
 use Rattle.std.proofs.lemmas.Simd.{map-map}
 use Rattle.c0_tree.specs.declared.tree.Decl.{Decl}
@@ -16,7 +16,8 @@ use Rattle.c0_meaning.specs.Words.{holds}
 use Rattle.c0_meaning.proofs.StableTypes.{typed_kept}
 use Rattle.c0_names.specs.Met.{met_view}
 use Rattle.c0_names.specs.Names.{number_named}
-use Rattle.c0_types.proofs.DeclaredStructs.{four_met, number_viewed}
+use Rattle.c0_types.proofs.DeclaredMeeting.{four_met}
+use Rattle.c0_types.proofs.DeclaredStructs.{number_viewed}
 use Rattle.c0_types.proofs.structs.check_struct.Goals as goal
 
 pub returns-clause-fields : goal.returns-clause-fields
