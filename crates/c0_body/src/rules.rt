@@ -10,9 +10,9 @@ ghost use Rattle.c0_body.specs.Check.{Settles, form_view};
 ghost use Rattle.c0_names.specs.Met.{met_view, number_of};
 ghost use Rattle.c0_body.specs.Scope.{Knows, env_view, found_in, found_view, is_declared, typed_view};
 
-use c0_names::fault::{Fault, Mistake, meet_at};
 use crate::form::{Form, form_of, same_form};
 use crate::scope::{Found, Scope, find_field, find_variable};
+use c0_names::fault::{Fault, Mistake, meet_at};
 use c0_tree::{BinaryOp, Decl, Kind, Name, Span, UnaryOp};
 
 /// A mistake leaves no type.

@@ -1,5 +1,5 @@
 -- One more declaration of a space.
-use Rattle.std.proofs.Common.{◌≡◌, ℕ, suc, ◌+◌, Bool, true, false, ◌||◌, cond, List, [], ◌∷◌, ◌++◌, map, Option, Some, None, is_some, refl, sym, ap, ◌∙◌, add-one}
+use Rattle.std.proofs.Common.{◌≡◌, ℕ, suc, ◌+◌, Bool, true, false, ◌||◌, cond, List, [], ◌∷◌, ◌++◌, Option, Some, None, is_some, refl, sym, ap, ◌∙◌, add-one}
 use Rattle.std.specs.Option.{option_or, option_map}
 use Rattle.c0_meaning.specs.Env.{first_named}
 use Rattle.std.specs.Str.{bytes_eq}
@@ -8,7 +8,7 @@ use Rattle.c0_tree.specs.Tree.{CName, CDecl}
 use Rattle.c0_meaning.specs.Fault.{Fault, fault, kept, kept_all, NAME_TWICE}
 use Rattle.c0_names.specs.Names.{number_named}
 use Rattle.c0_names.specs.Spaces.{twice_by, TwiceByTestIsTwice}
-use Rattle.c0_meaning.specs.Names.{is_among, twice_faults}
+use Rattle.c0_meaning.specs.Names.{is_among}
 use Rattle.std.proofs.lemmas.List.Folds.{list_any-append}
 
 numbers_in : (b : Bool) (o : Option ℕ) (n : ℕ) (rest here : Option ℕ) (e : here ≡ cond b (Some n) rest) → option_or (option_or o (cond b (Some n) None)) rest ≡ option_or o here
