@@ -1,6 +1,6 @@
 -- A loop that changes each element of a list in place: the elements so far are changed, and the others are as they were.
 use Rattle.std.proofs.lemmas.List.{length-map}
-use Rattle.std.proofs.Common.{◌≡◌, ℕ, zero, suc, ◌+◌, ◌-◌, ◌<◌, ◌≤◌, List, [], ◌∷◌, ◌++◌, length, map, get_or, set, add-one, refl, sym, ap, ◌∙◌, subst, arith}
+use Rattle.std.proofs.Common.{◌≡◌, ℕ, zero, suc, ◌+◌, ◌<◌, List, [], ◌∷◌, length, map, get_or, set, add-one, refl, sym, ap, ◌∙◌, subst, arith}
 
 -- a list whose first elements are changed
 abbrev pub done : {V : Type 0} → (V → V) → ℕ → List V → List V

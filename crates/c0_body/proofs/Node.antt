@@ -1,16 +1,16 @@
 -- What the check of a node makes of the checks of its parts.
-use Rattle.std.proofs.Common.{◌≡◌, ℕ, Bool, true, false, ◌&&◌, if◌then◌else◌, List, [], ◌∷◌, ◌++◌, Option, Some, None, refl, sym, ap, ◌∙◌, subst}
+use Rattle.std.proofs.Common.{◌≡◌, ℕ, Bool, true, false, ◌&&◌, if◌then◌else◌, List, [], ◌++◌, Option, Some, None, refl, sym, ap, ◌∙◌, subst}
 use Rattle.c0_tree.specs.declared.tree.Span.{Span}
 use Rattle.c0_tree.specs.declared.tree.BinaryOp.{BinaryOp}
 use Rattle.c0_tree.specs.declared.tree.Expr.{Expr}
 use Rattle.c0_tree.specs.View.{expr_view}
-use Rattle.c0_tree.specs.Tree.{CName, CExpr, num, true_, false_, null, var, field, arrow, index, deref, address, unary, binary}
+use Rattle.c0_tree.specs.Tree.{CName, CExpr, null, field, arrow, index, address, binary}
 use Rattle.c0_meaning.specs.Ty.{Ty}
 use Rattle.c0_meaning.specs.Env.{Env, Typed}
-use Rattle.c0_meaning.specs.Fault.{Fault, kept, kept_all}
-use Rattle.c0_meaning.specs.Expression.{Verdict, given, own, one, both, is_place, is_local, span_of, is_null, is_pointer, filled, asked, asked_faults, compares, asks, member, target, place_field_rule, arrow_rule, index_rule, address_rule, binary_rule, verdict, type_of, faults, numbered_field, resolved}
+use Rattle.c0_meaning.specs.Fault.{Fault, kept_all}
+use Rattle.c0_meaning.specs.Expression.{Verdict, given, own, one, both, is_place, is_local, span_of, is_null, is_pointer, filled, asked, asked_faults, compares, asks, member, target, place_field_rule, arrow_rule, index_rule, address_rule, binary_rule, type_of, faults, numbered_field, resolved}
 use Rattle.c0_body.specs.Check.{Settles, Checks, ChecksAsked}
-use Rattle.c0_names.proofs.Meeting.{kept_all-append, two_met}
+use Rattle.c0_names.proofs.Meeting.{kept_all-append}
 
 -- the same of an expression that is seen otherwise
 pub seen : (env : Env) (x y : CExpr) (t : Option Ty) (m n : Option Fault) (new after : CExpr) → x ≡ y → new ≡ after → Checks env y t m n after → Checks env x t m n new

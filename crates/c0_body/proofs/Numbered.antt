@@ -1,5 +1,5 @@
 -- A name that has a number in a list stands there: the element of that number is the first of the name.
-use Rattle.std.proofs.Common.{◌≡◌, ℕ, zero, suc, ◌+◌, ◌<◌, Bool, true, false, if◌then◌else◌, List, [], ◌∷◌, ◌++◌, ◌-◌, ◌≤◌, length, map, Option, Some, None, get_or, refl, sym, ap, ◌∙◌, subst, bytes_eq, arith}
+use Rattle.std.proofs.Common.{◌≡◌, ℕ, suc, ◌+◌, ◌<◌, Bool, true, false, if◌then◌else◌, List, [], ◌∷◌, ◌++◌, ◌-◌, ◌≤◌, length, map, Some, get_or, refl, sym, ap, ◌∙◌, bytes_eq, arith}
 use Rattle.std.proofs.lemmas.List.{map-append, length-append, get_or_append_left, get_or-append_right}
 use Rattle.std.specs.Option.{option_map}
 use Rattle.c0_meaning.specs.Env.{first_named}

@@ -1,13 +1,13 @@
 -- The parts of statements: what the checks of expressions make of them.
-use Rattle.std.proofs.Common.{◌≡◌, ℕ, zero, suc, ◌+◌, ◌<◌, length, get_or, slice_get, add-one, Bool, List, [], ◌∷◌, ◌++◌, Option, Some, None, nat_lt, if◌then◌else◌, refl, sym, ap, ◌∙◌}
+use Rattle.std.proofs.Common.{◌≡◌, ℕ, zero, suc, ◌+◌, ◌<◌, length, get_or, slice_get, add-one, Bool, List, [], ◌∷◌, ◌++◌, Option, nat_lt, refl, sym, ap, ◌∙◌}
 use Rattle.c0_tree.specs.declared.tree.Span.{Span}
 use Rattle.c0_tree.specs.Tree.{CName, CTy, CExpr}
 use Rattle.c0_tree.specs.Size.{need}
 use Rattle.c0_meaning.specs.Ty.{Ty, pointer, ty_of}
 use Rattle.c0_meaning.specs.Env.{Env, Callee, callee_named}
-use Rattle.c0_meaning.specs.Fault.{Fault, fault, kept_all, TOO_DEEP}
+use Rattle.c0_meaning.specs.Fault.{Fault, kept_all, TOO_DEEP}
 use Rattle.c0_meaning.specs.DeclaredTypes.{fault_if, type_faults}
-use Rattle.c0_meaning.specs.Expression.{Verdict, own, one, both, is_place, span_of, asked, asked_faults, type_of, faults}
+use Rattle.c0_meaning.specs.Expression.{own, one, both, is_place, span_of, asked, asked_faults, type_of, faults}
 use Rattle.c0_meaning.specs.Statement.{MAX_NEED, same_rule, given_verdict, given_faults, deep_faults, left_rule, left_type, left_faults, result_faults, callee_faults, params_of, first_of, rest_of, args_faults, assign_need, call_need, new_need, assign_faults, call_faults, new_faults}
 use Rattle.c0_body.specs.Check.{Settles, Checks, ChecksAsked}
 use Rattle.c0_body.specs.Stmts.{ChecksGiven, ChecksTested, ChecksLeft, ChecksArgs}

@@ -1,18 +1,14 @@
 -- Lists of statements, changed in place one after the other.
-use Rattle.std.proofs.Common.{◌≡◌, ℕ, zero, suc, ◌+◌, ◌*◌, ◌<◌, ◌≤◌, List, [], ◌∷◌, ◌++◌, length, map, get_or, Option, refl, sym, ap, ◌∙◌, subst, arith}
-use Rattle.c0_tree.specs.declared.tree.Span.{Span}
-use Rattle.c0_tree.specs.Tree.{CExpr, CStmt, choice, loop, CStmts, done as no_more, next}
-use Rattle.c0_tree.specs.Size.{stmt_nodes, stmts_nodes, need}
+use Rattle.std.proofs.Common.{◌≡◌, ℕ, zero, suc, ◌+◌, ◌*◌, ◌<◌, ◌≤◌, List, [], ◌∷◌, length, map, get_or, Option, refl, sym, ap, ◌∙◌, subst, arith}
+use Rattle.c0_tree.specs.Tree.{CStmt, CStmts, next}
+use Rattle.c0_tree.specs.Size.{stmt_nodes, stmts_nodes}
 use Rattle.c0_tree.specs.View.{stmts_of, stmts_view}
 use Rattle.c0_tree.specs.declared.tree.Stmt.{Stmt}
-use Rattle.c0_meaning.specs.Ty.{bool}
 use Rattle.c0_meaning.specs.Env.{Env}
 use Rattle.c0_meaning.specs.Fault.{Fault, kept_all}
-use Rattle.c0_meaning.specs.Expression.{span_of, resolved}
-use Rattle.c0_meaning.specs.Statement.{tested_faults}
-use Rattle.c0_body.specs.Stmts.{ChecksStmt, ChecksStmts, faults_of_stmt, faults_of_stmts, resolved_of_stmt, resolved_of_stmts}
+use Rattle.c0_body.specs.Stmts.{ChecksStmts, faults_of_stmt, faults_of_stmts, resolved_of_stmt, resolved_of_stmts}
 use Rattle.c0_body.proofs.InPlace.{rest, rest-next}
-use Rattle.c0_names.proofs.Meeting.{kept_all-append, two_met}
+use Rattle.c0_names.proofs.Meeting.{kept_all-append}
 
 -- a statement has no more nodes than the list that it is of
 pub nodes_within : (i : ℕ) (ss : List CStmt) (d : CStmt) → i < length ss → stmt_nodes (get_or ss i d) ≤ stmts_nodes (stmts_of ss)

@@ -1,6 +1,6 @@
 -- What contracts see of the check of an expression.
-use Rattle.std.specs.Prelude.{◌≡◌, ℕ, Bool, true, false, IsTrue, List, Option, Some, None}
-use Rattle.c0_tree.specs.Tree.{CName, CExpr}
+use Rattle.std.specs.Prelude.{◌≡◌, Bool, false, Option, Some, None}
+use Rattle.c0_tree.specs.Tree.{CExpr}
 use Rattle.c0_meaning.specs.Ty.{Ty, int, bool, pointer, named, array, same_ty}
 use Rattle.c0_meaning.specs.Env.{Env}
 use Rattle.c0_meaning.specs.Fault.{Fault, kept_all}

@@ -1,6 +1,5 @@
 -- What contracts see of the names that a body is checked with.
-use Rattle.std.specs.Prelude.{◌≡◌, ◌+◌, min, get_or, ◌<◌, ◌^◌, ℕ, List, map, ◌++◌, length, Bool, true, false, Option, Some, None, slice_get}
-use Rattle.std.specs.Option.{option_map}
+use Rattle.std.specs.Prelude.{◌≡◌, min, get_or, ◌<◌, ℕ, List, map, ◌++◌, length, Bool, true, false, Option, Some, None}
 use Rattle.std.specs.Borrow.{Bor}
 use Rattle.std.specs.declared.vec.Vec.{Vec}
 use Rattle.indexmap.specs.IndexMap.{IndexMap}

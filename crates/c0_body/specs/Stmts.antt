@@ -1,7 +1,6 @@
 -- What contracts see of the check of statements.
-use Rattle.std.specs.Prelude.{◌≡◌, ℕ, List, [], ◌++◌, map, Option, Some, None}
-use Rattle.c0_tree.specs.declared.tree.Span.{Span}
-use Rattle.c0_tree.specs.Tree.{CTy, CExpr, CStmt, CStmts}
+use Rattle.std.specs.Prelude.{◌≡◌, List, ◌++◌, map, Option}
+use Rattle.c0_tree.specs.Tree.{CExpr, CStmt, CStmts}
 use Rattle.c0_tree.specs.Size.{need}
 use Rattle.c0_meaning.specs.Ty.{Ty, bool}
 use Rattle.c0_meaning.specs.Env.{Env}

@@ -8,10 +8,10 @@ ghost use Rattle.c0_names.specs.Met.{met_view};
 ghost use Rattle.c0_body.specs.Scope.{Knows, env_view, ty_view};
 ghost use Rattle.c0_body.specs.Stmts.{code_faults, resolved_of_stmts};
 
-use c0_names::fault::Fault;
 use crate::parts::check_tested;
 use crate::scope::{Found, Scope};
 use crate::stmts::check_stmts;
+use c0_names::fault::Fault;
 use c0_tree::{CType, Expr, Stmt};
 
 /// Checks the statements of a body and the expression that is returned, whose type is to be the function's: their names

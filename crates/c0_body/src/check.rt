@@ -7,7 +7,6 @@ ghost use Rattle.c0_body.specs.Check.{Checks, ChecksAsked};
 ghost use Rattle.c0_names.specs.Met.{met_view};
 ghost use Rattle.c0_body.specs.Scope.{Knows, env_view, found_view, is_declared};
 
-use c0_names::fault::{Fault, Mistake};
 use crate::form::is_pointer_form;
 use crate::rules::{
     address, arrow, binary, deref, index, member, number_field, place_field, target, unary,
@@ -16,6 +15,7 @@ use crate::rules::{
 use crate::scope::{Found, Scope};
 use crate::shape::{compares, is_local, is_null, is_place, span_of};
 use c0_meaning::laws::meeting_is_free_of_order;
+use c0_names::fault::{Fault, Mistake};
 use c0_tree::{BinaryOp, Expr};
 
 // Whether an expression is a `null` of which a particular pointer type is asked.

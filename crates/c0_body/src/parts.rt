@@ -11,12 +11,12 @@ ghost use Rattle.c0_body.specs.Scope.{Knows, env_view, found_view};
 ghost use Rattle.c0_body.specs.Stmts.{ChecksGiven, ChecksLeft, ChecksTested};
 
 use crate::check::{check, check_asked};
-use c0_names::fault::{Fault, Mistake, meet_at, meet_if};
 use crate::form::{Form, same_form};
 use crate::need::is_deep;
 use crate::rules::{is_nothing, is_scalar_form, wrong};
 use crate::scope::{Found, Scope};
 use crate::shape::{is_place, span_of};
+use c0_names::fault::{Fault, Mistake, meet_at, meet_if};
 use c0_tree::{Expr, Span};
 
 /// Another type than is asked is met, where both are there.

@@ -1,6 +1,6 @@
 // The rule of each kind of expression: from the types of its parts to its own type or fault.
 
-ghost use Rattle.std.specs.Prelude.{◌≡◌, IfSome, IsTrue, if◌then◌else◌, is_none};
+ghost use Rattle.std.specs.Prelude.{◌≡◌, IfNone, IfSome, false, IsTrue, if◌then◌else◌, is_none};
 ghost use Rattle.c0_meaning.specs.Env.{variable_named};
 ghost use Rattle.c0_meaning.specs.Expression as spec;
 ghost use Rattle.c0_meaning.specs.Fault.{fault};
@@ -10,9 +10,9 @@ ghost use Rattle.c0_body.specs.Check.{Settles, form_view};
 ghost use Rattle.c0_names.specs.Met.{met_view, number_of};
 ghost use Rattle.c0_body.specs.Scope.{Knows, env_view, found_in, found_view, is_declared, typed_view};
 
-use c0_names::fault::{Fault, Mistake, meet_at};
 use crate::form::{Form, form_of, same_form};
 use crate::scope::{Found, Scope, find_field, find_variable};
+use c0_names::fault::{Fault, Mistake, meet_at};
 use c0_tree::{BinaryOp, Decl, Kind, Name, Span, UnaryOp};
 
 /// A mistake leaves no type.
@@ -296,9 +296,10 @@ fn bools<'a>(span: Span, left: Form<'_>, right: Form<'_>, least: &mut Option<Fau
     }
 }
 
-/// Whether it is an int, a bool or a pointer.
+/// Whether there is a type, and it is an int, a bool or a pointer.
 pub fn is_scalar_form(form: Form<'_>) -> bool
-    ensures { IfSome (form_view form.entry) (λ t. result ≡ is_scalar t) }
+    ensures scalar { IfSome (form_view form.entry) (λ t. result ≡ is_scalar t) }
+    ensures nothing { IfNone (form_view form.entry) (result ≡ false) }
 {
     match form {
         Form::Nothing => false,

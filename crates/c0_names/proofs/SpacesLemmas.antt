@@ -1,14 +1,15 @@
 -- One more declaration of a space.
-use Rattle.std.proofs.Common.{◌≡◌, ℕ, suc, ◌+◌, Bool, true, false, ◌||◌, cond, List, [], ◌∷◌, ◌++◌, map, Option, Some, None, is_some, refl, sym, ap, ◌∙◌, add-one}
+use Rattle.std.proofs.Common.{◌≡◌, ℕ, suc, ◌+◌, Bool, true, false, ◌||◌, cond, List, [], ◌∷◌, ◌++◌, Option, Some, None, is_some, refl, sym, ap, ◌∙◌, add-one}
 use Rattle.std.specs.Option.{option_or, option_map}
 use Rattle.c0_meaning.specs.Env.{first_named}
 use Rattle.std.specs.Str.{bytes_eq}
 use mathlib.Core.Path.{fun_ext}
 use Rattle.c0_tree.specs.Tree.{CName, CDecl}
-use Rattle.c0_meaning.specs.Fault.{Fault, fault, kept, kept_all, NAME_TWICE}
+use Rattle.c0_meaning.specs.Fault.{Fault, fault, kept_all, NAME_TWICE}
 use Rattle.c0_names.specs.Names.{number_named}
 use Rattle.c0_names.specs.Spaces.{twice_by, TwiceByTestIsTwice}
-use Rattle.c0_meaning.specs.Names.{is_among, twice_faults}
+use Rattle.c0_meaning.specs.Names.{is_among}
+use Rattle.c0_names.proofs.Meeting.{kept_all-append}
 use Rattle.std.proofs.lemmas.List.Folds.{list_any-append}
 
 numbers_in : (b : Bool) (o : Option ℕ) (n : ℕ) (rest here : Option ℕ) (e : here ≡ cond b (Some n) rest) → option_or (option_or o (cond b (Some n) None)) rest ≡ option_or o here
@@ -34,10 +35,6 @@ seen_more (Some v) b n = refl
 seen_more None true n = refl
 seen_more None false n = refl
 
-joined : (met : Option Fault) (fs gs : List Fault) → kept_all met (fs ++ gs) ≡ kept_all (kept_all met fs) gs
-joined met [] gs = refl
-joined met (f ∷ fs) gs = joined (kept met f) fs gs
-
 -- the faults of names, one more declaration being set
 pub met_step : (old new : List ℕ → Option ℕ) (x : CName) (rest : List CName) (n : ℕ) (m m' : Option Fault) →
     ((q : List ℕ) → new q ≡ option_or (old q) (cond (bytes_eq x.text q) (Some n) None)) → m' ≡ kept_all m (cond (is_some (old x.text)) (fault NAME_TWICE x.span ∷ []) []) →
@@ -46,7 +43,7 @@ met_step old new x rest n m m' names e =
     ap (λ (k : Option Fault). kept_all k (twice_by (λ q. is_some (new q)) rest)) e
     ∙ (ap (λ (seen : List ℕ → Bool). kept_all (kept_all m (cond (is_some (old x.text)) (fault NAME_TWICE x.span ∷ []) [])) (twice_by seen rest))
     (fun_ext (λ q. ap is_some (names q) ∙ seen_more (old q) (bytes_eq x.text q) n))
-    ∙ sym (joined m (cond (is_some (old x.text)) (fault NAME_TWICE x.span ∷ []) []) (twice_by (λ q. is_some (old q) || bytes_eq x.text q) rest)))
+    ∙ sym (kept_all-append m (cond (is_some (old x.text)) (fault NAME_TWICE x.span ∷ []) []) (twice_by (λ q. is_some (old q) || bytes_eq x.text q) rest)))
 
 among_more : (before : List (List ℕ)) (x q : List ℕ) (b : Bool) → b ≡ is_among before q → (b || bytes_eq x q) ≡ is_among (before ++ x ∷ []) q
 among_more before x q b e =

@@ -1,5 +1,5 @@
 -- Types by numbers and listed words are types by the structs themselves.
-use Rattle.std.proofs.Common.{◌≡◌, ℕ, zero, suc, ◌+◌, ◌*◌, ◌<◌, ◌≤◌, ◌⊎◌, inl, inr, Bool, true, false, nat_lt, min, get_or, if◌then◌else◌, List, [], ◌∷◌, ◌++◌, length, Option, Some, None, refl, sym, ap, ◌∙◌, subst, arith}
+use Rattle.std.proofs.Common.{◌≡◌, ℕ, zero, suc, ◌*◌, ◌<◌, ◌≤◌, inl, inr, Bool, true, false, nat_lt, min, get_or, if◌then◌else◌, List, [], ◌∷◌, ◌++◌, length, Option, Some, None, refl, sym, ap, ◌∙◌, arith}
 use Rattle.std.specs.Prelude.{is_some}
 use Rattle.std.specs.Option.{option_map}
 use Rattle.std.proofs.lemmas.Bool.{cases_lt}
@@ -11,10 +11,10 @@ use Rattle.c0_tree.specs.Tree.{CName, CTy, int, bool, pointer, named, array}
 use Rattle.c0_meaning.specs.Ty as ty
 use Rattle.c0_meaning.specs.Ty.{ty_of}
 use Rattle.c0_meaning.specs.Env.{Shape, first_named, fields_of}
-use Rattle.c0_meaning.specs.Fault.{Fault, fault, UNKNOWN_NAME, TYPE_TOO_LARGE, EMPTY_ARRAY}
+use Rattle.c0_meaning.specs.Fault.{fault, UNKNOWN_NAME, TYPE_TOO_LARGE, EMPTY_ARRAY}
 use Rattle.c0_meaning.specs.Words.{words, struct_words, all_words_with, fields_named, words_within, holds}
 use Rattle.c0_meaning.specs.DeclaredTypes.{MAX_TYPE_WORDS, fault_if, unknown_structs, has_empty_array, type_faults}
-use Rattle.c0_meaning.specs.Resolved.{looked_up, standing_for, resolved_type}
+use Rattle.c0_meaning.specs.Resolved.{looked_up, resolved_type}
 use Rattle.c0_names.specs.Names.{number_named}
 use Rattle.c0_names.specs.Structs.{WORDS_CAP, unknown_name, unknown_by, numbered_struct, numbered_type, listed_words, capped_words, type_faults_by}
 

@@ -1,6 +1,6 @@
 -- Types by a map from the names of structs to their numbers, and by the words of each struct: so a type is checked while the structs
 -- themselves are written.
-use Rattle.std.specs.Prelude.{◌≡◌, ℕ, ◌+◌, ◌*◌, ◌<◌, min, get_or, nat_lt, if◌then◌else◌, List, [], ◌∷◌, ◌++◌, Option, Some, None, is_some}
+use Rattle.std.specs.Prelude.{◌≡◌, ℕ, ◌*◌, min, get_or, nat_lt, List, [], ◌∷◌, ◌++◌, Option, Some, None}
 use Rattle.std.specs.declared.vec.Vec.{Vec}
 use Rattle.indexmap.specs.IndexMap.{IndexMap}
 use Rattle.c0_tree.specs.declared.tree.Span.{Span}

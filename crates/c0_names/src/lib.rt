@@ -5,4 +5,6 @@
 pub mod fault;
 pub mod names;
 pub mod spaces;
+#[cfg(test)]
+mod tests;
 pub mod types;

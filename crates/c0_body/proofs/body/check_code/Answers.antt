@@ -1,3 +1,4 @@
+-- The faults of the statements are met, and then those of the expression that is returned.
 use Rattle.c0_tree.specs.View.{expr_view, stmts_view}
 use Rattle.c0_meaning.specs.Statement.{tested_faults}
 use Rattle.c0_names.specs.Met.{met_view}

@@ -1,5 +1,5 @@
 -- One argument more is resolved, and its faults are met.
-use Rattle.std.proofs.Common.{◌≡◌, ℕ, Option, get_or, length, arith, map, sym, ap, ◌∙◌}
+use Rattle.std.proofs.Common.{◌≡◌, get_or, length, arith, map, sym, ap, ◌∙◌}
 use Rattle.std.specs.Prelude.{option_map}
 use Rattle.c0_tree.specs.View.{expr_view}
 use Rattle.c0_meaning.specs.Expression.{resolved}

@@ -1,5 +1,5 @@
 -- The arguments so far are resolved, and the faults of the others are still to be met.
-use Rattle.std.proofs.Common.{◌≡◌, ℕ, Option, Some, length, map}
+use Rattle.std.proofs.Common.{◌≡◌, map}
 use Rattle.std.specs.Prelude.{option_map}
 use Rattle.c0_tree.specs.View.{expr_view}
 use Rattle.c0_meaning.specs.Expression.{resolved}

@@ -1,5 +1,5 @@
 -- The type of the declaration that was got is that of the parameter.
-use Rattle.std.proofs.Common.{◌≡◌, ℕ, Some, length, slice_get, map, refl, sym, ap, ◌∙◌}
+use Rattle.std.proofs.Common.{◌≡◌, Some, length, slice_get, map, refl, sym, ap, ◌∙◌}
 use Rattle.std.specs.Prelude.{option_map}
 use Rattle.std.proofs.lemmas.Option.{slice_get-map, slice_get_read}
 use Rattle.c0_tree.specs.View.{decl_view}

@@ -1,11 +1,11 @@
 -- Each kind of expression: its parts are checked, and then its rule is asked.
-use Rattle.std.proofs.Common.{rules, ◌≡◌, Bool, sym, ap, ◌∙◌}
+use Rattle.std.proofs.Common.{rules, ◌≡◌, ap, ◌∙◌}
 use Rattle.c0_tree.specs.declared.tree.Expr.{Expr}
 use Rattle.c0_tree.specs.declared.tree.Expr as rust
 use Rattle.c0_tree.specs.declared.tree.Expr.TheFolds as folds
 use Rattle.c0_tree.specs.Tree.{field, arrow, index, deref, address, unary, binary}
 use Rattle.c0_tree.specs.View.{expr_view, name_view}
-use Rattle.c0_meaning.specs.Expression.{one, is_place, is_local, span_of, is_null, member, deref_rule, unary_rule, numbered_field}
+use Rattle.c0_meaning.specs.Expression.{one, is_place, is_local, span_of, is_null, member, deref_rule, unary_rule}
 use Rattle.c0_body.specs.Scope.{env_view}
 use Rattle.c0_body.proofs.Node.{seen, part, part_asked, tested, one_part, field_node, arrow_node, index_node, address_node, null_left_node, no_null_left_node}
 use Rattle.c0_body.proofs.check.+expression.Goals as goal

@@ -1,3 +1,4 @@
+-- The greater of the need so far and that of the arguments that are left is that of all, up to the cap.
 use Rattle.std.proofs.Common.{◌≡◌, ◌<◌, map, max, min, drop}
 use Rattle.c0_tree.specs.Size as size
 use Rattle.c0_tree.specs.View.{expr_view}

@@ -1,3 +1,4 @@
+-- The nodes so far and those of the statements that are left are those of all, up to the greatest number.
 use Rattle.std.proofs.Common.{◌≡◌, ◌≤◌, ◌+◌, min, drop}
 use Rattle.c0_tree.specs.Size.{stmts_nodes}
 use Rattle.c0_tree.specs.View.{stmts_view}

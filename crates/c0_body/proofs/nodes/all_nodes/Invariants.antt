@@ -1,3 +1,4 @@
+-- The nodes so far and those of the arguments that are left are those of all, up to the greatest number.
 use Rattle.std.proofs.Common.{◌≡◌, ◌≤◌, ◌+◌, min, map, drop}
 use Rattle.c0_tree.specs.Size.{args_nodes}
 use Rattle.c0_tree.specs.View.{expr_view}

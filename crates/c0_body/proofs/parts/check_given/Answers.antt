@@ -1,3 +1,4 @@
+-- The expression is checked, and then its type is compared with the one that is asked.
 use Rattle.c0_body.specs.Scope.{env_view}
 use Rattle.c0_body.proofs.PartLemmas.{given_part}
 use Rattle.c0_body.proofs.parts.check_given.Goals as goal

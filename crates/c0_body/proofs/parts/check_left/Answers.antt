@@ -1,3 +1,4 @@
+-- The left side is checked as an expression, and then asked for a place and a scalar type.
 use Rattle.c0_body.specs.Scope.{env_view}
 use Rattle.c0_body.proofs.PartLemmas.{left_part}
 use Rattle.c0_body.proofs.parts.check_left.Goals as goal

@@ -1,3 +1,4 @@
+-- The expression is checked where its type is asked, and then its need of registers.
 use Rattle.c0_body.specs.Scope.{env_view}
 use Rattle.c0_body.proofs.PartLemmas.{tested_part}
 use Rattle.c0_body.proofs.parts.check_tested.Goals as goal

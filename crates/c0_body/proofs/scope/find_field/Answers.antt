@@ -1,5 +1,5 @@
 -- The struct of the name has the number that the map tells, and its fields are those of its own map.
-use Rattle.std.proofs.Common.{◌≡◌, ◌<◌, ℕ, Some, List, [], ◌∷◌, length, map, refl, sym, ap, ◌∙◌, subst, get_or}
+use Rattle.std.proofs.Common.{◌<◌, map, sym, ap, ◌∙◌, subst}
 use Rattle.std.proofs.lemmas.Simd.{map-map}
 use Rattle.c0_tree.specs.View.{decl_view}
 use Rattle.c0_meaning.specs.Env.{typed_of, first_named, fields_of}

@@ -1,5 +1,5 @@
 -- Statements one after the other, and the statements in a statement.
-use Rattle.std.proofs.Common.{rules, ◌≡◌, ◌++◌, ℕ, length, get_or, map, arith, sym, ap, ◌∙◌}
+use Rattle.std.proofs.Common.{rules, ◌≡◌, ◌++◌, length, get_or, map, arith, sym, ap, ◌∙◌}
 use Rattle.c0_tree.specs.declared.tree.Stmt as rust
 use Rattle.c0_tree.specs.declared.tree.Stmt.TheFolds as folds
 use Rattle.std.proofs.Common.{Vec, Global}

@@ -1,6 +1,6 @@
 -- The statements so far are resolved, and the faults of the others are still to be met; the nodes of the statement, a list of them a
 -- step after.
-use Rattle.std.proofs.Common.{◌≡◌, ◌+◌, ◌*◌, ℕ, map}
+use Rattle.std.proofs.Common.{◌≡◌, ◌+◌, ◌*◌, map}
 use Rattle.c0_tree.specs.Size.{stmt_nodes, stmts_nodes}
 use Rattle.c0_tree.specs.View.{stmt_view, stmts_view, stmts_of}
 use Rattle.c0_meaning.specs.Fault.{kept_all}

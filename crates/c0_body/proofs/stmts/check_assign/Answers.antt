@@ -1,3 +1,4 @@
+-- The faults of the two sides, and of their need, are those of the assignment.
 use Rattle.c0_body.specs.Scope.{env_view}
 use Rattle.c0_body.proofs.PartLemmas.{assign_met}
 use Rattle.c0_body.proofs.stmts.check_assign.Goals as goal

@@ -1,3 +1,4 @@
+-- The faults of the parts of a call, in their order, are those of the call.
 use Rattle.std.proofs.Common.{sym, ap, ◌∙◌}
 use Rattle.std.proofs.lemmas.List.{length-map}
 use Rattle.c0_tree.specs.View.{expr_view, name_view}

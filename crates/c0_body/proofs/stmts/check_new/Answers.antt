@@ -1,3 +1,4 @@
+-- The faults are met in another order than the rule lists them, and the least is the same.
 use Rattle.c0_tree.specs.View.{type_view}
 use Rattle.c0_body.specs.Scope.{env_view}
 use Rattle.c0_body.proofs.PartLemmas.{new_met}

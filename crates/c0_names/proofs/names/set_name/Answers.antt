@@ -1,3 +1,4 @@
+-- A key with the bytes of a name that is new: the map says its number of that name, and the same as before of the others.
 use Rattle.std.proofs.Common.{◌++◌, sym, ap, ◌∙◌}
 use Rattle.c0_names.proofs.NamesLemmas.{look-set_key}
 use Rattle.c0_names.proofs.names.set_name.Goals as goal

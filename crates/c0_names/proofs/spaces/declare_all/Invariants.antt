@@ -1,3 +1,4 @@
+-- What the map says, and what was met, with the declarations that are still to come added.
 use Rattle.std.proofs.Common.{◌≡◌, ◌+◌, ℕ, List, map, drop, is_some}
 use Rattle.std.specs.Option.{option_or}
 use Rattle.c0_meaning.specs.Fault.{kept_all}

@@ -1,5 +1,5 @@
 -- The faults are met in their order, and by numbers and listed words they are those by the structs.
-use Rattle.std.proofs.Common.{nat_lt, sym, ap, ◌∙◌, ◌++◌}
+use Rattle.std.proofs.Common.{nat_lt, ap, ◌∙◌, ◌++◌}
 use Rattle.c0_tree.specs.View.{type_view}
 use Rattle.c0_meaning.specs.Fault.{kept_all, EMPTY_ARRAY, TYPE_TOO_LARGE}
 use Rattle.c0_meaning.specs.DeclaredTypes.{fault_if, has_empty_array, MAX_TYPE_WORDS}
