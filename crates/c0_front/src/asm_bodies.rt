@@ -10,12 +10,23 @@ fn lines_are_not_allowed(rt: HostRuntime) -> Result<(), Fail> {
         rt.alloc(),
         &[
             ("int f() asm { lw r2, 0(r4) }", 12, 28, 1),
-            ("int f() asm {\naddu r2, r4, r5\nadd r2, r4, r5\n}", 12, 46, 3),
+            (
+                "int f() asm {\naddu r2, r4, r5\nadd r2, r4, r5\n}",
+                12,
+                46,
+                3,
+            ),
             ("int f() asm {addu r1, r2, r2}", 12, 29, 1),
-            ("int f() asm // no body yet\n { # none\nori r8, r2, 1 }", 28, 52, 2),
+            (
+                "int f() asm // no body yet\n { # none\nori r8, r2, 1 }",
+                28,
+                52,
+                2,
+            ),
             ("int f() asm {\n addiu r2, r2, 32768\n}", 12, 36, 2),
             ("int f() asm {\nhere: addu r2, r2, r2\n}", 12, 37, 2),
             ("int f() asm { .word 0 }", 12, 23, 1),
+            ("int f() asm {\n# é\n}", 12, 20, 2),
             ("int f() asm {\r\n\r\n\t\r\n syscall \r\n}", 12, 32, 4),
         ],
     )?;
@@ -28,10 +39,20 @@ fn the_first_line_that_is_not_allowed_answers(rt: HostRuntime) -> Result<(), Fai
         &rt,
         rt.alloc(),
         &[
-            ("int f() asm { nor r2, r3, r4\n j 0\n lui r9, 1 }", 12, 46, 2),
+            (
+                "int f() asm { nor r2, r3, r4\n j 0\n lui r9, 1 }",
+                12,
+                46,
+                2,
+            ),
             ("int f() asm { lui r2, 1 @ }", 12, 27, 1),
             ("int f() asm {\nlui r2 }", 12, 22, 2),
-            ("int f() asm { mult r2, r3\n} int g() asm { nop }", 12, 27, 1),
+            (
+                "int f() asm { mult r2, r3\n} int g() asm { nop }",
+                12,
+                27,
+                1,
+            ),
             ("int f(int a, int b) asm { addu r2, r4, r5; }", 24, 44, 1),
             ("int f() asm {\nthere: }", 12, 22, 2),
         ],

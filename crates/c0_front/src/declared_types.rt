@@ -11,10 +11,22 @@ fn structs_hold_themselves(rt: HostRuntime) -> Result<(), Fail> {
         &[
             ("struct s { struct s a; };", (26, 7, 8)),
             ("struct s { int b; struct s[2] a; };", (26, 7, 8)),
-            ("struct s { struct t a; }; struct t { struct s[3] b; };", (26, 7, 8)),
-            ("struct b { struct a x; }; struct a { struct a y; };", (26, 33, 34)),
-            ("struct a { int x; struct b[2][3] y; }; struct b { struct c z; }; struct c { struct a w; };", (26, 7, 8)),
-            ("struct s { int a; }; struct s { struct s b; };", (21, 28, 29)),
+            (
+                "struct s { struct t a; }; struct t { struct s[3] b; };",
+                (26, 7, 8),
+            ),
+            (
+                "struct b { struct a x; }; struct a { struct a y; };",
+                (26, 33, 34),
+            ),
+            (
+                "struct a { int x; struct b[2][3] y; }; struct b { struct c z; }; struct c { struct a w; };",
+                (26, 7, 8),
+            ),
+            (
+                "struct s { int a; }; struct s { struct s b; };",
+                (21, 28, 29),
+            ),
         ],
     )?;
     Ok(())
@@ -42,11 +54,23 @@ fn types_are_too_large(rt: HostRuntime) -> Result<(), Fail> {
         &[
             ("int f() { int[1048577] x; return 0; }", (34, 10, 22)),
             ("struct s { int[1048576] a; int b; };", (34, 7, 8)),
-            ("struct s { int[1024] a; }; int f() { struct s[1025] x; return 0; }", (34, 37, 51)),
+            (
+                "struct s { int[1024] a; }; int f() { struct s[1025] x; return 0; }",
+                (34, 37, 51),
+            ),
             ("int f() { int[65536][65536] x; return 0; }", (34, 10, 27)),
-            ("int f() { int[2147483647][2147483647][2147483647] x; return 0; }", (34, 10, 49)),
-            ("struct a { int[1000] x; }; struct b { struct a[1000] x; }; struct c { struct b[1000] x; }; struct d { struct c[1000] x; };", (34, 66, 67)),
-            ("int f() { int[1048577]* p; p = new int[1048577]; return 0; }", (34, 35, 47)),
+            (
+                "int f() { int[2147483647][2147483647][2147483647] x; return 0; }",
+                (34, 10, 49),
+            ),
+            (
+                "struct a { int[1000] x; }; struct b { struct a[1000] x; }; struct c { struct b[1000] x; }; struct d { struct c[1000] x; };",
+                (34, 66, 67),
+            ),
+            (
+                "int f() { int[1048577]* p; p = new int[1048577]; return 0; }",
+                (34, 35, 47),
+            ),
         ],
     )?;
     Ok(())
@@ -95,7 +119,10 @@ fn globals_are_too_large(rt: HostRuntime) -> Result<(), Fail> {
             ("int[262144] a; bool b;", (30, 0, 70)),
             ("int[300000] a;", (30, 0, 62)),
             ("struct s { int[262145] a; }; struct s b;", (30, 0, 88)),
-            ("int[2147483647] a; int[2147483647] b; int[2147483647] c;", (30, 0, 104)),
+            (
+                "int[2147483647] a; int[2147483647] b; int[2147483647] c;",
+                (30, 0, 104),
+            ),
             ("int[2147483647][2147483647][4] a;", (30, 0, 81)),
         ],
     )?;
@@ -124,10 +151,16 @@ fn parameters_and_results_are_no_scalars(rt: HostRuntime) -> Result<(), Fail> {
         &[
             ("int[2] f() { return 0; }", (22, 0, 6)),
             ("int f(int[2] a) { return 0; }", (22, 6, 12)),
-            ("struct s { int a; }; int f(int x, struct s b) { return 0; }", (22, 34, 42)),
+            (
+                "struct s { int a; }; int f(int x, struct s b) { return 0; }",
+                (22, 34, 42),
+            ),
             ("struct s f() { return 0; }", (22, 0, 8)),
             ("int f(struct zz a) { return 0; }", (22, 6, 15)),
-            ("int f(bool* a, int[2] b, bool c) { return 0; }", (22, 15, 21)),
+            (
+                "int f(bool* a, int[2] b, bool c) { return 0; }",
+                (22, 15, 21),
+            ),
         ],
     )?;
     Ok(())

@@ -16,7 +16,10 @@ fn operands_have_other_types(rt: HostRuntime) -> Result<(), Fail> {
             ("bool f() { return 1 && true; }", (22, 18, 27)),
             ("int f() { return -true; }", (22, 17, 22)),
             ("bool f() { return !1; }", (22, 18, 20)),
-            ("int[2] a; int[2] b; bool f() { return a == b; }", (22, 38, 44)),
+            (
+                "int[2] a; int[2] b; bool f() { return a == b; }",
+                (22, 38, 44),
+            ),
             ("int* p; bool* q; bool f() { return p != q; }", (22, 35, 41)),
             ("int* p; int f() { return p + 1; }", (22, 25, 30)),
         ],
@@ -30,8 +33,14 @@ fn parts_of_places_have_other_types(rt: HostRuntime) -> Result<(), Fail> {
         &rt,
         rt.alloc(),
         &[
-            ("struct s { int f; }; struct s* p; int f() { return p.f; }", (22, 51, 54)),
-            ("struct s { int f; }; struct s v; int f() { return v->f; }", (22, 50, 54)),
+            (
+                "struct s { int f; }; struct s* p; int f() { return p.f; }",
+                (22, 51, 54),
+            ),
+            (
+                "struct s { int f; }; struct s v; int f() { return v->f; }",
+                (22, 50, 54),
+            ),
             ("int x; int f() { return x.f; }", (22, 24, 27)),
             ("int* p; int f() { return p->f; }", (22, 25, 29)),
             ("int x; int f() { return x[0]; }", (22, 24, 28)),
@@ -53,10 +62,19 @@ fn operands_are_no_places(rt: HostRuntime) -> Result<(), Fail> {
         &[
             ("int f() { return (1).f; }", (24, 18, 19)),
             ("int f() { return 1[0]; }", (24, 17, 18)),
-            ("struct s { int f; }; struct s* p; int f() { return (&p).f; }", (24, 52, 54)),
+            (
+                "struct s { int f; }; struct s* p; int f() { return (&p).f; }",
+                (24, 52, 54),
+            ),
             ("int* p; int f() { p = &3; return 0; }", (24, 23, 24)),
-            ("int x; int* p; int f() { p = &(x + 1); return 0; }", (24, 31, 36)),
-            ("int* p; int** q; int f() { q = & &p; return 0; }", (24, 33, 35)),
+            (
+                "int x; int* p; int f() { p = &(x + 1); return 0; }",
+                (24, 31, 36),
+            ),
+            (
+                "int* p; int** q; int f() { q = & &p; return 0; }",
+                (24, 33, 35),
+            ),
             ("int x; int f() { return (-x)[true]; }", (24, 25, 27)),
         ],
     )?;
@@ -73,7 +91,10 @@ fn left_sides_are_no_places(rt: HostRuntime) -> Result<(), Fail> {
             ("int x; int f() { -x = 2; return 0; }", (24, 17, 19)),
             ("int x; int f() { (x + 1) = 2; return 0; }", (24, 18, 23)),
             ("int* p; int f() { &p = null; return 0; }", (24, 18, 20)),
-            ("int f() { true = dispatch(1, 2, 3); return 0; }", (24, 10, 14)),
+            (
+                "int f() { true = dispatch(1, 2, 3); return 0; }",
+                (24, 10, 14),
+            ),
             ("int f() { 2 = new int; return 0; }", (24, 10, 11)),
             ("int f() { (1).f = 2; return 0; }", (24, 11, 12)),
         ],
@@ -89,10 +110,22 @@ fn operands_of_addresses_are_local(rt: HostRuntime) -> Result<(), Fail> {
         &[
             ("int* p; int f() { int x; p = &x; return 0; }", (25, 30, 31)),
             ("int* p; int f(int x) { p = &(x); return 0; }", (25, 29, 30)),
-            ("int* p; int f() { int[2] a; p = &a[1]; return 0; }", (25, 33, 37)),
-            ("struct s { int[2] a; }; int* p; int f() { struct s v; p = &v.a[0]; return 0; }", (25, 59, 65)),
-            ("int x; int* p; int f() { int x; p = &x; return 0; }", (25, 37, 38)),
-            ("bool* p; int f() { int x; p = &x; return 0; }", (25, 31, 32)),
+            (
+                "int* p; int f() { int[2] a; p = &a[1]; return 0; }",
+                (25, 33, 37),
+            ),
+            (
+                "struct s { int[2] a; }; int* p; int f() { struct s v; p = &v.a[0]; return 0; }",
+                (25, 59, 65),
+            ),
+            (
+                "int x; int* p; int f() { int x; p = &x; return 0; }",
+                (25, 37, 38),
+            ),
+            (
+                "bool* p; int f() { int x; p = &x; return 0; }",
+                (25, 31, 32),
+            ),
         ],
     )?;
     Ok(())
@@ -124,7 +157,10 @@ fn a_faulty_part_makes_no_fault_around_it(rt: HostRuntime) -> Result<(), Fail> {
             ("int f() { return zz.a[true] + 1; }", (20, 17, 19)),
             ("bool* p; int f() { p = &p[zz]; return 0; }", (20, 26, 28)),
             ("int f() { return (1 + true) && 3; }", (22, 18, 26)),
-            ("int[2] a; int f() { a[zz] = true; return 0; }", (20, 22, 24)),
+            (
+                "int[2] a; int f() { a[zz] = true; return 0; }",
+                (20, 22, 24),
+            ),
             ("int f() { if (zz + 1) { } return 0; }", (20, 14, 16)),
         ],
     )?;
@@ -163,7 +199,10 @@ fn null_stands_where_its_statement_asks_for_no_pointer(rt: HostRuntime) -> Resul
             ("int* p; int f() { p = &null; return 0; }", (22, 23, 27)),
             ("int x; int f() { null = x; return 0; }", (22, 17, 21)),
             ("int f() { return null; }", (22, 17, 21)),
-            ("int g(int x) { return x; } int f() { int x; x = g(null); return 0; }", (22, 50, 54)),
+            (
+                "int g(int x) { return x; } int f() { int x; x = g(null); return 0; }",
+                (22, 50, 54),
+            ),
         ],
     )?;
     Ok(())
@@ -195,10 +234,16 @@ fn a_span_takes_in_the_parentheses_of_parts(rt: HostRuntime) -> Result<(), Fail>
             ("int f() { return (1) + (true); }", (22, 17, 29)),
             ("bool f() { return ((1)); }", (22, 20, 21)),
             ("int f() { return -(true); }", (22, 17, 24)),
-            ("int f() { return ((1)) + ((2) + (3)) * (true); }", (22, 25, 45)),
+            (
+                "int f() { return ((1)) + ((2) + (3)) * (true); }",
+                (22, 25, 45),
+            ),
             ("int x; int f() { return ((x)[(0)]); }", (22, 25, 33)),
             ("int x; int f() { return (x).f + 1; }", (22, 24, 29)),
-            ("bool f() { return (1) < ((2) < (3)) == (4); }", (22, 18, 35)),
+            (
+                "bool f() { return (1) < ((2) < (3)) == (4); }",
+                (22, 18, 35),
+            ),
             ("int f() { if ( (1) ) { } return 0; }", (22, 16, 17)),
         ],
     )?;

@@ -9,16 +9,34 @@ fn the_fault_that_begins_first_answers(rt: HostRuntime) -> Result<(), Fail> {
         &rt,
         rt.alloc(),
         &[
-            ("int f() { int x; x = y; x = true; return z; }", (20, 21, 22)),
-            ("int f() { int x; x = true; x = y; return z; }", (22, 21, 25)),
+            (
+                "int f() { int x; x = y; x = true; return z; }",
+                (20, 21, 22),
+            ),
+            (
+                "int f() { int x; x = true; x = y; return z; }",
+                (22, 21, 25),
+            ),
             ("int f() { return x; } int y; int y;", (20, 17, 18)),
             ("int y; int y; int f() { return x; }", (21, 11, 12)),
-            ("int f() { return true; } struct s { struct s a; };", (22, 17, 21)),
-            ("struct s { struct s a; int a; }; int f() { return true; }", (26, 7, 8)),
-            ("int f(int p0, int p1, int p2, int p3, int p4) asm { lw }", (33, 4, 5)),
+            (
+                "int f() { return true; } struct s { struct s a; };",
+                (22, 17, 21),
+            ),
+            (
+                "struct s { struct s a; int a; }; int f() { return true; }",
+                (26, 7, 8),
+            ),
+            (
+                "int f(int p0, int p1, int p2, int p3, int p4) asm { lw }",
+                (33, 4, 5),
+            ),
             ("int f(bool a) asm { lw }", (22, 6, 10)),
             ("struct s { int[1048577] a; int[0] a; };", (34, 7, 8)),
-            ("int x; int f() { 1 = true; x = y; return 0; }", (24, 17, 18)),
+            (
+                "int x; int f() { 1 = true; x = y; return 0; }",
+                (24, 17, 18),
+            ),
         ],
     )?;
     Ok(())
@@ -33,10 +51,22 @@ fn of_faults_that_begin_together_the_least_number_answers(rt: HostRuntime) -> Re
             ("int f(int[2000000] a) { return 0; }", (22, 6, 18)),
             ("int f(int[0] a) { return 0; }", (22, 6, 12)),
             ("int[2000000] a;", (30, 0, 63)),
-            ("struct s { int a; }; struct s { int[2000000] b; };", (21, 28, 29)),
-            ("struct s { int a; }; struct s { int b; int b; };", (21, 28, 29)),
-            ("int g(int a) { return a; } bool t; int f() { t = g(1, true); return 0; }", (22, 49, 59)),
-            ("int f() { int[1048577][0]*[1048577] a; return 0; }", (34, 10, 35)),
+            (
+                "struct s { int a; }; struct s { int[2000000] b; };",
+                (21, 28, 29),
+            ),
+            (
+                "struct s { int a; }; struct s { int b; int b; };",
+                (21, 28, 29),
+            ),
+            (
+                "int g(int a) { return a; } bool t; int f() { t = g(1, true); return 0; }",
+                (22, 49, 59),
+            ),
+            (
+                "int f() { int[1048577][0]*[1048577] a; return 0; }",
+                (34, 10, 35),
+            ),
         ],
     )?;
     Ok(())
@@ -67,10 +97,22 @@ fn of_several_dispatches_one_has_to_be_right(rt: HostRuntime) -> Result<(), Fail
         &rt,
         rt.alloc(),
         &[
-            ("bool dispatch() { return true; } int dispatch(int a, int b, int c) { return 0; }", (21, 37, 45)),
-            ("int dispatch(int a, int b, int c) { return 0; } int dispatch() { return 0; }", (21, 52, 60)),
-            ("bool dispatch() { return true; } int dispatch(int a, int b) { return 0; }", (31, 0, 73)),
-            ("int dispatch; int dispatch(int a, int b, int c) { return 0; }", (21, 18, 26)),
+            (
+                "bool dispatch() { return true; } int dispatch(int a, int b, int c) { return 0; }",
+                (21, 37, 45),
+            ),
+            (
+                "int dispatch(int a, int b, int c) { return 0; } int dispatch() { return 0; }",
+                (21, 52, 60),
+            ),
+            (
+                "bool dispatch() { return true; } int dispatch(int a, int b) { return 0; }",
+                (31, 0, 73),
+            ),
+            (
+                "int dispatch; int dispatch(int a, int b, int c) { return 0; }",
+                (21, 18, 26),
+            ),
         ],
     )?;
     Ok(())

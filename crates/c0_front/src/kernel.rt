@@ -108,7 +108,11 @@ pub fn are_asm_faults(
             },
             line: *line,
         };
-        assert_eq!(test; fault_of(alloc, &source), Some(SourceFault::Typing(fault)), "{items}");
+        assert_eq!(test;
+            fault_of(alloc, &source),
+            Some(SourceFault::Typing(fault)),
+            "{items}"
+        );
     }
     Ok(())
 }

@@ -126,11 +126,23 @@ fn a_kernel_with_one_mistake_is_refused(rt: HostRuntime) -> Result<(), Fail> {
         &rt,
         rt.alloc(),
         &[
-            ("int x; int dispatch(int cause, int data, int user) { x = true; return 0; }", (22, 57, 61)),
-            ("int x; int dispatch(int cause, int data, int user) { y = 2 - 5; return 0; }", (20, 53, 54)),
+            (
+                "int x; int dispatch(int cause, int data, int user) { x = true; return 0; }",
+                (22, 57, 61),
+            ),
+            (
+                "int x; int dispatch(int cause, int data, int user) { y = 2 - 5; return 0; }",
+                (20, 53, 54),
+            ),
             ("int x;", (31, 0, 6)),
-            ("int x; int dispatch(int cause, int data) { x = 2 - 5; return 0; }", (31, 0, 65)),
-            ("int x; int x; int dispatch(int cause, int data, int user) { x = 2 - 5; return 0; }", (21, 11, 12)),
+            (
+                "int x; int dispatch(int cause, int data) { x = 2 - 5; return 0; }",
+                (31, 0, 65),
+            ),
+            (
+                "int x; int x; int dispatch(int cause, int data, int user) { x = 2 - 5; return 0; }",
+                (21, 11, 12),
+            ),
         ],
     )?;
     Ok(())

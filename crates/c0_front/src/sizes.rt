@@ -25,14 +25,20 @@ fn repeated(
 }
 
 // A function of 2 nodes, of 3 for each of its assignments, and of those of the expression that it returns.
-fn function(alloc: Global, name: u32, assignments: u32, answer: &str) -> Result<String, AllocError> {
+fn function(
+    alloc: Global,
+    name: u32,
+    assignments: u32,
+    answer: &str,
+) -> Result<String, AllocError> {
     let head = format!(in alloc; "int f{name}() {{ int x; ")?;
     let tail = format!(in alloc; "return {answer}; }}\n")?;
     repeated(alloc, head.as_str(), "x = 1; ", assignments, tail.as_str())
 }
 
 // The start of a function with a statement and an expression of every form: 50 nodes so far.
-const EVERY_FORM: &str = "struct s { int a; struct s* n; int[2] b; }; struct s v; int g(int a, bool b) { return a; }
+const EVERY_FORM: &str =
+    "struct s { int a; struct s* n; int[2] b; }; struct s v; int g(int a, bool b) { return a; }
 int f(int p, bool q) { int x; struct s* r;
 r = new struct s; x = g(1, true); x = v.a; x = r->a; x = v.b[x]; x = *&v.a;
 if (!true || x < -1) { x = ((1)); } else { r = null; } while (r == r->n) { }
@@ -56,7 +62,11 @@ fn a_function_has_at_most_2000_nodes(rt: HostRuntime) -> Result<(), Fail> {
     ] {
         let items = function(alloc, 0, assignments, answer)?;
         let source = kernel(alloc, items.as_str())?;
-        assert_eq!(rt; fault_of(alloc, &source), want, "{assignments} and {answer}");
+        assert_eq!(rt;
+            fault_of(alloc, &source),
+            want,
+            "{assignments} and {answer}"
+        );
     }
     Ok(())
 }
@@ -79,7 +89,13 @@ fn every_part_of_a_function_is_a_node(rt: HostRuntime) -> Result<(), Fail> {
 fn words_of_instructions_are_nodes(rt: HostRuntime) -> Result<(), Fail> {
     let alloc = rt.alloc();
     for (words, want) in [(1998, None), (1999, too_many_nodes(4, 5))] {
-        let items = repeated(alloc, "int f(int a) asm { #\n", "nor r2, r2, r2\n\n", words, "}")?;
+        let items = repeated(
+            alloc,
+            "int f(int a) asm { #\n",
+            "nor r2, r2, r2\n\n",
+            words,
+            "}",
+        )?;
         let source = kernel(alloc, items.as_str())?;
         assert_eq!(rt; fault_of(alloc, &source), want, "{words} words");
     }
@@ -117,9 +133,59 @@ fn a_source_has_at_most_1048576_bytes(rt: HostRuntime) -> Result<(), Fail> {
     };
     let longest = repeated(alloc, "", blanks, 16384, "")?;
     let found = fault_of(alloc, longest.as_bytes());
-    assert_eq!(rt; found, Some(SourceFault::Typing(TypeFault::NoDispatch(span))));
+    assert_eq!(rt;
+        found,
+        Some(SourceFault::Typing(TypeFault::NoDispatch(span)))
+    );
     let longer = repeated(alloc, " ", blanks, 16384, "")?;
     let found = fault_of(alloc, longer.as_bytes());
     assert_eq!(rt; found, Some(SourceFault::Reading(ReadFault::SourceTooLong)));
+    Ok(())
+}
+
+#[test]
+fn asm_texts_do_not_restart_the_count_of_tokens(rt: HostRuntime) -> Result<(), Fail> {
+    let alloc = rt.alloc();
+    // 85 functions have 510 tokens, so the third token of the next one is the 513th
+    let source = repeated(alloc, "", "int f() asm {}\n", 86, "")?;
+    let found = fault_of(alloc, source.as_bytes());
+    assert_eq!(rt;
+        found,
+        Some(SourceFault::Reading(ReadFault::TooNested { at: 1280 }))
+    );
+    Ok(())
+}
+
+// Structs of which each has two of the one before it, and the place of the name of the 21st of these.
+fn doubling_structs(alloc: Global) -> Result<(String, usize), AllocError> {
+    let mut items = String::from_str(alloc, "struct s0 { int a; };\n")?;
+    let mut place = 0;
+    for number in 1..100u32 {
+        if number == 21 {
+            place = items.len();
+        }
+        let part = number - 1;
+        let item = format!(in alloc; "struct s{number} {{ struct s{part}[2] a; }};\n")?;
+        items.push_str(item.as_str())?;
+    }
+    Ok((items, place))
+}
+
+#[test]
+fn sizes_of_structs_do_not_wrap(rt: HostRuntime) -> Result<(), Fail> {
+    let alloc = rt.alloc();
+    let (items, place) = doubling_structs(alloc)?;
+    assert!(rt; place < 10000);
+    let start = place as u32 + 7;
+    let span = Span {
+        start,
+        end: start + 3,
+    };
+    let source = kernel(alloc, items.as_str())?;
+    let found = fault_of(alloc, &source);
+    assert_eq!(rt;
+        found,
+        Some(SourceFault::Typing(TypeFault::TypeTooLarge(span)))
+    );
     Ok(())
 }

@@ -11,14 +11,35 @@ fn sides_of_assignments_have_other_types(rt: HostRuntime) -> Result<(), Fail> {
         &[
             ("int x; int f() { x = true; return 0; }", (22, 21, 25)),
             ("bool b; int f() { b = 1 + 2; return 0; }", (22, 22, 27)),
-            ("int* p; bool* q; int f() { p = q; return 0; }", (22, 31, 32)),
-            ("int*[4] a; int** p; int f() { p = a[0]; return 0; }", (22, 34, 38)),
-            ("struct s { int a; }; struct t { int a; }; struct s* p; struct t* q; int f() { p = q; return 0; }", (22, 82, 83)),
-            ("int[2]* p; int[3]* q; int f() { p = q; return 0; }", (22, 36, 37)),
-            ("int[2] a; int[2] b; int f() { a = b; return 0; }", (22, 30, 31)),
-            ("struct s { int a; }; struct s v; int f() { v = v; return 0; }", (22, 43, 44)),
+            (
+                "int* p; bool* q; int f() { p = q; return 0; }",
+                (22, 31, 32),
+            ),
+            (
+                "int*[4] a; int** p; int f() { p = a[0]; return 0; }",
+                (22, 34, 38),
+            ),
+            (
+                "struct s { int a; }; struct t { int a; }; struct s* p; struct t* q; int f() { p = q; return 0; }",
+                (22, 82, 83),
+            ),
+            (
+                "int[2]* p; int[3]* q; int f() { p = q; return 0; }",
+                (22, 36, 37),
+            ),
+            (
+                "int[2] a; int[2] b; int f() { a = b; return 0; }",
+                (22, 30, 31),
+            ),
+            (
+                "struct s { int a; }; struct s v; int f() { v = v; return 0; }",
+                (22, 43, 44),
+            ),
             ("int[2] a; int f() { a = f(); return 0; }", (22, 20, 21)),
-            ("int[2][2] a; int f() { a[1] = new int; return 0; }", (22, 23, 27)),
+            (
+                "int[2][2] a; int f() { a[1] = new int; return 0; }",
+                (22, 23, 27),
+            ),
         ],
     )?;
     Ok(())
@@ -36,7 +57,10 @@ fn conditions_and_returned_expressions_have_other_types(rt: HostRuntime) -> Resu
             ("bool f() { return 0; }", (22, 18, 19)),
             ("int* f() { return 1; }", (22, 18, 19)),
             ("int[2] a; int f() { return a; }", (22, 27, 28)),
-            ("int x; int f() { if (true) { while (false) { } } else { x = false; } return 0; }", (22, 60, 65)),
+            (
+                "int x; int f() { if (true) { while (false) { } } else { x = false; } return 0; }",
+                (22, 60, 65),
+            ),
             ("int* p; int f() { if (p) { } return 0; }", (22, 22, 23)),
         ],
     )?;
@@ -49,14 +73,38 @@ fn arguments_and_results_have_other_types(rt: HostRuntime) -> Result<(), Fail> {
         &rt,
         rt.alloc(),
         &[
-            ("int g(int a) { return a; } int f() { int x; x = g(true); return x; }", (22, 50, 54)),
-            ("bool b; int f() { b = vm_set(1, true, 3); return 0; }", (22, 32, 36)),
-            ("int f() { int x; x = vm_set(1, 2, 3); return x; }", (22, 21, 36)),
-            ("int g() { return 1; } bool t; int f() { t = g ( ); return 0; }", (22, 44, 49)),
-            ("int g(int a) { return a; } bool t; int f() { t = g(1, 2); return 0; }", (22, 49, 56)),
-            ("int g(int a) { return a; } bool t; int f() { t = g(zz); return 0; }", (22, 49, 54)),
-            ("int* g() { return null; } bool* p; int f() { p = g(); return 0; }", (22, 49, 52)),
-            ("int[2] a; int g(int* a) { return 0; } int f() { int x; x = g(a); return 0; }", (22, 61, 62)),
+            (
+                "int g(int a) { return a; } int f() { int x; x = g(true); return x; }",
+                (22, 50, 54),
+            ),
+            (
+                "bool b; int f() { b = vm_set(1, true, 3); return 0; }",
+                (22, 32, 36),
+            ),
+            (
+                "int f() { int x; x = vm_set(1, 2, 3); return x; }",
+                (22, 21, 36),
+            ),
+            (
+                "int g() { return 1; } bool t; int f() { t = g ( ); return 0; }",
+                (22, 44, 49),
+            ),
+            (
+                "int g(int a) { return a; } bool t; int f() { t = g(1, 2); return 0; }",
+                (22, 49, 56),
+            ),
+            (
+                "int g(int a) { return a; } bool t; int f() { t = g(zz); return 0; }",
+                (22, 49, 54),
+            ),
+            (
+                "int* g() { return null; } bool* p; int f() { p = g(); return 0; }",
+                (22, 49, 52),
+            ),
+            (
+                "int[2] a; int g(int* a) { return 0; } int f() { int x; x = g(a); return 0; }",
+                (22, 61, 62),
+            ),
         ],
     )?;
     Ok(())
@@ -68,14 +116,35 @@ fn arguments_are_of_another_number(rt: HostRuntime) -> Result<(), Fail> {
         &rt,
         rt.alloc(),
         &[
-            ("int g(int a) { return a; } int f() { int x; x = g(1, 2); return x; }", (23, 48, 55)),
-            ("int g(int a) { return a; } int f() { int x; x = g( ); return x; }", (23, 48, 52)),
+            (
+                "int g(int a) { return a; } int f() { int x; x = g(1, 2); return x; }",
+                (23, 48, 55),
+            ),
+            (
+                "int g(int a) { return a; } int f() { int x; x = g( ); return x; }",
+                (23, 48, 52),
+            ),
             ("int f() { int x; x = vm_get(1); return x; }", (23, 21, 30)),
-            ("bool b; int f() { b = vm_copy(1, 2, 3, 4); return 0; }", (23, 22, 41)),
-            ("int g(int a) { return a; } int f() { int x; x = g(zz, 1); return x; }", (23, 48, 56)),
-            ("int g(int a) { return a; } int f() { int x; x = g(1, null); return x; }", (23, 48, 58)),
-            ("int f() { int x; x = h(zz, true + 1); return x; }", (20, 21, 22)),
-            ("int g(int a) { return a; } int f() { zz = g(1, 2); return 0; }", (20, 37, 39)),
+            (
+                "bool b; int f() { b = vm_copy(1, 2, 3, 4); return 0; }",
+                (23, 22, 41),
+            ),
+            (
+                "int g(int a) { return a; } int f() { int x; x = g(zz, 1); return x; }",
+                (23, 48, 56),
+            ),
+            (
+                "int g(int a) { return a; } int f() { int x; x = g(1, null); return x; }",
+                (23, 48, 58),
+            ),
+            (
+                "int f() { int x; x = h(zz, true + 1); return x; }",
+                (20, 21, 22),
+            ),
+            (
+                "int g(int a) { return a; } int f() { zz = g(1, 2); return 0; }",
+                (20, 37, 39),
+            ),
         ],
     )?;
     Ok(())
@@ -89,11 +158,23 @@ fn new_objects_have_other_types(rt: HostRuntime) -> Result<(), Fail> {
         &[
             ("bool* p; int f() { p = new int; return 0; }", (22, 27, 30)),
             ("int x; int f() { x = new int; return 0; }", (22, 25, 28)),
-            ("int* p; int f() { p = new int[2]; return 0; }", (22, 26, 32)),
-            ("int* p; int f() { p = new struct zz; return 0; }", (22, 26, 35)),
-            ("int* p; int f() { p = new int[0]; return 0; }", (22, 26, 32)),
+            (
+                "int* p; int f() { p = new int[2]; return 0; }",
+                (22, 26, 32),
+            ),
+            (
+                "int* p; int f() { p = new struct zz; return 0; }",
+                (22, 26, 35),
+            ),
+            (
+                "int* p; int f() { p = new int[0]; return 0; }",
+                (22, 26, 32),
+            ),
             ("int f() { zz = new struct yy; return 0; }", (20, 10, 12)),
-            ("int[2] a; int f() { a[zz] = new int; return 0; }", (20, 22, 24)),
+            (
+                "int[2] a; int f() { a[zz] = new int; return 0; }",
+                (20, 22, 24),
+            ),
         ],
     )?;
     Ok(())
