@@ -69,8 +69,31 @@ fn lines_are_allowed(rt: HostRuntime) -> Result<(), Fail> {
             "int f() asm {}",
             "int f(int a) asm { addu r2, r4, r4 # twice\n\n # a line of its own\r\n\tlui r3, 1 }",
             "int f() asm // a comment\n { }",
-            "int f(int a, int b, int c, int d) asm {\nsll r2, r3, 31\nsrl r2, r3, 0\nsra r2, r3, 1\nsllv r2, r3, r4\nsrlv r2, r3, r4\nsrav r2, r3, r4\naddu r2, r3, r4\nsubu r5, r6, r7\nand r2, r3, r0\nor r2, r3, r4\nxor r2, r3, r4\n}",
-            "int f() asm {\nnor r2, r3, r4\nslt r2, r3, r4\nsltu r2, r3, r4\naddiu r2, r3, -32768\nslti r2, r3, 32767\nsltiu r2, r3, 1\nandi r2, r3, 65535\nori r2, r3, 0\nxori r2, r3, 0xff\nlui r2, 65535\n}",
+            "int f(int a, int b, int c, int d) asm {
+sll r2, r3, 31
+srl r2, r3, 0
+sra r2, r3, 1
+sllv r2, r3, r4
+srlv r2, r3, r4
+srav r2, r3, r4
+addu r2, r3, r4
+subu r5, r6, r7
+and r2, r3, r0
+or r2, r3, r4
+xor r2, r3, r4
+}",
+            "int f() asm {
+nor r2, r3, r4
+slt r2, r3, r4
+sltu r2, r3, r4
+addiu r2, r3, -32768
+slti r2, r3, 32767
+sltiu r2, r3, 1
+andi r2, r3, 65535
+ori r2, r3, 0
+xori r2, r3, 0xff
+lui r2, 65535
+}",
         ],
     )?;
     Ok(())

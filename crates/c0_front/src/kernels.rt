@@ -72,11 +72,12 @@ fn short_kernels_are_accepted(rt: HostRuntime) -> Result<(), Fail> {
         &rt,
         rt.alloc(),
         &[
-            "int x; int dispatch(int cause, int data, int user) { x = 2 - 5; return 0; }",
+            "int x;\nint dispatch(int cause, int data, int user) { x = 2 - 5; return 0; }",
             "int dispatch(int cause, int data, int user) { return 0; }",
-            "int x; int dispatch(int cause, int data, int user) { x = 2147483647 + 1; return 0; }",
-            "int a; int b; int c; int d; int dispatch(int cause, int data, int user) { a = (-2147483647 - 1) / -1; b = (-2147483647 - 1) % -1; c = -7 / 2; d = -7 % 2; return 0; }",
-            "int x; int dispatch(int cause, int data, int user) { x = 1; x = 1 / (x - 1); return 0; }",
+            "int x;\nint dispatch(int cause, int data, int user) { x = 2147483647 + 1; return 0; }",
+            "int a; int b; int c; int d;
+int dispatch(int cause, int data, int user) { a = (-2147483647 - 1) / -1; b = (-2147483647 - 1) % -1; c = -7 / 2; d = -7 % 2; return 0; }",
+            "int x;\nint dispatch(int cause, int data, int user) { x = 1; x = 1 / (x - 1); return 0; }",
             "int dispatch(int cause, int data, int user) { return 5; }",
             "int dispatch(int cause, int data, int user) { return -1; }",
             "int dispatch(int cause, int data, int user) { int next; if (cause == 0) { next = 1; } return next; }",
@@ -91,10 +92,13 @@ fn kernels_with_pointers_and_calls_are_accepted(rt: HostRuntime) -> Result<(), F
         &rt,
         rt.alloc(),
         &[
-            "struct pair { int a; int b; }; struct pair* p; int* q; int* r; int dispatch(int cause, int data, int user) { p = new struct pair; q = new int; r = new int; return 0; }",
-            "int x; int down(int n) { int r; if (n > 0) { r = down(n - 1); } else { r = 0; } return r; } int dispatch(int cause, int data, int user) { x = down(11); return 0; }",
-            "int[4] a; int* p; int x; int dispatch(int cause, int data, int user) { x = 3; p = &a[x]; *p = 9; x = a[3] - 5; p = &a[x]; return 0; }",
-            "int[4] a; int* p; int x; int dispatch(int cause, int data, int user) { x = *p; return 0; }",
+            "struct pair { int a; int b; }; struct pair* p; int* q; int* r;
+int dispatch(int cause, int data, int user) { p = new struct pair; q = new int; r = new int; return 0; }",
+            "int x; int down(int n) { int r; if (n > 0) { r = down(n - 1); } else { r = 0; } return r; }
+int dispatch(int cause, int data, int user) { x = down(11); return 0; }",
+            "int[4] a; int* p; int x;
+int dispatch(int cause, int data, int user) { x = 3; p = &a[x]; *p = 9; x = a[3] - 5; p = &a[x]; return 0; }",
+            "int[4] a; int* p; int x;\nint dispatch(int cause, int data, int user) { x = *p; return 0; }",
         ],
     )?;
     Ok(())
@@ -106,9 +110,12 @@ fn kernels_with_primitives_are_accepted(rt: HostRuntime) -> Result<(), Fail> {
         &rt,
         rt.alloc(),
         &[
-            "int c; int w; int dispatch(int cause, int data, int user) { int next; next = 1; if (cause == 5) { c = vm_get(1, 32); w = vm_get(1, 2); next = 0; } return next; }",
-            "bool b; bool c; int dispatch(int cause, int data, int user) { b = vm_copy(1, 4088, 2, 0, 4); c = vm_copy(1, 4088, 1, 4096, 4); return 0; }",
-            "int g; int w; bool s; bool t; int dispatch(int cause, int data, int user) { g = vm_get(9, 1); w = vm_word(1, 2); s = vm_set(1, 0, 5); t = vm_resize(1, 5); t = vm_resize(1, 0); t = vm_resize(1, 1); return 0; }",
+            "int c; int w;
+int dispatch(int cause, int data, int user) { int next; next = 1; if (cause == 5) { c = vm_get(1, 32); w = vm_get(1, 2); next = 0; } return next; }",
+            "bool b; bool c;
+int dispatch(int cause, int data, int user) { b = vm_copy(1, 4088, 2, 0, 4); c = vm_copy(1, 4088, 1, 4096, 4); return 0; }",
+            "int g; int w; bool s; bool t;
+int dispatch(int cause, int data, int user) { g = vm_get(9, 1); w = vm_word(1, 2); s = vm_set(1, 0, 5); t = vm_resize(1, 5); t = vm_resize(1, 0); t = vm_resize(1, 1); return 0; }",
         ],
     )?;
     Ok(())

@@ -189,7 +189,8 @@ fn statements_of_every_form(rt: HostRuntime) -> Result<(), Fail> {
             "int x; bool b; int f() { x = vm_get(1, 2); b = vm_set(1, 2, 3); x = vm_size(1); b = vm_resize(1, 2); return x; }",
             "int x; bool b; int f() { x = vm_word(1, 4); b = vm_put(1, 4, x); b = vm_copy(1, 0, 2, 0, 5); return x; }",
             "struct s { int a; }; int f() { int** p; int[3]* q; struct s* r; p = new int*; q = new int [ 3 ]; r = new struct s; r->a = 1; return 0; }",
-            "struct s { int a; }; struct s* p; struct  s // the same\n* q; int[2]* r; int [ 2 ] * t; int f() { p = q; r = t; return 0; }",
+            "struct s { int a; }; struct s* p; struct  s // the same
+* q; int[2]* r; int [ 2 ] * t; int f() { p = q; r = t; return 0; }",
             "int f(int n) { int r; if (n > 0) { r = f(n - 1); } else { while (r < 3) { r = r + 1; } } return r; }",
             "int f() { return 0; }",
         ],
