@@ -112,6 +112,7 @@ fn a_unit_has_at_most_100000_nodes(rt: HostRuntime) -> Result<(), Fail> {
             items.push_str(function(alloc, name, 665, "x + 1")?.as_str())?;
         }
         let source = kernel(alloc, items.as_str())?;
+        assert!(rt; source.len() < 1000000);
         let span = Span {
             start: 0,
             end: source.len() as u32,
