@@ -1,0 +1,15 @@
+-- What is answered to a source that reads as a given tree: the tree that was read is that one.
+use Rattle.std.proofs.Common.{◌≡◌, [], subst}
+use Rattle.c0_tree.specs.View.{unit_view}
+use Rattle.c0_types.specs.Source.{checked_unit, source_faults}
+use Rattle.c0_types.specs.Answer.{FaultAnswers}
+use Rattle.c0_front.proofs.source.read_unit.Goals as goal
+
+pub returns-in-Ok-check-clause-only : goal.returns-in-Ok-check-clause-only
+returns-in-Ok-check-clause-only c = λ u le r.
+    subst (λ t. (source_faults t ≡ []) × (unit_view c.in-Ok-check.checked ≡ checked_unit t))
+    (c.in-Ok.ensures.only u le r) (c.in-Ok-check.ensures.faultless, c.in-Ok-check.ensures.resolved)
+
+pub returns-in-Err-check-clause-only : goal.returns-in-Err-check-clause-only
+returns-in-Err-check-clause-only c = λ u le r.
+    subst (λ t. FaultAnswers t c.in-Err-check.fault) (c.in-Ok.ensures.only u le r) c.in-Err-check.ensures.fault
