@@ -55,54 +55,54 @@ module _ (edges : ℕ → List ℕ) (count : ℕ) (right : ℕ → ℕ → Type 
       let node_same : (i : ℕ) → i < start → node_at path i ≡ node_at s.path i = λ i h. get_or-take start s.path i 0 h in
       let group_same : (k : ℕ) → k < last → group_at groups k ≡ group_at s.groups k = λ k h. get_or-take last s.groups k _ h in
       let mark_cases : (v : ℕ) → v < count → ((IsIn nodes v × (mark_of marks v ≡ Done cyclic)) ⊎ ((IsIn nodes v → ⊥) × (mark_of marks v ≡ mark_of s.marks v)))
-          = λ v h. set_all_cases s.marks nodes (Done cyclic) Unseen v (omega arith) in
+      = λ v h. set_all_cases s.marks nodes (Done cyclic) Unseen v (omega arith) in
       let place : (v : ℕ) → IsIn nodes v → PlaceOf s.path start v = λ v h. place_of s.path start v h in
       let here_open : (v : ℕ) → IsIn nodes v → (q : ℕ) × ((mark_of s.marks v ≡ Open q) × (start ≤ q))
-          = λ v h.
-            let p = place v h in
-            (p.place, (subst (λ (x : ℕ). mark_of s.marks x ≡ Open p.place) p.at (w.path.opened p.place p.below).1, p.from)) in
+      = λ v h.
+      let p = place v h in
+      (p.place, (subst (λ (x : ℕ). mark_of s.marks x ≡ Open p.place) p.at (w.path.opened p.place p.below).1, p.from)) in
       let done_below : (v : ℕ) (b : Bool) → mark_of s.marks v ≡ Done b → v < count = λ v b e. let h = seen_below s.marks v (Done b) e (λ f. cc) in omega arith in
       let kept_done : (v : ℕ) (b : Bool) → mark_of s.marks v ≡ Done b → mark_of marks v ≡ Done b
-          = λ v b e. elim (mark_cases v (done_below v b e)) [
-            | inl p ↦ let o = here_open v p.0 in let f : mark_of s.marks v ≡ Open o.0 = o.1.0 in absurd cc
-            | inr p ↦ p.1 ∙ e
-          ] in
+      = λ v b e. elim (mark_cases v (done_below v b e)) [
+        | inl p ↦ let o = here_open v p.0 in let f : mark_of s.marks v ≡ Open o.0 = o.1.0 in absurd cc
+        | inr p ↦ p.1 ∙ e
+      ] in
       let now_done : (v q : ℕ) → mark_of s.marks v ≡ Open q → start ≤ q → mark_of marks v ≡ Done cyclic
-          = λ v q e le.
-            let p = w.path.placed v q e in
-            let o = w.path.opened q p.0 in
-            let lim : v < count = subst (λ (x : ℕ). x < count) p.1 o.0 in
-            elim (mark_cases v lim) [
-              | inl c ↦ c.1
-              | inr c ↦ absurd (c.0 (subst (λ (x : ℕ). IsIn nodes x) p.1 (in_drop s.path start q le p.0)))
-            ] in
+      = λ v q e le.
+      let p = w.path.placed v q e in
+      let o = w.path.opened q p.0 in
+      let lim : v < count = subst (λ (x : ℕ). x < count) p.1 o.0 in
+      elim (mark_cases v lim) [
+        | inl c ↦ c.1
+        | inr c ↦ absurd (c.0 (subst (λ (x : ℕ). IsIn nodes x) p.1 (in_drop s.path start q le p.0)))
+      ] in
       let kept_open : (v q : ℕ) → mark_of s.marks v ≡ Open q → q < start → mark_of marks v ≡ Open q
-          = λ v q e below.
-            let lim : v < length s.marks = seen_below s.marks v (Open q) e (λ f. cc) in
-            elim (mark_cases v (omega arith)) [
-              | inl c ↦
-                  let o = here_open v c.0 in
-                  let f : mark_of s.marks v ≡ Open o.0 = o.1.0 in
-                  let same : o.0 ≡ q = cc in
-                  let above : start ≤ o.0 = o.1.1 in
-                  absurd (omega arith)
-              | inr c ↦ c.1 ∙ e
-            ] in
+      = λ v q e below.
+      let lim : v < length s.marks = seen_below s.marks v (Open q) e (λ f. cc) in
+      elim (mark_cases v (omega arith)) [
+        | inl c ↦
+            let o = here_open v c.0 in
+            let f : mark_of s.marks v ≡ Open o.0 = o.1.0 in
+            let same : o.0 ≡ q = cc in
+            let above : start ≤ o.0 = o.1.1 in
+            absurd (omega arith)
+        | inr c ↦ c.1 ∙ e
+      ] in
       let end_done : (v : ℕ) → Ends s.marks start v → (c : Bool) × (mark_of marks v ≡ Done c)
-          = λ v h. elim h [ inl d ↦ (d.0, kept_done v d.0 d.1) | inr o ↦ (cyclic, now_done v o.0 o.1.0 o.1.1) ] in
+      = λ v h. elim h [ inl d ↦ (d.0, kept_done v d.0 d.1) | inr o ↦ (cyclic, now_done v o.0 o.1.0 o.1.1) ] in
       let new_cases : (v : ℕ) (k : Mark) → mark_of marks v ≡ k → (k ≡ Unseen → ⊥) → ((PlaceOf s.path start v × (k ≡ Done cyclic)) ⊎ (mark_of s.marks v ≡ k))
-          = λ v k e seen.
-            let lim : v < length marks = seen_below marks v k e seen in
-            elim (mark_cases v (omega arith)) [
-              | inl c ↦ inl (place v c.0, sym e ∙ c.1)
-              | inr c ↦ inr (sym c.1 ∙ e)
-            ] in
+      = λ v k e seen.
+      let lim : v < length marks = seen_below marks v k e seen in
+      elim (mark_cases v (omega arith)) [
+        | inl c ↦ inl (place v c.0, sym e ∙ c.1)
+        | inr c ↦ inr (sym c.1 ∙ e)
+      ] in
       let followed : (k u : ℕ) (left : List ℕ) (from : ℕ) → IsFollowed s.marks from left u → IsFollowed marks from left u
-          = λ k u left from h.
-            followed_on s.marks marks from left left u
-            (λ b e. is_done b (kept_done u b e))
-            (λ q e le. elim (cases_lt q start) [ inl below ↦ is_open q (kept_open u q e below) le | inr above ↦ is_done cyclic (now_done u q e above) ])
-            is_left h in
+      = λ k u left from h.
+      followed_on s.marks marks from left left u
+      (λ b e. is_done b (kept_done u b e))
+      (λ q e le. elim (cases_lt q start) [ inl below ↦ is_open q (kept_open u q e below) le | inr above ↦ is_done cyclic (now_done u q e above) ])
+      is_left h in
       record {
         marks = new_len ∙ w.marks;
         words = length-set_all s.words nodes words ∙ w.words;

@@ -132,7 +132,7 @@ module _ (number : List ℕ → Option ℕ) (structs : List CStruct) where
       let low : v < length structs = target_below s w left in
       let len : length s.marks ≡ length structs = w.marks in
       let marks : unseen_work (edges number structs) 0 (set s.marks v (Open (length s.path))) + (2 + length (edges number structs v)) ≡ unseen_work (edges number structs) 0 s.marks
-          = met_work (edges number structs) s.marks 0 v v (length s.path) (omega arith) unseen (omega arith) in
+      = met_work (edges number structs) s.marks 0 v v (length s.path) (omega arith) unseen (omega arith) in
       let todo : length (s.todo ++ edges number structs v) ≡ length s.todo + length (edges number structs v) = length-append s.todo (edges number structs v) in
       let groups : length (s.groups ++ record { path_start = length s.path; todo_start = length s.todo } ∷ []) ≡ length s.groups + 1 = length-append s.groups (record { path_start = length s.path; todo_start = length s.todo } ∷ []) in
       omega arith
@@ -140,7 +140,7 @@ module _ (number : List ℕ → Option ℕ) (structs : List CStruct) where
   pub finished_falls : (s : State) → 0 < length s.groups → (b : Bool) (count : ℕ) → work_over number structs (finished b count s) < work_over number structs s
   finished_falls s some b count =
       let marks : unseen_work (edges number structs) 0 (set_all s.marks (drop (last_start s) s.path) (Done b)) ≤ unseen_work (edges number structs) 0 s.marks
-          = all_done (edges number structs) s.marks (drop (last_start s) s.path) b in
+      = all_done (edges number structs) s.marks (drop (last_start s) s.path) b in
       let groups : length (take (last_of s) s.groups) ≡ last_of s = length-take-le (last_of s) s.groups (omega arith) in
       omega arith
 
@@ -163,14 +163,14 @@ module _ (number : List ℕ → Option ℕ) (structs : List CStruct) where
   completed_cyclic told laws s w some none test =
       let v : ℕ = node_at s.path (last_start s) in
       let turns : Leads (edges number structs) v v
-          = elim (or_cases (nat_lt 1 (length s.path - last_start s)) (has_part number (fields_at structs v) v) test) [
-            | inl many ↦
-                let more : 1 < length s.path - last_start s = several (length s.path - last_start s) many in
-                several_turn (edges number structs) (length structs) (AreWordsOf number structs) s w some (omega arith)
-            | inr self ↦ by_edge (has_part_in number (fields_at structs v) v self)
-          ] in
+      = elim (or_cases (nat_lt 1 (length s.path - last_start s)) (has_part number (fields_at structs v) v) test) [
+        | inl many ↦
+            let more : 1 < length s.path - last_start s = several (length s.path - last_start s) many in
+            several_turn (edges number structs) (length structs) (AreWordsOf number structs) s w some (omega arith)
+        | inr self ↦ by_edge (has_part_in number (fields_at structs v) v self)
+      ] in
       let each : (i : ℕ) → last_start s ≤ i → i < length s.path → Leads (edges number structs) (node_at s.path i) (node_at s.path i)
-          = all_turn (edges number structs) (length structs) (AreWordsOf number structs) s w some turns in
+      = all_turn (edges number structs) (length structs) (AreWordsOf number structs) s w some turns in
       group_finished (edges number structs) (length structs) (AreWordsOf number structs) s w some none true 0
       (λ i le lt e. each i le lt)
       (λ i le lt e l. false≢true (sym e))
@@ -184,11 +184,11 @@ module _ (number : List ℕ → Option ℕ) (structs : List CStruct) where
       let few : length s.path - start ≤ 1 = alone (length s.path - start) (or_left_false (nat_lt 1 (length s.path - start)) (has_part number (fields_at structs v) v) test) in
       let one : length s.path ≤ suc start = omega arith in
       let self : IsIn (edges number structs v) v → ⊥
-          = λ h. false≢true (sym (or_right_false (nat_lt 1 (length s.path - start)) (has_part number (fields_at structs v) v) test) ∙ in_has_part number (fields_at structs v) v h) in
+      = λ h. false≢true (sym (or_right_false (nat_lt 1 (length s.path - start)) (has_part number (fields_at structs v) v) test) ∙ in_has_part number (fields_at structs v) v h) in
       let loose : Leads (edges number structs) v v → ⊥ = alone_loose (edges number structs) (length structs) (AreWordsOf number structs) s w some none one self in
       let right : AreWordsOf number structs v (last_words number structs s)
-          = loose_words number structs told laws s.words v loose
-            (λ j h. let d = alone_done (edges number structs) (length structs) (AreWordsOf number structs) s w some none one self j h in w.done.sized j d.0 d.1) in
+      = loose_words number structs told laws s.words v loose
+      (λ j h. let d = alone_done (edges number structs) (length structs) (AreWordsOf number structs) s w some none one self j h in w.done.sized j d.0 d.1) in
       let only : (i : ℕ) → start ≤ i → i < length s.path → start ≡ i = λ i le lt. omega arith in
       group_finished (edges number structs) (length structs) (AreWordsOf number structs) s w some none false (last_words number structs s)
       (λ i le lt e. absurd (false≢true e))

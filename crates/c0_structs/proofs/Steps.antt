@@ -67,8 +67,8 @@ module _ (edges : ℕ → List ℕ) (count : ℕ) (right : ℕ → ℕ → Type 
       let split : s.todo ≡ rest ++ x ∷ [] = last_split s.todo some in
       let len : length rest ≡ length s.todo - 1 = length-take-le (length s.todo - 1) s.todo (omega arith) in
       let cut : (k : ℕ) → k < length s.groups → drop (group_at s.groups k).todo_start s.todo ≡ drop (group_at s.groups k).todo_start rest ++ x ∷ []
-          = λ k h. let low : (group_at s.groups k).todo_start < length s.todo = above k h in
-            ap (drop (group_at s.groups k).todo_start) split ∙ drop-append-le (group_at s.groups k).todo_start rest (x ∷ []) (omega arith) in
+      = λ k h. let low : (group_at s.groups k).todo_start < length s.todo = above k h in
+      ap (drop (group_at s.groups k).todo_start) split ∙ drop-append-le (group_at s.groups k).todo_start rest (x ∷ []) (omega arith) in
       let into : (v : ℕ) → IsIn rest v → IsIn s.todo v = λ v h. subst (λ (l : List ℕ). IsIn l v) (sym split) (in_left rest (x ∷ []) v h) in
       record {
         marks = w.marks;
@@ -129,22 +129,22 @@ module _ (edges : ℕ → List ℕ) (count : ℕ) (right : ℕ → ℕ → Type 
         back = λ i h.
             let b = w.back i h in
             let kept : (j n : ℕ) → (group_at s.groups n).path_start ≤ j → n < last → Reaches edges (node_at s.path j) (node_at s.path (group_at s.groups n).path_start) → LeadsBack edges s.path (take last s.groups) j
-                = λ j n le lt r. record {
-                  group = n;
-                  among = omega arith;
-                  behind = subst (λ (g : Group). g.path_start ≤ j) (sym (same n lt)) le;
-                  reaches = subst (λ (g : Group). Reaches edges (node_at s.path j) (node_at s.path g.path_start)) (sym (same n lt)) r;
-                } in
+            = λ j n le lt r. record {
+              group = n;
+              among = omega arith;
+              behind = subst (λ (g : Group). g.path_start ≤ j) (sym (same n lt)) le;
+              reaches = subst (λ (g : Group). Reaches edges (node_at s.path j) (node_at s.path g.path_start)) (sym (same n lt)) r;
+            } in
             elim (cases_lt b.group last) [
               | inl lower ↦ kept i b.group b.behind lower b.reaches
               | inr upper ↦
                   let a : b.group < length s.groups = b.among in
                   let e : b.group ≡ suc m = omega arith in
                   let r : Reaches edges (node_at s.path i) (node_at s.path (group_at s.groups (suc m)).path_start)
-                      = subst (λ (k : ℕ). Reaches edges (node_at s.path i) (node_at s.path (group_at s.groups k).path_start)) e b.reaches in
+                  = subst (λ (k : ℕ). Reaches edges (node_at s.path i) (node_at s.path (group_at s.groups k).path_start)) e b.reaches in
                   let under : (group_at s.groups (suc m)).path_start ≤ i = subst (λ (k : ℕ). (group_at s.groups k).path_start ≤ i) e b.behind in
                   let to : Leads edges (node_at s.path i) (node_at s.path p)
-                      = reaches_leads edges (node_at s.path i) (node_at s.path (group_at s.groups (suc m)).path_start) (node_at s.path p) r leads in
+                  = reaches_leads edges (node_at s.path i) (node_at s.path (group_at s.groups (suc m)).path_start) (node_at s.path p) r leads in
                   let c = w.back p (omega arith) in
                   let ca : c.group < length s.groups = c.among in
                   let cb : (group_at s.groups c.group).path_start ≤ p = c.behind in
@@ -186,19 +186,19 @@ module _ (edges : ℕ → List ℕ) (count : ℕ) (right : ℕ → ℕ → Type 
       let group_old : (k : ℕ) → k < m → group_at groups k ≡ group_at s.groups k = λ k h. get_or-append s.groups (new ∷ []) _ k h in
       let group_new : group_at groups m ≡ new = get_or-append_seam s.groups new [] _ in
       let kept_done : (u : ℕ) (b : Bool) → mark_of s.marks u ≡ Done b → mark_of marks u ≡ Done b
-          = λ u b e. mark_other u (λ same. let f : mark_of s.marks v ≡ Done b = subst (λ (x : ℕ). mark_of s.marks x ≡ Done b) same e in cc) ∙ e in
+      = λ u b e. mark_other u (λ same. let f : mark_of s.marks v ≡ Done b = subst (λ (x : ℕ). mark_of s.marks x ≡ Done b) same e in cc) ∙ e in
       let kept_open : (u q : ℕ) → mark_of s.marks u ≡ Open q → mark_of marks u ≡ Open q
-          = λ u q e. mark_other u (λ same. let f : mark_of s.marks v ≡ Open q = subst (λ (x : ℕ). mark_of s.marks x ≡ Open q) same e in cc) ∙ e in
+      = λ u q e. mark_other u (λ same. let f : mark_of s.marks v ≡ Open q = subst (λ (x : ℕ). mark_of s.marks x ≡ Open q) same e in cc) ∙ e in
       let was : (u : ℕ) (k : Mark) → (k ≡ Open n → ⊥) → mark_of marks u ≡ k → mark_of s.marks u ≡ k
-          = λ u k other e. elim (equal u v) [
-            | inl same ↦ absurd (other (sym e ∙ subst (λ (x : ℕ). mark_of marks x ≡ Open n) (sym same) mark_same))
-            | inr ne ↦ sym (mark_other u ne) ∙ e
-          ] in
+      = λ u k other e. elim (equal u v) [
+        | inl same ↦ absurd (other (sym e ∙ subst (λ (x : ℕ). mark_of marks x ≡ Open n) (sym same) mark_same))
+        | inr ne ↦ sym (mark_other u ne) ∙ e
+      ] in
       let was_done : (u : ℕ) (b : Bool) → mark_of marks u ≡ Done b → mark_of s.marks u ≡ Done b = λ u b e. was u (Done b) (λ f. cc) e in
       let new_node : (i : ℕ) → n ≤ i → i < length path → node_at path i ≡ v
-          = λ i le h. let same : i ≡ n = omega arith in subst (λ (k : ℕ). node_at path k ≡ v) (sym same) node_new in
+      = λ i le h. let same : i ≡ n = omega arith in subst (λ (k : ℕ). node_at path k ≡ v) (sym same) node_new in
       let from_new : (u : ℕ) → IsIn (edges v) u → (start : ℕ) → start ≤ t → IsIn (drop start todo) u
-          = λ u e start le. subst (λ (l : List ℕ). IsIn l u) (sym (drop-append-le start s.todo (edges v) le)) (in_right (drop start s.todo) (edges v) u e) in
+      = λ u e start le. subst (λ (l : List ℕ). IsIn l u) (sym (drop-append-le start s.todo (edges v) le)) (in_right (drop start s.todo) (edges v) u e) in
       record {
         marks = length-set s.marks v (Open n) ∙ w.marks;
         words = w.words;

@@ -188,7 +188,7 @@ module _ (number : List ℕ → Option ℕ) (structs : List CStruct) (told : Tel
       by_number : (o : Option ℕ) → number x.text ≡ o → listed_words sizes (number x.text) ≡ min (words (map shape_of structs) (ty.named x.text)) WORDS_CAP
       by_number None e =
           let none : words (map shape_of structs) (ty.named x.text) ≡ 0
-              = laws.fields (map shape_of structs) x.text (λ held. nothing_held held (unnamed_fields x.text e)) ∙ ap (all_words (map shape_of structs)) (unnamed_fields x.text e) in
+          = laws.fields (map shape_of structs) x.text (λ held. nothing_held held (unnamed_fields x.text e)) ∙ ap (all_words (map shape_of structs)) (unnamed_fields x.text e) in
           ap (listed_words sizes) e ∙ sym (ap (λ (k : ℕ). min k WORDS_CAP) none)
       by_number (Some n) e = ap (listed_words sizes) e ∙ h n e x.text e
   capped_right laws sizes (array t n) h =

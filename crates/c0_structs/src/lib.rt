@@ -3,8 +3,8 @@
 
 mod fields;
 pub mod sizes;
-mod walk;
 #[cfg(test)]
 mod tests;
+mod walk;
 
 pub use sizes::{StructSizes, struct_sizes};

@@ -98,12 +98,7 @@ impl Walk {
     }
 
     // Meets a struct: it is a group of its own, and its edges are left.
-    fn meet(
-        &mut self,
-        names: &Names,
-        structs: &[StructDef],
-        node: u32,
-    ) -> Result<(), AllocError>
+    fn meet(&mut self, names: &Names, structs: &[StructDef], node: u32) -> Result<(), AllocError>
         requires marked { node < length self.old.marks.items }
         requires told { node < length structs.now }
         ensures { OnOk result (state_of self.new ≡ met (parts.edges (look names.now) (map struct_view structs.now)) node (state_of self.old)) }

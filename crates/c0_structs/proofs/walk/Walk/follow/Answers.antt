@@ -53,5 +53,5 @@ pub returns-in-Done-clause-walk : goal.returns-in-Done-clause-walk
 returns-in-Done-clause-walk c =
     let s : State = state_of c.args.self.now in
     let is_done : mark_of c.args.self.now.marks.items (target_of s) ≡ Done c.in-Done.field-0
-        = subst (λ (n : ℕ). mark_of c.args.self.now.marks.items n ≡ Done c.in-Done.field-0) c.target-target.ensures (sym c.in-Done.ensures) in
+    = subst (λ (n : ℕ). mark_of c.args.self.now.marks.items n ≡ Done c.in-Done.field-0) c.target-target.ensures (sym c.in-Done.ensures) in
     subst (λ (x : State). IsWalkOver (look c.args.names.now) (map struct_view c.args.structs.now) x) (sym c.leave_target.ensures) (passed (look c.args.names.now) (map struct_view c.args.structs.now) s c.requires.walk c.requires.left c.in-Done.field-0 is_done)
