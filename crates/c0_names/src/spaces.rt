@@ -15,8 +15,9 @@ use c0_tree::{Decl, Name};
 use indexmap::IndexMap;
 use std::alloc::{AllocError, Global};
 
-// Gives a name its number, or meets it where it is set before.
-fn declare(
+/// Gives a name its number unless it has one, and meets it where it has one: so it is set before in its space. The one error is want of
+/// memory.
+pub fn declare(
     alloc: Global,
     names: &mut IndexMap<Vec<u8>, u32>,
     name: &Name,

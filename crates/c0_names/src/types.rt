@@ -87,8 +87,8 @@ pub fn capped_words(names: &Names, sizes: &[u32], ty: &CType) -> u32
     words_by(names, sizes, ty)
 }
 
-// The words of the struct of a name.
-fn struct_words(names: &Names, sizes: &[u32], text: &[u8]) -> u32
+/// The words of the first struct of a name, up to 1,048,577, where those of each struct are given; none where no struct has the name.
+pub fn struct_words(names: &Names, sizes: &[u32], text: &[u8]) -> u32
     ensures { result ≡ structs.listed_words sizes.now (look names.now text.now) }
 {
     match names.get(text) {

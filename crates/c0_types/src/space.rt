@@ -1,9 +1,7 @@
 // The space of globals, functions and primitives.
 
-ghost use Rattle.std.specs.Prelude.{◌≡◌, ◌<◌, ◌^◌, ◌∷◌, [], ℕ, List, IfOk, OnOk, Some, None, cond, is_some, length, map};
-ghost use Rattle.std.specs.Option.{option_or};
-ghost use Rattle.std.specs.Str.{bytes_eq};
-ghost use Rattle.c0_meaning.specs.Fault.{fault, kept_all, NAME_TWICE};
+ghost use Rattle.std.specs.Prelude.{◌≡◌, ◌<◌, ◌^◌, ℕ, List, IfOk, OnOk, is_some, length, map};
+ghost use Rattle.c0_meaning.specs.Fault.{kept_all};
 ghost use Rattle.c0_meaning.specs.Names.{unit_names, unit_name_faults};
 ghost use Rattle.c0_names.specs.Met.{met_view};
 ghost use Rattle.c0_names.specs.Names.{look, number_named};
@@ -12,10 +10,10 @@ ghost use Rattle.c0_tree.specs.Primitives.{primitive_view};
 ghost use Rattle.c0_tree.specs.View.{decl_view, function_view};
 ghost use Rattle.c0_types.specs.SourceOrder.{comes_next};
 
-use c0_names::fault::{Fault, Mistake, meet_at};
+use c0_names::fault::Fault;
 use c0_names::names::{Names, set_name};
-use c0_names::spaces::twice_by_test_is_twice;
-use c0_tree::{Decl, Function, Name, Primitive};
+use c0_names::spaces::{declare, twice_by_test_is_twice};
+use c0_tree::{Decl, Function, Primitive};
 use indexmap::IndexMap;
 use std::alloc::{AllocError, Global};
 
@@ -25,24 +23,6 @@ pub struct UnitNames {
     pub globals: Names,
     pub functions: Names,
     pub primitives: Names,
-}
-
-/// Gives a name its number unless it has one, and meets it where it has one: so it is set before in its space. The one error is want of
-/// memory.
-pub(crate) fn declare(
-    alloc: Global,
-    space: &mut Names,
-    name: &Name,
-    number: u32,
-    least: &mut Option<Fault>,
-) -> Result<(), AllocError>
-    ensures names { OnOk result ((q : List ℕ) → look space.new q ≡ option_or (look space.old q) (cond (bytes_eq name.now.bytes.items q) (Some number) None)) }
-    ensures met { OnOk result (met_view least.new ≡ kept_all (met_view least.old) (cond (is_some (look space.old name.now.bytes.items)) (fault NAME_TWICE name.now.span ∷ []) [])) }
-{
-    if set_name(alloc, space, name.bytes.as_slice(), number)? {
-        meet_at(least, Mistake::NameTwice, name.span);
-    }
-    Ok(())
 }
 
 // The numbers of globals by their names.

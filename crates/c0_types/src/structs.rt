@@ -13,15 +13,15 @@ ghost use Rattle.c0_meaning.specs.Unit.{struct_faults, structs_faults};
 ghost use Rattle.c0_meaning.specs.Words.{holds};
 ghost use Rattle.c0_names.specs.Met.{met_view};
 ghost use Rattle.c0_names.specs.Names.{look, number_named};
-ghost use Rattle.c0_names.specs.Structs.{KnowsStructs, listed_words};
+ghost use Rattle.c0_names.specs.Structs.{KnowsStructs};
 ghost use Rattle.c0_tree.specs.View.{decl_view, struct_view};
 ghost use Rattle.c0_types.specs.NumberedStruct.{numbered_struct};
 
 use crate::decls::check_decls;
-use crate::space::declare;
 use c0_names::fault::{Fault, Mistake, meet_if};
 use c0_names::names::Names;
-use c0_names::spaces::{declare_all, twice_by_test_is_twice};
+use c0_names::spaces::{declare, declare_all, twice_by_test_is_twice};
+use c0_names::types::struct_words;
 use c0_structs::sizes::struct_sizes;
 use c0_tree::{Decl, Kind, Name, StructDef};
 use indexmap::IndexMap;
@@ -77,24 +77,11 @@ fn name_fields(
     Ok(names)
 }
 
-// The words of the first struct of a name, up to 1,048,577.
-fn struct_words(names: &Names, words: &[u32], name: &Name) -> u32
-    ensures { result ≡ listed_words words.now (look names.now name.now.bytes.items) }
-{
-    match names.get(name.bytes.as_slice()) {
-        None => 0,
-        Some(number) => match words.get(*number as usize) {
-            None => 0,
-            Some(words) => *words,
-        },
-    }
-}
-
 // Whether the first struct of a name has too many words.
 fn is_too_large(names: &Names, words: &[u32], name: &Name) -> bool
     ensures { (shapes : List Shape) → KnowsStructs names.now words.now shapes → result ≡ spec.is_too_large shapes (ty.named name.now.bytes.items) }
 {
-    struct_words(names, words, name) > MAX_STRUCT_WORDS
+    struct_words(names, words, name.bytes.as_slice()) > MAX_STRUCT_WORDS
 }
 
 // Checks the struct of this number: its name and those of its fields get their numbers, and its faults are met. The answer has the numbers

@@ -49,7 +49,7 @@ loop-global-preserved-then-is_function_next c =
     record {
       globals = c.loop-global.invariant.globals;
       functions = omega (arith, within);
-      met = met_step (look c.loop-global.space) (look c.declare.new.space) (function_view x).name (unit_names (map decl_view globals) (map function_view rest)) 0 (met_view c.loop-global.least) (met_view c.declare.new.least)
+      met = met_step (look c.loop-global.space) (look c.declare.new.names) (function_view x).name (unit_names (map decl_view globals) (map function_view rest)) 0 (met_view c.loop-global.least) (met_view c.declare.new.least)
           c.in_ok-declare.ensures.names c.in_ok-declare.ensures.met
           ∙ (ap (λ names. kept_all (met_view c.loop-global.least) (twice_by (λ q. is_some (look c.loop-global.space q)) names)) (sym order) ∙ c.loop-global.invariant.met);
     }
@@ -81,7 +81,7 @@ loop-global-preserved c =
     record {
       globals = omega (arith, within);
       functions = c.loop-global.invariant.functions;
-      met = met_step (look c.loop-global.space) (look c.declare-else-is_function_next.new.space) (decl_view x).name (unit_names (map decl_view rest) (map function_view functions)) 0 (met_view c.loop-global.least) (met_view c.declare-else-is_function_next.new.least)
+      met = met_step (look c.loop-global.space) (look c.declare-else-is_function_next.new.names) (decl_view x).name (unit_names (map decl_view rest) (map function_view functions)) 0 (met_view c.loop-global.least) (met_view c.declare-else-is_function_next.new.least)
           c.in_ok-declare-2.ensures.names c.in_ok-declare-2.ensures.met
           ∙ (ap (λ names. kept_all (met_view c.loop-global.least) (twice_by (λ q. is_some (look c.loop-global.space q)) names)) (sym order) ∙ c.loop-global.invariant.met);
     }

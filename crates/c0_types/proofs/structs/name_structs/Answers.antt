@@ -24,11 +24,11 @@ loop-definition-preserved c =
     record {
       at = omega (arith, c.loop-definition.invariant.at);
       names = λ q.
-          number_step (λ s. s.name.text) (look c.loop-definition.names q) (look c.declare.new.space q) (struct_view x) (map struct_view rest) c.loop-definition.number q x.name.bytes.items refl (c.in_ok-declare.ensures.names q)
+          number_step (λ s. s.name.text) (look c.loop-definition.names q) (look c.declare.new.names q) (struct_view x) (map struct_view rest) c.loop-definition.number q x.name.bytes.items refl (c.in_ok-declare.ensures.names q)
           ∙ (ap (λ (ss : List StructDef). option_or (look c.loop-definition.names q) (number_named (λ s. s.name.text) q c.loop-definition.number (map struct_view ss))) (sym left)
           ∙ c.loop-definition.invariant.names q);
       met =
-          met_step (look c.loop-definition.names) (look c.declare.new.space) (struct_view x).name (map (λ s. s.name) (map struct_view rest)) c.loop-definition.number (met_view c.loop-definition.least) (met_view c.declare.new.least)
+          met_step (look c.loop-definition.names) (look c.declare.new.names) (struct_view x).name (map (λ s. s.name) (map struct_view rest)) c.loop-definition.number (met_view c.loop-definition.least) (met_view c.declare.new.least)
           c.in_ok-declare.ensures.names c.in_ok-declare.ensures.met
           ∙ (ap (λ (ss : List StructDef). kept_all (met_view c.loop-definition.least) (twice_by (λ q. is_some (look c.loop-definition.names q)) (map (λ s. s.name) (map struct_view ss)))) (sym left)
           ∙ c.loop-definition.invariant.met);
