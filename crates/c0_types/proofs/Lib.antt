@@ -4,3 +4,7 @@ pub mod DeclaredInPlace
 pub mod DeclaredDecls
 pub mod BodiesScope
 pub mod UnitHeadings
+pub mod UnitMeeting
+pub mod UnitResolved
+pub mod UnitBodies
+pub mod UnitPlain
