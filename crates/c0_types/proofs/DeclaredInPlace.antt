@@ -47,9 +47,9 @@ pub numbered_step : {T V : Type 0} (view : T → V) (f : ℕ → V → V) (k : �
 numbered_step view f k ys xs i n x new e h number at changed =
     let was : view x ≡ get_or (map view ys) i (view x) = (numbered_next view f k ys xs i x e h at).was in
     map-set view xs i new ∙ (ap (λ l. set l i (view new)) e
-        ∙ (ap (set (numbered f k i (map view ys)) i) (changed ∙ ap (f n) was)
-        ∙ (step_suc f k i n (map view ys) (view x) (subst (λ m. i < m) (sym (length-map ys view)) h) number
-        ∙ ap (λ m. numbered f k m (map view ys)) (sym (add-one i)))))
+    ∙ (ap (set (numbered f k i (map view ys)) i) (changed ∙ ap (f n) was)
+    ∙ (step_suc f k i n (map view ys) (view x) (subst (λ m. i < m) (sym (length-map ys view)) h) number
+    ∙ ap (λ m. numbered f k m (map view ys)) (sym (add-one i)))))
 
 -- at the end all are changed, and none is left
 pub numbered_end : {T V : Type 0} (view : T → V) (f : ℕ → V → V) (k : ℕ) (ys xs : List T) (i : ℕ)

@@ -8,3 +8,5 @@ pub mod UnitMeeting
 pub mod UnitResolved
 pub mod UnitBodies
 pub mod UnitPlain
+pub mod DeclaredSpaces
+pub mod DeclaredStructs

@@ -3,3 +3,5 @@ pub mod Parts
 pub mod Answer
 pub mod Known
 pub mod Told
+pub mod SourceOrder
+pub mod NumberedStruct

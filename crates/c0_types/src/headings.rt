@@ -75,12 +75,23 @@ pub fn check_heading(
     ensures named { (shapes : List Shape) → KnowsStructs names.now words.now shapes → function_view function.new ≡ headed shapes number (function_view function.old) }
 {
     let is_asm = is_asm_text(&function.body);
-    check_type(names, words, &mut function.answer, function.answer_span, least);
+    check_type(
+        names,
+        words,
+        &mut function.answer,
+        function.answer_span,
+        least,
+    );
     meet_unpassed(is_asm, &function.answer, function.answer_span, least);
     function.name.kind = Kind::Function;
     function.name.number = number;
     check_decls(names, words, Kind::Local, 0, &mut function.params, least);
     meet_unpassed_params(is_asm, &function.params, least);
     let too_many = function.params.len() > max_parameters(is_asm);
-    meet_if(least, too_many, Mistake::TooManyParameters, function.name.span);
+    meet_if(
+        least,
+        too_many,
+        Mistake::TooManyParameters,
+        function.name.span,
+    );
 }

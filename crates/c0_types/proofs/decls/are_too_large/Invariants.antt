@@ -1,5 +1,5 @@
 -- The words so far, each up to the cap, and those of the other globals are too many exactly where all are.
-use Rattle.std.proofs.Common.{◌≡◌, ℕ, ◌+◌, ◌*◌, ◌≤◌, List, map, drop, nat_lt}
+use Rattle.std.proofs.Common.{◌≡◌, ◌+◌, ◌*◌, ◌≤◌, List, map, drop, nat_lt}
 use Rattle.c0_meaning.specs.Env.{Shape, typed_of}
 use Rattle.c0_meaning.specs.Limits.{MAX_GLOBAL_WORDS}
 use Rattle.c0_meaning.specs.Words.{all_words}

@@ -1,9 +1,8 @@
 -- One declaration more is checked, and its faults are met.
-use Rattle.std.proofs.Common.{◌≡◌, ℕ, ◌+◌, List, length, map, get_or, sym, ap, ◌∙◌, arith}
+use Rattle.std.proofs.Common.{◌≡◌, ℕ, ◌+◌, length, map, get_or, sym, ap, ◌∙◌, arith}
 use Rattle.c0_tree.specs.declared.tree.Decl.{Decl}
 use Rattle.c0_tree.specs.View.{decl_view}
 use Rattle.c0_meaning.specs.DeclaredTypes.{type_faults, declared_faults}
-use Rattle.c0_meaning.specs.Env.{Shape}
 use Rattle.c0_meaning.specs.Fault.{kept_all}
 use Rattle.c0_names.specs.Met.{met_view}
 use Rattle.c0_names.proofs.Meeting.{kept_all-append}

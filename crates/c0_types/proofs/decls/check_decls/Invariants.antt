@@ -1,5 +1,5 @@
 -- The declarations so far are checked, and the faults of the others are still to be met.
-use Rattle.std.proofs.Common.{◌≡◌, ℕ, ◌+◌, List, map}
+use Rattle.std.proofs.Common.{◌≡◌, ◌+◌, List, map}
 use Rattle.c0_meaning.specs.DeclaredTypes.{declared_faults}
 use Rattle.c0_meaning.specs.Env.{Shape}
 use Rattle.c0_meaning.specs.Fault.{kept_all}

@@ -1,5 +1,5 @@
 -- The faults are met in their order. Those of types that can't be passed are met once the types are resolved, which changes none of them.
-use Rattle.std.proofs.Common.{◌≡◌, ℕ, Bool, nat_lt, List, length, map, sym, ap, ◌∙◌, arith}
+use Rattle.std.proofs.Common.{◌≡◌, ℕ, Bool, nat_lt, length, map, sym, ap, ◌∙◌, arith}
 use Rattle.std.proofs.lemmas.Grind.{common_steps}
 use Rattle.std.proofs.lemmas.List.{length-map}
 use Rattle.c0_tree.specs.Tree.{CFunction}
