@@ -1,5 +1,5 @@
 -- The headings of functions, one after the other, and what they leave as it is.
-use Rattle.std.proofs.Common.{◌≡◌, ℕ, zero, suc, ◌+◌, ◌<◌, ◌^◌, Bool, true, false, ◌&&◌, nat_lt, List, [], ◌∷◌, ◌++◌, length, map, get_or, refl, sym, ap, ◌∙◌, arith}
+use Rattle.std.proofs.Common.{◌≡◌, ℕ, zero, suc, ◌+◌, ◌<◌, ◌^◌, Bool, true, false, ◌&&◌, nat_lt, List, [], ◌∷◌, ◌++◌, length, map, get_or, set, refl, sym, ap, ◌∙◌, arith}
 use Rattle.std.specs.List.{list_all}
 use Rattle.std.proofs.lemmas.List.{length-map}
 use Rattle.std.proofs.lemmas.Bool.Decides.{nat_tests}
@@ -45,3 +45,12 @@ few_params f h =
 -- and so is its body plain
 pub plain_body : (f : CFunction) → is_plain_function f ≡ true → is_plain_body f.body ≡ true
 plain_body f h = and-right (is_short f.params) (is_plain_body f.body) h
+
+-- another element than the one that is set stays
+pub other_set : {A : Type 0} (xs : List A) (i j : ℕ) (x d : A) → i < j → get_or (set xs i x) j d ≡ get_or xs j d
+other_set [] zero j x d h = refl
+other_set [] (suc i) j x d h = refl
+other_set (y ∷ xs) zero zero x d h = absurd (omega (arith, h))
+other_set (y ∷ xs) zero (suc j) x d h = refl
+other_set (y ∷ xs) (suc i) zero x d h = absurd (omega (arith, h))
+other_set (y ∷ xs) (suc i) (suc j) x d h = other_set xs i j x d (omega (arith, h))

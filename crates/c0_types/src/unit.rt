@@ -110,14 +110,8 @@ fn check_body_at(
         words: Vec::new(alloc),
     });
     let mut body = std::mem::replace(&mut function.body, empty);
-    let nodes = check_body(
-        alloc,
-        declared,
-        functions,
-        &functions[place],
-        &mut body,
-        least,
-    )?;
+    let all = &functions[..];
+    let nodes = check_body(alloc, declared, all, &all[place], &mut body, least)?;
     functions[place].body = body;
     Ok(nodes)
 }

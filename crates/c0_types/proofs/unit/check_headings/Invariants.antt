@@ -1,5 +1,5 @@
--- The headings so far are checked, and the faults of the others are still to be met.
-use Rattle.std.proofs.Common.{◌≡◌, ◌<◌, ◌≤◌, ℕ, List, length, map, get_or}
+-- The headings so far are checked, and the others are as they were, their faults being still to be met.
+use Rattle.std.proofs.Common.{◌≡◌, ◌≤◌, ℕ, List, map, get_or}
 use Rattle.c0_meaning.specs.Env.{Shape}
 use Rattle.c0_meaning.specs.Fault.{kept_all}
 use Rattle.c0_names.specs.Met.{met_view}
@@ -15,9 +15,9 @@ abbrev pub invariant-loop-function : goal.invariant-loop-function
 invariant-loop-function l = record {
   at : l.number ≡ l.function-index;
   changed : (shapes : List Shape) → KnowsStructs l.names l.words shapes
-      → map function_view l.functions ≡ numbered (headed shapes) 0 l.function-index (map function_view l.initial.functions);
+      → map function_view l.function-items ≡ numbered (headed shapes) 0 l.function-index (map function_view l.initial.function-items);
   met : (shapes : List Shape) → KnowsStructs l.names l.words shapes
-      → kept_all (met_view l.least) (headings_faults shapes (rest l.function-index (map function_view l.initial.functions)))
-      ≡ kept_all (met_view l.initial.least) (headings_faults shapes (map function_view l.initial.functions));
-  others : (i : ℕ) (d : Function) → l.function-index ≤ i → i < length l.functions → get_or l.functions i d ≡ get_or l.initial.functions i d;
+      → kept_all (met_view l.least) (headings_faults shapes (rest l.function-index (map function_view l.initial.function-items)))
+      ≡ kept_all (met_view l.initial.least) (headings_faults shapes (map function_view l.initial.function-items));
+  others : (i : ℕ) (d : Function) → l.function-index ≤ i → get_or l.function-items i d ≡ get_or l.initial.function-items i d;
 }
