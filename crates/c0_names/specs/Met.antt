@@ -3,8 +3,9 @@ use Rattle.std.specs.Prelude.{ℕ, Option}
 use Rattle.std.specs.Option.{option_map}
 use Rattle.c0_meaning.specs.Fault as spec
 use Rattle.c0_names.specs.declared.fault.Fault.{Fault}
+use Rattle.c0_names.specs.declared.fault.Fault.TheVariants.{Wrong, BadLine}
 use Rattle.c0_names.specs.declared.fault.Mistake.{Mistake}
-use Rattle.c0_names.specs.declared.fault.Mistake.TheVariants.{UnknownName, NameTwice, WrongType, WrongCount, NotAPlace, LocalAddress, StructHoldsItself, TooDeep, TooManyNodes, UnitTooLarge, GlobalsTooLarge, NoDispatch, AsmNotAllowed, TooManyParameters, TypeTooLarge, EmptyArray}
+use Rattle.c0_names.specs.declared.fault.Mistake.TheVariants.{UnknownName, NameTwice, WrongType, WrongCount, NotAPlace, LocalAddress, StructHoldsItself, TooDeep, TooManyNodes, UnitTooLarge, GlobalsTooLarge, NoDispatch, TooManyParameters, TypeTooLarge, EmptyArray}
 
 -- the number of a mistake
 abbrev pub number_of : Mistake → ℕ
@@ -20,14 +21,14 @@ number_of TooManyNodes = spec.TOO_MANY_NODES
 number_of UnitTooLarge = spec.UNIT_TOO_LARGE
 number_of GlobalsTooLarge = spec.GLOBALS_TOO_LARGE
 number_of NoDispatch = spec.NO_DISPATCH
-number_of AsmNotAllowed = spec.ASM_NOT_ALLOWED
 number_of TooManyParameters = spec.TOO_MANY_PARAMETERS
 number_of TypeTooLarge = spec.TYPE_TOO_LARGE
 number_of EmptyArray = spec.EMPTY_ARRAY
 
 -- a fault
 abbrev pub fault_view : Fault → spec.Fault
-fault_view f = record { number = number_of f.mistake; span = f.span; line = f.line }
+fault_view (Wrong mistake span) = spec.fault (number_of mistake) span
+fault_view (BadLine span line) = record { number = spec.ASM_NOT_ALLOWED; span = span; line = line }
 
 -- the least fault met so far
 abbrev pub met_view : Option Fault → Option spec.Fault

@@ -7,7 +7,7 @@ ghost use Rattle.c0_names.specs.Met.{fault_view, met_view, number_of};
 
 use c0_tree::Span;
 
-/// What is wrong.
+/// What is wrong, other than with a line of an asm text.
 #[derive(Clone, Copy, PartialEq, Eq, Debug, Drop)]
 pub enum Mistake {
     /// No such name.
@@ -34,8 +34,6 @@ pub enum Mistake {
     GlobalsTooLarge,
     /// No function `int dispatch(int, int, int)` with a code body.
     NoDispatch,
-    /// A line of an asm text that isn't allowed.
-    AsmNotAllowed,
     /// More than 8 parameters, or 4 of an asm function.
     TooManyParameters,
     /// A type of more than 1,048,576 words.
@@ -46,17 +44,15 @@ pub enum Mistake {
 
 /// What is wrong, and where.
 #[derive(Clone, Copy, PartialEq, Eq, Debug, Drop)]
-pub struct Fault {
-    /// What is wrong.
-    pub mistake: Mistake,
-    /// Where it is wrong.
-    pub span: Span,
-    /// The line of an asm text that isn't allowed, from 1; else 0.
-    pub line: u32,
+pub enum Fault {
+    /// A mistake at a span.
+    Wrong { mistake: Mistake, span: Span },
+    /// A line of the asm text at a span that isn't allowed; the line of the text's brace is 1.
+    BadLine { span: Span, line: u32 },
 }
 
 impl Mistake {
-    /// The number that is printed, 20 to 35.
+    /// The number that is printed: 20 to 31, or 33 to 35.
     pub fn number(self) -> u32
         ensures { result ≡ number_of self }
     {
@@ -73,7 +69,6 @@ impl Mistake {
             Mistake::UnitTooLarge => 29,
             Mistake::GlobalsTooLarge => 30,
             Mistake::NoDispatch => 31,
-            Mistake::AsmNotAllowed => 32,
             Mistake::TooManyParameters => 33,
             Mistake::TypeTooLarge => 34,
             Mistake::EmptyArray => 35,
@@ -82,20 +77,51 @@ impl Mistake {
 }
 
 impl Fault {
+    /// The number that is printed, 20 to 35.
+    pub fn number(&self) -> u32
+        ensures { result ≡ (fault_view self.now).number }
+    {
+        match self {
+            Fault::Wrong { mistake, .. } => mistake.number(),
+            Fault::BadLine { .. } => 32,
+        }
+    }
+
+    /// Where it is wrong.
+    pub fn span(&self) -> Span
+        ensures { result ≡ (fault_view self.now).span }
+    {
+        match self {
+            Fault::Wrong { span, .. } => *span,
+            Fault::BadLine { span, .. } => *span,
+        }
+    }
+
+    // The line of an asm text that isn't allowed, from 1; else 0.
+    fn line(&self) -> u32
+        ensures { result ≡ (fault_view self.now).line }
+    {
+        match self {
+            Fault::Wrong { .. } => 0,
+            Fault::BadLine { line, .. } => *line,
+        }
+    }
+
     /// Whether it comes before another: by the first byte of its span, then by its number.
     pub fn comes_before(&self, other: &Fault) -> bool
         ensures { result ≡ spec.comes_before (fault_view self.now) (fault_view other.now) }
     {
-        self.span.start < other.span.start
-            || (self.span.start == other.span.start && self.is_lower(other))
+        let start = self.span().start;
+        let limit = other.span().start;
+        start < limit || (start == limit && self.is_lower(other))
     }
 
     // Whether it comes before another that starts at the same byte.
     fn is_lower(&self, other: &Fault) -> bool
         ensures { result ≡ spec.comes_lower (fault_view self.now) (fault_view other.now) }
     {
-        let number = self.mistake.number();
-        let limit = other.mistake.number();
+        let number = self.number();
+        let limit = other.number();
         number < limit || (number == limit && self.is_shorter(other))
     }
 
@@ -103,8 +129,9 @@ impl Fault {
     fn is_shorter(&self, other: &Fault) -> bool
         ensures { result ≡ spec.comes_shorter (fault_view self.now) (fault_view other.now) }
     {
-        self.span.end < other.span.end
-            || (self.span.end == other.span.end && self.line < other.line)
+        let end = self.span().end;
+        let limit = other.span().end;
+        end < limit || (end == limit && self.line() < other.line())
     }
 }
 
@@ -126,14 +153,7 @@ pub fn meet(least: &mut Option<Fault>, new: Fault)
 pub fn meet_at(least: &mut Option<Fault>, mistake: Mistake, span: Span)
     ensures { met_view least.new ≡ spec.kept (met_view least.old) (spec.fault (number_of mistake) span) }
 {
-    meet(
-        least,
-        Fault {
-            mistake,
-            span,
-            line: 0,
-        },
-    );
+    meet(least, Fault::Wrong { mistake, span });
 }
 
 /// Keeps the least of the faults met before and, where something is wrong, a mistake at this span.

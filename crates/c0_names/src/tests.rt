@@ -51,12 +51,11 @@ fn a_name_is_declared_once_in_its_space(rt: HostRuntime) -> Result<(), Fail> {
     for (text, number) in [("a", Some(3)), ("x", Some(9)), ("bc", Some(5)), ("b", None)] {
         assert_eq!(rt; names.get(text.as_bytes()).copied(), number, "{text}");
     }
-    let met = Fault {
+    let met = Fault::Wrong {
         mistake: Mistake::NameTwice,
         span: Span { start: 11, end: 12 },
-        line: 0,
     };
     assert_eq!(rt; least, Some(met));
-    assert_eq!(rt; met.mistake.number(), 21);
+    assert_eq!(rt; met.number(), 21);
     Ok(())
 }

@@ -155,14 +155,10 @@ fn meet_line(least: &mut Option<Fault>, line: Option<u64>, span: Span)
 {
     match line {
         None => {}
-        Some(line) => meet(
-            least,
-            Fault {
-                mistake: Mistake::AsmNotAllowed,
-                span,
-                line: line as u32,
-            },
-        ),
+        Some(line) => {
+            let line = line as u32;
+            meet(least, Fault::BadLine { span, line });
+        }
     }
 }
 

@@ -4,7 +4,7 @@ ghost use Rattle.c0_types.specs.declared.fault.TypeFault.TheVariants.{Memory as 
 ghost use Rattle.std.specs.Prelude.{◌≡◌, Some};
 ghost use Rattle.c0_names.specs.Met.{fault_view, number_of};
 ghost use Rattle.c0_types.specs.Answer.{type_fault_view};
-ghost use Rattle.c0_types.specs.Told.{Says, line_told};
+ghost use Rattle.c0_meaning.specs.Fault.{fault};
 
 use c0_names::fault::{Fault, Mistake};
 use c0_tree::Span;
@@ -76,9 +76,9 @@ impl From<AllocError> for TypeFault {
     }
 }
 
-// What a mistake is called.
-fn named(mistake: Mistake, span: Span, line: u32) -> TypeFault
-    ensures { type_fault_view result ≡ Some (record { number = number_of mistake; span = span; line = line_told mistake line }) }
+// What is answered of a mistake at a span.
+fn named(mistake: Mistake, span: Span) -> TypeFault
+    ensures { type_fault_view result ≡ Some (fault (number_of mistake) span) }
 {
     match mistake {
         Mistake::UnknownName => TypeFault::UnknownName(span),
@@ -93,33 +93,21 @@ fn named(mistake: Mistake, span: Span, line: u32) -> TypeFault
         Mistake::UnitTooLarge => TypeFault::UnitTooLarge(span),
         Mistake::GlobalsTooLarge => TypeFault::GlobalsTooLarge(span),
         Mistake::NoDispatch => TypeFault::NoDispatch(span),
-        Mistake::AsmNotAllowed => TypeFault::AsmNotAllowed {
-            span,
-            line: u64::from(line),
-        },
         Mistake::TooManyParameters => TypeFault::TooManyParameters(span),
         Mistake::TypeTooLarge => TypeFault::TypeTooLarge(span),
         Mistake::EmptyArray => TypeFault::EmptyArray(span),
     }
 }
 
-// The line that is told of a mistake: 0 unless it is one of an asm text.
-fn line_of(mistake: Mistake, line: u32) -> u32
-    ensures { result ≡ line_told mistake line }
-{
-    match mistake {
-        Mistake::AsmNotAllowed => line,
-        _ => 0,
-    }
-}
-
-/// What is answered of a fault that was met. A line stands only in a fault of an asm text: of another the answer would be want of memory.
+/// What is answered of a fault that was met.
 pub fn answer_of(fault: Fault) -> TypeFault
-    ensures { Says (type_fault_view result) (fault_view fault) }
+    ensures { type_fault_view result ≡ Some (fault_view fault) }
 {
-    if line_of(fault.mistake, fault.line) == fault.line {
-        named(fault.mistake, fault.span, fault.line)
-    } else {
-        TypeFault::Memory
+    match fault {
+        Fault::Wrong { mistake, span } => named(mistake, span),
+        Fault::BadLine { span, line } => TypeFault::AsmNotAllowed {
+            span,
+            line: u64::from(line),
+        },
     }
 }
