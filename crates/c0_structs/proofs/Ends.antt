@@ -1,5 +1,5 @@
 -- Where a walk over structs begins and ends: it begins with nothing met, and at its end all structs are done and what is told of them is right.
-use Rattle.std.proofs.Common.{◌≡◌, ◌⊎◌, inl, inr, ℕ, zero, suc, ◌+◌, ◌<◌, ◌≤◌, Bool, true, false, min, List, [], ◌∷◌, ◌++◌, map, length, get_or, Option, None, Some, refl, sym, ap, ◌∙◌, subst, arith}
+use Rattle.std.proofs.Common.{◌≡◌, inl, inr, ℕ, zero, suc, ◌+◌, ◌<◌, Bool, true, false, min, List, [], ◌∷◌, ◌++◌, map, length, get_or, Option, None, Some, refl, sym, ap, ◌∙◌, subst, arith}
 use Rattle.std.proofs.lemmas.Bool.{cases_lt, false_from_ne_true}
 use Rattle.std.proofs.lemmas.List.{length-append, get_or_append_left, get_or_past}
 use Rattle.std.proofs.Math.Seq.{get_or-append_seam}
@@ -10,8 +10,8 @@ use Rattle.c0_meaning.specs.Words.{holds, HoldsAsTested, words}
 use Rattle.c0_names.specs.Structs.{WORDS_CAP, listed_words}
 use Rattle.c0_structs.specs.declared.walk.Mark.{Mark}
 use Rattle.c0_structs.specs.declared.walk.Mark.TheVariants.{Unseen, Open, Done}
-use Rattle.c0_structs.specs.Graph.{IsIn, Leads}
-use Rattle.c0_structs.specs.Parts.{edges, AreWordsOf, TellsFirst}
+use Rattle.c0_structs.specs.Graph.{IsIn}
+use Rattle.c0_structs.specs.Parts.{edges, TellsFirst}
 use Rattle.c0_structs.specs.Walk.{State, mark_of, IsWalk, IsWalkOver, is_cyclic_mark, listed_cyclic, copies, numbers_below, first_state}
 use Rattle.c0_structs.proofs.GraphLemmas.{in_left, in_right, in_parts}
 use Rattle.c0_structs.proofs.Telling.{text_at, named_text, named_below, unnamed_fields, nothing_held, held_leads, leads_held}

@@ -1,12 +1,12 @@
 -- The last group done: what holds wherever a walk stands holds afterwards, and what is told of the numbers of the group is right.
-use Rattle.std.proofs.Common.{◌≡◌, ◌≢◌, ◌⊎◌, inl, inr, ℕ, zero, suc, ◌+◌, ◌-◌, ◌<◌, ◌≤◌, Bool, true, false, List, [], ◌∷◌, length, drop, take, get_or, refl, sym, ap, ◌∙◌, subst, arith}
+use Rattle.std.proofs.Common.{◌≡◌, ◌⊎◌, inl, inr, ℕ, suc, ◌<◌, ◌≤◌, Bool, true, false, List, [], length, drop, take, sym, ◌∙◌, subst, arith}
 use Rattle.std.proofs.lemmas.Bool.{cases_lt}
 use Rattle.std.proofs.lemmas.List.{get_or-take, length-take-le, drop_all, get_or_past}
 use Rattle.c0_structs.specs.declared.walk.Mark.{Mark}
 use Rattle.c0_structs.specs.declared.walk.Mark.TheVariants.{Unseen, Open, Done}
 use Rattle.c0_structs.specs.declared.walk.Group.{Group}
 use Rattle.c0_structs.specs.Graph.{IsIn, Leads, by_edge, by_way, Reaches}
-use Rattle.c0_structs.specs.Walk.{State, mark_of, node_at, group_at, IsFollowed, is_done, is_open, is_left, IsGroup, IsBefore, LeadsBack, IsPath, AreDone, IsWalk, set_all, last_of, last_start, finished, others_left}
+use Rattle.c0_structs.specs.Walk.{State, mark_of, node_at, group_at, IsFollowed, is_done, is_open, is_left, IsGroup, IsBefore, IsWalk, set_all, last_of, last_start, finished, others_left}
 use Rattle.c0_structs.proofs.GraphLemmas.{PlaceOf, place_of, in_drop, length-set_all, set_all_cases, reaches_leads, leads_reaches}
 use Rattle.c0_structs.proofs.Steps.{reach_last, followed_on}
 

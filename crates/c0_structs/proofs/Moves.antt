@@ -1,20 +1,19 @@
 -- The steps of a walk over structs: each keeps what holds wherever the walk stands, and less is left after it.
-use Rattle.std.proofs.Common.{◌≡◌, ◌≢◌, ◌⊎◌, inl, inr, ℕ, zero, suc, ◌+◌, ◌-◌, ◌<◌, ◌≤◌, Bool, true, false, ◌||◌, min, nat_lt, List, [], ◌∷◌, ◌++◌, map, length, drop, take, get_or, Option, refl, sym, ap, ◌∙◌, subst, arith}
+use Rattle.std.proofs.Common.{◌≡◌, inl, inr, ℕ, zero, suc, ◌+◌, ◌-◌, ◌<◌, ◌≤◌, Bool, true, false, ◌||◌, nat_lt, List, [], ◌∷◌, ◌++◌, map, length, drop, take, get_or, Option, refl, sym, ap, ◌∙◌, subst, arith}
 use Rattle.std.proofs.Math.ListN.{set}
-use Rattle.std.proofs.lemmas.Bool.{cases_lt, cases_Bool, or_cases, or_left, or_right, false≢true}
+use Rattle.std.proofs.lemmas.Bool.{cases_lt, or_cases, false≢true}
 use Rattle.std.proofs.lemmas.Bool.Decides.{nat_tests}
 use Rattle.std.proofs.lemmas.List.{length-append, length-take-le}
 use Rattle.c0_tree.specs.declared.tree.StructDef.{StructDef}
 use Rattle.c0_tree.specs.Tree.{CStruct}
 use Rattle.c0_tree.specs.View.{decl_view, struct_view}
 use Rattle.c0_meaning.specs.Words.{WordsAreThose}
-use Rattle.c0_names.specs.Structs.{WORDS_CAP}
 use Rattle.c0_structs.specs.declared.walk.Mark.{Mark}
 use Rattle.c0_structs.specs.declared.walk.Mark.TheVariants.{Unseen, Open, Done}
 use Rattle.c0_structs.specs.Graph.{IsIn, Leads, by_edge}
-use Rattle.c0_structs.specs.Parts.{has_part, all_capped, fields_at, edges, AreWordsOf, TellsFirst}
-use Rattle.c0_structs.specs.Walk.{State, mark_of, node_at, group_at, IsFollowed, is_done, is_open, IsWalk, met, set_all, last_of, last_start, finished, without_target, joined, target_of, others_left, mark_work, unseen_work, work, IsWalkOver, work_over, is_last_cyclic, last_words, copies, numbers_below, first_state}
-use Rattle.c0_structs.proofs.GraphLemmas.{in_at, in_drop, in_left, in_parts}
+use Rattle.c0_structs.specs.Parts.{has_part, fields_at, edges, AreWordsOf, TellsFirst}
+use Rattle.c0_structs.specs.Walk.{State, mark_of, node_at, group_at, is_done, is_open, IsWalk, met, set_all, last_of, last_start, finished, without_target, joined, target_of, others_left, mark_work, unseen_work, work_over, is_last_cyclic, last_words}
+use Rattle.c0_structs.proofs.GraphLemmas.{in_at, in_drop}
 use Rattle.c0_structs.proofs.Steps.{target_held, target_dropped, groups_joined, number_met}
 use Rattle.c0_structs.proofs.Finishing.{group_finished, all_turn, several_turn, alone_done, alone_loose}
 use Rattle.c0_structs.proofs.Telling.{has_part_in, in_has_part, edge_below, loose_words, cyclic_words}

@@ -1,15 +1,15 @@
 -- What holds wherever a walk stands holds after each of its steps.
-use Rattle.std.proofs.Common.{◌≡◌, ◌≢◌, ◌⊎◌, inl, inr, ℕ, zero, suc, ◌+◌, ◌-◌, ◌<◌, ◌≤◌, Bool, true, false, List, [], ◌∷◌, ◌++◌, length, drop, take, get_or, refl, sym, ap, ◌∙◌, subst, arith}
+use Rattle.std.proofs.Common.{◌≡◌, ◌≢◌, inl, inr, ℕ, suc, ◌+◌, ◌-◌, ◌<◌, ◌≤◌, Bool, true, false, List, [], ◌∷◌, ◌++◌, length, drop, take, sym, ap, ◌∙◌, subst, arith}
 use Rattle.std.proofs.Math.ListN.{set, length-set, get_or-append}
 use Rattle.std.proofs.Math.Seq.{drop-append_seam, get_or-append_seam}
 use Rattle.std.proofs.lemmas.Bool.{cases_lt}
-use Rattle.std.proofs.lemmas.List.{get_or-set_same, get_or-set_other, get_or-take, length-take-le, length-append, drop-append-le, drop_all}
+use Rattle.std.proofs.lemmas.List.{get_or-set_same, get_or-set_other, get_or-take, length-take-le, length-append, drop-append-le}
 use Rattle.c0_structs.specs.declared.walk.Mark.{Mark}
 use Rattle.c0_structs.specs.declared.walk.Mark.TheVariants.{Unseen, Open, Done}
 use Rattle.c0_structs.specs.declared.walk.Group.{Group}
-use Rattle.c0_structs.specs.Graph.{IsIn, Leads, by_edge, by_way, Reaches}
-use Rattle.c0_structs.specs.Walk.{State, mark_of, node_at, group_at, IsFollowed, is_done, is_open, is_left, IsGroup, IsBefore, LeadsBack, IsPath, AreDone, IsWalk, met, set_all, last_of, last_start, finished, without_target, joined, target_of, others_left}
-use Rattle.c0_structs.proofs.GraphLemmas.{equal, in_left, in_right, in_parts, PlaceOf, place_of, in_drop, last_split, length-set_all, set_all_cases, leads_on, reaches_leads, leads_reaches, leads_edge}
+use Rattle.c0_structs.specs.Graph.{IsIn, Leads, by_edge, Reaches}
+use Rattle.c0_structs.specs.Walk.{State, mark_of, node_at, group_at, IsFollowed, is_done, is_open, is_left, IsGroup, IsBefore, LeadsBack, AreDone, IsWalk, met, last_of, without_target, joined, target_of}
+use Rattle.c0_structs.proofs.GraphLemmas.{equal, in_left, in_right, in_parts, last_split, reaches_leads, leads_reaches, leads_edge}
 
 -- an edge stays followed where what is done or open stays so, and what is left stays left or is followed
 pub followed_on : (old new : List Mark) (start : ℕ) (before after : List ℕ) (w : ℕ)

@@ -1,9 +1,9 @@
 -- Which structs the fields of a struct are made of, by numbers.
-use Rattle.std.specs.Prelude.{◌≡◌, ℕ, zero, suc, ◌+◌, ◌<◌, min, Bool, false, ◌||◌, ◌==◌, List, [], ◌∷◌, ◌++◌, map, length, Option, None, Some}
+use Rattle.std.specs.Prelude.{◌≡◌, ℕ, zero, suc, ◌+◌, min, Bool, false, ◌||◌, ◌==◌, List, [], ◌∷◌, ◌++◌, map, Option, None, Some}
 use Rattle.std.specs.Option.{option_to_list}
 use Rattle.c0_tree.specs.Tree.{CTy, int, bool, pointer, named, array, CDecl, CStruct}
 use Rattle.c0_meaning.specs.Ty as ty
-use Rattle.c0_meaning.specs.Env.{Shape, shape_of}
+use Rattle.c0_meaning.specs.Env.{shape_of}
 use Rattle.c0_meaning.specs.Words.{words}
 use Rattle.c0_names.specs.Names.{number_named}
 use Rattle.c0_names.specs.Structs.{WORDS_CAP, capped_words}

@@ -1,6 +1,6 @@
 -- A walk over a graph that finds which numbers lie on a cycle. The numbers that were met and aren't done stand on a path, each of which leads
 -- to the next. The path is cut into groups: what is known so far to lie on one cycle is one group. A group is done when no edge from it is left.
-use Rattle.std.specs.Prelude.{◌≡◌, ◌⊎◌, ℕ, zero, suc, ◌+◌, ◌-◌, ◌<◌, ◌≤◌, min, Bool, true, false, ◌||◌, nat_lt, List, [], ◌∷◌, ◌++◌, length, drop, take, get_or, Option, None, Some}
+use Rattle.std.specs.Prelude.{◌≡◌, ℕ, zero, suc, ◌+◌, ◌-◌, ◌<◌, ◌≤◌, min, Bool, true, false, ◌||◌, nat_lt, List, [], ◌∷◌, ◌++◌, length, drop, take, get_or, Option, None, Some}
 use Rattle.std.proofs.Math.ListN.{set}
 use Rattle.c0_tree.specs.Tree.{CStruct}
 use Rattle.c0_names.specs.Structs.{WORDS_CAP}

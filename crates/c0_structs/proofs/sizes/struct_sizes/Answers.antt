@@ -1,5 +1,5 @@
 -- At the end of the walk what is told of each struct is right.
-use Rattle.std.proofs.Common.{◌≡◌, ◌∙◌, ℕ, List, map, get_or, min, Result, Ok, Err, sym, ap, subst}
+use Rattle.std.proofs.Common.{◌≡◌, ◌∙◌, ℕ, List, map, get_or, min, Result, Ok, Err, sym, subst}
 use Rattle.std.specs.Prelude.{IfOk}
 use Rattle.c0_tree.specs.View.{struct_view}
 use Rattle.c0_meaning.specs.Env.{shape_of}

@@ -1,5 +1,5 @@
 -- The walk begins with nothing met.
-use Rattle.std.proofs.Common.{◌≡◌, ◌∙◌, ℕ, map, length, sym, ap, subst}
+use Rattle.std.proofs.Common.{◌≡◌, ℕ, map, length, sym, subst}
 use Rattle.std.proofs.lemmas.List.{length-map}
 use Rattle.c0_tree.specs.View.{struct_view}
 use Rattle.c0_names.specs.Names.{look}

@@ -1,5 +1,5 @@
 -- The last group done, with what was found of it.
-use Rattle.std.proofs.Common.{◌≡◌, ◌∙◌, ◌<◌, ℕ, map, length, sym, ap, subst, List, ℕ, false, true}
+use Rattle.std.proofs.Common.{◌∙◌, ◌<◌, ℕ, map, sym, ap, subst, ℕ, false, true}
 use Rattle.c0_tree.specs.View.{struct_view}
 use Rattle.c0_names.specs.Names.{look}
 use Rattle.c0_structs.specs.Walk.{State, state_of, IsWalkOver, work_over, finished}

@@ -1,5 +1,5 @@
 -- An edge is followed to what is unseen, open or done.
-use Rattle.std.proofs.Common.{◌≡◌, ◌∙◌, ◌<◌, ◌≤◌, ℕ, map, length, sym, ap, subst, arith}
+use Rattle.std.proofs.Common.{◌≡◌, ◌∙◌, ◌<◌, ℕ, map, length, sym, ap, subst, arith}
 use Rattle.std.proofs.lemmas.List.{length-map}
 use Rattle.c0_tree.specs.View.{struct_view}
 use Rattle.c0_names.specs.Names.{look}

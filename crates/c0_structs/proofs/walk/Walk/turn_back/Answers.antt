@@ -1,8 +1,8 @@
 -- What stands behind the place to which an edge leads back is one group.
-use Rattle.std.proofs.Common.{◌≡◌, ◌<◌, ◌≤◌, map, length, sym, ap, subst}
+use Rattle.std.proofs.Common.{◌<◌, ◌≤◌, map, sym, subst}
 use Rattle.c0_tree.specs.View.{struct_view}
 use Rattle.c0_names.specs.Names.{look}
-use Rattle.c0_structs.specs.Walk.{State, state_of, IsWalkOver, last_start}
+use Rattle.c0_structs.specs.Walk.{State, state_of, IsWalkOver}
 use Rattle.c0_structs.proofs.Moves.{group_there, turned, closed}
 use Rattle.c0_structs.proofs.walk.Walk.turn_back.Goals as goal
 
