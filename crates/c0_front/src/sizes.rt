@@ -102,25 +102,34 @@ fn words_of_instructions_are_nodes(rt: HostRuntime) -> Result<(), Fail> {
     Ok(())
 }
 
-#[test]
-fn a_unit_has_at_most_100000_nodes(rt: HostRuntime) -> Result<(), Fail> {
-    let alloc = rt.alloc();
-    // 49 functions of 2,000 nodes, one of 1,995 or 1,996, and `dispatch` of 5
-    for (answer, is_too_large) in [("0", false), ("-1", true)] {
-        let mut items = function(alloc, 49, 664, answer)?;
-        for name in 0..49 {
-            items.push_str(function(alloc, name, 665, "x + 1")?.as_str())?;
-        }
-        let source = kernel(alloc, items.as_str())?;
-        assert!(rt; source.len() < 1000000);
-        let span = Span {
-            start: 0,
-            end: source.len() as u32,
-        };
-        let fault = SourceFault::Typing(TypeFault::UnitTooLarge(span));
-        let want = if is_too_large { Some(fault) } else { None };
-        assert_eq!(rt; fault_of(alloc, &source), want, "returns {answer}");
+// A kernel of 49 functions of 2,000 nodes, a `dispatch` of 5, and one function of 1,994 nodes and those of what it returns.
+fn large_kernel(alloc: Global, answer: &str) -> Result<Vec<u8>, AllocError> {
+    let mut items = function(alloc, 49, 664, answer)?;
+    for name in 0..49 {
+        items.push_str(function(alloc, name, 665, "x + 1")?.as_str())?;
     }
+    kernel(alloc, items.as_str())
+}
+
+#[test]
+fn a_unit_of_100000_nodes_is_accepted(rt: HostRuntime) -> Result<(), Fail> {
+    let alloc = rt.alloc();
+    let source = large_kernel(alloc, "0")?;
+    assert_eq!(rt; fault_of(alloc, &source), None);
+    Ok(())
+}
+
+#[test]
+fn a_unit_of_one_more_node_is_too_large(rt: HostRuntime) -> Result<(), Fail> {
+    let alloc = rt.alloc();
+    let source = large_kernel(alloc, "-1")?;
+    assert!(rt; source.len() < 1000000);
+    let span = Span {
+        start: 0,
+        end: source.len() as u32,
+    };
+    let fault = SourceFault::Typing(TypeFault::UnitTooLarge(span));
+    assert_eq!(rt; fault_of(alloc, &source), Some(fault));
     Ok(())
 }
 
