@@ -1,3 +1,7 @@
 pub mod Source
 pub mod Parts
 pub mod Answer
+pub mod Known
+pub mod Told
+pub mod SourceOrder
+pub mod NumberedStruct

@@ -33,7 +33,7 @@ pub fn check_decls(
     ensures named { (shapes : List Shape) → KnowsStructs names.now words.now shapes → map decl_view decls.new ≡ resolved_decls shapes kind first (map decl_view decls.old) }
 {
     let mut number = first;
-    for decl in decls {
+    for decl in decls.iter_mut() {
         check_type(names, words, &mut decl.ty, decl.ty_span, least);
         decl.name.kind = kind;
         decl.name.number = number;

@@ -1,8 +1,12 @@
 // The faults of a unit.
 
 ghost use Rattle.c0_types.specs.declared.fault.TypeFault.TheVariants.{Memory as NoMemory};
-ghost use Rattle.std.specs.Prelude.{◌≡◌};
+ghost use Rattle.std.specs.Prelude.{◌≡◌, Some};
+ghost use Rattle.c0_names.specs.Met.{fault_view, number_of};
+ghost use Rattle.c0_types.specs.Answer.{type_fault_view};
+ghost use Rattle.c0_types.specs.Told.{Says, line_told};
 
+use c0_names::fault::{Fault, Mistake};
 use c0_tree::Span;
 use std::alloc::AllocError;
 use thiserror::Error;
@@ -68,6 +72,54 @@ impl From<AllocError> for TypeFault {
     ghost from_gives = { λ _ e. e ≡ NoMemory };
 
     fn from(_error: AllocError) -> Self {
+        TypeFault::Memory
+    }
+}
+
+// What a mistake is called.
+fn named(mistake: Mistake, span: Span, line: u32) -> TypeFault
+    ensures { type_fault_view result ≡ Some (record { number = number_of mistake; span = span; line = line_told mistake line }) }
+{
+    match mistake {
+        Mistake::UnknownName => TypeFault::UnknownName(span),
+        Mistake::NameTwice => TypeFault::NameTwice(span),
+        Mistake::WrongType => TypeFault::WrongType(span),
+        Mistake::WrongCount => TypeFault::WrongCount(span),
+        Mistake::NotAPlace => TypeFault::NotAPlace(span),
+        Mistake::LocalAddress => TypeFault::LocalAddress(span),
+        Mistake::StructHoldsItself => TypeFault::StructHoldsItself(span),
+        Mistake::TooDeep => TypeFault::TooDeep(span),
+        Mistake::TooManyNodes => TypeFault::TooManyNodes(span),
+        Mistake::UnitTooLarge => TypeFault::UnitTooLarge(span),
+        Mistake::GlobalsTooLarge => TypeFault::GlobalsTooLarge(span),
+        Mistake::NoDispatch => TypeFault::NoDispatch(span),
+        Mistake::AsmNotAllowed => TypeFault::AsmNotAllowed {
+            span,
+            line: u64::from(line),
+        },
+        Mistake::TooManyParameters => TypeFault::TooManyParameters(span),
+        Mistake::TypeTooLarge => TypeFault::TypeTooLarge(span),
+        Mistake::EmptyArray => TypeFault::EmptyArray(span),
+    }
+}
+
+// The line that is told of a mistake: 0 unless it is one of an asm text.
+fn line_of(mistake: Mistake, line: u32) -> u32
+    ensures { result ≡ line_told mistake line }
+{
+    match mistake {
+        Mistake::AsmNotAllowed => line,
+        _ => 0,
+    }
+}
+
+/// What is answered of a fault that was met. A line stands only in a fault of an asm text: of another the answer would be want of memory.
+pub fn answer_of(fault: Fault) -> TypeFault
+    ensures { Says (type_fault_view result) (fault_view fault) }
+{
+    if line_of(fault.mistake, fault.line) == fault.line {
+        named(fault.mistake, fault.span, fault.line)
+    } else {
         TypeFault::Memory
     }
 }

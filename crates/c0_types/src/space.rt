@@ -1,16 +1,22 @@
 // The space of globals, functions and primitives.
 
-ghost use Rattle.std.specs.Prelude.{◌≡◌, ◌<◌, ◌^◌, ℕ, List, IfOk, OnOk, length, map};
-ghost use Rattle.c0_meaning.specs.Fault.{kept_all};
-ghost use Rattle.c0_meaning.specs.Names.{unit_name_faults};
+ghost use Rattle.std.specs.Prelude.{◌≡◌, ◌<◌, ◌^◌, ◌∷◌, [], ℕ, List, IfOk, OnOk, Some, None, cond, is_some, length, map};
+ghost use Rattle.std.specs.Option.{option_or};
+ghost use Rattle.std.specs.Str.{bytes_eq};
+ghost use Rattle.c0_meaning.specs.Fault.{fault, kept_all, NAME_TWICE};
+ghost use Rattle.c0_meaning.specs.Names.{unit_names, unit_name_faults};
 ghost use Rattle.c0_names.specs.Met.{met_view};
 ghost use Rattle.c0_names.specs.Names.{look, number_named};
+ghost use Rattle.c0_names.specs.Spaces.{twice_by};
 ghost use Rattle.c0_tree.specs.Primitives.{primitive_view};
 ghost use Rattle.c0_tree.specs.View.{decl_view, function_view};
+ghost use Rattle.c0_types.specs.SourceOrder.{comes_next};
 
-use c0_names::fault::Fault;
-use c0_names::names::Names;
-use c0_tree::{Decl, Function, Primitive};
+use c0_names::fault::{Fault, Mistake, meet_at};
+use c0_names::names::{Names, set_name};
+use c0_names::spaces::twice_by_test_is_twice;
+use c0_tree::{Decl, Function, Name, Primitive};
+use indexmap::IndexMap;
 use std::alloc::{AllocError, Global};
 
 /// The numbers of the globals, of the functions and of the primitives of each name, each among its own.
@@ -19,6 +25,103 @@ pub struct UnitNames {
     pub globals: Names,
     pub functions: Names,
     pub primitives: Names,
+}
+
+/// Gives a name its number unless it has one, and meets it where it has one: so it is set before in its space. The one error is want of
+/// memory.
+pub(crate) fn declare(
+    alloc: Global,
+    space: &mut Names,
+    name: &Name,
+    number: u32,
+    least: &mut Option<Fault>,
+) -> Result<(), AllocError>
+    ensures names { OnOk result ((q : List ℕ) → look space.new q ≡ option_or (look space.old q) (cond (bytes_eq name.now.bytes.items q) (Some number) None)) }
+    ensures met { OnOk result (met_view least.new ≡ kept_all (met_view least.old) (cond (is_some (look space.old name.now.bytes.items)) (fault NAME_TWICE name.now.span ∷ []) [])) }
+{
+    if set_name(alloc, space, name.bytes.as_slice(), number)? {
+        meet_at(least, Mistake::NameTwice, name.span);
+    }
+    Ok(())
+}
+
+// The numbers of globals by their names.
+fn number_globals(alloc: Global, globals: &[Decl]) -> Result<Names, AllocError>
+    requires { length globals.now < 2 ^ 32 }
+    ensures { IfOk result (λ n. (text : List ℕ) → look n text ≡ number_named (λ d. d.name.text) text 0 (map decl_view globals.now)) }
+{
+    let mut names = IndexMap::new(alloc);
+    let mut number = 0u32;
+    for global in globals {
+        set_name(alloc, &mut names, global.name.bytes.as_slice(), number)?;
+        number += 1;
+    }
+    Ok(names)
+}
+
+// The numbers of functions by their names.
+fn number_functions(alloc: Global, functions: &[Function]) -> Result<Names, AllocError>
+    requires { length functions.now < 2 ^ 32 }
+    ensures { IfOk result (λ n. (text : List ℕ) → look n text ≡ number_named (λ f. f.name.text) text 0 (map function_view functions.now)) }
+{
+    let mut names = IndexMap::new(alloc);
+    let mut number = 0u32;
+    for function in functions {
+        set_name(alloc, &mut names, function.name.bytes.as_slice(), number)?;
+        number += 1;
+    }
+    Ok(names)
+}
+
+// The numbers of primitives by their names.
+fn number_primitives(alloc: Global, primitives: &[Primitive]) -> Result<Names, AllocError>
+    requires { length primitives.now < 2 ^ 32 }
+    ensures { IfOk result (λ n. (text : List ℕ) → look n text ≡ number_named (λ p. p.name) text 0 (map primitive_view primitives.now)) }
+{
+    let mut names = IndexMap::new(alloc);
+    let mut number = 0u32;
+    for primitive in primitives {
+        set_name(alloc, &mut names, primitive.name.as_bytes(), number)?;
+        number += 1;
+    }
+    Ok(names)
+}
+
+// Whether a function's name comes next in source order, where these globals and functions are left.
+fn is_function_next(globals: &[Decl], functions: &[Function]) -> bool
+    ensures { result ≡ comes_next (map (λ d. d.name) (map decl_view globals.now)) (map (λ f. f.name) (map function_view functions.now)) }
+{
+    match functions.first() {
+        None => false,
+        Some(function) => match globals.first() {
+            None => true,
+            Some(global) => function.name.span.start < global.name.span.start,
+        },
+    }
+}
+
+// Meets the names of globals and functions that are set before, in source order.
+fn meet_twice(
+    alloc: Global,
+    space: &mut Names,
+    globals: &[Decl],
+    functions: &[Function],
+    least: &mut Option<Fault>,
+) -> Result<(), AllocError>
+    ensures { OnOk result (met_view least.new ≡ kept_all (met_view least.old) (twice_by (λ q. is_some (look space.old q)) (unit_names (map decl_view globals.now) (map function_view functions.now)))) }
+{
+    let mut global = 0usize;
+    let mut function = 0usize;
+    while global < globals.len() || function < functions.len() {
+        if is_function_next(&globals[global..], &functions[function..]) {
+            declare(alloc, space, &functions[function].name, 0, least)?;
+            function += 1;
+        } else {
+            declare(alloc, space, &globals[global].name, 0, least)?;
+            global += 1;
+        }
+    }
+    Ok(())
 }
 
 /// Gives the globals, functions and primitives of each name their numbers, and meets the names that are set before in the space that they
@@ -38,5 +141,15 @@ pub fn name_unit(
     ensures primitives { IfOk result (λ n. (text : List ℕ) → look n.primitives text ≡ number_named (λ p. p.name) text 0 (map primitive_view primitives.now)) }
     ensures met { OnOk result (met_view least.new ≡ kept_all (met_view least.old) (unit_name_faults (map primitive_view primitives.now) (map decl_view globals.now) (map function_view functions.now))) }
 {
-    Err(AllocError)
+    twice_by_test_is_twice();
+    let mut space = number_primitives(alloc, primitives)?;
+    meet_twice(alloc, &mut space, globals, functions, least)?;
+    let globals = number_globals(alloc, globals)?;
+    let functions = number_functions(alloc, functions)?;
+    let primitives = number_primitives(alloc, primitives)?;
+    Ok(UnitNames {
+        globals,
+        functions,
+        primitives,
+    })
 }

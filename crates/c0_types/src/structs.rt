@@ -1,21 +1,34 @@
 // The structs of a unit.
 
-ghost use Rattle.std.specs.Prelude.{◌≡◌, ◌<◌, ◌++◌, ◌^◌, IfOk, OnOk, length, map};
+ghost use Rattle.std.specs.Prelude.{◌≡◌, ◌<◌, ◌++◌, ◌^◌, ℕ, List, IfOk, OnOk, length, map};
 ghost use Rattle.std.specs.List.{All};
-ghost use Rattle.c0_body.specs.Scope.{FieldsTell};
-ghost use Rattle.c0_meaning.specs.Env.{shape_of};
+ghost use Rattle.c0_body.specs.Scope.{FieldsTell, Tells, typed_view};
+ghost use Rattle.c0_meaning.specs.DeclaredTypes as spec;
+ghost use Rattle.c0_meaning.specs.Env.{Shape, shape_of};
 ghost use Rattle.c0_meaning.specs.Fault.{kept_all};
-ghost use Rattle.c0_meaning.specs.Names.{struct_name_faults};
+ghost use Rattle.c0_meaning.specs.Names.{struct_name_faults, decl_name_faults};
 ghost use Rattle.c0_meaning.specs.Resolved.{resolved_structs};
-ghost use Rattle.c0_meaning.specs.Unit.{structs_faults};
+ghost use Rattle.c0_meaning.specs.Ty as ty;
+ghost use Rattle.c0_meaning.specs.Unit.{struct_faults, structs_faults};
+ghost use Rattle.c0_meaning.specs.Words.{holds};
 ghost use Rattle.c0_names.specs.Met.{met_view};
-ghost use Rattle.c0_names.specs.Structs.{KnowsStructs};
-ghost use Rattle.c0_tree.specs.View.{struct_view};
+ghost use Rattle.c0_names.specs.Names.{look, number_named};
+ghost use Rattle.c0_names.specs.Structs.{KnowsStructs, listed_words};
+ghost use Rattle.c0_tree.specs.View.{decl_view, struct_view};
+ghost use Rattle.c0_types.specs.NumberedStruct.{numbered_struct};
 
-use c0_names::fault::Fault;
+use crate::decls::check_decls;
+use crate::space::declare;
+use c0_names::fault::{Fault, Mistake, meet_if};
 use c0_names::names::Names;
-use c0_tree::StructDef;
+use c0_names::spaces::{declare_all, twice_by_test_is_twice};
+use c0_structs::sizes::struct_sizes;
+use c0_tree::{Decl, Kind, Name, StructDef};
+use indexmap::IndexMap;
 use std::alloc::{AllocError, Global};
+
+/// How many words a struct has at most.
+const MAX_STRUCT_WORDS: u32 = 1_048_576;
 
 /// What is known of the structs of a unit.
 #[derive(Drop)]
@@ -26,6 +39,117 @@ pub struct KnownStructs {
     pub words: Vec<u32>,
     /// For each struct the number of the field of each name.
     pub field_names: Vec<Names>,
+}
+
+// The numbers of structs by their names; the names that are set before are met.
+fn name_structs(
+    alloc: Global,
+    structs: &[StructDef],
+    least: &mut Option<Fault>,
+) -> Result<Names, AllocError>
+    requires { length structs.now < 2 ^ 32 }
+    ensures names { IfOk result (λ n. (text : List ℕ) → look n text ≡ number_named (λ s. s.text) text 0 (map shape_of (map struct_view structs.now))) }
+    ensures met { OnOk result (met_view least.new ≡ kept_all (met_view least.old) (struct_name_faults (map struct_view structs.now))) }
+{
+    twice_by_test_is_twice();
+    let mut names = IndexMap::new(alloc);
+    let mut number = 0u32;
+    for definition in structs {
+        declare(alloc, &mut names, &definition.name, number, least)?;
+        number += 1;
+    }
+    Ok(names)
+}
+
+// The numbers of fields by their names; the names that are set before are met.
+fn name_fields(
+    alloc: Global,
+    fields: &[Decl],
+    least: &mut Option<Fault>,
+) -> Result<Names, AllocError>
+    requires { length fields.now < 2 ^ 32 }
+    ensures names { IfOk result (λ n. (text : List ℕ) → look n text ≡ number_named (λ d. d.name.text) text 0 (map decl_view fields.now)) }
+    ensures met { OnOk result (met_view least.new ≡ kept_all (met_view least.old) (decl_name_faults (map decl_view fields.now))) }
+{
+    twice_by_test_is_twice();
+    let mut names = IndexMap::new(alloc);
+    declare_all(alloc, &mut names, fields, 0, least)?;
+    Ok(names)
+}
+
+// The words of the first struct of a name, up to 1,048,577.
+fn struct_words(names: &Names, words: &[u32], name: &Name) -> u32
+    ensures { result ≡ listed_words words.now (look names.now name.now.bytes.items) }
+{
+    match names.get(name.bytes.as_slice()) {
+        None => 0,
+        Some(number) => match words.get(*number as usize) {
+            None => 0,
+            Some(words) => *words,
+        },
+    }
+}
+
+// Whether the first struct of a name has too many words.
+fn is_too_large(names: &Names, words: &[u32], name: &Name) -> bool
+    ensures { (shapes : List Shape) → KnowsStructs names.now words.now shapes → result ≡ spec.is_too_large shapes (ty.named name.now.bytes.items) }
+{
+    struct_words(names, words, name) > MAX_STRUCT_WORDS
+}
+
+// Checks the struct of this number: its name and those of its fields get their numbers, and its faults are met. The answer has the numbers
+// of its fields by their names.
+fn check_struct(
+    alloc: Global,
+    names: &Names,
+    words: &[u32],
+    number: u32,
+    holds_itself: bool,
+    definition: &mut StructDef,
+    least: &mut Option<Fault>,
+) -> Result<Names, AllocError>
+    requires few { length definition.old.fields.items < 2 ^ 32 }
+    ensures fields { IfOk result (λ n. (shapes : List Shape) → KnowsStructs names.now words.now shapes → Tells (λ v. v.text) n (map typed_view definition.new.fields.items)) }
+    ensures named { OnOk result ((shapes : List Shape) → KnowsStructs names.now words.now shapes → struct_view definition.new ≡ numbered_struct shapes number (struct_view definition.old)) }
+    ensures met { OnOk result ((shapes : List Shape) → KnowsStructs names.now words.now shapes → holds_itself ≡ holds shapes definition.old.name.bytes.items definition.old.name.bytes.items → met_view least.new ≡ kept_all (met_view least.old) (struct_faults shapes (struct_view definition.old))) }
+{
+    let too_large = is_too_large(names, words, &definition.name);
+    let span = definition.name.span;
+    meet_if(least, holds_itself, Mistake::StructHoldsItself, span);
+    meet_if(least, too_large, Mistake::TypeTooLarge, span);
+    let fields = name_fields(alloc, &definition.fields, least)?;
+    check_decls(names, words, Kind::Field, 0, &mut definition.fields, least);
+    definition.name.kind = Kind::Struct;
+    definition.name.number = number;
+    Ok(fields)
+}
+
+// Checks structs, of which it is told which hold themselves. The answer has for each struct the numbers of its fields by their names.
+fn check_each(
+    alloc: Global,
+    names: &Names,
+    words: &[u32],
+    hold_themselves: &[bool],
+    structs: &mut [StructDef],
+    least: &mut Option<Fault>,
+) -> Result<Vec<Names>, AllocError>
+    requires few { length structs.old < 2 ^ 32 }
+    requires few_fields { All (λ s. length s.fields < 2 ^ 32) (map struct_view structs.old) }
+    requires known { KnowsStructs names.now words.now (map shape_of (map struct_view structs.old)) }
+    requires held { hold_themselves.now ≡ map (λ x. holds (map shape_of (map struct_view structs.old)) x.name.text x.name.text) (map struct_view structs.old) }
+    ensures fields { IfOk result (λ n. FieldsTell n.items structs.new) }
+    ensures named { OnOk result (map struct_view structs.new ≡ resolved_structs (map shape_of (map struct_view structs.old)) 0 (map struct_view structs.old)) }
+    ensures met { OnOk result (met_view least.new ≡ kept_all (met_view least.old) (structs_faults (map shape_of (map struct_view structs.old)) (map struct_view structs.old))) }
+{
+    let mut field_names = Vec::new(alloc);
+    let mut number = 0u32;
+    for definition in structs.iter_mut() {
+        let holds_itself = hold_themselves[number as usize];
+        let fields = check_struct(alloc, names, words, number, holds_itself, definition, least)?;
+        field_names.push(fields)?;
+        number += 1;
+    }
+    Ok(field_names)
 }
 
 /// Checks structs: their names and those of their fields get their numbers, and their faults are met. The one error is want of memory.
@@ -41,5 +165,19 @@ pub fn check_structs(
     ensures named { OnOk result (map struct_view structs.new ≡ resolved_structs (map shape_of (map struct_view structs.old)) 0 (map struct_view structs.old)) }
     ensures met { OnOk result (met_view least.new ≡ kept_all (met_view least.old) (struct_name_faults (map struct_view structs.old) ++ structs_faults (map shape_of (map struct_view structs.old)) (map struct_view structs.old))) }
 {
-    Err(AllocError)
+    let names = name_structs(alloc, structs, least)?;
+    let sizes = struct_sizes(alloc, &names, structs)?;
+    let field_names = check_each(
+        alloc,
+        &names,
+        &sizes.words,
+        &sizes.holds_itself,
+        structs,
+        least,
+    )?;
+    Ok(KnownStructs {
+        names,
+        words: sizes.words,
+        field_names,
+    })
 }

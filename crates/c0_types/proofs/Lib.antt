@@ -1,0 +1,12 @@
+pub mod BodiesNames
+pub mod DeclaredMeeting
+pub mod DeclaredInPlace
+pub mod DeclaredDecls
+pub mod BodiesScope
+pub mod UnitHeadings
+pub mod UnitMeeting
+pub mod UnitResolved
+pub mod UnitBodies
+pub mod UnitPlain
+pub mod DeclaredSpaces
+pub mod DeclaredStructs
