@@ -1,14 +1,14 @@
 -- A call and an expression can both begin with a name: `(` behind the name tells, since an expression ends before it there.
-use Rattle.std.proofs.Common.{◌≡◌, ℕ, List, [], ◌∷◌, ◌++◌, refl, sym, ap, ◌∙◌, subst}
-use Rattle.std.specs.Prelude.{Bool, true, false, cond, not, ◌&&◌, ◌||◌}
-use Rattle.c0_tokens.specs.Tokens.{CToken, CLexeme, name, fixed}
+use Rattle.std.proofs.Common.{◌≡◌, ℕ, List, [], ◌∷◌, ◌++◌, refl, sym, ap, subst}
+use Rattle.std.specs.Prelude.{Bool, true, false, not, ◌&&◌, ◌||◌}
+use Rattle.c0_tokens.specs.Tokens.{CToken, name, fixed}
 use Rattle.c0_tokens.specs.declared.token.Mark.TheVariants.{OpenParen}
-use Rattle.c0_parser.specs.Sorts.{Sort, mark, a_name, among}
+use Rattle.c0_parser.specs.Sorts.{mark, a_name, among}
 use Rattle.c0_parser.specs.Value.{Value}
-use Rattle.c0_parser.specs.Grammar.{disjunction, Piece, one_of, sign, ◌▸◌, ◌or◌, many, maybe, the, NAME, EXPR, Derives, taken, both}
-use Rattle.c0_parser.specs.Machine.{State, at, Task, want, picks, heads, kind, starts, Leads}
+use Rattle.c0_parser.specs.Grammar.{disjunction, Piece, one_of, sign, ◌▸◌, the, NAME, EXPR, Derives, taken, both}
+use Rattle.c0_parser.specs.Machine.{State, at, want, picks, heads, kind, starts, Leads}
 use Rattle.c0_parser.proofs.Runs.{one_end, steps}
-use Rattle.c0_parser.proofs.Tables.{call_or_expr, within, within_at, is_name, is_mark, no_yes, or_false}
+use Rattle.c0_parser.proofs.Tables.{call_or_expr, within_at, is_name, is_mark, no_yes, or_false}
 use Rattle.c0_parser.proofs.Complete.{Stops}
 
 pub call_shape : (a b : Piece) → call_or_expr a b ≡ true → (c : Piece) × (a ≡ NAME ▸ sign OpenParen ▸ c) × (b ≡ EXPR)

@@ -1,14 +1,14 @@
 -- What is derived is read: the machine follows a derivation to its end.
-use Rattle.std.proofs.Common.{◌≡◌, ℕ, zero, suc, List, [], ◌∷◌, ◌++◌, refl, sym, ap, ◌∙◌, subst, append_assoc, Option, Some, None}
+use Rattle.std.proofs.Common.{◌≡◌, ℕ, List, [], ◌∷◌, ◌++◌, refl, sym, ap, ◌∙◌, subst, append_assoc, Some}
 use Rattle.std.specs.Prelude.{Bool, true, false, cond, not, ◌&&◌, ◌||◌}
 use Rattle.c0_tokens.specs.Tokens.{CToken}
 use Rattle.c0_tokens.specs.declared.token.Mark.TheVariants.{OpenParen}
-use Rattle.c0_parser.specs.Sorts.{Sort, mark, a_name, among}
+use Rattle.c0_parser.specs.Sorts.{Sort, among}
 use Rattle.c0_parser.specs.Value.{Value, token, pair, none, snoc}
-use Rattle.c0_parser.specs.Grammar.{Rule, disjunction, Piece, one_of, sign, ◌▸◌, ◌or◌, many, maybe, the, production, meaning, EXPR, Derives, taken, both, first, second, no_more, one_more, left_out, there, made}
-use Rattle.c0_parser.specs.Machine.{State, at, Task, want, more, act, paired, listed, meant, take_one, enter, step, picks, heads, kind, nullable, starts, rule_starts, Leads, still, go}
-use Rattle.c0_parser.proofs.Runs.{then_leads, one_end, steps}
-use Rattle.c0_parser.proofs.Tables.{goes_on, rule_on, apart, within, call_or_expr, good, all_good, all_start, none_nullable, all_on, apart_at, within_at}
+use Rattle.c0_parser.specs.Grammar.{Rule, Piece, one_of, sign, ◌▸◌, ◌or◌, many, maybe, the, production, meaning, Derives, taken, both, first, second, no_more, one_more, left_out, there, made}
+use Rattle.c0_parser.specs.Machine.{at, Task, want, more, act, paired, listed, meant, picks, heads, kind, nullable, starts, rule_starts, Leads, still, go}
+use Rattle.c0_parser.proofs.Runs.{then_leads}
+use Rattle.c0_parser.proofs.Tables.{goes_on, rule_on, apart, all_start, none_nullable, all_on, apart_at, within_at}
 
 and_left : (a b : Bool) → (a && b) ≡ true → a ≡ true
 and_left true b e = refl

@@ -1,18 +1,18 @@
 -- Where the machine is stuck, the token is the first that cannot be; and what is read is the one thing that can be read.
-use Rattle.std.proofs.Common.{◌≡◌, ℕ, ◌+◌, ◌<◌, ◌≤◌, List, [], ◌∷◌, ◌++◌, length, refl, sym, ap, ◌∙◌, subst, arith, append_assoc, length-append, Option, Some, None, inl, inr}
-use Rattle.std.specs.Prelude.{Bool, true, false, cond, not, ◌&&◌, ◌||◌, ◌⊎◌, eqb}
+use Rattle.std.proofs.Common.{◌≡◌, List, [], ◌∷◌, ◌++◌, length, refl, sym, ap, ◌∙◌, subst, arith, append_assoc}
+use Rattle.std.specs.Prelude.{Bool, true, false, ◌&&◌}
 use Rattle.std.proofs.lemmas.List.{append-nil}
 use Rattle.c0_tokens.specs.Tokens.{CToken}
-use Rattle.c0_parser.specs.Sorts.{Sort, the_end, a_fault, place, among}
-use Rattle.c0_parser.specs.Value.{Value, pair}
+use Rattle.c0_parser.specs.Sorts.{the_end, a_fault, among}
+use Rattle.c0_parser.specs.Value.{Value}
 use Rattle.c0_parser.specs.Grammar.{Rule, disjunction, conjunction, equality, relation, sum, product, unary, postfix, primary, type, decl, block, statement, code, body, Piece, one_of, ◌▸◌, ◌or◌, many, maybe, the, production, Derives, taken, both, first, second, no_more, one_more, left_out, there, made}
-use Rattle.c0_parser.specs.Factored.{FACTORED, SOURCE}
-use Rattle.c0_parser.specs.Machine.{State, at, Task, want, heads, kind, step, Leads}
+use Rattle.c0_parser.specs.Factored.{SOURCE}
+use Rattle.c0_parser.specs.Machine.{State, at, want, kind, Leads}
 use Rattle.c0_parser.specs.Contract.{Goes, Refuses, Stuck}
 use Rattle.c0_parser.proofs.Runs.{one_end}
 use Rattle.c0_parser.proofs.Sound.{back, Means}
-use Rattle.c0_parser.proofs.Tables.{below, apart, apart_at, and_left, and_right, no_yes, source_good}
-use Rattle.c0_parser.proofs.Complete.{cond_false, Stops}
+use Rattle.c0_parser.proofs.Tables.{apart, apart_at, and_left, and_right, source_good}
+use Rattle.c0_parser.proofs.Complete.{cond_false}
 use Rattle.c0_parser.proofs.Follow.{reads}
 use Rattle.c0_parser.proofs.Samples.{completes_one}
 use Rattle.c0_parser.proofs.Replay.{left_of, Stop, replay}

@@ -1,27 +1,24 @@
 -- What the functions of expressions need of the grammar: its pieces by levels of operators, and the parts of an expression one after another.
-use Rattle.std.proofs.Common.{◌≡◌, ℕ, suc, ◌+◌, ◌<◌, ◌≤◌, List, [], ◌∷◌, length, map, drop, get_or, refl, sym, ap, ◌∙◌, subst, arith, Ok, Err, Result}
+use Rattle.std.proofs.Common.{◌≡◌, ◌<◌, List, [], ◌∷◌, length, map, refl, sym, ap, ◌∙◌, subst, arith, Ok, Err, Result}
 use Rattle.std.specs.Prelude.{Bool, true, false, not, ◌||◌, ◌&&◌, eqb}
 use Rattle.std.specs.Borrow.{Bor}
-use Rattle.std.proofs.lemmas.Bool.{eq-eqb}
 use Rattle.c0_tokens.specs.Tokens.{CToken, token_view, lexeme_view, fixed}
-use Rattle.c0_tokens.specs.declared.token.Mark.{Mark}
-use Rattle.c0_tokens.specs.declared.token.Mark.TheVariants.{True, False, Null, OpenParen, CloseParen, OpenBracket, CloseBracket, Dot, Arrow, Equal, NotEqual, Less, AtMost, Greater, AtLeast, Plus, Minus, Star, Slash, Percent, Not, Ampersand, And, Or}
+use Rattle.c0_tokens.specs.declared.token.Mark.TheVariants.{True, False, Null, OpenParen, CloseParen, OpenBracket, Dot, Arrow, Equal, NotEqual, Less, AtMost, Greater, AtLeast, Plus, Minus, Star, Slash, Percent, Not, Ampersand, And, Or}
 use Rattle.c0_tokens.specs.declared.token.Token.{Token}
-use Rattle.c0_parser.specs.Sorts.{Sort, place, mark, a_name, a_number, mark_place, among}
-use Rattle.c0_parser.specs.Value.{Value, token, pair, none, snoc, expr, joined, chained, chain_value, suffixed, suffixes, primary_value, unary_value}
-use Rattle.c0_parser.specs.Grammar.{Rule, disjunction, conjunction, equality, relation, sum, product, unary, postfix, primary, Piece, one_of, sign, ◌▸◌, ◌or◌, many, maybe, the, production, meaning, EXPR, NAME}
-use Rattle.c0_parser.specs.Machine.{heads, kind, starts, picks, nullable, at, want, Leads, go, still}
+use Rattle.c0_parser.specs.Sorts.{Sort, place, mark, a_name, a_number, among}
+use Rattle.c0_parser.specs.Value.{Value, token, pair, none, snoc, joined, chained, chain_value, suffixed, suffixes, primary_value, unary_value}
+use Rattle.c0_parser.specs.Grammar.{conjunction, equality, relation, sum, product, unary, postfix, primary, Piece, one_of, sign, ◌▸◌, many, maybe, the, production, meaning, EXPR, NAME}
+use Rattle.c0_parser.specs.Machine.{heads, kind, starts, picks, at, want, Leads, go, still}
 use Rattle.c0_parser.specs.Contract.{seen, Goes, GoesOn, Refuses, Fails, Gives, GivesAny}
 use Rattle.c0_parser.specs.Views.{IsPart}
 use Rattle.c0_parser.specs.Levels.{rule_of, operand_of, marks_of, operators, operation, chains, heads_any}
-use Rattle.c0_parser.specs.Tails.{part_value, LITERAL, FIELD, ELEMENT, SUFFIX, GivesLiteral, NoLiteral}
+use Rattle.c0_parser.specs.Tails.{part_value, LITERAL, FIELD, ELEMENT, SUFFIX, GivesLiteral}
 use Rattle.c0_parser.specs.declared.expressions.Level.{Level}
 use Rattle.c0_parser.specs.declared.expressions.Level.TheVariants.{Disjunction, Conjunction, Equality, Relation, Sum, Product}
 use Rattle.c0_parser.specs.declared.expressions.Part.{Part}
 use Rattle.c0_parser.specs.declared.reader.Halt.{Halt}
-use Rattle.c0_parser.proofs.Steps.{goes_sign, refuses_one, list_starts, seen_length, exits, exits_any, goes_both, goes_first, goes_second, goes_the, goes_with, goes_many, refuses_the, refuses_second, refuses_left, list_item, fails_left, fails_right, fails_first, fails_second, fails_the, fails_with, fails_many, fails_by, no_memory, shorter}
+use Rattle.c0_parser.proofs.Steps.{refuses_one, seen_length, goes_both, goes_first, goes_second, goes_the, goes_many, refuses_the, refuses_second, refuses_left, list_item, fails_left, fails_right, fails_first, fails_second, fails_the, fails_many, fails_by, no_memory, shorter}
 use Rattle.c0_parser.specs.declared.reader.Halt.TheVariants.{Memory, Left}
-use Rattle.c0_parser.proofs.Runs.{then_leads}
 use Rattle.c0_parser.proofs.Complete.{picks_first, cond_true}
 use Rattle.c0_parser.proofs.Tables.{no_yes}
 

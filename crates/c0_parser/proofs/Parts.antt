@@ -1,10 +1,10 @@
 -- What the parts of structs, globals and functions mean.
-use Rattle.std.proofs.Common.{ℕ, ◌≡◌, List, [], ◌∷◌, map, refl, sym, ap, ◌∙◌}
-use Rattle.c0_tokens.specs.Tokens.{CToken, CLexeme, asm_text, lexeme_view, token_view}
+use Rattle.std.proofs.Common.{ℕ, ◌≡◌, List, [], refl, sym, ap, ◌∙◌}
+use Rattle.c0_tokens.specs.Tokens.{CToken, asm_text, lexeme_view, token_view}
 use Rattle.c0_tokens.specs.declared.token.Token.{Token}
 use Rattle.c0_tree.specs.declared.tree.Span.{Span}
 use Rattle.c0_tree.specs.Tree.{CName, CTy, named, CDecl, CBody, asm, CFunction, CStruct}
-use Rattle.c0_parser.specs.Value.{Value, token, pair, none, snoc, expr, type, decl, stmt, block, body, a_struct, a_global, a_function, place_of, across, text_of, name_at, base_value, type_suffixes, decl_of, decls_from, params_of, body_value, defined, defined_at, struct_of}
+use Rattle.c0_parser.specs.Value.{Value, token, pair, none, snoc, type, body, a_struct, a_function, place_of, across, text_of, name_at, base_value, type_suffixes, decl_of, decls_from, params_of, body_value, defined, defined_at, struct_of}
 use Rattle.c0_parser.specs.Factored.{declared_as, told, factored_value}
 use Rattle.c0_parser.specs.Views.{typed, item_view, IsDefined}
 use Rattle.c0_parser.specs.declared.types.Typed.{Typed}

@@ -1,17 +1,17 @@
 -- Where the machine is stuck at a token, it is stuck there whatever follows.
-use Rattle.std.proofs.Common.{◌≡◌, ℕ, ◌+◌, ◌<◌, ◌≤◌, List, [], ◌∷◌, ◌++◌, length, refl, sym, ap, ◌∙◌, subst, arith, length-append, Option, Some, None, inl, inr}
+use Rattle.std.proofs.Common.{◌≡◌, ℕ, ◌≤◌, List, [], ◌∷◌, ◌++◌, length, refl, sym, ap, ◌∙◌, subst, arith, length-append, Option, Some, None, inl, inr}
 use Rattle.std.specs.Prelude.{Bool, true, false, cond, not, ◌&&◌, ◌||◌, ◌⊎◌}
-use Rattle.c0_tokens.specs.Tokens.{CToken, CLexeme, name}
+use Rattle.c0_tokens.specs.Tokens.{CToken, name}
 use Rattle.c0_tokens.specs.declared.token.Mark.TheVariants.{OpenParen}
-use Rattle.c0_parser.specs.Sorts.{Sort, mark, a_name, among}
+use Rattle.c0_parser.specs.Sorts.{Sort, a_name, among}
 use Rattle.c0_parser.specs.Value.{Value, token, none}
-use Rattle.c0_parser.specs.Grammar.{Rule, Piece, one_of, sign, ◌▸◌, ◌or◌, many, maybe, the, production, NAME, EXPR}
+use Rattle.c0_parser.specs.Grammar.{Piece, one_of, sign, ◌▸◌, ◌or◌, many, maybe, the, production, NAME, EXPR}
 use Rattle.c0_parser.specs.Machine.{State, at, Task, want, more, act, paired, listed, meant, step, picks, heads, kind, nullable, starts, Leads, still, go}
 use Rattle.c0_parser.specs.Contract.{Stuck}
-use Rattle.c0_parser.proofs.Runs.{then_leads, onward, steps}
+use Rattle.c0_parser.proofs.Runs.{onward, steps}
 use Rattle.c0_parser.proofs.Sound.{back}
-use Rattle.c0_parser.proofs.Tables.{apart, apart_at, call_or_expr, good, all_good, and_left, and_right, is_name, no_yes, or_false}
-use Rattle.c0_parser.proofs.Complete.{cond_true, cond_false, not_of}
+use Rattle.c0_parser.proofs.Tables.{apart, apart_at, call_or_expr, good, all_good, and_left, and_right, is_name, or_false}
+use Rattle.c0_parser.proofs.Complete.{cond_true, cond_false}
 use Rattle.c0_parser.proofs.Calls.{call_shape}
 use Rattle.c0_parser.proofs.Steps.{then_stuck}
 

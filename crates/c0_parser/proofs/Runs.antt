@@ -1,9 +1,6 @@
 -- Runs of the machine, one after another; and where a run ends, it ends in one state.
-use Rattle.std.proofs.Common.{◌≡◌, ℕ, zero, suc, List, [], ◌∷◌, refl, sym, ap, ◌∙◌, subst, Option, Some, None}
-use Rattle.std.specs.Prelude.{Bool, true, false, cond}
-use Rattle.c0_tokens.specs.Tokens.{CToken}
-use Rattle.c0_parser.specs.Value.{Value}
-use Rattle.c0_parser.specs.Machine.{State, at, step, Leads, still, go}
+use Rattle.std.proofs.Common.{◌≡◌, ℕ, zero, suc, refl, sym, ◌∙◌, subst, Option, Some, None}
+use Rattle.c0_parser.specs.Machine.{State, step, Leads, still, go}
 
 pub then_leads : (a b c : State) → Leads a b → Leads b c → Leads a c
 then_leads _ _ c (still s) g = g

@@ -2,9 +2,9 @@
 use Rattle.std.proofs.Common.{◌≡◌, List, [], ◌∷◌, ◌++◌, refl, sym, ap, ◌∙◌, subst, append_assoc}
 use Rattle.c0_tokens.specs.Tokens.{CToken}
 use Rattle.c0_tokens.specs.declared.token.Mark.TheVariants.{Struct}
-use Rattle.c0_parser.specs.Value.{Value, token, pair, none, snoc, expr, type, decl, stmt, block, body, a_struct, a_global, a_function, decl_of, defined, defined_at, item_value, base_value, type_suffixes, struct_in, global_in, function_in, structs, globals, functions}
-use Rattle.c0_parser.specs.Grammar.{Rule, type as type_rule, decl as decl_rule, Piece, one_of, sign, ◌▸◌, ◌or◌, many, maybe, the, NAME, BASIC, SUFFIX, SUFFIXES, FIELDS, FUNCTION, ITEM, UNIT, Derives, taken, both, first, second, no_more, one_more, left_out, there, made}
-use Rattle.c0_parser.specs.Factored.{BEHIND, DEFINED, FACTORED, SOURCE, declared_as, told, factored_value, factored_structs, factored_globals, factored_functions}
+use Rattle.c0_parser.specs.Value.{Value, token, pair, none, snoc, type, decl_of, defined_at, item_value, base_value, type_suffixes, struct_in, global_in, function_in, structs, globals, functions}
+use Rattle.c0_parser.specs.Grammar.{type as type_rule, decl as decl_rule, Piece, sign, many, NAME, BASIC, SUFFIXES, ITEM, UNIT, Derives, taken, both, first, second, no_more, one_more, made}
+use Rattle.c0_parser.specs.Factored.{BEHIND, FACTORED, SOURCE, declared_as, told, factored_value, factored_structs, factored_globals, factored_functions}
 
 -- a declaration and what stands behind it
 declared : (t : Value) (x : CToken) (v : Value) → item_value (pair (decl_of t x) v) ≡ defined_at (decl_of t x) v

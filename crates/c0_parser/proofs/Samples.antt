@@ -1,15 +1,14 @@
 -- Each piece derives something, so whatever is still wanted can be completed.
-use Rattle.std.proofs.Common.{◌≡◌, ℕ, List, [], ◌∷◌, ◌++◌, refl, sym, ap, ◌∙◌}
-use Rattle.std.specs.Prelude.{Bool, true, false, eqb, ◌||◌}
+use Rattle.std.proofs.Common.{◌≡◌, List, [], ◌∷◌, ◌++◌, refl, ap, ◌∙◌}
+use Rattle.std.specs.Prelude.{◌||◌}
 use Rattle.std.proofs.lemmas.Bool.{eq-eqb}
 use Rattle.c0_tokens.specs.declared.token.TokenFault.TheVariants.{BadByte}
-use Rattle.c0_tokens.specs.declared.token.Mark.TheVariants.{Int, OpenBrace, CloseBrace, OpenParen, CloseParen, While, Return, Semicolon}
 use Rattle.c0_tokens.specs.Tokens.{CToken, CLexeme, name, number, asm_text, fixed, faulty, end}
 use Rattle.c0_parser.specs.Sorts.{Sort, mark, a_name, a_number, an_asm_text, the_end, a_fault, sort, place, among}
-use Rattle.c0_parser.specs.Value.{Value, token, none}
-use Rattle.c0_parser.specs.Grammar.{Rule, disjunction, conjunction, equality, relation, sum, product, unary, postfix, primary, type, decl, block, statement, code, body, Piece, one_of, sign, ◌▸◌, ◌or◌, many, maybe, the, production, Derives, taken, both, first, second, no_more, one_more, left_out, there, made}
+use Rattle.c0_parser.specs.Value.{Value, token}
+use Rattle.c0_parser.specs.Grammar.{Rule, disjunction, conjunction, equality, relation, sum, product, unary, postfix, primary, type, decl, block, statement, code, body, Piece, one_of, ◌▸◌, ◌or◌, many, maybe, the, production, Derives, taken, both, first, second, no_more, left_out, made}
 use Rattle.c0_parser.specs.Machine.{Task, want, more, act}
-use Rattle.c0_parser.proofs.Sound.{Means, MoreOf, top, no_more_of}
+use Rattle.c0_parser.proofs.Sound.{Means, top, no_more_of}
 
 lexeme_of : Sort → CLexeme
 lexeme_of (mark m) = fixed m

@@ -1,11 +1,11 @@
 -- What the machine does is derived: what completes a later state completes an earlier one, with the tokens in between.
-use Rattle.std.proofs.Common.{◌≡◌, ℕ, zero, suc, List, [], ◌∷◌, ◌++◌, refl, sym, ap, ◌∙◌, subst, append_assoc}
-use Rattle.std.specs.Prelude.{Bool, true, false, cond, IsTrue, Option, Some, None}
+use Rattle.std.proofs.Common.{◌≡◌, List, [], ◌∷◌, ◌++◌, refl, sym, ap, ◌∙◌, subst, append_assoc}
+use Rattle.std.specs.Prelude.{Bool, true, false, cond, Option, Some, None}
 use Rattle.c0_tokens.specs.Tokens.{CToken}
 use Rattle.c0_parser.specs.Sorts.{Sort, among}
 use Rattle.c0_parser.specs.Value.{Value, token, pair, none, snoc}
-use Rattle.c0_parser.specs.Grammar.{Piece, one_of, ◌▸◌, ◌or◌, many, maybe, the, production, meaning, Derives, taken, both, first, second, no_more, one_more, left_out, there, made}
-use Rattle.c0_parser.specs.Machine.{State, at, Task, want, more, act, paired, listed, meant, take_one, enter, step, picks, heads, kind, Leads, still, go}
+use Rattle.c0_parser.specs.Grammar.{Piece, one_of, ◌▸◌, ◌or◌, many, maybe, the, meaning, Derives, taken, both, first, second, no_more, one_more, left_out, there, made}
+use Rattle.c0_parser.specs.Machine.{State, at, Task, want, more, act, listed, step, picks, heads, kind, Leads, still, go}
 
 -- more of a list whose first parts were read
 pub data More : Piece → Value → List CToken → Value → Type 0 where

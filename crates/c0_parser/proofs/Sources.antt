@@ -1,22 +1,22 @@
 -- What a whole source reads as, from what the machine does with its tokens.
-use Rattle.std.proofs.Common.{◌≡◌, ℕ, ◌+◌, ◌<◌, ◌≤◌, List, [], ◌∷◌, ◌++◌, map, length, refl, sym, ap, ◌∙◌, subst, arith, append_assoc, length-append}
-use Rattle.std.specs.Prelude.{Bool, true, false, eqb, ◌||◌}
+use Rattle.std.proofs.Common.{◌≡◌, ℕ, ◌≤◌, List, [], ◌∷◌, ◌++◌, map, length, refl, sym, ap, ◌∙◌, subst, arith, append_assoc, length-append}
+use Rattle.std.specs.Prelude.{Bool, true, false, eqb}
 use Rattle.std.proofs.lemmas.Bool.{eqb-true}
 use Rattle.c0_tokens.specs.declared.token.TokenFault.TheVariants as token_fault
 use Rattle.c0_tokens.specs.declared.token.Token.{Token}
-use Rattle.c0_tokens.specs.Tokens.{CToken, CLexeme, name, number, asm_text, fixed, faulty, end, token_view}
+use Rattle.c0_tokens.specs.Tokens.{CToken, CLexeme, fixed, faulty, end, token_view}
 use Rattle.c0_tokens.specs.Lexis.{is_last}
 use Rattle.c0_tokens.specs.Nesting.{tokens_of}
 use Rattle.c0_tokens.specs.Order.{EndsOnce}
 use Rattle.c0_tree.specs.Tree.{CUnit, CStruct, CDecl, CFunction}
 use Rattle.c0_tree.specs.View.{struct_view, decl_view, function_view}
 use Rattle.c0_parser.specs.Sorts.{Sort, sort, place, mark_place, the_end, a_fault, among}
-use Rattle.c0_parser.specs.Value.{Value, token, pair, snoc, struct_in, global_in, function_in, structs, globals, functions, unit_of}
-use Rattle.c0_parser.specs.Grammar.{one_of, the, decl, UNIT, Derives, taken, both}
+use Rattle.c0_parser.specs.Value.{Value, token, pair, snoc, struct_in, global_in, function_in, globals, functions, unit_of}
+use Rattle.c0_parser.specs.Grammar.{one_of, the, decl, Derives, taken, both}
 use Rattle.c0_parser.specs.Factored.{FACTORED, SOURCE, factored_value, factored_structs, factored_globals, factored_functions}
-use Rattle.c0_parser.specs.Machine.{kind, heads, starts, want}
+use Rattle.c0_parser.specs.Machine.{kind, heads, starts}
 use Rattle.c0_parser.specs.Contract.{seen, Goes, Refuses, Fails}
-use Rattle.c0_parser.specs.Faults.{Reads, IsPrefix, IsFirstBad, fault_by, fault_at, FaultIs}
+use Rattle.c0_parser.specs.Faults.{Reads, IsFirstBad, fault_by, fault_at, FaultIs}
 use Rattle.c0_parser.specs.Whole.{AreItems, IsAdded, ReadsWhole, Whole}
 use Rattle.c0_parser.specs.Views.{item_view}
 use Rattle.c0_parser.specs.declared.items.Item.{Item}
@@ -28,7 +28,7 @@ use Rattle.c0_parser.specs.declared.fault.ReadFault.{ReadFault}
 use Rattle.c0_parser.specs.declared.source.Items.{Items}
 use Rattle.c0_parser.proofs.Tables.{within_at, mark_late, no_yes, or_false}
 use Rattle.c0_parser.proofs.Sound.{back}
-use Rattle.c0_parser.proofs.Exact.{ends_source, EndsSource, FirstBad, first_bad, derived, one_meaning, whole_means}
+use Rattle.c0_parser.proofs.Exact.{ends_source, EndsSource, first_bad, derived, one_meaning, whole_means}
 use Rattle.c0_parser.proofs.Steps.{seen_length, goes_one}
 use Rattle.c0_parser.proofs.Same.{SameItems, unit_to, unit_from}
 

@@ -40,9 +40,9 @@ exits_test m ts (Ok x) e h f = absurd h
 exits_test m ts (Err y) e h f = λ p. subst (Fails (TESTED m p) (seen ts)) (sym h) (f p)
 
 -- a call
-pub called : (x : Name) (t o : CToken) (close : Token) (fv ov av kv : Value) (args : List CExpr) → fv ≡ token t → name_at t ≡ name_view x → ov ≡ token o → args_of av ≡ args → kv ≡ token (token_view close) → (s : Span) (p : CExpr) → stored s p (pair fv (pair ov (pair av kv))) ≡ stmt (call s p (record { start = x.span.start; end = close.end }) (name_view x) args)
-called x t o close fv ov av kv args e1 e2 e3 e4 e5 s p =
-    rw (e1, e3, e5) (ap (λ n. stmt (call s p (record { start = n.span.start; end = close.end }) n (args_of av))) e2 ∙ ap (λ l. stmt (call s p (record { start = x.span.start; end = close.end }) (name_view x) l)) e4)
+pub called : (x : Name) (t o : CToken) (closing : Token) (fv ov av kv : Value) (args : List CExpr) → fv ≡ token t → name_at t ≡ name_view x → ov ≡ token o → args_of av ≡ args → kv ≡ token (token_view closing) → (s : Span) (p : CExpr) → stored s p (pair fv (pair ov (pair av kv))) ≡ stmt (call s p (record { start = x.span.start; end = closing.end }) (name_view x) args)
+called x t o closing fv ov av kv args e1 e2 e3 e4 e5 s p =
+    rw (e1, e3, e5) (ap (λ n. stmt (call s p (record { start = n.span.start; end = closing.end }) n (args_of av))) e2 ∙ ap (λ l. stmt (call s p (record { start = x.span.start; end = closing.end }) (name_view x) l)) e4)
 
 -- an assignment
 pub assigned : (a : Part) (e : CToken) (last : Token) (right : Right) (s : Stmt) (pv ev rv lv : Value) → IsPart a pv → ev ≡ token e → IsRight right rv → lv ≡ token (token_view last) → stmt_view s ≡ right_stmt (record { start = a.span.start; end = last.end }) (expr_view a.expr) right → statement_value (pair pv (pair ev (pair rv lv))) ≡ stmt (stmt_view s)

@@ -1,5 +1,5 @@
 -- What the functions of the reader give, by the machine: for proofs.
-use Rattle.std.specs.Prelude.{ℕ, ◌≡◌, ◌<◌, ◌≤◌, true, false, List, [], ◌∷◌, map, length, Result, Ok, Err, Option, Some, None}
+use Rattle.std.specs.Prelude.{ℕ, ◌≡◌, ◌<◌, ◌≤◌, false, List, ◌∷◌, map, length, Result, Ok, Err}
 use Rattle.std.specs.Borrow.{Bor}
 use Rattle.c0_tokens.specs.Tokens.{CToken, token_view}
 use Rattle.c0_tokens.specs.declared.token.Token.{Token}
@@ -8,7 +8,7 @@ use Rattle.c0_parser.specs.Value.{Value}
 use Rattle.c0_parser.specs.Grammar.{Piece, one_of}
 use Rattle.c0_parser.specs.Machine.{State, at, Task, want, more, heads, Leads}
 use Rattle.c0_parser.specs.declared.reader.Halt.{Halt}
-use Rattle.c0_parser.specs.declared.reader.Halt.TheVariants.{Memory, Left}
+use Rattle.c0_parser.specs.declared.reader.Halt.TheVariants.{Left}
 
 -- tokens as contracts see them
 abbrev pub seen : List Token → List CToken

@@ -1,9 +1,9 @@
 -- A unit once more, so that one token at a time tells a struct, a global and a function apart: for proofs.
-use Rattle.std.specs.Prelude.{List, [], ◌∷◌, ◌++◌}
+use Rattle.std.specs.Prelude.{List, [], ◌++◌}
 use Rattle.c0_tokens.specs.Tokens.{CToken}
-use Rattle.c0_tokens.specs.declared.token.Mark.TheVariants.{Int, Bool as Boolean, Struct, Semicolon}
+use Rattle.c0_tokens.specs.declared.token.Mark.TheVariants.{Struct, Semicolon}
 use Rattle.c0_tree.specs.Tree.{CDecl, CStruct, CFunction}
-use Rattle.c0_parser.specs.Sorts.{mark, the_end}
+use Rattle.c0_parser.specs.Sorts.{the_end}
 use Rattle.c0_parser.specs.Value.{Value, token, pair, none, snoc, base_value, type_suffixes, decl_of, defined_at, struct_of, struct_in, global_in, function_in}
 use Rattle.c0_parser.specs.Grammar.{Piece, one_of, sign, ◌▸◌, ◌or◌, many, NAME, BASIC, SUFFIXES, FIELDS, FUNCTION}
 
@@ -30,7 +30,7 @@ declared_as base _ = none
 
 -- behind `struct` and a name
 abbrev pub told : CToken → CToken → Value → Value
-told t x (pair (token open_) v) = struct_of x (pair (token open_) v)
+told t x (pair (token opening) v) = struct_of x (pair (token opening) v)
 told t x v = declared_as (base_value (pair (token t) (token x))) v
 
 abbrev pub factored_value : Value → Value

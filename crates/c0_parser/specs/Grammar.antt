@@ -1,6 +1,6 @@
 -- The grammar of C0. A piece of it is a token, or is made of pieces: one after the other (`▸`), one of two (`or`), any number of times
 -- (`many`), once or not at all (`maybe`), or a production by its name (`the`).
-use Rattle.std.specs.Prelude.{ℕ, ◌≡◌, Bool, IsTrue, List, [], ◌∷◌, ◌++◌}
+use Rattle.std.specs.Prelude.{IsTrue, List, [], ◌∷◌, ◌++◌}
 use Rattle.c0_tokens.specs.Tokens.{CToken}
 use Rattle.c0_tokens.specs.declared.token.Mark.{Mark}
 use Rattle.c0_tokens.specs.declared.token.Mark.TheVariants.{Int, Bool as Boolean, Struct, If, Else, While, Return, New, True, False, Null, Asm, OpenBrace, CloseBrace, OpenParen, CloseParen, OpenBracket, CloseBracket, Semicolon, Comma, Dot, Arrow, Assign, Equal, NotEqual, Less, AtMost, Greater, AtLeast, Plus, Minus, Star, Slash, Percent, Not, Ampersand, And, Or}

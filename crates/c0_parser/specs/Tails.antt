@@ -1,12 +1,12 @@
 -- What the functions give that read the parts of expressions: for proofs.
-use Rattle.std.specs.Prelude.{ℕ, ◌≡◌, ◌≤◌, true, false, List, [], ◌∷◌, map, length, Result, Ok, Err, Option, Some, None}
+use Rattle.std.specs.Prelude.{◌≡◌, true, false, List, [], ◌∷◌, map, length, Result, Ok, Err, Option, Some, None}
 use Rattle.std.specs.Borrow.{Bor}
 use Rattle.c0_tokens.specs.Tokens.{CToken, token_view}
 use Rattle.c0_tokens.specs.declared.token.Token.{Token}
 use Rattle.c0_tokens.specs.declared.token.Mark.{Mark}
 use Rattle.c0_tokens.specs.declared.token.Mark.TheVariants.{True, False, Null, Dot, Arrow, OpenBracket, CloseBracket}
 use Rattle.c0_tree.specs.View.{expr_view}
-use Rattle.c0_parser.specs.Sorts.{Sort, mark, a_name, a_number, among}
+use Rattle.c0_parser.specs.Sorts.{mark, a_name, a_number, among}
 use Rattle.c0_parser.specs.Value.{Value, expr}
 use Rattle.c0_parser.specs.Grammar.{Piece, one_of, sign, ◌▸◌, ◌or◌, EXPR, NAME}
 use Rattle.c0_parser.specs.Machine.{heads, kind}

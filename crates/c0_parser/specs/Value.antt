@@ -1,13 +1,13 @@
 -- What the parts of a source mean: the value of each production, from the values of its parts.
 use Rattle.std.specs.Prelude.{ℕ, List, [], ◌∷◌, ◌++◌}
-use Rattle.c0_tokens.specs.declared.token.Mark.TheVariants.{Bool as Boolean, True, False, Dot, Arrow, Equal, NotEqual, Less, AtMost, Greater, AtLeast, Plus, Minus, Star, Slash, Percent, Not, Ampersand, And, Or}
-use Rattle.c0_tokens.specs.Tokens.{CLexeme, CToken, name, number, asm_text, fixed, faulty, end}
+use Rattle.c0_tokens.specs.declared.token.Mark.TheVariants.{Bool as Boolean, True, False, Dot, Equal, NotEqual, Less, AtMost, Greater, AtLeast, Plus, Minus, Star, Slash, Percent, Not, And}
+use Rattle.c0_tokens.specs.Tokens.{CLexeme, CToken, name, number, asm_text, fixed}
 use Rattle.c0_tree.specs.declared.tree.Span.{Span}
 use Rattle.c0_tree.specs.declared.tree.Kind.TheVariants.{Unresolved}
 use Rattle.c0_tree.specs.declared.tree.UnaryOp.TheVariants.{Negate, Not as Complement}
 use Rattle.c0_tree.specs.declared.tree.BinaryOp.{BinaryOp}
 use Rattle.c0_tree.specs.declared.tree.BinaryOp.TheVariants as op
-use Rattle.c0_tree.specs.Tree.{CName, CTy, int, bool, pointer, named, array, CExpr, num, true_, false_, null, var, field, arrow, index, deref, address, unary, binary, CStmt, assign, call, new, choice, loop, CStmts, done, next, CDecl, CStruct, CBody, code, asm, CFunction, CUnit}
+use Rattle.c0_tree.specs.Tree.{CName, CTy, int, bool, pointer, named, array, CExpr, num, true_, false_, null, var, field, arrow, index, deref, address, unary, binary, CStmt, assign, call, new, choice, loop, CStmts, done, CDecl, CStruct, CBody, code, asm, CFunction, CUnit}
 use Rattle.c0_tree.specs.View.{stmts_of}
 
 -- What a part of a source means. An expression and a type have the part of the source that they take, outer parentheses taken in.
@@ -62,7 +62,7 @@ literal t _ = null (place_of t)
 -- primary = NAME | NUMBER | "true" | "false" | "null" | "(" expr ")"
 abbrev pub primary_value : Value → Value
 primary_value (token t) = expr (place_of t) (literal t t.lexeme)
-primary_value (pair (token open_) (pair (expr s e) (token close))) = expr (across (place_of open_) (place_of close)) e
+primary_value (pair (token opening) (pair (expr s e) (token closing))) = expr (across (place_of opening) (place_of closing)) e
 primary_value _ = none
 
 -- a field's name behind `.` or `->`
@@ -73,7 +73,7 @@ part_of _ s e x = arrow s e x
 -- "." NAME | "->" NAME | "[" expr "]"
 abbrev pub suffixed : Value → Value → Value
 suffixed (expr s e) (pair (token t) (token x)) = let all = across s (place_of x) in expr all (part_of t.lexeme all e (name_at x))
-suffixed (expr s e) (pair (token open_) (pair (expr inner i) (token close))) = let all = across s (place_of close) in expr all (index all e i)
+suffixed (expr s e) (pair (token opening) (pair (expr inner i) (token closing))) = let all = across s (place_of closing) in expr all (index all e i)
 suffixed _ _ = none
 
 -- each suffix takes what stands before it
@@ -144,7 +144,7 @@ base_value _ = none
 -- "*" | "[" NUMBER "]"
 abbrev pub type_suffixed : Value → Value → Value
 type_suffixed (type s t) (token star) = type (across s (place_of star)) (pointer t)
-type_suffixed (type s t) (pair (token open_) (pair (token n) (token close))) = type (across s (place_of close)) (array t (number_of n.lexeme))
+type_suffixed (type s t) (pair (token opening) (pair (token n) (token closing))) = type (across s (place_of closing)) (array t (number_of n.lexeme))
 type_suffixed _ _ = none
 
 -- suffixes are read from left to right
@@ -209,14 +209,14 @@ stmts _ = []
 
 -- "{" { statement } "}"
 abbrev pub block_value : Value → Value
-block_value (pair (token open_) (pair l (token close))) = block (across (place_of open_) (place_of close)) (stmts_of (stmts l))
+block_value (pair (token opening) (pair l (token closing))) = block (across (place_of opening) (place_of closing)) (stmts_of (stmts l))
 block_value _ = none
 
 -- a place and what is stored there: an expression, a call or `new`
 abbrev pub stored : Span → CExpr → Value → Value
 stored s p (expr r e) = stmt (assign s p e)
 stored s p (pair (token t) (type r ty)) = stmt (new s p ty r)
-stored s p (pair (token x) (pair (token open_) (pair l (token close)))) = stmt (call s p (across (place_of x) (place_of close)) (name_at x) (args_of l))
+stored s p (pair (token x) (pair (token opening) (pair l (token closing)))) = stmt (call s p (across (place_of x) (place_of closing)) (name_at x) (args_of l))
 stored s p _ = none
 
 -- what stands behind `if ( test )`: a block, and perhaps `else` and a block
@@ -229,12 +229,12 @@ chosen t e _ = none
 -- unary "=" right ";" | "if" "(" expr ")" block [ "else" block ] | "while" "(" expr ")" block
 abbrev pub statement_value : Value → Value
 statement_value (pair (expr s p) (pair (token equals) (pair r (token semicolon)))) = stored (across s (place_of semicolon)) p r
-statement_value (pair (token t) (pair (token open_) (pair (expr s e) (pair (token close) rest)))) = chosen t e rest
+statement_value (pair (token t) (pair (token opening) (pair (expr s e) (pair (token closing) rest)))) = chosen t e rest
 statement_value _ = none
 
 -- "{" { type NAME ";" } { statement } "return" expr ";" "}"
 abbrev pub code_value : Value → Value
-code_value (pair (token open_) (pair locals (pair l (pair (token t) (pair (expr s e) (pair (token semicolon) (token close))))))) = body (code (decls locals) (stmts_of (stmts l)) e)
+code_value (pair (token opening) (pair locals (pair l (pair (token t) (pair (expr s e) (pair (token semicolon) (token closing))))))) = body (code (decls locals) (stmts_of (stmts l)) e)
 code_value _ = none
 
 -- code | "asm" asmtext
@@ -251,7 +251,7 @@ params_of _ = []
 -- what stands behind the type and the name of a global or a function
 abbrev pub defined : CDecl → Value → Value
 defined d (token semicolon) = a_global d
-defined d (pair (token open_) (pair ps (pair (token close) (body b)))) = a_function (record { answer = d.ty; answer_span = d.ty_span; name = d.name; params = params_of ps; body = b })
+defined d (pair (token opening) (pair ps (pair (token closing) (body b)))) = a_function (record { answer = d.ty; answer_span = d.ty_span; name = d.name; params = params_of ps; body = b })
 defined d _ = none
 
 abbrev pub defined_at : Value → Value → Value
@@ -260,7 +260,7 @@ defined_at _ v = none
 
 -- the fields of a struct, behind its name
 abbrev pub struct_of : CToken → Value → Value
-struct_of x (pair (token open_) (pair ds (pair (token close) (token semicolon)))) = a_struct (record { name = name_at x; fields = decls_from ds })
+struct_of x (pair (token opening) (pair ds (pair (token closing) (token semicolon)))) = a_struct (record { name = name_at x; fields = decls_from ds })
 struct_of x _ = none
 
 -- a struct, or a declaration and what stands behind it

@@ -1,13 +1,11 @@
 -- How what the functions of the reader answer stands for the meaning of a piece.
-use Rattle.std.specs.Prelude.{ℕ, ◌≡◌, List, [], ◌∷◌, ◌++◌, map, Vec, Option, Some, None}
+use Rattle.std.specs.Prelude.{ℕ, ◌≡◌, [], ◌∷◌, ◌++◌, map, Vec, Option, Some, None}
 use Rattle.c0_tokens.specs.Tokens.{CToken, token_view}
 use Rattle.c0_tokens.specs.declared.token.Token.{Token}
 use Rattle.c0_tree.specs.declared.tree.Span.{Span}
 use Rattle.c0_tree.specs.declared.tree.Name.{Name}
 use Rattle.c0_tree.specs.declared.tree.Expr.{Expr}
 use Rattle.c0_tree.specs.declared.tree.Decl.{Decl}
-use Rattle.c0_tree.specs.declared.tree.StructDef.{StructDef}
-use Rattle.c0_tree.specs.declared.tree.Function.{Function}
 use Rattle.c0_tree.specs.declared.tree.Stmt.{Stmt}
 use Rattle.c0_tree.specs.declared.tree.Body.{Body}
 use Rattle.c0_tree.specs.Tree.{CTy, pointer, array, CExpr, CStmt, assign, call, new, CName, asm}

@@ -167,13 +167,13 @@ fn prefixed(alloc: Global, sign: &Token<'_>, part: Part) -> Result<Part, Halt>
 fn element(
     alloc: Global,
     left: Part,
-    open: &Token<'_>,
+    opening: &Token<'_>,
     inner: Part,
-    close: &Token<'_>,
+    closing: &Token<'_>,
 ) -> Result<Part, Halt>
-    ensures { MatchResult result (λ p. IsPart p (suffixed (part_value left) (pair (token (token_view open.now)) (pair (part_value inner) (token (token_view close.now)))))) (λ h. h ≡ Memory) }
+    ensures { MatchResult result (λ p. IsPart p (suffixed (part_value left) (pair (token (token_view opening.now)) (pair (part_value inner) (token (token_view closing.now)))))) (λ h. h ≡ Memory) }
 {
-    let span = across(left.span, place(close));
+    let span = across(left.span, place(closing));
     let array = Box::new(alloc, left.expr)?;
     let index = Box::new(alloc, inner.expr)?;
     Ok(Part {
@@ -196,12 +196,12 @@ fn field(alloc: Global, left: Part, sign: &Token<'_>, name: Name) -> Result<Part
 }
 
 // An expression in parentheses.
-fn in_parens(inner: Part, open: &Token<'_>, close: &Token<'_>) -> Part
-    ensures { IsPart result (primary_value (pair (token (token_view open.now)) (pair (part_value inner) (token (token_view close.now))))) }
+fn in_parens(inner: Part, opening: &Token<'_>, closing: &Token<'_>) -> Part
+    ensures { IsPart result (primary_value (pair (token (token_view opening.now)) (pair (part_value inner) (token (token_view closing.now))))) }
 {
     Part {
         expr: inner.expr,
-        span: across(place(open), place(close)),
+        span: across(place(opening), place(closing)),
     }
 }
 
@@ -271,10 +271,10 @@ fn primary<'a>(alloc: Global, ts: &'a [Token<'a>]) -> Result<(Part, &'a [Token<'
     ensures { Gives (the primary) IsPart ts.now result }
 {
     match take(ts, Mark::OpenParen) {
-        Some((open, rest)) => {
+        Some((opening, rest)) => {
             let (inner, rest) = binary(alloc, Level::Disjunction, rest)?;
-            let (close, rest) = expect(rest, Mark::CloseParen)?;
-            Ok((in_parens(inner, &open, &close), rest))
+            let (closing, rest) = expect(rest, Mark::CloseParen)?;
+            Ok((in_parens(inner, &opening, &closing), rest))
         }
         None => literal(alloc, ts),
     }
@@ -308,10 +308,10 @@ fn suffix<'a>(
     ensures { Gives SUFFIX (λ p x. IsPart p (suffixed (part_value left) x)) ts.now result }
 {
     match take(ts, Mark::OpenBracket) {
-        Some((open, rest)) => {
+        Some((opening, rest)) => {
             let (inner, rest) = binary(alloc, Level::Disjunction, rest)?;
-            let (close, rest) = expect(rest, Mark::CloseBracket)?;
-            Ok((element(alloc, left, &open, inner, &close)?, rest))
+            let (closing, rest) = expect(rest, Mark::CloseBracket)?;
+            Ok((element(alloc, left, &opening, inner, &closing)?, rest))
         }
         None => field_of(alloc, left, ts),
     }

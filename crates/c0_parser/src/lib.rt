@@ -14,4 +14,10 @@ pub use fault::ReadFault;
 pub use source::parse;
 
 #[cfg(test)]
+mod source_tests;
+#[cfg(test)]
 mod tests;
+#[cfg(test)]
+mod tree_spans;
+#[cfg(test)]
+mod tree_text;

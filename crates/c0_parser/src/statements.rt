@@ -73,10 +73,10 @@ fn call<'a>(alloc: Global, ts: &'a [Token<'a>]) -> Result<(Right, &'a [Token<'a>
     let (function, rest) = name(alloc, ts)?;
     let (_, rest) = expect(rest, Mark::OpenParen)?;
     let (args, rest) = arguments(alloc, rest)?;
-    let (close, rest) = expect(rest, Mark::CloseParen)?;
+    let (closing, rest) = expect(rest, Mark::CloseParen)?;
     let span = Span {
         start: function.span.start,
-        end: close.end,
+        end: closing.end,
     };
     Ok((Right::Called(span, function, args), rest))
 }
@@ -296,12 +296,12 @@ pub fn statements<'a>(
 pub fn braces<'a>(alloc: Global, ts: &'a [Token<'a>]) -> Result<(Block, &'a [Token<'a>]), Halt>
     ensures { Gives (the block) IsBlock ts.now result }
 {
-    let (open, rest) = expect(ts, Mark::OpenBrace)?;
+    let (opening, rest) = expect(ts, Mark::OpenBrace)?;
     let (stmts, rest) = statements(alloc, rest)?;
-    let (close, rest) = expect(rest, Mark::CloseBrace)?;
+    let (closing, rest) = expect(rest, Mark::CloseBrace)?;
     let span = Span {
-        start: open.start,
-        end: close.end,
+        start: opening.start,
+        end: closing.end,
     };
     Ok((Block { stmts, span }, rest))
 }

@@ -57,10 +57,10 @@ fn one_suffix<'a>(ts: &'a [Token<'a>]) -> Result<(Suffix, &'a [Token<'a>]), Halt
     }
     let (_, rest) = expect(ts, Mark::OpenBracket)?;
     let (length, rest) = number_here(rest)?;
-    let (close, rest) = expect(rest, Mark::CloseBracket)?;
+    let (closing, rest) = expect(rest, Mark::CloseBracket)?;
     let suffix = Suffix {
         length: Some(length),
-        end: close.end,
+        end: closing.end,
     };
     Ok((suffix, rest))
 }

@@ -1,0 +1,3 @@
+pub mod Graph
+pub mod Parts
+pub mod Walk

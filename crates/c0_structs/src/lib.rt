@@ -1,6 +1,10 @@
 //! How many words the structs of a unit have, and which of them hold themselves: found in one walk over the structs, whatever they name.
 #![tactic(auto)]
 
+mod fields;
 pub mod sizes;
+mod walk;
+#[cfg(test)]
+mod tests;
 
 pub use sizes::{StructSizes, struct_sizes};

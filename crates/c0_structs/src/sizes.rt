@@ -4,9 +4,12 @@ ghost use Rattle.std.specs.Prelude.{◌≡◌, ◌<◌, ◌^◌, ℕ, List, IfOk
 ghost use Rattle.c0_meaning.specs.Env.{shape_of};
 ghost use Rattle.c0_meaning.specs.Words.{holds};
 ghost use Rattle.c0_names.specs.Names.{look, number_named};
-ghost use Rattle.c0_names.specs.Structs.{KnowsStructs};
+ghost use Rattle.c0_names.specs.Structs.{KnowsStructs, listed_words};
+ghost use Rattle.c0_structs.specs.Walk.{listed_cyclic};
 ghost use Rattle.c0_tree.specs.View.{struct_view};
 
+use crate::walk::{Walk, walk_over};
+use c0_meaning::laws::holding_is_as_tested;
 use c0_names::names::Names;
 use c0_tree::StructDef;
 use std::alloc::{AllocError, Global};
@@ -31,5 +34,37 @@ pub fn struct_sizes(
     ensures words { IfOk result (λ s. KnowsStructs names.now s.words.items (map shape_of (map struct_view structs.now))) }
     ensures held { IfOk result (λ s. s.holds_itself.items ≡ map (λ x. holds (map shape_of (map struct_view structs.now)) x.name.text x.name.text) (map struct_view structs.now)) }
 {
-    Err(AllocError)
+    holding_is_as_tested();
+    let walk = walk_over(alloc, names, structs)?;
+    sizes_of(alloc, names, structs, &walk)
+}
+
+// The number of the first struct of the name of a struct.
+fn first_of_name(names: &Names, def: &StructDef) -> Option<u32>
+    ensures { result ≡ look names.now (struct_view def.now).name.text }
+{
+    names.get(def.name.bytes.as_slice()).copied()
+}
+
+// What the walk found of the first struct of the name of each.
+fn sizes_of(
+    alloc: Global,
+    names: &Names,
+    structs: &[StructDef],
+    walk: &Walk,
+) -> Result<StructSizes, AllocError>
+    ensures words { IfOk result (λ s. s.words.items ≡ map (λ x. listed_words walk.now.words.items (look names.now x.name.text)) (map struct_view structs.now)) }
+    ensures held { IfOk result (λ s. s.holds_itself.items ≡ map (λ x. listed_cyclic walk.now.marks.items (look names.now x.name.text)) (map struct_view structs.now)) }
+{
+    let mut words = Vec::new(alloc);
+    let mut holds_itself = Vec::new(alloc);
+    for def in structs {
+        let first = first_of_name(names, def);
+        words.push(walk.words(first))?;
+        holds_itself.push(walk.holds_itself(first))?;
+    }
+    Ok(StructSizes {
+        words,
+        holds_itself,
+    })
 }

@@ -1,11 +1,11 @@
 -- Which comes: the reset, an external interrupt, or the instruction.
-use Rattle.std.proofs.Common.{◌≡◌, ℕ, Bool, true, false, cond, not, ◌&&◌, slice_index, refl, ap, ◌∙◌, eq-eqb, ne_eqb}
+use Rattle.std.proofs.Common.{◌≡◌, Bool, true, false, not, ◌&&◌, slice_index, refl, ap, ◌∙◌, eq-eqb, ne_eqb}
 use Rattle.std.specs.Prelude.{◌==◌, if◌then◌else◌}
 use Rattle.std.proofs.lemmas.Bool.{cond-true, cond-false}
 use Rattle.mips_table.specs.declared.cause.Cause.TheVariants as causes
 use Rattle.mips_table.specs.Core.{move}
 use Rattle.mips_runs.specs.Device.{Outside}
-use Rattle.mips_runs.specs.Machine.{SR, State, Coming, Interrupt, seen, moved}
+use Rattle.mips_runs.specs.Machine.{SR, State, Interrupt, seen, moved}
 use Rattle.mips_machine.specs.Hardware.{instructed, chosen}
 
 -- sr is 1 and a line is latched

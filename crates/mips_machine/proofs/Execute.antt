@@ -6,7 +6,6 @@ use Rattle.mips_table.specs.declared.cause.Cause.{Cause}
 use Rattle.mips_table.specs.declared.cause.Cause.TheVariants as causes
 use Rattle.mips_table.specs.Decoding.{decoding}
 use Rattle.mips_table.specs.Core.{Move, Ran, Stored, Trapped, Asked, move}
-use Rattle.mips_step.specs.declared.cpu.Outcome.{Outcome}
 use Rattle.mips_step.specs.declared.cpu.Outcome.TheVariants.{Done, Trap}
 use Rattle.mips_step.specs.Step.{Core, End}
 use Rattle.mips_step.specs.Ends.{Ends}
@@ -18,7 +17,7 @@ use Rattle.mips_machine.specs.declared.board.PortWrite.{PortWrite}
 use Rattle.mips_machine.specs.declared.event.Event.{Event}
 use Rattle.mips_machine.specs.declared.event.Event.TheVariants as events
 use Rattle.mips_machine.specs.Board.{Board, around, shown, stored, stored_at, Instructs}
-use Rattle.mips_machine.specs.Hardware.{Hardware, state_in, event_by, told_as, instructed, asked, sent, Comes, Keeps}
+use Rattle.mips_machine.specs.Hardware.{Hardware, state_in, event_by, instructed, asked, sent, Comes, Keeps}
 use Rattle.mips_machine.proofs.Traps.{IsTrap, Traps, move_traps}
 
 -- the board of the machine, with no write that is still to be done

@@ -9,7 +9,7 @@ use Rattle.mips_table.specs.declared.effect.Effect.{Effect}
 use Rattle.mips_table.specs.declared.effect.Effect.TheVariants.{Set, Load, Store, Overflow, Call, System}
 use Rattle.mips_table.specs.Decoding.{decoding}
 use Rattle.mips_table.specs.Effect.{next, effect_of}
-use Rattle.mips_table.specs.Core.{Memory, Move, Ran, Stored, Trapped, Asked, write, is_aligned, accessed, performed, executed, move}
+use Rattle.mips_table.specs.Core.{Memory, Move, Ran, Stored, Trapped, write, is_aligned, accessed, performed, executed, move}
 
 -- a trap that comes of an instruction at pc
 abbrev pub IsTrap : ℕ → Cause → ℕ → ℕ → Type 0

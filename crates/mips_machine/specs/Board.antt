@@ -1,5 +1,5 @@
 -- The memory and the ports as the processor reads and writes them.
-use Rattle.std.specs.Prelude.{◌≡◌, ℕ, ◌/◌, false, nat_lt, if◌then◌else◌, List, [], length, replicate, slice_set, Option, Some, None, true}
+use Rattle.std.specs.Prelude.{◌≡◌, ℕ, ◌/◌, false, nat_lt, if◌then◌else◌, List, [], length, slice_set, Option, Some, None, true}
 use Rattle.mips_table.specs.Core.{Memory, move}
 use Rattle.mips_step.specs.Step.{Core, End}
 use Rattle.mips_step.specs.Ends.{Ends}

@@ -6,7 +6,7 @@ use Rattle.mips_runs.specs.Fits.{NamesSector}
 use Rattle.mips_runs.specs.Machine.{State, Coming, Interrupt, Done, seen, moved, coming, done}
 use Rattle.sector_disk.specs.Ports.{Ports, idle, device_of}
 use Rattle.mips_machine.specs.declared.event.Event.{Event}
-use Rattle.mips_machine.specs.declared.event.Event.TheVariants.{Ran, Taken, Power, Off}
+use Rattle.mips_machine.specs.declared.event.Event.TheVariants.{Ran, Taken, Power}
 
 -- pc, registers, special registers, memory, the disk's ports and buffer, the viewed words, the latches and the power word
 pub record Hardware : Type 0 where

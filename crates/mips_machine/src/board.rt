@@ -119,7 +119,6 @@ impl MemoryBus for Board {
 impl Board {
     /// A board with so many frames of memory, where all is 0 and the disk is idle.
     pub(crate) fn new(alloc: Global, frames: u32) -> Result<Board, AllocError>
-        requires some { 1 ≤ frames }
         requires few { frames ≤ 65000 }
         ensures { IfOk result (λ b. b ≡ record { special = replicate 9 0; memory = replicate (1024 * frames) 0; ports = idle; buffer = replicate 1024 0; viewed = replicate 1024 0; asked = None }) }
     {
@@ -305,6 +304,7 @@ impl Board {
         ensures fault { OnErr result (TransferFails self.old.ports.pending self.old.buffer self.new.buffer (D.sectors disk.old) (D.sectors disk.new)) }
         ensures ports { (sectors : List (List ℕ)) → self.new.ports ≡ ports_of (counted (device_of self.old.ports self.old.buffer sectors)) }
         ensures board { self.new ≡ record self.old { ports = self.new.ports; buffer = self.new.buffer } }
+        ensures whole { length self.new.buffer ≡ 1024 }
         ensures under_way { NamesSector (D.size disk.new) self.new.ports.pending }
         ensures size { D.size disk.new ≡ D.size disk.old }
         ensures count { Counts (D.faults disk.old) (D.faults disk.new) result }

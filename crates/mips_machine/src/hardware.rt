@@ -68,7 +68,6 @@ fn instruct(cpu: &mut Cpu, board: &mut Board) -> Outcome
 impl Hardware {
     /// All is 0 but the reset latch, which is set; the memory has so many frames.
     pub(crate) fn new(alloc: Global, frames: u32) -> Result<Hardware, AllocError>
-        requires some { 1 ≤ frames }
         requires few { frames ≤ 65000 }
         ensures { IfOk result (λ h. h ≡ starting frames) }
     {
@@ -209,6 +208,7 @@ impl Hardware {
         ensures fault { OnErr result (TransferFails self.old.ports.pending self.old.buffer self.new.buffer (D.sectors disk.old) (D.sectors disk.new)) }
         ensures ports { (sectors : List (List ℕ)) → self.new.ports ≡ ports_of (counted (device_of self.old.ports self.old.buffer sectors)) }
         ensures hardware { self.new ≡ record self.old { ports = self.new.ports; buffer = self.new.buffer } }
+        ensures whole { length self.new.buffer ≡ 1024 }
         ensures under_way { NamesSector (D.size disk.new) self.new.ports.pending }
         ensures size { D.size disk.new ≡ D.size disk.old }
         ensures count { Counts (D.faults disk.old) (D.faults disk.new) result }

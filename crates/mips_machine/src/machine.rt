@@ -28,7 +28,7 @@ pub struct Machine {
 }
 
 impl Model for Machine {
-    ghost use Rattle.std.specs.Prelude.{◌≡◌, ◌≤◌};
+    ghost use Rattle.std.specs.Prelude.{◌≡◌, ◌≤◌, length};
     ghost use Rattle.schedule_file.specs.Rows.{IsNextAt};
     ghost use Rattle.mips_machine.specs.Machine.{Held};
 
@@ -49,17 +49,16 @@ impl Model for Machine {
       viewed = m.hardware.viewed;
     } };
 
-    ghost invariant = { λ m. IsNextAt m.schedule m.next_line m.steps × (m.hardware.ports.commands ≤ m.steps) };
+    ghost invariant = { λ m. IsNextAt m.schedule m.next_line m.steps × (m.hardware.ports.commands ≤ m.steps) × (length m.hardware.buffer ≡ 1024) };
 }
 
 impl Machine {
-    /// A machine with so many frames of 1,024 words, from 1 to 65,000, at its start: the reset is latched, and all else is 0.
+    /// A machine with so many frames of 1,024 words, at most 65,000, at its start: the reset is latched, and all else is 0.
     /// This is the only call that takes memory: two frames more than that, for the disk's buffer and for the sector that is
     /// viewed, which no address names.
     ///
     /// Fails only for want of memory.
     pub fn new(alloc: Global, frames: u32, schedule: Schedule) -> Result<Machine, AllocError>
-        requires some { 1 ≤ frames }
         requires few { frames ≤ 65000 }
         ensures state { IfOk result (λ m. (sectors : List (List ℕ)) → state_of m sectors ≡ start (replicate (1024 * frames) 0) sectors) }
         ensures held { IfOk result (λ m. m ≡ started frames schedule) }
@@ -89,6 +88,7 @@ impl Machine {
         ensures rows { self.new.rows ≡ self.old.rows }
         ensures viewed { self.new.viewed ≡ self.old.viewed }
         ensures memory { length self.new.memory ≡ length self.old.memory }
+        ensures buffer { length self.new.buffer ≡ 1024 }
         ensures sector { NamesSector (D.size disk.new) self.new.ports.pending }
         ensures size { D.size disk.new ≡ D.size disk.old }
         ensures count { Counts (D.faults disk.old) (D.faults disk.new) result }

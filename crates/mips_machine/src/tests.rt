@@ -118,6 +118,33 @@ impl Desk {
         ]
     }
 
+    /// Whether all registers are those of another desk.
+    fn has_registers_of(&self, other: &Desk) -> bool {
+        let mut same = true;
+        for r in 0..32 {
+            same = same && self.machine.reg(r) == other.machine.reg(r);
+        }
+        same
+    }
+
+    /// Whether all words of memory are those of another desk.
+    fn has_words_of(&self, other: &Desk) -> bool {
+        let mut same = true;
+        for word in 0..WORDS {
+            same = same && self.word(word) == other.word(word);
+        }
+        same
+    }
+
+    /// Whether nothing but the buffer may differ from another desk.
+    fn shows_as(&self, other: &Desk) -> bool {
+        self.now() == other.now()
+            && self.saved() == other.saved()
+            && self.machine.steps() == other.machine.steps()
+            && self.has_registers_of(other)
+            && self.has_words_of(other)
+    }
+
     /// pc, sr, mode and emode.
     fn now(&self) -> [u32; 4] {
         [
@@ -136,6 +163,8 @@ fn a_raised_line_is_taken(rt: HostRuntime) -> Result<(), Fail> {
     let none = Vec::new(rt.alloc());
     let mut desk = Desk::new(rt.alloc(), &words, b"line 5 3\nline 5 0\n", none)?;
     assert_eq!(rt; desk.step(), Ok(Event::Taken(Cause::Reset)));
+    assert_eq!(rt; desk.saved(), [0, 0, 0, 0]);
+    assert_eq!(rt; desk.now(), [0, 0, 0, 0]);
     for _ in 0..4 {
         assert_eq!(rt; desk.step(), Ok(Event::Ran));
     }
@@ -150,12 +179,13 @@ fn a_raised_line_is_taken(rt: HostRuntime) -> Result<(), Fail> {
 fn lines_wait_for_the_handler(rt: HostRuntime) -> Result<(), Fail> {
     // Three times sll r0, r0, 0; ori r1, r0, 1; mtc0 r1, c0; j 5
     let words = [0, 0, 0, 0x3401_0001, 0x4081_0000, 0x0800_0005];
-    let lines = b"line 0 7\nline 1 0\nline 2 2\nline 3 5\nline 3 0\n";
+    let lines = b"line 0 7\nline 1 0\nline 2 2\nline 3 5\nline 3 0\nline 4 1\nline 5 3\nline 6 4\n";
     let none = Vec::new(rt.alloc());
     let mut desk = Desk::new(rt.alloc(), &words, lines, none)?;
     assert!(rt; desk.run(6));
     assert_eq!(rt; desk.step(), Ok(Event::Taken(Cause::External)));
-    assert_eq!(rt; desk.saved(), [1, 1, 20, 0xa5]);
+    assert_eq!(rt; desk.saved(), [1, 1, 20, 0xbf]);
+    assert_eq!(rt; desk.now(), [0, 0, 0, 0]);
     Ok(())
 }
 
@@ -207,13 +237,19 @@ fn a_sector_is_read(rt: HostRuntime) -> Result<(), Fail> {
 fn a_failing_read_changes_the_buffer_alone(rt: HostRuntime) -> Result<(), Fail> {
     let fail = vec![in rt.alloc(); 1]?;
     let mut desk = Desk::new(rt.alloc(), &READ, b"busy 0 1\n", fail)?;
+    let mut sure = Desk::new(rt.alloc(), &READ, b"busy 0 1\n", Vec::new(rt.alloc()))?;
     desk.load(5, &LOOK);
+    sure.load(5, &LOOK);
     assert!(rt; desk.run(6));
     assert_eq!(rt; desk.step(), Err(DiskFault::Failed));
+    assert!(rt; sure.run(7));
     assert_eq!(rt; desk.machine.steps(), 7);
     assert_eq!(rt; desk.now(), [24, 0, 0, 0]);
+    assert!(rt; desk.shows_as(&sure));
     assert!(rt; desk.run(3));
+    assert!(rt; sure.run(3));
     assert_eq!(rt; desk.status(), [1, 0, 0, 0]);
+    assert!(rt; desk.shows_as(&sure));
     Ok(())
 }
 

@@ -1,5 +1,5 @@
 -- What the rows of a schedule say.
-use Rattle.std.specs.Prelude.{ℕ, ◌==◌, ◌<◌, ◌≤◌, ◌^◌, List, [], ◌∷◌, ◌++◌, length, map, max, fold, slice_index}
+use Rattle.std.specs.Prelude.{ℕ, ◌-◌, ◌==◌, ◌<◌, ◌≤◌, ◌^◌, List, [], ◌∷◌, ◌++◌, length, map, max, fold, slice_index, slice_get, unwrap_or, option_map}
 use Rattle.std.specs.Int.RustNames.{bit_or}
 use Rattle.std.specs.List.{filter, AllWithin}
 use Rattle.schedule_file.specs.declared.row.LineRow.{LineRow}
@@ -27,6 +27,10 @@ busy_of rows command = slice_index (map (λ row. row.steps) (filter (λ row. row
 -- the longest busy time, or 0 where there is none
 abbrev pub longest : Rows → ℕ
 longest rows = fold max 0 (map (λ row. row.steps) rows.busy)
+
+-- the step of the last line row, or 0 where there is none
+abbrev pub last_step : Rows → ℕ
+last_step rows = unwrap_or (option_map (λ row. row.step) (slice_get rows.lines (length rows.lines - 1))) 0
 
 -- a place is that of the first line row that is of no earlier step than this one, or the end
 pub record IsNextAt (rows : Rows) (at step : ℕ) : Type 0 where

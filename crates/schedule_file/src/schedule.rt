@@ -1,7 +1,7 @@
 // A schedule's rows, and what they say.
 
 ghost use Rattle.std.specs.Prelude.{◌≡◌, ◌≤◌, ◌<◌, ◌+◌, ◌^◌, ℕ, None, IfErr, OnOk};
-ghost use Rattle.schedule_file.specs.Rows.{Rows, lines_at as lines_in, busy_of as busy_in, longest as longest_in, IsNextAt, with_row};
+ghost use Rattle.schedule_file.specs.Rows.{Rows, lines_at as lines_in, busy_of as busy_in, longest as longest_in, last_step as last_step_in, IsNextAt, with_row};
 ghost use Rattle.schedule_file.specs.Schedule.{fault_of_row, fault_of_line, with_line, schedule_of, Gives, IsFault, Keeps};
 
 use crate::cut::first_line;
@@ -105,6 +105,7 @@ impl Schedule {
     /// The greatest step with a row: 0 where there is none. No line is raised
     /// after it.
     pub fn last_step(&self) -> u64
+        ensures value { result ≡ last_step_in self.now }
         ensures quiet { (step : ℕ) → result < step → lines_in self.now step ≡ 0 }
         ensures eight { (step : ℕ) → lines_in self.now step < 2 ^ 8 }
     {

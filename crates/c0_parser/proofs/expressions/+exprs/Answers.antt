@@ -1,14 +1,14 @@
 -- Each function reads the pieces of its production, one after the other.
-use Rattle.std.proofs.Common.{◌≡◌, ◌∷◌, [], length, map, refl, sym, ap, ◌∙◌, subst, arith, true, false}
+use Rattle.std.proofs.Common.{◌≡◌, map, refl, sym, ap, ◌∙◌, subst, arith, true, false}
 use Rattle.c0_tokens.specs.Tokens.{token_view}
-use Rattle.c0_tokens.specs.declared.token.Mark.TheVariants.{OpenParen, CloseParen, OpenBracket, CloseBracket}
+use Rattle.c0_tokens.specs.declared.token.Mark.TheVariants.{CloseParen, CloseBracket}
 use Rattle.c0_parser.specs.Sorts.{mark, among}
 use Rattle.c0_parser.specs.Value.{token, pair, none, snoc, joined, chained, suffixed, primary_value, unary_value}
-use Rattle.c0_parser.specs.Grammar.{the, many, maybe, sign, ◌▸◌, EXPR, primary, postfix, unary}
+use Rattle.c0_parser.specs.Grammar.{the, many, maybe, sign, primary, postfix, unary}
 use Rattle.c0_parser.specs.Machine.{kind}
 use Rattle.c0_parser.specs.Contract.{seen}
 use Rattle.c0_parser.specs.Views.{IsPart}
-use Rattle.c0_parser.specs.Levels.{rule_of, marks_of, operation, heads_any}
+use Rattle.c0_parser.specs.Levels.{rule_of, operation, heads_any}
 use Rattle.c0_parser.specs.Tails.{part_value, LITERAL, FIELD, SUFFIX}
 use Rattle.c0_parser.proofs.Steps.{goes_sign, goes_both, goes_first, goes_second, goes_the, goes_with, goes_without, list_starts, fails_left, fails_right, fails_first, fails_second, fails_the, fails_with, exits, exits_any, shorter}
 use Rattle.c0_parser.proofs.Exprs.{chain_more, chain_ends, chain_fails, first_fails, pair_gives, operation_heads, operation_here, goes_operation, fails_operation, suffixes_more, suffixes_end, suffixes_fail, picks_element, picks_prefixed, picks_parens, goes_prefix, literal_gives, postfix_gives, field_gives}
@@ -102,19 +102,19 @@ primary-returns-in_err-inner-in-Some t c =
     exits (the primary) IsPart _ _ _ c.from_residual.ensures.1
     (fails_the primary (fails_second LITERAL (picks_parens _ _ _ e.0 e.1) (fails_right (goes_sign _ _ _ _ e.0 e.1) (fails_left (sign CloseParen) c.in_err-inner-in-Some.ensures))))
 
-pub primary-returns-in_err-close-in-Some : goal.primary-returns-in_err-close-in-Some
-primary-returns-in_err-close-in-Some t c =
+pub primary-returns-in_err-closing-in-Some : goal.primary-returns-in_err-closing-in-Some
+primary-returns-in_err-closing-in-Some t c =
     let e = c.in-Some.ensures in
     let g = c.in_ok-inner-in-Some.ensures in
-    exits (the primary) IsPart _ _ _ c.from_residual-in_err-close-in-Some.ensures.1
-    (fails_the primary (fails_second LITERAL (picks_parens _ _ _ e.0 e.1) (fails_right (goes_sign _ _ _ _ e.0 e.1) (fails_right g.1 c.in_err-close-in-Some.ensures))))
+    exits (the primary) IsPart _ _ _ c.from_residual-in_err-closing-in-Some.ensures.1
+    (fails_the primary (fails_second LITERAL (picks_parens _ _ _ e.0 e.1) (fails_right (goes_sign _ _ _ _ e.0 e.1) (fails_right g.1 c.in_err-closing-in-Some.ensures))))
 
-pub primary-returns-in_ok-close-in-Some : goal.primary-returns-in_ok-close-in-Some
-primary-returns-in_ok-close-in-Some t c =
+pub primary-returns-in_ok-closing-in-Some : goal.primary-returns-in_ok-closing-in-Some
+primary-returns-in_ok-closing-in-Some t c =
     let e = c.in-Some.ensures in
     let g = c.in_ok-inner-in-Some.ensures in
-    let q = c.in_ok-close-in-Some.ensures in
-    let o = token (token_view c.in-Some.open) in (
+    let q = c.in_ok-closing-in-Some.ensures in
+    let o = token (token_view c.in-Some.opening) in (
       _,
       goes_the primary (goes_second LITERAL (picks_parens _ _ _ e.0 e.1) (goes_both (goes_sign _ _ _ _ e.0 e.1) (goes_both g.1 q.1))),
       ap (λ x. primary_value (pair o (pair x q.0))) g.2 ∙ ap (λ y. primary_value (pair o (pair (part_value c.in_ok-inner-in-Some.inner) y))) q.2 ∙ c.in_parens.ensures,
@@ -148,19 +148,19 @@ suffix-returns-in_err-inner-in-Some t c =
     exits SUFFIX (λ p x. IsPart p (suffixed (part_value c.args.left) x)) _ _ _ c.from_residual.ensures.1
     (fails_second FIELD (picks_element _ _ _ e.0 e.1) (fails_right (goes_sign _ _ _ _ e.0 e.1) (fails_left (sign CloseBracket) c.in_err-inner-in-Some.ensures)))
 
-pub suffix-returns-in_err-close-in-Some : goal.suffix-returns-in_err-close-in-Some
-suffix-returns-in_err-close-in-Some t c =
+pub suffix-returns-in_err-closing-in-Some : goal.suffix-returns-in_err-closing-in-Some
+suffix-returns-in_err-closing-in-Some t c =
     let e = c.in-Some.ensures in
     let g = c.in_ok-inner-in-Some.ensures in
-    exits SUFFIX (λ p x. IsPart p (suffixed (part_value c.args.left) x)) _ _ _ c.from_residual-in_err-close-in-Some.ensures.1
-    (fails_second FIELD (picks_element _ _ _ e.0 e.1) (fails_right (goes_sign _ _ _ _ e.0 e.1) (fails_right g.1 c.in_err-close-in-Some.ensures)))
+    exits SUFFIX (λ p x. IsPart p (suffixed (part_value c.args.left) x)) _ _ _ c.from_residual-in_err-closing-in-Some.ensures.1
+    (fails_second FIELD (picks_element _ _ _ e.0 e.1) (fails_right (goes_sign _ _ _ _ e.0 e.1) (fails_right g.1 c.in_err-closing-in-Some.ensures)))
 
 pub suffix-returns-in_ok-element-in-Some : goal.suffix-returns-in_ok-element-in-Some
 suffix-returns-in_ok-element-in-Some t c =
     let e = c.in-Some.ensures in
     let g = c.in_ok-inner-in-Some.ensures in
-    let q = c.in_ok-close-in-Some.ensures in
-    let o = token (token_view c.in-Some.open) in (
+    let q = c.in_ok-closing-in-Some.ensures in
+    let o = token (token_view c.in-Some.opening) in (
       _,
       goes_second FIELD (picks_element _ _ _ e.0 e.1) (goes_both (goes_sign _ _ _ _ e.0 e.1) (goes_both g.1 q.1)),
       ap (λ x. suffixed (part_value c.args.left) (pair o (pair x q.0))) g.2 ∙ ap (λ y. suffixed (part_value c.args.left) (pair o (pair (part_value c.in_ok-inner-in-Some.inner) y))) q.2

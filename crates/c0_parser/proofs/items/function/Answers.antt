@@ -1,5 +1,5 @@
-use Rattle.std.proofs.Common.{refl, ap, arith}
-use Rattle.c0_tokens.specs.declared.token.Mark.TheVariants.{OpenParen, CloseParen, Comma}
+use Rattle.std.proofs.Common.{arith}
+use Rattle.c0_tokens.specs.declared.token.Mark.TheVariants.{CloseParen, Comma}
 use Rattle.c0_parser.specs.Grammar.{the, decl, body, sign, many, maybe, ◌▸◌, FUNCTION}
 use Rattle.c0_parser.specs.Views.{IsBehind}
 use Rattle.c0_parser.proofs.Steps.{goes_both, fails_left, fails_right, exits}

@@ -1,4 +1,4 @@
-use Rattle.std.proofs.Common.{[], ◌∷◌, length, refl, sym, ap, ◌∙◌, arith}
+use Rattle.std.proofs.Common.{[], ◌∷◌, length, refl, ap, ◌∙◌, arith}
 use Rattle.c0_parser.specs.Sorts.{mark, mark_place}
 use Rattle.c0_tokens.specs.declared.token.Mark.TheVariants.{Struct, Int, Bool as Boolean}
 use Rattle.c0_tokens.specs.Tokens.{token_view}
@@ -6,7 +6,7 @@ use Rattle.c0_tree.specs.View.{name_view}
 use Rattle.c0_parser.specs.Value.{token, pair}
 use Rattle.c0_parser.specs.Contract.{seen}
 use Rattle.c0_parser.specs.Grammar.{sign, ◌▸◌, ◌or◌, NAME, BASIC, FIELDS}
-use Rattle.c0_parser.specs.Factored.{DEFINED, FACTORED, factored_value, declared_as}
+use Rattle.c0_parser.specs.Factored.{DEFINED, FACTORED, factored_value}
 use Rattle.c0_parser.specs.Views.{IsItem, IsDefined, IsTold}
 use Rattle.c0_parser.proofs.Steps.{goes_sign, goes_both, goes_first_at, goes_second_heads, heads_then, heads_not, picks_not, mark_kind, fails_left, fails_right, fails_first_at, fails_second_heads, fails_by, refuses_second, refuses_left, refuses_one, seen_length, exits, shorter, tails}
 use Rattle.c0_parser.proofs.Parts.{basic_is}

@@ -1,6 +1,5 @@
-use Rattle.std.proofs.Common.{refl, ap, arith}
-use Rattle.c0_tokens.specs.declared.token.Mark.TheVariants.{OpenBrace, CloseBrace, Semicolon}
-use Rattle.c0_tokens.specs.Tokens.{token_view}
+use Rattle.std.proofs.Common.{ap, arith}
+use Rattle.c0_tokens.specs.declared.token.Mark.TheVariants.{CloseBrace, Semicolon}
 use Rattle.c0_parser.specs.Value.{pair}
 use Rattle.c0_parser.specs.Grammar.{many, sign, ◌▸◌, LINE, FIELDS}
 use Rattle.c0_parser.specs.Views.{IsStruct}

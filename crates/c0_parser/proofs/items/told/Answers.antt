@@ -1,4 +1,4 @@
-use Rattle.std.proofs.Common.{refl, sym, ap, ◌∙◌, arith}
+use Rattle.std.proofs.Common.{refl, sym, ap, ◌∙◌}
 use Rattle.c0_parser.specs.Sorts.{mark_place}
 use Rattle.c0_tokens.specs.declared.token.Mark.TheVariants.{OpenBrace, CloseBrace, Semicolon}
 use Rattle.c0_tokens.specs.Tokens.{token_view}

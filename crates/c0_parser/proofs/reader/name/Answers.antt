@@ -1,4 +1,4 @@
-use Rattle.std.proofs.Common.{refl, sym}
+use Rattle.std.proofs.Common.{refl}
 use Rattle.c0_parser.proofs.Steps.{goes_name, named_at, fails_name, shorter}
 use Rattle.c0_parser.proofs.reader.name.Goals as goal
 

@@ -1,4 +1,4 @@
-use Rattle.std.proofs.Common.{length, refl, sym, ap, subst, arith}
+use Rattle.std.proofs.Common.{length, sym, ap, subst, arith}
 use Rattle.c0_parser.specs.Value.{none, snoc}
 use Rattle.c0_parser.specs.Grammar.{many}
 use Rattle.c0_parser.specs.Factored.{FACTORED}

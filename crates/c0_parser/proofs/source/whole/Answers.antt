@@ -1,4 +1,4 @@
-use Rattle.std.proofs.Common.{[], length, refl, sym}
+use Rattle.std.proofs.Common.{[], length, sym}
 use Rattle.c0_parser.specs.Sorts.{the_end}
 use Rattle.c0_parser.specs.Value.{token}
 use Rattle.c0_parser.specs.Grammar.{one_of}

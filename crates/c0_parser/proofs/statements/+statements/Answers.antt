@@ -75,23 +75,23 @@ statements-returns t c =
     let i = c.loop-here.invariant in
     (i.0, goes_many i.1 c.in_default.ensures, i.2, i.3)
 
-pub braces-returns-in_err-open : goal.braces-returns-in_err-open
-braces-returns-in_err-open t c = exits (the block) IsBlock _ _ _ c.from_residual.ensures.1 (fails_the block (fails_left (many (the statement) ▸ sign CloseBrace) c.in_err-open.ensures))
+pub braces-returns-in_err-opening : goal.braces-returns-in_err-opening
+braces-returns-in_err-opening t c = exits (the block) IsBlock _ _ _ c.from_residual.ensures.1 (fails_the block (fails_left (many (the statement) ▸ sign CloseBrace) c.in_err-opening.ensures))
 
 pub braces-returns-in_err-stmts : goal.braces-returns-in_err-stmts
 braces-returns-in_err-stmts t c =
-    let o = c.in_ok-open.ensures in
+    let o = c.in_ok-opening.ensures in
     exits (the block) IsBlock _ _ _ c.from_residual-in_err-stmts.ensures.1 (fails_the block (fails_right o.1 (fails_left (sign CloseBrace) c.in_err-stmts.ensures)))
 
-pub braces-returns-in_err-close : goal.braces-returns-in_err-close
-braces-returns-in_err-close t c =
-    let o = c.in_ok-open.ensures in
+pub braces-returns-in_err-closing : goal.braces-returns-in_err-closing
+braces-returns-in_err-closing t c =
+    let o = c.in_ok-opening.ensures in
     let s = c.in_ok-stmts.ensures in
-    exits (the block) IsBlock _ _ _ c.from_residual-in_err-close.ensures.1 (fails_the block (fails_right o.1 (fails_right s.1 c.in_err-close.ensures)))
+    exits (the block) IsBlock _ _ _ c.from_residual-in_err-closing.ensures.1 (fails_the block (fails_right o.1 (fails_right s.1 c.in_err-closing.ensures)))
 
 pub braces-returns : goal.braces-returns
 braces-returns t c =
-    let o = c.in_ok-open.ensures in
+    let o = c.in_ok-opening.ensures in
     let s = c.in_ok-stmts.ensures in
-    let k = c.in_ok-close.ensures in
+    let k = c.in_ok-closing.ensures in
     (_, goes_the block (goes_both o.1 (goes_both s.1 k.1)), braced _ _ _ _ _ _ o.2 s.2 k.2, omega (arith, o.3, s.3, k.3))

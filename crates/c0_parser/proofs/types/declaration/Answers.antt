@@ -1,5 +1,5 @@
-use Rattle.std.proofs.Common.{refl, ap, ◌∙◌, arith}
-use Rattle.c0_parser.specs.Grammar.{the, type, decl, NAME}
+use Rattle.std.proofs.Common.{arith}
+use Rattle.c0_parser.specs.Grammar.{the, decl, NAME}
 use Rattle.c0_parser.specs.Views.{IsDecl}
 use Rattle.c0_parser.proofs.Steps.{decl_meaning, goes_the, goes_both, fails_the, fails_left, fails_right, exits}
 use Rattle.c0_parser.proofs.types.declaration.Goals as goal

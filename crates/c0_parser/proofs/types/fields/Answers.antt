@@ -1,5 +1,4 @@
-use Rattle.std.proofs.Common.{rules, ◌≡◌, [], ◌∷◌, ◌++◌, map, refl, sym, ap, ◌∙◌, arith}
-use Rattle.c0_tree.specs.View.{decl_view}
+use Rattle.std.proofs.Common.{rules, ◌≡◌, [], ◌++◌, sym, ap, ◌∙◌, arith}
 use Rattle.c0_parser.specs.Value.{decls}
 use Rattle.c0_parser.specs.Grammar.{◌▸◌, many, LINE}
 use Rattle.c0_parser.specs.Views.{AreFields, AreMoreLines}

@@ -1,10 +1,10 @@
-use Rattle.std.proofs.Common.{length, refl, sym, ap, ◌∙◌, arith}
-use Rattle.c0_tokens.specs.declared.token.Mark.TheVariants.{Comma, Semicolon}
-use Rattle.c0_parser.specs.Value.{none, snoc, decls_in}
-use Rattle.c0_parser.specs.Grammar.{many, LINE, sign, the, decl, ◌▸◌}
+use Rattle.std.proofs.Common.{length, refl, ap, arith}
+use Rattle.c0_tokens.specs.declared.token.Mark.TheVariants.{Semicolon}
+use Rattle.c0_parser.specs.Value.{none, snoc}
+use Rattle.c0_parser.specs.Grammar.{many, LINE, sign, the, decl}
 use Rattle.c0_parser.specs.Contract.{seen}
 use Rattle.c0_parser.specs.Views.{AreMoreLines}
-use Rattle.c0_parser.proofs.Steps.{list_begins, list_more, list_item, goes_many, goes_both, goes_sign, heads_then, heads_not, heads_is, mark_kind, fails_list, fails_many, fails_right, more_decls, no_decls, comma_decl, exits_any}
+use Rattle.c0_parser.proofs.Steps.{list_begins, list_more, goes_many, heads_then, heads_not, fails_list, more_decls, no_decls, exits_any}
 use Rattle.c0_parser.proofs.types.more_lines.Goals as goal
 
 pub loop-here-init : goal.loop-here-init

@@ -1,12 +1,12 @@
-use Rattle.std.proofs.Common.{length, refl, sym, ap, ◌∙◌, arith}
-use Rattle.c0_tokens.specs.declared.token.Mark.TheVariants.{Comma, Semicolon}
-use Rattle.c0_parser.specs.Value.{token, pair, none, snoc, decls_in}
-use Rattle.c0_parser.specs.Grammar.{many, LINE, sign, the, decl, ◌▸◌}
+use Rattle.std.proofs.Common.{length, refl, ap, arith}
+use Rattle.c0_tokens.specs.declared.token.Mark.TheVariants.{Comma}
+use Rattle.c0_parser.specs.Value.{token, pair, none, snoc}
+use Rattle.c0_parser.specs.Grammar.{many, sign, the, decl, ◌▸◌}
 use Rattle.c0_parser.specs.Contract.{seen}
 use Rattle.c0_parser.specs.Sorts.{mark_place}
 use Rattle.c0_tokens.specs.Tokens.{token_view}
 use Rattle.c0_parser.specs.Views.{AreMoreLines}
-use Rattle.c0_parser.proofs.Steps.{list_begins, list_more, list_item, goes_many, goes_both, goes_sign, heads_then, heads_not, heads_is, mark_kind, fails_list, fails_many, fails_right, more_decls, no_decls, comma_decl, exits_any}
+use Rattle.c0_parser.proofs.Steps.{list_begins, list_item, goes_many, goes_both, goes_sign, heads_not, heads_is, mark_kind, fails_many, fails_right, more_decls, no_decls, comma_decl, exits_any}
 use Rattle.c0_parser.proofs.types.more_parameters.Goals as goal
 
 pub loop-behind-init : goal.loop-behind-init

@@ -2,7 +2,7 @@ use Rattle.std.proofs.Common.{◌≡◌, ◌≤◌, ◌++◌, length, map}
 use Rattle.c0_tree.specs.View.{decl_view}
 use Rattle.c0_tokens.specs.declared.token.Mark.TheVariants.{Comma}
 use Rattle.c0_parser.specs.Value.{Value, none, decls}
-use Rattle.c0_parser.specs.Grammar.{LINE, sign, the, decl, ◌▸◌}
+use Rattle.c0_parser.specs.Grammar.{sign, the, decl, ◌▸◌}
 use Rattle.c0_parser.specs.Contract.{seen, GoesOn}
 use Rattle.c0_parser.proofs.types.more_parameters.Given as goal
 

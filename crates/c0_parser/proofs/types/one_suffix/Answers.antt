@@ -1,6 +1,5 @@
-use Rattle.std.proofs.Common.{refl, ap, arith}
+use Rattle.std.proofs.Common.{refl, arith}
 use Rattle.c0_parser.specs.Sorts.{mark_place}
-use Rattle.c0_parser.specs.Value.{type}
 use Rattle.c0_parser.specs.Views.{IsSuffix}
 use Rattle.c0_parser.specs.Grammar.{sign, ◌▸◌, NUMBER, SUFFIX}
 use Rattle.c0_tokens.specs.declared.token.Mark.TheVariants.{Star, OpenBracket, CloseBracket}
@@ -21,15 +20,15 @@ returns-in_err-length c =
     let o = c.in_ok-rest.ensures in
     exits SUFFIX IsSuffix _ _ _ c.from_residual-in_err-length.ensures.1 (fails_second_not (sign Star) c.in_default.ensures (fails_right o.1 (fails_left (sign CloseBracket) c.in_err-length.ensures)))
 
-pub returns-in_err-close : goal.returns-in_err-close
-returns-in_err-close c =
+pub returns-in_err-closing : goal.returns-in_err-closing
+returns-in_err-closing c =
     let o = c.in_ok-rest.ensures in
     let n = c.in_ok-length.ensures in
-    exits SUFFIX IsSuffix _ _ _ c.from_residual-in_err-close.ensures.1 (fails_second_not (sign Star) c.in_default.ensures (fails_right o.1 (fails_right n.1 c.in_err-close.ensures)))
+    exits SUFFIX IsSuffix _ _ _ c.from_residual-in_err-closing.ensures.1 (fails_second_not (sign Star) c.in_default.ensures (fails_right o.1 (fails_right n.1 c.in_err-closing.ensures)))
 
 pub returns : goal.returns
 returns c =
     let o = c.in_ok-rest.ensures in
     let n = c.in_ok-length.ensures in
-    let q = c.in_ok-close.ensures in
+    let q = c.in_ok-closing.ensures in
     (_, goes_second_not (sign Star) c.in_default.ensures (goes_both o.1 (goes_both n.1 q.1)), (λ s t. rw (o.2, n.2.1, q.2, n.2.2) refl), omega (arith, o.3, n.3, q.3))

@@ -1,4 +1,4 @@
-use Rattle.std.proofs.Common.{rules, ◌≡◌, [], ◌∷◌, ◌++◌, length, map, refl, sym, ap, ◌∙◌, arith, subst}
+use Rattle.std.proofs.Common.{rules, ◌≡◌, [], ◌++◌, length, map, refl, sym, ap, ◌∙◌, arith}
 use Rattle.c0_tree.specs.View.{decl_view}
 use Rattle.c0_tokens.specs.declared.token.Mark.TheVariants.{Comma}
 use Rattle.c0_parser.specs.Value.{none, decls, decls_in}

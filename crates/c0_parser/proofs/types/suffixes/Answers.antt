@@ -1,4 +1,4 @@
-use Rattle.std.proofs.Common.{length, refl, sym, ap, ◌∙◌, arith}
+use Rattle.std.proofs.Common.{length, sym, ap, ◌∙◌, arith}
 use Rattle.c0_parser.specs.Value.{none, snoc, type_suffixed}
 use Rattle.c0_parser.specs.Grammar.{SUFFIX, SUFFIXES}
 use Rattle.c0_parser.specs.Views.{typed, AreSuffixes}

@@ -1,4 +1,4 @@
-use Rattle.std.proofs.Common.{refl, ap, ◌∙◌, arith}
+use Rattle.std.proofs.Common.{ap, ◌∙◌, arith}
 use Rattle.c0_parser.specs.Value.{type_suffixes}
 use Rattle.c0_parser.specs.Grammar.{the, type, SUFFIXES}
 use Rattle.c0_parser.specs.Views.{IsTyped, AreSuffixes}

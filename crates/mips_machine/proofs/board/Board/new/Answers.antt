@@ -1,7 +1,5 @@
 -- A store of zeros, as memory, buffer and viewed words.
-use Rattle.std.proofs.Common.{◌≡◌, ◌+◌, ◌*◌, ◌/◌, ℕ, replicate, take, ap, ◌∙◌, arith, None}
-use Rattle.std.proofs.lemmas.List.{take-replicate}
-use Rattle.frame_store.specs.Words.{frame_of}
+use Rattle.std.proofs.Common.{◌+◌, ◌*◌, replicate, ap, ◌∙◌, None}
 use Rattle.mips_machine.proofs.Parts.{board_in, started}
 use Rattle.mips_machine.proofs.board.Board.new.Goals as goal
 

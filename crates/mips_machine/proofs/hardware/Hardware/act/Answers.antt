@@ -1,9 +1,8 @@
 -- Which of the reset, an external interrupt and the instruction comes, said of the state that callers see.
-use Rattle.std.proofs.Common.{◌≡◌, ℕ, true, false, refl, sym, ap, ◌∙◌, subst}
+use Rattle.std.proofs.Common.{◌≡◌, ℕ, sym, ap, ◌∙◌, subst}
 use Rattle.mips_table.specs.declared.cause.Cause.TheVariants as causes
 use Rattle.mips_runs.specs.Machine.{Coming, Interrupt, done}
-use Rattle.mips_machine.specs.declared.event.Event.TheVariants as events
-use Rattle.mips_machine.specs.Hardware.{Hardware, state_in, instructed, chosen, told_as, Comes}
+use Rattle.mips_machine.specs.Hardware.{Hardware, state_in, instructed, chosen, Comes}
 use Rattle.mips_machine.proofs.Choose.{chosen_reset, chosen_external, chosen_with_sr_0, chosen_without_lines}
 use Rattle.mips_machine.proofs.hardware.Hardware.act.Goals as goal
 use Rattle.mips_machine.proofs.hardware.Hardware.act.Goals.{else-special-eq1-via-then-special-eq1+else-self-ne0, else-special-eq1-via-else-special-eq1}

@@ -1,15 +1,13 @@
 -- What the processor's step promises over the board is what comes of the machine's state: callers see the state now, whose
 -- fields the code keeps.
-use Rattle.std.proofs.Common.{◌≡◌, ◌<◌, ◌-◌, ◌^◌, ◌/◌, ℕ, None, List, length, refl, sym, ap, ◌∙◌, subst}
-use Rattle.mips_table.specs.declared.cause.Cause.TheVariants as causes
+use Rattle.std.proofs.Common.{◌≡◌, ◌<◌, ◌-◌, ◌^◌, ◌/◌, None, length, sym, ap, ◌∙◌, subst}
 use Rattle.mips_step.specs.declared.cpu.Outcome.TheVariants.{Trap}
 use Rattle.mips_step.specs.Step.{End}
-use Rattle.mips_runs.specs.Device.{Outside}
 use Rattle.sector_disk.specs.Ports.{Ports}
 use Rattle.mips_machine.specs.declared.event.Event.TheVariants as events
 use Rattle.mips_machine.specs.Board.{Board}
-use Rattle.mips_machine.specs.Hardware.{Hardware, state_in, instructed, asked, sent, Comes, Keeps}
-use Rattle.mips_machine.proofs.Execute.{board_of, core_of, with_board, leaves, traps_leave, takes, ran_is, wrote_is, trapped_is, illegal_is, keeps_after, keeps_same}
+use Rattle.mips_machine.specs.Hardware.{Hardware, state_in, instructed, sent, Comes}
+use Rattle.mips_machine.proofs.Execute.{board_of, core_of, with_board, leaves, traps_leave, ran_is, wrote_is, trapped_is, illegal_is, keeps_after, keeps_same}
 use Rattle.mips_machine.proofs.hardware.Hardware.execute.Goals as goal
 
 pub write_port-requires-clause-room : goal.write_port-requires-clause-room

@@ -1,5 +1,5 @@
 -- A write of a port numbers at most one command, and no frame but the buffer's changes.
-use Rattle.std.proofs.Common.{◌≡◌, ◌/◌, ◌≤◌, ◌+◌, ℕ, [], length, refl, sym, ap, ◌∙◌, subst, arith}
+use Rattle.std.proofs.Common.{◌/◌, ◌≤◌, ◌+◌, ℕ, [], length, refl, sym, ap, ◌∙◌, subst}
 use Rattle.mips_runs.specs.Device.{Device}
 use Rattle.mips_runs.specs.Fits.{NamesSector}
 use Rattle.sector_disk.specs.Ports.{device_of}

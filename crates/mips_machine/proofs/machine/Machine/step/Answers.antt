@@ -1,7 +1,7 @@
 -- The parts of the code's step make one step of the state that callers see.
 use Rattle.std.proofs.Common.{◌≡◌, ◌+◌, ◌≤◌, ℕ, List, [], sym, ap, ◌∙◌, subst, arith}
 use Rattle.std.proofs.lemmas.Result.{MatchResult-from_err}
-use Rattle.mips_runs.specs.Device.{Outside, counted}
+use Rattle.mips_runs.specs.Device.{Outside}
 use Rattle.sector_disk.specs.Ports.{Ports, device_of}
 use Rattle.mips_machine.specs.Hardware.{Hardware, state_in, chosen, Comes}
 use Rattle.mips_machine.specs.Machine.{Held}
@@ -21,7 +21,7 @@ invariant_of-self g c =
     let lit : c.latch.new.self.ports.commands ≡ c.self.inside.hardware.ports.commands = ap (λ (h : Hardware). h.ports.commands) c.latch.ensures in
     let one : acted.ports.commands ≤ c.latch.new.self.ports.commands + 1 = c.act-event.ensures.keeps.commands in
     let few : c.self.inside.hardware.ports.commands ≤ c.self.inside.steps = c.self.invariant.1 in
-    (c.raised_from-next_line.ensures.next, omega arith)
+    (c.raised_from-next_line.ensures.next, omega arith, c.end_step.ensures.whole)
 
 pub returns-in_err-end_step-clause-fault : goal.returns-in_err-end_step-clause-fault
 returns-in_err-end_step-clause-fault g c =
