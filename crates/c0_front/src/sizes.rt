@@ -153,32 +153,6 @@ fn a_source_has_at_most_1048576_bytes(rt: HostRuntime) -> Result<(), Fail> {
     Ok(())
 }
 
-#[test]
-fn asm_texts_do_not_restart_the_count_of_tokens(rt: HostRuntime) -> Result<(), Fail> {
-    let alloc = rt.alloc();
-    // 85 functions have 510 tokens, so the third token of the next one is the 513th
-    let source = repeated(alloc, "", "int f() asm {}\n", 86, "")?;
-    let found = fault_of(alloc, source.as_bytes());
-    assert_eq!(rt;
-        found,
-        Some(SourceFault::Reading(ReadFault::TooNested { at: 1280 }))
-    );
-    Ok(())
-}
-
-#[test]
-fn a_statement_has_at_most_512_tokens_in_a_row(rt: HostRuntime) -> Result<(), Fail> {
-    let alloc = rt.alloc();
-    // `return 1` and the pairs have 510 or 512 tokens, and the `;` is one more
-    let too_many = SourceFault::Reading(ReadFault::TooNested { at: 528 });
-    for (pairs, want) in [(254, None), (255, Some(too_many))] {
-        let items = repeated(alloc, "int f() { return 1", "+1", pairs, "; }")?;
-        let source = kernel(alloc, items.as_str())?;
-        assert_eq!(rt; fault_of(alloc, &source), want, "{pairs} pairs");
-    }
-    Ok(())
-}
-
 // Structs of which each has two of the one before it, and the place of the name of the 21st of these.
 fn doubling_structs(alloc: Global) -> Result<(String, usize), AllocError> {
     let mut items = String::from_str(alloc, "struct s0 { int a; };\n")?;
