@@ -88,16 +88,28 @@ fn every_part_of_a_function_is_a_node(rt: HostRuntime) -> Result<(), Fail> {
 #[test]
 fn words_of_instructions_are_nodes(rt: HostRuntime) -> Result<(), Fail> {
     let alloc = rt.alloc();
-    for (words, want) in [(1998, None), (1999, too_many_nodes(4, 5))] {
+    // a line that isn't allowed has no word
+    let bad_line = TypeFault::AsmNotAllowed {
+        span: Span {
+            start: 17,
+            end: 31993,
+        },
+        line: 3998,
+    };
+    for (words, tail, want) in [
+        (1998, "}", None),
+        (1999, "}", too_many_nodes(4, 5)),
+        (1998, "lw\n}", Some(SourceFault::Typing(bad_line))),
+    ] {
         let items = repeated(
             alloc,
             "int f(int a) asm { #\n",
             "nor r2, r2, r2\n\n",
             words,
-            "}",
+            tail,
         )?;
         let source = kernel(alloc, items.as_str())?;
-        assert_eq!(rt; fault_of(alloc, &source), want, "{words} words");
+        assert_eq!(rt; fault_of(alloc, &source), want, "{words} words and {tail}");
     }
     Ok(())
 }
