@@ -88,39 +88,60 @@ fn every_part_of_a_function_is_a_node(rt: HostRuntime) -> Result<(), Fail> {
 #[test]
 fn words_of_instructions_are_nodes(rt: HostRuntime) -> Result<(), Fail> {
     let alloc = rt.alloc();
-    for (words, want) in [(1998, None), (1999, too_many_nodes(4, 5))] {
+    // a line that isn't allowed has no word
+    let bad_line = TypeFault::AsmNotAllowed {
+        span: Span {
+            start: 17,
+            end: 31993,
+        },
+        line: 3998,
+    };
+    for (words, tail, want) in [
+        (1998, "}", None),
+        (1999, "}", too_many_nodes(4, 5)),
+        (1998, "lw\n}", Some(SourceFault::Typing(bad_line))),
+    ] {
         let items = repeated(
             alloc,
             "int f(int a) asm { #\n",
             "nor r2, r2, r2\n\n",
             words,
-            "}",
+            tail,
         )?;
         let source = kernel(alloc, items.as_str())?;
-        assert_eq!(rt; fault_of(alloc, &source), want, "{words} words");
+        assert_eq!(rt; fault_of(alloc, &source), want, "{words} words and {tail}");
     }
     Ok(())
 }
 
-#[test]
-fn a_unit_has_at_most_100000_nodes(rt: HostRuntime) -> Result<(), Fail> {
-    let alloc = rt.alloc();
-    // 49 functions of 2,000 nodes, one of 1,995 or 1,996, and `dispatch` of 5
-    for (answer, is_too_large) in [("0", false), ("-1", true)] {
-        let mut items = function(alloc, 49, 664, answer)?;
-        for name in 0..49 {
-            items.push_str(function(alloc, name, 665, "x + 1")?.as_str())?;
-        }
-        let source = kernel(alloc, items.as_str())?;
-        assert!(rt; source.len() < 1000000);
-        let span = Span {
-            start: 0,
-            end: source.len() as u32,
-        };
-        let fault = SourceFault::Typing(TypeFault::UnitTooLarge(span));
-        let want = if is_too_large { Some(fault) } else { None };
-        assert_eq!(rt; fault_of(alloc, &source), want, "returns {answer}");
+// A kernel of 49 functions of 2,000 nodes, a `dispatch` of 5, and one function of 1,994 nodes and those of what it returns.
+fn large_kernel(alloc: Global, answer: &str) -> Result<Vec<u8>, AllocError> {
+    let mut items = function(alloc, 49, 664, answer)?;
+    for name in 0..49 {
+        items.push_str(function(alloc, name, 665, "x + 1")?.as_str())?;
     }
+    kernel(alloc, items.as_str())
+}
+
+#[test]
+fn a_unit_of_100000_nodes_is_accepted(rt: HostRuntime) -> Result<(), Fail> {
+    let alloc = rt.alloc();
+    let source = large_kernel(alloc, "0")?;
+    assert_eq!(rt; fault_of(alloc, &source), None);
+    Ok(())
+}
+
+#[test]
+fn a_unit_of_one_more_node_is_too_large(rt: HostRuntime) -> Result<(), Fail> {
+    let alloc = rt.alloc();
+    let source = large_kernel(alloc, "-1")?;
+    assert!(rt; source.len() < 1000000);
+    let span = Span {
+        start: 0,
+        end: source.len() as u32,
+    };
+    let fault = SourceFault::Typing(TypeFault::UnitTooLarge(span));
+    assert_eq!(rt; fault_of(alloc, &source), Some(fault));
     Ok(())
 }
 
@@ -141,32 +162,6 @@ fn a_source_has_at_most_1048576_bytes(rt: HostRuntime) -> Result<(), Fail> {
     let longer = repeated(alloc, " ", blanks, 16384, "")?;
     let found = fault_of(alloc, longer.as_bytes());
     assert_eq!(rt; found, Some(SourceFault::Reading(ReadFault::SourceTooLong)));
-    Ok(())
-}
-
-#[test]
-fn asm_texts_do_not_restart_the_count_of_tokens(rt: HostRuntime) -> Result<(), Fail> {
-    let alloc = rt.alloc();
-    // 85 functions have 510 tokens, so the third token of the next one is the 513th
-    let source = repeated(alloc, "", "int f() asm {}\n", 86, "")?;
-    let found = fault_of(alloc, source.as_bytes());
-    assert_eq!(rt;
-        found,
-        Some(SourceFault::Reading(ReadFault::TooNested { at: 1280 }))
-    );
-    Ok(())
-}
-
-#[test]
-fn a_statement_has_at_most_512_tokens_in_a_row(rt: HostRuntime) -> Result<(), Fail> {
-    let alloc = rt.alloc();
-    // `return 1` and the pairs have 510 or 512 tokens, and the `;` is one more
-    let too_many = SourceFault::Reading(ReadFault::TooNested { at: 528 });
-    for (pairs, want) in [(254, None), (255, Some(too_many))] {
-        let items = repeated(alloc, "int f() { return 1", "+1", pairs, "; }")?;
-        let source = kernel(alloc, items.as_str())?;
-        assert_eq!(rt; fault_of(alloc, &source), want, "{pairs} pairs");
-    }
     Ok(())
 }
 
