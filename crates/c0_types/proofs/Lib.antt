@@ -10,3 +10,5 @@ pub mod UnitBodies
 pub mod UnitPlain
 pub mod DeclaredSpaces
 pub mod DeclaredStructs
+pub mod UnitOutside
+pub mod UnitAnswer

@@ -66,7 +66,13 @@ fn is_dispatch(function: &Function) -> bool
 fn has_dispatch(functions: &[Function]) -> bool
     ensures { result ≡ list_any limits.is_dispatch (map function_view functions.now) }
 {
-    functions.iter().any(|function| is_dispatch(function))
+    for function in functions {
+        let found = is_dispatch(function);
+        if found {
+            return true;
+        }
+    }
+    false
 }
 
 // Checks the headings of functions.
