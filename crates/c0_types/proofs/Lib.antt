@@ -10,3 +10,5 @@ pub mod UnitPlain
 pub mod UnitMeeting
 pub mod UnitResolved
 pub mod UnitBodies
+pub mod UnitOutside
+pub mod UnitAnswer

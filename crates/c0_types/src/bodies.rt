@@ -115,7 +115,12 @@ fn check_statements(
         least,
     );
     let nodes = code_nodes(count, code.locals.len(), &code.stmts, &code.answer);
-    meet_if(least, nodes > MAX_FUNCTION_NODES, Mistake::TooManyNodes, function.name.span);
+    meet_if(
+        least,
+        nodes > MAX_FUNCTION_NODES,
+        Mistake::TooManyNodes,
+        function.name.span,
+    );
     let scope = Scope {
         structs: declared.structs,
         struct_names: &declared.known.names,
@@ -131,7 +136,13 @@ fn check_statements(
         locals: &code.locals,
         local_names: &names,
     };
-    check_code(&scope, &function.answer, &mut code.stmts, &mut code.answer, least);
+    check_code(
+        &scope,
+        &function.answer,
+        &mut code.stmts,
+        &mut code.answer,
+        least,
+    );
     Ok(nodes)
 }
 
@@ -179,7 +190,12 @@ fn check_text(
     let _names = name_locals(alloc, &function.params, &[], least)?;
     let AsmReading { words, bad_line } = read_asm(alloc, &text.bytes)?;
     let nodes = asm_nodes(function.params.len(), words.len());
-    meet_if(least, nodes > MAX_FUNCTION_NODES, Mistake::TooManyNodes, function.name.span);
+    meet_if(
+        least,
+        nodes > MAX_FUNCTION_NODES,
+        Mistake::TooManyNodes,
+        function.name.span,
+    );
     meet_line(least, bad_line, text.span);
     text.words = words;
     Ok(nodes)

@@ -66,7 +66,13 @@ fn is_dispatch(function: &Function) -> bool
 fn has_dispatch(functions: &[Function]) -> bool
     ensures { result ≡ list_any limits.is_dispatch (map function_view functions.now) }
 {
-    functions.iter().any(|function| is_dispatch(function))
+    for function in functions {
+        let found = is_dispatch(function);
+        if found {
+            return true;
+        }
+    }
+    false
 }
 
 // Checks the headings of functions.
@@ -176,11 +182,7 @@ fn whole(unit: &Unit) -> Span
 }
 
 // Checks a unit: its faults are met, its names are resolved, and its asm bodies get their words.
-fn check_unit(
-    alloc: Global,
-    unit: &mut Unit,
-    least: &mut Option<Fault>,
-) -> Result<(), AllocError>
+fn check_unit(alloc: Global, unit: &mut Unit, least: &mut Option<Fault>) -> Result<(), AllocError>
     requires plain { is_plain (unit_view unit.old) ≡ true }
     ensures met { OnOk result (met_view least.new ≡ kept_all (met_view least.old) (source_faults (unit_view unit.old))) }
     ensures resolved { OnOk result (unit_view unit.new ≡ checked_unit (unit_view unit.old)) }

@@ -39,7 +39,7 @@ loop-place-preserved c =
     signatures_same unit i c.loop-place.functions c.args.functions.now c.loop-place.invariant.changed in
     let inside : i < length vs = omega (arith, length-map c.args.functions.now function_view) in
     let more : OneMore unit vs (map function_view c.check_body_at.new.functions) i (met_view c.loop-place.least) (met_view c.check_body_at.new.least)
-        (kept_all (met_view c.args.least.now) (bodies_faults unit vs)) c.loop-place.nodes (min (c.loop-place.nodes + c.in_ok-check_body_at.field-0) (2 ^ 32 - 1)) =
+    (kept_all (met_view c.args.least.now) (bodies_faults unit vs)) c.loop-place.nodes (min (c.loop-place.nodes + c.in_ok-check_body_at.field-0) (2 ^ 32 - 1)) =
     one_more unit (unit_env c.args.declared.now c.loop-place.functions) vs (map function_view c.loop-place.functions) (map function_view c.check_body_at.new.functions) i
     (met_view c.loop-place.least) (met_view c.check_body_at.new.least) (kept_all (met_view c.args.least.now) (bodies_faults unit vs)) c.loop-place.nodes c.in_ok-check_body_at.field-0
     (env_same c.args.declared.now c.loop-place.functions c.args.functions.now same) inside c.loop-place.invariant.changed c.loop-place.invariant.met c.loop-place.invariant.nodes
