@@ -1,5 +1,5 @@
 -- The answer of the check: a unit in which no fault stands is checked, and a fault that was met last is the least.
-use Rattle.std.proofs.Common.{◌≡◌, List, [], ◌∷◌, ◌++◌, true, Option, Some, None, refl, sym, ap, ◌∙◌, subst}
+use Rattle.std.proofs.Common.{◌≡◌, List, [], ◌∷◌, ◌++◌, true, Option, Some, refl, sym, ap, ◌∙◌, subst}
 use Rattle.c0_tree.specs.Tree.{CUnit}
 use Rattle.c0_tree.specs.Plain.{is_plain}
 use Rattle.c0_tree.specs.Primitives.{kernel_primitives}

@@ -1,6 +1,6 @@
 -- Bodies that are checked one after the other: what a unit declares stays, the bodies so far are checked, and the others are as they were.
-use Rattle.std.proofs.Common.{◌≡◌, ℕ, zero, suc, ◌+◌, ◌-◌, ◌^◌, ◌<◌, min, List, [], ◌∷◌, ◌++◌, length, map, get_or, set, Option, refl, sym, ap, ◌∙◌, subst, arith}
-use Rattle.std.proofs.lemmas.List.{length-map, set-get_or, get_or-set_same}
+use Rattle.std.proofs.Common.{◌≡◌, ℕ, zero, suc, ◌+◌, ◌-◌, ◌^◌, ◌<◌, min, List, [], ◌∷◌, length, map, get_or, set, Option, refl, sym, ap, ◌∙◌, subst, arith}
+use Rattle.std.proofs.lemmas.List.{set-get_or, get_or-set_same}
 use Rattle.std.proofs.lemmas.Simd.{map-map}
 use Rattle.c0_tree.specs.declared.tree.Body.{Body}
 use Rattle.c0_tree.specs.declared.tree.Function.{Function}
@@ -10,7 +10,7 @@ use Rattle.c0_tree.specs.View.{body_view, function_view}
 use Rattle.c0_meaning.specs.Ty.{ty_of}
 use Rattle.c0_meaning.specs.Env.{Signature, signature_of, Env}
 use Rattle.c0_meaning.specs.Fault.{Fault, kept_all}
-use Rattle.c0_names.proofs.Meeting.{two_met, kept_all-append}
+use Rattle.c0_names.proofs.Meeting.{kept_all-append}
 use Rattle.c0_body.specs.Scope.{Tells, signature_view}
 use Rattle.c0_body.proofs.InPlace.{done, rest, done-next, done-step, rest-next, map-set, map-get_or}
 use Rattle.c0_types.specs.declared.bodies.Declared.{Declared}

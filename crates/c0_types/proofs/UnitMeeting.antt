@@ -1,19 +1,19 @@
 -- The order in which the checker meets the faults of a unit leaves the same kept as the order of the definition.
-use Rattle.std.proofs.Common.{◌≡◌, ℕ, suc, Bool, true, false, nat_lt, List, [], ◌∷◌, ◌++◌, length, map, Option, refl, sym, ap, ◌∙◌, subst}
+use Rattle.std.proofs.Common.{◌≡◌, true, false, nat_lt, List, [], ◌∷◌, ◌++◌, length, map, Option, refl, sym, ap, ◌∙◌, subst}
 use Rattle.std.proofs.lemmas.List.{append_assoc, append-nil}
 use Rattle.c0_tree.specs.declared.tree.Span.{Span}
 use Rattle.c0_tree.specs.Tree.{CTy, CDecl, CBody, code, asm, CFunction, CUnit, CName}
 use Rattle.c0_tree.specs.Primitives.{CPrimitive}
 use Rattle.c0_meaning.specs.Ty.{ty_of}
-use Rattle.c0_meaning.specs.Env.{Shape, shape_of, typed_of, env_of}
+use Rattle.c0_meaning.specs.Env.{shape_of, typed_of, env_of}
 use Rattle.c0_meaning.specs.Fault.{Fault, kept_all, MeetingJoins, TOO_MANY_PARAMETERS, TOO_MANY_NODES, UNIT_TOO_LARGE, GLOBALS_TOO_LARGE}
 use Rattle.c0_meaning.specs.DeclaredTypes.{fault_if, type_faults, declared_faults, pass_fault, pass_faults}
 use Rattle.c0_meaning.specs.Names.{decl_name_faults, struct_name_faults, unit_name_faults, twice_faults, in_source_order}
-use Rattle.c0_meaning.specs.Limits.{is_asm, locals_of, max_parameters, whole, all_nodes, dispatch_faults, MAX_FUNCTION_NODES, MAX_UNIT_NODES, MAX_GLOBAL_WORDS}
+use Rattle.c0_meaning.specs.Limits.{max_parameters, whole, all_nodes, dispatch_faults, MAX_FUNCTION_NODES, MAX_UNIT_NODES, MAX_GLOBAL_WORDS}
 use Rattle.c0_meaning.specs.Unit.{faults_in, structs_faults, signature_faults, body_faults, functions_faults}
 use Rattle.c0_meaning.specs.Words.{all_words}
 use Rattle.c0_types.specs.Source.{read_body, read_function, read_unit, asm_fault, asm_faults, source_faults}
-use Rattle.c0_types.specs.Parts.{heading_faults, headings_faults, outer_faults, with_locals, nodes_with, inner_faults, faults_of_body, bodies_faults}
+use Rattle.c0_types.specs.Parts.{heading_faults, headings_faults, outer_faults, nodes_with, faults_of_body, bodies_faults}
 use Rattle.c0_tree.specs.Primitives.{kernel_primitives}
 
 -- two lists leave the same, whatever was met before

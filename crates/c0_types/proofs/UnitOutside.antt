@@ -13,9 +13,9 @@ use Rattle.c0_tree.specs.declared.tree.Kind.TheVariants.{Global, Local}
 use Rattle.c0_tree.specs.declared.primitive.Primitive.{Primitive}
 use Rattle.c0_tree.specs.Tree.{CDecl, CStruct, CFunction, CUnit}
 use Rattle.c0_tree.specs.Plain.{is_plain, is_plain_body, is_short}
-use Rattle.c0_tree.specs.Primitives.{CPrimitive, primitive_view, kernel_primitives}
+use Rattle.c0_tree.specs.Primitives.{primitive_view, kernel_primitives}
 use Rattle.c0_tree.specs.View.{decl_view, function_view, struct_view, unit_view}
-use Rattle.c0_meaning.specs.Env.{Shape, Typed, Signature, shape_of, typed_of, signature_of, primitive_signature, Env, env_of}
+use Rattle.c0_meaning.specs.Env.{Shape, Typed, Signature, shape_of, typed_of, signature_of, primitive_signature, env_of}
 use Rattle.c0_meaning.specs.Resolved.{resolved_decls, resolved_structs}
 use Rattle.c0_meaning.proofs.StableTypes.{typed_kept, shapes_kept, decls_length}
 use Rattle.c0_names.specs.Names.{look, number_named}

@@ -1,7 +1,7 @@
 -- A unit in which no fault stands is plain once its asm texts are read, since no asm body has more words than a function may have nodes;
 -- and the words that are read are allowed.
 use Rattle.std.proofs.Common.{◌≡◌, ℕ, suc, ◌+◌, ◌^◌, Bool, true, false, ◌&&◌, nat_lt, List, [], ◌∷◌, ◌++◌, length, map, refl, ap, ◌∙◌, arith}
-use Rattle.std.specs.List.{All, list_all}
+use Rattle.std.specs.List.{list_all}
 use Rattle.std.specs.Prelude.{IsTrue}
 use Rattle.std.proofs.lemmas.Bool.Decides.{nat_tests}
 use Rattle.std.proofs.lemmas.List.Elements.{All-nil, All-cons}

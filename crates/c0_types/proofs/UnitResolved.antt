@@ -4,21 +4,19 @@ use Rattle.std.proofs.lemmas.List.{map-append}
 use Rattle.c0_tree.specs.declared.tree.Span.{Span}
 use Rattle.c0_tree.specs.declared.tree.Kind.{Kind}
 use Rattle.c0_tree.specs.declared.tree.Kind.TheVariants.{Local}
-use Rattle.c0_tree.specs.Tree.{CTy, CDecl, CName, CStmts, CExpr, CBody, code, asm, CFunction, CUnit}
+use Rattle.c0_tree.specs.Tree.{CDecl, CBody, code, asm, CFunction, CUnit}
 use Rattle.c0_tree.specs.Primitives.{CPrimitive}
 use Rattle.c0_meaning.specs.Ty.{Ty, ty_of}
 use Rattle.c0_meaning.specs.Env.{Shape, shape_of, Typed, typed_of, Signature, signature_of, Env, env_of}
-use Rattle.c0_meaning.specs.Expression.{resolved}
 use Rattle.c0_meaning.specs.Fault.{Fault, fault, TOO_MANY_NODES, NAME_TWICE}
 use Rattle.c0_meaning.specs.DeclaredTypes.{fault_if, declared_faults}
 use Rattle.c0_meaning.specs.Names.{twice_faults, decl_name_faults, is_among}
 use Rattle.c0_meaning.specs.Limits.{locals_of, all_nodes, MAX_FUNCTION_NODES}
 use Rattle.c0_meaning.specs.Resolved.{resolved_type, resolved_decls}
-use Rattle.c0_meaning.specs.Statement.{stmts_resolved}
 use Rattle.c0_meaning.specs.Unit.{faults_in, resolved_body, resolved_function, resolved_functions}
 use Rattle.c0_meaning.proofs.StableTypes.{ty_kept, typed_kept, tys_kept, decls_length}
 use Rattle.c0_types.specs.Source.{read_body, read_function, read_unit, asm_fault}
-use Rattle.c0_types.specs.Parts.{headed, headed_functions, with_locals, nodes_with, nodes_read, functions_nodes, inner_faults, faults_of_body, bodies_faults, bodied, inner_body}
+use Rattle.c0_types.specs.Parts.{headed, headed_functions, nodes_with, nodes_read, functions_nodes, faults_of_body, bodies_faults, bodied, inner_body}
 
 -- the names of resolved parameters, followed by other names, are set twice where they were before
 names_headed : (structs : List Shape) (kind : Kind) (k : ℕ) (before : List (List ℕ)) (ps ls : List CDecl)

@@ -1,5 +1,5 @@
 -- What a body is checked with: the declarations of its unit, and maps that tell their numbers.
-use Rattle.std.specs.Prelude.{ℕ, List, [], map}
+use Rattle.std.specs.Prelude.{List, [], map}
 use Rattle.c0_tree.specs.declared.tree.Decl.{Decl}
 use Rattle.c0_tree.specs.declared.tree.StructDef.{StructDef}
 use Rattle.c0_tree.specs.declared.tree.Function.{Function}

@@ -1,8 +1,8 @@
 -- A body of statements is checked in its scope, which is that of its unit with its parameters and locals.
-use Rattle.std.proofs.Common.{◌≡◌, ℕ, ◌+◌, ◌-◌, ◌^◌, ◌++◌, nat_lt, min, get_or, List, [], length, map, refl, sym, ap, ◌∙◌, subst, arith, rules}
+use Rattle.std.proofs.Common.{◌≡◌, ℕ, ◌+◌, ◌-◌, ◌^◌, ◌++◌, nat_lt, min, get_or, List, [], length, map, refl, sym, ap, ◌∙◌, subst, arith}
 use Rattle.std.proofs.lemmas.Grind.{common_steps}
 use Rattle.std.proofs.lemmas.List.{length-map}
-use Rattle.c0_tree.specs.Tree.{CDecl, CBody, CStmts, CExpr, code}
+use Rattle.c0_tree.specs.Tree.{CDecl, CStmts, CExpr, code}
 use Rattle.c0_tree.specs.declared.tree.Decl.{Decl}
 use Rattle.c0_tree.specs.declared.tree.Stmt.{Stmt}
 use Rattle.c0_tree.specs.Size.{nodes, stmts_nodes}
@@ -18,7 +18,7 @@ use Rattle.c0_meaning.specs.Resolved.{resolved_decls}
 use Rattle.c0_names.specs.Met.{met_view}
 use Rattle.c0_names.specs.Names.{number_named}
 use Rattle.c0_names.specs.Structs.{KnowsStructs}
-use Rattle.c0_body.specs.Scope.{FieldsTell, env_view, shape_view, ty_view, typed_view}
+use Rattle.c0_body.specs.Scope.{FieldsTell, shape_view, ty_view, typed_view}
 use Rattle.c0_body.specs.Stmts.{code_faults, resolved_of_stmts}
 use Rattle.c0_types.specs.Known.{unit_env}
 use Rattle.c0_types.specs.Parts.{nodes_with, with_locals}

@@ -1,5 +1,5 @@
 -- The names of parameters and locals are those of both lists, one after the other.
-use Rattle.std.proofs.Common.{◌≡◌, ℕ, None, Vec, Global, map, ap, sym, ◌∙◌}
+use Rattle.std.proofs.Common.{map, ap, sym}
 use Rattle.std.proofs.lemmas.List.{length-map}
 use Rattle.std.specs.Map.{lookup}
 use Rattle.std.specs.Str.{bytes_eq}

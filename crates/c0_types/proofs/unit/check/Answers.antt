@@ -1,7 +1,6 @@
 -- Where no fault was met none stands, and the unit is checked; a fault that was met last is the least.
-use Rattle.std.proofs.Common.{◌≡◌, List, [], Some, None, sym, ap, ◌∙◌}
+use Rattle.std.proofs.Common.{sym, ap, ◌∙◌}
 use Rattle.c0_tree.specs.View.{unit_view}
-use Rattle.c0_meaning.specs.Fault.{Fault, kept_all}
 use Rattle.c0_names.specs.Met.{fault_view, met_view}
 use Rattle.c0_types.specs.Answer.{type_fault_view}
 use Rattle.c0_types.specs.Source.{source_faults}

@@ -1,14 +1,13 @@
 -- One body more is checked, and its faults and nodes are counted.
-use Rattle.std.proofs.Common.{◌≡◌, ◌<◌, ◌+◌, ◌-◌, ◌^◌, ℕ, List, length, map, min, get_or, sym, ap, ◌∙◌, subst, arith, slice_index_or}
+use Rattle.std.proofs.Common.{◌≡◌, ◌<◌, ◌+◌, ◌-◌, ◌^◌, ℕ, List, length, map, min, get_or, sym, ap, ◌∙◌, arith}
 use Rattle.std.proofs.lemmas.List.{length-map}
-use Rattle.c0_tree.specs.declared.tree.Function.{Function}
 use Rattle.c0_tree.specs.Tree.{CFunction}
 use Rattle.c0_tree.specs.View.{function_view}
 use Rattle.c0_meaning.specs.Env.{Env}
 use Rattle.c0_meaning.specs.Fault.{kept_all}
 use Rattle.c0_names.specs.Met.{met_view}
 use Rattle.c0_body.specs.Scope.{signature_view}
-use Rattle.c0_body.proofs.InPlace.{done, rest, done-next, in_place_end}
+use Rattle.c0_body.proofs.InPlace.{rest, done-next, in_place_end}
 use Rattle.c0_types.specs.Known.{unit_env}
 use Rattle.c0_types.specs.Parts.{bodied, bodies_faults, functions_nodes, is_plain_function}
 use Rattle.c0_types.proofs.UnitHeadings.{all_at}

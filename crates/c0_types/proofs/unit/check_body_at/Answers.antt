@@ -1,16 +1,14 @@
 -- The body is checked among functions that are as they were but for the body that is taken out.
-use Rattle.std.proofs.Common.{◌≡◌, ◌<◌, ◌-◌, ◌^◌, ℕ, List, length, map, get_or, set, refl, sym, ap, ◌∙◌, subst}
+use Rattle.std.proofs.Common.{◌≡◌, ◌<◌, ◌^◌, List, length, get_or, set, sym, ap, ◌∙◌, subst}
 use Rattle.std.proofs.lemmas.List.{get_or-set_same}
 use Rattle.c0_tree.specs.declared.tree.Body.{Body}
 use Rattle.c0_tree.specs.declared.tree.Function.{Function}
-use Rattle.c0_tree.specs.Tree.{CFunction}
 use Rattle.c0_tree.specs.Plain.{is_plain_body}
 use Rattle.c0_tree.specs.View.{body_view, function_view}
 use Rattle.c0_meaning.specs.Fault.{kept_all}
 use Rattle.c0_names.specs.Met.{met_view}
-use Rattle.c0_body.specs.Scope.{signature_view}
 use Rattle.c0_types.specs.Known.{unit_env}
-use Rattle.c0_types.specs.Parts.{bodied, faults_of_body, is_plain_function}
+use Rattle.c0_types.specs.Parts.{faults_of_body, is_plain_function}
 use Rattle.c0_types.proofs.UnitHeadings.{few_params, plain_body}
 use Rattle.c0_types.proofs.UnitBodies.{knows_same, env_same, swapped, signatures_swapped, seen_at, faults_swapped, put_back, body_swapped}
 use Rattle.c0_types.proofs.unit.check_body_at.Goals as goal

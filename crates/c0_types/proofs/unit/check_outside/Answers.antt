@@ -1,5 +1,5 @@
 -- What a unit declares outside of bodies is checked part by part.
-use Rattle.std.proofs.Common.{◌≡◌, ◌<◌, ◌+◌, ◌^◌, true, ℕ, nat_lt, List, ◌++◌, length, map, refl, sym, ap, ◌∙◌, subst, arith}
+use Rattle.std.proofs.Common.{◌≡◌, ◌<◌, ◌^◌, true, ℕ, nat_lt, List, ◌++◌, length, map, refl, sym, ap, ◌∙◌, subst, arith}
 use Rattle.std.specs.List.{All, list_all}
 use Rattle.std.specs.Vec.{with_items}
 use Rattle.std.proofs.lemmas.List.{with_items_is}
@@ -12,7 +12,7 @@ use Rattle.c0_tree.specs.Primitives.{primitive_view}
 use Rattle.c0_tree.specs.View.{decl_view, function_view, struct_view, unit_view}
 use Rattle.c0_meaning.specs.DeclaredTypes.{declared_faults, fault_if}
 use Rattle.c0_meaning.specs.Env.{Shape, shape_of, typed_of}
-use Rattle.c0_meaning.specs.Fault.{Fault, kept_all, GLOBALS_TOO_LARGE}
+use Rattle.c0_meaning.specs.Fault.{kept_all, GLOBALS_TOO_LARGE}
 use Rattle.c0_meaning.specs.Limits.{MAX_GLOBAL_WORDS, whole}
 use Rattle.c0_meaning.specs.Names.{struct_name_faults, unit_name_faults}
 use Rattle.c0_meaning.specs.Resolved.{resolved_decls, resolved_structs}

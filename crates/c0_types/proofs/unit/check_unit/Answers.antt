@@ -1,5 +1,5 @@
 -- What is declared, the bodies and the sizes are checked one after the other, which leaves the same kept as the faults of the source.
-use Rattle.std.proofs.Common.{◌≡◌, true, ℕ, nat_lt, not, Bool, List, [], ◌++◌, length, map, refl, sym, ap, ◌∙◌, subst}
+use Rattle.std.proofs.Common.{◌≡◌, nat_lt, not, Bool, List, [], map, sym, ap, ◌∙◌, subst}
 use Rattle.std.specs.List.{list_all, list_any}
 use Rattle.std.proofs.lemmas.List.{with_items_is}
 use Rattle.c0_tree.specs.declared.tree.Decl.{Decl}
@@ -7,12 +7,12 @@ use Rattle.c0_tree.specs.declared.tree.Function.{Function}
 use Rattle.c0_tree.specs.declared.tree.Kind.TheVariants.{Global}
 use Rattle.c0_tree.specs.declared.tree.Span.{Span}
 use Rattle.c0_tree.specs.declared.tree.StructDef.{StructDef}
-use Rattle.c0_tree.specs.Tree.{CFunction, CUnit}
+use Rattle.c0_tree.specs.Tree.{CUnit}
 use Rattle.c0_tree.specs.Primitives.{CPrimitive, kernel_primitives}
 use Rattle.c0_tree.specs.View.{decl_view, function_view, struct_view, unit_view}
 use Rattle.c0_meaning.specs.DeclaredTypes.{fault_if}
 use Rattle.c0_meaning.specs.Env.{Env, Shape, shape_of, env_of}
-use Rattle.c0_meaning.specs.Fault.{Fault, kept_all, UNIT_TOO_LARGE, NO_DISPATCH}
+use Rattle.c0_meaning.specs.Fault.{kept_all, UNIT_TOO_LARGE, NO_DISPATCH}
 use Rattle.c0_meaning.specs.Limits.{all_nodes, dispatch_faults, is_dispatch, whole}
 use Rattle.c0_meaning.specs.Resolved.{resolved_decls, resolved_structs}
 use Rattle.c0_names.specs.Met.{met_view}
