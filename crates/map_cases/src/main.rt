@@ -1,0 +1,58 @@
+// The map of three systems: the first addresses of their parts, and the frames of their memory.
+#![tactic(auto)]
+
+use layer_map::{Map, Params, block_of};
+use std::io;
+
+// Prints the map of a system under its name.
+fn print_map(rt: &impl Print, name: &str, map: &Map) -> io::Result<()> {
+    println!(rt; "{name}")?;
+    println!(rt;
+        "code {:08x} globals {:08x} heap {:08x} stack {:08x}",
+        map.code(),
+        map.globals(),
+        map.heap(),
+        map.stack()
+    )?;
+    println!(rt;
+        "page tables {:08x} frame table {:08x}",
+        map.page_tables(),
+        map.frame_table()
+    )?;
+    println!(rt;
+        "zero frame {:08x} user frames {:08x}",
+        map.zero_frame(),
+        map.user_frames()
+    )?;
+    println!(rt; "frames of memory {}", map.memory_frames())
+}
+
+fn main(rt: HostRuntime) -> io::Result<()> {
+    let no_users = Params {
+        pages: 1,
+        frames: 2,
+        heap: 1024,
+        stack: 1024,
+    };
+    let no_heap = Params {
+        pages: 4,
+        frames: 127,
+        heap: 0,
+        stack: 1025,
+    };
+    let largest = Params {
+        pages: 1024,
+        frames: 16384,
+        heap: 1048576,
+        stack: 262144,
+    };
+    print_map(&rt, "no users", &Map::of(&no_users, 0, 100, 3))?;
+    print_map(&rt, "no heap", &Map::of(&no_heap, 3, 1024, 0))?;
+    print_map(&rt, "the largest", &Map::of(&largest, 64, 4177920, 262144))?;
+    println!(rt;
+        "control blocks {:08x} {:08x} {:08x}",
+        block_of(1),
+        block_of(2),
+        block_of(64)
+    )
+}
