@@ -24,6 +24,3 @@ pub use fault::ScheduleFault;
 pub use lines::Lines;
 pub use row::{BusyRow, LineRow, Row, read_rows_are_spelled, spelled_rows_are_read};
 pub use schedule::{MOST_INPUTS, Schedule, read};
-
-#[cfg(test)]
-mod tests;
