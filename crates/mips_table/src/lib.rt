@@ -12,6 +12,7 @@ pub mod encoding;
 pub mod fields;
 pub mod inst;
 mod instruction_rows;
+pub mod runs;
 pub mod table;
 
 pub use cause::Cause;
