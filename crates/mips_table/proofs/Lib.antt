@@ -3,11 +3,13 @@ pub mod Round
 pub mod Rows
 pub mod RowWords
 pub mod Effects
-pub mod Registers
 pub mod Start
 pub mod Words
 pub mod Space
+pub mod Joins
+pub mod TurnCounts
 pub mod Simulate
 pub mod SimulateFlat
 pub mod Borders
+pub mod FlatCalls
 pub mod Concrete

@@ -45,10 +45,11 @@ pub record CpuFits (c : Cpu) : Type 0 where
   pub hi : IsWord c.hi
   pub lo : IsWord c.lo
 
--- the log has room, and it and the input have words
+-- the log has room, it and the input have words, and the number of input words is one
 pub record ConsoleFits (log input : List ℕ) : Type 0 where
   pub room : length log ≤ LOG_ROOM
   pub logged : All IsWord log
+  pub few : IsWord (length input)
   pub left : All IsWord input
 
 -- each word of the machine is below 2^32, each list has its length, and the mask and the outside have eight lines
@@ -64,7 +65,7 @@ pub record Fits (x : Outside) (s : State) : Type 0 where
 
 -- the machine fits at its start
 abbrev pub StartFits : Type 0
-StartFits = (x : Outside) (memory : List ℕ) (sectors : List (List ℕ)) (input : List ℕ) → HasEightLines x → All IsWord memory → length sectors ≡ x.count → All IsPage sectors → All IsWord input
+StartFits = (x : Outside) (memory : List ℕ) (sectors : List (List ℕ)) (input : List ℕ) → HasEightLines x → All IsWord memory → length sectors ≡ x.count → All IsPage sectors → IsWord (length input) → All IsWord input
     → Fits x (start memory sectors input)
 
 -- a machine that fits goes on to fit, and its memory keeps its length

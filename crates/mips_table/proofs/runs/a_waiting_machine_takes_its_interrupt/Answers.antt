@@ -1,9 +1,8 @@
 -- The run is computed.
-use Rattle.mips_table.proofs.Rows.{occurs, waited}
-use Rattle.mips_table.proofs.a_waiting_machine_takes_its_interrupt.Goals as goal
+use Rattle.std.proofs.Common.{refl}
+use Rattle.mips_table.specs.Machine.{step}
+use Rattle.mips_table.proofs.runs.a_waiting_machine_takes_its_interrupt.Goals as goal
 
-pub returns-clause-occurs : goal.returns-clause-occurs
-returns-clause-occurs c = occurs
-
-pub returns-clause-waited : goal.returns-clause-waited
-returns-clause-waited c = waited
+pub returns : goal.returns
+unfolding step
+returns c = record { special = refl; pc = refl; mask = refl }
