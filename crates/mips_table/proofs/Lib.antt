@@ -2,12 +2,3 @@ pub mod Masks
 pub mod Round
 pub mod Rows
 pub mod RowWords
-pub mod Effects
-pub mod Registers
-pub mod Start
-pub mod Words
-pub mod Space
-pub mod Simulate
-pub mod SimulateFlat
-pub mod Borders
-pub mod Concrete

@@ -12,7 +12,6 @@ pub mod encoding;
 pub mod fields;
 pub mod inst;
 mod instruction_rows;
-pub mod runs;
 pub mod table;
 
 pub use cause::Cause;
