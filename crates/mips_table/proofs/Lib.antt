@@ -8,6 +8,8 @@ pub mod Words
 pub mod Space
 pub mod Joins
 pub mod TurnCounts
+pub mod Settled
+pub mod Instruction
 pub mod Simulate
 pub mod SimulateFlat
 pub mod Borders

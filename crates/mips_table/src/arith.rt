@@ -127,7 +127,9 @@ pub fn signed_quotient(a: u32, b: u32) -> u32
     requires { b ≢ 0 }
     ensures { result ≡ signed_quotient a b }
 {
-    a.cast_signed().wrapping_div(b.cast_signed()).cast_unsigned()
+    a.cast_signed()
+        .wrapping_div(b.cast_signed())
+        .cast_unsigned()
 }
 
 /// What is left of a signed word by that quotient: 0, or of the word's sign.
@@ -135,5 +137,7 @@ pub fn signed_remainder(a: u32, b: u32) -> u32
     requires { b ≢ 0 }
     ensures { result ≡ signed_remainder a b }
 {
-    a.cast_signed().wrapping_rem(b.cast_signed()).cast_unsigned()
+    a.cast_signed()
+        .wrapping_rem(b.cast_signed())
+        .cast_unsigned()
 }
