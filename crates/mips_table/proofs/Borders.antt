@@ -104,6 +104,9 @@ cleared_same causes.Reset s = (refl, refl)
 cleared_same causes.External s = (refl, refl)
 cleared_same other s = (refl, refl)
 
+reset_pc : (c d : Cpu) → c ≡ d → record c { pc = 0 } ≡ record d { pc = 0 }
+reset_pc c d e = rw e refl
+
 pub interrupt_taken : (x : Outside) (s before : State) (cause : Cause) (edata epc : ℕ) → Fits x s → s.off ≡ None → coming x (latched x s) ≡ Interrupt before cause edata epc → Taken x s before cause edata epc
 unfolding step
 interrupt_taken x s before cause edata epc h on e =
@@ -121,7 +124,7 @@ interrupt_taken x s before cause edata epc h on e =
         mode = ap (λ z. slice_index z.special MODE) is;
         aligned = ap (λ z. z.cpu.pc % 4) is;
       };
-      cpu = ap (λ z. z.cpu) is ∙ ap (λ c. record c { pc = 0 }) k.cpu;
+      cpu = ap (λ z. z.cpu) is ∙ reset_pc before.cpu s.cpu k.cpu;
       memory = ap (λ z. z.memory) is ∙ c.1 ∙ k.memory;
     }
 

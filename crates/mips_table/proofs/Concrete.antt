@@ -7,13 +7,13 @@ use Rattle.std.proofs.lemmas.List.Elements.{All-cons, All-replicate}
 use Rattle.mips_table.specs.declared.inst.Inst.{Inst}
 use Rattle.mips_table.specs.declared.inst.Inst.TheVariants.{Addiu, Sw}
 use Rattle.mips_table.specs.Encoding.{InRange, encoding}
-use Rattle.mips_table.specs.Device.{Outside}
+use Rattle.mips_table.specs.Device.{Outside, HasEightLines, LinesEnd}
 use Rattle.mips_table.specs.Machine.{start, run}
 use Rattle.mips_table.specs.Fits.{IsWord, Fits}
-use Rattle.mips_table.specs.Code.{World, on_machine, on_flat, Sound, Sys, act, act_at, Steps}
-use Rattle.mips_table.specs.Simulation.{sys_of, Quiet, Holds, Ran, flat_sys, FlatFits, RanFlat}
-use Rattle.mips_table.specs.Premises.{storing, eight_words, program, machine, flat, OnMachine, OnFlat, Raises}
-use Rattle.mips_table.proofs.Start.{start_fits}
+use Rattle.mips_table.specs.Code.{World, on_machine, on_flat, Sound, Configuration, act, code_run, MayRun}
+use Rattle.mips_table.specs.Simulation.{configuration_of, Quiet, Holds, Simulates, flat_configuration, FlatFits, SimulatesFlat}
+use Rattle.mips_table.specs.Premises.{storing, eight_words, program, machine, flat, OnMachine, OnFlat, raising}
+use Rattle.mips_table.proofs.Start.{zero_fits, start_fits}
 use Rattle.mips_table.proofs.Simulate.{follows}
 use Rattle.mips_table.proofs.SimulateFlat.{flat_follows}
 
@@ -48,28 +48,36 @@ words =
     let zeros : All IsWord (replicate 6 0) = All-replicate IsWord 6 0 (omega arith) in
     All-cons IsWord (encoding (Addiu 1 0 5)) (encoding (Sw 1 0 28) ∷ replicate 6 0) (omega arith) (All-cons IsWord (encoding (Sw 1 0 28)) (replicate 6 0) (omega arith) zeros)
 
--- what the code comes to
-abbrev after : World → Sys → Sys
-after w s = act_at w (Some (Sw 1 0 28)) (act_at w (Some (Addiu 1 0 5)) s)
+-- the code on a machine of eight words
+sound_machine : (x : Outside) → Sound (on_machine x program)
+sound_machine x = record { small = omega arith; range = range; inside = inside; keeps = keeps }
 
-pub on_machine_met : (x : Outside) → x.count ≡ 0 → OnMachine x
+pub on_machine_met : (x : Outside) → x.count ≡ 0 → HasEightLines x → OnMachine x
 unfolding act
-on_machine_met x count =
+on_machine_met x count eight =
     let w : World = on_machine x program in
-    let f : Sound w = record { small = omega arith; range = range; inside = inside; keeps = keeps } in
-    let fits : Fits x (start eight_words []) = start_fits x eight_words [] words (sym count) (λ k d lt. absurd (omega arith)) in
-    let q : Quiet x machine = record { fits = record { pc = fits.pc; regs = fits.regs; special = fits.special; memory = fits.memory; device = fits.device; mask = fits.mask; off = fits.off }; on = refl; no_reset = refl; sr = refl; mode = refl; aligned = refl } in
+    let f : Sound w = sound_machine x in
+    let fits : Fits x (start eight_words [] []) = start_fits x eight_words [] [] eight words (sym count) (λ k d lt. absurd (omega arith)) (omega arith) (λ k d lt. absurd (omega arith)) in
+    let q : Quiet x machine = record {
+      fits = record { cpu = fits.cpu; special = fits.special; memory = fits.memory; device = fits.device; console = fits.console; lines = fits.lines; mask = fits.mask; off = fits.off };
+      on = refl;
+      no_reset = refl;
+      sr = refl;
+      mode = refl;
+      aligned = refl;
+    } in
     let h : Holds w machine.memory = record { size = refl; kept = kept } in
-    let steps : Steps w 2 (sys_of machine) (after w (sys_of machine)) = (refl, ((refl, (λ le. refl), refl, (omega arith)), refl)) in
-    let r : Ran x w 2 machine (after w (sys_of machine)) = follows x program f 2 machine _ q h steps in
+    let end : Configuration = code_run w (configuration_of machine) 2 in
+    let may : MayRun w 2 (configuration_of machine) = (refl, ((refl, (λ le. refl), refl, (omega arith)), tt)) in
+    let r : Simulates x w 2 machine = follows x program f 2 machine q h may in
     let size : length (run x machine 2).memory ≡ 8 = (r.along 2 (omega arith)).holds.size in
     record {
       sound = f;
       quiet = q;
       holds = h;
-      end = after w (sys_of machine);
-      steps = steps;
-      stored = sym (cond-true _ (slice_index (run x machine 2).memory 7) 0 (lt-ltb 7 (length (run x machine 2).memory) (omega arith))) ∙ ap (λ s. s.core.memory 7) r.same;
+      end = end;
+      steps = (may, refl);
+      stored = sym (cond-true _ (slice_index (run x machine 2).memory 7) 0 (lt-ltb 7 (length (run x machine 2).memory) (omega arith))) ∙ ap (λ s. s.contents.memory 7) (r.same 2 (omega arith));
     }
 
 pub on_flat_met : OnFlat
@@ -77,29 +85,26 @@ unfolding act
 on_flat_met =
     let w : World = on_flat program in
     let f : Sound w = record { small = omega arith; range = range; inside = inside; keeps = keeps } in
-    let fits : FlatFits flat = record { pc = omega arith; aligned = refl; regs = record { size = refl; each = All-replicate IsWord 32 0 (omega arith); none = refl }; words = words } in
+    let fits : FlatFits flat = record { cpu = zero_fits; aligned = refl; words = words } in
     let h : Holds w flat.words = record { size = refl; kept = kept } in
-    let steps : Steps w 2 (flat_sys flat) (after w (flat_sys flat)) = (refl, ((refl, (λ le. absurd (omega arith)), refl, (omega arith)), refl)) in
-    let r : RanFlat w 2 flat (after w (flat_sys flat)) = flat_follows program f 2 flat _ fits h steps in
+    let end : Configuration = code_run w (flat_configuration flat) 2 in
+    let may : MayRun w 2 (flat_configuration flat) = (refl, ((refl, (λ le. absurd (omega arith)), refl, (omega arith)), tt)) in
+    let r : SimulatesFlat w 2 flat = flat_follows program f 2 flat fits h may in
     record {
       sound = f;
       fits = fits;
       holds = h;
-      end = after w (flat_sys flat);
-      steps = steps;
-      stored = ap (λ s. s.core.memory 7) r.same;
+      end = end;
+      steps = (may, refl);
+      stored = ap (λ s. s.contents.memory 7) (r.same 2 (omega arith));
     }
 
--- lines 0 and 3 at step 1
-abbrev lines : ℕ → ℕ
-lines t = if t == 1 then 9 else 0
-
-no_more : (t : ℕ) → 1 < t → lines t ≡ 0
+no_more : LinesEnd raising
 no_more t lt = cond-false _ 9 0 (ne_eqb t 1 (λ e. absurd (omega arith)))
 
-small : (t : ℕ) → lines t < 2 ^ 8
+small : HasEightLines raising
 small t = cond_both (t == 1) 9 0 (λ n. n < 2 ^ 8) (λ _. omega arith) (λ _. omega arith)
 
--- there is an outside that raises lines meanwhile
-pub raises : (x : Outside) × Raises x
-raises = (record { lines = lines; busy = λ _. 0; count = 0; last = 1; ends = no_more; eight = small }, record { count = refl; raised = refl })
+-- an outside that raises lines
+pub raises : (raising.count ≡ 0) × HasEightLines raising × LinesEnd raising × (raising.lines 1 ≡ 9)
+raises = (refl, small, no_more, refl)
