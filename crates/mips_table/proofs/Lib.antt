@@ -2,3 +2,16 @@ pub mod Masks
 pub mod Round
 pub mod Rows
 pub mod RowWords
+pub mod Effects
+pub mod Start
+pub mod Words
+pub mod Space
+pub mod Joins
+pub mod TurnCounts
+pub mod Settled
+pub mod Instruction
+pub mod Simulate
+pub mod SimulateFlat
+pub mod Borders
+pub mod FlatCalls
+pub mod Concrete

@@ -1,4 +1,5 @@
-//! The instruction table: the words of the MIPS32 instructions of this project's processor, and what each does.
+//! The instruction table: the words of the MIPS32 instructions of this project's processor, and what each does. The physical
+//! machine and the flat machine that run them, and the run of code, stand here as definitions, with their laws.
 //!
 //! Source of the words and of the arithmetic: MIPS32 Architecture. There is no delay slot.
 #![tactic(auto)]
@@ -11,6 +12,7 @@ pub mod encoding;
 pub mod fields;
 pub mod inst;
 mod instruction_rows;
+pub mod runs;
 pub mod table;
 
 pub use cause::Cause;

@@ -1,0 +1,6 @@
+-- By what comes in the step.
+use Rattle.mips_table.proofs.Borders.{interrupt_taken}
+use Rattle.mips_table.proofs.runs.an_interrupt_is_taken.Goals as goal
+
+pub returns : goal.returns
+returns c = interrupt_taken
