@@ -1,7 +1,7 @@
 -- The machines that meet the premises of the laws on runs of code. What word 7 is at the end comes by those laws, and not
 -- by computing the machine's own steps.
 use Rattle.std.proofs.Common.{◌≡◌, ℕ, zero, suc, ◌^◌, ◌<◌, Some, [], ◌∷◌, length, map, replicate, All, slice_get, slice_index, refl, sym, ap, ◌∙◌, subst, arith}
-use Rattle.std.specs.Prelude.{◌==◌, if◌then◌else◌}
+use Rattle.std.specs.Prelude.{◌==◌}
 use Rattle.std.proofs.lemmas.Bool.{cond_both, cond-false, cond-true, ne_eqb, lt-ltb}
 use Rattle.std.proofs.lemmas.List.Elements.{All-cons, All-replicate}
 use Rattle.mips_table.specs.declared.inst.Inst.{Inst}

@@ -1,7 +1,5 @@
 -- A system call of the code on the flat machine: its step is the trap with its word.
-use Rattle.std.proofs.Common.{◌≡◌, ℕ, ◌/◌, Some, ◌∙◌, ap}
 use Rattle.mips_table.specs.declared.inst.Inst.TheVariants.{Syscall}
-use Rattle.mips_table.specs.Code.{Program, on_flat, Sound}
 use Rattle.mips_table.specs.Borders.{FlatCalls}
 use Rattle.mips_table.proofs.SimulateFlat.{flat_step}
 

@@ -1,6 +1,6 @@
 -- One instruction of the code on the physical machine, by its effect. Loads and stores are joined to the words of the run
 -- by the lemmas on the words that can be read.
-use Rattle.std.proofs.Common.{◌≡◌, ◌≢◌, ℕ, ◌+◌, ◌-◌, ◌/◌, ◌%◌, ◌^◌, ◌<◌, ◌≤◌, Bool, true, false, not, ◌&&◌, nat_lt, Option, Some, None, List, ◌∷◌, ◌++◌, [], drop, length, slice_index, slice_set, refl, sym, ap, ◌∙◌, subst, ⊎_elim, arith, lt-ltb, le-ltb, eq-eqb, ne_eqb, length-set, get_or-set_other}
+use Rattle.std.proofs.Common.{◌≡◌, ◌≢◌, ℕ, ◌+◌, ◌-◌, ◌/◌, ◌%◌, ◌^◌, ◌<◌, ◌≤◌, Bool, true, false, not, ◌&&◌, nat_lt, Some, None, List, ◌∷◌, ◌++◌, [], drop, length, slice_index, slice_set, refl, sym, ap, ◌∙◌, subst, ⊎_elim, arith, lt-ltb, le-ltb, eq-eqb, ne_eqb, length-set, get_or-set_other}
 use Rattle.std.specs.Prelude.{◌==◌, if◌then◌else◌, is_some}
 use Rattle.std.proofs.lemmas.Bool.{cases_lt, cond-true, cond-false, and_parts, eqb-true, ltb-true, ltb-false, not-true}
 use Rattle.mips_table.specs.declared.inst.Inst.{Inst}
@@ -11,8 +11,8 @@ use Rattle.mips_table.specs.declared.effect.Effect.TheVariants.{Set, Wide, Load,
 use Rattle.mips_table.specs.Encoding.{InRange, encoding}
 use Rattle.mips_table.specs.Decoding.{decoding}
 use Rattle.mips_table.specs.Effect.{next}
-use Rattle.mips_table.specs.Processor.{Cpu, Move, Loaded, Stored, Trapped, went_on, with_loaded, advanced, is_aligned, accessed, performed, effect_on, executed, move}
-use Rattle.mips_table.specs.Device.{Device, Reading, Writing, Outside, BUFFER, SECTOR, COMMAND, POWER, is_busy, is_buffer, port_read, begun, port_write}
+use Rattle.mips_table.specs.Processor.{Move, Loaded, Stored, Trapped, went_on, with_loaded, advanced, accessed, performed, effect_on, executed, move}
+use Rattle.mips_table.specs.Device.{Device, Reading, Writing, Outside, BUFFER, SECTOR, COMMAND, POWER, is_busy, is_buffer, begun, port_write}
 use Rattle.mips_table.specs.Machine.{SR, MODE, PTO, PTL, LOG, LEFT, INPUT, LOG_ROOM, State, entry_address, translated, located, port_word, read, after_read, read_at, after_read_at, port_written, written, written_at, access, flagged, Coming, Interrupt, Done, privileged, moved, fetch, fetched, coming}
 use Rattle.mips_table.specs.Code.{put, Contents, reg, with_reg, Behind, World, Program, on_machine, Sound, Configuration, settle, commanded, port_loaded, word_loaded, after_load, logged, after_store, privileged as does_privileged, acted, PrivilegedMay, EffectMay}
 use Rattle.mips_table.specs.Simulation.{space, contents_of, behind_of, Quiet, Holds}
@@ -314,10 +314,11 @@ module _ (x : Outside) (p : Program) (f : Sound (on_machine x p)) where
       let k : ℕ = s.cpu.pc / 4 in
       let lt = f.inside k i at in
       let in' : nat_lt k (length s.memory) ≡ true = lt-ltb k (length s.memory) (omega (arith, h.size)) in
-      let plain = plainly s false s.cpu.pc q in
-      (ap (read_at s) plain ∙ cond-true _ (slice_index s.memory k) (port_word s k) in' ∙ h.kept k (encoding i) (f.keeps k i at),
-      cond-true _ (after_read_at s (located s false s.cpu.pc)) s (eq-eqb (s.cpu.pc % 4) 0 q.aligned) ∙ ap (after_read_at s) plain
-      ∙ cond-true _ s (if k == INPUT then record s { input = drop 1 s.input } else s) in')
+      let plain = plainly s false s.cpu.pc q in (
+        ap (read_at s) plain ∙ cond-true _ (slice_index s.memory k) (port_word s k) in' ∙ h.kept k (encoding i) (f.keeps k i at),
+        cond-true _ (after_read_at s (located s false s.cpu.pc)) s (eq-eqb (s.cpu.pc % 4) 0 q.aligned) ∙ ap (after_read_at s) plain
+            ∙ cond-true _ s (if k == INPUT then record s { input = drop 1 s.input } else s) in',
+      )
 
   -- with no interrupt, the instruction of the code is done
   pub instruction : (s : State) (i : Inst) → Quiet x s → Holds w s.memory → p.code (s.cpu.pc / 4) ≡ Some i → coming x s ≡ moved x s (performed (access s) s.cpu (encoding i) (effect_on i s.cpu))

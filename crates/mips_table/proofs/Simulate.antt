@@ -1,6 +1,6 @@
 -- The physical machine simulates each run of code, whatever lines are raised: one step by its instruction, and then a run
 -- by induction.
-use Rattle.std.proofs.Common.{◌≡◌, ℕ, zero, suc, ◌+◌, ◌*◌, ◌/◌, ◌%◌, ◌<◌, ◌≤◌, Option, Some, None, length, slice_index, bit_or, refl, sym, ap, ap₂, ◌∙◌, subst, arith}
+use Rattle.std.proofs.Common.{◌≡◌, ℕ, zero, suc, ◌+◌, ◌*◌, ◌/◌, ◌%◌, Option, Some, None, length, slice_index, bit_or, refl, sym, ap, ap₂, ◌∙◌, subst, arith}
 use Rattle.mips_table.specs.declared.inst.Inst.{Inst}
 use Rattle.mips_table.specs.declared.effect.Effect.{Effect}
 use Rattle.mips_table.specs.Encoding.{encoding}

@@ -11,7 +11,7 @@ use Rattle.mips_table.specs.declared.effect.Effect.TheVariants.{Set, Wide, Load,
 use Rattle.mips_table.specs.Encoding.{encoding}
 use Rattle.mips_table.specs.Decoding.{decoding}
 use Rattle.mips_table.specs.Effect.{next, effect_of}
-use Rattle.mips_table.specs.Processor.{Cpu, Access, Move, Loaded, Stored, Trapped, went_on, with_loaded, advanced, accessed, performed, effect_on, executed}
+use Rattle.mips_table.specs.Processor.{Move, Loaded, Stored, Trapped, went_on, advanced, accessed, performed, effect_on, executed}
 use Rattle.mips_table.specs.Flat.{Flat, VStep, Next, flat_access, word_at, answered, vstep}
 use Rattle.mips_table.specs.Device.{COMMAND, SECTOR, is_buffer}
 use Rattle.mips_table.specs.Machine.{LOG, INPUT}

@@ -1,5 +1,5 @@
 -- The machine at its start fits: its lists are filled with zeros.
-use Rattle.std.proofs.Common.{◌≡◌, ℕ, List, [], length, replicate, All, refl, arith}
+use Rattle.std.proofs.Common.{◌≡◌, ℕ, List, length, replicate, All, refl, arith}
 use Rattle.std.proofs.lemmas.List.{length-replicate}
 use Rattle.std.proofs.lemmas.List.Elements.{All-replicate}
 use Rattle.mips_table.specs.Device.{Outside, HasEightLines}

@@ -219,9 +219,11 @@ module _ (x : Outside) where
   privileged_fits : (s : State) (n word : ℕ) (o : Option Inst) → FitsWith x n s → IsWord word → ComingFits x n (privileged s word o)
   privileged_fits s n word (Some (Mfc0 rt k)) h w = with_cpu s n _ h (goes_on s.cpu rt _ _ h.0.cpu (specials s k h.0) (cut _))
   privileged_fits s n word (Some (Mtc0 rt k)) h w = (with_special s _ _ h.0 (advances s.cpu h.0.cpu) (special_fits s.special k _ h.0.special (flags k _ (read_word s.cpu.regs rt h.0.cpu.regs.each))), h.1)
-  privileged_fits s n word (Some Eret) h w =
-      (with_special s _ _ h.0 (record { pc = specials s EPC h.0; regs = h.0.cpu.regs; hi = h.0.cpu.hi; lo = h.0.cpu.lo })
-      (special_fits _ MODE _ (special_fits s.special SR _ h.0.special (specials s ESR h.0)) (specials s EMODE h.0)), h.1)
+  privileged_fits s n word (Some Eret) h w = (
+    with_special s _ _ h.0 (record { pc = specials s EPC h.0; regs = h.0.cpu.regs; hi = h.0.cpu.hi; lo = h.0.cpu.lo })
+        (special_fits _ MODE _ (special_fits s.special SR _ h.0.special (specials s ESR h.0)) (specials s EMODE h.0)),
+    h.1,
+  )
   privileged_fits s n word other h w = (h, w, h.0.cpu.pc)
 
   -- a state for another number of words of memory

@@ -6,7 +6,6 @@ use Rattle.mips_table.specs.declared.cause.Cause.{Cause}
 use Rattle.mips_table.specs.declared.cause.Cause.TheVariants as causes
 use Rattle.mips_table.specs.Arith.{sum, extended}
 use Rattle.mips_table.specs.Encoding.{encoding}
-use Rattle.mips_table.specs.Effect.{next}
 use Rattle.mips_table.specs.Processor.{advanced}
 use Rattle.mips_table.specs.Flat.{Flat, Trap, vstep}
 use Rattle.mips_table.specs.Device.{Outside, POWER}

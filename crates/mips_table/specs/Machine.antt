@@ -6,7 +6,7 @@ use Rattle.mips_table.specs.declared.cause.Cause.{Cause}
 use Rattle.mips_table.specs.declared.cause.Cause.TheVariants.{Reset, External, FetchAlign, FetchFault, Illegal, Overflow, Syscall, DataAlign, DataFault}
 use Rattle.mips_table.specs.Decoding.{decoding}
 use Rattle.mips_table.specs.Effect.{next}
-use Rattle.mips_table.specs.Processor.{Cpu, Access, Move, Ran, Loaded, Stored, Trapped, Privileged, write, went_on, with_loaded, advanced, is_aligned, move}
+use Rattle.mips_table.specs.Processor.{Cpu, Access, Move, Ran, Loaded, Stored, Trapped, Privileged, went_on, with_loaded, advanced, is_aligned, move}
 use Rattle.mips_table.specs.Device.{Device, Idle, Outside, POWER, port_read, port_write, counted}
 
 -- The special registers, by the numbers that mfc0 and mtc0 name: sr 1 says that external interrupts are taken.

@@ -1,5 +1,5 @@
 -- The product of 64 bits: what is signed in 32 bits is the same in 64, and the product of two such numbers fits.
-use Rattle.std.proofs.Common.{◌≡◌, ℕ, ◌+◌, ◌*◌, ◌^◌, ◌<◌, ◌≤◌, ℤ, ap, ap₂, ◌∙◌, ◌*ℤ◌, arith, rules}
+use Rattle.std.proofs.Common.{◌≡◌, ℕ, ◌^◌, ◌<◌, ◌≤◌, ℤ, ap, ap₂, ◌∙◌, ◌*ℤ◌, arith, rules}
 use Rattle.std.specs.Int.{cast_signed, cast_unsigned, w32, w64}
 use Rattle.std.specs.Int.RustNames.{FitsSigned, unsigned_abs}
 use Rattle.std.proofs.lemmas.Int.{to_z-of_z, of_z-to_z, ints, fits_signed_from_abs, unsigned_abs-mul}
