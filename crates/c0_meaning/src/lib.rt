@@ -5,7 +5,9 @@
 
 pub mod checked;
 pub mod laws;
+pub mod run_laws;
 pub mod sizes;
+pub mod world;
 
 pub use checked::Checked;
 pub use sizes::{frame_words, words_of};
