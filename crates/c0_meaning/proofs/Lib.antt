@@ -31,3 +31,4 @@ pub mod SafeRuns
 pub mod SafeStates
 pub mod Steps
 pub mod Zeros
+pub mod CallChains
