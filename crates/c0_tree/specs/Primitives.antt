@@ -17,7 +17,8 @@ abbrev pub primitive_view : Primitive → CPrimitive
 primitive_view p = record { name = p.name.now; args = p.args.now; answer = p.answer }
 
 -- The primitives of a kernel: a register, or the pc as register 32, is read and set; the size in pages is read and set; a word of
--- memory is read and set; and words are copied.
+-- memory is read and set; words are copied; a word is written to the console, the next one is read from it, and the number of those
+-- that are left is read.
 abbrev pub kernel_primitives : List CPrimitive
 kernel_primitives =
     record { name = codes "vm_get"; args = Int ∷ Int ∷ []; answer = Int }
@@ -27,6 +28,9 @@ kernel_primitives =
     ∷ record { name = codes "vm_word"; args = Int ∷ Int ∷ []; answer = Int }
     ∷ record { name = codes "vm_put"; args = Int ∷ Int ∷ Int ∷ []; answer = Boolean }
     ∷ record { name = codes "vm_copy"; args = Int ∷ Int ∷ Int ∷ Int ∷ Int ∷ []; answer = Boolean }
+    ∷ record { name = codes "con_put"; args = Int ∷ []; answer = Boolean }
+    ∷ record { name = codes "con_get"; args = []; answer = Int }
+    ∷ record { name = codes "con_left"; args = []; answer = Int }
     ∷ []
 
 -- whether no row has the name of another

@@ -28,8 +28,8 @@ const fn row(name: &'static str, args: &'static [Scalar], answer: Scalar) -> Pri
     Primitive { name, args, answer }
 }
 
-/// The primitives of a kernel: it reads and changes the registers and the memory of the user machines.
-pub fn primitives() -> [Primitive; 7]
+/// The primitives of a kernel: it reads and changes the registers and the memory of the user machines, and the console.
+pub fn primitives() -> [Primitive; 10]
     ensures rows { map primitive_view result ≡ kernel_primitives }
     ensures names { IsTrue (names_apart kernel_primitives) }
 {
@@ -42,5 +42,8 @@ pub fn primitives() -> [Primitive; 7]
         row("vm_word", &[Int, Int], Int),
         row("vm_put", &[Int, Int, Int], Bool),
         row("vm_copy", &[Int, Int, Int, Int, Int], Bool),
+        row("con_put", &[Int], Bool),
+        row("con_get", &[], Int),
+        row("con_left", &[], Int),
     ]
 }

@@ -63,7 +63,7 @@ lexemes_of s = globals_lexemes s.globals ++ (head_lexemes s ++ (assignments_lexe
 
 -- the names that no global has: dispatch and the primitives
 abbrev pub taken_names : List (List ℕ)
-taken_names = codes "dispatch" ∷ codes "vm_get" ∷ codes "vm_set" ∷ codes "vm_size" ∷ codes "vm_resize" ∷ codes "vm_word" ∷ codes "vm_put" ∷ codes "vm_copy" ∷ []
+taken_names = codes "dispatch" ∷ codes "vm_get" ∷ codes "vm_set" ∷ codes "vm_size" ∷ codes "vm_resize" ∷ codes "vm_word" ∷ codes "vm_put" ∷ codes "vm_copy" ∷ codes "con_put" ∷ codes "con_get" ∷ codes "con_left" ∷ []
 
 -- a name isn't among these
 abbrev pub IsNew : List (List ℕ) → List ℕ → Type 0

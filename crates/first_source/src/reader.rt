@@ -23,7 +23,7 @@ const MOST_ASSIGNMENTS: usize = 100;
 const MOST_OPERATORS: usize = 8;
 
 // The names that no global has: dispatch and the primitives.
-const TAKEN_NAMES: [&[u8]; 8] = [
+const TAKEN_NAMES: [&[u8]; 11] = [
     b"dispatch",
     b"vm_get",
     b"vm_set",
@@ -32,6 +32,9 @@ const TAKEN_NAMES: [&[u8]; 8] = [
     b"vm_word",
     b"vm_put",
     b"vm_copy",
+    b"con_put",
+    b"con_get",
+    b"con_left",
 ];
 
 /// Why no kernel was read.
