@@ -4,13 +4,13 @@ use Rattle.std.specs.Prelude.{ℕ, ◌==◌, ◌&&◌, ◌||◌, nat_le, if◌th
 use Rattle.std.proofs.lemmas.Bool.{eqb-true, eqb-false, leb-true}
 use Rattle.std.proofs.lemmas.List.{get_or-set_same, get_or-set_other, length-set}
 use Rattle.mips_table.specs.declared.inst.Inst.{Inst}
-use Rattle.mips_table.specs.declared.inst.Inst.TheVariants.{Sll, Srl, Sra, Sllv, Srlv, Srav, Jr, Jalr, Syscall, Add, Addu, Sub, Subu, And, Or, Xor, Nor, Slt, Sltu, Bltz, Bgez, J, Jal, Beq, Bne, Blez, Bgtz, Addi, Addiu, Slti, Sltiu, Andi, Ori, Xori, Lui, Mfc0, Mtc0, Eret, Lw, Sw}
+use Rattle.mips_table.specs.declared.inst.Inst.TheVariants.{Sll, Srl, Sra, Sllv, Srlv, Srav, Jr, Jalr, Syscall, Add, Addu, Sub, Subu, And, Or, Xor, Nor, Slt, Sltu, Bltz, Bgez, J, Jal, Beq, Bne, Blez, Bgtz, Addi, Addiu, Slti, Sltiu, Andi, Ori, Xori, Lui, Mfc0, Mtc0, Eret, Lw, Sw, Mult, Multu, Div, Divu, Mfhi, Mthi, Mflo, Mtlo}
 use Rattle.mips_table.specs.declared.effect.Effect.{Effect}
-use Rattle.mips_table.specs.declared.effect.Effect.TheVariants.{Set, Load, Store, Overflow, Call, System}
+use Rattle.mips_table.specs.declared.effect.Effect.TheVariants.{Set, Wide, Load, Store, Overflow, Call, System}
 use Rattle.mips_table.specs.Effect.{effect_of}
 use Rattle.mips_table.specs.Arith.{sum, difference, less, shifted_left, shifted_right, shifted_signed, nor, flag, extended}
 use Rattle.mips_table.specs.Decoding.{decoding}
-use Rattle.mips_table.specs.Core.{write}
+use Rattle.mips_table.specs.Processor.{write}
 use Rattle.c0_meaning.specs.Asm.{may_use, is_allowed, is_allowed_word, are_allowed_words}
 use Rattle.c0_meaning.specs.AsmBody.{registers_after, performed}
 use Rattle.c0_meaning.proofs.Allowed.{left, right, IsNot}
@@ -100,6 +100,14 @@ module _ (regs others : List ℕ) (long : 8 ≤ length regs) (wide : 8 ≤ lengt
   kept Eret ok = absurd (is_not ok)
   kept (Lw rt rs imm) ok = absurd (is_not ok)
   kept (Sw rt rs imm) ok = absurd (is_not ok)
+  kept (Mult rs rt) ok = absurd (is_not ok)
+  kept (Multu rs rt) ok = absurd (is_not ok)
+  kept (Div rs rt) ok = absurd (is_not ok)
+  kept (Divu rs rt) ok = absurd (is_not ok)
+  kept (Mfhi rd) ok = absurd (is_not ok)
+  kept (Mthi rs) ok = absurd (is_not ok)
+  kept (Mflo rd) ok = absurd (is_not ok)
+  kept (Mtlo rs) ok = absurd (is_not ok)
 
 -- the test of a word, by what it decodes to
 abbrev tested : Option Inst → Bool
@@ -112,6 +120,7 @@ kept_word regs others long wide same (Some inst) ok = kept regs others long wide
 
 after_length : (xs : List ℕ) (e : Effect) → length (registers_after xs e) ≡ length xs
 after_length xs (Set r v to) = write_length xs r v
+after_length xs (Wide hi lo to) = refl
 after_length xs (Load r a) = refl
 after_length xs (Store a v) = refl
 after_length xs Overflow = refl
@@ -120,7 +129,7 @@ after_length xs System = refl
 
 performed_length : (xs : List ℕ) (i : Option Inst) → length (performed xs i) ≡ length xs
 performed_length xs None = refl
-performed_length xs (Some inst) = after_length xs (effect_of inst 0 (slice_index xs))
+performed_length xs (Some inst) = after_length xs (effect_of inst 0 (slice_index xs) 0 0)
 
 pub look_at_theirs : LookAtTheirs
 look_at_theirs [] regs others ok long wide same = same

@@ -1,8 +1,10 @@
 -- The first state is typed, and calls from typed states are never stuck.
 use Rattle.std.proofs.Common.{◌≡◌, ℕ, zero, suc, true, List, [], ◌∷◌, map, Option, Some, refl, sym, ap, subst, arith}
-use Rattle.std.specs.Prelude.{ℤ, pos, FitsSigned, slice_get, unwrap_or}
+use Rattle.std.specs.Prelude.{ℤ, pos, FitsSigned, slice_get, unwrap_or, option_map}
 use Rattle.std.specs.Int.{w32}
 use Rattle.std.proofs.lemmas.Bool.{and_parts}
+use Rattle.c0_tree.specs.declared.primitive.Scalar.{Scalar}
+use Rattle.c0_tree.specs.declared.primitive.Scalar.TheVariants.{Int, Bool as Boolean}
 use Rattle.c0_tree.specs.Primitives.{CPrimitive, kernel_primitives}
 use Rattle.c0_tree.specs.Tree.{CDecl}
 use Rattle.c0_meaning.specs.Ty.{Ty, ty_of, same_ty}
@@ -17,7 +19,7 @@ use Rattle.c0_meaning.specs.Value as value
 use Rattle.c0_meaning.specs.TypedState.{Layout, types_of, AllFit, layout_of, IsScalar, IsSafe}
 use Rattle.c0_meaning.specs.Execution.{call_first}
 use Rattle.c0_meaning.specs.RunLaws.{FirstIsTyped, CallsAreSafe, DispatchesAreSafe}
-use Rattle.c0_meaning.specs.KernelRows.{sevens, SevensFit}
+use Rattle.c0_meaning.specs.KernelRows.{seven, sevens, SevensFit}
 use Rattle.c0_meaning.proofs.Dispatch.{has_dispatch}
 use Rattle.c0_meaning.proofs.Fields.{zeros_fit}
 use Rattle.c0_meaning.proofs.SafeRuns.{first_call_safe}
@@ -67,18 +69,12 @@ dispatches_are_safe W E is_right p n cause edata user s world checked answers ty
 pub same_row : (a b : CPrimitive) (v : Value) → ◌≡◌ {A = Option CPrimitive} (Some a) (Some b) → IsScalar a.answer v → IsScalar b.answer v
 same_row a b v e h = let q : a ≡ b = cc in subst (λ r. IsScalar r.answer v) q h
 
-seven : FitsSigned w32 (pos 7)
-seven = record { sfits = omega arith }
+seven_fits : (t : Scalar) → IsScalar t (seven t)
+seven_fits Int = record { sfits = omega arith }
+seven_fits Boolean = tt
 
-seven_fits : (n : ℕ) (row : CPrimitive) (args : Values) (w : ℕ) → slice_get kernel_primitives n ≡ Some row → IsScalar row.answer (sevens n args w).answer
-seven_fits zero row args w e = same_row _ row (sevens 0 args w).answer e seven
-seven_fits (suc zero) row args w e = same_row _ row (sevens 1 args w).answer e tt
-seven_fits (suc (suc zero)) row args w e = same_row _ row (sevens 2 args w).answer e seven
-seven_fits (suc (suc (suc zero))) row args w e = same_row _ row (sevens 3 args w).answer e tt
-seven_fits (suc (suc (suc (suc zero)))) row args w e = same_row _ row (sevens 4 args w).answer e seven
-seven_fits (suc (suc (suc (suc (suc zero))))) row args w e = same_row _ row (sevens 5 args w).answer e tt
-seven_fits (suc (suc (suc (suc (suc (suc zero)))))) row args w e = same_row _ row (sevens 6 args w).answer e tt
-seven_fits (suc (suc (suc (suc (suc (suc (suc n))))))) row args w e = absurd (cc)
+seven_answers : (n : ℕ) (row : CPrimitive) (args : Values) (w : ℕ) → slice_get kernel_primitives n ≡ Some row → IsScalar row.answer (sevens n args w).answer
+seven_answers n row args w e = subst (λ o. IsScalar row.answer (seven (unwrap_or (option_map (λ r. r.answer) o) Int))) (sym e) (seven_fits row.answer)
 
 pub sevens_fit : SevensFit
-sevens_fit = record { answer = λ n row args w e a r. seven_fits n row args w e; world = λ n row args w e a r. refl }
+sevens_fit = record { answer = λ n row args w e a r. seven_answers n row args w e; world = λ n row args w e a r. refl }

@@ -2,10 +2,10 @@
 use Rattle.std.specs.Prelude.{ℕ, ℤ, List, [], ◌∷◌, ◌++◌, replicate, slice_index, Option, Some, None}
 use Rattle.mips_table.specs.declared.inst.Inst.{Inst}
 use Rattle.mips_table.specs.declared.effect.Effect.{Effect}
-use Rattle.mips_table.specs.declared.effect.Effect.TheVariants.{Set, Load, Store, Overflow, Call, System}
+use Rattle.mips_table.specs.declared.effect.Effect.TheVariants.{Set, Wide, Load, Store, Overflow, Call, System}
 use Rattle.mips_table.specs.Decoding.{decoding}
 use Rattle.mips_table.specs.Effect.{effect_of}
-use Rattle.mips_table.specs.Core.{write}
+use Rattle.mips_table.specs.Processor.{write}
 use Rattle.cvm_words.specs.Words.{int_of, word_of}
 use Rattle.c0_meaning.specs.Value.{int, Values, part}
 
@@ -21,16 +21,17 @@ start_registers args = (0 ∷ 0 ∷ 0 ∷ 0 ∷ argument_words args) ++ replicat
 -- the registers after an effect: an asm body has no word with another effect than to set a register
 abbrev pub registers_after : List ℕ → Effect → List ℕ
 registers_after regs (Set register value to) = write regs register value
+registers_after regs (Wide hi lo to) = regs
 registers_after regs (Load register address) = regs
 registers_after regs (Store address value) = regs
 registers_after regs Overflow = regs
 registers_after regs Call = regs
 registers_after regs System = regs
 
--- the registers after an instruction, which doesn't look at the pc
+-- the registers after an instruction, which looks at neither the pc nor hi and lo
 abbrev pub performed : List ℕ → Option Inst → List ℕ
 performed regs None = regs
-performed regs (Some inst) = registers_after regs (effect_of inst 0 (slice_index regs))
+performed regs (Some inst) = registers_after regs (effect_of inst 0 (slice_index regs) 0 0)
 
 -- the registers after words
 abbrev pub run_words : List ℕ → List ℕ → List ℕ

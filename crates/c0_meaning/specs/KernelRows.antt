@@ -1,5 +1,7 @@
 -- Worked rows: what small kernels come to.
-use Rattle.std.specs.Prelude.{◌≡◌, ℕ, ◌+◌, ◌==◌, ◌||◌, if◌then◌else◌, pos, neg_ℤ, List, [], ◌∷◌, codes, true, false, Option, Some, None}
+use Rattle.std.specs.Prelude.{◌≡◌, ℕ, ◌+◌, pos, neg_ℤ, List, [], ◌∷◌, codes, true, false, Option, Some, None, slice_get, unwrap_or, option_map}
+use Rattle.c0_tree.specs.declared.primitive.Scalar.{Scalar}
+use Rattle.c0_tree.specs.declared.primitive.Scalar.TheVariants.{Int, Bool as Boolean}
 use Rattle.c0_tree.specs.declared.tree.BinaryOp.TheVariants.{Sub}
 use Rattle.c0_tree.specs.Tree.{CUnit, assign, binary}
 use Rattle.c0_meaning.specs.Value.{globals, heap, Value, int, bool, null, at, group, Values, empty, part}
@@ -15,10 +17,15 @@ use Rattle.c0_meaning.specs.UserProgram as user
 use Rattle.c0_meaning.specs.Unit.{IsChecked, IsWellFormed}
 use Rattle.c0_tree.specs.Primitives.{kernel_primitives}
 
+-- 7, or true
+abbrev pub seven : Scalar → Value
+seven Int = int (pos 7)
+seven Boolean = bool true
+
 -- primitives that count their calls and note their numbers: those that answer an int answer 7, the others true; each touches one page
 -- and one word
 abbrev pub sevens : Meaning ℕ ℕ
-sevens n args calls = record { answer = if (n == 0) || (n == 2) || (n == 4) then int (pos 7) else bool true; world = calls + 1; entries = n ∷ []; pages = 1; words = 1 }
+sevens n args calls = record { answer = seven (unwrap_or (option_map (λ row. row.answer) (slice_get kernel_primitives n)) Int); world = calls + 1; entries = n ∷ []; pages = 1; words = 1 }
 
 -- how a run ended
 pub data Ending : Type 0 where
