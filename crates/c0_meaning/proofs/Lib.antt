@@ -2,6 +2,7 @@ pub mod Ty
 pub mod Holding
 pub mod Opening
 pub mod Capped
+pub mod Found
 pub mod Sized
 pub mod WellFormed
 pub mod Units

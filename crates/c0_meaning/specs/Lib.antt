@@ -9,6 +9,7 @@ pub mod Limits
 pub mod Resolved
 pub mod Sound
 pub mod Unit
+pub mod Sizes
 pub mod Rows
 pub mod Expression
 pub mod Judgement

@@ -5,6 +5,7 @@
 
 pub mod checked;
 pub mod laws;
+pub mod measured;
 pub mod sizes;
 
 pub use checked::Checked;
