@@ -9,4 +9,5 @@ pub mod measured;
 pub mod sizes;
 
 pub use checked::Checked;
+pub use measured::Measured;
 pub use sizes::{frame_words, words_of};
