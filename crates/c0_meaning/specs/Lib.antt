@@ -17,3 +17,16 @@ pub mod Statement
 pub mod Rules
 pub mod Typed
 pub mod Stable
+pub mod Value
+pub mod State
+pub mod Operators
+pub mod Evaluation
+pub mod AsmBody
+pub mod World
+pub mod Running
+pub mod Execution
+pub mod UserProgram
+pub mod TypedState
+pub mod RunLaws
+pub mod Kernels
+pub mod KernelRows

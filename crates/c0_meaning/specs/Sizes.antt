@@ -3,7 +3,7 @@ use Rattle.std.specs.Prelude.{◌≡◌, ℕ, zero, suc, ◌+◌, min, List, [],
 use Rattle.c0_tree.specs.Tree.{CUnit}
 use Rattle.c0_tree.specs.Primitives.{CPrimitive}
 use Rattle.c0_meaning.specs.Ty.{Ty, named}
-use Rattle.c0_meaning.specs.Env.{Typed, Shape}
+use Rattle.c0_meaning.specs.Env.{Shape}
 use Rattle.c0_meaning.specs.Words.{words}
 use Rattle.c0_meaning.specs.Sound.{shapes}
 use Rattle.c0_meaning.specs.Unit.{IsWellFormed}
@@ -25,10 +25,6 @@ pub record IsMeasured (u : CUnit) (sizes : List ℕ) : Type 0 where
   pub table : List CPrimitive
   pub well_formed : IsWellFormed table u
   pub told : sizes ≡ struct_sizes (shapes u)
-
--- the types of variables or fields
-abbrev pub types_of : List Typed → List Ty
-types_of decls = map (λ d. d.ty) decls
 
 -- the words before the one of a number, of values of these types one after another
 abbrev pub words_before : List Shape → List Ty → ℕ → ℕ

@@ -6,7 +6,9 @@
 pub mod checked;
 pub mod laws;
 pub mod measured;
+pub mod run_laws;
 pub mod sizes;
+pub mod world;
 
 pub use checked::Checked;
 pub use measured::Measured;
