@@ -32,3 +32,6 @@ pub mod SafeRuns
 pub mod SafeStates
 pub mod Steps
 pub mod Zeros
+pub mod Numbered
+pub mod OpenTy
+pub mod OffsetLemmas

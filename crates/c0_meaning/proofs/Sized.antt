@@ -56,17 +56,19 @@ words_left structs decls i d below = ap (λ (ds : List Decl). all_words structs 
 pub none_left : (structs : List Shape) (decls : List Decl) (i : ℕ) → length decls ≤ i → all_words structs (map typed_of (map decl_view (drop i decls))) ≡ 0
 none_left structs decls i past = ap (λ (ds : List Decl). all_words structs (map typed_of (map decl_view ds))) (drop_all i decls past)
 
+-- what holds of all that is seen of a list holds of what is seen of an element
+pub all_at : {A B : Type 0} (P : B → Type 0) (f : A → B) (xs : List A) (i : ℕ) (d : A) → All P (map f xs) → i < length xs → P (f (get_or xs i d))
+all_at P f xs i d h below =
+    let len : length (map f xs) ≡ length xs = length-map xs f in
+    subst P (get_or-map f xs i d (f d) below) (h i (f d) (omega arith))
+
 -- a declaration at a place
 pub decl_sized : (structs : List Shape) (decls : List Decl) (i : ℕ) (d : Decl) → All (λ e. IsSized structs e.ty) (map decl_view decls) → i < length decls → IsSized structs (type_view (get_or decls i d).ty)
-decl_sized structs decls i d sized below =
-    let len : length (map decl_view decls) ≡ length decls = length-map decls decl_view in
-    subst (λ (x : CDecl). IsSized structs x.ty) (get_or-map decl_view decls i d (decl_view d) below) (sized i (decl_view d) (omega arith))
+decl_sized structs = all_at (λ (x : CDecl). IsSized structs x.ty) decl_view
 
 -- a function at a place
 pub function_at : (structs : List Shape) (items : List Function) (n : ℕ) (d : Function) → All (IsSizedFunction structs) (map function_view items) → n < length items → IsSizedFunction structs (function_view (get_or items n d))
-function_at structs items n d sized below =
-    let len : length (map function_view items) ≡ length items = length-map items function_view in
-    subst (IsSizedFunction structs) (get_or-map function_view items n d (function_view d) below) (sized n (function_view d) (omega arith))
+function_at structs = all_at (IsSizedFunction structs) function_view
 
 pub function_there : (items : List Function) (n : ℕ) (d : Function) (f : CFunction) → slice_get (map function_view items) n ≡ Some f → function_view (get_or items n d) ≡ f
 function_there [] n d f h = cc

@@ -16,6 +16,7 @@ pub mod Judgement
 pub mod Statement
 pub mod Rules
 pub mod Typed
+pub mod Numbered
 pub mod Stable
 pub mod Value
 pub mod State
@@ -30,3 +31,5 @@ pub mod TypedState
 pub mod RunLaws
 pub mod Kernels
 pub mod KernelRows
+pub mod Offsets
+pub mod OpenTy
