@@ -2,6 +2,7 @@ pub mod Ty
 pub mod Holding
 pub mod Opening
 pub mod Capped
+pub mod Found
 pub mod Sized
 pub mod WellFormed
 pub mod Units
@@ -32,3 +33,6 @@ pub mod SafeStates
 pub mod Steps
 pub mod Zeros
 pub mod CallChains
+pub mod Numbered
+pub mod OpenTy
+pub mod OffsetLemmas

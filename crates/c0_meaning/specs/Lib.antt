@@ -9,12 +9,14 @@ pub mod Limits
 pub mod Resolved
 pub mod Sound
 pub mod Unit
+pub mod Sizes
 pub mod Rows
 pub mod Expression
 pub mod Judgement
 pub mod Statement
 pub mod Rules
 pub mod Typed
+pub mod Numbered
 pub mod Stable
 pub mod Value
 pub mod State
@@ -31,3 +33,5 @@ pub mod TypedState
 pub mod RunLaws
 pub mod Kernels
 pub mod KernelRows
+pub mod Offsets
+pub mod OpenTy
