@@ -36,3 +36,4 @@ pub mod CallChains
 pub mod Numbered
 pub mod OpenTy
 pub mod OffsetLemmas
+pub mod PartsApart

@@ -1,6 +1,6 @@
 -- The first state is typed, and calls from typed states are never stuck.
-use Rattle.std.proofs.Common.{◌≡◌, ℕ, zero, suc, true, List, [], ◌∷◌, map, Option, Some, refl, sym, ap, subst, arith}
-use Rattle.std.specs.Prelude.{ℤ, pos, FitsSigned, slice_get, unwrap_or, option_map}
+use Rattle.std.proofs.Common.{◌≡◌, ℕ, true, List, [], ◌∷◌, map, Option, Some, refl, sym, ap, subst, arith}
+use Rattle.std.specs.Prelude.{ℤ, FitsSigned, slice_get, unwrap_or, option_map}
 use Rattle.std.specs.Int.{w32}
 use Rattle.std.proofs.lemmas.Bool.{and_parts}
 use Rattle.c0_tree.specs.declared.primitive.Scalar.{Scalar}

@@ -34,4 +34,5 @@ pub mod RunLaws
 pub mod Kernels
 pub mod KernelRows
 pub mod Offsets
+pub mod Addresses
 pub mod OpenTy

@@ -1,6 +1,7 @@
 // The laws of the meaning: each function says one, and does nothing.
 
 ghost use Rattle.c0_meaning.specs.RunLaws.{CallsAreSafe, CallsExtend, DispatchesAreSafe, EndsAtItsCost, FirstIsTyped, FramesFit, FunctionsAreChained, HasDispatch, LookAtTheirs, MoreUnits, PrimitivesAlone, ProgramsAreSafe, ProgramsEnd, StaysWithin, StepsAreEnough, TypesHaveWords, ZeroHasWords};
+ghost use Rattle.c0_meaning.specs.Addresses.{PartsAreApart};
 ghost use Rattle.c0_meaning.specs.KernelRows.{AreChecked, ArePartsRight, AreProgramsRight, AreRunsRight, IsOrderRight, SevensFit};
 
 use crate::world::World;
@@ -8,6 +9,11 @@ use crate::world::World;
 /// A variable or object at its start has a scalar for each word of its type.
 pub fn zeros_have_the_words_of_their_types()
     ensures { ZeroHasWords }
+{}
+
+/// Different parts of one type begin at different words.
+pub fn parts_of_a_type_are_apart()
+    ensures { PartsAreApart }
 {}
 
 /// A type that may be declared has a word.
