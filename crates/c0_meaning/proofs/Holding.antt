@@ -92,7 +92,7 @@ named_among (s ∷ rest) a x k h =
     ] refl
 
 -- a struct that holds another is defined
-holder_among : {structs : List Shape} {a b : List ℕ} → Holds structs a b → Among (map (λ s. s.text) structs) a
+pub holder_among : {structs : List Shape} {a b : List ℕ} → Holds structs a b → Among (map (λ s. s.text) structs) a
 holder_among {structs} {a} (by_field {owner} {x} h) = named_among structs a x 0 h
 holder_among {structs} {a} (by_part {owner} {part} {x} h rest) = named_among structs a part 0 h
 

@@ -58,7 +58,7 @@ type_none structs t span d =
     join_none _ _ (known_none structs t d.known)
     (join_none _ _ (nothing_said _ EMPTY_ARRAY span d.full) (nothing_said _ TYPE_TOO_LARGE span (le-ltb MAX_TYPE_WORDS (words structs (ty_of t)) d.small)))
 
-none_type : (structs : List Shape) (t : CTy) (span : Span) → type_faults structs t span ≡ [] → IsDeclarable structs t
+pub none_type : (structs : List Shape) (t : CTy) (span : Span) → type_faults structs t span ≡ [] → IsDeclarable structs t
 none_type structs t span h =
     let after = none_in_right (unknown_structs structs t) _ h in
     record {

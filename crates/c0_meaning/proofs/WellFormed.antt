@@ -1,14 +1,16 @@
 -- A well formed unit has structs and functions of few words.
 use Rattle.std.proofs.Common.{◌≡◌, ℕ, zero, suc, ◌+◌, ◌<◌, ◌≤◌, Bool, true, false, ◌||◌, cond, ltb, is_some, List, [], ◌∷◌, ◌++◌, length, map, Option, Some, None, refl, sym, ap, ◌∙◌, subst, arith, get_or}
-use Rattle.std.proofs.lemmas.Bool.{cond-true, cond-false, ltb-false, or_parts}
+use Rattle.std.proofs.lemmas.Bool.{cond-true, cond-false, ltb-false, ltb-true, or_parts, and_parts}
 use Rattle.std.proofs.lemmas.List.Elements.{All-cons, All-nil}
 use Rattle.std.proofs.lemmas.List.Folds.{list_any-append}
 use Rattle.std.proofs.lemmas.Slice.Eq.{bytes_eq-Decides}
 use Rattle.std.specs.Str.{bytes_eq}
-use Rattle.std.specs.List.{All}
+use Rattle.std.specs.List.{All, list_all}
+use Rattle.std.specs.Prelude.{◌^◌}
+use Rattle.c0_tree.specs.Plain.{has_part, is_short, is_plain_struct}
 use Rattle.c0_tree.specs.declared.tree.Span.{Span}
 use Rattle.c0_tree.specs.declared.tree.Kind.{Kind}
-use Rattle.c0_tree.specs.declared.tree.Kind.TheVariants.{Struct, Field, Local}
+use Rattle.c0_tree.specs.declared.tree.Kind.TheVariants.{Struct, Field, Global, Local}
 use Rattle.c0_tree.specs.Tree.{CTy, int, bool, pointer, named, array, CName, CDecl, CStruct, CExpr, CStmts, CBody, code, asm, CFunction, CUnit}
 use Rattle.c0_tree.specs.Size.{body_nodes}
 use Rattle.c0_tree.specs.Primitives.{CPrimitive}
@@ -192,3 +194,27 @@ well_formed_functions primitives u w =
     let h3 = none_in_right (unit_name_faults primitives u.globals u.functions) _ h2 in
     let h4 = none_in_right (declared_faults (map shape_of u.structs) u.globals) _ h3 in
     functions_sized primitives u 0 u.functions (none_in_left (functions_faults primitives u u.functions) _ h4) (ap (λ (v : CUnit). v.functions) w.resolved)
+
+-- the globals of a well formed unit have few words
+pub well_formed_globals : (primitives : List CPrimitive) (u : CUnit) → IsWellFormed primitives u → All (λ d. IsSized (map shape_of u.structs) d.ty) u.globals
+well_formed_globals primitives u w =
+    let h1 = none_in_right (struct_name_faults u.structs) _ w.typed in
+    let h2 = none_in_right (structs_faults (map shape_of u.structs) u.structs) _ h1 in
+    let h3 = none_in_right (unit_name_faults primitives u.globals u.functions) _ h2 in
+    decls_sized (map shape_of u.structs) Global 0 u.globals (none_in_left (declared_faults (map shape_of u.structs) u.globals) _ h3) (ap (λ (v : CUnit). v.globals) w.resolved)
+
+-- its structs have few fields
+pub well_formed_few : (primitives : List CPrimitive) (u : CUnit) → IsWellFormed primitives u → All (λ s. length s.fields < 2 ^ 32) u.structs
+well_formed_few primitives u w =
+    let p1 = and_parts (is_short u.structs) _ w.plain in
+    let p2 = and_parts (is_short u.globals) _ p1.1 in
+    let p3 = and_parts (is_short u.functions) _ p2.1 in
+    let p4 = and_parts (list_all is_plain_struct u.structs) _ p3.1 in
+    each u.structs p4.0
+  where
+    each : (ss : List CStruct) → list_all is_plain_struct ss ≡ true → All (λ (s : CStruct). length s.fields < 2 ^ 32) ss
+    each [] h = All-nil (λ (s : CStruct). length s.fields < 2 ^ 32)
+    each (s ∷ rest) h =
+        let q = and_parts (is_plain_struct s) (list_all is_plain_struct rest) h in
+        let few = and_parts (has_part s.fields) (is_short s.fields) q.0 in
+        All-cons (λ (s : CStruct). length s.fields < 2 ^ 32) s rest (ltb-true (length s.fields) (2 ^ 32) few.1) (each rest q.1)

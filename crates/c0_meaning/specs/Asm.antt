@@ -2,7 +2,7 @@
 use Rattle.std.specs.Prelude.{ℕ, Bool, false, ◌&&◌, ◌||◌, ◌==◌, nat_le, List, Option, Some, None}
 use Rattle.std.specs.List.{list_all}
 use Rattle.mips_table.specs.declared.inst.Inst.{Inst}
-use Rattle.mips_table.specs.declared.inst.Inst.TheVariants.{Sll, Srl, Sra, Sllv, Srlv, Srav, Jr, Jalr, Syscall, Add, Addu, Sub, Subu, And, Or, Xor, Nor, Slt, Sltu, Bltz, Bgez, J, Jal, Beq, Bne, Blez, Bgtz, Addi, Addiu, Slti, Sltiu, Andi, Ori, Xori, Lui, Mfc0, Mtc0, Eret, Lw, Sw}
+use Rattle.mips_table.specs.declared.inst.Inst.TheVariants.{Sll, Srl, Sra, Sllv, Srlv, Srav, Jr, Jalr, Syscall, Add, Addu, Sub, Subu, And, Or, Xor, Nor, Slt, Sltu, Bltz, Bgez, J, Jal, Beq, Bne, Blez, Bgtz, Addi, Addiu, Slti, Sltiu, Andi, Ori, Xori, Lui, Mfc0, Mtc0, Eret, Lw, Sw, Mult, Multu, Div, Divu, Mfhi, Mthi, Mflo, Mtlo}
 use Rattle.mips_table.specs.Decoding.{decoding}
 
 -- register 0, and 2 to 7
@@ -63,6 +63,14 @@ is_allowed (Mtc0 rt special) = false
 is_allowed Eret = false
 is_allowed (Lw rt rs imm) = false
 is_allowed (Sw rt rs imm) = false
+is_allowed (Mult rs rt) = false
+is_allowed (Multu rs rt) = false
+is_allowed (Div rs rt) = false
+is_allowed (Divu rs rt) = false
+is_allowed (Mfhi rd) = false
+is_allowed (Mthi rs) = false
+is_allowed (Mflo rd) = false
+is_allowed (Mtlo rs) = false
 
 -- whether a word is that of an instruction that an asm function may have
 abbrev pub is_allowed_word : ℕ → Bool

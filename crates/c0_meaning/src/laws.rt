@@ -2,6 +2,9 @@
 
 ghost use Rattle.c0_meaning.specs.Fault.{KeptIsLeast, LeastIsThere, MeetingIsFree, MeetingJoins, OrderIsTotal};
 ghost use Rattle.c0_meaning.specs.Judgement.{FaultlessIsTyped, HasOneType, TypedIsFaultless};
+ghost use Rattle.c0_meaning.specs.Numbered.{NumbersTell};
+ghost use Rattle.c0_meaning.specs.Offsets.{OffsetsAreThose};
+ghost use Rattle.c0_meaning.specs.OpenTy.{SizeIsWords};
 ghost use Rattle.c0_meaning.specs.Rows.{AreNamesRight, AreSizesRight, AreTypesRight};
 ghost use Rattle.c0_meaning.specs.Rules.{StatementsAreFaultless, TestedIsFaultless};
 ghost use Rattle.c0_meaning.specs.Stable.{ResolvingIsStable};
@@ -79,4 +82,19 @@ pub fn units_are_typed_or_faulty()
 /// Resolving the names of a unit changes none of its faults, and resolving them again changes nothing.
 pub fn resolving_is_stable()
     ensures { ResolvingIsStable }
+{}
+
+/// In a well formed unit the number of each name tells what it stands for: its bodies are typed by numbers.
+pub fn numbers_tell()
+    ensures { NumbersTell }
+{}
+
+/// Values one after another begin each behind the words of those before it.
+pub fn offsets_are_those()
+    ensures { OffsetsAreThose }
+{}
+
+/// A type with its structs written out has as many words.
+pub fn written_out_types_have_their_words()
+    ensures { SizeIsWords }
 {}

@@ -5,7 +5,13 @@
 
 pub mod checked;
 pub mod laws;
+pub mod measured;
+pub mod offsets;
+pub mod run_laws;
 pub mod sizes;
+pub mod world;
 
 pub use checked::Checked;
+pub use measured::Measured;
+pub use offsets::{field_offsets, global_offsets, variable_offsets};
 pub use sizes::{frame_words, words_of};

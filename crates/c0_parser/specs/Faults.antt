@@ -1,5 +1,5 @@
 -- What a source reads as, and why it reads as nothing.
-use Rattle.std.specs.Prelude.{ℕ, ◌≡◌, ◌<◌, ◌≤◌, List, [], ◌∷◌, ◌++◌, length}
+use Rattle.std.specs.Prelude.{ℕ, ◌≡◌, ◌<◌, ◌≤◌, List, [], ◌∷◌, ◌++◌, length, Option, Some, None}
 use Rattle.c0_tokens.specs.declared.token.TokenFault.TheVariants as token_fault
 use Rattle.c0_tokens.specs.Tokens.{CToken, CLexeme, faulty}
 use Rattle.c0_tokens.specs.Nesting.{tokens_of}
@@ -34,6 +34,24 @@ fault_by _ place = Unexpected place
 
 abbrev pub fault_at : CToken → ReadFault
 fault_at t = fault_by t.lexeme t.start
+
+-- the number that is printed for a fault
+abbrev pub read_fault_number : ReadFault → ℕ
+read_fault_number (BadByte at) = 10
+read_fault_number (BadNumber at) = 11
+read_fault_number (Unexpected at) = 12
+read_fault_number (TooNested at) = 13
+read_fault_number SourceTooLong = 14
+read_fault_number Memory = 15
+
+-- the first byte of the token that cannot be, where the fault has one
+abbrev pub read_fault_place : ReadFault → Option ℕ
+read_fault_place (BadByte at) = Some at
+read_fault_place (BadNumber at) = Some at
+read_fault_place (Unexpected at) = Some at
+read_fault_place (TooNested at) = Some at
+read_fault_place SourceTooLong = None
+read_fault_place Memory = None
 
 -- why a source has no tree: it is too long, or this is the fault of its first token that cannot be; want of memory says nothing
 abbrev pub FaultIs : List ℕ → ReadFault → Type 0

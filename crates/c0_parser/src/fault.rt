@@ -2,7 +2,7 @@
 
 ghost use Rattle.c0_tokens.specs.Tokens.{token_view};
 ghost use Rattle.std.specs.Prelude.{◌≡◌};
-ghost use Rattle.c0_parser.specs.Faults.{fault_at};
+ghost use Rattle.c0_parser.specs.Faults.{fault_at, read_fault_number, read_fault_place};
 ghost use Rattle.c0_parser.specs.declared.fault.ReadFault.TheVariants.{Memory as NoMemory};
 
 use c0_tokens::{Lexeme, Token, TokenFault};
@@ -31,6 +31,36 @@ pub enum ReadFault {
     /// Want of memory.
     #[error("out of memory")]
     Memory,
+}
+
+impl ReadFault {
+    /// The number that is printed for it: 10 to 14, or 15 for want of memory.
+    pub fn number(&self) -> u32
+        ensures { result ≡ read_fault_number self.now }
+    {
+        match self {
+            ReadFault::BadByte { .. } => 10,
+            ReadFault::BadNumber { .. } => 11,
+            ReadFault::Unexpected { .. } => 12,
+            ReadFault::TooNested { .. } => 13,
+            ReadFault::SourceTooLong => 14,
+            ReadFault::Memory => 15,
+        }
+    }
+
+    /// The first byte of the token that cannot be, where the fault has one.
+    pub fn at(&self) -> Option<u64>
+        ensures { result ≡ read_fault_place self.now }
+    {
+        match self {
+            ReadFault::BadByte { at } => Some(*at),
+            ReadFault::BadNumber { at } => Some(*at),
+            ReadFault::Unexpected { at } => Some(*at),
+            ReadFault::TooNested { at } => Some(*at),
+            ReadFault::SourceTooLong => None,
+            ReadFault::Memory => None,
+        }
+    }
 }
 
 impl From<AllocError> for ReadFault {

@@ -6,7 +6,8 @@ use Rattle.std.proofs.Math.Seq.{get_or-append_seam}
 use Rattle.c0_tree.specs.Tree.{CStruct}
 use Rattle.c0_meaning.specs.Ty as ty
 use Rattle.c0_meaning.specs.Env.{shape_of}
-use Rattle.c0_meaning.specs.Words.{holds, HoldsAsTested, words}
+use Rattle.c0_meaning.specs.Words.{holds, HoldsAsTested, WordsAreThose, words}
+use Rattle.c0_meaning.specs.Sizes.{struct_sizes}
 use Rattle.c0_names.specs.Structs.{WORDS_CAP, listed_words}
 use Rattle.c0_structs.specs.declared.walk.Mark.{Mark}
 use Rattle.c0_structs.specs.declared.walk.Mark.TheVariants.{Unseen, Open, Done}
@@ -14,7 +15,7 @@ use Rattle.c0_structs.specs.Graph.{IsIn}
 use Rattle.c0_structs.specs.Parts.{edges, TellsFirst}
 use Rattle.c0_structs.specs.Walk.{State, mark_of, IsWalk, IsWalkOver, is_cyclic_mark, listed_cyclic, copies, numbers_below, first_state}
 use Rattle.c0_structs.proofs.GraphLemmas.{in_left, in_right, in_parts}
-use Rattle.c0_structs.proofs.Telling.{text_at, named_text, named_below, unnamed_fields, nothing_held, held_leads, leads_held}
+use Rattle.c0_structs.proofs.Telling.{text_at, named_text, named_below, unnamed_fields, unnamed_words, nothing_held, held_leads, leads_held}
 
 length-copies : {A : Type 0} (x : A) (n : ℕ) → length (copies x n) ≡ n
 length-copies x zero = refl
@@ -84,9 +85,14 @@ empty : (xs : List ℕ) → length xs ≡ 0 → xs ≡ []
 empty [] h = refl
 empty (x ∷ xs) h = absurd (omega arith)
 
-mapped_same : (f g : List ℕ → Bool) (structs : List CStruct) → ((text : List ℕ) → f text ≡ g text) → map (λ x. f x.name.text) structs ≡ map (λ x. g x.name.text) structs
+mapped_same : {B : Type 0} (f g : List ℕ → B) (structs : List CStruct) → ((text : List ℕ) → f text ≡ g text) → map (λ x. f x.name.text) structs ≡ map (λ x. g x.name.text) structs
 mapped_same f g [] h = refl
-mapped_same f g (s ∷ rest) h = ap (λ (b : Bool). b ∷ map (λ x. f x.name.text) rest) (h s.name.text) ∙ ap (λ (l : List Bool). g s.name.text ∷ l) (mapped_same f g rest h)
+mapped_same {B} f g (s ∷ rest) h = ap (λ (b : B). b ∷ map (λ x. f x.name.text) rest) (h s.name.text) ∙ ap (λ (l : List B). g s.name.text ∷ l) (mapped_same f g rest h)
+
+-- what is told of the texts of structs is told of their shapes
+mapped_shapes : {B : Type 0} (f : List ℕ → B) (structs : List CStruct) → map (λ x. f x.name.text) structs ≡ map (λ s. f s.text) (map shape_of structs)
+mapped_shapes f [] = refl
+mapped_shapes {B} f (s ∷ rest) = ap (λ (l : List B). f s.name.text ∷ l) (mapped_shapes f rest)
 
 mapped_at : (f : List ℕ → ℕ) (structs : List CStruct) (n : ℕ) → n < length structs → get_or (map (λ x. f x.name.text) structs) n 0 ≡ f (text_at structs n)
 mapped_at f [] n h = absurd (omega arith)
@@ -114,6 +120,19 @@ module _ (number : List ℕ → Option ℕ) (structs : List CStruct) (told : Tel
       mapped_at (λ t. listed_words s.words (number t)) structs n low
       ∙ (ap (λ (t : List ℕ). listed_words s.words (number t)) (named_text number structs told text n e)
       ∙ (ap (listed_words s.words) e ∙ w.done.sized n d.0 d.1 text e))
+
+  -- the list of words is the table
+  pub table_told : WordsAreThose → map (λ x. listed_words s.words (number x.name.text)) structs ≡ struct_sizes (map shape_of structs)
+  table_told laws =
+      mapped_same (λ t. listed_words s.words (number t)) (λ t. min (words (map shape_of structs) (ty.named t)) WORDS_CAP) structs one
+      ∙ mapped_shapes (λ t. min (words (map shape_of structs) (ty.named t)) WORDS_CAP) structs
+    where
+      by_number : (text : List ℕ) (o : Option ℕ) → number text ≡ o → listed_words s.words (number text) ≡ min (words (map shape_of structs) (ty.named text)) WORDS_CAP
+      by_number text None e = ap (listed_words s.words) e ∙ sym (unnamed_words number structs told laws text e)
+      by_number text (Some n) e = let d = done_at n (named_below number structs told text n e) in ap (listed_words s.words) e ∙ w.done.sized n d.0 d.1 text e
+
+      one : (text : List ℕ) → listed_words s.words (number text) ≡ min (words (map shape_of structs) (ty.named text)) WORDS_CAP
+      one text = by_number text (number text) refl
 
   held_told : HoldsAsTested → (text : List ℕ) → listed_cyclic s.marks (number text) ≡ holds (map shape_of structs) text text
   held_told law text = by_number (number text) refl

@@ -178,6 +178,12 @@ module _ (number : List ℕ → Option ℕ) (structs : List CStruct) (told : Tel
       let p = parts_name number (fields_at structs v) u h in
       by_part {part = p.0} (subst (λ (fs : List Typed). have_field fs p.0 ≡ true) (sym (named_fields x v e)) p.1.0) (leads_held rest p.0 y p.1.1 f)
 
+  -- a name without a number has no words
+  pub unnamed_words : WordsAreThose → (text : List ℕ) → number text ≡ None → min (words (map shape_of structs) (ty.named text)) WORDS_CAP ≡ 0
+  unnamed_words laws text e =
+      ap (λ (k : ℕ). min k WORDS_CAP)
+      (laws.fields (map shape_of structs) text (λ held. nothing_held held (unnamed_fields text e)) ∙ ap (all_words (map shape_of structs)) (unnamed_fields text e))
+
   -- the words of a type by the words of its struct
   pub capped_right : WordsAreThose → (sizes : List ℕ) (t : CTy) → ((j : ℕ) → struct_number number t ≡ Some j → AreWordsOf number structs j (get_or sizes j 0)) → capped_words number sizes t ≡ min (words (map shape_of structs) (ty_of t)) WORDS_CAP
   capped_right laws sizes int h = refl
@@ -186,10 +192,7 @@ module _ (number : List ℕ → Option ℕ) (structs : List CStruct) (told : Tel
   capped_right laws sizes (named x) h = by_number (number x.text) refl
     where
       by_number : (o : Option ℕ) → number x.text ≡ o → listed_words sizes (number x.text) ≡ min (words (map shape_of structs) (ty.named x.text)) WORDS_CAP
-      by_number None e =
-          let none : words (map shape_of structs) (ty.named x.text) ≡ 0
-          = laws.fields (map shape_of structs) x.text (λ held. nothing_held held (unnamed_fields x.text e)) ∙ ap (all_words (map shape_of structs)) (unnamed_fields x.text e) in
-          ap (listed_words sizes) e ∙ sym (ap (λ (k : ℕ). min k WORDS_CAP) none)
+      by_number None e = ap (listed_words sizes) e ∙ sym (unnamed_words laws x.text e)
       by_number (Some n) e = ap (listed_words sizes) e ∙ h n e x.text e
   capped_right laws sizes (array t n) h =
       ap (λ (k : ℕ). min (k * n) WORDS_CAP) (capped_right laws sizes t h) ∙ capped_product (words (map shape_of structs) (ty_of t)) n WORDS_CAP

@@ -5,6 +5,8 @@ mod fields;
 pub mod sizes;
 #[cfg(test)]
 mod tests;
+mod unit;
 mod walk;
 
 pub use sizes::{StructSizes, struct_sizes};
+pub use unit::measured;

@@ -4,12 +4,13 @@ ghost use Rattle.std.specs.Prelude.{◌≡◌, ◌<◌, ◌^◌, ℕ, List, IfOk
 ghost use Rattle.c0_meaning.specs.Env.{shape_of};
 ghost use Rattle.c0_meaning.specs.Words.{holds};
 ghost use Rattle.c0_names.specs.Names.{look, number_named};
+ghost use Rattle.c0_meaning.specs.Sizes as table;
 ghost use Rattle.c0_names.specs.Structs.{KnowsStructs, listed_words};
 ghost use Rattle.c0_structs.specs.Walk.{listed_cyclic};
 ghost use Rattle.c0_tree.specs.View.{struct_view};
 
 use crate::walk::{Walk, walk_over};
-use c0_meaning::laws::holding_is_as_tested;
+use c0_meaning::laws::{holding_is_as_tested, words_are_those_of_the_parts};
 use c0_names::names::Names;
 use c0_tree::StructDef;
 use std::alloc::{AllocError, Global};
@@ -32,9 +33,11 @@ pub fn struct_sizes(
     requires told { (text : List ℕ) → look names.now text ≡ number_named (λ s. s.text) text 0 (map shape_of (map struct_view structs.now)) }
     requires few { length structs.now < 2 ^ 32 }
     ensures words { IfOk result (λ s. KnowsStructs names.now s.words.items (map shape_of (map struct_view structs.now))) }
+    ensures table { IfOk result (λ s. s.words.items ≡ table.struct_sizes (map shape_of (map struct_view structs.now))) }
     ensures held { IfOk result (λ s. s.holds_itself.items ≡ map (λ x. holds (map shape_of (map struct_view structs.now)) x.name.text x.name.text) (map struct_view structs.now)) }
 {
     holding_is_as_tested();
+    words_are_those_of_the_parts();
     let walk = walk_over(alloc, names, structs)?;
     sizes_of(alloc, names, structs, &walk)
 }

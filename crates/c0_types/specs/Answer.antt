@@ -1,5 +1,6 @@
 -- What contracts see of the answer of the check.
-use Rattle.std.specs.Prelude.{Option, Some, None}
+use Rattle.std.specs.Prelude.{ℕ, Option, Some, None, option_map}
+use Rattle.c0_tree.specs.declared.tree.Span.{Span}
 use Rattle.c0_tree.specs.Tree.{CUnit}
 use Rattle.c0_meaning.specs.Fault as spec
 use Rattle.c0_meaning.specs.Fault.{IsLeast, fault, UNKNOWN_NAME, NAME_TWICE, WRONG_TYPE, WRONG_COUNT, NOT_A_PLACE, LOCAL_ADDRESS, STRUCT_HOLDS_ITSELF, TOO_DEEP, TOO_MANY_NODES, UNIT_TOO_LARGE, GLOBALS_TOO_LARGE, NO_DISPATCH, ASM_NOT_ALLOWED, TOO_MANY_PARAMETERS, TYPE_TOO_LARGE, EMPTY_ARRAY}
@@ -26,6 +27,39 @@ type_fault_view (TooManyParameters s) = Some (fault TOO_MANY_PARAMETERS s)
 type_fault_view (TypeTooLarge s) = Some (fault TYPE_TOO_LARGE s)
 type_fault_view (EmptyArray s) = Some (fault EMPTY_ARRAY s)
 type_fault_view Memory = None
+
+-- the number that is printed for a fault, where it is one of the source
+abbrev pub number_or : ℕ → Option spec.Fault → ℕ
+number_or memory None = memory
+number_or memory (Some f) = f.number
+
+-- the number that is printed for an answer: 39 is want of memory
+abbrev pub type_fault_number : TypeFault → ℕ
+type_fault_number f = number_or 39 (type_fault_view f)
+
+-- where the fault stands, but for want of memory
+abbrev pub type_fault_span : TypeFault → Option Span
+type_fault_span f = option_map (λ g. g.span) (type_fault_view f)
+
+-- the line of an asm text that isn't allowed
+abbrev pub type_fault_line : TypeFault → Option ℕ
+type_fault_line (UnknownName s) = None
+type_fault_line (NameTwice s) = None
+type_fault_line (WrongType s) = None
+type_fault_line (WrongCount s) = None
+type_fault_line (NotAPlace s) = None
+type_fault_line (LocalAddress s) = None
+type_fault_line (StructHoldsItself s) = None
+type_fault_line (TooDeep s) = None
+type_fault_line (TooManyNodes s) = None
+type_fault_line (UnitTooLarge s) = None
+type_fault_line (GlobalsTooLarge s) = None
+type_fault_line (NoDispatch s) = None
+type_fault_line (AsmNotAllowed s line) = Some line
+type_fault_line (TooManyParameters s) = None
+type_fault_line (TypeTooLarge s) = None
+type_fault_line (EmptyArray s) = None
+type_fault_line Memory = None
 
 -- no fault comes before the one that is answered; want of memory says nothing
 abbrev pub AnswersLeast : Option spec.Fault → CUnit → Type 0

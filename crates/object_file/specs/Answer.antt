@@ -1,5 +1,5 @@
 -- What is answered of bytes: the object that they spell, or what stands first where no object has it.
-use Rattle.std.specs.Prelude.{ℕ, ◌≡◌, ◌≢◌, ◌≤◌, ◌<◌, ◌^◌, zero, suc, List, [], ◌++◌, length, take, codes, slice_index_or, Result, Ok, Err, MatchResult}
+use Rattle.std.specs.Prelude.{ℕ, ◌≡◌, ◌≢◌, ◌≤◌, ◌<◌, ◌^◌, zero, suc, List, [], ◌++◌, length, take, codes, slice_index_or, Option, Some, None, Result, Ok, Err, MatchResult}
 use Rattle.std.specs.List.{concat}
 use Rattle.object_file.specs.declared.fault.ObjectFault.{ObjectFault}
 use Rattle.object_file.specs.declared.fault.ObjectFault.TheVariants.{Magic, Truncated, Trailing, Field, Memory}
@@ -53,6 +53,30 @@ IsAnswer bytes (Err (Truncated at)) = EndsWithin bytes at
 IsAnswer bytes (Err (Field at value)) = HasWrongField bytes at value
 IsAnswer bytes (Err (Trailing at)) = GoesOnAt bytes at
 IsAnswer bytes (Err Memory) = ⊥
+
+-- the number that is printed for a fault of an object that is linked
+abbrev pub object_fault_number : ObjectFault → ℕ
+object_fault_number Magic = 40
+object_fault_number (Truncated at) = 41
+object_fault_number (Trailing at) = 42
+object_fault_number (Field at value) = 43
+object_fault_number Memory = 44
+
+-- the byte of the file that a fault names
+abbrev pub object_fault_place : ObjectFault → Option ℕ
+object_fault_place Magic = None
+object_fault_place (Truncated at) = Some at
+object_fault_place (Trailing at) = Some at
+object_fault_place (Field at value) = Some at
+object_fault_place Memory = None
+
+-- the number that may not stand in a field
+abbrev pub object_fault_value : ObjectFault → Option ℕ
+object_fault_value Magic = None
+object_fault_value (Truncated at) = None
+object_fault_value (Trailing at) = None
+object_fault_value (Field at value) = Some value
+object_fault_value Memory = None
 
 -- an object may also be answered by want of memory, a fault may not
 abbrev pub Gives : Result Parts ObjectFault → Result Parts ObjectFault → Type 0

@@ -1,6 +1,7 @@
 // The faults of a file.
 
 ghost use Rattle.std.specs.Prelude.{◌≡◌};
+ghost use Rattle.object_file.specs.Answer.{object_fault_number, object_fault_place, object_fault_value};
 ghost use Rattle.object_file.specs.declared.fault.ObjectFault.TheVariants.{Memory};
 
 use std::alloc::AllocError;
@@ -24,6 +25,47 @@ pub enum ObjectFault {
     /// Want of memory.
     #[error("out of memory")]
     Memory,
+}
+
+impl ObjectFault {
+    /// The number that is printed for it: 40 to 43, or 44 for want of memory.
+    pub fn number(&self) -> u32
+        ensures { result ≡ object_fault_number self.now }
+    {
+        match self {
+            ObjectFault::Magic => 40,
+            ObjectFault::Truncated { .. } => 41,
+            ObjectFault::Trailing { .. } => 42,
+            ObjectFault::Field { .. } => 43,
+            ObjectFault::Memory => 44,
+        }
+    }
+
+    /// The byte of the file that it names, if any.
+    pub fn at(&self) -> Option<u64>
+        ensures { result ≡ object_fault_place self.now }
+    {
+        match self {
+            ObjectFault::Magic => None,
+            ObjectFault::Truncated { at } => Some(*at),
+            ObjectFault::Trailing { at } => Some(*at),
+            ObjectFault::Field { at, .. } => Some(*at),
+            ObjectFault::Memory => None,
+        }
+    }
+
+    /// The number that may not stand in a field, where that is the fault.
+    pub fn value(&self) -> Option<u64>
+        ensures { result ≡ object_fault_value self.now }
+    {
+        match self {
+            ObjectFault::Magic => None,
+            ObjectFault::Truncated { .. } => None,
+            ObjectFault::Trailing { .. } => None,
+            ObjectFault::Field { value, .. } => Some(*value),
+            ObjectFault::Memory => None,
+        }
+    }
 }
 
 impl From<AllocError> for ObjectFault {

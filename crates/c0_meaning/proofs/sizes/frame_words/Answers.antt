@@ -1,21 +1,23 @@
-use Rattle.std.proofs.Common.{subst, sym, ap, ◌∙◌}
+use Rattle.std.proofs.Common.{◌≡◌, get_or, subst, sym, ap, ◌∙◌}
 use Rattle.c0_tree.specs.declared.tree.Function.{Function}
+use Rattle.c0_tree.specs.declared.tree.Unit.{Unit as Source}
 use Rattle.c0_tree.specs.View.{unit_view, function_view}
 use Rattle.c0_meaning.specs.Limits.{frame}
 use Rattle.c0_meaning.specs.Sound.{shapes, IsSizedFunction}
 use Rattle.c0_meaning.proofs.Sized.{function_at, function_there}
-use Rattle.c0_meaning.proofs.WellFormed.{well_formed_sized, well_formed_functions}
+use Rattle.c0_meaning.proofs.WellFormed.{well_formed_functions}
 use Rattle.c0_meaning.proofs.sizes.frame_words.Goals as goal
 
 pub function_words-requires : goal.function_words-requires
 function_words-requires c =
-    record {
-      structs = well_formed_sized _ _ c.requires.well_formed.1;
-      function = subst (λ (f : Function). IsSizedFunction (shapes (unit_view c.args.unit.now)) (function_view f)) (sym c.index.ensures)
-          (function_at (shapes (unit_view c.args.unit.now)) c.args.unit.now.functions.items c.args.function c.index.result.now (well_formed_functions _ _ c.requires.well_formed.1) c.requires.in_range);
-    }
+    let e : c.index.result.now ≡ get_or c.args.unit.now.functions.items c.args.function c.index.result.now =
+    c.index.ensures ∙ ap (λ (u : Source). get_or u.functions.items c.args.function c.index.result.now) c.unit.ensures.same in
+    subst (λ (f : Function). IsSizedFunction (shapes (unit_view c.args.unit.now)) (function_view f)) (sym e)
+    (function_at (shapes (unit_view c.args.unit.now)) c.args.unit.now.functions.items c.args.function c.index.result.now (well_formed_functions _ _ c.unit.ensures.well_formed.1) c.requires)
 
 pub returns : goal.returns
 returns c = λ f h.
+    let e : c.index.result.now ≡ get_or c.args.unit.now.functions.items c.args.function c.index.result.now =
+    c.index.ensures ∙ ap (λ (u : Source). get_or u.functions.items c.args.function c.index.result.now) c.unit.ensures.same in
     c.function_words.ensures
-    ∙ ap (frame (shapes (unit_view c.args.unit.now))) (ap function_view c.index.ensures ∙ function_there c.args.unit.now.functions.items c.args.function c.index.result.now f h)
+    ∙ ap (frame (shapes (unit_view c.args.unit.now))) (ap function_view e ∙ function_there c.args.unit.now.functions.items c.args.function c.index.result.now f h)

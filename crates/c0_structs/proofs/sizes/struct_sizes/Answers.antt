@@ -8,7 +8,8 @@ use Rattle.c0_meaning.specs.Words.{holds, words}
 use Rattle.c0_names.specs.Names.{look}
 use Rattle.c0_names.specs.Structs.{KnowsStructs, WORDS_CAP, listed_words}
 use Rattle.c0_structs.specs.Walk.{state_of, listed_cyclic}
-use Rattle.c0_structs.proofs.Ends.{words_told, all_held_told}
+use Rattle.c0_meaning.specs.Sizes.{struct_sizes}
+use Rattle.c0_structs.proofs.Ends.{words_told, table_told, all_held_told}
 use Rattle.c0_structs.proofs.sizes.struct_sizes.Goals as goal
 
 if_ok : {T E : Type 0} (r : Result T E) (P Q : T → Type 0) → ((x : T) → P x → Q x) → IfOk r P → IfOk r Q
@@ -35,3 +36,11 @@ returns-clause-held c =
     (λ s. s.holds_itself.items ≡ map (λ x. holds (map shape_of (map struct_view c.args.structs.now)) x.name.text x.name.text) (map struct_view c.args.structs.now))
     (λ s e. e ∙ all_held_told (look c.args.names.now) (map struct_view c.args.structs.now) c.requires.told (state_of c.in_ok-walk.walk) c.in_ok-walk.ensures.walk c.in_ok-walk.ensures.over c.holding_is_as_tested.ensures)
     c.sizes_of.ensures.held
+
+pub returns-clause-table : goal.returns-clause-table
+returns-clause-table c =
+    if_ok c.sizes_of.result
+    (λ s. s.words.items ≡ map (λ x. listed_words c.in_ok-walk.walk.words.items (look c.args.names.now x.name.text)) (map struct_view c.args.structs.now))
+    (λ s. s.words.items ≡ struct_sizes (map shape_of (map struct_view c.args.structs.now)))
+    (λ s e. e ∙ table_told (look c.args.names.now) (map struct_view c.args.structs.now) c.requires.told (state_of c.in_ok-walk.walk) c.in_ok-walk.ensures.walk c.in_ok-walk.ensures.over c.words_are_those_of_the_parts.ensures)
+    c.sizes_of.ensures.words

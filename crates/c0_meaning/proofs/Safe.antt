@@ -1,0 +1,80 @@
+-- The first state is typed, and calls from typed states are never stuck.
+use Rattle.std.proofs.Common.{◌≡◌, ℕ, true, List, [], ◌∷◌, map, Option, Some, refl, sym, ap, subst, arith}
+use Rattle.std.specs.Prelude.{ℤ, FitsSigned, slice_get, unwrap_or, option_map}
+use Rattle.std.specs.Int.{w32}
+use Rattle.std.proofs.lemmas.Bool.{and_parts}
+use Rattle.c0_tree.specs.declared.primitive.Scalar.{Scalar}
+use Rattle.c0_tree.specs.declared.primitive.Scalar.TheVariants.{Int, Bool as Boolean}
+use Rattle.c0_tree.specs.Primitives.{CPrimitive, kernel_primitives}
+use Rattle.c0_tree.specs.Tree.{CDecl}
+use Rattle.c0_meaning.specs.Ty.{Ty, ty_of, same_ty}
+use Rattle.c0_meaning.specs.Ty as ty
+use Rattle.c0_meaning.specs.Env.{Shape, typed_of}
+use Rattle.c0_meaning.specs.Limits.{are_three_ints}
+use Rattle.c0_meaning.specs.Sound.{shapes}
+use Rattle.c0_meaning.proofs.Ty.{equal-same_ty}
+use Rattle.c0_meaning.proofs.Units.{units_are_faultless}
+use Rattle.c0_meaning.specs.Value.{Value, Values, empty, part}
+use Rattle.c0_meaning.specs.Value as value
+use Rattle.c0_meaning.specs.TypedState.{Layout, types_of, AllFit, layout_of, IsScalar, IsSafe}
+use Rattle.c0_meaning.specs.Execution.{call_first}
+use Rattle.c0_meaning.specs.RunLaws.{FirstIsTyped, CallsAreSafe, DispatchesAreSafe}
+use Rattle.c0_meaning.specs.KernelRows.{seven, sevens, SevensFit}
+use Rattle.c0_meaning.proofs.Dispatch.{has_dispatch}
+use Rattle.c0_meaning.proofs.Fields.{zeros_fit}
+use Rattle.c0_meaning.proofs.SafeRuns.{first_call_safe}
+
+pub first_is_typed : FirstIsTyped
+first_is_typed primitives u well =
+    let typed = (units_are_faultless primitives u).1 well.typed in (
+      [],
+      record {
+        global_values = zeros_fit u.structs typed.structs (layout_of u []) u.globals typed.globals;
+        heap_values = tt;
+        frames = λ k d h. absurd (omega (arith, h));
+      },
+    )
+
+pub calls_are_safe : (W E : Type 0) → CallsAreSafe W E
+calls_are_safe W E is_right primitives p objects n number f args s world well answers is typed fits right =
+    first_call_safe W E primitives p is_right well answers objects n number f args s world is typed fits right
+
+-- three ints for three parameters of type int
+three_ints : (structs : List Shape) (layout : Layout) (ds : List CDecl) (a b c : ℤ) → are_three_ints ds ≡ true → FitsSigned w32 a → FitsSigned w32 b → FitsSigned w32 c
+    → AllFit structs layout (types_of (map typed_of ds)) (part (value.int a) (part (value.int b) (part (value.int c) empty)))
+three_ints structs layout (x ∷ y ∷ z ∷ []) a b c e f g h =
+    let p = and_parts (same_ty (ty_of x.ty) ty.int) _ e in
+    let q = and_parts (same_ty (ty_of y.ty) ty.int) (same_ty (ty_of z.ty) ty.int) p.1 in
+    subst (λ ts. AllFit structs layout ts (part (value.int a) (part (value.int b) (part (value.int c) empty))))
+    (sym (three_types (ty_of x.ty) (ty_of y.ty) (ty_of z.ty) (equal-same_ty (ty_of x.ty) ty.int p.0) (equal-same_ty (ty_of y.ty) ty.int q.0) (equal-same_ty (ty_of z.ty) ty.int q.1)))
+    (f, (g, (h, tt)))
+  where
+    three_types : (t u w : Ty) → t ≡ ty.int → u ≡ ty.int → w ≡ ty.int → t ∷ u ∷ w ∷ [] ≡ ty.int ∷ ty.int ∷ ty.int ∷ []
+    three_types t u w p q r = cc
+three_ints structs layout [] a b c e f g h = absurd (cc)
+three_ints structs layout (x ∷ []) a b c e f g h = absurd (cc)
+three_ints structs layout (x ∷ y ∷ []) a b c e f g h = absurd (cc)
+three_ints structs layout (x ∷ y ∷ z ∷ w ∷ ds) a b c e f g h = absurd (cc)
+
+pub dispatches_are_safe : (W E : Type 0) → DispatchesAreSafe W E
+dispatches_are_safe W E is_right p n cause edata user s world checked answers typed f g h right =
+    let d = has_dispatch p.unit checked in
+    let c = and_parts _ _ d.4 in
+    let k = and_parts (are_three_ints d.1.params) _ c.1 in
+    subst (λ m. IsSafe is_right p.unit (call_first p n m (part (value.int cause) (part (value.int edata) (part (value.int user) empty))) s world)) (sym (ap (λ o. unwrap_or o 0) d.2))
+    (first_call_safe W E kernel_primitives p is_right checked.well_formed answers typed.0 n d.0 d.1 (part (value.int cause) (part (value.int edata) (part (value.int user) empty))) s world d.3 typed.1
+    (three_ints (shapes p.unit) (layout_of p.unit typed.0) d.1.params cause edata user k.0 f g h) right)
+
+-- the answer of a row that is found
+pub same_row : (a b : CPrimitive) (v : Value) → ◌≡◌ {A = Option CPrimitive} (Some a) (Some b) → IsScalar a.answer v → IsScalar b.answer v
+same_row a b v e h = let q : a ≡ b = cc in subst (λ r. IsScalar r.answer v) q h
+
+seven_fits : (t : Scalar) → IsScalar t (seven t)
+seven_fits Int = record { sfits = omega arith }
+seven_fits Boolean = tt
+
+seven_answers : (n : ℕ) (row : CPrimitive) (args : Values) (w : ℕ) → slice_get kernel_primitives n ≡ Some row → IsScalar row.answer (sevens n args w).answer
+seven_answers n row args w e = subst (λ o. IsScalar row.answer (seven (unwrap_or (option_map (λ r. r.answer) o) Int))) (sym e) (seven_fits row.answer)
+
+pub sevens_fit : SevensFit
+sevens_fit = record { answer = λ n row args w e a r. seven_answers n row args w e; world = λ n row args w e a r. refl }

@@ -1,0 +1,5 @@
+use Rattle.c0_meaning.proofs.Numbered.{numbers_tell}
+use Rattle.c0_meaning.proofs.laws.numbers_tell.Goals as goal
+
+pub returns : goal.returns
+returns c = numbers_tell

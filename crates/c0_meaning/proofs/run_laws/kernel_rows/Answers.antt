@@ -1,0 +1,102 @@
+use Rattle.std.proofs.Common.{refl}
+use Rattle.std.specs.Int.{int_wrap}
+use Rattle.c0_meaning.specs.Words.{holds, struct_words}
+use Rattle.c0_meaning.proofs.Allowed.{all_allowed}
+use Rattle.c0_meaning.proofs.Safe.{sevens_fit}
+use Rattle.c0_meaning.specs.Kernels as kernels
+use Rattle.c0_meaning.proofs.run_laws.kernel_rows.Goals as goal
+
+pub returns-clause-runs : goal.returns-clause-runs
+unfolding holds struct_words int_wrap
+returns-clause-runs c = record {
+  sums_wrap = refl;
+  truncates = refl;
+  division_by_zero = refl;
+  heap_is_full = refl;
+  heap_has_room = refl;
+  stack_is_enough = refl;
+  stack_is_out = refl;
+  index_is_out = refl;
+  null_is_used = refl;
+  first_next = refl;
+  halts = refl;
+  counted = refl;
+  asm_functions = refl;
+  first_user = refl;
+  sends = refl;
+  ends = refl;
+  objects = refl;
+  statements_alone = refl;
+  never_ends = refl;
+}
+
+pub returns-clause-order : goal.returns-clause-order
+unfolding holds struct_words int_wrap
+returns-clause-order c = record {
+  right_side_then_place = refl;
+  right_side_then_index = refl;
+  left_then_right = refl;
+  place_then_index = refl;
+  object_then_place = refl;
+  object_stays = refl;
+  call_then_place = refl;
+  call_stays = refl;
+  argument_then_stack = refl;
+  stack_alone = refl;
+  stack_suffices = refl;
+  left_decides = refl;
+  first_argument_then_second = refl;
+  below_zero = refl;
+  address_is_tested = refl;
+}
+
+pub returns-clause-parts : goal.returns-clause-parts
+unfolding holds struct_words int_wrap
+returns-clause-parts c = record {
+  asm_has_room = refl;
+  asm_is_out = refl;
+  entry_stays = refl;
+  object_is_null = refl;
+  primitive_is_cut = refl;
+  primitive_alone = refl;
+  primitive_is_stored = refl;
+  object_alone = refl;
+  elements = refl;
+  inner_is_out = refl;
+  outer_is_out = refl;
+  inner_divides = refl;
+  part_of_null = refl;
+  once = refl;
+  again = refl;
+  counted_twice = refl;
+}
+
+pub returns-clause-programs : goal.returns-clause-programs
+unfolding int_wrap
+returns-clause-programs c = record { ends = refl; goes_on = refl; stands = refl; stands_first = refl; cut = refl; called = refl; short = refl; faults = refl }
+
+pub returns-clause-checked : goal.returns-clause-checked
+unfolding holds struct_words int_wrap
+returns-clause-checked c = record {
+  sums = record { well_formed = record { plain = refl; typed = refl; resolved = refl; allowed = all_allowed kernels.sums.functions refl }; dispatch = refl };
+  divisions = record { well_formed = record { plain = refl; typed = refl; resolved = refl; allowed = all_allowed kernels.divisions.functions refl }; dispatch = refl };
+  by_zero = record { well_formed = record { plain = refl; typed = refl; resolved = refl; allowed = all_allowed kernels.by_zero.functions refl }; dispatch = refl };
+  small_heap = record { well_formed = record { plain = refl; typed = refl; resolved = refl; allowed = all_allowed kernels.small_heap.functions refl }; dispatch = refl };
+  recursion = record { well_formed = record { plain = refl; typed = refl; resolved = refl; allowed = all_allowed kernels.recursion.functions refl }; dispatch = refl };
+  bounds = record { well_formed = record { plain = refl; typed = refl; resolved = refl; allowed = all_allowed kernels.bounds.functions refl }; dispatch = refl };
+  null_use = record { well_formed = record { plain = refl; typed = refl; resolved = refl; allowed = all_allowed kernels.null_use.functions refl }; dispatch = refl };
+  nexts = record { well_formed = record { plain = refl; typed = refl; resolved = refl; allowed = all_allowed kernels.nexts.functions refl }; dispatch = refl };
+  counts = record { well_formed = record { plain = refl; typed = refl; resolved = refl; allowed = all_allowed kernels.counts.functions refl }; dispatch = refl };
+  scheduler = record { well_formed = record { plain = refl; typed = refl; resolved = refl; allowed = all_allowed kernels.scheduler.functions refl }; dispatch = refl };
+  asm_sum = record { well_formed = record { plain = refl; typed = refl; resolved = refl; allowed = all_allowed kernels.asm_sum.functions refl }; dispatch = refl };
+  list = record { well_formed = record { plain = refl; typed = refl; resolved = refl; allowed = all_allowed kernels.list.functions refl }; dispatch = refl };
+  endless = record { well_formed = record { plain = refl; typed = refl; resolved = refl; allowed = all_allowed kernels.endless.functions refl }; dispatch = refl };
+  order = record { well_formed = record { plain = refl; typed = refl; resolved = refl; allowed = all_allowed kernels.order.functions refl }; dispatch = refl };
+  parts = record { well_formed = record { plain = refl; typed = refl; resolved = refl; allowed = all_allowed kernels.parts.functions refl }; dispatch = refl };
+  twice = record { plain = refl; typed = refl; resolved = refl; allowed = all_allowed kernels.twice.functions refl };
+  thrice = record { plain = refl; typed = refl; resolved = refl; allowed = all_allowed kernels.thrice.functions refl };
+  inverse = record { plain = refl; typed = refl; resolved = refl; allowed = all_allowed kernels.inverse.functions refl };
+}
+
+pub returns-clause-fit : goal.returns-clause-fit
+returns-clause-fit c = sevens_fit

@@ -1,0 +1,58 @@
+-- The meaning of a user program in C0: its one primitive, `trap`, answers from a list.
+use Rattle.std.specs.Prelude.{ℕ, suc, ℤ, pos, Bool, not, ◌&&◌, ◌==◌, nat_lt, if◌then◌else◌, List, [], ◌∷◌, length, take, drop, slice_get, codes, unwrap_or, position}
+use Rattle.std.specs.Str.{bytes_eq}
+use Rattle.c0_tree.specs.declared.primitive.Scalar.TheVariants.{Int}
+use Rattle.c0_tree.specs.Primitives.{CPrimitive}
+use Rattle.c0_tree.specs.Tree.{CFunction, CUnit}
+use Rattle.c0_meaning.specs.Ty.{int, ty_of, same_ty}
+use Rattle.c0_meaning.specs.Limits.{is_asm}
+use Rattle.c0_meaning.specs.Value.{Values, empty, part}
+use Rattle.c0_meaning.specs.Value as value
+use Rattle.c0_meaning.specs.State.{first_state}
+use Rattle.c0_meaning.specs.Operators.{Failure}
+use Rattle.c0_meaning.specs.World.{Meaning, journal}
+use Rattle.c0_meaning.specs.Execution.{Outcome, Done, Failed, NotYet, call_first}
+
+-- the one primitive of a user program
+abbrev pub user_primitives : List CPrimitive
+user_primitives = record { name = codes "trap"; args = Int ∷ []; answer = Int } ∷ []
+
+-- the argument of a call of `trap`
+abbrev pub argument : Values → ℤ
+argument (part (value.int a) vs) = a
+argument _ = pos 0
+
+-- `trap`: the world's value is the answers that are left, the journal the arguments; past the last answer it answers 0
+abbrev pub trap : Meaning (List ℤ) ℤ
+trap n args answers = record { answer = value.int (unwrap_or (slice_get answers 0) (pos 0)); world = drop 1 answers; entries = argument args ∷ []; pages = 0; words = 0 }
+
+-- whether this is `int main()` with a code body
+abbrev pub is_main : CFunction → Bool
+is_main f = bytes_eq f.name.text (codes "main") && ((length f.params == 0) && (same_ty (ty_of f.answer) int && not (is_asm f.body)))
+
+-- how a program ended
+pub data Ending : Type 0 where
+  done : Ending
+  failed : Failure → Ending
+  not_yet : Ending
+
+-- what is seen of a program: the arguments of its calls of `trap` so far, and how it ended
+pub record Seen : Type 0 where
+  pub arguments : List ℤ
+  pub ending : Ending
+
+-- a program that has called `trap` past the last answer stands at the first such call
+abbrev pub up_to : List ℤ → Seen → Seen
+up_to answers s =
+    if nat_lt (length answers) (length s.arguments) then record { arguments = take (suc (length answers)) s.arguments; ending = not_yet } else s
+
+-- what is seen of an outcome
+abbrev pub seen : Outcome (List ℤ) ℤ → Seen
+seen (Done k c) = record { arguments = journal c; ending = done }
+seen (Failed k f c) = record { arguments = journal c; ending = failed f }
+seen (NotYet k c) = record { arguments = journal c; ending = not_yet }
+
+-- `main` of a unit, within n units, where the i-th call of `trap` answers the i-th of a list; heap and stack have 1024 words each
+abbrev pub prog : CUnit → List ℤ → ℕ → Seen
+prog u answers n =
+    up_to answers (seen (call_first (record { unit = u; heap = 1024; stack = 1024; meaning = trap }) n (unwrap_or (position is_main u.functions) 0) empty (first_state u) answers))
