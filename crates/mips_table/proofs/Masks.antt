@@ -52,6 +52,14 @@ under_opcode w h = and_high_mask 32 26 (omega arith) w h
 pub under_lui : (w : ℕ) → w < 2 ^ 32 → bit_and w 0xffe00000 ≡ w / 2 ^ 21 * 2 ^ 21
 under_lui w h = and_high_mask 32 21 (omega arith) w h
 
+-- all but rs and rt: mult, multu, div, divu
+pub under_pair : (w : ℕ) → w < 2 ^ 32 → bit_and w 0xfc00ffff ≡ w / 2 ^ 26 * 2 ^ 26 + w % 2 ^ 16
+under_pair w h = ends 26 6 16 w (omega arith) ∙ omega arith
+
+-- all but rd: mfhi, mflo
+pub under_target : (w : ℕ) → w < 2 ^ 32 → bit_and w 0xffff07ff ≡ w / 2 ^ 16 * 2 ^ 16 + w % 2 ^ 11
+under_target w h = ends 16 16 11 w (omega arith) ∙ omega arith
+
 -- all bits: eret
 pub under_all : (w : ℕ) → w < 2 ^ 32 → bit_and w 0xffffffff ≡ w
 under_all w h = let e : bit_and w 0xffffffff ≡ w % 2 ^ 32 = and_mask w 32 in omega arith

@@ -7,7 +7,7 @@ use Rattle.std.proofs.lemmas.Bool.Decides.{nat_tests}
 use Rattle.std.specs.Option.{IfSome}
 use Rattle.mips_table.specs.declared.fields.Fields.{Fields}
 use Rattle.mips_table.specs.declared.inst.Inst.{Inst}
-use Rattle.mips_table.specs.declared.inst.Inst.TheVariants.{Sll, Srl, Sra, Sllv, Srlv, Srav, Jr, Jalr, Syscall, Add, Addu, Sub, Subu, And, Or, Xor, Nor, Slt, Sltu, Bltz, Bgez, J, Jal, Beq, Bne, Blez, Bgtz, Addi, Addiu, Slti, Sltiu, Andi, Ori, Xori, Lui, Mfc0, Mtc0, Eret, Lw, Sw}
+use Rattle.mips_table.specs.declared.inst.Inst.TheVariants.{Sll, Srl, Sra, Sllv, Srlv, Srav, Jr, Jalr, Syscall, Add, Addu, Sub, Subu, And, Or, Xor, Nor, Slt, Sltu, Bltz, Bgez, J, Jal, Beq, Bne, Blez, Bgtz, Addi, Addiu, Slti, Sltiu, Andi, Ori, Xori, Lui, Mfc0, Mtc0, Eret, Lw, Sw, Mult, Multu, Div, Divu, Mfhi, Mthi, Mflo, Mtlo}
 use Rattle.mips_table.specs.Word.{r_word, i_word, j_word, code_word, fields_of}
 use Rattle.mips_table.specs.Encoding.{InRange, encoding}
 use Rattle.mips_table.specs.Decoding.{inst_of, decoding, by_funct, of_system, by_sign, only_if}
@@ -111,6 +111,14 @@ decoding-encoding (Mtc0 rt special) h = ap inst_of (r_fields 16 4 rt special 0 0
 decoding-encoding Eret h = ap inst_of (r_fields 16 16 0 0 0 24 (omega arith) (omega arith) (omega arith) (omega arith) (omega arith))
 decoding-encoding (Lw rt rs imm) h = ap inst_of (i_fields 35 rs rt imm h.1 h.0 h.2)
 decoding-encoding (Sw rt rs imm) h = ap inst_of (i_fields 43 rs rt imm h.1 h.0 h.2)
+decoding-encoding (Mult rs rt) h = ap inst_of (r_fields 0 rs rt 0 0 24 h.0 h.1 (omega arith) (omega arith) (omega arith))
+decoding-encoding (Multu rs rt) h = ap inst_of (r_fields 0 rs rt 0 0 25 h.0 h.1 (omega arith) (omega arith) (omega arith))
+decoding-encoding (Div rs rt) h = ap inst_of (r_fields 0 rs rt 0 0 26 h.0 h.1 (omega arith) (omega arith) (omega arith))
+decoding-encoding (Divu rs rt) h = ap inst_of (r_fields 0 rs rt 0 0 27 h.0 h.1 (omega arith) (omega arith) (omega arith))
+decoding-encoding (Mfhi rd) h = ap inst_of (r_fields 0 0 0 rd 0 16 (omega arith) (omega arith) h (omega arith) (omega arith))
+decoding-encoding (Mthi rs) h = ap inst_of (r_fields 0 rs 0 0 0 17 h (omega arith) (omega arith) (omega arith) (omega arith))
+decoding-encoding (Mflo rd) h = ap inst_of (r_fields 0 0 0 rd 0 18 (omega arith) (omega arith) h (omega arith) (omega arith))
+decoding-encoding (Mtlo rs) h = ap inst_of (r_fields 0 rs 0 0 0 19 h (omega arith) (omega arith) (omega arith) (omega arith))
 
 -- a word and its fields
 record Fit (w : ℕ) (f : Fields) : Type 0 where
@@ -195,6 +203,14 @@ module _ (w : ℕ) (f : Fields) (k : Fit w f) where
       tested w f.funct 8 ((f.rt == 0) && (f.rd == 0) && (f.sa == 0)) (Jr f.rs) _ (λ e b. grind (arith, nat_tests)) (
       tested w f.funct 9 ((f.rt == 0) && (f.sa == 0)) (Jalr f.rd f.rs) _ (λ e b. grind (arith, nat_tests)) (
       always w f.funct 12 (Syscall f.code) _ (λ e. (omega arith, omega arith)) (
+      tested w f.funct 16 ((f.rs == 0) && (f.rt == 0) && (f.sa == 0)) (Mfhi f.rd) _ (λ e b. grind (arith, nat_tests)) (
+      tested w f.funct 17 ((f.rt == 0) && (f.rd == 0) && (f.sa == 0)) (Mthi f.rs) _ (λ e b. grind (arith, nat_tests)) (
+      tested w f.funct 18 ((f.rs == 0) && (f.rt == 0) && (f.sa == 0)) (Mflo f.rd) _ (λ e b. grind (arith, nat_tests)) (
+      tested w f.funct 19 ((f.rt == 0) && (f.rd == 0) && (f.sa == 0)) (Mtlo f.rs) _ (λ e b. grind (arith, nat_tests)) (
+      tested w f.funct 24 ((f.rd == 0) && (f.sa == 0)) (Mult f.rs f.rt) _ (λ e b. grind (arith, nat_tests)) (
+      tested w f.funct 25 ((f.rd == 0) && (f.sa == 0)) (Multu f.rs f.rt) _ (λ e b. grind (arith, nat_tests)) (
+      tested w f.funct 26 ((f.rd == 0) && (f.sa == 0)) (Div f.rs f.rt) _ (λ e b. grind (arith, nat_tests)) (
+      tested w f.funct 27 ((f.rd == 0) && (f.sa == 0)) (Divu f.rs f.rt) _ (λ e b. grind (arith, nat_tests)) (
       unused w f.funct 32 f.sa (Add f.rd f.rs f.rt) _ (λ e z. ((omega arith, omega arith, omega arith), omega arith)) (
       unused w f.funct 33 f.sa (Addu f.rd f.rs f.rt) _ (λ e z. ((omega arith, omega arith, omega arith), omega arith)) (
       unused w f.funct 34 f.sa (Sub f.rd f.rs f.rt) _ (λ e z. ((omega arith, omega arith, omega arith), omega arith)) (
@@ -205,7 +221,7 @@ module _ (w : ℕ) (f : Fields) (k : Fit w f) where
       unused w f.funct 39 f.sa (Nor f.rd f.rs f.rt) _ (λ e z. ((omega arith, omega arith, omega arith), omega arith)) (
       unused w f.funct 42 f.sa (Slt f.rd f.rs f.rt) _ (λ e z. ((omega arith, omega arith, omega arith), omega arith)) (
       unused w f.funct 43 f.sa (Sltu f.rd f.rs f.rt) _ (λ e z. ((omega arith, omega arith, omega arith), omega arith)) (
-      none w)))))))))))))))))))
+      none w)))))))))))))))))))))))))))
 
   good_sign : f.opcode ≡ 1 → Good w (by_sign f)
   unfolding Has

@@ -5,13 +5,13 @@ use Rattle.std.proofs.Common.{◌≡◌, ℕ, zero, suc, ◌+◌, ◌*◌, ◌/�
 use Rattle.std.proofs.lemmas.Bool.{le-leb}
 use Rattle.std.proofs.lemmas.List.Elements.{All-nil, All-cons}
 use Rattle.mips_table.specs.declared.inst.Inst.{Inst}
-use Rattle.mips_table.specs.declared.inst.Inst.TheVariants.{Sll, Srl, Sra, Sllv, Srlv, Srav, Jr, Jalr, Syscall, Add, Addu, Sub, Subu, And, Or, Xor, Nor, Slt, Sltu, Bltz, Bgez, J, Jal, Beq, Bne, Blez, Bgtz, Addi, Addiu, Slti, Sltiu, Andi, Ori, Xori, Lui, Mfc0, Mtc0, Eret, Lw, Sw}
+use Rattle.mips_table.specs.declared.inst.Inst.TheVariants.{Sll, Srl, Sra, Sllv, Srlv, Srav, Jr, Jalr, Syscall, Add, Addu, Sub, Subu, And, Or, Xor, Nor, Slt, Sltu, Bltz, Bgez, J, Jal, Beq, Bne, Blez, Bgtz, Addi, Addiu, Slti, Sltiu, Andi, Ori, Xori, Lui, Mfc0, Mtc0, Eret, Lw, Sw, Mult, Multu, Div, Divu, Mfhi, Mthi, Mflo, Mtlo}
 use Rattle.mips_table.specs.declared.table.Row.{Row}
 use Rattle.mips_table.specs.Word.{r_word, i_word, j_word, code_word}
 use Rattle.mips_table.specs.Encoding.{InRange, encoding}
 use Rattle.mips_table.specs.Decoding.{decoding}
 use Rattle.mips_table.specs.Rows.{Decodes, AreInstructions, mnemonic_of, place_of}
-use Rattle.mips_table.proofs.Masks.{under_shift, under_registers, under_jr, under_syscall, under_special, under_jalr, under_sign, under_opcode, under_lui, under_all}
+use Rattle.mips_table.proofs.Masks.{under_shift, under_registers, under_jr, under_syscall, under_special, under_jalr, under_sign, under_opcode, under_lui, under_pair, under_target, under_all}
 
 -- a row without its place in memory
 record Plain : Type 0 where
@@ -68,6 +68,14 @@ plain =
     record { mnemonic = codes "eret"; mask = 0xffffffff; value = 0x42000018 } ∷
     record { mnemonic = codes "lw"; mask = 0xfc000000; value = 0x8c000000 } ∷
     record { mnemonic = codes "sw"; mask = 0xfc000000; value = 0xac000000 } ∷
+    record { mnemonic = codes "mult"; mask = 0xfc00ffff; value = 0x00000018 } ∷
+    record { mnemonic = codes "multu"; mask = 0xfc00ffff; value = 0x00000019 } ∷
+    record { mnemonic = codes "div"; mask = 0xfc00ffff; value = 0x0000001a } ∷
+    record { mnemonic = codes "divu"; mask = 0xfc00ffff; value = 0x0000001b } ∷
+    record { mnemonic = codes "mfhi"; mask = 0xffff07ff; value = 0x00000010 } ∷
+    record { mnemonic = codes "mthi"; mask = 0xfc1fffff; value = 0x00000011 } ∷
+    record { mnemonic = codes "mflo"; mask = 0xffff07ff; value = 0x00000012 } ∷
+    record { mnemonic = codes "mtlo"; mask = 0xfc1fffff; value = 0x00000013 } ∷
     []
 
 -- what HasRow says, of a plain row
@@ -116,6 +124,14 @@ encoded (Mtc0 rt special) h = (refl, (under_special (r_word 16 4 rt special 0 0x
 encoded Eret h = (refl, (under_all (r_word 16 16 0 0 0 0x18) (omega arith) ∙ omega arith, λ t. absurd (cc)))
 encoded (Lw rt rs imm) h = (refl, (under_opcode (i_word 35 rs rt imm) (omega arith) ∙ omega arith, λ t. absurd (cc)))
 encoded (Sw rt rs imm) h = (refl, (under_opcode (i_word 43 rs rt imm) (omega arith) ∙ omega arith, λ t. absurd (cc)))
+encoded (Mult rs rt) h = (refl, (under_pair (r_word 0 rs rt 0 0 0x18) (omega arith) ∙ omega arith, λ t. absurd (cc)))
+encoded (Multu rs rt) h = (refl, (under_pair (r_word 0 rs rt 0 0 0x19) (omega arith) ∙ omega arith, λ t. absurd (cc)))
+encoded (Div rs rt) h = (refl, (under_pair (r_word 0 rs rt 0 0 0x1a) (omega arith) ∙ omega arith, λ t. absurd (cc)))
+encoded (Divu rs rt) h = (refl, (under_pair (r_word 0 rs rt 0 0 0x1b) (omega arith) ∙ omega arith, λ t. absurd (cc)))
+encoded (Mfhi rd) h = (refl, (under_target (r_word 0 0 0 rd 0 0x10) (omega arith) ∙ omega arith, λ t. absurd (cc)))
+encoded (Mthi rs) h = (refl, (under_jr (r_word 0 rs 0 0 0 0x11) (omega arith) ∙ omega arith, λ t. absurd (cc)))
+encoded (Mflo rd) h = (refl, (under_target (r_word 0 0 0 rd 0 0x12) (omega arith) ∙ omega arith, λ t. absurd (cc)))
+encoded (Mtlo rs) h = (refl, (under_jr (r_word 0 rs 0 0 0 0x13) (omega arith) ∙ omega arith, λ t. absurd (cc)))
 
 -- the fields of a word under each mask
 shift_fields : (w fn : ℕ) → w < 2 ^ 32 → bit_and w 0xffe0003f ≡ fn → fn < 2 ^ 6 → (w / 2 ^ 26 ≡ 0) × (w / 2 ^ 21 % 2 ^ 5 ≡ 0) × (w % 2 ^ 6 ≡ fn)
@@ -137,15 +153,14 @@ special_fields w rs b e f = let m = under_special w b in (omega arith, omega ari
 abbrev Reads : Plain → Type 0
 Reads p = (word : ℕ) → word < 2 ^ 32 → Under word p → IsSomeAnd (decoding word) (λ i. p.mnemonic ≡ mnemonic_of i)
 
-decoded_jr : (w : ℕ) → w < 2 ^ 32 → bit_and w 0xfc1fffff ≡ 0x08 → IsSomeAnd (decoding w) (λ i. codes "jr" ≡ mnemonic_of i)
-decoded_jr w b e =
-    let m = under_jr w b in
-    let o : w / 2 ^ 26 ≡ 0 = omega arith in
-    let f : w % 2 ^ 6 ≡ 8 = omega arith in
-    let t : w / 2 ^ 16 % 2 ^ 5 ≡ 0 = omega arith in
-    let d : w / 2 ^ 11 % 2 ^ 5 ≡ 0 = omega arith in
-    let s : w / 2 ^ 6 % 2 ^ 5 ≡ 0 = omega arith in
-    rw (o, f, t, d, s) refl
+jr_fields : (w fn : ℕ) → w < 2 ^ 32 → bit_and w 0xfc1fffff ≡ fn → fn < 2 ^ 6 → (w / 2 ^ 26 ≡ 0) × (w % 2 ^ 6 ≡ fn) × (w / 2 ^ 16 % 2 ^ 5 ≡ 0) × (w / 2 ^ 11 % 2 ^ 5 ≡ 0) × (w / 2 ^ 6 % 2 ^ 5 ≡ 0)
+jr_fields w fn b e f = let m = under_jr w b in (omega arith, omega arith, omega arith, omega arith, omega arith)
+
+pair_fields : (w fn : ℕ) → w < 2 ^ 32 → bit_and w 0xfc00ffff ≡ fn → fn < 2 ^ 6 → (w / 2 ^ 26 ≡ 0) × (w % 2 ^ 6 ≡ fn) × (w / 2 ^ 11 % 2 ^ 5 ≡ 0) × (w / 2 ^ 6 % 2 ^ 5 ≡ 0)
+pair_fields w fn b e f = let m = under_pair w b in (omega arith, omega arith, omega arith, omega arith)
+
+target_fields : (w fn : ℕ) → w < 2 ^ 32 → bit_and w 0xffff07ff ≡ fn → fn < 2 ^ 6 → (w / 2 ^ 26 ≡ 0) × (w % 2 ^ 6 ≡ fn) × (w / 2 ^ 21 % 2 ^ 5 ≡ 0) × (w / 2 ^ 16 % 2 ^ 5 ≡ 0) × (w / 2 ^ 6 % 2 ^ 5 ≡ 0)
+target_fields w fn b e f = let m = under_target w b in (omega arith, omega arith, omega arith, omega arith, omega arith)
 
 decoded_jalr : (w : ℕ) → w < 2 ^ 32 → bit_and w 0xfc1f07ff ≡ 0x09 → IsSomeAnd (decoding w) (λ i. codes "jalr" ≡ mnemonic_of i)
 decoded_jalr w b e =
@@ -192,7 +207,7 @@ decoded_plain = (
           (
             λ w b h. let e = registers_fields w 7 b h.0 (omega arith) in rw (e.0, e.1, e.2) refl,
             (
-              λ w b h. decoded_jr w b h.0,
+              λ w b h. let e = jr_fields w 8 b h.0 (omega arith) in rw (e.0, e.1, e.2, e.3, e.4) refl,
               (
                 λ w b h. decoded_jalr w b h.0,
                 (
@@ -259,7 +274,31 @@ decoded_plain = (
                                                                               λ w b h. rw (opcode_field w 35 b h.0) refl,
                                                                               (
                                                                                 λ w b h. rw (opcode_field w 43 b h.0) refl,
-                                                                                tt,
+                                                                                (
+                                                                                  λ w b h. let e = pair_fields w 24 b h.0 (omega arith) in rw (e.0, e.1, e.2, e.3) refl,
+                                                                                  (
+                                                                                    λ w b h. let e = pair_fields w 25 b h.0 (omega arith) in rw (e.0, e.1, e.2, e.3) refl,
+                                                                                    (
+                                                                                      λ w b h. let e = pair_fields w 26 b h.0 (omega arith) in rw (e.0, e.1, e.2, e.3) refl,
+                                                                                      (
+                                                                                        λ w b h. let e = pair_fields w 27 b h.0 (omega arith) in rw (e.0, e.1, e.2, e.3) refl,
+                                                                                        (
+                                                                                          λ w b h. let e = target_fields w 16 b h.0 (omega arith) in rw (e.0, e.1, e.2, e.3, e.4) refl,
+                                                                                          (
+                                                                                            λ w b h. let e = jr_fields w 17 b h.0 (omega arith) in rw (e.0, e.1, e.2, e.3, e.4) refl,
+                                                                                            (
+                                                                                              λ w b h. let e = target_fields w 18 b h.0 (omega arith) in rw (e.0, e.1, e.2, e.3, e.4) refl,
+                                                                                              (
+                                                                                                λ w b h. let e = jr_fields w 19 b h.0 (omega arith) in rw (e.0, e.1, e.2, e.3, e.4) refl,
+                                                                                                tt,
+                                                                                              ),
+                                                                                            ),
+                                                                                          ),
+                                                                                        ),
+                                                                                      ),
+                                                                                    ),
+                                                                                  ),
+                                                                                ),
                                                                               ),
                                                                             ),
                                                                           ),

@@ -1,6 +1,6 @@
 -- Arithmetic on words of 32 bits.
-use Rattle.std.specs.Prelude.{ℕ, ◌+◌, ◌-◌, ◌*◌, ◌/◌, ◌%◌, ◌^◌, Bool, not, ℤ, pos, negsuc, ◌+ℤ◌, ◌-ℤ◌, if◌then◌else◌, nat_lt, int_lt, bit_or}
-use Rattle.std.specs.Int.{cast_signed, w32}
+use Rattle.std.specs.Prelude.{ℕ, ◌+◌, ◌-◌, ◌*◌, ◌/◌, ◌%◌, ◌^◌, Bool, not, ℤ, pos, negsuc, ◌+ℤ◌, ◌-ℤ◌, ◌*ℤ◌, int_div, int_rem, if◌then◌else◌, nat_lt, int_lt, bit_or}
+use Rattle.std.specs.Int.{cast_signed, cast_unsigned, w32, w64}
 
 -- a word as a whole number, by two's complement
 abbrev pub signed : ℕ → ℤ
@@ -62,3 +62,23 @@ flag b = if b then 1 else 0
 -- a field of 16 bits, extended by its sign
 abbrev pub extended : ℕ → ℕ
 extended imm = if nat_lt imm (2 ^ 15) then imm else imm + (2 ^ 32 - 2 ^ 16)
+
+-- the product of two signed words, as 64 bits
+abbrev pub signed_product : ℕ → ℕ → ℕ
+signed_product a b = cast_unsigned w64 (signed a *ℤ signed b)
+
+-- the upper half of 64 bits
+abbrev pub upper : ℕ → ℕ
+upper n = n / 2 ^ 32
+
+-- their lower half
+abbrev pub lower : ℕ → ℕ
+lower n = n % 2 ^ 32
+
+-- the quotient of two signed words, rounded towards zero; that of the least and -1 is the least
+abbrev pub signed_quotient : ℕ → ℕ → ℕ
+signed_quotient a b = cast_unsigned w32 (int_div (signed a) (signed b))
+
+-- what is left of a signed word by that quotient: 0, or of the word's sign
+abbrev pub signed_remainder : ℕ → ℕ → ℕ
+signed_remainder a b = cast_unsigned w32 (int_rem (signed a) (signed b))

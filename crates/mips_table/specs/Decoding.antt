@@ -1,7 +1,7 @@
 -- The instruction of a word.
 use Rattle.std.specs.Prelude.{ℕ, Bool, ◌&&◌, Option, Some, None, if◌then◌else◌, ◌==◌, nat_le}
 use Rattle.mips_table.specs.declared.inst.Inst.{Inst}
-use Rattle.mips_table.specs.declared.inst.Inst.TheVariants.{Sll, Srl, Sra, Sllv, Srlv, Srav, Jr, Jalr, Syscall, Add, Addu, Sub, Subu, And, Or, Xor, Nor, Slt, Sltu, Bltz, Bgez, J, Jal, Beq, Bne, Blez, Bgtz, Addi, Addiu, Slti, Sltiu, Andi, Ori, Xori, Lui, Mfc0, Mtc0, Eret, Lw, Sw}
+use Rattle.mips_table.specs.declared.inst.Inst.TheVariants.{Sll, Srl, Sra, Sllv, Srlv, Srav, Jr, Jalr, Syscall, Add, Addu, Sub, Subu, And, Or, Xor, Nor, Slt, Sltu, Bltz, Bgez, J, Jal, Beq, Bne, Blez, Bgtz, Addi, Addiu, Slti, Sltiu, Andi, Ori, Xori, Lui, Mfc0, Mtc0, Eret, Lw, Sw, Mult, Multu, Div, Divu, Mfhi, Mthi, Mflo, Mtlo}
 use Rattle.mips_table.specs.declared.fields.Fields.{Fields}
 use Rattle.mips_table.specs.Word.{fields_of}
 
@@ -21,6 +21,14 @@ by_funct f =
     if f.funct == 0x08 then only_if ((f.rt == 0) && (f.rd == 0) && (f.sa == 0)) (Jr f.rs) else
     if f.funct == 0x09 then only_if ((f.rt == 0) && (f.sa == 0)) (Jalr f.rd f.rs) else
     if f.funct == 0x0c then Some (Syscall f.code) else
+    if f.funct == 0x10 then only_if ((f.rs == 0) && (f.rt == 0) && (f.sa == 0)) (Mfhi f.rd) else
+    if f.funct == 0x11 then only_if ((f.rt == 0) && (f.rd == 0) && (f.sa == 0)) (Mthi f.rs) else
+    if f.funct == 0x12 then only_if ((f.rs == 0) && (f.rt == 0) && (f.sa == 0)) (Mflo f.rd) else
+    if f.funct == 0x13 then only_if ((f.rt == 0) && (f.rd == 0) && (f.sa == 0)) (Mtlo f.rs) else
+    if f.funct == 0x18 then only_if ((f.rd == 0) && (f.sa == 0)) (Mult f.rs f.rt) else
+    if f.funct == 0x19 then only_if ((f.rd == 0) && (f.sa == 0)) (Multu f.rs f.rt) else
+    if f.funct == 0x1a then only_if ((f.rd == 0) && (f.sa == 0)) (Div f.rs f.rt) else
+    if f.funct == 0x1b then only_if ((f.rd == 0) && (f.sa == 0)) (Divu f.rs f.rt) else
     if f.funct == 0x20 then only_if (f.sa == 0) (Add f.rd f.rs f.rt) else
     if f.funct == 0x21 then only_if (f.sa == 0) (Addu f.rd f.rs f.rt) else
     if f.funct == 0x22 then only_if (f.sa == 0) (Sub f.rd f.rs f.rt) else

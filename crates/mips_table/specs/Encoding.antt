@@ -1,7 +1,7 @@
 -- The instruction table: the word of each instruction.
 use Rattle.std.specs.Prelude.{ℕ, ◌^◌, ◌<◌, ◌≤◌}
 use Rattle.mips_table.specs.declared.inst.Inst.{Inst}
-use Rattle.mips_table.specs.declared.inst.Inst.TheVariants.{Sll, Srl, Sra, Sllv, Srlv, Srav, Jr, Jalr, Syscall, Add, Addu, Sub, Subu, And, Or, Xor, Nor, Slt, Sltu, Bltz, Bgez, J, Jal, Beq, Bne, Blez, Bgtz, Addi, Addiu, Slti, Sltiu, Andi, Ori, Xori, Lui, Mfc0, Mtc0, Eret, Lw, Sw}
+use Rattle.mips_table.specs.declared.inst.Inst.TheVariants.{Sll, Srl, Sra, Sllv, Srlv, Srav, Jr, Jalr, Syscall, Add, Addu, Sub, Subu, And, Or, Xor, Nor, Slt, Sltu, Bltz, Bgez, J, Jal, Beq, Bne, Blez, Bgtz, Addi, Addiu, Slti, Sltiu, Andi, Ori, Xori, Lui, Mfc0, Mtc0, Eret, Lw, Sw, Mult, Multu, Div, Divu, Mfhi, Mthi, Mflo, Mtlo}
 use Rattle.mips_table.specs.Word.{r_word, i_word, j_word, code_word}
 
 -- each field fits its place in the word, and a special register is at most 8
@@ -46,6 +46,14 @@ InRange (Mtc0 rt special) = (rt < 32) × (special ≤ 8)
 InRange Eret = Unit {0}
 InRange (Lw rt rs imm) = (rt < 32) × (rs < 32) × (imm < 2 ^ 16)
 InRange (Sw rt rs imm) = (rt < 32) × (rs < 32) × (imm < 2 ^ 16)
+InRange (Mult rs rt) = (rs < 32) × (rt < 32)
+InRange (Multu rs rt) = (rs < 32) × (rt < 32)
+InRange (Div rs rt) = (rs < 32) × (rt < 32)
+InRange (Divu rs rt) = (rs < 32) × (rt < 32)
+InRange (Mfhi rd) = rd < 32
+InRange (Mthi rs) = rs < 32
+InRange (Mflo rd) = rd < 32
+InRange (Mtlo rs) = rs < 32
 
 -- the word of an instruction; a field that the instruction doesn't name is 0
 abbrev pub encoding : Inst → ℕ
@@ -89,3 +97,11 @@ encoding (Mtc0 rt special) = r_word 16 4 rt special 0 0x00
 encoding Eret = r_word 16 16 0 0 0 0x18
 encoding (Lw rt rs imm) = i_word 35 rs rt imm
 encoding (Sw rt rs imm) = i_word 43 rs rt imm
+encoding (Mult rs rt) = r_word 0 rs rt 0 0 0x18
+encoding (Multu rs rt) = r_word 0 rs rt 0 0 0x19
+encoding (Div rs rt) = r_word 0 rs rt 0 0 0x1a
+encoding (Divu rs rt) = r_word 0 rs rt 0 0 0x1b
+encoding (Mfhi rd) = r_word 0 0 0 rd 0 0x10
+encoding (Mthi rs) = r_word 0 rs 0 0 0 0x11
+encoding (Mflo rd) = r_word 0 0 0 rd 0 0x12
+encoding (Mtlo rs) = r_word 0 rs 0 0 0 0x13

@@ -3,6 +3,15 @@ pub mod Encoding
 pub mod Decoding
 pub mod Arith
 pub mod Effect
-pub mod Core
+pub mod Processor
 pub mod Flat
 pub mod Rows
+pub mod Device
+pub mod Machine
+pub mod Turns
+pub mod Fits
+pub mod Code
+pub mod Simulation
+pub mod Borders
+pub mod Premises
+pub mod Samples

@@ -1,7 +1,7 @@
 -- The rows of the instruction table, and what makes them right.
 use Rattle.std.specs.Prelude.{◌≡◌, Some, slice_get, ℕ, ◌/◌, ◌%◌, ◌^◌, ◌<◌, ◌≤◌, Bool, true, false, not, ◌&&◌, ◌||◌, ◌==◌, List, [], ◌∷◌, bit_and, IsTrue, IsSomeAnd, All, codes}
 use Rattle.mips_table.specs.declared.inst.Inst.{Inst}
-use Rattle.mips_table.specs.declared.inst.Inst.TheVariants.{Sll, Srl, Sra, Sllv, Srlv, Srav, Jr, Jalr, Syscall, Add, Addu, Sub, Subu, And, Or, Xor, Nor, Slt, Sltu, Bltz, Bgez, J, Jal, Beq, Bne, Blez, Bgtz, Addi, Addiu, Slti, Sltiu, Andi, Ori, Xori, Lui, Mfc0, Mtc0, Eret, Lw, Sw}
+use Rattle.mips_table.specs.declared.inst.Inst.TheVariants.{Sll, Srl, Sra, Sllv, Srlv, Srav, Jr, Jalr, Syscall, Add, Addu, Sub, Subu, And, Or, Xor, Nor, Slt, Sltu, Bltz, Bgez, J, Jal, Beq, Bne, Blez, Bgtz, Addi, Addiu, Slti, Sltiu, Andi, Ori, Xori, Lui, Mfc0, Mtc0, Eret, Lw, Sw, Mult, Multu, Div, Divu, Mfhi, Mthi, Mflo, Mtlo}
 use Rattle.mips_table.specs.declared.table.Row.{Row}
 use Rattle.mips_table.specs.Encoding.{InRange, encoding}
 use Rattle.mips_table.specs.Decoding.{decoding}
@@ -87,6 +87,14 @@ mnemonic_of (Mtc0 _ _) = codes "mtc0"
 mnemonic_of Eret = codes "eret"
 mnemonic_of (Lw _ _ _) = codes "lw"
 mnemonic_of (Sw _ _ _) = codes "sw"
+mnemonic_of (Mult _ _) = codes "mult"
+mnemonic_of (Multu _ _) = codes "multu"
+mnemonic_of (Div _ _) = codes "div"
+mnemonic_of (Divu _ _) = codes "divu"
+mnemonic_of (Mfhi _) = codes "mfhi"
+mnemonic_of (Mthi _) = codes "mthi"
+mnemonic_of (Mflo _) = codes "mflo"
+mnemonic_of (Mtlo _) = codes "mtlo"
 
 -- the place of an instruction's row in the table
 abbrev pub place_of : Inst → ℕ
@@ -130,6 +138,14 @@ place_of (Mtc0 _ _) = 36
 place_of Eret = 37
 place_of (Lw _ _ _) = 38
 place_of (Sw _ _ _) = 39
+place_of (Mult _ _) = 40
+place_of (Multu _ _) = 41
+place_of (Div _ _) = 42
+place_of (Divu _ _) = 43
+place_of (Mfhi _) = 44
+place_of (Mthi _) = 45
+place_of (Mflo _) = 46
+place_of (Mtlo _) = 47
 
 -- whether the words of a row name a special register: those of mfc0 and mtc0 do
 abbrev pub names_special : Row → Bool

@@ -1,7 +1,7 @@
 // Arithmetic on words of 32 bits. A word stands for a signed number by two's complement where a name says so.
 
-ghost use Rattle.std.specs.Prelude.{◌≡◌, ◌^◌, ◌<◌};
-ghost use Rattle.mips_table.specs.Arith.{sum, difference, sum_overflows, difference_overflows, less, is_negative, is_positive, shifted_left, shifted_right, shifted_signed, nor, flag, extended};
+ghost use Rattle.std.specs.Prelude.{◌≡◌, ◌≢◌, ◌^◌, ◌<◌};
+ghost use Rattle.mips_table.specs.Arith.{sum, difference, sum_overflows, difference_overflows, less, is_negative, is_positive, shifted_left, shifted_right, shifted_signed, nor, flag, extended, signed_product, upper, lower, signed_quotient, signed_remainder};
 
 /// The sum, modulo 2^32.
 pub fn sum(a: u32, b: u32) -> u32
@@ -98,4 +98,46 @@ pub fn extended(imm: u32) -> u32
     ensures { result ≡ extended imm }
 {
     if imm < 0x8000 { imm } else { imm + 0xffff_0000 }
+}
+
+/// The product of two signed words, as 64 bits.
+pub fn signed_product(a: u32, b: u32) -> u64
+    ensures { result ≡ signed_product a b }
+{
+    (i64::from(a.cast_signed()) * i64::from(b.cast_signed())).cast_unsigned()
+}
+
+/// The upper half of 64 bits.
+pub fn upper(bits: u64) -> u32
+    ensures { result ≡ upper bits }
+{
+    (bits >> 32) as u32
+}
+
+/// The lower half of 64 bits.
+pub fn lower(bits: u64) -> u32
+    ensures { result ≡ lower bits }
+{
+    (bits & 0xffff_ffff) as u32
+}
+
+/// The quotient of two signed words, rounded towards zero, where the second isn't 0. That of 80000000 and ffffffff
+/// (hexadecimal) is 80000000.
+pub fn signed_quotient(a: u32, b: u32) -> u32
+    requires { b ≢ 0 }
+    ensures { result ≡ signed_quotient a b }
+{
+    a.cast_signed()
+        .wrapping_div(b.cast_signed())
+        .cast_unsigned()
+}
+
+/// What is left of a signed word by that quotient: 0, or of the word's sign.
+pub fn signed_remainder(a: u32, b: u32) -> u32
+    requires { b ≢ 0 }
+    ensures { result ≡ signed_remainder a b }
+{
+    a.cast_signed()
+        .wrapping_rem(b.cast_signed())
+        .cast_unsigned()
 }

@@ -1,26 +1,32 @@
 // What each instruction does to the registers and the pc, and what it asks of the memory.
-ghost use Rattle.std.specs.Prelude.{◌≡◌, ◌%◌, ◌^◌, ◌<◌, if◌then◌else◌, slice_index};
+ghost use Rattle.std.specs.Prelude.{◌≡◌, ◌%◌, ◌^◌, ◌<◌, ◌==◌, if◌then◌else◌, slice_index};
 ghost use Rattle.mips_table.specs.Arith.{sum, difference, sum_overflows, difference_overflows};
 ghost use Rattle.mips_table.specs.Encoding.{InRange};
-ghost use Rattle.mips_table.specs.Effect.{next, branch, jump, effect_of, HasRegister};
+ghost use Rattle.mips_table.specs.Effect.{next, branch, jump, set_halves, divided, divided_unsigned, effect_of, HasRegister};
 
 use crate::arith::{
-    difference, difference_overflows, extended, flag, is_negative, is_positive, less, nor,
-    shifted_left, shifted_right, shifted_signed, sum, sum_overflows,
+    difference, difference_overflows, extended, flag, is_negative, is_positive, less, lower, nor,
+    shifted_left, shifted_right, shifted_signed, signed_product, signed_quotient, signed_remainder,
+    sum, sum_overflows, upper,
 };
 use crate::inst::Inst;
 use crate::instruction_rows::effects;
 
 /// What an instruction asks for.
 ///
-/// The register of `Set` and `Load` is a number from 0 to 31. Registers hi and lo can have the numbers 32 and 33 here,
-/// and a product, which sets both, can be one more variant, `Wide`.
+/// The register of `Set` and `Load` is a number from 0 to 31.
 #[derive(Clone, Copy, Debug)]
 pub enum Effect {
     /// The register gets the value, and pc goes to next. Nothing is written to register 0.
     Set {
         register: u32,
         value: u32,
+        next: u32,
+    },
+    /// The registers hi and lo get these values, and pc goes to next.
+    Wide {
+        hi: u32,
+        lo: u32,
         next: u32,
     },
     /// The register gets the word at the address, and pc goes to the next instruction. Nothing is written to
@@ -116,6 +122,44 @@ fn set_difference(register: u32, a: u32, b: u32, pc: u32) -> Effect
     set(register, difference(a, b), pc)
 }
 
+// hi and lo are written, and the next instruction follows.
+fn set_wide(hi: u32, lo: u32, pc: u32) -> Effect
+    ensures { result ≡ Effect.Wide hi lo (next pc) }
+{
+    Effect::Wide {
+        hi,
+        lo,
+        next: next(pc),
+    }
+}
+
+// hi and lo get the halves of 64 bits.
+fn set_halves(bits: u64, pc: u32) -> Effect
+    ensures { result ≡ set_halves pc bits }
+{
+    set_wide(upper(bits), lower(bits), pc)
+}
+
+// hi and lo get what is left and the quotient of signed words, or stay where the divisor is 0.
+fn divide(a: u32, b: u32, pc: u32, hi: u32, lo: u32) -> Effect
+    ensures { result ≡ divided a b pc hi lo }
+{
+    if b == 0 {
+        return set_wide(hi, lo, pc);
+    }
+    set_wide(signed_remainder(a, b), signed_quotient(a, b), pc)
+}
+
+// The same of words without sign.
+fn divide_unsigned(a: u32, b: u32, pc: u32, hi: u32, lo: u32) -> Effect
+    ensures { result ≡ divided_unsigned a b pc hi lo }
+{
+    if b == 0 {
+        return set_wide(hi, lo, pc);
+    }
+    set_wide(a % b, a / b, pc)
+}
+
 // Control goes elsewhere, and no register is written.
 fn goes(next: u32) -> Effect
     ensures { result ≡ Effect.Set 0 0 next }
@@ -158,11 +202,11 @@ macro_rules! effect_arms {
     };
 }
 
-/// The effect of an instruction at pc, by the registers' values.
-pub fn effect_of(inst: &Inst, pc: u32, regs: &[u32; 32]) -> Effect
+/// The effect of an instruction at pc, by the values of the registers, hi and lo.
+pub fn effect_of(inst: &Inst, pc: u32, regs: &[u32; 32], hi: u32, lo: u32) -> Effect
     requires { InRange inst.now }
-    ensures value { result ≡ effect_of inst.now pc (slice_index regs.now) }
+    ensures value { result ≡ effect_of inst.now pc (slice_index regs.now) hi lo }
     ensures register { HasRegister result }
 {
-    effects!(effect_arms, *inst, pc, regs)
+    effects!(effect_arms, *inst, pc, regs, hi, lo)
 }

@@ -47,4 +47,12 @@ pub enum Inst {
     Eret,
     Lw { rt: u32, rs: u32, imm: u32 },
     Sw { rt: u32, rs: u32, imm: u32 },
+    Mult { rs: u32, rt: u32 },
+    Multu { rs: u32, rt: u32 },
+    Div { rs: u32, rt: u32 },
+    Divu { rs: u32, rt: u32 },
+    Mfhi { rd: u32 },
+    Mthi { rs: u32 },
+    Mflo { rd: u32 },
+    Mtlo { rs: u32 },
 }

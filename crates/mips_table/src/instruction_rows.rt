@@ -47,6 +47,14 @@ macro_rules! rows {
             Inst::Eret, "eret", 0xffff_ffff, 0x4200_0018, register_word(16, 16, 0, 0, 0, 0x18);
             Inst::Lw { rt, rs, imm }, "lw", 0xfc00_0000, 0x8c00_0000, immediate_word(35, rs, rt, imm);
             Inst::Sw { rt, rs, imm }, "sw", 0xfc00_0000, 0xac00_0000, immediate_word(43, rs, rt, imm);
+            Inst::Mult { rs, rt }, "mult", 0xfc00_ffff, 0x0000_0018, register_word(0, rs, rt, 0, 0, 0x18);
+            Inst::Multu { rs, rt }, "multu", 0xfc00_ffff, 0x0000_0019, register_word(0, rs, rt, 0, 0, 0x19);
+            Inst::Div { rs, rt }, "div", 0xfc00_ffff, 0x0000_001a, register_word(0, rs, rt, 0, 0, 0x1a);
+            Inst::Divu { rs, rt }, "divu", 0xfc00_ffff, 0x0000_001b, register_word(0, rs, rt, 0, 0, 0x1b);
+            Inst::Mfhi { rd }, "mfhi", 0xffff_07ff, 0x0000_0010, register_word(0, 0, 0, rd, 0, 0x10);
+            Inst::Mthi { rs }, "mthi", 0xfc1f_ffff, 0x0000_0011, register_word(0, rs, 0, 0, 0, 0x11);
+            Inst::Mflo { rd }, "mflo", 0xffff_07ff, 0x0000_0012, register_word(0, 0, 0, rd, 0, 0x12);
+            Inst::Mtlo { rs }, "mtlo", 0xfc1f_ffff, 0x0000_0013, register_word(0, rs, 0, 0, 0, 0x13);
         }
     };
 }
@@ -68,6 +76,14 @@ macro_rules! places {
             0x08 if rt == 0 && rd == 0 && sa == 0 => Inst::Jr { rs };
             0x09 if rt == 0 && sa == 0 => Inst::Jalr { rd, rs };
             0x0c => Inst::Syscall { code };
+            0x10 if rs == 0 && rt == 0 && sa == 0 => Inst::Mfhi { rd };
+            0x11 if rt == 0 && rd == 0 && sa == 0 => Inst::Mthi { rs };
+            0x12 if rs == 0 && rt == 0 && sa == 0 => Inst::Mflo { rd };
+            0x13 if rt == 0 && rd == 0 && sa == 0 => Inst::Mtlo { rs };
+            0x18 if rd == 0 && sa == 0 => Inst::Mult { rs, rt };
+            0x19 if rd == 0 && sa == 0 => Inst::Multu { rs, rt };
+            0x1a if rd == 0 && sa == 0 => Inst::Div { rs, rt };
+            0x1b if rd == 0 && sa == 0 => Inst::Divu { rs, rt };
             0x20 if sa == 0 => Inst::Add { rd, rs, rt };
             0x21 if sa == 0 => Inst::Addu { rd, rs, rt };
             0x22 if sa == 0 => Inst::Sub { rd, rs, rt };
@@ -121,10 +137,10 @@ macro_rules! places {
     };
 }
 
-// What each instruction does: its effect at a pc, by the registers. `effects!` hands its lines to another macro, after
-// the instruction.
+// What each instruction does: its effect at a pc, by the registers, hi and lo. `effects!` hands its lines to another
+// macro, after the instruction.
 macro_rules! effects {
-    ($make:ident, $inst:expr, $pc:ident, $regs:ident) => {
+    ($make:ident, $inst:expr, $pc:ident, $regs:ident, $hi:ident, $lo:ident) => {
         $make! {
             $inst,
             Inst::Sll { rd, rt, sa }, set(rd, shifted_left(read($regs, rt), sa), $pc);
@@ -167,6 +183,14 @@ macro_rules! effects {
             Inst::Eret, Effect::System;
             Inst::Lw { rt, rs, imm }, load(rt, sum(read($regs, rs), extended(imm)));
             Inst::Sw { rt, rs, imm }, store(sum(read($regs, rs), extended(imm)), read($regs, rt));
+            Inst::Mult { rs, rt }, set_halves(signed_product(read($regs, rs), read($regs, rt)), $pc);
+            Inst::Multu { rs, rt }, set_halves(u64::from(read($regs, rs)) * u64::from(read($regs, rt)), $pc);
+            Inst::Div { rs, rt }, divide(read($regs, rs), read($regs, rt), $pc, $hi, $lo);
+            Inst::Divu { rs, rt }, divide_unsigned(read($regs, rs), read($regs, rt), $pc, $hi, $lo);
+            Inst::Mfhi { rd }, set(rd, $hi, $pc);
+            Inst::Mthi { rs }, set_wide(read($regs, rs), $lo, $pc);
+            Inst::Mflo { rd }, set(rd, $lo, $pc);
+            Inst::Mtlo { rs }, set_wide($hi, read($regs, rs), $pc);
         }
     };
 }

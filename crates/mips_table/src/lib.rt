@@ -1,4 +1,5 @@
-//! The instruction table: the words of the MIPS32 instructions of this project's processor, and what each does.
+//! The instruction table: the words of the MIPS32 instructions of this project's processor, and what each does. The physical
+//! machine and the flat machine that run them, and the run of code, stand here as definitions, with their laws.
 //!
 //! Source of the words and of the arithmetic: MIPS32 Architecture. There is no delay slot.
 #![tactic(auto)]

@@ -46,7 +46,7 @@ macro_rules! mnemonics {
 ///
 /// No word is in two rows, and no mnemonic stands twice. The words of a row are exactly those of the instructions with
 /// its mnemonic.
-pub fn mips32() -> Table<40>
+pub fn mips32() -> Table<48>
     ensures words { IsTrue (rows_apart result.rows) }
     ensures one_row { OneRow result.rows }
     ensures names { IsTrue (names_apart result.rows) }

@@ -114,6 +114,10 @@ fn has_rows(rt: HostRuntime) {
 
 const PC: u32 = 0x0fff_fffc;
 
+const HI: u32 = 5;
+
+const LO: u32 = 6;
+
 // The registers in which the effects are looked at.
 fn registers() -> [u32; 32] {
     let mut regs = [0; 32];
@@ -263,7 +267,7 @@ fn has_effects(rt: HostRuntime) {
     let regs = registers();
     for (inst, register, value, next) in EFFECTS {
         let name = mnemonic_of(&inst);
-        let effect = effect_of(&inst, PC, &regs);
+        let effect = effect_of(&inst, PC, &regs, HI, LO);
         assert!(rt;
             matches!(effect, Effect::Set { register: r, value: v, next: n } if r == register && v == value && n == next),
             "at {name}"
@@ -275,6 +279,6 @@ fn has_effects(rt: HostRuntime) {
 fn overflows_trap(rt: HostRuntime) {
     let regs = registers();
     for inst in OVERFLOWS {
-        assert!(rt; matches!(effect_of(&inst, PC, &regs), Effect::Overflow));
+        assert!(rt; matches!(effect_of(&inst, PC, &regs, HI, LO), Effect::Overflow));
     }
 }

@@ -1,11 +1,12 @@
--- How a run of code stands for a run of a machine: of the physical one in system mode with sr 0, and of the flat one.
-use Rattle.std.specs.Prelude.{◌≡◌, ℕ, zero, suc, ◌+◌, ◌-◌, ◌/◌, ◌%◌, ◌<◌, ◌≤◌, false, nat_lt, ◌==◌, if◌then◌else◌, List, length, slice_index, bit_or, All, Some, None}
+-- How the machines simulate a run of code: the physical one in system mode with sr 0, and the flat one.
+use Rattle.std.specs.Prelude.{◌≡◌, ℕ, zero, suc, ◌+◌, ◌-◌, ◌/◌, ◌%◌, ◌<◌, ◌≤◌, false, nat_lt, ◌==◌, if◌then◌else◌, List, [], length, slice_index, bit_or, All, Some, None}
 use Rattle.mips_table.specs.declared.inst.Inst.{Inst}
 use Rattle.mips_table.specs.Flat.{Flat, VStep, Next, Trap, vstep}
-use Rattle.mips_runs.specs.Device.{Device, Idle, Outside, BUFFER, SECTOR, is_buffer, sector_of}
-use Rattle.mips_runs.specs.Machine.{SR, MODE, State, Done, coming, latched, run}
-use Rattle.mips_runs.specs.Fits.{IsWord, AreRegisters, Fits}
-use Rattle.mips_runs.specs.Code.{Core, Disk, World, Program, on_machine, on_flat, Sound, Sys, sys, Steps}
+use Rattle.mips_table.specs.Device.{Device, Idle, Outside, BUFFER, SECTOR, is_buffer, sector_of}
+use Rattle.mips_table.specs.Processor.{Cpu}
+use Rattle.mips_table.specs.Machine.{SR, MODE, State, Done, coming, latched, run}
+use Rattle.mips_table.specs.Fits.{IsWord, CpuFits, Fits}
+use Rattle.mips_table.specs.Code.{Contents, Behind, World, Program, on_machine, on_flat, Sound, Configuration, at_with, code_run, Steps}
 
 -- the words that can be read while no command is under way: of memory, of the buffer, and the sector register
 abbrev pub space : List ℕ → List ℕ → ℕ → ℕ → ℕ
@@ -15,21 +16,21 @@ space memory buffer sector k =
     if k == SECTOR then sector else
     0
 
--- what the run of code sees of the machine
-abbrev pub core_of : State → Core
-core_of s = record { regs = slice_index s.regs; special = slice_index s.special; memory = space s.memory s.device.buffer s.device.sector }
+-- what a run of code sees of a processor, special registers and words
+abbrev pub contents_of : Cpu → List ℕ → (ℕ → ℕ) → Contents
+contents_of c special words = record { regs = slice_index c.regs; hi = c.hi; lo = c.lo; special = slice_index special; memory = words }
 
 -- the sectors as functions
 abbrev pub sectors_of : List (List ℕ) → ℕ → ℕ → ℕ
 sectors_of sectors i = slice_index (sector_of sectors i)
 
--- what it sees of the disk beside the ports
-abbrev pub disk_of : Device → Disk
-disk_of d = record { pending = d.pending; commands = d.commands; sectors = sectors_of d.sectors }
+-- what it sees behind the ports
+abbrev pub behind_of : Device → List ℕ → List ℕ → Behind
+behind_of d log input = record { pending = d.pending; commands = d.commands; sectors = sectors_of d.sectors; log = log; input = input }
 
--- what it sees of the whole
-abbrev pub sys_of : State → Sys
-sys_of s = sys (s.pc / 4) (core_of s) (disk_of s.device)
+-- what it sees of the whole machine
+abbrev pub configuration_of : State → Configuration
+configuration_of s = at_with (s.cpu.pc / 4) (contents_of s.cpu s.special (space s.memory s.device.buffer s.device.sector)) (behind_of s.device s.log s.input)
 
 -- the machine fits, is on, in system mode with sr 0, and no reset is latched
 pub record Quiet (x : Outside) (s : State) : Type 0 where
@@ -38,7 +39,7 @@ pub record Quiet (x : Outside) (s : State) : Type 0 where
   pub no_reset : s.reset ≡ false
   pub sr : slice_index s.special SR ≡ 0
   pub mode : slice_index s.special MODE ≡ 0
-  pub aligned : s.pc % 4 ≡ 0
+  pub aligned : s.cpu.pc % 4 ≡ 0
 
 -- a memory of the world's words holds each kept word; the code is among these
 pub record Holds (w : World) (memory : List ℕ) : Type 0 where
@@ -60,34 +61,33 @@ pub record Along (x : Outside) (w : World) (s : State) (j : ℕ) : Type 0 where
 -- the step from this state is that of an instruction of the code, and takes no interrupt
 pub record Instructs (x : Outside) (w : World) (s : State) : Type 0 where
   pub inst : Inst
-  pub code : w.code (s.pc / 4) ≡ Some inst
+  pub code : w.code (s.cpu.pc / 4) ≡ Some inst
   pub after : State
   pub untaken : coming x (latched x s) ≡ Done after
 
--- n steps of code, as the machine makes them, whatever lines are raised: they come to what the code comes to
-pub record Ran (x : Outside) (w : World) (n : ℕ) (s : State) (t : Sys) : Type 0 where
-  pub same : sys_of (run x s n) ≡ t
+-- n steps of code, as the machine makes them, whatever lines are raised: each state on the way is what the code comes to
+pub record Simulates (x : Outside) (w : World) (n : ℕ) (s : State) : Type 0 where
+  pub same : (j : ℕ) → j ≤ n → configuration_of (run x s j) ≡ code_run w (configuration_of s) j
   pub along : (j : ℕ) → j ≤ n → Along x w s j
   pub instructs : (j : ℕ) → j < n → Instructs x w (run x s j)
 
--- the physical machine follows each run of code
-abbrev pub MachineFollows : Type 0
-MachineFollows = (x : Outside) (p : Program) (s : State) (n : ℕ) (t : Sys) → Sound (on_machine x p) → Quiet x s → Holds (on_machine x p) s.memory
-    → Steps (on_machine x p) n (sys_of s) t → Ran x (on_machine x p) n s t
+-- the physical machine simulates each run of code
+abbrev pub MachineSimulates : Type 0
+MachineSimulates = (x : Outside) (p : Program) (s : State) (n : ℕ) (t : Configuration) → Sound (on_machine x p) → Quiet x s → Holds (on_machine x p) s.memory
+    → Steps (on_machine x p) n (configuration_of s) t → Simulates x (on_machine x p) n s
 
--- no command is under way, and there are no sectors
-abbrev pub no_disk : Disk
-no_disk = record { pending = Idle; commands = 0; sectors = λ _ _. 0 }
+-- nothing is behind the ports of a machine that has none
+abbrev pub nothing_behind : Behind
+nothing_behind = record { pending = Idle; commands = 0; sectors = λ _ _. 0; log = []; input = [] }
 
--- what the run of code sees of the flat machine
-abbrev pub flat_sys : Flat → Sys
-flat_sys f = sys (f.pc / 4) (record { regs = slice_index f.regs; special = λ _. 0; memory = slice_index f.words }) no_disk
+-- what a run of code sees of the flat machine
+abbrev pub flat_configuration : Flat → Configuration
+flat_configuration f = at_with (f.cpu.pc / 4) (contents_of f.cpu [] (slice_index f.words)) nothing_behind
 
 -- the flat machine has words below 2^32, 32 registers, and a pc that is a multiple of 4
 pub record FlatFits (f : Flat) : Type 0 where
-  pub pc : IsWord f.pc
-  pub aligned : f.pc % 4 ≡ 0
-  pub regs : AreRegisters f.regs
+  pub cpu : CpuFits f.cpu
+  pub aligned : f.cpu.pc % 4 ≡ 0
   pub words : All IsWord f.words
 
 -- the flat machine after a step
@@ -108,15 +108,15 @@ pub record FlatAlong (w : World) (f : Flat) (j : ℕ) : Type 0 where
 -- the step from this state is that of an instruction of the code, and doesn't trap
 pub record FlatInstructs (w : World) (f : Flat) : Type 0 where
   pub inst : Inst
-  pub code : w.code (f.pc / 4) ≡ Some inst
+  pub code : w.code (f.cpu.pc / 4) ≡ Some inst
   pub untrapped : vstep f ≡ Next (flat_after (vstep f))
 
 -- n steps of code, as the flat machine makes them
-pub record RanFlat (w : World) (n : ℕ) (f : Flat) (t : Sys) : Type 0 where
-  pub same : flat_sys (flat_run f n) ≡ t
+pub record SimulatesFlat (w : World) (n : ℕ) (f : Flat) : Type 0 where
+  pub same : (j : ℕ) → j ≤ n → flat_configuration (flat_run f j) ≡ code_run w (flat_configuration f) j
   pub along : (j : ℕ) → j ≤ n → FlatAlong w f j
   pub instructs : (j : ℕ) → j < n → FlatInstructs w (flat_run f j)
 
--- the flat machine follows each run of code too
-abbrev pub FlatFollows : Type 0
-FlatFollows = (p : Program) (f : Flat) (n : ℕ) (t : Sys) → Sound (on_flat p) → FlatFits f → Holds (on_flat p) f.words → Steps (on_flat p) n (flat_sys f) t → RanFlat (on_flat p) n f t
+-- the flat machine simulates each run of code too
+abbrev pub FlatSimulates : Type 0
+FlatSimulates = (p : Program) (f : Flat) (n : ℕ) (t : Configuration) → Sound (on_flat p) → FlatFits f → Holds (on_flat p) f.words → Steps (on_flat p) n (flat_configuration f) t → SimulatesFlat (on_flat p) n f

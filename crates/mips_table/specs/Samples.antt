@@ -1,9 +1,9 @@
 -- Small machines whose runs are computed, as checks of the step.
 use Rattle.std.specs.Prelude.{◌≡◌, ℕ, ◌-◌, ◌^◌, ◌==◌, if◌then◌else◌, List, [], ◌∷◌, ◌++◌, length, replicate, take, drop, slice_index}
-use Rattle.mips_table.specs.declared.inst.Inst.TheVariants.{Syscall, Bne, J, Addi, Addiu, Andi, Ori, Lui, Srlv, Mfc0, Mtc0, Eret, Lw, Sw}
+use Rattle.mips_table.specs.declared.inst.Inst.TheVariants.{Syscall, Bne, J, Jr, Addi, Addiu, Andi, Ori, Lui, Srlv, Mfc0, Mtc0, Eret, Lw, Sw, Mult, Div, Mfhi, Mflo}
 use Rattle.mips_table.specs.Encoding.{encoding}
-use Rattle.mips_runs.specs.Device.{sector_of}
-use Rattle.mips_runs.specs.Machine.{State}
+use Rattle.mips_table.specs.Device.{Outside, sector_of}
+use Rattle.mips_table.specs.Machine.{State}
 
 -- the words of a memory of one frame: these, and then zeros
 abbrev pub frame : List ℕ → List ℕ
@@ -34,19 +34,23 @@ lines t = if t == 5 then 9 else 0
 abbrev pub busy : ℕ → ℕ
 busy n = if n == 0 then 3 else 0
 
+-- these lines and busy times, with a disk of eight sectors
+abbrev pub sampled : Outside
+sampled = record { lines = lines; last = 5; busy = busy; count = 8 }
+
 -- the reset and an external interrupt are taken at steps 0 and 5, and what the special registers and pc are then
 pub record Waited (s : State) : Type 0 where
   pub special : s.special ≡ 0 ∷ 1 ∷ 1 ∷ 8 ∷ 9 ∷ 0 ∷ 0 ∷ 0 ∷ 0 ∷ []
-  pub pc : s.pc ≡ 0
+  pub pc : s.cpu.pc ≡ 0
   pub mask : s.mask ≡ 0
 
 -- registers 4 to 8 after the status was read four times and the buffer once
 pub record ReadIn (s : State) : Type 0 where
-  pub status : slice_index s.regs 4 ≡ 1
-  pub status_later : slice_index s.regs 5 ≡ 1
-  pub status_last : slice_index s.regs 6 ≡ 1
-  pub status_idle : slice_index s.regs 7 ≡ 0
-  pub word : slice_index s.regs 8 ≡ 99
+  pub status : slice_index s.cpu.regs 4 ≡ 1
+  pub status_later : slice_index s.cpu.regs 5 ≡ 1
+  pub status_last : slice_index s.cpu.regs 6 ≡ 1
+  pub status_idle : slice_index s.cpu.regs 7 ≡ 0
+  pub word : slice_index s.cpu.regs 8 ≡ 99
 
 -- A handler at address 0. After the reset it writes the buffer to sector 1, makes a page table of two pages and enters user
 -- mode; after another cause it keeps the cause, edata and epc in a log, and goes on at the next instruction of the user.
@@ -79,17 +83,48 @@ guarded_lines t = if t == 60 then 8 else if t == 100 then 1 else 0
 abbrev pub guarded_busy : ℕ → ℕ
 guarded_busy n = if n == 0 then 4 else 0
 
+-- these lines and busy times, with a disk of two sectors
+abbrev pub guarding_outside : Outside
+guarding_outside = record { lines = guarded_lines; last = 100; busy = guarded_busy; count = 2 }
+
 -- The log after 165 steps, cause, edata and epc by row; what the user read and wrote; and what the sector holds: the word
 -- that was written before the command, and not the one that was written while it was under way.
 pub record Guarded (s : State) : Type 0 where
   pub log : take 27 (drop 576 s.memory) ≡ 8 ∷ 4164 ∷ 4 ∷ 8 ∷ 8192 ∷ 12 ∷ 4 ∷ encoding (Mfc0 5 0) ∷ 16 ∷ 1 ∷ 8 ∷ 20 ∷ 7 ∷ 2 ∷ 20 ∷ 6 ∷ encoding (Syscall 0) ∷ 28 ∷ 1 ∷ 1 ∷ 28
       ∷ 5 ∷ encoding (Addi 7 7 1) ∷ 40 ∷ 3 ∷ 8192 ∷ 8192 ∷ []
-  pub own : slice_index s.regs 2 ≡ 77
-  pub shared : slice_index s.regs 3 ≡ 77
-  pub unread : slice_index s.regs 4 ≡ 0
-  pub not_added : slice_index s.regs 7 ≡ 0x7fffffff
+  pub own : slice_index s.cpu.regs 2 ≡ 77
+  pub shared : slice_index s.cpu.regs 3 ≡ 77
+  pub unread : slice_index s.cpu.regs 4 ≡ 0
+  pub not_added : slice_index s.cpu.regs 7 ≡ 0x7fffffff
   pub stored : slice_index s.memory 1041 ≡ 77
   pub special : s.special ≡ 0 ∷ 1 ∷ 3 ∷ 8196 ∷ 8196 ∷ 0x800 ∷ 2 ∷ 0 ∷ 1 ∷ []
-  pub pc : s.pc ≡ 0x4c
+  pub pc : s.cpu.pc ≡ 0x4c
   pub written : slice_index (sector_of s.device.sectors 1) 2 ≡ 0x900
   pub lost : slice_index (sector_of s.device.sectors 1) 3 ≡ 0
+
+-- Seven is written to the log, whose length is then read; an input word is taken by a load, the number of those left is read,
+-- and then a fetch from the input port takes one that is no instruction.
+abbrev pub conversing : List ℕ
+conversing = frame (encoding (Addiu 1 0 (2 ^ 16 - 4096)) ∷ encoding (Ori 2 0 7) ∷ encoding (Sw 2 1 12) ∷ encoding (Lw 3 1 12) ∷ encoding (Lw 4 1 20) ∷ encoding (Lw 5 1 16)
+    ∷ encoding (Addiu 6 1 20) ∷ encoding (Jr 6) ∷ [])
+
+-- what the console gave, and what is left of it; the illegal word is in edata
+pub record Conversed (s : State) : Type 0 where
+  pub log : s.log ≡ 7 ∷ []
+  pub length : slice_index s.cpu.regs 3 ≡ 1
+  pub taken : slice_index s.cpu.regs 4 ≡ 35
+  pub left : slice_index s.cpu.regs 5 ≡ 2
+  pub input : s.input ≡ 44 ∷ []
+  pub illegal : slice_index s.special 2 ≡ 4
+  pub word : slice_index s.special 4 ≡ 0xffffffff
+
+-- 7 times -3, and 7 by -3 in whole numbers, and by 0
+abbrev pub dividing : List ℕ
+dividing = frame (encoding (Ori 1 0 7) ∷ encoding (Addiu 2 0 (2 ^ 16 - 3)) ∷ encoding (Mult 1 2) ∷ encoding (Mflo 3) ∷ encoding (Mfhi 4) ∷ encoding (Div 1 2) ∷ encoding (Div 1 0) ∷ [])
+
+-- the halves of the product, and the quotient and what is left
+pub record Divided (s : State) : Type 0 where
+  pub low : slice_index s.cpu.regs 3 ≡ 0xffffffeb
+  pub high : slice_index s.cpu.regs 4 ≡ 0xffffffff
+  pub quotient : s.cpu.lo ≡ 0xfffffffe
+  pub rest : s.cpu.hi ≡ 1

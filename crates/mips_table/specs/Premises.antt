@@ -1,13 +1,13 @@
 -- A program of two instructions, with the machines that it runs on: the laws on runs of code aren't empty.
-use Rattle.std.specs.Prelude.{◌≡◌, ℕ, false, List, [], ◌∷◌, map, replicate, slice_get, slice_index}
+use Rattle.std.specs.Prelude.{◌≡◌, ℕ, false, ◌==◌, if◌then◌else◌, List, [], ◌∷◌, map, slice_get, slice_index}
 use Rattle.mips_table.specs.declared.inst.Inst.{Inst}
 use Rattle.mips_table.specs.declared.inst.Inst.TheVariants.{Addiu, Sw}
 use Rattle.mips_table.specs.Encoding.{encoding}
 use Rattle.mips_table.specs.Flat.{Flat}
-use Rattle.mips_runs.specs.Device.{Outside}
-use Rattle.mips_runs.specs.Machine.{State, start, run}
-use Rattle.mips_runs.specs.Code.{Program, on_machine, on_flat, Sound, Sys, Steps}
-use Rattle.mips_runs.specs.Lowering.{sys_of, Quiet, Holds, flat_sys, FlatFits, flat_run}
+use Rattle.mips_table.specs.Device.{Outside}
+use Rattle.mips_table.specs.Machine.{State, zero_cpu, start, run}
+use Rattle.mips_table.specs.Code.{Program, on_machine, on_flat, Sound, Configuration, Steps}
+use Rattle.mips_table.specs.Simulation.{configuration_of, Quiet, Holds, flat_configuration, FlatFits, flat_run}
 
 -- 5 is stored in word 7
 abbrev pub storing : List Inst
@@ -23,19 +23,19 @@ program = record { code = slice_get storing; kept = slice_get (map encoding stor
 
 -- the physical machine that took its reset
 abbrev pub machine : State
-machine = record (start eight_words []) { reset = false }
+machine = record (start eight_words [] []) { reset = false }
 
 -- the flat machine
 abbrev pub flat : Flat
-flat = record { pc = 0; regs = replicate 32 0; words = eight_words }
+flat = record { cpu = zero_cpu; words = eight_words }
 
 -- on the physical machine the premises are met, and so word 7 is 5 after two steps, whatever lines are raised
 pub record OnMachine (x : Outside) : Type 0 where
   pub sound : Sound (on_machine x program)
   pub quiet : Quiet x machine
   pub holds : Holds (on_machine x program) machine.memory
-  pub end : Sys
-  pub steps : Steps (on_machine x program) 2 (sys_of machine) end
+  pub end : Configuration
+  pub steps : Steps (on_machine x program) 2 (configuration_of machine) end
   pub stored : slice_index (run x machine 2).memory 7 ≡ 5
 
 -- on the flat machine the premises are met, and so word 7 is 5 after two steps
@@ -43,11 +43,10 @@ pub record OnFlat : Type 0 where
   pub sound : Sound (on_flat program)
   pub fits : FlatFits flat
   pub holds : Holds (on_flat program) flat.words
-  pub end : Sys
-  pub steps : Steps (on_flat program) 2 (flat_sys flat) end
+  pub end : Configuration
+  pub steps : Steps (on_flat program) 2 (flat_configuration flat) end
   pub stored : slice_index (flat_run flat 2).words 7 ≡ 5
 
 -- an outside without sectors, in which lines 0 and 3 are raised at step 1
-pub record Raises (x : Outside) : Type 0 where
-  pub count : x.count ≡ 0
-  pub raised : x.lines 1 ≡ 9
+abbrev pub raising : Outside
+raising = record { lines = λ t. if t == 1 then 9 else 0; last = 1; busy = λ _. 0; count = 0 }

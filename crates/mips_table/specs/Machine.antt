@@ -1,13 +1,13 @@
 -- The physical machine: one step of it, with the lines and the busy times that the outside gives, and its run.
-use Rattle.std.specs.Prelude.{ℕ, zero, suc, ◌+◌, ◌*◌, ◌/◌, ◌%◌, ◌^◌, Bool, true, false, not, ◌&&◌, ◌||◌, ◌==◌, nat_lt, if◌then◌else◌, List, [], ◌∷◌, length, replicate, slice_index, slice_set, bit_or, Option, Some, None, is_some}
+use Rattle.std.specs.Prelude.{ℕ, zero, suc, ◌+◌, ◌*◌, ◌/◌, ◌%◌, ◌^◌, Bool, true, false, not, ◌&&◌, ◌||◌, ◌==◌, nat_lt, if◌then◌else◌, List, [], ◌∷◌, ◌++◌, length, drop, replicate, slice_index, slice_set, bit_or, Option, Some, None, is_some}
 use Rattle.mips_table.specs.declared.inst.Inst.{Inst}
 use Rattle.mips_table.specs.declared.inst.Inst.TheVariants.{Mfc0, Mtc0, Eret}
 use Rattle.mips_table.specs.declared.cause.Cause.{Cause}
 use Rattle.mips_table.specs.declared.cause.Cause.TheVariants.{Reset, External, FetchAlign, FetchFault, Illegal, Overflow, Syscall, DataAlign, DataFault}
 use Rattle.mips_table.specs.Decoding.{decoding}
 use Rattle.mips_table.specs.Effect.{next}
-use Rattle.mips_table.specs.Core.{Memory, Move, Ran, Stored, Trapped, Asked, write, move}
-use Rattle.mips_runs.specs.Device.{Device, Idle, Outside, POWER, port_read, port_write, counted}
+use Rattle.mips_table.specs.Processor.{Cpu, Access, Move, Ran, Loaded, Stored, Trapped, Privileged, write, went_on, with_loaded, advanced, is_aligned, move}
+use Rattle.mips_table.specs.Device.{Device, Idle, Outside, POWER, port_read, port_write, counted}
 
 -- The special registers, by the numbers that mfc0 and mtc0 name: sr 1 says that external interrupts are taken.
 abbrev pub SR : ℕ
@@ -45,27 +45,49 @@ MODE = 7
 abbrev pub EMODE : ℕ
 EMODE = 8
 
--- pc, registers 0 to 31 (register 0 is 0), the nine special registers, the words of memory, the disk, the mask of latched lines,
--- the reset latch, the power word once it is off, and the number of steps done
+-- The ports of the console, by word number: a write to the log appends, and a read gives its length; at fffff00c.
+abbrev pub LOG : ℕ
+LOG = 0x3ffffc03
+
+-- how many input words are left, at fffff010
+abbrev pub LEFT : ℕ
+LEFT = 0x3ffffc04
+
+-- the next input word, which a read takes, at fffff014
+abbrev pub INPUT : ℕ
+INPUT = 0x3ffffc05
+
+-- the most words that the log has
+abbrev pub LOG_ROOM : ℕ
+LOG_ROOM = 4096
+
+-- the processor, the nine special registers, the words of memory, the disk, the console's log and the input that is left, the mask
+-- of latched lines, the reset latch, the power word once it is off, and the number of steps done
 pub record State : Type 0 where
-  pub pc : ℕ
-  pub regs : List ℕ
+  pub cpu : Cpu
   pub special : List ℕ
   pub memory : List ℕ
   pub device : Device
+  pub log : List ℕ
+  pub input : List ℕ
   pub mask : ℕ
   pub reset : Bool
   pub off : Option ℕ
   pub time : ℕ
 
--- how the machine starts with these words of memory and these sectors: all else is 0, and the reset is latched
-abbrev pub start : List ℕ → List (List ℕ) → State
-start memory sectors = record {
-  pc = 0;
-  regs = replicate 32 0;
+-- pc, registers, hi and lo are 0
+abbrev pub zero_cpu : Cpu
+zero_cpu = record { pc = 0; regs = replicate 32 0; hi = 0; lo = 0 }
+
+-- how the machine starts with these words of memory, sectors and input: all else is 0 or empty, and the reset is latched
+abbrev pub start : List ℕ → List (List ℕ) → List ℕ → State
+start memory sectors input = record {
+  cpu = zero_cpu;
   special = replicate 9 0;
   memory = memory;
   device = record { buffer = replicate 1024 0; sector = 0; pending = Idle; commands = 0; sectors = sectors };
+  log = [];
+  input = input;
   mask = 0;
   reset = true;
   off = None;
@@ -113,34 +135,54 @@ located s is_store address =
     if in_system s.special then Some address else
     translated address (slice_index s.special PTL) is_store (slice_index s.memory (entry_address address (slice_index s.special PTO) / 4))
 
+-- what a port gives
+abbrev pub port_word : State → ℕ → ℕ
+port_word s k =
+    if k == LOG then length s.log else
+    if k == LEFT then length s.input else
+    if k == INPUT then slice_index s.input 0 else
+    port_read s.device k
+
 -- a physical word is read: of memory, or of a port
 abbrev pub read : State → ℕ → ℕ
-read s k = if nat_lt k (length s.memory) then slice_index s.memory k else port_read s.device k
+read s k = if nat_lt k (length s.memory) then slice_index s.memory k else port_word s k
 
--- a physical word is written: of memory, or of a port
-abbrev pub written : Outside → State → ℕ → ℕ → State
-written x s k value =
-    if nat_lt k (length s.memory) then record s { memory = slice_set s.memory k value } else
-    if k == POWER then record s { off = Some value } else
-    record s { device = port_write x.busy x.count s.device k value }
+-- the state after that: a read of the input port takes its word
+abbrev pub after_read : State → ℕ → State
+after_read s k = if nat_lt k (length s.memory) then s else if k == INPUT then record s { input = drop 1 s.input } else s
 
 -- the word at a physical address
 abbrev pub read_at : State → Option ℕ → ℕ
 read_at s None = 0
 read_at s (Some address) = read s (address / 4)
 
+-- the state after that
+abbrev pub after_read_at : State → Option ℕ → State
+after_read_at s None = s
+after_read_at s (Some address) = after_read s (address / 4)
+
+-- a write to a port: to the power port, to the log, which is lost where the log is full, or to the disk
+abbrev pub port_written : Outside → State → ℕ → ℕ → State
+port_written x s k value =
+    if k == POWER then record s { off = Some value } else
+    if k == LOG then (if nat_lt (length s.log) LOG_ROOM then record s { log = s.log ++ value ∷ [] } else s) else
+    record s { device = port_write x.busy x.count s.device k value }
+
+-- a physical word is written: of memory, or of a port
+abbrev pub written : Outside → State → ℕ → ℕ → State
+written x s k value = if nat_lt k (length s.memory) then record s { memory = slice_set s.memory k value } else port_written x s k value
+
 -- a write to a physical address
 abbrev pub written_at : Outside → State → Option ℕ → ℕ → State
 written_at x s None value = s
 written_at x s (Some address) value = written x s (address / 4) value
 
--- what the processor sees of memory and ports
-abbrev pub seen : State → Memory
-seen s = record {
+-- which addresses the processor may use
+abbrev pub access : State → Access
+access s = record {
   may_fetch = λ address. is_some (located s false address);
   may_load = λ address. is_some (located s false address);
   may_store = λ address. is_some (located s true address);
-  word = λ address. read_at s (located s false address);
 }
 
 -- the special registers of which a write keeps bit 0 alone
@@ -160,31 +202,40 @@ taken special cause edata epc =
 abbrev pub left : List ℕ → List ℕ
 left special = slice_set (slice_set special SR (slice_index special ESR)) MODE (slice_index special EMODE)
 
--- what comes in a step of a machine that is on: an interrupt, or the state that the instruction leaves
+-- what comes in a step of a machine that is on: an interrupt, with the state in which it is taken, or the state that the instruction leaves
 pub data Coming : Type 0 where
-  Interrupt : (cause : Cause) (edata epc : ℕ) → Coming
+  Interrupt : (before : State) (cause : Cause) (edata epc : ℕ) → Coming
   Done : (after : State) → Coming
 
 -- an instruction with opcode 10 (hexadecimal), in system mode
-abbrev pub requested : State → ℕ → Option Inst → Coming
-requested s word (Some (Mfc0 rt special)) = Done (record s { regs = write s.regs rt (slice_index s.special special); pc = next s.pc })
-requested s word (Some (Mtc0 rt special)) = Done (record s { special = slice_set s.special special (flagged special (slice_index s.regs rt)); pc = next s.pc })
-requested s word (Some Eret) = Done (record s { special = left s.special; pc = slice_index s.special EPC })
-requested s word other = Interrupt Illegal word s.pc
+abbrev pub privileged : State → ℕ → Option Inst → Coming
+privileged s word (Some (Mfc0 rt special)) = Done (record s { cpu = went_on s.cpu rt (slice_index s.special special) (next s.cpu.pc) })
+privileged s word (Some (Mtc0 rt special)) = Done (record s { special = slice_set s.special special (flagged special (slice_index s.cpu.regs rt)); cpu = advanced s.cpu })
+privileged s word (Some Eret) = Done (record s { special = left s.special; cpu = record s.cpu { pc = slice_index s.special EPC } })
+privileged s word other = Interrupt s Illegal word s.cpu.pc
 
--- what comes of the processor's move
+-- what comes of the processor's move, once the instruction is fetched
 abbrev pub moved : Outside → State → Move → Coming
-moved x s (Ran pc regs) = Done (record s { pc = pc; regs = regs })
-moved x s (Stored pc regs address value) = Done (record (written_at x s (located s true address) value) { pc = pc; regs = regs })
-moved x s (Trapped cause edata epc) = Interrupt cause edata epc
-moved x s (Asked word) = if in_system s.special then requested s word (decoding word) else Interrupt Illegal word s.pc
+moved x s (Ran c) = Done (record s { cpu = c })
+moved x s (Loaded c register address) = Done (record (after_read_at s (located s false address)) { cpu = with_loaded c register (read_at s (located s false address)) })
+moved x s (Stored c address value) = Done (record (written_at x s (located s true address) value) { cpu = c })
+moved x s (Trapped cause edata epc) = Interrupt s cause edata epc
+moved x s (Privileged word) = if in_system s.special then privileged s word (decoding word) else Interrupt s Illegal word s.cpu.pc
+
+-- the word that a fetch gives
+abbrev pub fetch : State → ℕ
+fetch s = read_at s (located s false s.cpu.pc)
+
+-- the state after the fetch: one from the input port takes its word, and a misaligned or refused one is none
+abbrev pub fetched : State → State
+fetched s = if is_aligned s.cpu.pc then after_read_at s (located s false s.cpu.pc) else s
 
 -- the interrupt with the least cause, or else the instruction
 abbrev pub coming : Outside → State → Coming
 coming x s =
-    if s.reset then Interrupt Reset 0 s.pc else
-    if slice_index s.special SR == 1 && not (s.mask == 0) then Interrupt External s.mask s.pc else
-    moved x s (move (seen s) s.pc s.regs)
+    if s.reset then Interrupt s Reset 0 s.cpu.pc else
+    if slice_index s.special SR == 1 && not (s.mask == 0) then Interrupt s External s.mask s.cpu.pc else
+    moved x (fetched s) (move (access s) s.cpu (fetch s))
 
 -- taking the reset clears its latch, and taking an external interrupt the mask
 abbrev pub cleared : Cause → State → State
@@ -194,12 +245,12 @@ cleared other s = s
 
 -- an interrupt changes no register and no memory
 abbrev pub interrupted : State → Cause → ℕ → ℕ → State
-interrupted s cause edata epc = record (cleared cause s) { pc = 0; special = taken s.special (number_of cause) edata epc }
+interrupted s cause edata epc = record (cleared cause s) { cpu = record s.cpu { pc = 0 }; special = taken s.special (number_of cause) edata epc }
 
 -- the state that comes
-abbrev pub done : State → Coming → State
-done s (Interrupt cause edata epc) = interrupted s cause edata epc
-done s (Done after) = after
+abbrev pub come_to : Coming → State
+come_to (Interrupt s cause edata epc) = interrupted s cause edata epc
+come_to (Done after) = after
 
 -- the lines of the step are latched
 abbrev pub latched : Outside → State → State
@@ -211,7 +262,7 @@ ended s = record s { device = counted s.device; time = s.time + 1 }
 
 -- one step of a machine that is on: the lines, then the interrupt or the instruction, then the disk
 abbrev pub stepped : Outside → State → State
-stepped x s = ended (done (latched x s) (coming x (latched x s)))
+stepped x s = ended (come_to (coming x (latched x s)))
 
 -- a machine that is off stays as it is
 abbrev pub if_on : Outside → State → Option ℕ → State

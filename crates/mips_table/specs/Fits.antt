@@ -1,7 +1,8 @@
 -- Words below 2^32, and lists of their lengths.
-use Rattle.std.specs.Prelude.{◌≡◌, ℕ, ◌^◌, ◌<◌, List, length, slice_index, All, IfSome}
-use Rattle.mips_runs.specs.Device.{Device, Pending, Idle, Reading, Writing, Outside}
-use Rattle.mips_runs.specs.Machine.{State, run}
+use Rattle.std.specs.Prelude.{◌≡◌, ℕ, ◌^◌, ◌<◌, ◌≤◌, List, length, slice_index, All, IfSome}
+use Rattle.mips_table.specs.Device.{Device, Pending, Idle, Reading, Writing, Outside, HasEightLines}
+use Rattle.mips_table.specs.Processor.{Cpu}
+use Rattle.mips_table.specs.Machine.{State, start, run, LOG_ROOM}
 
 -- a word of 32 bits
 abbrev pub IsWord : ℕ → Type 0
@@ -37,15 +38,34 @@ pub record AreSpecial (special : List ℕ) : Type 0 where
   pub size : length special ≡ 9
   pub each : All IsWord special
 
--- each word of the machine is below 2^32, each list has its length, and the mask has eight lines
+-- the processor has words
+pub record CpuFits (c : Cpu) : Type 0 where
+  pub pc : IsWord c.pc
+  pub regs : AreRegisters c.regs
+  pub hi : IsWord c.hi
+  pub lo : IsWord c.lo
+
+-- the log has room, and it and the input have words
+pub record ConsoleFits (log input : List ℕ) : Type 0 where
+  pub room : length log ≤ LOG_ROOM
+  pub logged : All IsWord log
+  pub left : All IsWord input
+
+-- each word of the machine is below 2^32, each list has its length, and the mask and the outside have eight lines
 pub record Fits (x : Outside) (s : State) : Type 0 where
-  pub pc : IsWord s.pc
-  pub regs : AreRegisters s.regs
+  pub cpu : CpuFits s.cpu
   pub special : AreSpecial s.special
   pub memory : All IsWord s.memory
   pub device : DeviceFits x.count s.device
+  pub console : ConsoleFits s.log s.input
+  pub lines : HasEightLines x
   pub mask : s.mask < 2 ^ 8
   pub off : IfSome s.off IsWord
+
+-- the machine fits at its start
+abbrev pub StartFits : Type 0
+StartFits = (x : Outside) (memory : List ℕ) (sectors : List (List ℕ)) (input : List ℕ) → HasEightLines x → All IsWord memory → length sectors ≡ x.count → All IsPage sectors → All IsWord input
+    → Fits x (start memory sectors input)
 
 -- a machine that fits goes on to fit, and its memory keeps its length
 abbrev pub StaysFitting : Type 0

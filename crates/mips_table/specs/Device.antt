@@ -1,4 +1,4 @@
--- The disk and its ports. A port is named by its word number: word k stands at the address 4 * k.
+-- The outside, and the disk with its ports. A port is named by its word number: word k stands at the address 4 * k.
 use Rattle.std.specs.Prelude.{◌≡◌, ℕ, zero, suc, ◌+◌, ◌-◌, ◌^◌, ◌<◌, Bool, true, false, not, ◌&&◌, ◌==◌, nat_lt, if◌then◌else◌, List, [], slice_index, slice_index_or, slice_set}
 
 -- the first word of the disk's buffer of 1,024 words, at ffffe000
@@ -31,20 +31,20 @@ pub record Device : Type 0 where
   pub commands : ℕ
   pub sectors : List (List ℕ)
 
--- what happens outside: the lines that are raised at each step, none after a last step; the busy time of each command; and the number of sectors
+-- what happens outside: the lines that are raised at each step, a last step that has any, the busy time of each command, and the number of sectors
 pub record Outside : Type 0 where
   pub lines : ℕ → ℕ
+  pub last : ℕ
   pub busy : ℕ → ℕ
   pub count : ℕ
-  pub last : ℕ
-  pub ends : (t : ℕ) → last < t → lines t ≡ 0
-  pub eight : (t : ℕ) → lines t < 2 ^ 8
 
--- the outside has these lines, busy times and number of sectors
-pub record Happens (l b : ℕ → ℕ) (n : ℕ) (x : Outside) : Type 0 where
-  pub lines : x.lines ≡ l
-  pub busy : x.busy ≡ b
-  pub count : x.count ≡ n
+-- there are eight lines
+abbrev pub HasEightLines : Outside → Type 0
+HasEightLines x = (t : ℕ) → x.lines t < 2 ^ 8
+
+-- no line is raised after the last step
+abbrev pub LinesEnd : Outside → Type 0
+LinesEnd x = (t : ℕ) → x.last < t → x.lines t ≡ 0
 
 -- whether a command is under way
 abbrev pub is_busy : Pending → Bool

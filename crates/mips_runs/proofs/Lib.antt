@@ -1,9 +1,0 @@
-pub mod Effects
-pub mod Rows
-pub mod Start
-pub mod Words
-pub mod Space
-pub mod Lower
-pub mod LowerFlat
-pub mod Borders
-pub mod Concrete

@@ -1,6 +1,0 @@
--- Its lists are filled with zeros.
-use Rattle.mips_runs.proofs.Start.{start_fits}
-use Rattle.mips_runs.proofs.a_new_machine_fits.Goals as goal
-
-pub returns : goal.returns
-returns c = start_fits

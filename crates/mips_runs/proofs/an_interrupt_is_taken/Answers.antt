@@ -1,6 +1,0 @@
--- By what comes in the step.
-use Rattle.mips_runs.proofs.Borders.{interrupt_taken}
-use Rattle.mips_runs.proofs.an_interrupt_is_taken.Goals as goal
-
-pub returns : goal.returns
-returns c = interrupt_taken

@@ -1,6 +1,0 @@
--- By induction on the steps of the code.
-use Rattle.mips_runs.proofs.Lower.{follows}
-use Rattle.mips_runs.proofs.code_runs_on_the_machine.Goals as goal
-
-pub returns : goal.returns
-returns c = λ x p s n t f q h steps. follows x p f n s t q h steps

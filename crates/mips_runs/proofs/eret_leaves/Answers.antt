@@ -1,6 +1,0 @@
--- By what comes in the step.
-use Rattle.mips_runs.proofs.Borders.{eret_leaves as leaves}
-use Rattle.mips_runs.proofs.eret_leaves.Goals as goal
-
-pub returns : goal.returns
-returns c = λ x p s f q h at. leaves x p f s q h at

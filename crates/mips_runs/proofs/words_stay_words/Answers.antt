@@ -1,6 +1,0 @@
--- By induction on the number of steps.
-use Rattle.mips_runs.proofs.Words.{run_fits}
-use Rattle.mips_runs.proofs.words_stay_words.Goals as goal
-
-pub returns : goal.returns
-returns c = run_fits
