@@ -1,3 +1,5 @@
+pub mod Converse
+pub mod Cuts
 pub mod Digits
-pub mod Spelling
 pub mod HexDigits
+pub mod Spelling

@@ -1,5 +1,5 @@
 -- Numbers in a text.
-use Rattle.std.specs.Prelude.{ℕ, ◌+◌, ◌^◌, ◌&&◌, ◌||◌, ◌==◌, Bool, not, nat_lt, List, length, drop, take, slice_index, Option, Some, None, option_map, if◌then◌else◌}
+use Rattle.std.specs.Prelude.{◌≡◌, ℕ, ◌+◌, ◌<◌, ◌^◌, ◌&&◌, ◌||◌, ◌==◌, ◌++◌, Bool, not, nat_lt, List, length, drop, take, decimal, slice_index, Option, Some, None, option_map, if◌then◌else◌}
 use Rattle.std.specs.List.{prefix_len}
 use Rattle.std.specs.Char.{is_ascii_digit}
 use Rattle.std.specs.Str.Parse.{digits_value}
@@ -24,3 +24,10 @@ value_of digits = below_limit (digits_value 10 digits)
 abbrev pub number_at : List ℕ → ℕ → Option (ℕ × ℕ)
 number_at bytes at =
     if is_spelling (digits_at bytes at) then option_map (λ n. (n, at + length (digits_at bytes at))) (value_of (digits_at bytes at)) else None
+
+-- a number below 2 ^ 64 is spelled at a place: its digits stand there, up to the place after them, and no further digit follows
+pub record IsSpelledAt (bytes : List ℕ) (at number after : ℕ) : Type 0 where
+  pub small : number < 2 ^ 64
+  pub digits : drop at bytes ≡ decimal number ++ drop after bytes
+  pub place : after ≡ at + length (decimal number)
+  pub ends : prefix_len is_ascii_digit (drop after bytes) ≡ 0

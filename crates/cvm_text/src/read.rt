@@ -3,7 +3,7 @@
 ghost use Rattle.std.specs.Prelude.{◌≡◌, ◌≤◌, ◌<◌, ◌^◌, ◌+◌, ◌-◌, ◌*◌, ◌++◌, ℕ, List, true, length, take, drop, IfSome, IfNone, Some, None, decimal};
 ghost use Rattle.std.specs.List.{list_all, prefix_len};
 ghost use Rattle.std.specs.Char.{is_ascii_digit};
-ghost use Rattle.cvm_text.specs.Number.{digits_at as digits_at_of, is_spelling as is_spelling_of, number_at, value_of as value_of_of, below_limit};
+ghost use Rattle.cvm_text.specs.Number.{digits_at as digits_at_of, is_spelling as is_spelling_of, number_at, value_of as value_of_of, below_limit, IsSpelledAt};
 
 /// Reads the number that stands in `bytes` at the place `at`: `0`, or a digit
 /// 1 to 9 and all digits after it.
@@ -32,6 +32,12 @@ pub fn read_decimal(bytes: &[u8], at: usize) -> Option<(u64, usize)>
 pub fn spelled_numbers_are_read()
     ensures { (bytes : List ℕ) (at n : ℕ) (rest : List ℕ) → n < 2 ^ 64 → drop at bytes ≡ decimal n ++ rest
         → prefix_len is_ascii_digit rest ≡ 0 → number_at bytes at ≡ Some (n, at + length (decimal n)) }
+{}
+
+/// A law: what is read from a place is a number that is spelled there, up to
+/// the place after its last digit.
+pub fn read_numbers_are_spelled()
+    ensures { (bytes : List ℕ) (at : ℕ) (read : ℕ × ℕ) → number_at bytes at ≡ Some read → IsSpelledAt bytes at read.0 read.1 }
 {}
 
 // The digits that stand in `bytes` from `at` on.

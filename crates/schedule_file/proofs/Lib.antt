@@ -1,4 +1,5 @@
-pub mod Cuts
+pub mod Converse
+pub mod FirstLine
 pub mod Reading
 pub mod Sought
 pub mod Spelled

@@ -9,7 +9,7 @@ use Rattle.std.proofs.lemmas.Bool.Decides.{nat_tests}
 use Rattle.std.proofs.lemmas.List.{length-take-le, drop_more, take_more, map-append}
 use Rattle.std.proofs.lemmas.List.Sums.{fold-append}
 use Rattle.schedule_file.specs.declared.fault.ScheduleFault.{ScheduleFault}
-use Rattle.schedule_file.specs.declared.fault.ScheduleFault.TheVariants.{BadLine, Order, Range, Memory}
+use Rattle.schedule_file.specs.declared.fault.ScheduleFault.TheVariants.{BadLine, Order, Range, TooManyInputs, Memory}
 use Rattle.schedule_file.specs.declared.row.BusyRow.{BusyRow}
 use Rattle.schedule_file.specs.Rows.{Rows, busy_of, longest}
 use Rattle.schedule_file.specs.Text.{lines_of}
@@ -56,6 +56,7 @@ gives_fault text fault found Memory first is = tt
 gives_fault text fault found (BadLine line) first is = faulty text (BadLine line) (first ∙ ap (λ f. option_or f found) is)
 gives_fault text fault found (Order line) first is = faulty text (Order line) (first ∙ ap (λ f. option_or f found) is)
 gives_fault text fault found (Range line value) first is = faulty text (Range line value) (first ∙ ap (λ f. option_or f found) is)
+gives_fault text fault found (TooManyInputs line) first is = faulty text (TooManyInputs line) (first ∙ ap (λ f. option_or f found) is)
 
 pub zero_is : (n : ℕ) → (n == 0) ≡ true → n ≡ 0
 zero_is n h = grind (arith, nat_tests)

@@ -11,8 +11,8 @@ use Rattle.std.proofs.lemmas.List.Splits.{slice_split_at, slice_split_none}
 use Rattle.std.proofs.lemmas.Str.Parse.{IsNumeralModel, numerals_by_value}
 use Rattle.cvm_text.specs.Number.{number_at}
 use Rattle.schedule_file.specs.declared.row.Row.{Row}
-use Rattle.schedule_file.specs.declared.row.Row.TheVariants.{Line, Busy}
-use Rattle.schedule_file.specs.Text.{number_of, row_of_words, row_in_words, row_of}
+use Rattle.schedule_file.specs.declared.row.Row.TheVariants.{Line, Busy, Input}
+use Rattle.schedule_file.specs.Text.{number_of, row_of_words, row_of_pair, row_in_words, row_of}
 use Rattle.schedule_file.specs.Spelling.{spelling, HasNumbers}
 use Rattle.schedule_file.proofs.Words.{words}
 
@@ -45,6 +45,9 @@ three kind first second k f s =
     slice_split_at (λ c. c == 32) kind 32 (first ++ 32 ∷ second) k refl
     ∙ ap (λ ws. kind ∷ ws) (slice_split_at (λ c. c == 32) first 32 second f refl ∙ ap (λ ws. first ∷ ws) (slice_split_none (λ c. c == 32) second s))
 
+two : (kind word : List ℕ) → All (λ c. (c == 32) ≡ false) kind → All (λ c. (c == 32) ≡ false) word → words (kind ++ 32 ∷ word) ≡ kind ∷ word ∷ []
+two kind word k w = slice_split_at (λ c. c == 32) kind 32 word k refl ∙ ap (λ ws. kind ∷ ws) (slice_split_none (λ c. c == 32) word w)
+
 module _ (law : NumbersAreRead) where
   number : (n : ℕ) → n < 2 ^ 64 → number_of (decimal n) ≡ Some n
   number n small =
@@ -58,7 +61,12 @@ module _ (law : NumbersAreRead) where
       ap (λ found. option_and_then (λ x. option_and_then (λ y. cond (bytes_eq kind (codes "line")) (Some (Line x y)) (cond (bytes_eq kind (codes "busy")) (Some (Busy x y)) None)) (number_of (decimal b))) found) (number a small)
       ∙ ap (λ found. option_and_then (λ y. cond (bytes_eq kind (codes "line")) (Some (Line a y)) (cond (bytes_eq kind (codes "busy")) (Some (Busy a y)) None)) found) (number b small')
 
+  pair : (n : ℕ) → n < 2 ^ 64 → row_of_pair (codes "input") (decimal n) ≡ Some (Input n)
+  unfolding row_of_pair
+  pair n small = ap (λ found. option_and_then (λ w. cond (bytes_eq (codes "input") (codes "input")) (Some (Input w)) None) found) (number n small)
+
   pub read_back : (row : Row) → HasNumbers row → row_of (spelling row) ≡ Some row
   unfolding row_of
   read_back (Line a b) fits = ap row_in_words (three (codes "line") (decimal a) (decimal b) (search rules) (digits_of a fits.0) (digits_of b fits.1)) ∙ row (codes "line") a b fits.0 fits.1
+  read_back (Input n) fits = ap row_in_words (two (codes "input") (decimal n) (search rules) (digits_of n fits)) ∙ pair n fits
   read_back (Busy a b) fits = ap row_in_words (three (codes "busy") (decimal a) (decimal b) (search rules) (digits_of a fits.0) (digits_of b fits.1)) ∙ row (codes "busy") a b fits.0 fits.1

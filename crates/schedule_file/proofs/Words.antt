@@ -1,11 +1,11 @@
--- The row of a line, by the words that stand between its spaces: it has three words, and none where they are fewer or more.
+-- The row of a line, by the words that stand between its spaces: it has two or three words, and none where they are fewer or more.
 use Rattle.std.proofs.Common.{◌≡◌, ◌==◌, List, [], ℕ, ◌∷◌, refl, ap, ◌∙◌}
 use Rattle.std.specs.List.{slice_split}
 use Rattle.std.specs.Borrow.{Bor}
 use Rattle.std.specs.Prelude.{Option, Some, None, is_some, true, false}
 use Rattle.std.specs.Option.{option_map_or}
-use Rattle.schedule_file.specs.Text.{row_of, row_of_words, row_in_words}
-use Rattle.schedule_file.proofs.Cuts.{first_part}
+use Rattle.schedule_file.specs.Text.{row_of, row_of_words, row_of_pair, row_in_words}
+use Rattle.schedule_file.proofs.FirstLine.{first_part}
 
 -- a text cut at its spaces
 abbrev pub words : List ℕ → List (List ℕ)
@@ -15,7 +15,7 @@ pub one_word : (line kind : List ℕ) → words line ≡ kind ∷ [] → row_of 
 unfolding row_of
 one_word line kind cut = ap row_in_words cut
 
-pub two_words : (line kind rest first : List ℕ) → words line ≡ kind ∷ words rest → words rest ≡ first ∷ [] → row_of line ≡ None
+pub two_words : (line kind rest first : List ℕ) → words line ≡ kind ∷ words rest → words rest ≡ first ∷ [] → row_of line ≡ row_of_pair kind first
 unfolding row_of
 two_words line kind rest first cut cut' = ap row_in_words (cut ∙ ap (λ ws. kind ∷ ws) cut')
 

@@ -5,12 +5,13 @@ use Rattle.std.specs.List.{filter, AllWithin}
 use Rattle.schedule_file.specs.declared.row.LineRow.{LineRow}
 use Rattle.schedule_file.specs.declared.row.BusyRow.{BusyRow}
 use Rattle.schedule_file.specs.declared.row.Row.{Row}
-use Rattle.schedule_file.specs.declared.row.Row.TheVariants.{Line, Busy}
+use Rattle.schedule_file.specs.declared.row.Row.TheVariants.{Line, Busy, Input}
 
--- the rows of the two kinds, each in the order of the text
+-- the rows of the three kinds, each in the order of the text; of an input row there is its word
 pub record Rows : Type 0 where
   pub lines : List LineRow
   pub busy : List BusyRow
+  pub inputs : List ℕ
 
 -- the bits so far with those of a row
 abbrev pub with_lines : ℕ → LineRow → ℕ
@@ -40,5 +41,6 @@ pub record IsNextAt (rows : Rows) (at step : ℕ) : Type 0 where
 
 -- the rows with one more
 abbrev pub with_row : Rows → Row → Rows
-with_row rows (Line step line) = record { lines = rows.lines ++ record { step = step; lines = record { 0 = 2 ^ line } } ∷ []; busy = rows.busy }
-with_row rows (Busy command steps) = record { lines = rows.lines; busy = rows.busy ++ record { command = command; steps = steps } ∷ [] }
+with_row rows (Line step line) = record rows { lines = rows.lines ++ record { step = step; lines = record { 0 = 2 ^ line } } ∷ [] }
+with_row rows (Busy command steps) = record rows { busy = rows.busy ++ record { command = command; steps = steps } ∷ [] }
+with_row rows (Input word) = record rows { inputs = rows.inputs ++ word ∷ [] }

@@ -2,18 +2,16 @@
 use Rattle.std.specs.Prelude.{ℕ, ◌≡◌, ◌+◌, ◌-◌, ◌≤◌, ◌<◌, ◌^◌, All, Bool, false, nat_lt, nat_le, List, [], ◌∷◌, ◌++◌, length, Option, Some, None, fold, unwrap_or, option_map, slice_get, Result, Ok, Err, if◌then◌else◌}
 use Rattle.std.specs.Option.{option_or}
 use Rattle.std.specs.List.Sorted.{IsNonDecreasingBy}
-use Rattle.schedule_file.specs.declared.row.LineRow.{LineRow}
-use Rattle.schedule_file.specs.declared.row.BusyRow.{BusyRow}
 use Rattle.schedule_file.specs.declared.row.Row.{Row}
-use Rattle.schedule_file.specs.declared.row.Row.TheVariants.{Line, Busy}
+use Rattle.schedule_file.specs.declared.row.Row.TheVariants.{Line, Busy, Input}
 use Rattle.schedule_file.specs.declared.fault.ScheduleFault.{ScheduleFault}
-use Rattle.schedule_file.specs.declared.fault.ScheduleFault.TheVariants.{BadLine, Order, Range, Memory}
+use Rattle.schedule_file.specs.declared.fault.ScheduleFault.TheVariants.{BadLine, Order, Range, TooManyInputs, Memory}
 use Rattle.schedule_file.specs.Rows.{Rows, with_row, longest}
 use Rattle.schedule_file.specs.Text.{lines_of, row_of}
 
 -- no row
 abbrev pub no_rows : Rows
-no_rows = record { lines = []; busy = [] }
+no_rows = record { lines = []; busy = []; inputs = [] }
 
 -- the last of a list
 abbrev pub last_of : {X : Type 0} → List X → Option X
@@ -23,19 +21,30 @@ last_of xs = slice_get xs (length xs - 1)
 abbrev pub is_late : Rows → Row → Bool
 is_late rows (Line step line) = unwrap_or (option_map (λ last. nat_lt step last.step) (last_of rows.lines)) false
 is_late rows (Busy command steps) = unwrap_or (option_map (λ last. nat_le command last.command) (last_of rows.busy)) false
+is_late rows (Input word) = false
+
+-- whether a row has an input word after as many as there may be
+abbrev pub is_too_many : Rows → Row → Bool
+is_too_many rows (Input word) = nat_le 4096 (length rows.inputs)
+is_too_many rows _ = false
 
 -- the number of a row that has a range, and its greatest value
 abbrev pub value_of : Row → ℕ
 value_of (Line step line) = line
 value_of (Busy command steps) = steps
+value_of (Input word) = word
 
 abbrev pub limit_of : Row → ℕ
 limit_of (Line step line) = 7
 limit_of (Busy command steps) = 65535
+limit_of (Input word) = 4294967295
 
 -- the fault of a row in the line with a number, after rows
 abbrev pub fault_of_row : Rows → ℕ → Row → Option ScheduleFault
-fault_of_row rows number row = if nat_lt (limit_of row) (value_of row) then Some (Range number (value_of row)) else (if is_late rows row then Some (Order number) else None)
+fault_of_row rows number row =
+    if nat_lt (limit_of row) (value_of row) then Some (Range number (value_of row)) else
+    (if is_late rows row then Some (Order number) else
+    (if is_too_many rows row then Some (TooManyInputs number) else None))
 
 -- the fault of the line with a number, after rows
 unfoldable pub fault_of_line : Rows → ℕ → List ℕ → Option ScheduleFault
@@ -69,6 +78,7 @@ IsFault Memory fault = Unit {0}
 IsFault (BadLine line) fault = fault ≡ Some (BadLine line)
 IsFault (Order line) fault = fault ≡ Some (Order line)
 IsFault (Range line value) fault = fault ≡ Some (Range line value)
+IsFault (TooManyInputs line) fault = fault ≡ Some (TooManyInputs line)
 
 -- what is answered is what reading gives, unless memory ran out
 abbrev pub Gives : Result Rows ScheduleFault → Result Rows ScheduleFault → Type 0
@@ -77,11 +87,13 @@ Gives (Err Memory) read = Unit {0}
 Gives (Err (BadLine line)) read = read ≡ Err (BadLine line)
 Gives (Err (Order line)) read = read ≡ Err (Order line)
 Gives (Err (Range line value)) read = read ≡ Err (Range line value)
+Gives (Err (TooManyInputs line)) read = read ≡ Err (TooManyInputs line)
 
--- rows in order, of eight lines, with their longest busy time, which is in its range
-pub record Keeps (lines : List LineRow) (busy : List BusyRow) (most : ℕ) : Type 0 where
-  pub steps : IsNonDecreasingBy (λ row. row.step) lines
-  pub bits : All (λ row. row.lines.0 < 2 ^ 8) lines
-  pub commands : IsNonDecreasingBy (λ row. row.command) busy
-  pub longest : most ≡ longest (record { lines = lines; busy = busy })
+-- rows in order, of eight lines, with not too many input words, and their longest busy time, which is in its range
+pub record Keeps (rows : Rows) (most : ℕ) : Type 0 where
+  pub steps : IsNonDecreasingBy (λ row. row.step) rows.lines
+  pub bits : All (λ row. row.lines.0 < 2 ^ 8) rows.lines
+  pub commands : IsNonDecreasingBy (λ row. row.command) rows.busy
+  pub few : length rows.inputs ≤ 4096
+  pub longest : most ≡ longest rows
   pub small : most ≤ 65535

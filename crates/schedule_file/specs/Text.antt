@@ -3,7 +3,7 @@ use Rattle.std.specs.Prelude.{ℕ, ◌==◌, List, [], ◌∷◌, length, Option
 use Rattle.std.specs.List.{slice_split}
 use Rattle.cvm_text.specs.Number.{number_at}
 use Rattle.schedule_file.specs.declared.row.Row.{Row}
-use Rattle.schedule_file.specs.declared.row.Row.TheVariants.{Line, Busy}
+use Rattle.schedule_file.specs.declared.row.Row.TheVariants.{Line, Busy, Input}
 
 -- the parts without a last one that is empty
 abbrev pub without_empty_end : List (List ℕ) → List (List ℕ)
@@ -24,8 +24,13 @@ unfoldable pub row_of_words : List ℕ → List ℕ → List ℕ → Option Row
 row_of_words kind first second =
     option_and_then (λ a. option_and_then (λ b. if bytes_eq kind (codes "line") then Some (Line a b) else (if bytes_eq kind (codes "busy") then Some (Busy a b) else None)) (number_of second)) (number_of first)
 
--- the row of a list of words: there are three
+-- the row of two words
+unfoldable pub row_of_pair : List ℕ → List ℕ → Option Row
+row_of_pair kind word = option_and_then (λ w. if bytes_eq kind (codes "input") then Some (Input w) else None) (number_of word)
+
+-- the row of a list of words: there are two or three
 abbrev pub row_in_words : List (List ℕ) → Option Row
+row_in_words (kind ∷ word ∷ []) = row_of_pair kind word
 row_in_words (kind ∷ first ∷ second ∷ []) = row_of_words kind first second
 row_in_words _ = None
 

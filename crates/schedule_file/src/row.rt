@@ -1,13 +1,12 @@
 // Rows, and the row that a line of the text writes.
 
-ghost use Rattle.std.specs.Prelude.{◌≡◌, Some};
-ghost use Rattle.schedule_file.specs.Text.{number_of as number_in, row_of, row_of_words as row_in_words};
-ghost use Rattle.schedule_file.specs.Spelling.{spelling, HasNumbers};
+ghost use Rattle.std.specs.Prelude.{◌≡◌, ℕ, List, Some};
+ghost use Rattle.schedule_file.specs.Text.{number_of as number_in, row_of, row_of_words as row_in_words, row_of_pair as row_in_pair};
+ghost use Rattle.schedule_file.specs.Spelling.{spelling, HasNumbers, IsSpelled};
 ghost use Rattle.schedule_file.specs.declared.row.Row.{Row};
 
-use crate::cut::cut;
 use crate::lines::Lines;
-use cvm_text::{read_decimal, spelled_numbers_are_read};
+use cvm_text::{cut, read_decimal, read_numbers_are_spelled, spelled_numbers_are_read};
 
 /// Lines that are raised at a step.
 #[derive(Clone, Copy, Debug, PartialEq, Eq)]
@@ -34,6 +33,8 @@ pub enum Row {
     Line(u64, u64),
     /// A command is busy for so many steps.
     Busy(u64, u64),
+    /// The console's input has this word.
+    Input(u64),
 }
 
 // The number that a word spells.
@@ -60,13 +61,29 @@ fn row_of_words(kind: &[u8], first: &[u8], second: &[u8]) -> Option<Row>
     }
 }
 
+// The row of a line with these two words.
+#[tactic(auto, unfolding(crate::specs::Text::row_of_pair))]
+fn row_of_pair(kind: &[u8], word: &[u8]) -> Option<Row>
+    ensures { result ≡ row_in_pair kind.now word.now }
+{
+    let word = number_of(word)?;
+    if kind == b"input".as_slice() {
+        Some(Row::Input(word))
+    } else {
+        None
+    }
+}
+
 /// The row that a line writes.
 pub fn row_in(line: &[u8]) -> Option<Row>
     ensures { result ≡ row_of line.now }
 {
     let (kind, rest) = cut(line, b' ');
     let (first, rest) = cut(rest?, b' ');
-    let (second, rest) = cut(rest?, b' ');
+    let Some(rest) = rest else {
+        return row_of_pair(kind, first);
+    };
+    let (second, rest) = cut(rest, b' ');
     if rest.is_some() {
         return None;
     }
@@ -78,4 +95,12 @@ pub fn spelled_rows_are_read()
     ensures { (row : Row) → HasNumbers row → row_of (spelling row) ≡ Some row }
 {
     spelled_numbers_are_read();
+}
+
+/// A law: a line that is read is the spelling of its row, whose numbers are
+/// below 2^64.
+pub fn read_rows_are_spelled()
+    ensures { (line : List ℕ) (row : Row) → row_of line ≡ Some row → IsSpelled line row }
+{
+    read_numbers_are_spelled();
 }

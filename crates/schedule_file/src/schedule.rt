@@ -1,42 +1,49 @@
 // A schedule's rows, and what they say.
 
-ghost use Rattle.std.specs.Prelude.{◌≡◌, ◌≤◌, ◌<◌, ◌+◌, ◌^◌, ℕ, None, IfErr, OnOk};
+ghost use Rattle.std.specs.Prelude.{◌≡◌, ◌≤◌, ◌<◌, ◌+◌, ◌^◌, ◌∷◌, ℕ, None, length, IfErr, OnOk};
+ghost use Rattle.schedule_file.specs.Text.{lines_of};
 ghost use Rattle.schedule_file.specs.Rows.{Rows, lines_at as lines_in, busy_of as busy_in, longest as longest_in, last_step as last_step_in, IsNextAt, with_row};
 ghost use Rattle.schedule_file.specs.Schedule.{fault_of_row, fault_of_line, with_line, schedule_of, Gives, IsFault, Keeps};
 
-use crate::cut::first_line;
 use crate::fault::ScheduleFault;
 use crate::lines::Lines;
 use crate::row::{BusyRow, LineRow, Row, row_in};
 use bitflags::Flags;
+use cvm_text::cut;
 use std::alloc::Global;
 use std::marker::Model;
 
-/// A schedule. Contracts see it as its rows of the two kinds, in the order of
+/// The greatest number of input words of a schedule.
+pub const MOST_INPUTS: usize = 4096;
+
+/// A schedule. Contracts see it as its rows of the three kinds, in the order of
 /// the text.
 #[derive(Drop)]
 pub struct Schedule {
     lines: Vec<LineRow>,
     busy: Vec<BusyRow>,
+    inputs: Vec<u32>,
     longest: u64,
 }
 
 impl Model for Schedule {
     ghost Value = { Rows };
 
-    ghost view = { λ s. record { lines = s.lines.items; busy = s.busy.items } };
+    ghost view = { λ s. record { lines = s.lines.items; busy = s.busy.items; inputs = s.inputs.items } };
 
-    ghost invariant = { λ s. Keeps s.lines.items s.busy.items s.longest };
+    ghost invariant = { λ s. Keeps (record { lines = s.lines.items; busy = s.busy.items; inputs = s.inputs.items }) s.longest };
 }
 
 /// Reads a schedule. Where the text is none, the fault is that of the first
-/// line that has one; in a line BadLine comes first, then Range, then Order.
+/// line that has one; in a line BadLine comes first, then Range, then Order,
+/// then TooManyInputs.
 pub fn read(alloc: Global, bytes: &[u8]) -> Result<Schedule, ScheduleFault>
     ensures { Gives result (schedule_of bytes.now) }
 {
     let mut schedule = Schedule {
         lines: Vec::new(alloc),
         busy: Vec::new(alloc),
+        inputs: Vec::new(alloc),
         longest: 0,
     };
     let mut rest = bytes;
@@ -102,7 +109,15 @@ impl Schedule {
         self.longest
     }
 
-    /// The greatest step with a row: 0 where there is none. No line is raised
+    /// The words of the console's input, in the order of their rows.
+    pub fn inputs(&self) -> &[u32]
+        ensures words { result.now ≡ self.now.inputs }
+        ensures few { length result.now ≤ 4096 }
+    {
+        &self.inputs
+    }
+
+    /// The greatest step with a row of the kind `line`: 0 where there is none. No line is raised
     /// after it.
     pub fn last_step(&self) -> u64
         ensures value { result ≡ last_step_in self.now }
@@ -124,6 +139,7 @@ impl Schedule {
         match row_in(line) {
             Some(Row::Line(step, line)) => self.add_line(number, step, line),
             Some(Row::Busy(command, steps)) => self.add_busy(number, command, steps),
+            Some(Row::Input(word)) => self.add_input(number, word),
             None => Err(ScheduleFault::BadLine { line: number }),
         }
     }
@@ -175,5 +191,38 @@ impl Schedule {
             }
             Err(_) => Err(ScheduleFault::Memory),
         }
+    }
+
+    // Adds a row of the kind `input`.
+    fn add_input(&mut self, number: u64, word: u64) -> Result<(), ScheduleFault>
+        ensures ok { OnOk result ((fault_of_row self.old number (Row.Input word) ≡ None) × (self.new ≡ with_row self.old (Row.Input word))) }
+        ensures fault { IfErr result (λ e. IsFault e (fault_of_row self.old number (Row.Input word))) }
+    {
+        if word > 4294967295 {
+            return Err(ScheduleFault::Range {
+                line: number,
+                value: word,
+            });
+        }
+        if self.inputs.len() >= MOST_INPUTS {
+            return Err(ScheduleFault::TooManyInputs { line: number });
+        }
+        self.inputs
+            .push(word as u32)
+            .map_err(|_| ScheduleFault::Memory)
+    }
+}
+
+#[tactic(auto, using(crate::proofs::FirstLine::lines_cut, crate::proofs::FirstLine::lines_last))]
+// The first line of a text that has one, and the text after it.
+fn first_line(text: &[u8]) -> (&[u8], &[u8])
+    requires { 0 < length text.now }
+    ensures lines { lines_of text.now ≡ result.0.now ∷ lines_of result.1.now }
+    ensures shorter { length result.1.now < length text.now }
+{
+    let (line, rest) = cut(text, b'\n');
+    match rest {
+        Some(rest) => (line, rest),
+        None => (line, &[]),
     }
 }

@@ -14,6 +14,7 @@ invariant_of-self c =
       commands =
           rw (c.in-Ok.ensures.items, same) (IsNonDecreasingBy-push (λ row. row.command) c.self.inside.busy.items (record { command = c.args.command; steps = c.args.steps }) c.self.invariant.commands
           (elim c.in_default.branch [ in_default-via-in-None-1 w ↦ (λ d some. search rules) | in_default-via-in-Some+else-command-last w ↦ (λ d some. search rules) ]));
+      few = rw same c.self.invariant.few;
       longest =
           c.max-self-inside.ensures ∙ ap (λ m. max m c.args.steps) (ap (λ s. s.longest) same ∙ c.self.invariant.longest) ∙ sym (longest_more c.self.inside.busy.items (record { command = c.args.command; steps = c.args.steps }))
           ∙ sym (ap (λ busy. fold max 0 (map (λ row. row.steps) busy)) (c.in-Ok.ensures.items ∙ ap (λ s. s.busy.items ++ record { command = c.args.command; steps = c.args.steps } ∷ []) same));

@@ -13,7 +13,7 @@ returns-in-Some-clause-value c =
     let point =
     IsPartitionPoint-from_clause (λ row. nat_lt row.command c.args.command) xs c.partition_point-at.result c.partition_point-at.ensures.partitioned
     (IsPartitionedBy-ltb (λ row. row.command) xs c.args.command (rw c.deref.ensures.value c.self.invariant.commands)) (λ a r q k. search rules) in
-    let rows : Rows = record { lines = c.self.inside.lines.items; busy = c.self.inside.busy.items } in
+    let rows : Rows = record { lines = c.self.inside.lines.items; busy = c.self.inside.busy.items; inputs = c.self.inside.inputs.items } in
     let low = below _ _ (sym c.in-Some.ensures.lookup.0) in
     let inside : c.partition_point-at.result < length c.self.inside.busy.items = rw c.deref-2.ensures.value at low in
     let row_is : c.in-Some.row.now ≡ get_or c.self.inside.busy.items c.partition_point-at.result c.in-Some.row.now = rw c.deref-2.ensures.value at c.in-Some.ensures.lookup.1 in
@@ -26,7 +26,7 @@ returns-in_default-clause-value c =
     let point =
     IsPartitionPoint-from_clause (λ row. nat_lt row.command c.args.command) xs c.partition_point-at.result c.partition_point-at.ensures.partitioned
     (IsPartitionedBy-ltb (λ row. row.command) xs c.args.command (rw c.deref.ensures.value c.self.invariant.commands)) (λ a r q k. search rules) in
-    let rows : Rows = record { lines = c.self.inside.lines.items; busy = c.self.inside.busy.items } in
+    let rows : Rows = record { lines = c.self.inside.lines.items; busy = c.self.inside.busy.items; inputs = c.self.inside.inputs.items } in
     let row_is : c.in-Some.row.now ≡ get_or c.self.inside.busy.items c.partition_point-at.result c.in-Some.row.now = rw c.deref-2.ensures.value at c.in-Some.ensures.lookup.1 in
     busy_none rows c.args.command c.partition_point-at.result (rw c.deref.ensures.value at point) c.self.invariant.commands
     (λ d inside same. c.if-row-command.false (ap (λ row. row.command) (row_is ∙ get_or_default _ _ _ d inside) ∙ same))
@@ -38,7 +38,7 @@ returns-in_default-2-clause-value c =
     let point =
     IsPartitionPoint-from_clause (λ row. nat_lt row.command c.args.command) xs c.partition_point-at.result c.partition_point-at.ensures.partitioned
     (IsPartitionedBy-ltb (λ row. row.command) xs c.args.command (rw c.deref.ensures.value c.self.invariant.commands)) (λ a r q k. search rules) in
-    let rows : Rows = record { lines = c.self.inside.lines.items; busy = c.self.inside.busy.items } in
+    let rows : Rows = record { lines = c.self.inside.lines.items; busy = c.self.inside.busy.items; inputs = c.self.inside.inputs.items } in
     let none = not_below _ _ (sym c.get.ensures.lookup.0 ∙ ap is_some c.in_default.is) in
     let past : length c.self.inside.busy.items ≤ c.partition_point-at.result = rw c.deref-2.ensures.value at none in
     busy_none rows c.args.command c.partition_point-at.result (rw c.deref.ensures.value at point) c.self.invariant.commands (λ d inside same. absurd (omega arith))

@@ -14,4 +14,4 @@ raised_from-requires c =
     let at_end = rw c.deref.ensures.value at point in
     let bound = rw c.deref.ensures.value at c.partition_point-at.ensures.bound in
     subst (λ (rows : Rows). IsNextAt rows c.partition_point-at.result c.args.step) c.self.view_is
-    (next_at (record { lines = c.self.inside.lines.items; busy = c.self.inside.busy.items }) c.partition_point-at.result c.args.step bound at_end)
+    (next_at (record { lines = c.self.inside.lines.items; busy = c.self.inside.busy.items; inputs = c.self.inside.inputs.items }) c.partition_point-at.result c.args.step bound at_end)

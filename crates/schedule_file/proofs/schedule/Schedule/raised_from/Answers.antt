@@ -13,7 +13,7 @@ loop-next-init c =
 pub returns-else-index-step-clause-lines : goal.returns-else-index-step-clause-lines
 returns-else-index-step-clause-lines c =
     let start = subst (λ (rows : Rows). IsNextAt rows c.args.at c.args.step) (sym c.self.view_is) c.requires in
-    all_told (record { lines = c.self.inside.lines.items; busy = c.self.inside.busy.items }) c.self.invariant.steps c.args.at c.args.step c.loop-next.next c.loop-next.lines.0 start c.loop-next.invariant.low c.loop-next.invariant.high c.loop-next.invariant.passed
+    all_told (record { lines = c.self.inside.lines.items; busy = c.self.inside.busy.items; inputs = c.self.inside.inputs.items }) c.self.invariant.steps c.args.at c.args.step c.loop-next.next c.loop-next.lines.0 start c.loop-next.invariant.low c.loop-next.invariant.high c.loop-next.invariant.passed
     (λ d inside same. c.if-index-step.false (ap (λ row. row.step) (c.index.ensures ∙ get_or_default _ _ _ d inside) ∙ same)) c.loop-next.invariant.told
     ∙ ap (λ (rows : Rows). lines_at rows c.args.step) c.self.view_is
 
@@ -21,13 +21,13 @@ pub returns-else-index-step-clause-next : goal.returns-else-index-step-clause-ne
 returns-else-index-step-clause-next c =
     let start = subst (λ (rows : Rows). IsNextAt rows c.args.at c.args.step) (sym c.self.view_is) c.requires in
     subst (λ (rows : Rows). IsNextAt rows c.loop-next.next (c.args.step + 1)) c.self.view_is
-    (next_place (record { lines = c.self.inside.lines.items; busy = c.self.inside.busy.items }) c.self.invariant.steps c.args.at c.args.step c.loop-next.next c.loop-next.lines.0 start c.loop-next.invariant.low c.loop-next.invariant.high c.loop-next.invariant.passed
+    (next_place (record { lines = c.self.inside.lines.items; busy = c.self.inside.busy.items; inputs = c.self.inside.inputs.items }) c.self.invariant.steps c.args.at c.args.step c.loop-next.next c.loop-next.lines.0 start c.loop-next.invariant.low c.loop-next.invariant.high c.loop-next.invariant.passed
     (λ d inside same. c.if-index-step.false (ap (λ row. row.step) (c.index.ensures ∙ get_or_default _ _ _ d inside) ∙ same)))
 
 pub returns-after-loop-next-clause-lines : goal.returns-after-loop-next-clause-lines
 returns-after-loop-next-clause-lines c =
     let start = subst (λ (rows : Rows). IsNextAt rows c.args.at c.args.step) (sym c.self.view_is) c.requires in
     let past : length c.self.inside.lines.items ≤ c.loop-next.next = omega (arith, c.self.inside.lines.ok.0) in
-    all_told (record { lines = c.self.inside.lines.items; busy = c.self.inside.busy.items }) c.self.invariant.steps c.args.at c.args.step c.loop-next.next c.loop-next.lines.0 start c.loop-next.invariant.low c.loop-next.invariant.high c.loop-next.invariant.passed
+    all_told (record { lines = c.self.inside.lines.items; busy = c.self.inside.busy.items; inputs = c.self.inside.inputs.items }) c.self.invariant.steps c.args.at c.args.step c.loop-next.next c.loop-next.lines.0 start c.loop-next.invariant.low c.loop-next.invariant.high c.loop-next.invariant.passed
     (λ d inside same. absurd (omega arith)) c.loop-next.invariant.told
     ∙ ap (λ (rows : Rows). lines_at rows c.args.step) c.self.view_is

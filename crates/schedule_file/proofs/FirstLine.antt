@@ -1,20 +1,8 @@
--- Cutting at the first byte that passes, for `cut`; and what that says of the lines of a text, for `first_line`.
-use Rattle.std.proofs.Common.{◌≡◌, ◌<◌, ◌+◌, ◌-◌, ◌==◌, Bool, false, true, List, [], ℕ, ◌∷◌, ◌++◌, length, take, drop, get_or, cond, sym, ap, ◌∙◌, refl, take-append-drop, length-drop, take_all, All, arith}
+-- What a cut at the first LF says of the lines of a text, for `first_line`.
+use Rattle.std.proofs.Common.{◌≡◌, ◌<◌, ◌==◌, Bool, false, true, List, [], ℕ, ◌∷◌, length, cond, sym, ap, ◌∙◌, refl, arith}
 use Rattle.std.specs.List.{slice_split, onto_first}
 use Rattle.std.proofs.lemmas.Bool.Decides.{nat_tests}
-use Rattle.std.proofs.lemmas.List.{drop_more}
-use Rattle.std.proofs.lemmas.List.Splits.{slice_split_at}
 use Rattle.schedule_file.specs.Text.{without_empty_end, lines_of}
-
-pub slice_split_read : (p : ℕ → Bool) (xs : List ℕ) (i : ℕ) → i < length xs → p (get_or xs i 0) ≡ true → All (λ x. p x ≡ false) (take i xs)
-    → slice_split p xs ≡ take i xs ∷ slice_split p (drop (i + 1) xs)
-slice_split_read p xs i lt e h =
-    let y = get_or xs i 0 in
-    let parts : xs ≡ take i xs ++ (y ∷ drop (i + 1) xs) = sym (take-append-drop i xs) ∙ ap (λ zs. take i xs ++ zs) (drop_more xs i 0 lt) in
-    ap (slice_split p) parts ∙ slice_split_at p (take i xs) y (drop (i + 1) xs) h e
-
-pub take_rest_of : (i : ℕ) (xs : List ℕ) → take (length xs - i) (drop i xs) ≡ drop i xs
-take_rest_of i xs = take_all _ _ (omega (arith, length-drop i xs))
 
 -- a text has a first part, which may be empty
 pub first_part : (p : ℕ → Bool) (xs : List ℕ) → (part : List ℕ) × (parts : List (List ℕ)) × (slice_split p xs ≡ part ∷ parts)
