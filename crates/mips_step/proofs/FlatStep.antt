@@ -1,19 +1,33 @@
--- A move of the memory of a list of words, as a step of the flat machine tells it.
-use Rattle.std.proofs.Common.{◌≡◌, ℕ, ◌/◌, List, refl}
+-- A move of a list of words, as a step of the flat machine tells it.
+use Rattle.std.proofs.Common.{◌≡◌, ℕ, ◌/◌, Bool, true, false, cond, List, refl, subst}
 use Rattle.std.specs.Prelude.{slice_set}
-use Rattle.mips_table.specs.Core.{Move, Ran, Stored, Trapped, Asked}
+use Rattle.mips_table.specs.Processor.{Cpu, Move, Ran, Loaded, Stored, Trapped, Privileged, is_aligned, move}
 use Rattle.mips_table.specs.Flat as table
-use Rattle.mips_step.specs.Step.{Core, End}
-use Rattle.mips_step.specs.Ends.{Ends}
-use Rattle.mips_step.specs.Flat.{answer}
+use Rattle.mips_table.specs.Flat.{flat_access, word_at}
+use Rattle.mips_step.specs.Step.{End}
+use Rattle.mips_step.specs.Ends.{Ends, StepsInMemory}
+use Rattle.mips_step.specs.Flat.{answer, unchanged}
 
--- the flat machine of a processor and words
-abbrev pub machine : Core → List ℕ → table.Flat
-machine core words = record { pc = core.pc; regs = core.regs; words = words }
+-- what a store leaves
+abbrev pub written : List ℕ → ℕ → ℕ → List ℕ
+written words address value = slice_set words (address / 4) value
+
+-- a choice of one thing
+both : {A : Type 0} (b c : Bool) (x : A) → cond b (cond c x x) x ≡ x
+both true true x = refl
+both true false x = refl
+both false c x = refl
 
 -- how a step over the words ended is what the flat machine's step is
-pub answers : (core : Core) (words : List ℕ) (m : Move) (end : End) (new : List ℕ) → Ends (λ old address value w. w ≡ slice_set old (address / 4) value) core words m end new → table.answered (machine core words) m ≡ answer end.outcome (machine end.core new)
-answers core words (Ran pc regs) end new h = rw (h.0, h.1) refl
-answers core words (Stored pc regs address value) end new h = rw (h.0, h.1) refl
-answers core words (Trapped cause edata epc) end new h = rw (h.0, h.1) refl
-answers core words (Asked word) end new h = rw (h.0, h.1) refl
+pub answers : (cpu : Cpu) (words : List ℕ) (m : Move) (end : End) (new : List ℕ) → Ends flat_access word_at unchanged written cpu words m end new → table.answered (record { cpu = cpu; words = words }) m ≡ answer end.outcome (record { cpu = end.cpu; words = new })
+answers cpu words (Ran after) end new h = rw (h.0, h.1) refl
+answers cpu words (Loaded after register address) end new h = rw (h.0, h.1) refl
+answers cpu words (Stored after address value) end new h = rw (h.0, h.1) refl
+answers cpu words (Trapped cause edata epc) end new h = rw (h.0, h.1) refl
+answers cpu words (Privileged code) end new h = rw (h.0, h.1) refl
+
+-- a step over the words is the flat machine's step
+pub steps : (cpu : Cpu) (words : List ℕ) (end : End) (new : List ℕ) → StepsInMemory flat_access word_at unchanged written cpu words end new → table.vstep (record { cpu = cpu; words = words }) ≡ answer end.outcome (record { cpu = end.cpu; words = new })
+steps cpu words end new h =
+    let m : Move = move (flat_access words) cpu (word_at words cpu.pc) in
+    answers cpu words m end new (subst (λ w. Ends flat_access word_at unchanged written cpu w m end new) (both (is_aligned cpu.pc) (table.is_inside words cpu.pc) words) h)

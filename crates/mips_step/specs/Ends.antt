@@ -1,16 +1,27 @@
--- How a step over a bus ends, by the one definition of a step. A bus is seen as a value of the type V.
-use Rattle.std.specs.Prelude.{◌≡◌, ℕ}
+-- How a step over a memory ends, by the one definition of a step. A memory is seen as a value of the type V.
+use Rattle.std.specs.Prelude.{◌≡◌, ℕ, if◌then◌else◌}
 use Rattle.mips_table.specs.declared.cause.Cause.TheVariants as causes
-use Rattle.mips_table.specs.Core.{Memory, Move, Ran, Stored, Trapped, Asked}
-use Rattle.mips_step.specs.Step.{Core, End, done, trap}
+use Rattle.mips_table.specs.Processor.{Cpu, Access, Move, Ran, Loaded, Stored, Trapped, Privileged, with_loaded, is_aligned, move}
+use Rattle.mips_step.specs.Step.{End, took_place, trap}
 
--- a step comes to this move; writes old address value new says that the store was done
-abbrev pub Ends : {V : Type 0} → (V → ℕ → ℕ → V → Type 0) → Core → V → Move → End → V → Type 0
-Ends writes core old (Ran pc regs) end new = (end ≡ done pc regs) × (new ≡ old)
-Ends writes core old (Stored pc regs address value) end new = (end ≡ done pc regs) × writes old address value new
-Ends writes core old (Trapped cause edata epc) end new = (end ≡ trap core cause edata epc) × (new ≡ old)
-Ends writes core old (Asked word) end new = (end ≡ trap core causes.Illegal word core.pc) × (new ≡ old)
+-- a read, by a fetch or a load, answers the word that is seen there, and leaves what read says
+abbrev pub Reads : {V : Type 0} → (V → ℕ → ℕ) → (V → ℕ → V) → V → ℕ → ℕ → V → Type 0
+Reads word read old address value new = (value ≡ word old address) × (new ≡ read old address)
 
--- loads that leave what is seen, and answer its words
-abbrev pub Reads : {V : Type 0} → (V → Memory) → V → ℕ → ℕ → V → Type 0
-Reads memory old address value new = (value ≡ (memory old).word address) × (new ≡ old)
+-- which addresses are taken, the word at each, and what is seen after a read and after a store
+module _ {V : Type 0} (access : V → Access) (word : V → ℕ → ℕ) (read : V → ℕ → V) (written : V → ℕ → ℕ → V) where
+  -- what is seen after the fetch: a misaligned or refused one reads nothing
+  abbrev pub after_fetch : V → ℕ → V
+  after_fetch v pc = if is_aligned pc then (if (access v).may_fetch pc then read v pc else v) else v
+
+  -- the step of this processor comes to this move, over what is seen after its fetch
+  abbrev pub Ends : Cpu → V → Move → End → V → Type 0
+  Ends cpu seen (Ran after) end new = (end ≡ took_place after) × (new ≡ seen)
+  Ends cpu seen (Loaded after register address) end new = (end ≡ took_place (with_loaded after register (word seen address))) × (new ≡ read seen address)
+  Ends cpu seen (Stored after address value) end new = (end ≡ took_place after) × (new ≡ written seen address value)
+  Ends cpu seen (Trapped cause edata epc) end new = (end ≡ trap cpu cause edata epc) × (new ≡ seen)
+  Ends cpu seen (Privileged code) end new = (end ≡ trap cpu causes.Illegal code cpu.pc) × (new ≡ seen)
+
+  -- one step: the fetch, and then the move over what it left
+  abbrev pub StepsInMemory : Cpu → V → End → V → Type 0
+  StepsInMemory cpu old end new = Ends cpu (after_fetch old cpu.pc) (move (access old) cpu (word old cpu.pc)) end new

@@ -1,7 +1,12 @@
 -- What a step over the flat bus answers.
+use Rattle.std.specs.Prelude.{ℕ, List}
 use Rattle.mips_table.specs.Flat as table
 use Rattle.mips_step.specs.declared.cpu.Outcome.{Outcome}
 use Rattle.mips_step.specs.declared.cpu.Outcome.TheVariants.{Done, Trap}
+
+-- reads change nothing
+abbrev pub unchanged : List ℕ → ℕ → List ℕ
+unchanged words address = words
 
 -- the machine after a step, with how it ended
 abbrev pub answer : Outcome → table.Flat → table.VStep

@@ -1,6 +1,6 @@
 // What the processor reads and writes.
 ghost use Rattle.std.specs.Prelude.{◌≡◌, ℕ, Bool};
-ghost use Rattle.mips_table.specs.Core.{Memory};
+ghost use Rattle.mips_table.specs.Processor.{Access};
 ghost use Rattle.mips_step.specs.Ends.{Reads};
 
 /// A memory behind translation, with byte addresses.
@@ -35,7 +35,7 @@ pub trait Bus {
     fn may_store(&self, a: u32) -> bool
         ensures { result ≡ may_store self.now a };
 
-    /// The word at an address, for a fetch or a load.
+    /// The word at an address, for a fetch or a load. The call may change the bus, as a read of an input port does.
     fn load(&mut self, address: u32) -> u32
         ensures { loads self.old address result self.new };
 
@@ -44,8 +44,8 @@ pub trait Bus {
         ensures { stores self.old address value self.new };
 }
 
-/// A bus that is a memory: a load answers the word that is seen there and leaves what is seen, and what is seen after a
-/// store is a function of the store.
+/// A bus that is a memory with ports: what a read answers, and what is seen after a read or a store, are functions of what is
+/// seen before. A read may take something, as from an input port, but it leaves which addresses are taken.
 pub trait MemoryBus: Bus {
     /// What is seen of the bus: the words, or a record of the words and the ports.
     ghost View: { Type 0 };
@@ -53,24 +53,33 @@ pub trait MemoryBus: Bus {
     /// What is seen of this bus.
     ghost view: { Self → View };
 
-    /// The memory in what is seen: which aligned addresses translation takes, and the word at each.
-    ghost memory: { View → Memory };
+    /// Which aligned addresses translation takes.
+    ghost access: { View → Access };
+
+    /// The word that a fetch or a load at an address gives.
+    ghost word: { View → ℕ → ℕ };
+
+    /// What is seen after a fetch or a load at an address: the same, where reads change nothing.
+    ghost read: { View → ℕ → View };
 
     /// What is seen after a store of a value at an address: written view address value.
     ghost written: { View → ℕ → ℕ → View };
 
-    /// Fetches are taken as in the memory.
-    ghost fetches_seen: { (bus : Self) (address : ℕ) → Self.may_fetch bus address ≡ (memory (view bus)).may_fetch address };
+    /// Fetches are taken as access says.
+    ghost fetches_seen: { (bus : Self) (address : ℕ) → Self.may_fetch bus address ≡ (access (view bus)).may_fetch address };
 
-    /// Loads are taken as in the memory.
-    ghost loads_seen: { (bus : Self) (address : ℕ) → Self.may_load bus address ≡ (memory (view bus)).may_load address };
+    /// Loads are taken as access says.
+    ghost loads_seen: { (bus : Self) (address : ℕ) → Self.may_load bus address ≡ (access (view bus)).may_load address };
 
-    /// Stores are taken as in the memory.
-    ghost stores_seen: { (bus : Self) (address : ℕ) → Self.may_store bus address ≡ (memory (view bus)).may_store address };
+    /// Stores are taken as access says.
+    ghost stores_seen: { (bus : Self) (address : ℕ) → Self.may_store bus address ≡ (access (view bus)).may_store address };
 
-    /// A load answers the memory's word, and what is seen stays.
-    ghost reads: { (bus : Self) (address value : ℕ) (after : Self) → Self.loads bus address value after → Reads memory (view bus) address value (view after) };
+    /// A load answers the word, and reads.
+    ghost reads: { (bus : Self) (address value : ℕ) (after : Self) → Self.loads bus address value after → Reads word read (view bus) address value (view after) };
 
     /// A store writes.
     ghost writes: { (bus : Self) (address value : ℕ) (after : Self) → Self.stores bus address value after → view after ≡ written (view bus) address value };
+
+    /// A load leaves which addresses are taken.
+    ghost access_stays: { (bus : Self) (address value : ℕ) (after : Self) → Self.loads bus address value after → access (view after) ≡ access (view bus) };
 }

@@ -1,8 +1,10 @@
 // The flat memory.
 ghost use Rattle.std.specs.Prelude.{◌≡◌, ℕ, ◌/◌, List, slice_set, refl};
-ghost use Rattle.mips_table.specs.Flat.{vstep, is_inside, flat_memory};
+ghost use Rattle.std.proofs.Common.{ap};
+ghost use Rattle.mips_table.specs.Flat.{vstep, is_inside, flat_access, word_at};
 ghost use Rattle.mips_step.specs.Ends.{Reads};
-ghost use Rattle.mips_step.specs.Flat.{answer};
+ghost use Rattle.mips_step.specs.Flat.{answer, unchanged};
+ghost use Rattle.mips_step.specs.View.{cpu_of};
 
 use crate::bus::{Bus, MemoryBus};
 use crate::cpu::{Cpu, Outcome};
@@ -21,7 +23,7 @@ impl Bus for Flat {
 
     ghost may_store = { λ s a. is_inside s.words.items a };
 
-    ghost loads = { λ s a value t. Reads flat_memory s.words.items a value t.words.items };
+    ghost loads = { λ s a value t. Reads word_at unchanged s.words.items a value t.words.items };
 
     ghost stores = { λ s a value t. t.words.items ≡ slice_set s.words.items (a / 4) value };
 
@@ -59,7 +61,11 @@ impl MemoryBus for Flat {
 
     ghost view = { λ s. s.words.items };
 
-    ghost memory = { flat_memory };
+    ghost access = { flat_access };
+
+    ghost word = { word_at };
+
+    ghost read = { unchanged };
 
     ghost written = { λ words a value. slice_set words (a / 4) value };
 
@@ -72,12 +78,14 @@ impl MemoryBus for Flat {
     ghost reads = { λ s a value t h. h };
 
     ghost writes = { λ s a value t h. h };
+
+    ghost access_stays = { λ s a value t h. ap flat_access h.1 };
 }
 
 /// One step of the flat machine.
 pub fn flat_step(cpu: &mut Cpu, flat: &mut Flat) -> Outcome
-    ensures { vstep (record { pc = cpu.old.pc; regs = cpu.old.regs; words = flat.old.words.items })
-        ≡ answer result (record { pc = cpu.new.pc; regs = cpu.new.regs; words = flat.new.words.items }) }
+    ensures { vstep (record { cpu = cpu_of cpu.old; words = flat.old.words.items })
+        ≡ answer result (record { cpu = cpu_of cpu.new; words = flat.new.words.items }) }
 {
     step_in_memory(cpu, flat)
 }

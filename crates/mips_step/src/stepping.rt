@@ -1,9 +1,10 @@
 // One step.
 ghost use Rattle.std.specs.Prelude.{◌≡◌, ◌<◌, ℕ};
-ghost use Rattle.mips_table.specs.Core.{move, write};
-ghost use Rattle.mips_table.specs.Effect.{HasRegister, next as next_of};
-ghost use Rattle.mips_step.specs.Ends.{Ends};
-ghost use Rattle.mips_step.specs.Step.{Access, Performs, Steps, done};
+ghost use Rattle.mips_table.specs.Processor.{with_loaded, advanced};
+ghost use Rattle.mips_table.specs.Effect.{HasRegister};
+ghost use Rattle.mips_step.specs.Ends.{StepsInMemory};
+ghost use Rattle.mips_step.specs.Step.{Accesses, Performs, StepsOver, took_place};
+ghost use Rattle.mips_step.specs.View.{cpu_of};
 
 use crate::bus::{Bus, MemoryBus};
 use crate::cpu::{Cpu, Outcome};
@@ -16,9 +17,8 @@ use mips_table::{Cause, Effect, decode, effect_of};
 /// instruction after an overflow or a system call, and else the one that trapped. What a trap concerns is the word of the
 /// instruction where it is illegal, overflows or calls, and else the address of the access.
 pub fn step<B: Bus>(cpu: &mut Cpu, bus: &mut B) -> Outcome
-    ensures { Steps B.may_fetch B.may_load B.may_store B.loads B.stores
-        (record { pc = cpu.old.pc; regs = cpu.old.regs }) bus.old
-        (record { outcome = result; core = record { pc = cpu.new.pc; regs = cpu.new.regs } }) bus.new }
+    ensures { StepsOver B.may_fetch B.may_load B.may_store B.loads B.stores
+        (cpu_of cpu.old) bus.old (record { outcome = result; cpu = cpu_of cpu.new }) bus.new }
 {
     let pc = cpu.pc;
     if pc % 4 != 0 {
@@ -31,7 +31,7 @@ pub fn step<B: Bus>(cpu: &mut Cpu, bus: &mut B) -> Outcome
     let Some(inst) = decode(word) else {
         return Outcome::Trap(Cause::Illegal, word);
     };
-    let effect = effect_of(&inst, pc, &cpu.regs);
+    let effect = effect_of(&inst, pc, &cpu.regs, cpu.hi, cpu.lo);
     perform(cpu, bus, word, effect)
 }
 
@@ -39,8 +39,7 @@ pub fn step<B: Bus>(cpu: &mut Cpu, bus: &mut B) -> Outcome
 fn perform<B: Bus>(cpu: &mut Cpu, bus: &mut B, word: u32, effect: Effect) -> Outcome
     requires { HasRegister effect }
     ensures { Performs B.may_fetch B.may_load B.may_store B.loads B.stores
-        (record { pc = cpu.old.pc; regs = cpu.old.regs }) bus.old word effect
-        (record { outcome = result; core = record { pc = cpu.new.pc; regs = cpu.new.regs } }) bus.new }
+        (cpu_of cpu.old) bus.old word effect (record { outcome = result; cpu = cpu_of cpu.new }) bus.new }
 {
     match effect {
         Effect::Set {
@@ -49,6 +48,12 @@ fn perform<B: Bus>(cpu: &mut Cpu, bus: &mut B, word: u32, effect: Effect) -> Out
             next,
         } => {
             cpu.write(register, value);
+            cpu.pc = next;
+            Outcome::Done
+        }
+        Effect::Wide { hi, lo, next } => {
+            cpu.hi = hi;
+            cpu.lo = lo;
             cpu.pc = next;
             Outcome::Done
         }
@@ -70,11 +75,10 @@ fn perform<B: Bus>(cpu: &mut Cpu, bus: &mut B, word: u32, effect: Effect) -> Out
 #[inline(always)]
 fn load<B: Bus>(cpu: &mut Cpu, bus: &mut B, register: u32, address: u32) -> Outcome
     requires { register < 32 }
-    ensures { Access B.may_fetch B.may_load B.may_store B.loads B.stores (B.may_load bus.old address)
-        (record { pc = cpu.old.pc; regs = cpu.old.regs }) address bus.old
-        (record { outcome = result; core = record { pc = cpu.new.pc; regs = cpu.new.regs } }) bus.new
+    ensures { Accesses B.may_fetch B.may_load B.may_store B.loads B.stores (B.may_load bus.old address)
+        (cpu_of cpu.old) address bus.old (record { outcome = result; cpu = cpu_of cpu.new }) bus.new
         ((value : ℕ) × B.loads bus.old address value bus.new
-        × (record { outcome = result; core = record { pc = cpu.new.pc; regs = cpu.new.regs } } ≡ done (next_of cpu.old.pc) (write cpu.old.regs register value))) }
+        × (record { outcome = result; cpu = cpu_of cpu.new } ≡ took_place (with_loaded (advanced (cpu_of cpu.old)) register value))) }
 {
     if address % 4 != 0 {
         return Outcome::Trap(Cause::DataAlign, address);
@@ -91,11 +95,10 @@ fn load<B: Bus>(cpu: &mut Cpu, bus: &mut B, register: u32, address: u32) -> Outc
 // Stores a word at an address.
 #[inline(always)]
 fn store<B: Bus>(cpu: &mut Cpu, bus: &mut B, address: u32, value: u32) -> Outcome
-    ensures { Access B.may_fetch B.may_load B.may_store B.loads B.stores (B.may_store bus.old address)
-        (record { pc = cpu.old.pc; regs = cpu.old.regs }) address bus.old
-        (record { outcome = result; core = record { pc = cpu.new.pc; regs = cpu.new.regs } }) bus.new
+    ensures { Accesses B.may_fetch B.may_load B.may_store B.loads B.stores (B.may_store bus.old address)
+        (cpu_of cpu.old) address bus.old (record { outcome = result; cpu = cpu_of cpu.new }) bus.new
         (B.stores bus.old address value bus.new
-        × (record { outcome = result; core = record { pc = cpu.new.pc; regs = cpu.new.regs } } ≡ done (next_of cpu.old.pc) cpu.old.regs)) }
+        × (record { outcome = result; cpu = cpu_of cpu.new } ≡ took_place (advanced (cpu_of cpu.old)))) }
 {
     if address % 4 != 0 {
         return Outcome::Trap(Cause::DataAlign, address);
@@ -108,12 +111,10 @@ fn store<B: Bus>(cpu: &mut Cpu, bus: &mut B, address: u32, value: u32) -> Outcom
     Outcome::Done
 }
 
-/// One user instruction over a bus that is a memory: what comes of it is the move of that memory.
+/// One user instruction over a bus that is a memory: what comes of it is the move of that memory, over what the fetch left.
 pub fn step_in_memory<B: MemoryBus>(cpu: &mut Cpu, bus: &mut B) -> Outcome
-    ensures { Ends (λ old address value new. new ≡ B.written old address value)
-        (record { pc = cpu.old.pc; regs = cpu.old.regs }) (B.view bus.old)
-        (move (B.memory (B.view bus.old)) cpu.old.pc cpu.old.regs)
-        (record { outcome = result; core = record { pc = cpu.new.pc; regs = cpu.new.regs } }) (B.view bus.new) }
+    ensures { StepsInMemory B.access B.word B.read B.written
+        (cpu_of cpu.old) (B.view bus.old) (record { outcome = result; cpu = cpu_of cpu.new }) (B.view bus.new) }
 {
     step(cpu, bus)
 }
