@@ -9,8 +9,7 @@ use Rattle.std.proofs.lemmas.Nat.{and_le_l, or_of_32, xor_of_32, mul-lt}
 use Rattle.std.proofs.Math.Nat.{div-le_self, mod-le}
 use Rattle.mips_table.specs.declared.inst.Inst.{Inst}
 use Rattle.mips_table.specs.declared.inst.Inst.TheVariants.{Sll, Srl, Sra, Sllv, Srlv, Srav, Jr, Jalr, Syscall, Add, Addu, Sub, Subu, And, Or, Xor, Nor, Slt, Sltu, Bltz, Bgez, J, Jal, Beq, Bne, Blez, Bgtz, Addi, Addiu, Slti, Sltiu, Andi, Ori, Xori, Lui, Mfc0, Mtc0, Eret, Lw, Sw, Mult, Multu, Div, Divu, Mfhi, Mthi, Mflo, Mtlo}
-use Rattle.mips_table.specs.declared.effect.Effect.{Effect}
-use Rattle.mips_table.specs.declared.effect.Effect.TheVariants.{Set, Wide, Load, Store, Overflow, Call, System}
+use Rattle.mips_table.specs.declared.effect.Effect.TheVariants.{Set, Wide, Overflow}
 use Rattle.mips_table.specs.Arith.{signed, sum, difference, sum_overflows, difference_overflows, is_negative, is_positive, shifted_signed, extended, flag, signed_product, signed_quotient, signed_remainder}
 use Rattle.mips_table.specs.Encoding.{InRange}
 use Rattle.mips_table.specs.Effect.{next, branch, jump, set_halves, divided, divided_unsigned, effect_of}
