@@ -9,21 +9,11 @@ use Rattle.std.proofs.lemmas.Nat.{and_le_l, or_of_32, xor_of_32, mul-lt}
 use Rattle.std.proofs.Math.Nat.{div-le_self, mod-le}
 use Rattle.mips_table.specs.declared.inst.Inst.{Inst}
 use Rattle.mips_table.specs.declared.inst.Inst.TheVariants.{Sll, Srl, Sra, Sllv, Srlv, Srav, Jr, Jalr, Syscall, Add, Addu, Sub, Subu, And, Or, Xor, Nor, Slt, Sltu, Bltz, Bgez, J, Jal, Beq, Bne, Blez, Bgtz, Addi, Addiu, Slti, Sltiu, Andi, Ori, Xori, Lui, Mfc0, Mtc0, Eret, Lw, Sw, Mult, Multu, Div, Divu, Mfhi, Mthi, Mflo, Mtlo}
-use Rattle.mips_table.specs.declared.effect.Effect.{Effect}
-use Rattle.mips_table.specs.declared.effect.Effect.TheVariants.{Set, Wide, Load, Store, Overflow, Call, System}
+use Rattle.mips_table.specs.declared.effect.Effect.TheVariants.{Set, Wide, Overflow}
 use Rattle.mips_table.specs.Arith.{signed, sum, difference, sum_overflows, difference_overflows, is_negative, is_positive, shifted_signed, extended, flag, signed_product, signed_quotient, signed_remainder}
 use Rattle.mips_table.specs.Encoding.{InRange}
 use Rattle.mips_table.specs.Effect.{next, branch, jump, set_halves, divided, divided_unsigned, effect_of}
-use Rattle.mips_table.specs.Fits.{IsWord}
-
-abbrev pub Bounded : Effect → Type 0
-Bounded (Set register value to) = (register < 32) × IsWord value × IsWord to
-Bounded (Wide hi lo to) = IsWord hi × IsWord lo × IsWord to
-Bounded (Load register address) = (register < 32) × IsWord address
-Bounded (Store address value) = IsWord address × IsWord value
-Bounded Overflow = Unit {0}
-Bounded Call = Unit {0}
-Bounded System = Unit {0}
+use Rattle.mips_table.specs.Fits.{IsWord, EffectFits}
 
 cut : (n : ℕ) → n % 2 ^ 32 < 2 ^ 32
 cut n = omega arith
@@ -87,22 +77,22 @@ product64 a b h k =
     cast64 (x *ℤ y) (omega (arith, unsigned_abs-mul x y, mul-le-mul (size a h) (size b k)))
 
 -- hi and lo of 64 bits, of a division, and of one without sign
-halved : (pc n : ℕ) → n < 2 ^ 64 → Bounded (set_halves pc n)
+halved : (pc n : ℕ) → n < 2 ^ 64 → EffectFits (set_halves pc n)
 halved pc n h = (omega arith, cut n, cut _)
 
-divides : (a b pc hi lo : ℕ) → IsWord a → IsWord hi → IsWord lo → Bounded (divided a b pc hi lo)
+divides : (a b pc hi lo : ℕ) → IsWord a → IsWord hi → IsWord lo → EffectFits (divided a b pc hi lo)
 divides a b pc hi lo h u l =
     let x : ℤ = signed a in
     let y : ℤ = signed b in
     let most : nat_abs x ≤ 2 ^ 31 = size a h in
-    cond_both (b == 0) (Wide hi lo (next pc)) (Wide (signed_remainder a b) (signed_quotient a b) (next pc)) Bounded (λ e. (u, l, cut _))
+    cond_both (b == 0) (Wide hi lo (next pc)) (Wide (signed_remainder a b) (signed_quotient a b) (next pc)) EffectFits (λ e. (u, l, cut _))
     (λ e. (cast32 (int_rem x y) (omega (arith, size_rem x y)), cast32 (int_div x y) (omega (arith, size_div x y)), cut _))
 
-divides_unsigned : (a b pc hi lo : ℕ) → IsWord a → IsWord hi → IsWord lo → Bounded (divided_unsigned a b pc hi lo)
+divides_unsigned : (a b pc hi lo : ℕ) → IsWord a → IsWord hi → IsWord lo → EffectFits (divided_unsigned a b pc hi lo)
 divides_unsigned a b pc hi lo h u l =
-    cond_both (b == 0) (Wide hi lo (next pc)) (Wide (a % b) (a / b) (next pc)) Bounded (λ e. (u, l, cut _)) (λ e. (omega (arith, mod-le a b), part a b h, cut _))
+    cond_both (b == 0) (Wide hi lo (next pc)) (Wide (a % b) (a / b) (next pc)) EffectFits (λ e. (u, l, cut _)) (λ e. (omega (arith, mod-le a b), part a b h, cut _))
 
-pub bounded : (i : Inst) (pc : ℕ) (reg : ℕ → ℕ) (hi lo : ℕ) → ((r : ℕ) → IsWord (reg r)) → IsWord hi → IsWord lo → InRange i → Bounded (effect_of i pc reg hi lo)
+pub bounded : (i : Inst) (pc : ℕ) (reg : ℕ → ℕ) (hi lo : ℕ) → ((r : ℕ) → IsWord (reg r)) → IsWord hi → IsWord lo → InRange i → EffectFits (effect_of i pc reg hi lo)
 bounded (Sll rd rt sa) pc reg hi lo w u l h = (h.0, cut _, cut _)
 bounded (Srl rd rt sa) pc reg hi lo w u l h = (h.0, part _ _ (w rt), cut _)
 bounded (Sra rd rt sa) pc reg hi lo w u l h = (h.0, signed_part _ _ (w rt), cut _)
@@ -112,9 +102,9 @@ bounded (Srav rd rt rs) pc reg hi lo w u l h = (h.0, signed_part _ _ (w rt), cut
 bounded (Jr rs) pc reg hi lo w u l h = (omega arith, omega arith, w rs)
 bounded (Jalr rd rs) pc reg hi lo w u l h = (h.0, cut _, w rs)
 bounded (Syscall code) pc reg hi lo w u l h = tt
-bounded (Add rd rs rt) pc reg hi lo w u l h = cond_both (sum_overflows (reg rs) (reg rt)) Overflow (Set rd (sum (reg rs) (reg rt)) (next pc)) Bounded (λ e. tt) (λ e. (h.0, cut _, cut _))
+bounded (Add rd rs rt) pc reg hi lo w u l h = cond_both (sum_overflows (reg rs) (reg rt)) Overflow (Set rd (sum (reg rs) (reg rt)) (next pc)) EffectFits (λ e. tt) (λ e. (h.0, cut _, cut _))
 bounded (Addu rd rs rt) pc reg hi lo w u l h = (h.0, cut _, cut _)
-bounded (Sub rd rs rt) pc reg hi lo w u l h = cond_both (difference_overflows (reg rs) (reg rt)) Overflow (Set rd (difference (reg rs) (reg rt)) (next pc)) Bounded (λ e. tt) (λ e. (h.0, cut _, cut _))
+bounded (Sub rd rs rt) pc reg hi lo w u l h = cond_both (difference_overflows (reg rs) (reg rt)) Overflow (Set rd (difference (reg rs) (reg rt)) (next pc)) EffectFits (λ e. tt) (λ e. (h.0, cut _, cut _))
 bounded (Subu rd rs rt) pc reg hi lo w u l h = (h.0, cut _, cut _)
 bounded (And rd rs rt) pc reg hi lo w u l h = (h.0, omega (arith, and_le_l (reg rs) (reg rt), w rs), cut _)
 bounded (Or rd rs rt) pc reg hi lo w u l h = (h.0, or_of_32 _ _ (w rs) (w rt), cut _)
@@ -130,7 +120,7 @@ bounded (Beq rs rt imm) pc reg hi lo w u l h = (omega arith, omega arith, branch
 bounded (Bne rs rt imm) pc reg hi lo w u l h = (omega arith, omega arith, branches pc imm (not (reg rs == reg rt)))
 bounded (Blez rs imm) pc reg hi lo w u l h = (omega arith, omega arith, branches pc imm (not (is_positive (reg rs))))
 bounded (Bgtz rs imm) pc reg hi lo w u l h = (omega arith, omega arith, branches pc imm (is_positive (reg rs)))
-bounded (Addi rt rs imm) pc reg hi lo w u l h = cond_both (sum_overflows (reg rs) (extended imm)) Overflow (Set rt (sum (reg rs) (extended imm)) (next pc)) Bounded (λ e. tt) (λ e. (h.0, cut _, cut _))
+bounded (Addi rt rs imm) pc reg hi lo w u l h = cond_both (sum_overflows (reg rs) (extended imm)) Overflow (Set rt (sum (reg rs) (extended imm)) (next pc)) EffectFits (λ e. tt) (λ e. (h.0, cut _, cut _))
 bounded (Addiu rt rs imm) pc reg hi lo w u l h = (h.0, cut _, cut _)
 bounded (Slti rt rs imm) pc reg hi lo w u l h = (h.0, bit _, cut _)
 bounded (Sltiu rt rs imm) pc reg hi lo w u l h = (h.0, bit _, cut _)

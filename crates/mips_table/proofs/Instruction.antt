@@ -14,10 +14,10 @@ use Rattle.mips_table.specs.Effect.{next}
 use Rattle.mips_table.specs.Processor.{Move, Loaded, Stored, Trapped, went_on, with_loaded, advanced, accessed, performed, effect_on, executed, move}
 use Rattle.mips_table.specs.Device.{Device, Reading, Writing, Outside, BUFFER, SECTOR, COMMAND, POWER, is_busy, is_buffer, begun, port_write}
 use Rattle.mips_table.specs.Machine.{SR, MODE, PTO, PTL, LOG, LEFT, INPUT, LOG_ROOM, State, entry_address, translated, located, port_word, read, after_read, read_at, after_read_at, port_written, written, written_at, access, flagged, Coming, Interrupt, Done, privileged, moved, fetch, fetched, coming}
+use Rattle.mips_table.specs.Fits.{EffectFits}
 use Rattle.mips_table.specs.Code.{put, Contents, reg, with_reg, Behind, World, Program, on_machine, Sound, Configuration, settle, commanded, port_loaded, word_loaded, after_load, logged, after_store, privileged as does_privileged, acted, PrivilegedMay, EffectMay}
 use Rattle.mips_table.specs.Simulation.{space, contents_of, behind_of, Quiet, Holds}
 use Rattle.mips_table.proofs.Round.{decoding-encoding}
-use Rattle.mips_table.proofs.Effects.{Bounded}
 use Rattle.mips_table.proofs.Space.{set_put, write_put, reg_same, space_memory, space_buffer, space_sector}
 use Rattle.mips_table.proofs.Settled.{by_port, by_command, same_port, input_left, input_of_state, input_behind, log_left, log_of_state, log_behind}
 
@@ -283,7 +283,7 @@ module _ (x : Outside) (p : Program) (f : Sound (on_machine x p)) where
   privileged_good s word other q h lt r m = absurd m
 
   -- an instruction, by its effect
-  pub effects : (s : State) (word : ℕ) (i : Inst) (e : Effect) → Quiet x s → Holds w s.memory → s.cpu.pc / 4 < p.words → decoding word ≡ Some i → InRange i → Bounded e → EffectMay w i e
+  pub effects : (s : State) (word : ℕ) (i : Inst) (e : Effect) → Quiet x s → Holds w s.memory → s.cpu.pc / 4 < p.words → decoding word ≡ Some i → InRange i → EffectFits e → EffectMay w i e
       → Good s (acted w i (s.cpu.pc / 4) (contents s) (behind s) e) (moved x s (performed (access s) s.cpu word e))
   effects s word i (Set r v pc) q h lt dec range b m = reg_good s r v pc (pc / 4) s.input q h b.0 m refl
   effects s word i (Wide hi lo pc) q h lt dec range b m = wide_good s hi lo pc q h m

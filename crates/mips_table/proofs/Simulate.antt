@@ -8,11 +8,10 @@ use Rattle.mips_table.specs.Effect.{effect_of}
 use Rattle.mips_table.specs.Processor.{performed, effect_on}
 use Rattle.mips_table.specs.Device.{Device, Outside}
 use Rattle.mips_table.specs.Machine.{SR, MODE, State, access, Coming, moved, coming, come_to, latched, ended, if_on, step, run}
-use Rattle.mips_table.specs.Fits.{NamesSector, Fits}
+use Rattle.mips_table.specs.Fits.{EffectFits, NamesSector, Fits}
 use Rattle.mips_table.specs.Code.{Program, on_machine, Sound, Configuration, settle, acted, EffectMay, effect_at, act, May, MayAt, act_at, code_step, code_run, MayRun}
 use Rattle.mips_table.specs.Simulation.{configuration_of, Quiet, Holds, raised, Along, Instructs, Simulates}
 use Rattle.mips_table.proofs.Round.{decoding-encoding}
-use Rattle.mips_table.proofs.Effects.{Bounded}
 use Rattle.mips_table.proofs.Words.{effect_fits, comes, latches, ComingFits, step_fits}
 use Rattle.mips_table.proofs.Space.{reg_same}
 use Rattle.mips_table.proofs.Joins.{run_first}
@@ -72,7 +71,7 @@ module _ (x : Outside) (p : Program) (f : Sound (on_machine x p)) where
       let e : Effect = effect_on i s.cpu in
       let whole : 4 * k ≡ s.cpu.pc = let a = q.aligned in omega arith in
       let same_effect : effect_at i k (contents s) ≡ e = ap₂ (λ pc g. effect_of i pc g s.cpu.hi s.cpu.lo) whole (sym (reg_same s.cpu.regs q.fits.cpu.regs.none)) in
-      let b : Bounded e = effect_fits i s.cpu q.fits.cpu range in
+      let b : EffectFits e = effect_fits i s.cpu q.fits.cpu range in
       let does : Coming = moved x s1 (performed (access s1) s.cpu (encoding i) e) in
       let comes_to : Configuration = acted (on_machine x p) i k (contents s) (behind s) e in
       finishes s i (act (on_machine x p) i (configuration_of s)) q at

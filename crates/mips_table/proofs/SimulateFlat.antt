@@ -15,11 +15,10 @@ use Rattle.mips_table.specs.Processor.{Move, Loaded, Stored, Trapped, went_on, a
 use Rattle.mips_table.specs.Flat.{Flat, VStep, Next, flat_access, word_at, answered, vstep}
 use Rattle.mips_table.specs.Device.{COMMAND, SECTOR, is_buffer}
 use Rattle.mips_table.specs.Machine.{LOG, INPUT}
-use Rattle.mips_table.specs.Fits.{IsWord}
+use Rattle.mips_table.specs.Fits.{EffectFits, IsWord}
 use Rattle.mips_table.specs.Code.{put, Contents, with_reg, Behind, World, Program, on_flat, Sound, Configuration, at_with, settle, commanded, logged, port_loaded, word_loaded, after_load, after_store, acted, PrivilegedMay, EffectMay, effect_at, act, MayAt, act_at, code_run, MayRun}
 use Rattle.mips_table.specs.Simulation.{contents_of, Holds, nothing_behind, flat_configuration, FlatFits, flat_after, flat_run, FlatAlong, FlatInstructs, SimulatesFlat}
 use Rattle.mips_table.proofs.Round.{decoding-encoding}
-use Rattle.mips_table.proofs.Effects.{Bounded}
 use Rattle.mips_table.proofs.Words.{read_word, goes_on, advances as advanced_fits, effect_fits}
 use Rattle.mips_table.proofs.Space.{set_put, write_put, reg_same}
 
@@ -123,7 +122,7 @@ module _ (p : Program) (f : Sound (on_flat p)) where
       ap (λ o. answered s (accessed o causes.DataAlign causes.DataFault address s.cpu.pc m)) (lt-ltb (address / 4) (length s.words) (omega (arith, h.size)))
       ∙ ap (λ o. answered s (if not o then Trapped causes.DataAlign address s.cpu.pc else m)) (eq-eqb (address % 4) 0 aligned)
 
-  effects : (s : Flat) (bits : ℕ) (i : Inst) (e : Effect) → FlatFits s → Holds w s.words → s.cpu.pc / 4 < p.words → Bounded e → EffectMay w i e
+  effects : (s : Flat) (bits : ℕ) (i : Inst) (e : Effect) → FlatFits s → Holds w s.words → s.cpu.pc / 4 < p.words → EffectFits e → EffectMay w i e
       → Good (answered s (performed (flat_access s.words) s.cpu bits e)) (acted w i (s.cpu.pc / 4) (contents s) nothing_behind e)
   effects s bits i (Set r v pc) q h lt b m = reg_good s r v pc (pc / 4) q h b.0 b.1 b.2 m refl
   effects s bits i (Wide hi lo pc) q h lt b m = wide_good s hi lo pc q h b.0 b.1 b.2 m
@@ -166,7 +165,7 @@ module _ (p : Program) (f : Sound (on_flat p)) where
       let e : Effect = effect_on i s.cpu in
       let whole : 4 * k ≡ s.cpu.pc = let a = q.aligned in omega arith in
       let same_effect : effect_at i k (contents s) ≡ e = ap₂ (λ pc g. effect_of i pc g s.cpu.hi s.cpu.lo) whole (sym (reg_same s.cpu.regs q.cpu.regs.none)) in
-      let b : Bounded e = effect_fits i s.cpu q.cpu range in
+      let b : EffectFits e = effect_fits i s.cpu q.cpu range in
       to (answered s (performed (flat_access s.words) s.cpu (encoding i) e)) _ (acted w i k (contents s) nothing_behind e) _
       (flat_step s i at q h)
       (ap (acted w i k (contents s) nothing_behind) same_effect)

@@ -17,9 +17,9 @@ use Rattle.mips_table.specs.Decoding.{decoding}
 use Rattle.mips_table.specs.Processor.{Cpu, Access, Move, Ran, Loaded, Stored, Trapped, Privileged, write, went_on, with_loaded, advanced, is_aligned, accessed, performed, effect_on, executed, move}
 use Rattle.mips_table.specs.Device.{Device, Pending, Idle, Reading, Writing, Outside, BUFFER, SECTOR, COMMAND, POWER, is_busy, is_buffer, port_read, begun, port_write, settled}
 use Rattle.mips_table.specs.Machine.{SR, ESR, EPC, PTO, PTL, MODE, EMODE, LOG, LEFT, INPUT, LOG_ROOM, State, number_of, in_system, located, port_word, read, after_read, read_at, after_read_at, port_written, written, written_at, access, is_flag, flagged, taken, Coming, Interrupt, Done, privileged, moved, fetch, fetched, coming, cleared, come_to, latched, ended, if_on, step, run}
-use Rattle.mips_table.specs.Fits.{IsWord, IsPage, NamesSector, DeviceFits, AreRegisters, AreSpecial, CpuFits, ConsoleFits, Fits}
+use Rattle.mips_table.specs.Fits.{IsWord, EffectFits, MoveFits, KeepsWords, IsPage, NamesSector, DeviceFits, AreRegisters, AreSpecial, CpuFits, ConsoleFits, Fits}
 use Rattle.mips_table.proofs.Round.{encoding-decoding}
-use Rattle.mips_table.proofs.Effects.{Bounded, bounded}
+use Rattle.mips_table.proofs.Effects.{bounded}
 
 nothing : IsWord 0
 nothing = omega arith
@@ -47,13 +47,6 @@ special_fits special k v h w = record { size = length-set special k v ∙ h.size
 page_fits : (words : List ℕ) (k v : ℕ) → IsPage words → IsWord v → IsPage (slice_set words k v)
 page_fits words k v h w = record { size = length-set words k v ∙ h.size; each = All-set IsWord words k v w h.each }
 
-abbrev MoveFits : Move → Type 0
-MoveFits (Ran c) = CpuFits c
-MoveFits (Loaded c register address) = CpuFits c
-MoveFits (Stored c address value) = CpuFits c × IsWord value
-MoveFits (Trapped cause edata epc) = IsWord edata × IsWord epc
-MoveFits (Privileged word) = IsWord word
-
 -- a register is written, and the processor goes on
 pub goes_on : (c : Cpu) (r v to : ℕ) → CpuFits c → IsWord v → IsWord to → CpuFits (went_on c r v to)
 goes_on c r v to h w t = record { pc = t; regs = write_fits c.regs r v h.regs w; hi = h.hi; lo = h.lo }
@@ -65,7 +58,7 @@ pub advances : (c : Cpu) → CpuFits c → CpuFits (advanced c)
 advances c h = record { pc = cut _; regs = h.regs; hi = h.hi; lo = h.lo }
 
 -- what an instruction does to a processor is of words
-pub effect_fits : (i : Inst) (c : Cpu) → CpuFits c → InRange i → Bounded (effect_on i c)
+pub effect_fits : (i : Inst) (c : Cpu) → CpuFits c → InRange i → EffectFits (effect_on i c)
 effect_fits i c h r = bounded i c.pc (slice_index c.regs) c.hi c.lo (λ k. read_word c.regs k h.regs.each) h.hi h.lo r
 
 accessed_fits : (may : Bool) (misaligned refused : Cause) (address pc : ℕ) (m : Move) → IsWord address → IsWord pc → MoveFits m → MoveFits (accessed may misaligned refused address pc m)
@@ -74,7 +67,7 @@ accessed_fits may misaligned refused address pc m a p h =
     (λ e. cond_both (not may) (Trapped refused address pc) m MoveFits (λ e2. (a, p)) (λ e2. h))
 
 module _ (a : Access) (c : Cpu) (h : CpuFits c) (word : ℕ) (w : IsWord word) where
-  performed_fits : (e : Effect) → Bounded e → MoveFits (performed a c word e)
+  performed_fits : (e : Effect) → EffectFits e → MoveFits (performed a c word e)
   performed_fits (Set register value to) b = goes_on c register value to h b.1 b.2
   performed_fits (Wide hi lo to) b = record { pc = b.2; regs = h.regs; hi = b.0; lo = b.1 }
   performed_fits (Load register address) b = accessed_fits (a.may_load address) causes.DataAlign causes.DataFault address c.pc (Loaded (advanced c) register address) b.1 h.pc (advances c h)
@@ -89,6 +82,9 @@ module _ (a : Access) (c : Cpu) (h : CpuFits c) (word : ℕ) (w : IsWord word) w
 
   pub move_fits : MoveFits (move a c word)
   move_fits = accessed_fits (a.may_fetch c.pc) causes.FetchAlign causes.FetchFault c.pc c.pc (executed a c word (decoding word)) h.pc h.pc (executed_fits (decoding word) (encoding-decoding word))
+
+pub keeps_words : KeepsWords
+keeps_words = record { effects = effect_fits; moves = λ a c word h w. move_fits a c h word w; loads = loads }
 
 -- the disk
 device_read : (count : ℕ) (d : Device) (k : ℕ) → DeviceFits count d → IsWord (port_read d k)

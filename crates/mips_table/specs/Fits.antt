@@ -1,7 +1,11 @@
 -- Words below 2^32, and lists of their lengths.
 use Rattle.std.specs.Prelude.{◌≡◌, ℕ, ◌^◌, ◌<◌, ◌≤◌, List, length, slice_index, All, IfSome}
 use Rattle.mips_table.specs.Device.{Device, Pending, Idle, Reading, Writing, Outside, HasEightLines}
-use Rattle.mips_table.specs.Processor.{Cpu}
+use Rattle.mips_table.specs.declared.inst.Inst.{Inst}
+use Rattle.mips_table.specs.declared.effect.Effect.{Effect}
+use Rattle.mips_table.specs.declared.effect.Effect.TheVariants.{Set, Wide, Load, Store, Overflow, Call, System}
+use Rattle.mips_table.specs.Encoding.{InRange}
+use Rattle.mips_table.specs.Processor.{Cpu, Access, Move, Ran, Loaded, Stored, Trapped, Privileged, with_loaded, effect_on, move}
 use Rattle.mips_table.specs.Machine.{State, start, run, LOG_ROOM}
 
 -- a word of 32 bits
@@ -44,6 +48,30 @@ pub record CpuFits (c : Cpu) : Type 0 where
   pub regs : AreRegisters c.regs
   pub hi : IsWord c.hi
   pub lo : IsWord c.lo
+
+-- an effect is of words, on one of the 32 registers
+abbrev pub EffectFits : Effect → Type 0
+EffectFits (Set register value to) = (register < 32) × IsWord value × IsWord to
+EffectFits (Wide hi lo to) = IsWord hi × IsWord lo × IsWord to
+EffectFits (Load register address) = (register < 32) × IsWord address
+EffectFits (Store address value) = IsWord address × IsWord value
+EffectFits Overflow = Unit {0}
+EffectFits Call = Unit {0}
+EffectFits System = Unit {0}
+
+-- what a step of the processor comes to is of words
+abbrev pub MoveFits : Move → Type 0
+MoveFits (Ran c) = CpuFits c
+MoveFits (Loaded c register address) = CpuFits c
+MoveFits (Stored c address value) = CpuFits c × IsWord value
+MoveFits (Trapped cause edata epc) = IsWord edata × IsWord epc
+MoveFits (Privileged word) = IsWord word
+
+-- a processor that has words keeps to words: in the effect of an instruction, in its step, and in a load of a word
+pub record KeepsWords : Type 0 where
+  pub effects : (i : Inst) (c : Cpu) → CpuFits c → InRange i → EffectFits (effect_on i c)
+  pub moves : (a : Access) (c : Cpu) (word : ℕ) → CpuFits c → IsWord word → MoveFits (move a c word)
+  pub loads : (c : Cpu) (register value : ℕ) → CpuFits c → IsWord value → CpuFits (with_loaded c register value)
 
 -- the log has room, it and the input have words, and the number of input words is one
 pub record ConsoleFits (log input : List ℕ) : Type 0 where

@@ -6,7 +6,7 @@ ghost use Rattle.std.specs.Prelude.{◌≡◌, ℕ, ◌+◌, [], ◌∷◌, Some
 ghost use Rattle.mips_table.specs.Device.{Outside, HasEightLines, LinesEnd};
 ghost use Rattle.mips_table.specs.Machine.{State, start, run};
 ghost use Rattle.mips_table.specs.Turns.{TurnLaws};
-ghost use Rattle.mips_table.specs.Fits.{StartFits, StaysFitting};
+ghost use Rattle.mips_table.specs.Fits.{KeepsWords, StartFits, StaysFitting};
 ghost use Rattle.mips_table.specs.Code.{RunLaws};
 ghost use Rattle.mips_table.specs.Simulation.{MachineSimulates, FlatSimulates};
 ghost use Rattle.mips_table.specs.Borders.{InterruptsAreTaken, EretLeaves, PowerEnds, FlatCalls};
@@ -16,6 +16,11 @@ ghost use Rattle.mips_table.specs.Samples.{waiting, reading, ending, sectors, sa
 /// The machine at its start has words below 2^32 and lists of their lengths.
 pub fn a_new_machine_fits()
     ensures { StartFits }
+{}
+
+/// A processor that has words keeps to words, whatever word is fetched and whatever word a load gives.
+pub fn a_processor_keeps_words()
+    ensures { KeepsWords }
 {}
 
 /// Along every run each word of the machine stays below 2^32 and each list keeps its length.
