@@ -1,8 +1,24 @@
--- A write of a port numbers at most one command.
-use Rattle.std.proofs.Common.{ℕ, ◌+◌, ◌-◌, ◌≤◌, not, arith}
+-- A word of the disk's ports, and that a write of a port numbers at most one command.
+use Rattle.std.proofs.Common.{◌≡◌, ℕ, ◌+◌, ◌-◌, ◌≤◌, not, [], ◌∷◌, ◌++◌, Some, length, slice_index, sym, ◌∙◌, ne_eqb, arith}
 use Rattle.std.specs.Prelude.{◌==◌, nat_lt, slice_set, if◌then◌else◌}
-use Rattle.std.proofs.lemmas.Bool.{cond_both}
-use Rattle.mips_runs.specs.Device.{Device, Reading, Writing, BUFFER, SECTOR, COMMAND, is_busy, is_buffer, begun, port_write}
+use Rattle.std.proofs.lemmas.Bool.{cond_both, cond-false}
+use Rattle.mips_table.specs.Device.{Device, Reading, Writing, BUFFER, SECTOR, COMMAND, is_busy, is_buffer, begun, port_read, port_write}
+use Rattle.mips_table.specs.Device.{Outside, POWER}
+use Rattle.mips_table.specs.Machine.{State, LOG, LEFT, INPUT, LOG_ROOM, port_word, port_written}
+
+-- no port of the console
+pub disk_word : (s : State) (k : ℕ) → (k ≡ LOG → ⊥) → (k ≡ LEFT → ⊥) → (k ≡ INPUT → ⊥) → port_read s.device k ≡ port_word s k
+disk_word s k log left input =
+    let last = if k == INPUT then slice_index s.input 0 else port_read s.device k in
+    sym (cond-false (k == LOG) (length s.log) (if k == LEFT then length s.input else last) (ne_eqb _ _ log)
+    ∙ cond-false (k == LEFT) (length s.input) last (ne_eqb _ _ left) ∙ cond-false (k == INPUT) (slice_index s.input 0) (port_read s.device k) (ne_eqb _ _ input))
+
+-- neither the power port nor the log
+pub disk_written : (x : Outside) (s : State) (k value : ℕ) → (k ≡ POWER → ⊥) → (k ≡ LOG → ⊥) → record s { device = port_write x.busy x.count s.device k value } ≡ port_written x s k value
+disk_written x s k value power log =
+    let disk : State = record s { device = port_write x.busy x.count s.device k value } in
+    let logs : State = if nat_lt (length s.log) LOG_ROOM then record s { log = s.log ++ value ∷ [] } else s in
+    sym (cond-false (k == POWER) (let off : State = record s { off = Some value } in off) (if k == LOG then logs else disk) (ne_eqb _ _ power) ∙ cond-false (k == LOG) logs disk (ne_eqb _ _ log))
 
 -- at most one command more than n
 abbrev OneMore : ℕ → Device → Type 0

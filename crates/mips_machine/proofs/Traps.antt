@@ -1,15 +1,14 @@
 -- Which traps come of an instruction: neither the reset nor an external interrupt, and an illegal word is no instruction.
-use Rattle.std.proofs.Common.{◌≡◌, ℕ, Bool, not, List, Option, Some, None, refl, slice_index}
+use Rattle.std.proofs.Common.{◌≡◌, ℕ, Bool, not, Option, Some, None, refl}
 use Rattle.std.specs.Prelude.{if◌then◌else◌}
 use Rattle.std.proofs.lemmas.Bool.{cond_both}
 use Rattle.mips_table.specs.declared.inst.Inst.{Inst}
 use Rattle.mips_table.specs.declared.cause.Cause.{Cause}
 use Rattle.mips_table.specs.declared.cause.Cause.TheVariants as causes
 use Rattle.mips_table.specs.declared.effect.Effect.{Effect}
-use Rattle.mips_table.specs.declared.effect.Effect.TheVariants.{Set, Load, Store, Overflow, Call, System}
+use Rattle.mips_table.specs.declared.effect.Effect.TheVariants.{Set, Wide, Load, Store, Overflow, Call, System}
 use Rattle.mips_table.specs.Decoding.{decoding}
-use Rattle.mips_table.specs.Effect.{next, effect_of}
-use Rattle.mips_table.specs.Core.{Memory, Move, Ran, Stored, Trapped, write, is_aligned, accessed, performed, executed, move}
+use Rattle.mips_table.specs.Processor.{Cpu, Access, Move, Loaded, Stored, Trapped, advanced, is_aligned, accessed, performed, effect_on, executed, move}
 
 -- a trap that comes of an instruction at pc
 abbrev pub IsTrap : ℕ → Cause → ℕ → ℕ → Type 0
@@ -28,17 +27,18 @@ accessed_traps may misaligned refused address pc m a r h =
     cond_both (not (is_aligned address)) (Trapped misaligned address pc) (if not may then Trapped refused address pc else m) (Traps pc) (λ _. a)
     (λ _. cond_both (not may) (Trapped refused address pc) m (Traps pc) (λ _. r) (λ _. h))
 
-performed_traps : (m : Memory) (pc : ℕ) (regs : List ℕ) (word : ℕ) (e : Effect) → Traps pc (performed m pc regs word e)
-performed_traps m pc regs word (Set register value to) = tt
-performed_traps m pc regs word (Load register address) = accessed_traps (m.may_load address) causes.DataAlign causes.DataFault address pc (Ran (next pc) (write regs register (m.word address))) tt tt tt
-performed_traps m pc regs word (Store address value) = accessed_traps (m.may_store address) causes.DataAlign causes.DataFault address pc (Stored (next pc) regs address value) tt tt tt
-performed_traps m pc regs word Overflow = tt
-performed_traps m pc regs word Call = tt
-performed_traps m pc regs word System = tt
+performed_traps : (a : Access) (c : Cpu) (word : ℕ) (e : Effect) → Traps c.pc (performed a c word e)
+performed_traps a c word (Set register value to) = tt
+performed_traps a c word (Wide hi lo to) = tt
+performed_traps a c word (Load register address) = accessed_traps (a.may_load address) causes.DataAlign causes.DataFault address c.pc (Loaded (advanced c) register address) tt tt tt
+performed_traps a c word (Store address value) = accessed_traps (a.may_store address) causes.DataAlign causes.DataFault address c.pc (Stored (advanced c) address value) tt tt tt
+performed_traps a c word Overflow = tt
+performed_traps a c word Call = tt
+performed_traps a c word System = tt
 
-executed_traps : (m : Memory) (pc : ℕ) (regs : List ℕ) (word : ℕ) (o : Option Inst) → decoding word ≡ o → Traps pc (executed m pc regs word o)
-executed_traps m pc regs word None e = (e, refl)
-executed_traps m pc regs word (Some i) e = performed_traps m pc regs word (effect_of i pc (slice_index regs))
+executed_traps : (a : Access) (c : Cpu) (word : ℕ) (o : Option Inst) → decoding word ≡ o → Traps c.pc (executed a c word o)
+executed_traps a c word None e = (e, refl)
+executed_traps a c word (Some i) e = performed_traps a c word (effect_on i c)
 
-pub move_traps : (m : Memory) (pc : ℕ) (regs : List ℕ) → Traps pc (move m pc regs)
-move_traps m pc regs = accessed_traps (m.may_fetch pc) causes.FetchAlign causes.FetchFault pc pc (executed m pc regs (m.word pc) (decoding (m.word pc))) tt tt (executed_traps m pc regs (m.word pc) (decoding (m.word pc)) refl)
+pub move_traps : (a : Access) (c : Cpu) (word : ℕ) → Traps c.pc (move a c word)
+move_traps a c word = accessed_traps (a.may_fetch c.pc) causes.FetchAlign causes.FetchFault c.pc c.pc (executed a c word (decoding word)) tt tt (executed_traps a c word (decoding word) refl)

@@ -4,19 +4,19 @@ use Rattle.std.proofs.Common.{◌≡◌, ℕ, zero, suc, ◌+◌, Option, Some, 
 use Rattle.std.specs.Int.RustNames.{bit_or}
 use Rattle.std.specs.Option.{option_map}
 use Rattle.std.proofs.lemmas.List.{length-replicate}
-use Rattle.mips_runs.specs.Device.{Device, Pending, Idle, Reading, Writing, Outside, settled, counted}
-use Rattle.mips_runs.specs.Machine.{State, done, latched, ended, if_on, step}
+use Rattle.mips_table.specs.Device.{Device, Pending, Idle, Reading, Writing, Outside, settled, counted}
+use Rattle.mips_table.specs.Machine.{State, come_to, latched, ended, if_on, step}
 use Rattle.schedule_file.specs.Rows.{Rows, lines_at}
 use Rattle.sector_disk.specs.Ports.{device_of, ports_of, EndsStep, TransferFails}
 use Rattle.mips_machine.specs.declared.event.Event.{Event}
 use Rattle.mips_machine.specs.declared.event.Event.TheVariants.{Off}
 use Rattle.mips_machine.specs.Hardware.{Hardware, state_in, chosen, told_as, Comes}
 use Rattle.mips_machine.specs.Machine.{Held, state_of}
-use Rattle.mips_machine.specs.Steps.{Gives, event_if, event_of, before_count, Steps, Fails}
+use Rattle.mips_machine.specs.Steps.{outside_of, with_buffer, event_if, event_of, before_count, Steps, Fails}
 
 -- what callers see of the hardware with rows and a number of steps
 abbrev pub held : Hardware → Rows → ℕ → Held
-held h rows time = record { pc = h.pc; regs = h.regs; special = h.special; memory = h.memory; ports = h.ports; buffer = h.buffer; mask = h.mask; reset = h.reset; off = h.off; time = time; rows = rows; viewed = h.viewed }
+held h rows time = record { hardware = h; time = time; rows = rows }
 
 -- a machine that is off
 off_step : (x : Outside) (s : State) (word : ℕ) → s.off ≡ Some word → step x s ≡ s
@@ -28,7 +28,7 @@ unfolding event_of
 off_event x s word e = ap (event_if x s) e
 
 -- a machine that is on
-on_step : (x : Outside) (s after : State) → s.off ≡ None → after ≡ done (latched x s) (chosen x (latched x s)) → step x s ≡ ended after
+on_step : (x : Outside) (s after : State) → s.off ≡ None → after ≡ come_to (chosen x (latched x s)) → step x s ≡ ended after
 unfolding step chosen
 on_step x s after on e = ap (if_on x s) on ∙ ap ended (sym e)
 
@@ -36,7 +36,7 @@ on_event : (x : Outside) (s : State) (told : Event) → s.off ≡ None → told 
 unfolding event_of chosen
 on_event x s told on e = e ∙ ap (event_if x s) (sym on)
 
-before_is : (x : Outside) (s after : State) → after ≡ done (latched x s) (chosen x (latched x s)) → before_count x s ≡ after.device
+before_is : (x : Outside) (s after : State) → after ≡ come_to (chosen x (latched x s)) → before_count x s ≡ after.device
 unfolding before_count chosen
 before_is x s after e = ap (λ v. v.device) (sym e)
 
@@ -52,40 +52,48 @@ pub counted_commands : (d : Device) → (counted d).commands ≡ d.commands
 counted_commands d = settled_commands d.pending d
 
 -- a step of a machine that is off, with the sectors that are told or else with any
-pub off_steps : (count : ℕ) (now : Held) (word : ℕ) (told : Option (List (List ℕ))) → IfSome told (λ ss. length ss ≡ count) → now.off ≡ Some word → Steps count now now told told (Off word)
-off_steps count now word None many e = record {
-  sectors = replicate count [];
-  many = length-replicate {A = List ℕ} count [];
-  given = tt;
-  state = λ x g. subst (λ (v : State). state_of now v.device.sectors ≡ v) (sym (off_step x (state_of now (replicate count [])) word e)) refl;
-  left = λ x g. refl;
-  event = λ x g. sym (off_event x (state_of now (replicate count [])) word e);
-}
-off_steps count now word (Some ss) many e = record {
-  sectors = ss;
-  many = many;
-  given = refl;
-  state = λ x g. subst (λ (v : State). state_of now v.device.sectors ≡ v) (sym (off_step x (state_of now ss) word e)) refl;
-  left = λ x g. ap (λ (v : State). Some v.device.sectors) (sym (off_step x (state_of now ss) word e));
-  event = λ x g. sym (off_event x (state_of now ss) word e);
-}
+pub off_steps : (count : ℕ) (now : Held) (word : ℕ) (told : Option (List (List ℕ))) → IfSome told (λ ss. length ss ≡ count) → now.hardware.off ≡ Some word → Steps count now now told told (Off word)
+off_steps count now word None many e =
+    let x = outside_of now.rows count in
+    let s : State = state_of now (replicate count []) in
+    record {
+      sectors = replicate count [];
+      many = length-replicate {A = List ℕ} count [];
+      given = tt;
+      state = subst (λ (v : State). state_of now v.device.sectors ≡ v) (sym (off_step x s word e)) refl;
+      left = refl;
+      event = sym (off_event x s word e);
+    }
+off_steps count now word (Some ss) many e =
+    let x = outside_of now.rows count in
+    let s : State = state_of now ss in
+    record {
+      sectors = ss;
+      many = many;
+      given = refl;
+      state = subst (λ (v : State). state_of now v.device.sectors ≡ v) (sym (off_step x s word e)) refl;
+      left = ap (λ (v : State). Some v.device.sectors) (sym (off_step x s word e));
+      event = sym (off_event x s word e);
+    }
 
 -- the parts of a step: lines are latched, an interrupt or an instruction comes, and the disk counts
 module _ (start lit acted left : Hardware) (rows : Rows) (time lines count : ℕ) (told_event : Event) (on : start.off ≡ None) (raised : lines ≡ lines_at rows time)
     (latches : lit ≡ record start { mask = bit_or start.mask lines })
-    (comes : (x : Outside) (t : ℕ) (sectors : List (List ℕ)) → Gives rows count x → Comes (state_in lit t sectors) (chosen x (state_in lit t sectors)) (state_in acted t sectors) told_event)
+    (comes : (t : ℕ) (sectors : List (List ℕ)) → Comes (chosen (outside_of rows count) (state_in lit t sectors)) (state_in acted t sectors) told_event)
     (ends : left ≡ record acted { ports = left.ports; buffer = left.buffer })
   where
-    is_latched : (x : Outside) → Gives rows count x → (sectors : List (List ℕ)) → state_in lit time sectors ≡ latched x (state_in start time sectors)
-    is_latched x g sectors =
-        ap (λ (h : Hardware). state_in h time sectors) latches ∙ ap (λ m. state_in (record start { mask = bit_or start.mask m }) time sectors) (raised ∙ ap (λ f. f time) (sym g.lines))
+    abbrev x : Outside
+    x = outside_of rows count
 
-    comes_latched : (x : Outside) → Gives rows count x → (sectors : List (List ℕ)) →
-        Comes (latched x (state_in start time sectors)) (chosen x (latched x (state_in start time sectors))) (state_in acted time sectors) told_event
-    comes_latched x g sectors = subst (λ (v : State). Comes v (chosen x v) (state_in acted time sectors) told_event) (is_latched x g sectors) (comes x time sectors g)
+    is_latched : (sectors : List (List ℕ)) → state_in lit time sectors ≡ latched x (state_in start time sectors)
+    is_latched sectors =
+        ap (λ (h : Hardware). state_in h time sectors) latches ∙ ap (λ m. state_in (record start { mask = bit_or start.mask m }) time sectors) raised
 
-    step_is : (x : Outside) → Gives rows count x → (sectors : List (List ℕ)) → step x (state_in start time sectors) ≡ ended (state_in acted time sectors)
-    step_is x g sectors = on_step x (state_in start time sectors) (state_in acted time sectors) on (comes_latched x g sectors).state
+    comes_latched : (sectors : List (List ℕ)) → Comes (chosen x (latched x (state_in start time sectors))) (state_in acted time sectors) told_event
+    comes_latched sectors = subst (λ (v : State). Comes (chosen x v) (state_in acted time sectors) told_event) (is_latched sectors) (comes time sectors)
+
+    step_is : (sectors : List (List ℕ)) → step x (state_in start time sectors) ≡ ended (state_in acted time sectors)
+    step_is sectors = on_step x (state_in start time sectors) (state_in acted time sectors) on (comes_latched sectors).state
 
     -- the disk answered
     pub steps : (told retold : Option (List (List ℕ))) → EndsStep count acted.ports left.ports acted.buffer left.buffer told retold → Steps count (held start rows time) (held left rows (time + 1)) told retold told_event
@@ -97,22 +105,22 @@ module _ (start lit acted left : Hardware) (rows : Rows) (time lines count : ℕ
           sectors = e.sectors;
           many = e.many;
           given = e.given;
-          state = λ x g. subst (λ (v : State). state_of (held left rows (time + 1)) v.device.sectors ≡ v) (sym (step_is x g e.sectors)) there;
-          left = λ x g. e.left ∙ ap (λ (v : State). option_map (λ _. v.device.sectors) told) (sym (step_is x g e.sectors));
-          event = λ x g. on_event x (state_in start time e.sectors) told_event on (comes_latched x g e.sectors).event;
+          state = subst (λ (v : State). state_of (held left rows (time + 1)) v.device.sectors ≡ v) (sym (step_is e.sectors)) there;
+          left = e.left ∙ ap (λ (v : State). option_map (λ _. v.device.sectors) told) (sym (step_is e.sectors));
+          event = on_event x (state_in start time e.sectors) told_event on (comes_latched e.sectors).event;
         }
 
     -- the disk failed
     pub fails : (told retold : Option (List (List ℕ))) → ((sectors : List (List ℕ)) → left.ports ≡ ports_of (counted (device_of acted.ports acted.buffer sectors))) →
         TransferFails acted.ports.pending acted.buffer left.buffer told retold → Fails count (held start rows time) (held left rows (time + 1)) told retold
     fails told retold ports f = record {
-      state = λ x g sectors.
+      state = λ sectors.
           let d : Device = device_of acted.ports acted.buffer sectors in
           let new : Held = held left rows (time + 1) in
-          let there : state_of (record new { buffer = (counted d).buffer }) (counted d).sectors ≡ ended (state_in acted time sectors) =
+          let there : state_of (with_buffer new (counted d).buffer) (counted d).sectors ≡ ended (state_in acted time sectors) =
           ap (λ (h : Hardware). record (state_in h (time + 1) (counted d).sectors) { device = device_of left.ports (counted d).buffer (counted d).sectors }) ends
           ∙ ap (λ p. record (state_in acted (time + 1) (counted d).sectors) { device = device_of p (counted d).buffer (counted d).sectors }) (ports sectors) in
-          subst (λ (v : State). state_of (record new { buffer = v.device.buffer }) v.device.sectors ≡ v) (sym (step_is x g sectors)) there;
-      disk = λ x g sectors.
-          subst (λ (v : Device). TransferFails v.pending v.buffer left.buffer told retold) (sym (before_is x (state_in start time sectors) (state_in acted time sectors) (comes_latched x g sectors).state)) f;
+          subst (λ (v : State). state_of (with_buffer new v.device.buffer) v.device.sectors ≡ v) (sym (step_is sectors)) there;
+      disk = λ sectors.
+          subst (λ (v : Device). TransferFails v.pending v.buffer left.buffer told retold) (sym (before_is x (state_in start time sectors) (state_in acted time sectors) (comes_latched sectors).state)) f;
     }

@@ -1,29 +1,54 @@
 -- The memory and the ports as the processor reads and writes them.
-use Rattle.std.specs.Prelude.{◌≡◌, ℕ, ◌/◌, false, nat_lt, if◌then◌else◌, List, [], length, slice_set, Option, Some, None, true}
-use Rattle.mips_table.specs.Core.{Memory, move}
-use Rattle.mips_step.specs.Step.{Core, End}
-use Rattle.mips_step.specs.Ends.{Ends}
-use Rattle.mips_runs.specs.Machine.{State, located, seen}
+use Rattle.std.specs.Prelude.{ℕ, ◌/◌, false, nat_lt, if◌then◌else◌, List, [], length, slice_set, Option, Some, None, true}
+use Rattle.mips_table.specs.Processor.{Access, Cpu}
+use Rattle.mips_table.specs.Machine.{State, zero_cpu, access, located, read_at}
+use Rattle.mips_step.specs.Step.{End}
+use Rattle.mips_step.specs.Ends.{StepsInMemory}
 use Rattle.sector_disk.specs.Ports.{Ports, device_of}
 use Rattle.mips_machine.specs.declared.board.PortWrite.{PortWrite}
+use Rattle.mips_machine.specs.Console.{Console, after_word}
 
--- the special registers, the words of memory, the disk's ports and buffer, the words that are viewed, and a write outside memory
--- that is still to be done
+-- the special registers, the words of memory, the disk's ports and buffer, the words that are viewed, the console, and a write
+-- outside memory that is kept until the instruction is done
 pub record Board : Type 0 where
   pub special : List ℕ
   pub memory : List ℕ
   pub ports : Ports
   pub buffer : List ℕ
   pub viewed : List ℕ
-  pub asked : Option PortWrite
+  pub console : Console
+  pub kept : Option PortWrite
 
 -- a machine of this board, which a read looks at
 abbrev pub around : Board → State
-around b = record { pc = 0; regs = []; special = b.special; memory = b.memory; device = device_of b.ports b.buffer []; mask = 0; reset = false; off = None; time = 0 }
+around b = record {
+  cpu = zero_cpu;
+  special = b.special;
+  memory = b.memory;
+  device = device_of b.ports b.buffer [];
+  log = b.console.log;
+  input = b.console.input;
+  mask = 0;
+  reset = false;
+  off = None;
+  time = 0;
+}
 
--- what the processor sees of the board
-abbrev pub shown : Board → Memory
-shown b = seen (around b)
+-- which addresses translation takes
+abbrev pub taken_by : Board → Access
+taken_by b = access (around b)
+
+-- the word at an address
+abbrev pub word_at : Board → ℕ → ℕ
+word_at b address = read_at (around b) (located (around b) false address)
+
+-- a physical address is read
+abbrev pub read_from : Board → Option ℕ → Board
+read_from b physical = record b { console = after_word (length b.memory) b.console physical }
+
+-- an address is read
+abbrev pub after_load : Board → ℕ → Board
+after_load b address = read_from b (located (around b) false address)
 
 -- a write to a physical address: of memory it is done, and another one is kept
 abbrev pub stored_at : Board → Option ℕ → ℕ → Board
@@ -31,12 +56,12 @@ stored_at b None value = b
 stored_at b (Some address) value =
     if nat_lt (address / 4) (length b.memory)
     then record b { memory = slice_set b.memory (address / 4) value }
-    else record b { asked = Some (record { address = address; value = value }) }
+    else record b { kept = Some (record { address = address; value = value }) }
 
 -- a store
 abbrev pub stored : Board → ℕ → ℕ → Board
 stored b address value = stored_at b (located (around b) true address) value
 
 -- one instruction over the board ends so
-unfoldable pub Instructs : Core → Board → End → Board → Type 0
-Instructs core old end new = Ends (λ before address value after. after ≡ stored before address value) core old (move (shown old) core.pc core.regs) end new
+unfoldable pub Instructs : Cpu → Board → End → Board → Type 0
+Instructs cpu old end new = StepsInMemory taken_by word_at after_load stored cpu old end new

@@ -1,36 +1,37 @@
 -- The machine but for its schedule and the number of its steps.
-use Rattle.std.specs.Prelude.{◌≡◌, ℕ, ◌+◌, ◌*◌, ◌≤◌, Bool, true, List, length, replicate, Option, Some, None, ◌==◌, if◌then◌else◌}
-use Rattle.mips_table.specs.Core.{Asked, move}
-use Rattle.mips_runs.specs.Device.{Outside, POWER, port_write}
-use Rattle.mips_runs.specs.Fits.{NamesSector}
-use Rattle.mips_runs.specs.Machine.{State, Coming, Interrupt, Done, seen, moved, coming, done}
+use Rattle.std.specs.Prelude.{◌≡◌, ℕ, ◌+◌, ◌*◌, ◌≤◌, Bool, true, List, [], length, replicate, Option, Some, None}
+use Rattle.mips_table.specs.Processor.{Cpu, Privileged, move}
+use Rattle.mips_table.specs.Device.{Outside}
+use Rattle.mips_table.specs.Fits.{NamesSector}
+use Rattle.mips_table.specs.Machine.{State, Coming, Interrupt, Done, zero_cpu, access, fetch, fetched, moved, coming, come_to}
 use Rattle.sector_disk.specs.Ports.{Ports, idle, device_of}
 use Rattle.mips_machine.specs.declared.event.Event.{Event}
 use Rattle.mips_machine.specs.declared.event.Event.TheVariants.{Ran, Taken, Power}
+use Rattle.mips_machine.specs.Console.{Console}
 
--- pc, registers, special registers, memory, the disk's ports and buffer, the viewed words, the latches and the power word
+-- the processor, special registers, memory, the disk's ports and buffer, the viewed words, the console, the latches and the power word
 pub record Hardware : Type 0 where
-  pub pc : ℕ
-  pub regs : List ℕ
+  pub cpu : Cpu
   pub special : List ℕ
   pub memory : List ℕ
   pub ports : Ports
   pub buffer : List ℕ
   pub viewed : List ℕ
+  pub console : Console
   pub mask : ℕ
   pub reset : Bool
   pub off : Option ℕ
 
--- all is 0 but the reset latch, which is set; the memory has so many frames
-abbrev pub starting : ℕ → Hardware
-starting frames = record {
-  pc = 0;
-  regs = replicate 32 0;
+-- all is 0 or empty but the input and the reset latch, which is set; the memory has so many frames
+abbrev pub starting : ℕ → List ℕ → Hardware
+starting frames input = record {
+  cpu = zero_cpu;
   special = replicate 9 0;
   memory = replicate (1024 * frames) 0;
   ports = idle;
   buffer = replicate 1024 0;
   viewed = replicate 1024 0;
+  console = record { log = []; input = input };
   mask = 0;
   reset = true;
   off = None;
@@ -39,11 +40,12 @@ starting frames = record {
 -- the state with these parts after so many steps
 abbrev pub state_in : Hardware → ℕ → List (List ℕ) → State
 state_in h time sectors = record {
-  pc = h.pc;
-  regs = h.regs;
+  cpu = h.cpu;
   special = h.special;
   memory = h.memory;
   device = device_of h.ports h.buffer sectors;
+  log = h.console.log;
+  input = h.console.input;
   mask = h.mask;
   reset = h.reset;
   off = h.off;
@@ -57,30 +59,24 @@ event_by (Some word) = Power word
 
 -- what a step of a machine that is on is told as
 abbrev pub told_as : Coming → Event
-told_as (Interrupt cause edata epc) = Taken cause
+told_as (Interrupt before cause edata epc) = Taken cause
 told_as (Done after) = event_by after.off
 
--- what comes of an instruction
+-- what comes of an instruction, with its fetch
 unfoldable pub instructed : Outside → State → Coming
-instructed x s = moved x s (move (seen s) s.pc s.regs)
+instructed x s = moved x (fetched s) (move (access s) s.cpu (fetch s))
 
--- what comes of a word that is illegal for users
-unfoldable pub asked : Outside → State → ℕ → Coming
-asked x s word = moved x s (Asked word)
+-- what comes of a fetched word that is illegal for users
+unfoldable pub by_mode : Outside → State → ℕ → Coming
+by_mode x s word = moved x s (Privileged word)
 
 -- the interrupt with the least cause that comes, or else the instruction
 unfoldable pub chosen : Outside → State → Coming
 chosen x s = coming x s
 
--- a write outside memory
-abbrev pub sent : Outside → State → ℕ → ℕ → State
-sent x s k value =
-    if k == POWER then record s { off = Some value } else
-    record s { device = port_write x.busy x.count s.device k value }
-
--- this state and event are those of what comes of a state
-pub record Comes (old : State) (coming : Coming) (new : State) (told : Event) : Type 0 where
-  pub state : new ≡ done old coming
+-- this state and event are those of what comes
+pub record Comes (coming : Coming) (new : State) (told : Event) : Type 0 where
+  pub state : new ≡ come_to coming
   pub event : told ≡ told_as coming
 
 -- what an instruction or an interrupt keeps, on a disk of so many sectors

@@ -1,4 +1,5 @@
 pub mod Board
+pub mod Console
 pub mod Hardware
 pub mod Machine
 pub mod Steps

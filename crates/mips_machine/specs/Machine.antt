@@ -1,51 +1,19 @@
 -- What callers see of a machine, and the state that it is with the sectors of a disk.
-use Rattle.std.specs.Prelude.{ℕ, ◌*◌, Bool, true, List, replicate, Option, None}
-use Rattle.mips_runs.specs.Machine.{State}
+use Rattle.std.specs.Prelude.{ℕ, List}
+use Rattle.mips_table.specs.Machine.{State}
 use Rattle.schedule_file.specs.Rows.{Rows}
-use Rattle.sector_disk.specs.Ports.{Ports, idle, device_of}
+use Rattle.mips_machine.specs.Hardware.{Hardware, starting, state_in}
 
--- the state but for the sectors, the rows of the schedule, and the words of the sector that was viewed
+-- the state but for the sectors, with the words of the sector that was viewed; the number of steps done; and the rows of the schedule
 pub record Held : Type 0 where
-  pub pc : ℕ
-  pub regs : List ℕ
-  pub special : List ℕ
-  pub memory : List ℕ
-  pub ports : Ports
-  pub buffer : List ℕ
-  pub mask : ℕ
-  pub reset : Bool
-  pub off : Option ℕ
+  pub hardware : Hardware
   pub time : ℕ
   pub rows : Rows
-  pub viewed : List ℕ
 
--- a machine at its start: the reset is latched, and all else is 0; it has so many frames of memory
+-- a machine at its start, with so many frames of memory: the input is the schedule's
 abbrev pub started : ℕ → Rows → Held
-started frames rows = record {
-  pc = 0;
-  regs = replicate 32 0;
-  special = replicate 9 0;
-  memory = replicate (1024 * frames) 0;
-  ports = idle;
-  buffer = replicate 1024 0;
-  mask = 0;
-  reset = true;
-  off = None;
-  time = 0;
-  rows = rows;
-  viewed = replicate 1024 0;
-}
+started frames rows = record { hardware = starting frames rows.inputs; time = 0; rows = rows }
 
 -- the state, with these sectors
 abbrev pub state_of : Held → List (List ℕ) → State
-state_of held sectors = record {
-  pc = held.pc;
-  regs = held.regs;
-  special = held.special;
-  memory = held.memory;
-  device = device_of held.ports held.buffer sectors;
-  mask = held.mask;
-  reset = held.reset;
-  off = held.off;
-  time = held.time;
-}
+state_of held sectors = state_in held.hardware held.time sectors

@@ -1,14 +1,17 @@
 // The special registers, the memory and the ports, as the processor reads and writes them.
-ghost use Rattle.std.specs.Prelude.{◌≡◌, ℕ, ◌+◌, ◌-◌, ◌*◌, ◌/◌, ◌<◌, ◌≤◌, ◌^◌, List, [], length, replicate, slice_index, slice_set, OnOk, OnErr, refl, IfOk};
+ghost use Rattle.std.specs.Prelude.{◌≡◌, ℕ, ◌+◌, ◌-◌, ◌*◌, ◌/◌, ◌<◌, ◌≤◌, ◌^◌, List, [], length, replicate, slice_index, slice_set, refl, OnOk, IfOk};
+ghost use Rattle.std.proofs.Common.{ap};
 ghost use Rattle.cvm_outside.specs.Causes.{Counts};
 ghost use Rattle.cvm_outside.specs.Told.{Tells, sector_of};
 ghost use Rattle.mips_step.specs.Ends.{Reads};
-ghost use Rattle.mips_runs.specs.Device.{port_read, port_write, counted};
-ghost use Rattle.mips_runs.specs.Fits.{NamesSector};
-ghost use Rattle.mips_runs.specs.Machine.{SR as STATUS, EPC as BACK, taken, left, flagged, in_system, located, read as word_read, read_at, number_of};
-ghost use Rattle.sector_disk.specs.Ports.{idle, device_of, ports_of, EndsStep, TransferFails};
-ghost use Rattle.mips_machine.specs.Board.{Board as Shown, around, shown, stored, stored_at};
+ghost use Rattle.mips_table.specs.Device.{port_write};
+ghost use Rattle.mips_table.specs.Fits.{NamesSector};
+ghost use Rattle.mips_table.specs.Machine.{EPC as BACK, taken, left, flagged, in_system, located, read as word_read, port_word, number_of};
+ghost use Rattle.sector_disk.specs.Ports.{idle, device_of, StepEnd};
+ghost use Rattle.mips_machine.specs.Console.{after_port, logged};
+ghost use Rattle.mips_machine.specs.Board.{Board as Shown, around, taken_by, word_at, after_load, read_from, stored, stored_at};
 
+use crate::console::Console;
 use cvm_outside::{DiskFault, Sectors};
 use frame_store::{Frames, a_frame_is_its_part};
 use mips_interrupts::{EMODE, ESR, MODE, PTL, PTO, SR, Special, leave, take};
@@ -28,6 +31,15 @@ pub(crate) struct PortWrite {
     pub(crate) value: u32,
 }
 
+/// The word number of the console's log, at fffff00c.
+const LOG: u32 = 0x3fff_fc03;
+
+/// The word number of the port that tells how many input words are left, at fffff010.
+const LEFT: u32 = 0x3fff_fc04;
+
+/// The word number of the port that gives the next input word, at fffff014.
+const INPUT: u32 = 0x3fff_fc05;
+
 /// One store of frames holds the memory, then the disk's buffer, then the frame that a sector is viewed in. A write outside
 /// memory is kept until the instruction that made it is done.
 #[derive(Drop)]
@@ -37,7 +49,8 @@ pub(crate) struct Board {
     /// How many words the memory has.
     words: u32,
     disk: Disk,
-    asked: Option<PortWrite>,
+    console: Console,
+    kept: Option<PortWrite>,
 }
 
 impl Model for Board {
@@ -53,20 +66,21 @@ impl Model for Board {
       ports = b.disk;
       buffer = frame_of b.frames (b.words / 1024);
       viewed = frame_of b.frames (b.words / 1024 + 1);
-      asked = b.asked;
+      console = b.console;
+      kept = b.kept;
     } };
 
     ghost invariant = { λ b. (b.words ≡ 1024 * (b.words / 1024)) × (length b.frames ≡ b.words + 2048) };
 }
 
 impl Bus for Board {
-    ghost may_fetch = { λ b. (shown b).may_fetch };
+    ghost may_fetch = { λ b. (taken_by b).may_fetch };
 
-    ghost may_load = { λ b. (shown b).may_load };
+    ghost may_load = { λ b. (taken_by b).may_load };
 
-    ghost may_store = { λ b. (shown b).may_store };
+    ghost may_store = { λ b. (taken_by b).may_store };
 
-    ghost loads = { Reads shown };
+    ghost loads = { Reads word_at after_load };
 
     ghost stores = { λ b address value after. after ≡ stored b address value };
 
@@ -101,7 +115,11 @@ impl MemoryBus for Board {
 
     ghost view = { λ b. b };
 
-    ghost memory = { shown };
+    ghost access = { taken_by };
+
+    ghost word = { word_at };
+
+    ghost read = { after_load };
 
     ghost written = { stored };
 
@@ -114,20 +132,24 @@ impl MemoryBus for Board {
     ghost reads = { λ _ _ _ _ h. h };
 
     ghost writes = { λ _ _ _ _ h. h };
+
+    ghost access_stays = { λ _ _ _ _ h. ap taken_by h.1 };
 }
 
 impl Board {
-    /// A board with so many frames of memory, where all is 0 and the disk is idle.
-    pub(crate) fn new(alloc: Global, frames: u32) -> Result<Board, AllocError>
+    /// A board with so many frames of memory, where all is 0 and the disk is idle, and a console with this input.
+    pub(crate) fn new(alloc: Global, frames: u32, inputs: &[u32]) -> Result<Board, AllocError>
         requires few { frames ≤ 65000 }
-        ensures { IfOk result (λ b. b ≡ record { special = replicate 9 0; memory = replicate (1024 * frames) 0; ports = idle; buffer = replicate 1024 0; viewed = replicate 1024 0; asked = None }) }
+        requires inputs { length inputs.now ≤ 4096 }
+        ensures { IfOk result (λ b. b ≡ record { special = replicate 9 0; memory = replicate (1024 * frames) 0; ports = idle; buffer = replicate 1024 0; viewed = replicate 1024 0; console = record { log = []; input = inputs.now }; kept = None }) }
     {
         Ok(Board {
             special: Special { regs: [0; 9] },
             frames: Frames::new(alloc, frames + 2)?,
             words: 1024 * frames,
             disk: Disk::new(),
-            asked: None,
+            console: Console::new(alloc, inputs)?,
+            kept: None,
         })
     }
 
@@ -165,10 +187,11 @@ impl Board {
         }
     }
 
-    /// The word at a physical address, of memory or of a port.
+    /// Reads the word at a physical address, of memory or of a port.
     #[inline]
-    fn read(&self, address: u32) -> u32
-        ensures { result ≡ word_read (around self.now) (address / 4) }
+    fn read(&mut self, address: u32) -> u32
+        ensures word { result ≡ word_read (around self.old) (address / 4) }
+        ensures board { self.new ≡ read_from self.old (Some address) }
     {
         let word = address / 4;
         if word < self.words {
@@ -178,14 +201,24 @@ impl Board {
         }
     }
 
-    /// The word that a read outside memory gives.
+    /// Reads a word outside memory. That of the input port is taken.
     #[cold]
     #[inline(never)]
-    fn read_port(&self, address: u32) -> u32
-        ensures { result ≡ port_read (device_of self.now.ports self.now.buffer []) (address / 4) }
+    fn read_port(&mut self, address: u32) -> u32
+        ensures word { result ≡ port_word (around self.old) (address / 4) }
+        ensures board { self.new ≡ record self.old { console = after_port self.old.console (address / 4) } }
     {
-        self.disk
-            .read_port(&self.frames, self.words / 1024, address)
+        let word = address / 4;
+        if word == LOG {
+            self.console.log_len()
+        } else if word == LEFT {
+            self.console.left()
+        } else if word == INPUT {
+            self.console.take_next()
+        } else {
+            self.disk
+                .read_port(&self.frames, self.words / 1024, address)
+        }
     }
 
     /// A write to a physical address: of memory it is done, and another one is kept.
@@ -197,7 +230,7 @@ impl Board {
         if word < self.words {
             self.frames.put(word, value);
         } else {
-            self.asked = Some(PortWrite { address, value });
+            self.kept = Some(PortWrite { address, value });
         }
     }
 
@@ -261,11 +294,25 @@ impl Board {
 
     /// Takes the write that was kept, if there is one.
     #[inline]
-    pub(crate) fn take_asked(&mut self) -> Option<PortWrite>
-        ensures asked { result ≡ self.old.asked }
-        ensures board { self.new ≡ record self.old { asked = None } }
+    pub(crate) fn take_kept(&mut self) -> Option<PortWrite>
+        ensures kept { result ≡ self.old.kept }
+        ensures board { self.new ≡ record self.old { kept = None } }
     {
-        self.asked.take()
+        self.kept.take()
+    }
+
+    /// Appends a word to the console's log, which is lost where the log is full.
+    pub(crate) fn put_log(&mut self, word: u32)
+        ensures { self.new ≡ record self.old { console = logged self.old.console word } }
+    {
+        self.console.put(word);
+    }
+
+    /// The words of the console's log.
+    pub(crate) fn log(&self) -> &[u32]
+        ensures { result.now ≡ self.now.console.log }
+    {
+        self.console.log()
     }
 
     /// The number of the disk's next command.
@@ -300,14 +347,11 @@ impl Board {
     #[inline]
     pub(crate) fn end_step<D: Sectors>(&mut self, disk: &mut D) -> Result<(), DiskFault>
         requires { NamesSector (D.size disk.old) self.old.ports.pending }
-        ensures ended { OnOk result (EndsStep (D.size disk.old) self.old.ports self.new.ports self.old.buffer self.new.buffer (D.sectors disk.old) (D.sectors disk.new)) }
-        ensures fault { OnErr result (TransferFails self.old.ports.pending self.old.buffer self.new.buffer (D.sectors disk.old) (D.sectors disk.new)) }
-        ensures ports { (sectors : List (List ℕ)) → self.new.ports ≡ ports_of (counted (device_of self.old.ports self.old.buffer sectors)) }
+        ensures end { StepEnd result self.old.ports self.new.ports self.old.buffer self.new.buffer
+            (record { size = D.size disk.old; told = D.sectors disk.old; faults = D.faults disk.old })
+            (record { size = D.size disk.new; told = D.sectors disk.new; faults = D.faults disk.new }) }
         ensures board { self.new ≡ record self.old { ports = self.new.ports; buffer = self.new.buffer } }
         ensures whole { length self.new.buffer ≡ 1024 }
-        ensures under_way { NamesSector (D.size disk.new) self.new.ports.pending }
-        ensures size { D.size disk.new ≡ D.size disk.old }
-        ensures count { Counts (D.faults disk.old) (D.faults disk.new) result }
     {
         a_frame_is_its_part();
         let buffer = self.words / 1024;

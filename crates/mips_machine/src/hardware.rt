@@ -1,14 +1,15 @@
 // One step's interrupt or instruction.
-ghost use Rattle.std.specs.Prelude.{◌≡◌, ℕ, ◌+◌, ◌*◌, ◌/◌, ◌<◌, ◌≤◌, ◌^◌, ◌-◌, List, length, slice_index, slice_set, bit_or, None, IfOk, OnOk, OnErr};
+ghost use Rattle.std.specs.Prelude.{◌≡◌, ℕ, ◌+◌, ◌*◌, ◌/◌, ◌<◌, ◌≤◌, ◌^◌, ◌-◌, List, length, slice_index, slice_set, bit_or, None, IfOk, OnOk};
 ghost use Rattle.cvm_outside.specs.Causes.{Counts};
 ghost use Rattle.cvm_outside.specs.Told.{Tells, sector_of};
-ghost use Rattle.mips_runs.specs.Device.{Outside, counted};
-ghost use Rattle.mips_runs.specs.Fits.{NamesSector};
-ghost use Rattle.sector_disk.specs.Ports.{device_of, ports_of, EndsStep, TransferFails};
-ghost use Rattle.mips_runs.specs.Machine.{taken, number_of};
+ghost use Rattle.mips_table.specs.Device.{Outside};
+ghost use Rattle.mips_table.specs.Fits.{NamesSector};
+ghost use Rattle.sector_disk.specs.Ports.{StepEnd};
+ghost use Rattle.mips_table.specs.Machine.{taken, number_of, port_written};
+ghost use Rattle.mips_step.specs.View.{cpu_of};
 ghost use Rattle.mips_machine.specs.Board.{Instructs};
-ghost use Rattle.mips_machine.specs.Hardware.{starting, state_in, instructed, asked, chosen, sent, event_by, Comes, Keeps};
-ghost use Rattle.mips_machine.specs.Steps.{Gives};
+ghost use Rattle.mips_machine.specs.Hardware.{starting, state_in, instructed, by_mode, chosen, event_by, Comes, Keeps};
+ghost use Rattle.mips_machine.specs.Steps.{outside_of};
 
 use crate::board::{Board, PortWrite};
 use crate::event::Event;
@@ -21,8 +22,11 @@ use schedule_file::{Lines, Schedule};
 use std::alloc::{AllocError, Global};
 use std::marker::Model;
 
-/// The address of the power port, divided by 4.
+/// The word number of the power port, at fffff008.
 const POWER: u32 = 0x3fff_fc02;
+
+/// The word number of the console's log, at fffff00c.
+const LOG: u32 = 0x3fff_fc03;
 
 /// The machine but for its schedule and the number of its steps.
 #[derive(Drop)]
@@ -36,47 +40,51 @@ pub(crate) struct Hardware {
 
 impl Model for Hardware {
     ghost use Rattle.std.specs.Prelude.{◌≡◌, None};
+    ghost use Rattle.mips_step.specs.View.{cpu_of};
     ghost use Rattle.mips_machine.specs.Hardware.{Hardware};
 
     ghost Value = { Hardware };
 
     ghost view = { λ h. record {
-      pc = h.cpu.pc;
-      regs = h.cpu.regs;
+      cpu = cpu_of h.cpu;
       special = h.board.special;
       memory = h.board.memory;
       ports = h.board.ports;
       buffer = h.board.buffer;
       viewed = h.board.viewed;
+      console = h.board.console;
       mask = h.mask;
       reset = h.reset;
       off = h.off;
     } };
 
-    ghost invariant = { λ h. h.board.asked ≡ None };
+    ghost invariant = { λ h. h.board.kept ≡ None };
 }
 
 /// One instruction of the processor over the board.
 #[tactic(auto, unfolding(crate::specs::Board::Instructs))]
 #[inline]
 fn instruct(cpu: &mut Cpu, board: &mut Board) -> Outcome
-    ensures { Instructs (record { pc = cpu.old.pc; regs = cpu.old.regs }) board.old (record { outcome = result; core = record { pc = cpu.new.pc; regs = cpu.new.regs } }) board.new }
+    ensures { Instructs (cpu_of cpu.old) board.old (record { outcome = result; cpu = cpu_of cpu.new }) board.new }
 {
     step_in_memory(cpu, board)
 }
 
 impl Hardware {
-    /// All is 0 but the reset latch, which is set; the memory has so many frames.
-    pub(crate) fn new(alloc: Global, frames: u32) -> Result<Hardware, AllocError>
+    /// All is 0 or empty but this input and the reset latch, which is set; the memory has so many frames.
+    pub(crate) fn new(alloc: Global, frames: u32, inputs: &[u32]) -> Result<Hardware, AllocError>
         requires few { frames ≤ 65000 }
-        ensures { IfOk result (λ h. h ≡ starting frames) }
+        requires inputs { length inputs.now ≤ 4096 }
+        ensures { IfOk result (λ h. h ≡ starting frames inputs.now) }
     {
         Ok(Hardware {
             cpu: Cpu {
                 pc: 0,
                 regs: [0; 32],
+                hi: 0,
+                lo: 0,
             },
-            board: Board::new(alloc, frames)?,
+            board: Board::new(alloc, frames, inputs)?,
             mask: 0,
             reset: true,
             off: None,
@@ -104,8 +112,8 @@ impl Hardware {
     pub(crate) fn act(&mut self, schedule: &Schedule, count: u32) -> Event
         requires on { self.old.off ≡ None }
         requires room { self.old.ports.commands < 2 ^ 64 - 1 }
-        ensures comes { (x : Outside) (time : ℕ) (sectors : List (List ℕ)) → Gives schedule.now count x
-            → Comes (state_in self.old time sectors) (chosen x (state_in self.old time sectors)) (state_in self.new time sectors) result }
+        ensures comes { (time : ℕ) (sectors : List (List ℕ))
+            → Comes (chosen (outside_of schedule.now count) (state_in self.old time sectors)) (state_in self.new time sectors) result }
         ensures keeps { Keeps count self.old self.new }
     {
         if self.reset {
@@ -122,7 +130,7 @@ impl Hardware {
 
     /// Takes an interrupt. The pc is where the interrupted program goes on.
     fn interrupt(&mut self, cause: Cause, edata: u32) -> Event
-        ensures hardware { self.new ≡ record self.old { pc = 0; special = taken self.old.special (number_of cause) edata self.old.pc } }
+        ensures hardware { self.new ≡ record self.old { cpu = record self.old.cpu { pc = 0 }; special = taken self.old.special (number_of cause) edata self.old.cpu.pc } }
         ensures event { result ≡ Event.Taken cause }
     {
         self.cpu.pc = self.board.take(self.cpu.pc, cause, edata);
@@ -134,12 +142,12 @@ impl Hardware {
     fn execute(&mut self, schedule: &Schedule, count: u32) -> Event
         requires on { self.old.off ≡ None }
         requires room { self.old.ports.commands < 2 ^ 64 - 1 }
-        ensures comes { (x : Outside) (time : ℕ) (sectors : List (List ℕ)) → Gives schedule.now count x
-            → Comes (state_in self.old time sectors) (instructed x (state_in self.old time sectors)) (state_in self.new time sectors) result }
+        ensures comes { (time : ℕ) (sectors : List (List ℕ))
+            → Comes (instructed (outside_of schedule.now count) (state_in self.old time sectors)) (state_in self.new time sectors) result }
         ensures keeps { Keeps count self.old self.new }
     {
         match instruct(&mut self.cpu, &mut self.board) {
-            Outcome::Done => match self.board.take_asked() {
+            Outcome::Done => match self.board.take_kept() {
                 None => Event::Ran,
                 Some(write) => self.write_port(write, schedule, count),
             },
@@ -156,8 +164,8 @@ impl Hardware {
     fn write_port(&mut self, write: PortWrite, schedule: &Schedule, count: u32) -> Event
         requires on { self.old.off ≡ None }
         requires room { self.old.ports.commands < 2 ^ 64 - 1 }
-        ensures state { (x : Outside) (time : ℕ) (sectors : List (List ℕ)) → Gives schedule.now count x
-            → state_in self.new time sectors ≡ sent x (state_in self.old time sectors) (write.address / 4) write.value }
+        ensures state { (time : ℕ) (sectors : List (List ℕ))
+            → state_in self.new time sectors ≡ port_written (outside_of schedule.now count) (state_in self.old time sectors) (write.address / 4) write.value }
         ensures event { result ≡ event_by self.new.off }
         ensures keeps { Keeps count self.old self.new }
     {
@@ -165,19 +173,23 @@ impl Hardware {
             self.off = Some(write.value);
             return Event::Power(write.value);
         }
+        if write.address / 4 == LOG {
+            self.board.put_log(write.value);
+            return Event::Ran;
+        }
         let busy = schedule.busy_of(self.board.commands());
         self.board.write_port(write, count, busy);
         Event::Ran
     }
 
     /// Makes an instruction on special registers in system mode. Any other word is illegal here.
-    #[tactic(auto, unfolding(crate::specs::Hardware::asked))]
+    #[tactic(auto, unfolding(crate::specs::Hardware::by_mode))]
     #[cold]
     #[inline(never)]
     fn illegal(&mut self, word: u32) -> Event
         requires { self.old.off ≡ None }
         ensures comes { (x : Outside) (time : ℕ) (sectors : List (List ℕ))
-            → Comes (state_in self.old time sectors) (asked x (state_in self.old time sectors) word) (state_in self.new time sectors) result }
+            → Comes (by_mode x (state_in self.old time sectors) word) (state_in self.new time sectors) result }
         ensures keeps { (count : ℕ) → Keeps count self.old self.new }
     {
         if !self.board.in_system() {
@@ -204,14 +216,11 @@ impl Hardware {
     #[inline]
     pub(crate) fn end_step<D: Sectors>(&mut self, disk: &mut D) -> Result<(), DiskFault>
         requires { NamesSector (D.size disk.old) self.old.ports.pending }
-        ensures ended { OnOk result (EndsStep (D.size disk.old) self.old.ports self.new.ports self.old.buffer self.new.buffer (D.sectors disk.old) (D.sectors disk.new)) }
-        ensures fault { OnErr result (TransferFails self.old.ports.pending self.old.buffer self.new.buffer (D.sectors disk.old) (D.sectors disk.new)) }
-        ensures ports { (sectors : List (List ℕ)) → self.new.ports ≡ ports_of (counted (device_of self.old.ports self.old.buffer sectors)) }
+        ensures end { StepEnd result self.old.ports self.new.ports self.old.buffer self.new.buffer
+            (record { size = D.size disk.old; told = D.sectors disk.old; faults = D.faults disk.old })
+            (record { size = D.size disk.new; told = D.sectors disk.new; faults = D.faults disk.new }) }
         ensures hardware { self.new ≡ record self.old { ports = self.new.ports; buffer = self.new.buffer } }
         ensures whole { length self.new.buffer ≡ 1024 }
-        ensures under_way { NamesSector (D.size disk.new) self.new.ports.pending }
-        ensures size { D.size disk.new ≡ D.size disk.old }
-        ensures count { Counts (D.faults disk.old) (D.faults disk.new) result }
     {
         self.board.end_step(disk)
     }
@@ -243,16 +252,16 @@ impl Hardware {
     /// The register with this number.
     pub(crate) fn reg(&self, r: u32) -> u32
         requires { r < 32 }
-        ensures { result ≡ slice_index self.now.regs r }
+        ensures { result ≡ slice_index self.now.cpu.regs r }
     {
         self.cpu.regs[r as usize]
     }
 
-    /// The address of the next instruction.
-    pub(crate) fn pc(&self) -> u32
-        ensures { result ≡ self.now.pc }
+    /// The words of the console's log.
+    pub(crate) fn log(&self) -> &[u32]
+        ensures { result.now ≡ self.now.console.log }
     {
-        self.cpu.pc
+        self.board.log()
     }
 
     /// Reads a sector into the frame that is viewed.

@@ -1,14 +1,14 @@
 // Laws, each the contract of a function that changes nothing.
 ghost use Rattle.std.specs.Prelude.{ℕ};
-ghost use Rattle.mips_runs.specs.Device.{Outside};
-ghost use Rattle.mips_machine.specs.Steps.{Gives};
+ghost use Rattle.mips_table.specs.Device.{HasEightLines, LinesEnd};
+ghost use Rattle.mips_machine.specs.Steps.{outside_of};
 
 use schedule_file::Schedule;
 
-/// For each schedule and each number of sectors there is an outside that gives them, so that the steps of a machine are spoken
-/// of.
-pub fn a_schedule_happens(schedule: &Schedule)
-    ensures { (count : ℕ) → (x : Outside) × Gives schedule.now count x }
+/// The outside that a schedule gives has eight lines, and after a last step it raises none.
+pub fn schedules_end(schedule: &Schedule)
+    ensures eight { (count : ℕ) → HasEightLines (outside_of schedule.now count) }
+    ensures end { (count : ℕ) → LinesEnd (outside_of schedule.now count) }
 {
     let _ = schedule.last_step();
 }

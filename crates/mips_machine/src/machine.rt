@@ -2,8 +2,8 @@
 ghost use Rattle.std.specs.Prelude.{◌≡◌, ℕ, ◌+◌, ◌-◌, ◌*◌, ◌/◌, ◌%◌, ◌<◌, ◌≤◌, ◌^◌, List, length, replicate, slice_index, slice_set, IfOk, IfSome, OnOk, OnErr};
 ghost use Rattle.cvm_outside.specs.Causes.{Counts};
 ghost use Rattle.cvm_outside.specs.Told.{Tells, sector_of};
-ghost use Rattle.mips_runs.specs.Fits.{NamesSector};
-ghost use Rattle.mips_runs.specs.Machine.{start};
+ghost use Rattle.mips_table.specs.Fits.{NamesSector};
+ghost use Rattle.mips_table.specs.Machine.{start};
 ghost use Rattle.mips_machine.specs.Machine.{started, state_of};
 ghost use Rattle.mips_machine.specs.Steps.{Steps, Fails};
 
@@ -34,37 +34,26 @@ impl Model for Machine {
 
     ghost Value = { Held };
 
-    ghost view = { λ m. record {
-      pc = m.hardware.pc;
-      regs = m.hardware.regs;
-      special = m.hardware.special;
-      memory = m.hardware.memory;
-      ports = m.hardware.ports;
-      buffer = m.hardware.buffer;
-      mask = m.hardware.mask;
-      reset = m.hardware.reset;
-      off = m.hardware.off;
-      time = m.steps;
-      rows = m.schedule;
-      viewed = m.hardware.viewed;
-    } };
+    ghost view = { λ m. record { hardware = m.hardware; time = m.steps; rows = m.schedule } };
 
     ghost invariant = { λ m. IsNextAt m.schedule m.next_line m.steps × (m.hardware.ports.commands ≤ m.steps) × (length m.hardware.buffer ≡ 1024) };
 }
 
 impl Machine {
-    /// A machine with so many frames of 1,024 words, at most 65,000, at its start: the reset is latched, and all else is 0.
-    /// This is the only call that takes memory: two frames more than that, for the disk's buffer and for the sector that is
-    /// viewed, which no address names.
+    /// A machine with so many frames of 1,024 words, at most 65,000, at its start: the reset is latched, the input is the
+    /// schedule's, and all else is 0 or empty. This is the only call that takes memory: two frames more than that, for the
+    /// disk's buffer and for the sector that is viewed, which no address names, and room for the input and for a log of 4,096
+    /// words.
     ///
     /// Fails only for want of memory.
     pub fn new(alloc: Global, frames: u32, schedule: Schedule) -> Result<Machine, AllocError>
         requires few { frames ≤ 65000 }
-        ensures state { IfOk result (λ m. (sectors : List (List ℕ)) → state_of m sectors ≡ start (replicate (1024 * frames) 0) sectors) }
+        ensures state { IfOk result (λ m. (sectors : List (List ℕ)) → state_of m sectors ≡ start (replicate (1024 * frames) 0) sectors schedule.inputs) }
         ensures held { IfOk result (λ m. m ≡ started frames schedule) }
     {
+        let hardware = Hardware::new(alloc, frames, schedule.inputs())?;
         Ok(Machine {
-            hardware: Hardware::new(alloc, frames)?,
+            hardware,
             schedule,
             next_line: 0,
             steps: 0,
@@ -81,15 +70,15 @@ impl Machine {
     /// then as after that step, but the buffer may hold anything where a sector was to be read.
     pub fn step<D: Sectors>(&mut self, disk: &mut D) -> Result<Event, DiskFault>
         requires steps { self.old.time < 2 ^ 64 - 1 }
-        requires sector { NamesSector (D.size disk.old) self.old.ports.pending }
+        requires sector { NamesSector (D.size disk.old) self.old.hardware.ports.pending }
         ensures ok { IfOk result (λ event. Steps (D.size disk.old) self.old self.new (D.sectors disk.old) (D.sectors disk.new) event) }
         ensures fault { OnErr result (Fails (D.size disk.old) self.old self.new (D.sectors disk.old) (D.sectors disk.new)) }
-        ensures off { IfSome self.old.off (λ word. (result ≡ Ok (Event.Off word)) × (self.new ≡ self.old) × (disk.new ≡ disk.old)) }
+        ensures off { IfSome self.old.hardware.off (λ word. (result ≡ Ok (Event.Off word)) × (self.new ≡ self.old) × (disk.new ≡ disk.old)) }
         ensures rows { self.new.rows ≡ self.old.rows }
-        ensures viewed { self.new.viewed ≡ self.old.viewed }
-        ensures memory { length self.new.memory ≡ length self.old.memory }
-        ensures buffer { length self.new.buffer ≡ 1024 }
-        ensures sector { NamesSector (D.size disk.new) self.new.ports.pending }
+        ensures viewed { self.new.hardware.viewed ≡ self.old.hardware.viewed }
+        ensures memory { length self.new.hardware.memory ≡ length self.old.hardware.memory }
+        ensures buffer { length self.new.hardware.buffer ≡ 1024 }
+        ensures sector { NamesSector (D.size disk.new) self.new.hardware.ports.pending }
         ensures size { D.size disk.new ≡ D.size disk.old }
         ensures count { Counts (D.faults disk.old) (D.faults disk.new) result }
     {
@@ -109,8 +98,8 @@ impl Machine {
     /// The word of memory at an address in bytes, which is a multiple of 4 inside memory.
     pub fn word(&self, address: u32) -> u32
         requires aligned { address % 4 ≡ 0 }
-        requires inside { address / 4 < length self.now.memory }
-        ensures { result ≡ slice_index self.now.memory (address / 4) }
+        requires inside { address / 4 < length self.now.hardware.memory }
+        ensures { result ≡ slice_index self.now.hardware.memory (address / 4) }
     {
         self.hardware.word(address / 4)
     }
@@ -118,8 +107,8 @@ impl Machine {
     /// Sets the word of memory at an address in bytes, which is a multiple of 4 inside memory, and no other.
     pub fn set_word(&mut self, address: u32, value: u32)
         requires aligned { address % 4 ≡ 0 }
-        requires inside { address / 4 < length self.old.memory }
-        ensures { self.new ≡ record self.old { memory = slice_set self.old.memory (address / 4) value } }
+        requires inside { address / 4 < length self.old.hardware.memory }
+        ensures { self.new ≡ record self.old { hardware = record self.old.hardware { memory = slice_set self.old.hardware.memory (address / 4) value } } }
     {
         self.hardware.set_word(address / 4, value);
     }
@@ -127,7 +116,7 @@ impl Machine {
     /// The special register with this number, from 0 to 8.
     pub fn special(&self, rd: u32) -> u32
         requires { rd ≤ 8 }
-        ensures { result ≡ slice_index self.now.special rd }
+        ensures { result ≡ slice_index self.now.hardware.special rd }
     {
         self.hardware.special(rd)
     }
@@ -135,16 +124,37 @@ impl Machine {
     /// The register with this number, from 0 to 31.
     pub fn reg(&self, r: u32) -> u32
         requires { r ≤ 31 }
-        ensures { result ≡ slice_index self.now.regs r }
+        ensures { result ≡ slice_index self.now.hardware.cpu.regs r }
     {
         self.hardware.reg(r)
     }
 
     /// The address of the next instruction, in bytes.
     pub fn pc(&self) -> u32
-        ensures { result ≡ self.now.pc }
+        ensures { result ≡ self.now.hardware.cpu.pc }
     {
-        self.hardware.pc()
+        self.hardware.cpu.pc
+    }
+
+    /// The register hi: the upper half of a product, or the remainder of a division.
+    pub fn hi(&self) -> u32
+        ensures { result ≡ self.now.hardware.cpu.hi }
+    {
+        self.hardware.cpu.hi
+    }
+
+    /// The register lo: the lower half of a product, or the quotient of a division.
+    pub fn lo(&self) -> u32
+        ensures { result ≡ self.now.hardware.cpu.lo }
+    {
+        self.hardware.cpu.lo
+    }
+
+    /// The words of the console's log, at most 4,096, in the order in which they were written.
+    pub fn log(&self) -> &[u32]
+        ensures { result.now ≡ self.now.hardware.console.log }
+    {
+        self.hardware.log()
     }
 
     /// How many steps the machine made. Steps that find it off don't count.
@@ -161,9 +171,9 @@ impl Machine {
     /// A fault of the disk. What is viewed may then be anything.
     pub fn view_sector<D: Sectors>(&mut self, disk: &mut D, i: u32) -> Result<(), DiskFault>
         requires { i < D.size disk.old }
-        ensures machine { self.new ≡ record self.old { viewed = self.new.viewed } }
-        ensures words { OnOk result (Tells (sector_of (D.sectors disk.old) i) self.new.viewed) }
-        ensures whole { length self.new.viewed ≡ 1024 }
+        ensures machine { self.new ≡ record self.old { hardware = record self.old.hardware { viewed = self.new.hardware.viewed } } }
+        ensures words { OnOk result (Tells (sector_of (D.sectors disk.old) i) self.new.hardware.viewed) }
+        ensures whole { length self.new.hardware.viewed ≡ 1024 }
         ensures size { D.size disk.new ≡ D.size disk.old }
         ensures sectors { D.sectors disk.new ≡ D.sectors disk.old }
         ensures count { Counts (D.faults disk.old) (D.faults disk.new) result }
@@ -174,7 +184,7 @@ impl Machine {
     /// The word with this number, below 1,024, of the sector that was viewed last.
     pub fn viewed(&self, word: u32) -> u32
         requires { word < 1024 }
-        ensures { result ≡ slice_index self.now.viewed word }
+        ensures { result ≡ slice_index self.now.hardware.viewed word }
     {
         self.hardware.viewed(word)
     }

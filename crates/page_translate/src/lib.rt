@@ -9,7 +9,7 @@
 #![tactic(auto)]
 
 ghost use Rattle.std.specs.Prelude.{◌≡◌, ◌+◌, ◌*◌, ◌/◌, ◌%◌, IfSome};
-ghost use Rattle.mips_runs.specs.Machine.{entry_address as address_of_entry, translated, is_valid as is_valid_entry, is_protected as is_protected_entry};
+ghost use Rattle.mips_table.specs.Machine.{entry_address as address_of_entry, translated, is_valid as is_valid_entry, is_protected as is_protected_entry};
 
 /// The size of a page, in bytes.
 pub const PAGE_BYTES: u32 = 4096;

@@ -3,8 +3,8 @@ use Rattle.std.proofs.Common.{◌≡◌, ℕ, zero, suc, ◌-◌, ◌<◌, false
 use Rattle.std.specs.Prelude.{Option, IfSome, Result, Ok, Err, OnOk}
 use Rattle.std.proofs.lemmas.List.{length-replicate, length-set}
 use Rattle.cvm_outside.specs.Told.{Tells, sector_of, with_sector}
-use Rattle.mips_runs.specs.Device.{Pending, Idle, Reading, Writing, is_busy, counted}
-use Rattle.mips_runs.specs.Fits.{NamesSector}
+use Rattle.mips_table.specs.Device.{Pending, Idle, Reading, Writing, is_busy, counted}
+use Rattle.mips_table.specs.Fits.{NamesSector}
 use Rattle.sector_disk.specs.Ports.{Ports, device_of, EndsStep}
 
 -- where no sector moves, any sectors will do

@@ -1,8 +1,10 @@
 -- The disk behind its ports, the device that it is with a buffer and sectors, and what the end of a step leaves.
-use Rattle.std.specs.Prelude.{◌≡◌, ℕ, zero, suc, List, length, Option, IfSome}
+use Rattle.std.specs.Prelude.{◌≡◌, ℕ, zero, suc, List, length, Option, IfSome, Result, OnOk, OnErr}
 use Rattle.std.specs.Option.{option_map}
+use Rattle.cvm_outside.specs.Causes.{Counts}
 use Rattle.cvm_outside.specs.Told.{with_sector}
-use Rattle.mips_runs.specs.Device.{Device, Pending, Idle, Reading, Writing, counted}
+use Rattle.mips_table.specs.Device.{Device, Pending, Idle, Reading, Writing, counted}
+use Rattle.mips_table.specs.Fits.{NamesSector}
 
 -- the sector register, the command under way, and the number of the next command
 pub record Ports : Type 0 where
@@ -38,3 +40,18 @@ TransferFails (Reading zero sector) buffer after told retold = retold ≡ told
 TransferFails (Reading (suc left) sector) buffer after told retold = ⊥
 TransferFails (Writing zero sector) buffer after told retold = (after ≡ buffer) × ((words : List ℕ) × (retold ≡ with_sector told sector words))
 TransferFails (Writing (suc left) sector) buffer after told retold = ⊥
+
+-- what is known of a disk: how many sectors it has, those that are told, and its count of faults
+pub record Known : Type 0 where
+  pub size : ℕ
+  pub told : Option (List (List ℕ))
+  pub faults : ℕ
+
+-- the end of a step, by its answer: the ports, the buffer and the disk before and after it
+pub record StepEnd {E : Type 0} (result : Result (Unit {0}) E) (old new : Ports) (buffer after : List ℕ) (disk left : Known) : Type 0 where
+  pub ended : OnOk result (EndsStep disk.size old new buffer after disk.told left.told)
+  pub fault : OnErr result (TransferFails old.pending buffer after disk.told left.told)
+  pub ports : (sectors : List (List ℕ)) → new ≡ ports_of (counted (device_of old buffer sectors))
+  pub under_way : NamesSector left.size new.pending
+  pub size : left.size ≡ disk.size
+  pub count : Counts disk.faults left.faults result

@@ -1,6 +1,6 @@
 -- The command under way as the program keeps it.
-use Rattle.mips_runs.specs.Device.{Pending}
-use Rattle.mips_runs.specs.Device as device
+use Rattle.mips_table.specs.Device.{Pending}
+use Rattle.mips_table.specs.Device as device
 use Rattle.sector_disk.specs.declared.transfer.Transfer.{Transfer}
 use Rattle.sector_disk.specs.declared.transfer.Transfer.TheVariants.{Idle, Reading, Writing}
 

@@ -8,11 +8,10 @@
 #![tactic(auto)]
 
 ghost use Rattle.std.specs.Prelude.{◌≡◌, ℕ, ◌+◌, ◌-◌, ◌*◌, ◌/◌, ◌^◌, ◌<◌, ◌≤◌, length, List, OnOk, OnErr};
-ghost use Rattle.cvm_outside.specs.Causes.{Counts};
 ghost use Rattle.frame_store.specs.Words.{frame_of, with_frame};
-ghost use Rattle.mips_runs.specs.Device.{port_read, port_write, begun, counted};
-ghost use Rattle.mips_runs.specs.Fits.{NamesSector};
-ghost use Rattle.sector_disk.specs.Ports.{idle, device_of, ports_of, EndsStep, TransferFails};
+ghost use Rattle.mips_table.specs.Device.{port_read, port_write, begun};
+ghost use Rattle.mips_table.specs.Fits.{NamesSector};
+ghost use Rattle.sector_disk.specs.Ports.{idle, device_of, StepEnd};
 
 #[cfg(test)]
 mod tests;
@@ -172,14 +171,11 @@ impl Disk {
     ) -> Result<(), DiskFault>
         requires frame { 1024 * buffer + 1024 ≤ length frames.old }
         requires sector { NamesSector (D.size disk.old) self.old.pending }
-        ensures ended { OnOk result (EndsStep (D.size disk.old) self.old self.new (frame_of frames.old buffer) (frame_of frames.new buffer) (D.sectors disk.old) (D.sectors disk.new)) }
-        ensures fault { OnErr result (TransferFails self.old.pending (frame_of frames.old buffer) (frame_of frames.new buffer) (D.sectors disk.old) (D.sectors disk.new)) }
-        ensures ports { (sectors : List (List ℕ)) → self.new ≡ ports_of (counted (device_of self.old (frame_of frames.old buffer) sectors)) }
-        ensures under_way { NamesSector (D.size disk.new) self.new.pending }
+        ensures end { StepEnd result self.old self.new (frame_of frames.old buffer) (frame_of frames.new buffer)
+            (record { size = D.size disk.old; told = D.sectors disk.old; faults = D.faults disk.old })
+            (record { size = D.size disk.new; told = D.sectors disk.new; faults = D.faults disk.new }) }
         ensures frames { frames.new ≡ with_frame frames.old buffer (frame_of frames.new buffer) }
         ensures length { length frames.new ≡ length frames.old }
-        ensures size { D.size disk.new ≡ D.size disk.old }
-        ensures count { Counts (D.faults disk.old) (D.faults disk.new) result }
     {
         if !self.transfer.is_busy() {
             return Ok(());
@@ -199,14 +195,11 @@ impl Disk {
     ) -> Result<(), DiskFault>
         requires frame { 1024 * buffer + 1024 ≤ length frames.old }
         requires sector { NamesSector (D.size disk.old) self.old.pending }
-        ensures ended { OnOk result (EndsStep (D.size disk.old) self.old self.new (frame_of frames.old buffer) (frame_of frames.new buffer) (D.sectors disk.old) (D.sectors disk.new)) }
-        ensures fault { OnErr result (TransferFails self.old.pending (frame_of frames.old buffer) (frame_of frames.new buffer) (D.sectors disk.old) (D.sectors disk.new)) }
-        ensures ports { (sectors : List (List ℕ)) → self.new ≡ ports_of (counted (device_of self.old (frame_of frames.old buffer) sectors)) }
-        ensures under_way { NamesSector (D.size disk.new) self.new.pending }
+        ensures end { StepEnd result self.old self.new (frame_of frames.old buffer) (frame_of frames.new buffer)
+            (record { size = D.size disk.old; told = D.sectors disk.old; faults = D.faults disk.old })
+            (record { size = D.size disk.new; told = D.sectors disk.new; faults = D.faults disk.new }) }
         ensures frames { frames.new ≡ with_frame frames.old buffer (frame_of frames.new buffer) }
         ensures length { length frames.new ≡ length frames.old }
-        ensures size { D.size disk.new ≡ D.size disk.old }
-        ensures count { Counts (D.faults disk.old) (D.faults disk.new) result }
     {
         match self.transfer {
             Transfer::Idle => Ok(()),

@@ -24,7 +24,7 @@ struct Desk {
 
 impl Model for Desk {
     ghost use Rattle.std.specs.Prelude.{◌≡◌, length};
-    ghost use Rattle.mips_runs.specs.Fits.{NamesSector};
+    ghost use Rattle.mips_table.specs.Fits.{NamesSector};
     ghost use Rattle.sector_disk.specs.Ports.{Ports};
 
     ghost Value = { Ports };

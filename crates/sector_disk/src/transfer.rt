@@ -3,7 +3,7 @@ ghost use Rattle.std.specs.Prelude.{◌≡◌, ◌+◌, ◌*◌, ◌<◌, ◌≤
 ghost use Rattle.cvm_outside.specs.Causes.{Counts};
 ghost use Rattle.cvm_outside.specs.Told.{Tells, sector_of, with_sector};
 ghost use Rattle.frame_store.specs.Words.{frame_of, with_frame};
-ghost use Rattle.mips_runs.specs.Device.{is_busy as is_under_way};
+ghost use Rattle.mips_table.specs.Device.{is_busy as is_under_way};
 ghost use Rattle.sector_disk.specs.Transfers.{pending_of};
 
 use cvm_outside::{DiskFault, Sectors};

@@ -11,5 +11,5 @@ returns c =
     let m : length (take i.words i.frames) ≡ length c.args.self.now.memory = ap (λ (b : Board). length b.memory) c.self.view_is in
     let n : length (take i.words i.frames) ≡ i.words = length-take-le i.words i.frames (omega arith) in
     let lt : c.args.word < i.words = omega arith in
-    ap (λ f. board_in i.special.regs f i.words i.disk i.asked) c.put.ensures ∙ memory_set i.special.regs i.frames i.words i.disk i.asked c.self.invariant.0 c.self.invariant.1 c.args.word c.args.value lt
+    ap (λ f. board_in i.special.regs f i.words i.disk i.console i.kept) c.put.ensures ∙ memory_set i.special.regs i.frames i.words i.disk i.console i.kept c.self.invariant.0 c.self.invariant.1 c.args.word c.args.value lt
     ∙ ap (λ (b : Board). record b { memory = slice_set b.memory c.args.word c.args.value }) c.self.view_is

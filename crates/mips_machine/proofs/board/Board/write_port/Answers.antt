@@ -1,6 +1,6 @@
 -- What a write of a port does to the device, said of the board that callers see.
 use Rattle.std.proofs.Common.{ap, ◌∙◌, ◌/◌}
-use Rattle.mips_runs.specs.Device.{port_write}
+use Rattle.mips_table.specs.Device.{port_write}
 use Rattle.sector_disk.specs.Ports.{device_of}
 use Rattle.mips_machine.specs.Board.{Board}
 use Rattle.mips_machine.proofs.board.Board.write_port.Goals as goal
