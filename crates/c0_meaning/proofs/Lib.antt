@@ -35,3 +35,4 @@ pub mod Zeros
 pub mod Numbered
 pub mod OpenTy
 pub mod OffsetLemmas
+pub mod TypedKernels

@@ -33,3 +33,4 @@ pub mod Kernels
 pub mod KernelRows
 pub mod Offsets
 pub mod OpenTy
+pub mod Form
