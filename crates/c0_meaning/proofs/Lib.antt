@@ -37,3 +37,4 @@ pub mod Numbered
 pub mod OpenTy
 pub mod OffsetLemmas
 pub mod PartsApart
+pub mod TypedKernels

@@ -36,3 +36,4 @@ pub mod KernelRows
 pub mod Offsets
 pub mod Addresses
 pub mod OpenTy
+pub mod Form

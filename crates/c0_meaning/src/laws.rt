@@ -9,7 +9,7 @@ ghost use Rattle.c0_meaning.specs.Rows.{AreNamesRight, AreSizesRight, AreTypesRi
 ghost use Rattle.c0_meaning.specs.Rules.{StatementsAreFaultless, TestedIsFaultless};
 ghost use Rattle.c0_meaning.specs.Stable.{ResolvingIsStable};
 ghost use Rattle.c0_meaning.specs.Ty.{TypesEqualAsWritten};
-ghost use Rattle.c0_meaning.specs.Typed.{UnitsAreFaultless};
+ghost use Rattle.c0_meaning.specs.Typed.{KernelsAreFaultless, UnitsAreFaultless};
 ghost use Rattle.c0_meaning.specs.Unit.{FaultlessIsChecked};
 ghost use Rattle.c0_meaning.specs.Words.{HoldsAsTested, WordsAreThose};
 
@@ -77,6 +77,11 @@ pub fn worked_rows()
 /// A unit is typed by the rules exactly where no fault stands in it.
 pub fn units_are_typed_or_faulty()
     ensures { UnitsAreFaultless }
+{}
+
+/// So is a kernel's unit, which needs a `dispatch`.
+pub fn kernels_are_typed_or_faulty()
+    ensures { KernelsAreFaultless }
 {}
 
 /// Resolving the names of a unit changes none of its faults, and resolving them again changes nothing.

@@ -4,10 +4,14 @@
 #![tactic(auto)]
 
 pub mod checked;
+pub mod form;
 pub mod laws;
 pub mod measured;
+pub mod need;
+pub mod nodes;
 pub mod offsets;
 pub mod run_laws;
+pub mod shape;
 pub mod sizes;
 pub mod world;
 
