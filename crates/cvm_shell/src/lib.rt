@@ -125,6 +125,3 @@ fn refuse<O: Sink>(refusal: &Refusal, out: &mut O) -> Status
     let row = refusal.row();
     say(out, row.as_str().as_bytes(), refusal.status())
 }
-
-#[cfg(test)]
-mod tests;

@@ -3,7 +3,7 @@
 //
 // - `case NAME` begins with a new outside. Lines below it may say `shelf N ..`, `sink N ..` or `disk N ..`, the numbers of the calls of
 //   that object that fail, from 0; `room N`, how many bytes the sink has room for; `sectors N`, how many sectors the disk has;
-// - `file NAME` places a file with these bytes. A put to it has room for as many;
+// - `file NAME` places a file with these bytes, and `zeros NAME` one with so many bytes 0. A put to it has room for as many;
 // - `run WORD ..` runs the command of these words;
 // - `show NAME` gets a file and prints its bytes, and `sector N` prints the words of a sector that aren't 0.
 #![tactic(auto)]
@@ -142,12 +142,27 @@ fn show_sector(world: &mut World, out: &mut String, number: &str) -> Result<(), 
     Ok(())
 }
 
+/// Places a file of so many zeros.
+fn place_zeros(
+    alloc: Global,
+    world: &mut World,
+    name: &str,
+    count: &[u8],
+) -> Result<(), AllocError> {
+    let count = str::from_utf8(count).unwrap_or("");
+    let zeros = vec![in alloc; 0; count.parse::<usize>().unwrap_or(0)]?;
+    world.shelf.place(alloc, name, &zeros)
+}
+
 /// Does what a part of a case says.
 fn do_part(alloc: Global, world: &mut World, out: &mut String, part: &Case) -> Result<(), AllocError> {
     let kind = part.kind.as_str();
     let name = part.name.as_str();
     if kind == "file" {
         return world.shelf.place(alloc, name, &part.source);
+    }
+    if kind == "zeros" {
+        return place_zeros(alloc, world, name, &part.source);
     }
     writeln!(out, "== {kind} {name}")?;
     match kind {
