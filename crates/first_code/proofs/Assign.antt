@@ -67,12 +67,12 @@ pub record Goes (s : State) (p n at base : ℕ) (globals : List ℤ) : Type 0 wh
 
 -- the store of a word to a global
 stores_global : (law : Decodes) (s : State) (at base p k : ℕ) (globals : List ℤ) (v : ℤ) → Ready s p → p < 2 ^ 20 → slice_index s.memory p ≡ encoding (Sw FIRST 0 (at + 4 * k)) →
-    Holds s.memory at base globals → k < length globals → FitsSigned w32 v → slice_index s.regs FIRST ≡ word v → Goes s p 1 at base (slice_set globals k v)
+    Holds s.memory at base globals → k < length globals → FitsSigned w32 v → slice_index s.cpu.regs FIRST ≡ word v → Goes s p 1 at base (slice_set globals k v)
 stores_global law s at base p k globals v ready below stands holds inside fits loaded =
     let near : at + 4 * length globals < 2 ^ 15 = holds.near in
     let place : at ≡ 4 * base = holds.place in
-    let address : arithmetic.sum (slice_index s.regs 0) (arithmetic.extended (at + 4 * k)) ≡ 4 * (base + k) = address_of at base k (slice_index s.regs 0) place (omega arith) ready.nought in
-    let effect : effect_of (Sw FIRST 0 (at + 4 * k)) s.pc (slice_index s.regs) ≡ Store (4 * (base + k)) (word v) = rw (address, loaded) refl in
+    let address : arithmetic.sum (slice_index s.cpu.regs 0) (arithmetic.extended (at + 4 * k)) ≡ 4 * (base + k) = address_of at base k (slice_index s.cpu.regs 0) place (omega arith) ready.nought in
+    let effect : effect_on (Sw FIRST 0 (at + 4 * k)) s.cpu ≡ Store (4 * (base + k)) (word v) = rw (address, loaded) refl in
     let quarter : 4 * (base + k) / 4 ≡ base + k = omega arith in
     let far : 4 * (base + k) ≢ POWER = λ e. omega arith in
     let goes : step s ≡ put s (p + 1) (base + k) (word v) =

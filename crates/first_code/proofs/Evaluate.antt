@@ -49,20 +49,20 @@ pub record Comes (s : State) (p n low r v : ℕ) : Type 0 where
   pub leads : Leads n s t
   pub ready : Ready t (p + n)
   pub memory : t.memory ≡ s.memory
-  pub value : slice_index t.regs r ≡ v
-  pub below : (k : ℕ) → k < low → slice_index t.regs k ≡ slice_index s.regs k
+  pub value : slice_index t.cpu.regs r ≡ v
+  pub below : (k : ℕ) → k < low → slice_index t.cpu.regs k ≡ slice_index s.cpu.regs k
 
 -- a step that writes a register
 comes_by : (s : State) (p r v : ℕ) → Ready s p → 0 < r → r < 32 → step s ≡ written s (p + 1) r v → Comes s p 1 r r v
 comes_by s p r v h positive register e =
-    let count : length s.regs ≡ 32 = h.count in
+    let count : length s.cpu.regs ≡ 32 = h.count in
     record {
       t = written s (p + 1) r v;
       leads = one s (written s (p + 1) r v) h.on (quiet s p h) e;
       ready = written_ready s p r v h (ne_of_gt positive);
       memory = refl;
-      value = get_or-set_same s.regs r v 0 (omega arith);
-      below = λ k l. get_or-set_other s.regs r k v 0 (omega arith);
+      value = get_or-set_same s.cpu.regs r v 0 (omega arith);
+      below = λ k l. get_or-set_other s.cpu.regs r k v 0 (omega arith);
     }
 
 -- one run after the other
@@ -79,7 +79,7 @@ then_comes s p m n low first r v second q w a b le_first le_second = record {
 -- two runs that leave their words in r and in the register after it, and an instruction on both
 operates : (law : Decodes) (s : State) (p m n r x y v : ℕ) (op : Inst) (a : Comes s p m r r x) (b : Comes a.t (p + m) n (r + 1) (r + 1) y) →
     0 < r → r < 32 → p + m + n < 2 ^ 20 → InRange op → slice_index s.memory (p + m + n) ≡ encoding op →
-    (effect_of op b.t.pc (slice_index b.t.regs) ≡ Set r v (next b.t.pc)) → Comes s p (m + (n + 1)) r r v
+    (effect_on op b.t.cpu ≡ Set r v (next b.t.cpu.pc)) → Comes s p (m + (n + 1)) r r v
 operates law s p m n r x y v op a b positive register near range stands effect =
     let last : Comes b.t (p + m + n) 1 r r v =
     comes_by b.t (p + m + n) r v b.ready positive register
@@ -107,7 +107,7 @@ number_comes law s at base r p n globals h =
     comes_by s p r upper h.ready h.positive below
     (sets law s p (Lui r (n / 2 ^ 16)) r upper h.ready (omega arith) (below, omega arith) h.stands.0 refl other) in
     let i : Inst = Ori r r (n % 2 ^ 16) in
-    let effect : effect_of i a.t.pc (slice_index a.t.regs) ≡ Set r n (next a.t.pc) = ap (λ v. Set r v (next a.t.pc)) (ap (λ v. bit_or v (n % 2 ^ 16)) a.value ∙ halves n) in
+    let effect : effect_on i a.t.cpu ≡ Set r n (next a.t.cpu.pc) = ap (λ v. Set r v (next a.t.cpu.pc)) (ap (λ v. bit_or v (n % 2 ^ 16)) a.value ∙ halves n) in
     let b : Comes a.t (p + 1) 1 r r n =
     comes_by a.t (p + 1) r n a.ready h.positive below
     (sets law a.t (p + 1) i r n a.ready (omega arith) (below, below, omega arith) (ap (λ l. slice_index l (p + 1)) a.memory ∙ h.stands.1.0) effect other) in
@@ -126,7 +126,7 @@ variable_comes law s at base r p x globals h =
     let inside : k < length globals = h.resolved in
     let near : at + 4 * length globals < 2 ^ 15 = h.holds.near in
     let below : r < 32 = omega (arith, h.registers) in
-    let address : arithmetic.sum (slice_index s.regs 0) (arithmetic.extended (at + 4 * k)) ≡ 4 * (base + k) = address_of at base k (slice_index s.regs 0) h.holds.place (omega arith) h.ready.nought in
+    let address : arithmetic.sum (slice_index s.cpu.regs 0) (arithmetic.extended (at + 4 * k)) ≡ 4 * (base + k) = address_of at base k (slice_index s.cpu.regs 0) h.holds.place (omega arith) h.ready.nought in
     let place : 4 * (base + k) / 4 ≡ base + k = omega arith in
     let read : slice_index s.memory (4 * (base + k) / 4) ≡ word (slice_index_or globals k (pos 0)) = ap (slice_index s.memory) place ∙ h.holds.each k inside in
     comes_by s p r (word (slice_index_or globals k (pos 0))) h.ready h.positive below
@@ -141,7 +141,7 @@ atoms_positive (difference a b) = omega (arith, atoms_positive a)
 atoms_positive other = omega arith
 
 -- the first of two runs keeps its word where the second works in the registers above
-kept : (s : State) (p q m n r x y : ℕ) (a : Comes s p m r r x) (b : Comes a.t q n (r + 1) (r + 1) y) → slice_index b.t.regs r ≡ x
+kept : (s : State) (p q m n r x y : ℕ) (a : Comes s p m r r x) (b : Comes a.t q n (r + 1) (r + 1) y) → slice_index b.t.cpu.regs r ≡ x
 kept s p q m n r x y a b = b.below r (omega arith) ∙ a.value
 
 -- an instruction of two registers whose words are known
@@ -194,9 +194,9 @@ two_come law at base globals a b run_a run_b s r p op f v ready holds resolved_a
     }) in
     let last : slice_index s.memory (p + length first + length second) ≡ encoding op =
     (stands_back s.memory (p + length first) second (op ∷ []) rest).0 in
-    let x : slice_index right.t.regs r ≡ word (value globals a) = kept s p (p + length first) (length first) (length second) r (word (value globals a)) (word (value globals b)) left right in
-    let done : effect_of op right.t.pc (slice_index right.t.regs) ≡ Set r v (next right.t.pc) =
-    on_words op f right.t.pc r (word (value globals a)) (word (value globals b)) v (slice_index right.t.regs) (effect right.t.pc (slice_index right.t.regs)) x right.value result in
+    let x : slice_index right.t.cpu.regs r ≡ word (value globals a) = kept s p (p + length first) (length first) (length second) r (word (value globals a)) (word (value globals b)) left right in
+    let done : effect_on op right.t.cpu ≡ Set r v (next right.t.cpu.pc) =
+    on_words op f right.t.cpu.pc r (word (value globals a)) (word (value globals b)) v (slice_index right.t.cpu.regs) (effect right.t.cpu.pc (slice_index right.t.cpu.regs)) x right.value result in
     subst (λ n. Comes s p n r r v) (sym count)
     (operates law s p (length first) (length second) r (word (value globals a)) (word (value globals b)) v op left right positive (omega arith) (omega arith) range last done)
 

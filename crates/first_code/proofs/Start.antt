@@ -12,7 +12,7 @@ use Rattle.c0_tree.specs.FirstTree.{CAssign, CUnit}
 use Rattle.c0_tree.specs.First.{IsFirstAssign, IsFirst}
 use Rattle.mips_table.specs.declared.inst.Inst.{Inst}
 use Rattle.mips_table.specs.Encoding.{encoding}
-use Rattle.mips_runs.specs.Machine.{taken}
+use Rattle.mips_table.specs.Machine.{taken, zero_cpu}
 use Rattle.first_machine.specs.Machine.{State, step, run, loaded, word_at}
 use Rattle.first_machine.specs.Turns.{in_user}
 use Rattle.first_code.specs.Meaning.{value, executed, start_values, final_values}
@@ -29,8 +29,7 @@ use Rattle.first_code.proofs.Lengths.{kernel_length, apart, page_few}
 -- the machine after its reset
 abbrev begun : List ℕ → ℕ → State
 begun words frames = record {
-  pc = 0;
-  regs = replicate 32 0;
+  cpu = zero_cpu;
   special = taken (replicate 9 0) 0 0 0;
   memory = words ++ replicate (1024 * frames - length words) 0;
   reset = false;

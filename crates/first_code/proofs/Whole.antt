@@ -35,8 +35,8 @@ pub record Ends (s : State) (n at base : ℕ) (globals : List ℤ) : Type 0 wher
 
 ends_off : (law : Decodes) (s : State) (at base p : ℕ) (globals : List ℤ) → Ready s p → p < 2 ^ 20 → slice_index s.memory p ≡ encoding (Sw 0 0 0xf008) → Holds s.memory at base globals → Ends s 1 at base globals
 ends_off law s at base p globals ready near stands holds =
-    let nought : slice_index s.regs 0 ≡ 0 = ready.nought in
-    let effect : effect_of (Sw 0 0 0xf008) s.pc (slice_index s.regs) ≡ Store POWER 0 = rw nought refl in
+    let nought : slice_index s.cpu.regs 0 ≡ 0 = ready.nought in
+    let effect : effect_on (Sw 0 0 0xf008) s.cpu ≡ Store POWER 0 = rw nought refl in
     record {
       t = switched s (p + 1) 0;
       leads = one s (switched s (p + 1) 0) ready.on (quiet s p ready) (switches law s p (Sw 0 0 0xf008) 0 ready near (omega arith, omega arith, omega arith) stands effect);

@@ -2,8 +2,8 @@
 use Rattle.std.proofs.Common.{◌≡◌, ℕ, zero, suc, ◌+◌, ◌-◌, ◌<◌, ◌≤◌, Bool, true, false, not, cond, List, Some, refl, ap, ◌∙◌, subst, ⊎_elim, arith, add-zero, add-suc}
 use Rattle.std.specs.Prelude.{slice_set, ◌==◌, ◌/◌, ◌&&◌, ◌||◌}
 use Rattle.std.proofs.lemmas.Bool.{cases_lt}
-use Rattle.mips_table.specs.Core.{Move, Ran, Stored, Trapped, Asked, move}
-use Rattle.first_machine.specs.Machine.{State, POWER, seen, is_on, interrupted, moved, stepped, step, run, loaded}
+use Rattle.mips_table.specs.Processor.{Move, Ran, Loaded, Stored, Trapped, Privileged}
+use Rattle.first_machine.specs.Machine.{State, POWER, next_move, is_on, interrupted, moved, stepped, step, run, loaded}
 use Rattle.first_machine.specs.Turns.{in_user, begins, rests}
 
 pub run_add : (s : State) (m k : ℕ) → run s (m + k) ≡ run (run s m) k
@@ -39,14 +39,15 @@ store_reset s address value true = refl
 store_reset s address value false = refl
 
 moved_reset : (s : State) (m : Move) → (moved s m).reset ≡ s.reset
-moved_reset s (Ran pc regs) = refl
-moved_reset s (Stored pc regs address value) = store_reset s address value (address == POWER)
+moved_reset s (Ran after) = refl
+moved_reset s (Loaded after register address) = refl
+moved_reset s (Stored after address value) = store_reset s address value (address == POWER)
 moved_reset s (Trapped cause edata epc) = refl
-moved_reset s (Asked word) = refl
+moved_reset s (Privileged word) = refl
 
-stepped_reset : (s : State) (b : Bool) → s.reset ≡ b → (cond b (record (interrupted s 0 0 s.pc) { reset = false }) (moved s (move (seen s) s.pc s.regs))).reset ≡ false
+stepped_reset : (s : State) (b : Bool) → s.reset ≡ b → (cond b (record (interrupted s 0 0 s.cpu.pc) { reset = false }) (moved s (next_move s))).reset ≡ false
 stepped_reset s true e = refl
-stepped_reset s false e = moved_reset s (move (seen s) s.pc s.regs) ∙ e
+stepped_reset s false e = moved_reset s (next_move s) ∙ e
 
 -- a step of a machine that is on clears the reset latch
 pub on_reset : (s : State) → is_on s.off ≡ true → (step s).reset ≡ false

@@ -8,7 +8,7 @@ ghost use Rattle.first_machine.specs.declared.machine.Begun.{Begun};
 /// Steps keep the number of registers, of special registers and of words of memory.
 #[tactic(auto, using(crate::proofs::Lengths::length_registers, crate::proofs::Lengths::length_special, crate::proofs::Lengths::length_memory))]
 pub fn steps_keep_lengths()
-    ensures registers { (s : State) (n : ℕ) → length (run s n).regs ≡ length s.regs }
+    ensures registers { (s : State) (n : ℕ) → length (run s n).cpu.regs ≡ length s.cpu.regs }
     ensures special { (s : State) (n : ℕ) → length s.special ≡ 9 → length (run s n).special ≡ 9 }
     ensures memory { (s : State) (n : ℕ) → length (run s n).memory ≡ length s.memory }
 {}

@@ -1,6 +1,6 @@
 // The machine, its steps and its turns.
 ghost use Rattle.std.specs.Prelude.{◌≡◌, ◌+◌, ◌*◌, ◌/◌, ◌%◌, ◌<◌, ◌≤◌, ℕ, length, slice_index, IfOk, OnOk, OnErr, MatchResult};
-ghost use Rattle.mips_runs.specs.Machine.{number_of as number_in};
+ghost use Rattle.mips_table.specs.Machine.{number_of as number_in};
 
 use crate::ram::Ram;
 use crate::special::{SPECIAL_COUNT, Special};
@@ -24,8 +24,8 @@ pub struct Begun {
 #[derive(Clone, Copy, Debug, PartialEq, Eq)]
 pub struct StepLimit;
 
-/// A machine with all its memory. Contracts see it as its state: the pc, the 32 registers, the nine special registers,
-/// the words of memory, the reset latch and the power word.
+/// A machine with all its memory. Contracts see it as its state: the processor, the nine special registers, the words
+/// of memory, the reset latch and the power word.
 #[derive(Drop)]
 pub struct Machine {
     cpu: Cpu,
@@ -35,11 +35,12 @@ pub struct Machine {
 }
 
 impl Model for Machine {
+    ghost use Rattle.mips_step.specs.View.{cpu_of};
     ghost use Rattle.first_machine.specs.Machine.{State};
 
     ghost Value = { State };
 
-    ghost view = { λ m. record { pc = m.cpu.pc; regs = m.cpu.regs; special = m.special; memory = m.ram.words.items; reset = m.reset; off = m.ram.power } };
+    ghost view = { λ m. record { cpu = cpu_of m.cpu; special = m.special; memory = m.ram.words.items; reset = m.reset; off = m.ram.power } };
 }
 
 // The number of a cause, from 0 to 8.
@@ -50,11 +51,10 @@ fn number_of(cause: Cause) -> u32
 }
 
 impl Machine {
-    ghost use Rattle.first_machine.specs.Machine.{State, step as stepped_on, loaded, word_at, seen, moved, interrupted};
+    ghost use Rattle.first_machine.specs.Machine.{State, step as stepped_on, loaded, word_at, next_move, moved, interrupted};
     ghost use Rattle.first_machine.specs.Turns.{in_user, begins, rests};
     ghost use Rattle.first_machine.specs.Ends.{Completes, RunsOut, shown};
     ghost use Rattle.first_machine.specs.Stretch.{Reached, Missed};
-    ghost use Rattle.mips_table.specs.Core.{move};
 
     /// A machine with so many frames of 1,024 words: these words at address 0, and zeros after them. Its reset latch is set.
     ///
@@ -72,6 +72,8 @@ impl Machine {
             cpu: Cpu {
                 pc: 0,
                 regs: [0; 32],
+                hi: 0,
+                lo: 0,
             },
             special: [0; SPECIAL_COUNT],
             ram: Ram {
@@ -101,7 +103,7 @@ impl Machine {
 
     // One instruction, or the trap that it comes to.
     fn execute(&mut self)
-        ensures { self.new ≡ moved self.old (move (seen self.old) self.old.pc self.old.regs) }
+        ensures { self.new ≡ moved self.old (next_move self.old) }
     {
         if let Outcome::Trap(cause, edata) = step_in_memory(&mut self.cpu, &mut self.ram) {
             self.interrupt(cause, edata);
@@ -110,7 +112,7 @@ impl Machine {
 
     // Takes an interrupt. The pc is where the interrupted program goes on.
     fn interrupt(&mut self, cause: Cause, edata: u32)
-        ensures { self.new ≡ interrupted self.old (number_in cause) edata self.old.pc }
+        ensures { self.new ≡ interrupted self.old (number_in cause) edata self.old.cpu.pc }
     {
         let [status, _, _, _, _, table_origin, table_length, mode, _] = self.special;
         self.special = [

@@ -1,7 +1,7 @@
 // The memory and the power port, as the processor sees them.
 ghost use Rattle.std.specs.Prelude.{◌≡◌, true, refl};
 ghost use Rattle.mips_step.specs.Ends.{Reads};
-ghost use Rattle.first_machine.specs.Storage.{Storage, storage_in, shown_to_loads, after_store};
+ghost use Rattle.first_machine.specs.Storage.{Storage, storage_in, access_of, word_in, after_read, after_store};
 
 use mips_step::{Bus, MemoryBus};
 
@@ -22,7 +22,7 @@ impl Bus for Ram {
 
     ghost may_store = { λ _ _. true };
 
-    ghost loads = { λ s address value t. Reads shown_to_loads (storage_in s) address value (storage_in t) };
+    ghost loads = { λ s address value t. Reads word_in after_read (storage_in s) address value (storage_in t) };
 
     ghost stores = { λ s address value t. storage_in t ≡ after_store (storage_in s) address value };
 
@@ -56,7 +56,11 @@ impl MemoryBus for Ram {
 
     ghost view = { storage_in };
 
-    ghost memory = { shown_to_loads };
+    ghost access = { access_of };
+
+    ghost word = { word_in };
+
+    ghost read = { after_read };
 
     ghost written = { after_store };
 
@@ -69,4 +73,6 @@ impl MemoryBus for Ram {
     ghost reads = { λ _ _ _ _ h. h };
 
     ghost writes = { λ _ _ _ _ h. h };
+
+    ghost access_stays = { λ _ _ _ _ _. refl };
 }

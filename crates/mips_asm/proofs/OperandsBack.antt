@@ -16,7 +16,7 @@ use Rattle.mips_asm.specs.declared.listing.Written.TheVariants as w
 use Rattle.mips_asm.specs.Number.{number}
 use Rattle.mips_asm.specs.Text.{trim}
 use Rattle.mips_asm.specs.Operand.{adds, branch_label, jump_label, signed, unsigned, and_register, register, with_base, len_before, inside, memory, first_bit, reading}
-use Rattle.mips_asm.specs.Line.{word, with_reading, with_operands, operands, instruction}
+use Rattle.mips_asm.specs.Line.{word, with_reading, with_operands, operands, with_word}
 use Rattle.mips_asm.specs.Listing.{written, listed, signed_text}
 use Rattle.mips_asm.proofs.Tokens.{token, all_imply, all_append, front_len, digit_token, not_blank, trim_token, trim_blank}
 use Rattle.mips_asm.proofs.NumbersBack.{signed_back, unsigned_back, register_back, special_back, decimal_digits, decimal_some, decimal_no_name}
@@ -224,8 +224,8 @@ small_all (k ∷ ks) [] n reads = absurd reads
 small_all (k ∷ ks) (o ∷ os) n (a, b, small, reads, more, is) = (small, small_all ks os b more)
 
 -- an instruction with its operands
-pub instruction_back : (m : List ℕ) (v : ℕ) (ks : List Operand) (o : Written) (os : List Written) (n : ℕ) → Reads ks (o ∷ os) n → v + n < 2 ^ 32
-    → instruction (Some (m, v, ks)) (listed (codes " ") (o ∷ os)) ≡ word (v + n)
-instruction_back m v ks o os n reads fits =
+pub instruction_back : (v : ℕ) (ks : List Operand) (o : Written) (os : List Written) (n : ℕ) → Reads ks (o ∷ os) n → v + n < 2 ^ 32
+    → with_word v ks (listed (codes " ") (o ∷ os)) ≡ word (v + n)
+instruction_back v ks o os n reads fits =
     let small = small_all ks (o ∷ os) n reads in
     ap (with_operands (word v) ks) (operands_listed o os small.0 small.1) ∙ operands_back v ks (o ∷ os) n reads fits

@@ -1,10 +1,10 @@
 -- Each row of the table: an instruction that is written reads back as its word.
-use Rattle.std.proofs.Common.{◌≡◌, ◌<◌, ◌≤◌, ◌+◌, ◌*◌, ◌^◌, ◌&&◌, ℕ, Bool, true, cond, List, [], ◌∷◌, length, Some, inl, inr, refl, sym, ap, ◌∙◌, ne_eqb, lit<, subst, arith}
+use Rattle.std.proofs.Common.{◌≡◌, ◌<◌, ◌≤◌, ◌+◌, ◌*◌, ◌^◌, ◌&&◌, ℕ, Bool, true, cond, List, [], ◌∷◌, length, inl, inr, refl, sym, ap, ◌∙◌, ne_eqb, lit<, subst, arith}
 use Rattle.std.specs.Prelude.{codes}
 use Rattle.std.specs.List.{list_all}
 use Rattle.std.proofs.lemmas.Bool.{cases_eq}
 use Rattle.mips_table.specs.declared.inst.Inst.{Inst}
-use Rattle.mips_table.specs.declared.inst.Inst.TheVariants.{Sll, Srl, Sra, Sllv, Srlv, Srav, Jr, Jalr, Syscall, Add, Addu, Sub, Subu, And, Or, Xor, Nor, Slt, Sltu, Bltz, Bgez, J, Jal, Beq, Bne, Blez, Bgtz, Addi, Addiu, Slti, Sltiu, Andi, Ori, Xori, Lui, Mfc0, Mtc0, Eret, Lw, Sw}
+use Rattle.mips_table.specs.declared.inst.Inst.TheVariants.{Sll, Srl, Sra, Sllv, Srlv, Srav, Jr, Jalr, Syscall, Add, Addu, Sub, Subu, And, Or, Xor, Nor, Slt, Sltu, Bltz, Bgez, J, Jal, Beq, Bne, Blez, Bgtz, Addi, Addiu, Slti, Sltiu, Andi, Ori, Xori, Lui, Mfc0, Mtc0, Eret, Lw, Sw, Mult, Multu, Div, Divu, Mfhi, Mthi, Mflo, Mtlo}
 use Rattle.mips_table.specs.Encoding.{InRange, encoding}
 use Rattle.mips_table.specs.Rows.{mnemonic_of}
 use Rattle.mips_asm.specs.declared.form.Operand.{Operand}
@@ -16,7 +16,7 @@ use Rattle.mips_asm.specs.declared.listing.Written.TheVariants as w
 use Rattle.mips_asm.specs.Number.{in_name}
 use Rattle.mips_asm.specs.Form.{forms, form_of}
 use Rattle.mips_asm.specs.Operand.{first_bit}
-use Rattle.mips_asm.specs.Line.{word, named, instruction}
+use Rattle.mips_asm.specs.Line.{word, named, instruction, with_word}
 use Rattle.mips_asm.specs.Listing.{listed, operands}
 use Rattle.mips_asm.proofs.Tokens.{token}
 use Rattle.mips_asm.proofs.OperandsBack.{Reads, AllSmall, instruction_back, register_reads, special_reads, amount_reads, code_reads, signed_reads, unsigned_reads, branch_reads, jump_reads, memory_reads}
@@ -52,136 +52,144 @@ last_memory : (bits base : ℕ) → bits < 2 ^ 16 → base < 32 → Reads (Memor
 last_memory bits base small below = (bits + base * 2 ^ 21, 0, (small, below), memory_reads bits base small below, refl, refl)
 
 -- an instruction with a word that is another sum of the same parts
-to_word : (m : List ℕ) (v : ℕ) (ks : List Operand) (o : Written) (os : List Written) (n total : ℕ) → Reads ks (o ∷ os) n → v + n ≡ total → total < 2 ^ 32
-    → instruction (Some (m, v, ks)) (listed (codes " ") (o ∷ os)) ≡ word total
-to_word m v ks o os n total reads is fits = instruction_back m v ks o os n reads (omega arith) ∙ ap word is
+to_word : (v : ℕ) (ks : List Operand) (o : Written) (os : List Written) (n total : ℕ) → Reads ks (o ∷ os) n → v + n ≡ total → total < 2 ^ 32
+    → with_word v ks (listed (codes " ") (o ∷ os)) ≡ word total
+to_word v ks o os n total reads is fits = instruction_back v ks o os n reads (omega arith) ∙ ap word is
 
-syscall_back : (code : ℕ) → code < 2 ^ 20 → instruction (Some (codes "syscall", 12, Code ∷ [])) (listed (codes " ") (operands (Syscall code))) ≡ word (encoding (Syscall code))
+syscall_back : (code : ℕ) → code < 2 ^ 20 → with_word 12 (Code ∷ []) (listed (codes " ") (operands (Syscall code))) ≡ word (encoding (Syscall code))
 syscall_back code small =
-    elim (cases_eq code 0) as (λ _. instruction (Some (codes "syscall", 12, Code ∷ [])) (listed (codes " ") (operands (Syscall code))) ≡ word (encoding (Syscall code))) [
+    elim (cases_eq code 0) as (λ _. with_word 12 (Code ∷ []) (listed (codes " ") (operands (Syscall code))) ≡ word (encoding (Syscall code))) [
       | inl none ↦
-          ap (λ c. instruction (Some (codes "syscall", 12, Code ∷ [])) (listed (codes " ") (operands (Syscall c)))) none ∙ sym (ap (λ c. word (encoding (Syscall c))) none)
+          ap (λ c. with_word 12 (Code ∷ []) (listed (codes " ") (operands (Syscall c)))) none ∙ sym (ap (λ c. word (encoding (Syscall c))) none)
       | inr some ↦
-          ap (λ b. instruction (Some (codes "syscall", 12, Code ∷ [])) (listed (codes " ") (cond b [] (w.Number code ∷ [])))) (ne_eqb code 0 some)
-          ∙ to_word (codes "syscall") 12 (Code ∷ []) (w.Number code) [] (code * 2 ^ 6 + 0) (encoding (Syscall code)) (last_code code small) (omega arith) (omega arith)
+          ap (λ b. with_word 12 (Code ∷ []) (listed (codes " ") (cond b [] (w.Number code ∷ [])))) (ne_eqb code 0 some)
+          ∙ to_word 12 (Code ∷ []) (w.Number code) [] (code * 2 ^ 6 + 0) (encoding (Syscall code)) (last_code code small) (omega arith) (omega arith)
     ]
 
 -- the shapes of instructions
-three_registers : (m : List ℕ) (v : ℕ) (f g k : Field) (a b c total : ℕ) → (a < 32) × (b < 32) × (c < 32) → v + (a * 2 ^ first_bit f + (b * 2 ^ first_bit g + (c * 2 ^ first_bit k + 0))) ≡ total → total < 2 ^ 32
-    → instruction (Some (m, v, Register f ∷ (Register g ∷ (Register k ∷ [])))) (listed (codes " ") (w.Register a ∷ (w.Register b ∷ (w.Register c ∷ [])))) ≡ word total
-three_registers m v f g k a b c total h is fits =
-    to_word m v (Register f ∷ (Register g ∷ (Register k ∷ []))) (w.Register a) (w.Register b ∷ (w.Register c ∷ [])) (a * 2 ^ first_bit f + (b * 2 ^ first_bit g + (c * 2 ^ first_bit k + 0))) total
+three_registers : (v : ℕ) (f g k : Field) (a b c total : ℕ) → (a < 32) × (b < 32) × (c < 32) → v + (a * 2 ^ first_bit f + (b * 2 ^ first_bit g + (c * 2 ^ first_bit k + 0))) ≡ total → total < 2 ^ 32
+    → with_word v (Register f ∷ (Register g ∷ (Register k ∷ []))) (listed (codes " ") (w.Register a ∷ (w.Register b ∷ (w.Register c ∷ [])))) ≡ word total
+three_registers v f g k a b c total h is fits =
+    to_word v (Register f ∷ (Register g ∷ (Register k ∷ []))) (w.Register a) (w.Register b ∷ (w.Register c ∷ [])) (a * 2 ^ first_bit f + (b * 2 ^ first_bit g + (c * 2 ^ first_bit k + 0))) total
     (with_register f a (Register g ∷ (Register k ∷ [])) (w.Register b ∷ (w.Register c ∷ [])) (b * 2 ^ first_bit g + (c * 2 ^ first_bit k + 0)) h.0 (with_register g b (Register k ∷ []) (w.Register c ∷ []) (c * 2 ^ first_bit k + 0) h.1 (with_register k c [] [] 0 h.2 refl))) is fits
 
-two_registers : (m : List ℕ) (v : ℕ) (rd rs total : ℕ) → (rd < 32) × (rs < 32) → v + (rd * 2 ^ first_bit Rd + (rs * 2 ^ first_bit Rs + 0)) ≡ total → total < 2 ^ 32
-    → instruction (Some (m, v, Register Rd ∷ (Register Rs ∷ []))) (listed (codes " ") (w.Register rd ∷ (w.Register rs ∷ []))) ≡ word total
-two_registers m v rd rs total h is fits =
-    to_word m v (Register Rd ∷ (Register Rs ∷ [])) (w.Register rd) (w.Register rs ∷ []) (rd * 2 ^ first_bit Rd + (rs * 2 ^ first_bit Rs + 0)) total
-    (with_register Rd rd (Register Rs ∷ []) (w.Register rs ∷ []) (rs * 2 ^ first_bit Rs + 0) h.0 (with_register Rs rs [] [] 0 h.1 refl)) is fits
+two_registers : (v : ℕ) (f g : Field) (a b total : ℕ) → (a < 32) × (b < 32) → v + (a * 2 ^ first_bit f + (b * 2 ^ first_bit g + 0)) ≡ total → total < 2 ^ 32
+    → with_word v (Register f ∷ (Register g ∷ [])) (listed (codes " ") (w.Register a ∷ (w.Register b ∷ []))) ≡ word total
+two_registers v f g a b total h is fits =
+    to_word v (Register f ∷ (Register g ∷ [])) (w.Register a) (w.Register b ∷ []) (a * 2 ^ first_bit f + (b * 2 ^ first_bit g + 0)) total
+    (with_register f a (Register g ∷ []) (w.Register b ∷ []) (b * 2 ^ first_bit g + 0) h.0 (with_register g b [] [] 0 h.1 refl)) is fits
 
-one_register : (m : List ℕ) (v : ℕ) (rs total : ℕ) → rs < 32 → v + (rs * 2 ^ first_bit Rs + 0) ≡ total → total < 2 ^ 32
-    → instruction (Some (m, v, Register Rs ∷ [])) (listed (codes " ") (w.Register rs ∷ [])) ≡ word total
-one_register m v rs total h is fits =
-    to_word m v (Register Rs ∷ []) (w.Register rs) [] (rs * 2 ^ first_bit Rs + 0) total
-    (with_register Rs rs [] [] 0 h refl) is fits
+one_register : (v : ℕ) (f : Field) (a total : ℕ) → a < 32 → v + (a * 2 ^ first_bit f + 0) ≡ total → total < 2 ^ 32
+    → with_word v (Register f ∷ []) (listed (codes " ") (w.Register a ∷ [])) ≡ word total
+one_register v f a total h is fits =
+    to_word v (Register f ∷ []) (w.Register a) [] (a * 2 ^ first_bit f + 0) total
+    (with_register f a [] [] 0 h refl) is fits
 
-shift : (m : List ℕ) (v : ℕ) (rd rt sa total : ℕ) → (rd < 32) × (rt < 32) × (sa < 32) → v + (rd * 2 ^ first_bit Rd + (rt * 2 ^ first_bit Rt + (sa * 2 ^ 6 + 0))) ≡ total → total < 2 ^ 32
-    → instruction (Some (m, v, Register Rd ∷ (Register Rt ∷ (Amount ∷ [])))) (listed (codes " ") (w.Register rd ∷ (w.Register rt ∷ (w.Number sa ∷ [])))) ≡ word total
-shift m v rd rt sa total h is fits =
-    to_word m v (Register Rd ∷ (Register Rt ∷ (Amount ∷ []))) (w.Register rd) (w.Register rt ∷ (w.Number sa ∷ [])) (rd * 2 ^ first_bit Rd + (rt * 2 ^ first_bit Rt + (sa * 2 ^ 6 + 0))) total
+shift : (v : ℕ) (rd rt sa total : ℕ) → (rd < 32) × (rt < 32) × (sa < 32) → v + (rd * 2 ^ first_bit Rd + (rt * 2 ^ first_bit Rt + (sa * 2 ^ 6 + 0))) ≡ total → total < 2 ^ 32
+    → with_word v (Register Rd ∷ (Register Rt ∷ (Amount ∷ []))) (listed (codes " ") (w.Register rd ∷ (w.Register rt ∷ (w.Number sa ∷ [])))) ≡ word total
+shift v rd rt sa total h is fits =
+    to_word v (Register Rd ∷ (Register Rt ∷ (Amount ∷ []))) (w.Register rd) (w.Register rt ∷ (w.Number sa ∷ [])) (rd * 2 ^ first_bit Rd + (rt * 2 ^ first_bit Rt + (sa * 2 ^ 6 + 0))) total
     (with_register Rd rd (Register Rt ∷ (Amount ∷ [])) (w.Register rt ∷ (w.Number sa ∷ [])) (rt * 2 ^ first_bit Rt + (sa * 2 ^ 6 + 0)) h.0 (with_register Rt rt (Amount ∷ []) (w.Number sa ∷ []) (sa * 2 ^ 6 + 0) h.1 (last_amount sa h.2))) is fits
 
-branch_on_one : (m : List ℕ) (v : ℕ) (rs imm total : ℕ) → (rs < 32) × (imm < 2 ^ 16) → v + (rs * 2 ^ first_bit Rs + (imm + 0)) ≡ total → total < 2 ^ 32
-    → instruction (Some (m, v, Register Rs ∷ (Branch ∷ []))) (listed (codes " ") (w.Register rs ∷ (w.Signed imm ∷ []))) ≡ word total
-branch_on_one m v rs imm total h is fits =
-    to_word m v (Register Rs ∷ (Branch ∷ [])) (w.Register rs) (w.Signed imm ∷ []) (rs * 2 ^ first_bit Rs + (imm + 0)) total
+branch_on_one : (v : ℕ) (rs imm total : ℕ) → (rs < 32) × (imm < 2 ^ 16) → v + (rs * 2 ^ first_bit Rs + (imm + 0)) ≡ total → total < 2 ^ 32
+    → with_word v (Register Rs ∷ (Branch ∷ [])) (listed (codes " ") (w.Register rs ∷ (w.Signed imm ∷ []))) ≡ word total
+branch_on_one v rs imm total h is fits =
+    to_word v (Register Rs ∷ (Branch ∷ [])) (w.Register rs) (w.Signed imm ∷ []) (rs * 2 ^ first_bit Rs + (imm + 0)) total
     (with_register Rs rs (Branch ∷ []) (w.Signed imm ∷ []) (imm + 0) h.0 (last_branch imm h.1)) is fits
 
-branch_on_two : (m : List ℕ) (v : ℕ) (rs rt imm total : ℕ) → (rs < 32) × (rt < 32) × (imm < 2 ^ 16) → v + (rs * 2 ^ first_bit Rs + (rt * 2 ^ first_bit Rt + (imm + 0))) ≡ total → total < 2 ^ 32
-    → instruction (Some (m, v, Register Rs ∷ (Register Rt ∷ (Branch ∷ [])))) (listed (codes " ") (w.Register rs ∷ (w.Register rt ∷ (w.Signed imm ∷ [])))) ≡ word total
-branch_on_two m v rs rt imm total h is fits =
-    to_word m v (Register Rs ∷ (Register Rt ∷ (Branch ∷ []))) (w.Register rs) (w.Register rt ∷ (w.Signed imm ∷ [])) (rs * 2 ^ first_bit Rs + (rt * 2 ^ first_bit Rt + (imm + 0))) total
+branch_on_two : (v : ℕ) (rs rt imm total : ℕ) → (rs < 32) × (rt < 32) × (imm < 2 ^ 16) → v + (rs * 2 ^ first_bit Rs + (rt * 2 ^ first_bit Rt + (imm + 0))) ≡ total → total < 2 ^ 32
+    → with_word v (Register Rs ∷ (Register Rt ∷ (Branch ∷ []))) (listed (codes " ") (w.Register rs ∷ (w.Register rt ∷ (w.Signed imm ∷ [])))) ≡ word total
+branch_on_two v rs rt imm total h is fits =
+    to_word v (Register Rs ∷ (Register Rt ∷ (Branch ∷ []))) (w.Register rs) (w.Register rt ∷ (w.Signed imm ∷ [])) (rs * 2 ^ first_bit Rs + (rt * 2 ^ first_bit Rt + (imm + 0))) total
     (with_register Rs rs (Register Rt ∷ (Branch ∷ [])) (w.Register rt ∷ (w.Signed imm ∷ [])) (rt * 2 ^ first_bit Rt + (imm + 0)) h.0 (with_register Rt rt (Branch ∷ []) (w.Signed imm ∷ []) (imm + 0) h.1 (last_branch imm h.2))) is fits
 
-jump : (m : List ℕ) (v : ℕ) (index total : ℕ) → index < 2 ^ 26 → v + (index * 2 ^ 0 + 0) ≡ total → total < 2 ^ 32
-    → instruction (Some (m, v, Jump ∷ [])) (listed (codes " ") (w.Number index ∷ [])) ≡ word total
-jump m v index total h is fits =
-    to_word m v (Jump ∷ []) (w.Number index) [] (index * 2 ^ 0 + 0) total
+jump : (v : ℕ) (index total : ℕ) → index < 2 ^ 26 → v + (index * 2 ^ 0 + 0) ≡ total → total < 2 ^ 32
+    → with_word v (Jump ∷ []) (listed (codes " ") (w.Number index ∷ [])) ≡ word total
+jump v index total h is fits =
+    to_word v (Jump ∷ []) (w.Number index) [] (index * 2 ^ 0 + 0) total
     (last_jump index h) is fits
 
-signed_immediate : (m : List ℕ) (v : ℕ) (rt rs imm total : ℕ) → (rt < 32) × (rs < 32) × (imm < 2 ^ 16) → v + (rt * 2 ^ first_bit Rt + (rs * 2 ^ first_bit Rs + (imm + 0))) ≡ total → total < 2 ^ 32
-    → instruction (Some (m, v, Register Rt ∷ (Register Rs ∷ (Signed ∷ [])))) (listed (codes " ") (w.Register rt ∷ (w.Register rs ∷ (w.Signed imm ∷ [])))) ≡ word total
-signed_immediate m v rt rs imm total h is fits =
-    to_word m v (Register Rt ∷ (Register Rs ∷ (Signed ∷ []))) (w.Register rt) (w.Register rs ∷ (w.Signed imm ∷ [])) (rt * 2 ^ first_bit Rt + (rs * 2 ^ first_bit Rs + (imm + 0))) total
+signed_immediate : (v : ℕ) (rt rs imm total : ℕ) → (rt < 32) × (rs < 32) × (imm < 2 ^ 16) → v + (rt * 2 ^ first_bit Rt + (rs * 2 ^ first_bit Rs + (imm + 0))) ≡ total → total < 2 ^ 32
+    → with_word v (Register Rt ∷ (Register Rs ∷ (Signed ∷ []))) (listed (codes " ") (w.Register rt ∷ (w.Register rs ∷ (w.Signed imm ∷ [])))) ≡ word total
+signed_immediate v rt rs imm total h is fits =
+    to_word v (Register Rt ∷ (Register Rs ∷ (Signed ∷ []))) (w.Register rt) (w.Register rs ∷ (w.Signed imm ∷ [])) (rt * 2 ^ first_bit Rt + (rs * 2 ^ first_bit Rs + (imm + 0))) total
     (with_register Rt rt (Register Rs ∷ (Signed ∷ [])) (w.Register rs ∷ (w.Signed imm ∷ [])) (rs * 2 ^ first_bit Rs + (imm + 0)) h.0 (with_register Rs rs (Signed ∷ []) (w.Signed imm ∷ []) (imm + 0) h.1 (last_signed imm h.2))) is fits
 
-unsigned_immediate : (m : List ℕ) (v : ℕ) (rt rs imm total : ℕ) → (rt < 32) × (rs < 32) × (imm < 2 ^ 16) → v + (rt * 2 ^ first_bit Rt + (rs * 2 ^ first_bit Rs + (imm * 2 ^ 0 + 0))) ≡ total → total < 2 ^ 32
-    → instruction (Some (m, v, Register Rt ∷ (Register Rs ∷ (Unsigned ∷ [])))) (listed (codes " ") (w.Register rt ∷ (w.Register rs ∷ (w.Number imm ∷ [])))) ≡ word total
-unsigned_immediate m v rt rs imm total h is fits =
-    to_word m v (Register Rt ∷ (Register Rs ∷ (Unsigned ∷ []))) (w.Register rt) (w.Register rs ∷ (w.Number imm ∷ [])) (rt * 2 ^ first_bit Rt + (rs * 2 ^ first_bit Rs + (imm * 2 ^ 0 + 0))) total
+unsigned_immediate : (v : ℕ) (rt rs imm total : ℕ) → (rt < 32) × (rs < 32) × (imm < 2 ^ 16) → v + (rt * 2 ^ first_bit Rt + (rs * 2 ^ first_bit Rs + (imm * 2 ^ 0 + 0))) ≡ total → total < 2 ^ 32
+    → with_word v (Register Rt ∷ (Register Rs ∷ (Unsigned ∷ []))) (listed (codes " ") (w.Register rt ∷ (w.Register rs ∷ (w.Number imm ∷ [])))) ≡ word total
+unsigned_immediate v rt rs imm total h is fits =
+    to_word v (Register Rt ∷ (Register Rs ∷ (Unsigned ∷ []))) (w.Register rt) (w.Register rs ∷ (w.Number imm ∷ [])) (rt * 2 ^ first_bit Rt + (rs * 2 ^ first_bit Rs + (imm * 2 ^ 0 + 0))) total
     (with_register Rt rt (Register Rs ∷ (Unsigned ∷ [])) (w.Register rs ∷ (w.Number imm ∷ [])) (rs * 2 ^ first_bit Rs + (imm * 2 ^ 0 + 0)) h.0 (with_register Rs rs (Unsigned ∷ []) (w.Number imm ∷ []) (imm * 2 ^ 0 + 0) h.1 (last_unsigned imm h.2))) is fits
 
-upper_immediate : (m : List ℕ) (v : ℕ) (rt imm total : ℕ) → (rt < 32) × (imm < 2 ^ 16) → v + (rt * 2 ^ first_bit Rt + (imm * 2 ^ 0 + 0)) ≡ total → total < 2 ^ 32
-    → instruction (Some (m, v, Register Rt ∷ (Unsigned ∷ []))) (listed (codes " ") (w.Register rt ∷ (w.Number imm ∷ []))) ≡ word total
-upper_immediate m v rt imm total h is fits =
-    to_word m v (Register Rt ∷ (Unsigned ∷ [])) (w.Register rt) (w.Number imm ∷ []) (rt * 2 ^ first_bit Rt + (imm * 2 ^ 0 + 0)) total
+upper_immediate : (v : ℕ) (rt imm total : ℕ) → (rt < 32) × (imm < 2 ^ 16) → v + (rt * 2 ^ first_bit Rt + (imm * 2 ^ 0 + 0)) ≡ total → total < 2 ^ 32
+    → with_word v (Register Rt ∷ (Unsigned ∷ [])) (listed (codes " ") (w.Register rt ∷ (w.Number imm ∷ []))) ≡ word total
+upper_immediate v rt imm total h is fits =
+    to_word v (Register Rt ∷ (Unsigned ∷ [])) (w.Register rt) (w.Number imm ∷ []) (rt * 2 ^ first_bit Rt + (imm * 2 ^ 0 + 0)) total
     (with_register Rt rt (Unsigned ∷ []) (w.Number imm ∷ []) (imm * 2 ^ 0 + 0) h.0 (last_unsigned imm h.1)) is fits
 
-special_register : (m : List ℕ) (v : ℕ) (rt special total : ℕ) → (rt < 32) × (special ≤ 8) → v + (rt * 2 ^ first_bit Rt + (special * 2 ^ 11 + 0)) ≡ total → total < 2 ^ 32
-    → instruction (Some (m, v, Register Rt ∷ (Special ∷ []))) (listed (codes " ") (w.Register rt ∷ (w.Special special ∷ []))) ≡ word total
-special_register m v rt special total h is fits =
-    to_word m v (Register Rt ∷ (Special ∷ [])) (w.Register rt) (w.Special special ∷ []) (rt * 2 ^ first_bit Rt + (special * 2 ^ 11 + 0)) total
+special_register : (v : ℕ) (rt special total : ℕ) → (rt < 32) × (special ≤ 8) → v + (rt * 2 ^ first_bit Rt + (special * 2 ^ 11 + 0)) ≡ total → total < 2 ^ 32
+    → with_word v (Register Rt ∷ (Special ∷ [])) (listed (codes " ") (w.Register rt ∷ (w.Special special ∷ []))) ≡ word total
+special_register v rt special total h is fits =
+    to_word v (Register Rt ∷ (Special ∷ [])) (w.Register rt) (w.Special special ∷ []) (rt * 2 ^ first_bit Rt + (special * 2 ^ 11 + 0)) total
     (with_register Rt rt (Special ∷ []) (w.Special special ∷ []) (special * 2 ^ 11 + 0) h.0 (last_special special h.1)) is fits
 
-memory_word : (m : List ℕ) (v : ℕ) (rt rs imm total : ℕ) → (rt < 32) × (rs < 32) × (imm < 2 ^ 16) → v + (rt * 2 ^ first_bit Rt + (imm + rs * 2 ^ 21 + 0)) ≡ total → total < 2 ^ 32
-    → instruction (Some (m, v, Register Rt ∷ (Memory ∷ []))) (listed (codes " ") (w.Register rt ∷ (w.Address imm rs ∷ []))) ≡ word total
-memory_word m v rt rs imm total h is fits =
-    to_word m v (Register Rt ∷ (Memory ∷ [])) (w.Register rt) (w.Address imm rs ∷ []) (rt * 2 ^ first_bit Rt + (imm + rs * 2 ^ 21 + 0)) total
+memory_word : (v : ℕ) (rt rs imm total : ℕ) → (rt < 32) × (rs < 32) × (imm < 2 ^ 16) → v + (rt * 2 ^ first_bit Rt + (imm + rs * 2 ^ 21 + 0)) ≡ total → total < 2 ^ 32
+    → with_word v (Register Rt ∷ (Memory ∷ [])) (listed (codes " ") (w.Register rt ∷ (w.Address imm rs ∷ []))) ≡ word total
+memory_word v rt rs imm total h is fits =
+    to_word v (Register Rt ∷ (Memory ∷ [])) (w.Register rt) (w.Address imm rs ∷ []) (rt * 2 ^ first_bit Rt + (imm + rs * 2 ^ 21 + 0)) total
     (with_register Rt rt (Memory ∷ []) (w.Address imm rs ∷ []) (imm + rs * 2 ^ 21 + 0) h.0 (last_memory imm rs h.2 h.1)) is fits
 
 -- each row, by its shape
 pub row_back : (i : Inst) → InRange i → instruction (form_of (mnemonic_of i)) (listed (codes " ") (operands i)) ≡ word (encoding i)
 unfolding form_of forms
-row_back (Sll rd rt sa) h = shift (codes "sll") 0x00000000 rd rt sa (encoding (Sll rd rt sa)) h (omega arith) (omega arith)
-row_back (Srl rd rt sa) h = shift (codes "srl") 0x00000002 rd rt sa (encoding (Srl rd rt sa)) h (omega arith) (omega arith)
-row_back (Sra rd rt sa) h = shift (codes "sra") 0x00000003 rd rt sa (encoding (Sra rd rt sa)) h (omega arith) (omega arith)
-row_back (Sllv rd rt rs) h = three_registers (codes "sllv") 0x00000004 Rd Rt Rs rd rt rs (encoding (Sllv rd rt rs)) h (omega arith) (omega arith)
-row_back (Srlv rd rt rs) h = three_registers (codes "srlv") 0x00000006 Rd Rt Rs rd rt rs (encoding (Srlv rd rt rs)) h (omega arith) (omega arith)
-row_back (Srav rd rt rs) h = three_registers (codes "srav") 0x00000007 Rd Rt Rs rd rt rs (encoding (Srav rd rt rs)) h (omega arith) (omega arith)
-row_back (Jr rs) h = one_register (codes "jr") 0x00000008 rs (encoding (Jr rs)) h (omega arith) (omega arith)
-row_back (Jalr rd rs) h = two_registers (codes "jalr") 0x00000009 rd rs (encoding (Jalr rd rs)) h (omega arith) (omega arith)
+row_back (Sll rd rt sa) h = shift 0x00000000 rd rt sa (encoding (Sll rd rt sa)) h (omega arith) (omega arith)
+row_back (Srl rd rt sa) h = shift 0x00000002 rd rt sa (encoding (Srl rd rt sa)) h (omega arith) (omega arith)
+row_back (Sra rd rt sa) h = shift 0x00000003 rd rt sa (encoding (Sra rd rt sa)) h (omega arith) (omega arith)
+row_back (Sllv rd rt rs) h = three_registers 0x00000004 Rd Rt Rs rd rt rs (encoding (Sllv rd rt rs)) h (omega arith) (omega arith)
+row_back (Srlv rd rt rs) h = three_registers 0x00000006 Rd Rt Rs rd rt rs (encoding (Srlv rd rt rs)) h (omega arith) (omega arith)
+row_back (Srav rd rt rs) h = three_registers 0x00000007 Rd Rt Rs rd rt rs (encoding (Srav rd rt rs)) h (omega arith) (omega arith)
+row_back (Jr rs) h = one_register 0x00000008 Rs rs (encoding (Jr rs)) h (omega arith) (omega arith)
+row_back (Jalr rd rs) h = two_registers 0x00000009 Rd Rs rd rs (encoding (Jalr rd rs)) h (omega arith) (omega arith)
 row_back (Syscall code) h = syscall_back code h
-row_back (Add rd rs rt) h = three_registers (codes "add") 0x00000020 Rd Rs Rt rd rs rt (encoding (Add rd rs rt)) h (omega arith) (omega arith)
-row_back (Addu rd rs rt) h = three_registers (codes "addu") 0x00000021 Rd Rs Rt rd rs rt (encoding (Addu rd rs rt)) h (omega arith) (omega arith)
-row_back (Sub rd rs rt) h = three_registers (codes "sub") 0x00000022 Rd Rs Rt rd rs rt (encoding (Sub rd rs rt)) h (omega arith) (omega arith)
-row_back (Subu rd rs rt) h = three_registers (codes "subu") 0x00000023 Rd Rs Rt rd rs rt (encoding (Subu rd rs rt)) h (omega arith) (omega arith)
-row_back (And rd rs rt) h = three_registers (codes "and") 0x00000024 Rd Rs Rt rd rs rt (encoding (And rd rs rt)) h (omega arith) (omega arith)
-row_back (Or rd rs rt) h = three_registers (codes "or") 0x00000025 Rd Rs Rt rd rs rt (encoding (Or rd rs rt)) h (omega arith) (omega arith)
-row_back (Xor rd rs rt) h = three_registers (codes "xor") 0x00000026 Rd Rs Rt rd rs rt (encoding (Xor rd rs rt)) h (omega arith) (omega arith)
-row_back (Nor rd rs rt) h = three_registers (codes "nor") 0x00000027 Rd Rs Rt rd rs rt (encoding (Nor rd rs rt)) h (omega arith) (omega arith)
-row_back (Slt rd rs rt) h = three_registers (codes "slt") 0x0000002a Rd Rs Rt rd rs rt (encoding (Slt rd rs rt)) h (omega arith) (omega arith)
-row_back (Sltu rd rs rt) h = three_registers (codes "sltu") 0x0000002b Rd Rs Rt rd rs rt (encoding (Sltu rd rs rt)) h (omega arith) (omega arith)
-row_back (Bltz rs imm) h = branch_on_one (codes "bltz") 0x04000000 rs imm (encoding (Bltz rs imm)) h (omega arith) (omega arith)
-row_back (Bgez rs imm) h = branch_on_one (codes "bgez") 0x04010000 rs imm (encoding (Bgez rs imm)) h (omega arith) (omega arith)
-row_back (J index) h = jump (codes "j") 0x08000000 index (encoding (J index)) h (omega arith) (omega arith)
-row_back (Jal index) h = jump (codes "jal") 0x0c000000 index (encoding (Jal index)) h (omega arith) (omega arith)
-row_back (Beq rs rt imm) h = branch_on_two (codes "beq") 0x10000000 rs rt imm (encoding (Beq rs rt imm)) h (omega arith) (omega arith)
-row_back (Bne rs rt imm) h = branch_on_two (codes "bne") 0x14000000 rs rt imm (encoding (Bne rs rt imm)) h (omega arith) (omega arith)
-row_back (Blez rs imm) h = branch_on_one (codes "blez") 0x18000000 rs imm (encoding (Blez rs imm)) h (omega arith) (omega arith)
-row_back (Bgtz rs imm) h = branch_on_one (codes "bgtz") 0x1c000000 rs imm (encoding (Bgtz rs imm)) h (omega arith) (omega arith)
-row_back (Addi rt rs imm) h = signed_immediate (codes "addi") 0x20000000 rt rs imm (encoding (Addi rt rs imm)) h (omega arith) (omega arith)
-row_back (Addiu rt rs imm) h = signed_immediate (codes "addiu") 0x24000000 rt rs imm (encoding (Addiu rt rs imm)) h (omega arith) (omega arith)
-row_back (Slti rt rs imm) h = signed_immediate (codes "slti") 0x28000000 rt rs imm (encoding (Slti rt rs imm)) h (omega arith) (omega arith)
-row_back (Sltiu rt rs imm) h = signed_immediate (codes "sltiu") 0x2c000000 rt rs imm (encoding (Sltiu rt rs imm)) h (omega arith) (omega arith)
-row_back (Andi rt rs imm) h = unsigned_immediate (codes "andi") 0x30000000 rt rs imm (encoding (Andi rt rs imm)) h (omega arith) (omega arith)
-row_back (Ori rt rs imm) h = unsigned_immediate (codes "ori") 0x34000000 rt rs imm (encoding (Ori rt rs imm)) h (omega arith) (omega arith)
-row_back (Xori rt rs imm) h = unsigned_immediate (codes "xori") 0x38000000 rt rs imm (encoding (Xori rt rs imm)) h (omega arith) (omega arith)
-row_back (Lui rt imm) h = upper_immediate (codes "lui") 0x3c000000 rt imm (encoding (Lui rt imm)) h (omega arith) (omega arith)
-row_back (Mfc0 rt special) h = special_register (codes "mfc0") 0x40000000 rt special (encoding (Mfc0 rt special)) h (omega arith) (omega arith)
-row_back (Mtc0 rt special) h = special_register (codes "mtc0") 0x40800000 rt special (encoding (Mtc0 rt special)) h (omega arith) (omega arith)
+row_back (Add rd rs rt) h = three_registers 0x00000020 Rd Rs Rt rd rs rt (encoding (Add rd rs rt)) h (omega arith) (omega arith)
+row_back (Addu rd rs rt) h = three_registers 0x00000021 Rd Rs Rt rd rs rt (encoding (Addu rd rs rt)) h (omega arith) (omega arith)
+row_back (Sub rd rs rt) h = three_registers 0x00000022 Rd Rs Rt rd rs rt (encoding (Sub rd rs rt)) h (omega arith) (omega arith)
+row_back (Subu rd rs rt) h = three_registers 0x00000023 Rd Rs Rt rd rs rt (encoding (Subu rd rs rt)) h (omega arith) (omega arith)
+row_back (And rd rs rt) h = three_registers 0x00000024 Rd Rs Rt rd rs rt (encoding (And rd rs rt)) h (omega arith) (omega arith)
+row_back (Or rd rs rt) h = three_registers 0x00000025 Rd Rs Rt rd rs rt (encoding (Or rd rs rt)) h (omega arith) (omega arith)
+row_back (Xor rd rs rt) h = three_registers 0x00000026 Rd Rs Rt rd rs rt (encoding (Xor rd rs rt)) h (omega arith) (omega arith)
+row_back (Nor rd rs rt) h = three_registers 0x00000027 Rd Rs Rt rd rs rt (encoding (Nor rd rs rt)) h (omega arith) (omega arith)
+row_back (Slt rd rs rt) h = three_registers 0x0000002a Rd Rs Rt rd rs rt (encoding (Slt rd rs rt)) h (omega arith) (omega arith)
+row_back (Sltu rd rs rt) h = three_registers 0x0000002b Rd Rs Rt rd rs rt (encoding (Sltu rd rs rt)) h (omega arith) (omega arith)
+row_back (Bltz rs imm) h = branch_on_one 0x04000000 rs imm (encoding (Bltz rs imm)) h (omega arith) (omega arith)
+row_back (Bgez rs imm) h = branch_on_one 0x04010000 rs imm (encoding (Bgez rs imm)) h (omega arith) (omega arith)
+row_back (J index) h = jump 0x08000000 index (encoding (J index)) h (omega arith) (omega arith)
+row_back (Jal index) h = jump 0x0c000000 index (encoding (Jal index)) h (omega arith) (omega arith)
+row_back (Beq rs rt imm) h = branch_on_two 0x10000000 rs rt imm (encoding (Beq rs rt imm)) h (omega arith) (omega arith)
+row_back (Bne rs rt imm) h = branch_on_two 0x14000000 rs rt imm (encoding (Bne rs rt imm)) h (omega arith) (omega arith)
+row_back (Blez rs imm) h = branch_on_one 0x18000000 rs imm (encoding (Blez rs imm)) h (omega arith) (omega arith)
+row_back (Bgtz rs imm) h = branch_on_one 0x1c000000 rs imm (encoding (Bgtz rs imm)) h (omega arith) (omega arith)
+row_back (Addi rt rs imm) h = signed_immediate 0x20000000 rt rs imm (encoding (Addi rt rs imm)) h (omega arith) (omega arith)
+row_back (Addiu rt rs imm) h = signed_immediate 0x24000000 rt rs imm (encoding (Addiu rt rs imm)) h (omega arith) (omega arith)
+row_back (Slti rt rs imm) h = signed_immediate 0x28000000 rt rs imm (encoding (Slti rt rs imm)) h (omega arith) (omega arith)
+row_back (Sltiu rt rs imm) h = signed_immediate 0x2c000000 rt rs imm (encoding (Sltiu rt rs imm)) h (omega arith) (omega arith)
+row_back (Andi rt rs imm) h = unsigned_immediate 0x30000000 rt rs imm (encoding (Andi rt rs imm)) h (omega arith) (omega arith)
+row_back (Ori rt rs imm) h = unsigned_immediate 0x34000000 rt rs imm (encoding (Ori rt rs imm)) h (omega arith) (omega arith)
+row_back (Xori rt rs imm) h = unsigned_immediate 0x38000000 rt rs imm (encoding (Xori rt rs imm)) h (omega arith) (omega arith)
+row_back (Lui rt imm) h = upper_immediate 0x3c000000 rt imm (encoding (Lui rt imm)) h (omega arith) (omega arith)
+row_back (Mfc0 rt special) h = special_register 0x40000000 rt special (encoding (Mfc0 rt special)) h (omega arith) (omega arith)
+row_back (Mtc0 rt special) h = special_register 0x40800000 rt special (encoding (Mtc0 rt special)) h (omega arith) (omega arith)
 row_back Eret h = refl
-row_back (Lw rt rs imm) h = memory_word (codes "lw") 0x8c000000 rt rs imm (encoding (Lw rt rs imm)) h (omega arith) (omega arith)
-row_back (Sw rt rs imm) h = memory_word (codes "sw") 0xac000000 rt rs imm (encoding (Sw rt rs imm)) h (omega arith) (omega arith)
+row_back (Lw rt rs imm) h = memory_word 0x8c000000 rt rs imm (encoding (Lw rt rs imm)) h (omega arith) (omega arith)
+row_back (Sw rt rs imm) h = memory_word 0xac000000 rt rs imm (encoding (Sw rt rs imm)) h (omega arith) (omega arith)
+row_back (Mult rs rt) h = two_registers 0x00000018 Rs Rt rs rt (encoding (Mult rs rt)) h (omega arith) (omega arith)
+row_back (Multu rs rt) h = two_registers 0x00000019 Rs Rt rs rt (encoding (Multu rs rt)) h (omega arith) (omega arith)
+row_back (Div rs rt) h = two_registers 0x0000001a Rs Rt rs rt (encoding (Div rs rt)) h (omega arith) (omega arith)
+row_back (Divu rs rt) h = two_registers 0x0000001b Rs Rt rs rt (encoding (Divu rs rt)) h (omega arith) (omega arith)
+row_back (Mfhi rd) h = one_register 0x00000010 Rd rd (encoding (Mfhi rd)) h (omega arith) (omega arith)
+row_back (Mthi rs) h = one_register 0x00000011 Rs rs (encoding (Mthi rs)) h (omega arith) (omega arith)
+row_back (Mflo rd) h = one_register 0x00000012 Rd rd (encoding (Mflo rd)) h (omega arith) (omega arith)
+row_back (Mtlo rs) h = one_register 0x00000013 Rs rs (encoding (Mtlo rs)) h (omega arith) (omega arith)
 
 -- a mnemonic is no directive
 pub named_row : (i : Inst) (rest : List ℕ) → named (mnemonic_of i) rest ≡ instruction (form_of (mnemonic_of i)) rest
@@ -225,6 +233,14 @@ named_row (Mtc0 _ _) rest = refl
 named_row Eret rest = refl
 named_row (Lw _ _ _) rest = refl
 named_row (Sw _ _ _) rest = refl
+named_row (Mult _ _) rest = refl
+named_row (Multu _ _) rest = refl
+named_row (Div _ _) rest = refl
+named_row (Divu _ _) rest = refl
+named_row (Mfhi _) rest = refl
+named_row (Mthi _) rest = refl
+named_row (Mflo _) rest = refl
+named_row (Mtlo _) rest = refl
 
 -- what a mnemonic's bytes are
 abbrev pub in_mnemonic : ℕ → Bool
@@ -271,6 +287,14 @@ mnemonic_bytes (Mtc0 _ _) = refl
 mnemonic_bytes Eret = refl
 mnemonic_bytes (Lw _ _ _) = refl
 mnemonic_bytes (Sw _ _ _) = refl
+mnemonic_bytes (Mult _ _) = refl
+mnemonic_bytes (Multu _ _) = refl
+mnemonic_bytes (Div _ _) = refl
+mnemonic_bytes (Divu _ _) = refl
+mnemonic_bytes (Mfhi _) = refl
+mnemonic_bytes (Mthi _) = refl
+mnemonic_bytes (Mflo _) = refl
+mnemonic_bytes (Mtlo _) = refl
 
 pub mnemonic_some : (i : Inst) → 0 < length (mnemonic_of i)
 mnemonic_some (Sll _ _ _) = lit< tt
@@ -313,6 +337,14 @@ mnemonic_some (Mtc0 _ _) = lit< tt
 mnemonic_some Eret = lit< tt
 mnemonic_some (Lw _ _ _) = lit< tt
 mnemonic_some (Sw _ _ _) = lit< tt
+mnemonic_some (Mult _ _) = lit< tt
+mnemonic_some (Multu _ _) = lit< tt
+mnemonic_some (Div _ _) = lit< tt
+mnemonic_some (Divu _ _) = lit< tt
+mnemonic_some (Mfhi _) = lit< tt
+mnemonic_some (Mthi _) = lit< tt
+mnemonic_some (Mflo _) = lit< tt
+mnemonic_some (Mtlo _) = lit< tt
 
 pub operands_small : (i : Inst) → InRange i → AllSmall (operands i)
 operands_small (Sll rd rt sa) h = (h.0, (h.1, (omega arith, tt)))
@@ -359,3 +391,11 @@ operands_small (Mtc0 rt special) h = (h.0, (omega arith, tt))
 operands_small Eret h = tt
 operands_small (Lw rt rs imm) h = (h.0, ((h.2, h.1), tt))
 operands_small (Sw rt rs imm) h = (h.0, ((h.2, h.1), tt))
+operands_small (Mult rs rt) h = (h.0, (h.1, tt))
+operands_small (Multu rs rt) h = (h.0, (h.1, tt))
+operands_small (Div rs rt) h = (h.0, (h.1, tt))
+operands_small (Divu rs rt) h = (h.0, (h.1, tt))
+operands_small (Mfhi rd) h = (h, tt)
+operands_small (Mthi rs) h = (h, tt)
+operands_small (Mflo rd) h = (h, tt)
+operands_small (Mtlo rs) h = (h, tt)

@@ -1,12 +1,15 @@
 -- The forms of the instructions: mnemonic, word and operands.
-use Rattle.std.specs.Prelude.{ℕ, List, [], ◌∷◌, Option, find, bytes_eq, codes}
+use Rattle.std.specs.Prelude.{ℕ, List, [], ◌∷◌, Option, find, bytes_eq}
+use Rattle.mips_table.specs.declared.inst.Inst.{Inst}
+use Rattle.mips_table.specs.declared.inst.Inst.TheVariants.{Sll, Srl, Sra, Sllv, Srlv, Srav, Jr, Jalr, Syscall, Add, Addu, Sub, Subu, And, Or, Xor, Nor, Slt, Sltu, Bltz, Bgez, J, Jal, Beq, Bne, Blez, Bgtz, Addi, Addiu, Slti, Sltiu, Andi, Ori, Xori, Lui, Mfc0, Mtc0, Eret, Lw, Sw, Mult, Multu, Div, Divu, Mfhi, Mthi, Mflo, Mtlo}
+use Rattle.mips_table.specs.Rows.{mnemonic_of}
 use Rattle.mips_asm.specs.declared.form.Operand.{Operand}
 use Rattle.mips_asm.specs.declared.form.Operand.TheVariants.{Register, Special, Amount, Code, Signed, Unsigned, Branch, Jump, Memory}
 use Rattle.mips_asm.specs.declared.form.Field.TheVariants.{Rs, Rt, Rd}
 
--- an instruction's mnemonic, its word where all operands are 0, and its operands in order
+-- an instruction where all operands are 0, which gives the mnemonic and the word, and its operands in order
 abbrev pub Form : Type 0
-Form = List ℕ × ℕ × List Operand
+Form = Inst × List Operand
 
 -- the operands rd, rt and the amount of a shift
 abbrev pub rd_rt_sa : List Operand
@@ -23,6 +26,14 @@ rs = (Register Rs) ∷ []
 -- the operands: rd and rs
 abbrev pub rd_rs : List Operand
 rd_rs = (Register Rd) ∷ ((Register Rs) ∷ [])
+
+-- the operands: rs and rt
+abbrev pub rs_rt : List Operand
+rs_rt = (Register Rs) ∷ ((Register Rt) ∷ [])
+
+-- the operands: rd alone
+abbrev pub rd : List Operand
+rd = (Register Rd) ∷ []
 
 -- the operands: a trap's code
 abbrev pub code : List Operand
@@ -68,55 +79,63 @@ no_operand = []
 abbrev pub rt_memory : List Operand
 rt_memory = (Register Rt) ∷ (Memory ∷ [])
 
--- a row of the table before others
-abbrev pub row : List ℕ → ℕ → List Operand → List Form → List Form
-row mnemonic word operands rows = (mnemonic, word, operands) ∷ rows
+-- a row of the forms before others
+abbrev pub row : Inst → List Operand → List Form → List Form
+row inst operands rows = (inst, operands) ∷ rows
 
 -- the forms of all instructions
 unfoldable pub forms : List Form
 forms =
-    row (codes "sll") 0x00000000 rd_rt_sa (
-    row (codes "srl") 0x00000002 rd_rt_sa (
-    row (codes "sra") 0x00000003 rd_rt_sa (
-    row (codes "sllv") 0x00000004 rd_rt_rs (
-    row (codes "srlv") 0x00000006 rd_rt_rs (
-    row (codes "srav") 0x00000007 rd_rt_rs (
-    row (codes "jr") 0x00000008 rs (
-    row (codes "jalr") 0x00000009 rd_rs (
-    row (codes "syscall") 0x0000000c code (
-    row (codes "add") 0x00000020 rd_rs_rt (
-    row (codes "addu") 0x00000021 rd_rs_rt (
-    row (codes "sub") 0x00000022 rd_rs_rt (
-    row (codes "subu") 0x00000023 rd_rs_rt (
-    row (codes "and") 0x00000024 rd_rs_rt (
-    row (codes "or") 0x00000025 rd_rs_rt (
-    row (codes "xor") 0x00000026 rd_rs_rt (
-    row (codes "nor") 0x00000027 rd_rs_rt (
-    row (codes "slt") 0x0000002a rd_rs_rt (
-    row (codes "sltu") 0x0000002b rd_rs_rt (
-    row (codes "bltz") 0x04000000 rs_branch (
-    row (codes "bgez") 0x04010000 rs_branch (
-    row (codes "j") 0x08000000 jump (
-    row (codes "jal") 0x0c000000 jump (
-    row (codes "beq") 0x10000000 rs_rt_branch (
-    row (codes "bne") 0x14000000 rs_rt_branch (
-    row (codes "blez") 0x18000000 rs_branch (
-    row (codes "bgtz") 0x1c000000 rs_branch (
-    row (codes "addi") 0x20000000 rt_rs_signed (
-    row (codes "addiu") 0x24000000 rt_rs_signed (
-    row (codes "slti") 0x28000000 rt_rs_signed (
-    row (codes "sltiu") 0x2c000000 rt_rs_signed (
-    row (codes "andi") 0x30000000 rt_rs_unsigned (
-    row (codes "ori") 0x34000000 rt_rs_unsigned (
-    row (codes "xori") 0x38000000 rt_rs_unsigned (
-    row (codes "lui") 0x3c000000 rt_unsigned (
-    row (codes "mfc0") 0x40000000 rt_special (
-    row (codes "mtc0") 0x40800000 rt_special (
-    row (codes "eret") 0x42000018 no_operand (
-    row (codes "lw") 0x8c000000 rt_memory (
-    row (codes "sw") 0xac000000 rt_memory (
-    []))))))))))))))))))))))))))))))))))))))))
+    row (Sll 0 0 0) rd_rt_sa (
+    row (Srl 0 0 0) rd_rt_sa (
+    row (Sra 0 0 0) rd_rt_sa (
+    row (Sllv 0 0 0) rd_rt_rs (
+    row (Srlv 0 0 0) rd_rt_rs (
+    row (Srav 0 0 0) rd_rt_rs (
+    row (Jr 0) rs (
+    row (Jalr 0 0) rd_rs (
+    row (Syscall 0) code (
+    row (Add 0 0 0) rd_rs_rt (
+    row (Addu 0 0 0) rd_rs_rt (
+    row (Sub 0 0 0) rd_rs_rt (
+    row (Subu 0 0 0) rd_rs_rt (
+    row (And 0 0 0) rd_rs_rt (
+    row (Or 0 0 0) rd_rs_rt (
+    row (Xor 0 0 0) rd_rs_rt (
+    row (Nor 0 0 0) rd_rs_rt (
+    row (Slt 0 0 0) rd_rs_rt (
+    row (Sltu 0 0 0) rd_rs_rt (
+    row (Bltz 0 0) rs_branch (
+    row (Bgez 0 0) rs_branch (
+    row (J 0) jump (
+    row (Jal 0) jump (
+    row (Beq 0 0 0) rs_rt_branch (
+    row (Bne 0 0 0) rs_rt_branch (
+    row (Blez 0 0) rs_branch (
+    row (Bgtz 0 0) rs_branch (
+    row (Addi 0 0 0) rt_rs_signed (
+    row (Addiu 0 0 0) rt_rs_signed (
+    row (Slti 0 0 0) rt_rs_signed (
+    row (Sltiu 0 0 0) rt_rs_signed (
+    row (Andi 0 0 0) rt_rs_unsigned (
+    row (Ori 0 0 0) rt_rs_unsigned (
+    row (Xori 0 0 0) rt_rs_unsigned (
+    row (Lui 0 0) rt_unsigned (
+    row (Mfc0 0 0) rt_special (
+    row (Mtc0 0 0) rt_special (
+    row Eret no_operand (
+    row (Lw 0 0 0) rt_memory (
+    row (Sw 0 0 0) rt_memory (
+    row (Mult 0 0) rs_rt (
+    row (Multu 0 0) rs_rt (
+    row (Div 0 0) rs_rt (
+    row (Divu 0 0) rs_rt (
+    row (Mfhi 0) rd (
+    row (Mthi 0) rs (
+    row (Mflo 0) rd (
+    row (Mtlo 0) rs (
+    []))))))))))))))))))))))))))))))))))))))))))))))))
 
 -- the form with this mnemonic
 unfoldable pub form_of : List ℕ → Option Form
-form_of name = find (λ f. bytes_eq f.0 name) forms
+form_of name = find (λ f. bytes_eq (mnemonic_of f.0) name) forms

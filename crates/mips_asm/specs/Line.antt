@@ -5,6 +5,7 @@ use Rattle.std.proofs.Common.{of_z}
 use Rattle.std.specs.Int.Signed.{le_z}
 use Rattle.std.specs.Char.{is_ascii_whitespace}
 use Rattle.std.specs.List.{list_all, slice_split, prefix_len}
+use Rattle.mips_table.specs.Encoding.{encoding}
 use Rattle.mips_asm.specs.declared.form.Operand.{Operand}
 use Rattle.mips_asm.specs.declared.form.Operand.TheVariants.{Code}
 use Rattle.mips_asm.specs.Number.{number, in_name}
@@ -70,10 +71,14 @@ zero_directive (Some (negsuc n)) = out_of_range (negsuc n) 0
 abbrev pub mnemonic_len : List ℕ → ℕ
 mnemonic_len s = if slice_index s 0 == 46 then 1 + prefix_len in_name (drop 1 s) else prefix_len in_name s
 
+-- an instruction that has this word where its operands are 0, and these operands
+abbrev pub with_word : ℕ → List Operand → List ℕ → Meaning
+with_word w ks rest = with_operands (word w) ks (operands rest)
+
 -- an instruction of a form
 abbrev pub instruction : Option Form → List ℕ → Meaning
 instruction None rest = unknown
-instruction (Some f) rest = with_operands (word f.1) f.2 (operands rest)
+instruction (Some f) rest = with_word (encoding f.0) f.1 rest
 
 -- a mnemonic or directive, and what stands after it
 abbrev pub named : List ℕ → List ℕ → Meaning

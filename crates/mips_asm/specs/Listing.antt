@@ -4,7 +4,7 @@ use Rattle.std.specs.Fmt.{signed_decimal}
 use Rattle.std.specs.Int.{w16, cast_signed}
 use Rattle.cvm_text.specs.Hex.{hex8}
 use Rattle.mips_table.specs.declared.inst.Inst.{Inst}
-use Rattle.mips_table.specs.declared.inst.Inst.TheVariants.{Sll, Srl, Sra, Sllv, Srlv, Srav, Jr, Jalr, Syscall, Add, Addu, Sub, Subu, And, Or, Xor, Nor, Slt, Sltu, Bltz, Bgez, J, Jal, Beq, Bne, Blez, Bgtz, Addi, Addiu, Slti, Sltiu, Andi, Ori, Xori, Lui, Mfc0, Mtc0, Eret, Lw, Sw}
+use Rattle.mips_table.specs.declared.inst.Inst.TheVariants.{Sll, Srl, Sra, Sllv, Srlv, Srav, Jr, Jalr, Syscall, Add, Addu, Sub, Subu, And, Or, Xor, Nor, Slt, Sltu, Bltz, Bgez, J, Jal, Beq, Bne, Blez, Bgtz, Addi, Addiu, Slti, Sltiu, Andi, Ori, Xori, Lui, Mfc0, Mtc0, Eret, Lw, Sw, Mult, Multu, Div, Divu, Mfhi, Mthi, Mflo, Mtlo}
 use Rattle.mips_table.specs.Decoding.{decoding}
 use Rattle.mips_table.specs.Rows.{mnemonic_of}
 use Rattle.mips_asm.specs.declared.listing.Written.{Written}
@@ -73,6 +73,14 @@ operands (Mtc0 rt special) = Register rt ∷ (Special special ∷ [])
 operands Eret = []
 operands (Lw rt rs imm) = Register rt ∷ (Address imm rs ∷ [])
 operands (Sw rt rs imm) = Register rt ∷ (Address imm rs ∷ [])
+operands (Mult rs rt) = Register rs ∷ (Register rt ∷ [])
+operands (Multu rs rt) = Register rs ∷ (Register rt ∷ [])
+operands (Div rs rt) = Register rs ∷ (Register rt ∷ [])
+operands (Divu rs rt) = Register rs ∷ (Register rt ∷ [])
+operands (Mfhi rd) = Register rd ∷ []
+operands (Mthi rs) = Register rs ∷ []
+operands (Mflo rd) = Register rd ∷ []
+operands (Mtlo rs) = Register rs ∷ []
 
 -- the text of a word: the instruction with its operands, or a directive
 abbrev pub line_for : ℕ → Option Inst → List ℕ

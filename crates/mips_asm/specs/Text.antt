@@ -1,8 +1,8 @@
 -- How a text falls into lines, and a line into labels and a statement.
-use Rattle.std.specs.Prelude.{ℕ, ◌-◌, ◌||◌, ◌==◌, Bool, not, List, [], ◌∷◌, length, drop, take, if◌then◌else◌}
-use Rattle.std.specs.List.{slice_split, prefix_len, suffix_len}
+use Rattle.std.specs.Prelude.{ℕ, ◌||◌, ◌==◌, Bool, not, List, [], ◌∷◌, take, if◌then◌else◌}
+use Rattle.std.specs.List.{slice_split, prefix_len}
 use Rattle.std.specs.Int.{is_in_range}
-use Rattle.std.specs.Char.{is_ascii_whitespace}
+pub use Rattle.cvm_text.specs.Blanks.{trim_start, trim_end, trim}
 use Rattle.mips_asm.specs.Number.{is_name}
 
 -- the bytes that a text may have, LF apart
@@ -12,18 +12,6 @@ is_good_byte c = is_in_range 32 126 c || c == 9 || c == 13
 -- the lines: what stands between the LFs. An LF at the end leaves an empty line behind it, which has neither words nor faults.
 abbrev pub lines_of : List ℕ → List (List ℕ)
 lines_of text = slice_split (λ c. c == 10) text
-
--- a text without the blanks before it
-abbrev pub trim_start : List ℕ → List ℕ
-trim_start s = drop (prefix_len is_ascii_whitespace s) s
-
--- a text without the blanks after it
-abbrev pub trim_end : List ℕ → List ℕ
-trim_end s = take (length s - suffix_len is_ascii_whitespace s) s
-
--- a text without the blanks around it
-abbrev pub trim : List ℕ → List ℕ
-trim s = trim_end (trim_start s)
 
 -- the bytes before the comment
 abbrev pub content : List ℕ → List ℕ

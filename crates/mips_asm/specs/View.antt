@@ -14,7 +14,7 @@ use Rattle.mips_asm.specs.Operand.{Reading, adds, out, branch_label, jump_label}
 
 -- a form
 abbrev pub form_view : CodeForm → Form
-form_view f = (f.mnemonic.now, f.word, f.operands.now)
+form_view f = (f.inst, f.operands.now)
 
 -- a text
 abbrev pub text_view : Bor (List ℕ) → List ℕ

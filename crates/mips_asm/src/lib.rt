@@ -2,9 +2,9 @@
 #![tactic(auto)]
 
 mod assembly;
-mod cut;
 mod fault;
 mod form;
+mod form_table;
 mod instruction_rows;
 mod line;
 mod listing;
@@ -15,6 +15,3 @@ mod pass;
 pub use assembly::assemble;
 pub use fault::AsmFault;
 pub use listing::disassemble;
-
-#[cfg(test)]
-mod tests;

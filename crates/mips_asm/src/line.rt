@@ -10,10 +10,12 @@ ghost use Rattle.std.specs.Char.{is_ascii_whitespace};
 ghost use Rattle.std.specs.Prelude.{option_map, is_some, not, ◌==◌};
 ghost use Rattle.mips_asm.specs.View.{view, reading_view, parts_left};
 
-use crate::cut::{cut, trim, trim_start};
-use crate::form::{Operand, form_named};
+use crate::form::Operand;
+use crate::form_table::form_named;
 use crate::number::{in_name, is_name, number};
 use crate::operand::{Reading, len_before, read_operand};
+use cvm_text::{cut, trim, trim_start};
+use mips_table::encode;
 
 #[derive(Clone, Copy)]
 pub enum Line<'a> {
@@ -194,7 +196,7 @@ fn instruction<'a>(mnemonic: &[u8], rest: &'a [u8]) -> Line<'a>
 {
     match form_named(mnemonic) {
         None => Line::Unknown,
-        Some(form) => with_operands(Line::Word(form.word), form.operands, rest),
+        Some(form) => with_operands(Line::Word(encode(&form.inst)), form.operands, rest),
     }
 }
 

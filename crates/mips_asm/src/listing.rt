@@ -92,10 +92,10 @@ fn put_operands(out: &mut Vec<u8>, operands: &[Written]) -> Result<(), AllocErro
 macro_rules! operand_arms {
     (
         $input:expr, $out:expr,
-        $($mnemonic:literal, $word:literal, $operands:ident, $inst:pat, [$($written:expr),*] $(unless $absent:expr)?;)*
+        $($inst:ident $({ $($field:ident),* })?, $operands:ident, [$($written:expr),*] $(unless $absent:expr)?;)*
     ) => {
         match $input {
-            $($inst => {
+            $(Inst::$inst $({ $($field),* })? => {
                 $(if $absent {
                     return Ok(());
                 })?

@@ -4,9 +4,9 @@ ghost use Rattle.std.specs.Prelude.{◌≡◌, ◌≤◌, ◌<◌, ◌^◌, ◌*
 ghost use Rattle.mips_asm.specs.Operand.{reading as reading_of, numbered as numbered_of, register as register_of, signed as signed_of, unsigned as unsigned_of, with_base as with_base_of, memory as memory_of, len_before as len_before_of, inside as inside_of, first_bit as first_bit_of};
 ghost use Rattle.mips_asm.specs.View.{reading_view, text_view};
 
-use crate::cut::trim;
 use crate::form::{Field, Operand};
 use crate::number::{decimal_number, is_name, number};
+use cvm_text::trim;
 
 /// What the text of an operand says.
 #[derive(Clone, Copy)]

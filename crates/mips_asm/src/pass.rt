@@ -7,9 +7,9 @@ ghost use Rattle.mips_asm.specs.Assembled.{place_of, has, labels, meaning_words}
 ghost use Rattle.mips_asm.specs.Passes.{look, Near, repeats_in, fault_at, fault_from, words_from};
 ghost use Rattle.mips_asm.specs.View.{view};
 
-use crate::cut::cut;
 use crate::fault::{AsmFault, line_fault, resolve};
 use crate::line::{Line, good_len, label_text, next_label, read_line, width};
+use cvm_text::cut;
 use indexmap::IndexMap;
 use std::alloc::{AllocError, Global};
 
