@@ -36,3 +36,4 @@ pub mod Numbered
 pub mod OpenTy
 pub mod OffsetLemmas
 pub mod TypedKernels
+pub mod TypeAtLemmas

@@ -34,3 +34,4 @@ pub mod KernelRows
 pub mod Offsets
 pub mod OpenTy
 pub mod Form
+pub mod TypeAt
