@@ -1,12 +1,14 @@
--- A type that may be declared has a word, where each struct has a field; and a variable of it starts with a value of it.
+-- A type that may be declared in a unit that is well formed has a word, since each struct has a field; and a variable of it starts with a
+-- value of it.
 use Rattle.std.proofs.Common.{◌≡◌, inl, inr, ℕ, zero, suc, ◌*◌, ◌<◌, ◌≤◌, Bool, true, false, ◌||◌, List, [], ◌∷◌, length, map, Some, refl, sym, ap, ◌∙◌, subst, arith}
-use Rattle.std.proofs.lemmas.Bool.{or_left, or_right, cond-true, cond-false, false_from_ne_true, cases_Bool}
-use Rattle.std.proofs.lemmas.List.Elements.{All-head, All-tail}
+use Rattle.std.proofs.lemmas.Bool.{and_parts, or_left, or_right, cond-true, cond-false, false_from_ne_true, cases_Bool}
+use Rattle.std.proofs.lemmas.List.Elements.{All-nil, All-cons, All-head, All-tail}
 use Rattle.std.proofs.lemmas.Slice.Eq.{bytes_eq-Decides}
 use Rattle.std.specs.Prelude.{is_some, ◌==◌, replicate}
-use Rattle.std.specs.List.{All}
+use Rattle.std.specs.List.{All, list_all}
 use Rattle.std.specs.Str.{bytes_eq}
-use Rattle.c0_tree.specs.Tree.{CTy, int, bool, pointer, named, array, CDecl, CStruct}
+use Rattle.c0_tree.specs.Plain.{has_part, is_short, is_plain_struct, is_plain}
+use Rattle.c0_tree.specs.Tree.{CTy, int, bool, pointer, named, array, CDecl, CStruct, CUnit}
 use Rattle.c0_meaning.specs.Ty.{ty_of}
 use Rattle.c0_meaning.specs.Ty as ty
 use Rattle.c0_meaning.specs.Env.{Typed, Shape, shape_of, typed_of, first_named, fields_of}
@@ -18,7 +20,33 @@ use Rattle.c0_meaning.proofs.Holding.{Among, holds_as_tested}
 use Rattle.c0_meaning.proofs.Opening.{rank, rank_below, rank_falls, fields_words}
 use Rattle.c0_meaning.specs.Value.{Value, group, empty, repeated, zero_with, zeros_with, zero_within, zero_of, zeros_of}
 use Rattle.c0_meaning.specs.TypedState.{Layout, types_of, Fits, AllFit}
-use Rattle.c0_meaning.specs.RunLaws.{HaveFields, TypesHaveWords}
+use Rattle.c0_meaning.specs.RunLaws.{TypesHaveWords}
+use Rattle.c0_meaning.proofs.Units.{units_are_faultless}
+
+-- each struct has a field
+abbrev HaveFields : List CStruct → Type 0
+HaveFields structs = All (λ s. 1 ≤ length s.fields) structs
+
+struct_has_field : (s : CStruct) → is_plain_struct s ≡ true → 1 ≤ length s.fields
+struct_has_field s h = counted s.fields (and_parts (has_part s.fields) (is_short s.fields) h).0
+  where
+    counted : (ds : List CDecl) → has_part ds ≡ true → 1 ≤ length ds
+    counted [] h = absurd (cc)
+    counted (d ∷ ds) h = omega arith
+
+-- so it is in a plain tree
+have_fields : (structs : List CStruct) → list_all is_plain_struct structs ≡ true → HaveFields structs
+have_fields [] h = All-nil (λ s. 1 ≤ length s.fields)
+have_fields (s ∷ rest) h =
+    let p = and_parts (is_plain_struct s) (list_all is_plain_struct rest) h in
+    All-cons (λ s. 1 ≤ length s.fields) s rest (struct_has_field s p.0) (have_fields rest p.1)
+
+plain_structs : (u : CUnit) → is_plain u ≡ true → list_all is_plain_struct u.structs ≡ true
+plain_structs u h =
+    let a = and_parts (is_short u.structs) _ h in
+    let b = and_parts (is_short u.globals) _ a.1 in
+    let c = and_parts (is_short u.functions) _ b.1 in
+    (and_parts (list_all is_plain_struct u.structs) _ c.1).0
 
 -- the struct of a name that is defined
 record Defined (structs : List Shape) (all : List CStruct) (fields : List Typed) (x : List ℕ) : Type 0 where
@@ -148,5 +176,7 @@ module _ (all : List CStruct) (typed : All (IsTypedStruct (map shape_of all)) al
   zeros_fit layout decls a = decls_zero layout (zero_within (length (map shape_of all)) (map shape_of all)) decls a (λ y field known. known_zero layout y known)
 
 pub types_have_words : TypesHaveWords
-types_have_words primitives u typed filled t d =
+types_have_words primitives u well t d =
+    let typed = (units_are_faultless primitives u).1 well.typed in
+    let filled = have_fields u.structs (plain_structs u well.plain) in
     type_words (shapes u) t d.full d.known (λ y made known. named_words u.structs typed.structs filled (suc (rank (shapes u) y)) y (omega arith) known)

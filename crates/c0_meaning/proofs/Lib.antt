@@ -37,3 +37,4 @@ pub mod OpenTy
 pub mod OffsetLemmas
 pub mod TypedKernels
 pub mod TypeAtLemmas
+pub mod CallChains

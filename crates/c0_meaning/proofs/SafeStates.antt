@@ -10,7 +10,7 @@ use Rattle.c0_tree.specs.declared.tree.Kind.TheVariants.{Function, Primitive}
 use Rattle.c0_tree.specs.declared.primitive.Scalar.{Scalar}
 use Rattle.c0_tree.specs.declared.primitive.Scalar.TheVariants as scalar
 use Rattle.c0_tree.specs.Primitives.{CPrimitive}
-use Rattle.c0_tree.specs.Plain.{is_short, is_plain_expr, is_plain_stmt, are_plain_stmts, is_plain_body}
+use Rattle.c0_tree.specs.Plain.{is_short, is_plain_expr, is_plain_stmt, are_plain_stmts, is_plain_body, is_plain_struct}
 use Rattle.c0_tree.specs.Tree.{CName, CTy, CExpr, CStmt, CStmts, done, next, CBody, code, asm, CDecl, CFunction, CUnit}
 use Rattle.c0_tree.specs.Tree as tree
 use Rattle.c0_meaning.specs.Ty.{Ty, ty_of}
@@ -175,7 +175,7 @@ pub right_function : (primitives : List CPrimitive) (u : CUnit) (number : ℕ) (
 right_function primitives u number f well e =
     let t = (units_are_faultless primitives u).1 well.typed in
     let s = settled_at primitives u 0 u.functions number f (ap (λ v. v.functions) well.resolved) e in
-    let p4 : list_all (λ f. is_short f.params && is_plain_body f.body) u.functions ≡ true = fifth (is_short u.structs) (is_short u.globals) (is_short u.functions) (list_all (λ s. is_short s.fields) u.structs) _ well.plain in
+    let p4 : list_all (λ f. is_short f.params && is_plain_body f.body) u.functions ≡ true = fifth (is_short u.structs) (is_short u.globals) (is_short u.functions) (list_all is_plain_struct u.structs) _ well.plain in
     record {
       typed = at_number (IsTypedFunction primitives u) u.functions number f t.functions e;
       first = length f.params;

@@ -3,7 +3,7 @@
 use Rattle.std.proofs.Common.{◌≡◌, ℕ, suc, Bool, true, false, ltb, cond, List, [], ◌∷◌, ◌++◌, length, map, Option, Some, None, refl, sym, ap, ◌∙◌}
 use Rattle.std.specs.List.{list_all}
 use Rattle.c0_tree.specs.declared.tree.Span.{Span}
-use Rattle.c0_tree.specs.Plain.{is_short}
+use Rattle.c0_tree.specs.Plain.{has_part, is_plain_struct}
 use Rattle.c0_tree.specs.declared.tree.Kind.{Kind}
 use Rattle.c0_tree.specs.declared.tree.Kind.TheVariants.{Unresolved, Struct, Field}
 use Rattle.c0_tree.specs.Tree.{CName, CTy, int, bool, pointer, named, array, CDecl, CStruct}
@@ -181,7 +181,11 @@ pub structs_again : (given : List Shape) (k : ℕ) (structs : List CStruct)
 structs_again given k [] = refl
 structs_again given k (s ∷ rest) = cc (decls_again given Field 0 s.fields, structs_again given (suc k) rest)
 
-pub short_structs_kept : (given : List Shape) (k : ℕ) (structs : List CStruct)
-    → list_all (λ s. is_short s.fields) (resolved_structs given k structs) ≡ list_all (λ s. is_short s.fields) structs
-short_structs_kept given k [] = refl
-short_structs_kept given k (s ∷ rest) = cc (decls_length given Field 0 s.fields, short_structs_kept given (suc k) rest)
+has_part_kept : (structs : List Shape) (kind : Kind) (k : ℕ) (decls : List CDecl) → has_part (resolved_decls structs kind k decls) ≡ has_part decls
+has_part_kept structs kind k [] = refl
+has_part_kept structs kind k (d ∷ rest) = refl
+
+pub plain_structs_kept : (given : List Shape) (k : ℕ) (structs : List CStruct)
+    → list_all is_plain_struct (resolved_structs given k structs) ≡ list_all is_plain_struct structs
+plain_structs_kept given k [] = refl
+plain_structs_kept given k (s ∷ rest) = cc (has_part_kept given Field 0 s.fields, decls_length given Field 0 s.fields, plain_structs_kept given (suc k) rest)

@@ -22,7 +22,7 @@ use Rattle.c0_meaning.specs.Statement.{stmts_resolved}
 use Rattle.c0_meaning.specs.Asm.{are_allowed_words}
 use Rattle.c0_meaning.specs.Unit.{signature_faults, faults_in, body_faults, functions_faults, unit_faults, resolved_body, resolved_function, resolved_functions, resolved_unit, AreWordsAllowed}
 use Rattle.c0_meaning.specs.Stable.{ResolvingIsStable}
-use Rattle.c0_meaning.proofs.StableTypes.{bare, type_again, ty_kept, type_faults_kept, pass_kept, typed_kept, tys_kept, decls_length, declared_kept, passes_kept, decls_again, twice_alike, decl_names_bare, ordered_bare, shapes_kept, structs_length, struct_names_kept, structs_kept, structs_again, short_structs_kept}
+use Rattle.c0_meaning.proofs.StableTypes.{bare, type_again, ty_kept, type_faults_kept, pass_kept, typed_kept, tys_kept, decls_length, declared_kept, passes_kept, decls_again, twice_alike, decl_names_bare, ordered_bare, shapes_kept, structs_length, struct_names_kept, structs_kept, structs_again, plain_structs_kept}
 use Rattle.c0_meaning.proofs.StableExpressions.{IsKept, kept}
 use Rattle.c0_meaning.proofs.StableStatements.{tested_kept, IsSettled, AreStmtsKept, stmts_kept}
 
@@ -238,7 +238,7 @@ unit_plain : (primitives : List CPrimitive) (u : CUnit) → is_plain (resolved_u
 unit_plain primitives u =
     let structs : List Shape = map shape_of u.structs in
     let fs : AreFunctionsKept primitives u (resolved_unit primitives u) 0 u.functions (resolved_unit primitives u).functions = unit_functions_kept primitives u in
-    cc (structs_length structs 0 u.structs, decls_length structs Global 0 u.globals, short_structs_kept structs 0 u.structs)
+    cc (structs_length structs 0 u.structs, decls_length structs Global 0 u.globals, plain_structs_kept structs 0 u.structs)
 
 no_dispatch_kept : (found other : Bool) (span : Span) → other ≡ found
     → fault_if (not other) NO_DISPATCH span ≡ fault_if (not found) NO_DISPATCH span

@@ -7,7 +7,7 @@ use Rattle.std.proofs.lemmas.Slice.Eq.{bytes_eq-Decides}
 use Rattle.std.specs.Str.{bytes_eq}
 use Rattle.std.specs.List.{All, list_all}
 use Rattle.std.specs.Prelude.{◌^◌}
-use Rattle.c0_tree.specs.Plain.{is_short}
+use Rattle.c0_tree.specs.Plain.{has_part, is_short, is_plain_struct}
 use Rattle.c0_tree.specs.declared.tree.Span.{Span}
 use Rattle.c0_tree.specs.declared.tree.Kind.{Kind}
 use Rattle.c0_tree.specs.declared.tree.Kind.TheVariants.{Struct, Field, Global, Local}
@@ -210,14 +210,15 @@ well_formed_few primitives u w =
     let p1 = and_parts (is_short u.structs) _ w.plain in
     let p2 = and_parts (is_short u.globals) _ p1.1 in
     let p3 = and_parts (is_short u.functions) _ p2.1 in
-    let p4 = and_parts (list_all (λ (s : CStruct). is_short s.fields) u.structs) _ p3.1 in
+    let p4 = and_parts (list_all is_plain_struct u.structs) _ p3.1 in
     each u.structs p4.0
   where
-    each : (ss : List CStruct) → list_all (λ (s : CStruct). is_short s.fields) ss ≡ true → All (λ (s : CStruct). length s.fields < 2 ^ 32) ss
+    each : (ss : List CStruct) → list_all is_plain_struct ss ≡ true → All (λ (s : CStruct). length s.fields < 2 ^ 32) ss
     each [] h = All-nil (λ (s : CStruct). length s.fields < 2 ^ 32)
     each (s ∷ rest) h =
-        let q = and_parts (is_short s.fields) (list_all (λ (s : CStruct). is_short s.fields) rest) h in
-        All-cons (λ (s : CStruct). length s.fields < 2 ^ 32) s rest (ltb-true (length s.fields) (2 ^ 32) q.0) (each rest q.1)
+        let q = and_parts (is_plain_struct s) (list_all is_plain_struct rest) h in
+        let r = and_parts (has_part s.fields) (is_short s.fields) q.0 in
+        All-cons (λ (s : CStruct). length s.fields < 2 ^ 32) s rest (ltb-true (length s.fields) (2 ^ 32) r.1) (each rest q.1)
 
 pub units_are_sized : UnitsAreSized
 units_are_sized primitives u w = record { structs = well_formed_sized primitives u w; globals = well_formed_globals primitives u w; functions = well_formed_functions primitives u w }

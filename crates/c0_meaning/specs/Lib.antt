@@ -25,6 +25,8 @@ pub mod Evaluation
 pub mod AsmBody
 pub mod World
 pub mod Running
+pub mod PrimitiveCalls
+pub mod CallChain
 pub mod Execution
 pub mod UserProgram
 pub mod TypedState

@@ -1,10 +1,10 @@
 -- Laws of the meaning.
 use Rattle.std.specs.Prelude.{◌≡◌, ◌↔◌, ℕ, suc, ◌+◌, ◌≤◌, ℤ, List, ◌++◌, true, Some, slice_get, position, IsTrue, length, slice_index, Bool, map, FitsSigned}
-use Rattle.c0_tree.specs.Tree.{CTy, CStruct, CFunction, CUnit}
+use Rattle.c0_tree.specs.Tree.{CTy, CFunction, CUnit}
 use Rattle.c0_tree.specs.Primitives.{CPrimitive, kernel_primitives}
-use Rattle.std.specs.List.{All, list_any, list_all}
+use Rattle.std.specs.List.{list_any, list_all}
 use Rattle.c0_meaning.specs.Sound.{shapes}
-use Rattle.c0_meaning.specs.Typed.{IsDeclarable, IsTypedUnit}
+use Rattle.c0_meaning.specs.Typed.{IsDeclarable}
 use Rattle.c0_meaning.specs.Limits.{is_dispatch}
 use Rattle.c0_meaning.specs.Unit.{IsChecked, IsWellFormed}
 use Rattle.c0_meaning.specs.Ty.{Ty, ty_of}
@@ -16,7 +16,9 @@ use Rattle.c0_meaning.specs.AsmBody.{run_words}
 use Rattle.c0_meaning.specs.World.{Setting, Cost, units, total, Configuration}
 use Rattle.c0_meaning.specs.Running.{Work}
 use Rattle.c0_meaning.specs.Execution.{Outcome, Done, Failed, NotYet, run, run_within, call_first, dispatch}
-use Rattle.c0_meaning.specs.State.{State, first_state}
+use Rattle.c0_meaning.specs.State.{State, first_state, stack_words}
+use Rattle.c0_meaning.specs.PrimitiveCalls.{PrimitiveCall, AreMadeBy}
+use Rattle.c0_meaning.specs.CallChain.{AreChained, running}
 use Rattle.c0_meaning.specs.TypedState.{types_of, AllFit, layout_of, IsTypedWith, IsTypedState, AnswersFit, IsSafe}
 use Rattle.std.specs.Int.{w32}
 use Rattle.c0_meaning.specs.UserProgram.{Ending, done, failed, not_yet, user_primitives, is_main, prog}
@@ -57,6 +59,20 @@ StepsAreEnough W E = (p : Setting W E) (work : List Work) (c : Configuration W E
 abbrev pub CallsExtend : (W E : Type 0) → Type 0
 CallsExtend W E = (p : Setting W E) (work : List Work) (c : Configuration W E) (m n : ℕ) → m ≤ n → (more : List (List E)) × ((stands_at (run_within p n work c)).calls ≡ (stands_at (run_within p m work c)).calls ++ more)
 
+-- A law: the primitives that a run has called account for all that happened to the world. No step but a primitive's call changes the
+-- world's value, makes an entry, or takes a unit or a page that is a primitive's.
+abbrev pub PrimitivesAlone : (W E : Type 0) → Type 0
+PrimitivesAlone W E = (p : Setting W E) (work : List Work) (c : Configuration W E) (n : ℕ) →
+    (made : List PrimitiveCall) × AreMadeBy p.meaning made c (cost_of (run_within p n work c)) (stands_at (run_within p n work c))
+
+-- a law: from its first call on, the functions that run are a chain of calls
+abbrev pub FunctionsAreChained : (W E : Type 0) → Type 0
+FunctionsAreChained W E = (p : Setting W E) (n first : ℕ) (args : Values) (s : State) (world : W) → AreChained p.unit first (running (stands_at (call_first p n first args s world)).state.frames)
+
+-- a law: and the words of their frames are never more than the stack has
+abbrev pub FramesFit : (W E : Type 0) → Type 0
+FramesFit W E = (p : Setting W E) (n first : ℕ) (args : Values) (s : State) (world : W) → stack_words p.unit (stands_at (call_first p n first args s world)).state.frames ≤ p.stack
+
 -- a law: a run that is over somewhere is over within n units exactly where its cost is at most n
 abbrev pub EndsAtItsCost : (W E : Type 0) → Type 0
 EndsAtItsCost W E = (p : Setting W E) (work : List Work) (c : Configuration W E) (m n : ℕ) → IsOver (run_within p m work c) → IsOver (run_within p n work c) ↔ (total (cost_of (run_within p m work c)) ≤ n)
@@ -96,14 +112,9 @@ HasEnded not_yet = ⊥
 abbrev pub ProgramsEnd : Type 0
 ProgramsEnd = (u : CUnit) (answers : List ℤ) (m n : ℕ) → m ≤ n → HasEnded (prog u answers m).ending → prog u answers n ≡ prog u answers m
 
--- Each struct has a field. The grammar has no struct without one, but a tree may have, and its objects take no word: then two objects
--- stand at one address, though pointers to them differ.
-abbrev pub HaveFields : List CStruct → Type 0
-HaveFields structs = All (λ s. 1 ≤ length s.fields) structs
-
--- a law: where each struct has a field, a type that may be declared has a word
+-- a law: in a unit that is well formed a type that may be declared has a word, so that its objects stand at addresses of their own
 abbrev pub TypesHaveWords : Type 0
-TypesHaveWords = (primitives : List CPrimitive) (u : CUnit) → IsTypedUnit primitives u → HaveFields u.structs → (t : CTy) → IsDeclarable (shapes u) t → 1 ≤ words (shapes u) (ty_of t)
+TypesHaveWords = (primitives : List CPrimitive) (u : CUnit) → IsWellFormed primitives u → (t : CTy) → IsDeclarable (shapes u) t → 1 ≤ words (shapes u) (ty_of t)
 
 -- a law: a checked kernel has a `dispatch`
 abbrev pub HasDispatch : Type 0

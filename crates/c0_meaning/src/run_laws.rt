@@ -1,6 +1,6 @@
 // The laws of the meaning: each function says one, and does nothing.
 
-ghost use Rattle.c0_meaning.specs.RunLaws.{CallsAreSafe, CallsExtend, DispatchesAreSafe, EndsAtItsCost, FirstIsTyped, HasDispatch, LookAtTheirs, MoreUnits, ProgramsAreSafe, ProgramsEnd, StaysWithin, StepsAreEnough, TypesHaveWords, ZeroHasWords};
+ghost use Rattle.c0_meaning.specs.RunLaws.{CallsAreSafe, CallsExtend, DispatchesAreSafe, EndsAtItsCost, FirstIsTyped, FramesFit, FunctionsAreChained, HasDispatch, LookAtTheirs, MoreUnits, PrimitivesAlone, ProgramsAreSafe, ProgramsEnd, StaysWithin, StepsAreEnough, TypesHaveWords, ZeroHasWords};
 ghost use Rattle.c0_meaning.specs.KernelRows.{AreChecked, ArePartsRight, AreProgramsRight, AreRunsRight, IsOrderRight, SevensFit};
 
 use crate::world::World;
@@ -10,7 +10,7 @@ pub fn zeros_have_the_words_of_their_types()
     ensures { ZeroHasWords }
 {}
 
-/// Where each struct has a field, a type that may be declared has a word.
+/// A type that may be declared has a word.
 pub fn declared_types_have_words()
     ensures { TypesHaveWords }
 {}
@@ -43,6 +43,17 @@ pub fn runs_end_at_their_cost<W: World>()
 /// Within more units the calls of primitives that ended before stay as they are.
 pub fn more_units_extend_the_calls<W: World>()
     ensures { CallsExtend W.Standing W.Entry }
+{}
+
+/// No step but a primitive's call changes the world, makes an entry, or takes units or pages that are a primitive's.
+pub fn primitives_alone_change_the_world<W: World>()
+    ensures { PrimitivesAlone W.Standing W.Entry }
+{}
+
+/// The functions that run are a chain of calls, and their frames fit the stack.
+pub fn functions_run_in_a_chain_of_calls<W: World>()
+    ensures chained { FunctionsAreChained W.Standing W.Entry }
+    ensures fit { FramesFit W.Standing W.Entry }
 {}
 
 /// More units change no user program that has ended.

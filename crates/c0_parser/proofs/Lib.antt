@@ -15,4 +15,5 @@ pub mod Parts
 pub mod Sources
 pub mod PlainTexts
 pub mod Plain
+pub mod StructFields
 pub mod PlainSources

@@ -9,7 +9,7 @@ use Rattle.c0_tokens.specs.Order.{NumberFits}
 use Rattle.c0_tree.specs.declared.tree.Span.{Span}
 use Rattle.c0_tree.specs.Tree.{CExpr, CName, CStmt, CDecl, CStruct, CFunction}
 use Rattle.c0_tree.specs.View.{stmts_of}
-use Rattle.c0_tree.specs.Plain.{is_plain_expr, is_short, stmts_length, is_plain_stmt, are_plain_stmts, is_plain_body, is_plain}
+use Rattle.c0_tree.specs.Plain.{is_plain_expr, has_part, is_short, is_plain_struct, stmts_length, is_plain_stmt, are_plain_stmts, is_plain_body, is_plain}
 use Rattle.c0_parser.specs.Value.{Value, token, pair, none, snoc, expr, type, decl, stmt, block, body, a_struct, a_global, a_function, text_of, literal, primary_value, part_of, suffixed, suffixes, postfix_value, prefixed, unary_value, joined, chained, chain_value, base_value, type_suffixed, type_suffixes, type_value, decl_of, decl_value, decls_in, decls, decls_from, exprs_in, exprs, args_of, stmts_in, stmts, block_value, stored, chosen, statement_value, code_value, body_value, params_of, defined, struct_of, item_value, struct_in, global_in, function_in, structs, globals, functions, unit_of}
 use Rattle.c0_parser.proofs.PlainTexts.{TextFits}
 
@@ -23,8 +23,8 @@ parts (snoc l x) = parts l + 1
 parts _ = 0
 
 -- a struct's fields are few; so are a function's parameters, and its body is plain
-abbrev is_plain_struct : CStruct → Bool
-is_plain_struct s = is_short s.fields
+abbrev has_few_fields : CStruct → Bool
+has_few_fields s = is_short s.fields
 
 abbrev is_plain_function : CFunction → Bool
 is_plain_function f = is_short f.params && is_plain_body f.body
@@ -38,7 +38,7 @@ Plain (expr s e) = is_plain_expr e ≡ true
 Plain (stmt s) = is_plain_stmt s ≡ true
 Plain (block s b) = (nat_lt (stmts_length b) (2 ^ 32) ≡ true) × (are_plain_stmts b ≡ true)
 Plain (body b) = is_plain_body b ≡ true
-Plain (a_struct s) = is_plain_struct s ≡ true
+Plain (a_struct s) = has_few_fields s ≡ true
 Plain (a_function f) = is_plain_function f ≡ true
 Plain _ = Unit {0}
 
@@ -56,7 +56,7 @@ nothing test n = (omega arith, refl)
 only : {A : Type 0} (test : A → Bool) (x : A) → test x ≡ true → Passes test 1 (x ∷ [])
 only test x h = (omega arith, and_from (test x) true h refl)
 
-all_append : {A : Type 0} (test : A → Bool) (xs ys : List A) → list_all test xs ≡ true → list_all test ys ≡ true → list_all test (xs ++ ys) ≡ true
+pub all_append : {A : Type 0} (test : A → Bool) (xs ys : List A) → list_all test xs ≡ true → list_all test ys ≡ true → list_all test (xs ++ ys) ≡ true
 all_append test [] ys h k = k
 all_append test (x ∷ xs) ys h k =
     let p = and_parts (test x) (list_all test xs) h in
@@ -275,13 +275,13 @@ item_plain (pair (token t) (pair (token x) v)) h = struct_plain x v h.1.1
 item_plain (pair (decl d) v) h = defined_plain d v h.1
 item_plain _ h = tt
 
-struct_passes : (v : Value) → Plain v → Passes is_plain_struct 1 (struct_in v)
-struct_passes (a_struct s) h = only is_plain_struct s h
-struct_passes _ h = nothing is_plain_struct 1
+struct_passes : (v : Value) → Plain v → Passes has_few_fields 1 (struct_in v)
+struct_passes (a_struct s) h = only has_few_fields s h
+struct_passes _ h = nothing has_few_fields 1
 
-structs_pass : (v : Value) → Plain v → Passes is_plain_struct (parts v) (structs v)
-structs_pass (snoc l x) h = passes_append is_plain_struct (parts l) 1 (structs l) (struct_in (item_value x)) (structs_pass l h.1) (struct_passes (item_value x) (item_plain x h.2))
-structs_pass _ h = nothing is_plain_struct 0
+structs_pass : (v : Value) → Plain v → Passes has_few_fields (parts v) (structs v)
+structs_pass (snoc l x) h = passes_append has_few_fields (parts l) 1 (structs l) (struct_in (item_value x)) (structs_pass l h.1) (struct_passes (item_value x) (item_plain x h.2))
+structs_pass _ h = nothing has_few_fields 0
 
 global_passes : (v : Value) → Passes any 1 (global_in v)
 global_passes (a_global d) = only any d refl
@@ -299,12 +299,20 @@ functions_pass : (v : Value) → Plain v → Passes is_plain_function (parts v) 
 functions_pass (snoc l x) h = passes_append is_plain_function (parts l) 1 (functions l) (function_in (item_value x)) (functions_pass l h.1) (function_passes (item_value x) (item_plain x h.2))
 functions_pass _ h = nothing is_plain_function 0
 
--- the tree of plain items is plain
-pub unit_plain : (bytes : ℕ) (v : Value) → Plain v → is_plain (unit_of bytes v) ≡ true
-unit_plain bytes v h =
-    let s = few is_plain_struct v (structs v) h (structs_pass v h) in
+-- structs that have a field each, and few
+plain_structs : (ss : List CStruct) → list_all (λ s. has_part s.fields) ss ≡ true → list_all has_few_fields ss ≡ true → list_all is_plain_struct ss ≡ true
+plain_structs [] g h = refl
+plain_structs (s ∷ ss) g h =
+    let p = and_parts (has_part s.fields) (list_all (λ s. has_part s.fields) ss) g in
+    let q = and_parts (has_few_fields s) (list_all has_few_fields ss) h in
+    and_from (is_plain_struct s) (list_all is_plain_struct ss) (and_from (has_part s.fields) (has_few_fields s) p.0 q.0) (plain_structs ss p.1 q.1)
+
+-- the tree of plain items is plain, where each struct has a field
+pub unit_plain : (bytes : ℕ) (v : Value) → Plain v → list_all (λ s. has_part s.fields) (structs v) ≡ true → is_plain (unit_of bytes v) ≡ true
+unit_plain bytes v h filled =
+    let s = few has_few_fields v (structs v) h (structs_pass v h) in
     let g = few any v (globals v) h (globals_pass v h) in
     let f = few is_plain_function v (functions v) h (functions_pass v h) in
     and_from (is_short (structs v)) _ (short (structs v) (omega arith))
     (and_from (is_short (globals v)) _ (short (globals v) (omega arith))
-    (and_from (is_short (functions v)) _ (short (functions v) (omega arith)) (and_from (list_all is_plain_struct (structs v)) (list_all is_plain_function (functions v)) s.1 f.1)))
+    (and_from (is_short (functions v)) _ (short (functions v) (omega arith)) (and_from (list_all is_plain_struct (structs v)) (list_all is_plain_function (functions v)) (plain_structs (structs v) filled s.1) f.1)))

@@ -2,16 +2,18 @@
 use Rattle.std.proofs.Common.{◌≡◌, ℕ, ◌+◌, ◌<◌, ◌≤◌, Bool, true, false, List, [], ◌∷◌, ◌++◌, length, refl, subst, arith, length-append}
 use Rattle.std.specs.Prelude.{not, ◌&&◌}
 use Rattle.std.proofs.lemmas.Bool.{and_parts}
+use Rattle.std.specs.List.{list_all}
 use Rattle.c0_tokens.specs.Tokens.{CToken}
 use Rattle.c0_tokens.specs.Nesting.{tokens_of}
 use Rattle.c0_tokens.specs.Order.{NumbersFit}
 use Rattle.c0_tree.specs.Tree.{CUnit}
-use Rattle.c0_tree.specs.Plain.{is_plain}
-use Rattle.c0_parser.specs.Value.{Value}
-use Rattle.c0_parser.specs.Grammar.{Rule, disjunction, conjunction, equality, relation, sum, product, unary, postfix, primary, type, decl, block, statement, code, body, Piece, one_of, ◌▸◌, ◌or◌, many, maybe, the, production, meaning, Derives, taken, both, first, second, no_more, one_more, left_out, there, made}
+use Rattle.c0_tree.specs.Plain.{has_part, is_plain}
+use Rattle.c0_parser.specs.Value.{Value, pair, structs}
+use Rattle.c0_parser.specs.Grammar.{Rule, disjunction, conjunction, equality, relation, sum, product, unary, postfix, primary, type, decl, block, statement, code, body, Piece, one_of, ◌▸◌, ◌or◌, many, maybe, the, production, meaning, Derives, taken, both, first, second, no_more, one_more, left_out, there, made, UNIT}
 use Rattle.c0_parser.specs.Machine.{nullable}
 use Rattle.c0_parser.specs.Faults.{Reads}
 use Rattle.c0_parser.proofs.Complete.{Begins, begins}
+use Rattle.c0_parser.proofs.StructFields.{structs_have_fields}
 use Rattle.c0_parser.proofs.PlainTexts.{TextsFit, texts_fit}
 use Rattle.c0_parser.proofs.Plain.{IsSmall, parts, Plain, primary_plain, postfix_plain, unary_plain, chain_plain, type_plain, decl_plain, block_plain, statement_plain, code_plain, body_plain, unit_plain}
 
@@ -115,4 +117,7 @@ pub reads_plain : (source : List ℕ) (u : CUnit) → length source ≤ 1048576 
 reads_plain source u le count numbers r =
     let small = are_small (length source) (tokens_of source) le numbers (texts_fit source) in
     let v = derives_plain r.2 refl small (omega arith) in
-    subst (λ w. is_plain w ≡ true) r.3 (unit_plain (length source) r.0 v.0)
+    subst (λ w. is_plain w ≡ true) r.3 (unit_plain (length source) r.0 v.0 (fields_of r.2))
+  where
+    fields_of : {xs : List CToken} {items stop : Value} → Derives UNIT xs (pair items stop) → list_all (λ s. has_part s.fields) (structs items) ≡ true
+    fields_of (both d e) = structs_have_fields d

@@ -1,8 +1,8 @@
--- The trees that are spoken of: no number in an expression is larger than a source can have, and no list has 2^32 parts or more. What a
--- source reads as is so.
-use Rattle.std.specs.Prelude.{ℕ, suc, ◌^◌, ◌&&◌, nat_lt, nat_le, Bool, true, List, length}
+-- The trees that are spoken of: no number in an expression is larger than a source can have, no list has 2^32 parts or more, and each
+-- struct has a field. What a source reads as is so.
+use Rattle.std.specs.Prelude.{ℕ, suc, ◌^◌, ◌&&◌, nat_lt, nat_le, Bool, true, false, List, [], ◌∷◌, length}
 use Rattle.std.specs.List.{list_all}
-use Rattle.c0_tree.specs.Tree.{CExpr, num, true_, false_, null, var, field, arrow, index, deref, address, unary, binary, CStmt, assign, call, new, choice, loop, CStmts, done, next, CBody, code, asm, CUnit}
+use Rattle.c0_tree.specs.Tree.{CExpr, num, true_, false_, null, var, field, arrow, index, deref, address, unary, binary, CStmt, assign, call, new, choice, loop, CStmts, done, next, CStruct, CBody, code, asm, CUnit}
 
 -- whether the numbers in an expression are at most 2147483647
 abbrev pub is_plain_expr : CExpr → Bool
@@ -46,8 +46,17 @@ abbrev pub is_plain_body : CBody → Bool
 is_plain_body (code locals stmts answer) = is_short locals && (nat_lt (stmts_length stmts) (2 ^ 32) && (are_plain_stmts stmts && is_plain_expr answer))
 is_plain_body (asm text span words) = is_short text && is_short words
 
+-- whether a list has a part
+abbrev pub has_part : {A : Type 0} → List A → Bool
+has_part [] = false
+has_part (x ∷ xs) = true
+
+-- whether a struct is so: it has a field, and not too many
+abbrev pub is_plain_struct : CStruct → Bool
+is_plain_struct s = has_part s.fields && is_short s.fields
+
 -- whether a unit is so
 abbrev pub is_plain : CUnit → Bool
 is_plain u =
     is_short u.structs && (is_short u.globals && (is_short u.functions
-    && (list_all (λ s. is_short s.fields) u.structs && list_all (λ f. is_short f.params && is_plain_body f.body) u.functions)))
+    && (list_all is_plain_struct u.structs && list_all (λ f. is_short f.params && is_plain_body f.body) u.functions)))

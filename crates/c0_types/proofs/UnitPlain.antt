@@ -6,7 +6,7 @@ use Rattle.std.specs.Prelude.{IsTrue}
 use Rattle.std.proofs.lemmas.Bool.Decides.{nat_tests}
 use Rattle.std.proofs.lemmas.List.Elements.{All-nil, All-cons}
 use Rattle.c0_tree.specs.declared.tree.Span.{Span}
-use Rattle.c0_tree.specs.Plain.{is_short, is_plain_body, is_plain}
+use Rattle.c0_tree.specs.Plain.{is_short, is_plain_struct, is_plain_body, is_plain}
 use Rattle.c0_tree.specs.Primitives.{CPrimitive, kernel_primitives}
 use Rattle.c0_tree.specs.Tree.{CBody, code, asm, CFunction, CUnit}
 use Rattle.c0_asm_text.specs.AsmText.{text_words}
@@ -86,12 +86,12 @@ read_plain u h k =
     let a = both (is_short u.structs) _ h in
     let b = both (is_short u.globals) _ a.1 in
     let c = both (is_short u.functions) _ b.1 in
-    let d = both (list_all (λ s. is_short s.fields) u.structs) (list_all PlainFunction u.functions) c.1 in
+    let d = both (list_all is_plain_struct u.structs) (list_all PlainFunction u.functions) c.1 in
     let faultless = functions_fault_free kernel_primitives (read_unit u) (split (unit_faults kernel_primitives (read_unit u)) (dispatch_faults (read_unit u)) k).0 in
     pair (is_short u.structs) _ a.0
     (pair (is_short u.globals) _ b.0
     (pair (is_short (map read_function u.functions)) _ (same_length u.functions ∙ c.0)
-    (pair (list_all (λ s. is_short s.fields) u.structs) _ d.0 (functions_plain kernel_primitives (read_unit u) u.functions d.1 faultless))))
+    (pair (list_all is_plain_struct u.structs) _ d.0 (functions_plain kernel_primitives (read_unit u) u.functions d.1 faultless))))
   where
     count : (fs : List CFunction) → length (map read_function fs) ≡ length fs
     count [] = refl
