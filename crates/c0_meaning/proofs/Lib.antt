@@ -38,3 +38,4 @@ pub mod OpenTy
 pub mod OffsetLemmas
 pub mod PartsApart
 pub mod TypedKernels
+pub mod TypeAtLemmas

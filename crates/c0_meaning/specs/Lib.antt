@@ -37,3 +37,4 @@ pub mod Offsets
 pub mod Addresses
 pub mod OpenTy
 pub mod Form
+pub mod TypeAt
