@@ -5,6 +5,3 @@ pub mod line;
 pub mod text;
 
 pub use text::{AsmReading, read_asm};
-
-#[cfg(test)]
-mod tests;

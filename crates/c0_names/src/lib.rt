@@ -5,6 +5,4 @@
 pub mod fault;
 pub mod names;
 pub mod spaces;
-#[cfg(test)]
-mod tests;
 pub mod types;

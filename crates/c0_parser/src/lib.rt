@@ -12,12 +12,3 @@ mod types;
 
 pub use fault::ReadFault;
 pub use source::parse;
-
-#[cfg(test)]
-mod source_tests;
-#[cfg(test)]
-mod tests;
-#[cfg(test)]
-mod tree_spans;
-#[cfg(test)]
-mod tree_text;

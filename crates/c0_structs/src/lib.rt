@@ -3,8 +3,6 @@
 
 mod fields;
 pub mod sizes;
-#[cfg(test)]
-mod tests;
 mod unit;
 mod walk;
 

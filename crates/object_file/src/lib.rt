@@ -20,6 +20,3 @@ pub use fault::ObjectFault;
 pub use object::{MOST_SOURCE, MOST_WORDS, Object};
 pub use reading::{bytes_have_one_answer, read};
 pub use writing::write;
-
-#[cfg(test)]
-mod tests;

@@ -1,0 +1,99 @@
+// Reads the bytes of files of cases as object files, and prints the source and the words of each, and whether writing it gives the same
+// bytes again; or the refusal of docs/REFUSALS.md. `case_file` says how a case is written; the kind of each is `object`.
+#![tactic(auto)]
+
+use case_file::{Case, cases};
+use object_file::{MOST_SOURCE, MOST_WORDS, Object, ObjectFault, read, write};
+use std::alloc::{AllocError, Global};
+use std::fmt::Write;
+use std::{env, fs, io};
+
+// Bytes: those of printed ASCII as they are, and `\xHH` for each other one.
+fn put_bytes(out: &mut String, bytes: &[u8]) -> Result<(), AllocError> {
+    for byte in bytes {
+        if *byte >= b' ' && *byte <= b'~' && *byte != b'\\' {
+            out.push(char::from(*byte))?;
+        } else {
+            write!(out, "\\x{byte:02x}")?;
+        }
+    }
+    Ok(())
+}
+
+// The source and the words of an object: their numbers, and the first of them.
+fn put_object(out: &mut String, object: &Object) -> Result<(), AllocError> {
+    write!(out, "source, {} bytes: ", object.source.len())?;
+    for part in object.source.chunks(32).take(1) {
+        put_bytes(out, part)?;
+    }
+    write!(out, "\nwords, {}:", object.words.len())?;
+    for word in object.words.iter().take(8) {
+        write!(out, " {word:08x}")?;
+    }
+    out.push('\n')
+}
+
+// Whether an object is written as these bytes.
+fn put_written(
+    alloc: Global,
+    out: &mut String,
+    object: &Object,
+    bytes: &[u8],
+) -> Result<(), AllocError> {
+    if object.source.len() > MOST_SOURCE as usize || object.words.len() > MOST_WORDS as usize {
+        return out.push_str("too long to be written\n");
+    }
+    let written = write(alloc, object)?;
+    let is_same = written.as_slice() == bytes;
+    out.push_str(if is_same {
+        "written as it was\n"
+    } else {
+        "written otherwise\n"
+    })
+}
+
+// Why bytes are no object.
+fn put_fault(out: &mut String, fault: ObjectFault) -> Result<(), AllocError> {
+    match fault {
+        ObjectFault::Magic => writeln!(out, "40"),
+        ObjectFault::Truncated { at } => writeln!(out, "41 at {at}"),
+        ObjectFault::Trailing { at } => writeln!(out, "42 at {at}"),
+        ObjectFault::Field { at, value } => writeln!(out, "43 at {at}, value {value}"),
+        ObjectFault::Memory => writeln!(out, "44"),
+    }
+}
+
+// What is printed of bytes that are read as an object.
+fn put_answer(alloc: Global, out: &mut String, bytes: &[u8]) -> Result<(), AllocError> {
+    match read(alloc, bytes) {
+        Ok(object) => {
+            put_object(out, &object)?;
+            put_written(alloc, out, &object, bytes)
+        }
+        Err(fault) => put_fault(out, fault),
+    }
+}
+
+// A case, and what is answered.
+fn put_case(alloc: Global, out: &mut String, case: &Case) -> Result<(), AllocError> {
+    let kind = case.kind.as_str();
+    let name = case.name.as_str();
+    writeln!(out, "== {kind} {name}")?;
+    match kind {
+        "object" => put_answer(alloc, out, &case.source),
+        _ => out.push_str("no such kind\n"),
+    }
+}
+
+// The words are the names of files, whose cases are tried.
+fn main(rt: HostRuntime) -> io::Result<()> {
+    let alloc = rt.alloc();
+    let mut out = String::new(alloc);
+    for file in env::args(&rt)?.skip(1) {
+        let text = fs::read_to_string(&rt, file.as_str())?;
+        for case in &cases(alloc, text.as_str())? {
+            put_case(alloc, &mut out, case)?;
+        }
+    }
+    rt.print(out)
+}
