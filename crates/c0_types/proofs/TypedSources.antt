@@ -31,11 +31,12 @@ none_bad number (line ∷ rest) h =
 
 bad_none : (number : ℕ) (lines : List (List ℕ)) → first_bad number lines ≡ None → All (λ line. IsTrue (is_some (line_words line))) lines
 bad_none number [] h = All-nil (λ (line : List ℕ). IsTrue (is_some (line_words line)))
-bad_none number (line ∷ rest) h = by_test (is_some (line_words line)) refl h
+bad_none number (line ∷ rest) h = by_test (is_some (line_words line)) refl h (λ k. bad_none (number + 1) rest k)
   where
-    by_test : (b : Bool) → is_some (line_words line) ≡ b → cond b (first_bad (number + 1) rest) (Some number) ≡ None → All (λ line. IsTrue (is_some (line_words line))) (line ∷ rest)
-    by_test true e k = All-cons (λ (line : List ℕ). IsTrue (is_some (line_words line))) line rest e (bad_none (number + 1) rest k)
-    by_test false e k = absurd (cc)
+    by_test : (b : Bool) → is_some (line_words line) ≡ b → cond b (first_bad (number + 1) rest) (Some number) ≡ None
+        → (first_bad (number + 1) rest ≡ None → All (λ line. IsTrue (is_some (line_words line))) rest) → All (λ line. IsTrue (is_some (line_words line))) (line ∷ rest)
+    by_test true e k on = All-cons (λ (line : List ℕ). IsTrue (is_some (line_words line))) line rest e (on k)
+    by_test false e k on = absurd (cc)
 
 no_line : (o : Option ℕ) (span : Span) → line_fault o span ≡ [] → o ≡ None
 no_line None span h = refl
