@@ -2,7 +2,7 @@
 
 ghost use Rattle.c0_meaning.specs.RunLaws.{CallsAreSafe, CallsExtend, DispatchesAreSafe, EndsAtItsCost, FirstIsTyped, FramesFit, FunctionsAreChained, HasDispatch, LookAtTheirs, MoreUnits, PrimitivesAlone, ProgramsAreSafe, ProgramsEnd, StaysWithin, StepsAreEnough, TypesHaveWords, ZeroHasWords};
 ghost use Rattle.c0_meaning.specs.Addresses.{PartsAreApart};
-ghost use Rattle.c0_meaning.specs.KernelRows.{AreChecked, ArePartsRight, AreProgramsRight, AreRunsRight, IsOrderRight, SevensFit};
+ghost use Rattle.c0_meaning.specs.KernelRows.{AreChecked, ArePartsRight, AreProgramsRight, AreRunsRight, AreSystemsRight, IsOrderRight, SevensFit};
 
 use crate::world::World;
 
@@ -93,6 +93,7 @@ pub fn kernel_rows()
     ensures runs { AreRunsRight }
     ensures order { IsOrderRight }
     ensures parts { ArePartsRight }
+    ensures systems { AreSystemsRight }
     ensures programs { AreProgramsRight }
     ensures checked { AreChecked }
     ensures fit { SevensFit }
