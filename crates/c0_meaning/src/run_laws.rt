@@ -1,6 +1,6 @@
 // The laws of the meaning: each function says one, and does nothing.
 
-ghost use Rattle.c0_meaning.specs.RunLaws.{CallsAreSafe, CallsExtend, DispatchesAreSafe, EndsAtItsCost, FirstIsTyped, FramesFit, FunctionsAreChained, HasDispatch, LookAtTheirs, MoreUnits, PrimitivesAlone, ProgramsAreSafe, ProgramsEnd, StaysWithin, StepsAreEnough, TypesHaveWords, ZeroHasWords};
+ghost use Rattle.c0_meaning.specs.RunLaws.{CallsAnswer, CallsAreSafe, CallsExtend, DispatchesAnswer, DispatchesAreSafe, EndsAtItsCost, FirstIsTyped, FramesFit, FunctionsAreChained, HasDispatch, LookAtTheirs, MoreUnits, PrimitivesAlone, ProgramsAreSafe, ProgramsEnd, StaysWithin, StepsAreEnough, TypesHaveWords, ZeroHasWords};
 ghost use Rattle.c0_meaning.specs.Addresses.{PartsAreApart};
 ghost use Rattle.c0_meaning.specs.KernelRows.{AreChecked, ArePartsRight, AreProgramsRight, AreRunsRight, AreSystemsRight, IsOrderRight, SevensFit};
 
@@ -81,6 +81,12 @@ pub fn first_states_are_typed()
 pub fn calls_are_safe<W: World>()
     ensures calls { CallsAreSafe W.Standing W.Entry }
     ensures dispatches { DispatchesAreSafe W.Standing W.Entry }
+{}
+
+/// A call that is done has answered a value of its function's type, and a dispatch an int.
+pub fn calls_answer_their_types<W: World>()
+    ensures calls { CallsAnswer W.Standing W.Entry }
+    ensures dispatches { DispatchesAnswer W.Standing W.Entry }
 {}
 
 /// A user program that is well formed is never stuck.
