@@ -1,4 +1,4 @@
--- Laws of the meaning.
+-- Laws of values, states and runs.
 use Rattle.std.specs.Prelude.{◌≡◌, ◌↔◌, ℕ, suc, ◌+◌, ◌≤◌, ℤ, List, ◌++◌, true, Some, slice_get, position, IsTrue, length, slice_index, Bool, map, FitsSigned}
 use Rattle.c0_tree.specs.Tree.{CTy, CFunction, CUnit}
 use Rattle.c0_tree.specs.Primitives.{CPrimitive, kernel_primitives}

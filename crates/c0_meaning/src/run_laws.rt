@@ -1,4 +1,4 @@
-// The laws of the meaning: each function says one, and does nothing.
+// The laws of values, states and runs: each function says one, and does nothing.
 
 ghost use Rattle.c0_meaning.specs.RunLaws.{CallsAnswer, CallsAreSafe, CallsExtend, DispatchesAnswer, DispatchesAreSafe, EndsAtItsCost, FirstIsTyped, FramesFit, FunctionsAreChained, HasDispatch, LookAtTheirs, MoreUnits, PrimitivesAlone, ProgramsAreSafe, ProgramsEnd, StaysWithin, StepsAreEnough, TypesHaveWords, ZeroHasWords};
 ghost use Rattle.c0_meaning.specs.Addresses.{PartsAreApart};
