@@ -5,18 +5,9 @@ use Rattle.c0_meaning.specs.Ty.{Ty, int, bool, pointer, named, array, same_ty}
 use Rattle.c0_meaning.specs.Env.{Env}
 use Rattle.c0_meaning.specs.Fault.{Fault, kept_all}
 use Rattle.c0_meaning.specs.Expression.{Verdict, given, own, type_of, faults, resolved, asked, asked_faults}
-use Rattle.c0_body.specs.Scope.{ty_view}
-use Rattle.c0_body.specs.declared.form.Form.{Form}
-use Rattle.c0_body.specs.declared.form.Form.TheVariants as form
-
--- a type by its outermost part
-abbrev pub form_view : Form → Option Ty
-form_view form.Nothing = None
-form_view form.Int = Some int
-form_view form.Bool = Some bool
-form_view (form.Pointer t) = Some (pointer (ty_view t.now))
-form_view (form.Struct x) = Some (named x.now)
-form_view (form.Array t n) = Some (array (ty_view t.now) n)
+use Rattle.c0_meaning.specs.Form.{ty_view}
+use Rattle.c0_meaning.specs.declared.form.Form.{Form}
+use Rattle.c0_meaning.specs.declared.form.Form.TheVariants as form
 
 -- a type, and the least fault met before and after, are as a rule says
 abbrev pub Settles : Option Ty → Option Fault → Option Fault → Verdict → Type 0
@@ -30,9 +21,3 @@ Checks env e type old new after = (type ≡ type_of env e) × (new ≡ kept_all 
 abbrev pub ChecksAsked : Env → Option Ty → CExpr → Option Ty → Option Fault → Option Fault → CExpr → Type 0
 ChecksAsked env want e type old new after =
     (type ≡ asked want e (type_of env e)) × (new ≡ kept_all old (asked_faults want e (faults env e))) × (after ≡ resolved env e)
-
--- whether two types that are there are the same
-abbrev pub same_types : Option Ty → Option Ty → Bool
-same_types None other = false
-same_types (Some t) None = false
-same_types (Some t) (Some u) = same_ty t u

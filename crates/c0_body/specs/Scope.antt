@@ -17,16 +17,11 @@ use Rattle.c0_tree.specs.declared.tree.Kind.TheVariants as kind
 use Rattle.c0_body.specs.declared.scope.Variable.{Variable}
 use Rattle.c0_body.specs.declared.scope.Callee.{Callee}
 use Rattle.c0_body.specs.declared.scope.Callee.TheVariants.{Primitive as CallsPrimitive, Function as CallsFunction}
+use Rattle.c0_meaning.specs.Form.{ty_view}
 use Rattle.c0_meaning.specs.Words.{words}
 use Rattle.c0_names.specs.Names.{look, number_named}
 use Rattle.c0_names.specs.Structs.{WORDS_CAP}
 use Rattle.c0_body.specs.declared.scope.Scope.{Scope}
-use Rattle.c0_body.specs.declared.scope.Found.{Found}
-use Rattle.c0_body.specs.declared.scope.Found.TheVariants.{Nothing, Int, Bool as Boolean, To, Of}
-
--- a type as declared
-abbrev pub ty_view : CType → Ty
-ty_view t = ty_of (type_view t)
 
 -- a variable or field
 abbrev pub typed_view : Decl → Typed
@@ -53,22 +48,6 @@ env_view scope = record {
   primitives = map primitive_signature_view scope.primitives.now;
   locals = map typed_view scope.params.now ++ map typed_view scope.locals.now;
 }
-
--- a type that was found
-abbrev pub found_view : Found → Option Ty
-found_view Nothing = None
-found_view Int = Some int
-found_view Boolean = Some bool
-found_view (To t) = Some (pointer (ty_view t.now))
-found_view (Of t) = Some (ty_view t.now)
-
--- whether it is a type as declared, if any
-abbrev pub is_declared : Found → Bool
-is_declared Nothing = true
-is_declared Int = false
-is_declared Boolean = false
-is_declared (To t) = false
-is_declared (Of t) = true
 
 -- an element of a list that was found, with its number
 abbrev pub found_in : {T A : Type 0} → (T → A) → Option (ℕ × Bor T) → Option (ℕ × A)

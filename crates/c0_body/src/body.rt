@@ -5,11 +5,13 @@ ghost use Rattle.c0_meaning.specs.Expression.{resolved};
 ghost use Rattle.c0_meaning.specs.Fault.{kept_all};
 ghost use Rattle.c0_tree.specs.View.{expr_view, stmts_view};
 ghost use Rattle.c0_names.specs.Met.{met_view};
-ghost use Rattle.c0_body.specs.Scope.{Knows, env_view, ty_view};
+ghost use Rattle.c0_meaning.specs.Form.{ty_view};
+ghost use Rattle.c0_body.specs.Scope.{Knows, env_view};
 ghost use Rattle.c0_body.specs.Stmts.{code_faults, resolved_of_stmts};
 
 use crate::parts::check_tested;
-use crate::scope::{Found, Scope};
+use crate::scope::{Scope};
+use c0_meaning::form::Found;
 use crate::stmts::check_stmts;
 use c0_names::fault::Fault;
 use c0_tree::{CType, Expr, Stmt};

@@ -5,14 +5,14 @@ ghost use Rattle.c0_meaning.specs.Env.{scalar_ty};
 ghost use Rattle.c0_meaning.specs.Fault.{kept_all};
 ghost use Rattle.c0_meaning.specs.Statement as spec;
 ghost use Rattle.c0_tree.specs.View.{expr_view, name_view};
-ghost use Rattle.c0_body.specs.Check.{form_view};
+ghost use Rattle.c0_meaning.specs.Form.{form_view, found_view};
 ghost use Rattle.c0_names.specs.Met.{met_view};
-ghost use Rattle.c0_body.specs.Scope.{Knows, callee_view, env_view, found_view, signature_view};
+ghost use Rattle.c0_body.specs.Scope.{Knows, callee_view, env_view, signature_view};
 ghost use Rattle.c0_body.specs.Stmts.{ChecksArgs};
 
-use crate::form::Form;
+use c0_meaning::form::{Found, Form};
 use crate::parts::{check_given, meet_other};
-use crate::scope::{Callee, Found, Scope};
+use crate::scope::{Callee, Scope};
 use c0_names::fault::{Fault, Mistake, meet_at, meet_if};
 use c0_tree::{Expr, Function, Kind, Name, Scalar, Span};
 

@@ -4,9 +4,6 @@
 pub mod body;
 pub mod calls;
 pub mod check;
-pub mod form;
-pub mod need;
-pub mod nodes;
 pub mod parts;
 pub mod rules;
 pub mod scope;

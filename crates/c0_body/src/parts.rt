@@ -5,17 +5,18 @@ ghost use Rattle.c0_meaning.specs.Expression as expression;
 ghost use Rattle.c0_meaning.specs.Fault.{kept_all};
 ghost use Rattle.c0_meaning.specs.Statement as spec;
 ghost use Rattle.c0_tree.specs.View.{expr_view};
-ghost use Rattle.c0_body.specs.Check.{Settles, form_view};
+ghost use Rattle.c0_meaning.specs.Form.{form_view, found_view};
+ghost use Rattle.c0_body.specs.Check.{Settles};
 ghost use Rattle.c0_names.specs.Met.{met_view};
-ghost use Rattle.c0_body.specs.Scope.{Knows, env_view, found_view};
+ghost use Rattle.c0_body.specs.Scope.{Knows, env_view};
 ghost use Rattle.c0_body.specs.Stmts.{ChecksGiven, ChecksLeft, ChecksTested};
 
 use crate::check::{check, check_asked};
-use crate::form::{Form, same_form};
-use crate::need::is_deep;
+use c0_meaning::form::{Found, Form, same_form};
+use c0_meaning::need::is_deep;
 use crate::rules::{is_nothing, is_scalar_form, wrong};
-use crate::scope::{Found, Scope};
-use crate::shape::{is_place, span_of};
+use crate::scope::{Scope};
+use c0_meaning::shape::{is_place, span_of};
 use c0_names::fault::{Fault, Mistake, meet_at, meet_if};
 use c0_tree::{Expr, Span};
 

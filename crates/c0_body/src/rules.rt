@@ -6,12 +6,13 @@ ghost use Rattle.c0_meaning.specs.Expression as spec;
 ghost use Rattle.c0_meaning.specs.Fault.{fault};
 ghost use Rattle.c0_meaning.specs.Ty.{bool, int, is_scalar};
 ghost use Rattle.c0_tree.specs.View.{name_view};
-ghost use Rattle.c0_body.specs.Check.{Settles, form_view};
+ghost use Rattle.c0_meaning.specs.Form.{form_view, found_view, is_declared};
+ghost use Rattle.c0_body.specs.Check.{Settles};
 ghost use Rattle.c0_names.specs.Met.{met_view, number_of};
-ghost use Rattle.c0_body.specs.Scope.{Knows, env_view, found_in, found_view, is_declared, typed_view};
+ghost use Rattle.c0_body.specs.Scope.{Knows, env_view, found_in, typed_view};
 
-use crate::form::{Form, form_of, same_form};
-use crate::scope::{Found, Scope, find_field, find_variable};
+use c0_meaning::form::{Found, Form, form_of, same_form};
+use crate::scope::{Scope, find_field, find_variable};
 use c0_names::fault::{Fault, Mistake, meet_at};
 use c0_tree::{BinaryOp, Decl, Kind, Name, Span, UnaryOp};
 

@@ -39,21 +39,6 @@ pub struct Scope<'a> {
     pub local_names: &'a Names,
 }
 
-/// The type of an expression, if it has one.
-#[derive(Clone, Copy)]
-pub enum Found<'a> {
-    /// A part is faulty.
-    Nothing,
-    /// An int.
-    Int,
-    /// A bool.
-    Bool,
-    /// A pointer to a value of the type.
-    To(&'a CType),
-    /// A value of the type, as it is declared.
-    Of(&'a CType),
-}
-
 /// A variable: what it is, its number, and its type.
 #[derive(Clone, Copy)]
 pub struct Variable<'a> {

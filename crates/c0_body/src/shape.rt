@@ -1,4 +1,4 @@
-// What can be said of an expression by its outermost part.
+// Whether a place is local.
 
 ghost use Rattle.std.specs.Prelude.{◌≡◌};
 ghost use Rattle.c0_meaning.specs.Env.{variable_named};
@@ -7,78 +7,7 @@ ghost use Rattle.c0_tree.specs.View.{expr_view};
 ghost use Rattle.c0_body.specs.Scope.{Knows, env_view};
 
 use crate::scope::{Scope, find_variable};
-use c0_tree::{BinaryOp, Expr, Kind, Span};
-
-/// Where an expression stands.
-pub fn span_of(expr: &Expr) -> Span
-    ensures { result ≡ spec.span_of (expr_view expr.now) }
-{
-    match expr {
-        Expr::Num(span, _) => *span,
-        Expr::True(span) => *span,
-        Expr::False(span) => *span,
-        Expr::Null(span) => *span,
-        Expr::Var(name) => name.span,
-        Expr::Field(span, _, _) => *span,
-        Expr::Arrow(span, _, _) => *span,
-        Expr::Index(span, _, _) => *span,
-        Expr::Deref(span, _) => *span,
-        Expr::AddressOf(span, _) => *span,
-        Expr::Unary(span, _, _) => *span,
-        Expr::Binary(span, _, _, _) => *span,
-    }
-}
-
-/// Whether it is a variable, `place.f`, `place[i]`, `*e` or `e->f`.
-pub fn is_place(expr: &Expr) -> bool
-    ensures { result ≡ spec.is_place (expr_view expr.now) }
-{
-    match expr {
-        Expr::Num(_, _) => false,
-        Expr::True(_) => false,
-        Expr::False(_) => false,
-        Expr::Null(_) => false,
-        Expr::Var(_) => true,
-        Expr::Field(_, _, _) => true,
-        Expr::Arrow(_, _, _) => true,
-        Expr::Index(_, _, _) => true,
-        Expr::Deref(_, _) => true,
-        Expr::AddressOf(_, _) => false,
-        Expr::Unary(_, _, _) => false,
-        Expr::Binary(_, _, _, _) => false,
-    }
-}
-
-/// Whether it is `null`.
-pub fn is_null(expr: &Expr) -> bool
-    ensures { result ≡ spec.is_null (expr_view expr.now) }
-{
-    match expr {
-        Expr::Num(_, _) => false,
-        Expr::True(_) => false,
-        Expr::False(_) => false,
-        Expr::Null(_) => true,
-        Expr::Var(_) => false,
-        Expr::Field(_, _, _) => false,
-        Expr::Arrow(_, _, _) => false,
-        Expr::Index(_, _, _) => false,
-        Expr::Deref(_, _) => false,
-        Expr::AddressOf(_, _) => false,
-        Expr::Unary(_, _, _) => false,
-        Expr::Binary(_, _, _, _) => false,
-    }
-}
-
-/// Whether an operator compares for equality.
-pub fn compares(op: BinaryOp) -> bool
-    ensures { result ≡ spec.compares op }
-{
-    match op {
-        BinaryOp::Eq => true,
-        BinaryOp::Ne => true,
-        _ => false,
-    }
-}
+use c0_tree::{Expr, Kind};
 
 // Whether the variable of a name is a parameter or a local.
 fn is_local_name(scope: &Scope<'_>, text: &[u8]) -> bool

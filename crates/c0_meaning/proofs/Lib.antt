@@ -37,3 +37,5 @@ pub mod Numbered
 pub mod OpenTy
 pub mod OffsetLemmas
 pub mod PartsApart
+pub mod TypedKernels
+pub mod TypeAtLemmas

@@ -30,7 +30,7 @@ use Rattle.c0_meaning.proofs.Statements.{statements_are_faultless}
 join_none : {A : Type 0} (xs ys : List A) → xs ≡ [] → ys ≡ [] → xs ++ ys ≡ []
 join_none xs ys p q = ap (λ zs. zs ++ ys) p ∙ q
 
-nothing_said : (wrong : Bool) (number : ℕ) (span : Span) → wrong ≡ false → fault_if wrong number span ≡ []
+pub nothing_said : (wrong : Bool) (number : ℕ) (span : Span) → wrong ≡ false → fault_if wrong number span ≡ []
 nothing_said wrong number span e = cond-false wrong (fault number span ∷ []) [] e
 
 said_if_not : (right : Bool) (f : Fault) → cond right [] (f ∷ []) ≡ [] → right ≡ true

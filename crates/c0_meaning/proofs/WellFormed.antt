@@ -23,6 +23,7 @@ use Rattle.c0_meaning.specs.DeclaredTypes.{MAX_TYPE_WORDS, fault_if, unknown_str
 use Rattle.c0_meaning.specs.Names.{is_among, twice_faults, struct_name_faults, unit_name_faults, decl_name_faults}
 use Rattle.c0_meaning.specs.Limits.{MAX_FUNCTION_NODES, is_asm, locals_of, words_held, nodes_of, max_parameters}
 use Rattle.c0_meaning.specs.Resolved.{looked_up, resolved_type, resolved_decls, resolved_structs, IsResolved}
+use Rattle.c0_meaning.specs.Sizes.{UnitsAreSized}
 use Rattle.c0_meaning.specs.Sound.{IsSized, IsSizedStruct, AreSized, IsSizedFunction}
 use Rattle.c0_meaning.specs.Unit.{struct_faults, structs_faults, signature_faults, body_faults, functions_faults, resolved_body, resolved_functions, IsWellFormed}
 
@@ -218,3 +219,6 @@ well_formed_few primitives u w =
         let q = and_parts (is_plain_struct s) (list_all is_plain_struct rest) h in
         let few = and_parts (has_part s.fields) (is_short s.fields) q.0 in
         All-cons (λ (s : CStruct). length s.fields < 2 ^ 32) s rest (ltb-true (length s.fields) (2 ^ 32) few.1) (each rest q.1)
+
+pub units_are_sized : UnitsAreSized
+units_are_sized primitives u w = record { structs = well_formed_sized primitives u w; globals = well_formed_globals primitives u w; functions = well_formed_functions primitives u w }

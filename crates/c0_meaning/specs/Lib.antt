@@ -37,3 +37,5 @@ pub mod KernelRows
 pub mod Offsets
 pub mod Addresses
 pub mod OpenTy
+pub mod Form
+pub mod TypeAt

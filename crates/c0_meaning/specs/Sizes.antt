@@ -5,7 +5,7 @@ use Rattle.c0_tree.specs.Primitives.{CPrimitive}
 use Rattle.c0_meaning.specs.Ty.{Ty, named}
 use Rattle.c0_meaning.specs.Env.{Shape}
 use Rattle.c0_meaning.specs.Words.{words}
-use Rattle.c0_meaning.specs.Sound.{shapes}
+use Rattle.c0_meaning.specs.Sound.{shapes, IsSizedUnit}
 use Rattle.c0_meaning.specs.Unit.{IsWellFormed}
 
 -- how many words are told apart: one more than a type may have
@@ -31,3 +31,7 @@ abbrev pub words_before : List Shape → List Ty → ℕ → ℕ
 words_before structs [] i = 0
 words_before structs (t ∷ ts) zero = 0
 words_before structs (t ∷ ts) (suc i) = words structs t + words_before structs ts i
+
+-- a law: in a well formed unit each declared type has few words, and its names are resolved
+abbrev pub UnitsAreSized : Type 0
+UnitsAreSized = (primitives : List CPrimitive) (u : CUnit) → IsWellFormed primitives u → IsSizedUnit u

@@ -10,22 +10,6 @@ use Rattle.c0_meaning.specs.DeclaredTypes.{MAX_TYPE_WORDS}
 use Rattle.c0_meaning.specs.Resolved.{IsResolved}
 use Rattle.c0_meaning.specs.Limits.{MAX_FUNCTION_NODES, locals_of}
 
--- how many elements that are no arrays a type has
-abbrev pub elements : CTy → ℕ
-elements int = 1
-elements bool = 1
-elements (pointer t) = 1
-elements (named x) = 1
-elements (array t n) = n * elements t
-
--- the struct that a type is, or is an array of
-abbrev pub struct_in : CTy → Option CName
-struct_in int = None
-struct_in bool = None
-struct_in (pointer t) = None
-struct_in (named x) = Some x
-struct_in (array t n) = struct_in t
-
 -- the shapes of a unit's structs
 abbrev pub shapes : CUnit → List Shape
 shapes u = map shape_of u.structs
@@ -51,3 +35,9 @@ pub record IsSizedFunction (structs : List Shape) (f : CFunction) : Type 0 where
   pub params : All (λ d. IsSized structs d.ty) f.params
   pub locals : All (λ d. IsSized structs d.ty) (locals_of f.body)
   pub few : length f.params + length (locals_of f.body) ≤ MAX_FUNCTION_NODES
+
+-- a unit whose structs, globals and functions are so
+pub record IsSizedUnit (u : CUnit) : Type 0 where
+  pub structs : AreSized u.structs
+  pub globals : All (λ d. IsSized (shapes u) d.ty) u.globals
+  pub functions : All (IsSizedFunction (shapes u)) u.functions

@@ -1,5 +1,5 @@
 -- The rules that a unit has to meet. They know no fault and no order.
-use Rattle.std.specs.Prelude.{◌≡◌, ◌↔◌, ℕ, ◌≤◌, false, List, [], ◌++◌, length, map, IsTrue, is_some, slice_get, Some}
+use Rattle.std.specs.Prelude.{◌≡◌, ◌↔◌, ℕ, ◌≤◌, false, List, [], ◌∷◌, ◌++◌, length, map, IsTrue, is_some, slice_get, Some, codes}
 use Rattle.std.specs.List.{All}
 use Rattle.c0_tree.specs.Tree.{CTy, int, bool, pointer, named, array, CDecl, CStruct, CBody, code, asm, CFunction, CUnit}
 use Rattle.c0_tree.specs.Primitives.{CPrimitive}
@@ -11,7 +11,7 @@ use Rattle.c0_meaning.specs.DeclaredTypes.{MAX_TYPE_WORDS, has_empty_array, may_
 use Rattle.c0_meaning.specs.Names.{is_among, unit_names}
 use Rattle.c0_meaning.specs.Limits.{MAX_FUNCTION_NODES, MAX_UNIT_NODES, MAX_GLOBAL_WORDS, is_asm, locals_of, nodes_of, all_nodes, max_parameters}
 use Rattle.c0_meaning.specs.Rules.{AreTyped, IsTested}
-use Rattle.c0_meaning.specs.Unit.{unit_faults}
+use Rattle.c0_meaning.specs.Unit.{unit_faults, kernel_faults}
 
 -- each name in a type is that of a struct
 abbrev pub AreKnown : List Shape → CTy → Type 0
@@ -64,7 +64,7 @@ pub record IsTypedFunction (primitives : List CPrimitive) (u : CUnit) (f : CFunc
   pub signature : IsTypedSignature (map shape_of u.structs) f
   pub body : IsTypedBody (env_of primitives u (f.params ++ locals_of f.body)) (ty_of f.answer) f.body
 
--- a unit that is typed, whose asm bodies hold their words; how their texts read and whether it has a `dispatch` is left open
+-- a unit that is typed, whose asm bodies hold their words; how their texts read is left open, and whether it has a `dispatch`
 pub record IsTypedUnit (primitives : List CPrimitive) (u : CUnit) : Type 0 where
   pub struct_names : AreSetOnce [] (map (λ x. x.text) (map (λ s. s.name) u.structs))
   pub structs : All (IsTypedStruct (map shape_of u.structs)) u.structs
@@ -77,3 +77,26 @@ pub record IsTypedUnit (primitives : List CPrimitive) (u : CUnit) : Type 0 where
 -- a law: a unit is typed exactly where no fault stands in it
 abbrev pub UnitsAreFaultless : Type 0
 UnitsAreFaultless = (primitives : List CPrimitive) (u : CUnit) → IsTypedUnit primitives u ↔ (unit_faults primitives u ≡ [])
+
+-- a function is `int dispatch(int, int, int)` with a code body
+pub record IsDispatch (f : CFunction) : Type 0 where
+  pub named : f.name.text ≡ codes "dispatch"
+  pub params : map (λ d. ty_of d.ty) f.params ≡ ty.int ∷ ty.int ∷ ty.int ∷ []
+  pub answer : ty_of f.answer ≡ ty.int
+  pub in_code : is_asm f.body ≡ false
+
+-- one of functions is so
+pub record HasDispatch (functions : List CFunction) : Type 0 where
+  pub number : ℕ
+  pub function : CFunction
+  pub there : slice_get functions number ≡ Some function
+  pub right : IsDispatch function
+
+-- a kernel's unit that is typed, whose asm bodies hold their words
+pub record IsTypedKernel (primitives : List CPrimitive) (u : CUnit) : Type 0 where
+  pub typed : IsTypedUnit primitives u
+  pub dispatch : HasDispatch u.functions
+
+-- a law: a kernel's unit is typed exactly where no fault stands in it
+abbrev pub KernelsAreFaultless : Type 0
+KernelsAreFaultless = (primitives : List CPrimitive) (u : CUnit) → IsTypedKernel primitives u ↔ (kernel_faults primitives u ≡ [])

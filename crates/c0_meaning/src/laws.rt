@@ -7,9 +7,11 @@ ghost use Rattle.c0_meaning.specs.Offsets.{OffsetsAreThose};
 ghost use Rattle.c0_meaning.specs.OpenTy.{SizeIsWords};
 ghost use Rattle.c0_meaning.specs.Rows.{AreNamesRight, AreSizesRight, AreTypesRight};
 ghost use Rattle.c0_meaning.specs.Rules.{StatementsAreFaultless, TestedIsFaultless};
+ghost use Rattle.c0_meaning.specs.Sizes.{UnitsAreSized};
 ghost use Rattle.c0_meaning.specs.Stable.{ResolvingIsStable};
 ghost use Rattle.c0_meaning.specs.Ty.{TypesEqualAsWritten};
-ghost use Rattle.c0_meaning.specs.Typed.{UnitsAreFaultless};
+ghost use Rattle.c0_meaning.specs.TypeAt.{TypesAreAtHand};
+ghost use Rattle.c0_meaning.specs.Typed.{KernelsAreFaultless, UnitsAreFaultless};
 ghost use Rattle.c0_meaning.specs.Unit.{FaultlessIsChecked};
 ghost use Rattle.c0_meaning.specs.Words.{HoldsAsTested, WordsAreThose};
 
@@ -79,6 +81,11 @@ pub fn units_are_typed_or_faulty()
     ensures { UnitsAreFaultless }
 {}
 
+/// So is a kernel's unit, which needs a `dispatch`.
+pub fn kernels_are_typed_or_faulty()
+    ensures { KernelsAreFaultless }
+{}
+
 /// Resolving the names of a unit changes none of its faults, and resolving them again changes nothing.
 pub fn resolving_is_stable()
     ensures { ResolvingIsStable }
@@ -97,4 +104,14 @@ pub fn offsets_are_those()
 /// A type with its structs written out has as many words.
 pub fn written_out_types_have_their_words()
     ensures { SizeIsWords }
+{}
+
+/// In a well formed unit each declared type has few words, and its names are resolved.
+pub fn well_formed_units_are_sized()
+    ensures { UnitsAreSized }
+{}
+
+/// An expression that is typed by numbers has the type that is found by numbers.
+pub fn types_are_at_hand()
+    ensures { TypesAreAtHand }
 {}

@@ -12,3 +12,4 @@ pub mod UnitResolved
 pub mod UnitBodies
 pub mod UnitOutside
 pub mod UnitAnswer
+pub mod TypedSources

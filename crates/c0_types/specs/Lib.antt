@@ -4,3 +4,4 @@ pub mod Answer
 pub mod Known
 pub mod SourceOrder
 pub mod NumberedStruct
+pub mod TypedSource

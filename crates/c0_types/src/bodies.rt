@@ -3,7 +3,8 @@
 ghost use Rattle.std.specs.Prelude.{◌≡◌, ◌<◌, ◌+◌, ◌-◌, ◌^◌, ◌++◌, true, IsTrue, List, ℕ, Some, None, [], IfOk, IfSome, OnOk, is_some, length, map, min};
 ghost use Rattle.std.specs.Option.{option_or};
 ghost use Rattle.c0_asm_text.specs.AsmText.{bad_line, text_words};
-ghost use Rattle.c0_body.specs.Scope.{Tells, ty_view, typed_view};
+ghost use Rattle.c0_meaning.specs.Form.{ty_view};
+ghost use Rattle.c0_body.specs.Scope.{Tells, typed_view};
 ghost use Rattle.c0_body.specs.Stmts.{code_faults, resolved_of_stmts};
 ghost use Rattle.c0_meaning.specs.Asm.{are_allowed_words};
 ghost use Rattle.c0_meaning.specs.DeclaredTypes.{declared_faults};
@@ -27,7 +28,7 @@ use crate::space::UnitNames;
 use crate::structs::KnownStructs;
 use c0_asm_text::{AsmReading, read_asm};
 use c0_body::body::check_code;
-use c0_body::nodes::{expr_nodes, stmts_nodes_of};
+use c0_meaning::nodes::{expr_nodes, stmts_nodes_of};
 use c0_body::scope::Scope;
 use c0_names::fault::{Fault, Mistake, meet, meet_if};
 use c0_names::names::Names;

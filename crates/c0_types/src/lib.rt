@@ -5,6 +5,7 @@ pub mod bodies;
 pub mod decls;
 pub mod fault;
 pub mod headings;
+pub mod laws;
 pub mod space;
 pub mod structs;
 pub mod unit;

@@ -16,11 +16,13 @@ ghost use Rattle.c0_types.specs.Answer.{FaultAnswers};
 ghost use Rattle.c0_types.specs.Known.{KnowsUnit, TellUnit, unit_env};
 ghost use Rattle.c0_types.specs.Parts.{bodied, bodies_faults, faults_of_body, functions_nodes, headed_functions, headings_faults, is_plain_function, nodes_read, outer_faults, outer_unit};
 ghost use Rattle.c0_types.specs.Source.{checked_unit, source_faults};
+ghost use Rattle.c0_types.specs.TypedSource.{IsTypedSource};
 
 use crate::bodies::{Declared, check_body};
 use crate::decls::{are_too_large, check_decls};
 use crate::fault::{TypeFault, answer_of};
 use crate::headings::check_heading;
+use crate::laws::sources_are_typed_or_faulty;
 use crate::space::{UnitNames, name_unit};
 use crate::structs::{KnownStructs, check_structs};
 use c0_meaning::Checked;
@@ -211,12 +213,14 @@ fn check_unit(alloc: Global, unit: &mut Unit, least: &mut Option<Fault>) -> Resu
 pub fn check(alloc: Global, unit: Unit) -> Result<Checked, TypeFault>
     requires plain { is_plain (unit_view unit) ≡ true }
     ensures faultless { IfOk result (λ c. source_faults (unit_view unit) ≡ []) }
+    ensures typed { IfOk result (λ c. IsTypedSource (unit_view unit)) }
     ensures resolved { IfOk result (λ c. unit_view c ≡ checked_unit (unit_view unit)) }
     ensures fault { IfErr result (FaultAnswers (unit_view unit)) }
 {
     kept_fault_is_least();
     faultless_units_are_checked();
     resolving_is_stable();
+    sources_are_typed_or_faulty();
     let mut unit = unit;
     let mut least = None;
     check_unit(alloc, &mut unit, &mut least)?;

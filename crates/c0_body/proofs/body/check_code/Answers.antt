@@ -2,7 +2,8 @@
 use Rattle.c0_tree.specs.View.{expr_view, stmts_view}
 use Rattle.c0_meaning.specs.Statement.{tested_faults}
 use Rattle.c0_names.specs.Met.{met_view}
-use Rattle.c0_body.specs.Scope.{env_view, ty_view}
+use Rattle.c0_meaning.specs.Form.{ty_view}
+use Rattle.c0_body.specs.Scope.{env_view}
 use Rattle.c0_body.specs.Stmts.{faults_of_stmts}
 use Rattle.c0_names.proofs.Meeting.{two_met}
 use Rattle.c0_body.proofs.StmtLemmas.{lent_stmts}

@@ -18,7 +18,8 @@ use Rattle.c0_meaning.specs.Resolved.{resolved_decls}
 use Rattle.c0_names.specs.Met.{met_view}
 use Rattle.c0_names.specs.Names.{number_named}
 use Rattle.c0_names.specs.Structs.{KnowsStructs}
-use Rattle.c0_body.specs.Scope.{FieldsTell, shape_view, ty_view, typed_view}
+use Rattle.c0_meaning.specs.Form.{ty_view}
+use Rattle.c0_body.specs.Scope.{FieldsTell, shape_view, typed_view}
 use Rattle.c0_body.specs.Stmts.{code_faults, resolved_of_stmts}
 use Rattle.c0_types.specs.Known.{unit_env}
 use Rattle.c0_types.specs.Parts.{nodes_with, with_locals}

@@ -15,6 +15,7 @@ new-requires c =
 pub returns-in-Some : goal.returns-in-Some
 returns-in-Some c = record {
   faultless = tt;
+  typed = tt;
   resolved = tt;
   fault = says_least (type_fault_view c.answer_of.result) (fault_view c.in-Some.fault) (unit_view c.args.unit) c.answer_of.ensures
       ((c.kept_fault_is_least.ensures.least (source_faults (unit_view c.args.unit)) (fault_view c.in-Some.fault)).0 (sym c.in_ok-check_unit.ensures.met ∙ ap met_view c.in-Some.is));
@@ -23,6 +24,8 @@ returns-in-Some c = record {
 pub returns-in-None : goal.returns-in-None
 returns-in-None c = record {
   faultless = (c.kept_fault_is_least.ensures.none (source_faults (unit_view c.args.unit))).0 (sym c.in_ok-check_unit.ensures.met ∙ ap met_view c.in-None.is);
+  typed = (c.sources_are_typed_or_faulty.ensures (unit_view c.args.unit)).1
+      ((c.kept_fault_is_least.ensures.none (source_faults (unit_view c.args.unit))).0 (sym c.in_ok-check_unit.ensures.met ∙ ap met_view c.in-None.is));
   resolved = ap unit_view c.new.ensures ∙ c.in_ok-check_unit.ensures.resolved;
   fault = tt;
 }

@@ -2,7 +2,7 @@
 use Rattle.std.proofs.Common.{◌≡◌, ◌<◌, map, max, min, drop}
 use Rattle.c0_tree.specs.Size as size
 use Rattle.c0_tree.specs.View.{expr_view}
-use Rattle.c0_body.proofs.need.args_need.Given as goal
+use Rattle.c0_meaning.proofs.need.args_need.Given as goal
 
 abbrev pub invariant-loop-arg : goal.invariant-loop-arg
 invariant-loop-arg l =

@@ -3,11 +3,24 @@
 ghost use Rattle.std.specs.Prelude.{◌≡◌};
 ghost use Rattle.c0_meaning.specs.Expression.{is_pointer};
 ghost use Rattle.c0_meaning.specs.Ty.{same_ty};
-ghost use Rattle.c0_body.specs.Check.{form_view, same_types};
-ghost use Rattle.c0_body.specs.Scope.{found_view, ty_view};
+ghost use Rattle.c0_meaning.specs.Form.{form_view, found_view, same_types, ty_view};
 
-use crate::scope::Found;
 use c0_tree::CType;
+
+/// The type of an expression, if it has one.
+#[derive(Clone, Copy)]
+pub enum Found<'a> {
+    /// A part is faulty.
+    Nothing,
+    /// An int.
+    Int,
+    /// A bool.
+    Bool,
+    /// A pointer to a value of the type.
+    To(&'a CType),
+    /// A value of the type, as it is declared.
+    Of(&'a CType),
+}
 
 /// The outermost part of a type, if there is one.
 #[derive(Clone, Copy)]

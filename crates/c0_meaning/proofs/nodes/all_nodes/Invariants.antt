@@ -2,7 +2,7 @@
 use Rattle.std.proofs.Common.{◌≡◌, ◌≤◌, ◌+◌, min, map, drop}
 use Rattle.c0_tree.specs.Size.{args_nodes}
 use Rattle.c0_tree.specs.View.{expr_view}
-use Rattle.c0_body.proofs.nodes.all_nodes.Given as goal
+use Rattle.c0_meaning.proofs.nodes.all_nodes.Given as goal
 
 abbrev pub invariant-loop-e : goal.invariant-loop-e
 invariant-loop-e l = record {

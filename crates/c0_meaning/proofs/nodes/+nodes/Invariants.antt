@@ -2,7 +2,7 @@
 use Rattle.std.proofs.Common.{◌≡◌, ◌≤◌, ◌+◌, min, drop}
 use Rattle.c0_tree.specs.Size.{stmts_nodes}
 use Rattle.c0_tree.specs.View.{stmts_view}
-use Rattle.c0_body.proofs.nodes.+nodes.Given as goal
+use Rattle.c0_meaning.proofs.nodes.+nodes.Given as goal
 
 abbrev pub invariant-stmts_nodes_of-loop-s : goal.invariant-stmts_nodes_of-loop-s
 invariant-stmts_nodes_of-loop-s l = record {

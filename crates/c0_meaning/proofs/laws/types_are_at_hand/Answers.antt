@@ -1,0 +1,5 @@
+use Rattle.c0_meaning.proofs.TypeAtLemmas.{types_are_at_hand}
+use Rattle.c0_meaning.proofs.laws.types_are_at_hand.Goals as goal
+
+pub returns : goal.returns
+returns c = types_are_at_hand
