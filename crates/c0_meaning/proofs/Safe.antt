@@ -6,7 +6,7 @@ use Rattle.std.proofs.lemmas.Bool.{and_parts}
 use Rattle.c0_tree.specs.declared.primitive.Scalar.{Scalar}
 use Rattle.c0_tree.specs.declared.primitive.Scalar.TheVariants.{Int, Bool as Boolean}
 use Rattle.c0_tree.specs.Primitives.{CPrimitive, kernel_primitives}
-use Rattle.c0_tree.specs.Tree.{CDecl}
+use Rattle.c0_tree.specs.Tree.{CDecl, CUnit}
 use Rattle.c0_meaning.specs.Ty.{Ty, ty_of, same_ty}
 use Rattle.c0_meaning.specs.Ty as ty
 use Rattle.c0_meaning.specs.Env.{Shape, typed_of}
@@ -16,13 +16,13 @@ use Rattle.c0_meaning.proofs.Ty.{equal-same_ty}
 use Rattle.c0_meaning.proofs.Units.{units_are_faultless}
 use Rattle.c0_meaning.specs.Value.{Value, Values, empty, part}
 use Rattle.c0_meaning.specs.Value as value
-use Rattle.c0_meaning.specs.TypedState.{Layout, types_of, AllFit, layout_of, IsScalar, IsSafe}
-use Rattle.c0_meaning.specs.Execution.{call_first}
-use Rattle.c0_meaning.specs.RunLaws.{FirstIsTyped, CallsAreSafe, DispatchesAreSafe}
+use Rattle.c0_meaning.specs.TypedState.{Layout, types_of, Fits, AllFit, layout_of, IsScalar, IsSafe, Answers}
+use Rattle.c0_meaning.specs.Execution.{Outcome, Done, Failed, NotYet, call_first}
+use Rattle.c0_meaning.specs.RunLaws.{FirstIsTyped, CallsAreSafe, DispatchesAreSafe, CallsAnswer, AnswersAnInt, DispatchesAnswer}
 use Rattle.c0_meaning.specs.KernelRows.{seven, sevens, SevensFit}
 use Rattle.c0_meaning.proofs.Dispatch.{has_dispatch}
 use Rattle.c0_meaning.proofs.Fields.{zeros_fit}
-use Rattle.c0_meaning.proofs.SafeRuns.{first_call_safe}
+use Rattle.c0_meaning.proofs.SafeRuns.{first_call_safe, first_call_answers}
 
 pub first_is_typed : FirstIsTyped
 first_is_typed primitives u well =
@@ -38,6 +38,10 @@ first_is_typed primitives u well =
 pub calls_are_safe : (W E : Type 0) → CallsAreSafe W E
 calls_are_safe W E is_right primitives p objects n number f args s world well answers is typed fits right =
     first_call_safe W E primitives p is_right well answers objects n number f args s world is typed fits right
+
+pub calls_answer : (W E : Type 0) → CallsAnswer W E
+calls_answer W E is_right primitives p objects n number f args s world well answers is typed fits right =
+    first_call_answers W E primitives p is_right well answers objects n number f args s world is typed fits right
 
 -- three ints for three parameters of type int
 three_ints : (structs : List Shape) (layout : Layout) (ds : List CDecl) (a b c : ℤ) → are_three_ints ds ≡ true → FitsSigned w32 a → FitsSigned w32 b → FitsSigned w32 c
@@ -64,6 +68,31 @@ dispatches_are_safe W E is_right p n cause edata user s world checked answers ty
     subst (λ m. IsSafe is_right p.unit (call_first p n m (part (value.int cause) (part (value.int edata) (part (value.int user) empty))) s world)) (sym (ap (λ o. unwrap_or o 0) d.2))
     (first_call_safe W E kernel_primitives p is_right checked.well_formed answers typed.0 n d.0 d.1 (part (value.int cause) (part (value.int edata) (part (value.int user) empty))) s world d.3 typed.1
     (three_ints (shapes p.unit) (layout_of p.unit typed.0) d.1.params cause edata user k.0 f g h) right)
+
+-- a value of type int is an int
+an_int : {W E : Type 0} (u : CUnit) (o : Outcome W E) → Answers u ty.int o → AnswersAnInt o
+an_int u (Done used c) h = by_value h.2.0 h.2.1 h.2.2
+  where
+    by_value : (v : Value) → c.answer ≡ Some v → Fits (shapes u) (layout_of u h.0) ty.int v → AnswersAnInt (Done used c)
+    by_value (value.int z) e f = (z, e, f)
+    by_value (value.bool b) e f = absurd f
+    by_value value.null e f = absurd f
+    by_value (value.at l) e f = absurd f
+    by_value (value.group vs) e f = absurd f
+an_int u (Failed used f c) h = tt
+an_int u (NotYet used c) h = tt
+
+pub dispatches_answer : (W E : Type 0) → DispatchesAnswer W E
+dispatches_answer W E is_right p n cause edata user s world checked answers typed f g h right =
+    let d = has_dispatch p.unit checked in
+    let c = and_parts _ _ d.4 in
+    let k = and_parts (are_three_ints d.1.params) _ c.1 in
+    let gives = equal-same_ty (ty_of d.1.answer) ty.int (and_parts (same_ty (ty_of d.1.answer) ty.int) _ k.1).0 in
+    let args = part (value.int cause) (part (value.int edata) (part (value.int user) empty)) in
+    subst (λ m. AnswersAnInt (call_first p n m args s world)) (sym (ap (λ o. unwrap_or o 0) d.2))
+    (an_int p.unit (call_first p n d.0 args s world) (subst (λ t. Answers p.unit t (call_first p n d.0 args s world)) gives
+    (first_call_answers W E kernel_primitives p is_right checked.well_formed answers typed.0 n d.0 d.1 args s world d.3 typed.1
+    (three_ints (shapes p.unit) (layout_of p.unit typed.0) d.1.params cause edata user k.0 f g h) right)))
 
 -- the answer of a row that is found
 pub same_row : (a b : CPrimitive) (v : Value) → ◌≡◌ {A = Option CPrimitive} (Some a) (Some b) → IsScalar a.answer v → IsScalar b.answer v

@@ -31,64 +31,77 @@ use Rattle.c0_meaning.specs.AsmBody.{asm_result}
 use Rattle.c0_meaning.specs.World.{Setting, Cost, units, plus, total, Configuration, call_cost, after_call, beginning}
 use Rattle.c0_meaning.specs.Running.{Target, into, outward, Work, act_on, finish, again, leave, begin, Step, Go, Stop, push, then_go, store, deliver, enter, call_function, call_with, allocate, test_loop, act_statement, act}
 use Rattle.c0_meaning.specs.Execution.{Outcome, Failed, NotYet, then_run, run, call_first}
-use Rattle.c0_meaning.specs.TypedState.{Layout, types_of, Fits, AllFit, variable_types, IsTypedFrame, layout_of, IsTypedWith, AnswersFit, IsSafeAt, IsSafe}
+use Rattle.c0_meaning.specs.TypedState.{Layout, types_of, Fits, AllFit, variable_types, IsTypedFrame, layout_of, IsTypedWith, AnswersFit, IsSafeAt, IsSafe, Answers}
 use Rattle.c0_meaning.proofs.Fields.{zero_fits, zeros_fit}
 use Rattle.c0_meaning.proofs.Parts.{fits_more, joined_fit}
 use Rattle.c0_meaning.proofs.Ranges.{int_of_fits}
 use Rattle.c0_meaning.proofs.SafeExpressions.{Good, Scene, IsAt, given_good, place_good, values_good, bool_good}
 use Rattle.c0_meaning.proofs.SafeStates.{RightValue, RightPlace, RightStatement, RightStatements, first_right, known, Calls, a_function, a_primitive, callee, callee_is, no_layout, scalar_everywhere, scalars_everywhere, right_function, variables_split, params_types, env_in, scene, written, objects_count, allocated}
 
--- work that is left to the function of the newest frame, above these frames: its statements and the values that they hold are typed
-abbrev Awaits : (primitives : List CPrimitive) (u : CUnit) → (CFunction → List Frame → Type 0) → Ty → Target → List Work → List Frame → Type 0
-Awaits primitives u goes t outward [] [] = Unit {0}
-Awaits primitives u goes t (into place rest) work (g ∷ fs) =
+-- work that is left to the function of the newest frame, above these frames: its statements and the values that they hold are typed, and
+-- the first function answers a type
+abbrev Awaits : (first : Ty) (primitives : List CPrimitive) (u : CUnit) → (CFunction → List Frame → Type 0) → Ty → Target → List Work → List Frame → Type 0
+Awaits first primitives u goes t outward [] [] = t ≡ first
+Awaits first primitives u goes t (into place rest) work (g ∷ fs) =
     (h : CFunction) × (slice_get u.functions g.function ≡ Some h) × RightPlace (env_in primitives u h) place t × RightStatements (env_in primitives u h) rest × goes h fs
-Awaits primitives u goes t _ work fs = ⊥
+Awaits first primitives u goes t _ work fs = ⊥
 
-abbrev Goes : (primitives : List CPrimitive) (u : CUnit) → Layout → List Work → CFunction → List Frame → Type 0
-Goes primitives u layout [] f fs = ⊥
-Goes primitives u layout (act_on s rest ∷ work) f fs = RightStatement (env_in primitives u f) s × RightStatements (env_in primitives u f) rest × Goes primitives u layout work f fs
-Goes primitives u layout (finish place v rest ∷ work) f fs =
-    (t : Ty) × RightPlace (env_in primitives u f) place t × Fits (shapes u) layout t v × RightStatements (env_in primitives u f) rest × Goes primitives u layout work f fs
-Goes primitives u layout (again test body rest ∷ work) f fs =
-    RightValue (env_in primitives u f) test ty.bool × RightStatements (env_in primitives u f) body × RightStatements (env_in primitives u f) rest × Goes primitives u layout work f fs
-Goes primitives u layout (leave answer target ∷ work) f fs =
-    RightValue (env_in primitives u f) answer (ty_of f.answer) × Awaits primitives u (λ h gs. Goes primitives u layout work h gs) (ty_of f.answer) target work fs
-Goes primitives u layout (begin n args ∷ work) f fs = ⊥
+abbrev Goes : (first : Ty) (primitives : List CPrimitive) (u : CUnit) → Layout → List Work → CFunction → List Frame → Type 0
+Goes first primitives u layout [] f fs = ⊥
+Goes first primitives u layout (act_on s rest ∷ work) f fs = RightStatement (env_in primitives u f) s × RightStatements (env_in primitives u f) rest × Goes first primitives u layout work f fs
+Goes first primitives u layout (finish place v rest ∷ work) f fs =
+    (t : Ty) × RightPlace (env_in primitives u f) place t × Fits (shapes u) layout t v × RightStatements (env_in primitives u f) rest × Goes first primitives u layout work f fs
+Goes first primitives u layout (again test body rest ∷ work) f fs =
+    RightValue (env_in primitives u f) test ty.bool × RightStatements (env_in primitives u f) body × RightStatements (env_in primitives u f) rest × Goes first primitives u layout work f fs
+Goes first primitives u layout (leave answer target ∷ work) f fs =
+    RightValue (env_in primitives u f) answer (ty_of f.answer) × Awaits first primitives u (λ h gs. Goes first primitives u layout work h gs) (ty_of f.answer) target work fs
+Goes first primitives u layout (begin n args ∷ work) f fs = ⊥
 
 -- what is left to do in a state with these frames
-abbrev AtEnds : CUnit → Layout → List Work → Type 0
-AtEnds u layout [] = Unit {0}
-AtEnds u layout (begin n args ∷ []) = (f : CFunction) × (slice_get u.functions n ≡ Some f) × AllFit (shapes u) layout (types_of (map typed_of f.params)) args
-AtEnds u layout _ = ⊥
+abbrev AtEnds : (first : Ty) → CUnit → Layout → List Work → Type 0
+AtEnds first u layout [] = Unit {0}
+AtEnds first u layout (begin n args ∷ []) =
+    (f : CFunction) × (slice_get u.functions n ≡ Some f) × AllFit (shapes u) layout (types_of (map typed_of f.params)) args × (ty_of f.answer ≡ first)
+AtEnds first u layout _ = ⊥
 
-abbrev Ready : List CPrimitive → CUnit → Layout → List Work → List Frame → Type 0
-Ready primitives u layout work [] = AtEnds u layout work
-Ready primitives u layout work (g ∷ fs) = (f : CFunction) × (slice_get u.functions g.function ≡ Some f) × Goes primitives u layout work f fs
+abbrev Ready : (first : Ty) → List CPrimitive → CUnit → Layout → List Work → List Frame → Type 0
+Ready first primitives u layout work [] = AtEnds first u layout work
+Ready first primitives u layout work (g ∷ fs) = (f : CFunction) × (slice_get u.functions g.function ≡ Some f) × Goes first primitives u layout work f fs
 
-push_goes : (primitives : List CPrimitive) (u : CUnit) (layout : Layout) (f : CFunction) (fs : List Frame) (rest : CStmts) (work : List Work) → RightStatements (env_in primitives u f) rest → Goes primitives u layout work f fs → Goes primitives u layout (push rest work) f fs
-push_goes primitives u layout f fs done work h g = g
-push_goes primitives u layout f fs (next s rest) work h g = let r = first_right (env_in primitives u f) s rest h in (r.0, r.1, g)
+push_goes : (first : Ty) (primitives : List CPrimitive) (u : CUnit) (layout : Layout) (f : CFunction) (fs : List Frame) (rest : CStmts) (work : List Work) → RightStatements (env_in primitives u f) rest → Goes first primitives u layout work f fs → Goes first primitives u layout (push rest work) f fs
+push_goes first primitives u layout f fs done work h g = g
+push_goes first primitives u layout f fs (next s rest) work h g = let r = first_right (env_in primitives u f) s rest h in (r.0, r.1, g)
 
 -- values that work holds fit with more objects too
-goes_more : (primitives : List CPrimitive) (u : CUnit) (objects more : List Ty) (work : List Work) (f : CFunction) (fs : List Frame) → Goes primitives u (layout_of u objects) work f fs → Goes primitives u (layout_of u (objects ++ more)) work f fs
-goes_more primitives u objects more [] f fs h = absurd h
-goes_more primitives u objects more (act_on s rest ∷ work) f fs h = (h.0, h.1, goes_more primitives u objects more work f fs h.2)
-goes_more primitives u objects more (finish place v rest ∷ work) f fs h = (h.0, h.1, fits_more (shapes u) (layout_of u objects) more h.0 v h.2, h.3, goes_more primitives u objects more work f fs h.4)
-goes_more primitives u objects more (again test body rest ∷ work) f fs h = (h.0, h.1, h.2, goes_more primitives u objects more work f fs h.3)
-goes_more primitives u objects more (leave answer outward ∷ []) f [] h = h
-goes_more primitives u objects more (leave answer (into place rest) ∷ work) f (g ∷ fs) h = (h.0, (h.1.0, h.1.1, h.1.2, h.1.3, goes_more primitives u objects more work h.1.0 fs h.1.4))
-goes_more primitives u objects more (leave answer outward ∷ []) f (g ∷ fs) h = absurd h.1
-goes_more primitives u objects more (leave answer outward ∷ item ∷ work) f fs h = absurd h.1
-goes_more primitives u objects more (leave answer (into place rest) ∷ work) f [] h = absurd h.1
-goes_more primitives u objects more (begin n args ∷ work) f fs h = absurd h
+goes_more : (first : Ty) (primitives : List CPrimitive) (u : CUnit) (objects more : List Ty) (work : List Work) (f : CFunction) (fs : List Frame) → Goes first primitives u (layout_of u objects) work f fs → Goes first primitives u (layout_of u (objects ++ more)) work f fs
+goes_more first primitives u objects more [] f fs h = absurd h
+goes_more first primitives u objects more (act_on s rest ∷ work) f fs h = (h.0, h.1, goes_more first primitives u objects more work f fs h.2)
+goes_more first primitives u objects more (finish place v rest ∷ work) f fs h = (h.0, h.1, fits_more (shapes u) (layout_of u objects) more h.0 v h.2, h.3, goes_more first primitives u objects more work f fs h.4)
+goes_more first primitives u objects more (again test body rest ∷ work) f fs h = (h.0, h.1, h.2, goes_more first primitives u objects more work f fs h.3)
+goes_more first primitives u objects more (leave answer outward ∷ []) f [] h = h
+goes_more first primitives u objects more (leave answer (into place rest) ∷ work) f (g ∷ fs) h = (h.0, (h.1.0, h.1.1, h.1.2, h.1.3, goes_more first primitives u objects more work h.1.0 fs h.1.4))
+goes_more first primitives u objects more (leave answer outward ∷ []) f (g ∷ fs) h = absurd h.1
+goes_more first primitives u objects more (leave answer outward ∷ item ∷ work) f fs h = absurd h.1
+goes_more first primitives u objects more (leave answer (into place rest) ∷ work) f [] h = absurd h.1
+goes_more first primitives u objects more (begin n args ∷ work) f fs h = absurd h
 
-module _ (W E : Type 0) (primitives : List CPrimitive) (p : Setting W E) (is_right : W → Bool) (well : IsWellFormed primitives p.unit) (answers : AnswersFit is_right primitives p.meaning) where
+module _ (W E : Type 0) (primitives : List CPrimitive) (p : Setting W E) (is_right : W → Bool) (well : IsWellFormed primitives p.unit) (answers : AnswersFit is_right primitives p.meaning) (first : Ty) where
+  -- where nothing is left to do, the first function has answered a value of its type
+  abbrev Answered : List Ty → List Work → Option Value → Type 0
+  Answered objects [] answer = (v : Value) × (answer ≡ Some v) × Fits (shapes p.unit) (layout_of p.unit objects) first v
+  Answered objects (item ∷ work) answer = Unit {0}
+
+  -- the function of the newest frame has something left to do
+  unanswered : (objects : List Ty) (work : List Work) (f : CFunction) (fs : List Frame) (answer : Option Value) → Goes first primitives p.unit (layout_of p.unit objects) work f fs → Answered objects work answer
+  unanswered objects [] f fs answer h = absurd h
+  unanswered objects (item ∷ work) f fs answer h = tt
+
   -- a typed state, and work that is ready for it
   record Stays (work : List Work) (c : Configuration W E) : Type 0 where
     objects : List Ty
+    answered : Answered objects work c.answer
     typed : IsTypedWith p.unit objects c.state
-    ready : Ready primitives p.unit (layout_of p.unit objects) work c.state.frames
+    ready : Ready first primitives p.unit (layout_of p.unit objects) work c.state.frames
     right : IsTrue (is_right c.world)
 
   abbrev SafeStep : Step W E → Type 0
@@ -115,14 +128,14 @@ module _ (W E : Type 0) (primitives : List CPrimitive) (p : Setting W E) (is_rig
   lay objects = layout_of p.unit objects
 
   abbrev WaitsFor : List Ty → Ty → Target → List Work → List Frame → Type 0
-  WaitsFor objects t target work frames = Awaits primitives p.unit (λ h gs. Goes primitives p.unit (lay objects) work h gs) t target work frames
+  WaitsFor objects t target work frames = Awaits first primitives p.unit (λ h gs. Goes first primitives p.unit (lay objects) work h gs) t target work frames
 
   delivered : (objects : List Ty) (gv hv : Value) (hw : ℕ) (frames : List Frame) (world : W) (calls : List (List E)) (answer : Option Value) (k : Cost) (t : Ty) (target : Target) (v : Value) (work : List Work)
       → IsTypedWith p.unit objects (state_of gv hv hw frames) → IsTrue (is_right world) → Fits (shapes p.unit) (lay objects) t v → WaitsFor objects t target work frames
       → SafeStep (deliver k target v work (standing_at gv hv hw frames world calls answer))
-  delivered objects gv hv hw [] world calls answer k t outward v [] typed right fits h = record { objects = objects; typed = typed; ready = tt; right = right }
+  delivered objects gv hv hw [] world calls answer k t outward v [] typed right fits h = record { objects = objects; answered = (v, refl, subst (λ s. Fits (shapes p.unit) (lay objects) s v) h fits); typed = typed; ready = tt; right = right }
   delivered objects gv hv hw (g ∷ fs) world calls answer k t (into place rest) v work typed right fits h =
-      record { objects = objects; typed = typed; ready = (h.0, h.1, (t, h.2, fits, h.3, h.4)); right = right }
+      record { objects = objects; answered = tt; typed = typed; ready = (h.0, h.1, (t, h.2, fits, h.3, h.4)); right = right }
   delivered objects gv hv hw (g ∷ fs) world calls answer k t outward v [] typed right fits h = absurd h
   delivered objects gv hv hw frames world calls answer k t outward v (item ∷ work) typed right fits h = absurd h
   delivered objects gv hv hw [] world calls answer k t (into place rest) v work typed right fits h = absurd h
@@ -138,7 +151,7 @@ module _ (W E : Type 0) (primitives : List CPrimitive) (p : Setting W E) (is_rig
       let env = env_in primitives p.unit h in
       let body : IsTypedBody env (ty_of h.answer) (code ls stmts result) = subst (IsTypedBody env (ty_of h.answer)) e r.typed.body in
       let settled : resolved_body env r.first (code ls stmts result) ≡ code ls stmts result = subst (λ b. resolved_body env r.first b ≡ b) e r.settled in
-      let first : stmts_resolved (resolved_type env.structs) env stmts ≡ stmts = cc in
+      let first_settled : stmts_resolved (resolved_type env.structs) env stmts ≡ stmts = cc in
       let second : resolved env result ≡ result = cc in
       let plain = plain_parts (is_short ls) (nat_lt (stmts_length stmts) (2 ^ 32)) (are_plain_stmts stmts) (is_plain_expr result) (subst (λ b. is_plain_body b ≡ true) e r.plain) in
       let zeros = zeros_fit p.unit.structs typed_unit.structs (lay objects) ls (subst (λ b. All (λ d. IsDeclarable (shapes p.unit) d.ty) (locals_of b)) e r.typed.signature.locals) in
@@ -146,19 +159,17 @@ module _ (W E : Type 0) (primitives : List CPrimitive) (p : Setting W E) (is_rig
       subst (λ ts. AllFit (shapes p.unit) (lay objects) ts (followed_by args (zeros_of (shapes p.unit) (map typed_of ls)))) (sym (variables_split h))
       (subst (λ b. AllFit (shapes p.unit) (lay objects) (types_of (map typed_of h.params) ++ types_of (map typed_of (locals_of b))) (followed_by args (zeros_of (shapes p.unit) (map typed_of ls)))) (sym e)
       (joined_fit (shapes p.unit) (lay objects) (types_of (map typed_of h.params)) (types_of (map typed_of ls)) args (zeros_of (shapes p.unit) (map typed_of ls)) fits zeros)) in
+      let goes = push_goes first primitives p.unit (lay objects) h frames stmts (leave result target ∷ work) (record { typed = body.0; settled = first_settled; plain = plain.0 })
+      (record { given = body.1.value; settled = second; plain = plain.1 }, waits) in
       record {
         objects = objects;
+        answered = unanswered objects (push stmts (leave result target ∷ work)) h frames answer goes;
         typed = record {
           global_values = typed.global_values;
           heap_values = typed.heap_values;
           frames = All-cons (IsTypedFrame p.unit (lay objects)) (record { function = n; variables = group (followed_by args (zeros_of (shapes p.unit) (map typed_of ls))) }) frames (record { function = h; is = is; variables = both }) typed.frames;
         };
-        ready = (
-          h,
-          is,
-          push_goes primitives p.unit (lay objects) h frames stmts (leave result target ∷ work) (record { typed = body.0; settled = first; plain = plain.0 })
-              (record { given = body.1.value; settled = second; plain = plain.1 }, waits),
-        );
+        ready = (h, is, goes);
         right = right;
       }
     where
@@ -198,9 +209,9 @@ module _ (W E : Type 0) (primitives : List CPrimitive) (p : Setting W E) (is_rig
     safe_here = ((objects, typed), right)
 
     abbrev Left : List Work → Type 0
-    Left work = Goes primitives p.unit (lay objects) work f fs
+    Left work = Goes first primitives p.unit (lay objects) work f fs
 
-    written_ready : (r : Region) (path : List ℕ) (v : Value) (work : List Work) → Left work → Ready primitives p.unit (lay objects) work (write (state_of gv hv hw (g ∷ fs)) (record { region = r; path = path }) v).frames
+    written_ready : (r : Region) (path : List ℕ) (v : Value) (work : List Work) → Left work → Ready first primitives p.unit (lay objects) work (write (state_of gv hv hw (g ∷ fs)) (record { region = r; path = path }) v).frames
     written_ready globals path v work h = (f, is, h)
     written_ready heap path v work h = (f, is, h)
     written_ready locals path v work h = (f, is, h)
@@ -211,14 +222,17 @@ module _ (W E : Type 0) (primitives : List CPrimitive) (p : Setting W E) (is_rig
         (place_good env (lay objects) here.state its place t h.left.typed h.left.place h.settled h.plain) safe_here
         (λ j l at_l. record {
           objects = objects;
+          answered = unanswered objects (push rest work) f fs answer (push_goes first primitives p.unit (lay objects) f fs rest work more left);
           typed = written primitives p.unit objects gv hv hw g fs f l.region l.path t v typed is at_l.stands fits;
-          ready = written_ready l.region l.path v (push rest work) (push_goes primitives p.unit (lay objects) f fs rest work more left);
+          ready = written_ready l.region l.path v (push rest work) (push_goes first primitives p.unit (lay objects) f fs rest work more left);
           right = right;
         })
 
     -- work in front of what is left
     pushed_here : (rest : CStmts) (work : List Work) → RightStatements env rest → Left work → Stays (push rest work) here
-    pushed_here rest work h left = record { objects = objects; typed = typed; ready = (f, is, push_goes primitives p.unit (lay objects) f fs rest work h left); right = right }
+    pushed_here rest work h left =
+        let goes = push_goes first primitives p.unit (lay objects) f fs rest work h left in
+        record { objects = objects; answered = unanswered objects (push rest work) f fs answer goes; typed = typed; ready = (f, is, goes); right = right }
 
     valued : (e : CExpr) (t : Ty) → RightValue env e t → Good (Fits (shapes p.unit) (lay objects) t) (value_of e here.state)
     valued e t h = given_good env (lay objects) here.state its e t h.given h.settled h.plain
@@ -269,7 +283,7 @@ module _ (W E : Type 0) (primitives : List CPrimitive) (p : Setting W E) (is_rig
         (at (record { region = heap; path = parts hv ∷ [] })) work
         (allocated primitives p.unit objects gv hv hw (hw + words (shapes p.unit) (ty_of t)) (g ∷ fs) (ty_of t) (zero_of (shapes p.unit) (ty_of t)) typed (zero_fits p.unit.structs typed_unit.structs (lay (objects ++ ty_of t ∷ [])) t there)) right
         (objects_count primitives p.unit objects hv (ty_of t) typed.heap_values)
-        (f, is, h, more, goes_more primitives p.unit objects (ty_of t ∷ []) work f fs left))
+        (f, is, h, more, goes_more first primitives p.unit objects (ty_of t ∷ []) work f fs left))
 
     stated : (s : CStmt) (rest : CStmts) (work : List Work) → RightStatement env s → RightStatements env rest → Left work → SafeStep (act_statement p s rest work here)
     stated (assign span place value) rest work h more left = by_rule h.typed h.settled h.plain
@@ -312,8 +326,8 @@ module _ (W E : Type 0) (primitives : List CPrimitive) (p : Setting W E) (is_rig
             let k = and_parts (nat_lt (stmts_length b) (2 ^ 32)) (are_plain_stmts a && are_plain_stmts b) e.1 in
             let l = and_parts (are_plain_stmts a) (are_plain_stmts b) k.1 in
             goes_safe (λ b. Unit {0}) (units 1) here (truth (value_of test here.state)) _ (tested_true test (record { given = t.value; settled = r; plain = d.0 })) safe_here
-            (λ j z o. chosen z (pushed_here a (push rest work) (record { typed = x; settled = v; plain = l.0 }) (push_goes primitives p.unit (lay objects) f fs rest work more left))
-            (pushed_here b (push rest work) (record { typed = y; settled = w; plain = l.1 }) (push_goes primitives p.unit (lay objects) f fs rest work more left)))
+            (λ j z o. chosen z (pushed_here a (push rest work) (record { typed = x; settled = v; plain = l.0 }) (push_goes first primitives p.unit (lay objects) f fs rest work more left))
+            (pushed_here b (push rest work) (record { typed = y; settled = w; plain = l.1 }) (push_goes first primitives p.unit (lay objects) f fs rest work more left)))
     stated (loop span test body) rest work h more left = by_rule h.typed h.settled h.plain
       where
         by_rule : IsTyped (type_faults env.structs) env (loop span test body) → stmt_resolved (resolved_type env.structs) env (loop span test body) ≡ loop span test body → is_plain_stmt (loop span test body) ≡ true → SafeStep (act_statement p (loop span test body) rest work here)
@@ -335,9 +349,9 @@ module _ (W E : Type 0) (primitives : List CPrimitive) (p : Setting W E) (is_rig
     acts_here (begin n args) work h = absurd h
 
   acts_in : (objects : List Ty) (gv hv : Value) (hw : ℕ) (frames : List Frame) (world : W) (calls : List (List E)) (answer : Option Value) (item : Work) (work : List Work)
-      → IsTypedWith p.unit objects (state_of gv hv hw frames) → IsTrue (is_right world) → Ready primitives p.unit (lay objects) (item ∷ work) frames → SafeStep (act p item work (standing_at gv hv hw frames world calls answer))
+      → IsTypedWith p.unit objects (state_of gv hv hw frames) → IsTrue (is_right world) → Ready first primitives p.unit (lay objects) (item ∷ work) frames → SafeStep (act p item work (standing_at gv hv hw frames world calls answer))
   acts_in objects gv hv hw (g ∷ fs) world calls answer item work typed right ready = acts_here objects gv hv hw g fs world calls answer ready.0 typed right ready.1 item work ready.2
-  acts_in objects gv hv hw [] world calls answer (begin n args) [] typed right ready = called objects gv hv hw [] world calls answer (units 0) n ready.0 args outward [] typed right ready.1 ready.2 tt
+  acts_in objects gv hv hw [] world calls answer (begin n args) [] typed right ready = called objects gv hv hw [] world calls answer (units 0) n ready.0 args outward [] typed right ready.1 ready.2 ready.3
   acts_in objects gv hv hw [] world calls answer (begin n args) (item ∷ work) typed right ready = absurd ready
   acts_in objects gv hv hw [] world calls answer (act_on s rest) work typed right ready = absurd ready
   acts_in objects gv hv hw [] world calls answer (finish place v rest) work typed right ready = absurd ready
@@ -350,28 +364,41 @@ module _ (W E : Type 0) (primitives : List CPrimitive) (p : Setting W E) (is_rig
   stays_safe : (work : List Work) (c : Configuration W E) → Stays work c → IsSafeAt is_right p.unit c
   stays_safe work c h = ((h.objects, h.typed), h.right)
 
-  runs_on : (t : Step W E) (l : ℕ) (used : Cost) (c : Configuration W E) (go : Cost → List Work → Configuration W E → Outcome W E) → IsSafeAt is_right p.unit c → SafeStep t → ((k : Cost) (w : List Work) (d : Configuration W E) → Stays w d → IsSafe is_right p.unit (go k w d)) → IsSafe is_right p.unit (then_run t l used c go)
+  -- so is the end of a run, with an answer of that type where it is done
+  abbrev Ends : Outcome W E → Type 0
+  Ends o = IsSafe is_right p.unit o × Answers p.unit first o
+
+  runs_on : (t : Step W E) (l : ℕ) (used : Cost) (c : Configuration W E) (go : Cost → List Work → Configuration W E → Outcome W E) → IsSafeAt is_right p.unit c → SafeStep t → ((k : Cost) (w : List Work) (d : Configuration W E) → Stays w d → Ends (go k w d)) → Ends (then_run t l used c go)
   runs_on (Go k w d) l used c go s h rest = by_test (nat_lt l (total (plus used k)))
     where
-      by_test : (b : Bool) → IsSafe is_right p.unit (if b then NotYet used c else go (plus used k) w d)
-      by_test true = s
+      by_test : (b : Bool) → Ends (if b then NotYet used c else go (plus used k) w d)
+      by_test true = (s, tt)
       by_test false = rest (plus used k) w d h
   runs_on (Stop k (faulted x) d) l used c go s h rest = by_test (nat_lt l (total (plus used k)))
     where
-      by_test : (b : Bool) → IsSafe is_right p.unit (if b then NotYet used c else Failed (plus used k) (faulted x) d)
-      by_test true = s
-      by_test false = h
+      by_test : (b : Bool) → Ends (if b then NotYet used c else Failed (plus used k) (faulted x) d)
+      by_test true = (s, tt)
+      by_test false = (h, tt)
   runs_on (Stop k stuck d) l used c go s h rest = absurd h
 
-  runs_safe : (steps l : ℕ) (used : Cost) (work : List Work) (c : Configuration W E) → Stays work c → IsSafe is_right p.unit (run p steps l used work c)
-  runs_safe zero l used work c h = stays_safe work c h
-  runs_safe (suc steps) l used [] c h = stays_safe [] c h
+  runs_safe : (steps l : ℕ) (used : Cost) (work : List Work) (c : Configuration W E) → Stays work c → Ends (run p steps l used work c)
+  runs_safe zero l used work c h = (stays_safe work c h, tt)
+  runs_safe (suc steps) l used [] c h = (stays_safe [] c h, (h.objects, h.typed, h.answered))
   runs_safe (suc steps) l used (item ∷ work) c h = runs_on (act p item work c) l used c (run p steps l) (stays_safe (item ∷ work) c h) (acts_safe item work c h) (λ k w d s. runs_safe steps l k w d s)
 
   no_frames : (layout : Layout) → All (IsTypedFrame p.unit layout) []
   no_frames layout k d h = absurd (omega (arith, h))
 
-  pub first_call_safe : (objects : List Ty) (n number : ℕ) (f : CFunction) (args : Values) (s : State) (world : W) → slice_get p.unit.functions number ≡ Some f → IsTypedWith p.unit objects s → AllFit (shapes p.unit) (lay objects) (types_of (map typed_of f.params)) args → IsTrue (is_right world) → IsSafe is_right p.unit (call_first p n number args s world)
-  first_call_safe objects n number f args s world is typed fits right =
+  first_call_ends : (objects : List Ty) (n number : ℕ) (f : CFunction) (args : Values) (s : State) (world : W) → slice_get p.unit.functions number ≡ Some f → ty_of f.answer ≡ first → IsTypedWith p.unit objects s → AllFit (shapes p.unit) (lay objects) (types_of (map typed_of f.params)) args → IsTrue (is_right world) → Ends (call_first p n number args s world)
+  first_call_ends objects n number f args s world is gives typed fits right =
       runs_safe (suc n) n (units 0) (begin number args ∷ []) (beginning (record s { frames = [] }) world)
-      (record { objects = objects; typed = record { global_values = typed.global_values; heap_values = typed.heap_values; frames = no_frames (lay objects) }; ready = (f, is, fits); right = right })
+      (record { objects = objects; answered = tt; typed = record { global_values = typed.global_values; heap_values = typed.heap_values; frames = no_frames (lay objects) }; ready = (f, is, fits, gives); right = right })
+
+module _ (W E : Type 0) (primitives : List CPrimitive) (p : Setting W E) (is_right : W → Bool) (well : IsWellFormed primitives p.unit) (answers : AnswersFit is_right primitives p.meaning)
+    (objects : List Ty) (n number : ℕ) (f : CFunction) (args : Values) (s : State) (world : W) (is : slice_get p.unit.functions number ≡ Some f) (typed : IsTypedWith p.unit objects s)
+    (fits : AllFit (shapes p.unit) (layout_of p.unit objects) (types_of (map typed_of f.params)) args) (right : IsTrue (is_right world)) where
+  pub first_call_safe : IsSafe is_right p.unit (call_first p n number args s world)
+  first_call_safe = (first_call_ends W E primitives p is_right well answers (ty_of f.answer) objects n number f args s world is refl typed fits right).0
+
+  pub first_call_answers : Answers p.unit (ty_of f.answer) (call_first p n number args s world)
+  first_call_answers = (first_call_ends W E primitives p is_right well answers (ty_of f.answer) objects n number f args s world is refl typed fits right).1

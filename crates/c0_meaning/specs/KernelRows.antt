@@ -1,15 +1,18 @@
 -- Worked rows: what small kernels come to.
-use Rattle.std.specs.Prelude.{◌≡◌, ℕ, ◌+◌, pos, neg_ℤ, List, [], ◌∷◌, codes, true, false, Option, Some, None, slice_get, unwrap_or, option_map}
+use Rattle.std.specs.Prelude.{◌≡◌, ℕ, ◌+◌, ◌*◌, pos, neg_ℤ, List, [], ◌∷◌, codes, true, false, Option, Some, None, slice_get, unwrap_or, option_map, length}
 use Rattle.c0_tree.specs.declared.primitive.Scalar.{Scalar}
 use Rattle.c0_tree.specs.declared.primitive.Scalar.TheVariants.{Int, Bool as Boolean}
+use Rattle.c0_tree.specs.declared.tree.UnaryOp.TheVariants.{Negate}
 use Rattle.c0_tree.specs.declared.tree.BinaryOp.TheVariants.{Sub}
-use Rattle.c0_tree.specs.Tree.{CUnit, assign, binary}
+use Rattle.c0_tree.specs.Tree.{CUnit, assign, unary, binary}
 use Rattle.c0_meaning.specs.Value.{globals, heap, Value, int, bool, null, at, group, Values, empty, part}
 use Rattle.c0_meaning.specs.State.{first_state}
 use Rattle.c0_meaning.specs.Operators.{Failure, NullUse, Bounds, DivZero, StackOut, faulted}
 use Rattle.c0_meaning.specs.World.{Meaning, Setting, Cost, Configuration, journal}
 use Rattle.c0_meaning.specs.Execution.{Outcome, Done, Failed, NotYet, exec, dispatch}
 use Rattle.c0_meaning.specs.Kernels.{z, global, number, block, sums, divisions, by_zero, small_heap, recursion, bounds, null_use, nexts, counts, scheduler, asm_sum, list, endless, order, parts, twice, thrice, inverse}
+use Rattle.c0_meaning.specs.PrimitiveCalls.{PrimitiveCall}
+use Rattle.c0_meaning.specs.SystemKernels.{returning, overflow, lines, copies, copies_twice, probes, resizes, divides, console, waits}
 use Rattle.c0_meaning.specs.RunLaws.{stands_at}
 use Rattle.c0_meaning.specs.TypedState.{AnswersFit}
 use Rattle.c0_meaning.specs.UserProgram.{user_primitives, prog}
@@ -22,10 +25,9 @@ abbrev pub seven : Scalar → Value
 seven Int = int (pos 7)
 seven Boolean = bool true
 
--- primitives that count their calls and note their numbers: those that answer an int answer 7, the others true; each touches one page
--- and one word
-abbrev pub sevens : Meaning ℕ ℕ
-sevens n args calls = record { answer = seven (unwrap_or (option_map (λ row. row.answer) (slice_get kernel_primitives n)) Int); world = calls + 1; entries = n ∷ []; pages = 1; words = 1 }
+-- primitives that count and note their calls: those that answer an int answer 7, the others true; each touches one page and one word
+abbrev pub sevens : Meaning ℕ PrimitiveCall
+sevens n args calls = record { answer = seven (unwrap_or (option_map (λ row. row.answer) (slice_get kernel_primitives n)) Int); world = calls + 1; entries = record { number = n; args = args } ∷ []; pages = 1; words = 1 }
 
 -- how a run ended
 pub data Ending : Type 0 where
@@ -39,15 +41,15 @@ pub record Sight : Type 0 where
   pub globals : Value
   pub objects : Value
   pub heap_words : ℕ
-  pub journal : List ℕ
+  pub journal : List PrimitiveCall
   pub cost : Cost
 
 -- what is looked at in a configuration
-abbrev pub sight : Ending → Cost → Configuration ℕ ℕ → Sight
+abbrev pub sight : Ending → Cost → Configuration ℕ PrimitiveCall → Sight
 sight e k c = record { ending = e; globals = c.state.global_values; objects = c.state.heap_values; heap_words = c.state.heap_words; journal = journal c; cost = k }
 
 -- what is seen of an outcome
-abbrev pub seen : Outcome ℕ ℕ → Sight
+abbrev pub seen : Outcome ℕ PrimitiveCall → Sight
 seen (Done k c) = sight (answered c.answer) k c
 seen (Failed k f c) = sight (failed f) k c
 seen (NotYet k c) = sight not_yet k c
@@ -57,13 +59,18 @@ abbrev pub comes : CUnit → (room stack cause edata user limit : ℕ) → Sight
 comes u room stack cause edata user limit =
     seen (dispatch (record { unit = u; heap = room; stack = stack; meaning = sevens }) limit (pos cause) (pos edata) (pos user) (first_state u) 0)
 
--- values one after another, as a group
+-- values one after another
+abbrev pub all : List Value → Values
+all [] = empty
+all (v ∷ rest) = part v (all rest)
+
+-- and as a group
 abbrev pub these : List Value → Value
 these vs = group (all vs)
-  where
-    all : List Value → Values
-    all [] = empty
-    all (v ∷ rest) = part v (all rest)
+
+-- a call of the primitive of a number
+abbrev pub asked : ℕ → List Value → PrimitiveCall
+asked n args = record { number = n; args = all args }
 
 -- an int from 0 on
 abbrev pub plain : ℕ → Value
@@ -114,7 +121,7 @@ pub record AreRunsRight : Type 0 where
     globals = these (plain 0 ∷ these (bool false ∷ bool true ∷ bool false ∷ bool false ∷ []) ∷ []);
     objects = these [];
     heap_words = 0;
-    journal = 0 ∷ 5 ∷ [];
+    journal = asked 0 (plain 1 ∷ plain 4 ∷ []) ∷ asked 5 (plain 3 ∷ plain 64 ∷ plain 7 ∷ []) ∷ [];
     cost = record { own = 71; primitive = 6; pages = 2 };
   }
   pub ends : comes scheduler 64 256 6 12 3 1000 ≡ record {
@@ -122,7 +129,7 @@ pub record AreRunsRight : Type 0 where
     globals = these (plain 7 ∷ these (bool false ∷ bool false ∷ bool false ∷ bool true ∷ []) ∷ []);
     objects = these [];
     heap_words = 0;
-    journal = 0 ∷ [];
+    journal = asked 0 (plain 3 ∷ plain 4 ∷ []) ∷ [];
     cost = record { own = 30; primitive = 3; pages = 1 };
   }
   pub objects : comes list 9 256 0 0 0 1000 ≡ shows_objects (answers 32) (to_object (2 ∷ []) ∷ bool true ∷ bool true ∷ plain 32 ∷ [])
@@ -151,7 +158,7 @@ pub record IsOrderRight : Type 0 where
 -- two calls of `dispatch`, one after the other, with what stays between them
 abbrev pub comes_again : CUnit → (room stack cause edata user next_cause next_edata next_user limit : ℕ) → Sight
 comes_again u room stack cause edata user next_cause next_edata next_user limit =
-    let setting : Setting ℕ ℕ = record { unit = u; heap = room; stack = stack; meaning = sevens } in
+    let setting : Setting ℕ PrimitiveCall = record { unit = u; heap = room; stack = stack; meaning = sevens } in
     let between = stands_at (dispatch setting limit (pos cause) (pos edata) (pos user) (first_state u) 0) in
     seen (dispatch setting limit (pos next_cause) (pos next_edata) (pos next_user) between.state between.world)
 
@@ -178,7 +185,7 @@ pub record ArePartsRight : Type 0 where
     globals = these (variables null null unset 0);
     objects = these [];
     heap_words = 0;
-    journal = 0 ∷ [];
+    journal = asked 0 (plain 1 ∷ plain 4 ∷ []) ∷ [];
     cost = record { own = 11; primitive = 3; pages = 1 };
   }
   pub object_is_null : comes parts 0 256 1 0 0 1000 ≡ shows (failed (faulted NullUse)) (variables null null unset 0) 13
@@ -188,7 +195,7 @@ pub record ArePartsRight : Type 0 where
     globals = these (variables null null unset 0);
     objects = these [];
     heap_words = 0;
-    journal = 0 ∷ [];
+    journal = asked 0 (plain 1 ∷ plain 4 ∷ []) ∷ [];
     cost = record { own = 33; primitive = 3; pages = 1 };
   }
   pub primitive_is_stored : comes parts 64 256 6 0 0 37 ≡ record {
@@ -196,7 +203,7 @@ pub record ArePartsRight : Type 0 where
     globals = these (variables null null unset 7);
     objects = these [];
     heap_words = 0;
-    journal = 0 ∷ [];
+    journal = asked 0 (plain 1 ∷ plain 4 ∷ []) ∷ [];
     cost = record { own = 34; primitive = 3; pages = 1 };
   }
   pub object_alone : comes parts 64 256 5 0 0 33 ≡ shows_objects not_yet (variables null null unset 0) (two 0 0 ∷ []) 2 33
@@ -208,6 +215,32 @@ pub record ArePartsRight : Type 0 where
   pub once : comes parts 64 256 5 0 0 1000 ≡ shows_objects (answers 1) (variables (to_object (0 ∷ [])) (to_object (0 ∷ 1 ∷ [])) unset 0) (two 0 1 ∷ []) 2 57
   pub again : comes_again parts 64 256 5 0 0 5 0 0 1000 ≡ shows_objects (answers 2) (variables (to_object (0 ∷ [])) (to_object (0 ∷ 1 ∷ [])) unset 0) (two 0 2 ∷ []) 2 53
   pub counted_twice : comes_again counts 64 256 3 0 1 3 0 1 1000 ≡ shows (answers 0) (plain 2 ∷ []) 22
+
+-- a sight of calls of primitives, each of which is three units and a page, and of no heap
+abbrev pub shows_calls : Ending → List Value → List PrimitiveCall → ℕ → Sight
+shows_calls e gs calls own =
+    record { ending = e; globals = these gs; objects = these []; heap_words = 0; journal = calls; cost = record { own = own; primitive = 3 * length calls; pages = length calls } }
+
+-- Kernels of small systems: what they ask of users and console, and in which order. A kernel may answer what is no user: that is no fault
+-- of C0.
+pub record AreSystemsRight : Type 0 where
+  pub halts_at_once : comes (returning (number 0)) 64 256 0 0 0 1000 ≡ shows (answers 0) [] 2
+  pub no_such_user : comes (returning (number 5)) 64 256 0 0 0 1000 ≡ shows (answers 5) [] 2
+  pub below_all_users : comes (returning (unary z Negate (number 1))) 64 256 0 0 0 1000 ≡ shows (answered (Some (minus 1))) [] 3
+  pub starts_a_user : comes overflow 64 256 0 0 0 1000 ≡ shows (answers 1) (plain 0 ∷ plain 0 ∷ []) 10
+  pub sees_an_overflow : comes overflow 64 256 5 539099137 1 1000 ≡ shows_calls (answers 0) (plain 7 ∷ plain 7 ∷ []) (asked 0 (plain 1 ∷ plain 32 ∷ []) ∷ asked 0 (plain 1 ∷ plain 2 ∷ []) ∷ []) 21
+  pub takes_two_lines : comes_again lines 64 256 1 2 1 1 4 1 1000 ≡ shows (answers 0) (plain 2 ∷ plain 20 ∷ []) 29
+  pub grows_and_copies : comes copies 64 256 0 0 0 1000 ≡ shows_calls (answers 1) (bool true ∷ []) (asked 3 (plain 1 ∷ plain 2 ∷ []) ∷ asked 6 (plain 1 ∷ plain 0 ∷ plain 1 ∷ plain 4096 ∷ plain 1024 ∷ []) ∷ []) 21
+  pub copies_between_users : comes copies_twice 64 256 0 0 0 1000 ≡ shows_calls (answers 0) (bool true ∷ bool true ∷ [])
+      (asked 6 (plain 1 ∷ plain 4088 ∷ plain 2 ∷ plain 0 ∷ plain 4 ∷ []) ∷ asked 6 (plain 1 ∷ plain 4088 ∷ plain 1 ∷ plain 4096 ∷ plain 4 ∷ []) ∷ []) 16
+  pub asks_in_order : comes probes 64 256 0 0 0 1000 ≡ shows_calls (answers 0) (plain 7 ∷ plain 7 ∷ bool true ∷ bool true ∷ [])
+      (asked 0 (plain 9 ∷ plain 1 ∷ []) ∷ asked 4 (plain 1 ∷ plain 2 ∷ []) ∷ asked 1 (plain 1 ∷ plain 0 ∷ plain 5 ∷ [])
+      ∷ asked 3 (plain 1 ∷ plain 5 ∷ []) ∷ asked 3 (plain 1 ∷ plain 0 ∷ []) ∷ asked 3 (plain 1 ∷ plain 1 ∷ []) ∷ []) 27
+  pub grows : comes (resizes 4) 64 256 0 0 0 1000 ≡ shows_calls (answers 1) (bool true ∷ []) (asked 3 (plain 1 ∷ plain 4 ∷ []) ∷ []) 14
+  pub divides_at_start : comes divides 64 256 0 0 0 1000 ≡ shows (answers 1) (plain 33 ∷ []) 17
+  pub divides_at_a_call : comes divides 64 256 6 12 1 1000 ≡ shows (answers 0) (plain 11 ∷ []) 14
+  pub reads_and_writes : comes console 64 256 0 0 0 1000 ≡ shows_calls (answers 0) (plain 14 ∷ bool true ∷ []) (asked 8 [] ∷ asked 8 [] ∷ asked 7 (plain 14 ∷ []) ∷ asked 7 (minus 1 ∷ []) ∷ []) 20
+  pub leaves_user_3_out : comes waits 64 256 1 1 2 1000 ≡ shows (answers 1) (plain 0 ∷ these (bool false ∷ bool false ∷ bool false ∷ bool false ∷ []) ∷ []) 97
 
 -- user programs: the answers that are left over aren't asked for, and past the last one a program stands
 pub record AreProgramsRight : Type 0 where
@@ -237,6 +270,16 @@ pub record AreChecked : Type 0 where
   pub endless : IsChecked endless
   pub order : IsChecked order
   pub parts : IsChecked parts
+  pub returning : IsChecked (returning (unary z Negate (number 1)))
+  pub overflow : IsChecked overflow
+  pub lines : IsChecked lines
+  pub copies : IsChecked copies
+  pub copies_twice : IsChecked copies_twice
+  pub probes : IsChecked probes
+  pub resizes : IsChecked (resizes 4)
+  pub divides : IsChecked divides
+  pub console : IsChecked console
+  pub waits : IsChecked waits
   pub twice : IsWellFormed user_primitives twice
   pub thrice : IsWellFormed user_primitives thrice
   pub inverse : IsWellFormed user_primitives inverse

@@ -32,6 +32,7 @@ pub mod UserProgram
 pub mod TypedState
 pub mod RunLaws
 pub mod Kernels
+pub mod SystemKernels
 pub mod KernelRows
 pub mod Offsets
 pub mod Addresses

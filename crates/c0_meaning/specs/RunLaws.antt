@@ -1,4 +1,4 @@
--- Laws of the meaning.
+-- Laws of values, states and runs.
 use Rattle.std.specs.Prelude.{◌≡◌, ◌↔◌, ℕ, suc, ◌+◌, ◌≤◌, ℤ, List, ◌++◌, true, Some, slice_get, position, IsTrue, length, slice_index, Bool, map, FitsSigned}
 use Rattle.c0_tree.specs.Tree.{CTy, CFunction, CUnit}
 use Rattle.c0_tree.specs.Primitives.{CPrimitive, kernel_primitives}
@@ -19,7 +19,7 @@ use Rattle.c0_meaning.specs.Execution.{Outcome, Done, Failed, NotYet, run, run_w
 use Rattle.c0_meaning.specs.State.{State, first_state, stack_words}
 use Rattle.c0_meaning.specs.PrimitiveCalls.{PrimitiveCall, AreMadeBy}
 use Rattle.c0_meaning.specs.CallChain.{AreChained, running}
-use Rattle.c0_meaning.specs.TypedState.{types_of, AllFit, layout_of, IsTypedWith, IsTypedState, AnswersFit, IsSafe}
+use Rattle.c0_meaning.specs.TypedState.{types_of, AllFit, layout_of, IsTypedWith, IsTypedState, AnswersFit, IsSafe, Answers}
 use Rattle.std.specs.Int.{w32}
 use Rattle.c0_meaning.specs.UserProgram.{Ending, done, failed, not_yet, user_primitives, is_main, prog}
 use Rattle.c0_meaning.specs.Operators.{stuck}
@@ -140,6 +140,28 @@ DispatchesAreSafe W E =
     → IsChecked p.unit → AnswersFit is_right kernel_primitives p.meaning → IsTypedState p.unit s
     → FitsSigned w32 cause → FitsSigned w32 edata → FitsSigned w32 user → IsTrue (is_right world)
     → IsSafe is_right p.unit (dispatch p n cause edata user s world)
+
+-- a law: a call that is done has answered a value of its function's type
+abbrev pub CallsAnswer : (W E : Type 0) → Type 0
+CallsAnswer W E =
+    (is_right : W → Bool) (primitives : List CPrimitive) (p : Setting W E) (objects : List Ty) (n number : ℕ) (f : CFunction) (args : Values) (s : State) (world : W)
+    → IsWellFormed primitives p.unit → AnswersFit is_right primitives p.meaning → slice_get p.unit.functions number ≡ Some f
+    → IsTypedWith p.unit objects s → AllFit (shapes p.unit) (layout_of p.unit objects) (types_of (map typed_of f.params)) args → IsTrue (is_right world)
+    → Answers p.unit (ty_of f.answer) (call_first p n number args s world)
+
+-- a run that is done has answered an int
+abbrev pub AnswersAnInt : {W E : Type 0} → Outcome W E → Type 0
+AnswersAnInt (Done used c) = (z : ℤ) × (c.answer ≡ Some (int z)) × FitsSigned w32 z
+AnswersAnInt (Failed used f c) = Unit {0}
+AnswersAnInt (NotYet used c) = Unit {0}
+
+-- a law: a dispatch that is done has answered an int
+abbrev pub DispatchesAnswer : (W E : Type 0) → Type 0
+DispatchesAnswer W E =
+    (is_right : W → Bool) (p : Setting W E) (n : ℕ) (cause edata user : ℤ) (s : State) (world : W)
+    → IsChecked p.unit → AnswersFit is_right kernel_primitives p.meaning → IsTypedState p.unit s
+    → FitsSigned w32 cause → FitsSigned w32 edata → FitsSigned w32 user → IsTrue (is_right world)
+    → AnswersAnInt (dispatch p n cause edata user s world)
 
 -- a program that isn't stuck
 abbrev pub IsNotStuck : Ending → Type 0

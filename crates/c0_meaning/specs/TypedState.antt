@@ -101,6 +101,12 @@ pub record AnswersFit {W E : Type 0} (is_right : W → Bool) (table : List CPrim
   pub answer : (n : ℕ) (row : CPrimitive) (args : Values) (w : W) → slice_get table n ≡ Some row → AreScalars row.args args → IsTrue (is_right w) → IsScalar row.answer (meaning n args w).answer
   pub world : (n : ℕ) (row : CPrimitive) (args : Values) (w : W) → slice_get table n ≡ Some row → AreScalars row.args args → IsTrue (is_right w) → IsTrue (is_right (meaning n args w).world)
 
+-- a run that is done has answered a value of a type, in a typed state
+abbrev pub Answers : {W E : Type 0} → CUnit → Ty → Outcome W E → Type 0
+Answers u t (Done used c) = (objects : List Ty) × IsTypedWith u objects c.state × ((v : Value) × (c.answer ≡ Some v) × Fits (shapes u) (layout_of u objects) t v)
+Answers u t (Failed used f c) = Unit {0}
+Answers u t (NotYet used c) = Unit {0}
+
 -- a run that isn't stuck, and stands in a typed state and a right value of the world
 abbrev pub IsSafeAt : {W E : Type 0} → (W → Bool) → CUnit → Configuration W E → Type 0
 IsSafeAt is_right u c = IsTypedState u c.state × IsTrue (is_right c.world)

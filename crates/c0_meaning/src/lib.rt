@@ -10,9 +10,10 @@
 //! - Resolving: `Resolved` names outside of bodies, `Expression` and `Statement` those in bodies, `Stable` that it changes no fault.
 //! - Sizes: `Words` of types, `Sizes` the table of structs, `Offsets` where values begin, `OpenTy` types with their structs written out,
 //!   `Sound` what sizes need of a unit.
-//! - Runs: `Value`, `State`, `Operators`, `Evaluation`, `AsmBody`, `World`, `Running`, `Execution`, `UserProgram`, `TypedState`, and
-//!   `RunLaws`.
-//! - Worked rows: `Rows`, `Kernels` and `KernelRows`.
+//! - Runs: `Value` and `State`, `Operators` and `Evaluation` of expressions, `AsmBody`, `World` primitives and what they cost, `Running`
+//!   statements, one step at a time, `Execution` runs, `UserProgram`. What is proved of them: `TypedState`, `PrimitiveCalls`, `CallChain`,
+//!   `Addresses` and `RunLaws`.
+//! - Worked rows: `Rows`, `Kernels`, `SystemKernels` and `KernelRows`.
 #![tactic(auto)]
 
 pub mod checked;

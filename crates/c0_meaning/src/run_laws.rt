@@ -1,8 +1,8 @@
-// The laws of the meaning: each function says one, and does nothing.
+// The laws of values, states and runs: each function says one, and does nothing.
 
-ghost use Rattle.c0_meaning.specs.RunLaws.{CallsAreSafe, CallsExtend, DispatchesAreSafe, EndsAtItsCost, FirstIsTyped, FramesFit, FunctionsAreChained, HasDispatch, LookAtTheirs, MoreUnits, PrimitivesAlone, ProgramsAreSafe, ProgramsEnd, StaysWithin, StepsAreEnough, TypesHaveWords, ZeroHasWords};
+ghost use Rattle.c0_meaning.specs.RunLaws.{CallsAnswer, CallsAreSafe, CallsExtend, DispatchesAnswer, DispatchesAreSafe, EndsAtItsCost, FirstIsTyped, FramesFit, FunctionsAreChained, HasDispatch, LookAtTheirs, MoreUnits, PrimitivesAlone, ProgramsAreSafe, ProgramsEnd, StaysWithin, StepsAreEnough, TypesHaveWords, ZeroHasWords};
 ghost use Rattle.c0_meaning.specs.Addresses.{PartsAreApart};
-ghost use Rattle.c0_meaning.specs.KernelRows.{AreChecked, ArePartsRight, AreProgramsRight, AreRunsRight, IsOrderRight, SevensFit};
+ghost use Rattle.c0_meaning.specs.KernelRows.{AreChecked, ArePartsRight, AreProgramsRight, AreRunsRight, AreSystemsRight, IsOrderRight, SevensFit};
 
 use crate::world::World;
 
@@ -83,6 +83,12 @@ pub fn calls_are_safe<W: World>()
     ensures dispatches { DispatchesAreSafe W.Standing W.Entry }
 {}
 
+/// A call that is done has answered a value of its function's type, and a dispatch an int.
+pub fn calls_answer_their_types<W: World>()
+    ensures calls { CallsAnswer W.Standing W.Entry }
+    ensures dispatches { DispatchesAnswer W.Standing W.Entry }
+{}
+
 /// A user program that is well formed is never stuck.
 pub fn programs_are_safe()
     ensures { ProgramsAreSafe }
@@ -93,6 +99,7 @@ pub fn kernel_rows()
     ensures runs { AreRunsRight }
     ensures order { IsOrderRight }
     ensures parts { ArePartsRight }
+    ensures systems { AreSystemsRight }
     ensures programs { AreProgramsRight }
     ensures checked { AreChecked }
     ensures fit { SevensFit }

@@ -3,7 +3,10 @@ use Rattle.std.specs.Int.{int_wrap}
 use Rattle.c0_meaning.specs.Words.{holds, struct_words}
 use Rattle.c0_meaning.proofs.Allowed.{all_allowed}
 use Rattle.c0_meaning.proofs.Safe.{sevens_fit}
+use Rattle.c0_tree.specs.declared.tree.UnaryOp.TheVariants.{Negate}
+use Rattle.c0_tree.specs.Tree.{unary}
 use Rattle.c0_meaning.specs.Kernels as kernels
+use Rattle.c0_meaning.specs.SystemKernels as systems
 use Rattle.c0_meaning.proofs.run_laws.kernel_rows.Goals as goal
 
 pub returns-clause-runs : goal.returns-clause-runs
@@ -71,6 +74,25 @@ returns-clause-parts c = record {
   counted_twice = refl;
 }
 
+pub returns-clause-systems : goal.returns-clause-systems
+unfolding holds struct_words int_wrap
+returns-clause-systems c = record {
+  halts_at_once = refl;
+  no_such_user = refl;
+  below_all_users = refl;
+  starts_a_user = refl;
+  sees_an_overflow = refl;
+  takes_two_lines = refl;
+  grows_and_copies = refl;
+  copies_between_users = refl;
+  asks_in_order = refl;
+  grows = refl;
+  divides_at_start = refl;
+  divides_at_a_call = refl;
+  reads_and_writes = refl;
+  leaves_user_3_out = refl;
+}
+
 pub returns-clause-programs : goal.returns-clause-programs
 unfolding int_wrap
 returns-clause-programs c = record { ends = refl; goes_on = refl; stands = refl; stands_first = refl; cut = refl; called = refl; short = refl; faults = refl }
@@ -93,6 +115,16 @@ returns-clause-checked c = record {
   endless = record { well_formed = record { plain = refl; typed = refl; resolved = refl; allowed = all_allowed kernels.endless.functions refl }; dispatch = refl };
   order = record { well_formed = record { plain = refl; typed = refl; resolved = refl; allowed = all_allowed kernels.order.functions refl }; dispatch = refl };
   parts = record { well_formed = record { plain = refl; typed = refl; resolved = refl; allowed = all_allowed kernels.parts.functions refl }; dispatch = refl };
+  returning = record { well_formed = record { plain = refl; typed = refl; resolved = refl; allowed = all_allowed (systems.returning (unary kernels.z Negate (kernels.number 1))).functions refl }; dispatch = refl };
+  overflow = record { well_formed = record { plain = refl; typed = refl; resolved = refl; allowed = all_allowed systems.overflow.functions refl }; dispatch = refl };
+  lines = record { well_formed = record { plain = refl; typed = refl; resolved = refl; allowed = all_allowed systems.lines.functions refl }; dispatch = refl };
+  copies = record { well_formed = record { plain = refl; typed = refl; resolved = refl; allowed = all_allowed systems.copies.functions refl }; dispatch = refl };
+  copies_twice = record { well_formed = record { plain = refl; typed = refl; resolved = refl; allowed = all_allowed systems.copies_twice.functions refl }; dispatch = refl };
+  probes = record { well_formed = record { plain = refl; typed = refl; resolved = refl; allowed = all_allowed systems.probes.functions refl }; dispatch = refl };
+  resizes = record { well_formed = record { plain = refl; typed = refl; resolved = refl; allowed = all_allowed (systems.resizes 4).functions refl }; dispatch = refl };
+  divides = record { well_formed = record { plain = refl; typed = refl; resolved = refl; allowed = all_allowed systems.divides.functions refl }; dispatch = refl };
+  console = record { well_formed = record { plain = refl; typed = refl; resolved = refl; allowed = all_allowed systems.console.functions refl }; dispatch = refl };
+  waits = record { well_formed = record { plain = refl; typed = refl; resolved = refl; allowed = all_allowed systems.waits.functions refl }; dispatch = refl };
   twice = record { plain = refl; typed = refl; resolved = refl; allowed = all_allowed kernels.twice.functions refl };
   thrice = record { plain = refl; typed = refl; resolved = refl; allowed = all_allowed kernels.thrice.functions refl };
   inverse = record { plain = refl; typed = refl; resolved = refl; allowed = all_allowed kernels.inverse.functions refl };
