@@ -2,9 +2,10 @@
  * proved one runs. It is what one would write without contracts: a struct, a switch over opcodes,
  * and no table of instructions.
  *
- * usage: plain_machine system|user STEPS
- * Puts the named loop into memory, runs it for STEPS steps, and prints the number of steps, the pc
- * and the registers.
+ * usage: plain_machine LOOP STEPS
+ * Puts the words of the file LOOP into memory, runs them for STEPS steps, and prints the number of
+ * steps, the pc, the registers, hi and lo, the special registers, the length of the console's log
+ * and a sum over the log and the memory.
  */
 #include <stdbool.h>
 #include <stdint.h>
@@ -12,7 +13,7 @@
 #include <stdlib.h>
 #include <string.h>
 
-enum { FRAME_WORDS = 1024, FRAMES = 16, MEMORY_WORDS = FRAMES * FRAME_WORDS, SECTORS = 8 };
+enum { FRAME_WORDS = 1024, FRAMES = 16, MEMORY_WORDS = FRAMES * FRAME_WORDS, SECTORS = 8, LOG_ROOM = 4096 };
 enum { SR, ESR, ECA, EPC, EDATA, PTO, PTL, MODE, EMODE, SPECIALS };
 enum { RESET, EXTERNAL, FETCH_ALIGN, FETCH_FAULT, ILLEGAL, OVERFLOW, SYSCALL, DATA_ALIGN, DATA_FAULT };
 enum { DISK_IDLE, DISK_READ, DISK_WRITE };
@@ -27,7 +28,7 @@ struct busy {
 };
 
 struct machine {
-    uint32_t pc, regs[32], special[SPECIALS];
+    uint32_t pc, regs[32], hi, lo, special[SPECIALS];
     uint32_t *memory;
     uint32_t words;
     bool reset, off;
@@ -39,6 +40,10 @@ struct machine {
     size_t line_count, next_line;
     const struct busy *busies;
     size_t busy_count;
+    /* the console: its log, and the input words of which some were taken */
+    uint32_t log[LOG_ROOM], log_count;
+    const uint32_t *inputs;
+    uint32_t input_count, next_input;
     /* the disk behind its ports */
     uint32_t buffer[FRAME_WORDS], sector;
     int command;
@@ -48,12 +53,15 @@ struct machine {
     uint32_t sector_count;
 };
 
-static uint32_t read_port(const struct machine *m, uint32_t address) {
+static uint32_t read_port(struct machine *m, uint32_t address) {
     bool is_busy = m->command != DISK_IDLE;
     uint32_t word = address >> 2;
     if (word >= 0x3ffff800 && word < 0x3ffffc00) return is_busy ? 0 : m->buffer[word - 0x3ffff800];
     if (word == 0x3ffffc00) return m->sector;
     if (word == 0x3ffffc01) return is_busy;
+    if (word == 0x3ffffc03) return m->log_count;
+    if (word == 0x3ffffc04) return m->input_count - m->next_input;
+    if (word == 0x3ffffc05) return m->next_input < m->input_count ? m->inputs[m->next_input++] : 0;
     return 0;
 }
 
@@ -74,6 +82,10 @@ static void write_port(struct machine *m, uint32_t address, uint32_t value) {
         m->power = value;
         return;
     }
+    if (word == 0x3ffffc03) {
+        if (m->log_count < LOG_ROOM) m->log[m->log_count++] = value;
+        return;
+    }
     if (m->command != DISK_IDLE) return;
     if (word >= 0x3ffff800 && word < 0x3ffffc00) m->buffer[word - 0x3ffff800] = value;
     if (word == 0x3ffffc00) m->sector = value;
@@ -89,7 +101,7 @@ static void transfer_is_due(struct machine *m) {
     m->command = DISK_IDLE;
 }
 
-static inline uint32_t read_word(const struct machine *m, uint32_t address) {
+static inline uint32_t read_word(struct machine *m, uint32_t address) {
     uint32_t word = address >> 2;
     return word < m->words ? m->memory[word] : read_port(m, address);
 }
@@ -156,6 +168,7 @@ static inline void execute(struct machine *m) {
     uint32_t a = m->regs[rs], b = m->regs[rt], zeros = word & 0xffff, signs = (uint32_t)(int16_t)zeros;
     uint32_t next = pc + 4, target = next + (signs << 2), address = a + signs;
     int32_t sum;
+    uint64_t product;
     switch (opcode) {
     case 0x00:
         switch (word & 63) {
@@ -168,6 +181,29 @@ static inline void execute(struct machine *m) {
         case 0x08: if (rt || rd || sa) goto illegal; next = a; break;
         case 0x09: if (rt || sa) goto illegal; set(m, rd, next); next = a; break;
         case 0x0c: return interrupt(m, SYSCALL, word, next);
+        case 0x10: if (rs || rt || sa) goto illegal; set(m, rd, m->hi); break;
+        case 0x11: if (rt || rd || sa) goto illegal; m->hi = a; break;
+        case 0x12: if (rs || rt || sa) goto illegal; set(m, rd, m->lo); break;
+        case 0x13: if (rt || rd || sa) goto illegal; m->lo = a; break;
+        case 0x18:
+        case 0x19:
+            if (rd || sa) goto illegal;
+            product = word & 1 ? (uint64_t)a * b : (uint64_t)((int64_t)(int32_t)a * (int32_t)b);
+            m->hi = product >> 32;
+            m->lo = (uint32_t)product;
+            break;
+        case 0x1a:
+            if (rd || sa) goto illegal;
+            if (b == 0) break;
+            m->lo = (uint32_t)((int64_t)(int32_t)a / (int32_t)b);
+            m->hi = (uint32_t)((int64_t)(int32_t)a % (int32_t)b);
+            break;
+        case 0x1b:
+            if (rd || sa) goto illegal;
+            if (b == 0) break;
+            m->lo = a / b;
+            m->hi = a % b;
+            break;
         case 0x20:
             if (sa) goto illegal;
             if (__builtin_add_overflow((int32_t)a, (int32_t)b, &sum)) return interrupt(m, OVERFLOW, word, next);
@@ -251,41 +287,31 @@ static inline void step(struct machine *m) {
     m->steps++;
 }
 
-/* In system mode: counts r2 down from 7fff0000 and r3 up, through the word at 400. */
-static const uint32_t in_system[] = {
-    0x3c027fff, /*  0: lui r2, 7fff */
-    0x24630001, /*  4: addiu r3, r3, 1 */
-    0xac030400, /*  8: sw r3, 400(r0) */
-    0x8c040400, /*  c: lw r4, 400(r0) */
-    0x2442ffff, /* 10: addiu r2, r2, -1 */
-    0x1c40fffb, /* 14: bgtz r2, 4 */
-};
+/* Puts the words of a file into memory: a line begins with a word of 8 hexadecimal digits, or with
+ * `at ADDRESS`, which says where the next word goes; other lines say nothing. */
+static bool load(struct machine *m, const char *name) {
+    char line[256], word[256];
+    uint32_t at = 0;
+    FILE *file = fopen(name, "r");
+    if (!file) return false;
+    while (fgets(line, sizeof line, file)) {
+        if (sscanf(line, "%255s", word) != 1) continue;
+        if (strcmp(word, "at") == 0) {
+            at = (uint32_t)strtoul(line + 3, NULL, 16) / 4;
+        } else if (strspn(word, "0123456789abcdef") == 8 && strlen(word) == 8) {
+            if (at < m->words) m->memory[at] = (uint32_t)strtoul(word, NULL, 16);
+            at++;
+        }
+    }
+    fclose(file);
+    return true;
+}
 
-/* In user mode: the same loop at virtual address 0, with its word in page 1. The page table is in frame 1, page 0 in frame 2 and
- * page 1 in frame 3. */
-static const uint32_t into_user[] = {
-    0x3c027fff, /*  0: lui r2, 7fff */
-    0x34011000, /*  4: ori r1, r0, 1000 */
-    0x40812800, /*  8: mtc0 r1, pto */
-    0x34010002, /*  c: ori r1, r0, 2 */
-    0x40813000, /* 10: mtc0 r1, ptl */
-    0x34010001, /* 14: ori r1, r0, 1 */
-    0x40814000, /* 18: mtc0 r1, emode */
-    0x40801800, /* 1c: mtc0 r0, epc */
-    0x42000018, /* 20: eret */
-};
-
-static const uint32_t in_user[] = {
-    0x24630001, /*  0: addiu r3, r3, 1 */
-    0xac031400, /*  4: sw r3, 1400(r0) */
-    0x8c041400, /*  8: lw r4, 1400(r0) */
-    0x2442ffff, /*  c: addiu r2, r2, -1 */
-    0x1c40fffb, /* 10: bgtz r2, 0 */
-};
+static uint32_t with(uint32_t sum, uint32_t word) { return (sum ^ word) * 16777619u; }
 
 int main(int count, char **words) {
     if (count != 3) {
-        fprintf(stderr, "usage: plain_machine system|user STEPS\n");
+        fprintf(stderr, "usage: plain_machine LOOP STEPS\n");
         return 1;
     }
     struct machine *m = calloc(1, sizeof *m);
@@ -296,17 +322,15 @@ int main(int count, char **words) {
     m->words = MEMORY_WORDS;
     m->sector_count = SECTORS;
     m->reset = true;
-    if (strcmp(words[1], "user") == 0) {
-        memcpy(m->memory, into_user, sizeof into_user);
-        m->memory[0x400] = 0x2800;
-        m->memory[0x401] = 0x3800;
-        memcpy(m->memory + 2 * FRAME_WORDS, in_user, sizeof in_user);
-    } else {
-        memcpy(m->memory, in_system, sizeof in_system);
-    }
+    if (!load(m, words[1])) return 3;
     uint64_t steps = strtoull(words[2], NULL, 10);
     for (uint64_t i = 0; i < steps; i++) step(m);
-    printf("steps %llu pc %08x mode %u\n", (unsigned long long)m->steps, m->pc, m->special[MODE]);
+    printf("steps %llu pc %08x hi %08x lo %08x\n", (unsigned long long)m->steps, m->pc, m->hi, m->lo);
     for (int r = 0; r < 32; r++) printf("%08x%c", m->regs[r], r % 8 == 7 ? '\n' : ' ');
+    for (int r = 0; r < SPECIALS; r++) printf("%08x%c", m->special[r], r == EMODE ? '\n' : ' ');
+    uint32_t sum = 0;
+    for (uint32_t i = 0; i < m->log_count; i++) sum = with(sum, m->log[i]);
+    for (uint32_t i = 0; i < m->words; i++) sum = with(sum, m->memory[i]);
+    printf("log %u sum %08x\n", m->log_count, sum);
     return 0;
 }
