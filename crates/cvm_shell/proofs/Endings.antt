@@ -278,7 +278,7 @@ run_headline u turns steps Shelf old new ends why sink memory = absurd ends
 
 -- the shelf's fault, where not too many bytes were taken, is counted
 shelf_rose : (status : Status) (old new : Outside) → status ≡ Shelf → new.shelf.taken ≢ TOO_LONG → CausedBy status old new → Rose old.shelf.faults new.shelf.faults
-shelf_rose status old new e few why = let P : Status → Type 0 = λ s. CausedBy s old new in elim ((subst P e why).0) [ | inl rose ↦ rose | inr long ↦ absurd (few long.0) ]
+shelf_rose status old new e few why = let P : Status → Type 0 = λ s. CausedBy s old new in elim ((subst P e why).0) [ inl rose ↦ rose | inr long ↦ absurd (few long.0) ]
 
 pub headline_end : (words : List (List ℕ)) (b : Boot) (image source : List ℕ) (u : CUnit) (status : Status) (old new : Outside) → IsBoot words b
     → old.shelf.file b.image ≡ Some image → old.shelf.file b.schedule ≡ Some [] → length image < TOO_LONG → reading image ≡ gives source → Reads source u
