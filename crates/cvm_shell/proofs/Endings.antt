@@ -18,10 +18,10 @@ use Rattle.cvm_shell.specs.declared.boot.Stop.TheVariants as Stops
 use Rattle.cvm_shell.specs.declared.refusal.Refusal.{Refusal as ByCode}
 use Rattle.cvm_shell.specs.declared.refusal.Refusal.TheVariants as by
 use Rattle.cvm_shell.specs.Command.{Boot, CompileUser, Command, boot, compile_user, IsBoot, IsCompileUser, IsCommand, IsNoCommand}
-use Rattle.cvm_shell.specs.Outside.{Files, Paper, Drive, Outside, SameSectors, Leaves}
+use Rattle.cvm_shell.specs.Outside.{Files, Outside, SameSectors, Leaves}
 use Rattle.cvm_shell.specs.Refusal.{Refusal, too_long, refusal_text, refusal_status}
 use Rattle.cvm_shell.specs.Plan.{Plan, bad_words, refuses, puts, boots, BootPlan, UserPlan, whole, AfterReading, reads, runs, ComesTo, no_command, boot_plan, user_plan, AllTold, IsPlan}
-use Rattle.cvm_shell.specs.Boot.{Ran, Boots, SinkBroken, GoesOn, RunEnds}
+use Rattle.cvm_shell.specs.Boot.{Ran, Boots, GoesOn, RunEnds}
 use Rattle.cvm_shell.specs.Outcome.{Says, said, broken, HasPut, Ends, Took, CommandEnds, done, undone, CausedBy}
 use Rattle.cvm_shell.specs.Stages.{KernelEnds, IsBootPlan, IsUserPlan}
 use Rattle.cvm_shell.specs.Views.{refusal_view}

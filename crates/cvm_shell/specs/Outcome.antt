@@ -1,12 +1,12 @@
 -- How a command ends: status, text, files and sectors together; and what the counts of faults say of each status.
-use Rattle.std.specs.Prelude.{◌≡◌, ◌≢◌, ◌⊎◌, ◌↔◌, ℕ, List, [], take, Option, codes}
+use Rattle.std.specs.Prelude.{◌≡◌, ◌≢◌, ◌⊎◌, ◌↔◌, ℕ, List, [], take, codes}
 use Rattle.cvm_outside.specs.Causes.{Rose}
 use Rattle.cvm_outside.specs.Told.{retold, TOO_LONG}
 use Rattle.cvm_shell.specs.declared.status.Status.{Status}
-use Rattle.cvm_shell.specs.declared.status.Status.TheVariants.{Done, Words, Refused, KernelFault, StepLimit, Disk, Shelf, Sink, Memory}
+use Rattle.cvm_shell.specs.declared.status.Status.TheVariants.{Done, Words, Disk, Shelf, Sink, Memory}
 use Rattle.cvm_shell.specs.Outside.{Outside, SameSectors, Leaves}
 use Rattle.cvm_shell.specs.Command.{Command, IsCommand}
-use Rattle.cvm_shell.specs.Refusal.{Refusal, too_long, refusal_text, refusal_status}
+use Rattle.cvm_shell.specs.Refusal.{too_long, refusal_text, refusal_status}
 use Rattle.cvm_shell.specs.Plan.{Plan, bad_words, refuses, puts, boots, ComesTo, AllTold, IsPlan}
 use Rattle.cvm_shell.specs.Boot.{RunEnds}
 
