@@ -1,5 +1,5 @@
 -- So many turns of a kernel lead to one past: there is one, and no other.
-use Rattle.std.proofs.Common.{◌≡◌, ◌≢◌, ℕ, zero, suc, ℤ, List, refl, sym, ap, ◌∙◌, subst}
+use Rattle.std.proofs.Common.{◌≡◌, ℕ, zero, suc, ℤ, List, refl, sym, ap, ◌∙◌}
 use Rattle.c0_tree.specs.FirstTree.{CUnit}
 use Rattle.first_code.specs.Meaning.{value, executed}
 use Rattle.cvm_shell.specs.Cvm.{Standing, running, halted, faulted, Past, Dispatch, first_past, after_turn, IsCvm, start, turn, rest}

@@ -18,10 +18,10 @@ use Rattle.cvm_shell.specs.declared.boot.Stop.TheVariants as Stops
 use Rattle.cvm_shell.specs.declared.refusal.Refusal.{Refusal as ByCode}
 use Rattle.cvm_shell.specs.declared.refusal.Refusal.TheVariants as by
 use Rattle.cvm_shell.specs.Command.{Boot, CompileUser, Command, boot, compile_user, IsBoot, IsCompileUser, IsCommand, IsNoCommand}
-use Rattle.cvm_shell.specs.Outside.{Files, Paper, Drive, Outside, SameSectors, Leaves}
+use Rattle.cvm_shell.specs.Outside.{Files, Outside, SameSectors, Leaves}
 use Rattle.cvm_shell.specs.Refusal.{Refusal, too_long, refusal_text, refusal_status}
 use Rattle.cvm_shell.specs.Plan.{Plan, bad_words, refuses, puts, boots, BootPlan, UserPlan, whole, AfterReading, reads, runs, ComesTo, no_command, boot_plan, user_plan, AllTold, IsPlan}
-use Rattle.cvm_shell.specs.Boot.{Ran, Boots, SinkBroken, GoesOn, RunEnds}
+use Rattle.cvm_shell.specs.Boot.{Ran, Boots, GoesOn, RunEnds}
 use Rattle.cvm_shell.specs.Outcome.{Says, said, broken, HasPut, Ends, Took, CommandEnds, done, undone, CausedBy}
 use Rattle.cvm_shell.specs.Stages.{KernelEnds, IsBootPlan, IsUserPlan}
 use Rattle.cvm_shell.specs.Views.{refusal_view}
@@ -278,7 +278,7 @@ run_headline u turns steps Shelf old new ends why sink memory = absurd ends
 
 -- the shelf's fault, where not too many bytes were taken, is counted
 shelf_rose : (status : Status) (old new : Outside) → status ≡ Shelf → new.shelf.taken ≢ TOO_LONG → CausedBy status old new → Rose old.shelf.faults new.shelf.faults
-shelf_rose status old new e few why = let P : Status → Type 0 = λ s. CausedBy s old new in elim ((subst P e why).0) [ | inl rose ↦ rose | inr long ↦ absurd (few long.0) ]
+shelf_rose status old new e few why = let P : Status → Type 0 = λ s. CausedBy s old new in elim ((subst P e why).0) [ inl rose ↦ rose | inr long ↦ absurd (few long.0) ]
 
 pub headline_end : (words : List (List ℕ)) (b : Boot) (image source : List ℕ) (u : CUnit) (status : Status) (old new : Outside) → IsBoot words b
     → old.shelf.file b.image ≡ Some image → old.shelf.file b.schedule ≡ Some [] → length image < TOO_LONG → reading image ≡ gives source → Reads source u

@@ -1,6 +1,6 @@
 -- What files come to, stage by stage: each stage that stops, or goes on to what comes to one plan, comes to that plan and to no other.
 use Rattle.std.proofs.Common.{◌≡◌, ◌≢◌, ℕ, ◌<◌, ◌≤◌, Bool, true, false, ◌==◌, min, List, [], ◌∷◌, length, refl, sym, ap, ◌∙◌, subst, arith, Some, None, Ok, Err}
-use Rattle.std.specs.Prelude.{Option, IfSome, Result, MatchResult, ⊤, replicate}
+use Rattle.std.specs.Prelude.{Option, IfSome, Result, ⊤, replicate}
 use Rattle.std.specs.Option.{IsSome}
 use Rattle.std.proofs.lemmas.Bool.Decides.{nat_tests}
 use Rattle.std.proofs.lemmas.List.{length-replicate}

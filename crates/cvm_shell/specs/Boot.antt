@@ -5,9 +5,9 @@ use Rattle.first_machine.specs.Machine.{State}
 use Rattle.first_machine.specs.Turns.{complete, is_end, end_within}
 use Rattle.first_code.specs.Runs.{start_of}
 use Rattle.cvm_shell.specs.declared.status.Status.{Status}
-use Rattle.cvm_shell.specs.declared.status.Status.TheVariants.{Done, Words, Refused, KernelFault, StepLimit, Disk, Shelf, Sink, Memory}
+use Rattle.cvm_shell.specs.declared.status.Status.TheVariants.{Done, KernelFault, StepLimit, Sink, Memory}
 use Rattle.cvm_shell.specs.Outside.{Outside, Leaves}
-use Rattle.cvm_shell.specs.Cvm.{Standing, running, halted, faulted, Past, IsCvm}
+use Rattle.cvm_shell.specs.Cvm.{Standing, faulted, Past, IsCvm}
 use Rattle.cvm_shell.specs.Text.{rows_text, report_text}
 
 -- the moment at which the run of a boot ends: so many turns are complete or the machine is off, or the steps are spent

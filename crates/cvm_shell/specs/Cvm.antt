@@ -57,5 +57,6 @@ after_turn k c globals answer = record { globals = globals; standing = standing_
 -- k turns lead to this: a run that goes on dispatches, one that has ended is left as it is
 pub data IsCvm (u : CUnit) : ℕ → Past → Type 0 where
   start : IsCvm u zero (first_past u)
-  turn : (k : ℕ) (c : Past) (globals : List ℤ) (answer : ℤ) → IsCvm u k c → c.standing ≡ running → Dispatch u c.globals globals answer → IsCvm u (suc k) (after_turn k c globals answer)
+  turn : (k : ℕ) (c : Past) (globals : List ℤ) (answer : ℤ) → IsCvm u k c → c.standing ≡ running
+      → Dispatch u c.globals globals answer → IsCvm u (suc k) (after_turn k c globals answer)
   rest : (k : ℕ) (c : Past) → IsCvm u k c → c.standing ≢ running → IsCvm u (suc k) c

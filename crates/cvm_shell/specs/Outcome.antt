@@ -1,12 +1,12 @@
 -- How a command ends: status, text, files and sectors together; and what the counts of faults say of each status.
-use Rattle.std.specs.Prelude.{◌≡◌, ◌≢◌, ◌⊎◌, ◌↔◌, ℕ, List, [], take, Option, codes}
+use Rattle.std.specs.Prelude.{◌≡◌, ◌≢◌, ◌⊎◌, ◌↔◌, ℕ, List, [], take, codes}
 use Rattle.cvm_outside.specs.Causes.{Rose}
 use Rattle.cvm_outside.specs.Told.{retold, TOO_LONG}
 use Rattle.cvm_shell.specs.declared.status.Status.{Status}
-use Rattle.cvm_shell.specs.declared.status.Status.TheVariants.{Done, Words, Refused, KernelFault, StepLimit, Disk, Shelf, Sink, Memory}
+use Rattle.cvm_shell.specs.declared.status.Status.TheVariants.{Done, Words, Disk, Shelf, Sink, Memory}
 use Rattle.cvm_shell.specs.Outside.{Outside, SameSectors, Leaves}
 use Rattle.cvm_shell.specs.Command.{Command, IsCommand}
-use Rattle.cvm_shell.specs.Refusal.{Refusal, too_long, refusal_text, refusal_status}
+use Rattle.cvm_shell.specs.Refusal.{too_long, refusal_text, refusal_status}
 use Rattle.cvm_shell.specs.Plan.{Plan, bad_words, refuses, puts, boots, ComesTo, AllTold, IsPlan}
 use Rattle.cvm_shell.specs.Boot.{RunEnds}
 
@@ -42,8 +42,10 @@ Took p taken = (p ≡ refuses too_long) ↔ (taken ≡ TOO_LONG)
 
 -- HOW A COMMAND ENDS: what it comes to is done; or there was no memory or no file to know what that is, and nothing is done
 pub data CommandEnds (words : List (List ℕ)) (status : Status) (old new : Outside) : Type 0 where
-  done : (p : Plan) → IsPlan (AllTold words old.shelf.file) (ComesTo words old.shelf.file) p → Took p new.shelf.taken → Ends p status old new → CommandEnds words status old new
-  undone : (c : Command) → IsCommand words c → (status ≡ Memory) ⊎ (status ≡ Shelf) → new.shelf.taken ≢ TOO_LONG → Leaves old new [] → CommandEnds words status old new
+  done : (p : Plan) → IsPlan (AllTold words old.shelf.file) (ComesTo words old.shelf.file) p
+      → Took p new.shelf.taken → Ends p status old new → CommandEnds words status old new
+  undone : (c : Command) → IsCommand words c → (status ≡ Memory) ⊎ (status ≡ Shelf)
+      → new.shelf.taken ≢ TOO_LONG → Leaves old new [] → CommandEnds words status old new
 
 -- no count of faults changed
 pub record NoFault (old new : Outside) : Type 0 where
@@ -51,10 +53,14 @@ pub record NoFault (old new : Outside) : Type 0 where
   pub sink : new.sink.faults ≡ old.sink.faults
   pub disk : new.disk.faults ≡ old.disk.faults
 
+-- a call of the shelf failed, or a file was too long
+abbrev pub ShelfFails : (old new : Outside) → Type 0
+ShelfFails old new = Rose old.shelf.faults new.shelf.faults ⊎ ((new.shelf.taken ≡ TOO_LONG) × (new.shelf.faults ≡ old.shelf.faults))
+
 -- WHY, by the status: an object whose call failed counted it, and the counts of the others are as before
 abbrev pub CausedBy : Status → (old new : Outside) → Type 0
 CausedBy Disk old new = Rose old.disk.faults new.disk.faults × (new.shelf.faults ≡ old.shelf.faults) × (new.sink.faults ≡ old.sink.faults)
-CausedBy Shelf old new = (Rose old.shelf.faults new.shelf.faults ⊎ ((new.shelf.taken ≡ TOO_LONG) × (new.shelf.faults ≡ old.shelf.faults))) × (new.sink.faults ≡ old.sink.faults) × (new.disk.faults ≡ old.disk.faults)
+CausedBy Shelf old new = ShelfFails old new × (new.sink.faults ≡ old.sink.faults) × (new.disk.faults ≡ old.disk.faults)
 CausedBy Sink old new = Rose old.sink.faults new.sink.faults × (new.shelf.faults ≡ old.shelf.faults) × (new.disk.faults ≡ old.disk.faults)
 CausedBy other old new = NoFault old new
 

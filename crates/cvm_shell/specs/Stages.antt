@@ -17,7 +17,7 @@ use Rattle.cvm_shell.specs.declared.boot.Stop.{Stop}
 use Rattle.cvm_shell.specs.declared.boot.Stop.TheVariants as stop
 use Rattle.cvm_shell.specs.declared.refusal.Refusal.TheVariants as refusal
 use Rattle.cvm_shell.specs.declared.status.Status.{Status}
-use Rattle.cvm_shell.specs.declared.status.Status.TheVariants.{Done, Words, Refused, KernelFault, StepLimit, Disk, Shelf, Sink, Memory}
+use Rattle.cvm_shell.specs.declared.status.Status.TheVariants.{Done, StepLimit, Sink, Memory}
 use Rattle.std.specs.Global.{Vec}
 use Rattle.c0_tree.specs.FirstView.{unit_view}
 use Rattle.c0_tree.specs.declared.tree.Unit.{Unit as Tree}

@@ -1,5 +1,8 @@
 -- Only for the contracts inside the crate: what they see of the enums and structs of the code, and of a stage that may stop.
-use Rattle.std.specs.Prelude.{ℕ, Result, MatchResult, ⊤}
+use Rattle.std.specs.Prelude.{◌≡◌, ℕ, List, Result, MatchResult, ⊤}
+use Rattle.std.specs.Borrow.{Bor}
+use Rattle.cvm_shell.specs.declared.status.Status.{Status}
+use Rattle.cvm_shell.specs.Image.{Reading, gives, refuses as refused_for}
 use Rattle.cvm_shell.specs.Command as command
 use Rattle.cvm_shell.specs.Refusal as refusal
 use Rattle.cvm_shell.specs.Plan.{Plan, refuses}
@@ -40,6 +43,17 @@ refusal_view (Trailing at) = refusal.trailing at
 refusal_view (Parameter which value) = refusal.parameter which value
 refusal_view (NotBuilt at) = refusal.not_built at
 refusal_view TooLong = refusal.too_long
+
+-- the row and the status of a refusal
+abbrev pub stated_row : Refusal → List ℕ
+stated_row r = refusal.refusal_text (refusal_view r)
+
+abbrev pub stated_status : Refusal → Status
+stated_status r = refusal.refusal_status (refusal_view r)
+
+-- bytes were read to this: a source, or a refusal
+abbrev pub IsReading : Reading → Result (Bor (List ℕ)) Refusal → Type 0
+IsReading reading result = MatchResult result (λ source. reading ≡ gives source.now) (λ r. reading ≡ refused_for (refusal_view r))
 
 -- a fact of the plan, where a stop is a refusal
 abbrev pub IfRefused : (Plan → Type 0) → Stop → Type 0

@@ -34,7 +34,11 @@ impl From<AsmFault> for Stop {
 
 /// Gets the text of a user and assembles it: the bytes of the user's image, which is its words,
 /// each little-endian, and nothing else.
-pub fn user_image<S: Shelf>(alloc: Global, names: &CompileUser, shelf: &mut S) -> Result<Vec<u8>, Stop>
+pub fn user_image<S: Shelf>(
+    alloc: Global,
+    names: &CompileUser,
+    shelf: &mut S,
+) -> Result<Vec<u8>, Stop>
     ensures comes { IfPlan (compiled (user_view names.now)) (IsUserPlan (S.file shelf.old) (user_view names.now)) result }
     ensures long { IsErrOf result (Stop.Refused Refusal.TooLong) ↔ (S.taken shelf.new ≡ TOO_LONG) }
     ensures count { PlanCounts (S.faults shelf.old) (S.faults shelf.new) result }

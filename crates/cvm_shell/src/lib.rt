@@ -9,12 +9,12 @@ ghost use Rattle.c0_tree.specs.FirstTree.{CUnit};
 ghost use Rattle.first_source.specs.Reading.{Reads};
 ghost use Rattle.cvm_shell.specs.Boot.{Ran, GoesOn};
 ghost use Rattle.cvm_shell.specs.Command as command;
+ghost use Rattle.cvm_shell.specs.Command.{texts};
 ghost use Rattle.cvm_shell.specs.Image.{reading, gives};
 ghost use Rattle.cvm_shell.specs.Outcome.{Outcome, Causes};
 ghost use Rattle.cvm_shell.specs.Outside.{Drive, seen, beside};
-ghost use Rattle.cvm_shell.specs.Refusal.{refusal_text, refusal_status};
 ghost use Rattle.cvm_shell.specs.Stages.{EndsAs};
-ghost use Rattle.cvm_shell.specs.Views.{boot_view, refusal_view, user_view};
+ghost use Rattle.cvm_shell.specs.Views.{boot_view, user_view, stated_row, stated_status};
 
 pub mod assembly;
 pub mod boot;
@@ -47,13 +47,14 @@ pub fn run<S: Shelf, O: Sink, D: Sectors>(
     out: &mut O,
     disk: &mut D,
 ) -> Status
-    ensures ends { Outcome (seen S.Shelf O.Sink D.Sectors) (command.texts words.now.items) result (shelf.old, out.old, disk.old) (shelf.new, out.new, disk.new) }
+    ensures ends { Outcome (seen S.Shelf O.Sink D.Sectors) (texts words.now.items) result (shelf.old, out.old, disk.old) (shelf.new, out.new, disk.new) }
     ensures causes { Causes (seen S.Shelf O.Sink D.Sectors) result (shelf.old, out.old, disk.old) (shelf.new, out.new, disk.new) }
-    ensures headline { (b : command.Boot) (image source : List ℕ) (u : CUnit) → command.IsBoot (command.texts words.now.items) b
+    ensures headline { (b : command.Boot) (image source : List ℕ) (u : CUnit) → command.IsBoot (texts words.now.items) b
         → S.file shelf.old b.image ≡ Some image → S.file shelf.old b.schedule ≡ Some []
         → length image < TOO_LONG → reading image ≡ gives source → Reads source u
         → (Rose (S.faults shelf.old) (S.faults shelf.new) → ⊥) → (Rose (O.faults out.old) (O.faults out.new) → ⊥) → result ≢ Status.Memory
-        → (text : List ℕ) × Ran u b.turns b.steps result text × (O.text out.new ≡ append_known (O.text out.old) text) × (D.sectors disk.new ≡ D.sectors disk.old) × GoesOn u }
+        → (text : List ℕ) × Ran u b.turns b.steps result text × (O.text out.new ≡ append_known (O.text out.old) text)
+        × (D.sectors disk.new ≡ D.sectors disk.old) × GoesOn u }
 {
     let _ = disk;
     match read_command(words) {
@@ -116,9 +117,9 @@ fn say<O: Sink>(out: &mut O, text: &[u8], status: Status) -> Status
 
 // Prints the row of a refusal, beside its status.
 fn refuse<O: Sink>(refusal: &Refusal, out: &mut O) -> Status
-    ensures cases { (result ≡ refusal_status (refusal_view refusal.now)) ⊎ (result ≡ Status.Sink) }
-    ensures whole { result ≡ refusal_status (refusal_view refusal.now) → O.text out.new ≡ append_known (O.text out.old) (refusal_text (refusal_view refusal.now)) }
-    ensures part { result ≡ Status.Sink → AppendsPart (O.text out.old) (O.text out.new) (refusal_text (refusal_view refusal.now)) }
+    ensures cases { (result ≡ stated_status refusal.now) ⊎ (result ≡ Status.Sink) }
+    ensures whole { result ≡ stated_status refusal.now → O.text out.new ≡ append_known (O.text out.old) (stated_row refusal.now) }
+    ensures part { result ≡ Status.Sink → AppendsPart (O.text out.old) (O.text out.new) (stated_row refusal.now) }
     ensures rose { result ≡ Status.Sink → Rose (O.faults out.old) (O.faults out.new) }
     ensures same { result ≢ Status.Sink → O.faults out.new ≡ O.faults out.old }
 {

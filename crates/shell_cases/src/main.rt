@@ -104,14 +104,25 @@ fn put_text(out: &mut String, text: &[u8]) -> Result<(), AllocError> {
 }
 
 /// Runs a command.
-fn run_words(alloc: Global, world: &mut World, out: &mut String, line: &str) -> Result<(), AllocError> {
+fn run_words(
+    alloc: Global,
+    world: &mut World,
+    out: &mut String,
+    line: &str,
+) -> Result<(), AllocError> {
     let mut words = Vec::new(alloc);
     if !line.is_empty() {
         for word in line.split(' ') {
             words.push(String::from_str(alloc, word)?)?;
         }
     }
-    let status = run(alloc, &words, &mut world.shelf, &mut world.sink, &mut world.disk);
+    let status = run(
+        alloc,
+        &words,
+        &mut world.shelf,
+        &mut world.sink,
+        &mut world.disk,
+    );
     let text = world.sink.bytes();
     put_text(out, text.get(world.shown..).unwrap_or(b""))?;
     world.shown = text.len();
@@ -119,7 +130,12 @@ fn run_words(alloc: Global, world: &mut World, out: &mut String, line: &str) -> 
 }
 
 /// Prints the bytes of a file.
-fn show_file(alloc: Global, world: &mut World, out: &mut String, name: &str) -> Result<(), AllocError> {
+fn show_file(
+    alloc: Global,
+    world: &mut World,
+    out: &mut String,
+    name: &str,
+) -> Result<(), AllocError> {
     match world.shelf.get(alloc, name) {
         Ok(bytes) => put_bytes(out, &bytes)?,
         Err(_) => out.push_str("(not got)")?,
@@ -155,7 +171,12 @@ fn place_zeros(
 }
 
 /// Does what a part of a case says.
-fn do_part(alloc: Global, world: &mut World, out: &mut String, part: &Case) -> Result<(), AllocError> {
+fn do_part(
+    alloc: Global,
+    world: &mut World,
+    out: &mut String,
+    part: &Case,
+) -> Result<(), AllocError> {
     let kind = part.kind.as_str();
     let name = part.name.as_str();
     if kind == "file" {

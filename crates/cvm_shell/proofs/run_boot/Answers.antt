@@ -1,12 +1,11 @@
-use Rattle.std.proofs.Common.{◌≡◌, inl, inr, refl, sym, subst, ℕ}
+use Rattle.std.proofs.Common.{inl, inr, refl, sym, subst}
 use Rattle.c0_tree.specs.FirstView.{unit_view}
 use Rattle.cvm_shell.specs.declared.boot.Stop.{Stop}
 use Rattle.cvm_shell.specs.declared.boot.Stop.TheVariants as Stops
 use Rattle.cvm_shell.specs.declared.refusal.Refusal.{Refusal}
 use Rattle.cvm_shell.specs.Command.{boot}
-use Rattle.cvm_shell.specs.Plan.{refuses}
 use Rattle.cvm_shell.specs.Stages.{IsBootPlan}
-use Rattle.cvm_shell.specs.Views.{boot_view, refusal_view, IfRefused}
+use Rattle.cvm_shell.specs.Views.{boot_view, IfRefused}
 use Rattle.cvm_shell.proofs.Endings.{Long, stopped_long, none_long, shelf_long, memory_long, refused_end, undone_end, kernel_end}
 use Rattle.cvm_shell.proofs.run_boot.Goals as goal
 

@@ -1,8 +1,6 @@
-use Rattle.std.proofs.Common.{subst, ◌≡◌}
-use Rattle.c0_tree.specs.FirstTree.{CUnit}
-use Rattle.c0_tree.specs.FirstView.{unit_view}
+use Rattle.std.proofs.Common.{subst}
 use Rattle.first_source.specs.Faults.{FaultIs}
-use Rattle.first_source.specs.Reading.{Reads, Breaks}
+use Rattle.first_source.specs.Reading.{Breaks}
 use Rattle.first_source.specs.declared.reader.SourceFault.{SourceFault}
 use Rattle.cvm_shell.proofs.Plans.{BreaksOnce, image_refused, source_refused, schedule_refused, kernel_runs}
 use Rattle.cvm_shell.proofs.boot.kernel_of.Goals as goal
