@@ -11,7 +11,7 @@ use Rattle.mips_table.specs.declared.inst.Inst.{Inst}
 use Rattle.mips_table.specs.declared.inst.Inst.TheVariants.{Sw}
 use Rattle.mips_table.specs.declared.effect.Effect.TheVariants.{Store}
 use Rattle.mips_table.specs.Arith as arithmetic
-use Rattle.mips_table.specs.Effect.{effect_of}
+use Rattle.mips_table.specs.Processor.{effect_on}
 use Rattle.mips_table.specs.Encoding.{encoding}
 use Rattle.first_machine.specs.Machine.{State, step, POWER}
 use Rattle.first_code.specs.Meaning.{value}

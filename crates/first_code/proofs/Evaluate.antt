@@ -10,7 +10,8 @@ use Rattle.mips_table.specs.declared.inst.Inst.{Inst}
 use Rattle.mips_table.specs.declared.inst.Inst.TheVariants.{Addu, Subu, Ori, Lui, Lw}
 use Rattle.mips_table.specs.declared.effect.Effect.TheVariants.{Set, Load}
 use Rattle.mips_table.specs.Arith as arithmetic
-use Rattle.mips_table.specs.Effect.{next, effect_of}
+use Rattle.mips_table.specs.Effect.{next}
+use Rattle.mips_table.specs.Processor.{Cpu, effect_on}
 use Rattle.mips_table.specs.Encoding.{InRange, encoding}
 use Rattle.first_machine.specs.Machine.{State, step}
 use Rattle.first_code.specs.Meaning.{value}
@@ -145,9 +146,9 @@ kept : (s : State) (p q m n r x y : ℕ) (a : Comes s p m r r x) (b : Comes a.t 
 kept s p q m n r x y a b = b.below r (omega arith) ∙ a.value
 
 -- an instruction of two registers whose words are known
-on_words : (op : Inst) (f : ℕ → ℕ → ℕ) (pc r x y v : ℕ) (regs : ℕ → ℕ) → effect_of op pc regs ≡ Set r (f (regs r) (regs (r + 1))) (next pc) →
-    regs r ≡ x → regs (r + 1) ≡ y → f x y ≡ v → effect_of op pc regs ≡ Set r v (next pc)
-on_words op f pc r x y v regs effect left right result = rw (effect, left, right, result) refl
+on_words : (op : Inst) (f : ℕ → ℕ → ℕ) (r x y v : ℕ) (c : Cpu) → effect_on op c ≡ Set r (f (slice_index c.regs r) (slice_index c.regs (r + 1))) (next c.pc) →
+    slice_index c.regs r ≡ x → slice_index c.regs (r + 1) ≡ y → f x y ≡ v → effect_on op c ≡ Set r v (next c.pc)
+on_words op f r x y v c effect left right result = rw (effect, left, right, result) refl
 
 -- the registers of such an instruction
 two_registers : (r x y : ℕ) → r + (x + y) ≤ 32 → 0 < x → 0 < y → (r < 32) × (r < 32) × (r + 1 < 32)
@@ -163,7 +164,7 @@ two_come : (law : Decodes) (at base : ℕ) (globals : List ℤ) (a b : CExpr) �
     IsResolved (length globals) a → IsResolved (length globals) b →
     0 < r → r + (atoms a + atoms b) ≤ 32 → p + length (value_code at r a ++ (value_code at (r + 1) b ++ op ∷ [])) < 2 ^ 20 →
     Stands s.memory p (value_code at r a ++ (value_code at (r + 1) b ++ op ∷ [])) → InRange op →
-    ((pc : ℕ) (regs : ℕ → ℕ) → effect_of op pc regs ≡ Set r (f (regs r) (regs (r + 1))) (next pc)) →
+    ((c : Cpu) → effect_on op c ≡ Set r (f (slice_index c.regs r) (slice_index c.regs (r + 1))) (next c.pc)) →
     f (word (value globals a)) (word (value globals b)) ≡ v →
     Comes s p (length (value_code at r a ++ (value_code at (r + 1) b ++ op ∷ []))) r r v
 two_come law at base globals a b run_a run_b s r p op f v ready holds resolved_a resolved_b positive registers near stands range effect result =
@@ -196,7 +197,7 @@ two_come law at base globals a b run_a run_b s r p op f v ready holds resolved_a
     (stands_back s.memory (p + length first) second (op ∷ []) rest).0 in
     let x : slice_index right.t.cpu.regs r ≡ word (value globals a) = kept s p (p + length first) (length first) (length second) r (word (value globals a)) (word (value globals b)) left right in
     let done : effect_on op right.t.cpu ≡ Set r v (next right.t.cpu.pc) =
-    on_words op f right.t.cpu.pc r (word (value globals a)) (word (value globals b)) v (slice_index right.t.cpu.regs) (effect right.t.cpu.pc (slice_index right.t.cpu.regs)) x right.value result in
+    on_words op f r (word (value globals a)) (word (value globals b)) v right.t.cpu (effect right.t.cpu) x right.value result in
     subst (λ n. Comes s p n r r v) (sym count)
     (operates law s p (length first) (length second) r (word (value globals a)) (word (value globals b)) v op left right positive (omega arith) (omega arith) range last done)
 
@@ -207,9 +208,9 @@ evaluates law at base globals (variable x) s r p h = variable_comes law s at bas
 evaluates law at base globals (sum a b) s r p h =
     two_come law at base globals a b (evaluates law at base globals a) (evaluates law at base globals b) s r p (Addu r r (r + 1)) arithmetic.sum (word (value globals (sum a b)))
     h.ready h.holds h.resolved.0 h.resolved.1 h.positive h.registers h.near h.stands (two_registers r (atoms a) (atoms b) h.registers (atoms_positive a) (atoms_positive b))
-    (λ pc regs. refl) (word_sum (value globals a) (value globals b) (value_fits globals a h.holds.fits h.resolved.0) (value_fits globals b h.holds.fits h.resolved.1))
+    (λ c. refl) (word_sum (value globals a) (value globals b) (value_fits globals a h.holds.fits h.resolved.0) (value_fits globals b h.holds.fits h.resolved.1))
 evaluates law at base globals (difference a b) s r p h =
     two_come law at base globals a b (evaluates law at base globals a) (evaluates law at base globals b) s r p (Subu r r (r + 1)) arithmetic.difference (word (value globals (difference a b)))
     h.ready h.holds h.resolved.0 h.resolved.1 h.positive h.registers h.near h.stands (two_registers r (atoms a) (atoms b) h.registers (atoms_positive a) (atoms_positive b))
-    (λ pc regs. refl) (word_difference (value globals a) (value globals b) (value_fits globals a h.holds.fits h.resolved.0) (value_fits globals b h.holds.fits h.resolved.1))
+    (λ c. refl) (word_difference (value globals a) (value globals b) (value_fits globals a h.holds.fits h.resolved.0) (value_fits globals b h.holds.fits h.resolved.1))
 evaluates law at base globals other s r p h = absurd h.resolved

@@ -8,7 +8,7 @@ use Rattle.c0_tree.specs.First.{IsFirstAssign}
 use Rattle.mips_table.specs.declared.inst.Inst.{Inst}
 use Rattle.mips_table.specs.declared.inst.Inst.TheVariants.{Sw}
 use Rattle.mips_table.specs.declared.effect.Effect.TheVariants.{Store}
-use Rattle.mips_table.specs.Effect.{effect_of}
+use Rattle.mips_table.specs.Processor.{effect_on}
 use Rattle.mips_table.specs.Encoding.{encoding}
 use Rattle.first_machine.specs.Machine.{State, POWER}
 use Rattle.first_code.specs.Meaning.{value, executed}

@@ -7,7 +7,7 @@ use Rattle.mips_table.specs.declared.cause.Cause.TheVariants as causes
 use Rattle.mips_table.specs.declared.effect.Effect.{Effect}
 use Rattle.mips_table.specs.declared.effect.Effect.TheVariants.{Set, Wide, Load, Store, Overflow, Call, System}
 use Rattle.mips_table.specs.Decoding.{decoding}
-use Rattle.mips_table.specs.Processor.{Cpu, Move, Ran, Loaded, Stored, Trapped, Privileged, write, advanced, is_aligned, effect_on, accessed, performed, executed, move}
+use Rattle.mips_table.specs.Processor.{Cpu, Move, Ran, Loaded, Stored, Trapped, Privileged, write, advanced, is_aligned, effect_on, accessed, performed, executed}
 use Rattle.first_machine.specs.Machine.{State, POWER, all_taken, word_at, next_move, is_on, interrupted, moved, stepped, step, run}
 
 length_write : (regs : List ℕ) (register value : ℕ) → length (write regs register value) ≡ length regs

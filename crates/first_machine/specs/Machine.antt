@@ -1,5 +1,5 @@
 -- The machine of the first path, one step at a time: a processor in system mode, its memory, the reset and the power port.
-use Rattle.std.specs.Prelude.{ℕ, zero, suc, ◌-◌, ◌*◌, ◌/◌, Bool, true, false, if◌then◌else◌, ◌==◌, List, [], ◌∷◌, ◌++◌, length, replicate, slice_index, slice_set, Option, Some, None}
+use Rattle.std.specs.Prelude.{ℕ, zero, suc, ◌-◌, ◌*◌, ◌/◌, Bool, true, false, if◌then◌else◌, ◌==◌, List, ◌++◌, length, replicate, slice_index, slice_set, Option, Some, None}
 use Rattle.mips_table.specs.Processor.{Cpu, Access, Move, Ran, Loaded, Stored, Trapped, Privileged, with_loaded, move}
 use Rattle.mips_table.specs.Machine.{number_of, taken, zero_cpu}
 
