@@ -1,0 +1,4 @@
+pub mod Trace
+pub mod TurnEnds
+pub mod Headline
+pub mod Samples

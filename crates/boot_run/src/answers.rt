@@ -1,0 +1,34 @@
+// What is printed of a run, and what its calls answer.
+
+use cvm_model::Row;
+
+/// What is printed of a run.
+#[derive(Clone, Copy, Debug, PartialEq, Eq)]
+pub enum View {
+    /// The rows of the dispatches, and a report of all users.
+    Boot,
+    /// The journal of this user, from 1, and a report of this user alone.
+    Trace(u32),
+}
+
+/// What a turn was.
+#[derive(Clone, Copy, Debug, PartialEq, Eq)]
+pub enum Turn {
+    /// An untrapped step of this user, from 1.
+    Step(u32),
+    /// A dispatch.
+    Dispatch(Row),
+    /// None: the run had ended.
+    Over,
+}
+
+/// Why a run doesn't go on.
+#[derive(Clone, Copy, Debug, PartialEq, Eq)]
+pub enum RunFault {
+    /// The budget of steps was spent, and the turn isn't complete.
+    StepLimit,
+    /// The disk failed.
+    Disk,
+    /// The sink failed.
+    Sink,
+}

@@ -1,0 +1,8 @@
+pub mod Worked
+pub mod PrintedRows
+pub mod Replays
+pub mod Isolation
+pub mod PrimitiveReplays
+pub mod KernelLaws
+pub mod KernelReplay
+pub mod KernelTyped

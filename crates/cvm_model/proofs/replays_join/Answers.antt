@@ -1,0 +1,6 @@
+-- Replays join.
+use Rattle.cvm_model.proofs.Replays.{joins}
+use Rattle.cvm_model.proofs.replays_join.Goals as goal
+
+pub returns : goal.returns
+returns c = joins

@@ -1,0 +1,6 @@
+-- Isolation.
+use Rattle.cvm_model.proofs.Isolation.{isolated}
+use Rattle.cvm_model.proofs.users_are_isolated.Goals as goal
+
+pub returns : goal.returns
+returns c = isolated

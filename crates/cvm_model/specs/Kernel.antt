@@ -1,0 +1,107 @@
+-- The kernel's side of the CVM state, as words and as it stands between dispatches, and what its `dispatch` means. The meaning is a
+-- parameter here, which C0's meaning fills.
+use Rattle.std.specs.Prelude.{◌≡◌, ◌≢◌, ℕ, zero, suc, ◌+◌, ℤ, if◌then◌else◌, List, [], ◌∷◌, ◌++◌, length, take}
+use Rattle.std.specs.Int.{cast_unsigned, w32}
+use Rattle.c0_meaning.specs.Value.{Location, Value, int, bool, null, at, group, Values, empty, part}
+use Rattle.c0_meaning.specs.State.{State as C0}
+use Rattle.c0_meaning.specs.RunLaws.{scalars}
+use Rattle.mips_table.specs.Flat.{Flat}
+use Rattle.cvm_model.specs.declared.kernel_fault.KernelFault.{KernelFault}
+use Rattle.cvm_model.specs.declared.kernel_fault.KernelFault.TheVariants.{NullUse, Bounds, DivZero, StackOut, BadUser}
+
+-- the fields or elements of a value
+abbrev pub parts_of : Value → Values
+parts_of (group vs) = vs
+parts_of other = empty
+
+-- one of them
+abbrev pub part_at : Values → ℕ → Value
+part_at empty i = null
+part_at (part v vs) zero = v
+part_at (part v vs) (suc i) = part_at vs i
+
+-- the words of those before it
+abbrev pub words_before : Values → ℕ → ℕ
+words_before empty i = 0
+words_before (part v vs) zero = 0
+words_before (part v vs) (suc i) = scalars v + words_before vs i
+
+-- how many words after a value's first word the part at a path begins
+abbrev pub offset : List ℕ → Value → ℕ
+offset [] v = 0
+offset (i ∷ path) v = words_before (parts_of v) i + offset path (part_at (parts_of v) i)
+
+-- the words that stand for a value, where each location has its address; null is 0 and true is 1
+abbrev mutual
+  pub flat : (Location → ℕ) → Value → List ℕ
+  flat address (int n) = cast_unsigned w32 n ∷ []
+  flat address (bool b) = (if b then 1 else 0) ∷ []
+  flat address null = 0 ∷ []
+  flat address (at p) = address p ∷ []
+  flat address (group vs) = flats address vs
+
+  pub flats : (Location → ℕ) → Values → List ℕ
+  flats address empty = []
+  flats address (part v vs) = flat address v ++ flats address vs
+
+-- the console: its log and its input left
+pub record Console : Type 0 where
+  pub log : List ℕ
+  pub input : List ℕ
+
+-- the CVM state but for the pending lines and the status: the kernel's data, with no frames; user u is number u - 1 of the list
+pub record Core : Type 0 where
+  pub c0 : C0
+  pub users : List Flat
+  pub console : Console
+  pub current : ℕ
+
+-- the power word of each fault
+abbrev pub power_of : KernelFault → ℕ
+power_of NullUse = 1
+power_of Bounds = 2
+power_of DivZero = 3
+power_of StackOut = 4
+power_of BadUser = 5
+
+-- an entry of a journal: one untrapped step, one trap, or what a primitive changed
+pub data JournalEntry : Type 0 where
+  Stepped : JournalEntry
+  Trapped : (cause edata : ℕ) → JournalEntry
+  Set : (register value : ℕ) → JournalEntry
+  Size : (pages : ℕ) → JournalEntry
+  Put : (address value : ℕ) → JournalEntry
+
+-- the entries that a primitive made, and the user that it changed
+pub record Changes : Type 0 where
+  pub user : ℕ
+  pub entries : List JournalEntry
+
+-- how a dispatch ended, within so many units
+pub data End : Type 0 where
+  Answers : (answer : ℤ) → End
+  Faults : (fault : KernelFault) → End
+  NotYet : End
+
+-- the end; the state then; what each primitive that ended changed, in order; the units that it used, and the pages
+pub record Outcome : Type 0 where
+  pub end : End
+  pub after : Core
+  pub calls : List Changes
+  pub units : ℕ
+  pub pages : ℕ
+
+-- What a kernel means: how many words its globals have, with their names in source order, its data at the start, and what `dispatch`
+-- comes to within a number of units.
+pub record Meaning : Type 0 where
+  pub global_words : ℕ
+  pub names : List (List ℕ)
+  pub first : C0
+  pub dispatch : ℕ → Core → (cause edata user : ℤ) → Outcome
+
+-- with more units a dispatch comes to the same end, or is at least as far; and a bad next user is no end of it
+pub record MeaningLaws (e : Meaning) : Type 0 where
+  pub same : (n k : ℕ) (c : Core) (cause edata user : ℤ) → (e.dispatch n c cause edata user).end ≢ NotYet → e.dispatch (n + k) c cause edata user ≡ e.dispatch n c cause edata user
+  pub more : (n k : ℕ) (c : Core) (cause edata user : ℤ) →
+      take (length (e.dispatch n c cause edata user).calls) (e.dispatch (n + k) c cause edata user).calls ≡ (e.dispatch n c cause edata user).calls
+  pub proper : (n : ℕ) (c : Core) (cause edata user : ℤ) → (e.dispatch n c cause edata user).end ≢ Faults BadUser

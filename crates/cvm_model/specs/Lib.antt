@@ -1,0 +1,10 @@
+pub mod Kernel
+pub mod Primitives
+pub mod Cvm
+pub mod Journal
+pub mod KernelMeaning
+pub mod Text
+pub mod Paged
+pub mod Stands
+pub mod TypedKernel
+pub mod Samples

@@ -1,0 +1,17 @@
+pub mod Apart
+pub mod ResetState
+pub mod LoadedState
+pub mod UserState
+pub mod Exists
+pub mod FirstCall
+pub mod Pages
+pub mod Places
+pub mod Frames
+pub mod After
+pub mod Steps
+pub mod Follow
+pub mod Turn
+pub mod Example
+pub mod Spread
+pub mod SpreadState
+pub mod SpreadSystem

@@ -1,0 +1,6 @@
+pub mod Layer
+pub mod Calls
+pub mod Follows
+pub mod Boots
+pub mod Users
+pub mod Samples

@@ -1,0 +1,66 @@
+-- A user's step on the machine, for a state that runs a user.
+use Rattle.std.specs.Prelude.{◌≡◌, ℕ, suc, ◌+◌, ◌/◌, ◌<◌, ◌≤◌, ◌⊎◌, true, false, length, slice_index}
+use Rattle.mips_table.specs.declared.cause.Cause.{Cause}
+use Rattle.mips_table.specs.Device.{Outside}
+use Rattle.mips_table.specs.Machine.{PTL, number_of}
+use Rattle.mips_table.specs.Flat.{Flat, Next, vstep}
+use Rattle.mips_table.specs.Machine.{State, Interrupt, latched, coming, step}
+use Rattle.mips_table.specs.Turns.{handled}
+use Rattle.layer_map.specs.Map.{MapInRange, layer_words, zero_frame_at}
+use Rattle.cvm_model.specs.Kernel.{Core}
+use Rattle.cvm_model.specs.Primitives.{user_of}
+use Rattle.cvm_model.specs.Cvm.{begin}
+use Rattle.cvm_model.specs.Stands.{Site}
+use Rattle.layer_contract.specs.Layer.{Back, SectorsStay}
+use Rattle.layer_contract.specs.Follows.{BeginsAs}
+
+-- the premises: a map in range; words as they were linked that end before the zero frame; and a machine that runs a user
+pub record Premises (x : Outside) (y : Site) (s : State) (c : Core) : Type 0 where
+  pub range : MapInRange y.map
+  pub linked : length y.linked ≤ zero_frame_at y.map
+  pub back : Back x y c s
+
+-- the step is as turn k + 1 begins: the flat machine's step, its trap, or the taking of the pending lines
+abbrev pub StepFollows : Outside → Site → State → Core → ℕ → Type 0
+StepFollows x y s c k = BeginsAs x y s c (begin (suc k) c (latched x s).mask) × SectorsStay y.map s (step x s)
+
+-- a step that takes no handled fault
+abbrev pub UserSteps : Type 0
+UserSteps = (x : Outside) (y : Site) (s : State) (c : Core) (k : ℕ) → Premises x y s c → handled x s ≡ false → StepFollows x y s c k
+
+-- the same where the linked words are as many as the map says
+abbrev pub UserStepsLinked : Type 0
+UserStepsLinked = (x : Outside) (y : Site) (s : State) (c : Core) (k : ℕ) → MapInRange y.map → length y.linked ≡ layer_words + y.map.code_words → Back x y c s →
+    handled x s ≡ false → StepFollows x y s c k
+
+-- a handled fault: cause 3 or 8 and a page below ptl, taken at the instruction with nothing changed but the lines latched
+pub record TakesFault (x : Outside) (s : State) : Type 0 where
+  pub handled : handled x s ≡ true
+  pub why : Cause
+  pub edata : ℕ
+  pub comes : coming x (latched x s) ≡ Interrupt (latched x s) why edata s.cpu.pc
+  pub number : (number_of why ≡ 3) ⊎ (number_of why ≡ 8)
+  pub page : edata / 4096 < slice_index s.special PTL
+
+-- any step
+abbrev pub UserStepsOrFaults : Type 0
+UserStepsOrFaults = (x : Outside) (y : Site) (s : State) (c : Core) (k : ℕ) → Premises x y s c → TakesFault x s ⊎ StepFollows x y s c k
+
+-- a step with no line pending, of a user whose machine takes no trap, that changes a word of memory
+pub record ChangesWord (x : Outside) (y : Site) (s : State) (c : Core) : Type 0 where
+  pub premises : Premises x y s c
+  pub calm : handled x s ≡ false
+  pub none : (latched x s).mask ≡ 0
+  pub after : Flat
+  pub goes : vstep (user_of c.users c.current) ≡ Next after
+  pub place : ℕ
+  pub inside : place < length s.memory
+  pub changed : slice_index (step x s).memory place ≡ slice_index s.memory place → ⊥
+
+-- there is such a step: a store through the page table
+pub record SomeStores : Type 0 where
+  pub outside : Outside
+  pub site : Site
+  pub state : State
+  pub core : Core
+  pub changes : ChangesWord outside site state core

@@ -1,0 +1,34 @@
+// A layer: what the code below the kernel does, as laws of a trait.
+ghost use Rattle.std.specs.Prelude.{◌≡◌, ℕ, List, length};
+ghost use Rattle.layer_map.specs.Map.{Map, MapInRange};
+ghost use Rattle.layer_contract.specs.Layer.{entry_address, site_with, IsEntry, Linked, Laws};
+
+use crate::entry::Entry;
+
+/// The code below the kernel, made for a map and for users of certain sizes in pages.
+pub trait Layer {
+    /// Its words: code, control blocks and variables.
+    ghost image: { Self → List ℕ };
+
+    /// The map that it was made for.
+    ghost map: { Self → Map };
+
+    /// The sizes of the users.
+    ghost sizes: { Self → List ℕ };
+
+    /// The words that stand in memory at the start.
+    fn words(&self) -> &[u32]
+        ensures { result.now ≡ image self.now };
+
+    /// The address of an entry.
+    fn place(&self, entry: Entry) -> u32
+        requires { IsEntry entry }
+        ensures { result ≡ entry_address entry };
+
+    /// What its variables and control blocks hold at load, where its map is in range.
+    ghost linked: { (l : Self) → MapInRange (map l) → Linked (map l) (sizes l) (image l) };
+
+    /// The laws of entering and leaving the kernel, of each primitive, of each fault exit and of a handled fault, where its map is in
+    /// range: of a memory that holds these words and any kernel's code of the map's size.
+    ghost laws: { (l : Self) (code : List ℕ) → MapInRange (map l) → length code ≡ (map l).code_words → Laws (site_with (map l) (image l) code) (sizes l) };
+}

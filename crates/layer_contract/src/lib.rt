@@ -1,0 +1,80 @@
+//! What a layer promises, and when it fits what is booted.
+//!
+//! Each law is the contract of a function that does nothing.
+#![tactic(auto)]
+
+ghost use Rattle.std.specs.Prelude.{◌≤◌, ℕ, List};
+ghost use Rattle.mips_table.specs.Device.{Outside, HasEightLines};
+ghost use Rattle.cvm_model.specs.Cvm.{System};
+ghost use Rattle.layer_contract.specs.Layer.{ResetStands, UserStands};
+ghost use Rattle.layer_contract.specs.Follows.{FirstCall, LoadedResets, MadeFor, SystemFits};
+ghost use Rattle.layer_contract.specs.Users.{SomeStores, UserSteps, UserStepsLinked, UserStepsOrFaults};
+ghost use Rattle.layer_contract.specs.Samples.{AStateStands, ASpreadStateStands};
+
+mod boot;
+mod entry;
+mod layer;
+mod registers;
+
+pub use boot::Boot;
+pub use entry::Entry;
+pub use layer::Layer;
+use mips_table::runs::words_stay_words;
+pub use registers::{ANSWER, ARGUMENT, KEPT, RETURN};
+
+/// A law: the loaded machine's first step takes the reset.
+pub fn the_loaded_machine_resets()
+    ensures { LoadedResets }
+{}
+
+/// A law: the state after the reset stands for the start of a run.
+pub fn the_reset_stands()
+    ensures { ResetStands }
+{}
+
+/// A law: a machine that stands in system mode stands in user mode once the processor and the current user's word are a user's.
+pub fn a_user_goes_on()
+    ensures { UserStands }
+{}
+
+/// A law: there is a state that stands for the start of a run, and one in user mode.
+pub fn a_state_stands()
+    ensures { (x : Outside) → HasEightLines x → 4 ≤ x.count → AStateStands x }
+{}
+
+/// A law: there is a state of two users that stands for the start of a run, with a page in a frame of its own, one in a shared frame, one in the
+/// zero frame and one in its sector.
+pub fn a_spread_state_stands()
+    ensures { (x : Outside) → HasEightLines x → 8 ≤ x.count → ASpreadStateStands x }
+{}
+
+/// A law: over a layer that was made for what is booted, the loaded machine calls `dispatch` for the start of the run.
+pub fn the_kernel_is_called<L: Layer>(layer: &L)
+    ensures { (x : Outside) (y : System) (old : List (List ℕ)) → SystemFits x y old → MadeFor (L.image layer.now) (L.sizes layer.now) (L.map layer.now) y.boot → FirstCall x y old }
+{}
+
+/// A law: a user's step that takes no handled fault is the flat machine's step, its trap, or the taking of the pending lines.
+pub fn users_follow()
+    ensures { UserSteps }
+{
+    words_stay_words();
+}
+
+/// A law: the same where the linked words are as many as the map says.
+pub fn users_follow_linked()
+    ensures { UserStepsLinked }
+{
+    words_stay_words();
+}
+
+/// A law: any step of a user is one of these, or takes a handled fault.
+pub fn users_follow_or_fault()
+    ensures { UserStepsOrFaults }
+{
+    words_stay_words();
+}
+
+/// A law: there is a state that meets the premises, in which a user's step stores through its page table.
+pub fn a_user_stores()
+    ensures { SomeStores }
+{}

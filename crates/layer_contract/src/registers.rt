@@ -1,0 +1,13 @@
+// The registers in which the layer and the kernel's code pass words.
+
+/// The register of an entry's first argument. The further ones have their arguments in the registers after it.
+pub const ARGUMENT: usize = 20;
+
+/// The register of an answer: of a primitive that has returned, and of `dispatch` at the entry Leave.
+pub const ANSWER: usize = 2;
+
+/// The register of a primitive's return address at its entry.
+pub const RETURN: usize = 31;
+
+/// The registers that a primitive leaves as they were at its entry.
+pub const KEPT: [usize; 3] = [28, 29, 30];
