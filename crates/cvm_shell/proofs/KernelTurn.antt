@@ -1,10 +1,10 @@
 -- The machine's one turn is the kernel's one dispatch: where the steps suffice, the kernel halts and its report is printed, and
 -- where they don't, nothing is.
-use Rattle.std.proofs.Common.{◌≡◌, ℕ, zero, suc, ◌+◌, ◌-◌, ◌*◌, ◌<◌, ◌≤◌, Bool, true, false, List, ◌++◌, length, refl, sym, ap, ◌∙◌, subst, arith, append_assoc}
+use Rattle.std.proofs.Common.{◌≡◌, ℕ, zero, suc, ◌+◌, ◌-◌, ◌*◌, ◌<◌, ◌≤◌, Bool, true, false, List, ◌++◌, length, refl, sym, ap, ◌∙◌, subst, arith, append_assoc, append-nil, []}
 use Rattle.std.specs.Prelude.{Option, codes, if◌then◌else◌, ◌==◌, slice_index, slice_index_or, replicate, pos}
 use Rattle.std.specs.Io.KnownBytes.{append_known}
 use Rattle.std.proofs.lemmas.List.{length-set, length-replicate, length-append}
-use Rattle.mips_table.specs.Core.{Move, Ran, Stored, Trapped, Asked, move}
+use Rattle.mips_table.specs.Core.{Move, Ran as Moves, Stored, Trapped, Asked, move}
 use Rattle.cvm_outside.specs.Told.{AppendsPart}
 use Rattle.cvm_outside.proofs.Parts.{append_known-nil}
 use Rattle.c0_tree.specs.FirstTree.{CUnit, CExpr}
@@ -18,10 +18,11 @@ use Rattle.first_code.specs.Code.{linked, frames_of, globals_at}
 use Rattle.first_code.specs.Runs.{start_of, steps_of, KernelRuns}
 use Rattle.std.specs.Int.{cast_unsigned, w32}
 use Rattle.cvm_shell.specs.declared.status.Status.{Status}
-use Rattle.cvm_shell.specs.declared.status.Status.TheVariants.{Done, StepLimit}
-use Rattle.cvm_shell.specs.Cvm.{Standing, running, halted, standing_of, cvm}
-use Rattle.cvm_shell.specs.Text.{row_text, turn_text, rows_text, end_text, report_text, globals_text}
-use Rattle.cvm_shell.specs.Boot.{Boots, GoesOn, printed, ended, closing, last_step, last_turn, is_over}
+use Rattle.cvm_shell.specs.declared.status.Status.TheVariants.{Done, StepLimit, Sink}
+use Rattle.cvm_shell.specs.Cvm.{Past, first_past, after_turn, IsCvm, start, turn}
+use Rattle.cvm_shell.specs.Text.{row_text, rows_text}
+use Rattle.cvm_shell.specs.Boot.{Ran, IsFirstEnd, ended, closing, last_step, last_turn, is_over}
+use Rattle.cvm_shell.specs.Stages.{KernelEnds, halting_row, final_text, run_text}
 use Rattle.cvm_shell.proofs.OneTurn.{Halts, step_on, complete-before, complete-after, is_end-before, is_end-after, end_within-before, end_within-after, completes_whole, begins_first, runs_short}
 
 pub halts_of : (u : CUnit) → KernelRuns u → Halts (start_of u) (steps_of u)
@@ -52,7 +53,7 @@ finished u r new steps left begun done =
       enough = omega arith;
     }
 
-goes_on : (u : CUnit) → KernelRuns u → GoesOn u
+goes_on : (u : CUnit) → KernelRuns u → (k : ℕ) → (t : ℕ) × IsFirstEnd (start_of u) k t
 goes_on u r zero = (zero, record { here = refl; before = λ j lt. absurd (omega arith) })
 goes_on u r (suc k) = (
   steps_of u,
@@ -85,70 +86,49 @@ ends_short u r turns steps some few =
       end = ap (is_end (start_of u) turns) at ∙ is_end-before (start_of u) (steps_of u) h turns steps some few;
     }
 
--- the status and the text, by the turns that are complete and whether the run is over
-abbrev status_at : CUnit → ℕ → Bool → Status
-status_at u k over = ended over (cvm u k).standing
-
-abbrev text_at : CUnit → ℕ → Bool → List ℕ
-text_at u k over = rows_text u k ++ closing (status_at u k over) u k
-
-status_is : (u : CUnit) (turns steps k : ℕ) (over : Bool) → EndsAt u turns steps k over → ended (is_over u turns steps) (cvm u (last_turn u turns steps)).standing ≡ status_at u k over
-status_is u turns steps k over e = ap (λ (j : ℕ). status_at u j (is_over u turns steps)) e.turn ∙ ap (status_at u k) e.end
-
-text_is : (u : CUnit) (turns steps k : ℕ) (over : Bool) → EndsAt u turns steps k over → printed u turns steps ≡ text_at u k over
-text_is u turns steps k over e = ap (λ (j : ℕ). text_at u j (is_over u turns steps)) e.turn ∙ ap (text_at u k) e.end
-
-kernel_halts : (u : CUnit) → IsFirst u → (cvm u (suc zero)).standing ≡ halted
-kernel_halts u first = ap (λ (e : CExpr). standing_of (value (final_values u) e)) first.answer
-
--- the text of a whole run
-abbrev pub run_text : CUnit → ℕ → ℕ → List ℕ
-run_text u cause edata = (row_text 0 cause edata 0 halted ++ codes "halted\n") ++ globals_text u.globals (final_values u)
-
--- the one row, and the end, by where the kernel stands after its turn
-abbrev row_by : Standing → List ℕ
-row_by s = turn_text 0 running s
-
-abbrev end_by : CUnit → Standing → List ℕ
-end_by u s = closing (ended true s) u (suc zero)
-
-text_by : (u : CUnit) → IsFirst u → text_at u (suc zero) true ≡ run_text u 0 0
-text_by u first =
-    let stands : (cvm u (suc zero)).standing ≡ halted = kernel_halts u first in
-    let row : row_by (cvm u (suc zero)).standing ≡ row_text 0 0 0 0 halted = ap row_by stands in
-    let end : end_by u (cvm u (suc zero)).standing ≡ report_text u (cvm u (suc zero)) = ap (end_by u) stands in
-    let rest : report_text u (cvm u (suc zero)) ≡ codes "halted\n" ++ globals_text u.globals (final_values u) = ap (λ (s : Standing). end_text s ++ globals_text u.globals (final_values u)) stands in
-    ap (λ (l : List ℕ). l ++ end_by u (cvm u (suc zero)).standing) row ∙ ap (λ (l : List ℕ). row_text 0 0 0 0 halted ++ l) (end ∙ rest) ∙ sym (append_assoc (row_text 0 0 0 0 halted) (codes "halted\n") (globals_text u.globals (final_values u)))
-
-whole_text : (u : CUnit) → IsFirst u → KernelRuns u → (turns steps cause edata : ℕ) → 1 ≤ turns → steps_of u ≤ steps → cause ≡ 0 → edata ≡ 0 → printed u turns steps ≡ run_text u cause edata
-whole_text u first r turns steps cause edata some enough c d =
-    text_is u turns steps 1 true (ends_whole u r turns steps some enough) ∙ text_by u first ∙ ap (λ (n : ℕ). run_text u n 0) (sym c) ∙ ap (run_text u cause) (sym d)
-
--- the run was printed
-pub kernel_done : (u : CUnit) → IsFirst u → KernelRuns u → (turns steps : ℕ) (new : State) (begun : Begun) (before after : Option (List ℕ)) → 1 ≤ turns → Finished u steps new begun
-    → after ≡ append_known before (run_text u begun.cause begun.edata) → Boots u turns steps Done before after
-kernel_done u first r turns steps new begun before after some done e = record {
-  status = sym (status_is u turns steps 1 true (ends_whole u r turns steps some done.enough) ∙ ap (ended true) (kernel_halts u first));
-  text = e ∙ ap (append_known before) (sym (whole_text u first r turns steps begun.cause begun.edata some done.enough done.cause done.edata));
-  goes_on = goes_on u r;
+-- a run whose end is known, with what the kernel came to
+ran_at : (u : CUnit) (turns steps k : ℕ) (over : Bool) (c : Past) (status : Status) (text : List ℕ) → EndsAt u turns steps k over → IsCvm u k c → status ≡ ended over c.standing
+    → text ≡ rows_text c.rows ++ closing status u c → Ran u turns steps status text
+ran_at u turns steps k over c status text e is s t = record {
+  past = c;
+  cvm = let P : ℕ → Type 0 = λ j. IsCvm u j c in subst P (sym e.turn) is;
+  status_is = s ∙ ap (λ (b : Bool). ended b c.standing) (sym e.end);
+  text_is = t;
 }
+
+-- after its one turn the kernel has halted
+abbrev halted_past : CUnit → Past
+halted_past u = after_turn 0 (first_past u) (final_values u) (pos 0)
+
+kernel_halts : (u : CUnit) → IsFirst u → IsCvm u 1 (halted_past u)
+kernel_halts u first = turn 0 (first_past u) (final_values u) (pos 0) start refl (record { runs = refl; answers = sym (ap (λ (e : CExpr). value (final_values u) e) first.answer) })
+
+row_then : (row end rest : List ℕ) → (row ++ end) ++ rest ≡ (row ++ []) ++ (end ++ rest)
+row_then row end rest = append_assoc row end rest ∙ ap (λ (l : List ℕ). l ++ (end ++ rest)) (sym (append-nil row))
+
+whole_text : (u : CUnit) (cause edata : ℕ) → cause ≡ 0 → edata ≡ 0 → run_text u cause edata ≡ rows_text (halted_past u).rows ++ closing Done u (halted_past u)
+whole_text u cause edata c d = ap (λ (n : ℕ). run_text u n edata) c ∙ ap (run_text u 0) d ∙ row_then (row_text (halting_row 0 0 0 0)) (codes "halted\n") (final_text u)
+
+-- the run that was made
+ran_whole : (u : CUnit) → IsFirst u → KernelRuns u → (turns steps : ℕ) (new : State) (begun : Begun) → 1 ≤ turns → Finished u steps new begun → Ran u turns steps Done (run_text u begun.cause begun.edata)
+ran_whole u first r turns steps new begun some done =
+    ran_at u turns steps 1 true (halted_past u) Done (run_text u begun.cause begun.edata) (ends_whole u r turns steps some done.enough) (kernel_halts u first) refl (whole_text u begun.cause begun.edata done.cause done.edata)
+
+-- it was printed
+pub kernel_done : (u : CUnit) → IsFirst u → KernelRuns u → (turns steps : ℕ) (new : State) (begun : Begun) (before after : Option (List ℕ)) → 1 ≤ turns → Finished u steps new begun
+    → after ≡ append_known before (run_text u begun.cause begun.edata) → KernelEnds u turns steps Done before after
+kernel_done u first r turns steps new begun before after some done e = (run_text u begun.cause begun.edata, ran_whole u first r turns steps new begun some done, e, λ k c is. goes_on u r k)
 
 -- a part of it was printed
 pub kernel_part : (u : CUnit) → IsFirst u → KernelRuns u → (turns steps : ℕ) (new : State) (begun : Begun) (before after : Option (List ℕ)) → 1 ≤ turns → Finished u steps new begun
-    → AppendsPart before after (run_text u begun.cause begun.edata) → AppendsPart before after (printed u turns steps)
-kernel_part u first r turns steps new begun before after some done part =
-    rw (whole_text u first r turns steps begun.cause begun.edata some done.enough done.cause done.edata) part
+    → AppendsPart before after (run_text u begun.cause begun.edata) → KernelEnds u turns steps Sink before after
+kernel_part u first r turns steps new begun before after some done part = (Done, run_text u begun.cause begun.edata, ran_whole u first r turns steps new begun some done, part)
 
 -- the steps don't suffice
-pub kernel_short : (u : CUnit) → KernelRuns u → (turns steps left : ℕ) (new : State) (before : Option (List ℕ)) → 1 ≤ turns → RunsOut (start_of u) new steps left → Boots u turns steps StepLimit before before
+pub kernel_short : (u : CUnit) → KernelRuns u → (turns steps left : ℕ) (new : State) (before : Option (List ℕ)) → 1 ≤ turns → RunsOut (start_of u) new steps left → KernelEnds u turns steps StepLimit before before
 kernel_short u r turns steps left new before some out =
     let few : steps < steps_of u = runs_short (start_of u) (steps_of u) (halts_of u r) steps (out.before steps (omega arith)) in
-    let ends = ends_short u r turns steps some few in
-    record {
-      status = sym (status_is u turns steps 0 false ends);
-      text = sym (ap (append_known before) (text_is u turns steps 0 false ends) ∙ append_known-nil before);
-      goes_on = goes_on u r;
-    }
+    ([], ran_at u turns steps 0 false (first_past u) StepLimit [] (ends_short u r turns steps some few) start refl refl, sym (append_known-nil before), λ k c is. goes_on u r k)
 
 -- memory keeps its length
 either : (b : Bool) (x y : State) (n : ℕ) → length x.memory ≡ n → length y.memory ≡ n → length (if b then x else y).memory ≡ n
@@ -156,7 +136,7 @@ either true x y n h k = h
 either false x y n h k = k
 
 length-moved : (s : State) (m : Move) → length (moved s m).memory ≡ length s.memory
-length-moved s (Ran pc regs) = refl
+length-moved s (Moves pc regs) = refl
 length-moved s (Stored pc regs address value) = either (address == POWER) _ _ (length s.memory) refl (length-set s.memory _ value)
 length-moved s (Trapped cause edata epc) = refl
 length-moved s (Asked word) = refl
@@ -184,7 +164,7 @@ start_is u m words slice frames e f g h = e ∙ ap (λ (l : List ℕ). loaded l 
 pub finished_from : (u : CUnit) → KernelRuns u → (m new : State) (steps left : ℕ) (begun : Begun) → m ≡ start_of u → Completes m new steps left begun → Finished u steps new begun
 finished_from u r m new steps left begun e done = let P : State → Type 0 = λ s. Completes s new steps left begun in finished u r new steps left begun (subst P e done)
 
-pub short_from : (u : CUnit) → KernelRuns u → (turns steps left : ℕ) (m new : State) (before : Option (List ℕ)) → 1 ≤ turns → m ≡ start_of u → RunsOut m new steps left → Boots u turns steps StepLimit before before
+pub short_from : (u : CUnit) → KernelRuns u → (turns steps left : ℕ) (m new : State) (before : Option (List ℕ)) → 1 ≤ turns → m ≡ start_of u → RunsOut m new steps left → KernelEnds u turns steps StepLimit before before
 short_from u r turns steps left m new before some e out = let P : State → Type 0 = λ s. RunsOut s new steps left in kernel_short u r turns steps left new before some (subst P e out)
 
 -- the globals stand inside memory

@@ -1,3 +1,5 @@
+mod CvmRuns
+mod Endings
 mod Fields
 mod Five
 mod Four
@@ -5,11 +7,8 @@ mod FourBytes
 mod GlobalRows
 mod Globals
 mod KernelTurn
-mod LongFiles
-mod OnePlan
 mod OneTurn
-mod Outcomes
+mod Plans
 mod Puts
 mod Spellings
-mod UserTexts
 mod Values

@@ -39,3 +39,7 @@ pub record IsCompileUser (words : List (List ℕ)) (c : CompileUser) : Type 0 wh
 abbrev pub IsCommand : List (List ℕ) → Command → Type 0
 IsCommand words (boot b) = IsBoot words b
 IsCommand words (compile_user c) = IsCompileUser words c
+
+-- no command has these words
+abbrev pub IsNoCommand : List (List ℕ) → Type 0
+IsNoCommand words = (c : Command) → IsCommand words c → ⊥

@@ -1,8 +1,9 @@
+pub mod Outside
+pub mod Status
 pub mod Command
-pub mod Image
 pub mod Refusal
+pub mod Image
 pub mod Plan
-pub mod UserPlan
 pub mod Cvm
 pub mod Text
 pub mod Boot

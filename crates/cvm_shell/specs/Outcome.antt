@@ -1,69 +1,72 @@
--- How a command ends, what it prints, and what it does to the file that it puts.
-use Rattle.std.specs.Prelude.{◌≡◌, ◌⊎◌, ℕ, List, take, Option, codes}
-use Rattle.std.specs.Io.KnownBytes.{append_known}
-use Rattle.cvm_outside.specs.Told.{Tells, AppendsPart, retold}
-use Rattle.c0_tree.specs.FirstTree.{CUnit}
+-- How a command ends: status, text, files and sectors together; and what the counts of faults say of each status.
+use Rattle.std.specs.Prelude.{◌≡◌, ◌≢◌, ◌⊎◌, ◌↔◌, ℕ, List, [], take, codes}
+use Rattle.cvm_outside.specs.Causes.{Rose}
+use Rattle.cvm_outside.specs.Told.{retold, TOO_LONG}
 use Rattle.cvm_shell.specs.declared.status.Status.{Status}
-use Rattle.cvm_shell.specs.declared.status.Status.TheVariants.{Done, Words, Refused, KernelFault, StepLimit, Disk, Shelf, Sink, Memory}
-use Rattle.cvm_shell.specs.Command.{Boot, CompileUser, Command, IsBoot, IsCompileUser, IsCommand}
-use Rattle.cvm_shell.specs.Refusal.{Refusal, refusal_text}
-use Rattle.cvm_shell.specs.Plan.{Plan, boots, refuses, Plans}
-use Rattle.cvm_shell.specs.UserPlan.{Makes}
-use Rattle.cvm_shell.specs.UserPlan as user
-use Rattle.cvm_shell.specs.Boot.{Boots, printed}
+use Rattle.cvm_shell.specs.declared.status.Status.TheVariants.{Done, Words, Disk, Shelf, Sink, Memory}
+use Rattle.cvm_shell.specs.Outside.{Outside, SameSectors, Leaves}
+use Rattle.cvm_shell.specs.Command.{Command, IsCommand}
+use Rattle.cvm_shell.specs.Refusal.{too_long, refusal_text, refusal_status}
+use Rattle.cvm_shell.specs.Plan.{Plan, bad_words, refuses, puts, boots, ComesTo, AllTold, IsPlan}
+use Rattle.cvm_shell.specs.Boot.{RunEnds}
 
--- no command has these words
-abbrev pub IsNoCommand : List (List ℕ) → Type 0
-IsNoCommand words = (c : Command) → IsCommand words c → ⊥
+-- a row is printed beside a status, or a failing sink took a part of it; nothing else changes
+pub data Says (stated : Status) (row : List ℕ) (old new : Outside) : Status → Type 0 where
+  said : Leaves old new row → Says stated row old new stated
+  broken : (n : ℕ) → Leaves old new (take n row) → Says stated row old new Sink
 
--- the words are a boot, and the files that it names, which are what the shelf tells of them, come to this
-pub record ComesTo (words : List (List ℕ)) (file : List ℕ → Option (List ℕ)) (b : Boot) (plan : Plan) : Type 0 where
-  pub boot : IsBoot words b
-  pub image : List ℕ
-  pub schedule : List ℕ
-  pub tells_image : Tells (file b.image) image
-  pub tells_schedule : Tells (file b.schedule) schedule
-  pub comes_to : Plans image schedule plan
+-- this file has these bytes now, and nothing else changed
+pub record HasPut (name bytes : List ℕ) (old new : Outside) : Type 0 where
+  pub put : new.shelf.file name ≡ retold (old.shelf.file name) bytes
+  pub others : (n : List ℕ) → n ≢ name → new.shelf.file n ≡ old.shelf.file n
+  pub text : new.sink.text ≡ old.sink.text
+  pub disk : SameSectors old.disk new.disk
 
--- the words and the files that they name come to a refusal
-pub data IsRefused (words : List (List ℕ)) (file : List ℕ → Option (List ℕ)) (r : Refusal) : Type 0 where
-  boot_refused : (b : Boot) → ComesTo words file b (refuses r) → IsRefused words file r
-  text_refused : (c : CompileUser) → IsCompileUser words c → Makes (file c.text) (user.refuses r) → IsRefused words file r
+-- a file is put; a failing shelf left it or took the first of the bytes
+abbrev pub PutEnds : (name bytes : List ℕ) → Status → (old new : Outside) → Type 0
+PutEnds name bytes Done old new = HasPut name bytes old new
+PutEnds name bytes Shelf old new = Leaves old new [] ⊎ ((n : ℕ) × HasPut name (take n bytes) old new)
+PutEnds name bytes other old new = ⊥
 
--- the whole text of a command, by what its words and files come to
-pub data IsWhole (words : List (List ℕ)) (file : List ℕ → Option (List ℕ)) : List ℕ → Type 0 where
-  bad_words : IsNoCommand words → IsWhole words file (codes "bad words\n")
-  refusal : (r : Refusal) → IsRefused words file r → IsWhole words file (refusal_text r)
-  report : (b : Boot) (u : CUnit) → ComesTo words file b (boots u) → IsWhole words file (printed u b.turns b.steps)
+-- HOW A PLAN ENDS
+abbrev pub Ends : Plan → Status → (old new : Outside) → Type 0
+Ends bad_words status old new = Says Words (codes "bad words\n") old new status
+Ends (refuses r) status old new = Says (refusal_status r) (refusal_text r) old new status
+Ends (puts name bytes) status old new = PutEnds name bytes status old new
+Ends (boots b u) status old new = RunEnds u b.turns b.steps status old new
 
--- a boot was run
-abbrev pub Ran : List (List ℕ) → (List ℕ → Option (List ℕ)) → Status → Option (List ℕ) → Option (List ℕ) → Type 0
-Ran words file status old new = (b : Boot) × (u : CUnit) × ComesTo words file b (boots u) × Boots u b.turns b.steps status old new
+-- 67,108,865 bytes were taken of a file exactly where it is refused as too long; where the words are no command no file is got
+abbrev pub Took : Plan → ℕ → Type 0
+Took bad_words taken = Unit {0}
+Took p taken = (p ≡ refuses too_long) ↔ (taken ≡ TOO_LONG)
 
--- a user's image was put, and nothing printed
-abbrev pub Compiled : List (List ℕ) → (List ℕ → Option (List ℕ)) → Option (List ℕ) → Option (List ℕ) → Type 0
-Compiled words file old new = (c : CompileUser) × (image : List ℕ) × IsCompileUser words c × Makes (file c.text) (user.puts image) × (new ≡ old)
+-- HOW A COMMAND ENDS: what it comes to is done; or there was no memory or no file to know what that is, and nothing is done
+pub data CommandEnds (words : List (List ℕ)) (status : Status) (old new : Outside) : Type 0 where
+  done : (p : Plan) → IsPlan (AllTold words old.shelf.file) (ComesTo words old.shelf.file) p
+      → Took p new.shelf.taken → Ends p status old new → CommandEnds words status old new
+  undone : (c : Command) → IsCommand words c → (status ≡ Memory) ⊎ (status ≡ Shelf)
+      → new.shelf.taken ≢ TOO_LONG → Leaves old new [] → CommandEnds words status old new
 
--- how a command ends, by its status; this form of kernels meets no fault, and no disk
-abbrev pub Outcome : List (List ℕ) → (List ℕ → Option (List ℕ)) → Status → Option (List ℕ) → Option (List ℕ) → Type 0
-Outcome words file Done old new = Ran words file Done old new ⊎ Compiled words file old new
-Outcome words file Words old new = IsNoCommand words × (new ≡ append_known old (codes "bad words\n"))
-Outcome words file Refused old new = (r : Refusal) × IsRefused words file r × (new ≡ append_known old (refusal_text r))
-Outcome words file KernelFault old new = ⊥
-Outcome words file StepLimit old new = Ran words file StepLimit old new
-Outcome words file Disk old new = ⊥
-Outcome words file Shelf old new = new ≡ old
-Outcome words file Sink old new = (text : List ℕ) × IsWhole words file text × AppendsPart old new text
-Outcome words file Memory old new = new ≡ old
+-- no count of faults changed
+pub record NoFault (old new : Outside) : Type 0 where
+  pub shelf : new.shelf.faults ≡ old.shelf.faults
+  pub sink : new.sink.faults ≡ old.sink.faults
+  pub disk : new.disk.faults ≡ old.disk.faults
 
--- what the file that is put has after a command, by its status: the bytes that the text comes to, the first of them, or what it had
-abbrev pub ImageEnds : Status → (text old new : Option (List ℕ)) → Type 0
-ImageEnds Done text old new = (image : List ℕ) × Makes text (user.puts image) × (new ≡ retold old image)
-ImageEnds Shelf text old new = (new ≡ old) ⊎ ((image : List ℕ) × (n : ℕ) × Makes text (user.puts image) × (new ≡ retold old (take n image)))
-ImageEnds Words text old new = new ≡ old
-ImageEnds Refused text old new = new ≡ old
-ImageEnds KernelFault text old new = new ≡ old
-ImageEnds StepLimit text old new = new ≡ old
-ImageEnds Disk text old new = new ≡ old
-ImageEnds Sink text old new = new ≡ old
-ImageEnds Memory text old new = new ≡ old
+-- a call of the shelf failed, or a file was too long
+abbrev pub ShelfFails : (old new : Outside) → Type 0
+ShelfFails old new = Rose old.shelf.faults new.shelf.faults ⊎ ((new.shelf.taken ≡ TOO_LONG) × (new.shelf.faults ≡ old.shelf.faults))
+
+-- WHY, by the status: an object whose call failed counted it, and the counts of the others are as before
+abbrev pub CausedBy : Status → (old new : Outside) → Type 0
+CausedBy Disk old new = Rose old.disk.faults new.disk.faults × (new.shelf.faults ≡ old.shelf.faults) × (new.sink.faults ≡ old.sink.faults)
+CausedBy Shelf old new = ShelfFails old new × (new.sink.faults ≡ old.sink.faults) × (new.disk.faults ≡ old.disk.faults)
+CausedBy Sink old new = Rose old.sink.faults new.sink.faults × (new.shelf.faults ≡ old.shelf.faults) × (new.disk.faults ≡ old.disk.faults)
+CausedBy other old new = NoFault old new
+
+-- both, of objects that are seen as an outside
+abbrev pub Outcome : {A : Type 0} → (A → Outside) → List (List ℕ) → Status → (old new : A) → Type 0
+Outcome see words status old new = CommandEnds words status (see old) (see new)
+
+abbrev pub Causes : {A : Type 0} → (A → Outside) → Status → (old new : A) → Type 0
+Causes see status old new = CausedBy status (see old) (see new)

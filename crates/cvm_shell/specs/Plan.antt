@@ -1,20 +1,94 @@
--- What the files of a boot come to, before anything is run, in the order of work.
-use Rattle.std.specs.Prelude.{◌≡◌, ◌≢◌, ℕ, ◌<◌, ◌≤◌, List, [], length}
-use Rattle.cvm_outside.specs.Told.{TOO_LONG}
+-- What words and the files that they name come to, before anything is put or run: stage by stage, in the order of work.
+use Rattle.std.specs.Prelude.{◌≡◌, ◌≢◌, ℕ, ◌<◌, ◌≤◌, List, [], length, flat_map, Option, Some, None, Ok, Err}
+use Rattle.std.specs.Int.{to_le_bytes, w32}
+use Rattle.std.specs.Option.{IsSome}
+use Rattle.cvm_outside.specs.Told.{TOO_LONG, Tells}
 use Rattle.c0_tree.specs.FirstTree.{CUnit}
 use Rattle.first_source.specs.Reading.{Reads, Breaks}
-use Rattle.cvm_shell.specs.Refusal.{Refusal, not_built, too_long}
-use Rattle.cvm_shell.specs.Image as file
+use Rattle.mips_asm.specs.Assembled.{assembled}
+use Rattle.mips_asm.specs.declared.fault.AsmFault.{AsmFault}
+use Rattle.mips_asm.specs.declared.fault.AsmFault.TheVariants.{BadByte, UnknownMnemonic, BadOperand, OutOfRange, UnknownLabel, LabelTwice, TooLong, Memory}
+use Rattle.cvm_shell.specs.Command.{Boot, CompileUser, Command, boot, compile_user, IsBoot, IsCompileUser, IsCommand, IsNoCommand}
+use Rattle.cvm_shell.specs.Refusal.{Refusal, bad_byte, unknown_mnemonic, bad_operand, out_of_range, unknown_label, label_twice, too_many_words, not_built, too_long}
+use Rattle.cvm_shell.specs.Image.{Reading, gives, refuses as faulty, reading}
 
+-- what is to be done
 pub data Plan : Type 0 where
-  boots : CUnit → Plan
+  -- say that the words are no command
+  bad_words : Plan
+  -- say what is wrong with a file
   refuses : Refusal → Plan
+  -- make the bytes of this file these
+  puts : (name bytes : List ℕ) → Plan
+  -- run this kernel as that command says
+  boots : Boot → CUnit → Plan
 
--- the first of these that stands is what the files come to
-pub data Plans (image schedule : List ℕ) : Plan → Type 0 where
-  image_long : TOO_LONG ≤ length image → Plans image schedule (refuses too_long)
-  schedule_long : length image < TOO_LONG → TOO_LONG ≤ length schedule → Plans image schedule (refuses too_long)
-  no_image : length image < TOO_LONG → length schedule < TOO_LONG → (r : Refusal) → file.reading image ≡ file.refuses r → Plans image schedule (refuses r)
-  no_source : length image < TOO_LONG → length schedule < TOO_LONG → (source : List ℕ) (at : ℕ) → file.reading image ≡ file.gives source → Breaks source at → Plans image schedule (refuses (not_built at))
-  no_schedule : length image < TOO_LONG → length schedule < TOO_LONG → (source : List ℕ) (u : CUnit) → file.reading image ≡ file.gives source → Reads source u → schedule ≢ [] → Plans image schedule (refuses (not_built 0))
-  runs : length image < TOO_LONG → (source : List ℕ) (u : CUnit) → file.reading image ≡ file.gives source → Reads source u → schedule ≡ [] → Plans image schedule (boots u)
+-- A FILE IS GOT: one with more than 67,108,864 bytes is refused, else its bytes go on
+pub data Got (told : Option (List ℕ)) (next : List ℕ → Plan → Type 0) : Plan → Type 0 where
+  long : (bytes : List ℕ) → Tells told bytes → TOO_LONG ≤ length bytes → Got told next (refuses too_long)
+  whole : (bytes : List ℕ) (p : Plan) → Tells told bytes → length bytes < TOO_LONG → next bytes p → Got told next p
+
+-- AFTER THE SOURCE the schedule is looked at: it is to be empty
+pub data AfterSource (b : Boot) (schedule : List ℕ) (u : CUnit) : Plan → Type 0 where
+  scheduled : schedule ≢ [] → AfterSource b schedule u (refuses (not_built 0))
+  runs : schedule ≡ [] → AfterSource b schedule u (boots b u)
+
+-- AFTER THE IMAGE the source in it is read
+pub data AfterImage (b : Boot) (schedule source : List ℕ) : Plan → Type 0 where
+  breaks : (at : ℕ) → Breaks source at → AfterImage b schedule source (refuses (not_built at))
+  reads : (u : CUnit) (p : Plan) → Reads source u → AfterSource b schedule u p → AfterImage b schedule source p
+
+-- AFTER THE FILES the image's fields are read
+abbrev pub AfterReading : Boot → List ℕ → Reading → Plan → Type 0
+AfterReading b schedule (faulty r) p = p ≡ refuses r
+AfterReading b schedule (gives source) p = AfterImage b schedule source p
+
+abbrev pub AfterFiles : Boot → (image schedule : List ℕ) → Plan → Type 0
+AfterFiles b image schedule p = AfterReading b schedule (reading image) p
+
+-- boot IMAGE SCHEDULE TURNS STEPS gets the image, then the schedule
+abbrev pub BootPlan : (List ℕ → Option (List ℕ)) → Boot → Plan → Type 0
+BootPlan file b p = Got (file b.image) (λ image. Got (file b.schedule) (AfterFiles b image)) p
+
+-- the bytes of a user's image: its words, each as four bytes with the lowest first, and nothing else
+abbrev pub bytes_of : List ℕ → List ℕ
+bytes_of words = flat_map (to_le_bytes w32) words
+
+-- what a fault of a text is refused with; want of memory is none of the text's
+abbrev pub refusal_of : AsmFault → Option Refusal
+refusal_of (BadByte at) = Some (bad_byte at)
+refusal_of (UnknownMnemonic line) = Some (unknown_mnemonic line)
+refusal_of (BadOperand line) = Some (bad_operand line)
+refusal_of (OutOfRange line value) = Some (out_of_range line value)
+refusal_of (UnknownLabel line) = Some (unknown_label line)
+refusal_of (LabelTwice line) = Some (label_twice line)
+refusal_of TooLong = Some too_many_words
+refusal_of Memory = None
+
+-- AFTER THE TEXT of a user it is assembled
+pub data AfterText (name text : List ℕ) : Plan → Type 0 where
+  no_words : (f : AsmFault) (r : Refusal) → assembled text ≡ Err f → refusal_of f ≡ Some r → AfterText name text (refuses r)
+  assembles : (words : List ℕ) → assembled text ≡ Ok words → AfterText name text (puts name (bytes_of words))
+
+-- compile user ASM IMG gets the text
+abbrev pub UserPlan : (List ℕ → Option (List ℕ)) → CompileUser → Plan → Type 0
+UserPlan file c p = Got (file c.text) (AfterText c.image) p
+
+-- THE PLAN that words and files come to
+pub data ComesTo (words : List (List ℕ)) (file : List ℕ → Option (List ℕ)) : Plan → Type 0 where
+  no_command : IsNoCommand words → ComesTo words file bad_words
+  boot_plan : (b : Boot) (p : Plan) → IsBoot words b → BootPlan file b p → ComesTo words file p
+  user_plan : (c : CompileUser) (p : Plan) → IsCompileUser words c → UserPlan file c p → ComesTo words file p
+
+-- the files that a command gets are told
+abbrev pub GetsTold : (List ℕ → Option (List ℕ)) → Command → Type 0
+GetsTold file (boot b) = IsSome (file b.image) × IsSome (file b.schedule)
+GetsTold file (compile_user c) = IsSome (file c.text)
+
+abbrev pub AllTold : List (List ℕ) → (List ℕ → Option (List ℕ)) → Type 0
+AllTold words file = (c : Command) → IsCommand words c → GetsTold file c
+
+-- what something comes to, and where the files are told to nothing else
+pub record IsPlan (told : Type 0) (Comes : Plan → Type 0) (p : Plan) : Type 0 where
+  pub comes : Comes p
+  pub only : told → (q : Plan) → Comes q → q ≡ p

@@ -1,6 +1,8 @@
--- The refusals, and the row of each.
+-- The refusals, with the row and the status of each.
 use Rattle.std.specs.Prelude.{ℕ, ℤ, List, ◌++◌, decimal, codes}
 use Rattle.std.specs.Fmt.{signed_decimal}
+use Rattle.cvm_shell.specs.declared.status.Status.{Status}
+use Rattle.cvm_shell.specs.declared.status.Status.TheVariants.{Refused, Shelf}
 
 pub data Refusal : Type 0 where
   -- 1: the byte of a user's text here is none of a text
@@ -45,3 +47,8 @@ refusal_text (trailing at) = codes "refused 52 " ++ decimal at ++ codes "\n"
 refusal_text (parameter which value) = codes "refused 53 " ++ decimal which ++ codes " " ++ decimal value ++ codes "\n"
 refusal_text (not_built at) = codes "refused 59 " ++ decimal at ++ codes "\n"
 refusal_text too_long = codes "refused 81\n"
+
+-- the status beside the row: a file that is too long is the shelf's fault
+abbrev pub refusal_status : Refusal → Status
+refusal_status too_long = Shelf
+refusal_status other = Refused

@@ -1,5 +1,11 @@
--- How the stages of a command end.
-use Rattle.std.specs.Prelude.{◌≡◌, ℕ, List, Option, Result, MatchResult}
+-- Only for the contracts inside the crate: how the stages of a command end.
+use Rattle.std.specs.Prelude.{◌≡◌, ◌<◌, ◌+◌, ◌*◌, ℕ, pos, List, ◌++◌, length, codes, slice_index_or, Option, Result, MatchResult}
+use Rattle.std.specs.Int.{cast_unsigned, w32}
+use Rattle.first_code.specs.Meaning.{final_values}
+use Rattle.first_machine.specs.Machine.{word_at}
+use Rattle.cvm_shell.specs.Cvm.{Row, halt}
+use Rattle.cvm_shell.specs.Text.{row_text, globals_text}
+use Rattle.std.specs.Io.KnownBytes.{append_known}
 use Rattle.cvm_outside.specs.Causes.{Rose}
 use Rattle.cvm_outside.specs.Told.{AppendsPart}
 use Rattle.cvm_outside.specs.declared.shelf.ShelfFault.{ShelfFault}
@@ -11,8 +17,15 @@ use Rattle.cvm_shell.specs.declared.boot.Stop.{Stop}
 use Rattle.cvm_shell.specs.declared.boot.Stop.TheVariants as stop
 use Rattle.cvm_shell.specs.declared.refusal.Refusal.TheVariants as refusal
 use Rattle.cvm_shell.specs.declared.status.Status.{Status}
-use Rattle.cvm_shell.specs.declared.status.Status.TheVariants.{Done, Words, Refused, KernelFault, StepLimit, Disk, Shelf, Sink, Memory}
-use Rattle.cvm_shell.specs.Boot.{Boots, printed}
+use Rattle.cvm_shell.specs.declared.status.Status.TheVariants.{Done, StepLimit, Sink, Memory}
+use Rattle.std.specs.Global.{Vec}
+use Rattle.c0_tree.specs.FirstView.{unit_view}
+use Rattle.c0_tree.specs.declared.tree.Unit.{Unit as Tree}
+use Rattle.cvm_shell.specs.Command.{Boot, CompileUser, Command, boot, compile_user, IsCommand}
+use Rattle.cvm_shell.specs.Plan.{Plan, puts, boots, BootPlan, UserPlan, GetsTold, IsPlan}
+use Rattle.cvm_shell.specs.Outside.{Drive, Outside}
+use Rattle.cvm_shell.specs.Boot.{Ran, GoesOn}
+use Rattle.cvm_shell.specs.Outcome.{CommandEnds}
 
 -- what a fault of the shelf comes to
 abbrev pub stop_of : ShelfFault → Stop
@@ -41,14 +54,46 @@ StopCount before now stop.Memory = now ≡ before
 abbrev pub PlanCounts : {T : Type 0} → ℕ → ℕ → Result T Stop → Type 0
 PlanCounts before now result = MatchResult result (λ _. now ≡ before) (StopCount before now)
 
--- how the run of a kernel ends, by its status
+-- how the run of a kernel ends over a sink alone, by its status
 abbrev pub KernelEnds : CUnit → (turns steps : ℕ) → Status → Option (List ℕ) → Option (List ℕ) → Type 0
-KernelEnds u turns steps Done old new = Boots u turns steps Done old new
-KernelEnds u turns steps Words old new = ⊥
-KernelEnds u turns steps Refused old new = ⊥
-KernelEnds u turns steps KernelFault old new = ⊥
-KernelEnds u turns steps StepLimit old new = Boots u turns steps StepLimit old new
-KernelEnds u turns steps Disk old new = ⊥
-KernelEnds u turns steps Shelf old new = ⊥
-KernelEnds u turns steps Sink old new = AppendsPart old new (printed u turns steps)
+KernelEnds u turns steps Done old new = (text : List ℕ) × Ran u turns steps Done text × (new ≡ append_known old text) × GoesOn u
+KernelEnds u turns steps StepLimit old new = (text : List ℕ) × Ran u turns steps StepLimit text × (new ≡ append_known old text) × GoesOn u
+KernelEnds u turns steps Sink old new = (status : Status) × (text : List ℕ) × Ran u turns steps status text × AppendsPart old new text
 KernelEnds u turns steps Memory old new = new ≡ old
+KernelEnds u turns steps other old new = ⊥
+
+-- how a command ends, whatever the disk, which it leaves alone
+abbrev pub EndsAs : {A : Type 0} → Command → (Drive → A → Outside) → Status → (old new : A) → Type 0
+EndsAs c see status old new = (words : List (List ℕ)) (disk : Drive) → IsCommand words c → CommandEnds words status (see disk old) (see disk new)
+
+-- the plans of the two commands, by what their stages found
+abbrev pub booted : Boot → Tree → Plan
+booted b unit = boots b (unit_view unit)
+
+abbrev pub compiled : CompileUser → Vec ℕ → Plan
+compiled c image = puts c.image image.items
+
+-- what the files of a command come to
+abbrev pub IsBootPlan : (List ℕ → Option (List ℕ)) → Boot → Plan → Type 0
+IsBootPlan file b p = IsPlan (GetsTold file (boot b)) (BootPlan file b) p
+
+abbrev pub IsUserPlan : (List ℕ → Option (List ℕ)) → CompileUser → Plan → Type 0
+IsUserPlan file c p = IsPlan (GetsTold file (compile_user c)) (UserPlan file c) p
+
+-- the words of a kernel's globals stand in memory from an address on, with the values that its dispatch leaves
+abbrev pub HasGlobals : CUnit → List ℕ → ℕ → Type 0
+HasGlobals u memory at = (k : ℕ) → k < length u.globals → word_at memory (at + 4 * k) ≡ cast_unsigned w32 (slice_index_or (final_values u) k (pos 0))
+
+-- the row of a dispatch that answers 0
+abbrev pub halting_row : (turn cause edata user : ℕ) → Row
+halting_row turn cause edata user = record { turn = turn; cause = cause; edata = edata; user = user; next = halt }
+
+-- what a run of one turn prints: its row and the end, the globals after it, and both
+abbrev pub turn_text : (cause edata : ℕ) → List ℕ
+turn_text cause edata = row_text (halting_row 0 cause edata 0) ++ codes "halted\n"
+
+abbrev pub final_text : CUnit → List ℕ
+final_text u = globals_text u.globals (final_values u)
+
+abbrev pub run_text : CUnit → (cause edata : ℕ) → List ℕ
+run_text u cause edata = turn_text cause edata ++ final_text u

@@ -1,36 +1,28 @@
 -- The text that a boot prints.
-use Rattle.std.specs.Prelude.{ℕ, zero, suc, ℤ, List, [], ◌∷◌, ◌++◌, decimal, codes}
+use Rattle.std.specs.Prelude.{ℕ, ℤ, List, [], ◌∷◌, ◌++◌, decimal, codes}
 use Rattle.std.specs.Fmt.{signed_decimal}
 use Rattle.cvm_text.specs.Hex.{hex8}
 use Rattle.c0_tree.specs.FirstTree.{CName, CUnit}
-use Rattle.cvm_shell.specs.Cvm.{Standing, running, halted, bad_user, Cvm, cvm}
+use Rattle.cvm_shell.specs.Cvm.{Next, halt, bad_user, Standing, running, halted, faulted, Row, Past}
 
 -- who is next after a dispatch
-abbrev pub next_text : Standing → List ℕ
-next_text halted = codes " next 0\n"
+abbrev pub next_text : Next → List ℕ
+next_text halt = codes " next 0\n"
 next_text bad_user = codes " fault BadUser\n"
-next_text running = []
 
 -- the row of a dispatch
-abbrev pub row_text : (turn cause edata user : ℕ) → Standing → List ℕ
-row_text turn cause edata user next = codes "turn " ++ decimal turn ++ codes " cause " ++ decimal cause ++ codes " data " ++ hex8 edata ++ codes " user " ++ decimal user ++ next_text next
+abbrev pub row_text : Row → List ℕ
+row_text r = codes "turn " ++ decimal r.turn ++ codes " cause " ++ decimal r.cause ++ codes " data " ++ hex8 r.edata ++ codes " user " ++ decimal r.user ++ next_text r.next
 
--- the row of turn k, where the run went on before it: over no users each turn is the first, called by the reset
-abbrev pub turn_text : ℕ → Standing → Standing → List ℕ
-turn_text k running next = row_text k 0 0 0 next
-turn_text k halted next = []
-turn_text k bad_user next = []
+abbrev pub rows_text : List Row → List ℕ
+rows_text [] = []
+rows_text (r ∷ rest) = row_text r ++ rows_text rest
 
--- the rows of the first k turns
-abbrev pub rows_text : CUnit → ℕ → List ℕ
-rows_text u zero = []
-rows_text u (suc k) = rows_text u k ++ turn_text k (cvm u k).standing (cvm u (suc k)).standing
-
--- the row at the end
+-- the row at the end; a run that faulted has none
 abbrev pub end_text : Standing → List ℕ
 end_text running = codes "stopped\n"
 end_text halted = codes "halted\n"
-end_text bad_user = []
+end_text faulted = []
 
 -- the row of a global
 abbrev pub global_text : List ℕ → ℤ → List ℕ
@@ -42,10 +34,6 @@ globals_text [] values = []
 globals_text (x ∷ rest) [] = []
 globals_text (x ∷ rest) (v ∷ values) = global_text x.text v ++ globals_text rest values
 
--- the end and the report after k turns
-abbrev pub report_text : CUnit → Cvm → List ℕ
+-- the end and the report
+abbrev pub report_text : CUnit → Past → List ℕ
 report_text u c = end_text c.standing ++ globals_text u.globals c.globals
-
--- the whole text after k turns, where the run ends there
-abbrev pub whole_text : CUnit → ℕ → List ℕ
-whole_text u k = rows_text u k ++ report_text u (cvm u k)

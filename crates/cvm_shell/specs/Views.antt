@@ -1,13 +1,11 @@
--- What contracts see of the enums and structs of the code.
-use Rattle.std.specs.Prelude.{ℕ, Result, MatchResult, ⊤}
-use Rattle.std.specs.Global.{Vec}
-use Rattle.c0_tree.specs.FirstView.{unit_view}
-use Rattle.c0_tree.specs.declared.tree.Unit.{Unit as Tree}
+-- Only for the contracts inside the crate: what they see of the enums and structs of the code, and of a stage that may stop.
+use Rattle.std.specs.Prelude.{◌≡◌, ℕ, List, Result, MatchResult, ⊤}
+use Rattle.std.specs.Borrow.{Bor}
+use Rattle.cvm_shell.specs.declared.status.Status.{Status}
+use Rattle.cvm_shell.specs.Image.{Reading, gives, refuses as refused_for}
 use Rattle.cvm_shell.specs.Command as command
 use Rattle.cvm_shell.specs.Refusal as refusal
-use Rattle.cvm_shell.specs.Plan.{Plan, boots, refuses}
-use Rattle.cvm_shell.specs.UserPlan.{UserPlan}
-use Rattle.cvm_shell.specs.UserPlan as user
+use Rattle.cvm_shell.specs.Plan.{Plan, refuses}
 use Rattle.cvm_shell.specs.declared.command.Boot.{Boot}
 use Rattle.cvm_shell.specs.declared.command.CompileUser.{CompileUser}
 use Rattle.cvm_shell.specs.declared.command.Command.{Command}
@@ -46,22 +44,23 @@ refusal_view (Parameter which value) = refusal.parameter which value
 refusal_view (NotBuilt at) = refusal.not_built at
 refusal_view TooLong = refusal.too_long
 
+-- the row and the status of a refusal
+abbrev pub stated_row : Refusal → List ℕ
+stated_row r = refusal.refusal_text (refusal_view r)
+
+abbrev pub stated_status : Refusal → Status
+stated_status r = refusal.refusal_status (refusal_view r)
+
+-- bytes were read to this: a source, or a refusal
+abbrev pub IsReading : Reading → Result (Bor (List ℕ)) Refusal → Type 0
+IsReading reading result = MatchResult result (λ source. reading ≡ gives source.now) (λ r. reading ≡ refused_for (refusal_view r))
+
 -- a fact of the plan, where a stop is a refusal
 abbrev pub IfRefused : (Plan → Type 0) → Stop → Type 0
 IfRefused P (Refused r) = P (refuses (refusal_view r))
 IfRefused P Shelf = ⊤
 IfRefused P Memory = ⊤
 
--- a fact of the plan that the files of a boot come to, where nothing else stopped it
-abbrev pub IfPlan : (Plan → Type 0) → Result Tree Stop → Type 0
-IfPlan P result = MatchResult result (λ u. P (boots (unit_view u))) (IfRefused P)
-
--- a fact of the plan, where a stop is a refusal of a user's text
-abbrev pub IfTextRefused : (UserPlan → Type 0) → Stop → Type 0
-IfTextRefused P (Refused r) = P (user.refuses (refusal_view r))
-IfTextRefused P Shelf = ⊤
-IfTextRefused P Memory = ⊤
-
--- a fact of the plan that the text of a user comes to, where nothing else stopped it
-abbrev pub IfUserPlan : (UserPlan → Type 0) → Result (Vec ℕ) Stop → Type 0
-IfUserPlan P result = MatchResult result (λ v. P (user.puts v.items)) (IfTextRefused P)
+-- a fact of the plan that a stage makes of what it found, where nothing else stopped it
+abbrev pub IfPlan : {A : Type 0} → (A → Plan) → (Plan → Type 0) → Result A Stop → Type 0
+IfPlan made P result = MatchResult result (λ x. P (made x)) (IfRefused P)

@@ -1,11 +1,13 @@
 // The image of a user: its text, assembled.
-ghost use Rattle.std.specs.Prelude.{◌≡◌, ◌≢◌, ◌<◌, ◌*◌, ℕ, List, length, IfOk, IfErr, IsErrOf, Some};
+ghost use Rattle.std.specs.Prelude.{◌≡◌, ◌≢◌, ◌↔◌, ◌*◌, ⊤, ℕ, List, length, IfOk, IfErr, IsErrOf};
 ghost use Rattle.cvm_outside.specs.Told.{TOO_LONG};
-ghost use Rattle.cvm_shell.specs.Stages.{text_stop, PlanCounts};
-ghost use Rattle.cvm_shell.specs.UserPlan.{UserPlan, UserPlans, Makes, bytes_of};
-ghost use Rattle.cvm_shell.specs.Views.{IfUserPlan};
+ghost use Rattle.cvm_shell.specs.Command as Command;
+ghost use Rattle.cvm_shell.specs.Plan.{AfterText, IsPlan, bytes_of};
+ghost use Rattle.cvm_shell.specs.Stages.{text_stop, PlanCounts, compiled, IsUserPlan};
+ghost use Rattle.cvm_shell.specs.Views.{user_view, IfPlan};
 
 use crate::boot::Stop;
+use crate::command::CompileUser;
 use crate::refusal::Refusal;
 use cvm_outside::Shelf;
 use mips_asm::{AsmFault, assemble};
@@ -32,14 +34,17 @@ impl From<AsmFault> for Stop {
 
 /// Gets the text of a user and assembles it: the bytes of the user's image, which is its words,
 /// each little-endian, and nothing else.
-pub fn user_image<S: Shelf>(alloc: Global, name: &str, shelf: &mut S) -> Result<Vec<u8>, Stop>
-    ensures comes { IfUserPlan (Makes (S.file shelf.old name.now)) result }
-    ensures only { (text : List ℕ) (p : UserPlan) → S.file shelf.old name.now ≡ Some text → UserPlans text p → IfUserPlan (λ q. q ≡ p) result }
-    ensures long { S.taken shelf.new ≡ TOO_LONG → IsErrOf result (Stop.Refused Refusal.TooLong) }
+pub fn user_image<S: Shelf>(
+    alloc: Global,
+    names: &CompileUser,
+    shelf: &mut S,
+) -> Result<Vec<u8>, Stop>
+    ensures comes { IfPlan (compiled (user_view names.now)) (IsUserPlan (S.file shelf.old) (user_view names.now)) result }
+    ensures long { IsErrOf result (Stop.Refused Refusal.TooLong) ↔ (S.taken shelf.new ≡ TOO_LONG) }
     ensures count { PlanCounts (S.faults shelf.old) (S.faults shelf.new) result }
     ensures files { (n : List ℕ) → S.file shelf.new n ≡ S.file shelf.old n }
 {
-    let text = shelf.get(alloc, name)?;
+    let text = shelf.get(alloc, names.text)?;
     assembled_image(alloc, &text)
 }
 
@@ -50,9 +55,7 @@ pub fn words_have_four_bytes()
 
 // The bytes of the image that a text comes to.
 fn assembled_image(alloc: Global, text: &[u8]) -> Result<Vec<u8>, Stop>
-    requires { length text.now < TOO_LONG }
-    ensures comes { IfUserPlan (UserPlans text.now) result }
-    ensures only { (p : UserPlan) → UserPlans text.now p → IfUserPlan (λ q. q ≡ p) result }
+    ensures comes { (c : Command.CompileUser) → IfPlan (compiled c) (IsPlan ⊤ (AfterText c.image text.now)) result }
     ensures inside { IfErr result (λ s. s ≢ Stop.Shelf) }
     ensures short { IsErrOf result (Stop.Refused Refusal.TooLong) → ⊥ }
 {

@@ -1,13 +1,14 @@
 // A boot: what its files come to, and the run of its kernel.
-ghost use Rattle.std.specs.Prelude.{◌≡◌, ◌≢◌, ◌<◌, ◌≤◌, ℕ, List, length, IfOk, IfErr, IsErrOf, Some};
+ghost use Rattle.std.specs.Prelude.{◌≡◌, ◌≢◌, ◌≤◌, ◌↔◌, ⊤, ℕ, List, IfOk, IfErr, IsErrOf};
 ghost use Rattle.cvm_outside.specs.Causes.{Rose};
 ghost use Rattle.cvm_outside.specs.Told.{TOO_LONG};
 ghost use Rattle.c0_tree.specs.First.{IsFirst};
+ghost use Rattle.c0_tree.specs.FirstTree.{CUnit};
 ghost use Rattle.c0_tree.specs.FirstView.{unit_view};
-ghost use Rattle.cvm_shell.specs.Command.{IsBoot};
-ghost use Rattle.cvm_shell.specs.Outcome.{ComesTo};
-ghost use Rattle.cvm_shell.specs.Plan.{Plan, Plans};
-ghost use Rattle.cvm_shell.specs.Stages.{stop_of, PlanCounts, KernelEnds};
+ghost use Rattle.cvm_shell.specs.Command as Command;
+ghost use Rattle.cvm_shell.specs.Cvm.{Past, IsCvm};
+ghost use Rattle.cvm_shell.specs.Plan.{AfterFiles, IsPlan};
+ghost use Rattle.cvm_shell.specs.Stages.{stop_of, PlanCounts, KernelEnds, booted, IsBootPlan};
 ghost use Rattle.cvm_shell.specs.Views.{boot_view, IfPlan};
 
 use crate::command::Boot;
@@ -47,10 +48,9 @@ impl From<ShelfFault> for Stop {
 
 /// Gets the files of a boot and reads them, the image first: the kernel that is to run.
 pub fn plan<S: Shelf>(alloc: Global, boot: &Boot, shelf: &mut S) -> Result<Unit, Stop>
-    ensures comes { (words : List (List ℕ)) → IsBoot words (boot_view boot.now) → IfPlan (ComesTo words (S.file shelf.old) (boot_view boot.now)) result }
-    ensures only { (image schedule : List ℕ) (p : Plan) → S.file shelf.old (boot_view boot.now).image ≡ Some image → S.file shelf.old (boot_view boot.now).schedule ≡ Some schedule → Plans image schedule p → IfPlan (λ q. q ≡ p) result }
+    ensures comes { IfPlan (booted (boot_view boot.now)) (IsBootPlan (S.file shelf.old) (boot_view boot.now)) result }
     ensures first { IfOk result (λ u. IsFirst (unit_view u)) }
-    ensures long { S.taken shelf.new ≡ TOO_LONG → IsErrOf result (Stop.Refused Refusal.TooLong) }
+    ensures long { IsErrOf result (Stop.Refused Refusal.TooLong) ↔ (S.taken shelf.new ≡ TOO_LONG) }
     ensures count { PlanCounts (S.faults shelf.old) (S.faults shelf.new) result }
     ensures files { (n : List ℕ) → S.file shelf.new n ≡ S.file shelf.old n }
 {
@@ -61,10 +61,7 @@ pub fn plan<S: Shelf>(alloc: Global, boot: &Boot, shelf: &mut S) -> Result<Unit,
 
 // The kernel that the bytes of an image and of a schedule come to.
 fn kernel_of(alloc: Global, image: &[u8], schedule: &[u8]) -> Result<Unit, Stop>
-    requires image { length image.now < TOO_LONG }
-    requires schedule { length schedule.now < TOO_LONG }
-    ensures comes { IfPlan (Plans image.now schedule.now) result }
-    ensures only { (p : Plan) → Plans image.now schedule.now p → IfPlan (λ q. q ≡ p) result }
+    ensures comes { (b : Command.Boot) → IfPlan (booted b) (IsPlan ⊤ (AfterFiles b image.now schedule.now)) result }
     ensures first { IfOk result (λ u. IsFirst (unit_view u)) }
     ensures inside { IfErr result (λ s. s ≢ Stop.Shelf) }
     ensures short { IsErrOf result (Stop.Refused Refusal.TooLong) → ⊥ }
@@ -84,6 +81,12 @@ fn kernel_of(alloc: Global, image: &[u8], schedule: &[u8]) -> Result<Unit, Stop>
     }
     Ok(unit)
 }
+
+/// A law: so many turns of a kernel lead to one past.
+pub fn kernels_run_once()
+    ensures total { (u : CUnit) (k : ℕ) → (c : Past) × IsCvm u k c }
+    ensures one { (u : CUnit) (k : ℕ) (c d : Past) → IsCvm u k c → IsCvm u k d → c ≡ d }
+{}
 
 /// Runs a kernel for at most so many steps of its machine, and prints its run.
 pub fn run_kernel<O: Sink>(

@@ -1,7 +1,6 @@
 // The words of a command.
 ghost use Rattle.std.specs.Prelude.{◌≡◌, ◌<◌, ◌≤◌, ◌^◌, ℕ, IfSome, IfNone, MatchOption, decimal, Some, option_map};
 ghost use Rattle.cvm_shell.specs.Command as command;
-ghost use Rattle.cvm_shell.specs.Outcome.{IsNoCommand};
 ghost use Rattle.cvm_shell.specs.Views.{boot_view, user_view, command_view};
 
 use cvm_text::{read_decimal, spelled_numbers_are_read};
@@ -44,7 +43,7 @@ pub enum Command<'a> {
 pub fn read_command(words: &Vec<String>) -> Option<Command<'_>>
     ensures found { IfSome result (λ c. command.IsCommand (command.texts words.now.items) (command_view c)) }
     ensures only { (c : command.Command) → command.IsCommand (command.texts words.now.items) c → option_map command_view result ≡ Some c }
-    ensures none { IfNone result (IsNoCommand (command.texts words.now.items)) }
+    ensures none { IfNone result (command.IsNoCommand (command.texts words.now.items)) }
 {
     if let Some(boot) = read_boot(words) {
         return Some(Command::Boot(boot));

@@ -1,7 +1,7 @@
 // The bytes of an image.
-ghost use Rattle.std.specs.Prelude.{◌≡◌, ◌≤◌, ◌<◌, ◌+◌, ◌↔◌, ℕ, List, length, slice_index, MatchResult};
+ghost use Rattle.std.specs.Prelude.{◌≡◌, ◌≤◌, ◌<◌, ◌+◌, ◌↔◌, ℕ, List, length, slice_index};
 ghost use Rattle.cvm_shell.specs.Image as file;
-ghost use Rattle.cvm_shell.specs.Views.{refusal_view};
+ghost use Rattle.cvm_shell.specs.Views.{IsReading};
 
 use crate::refusal::Refusal;
 
@@ -13,7 +13,7 @@ const MOST: u32 = 1_048_576;
 ///
 /// Answers the source. The first field, in their order, that isn't as it is to be is refused.
 pub fn read_image(bytes: &[u8]) -> Result<&[u8], Refusal>
-    ensures { MatchResult result (λ s. file.reading bytes.now ≡ file.gives s.now) (λ r. file.reading bytes.now ≡ file.refuses (refusal_view r)) }
+    ensures { IsReading (file.reading bytes.now) result }
 {
     if bytes.len() < 4 {
         return Err(Refusal::Truncated { at: 0 });
@@ -56,7 +56,7 @@ fn word_from(bytes: &[u8], at: usize) -> u32
 // The source, of so many bytes, once the fields before it are as they are to be.
 fn source_part(bytes: &[u8], count: u32) -> Result<&[u8], Refusal>
     requires { 12 ≤ length bytes.now }
-    ensures { MatchResult result (λ s. file.source_part bytes.now count ≡ file.gives s.now) (λ r. file.source_part bytes.now count ≡ file.refuses (refusal_view r)) }
+    ensures { IsReading (file.source_part bytes.now count) result }
 {
     if count > MOST {
         return Err(Refusal::Parameter {

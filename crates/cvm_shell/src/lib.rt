@@ -1,20 +1,20 @@
 // The top call: words in, text and a status out.
 #![tactic(auto)]
 
-ghost use Rattle.std.specs.Prelude.{◌≡◌, ◌≢◌, ◌⊎◌, ◌<◌, ◌≤◌, ℕ, List, length, codes, Some, Ok, Err};
+ghost use Rattle.std.specs.Prelude.{◌≡◌, ◌≢◌, ◌⊎◌, ◌<◌, ◌≤◌, ℕ, List, [], length, codes, Some};
 ghost use Rattle.std.specs.Io.KnownBytes.{append_known};
 ghost use Rattle.cvm_outside.specs.Causes.{Rose};
-ghost use Rattle.cvm_outside.specs.Told.{AppendsPart, retold, TOO_LONG};
+ghost use Rattle.cvm_outside.specs.Told.{AppendsPart, TOO_LONG};
 ghost use Rattle.c0_tree.specs.FirstTree.{CUnit};
-ghost use Rattle.mips_asm.specs.Assembled.{assembled};
-ghost use Rattle.mips_asm.specs.declared.fault.AsmFault.{AsmFault};
-ghost use Rattle.cvm_shell.specs.Boot.{Boots};
+ghost use Rattle.first_source.specs.Reading.{Reads};
+ghost use Rattle.cvm_shell.specs.Boot.{Ran, GoesOn};
 ghost use Rattle.cvm_shell.specs.Command as command;
-ghost use Rattle.cvm_shell.specs.Outcome.{IsNoCommand, ImageEnds, Outcome};
-ghost use Rattle.cvm_shell.specs.Plan as plans;
-ghost use Rattle.cvm_shell.specs.Refusal as refusals;
-ghost use Rattle.cvm_shell.specs.UserPlan as user;
-ghost use Rattle.cvm_shell.specs.Views.{boot_view, refusal_view, user_view};
+ghost use Rattle.cvm_shell.specs.Command.{texts};
+ghost use Rattle.cvm_shell.specs.Image.{reading, gives};
+ghost use Rattle.cvm_shell.specs.Outcome.{Outcome, Causes};
+ghost use Rattle.cvm_shell.specs.Outside.{Drive, seen, beside};
+ghost use Rattle.cvm_shell.specs.Stages.{EndsAs};
+ghost use Rattle.cvm_shell.specs.Views.{boot_view, user_view, stated_row, stated_status};
 
 pub mod assembly;
 pub mod boot;
@@ -37,9 +37,9 @@ use std::alloc::Global;
 /// Runs the command of these words over a shelf of files, a sink of text and a disk.
 ///
 /// The commands are `boot IMAGE SCHEDULE TURNS STEPS` and `compile user ASM IMG`. The status says how
-/// it ended; `Words` and `Refused` print a row of their own, and a sink that fails is `Sink`, also in
-/// place of another status whose text it was to take. No file changes but the one that a
-/// `compile user` names to be put.
+/// it ended; `Words`, `Refused`, and `Shelf` where a file is too long, print a row of their own, and a
+/// sink that fails is `Sink`, also in place of another status whose text it was to take. No file
+/// changes but the one that a `compile user` names to be put.
 pub fn run<S: Shelf, O: Sink, D: Sectors>(
     alloc: Global,
     words: &Vec<String>,
@@ -47,37 +47,14 @@ pub fn run<S: Shelf, O: Sink, D: Sectors>(
     out: &mut O,
     disk: &mut D,
 ) -> Status
-    ensures outcome { Outcome (command.texts words.now.items) (S.file shelf.old) result (O.text out.old) (O.text out.new) }
-    ensures headline { (b : command.Boot) (image schedule : List ℕ) (u : CUnit) → command.IsBoot (command.texts words.now.items) b
-        → S.file shelf.old b.image ≡ Some image → S.file shelf.old b.schedule ≡ Some schedule → plans.Plans image schedule (plans.boots u)
+    ensures ends { Outcome (seen S.Shelf O.Sink D.Sectors) (texts words.now.items) result (shelf.old, out.old, disk.old) (shelf.new, out.new, disk.new) }
+    ensures causes { Causes (seen S.Shelf O.Sink D.Sectors) result (shelf.old, out.old, disk.old) (shelf.new, out.new, disk.new) }
+    ensures headline { (b : command.Boot) (image source : List ℕ) (u : CUnit) → command.IsBoot (texts words.now.items) b
+        → S.file shelf.old b.image ≡ Some image → S.file shelf.old b.schedule ≡ Some []
+        → length image < TOO_LONG → reading image ≡ gives source → Reads source u
         → (Rose (S.faults shelf.old) (S.faults shelf.new) → ⊥) → (Rose (O.faults out.old) (O.faults out.new) → ⊥) → result ≢ Status.Memory
-        → Boots u b.turns b.steps result (O.text out.old) (O.text out.new) }
-    ensures refusal { (b : command.Boot) (image schedule : List ℕ) (r : refusals.Refusal) → command.IsBoot (command.texts words.now.items) b
-        → S.file shelf.old b.image ≡ Some image → S.file shelf.old b.schedule ≡ Some schedule → plans.Plans image schedule (plans.refuses r)
-        → (Rose (S.faults shelf.old) (S.faults shelf.new) → ⊥) → (Rose (O.faults out.old) (O.faults out.new) → ⊥) → result ≢ Status.Memory
-        → (result ≡ Status.Refused) × (O.text out.new ≡ append_known (O.text out.old) (refusals.refusal_text r)) }
-    ensures assembles { (c : command.CompileUser) (text ws : List ℕ) → command.IsCompileUser (command.texts words.now.items) c
-        → S.file shelf.old c.text ≡ Some text → length text < TOO_LONG → assembled text ≡ Ok ws
-        → (Rose (S.faults shelf.old) (S.faults shelf.new) → ⊥) → result ≢ Status.Memory
-        → (result ≡ Status.Done) × (O.text out.new ≡ O.text out.old) × (S.file shelf.new c.image ≡ retold (S.file shelf.old c.image) (user.bytes_of ws)) }
-    ensures assembly_refused { (c : command.CompileUser) (text : List ℕ) (f : AsmFault) (r : refusals.Refusal) → command.IsCompileUser (command.texts words.now.items) c
-        → S.file shelf.old c.text ≡ Some text → length text < TOO_LONG → assembled text ≡ Err f → user.refusal_of f ≡ Some r
-        → (Rose (S.faults shelf.old) (S.faults shelf.new) → ⊥) → (Rose (O.faults out.old) (O.faults out.new) → ⊥) → result ≢ Status.Memory
-        → (result ≡ Status.Refused) × (O.text out.new ≡ append_known (O.text out.old) (refusals.refusal_text r)) }
-    ensures bad_words { IsNoCommand (command.texts words.now.items) → (result ≡ Status.Words) ⊎ (result ≡ Status.Sink) }
-    ensures too_long { (b : command.Boot) → command.IsBoot (command.texts words.now.items) b → S.taken shelf.new ≡ TOO_LONG
-        → ((result ≡ Status.Refused) × (O.text out.new ≡ append_known (O.text out.old) (refusals.refusal_text refusals.too_long))) ⊎ (result ≡ Status.Sink) }
-    ensures too_long_text { (c : command.CompileUser) → command.IsCompileUser (command.texts words.now.items) c → S.taken shelf.new ≡ TOO_LONG
-        → ((result ≡ Status.Refused) × (O.text out.new ≡ append_known (O.text out.old) (refusals.refusal_text refusals.too_long))) ⊎ (result ≡ Status.Sink) }
-    ensures shelf { result ≡ Status.Shelf → Rose (S.faults shelf.old) (S.faults shelf.new) }
-    ensures sink { result ≡ Status.Sink → Rose (O.faults out.old) (O.faults out.new) }
-    ensures shelf_same { result ≢ Status.Shelf → S.faults shelf.new ≡ S.faults shelf.old }
-    ensures sink_same { result ≢ Status.Sink → O.faults out.new ≡ O.faults out.old }
-    ensures disk { (D.faults disk.new ≡ D.faults disk.old) × (D.sectors disk.new ≡ D.sectors disk.old) × (D.size disk.new ≡ D.size disk.old) }
-    ensures files { (n : List ℕ) → ((c : command.CompileUser) → command.IsCompileUser (command.texts words.now.items) c → n ≢ c.image) → S.file shelf.new n ≡ S.file shelf.old n }
-    ensures image { (c : command.CompileUser) → command.IsCompileUser (command.texts words.now.items) c
-        → ImageEnds result (S.file shelf.old c.text) (S.file shelf.old c.image) (S.file shelf.new c.image) }
-    ensures boot_files { (b : command.Boot) → command.IsBoot (command.texts words.now.items) b → (n : List ℕ) → S.file shelf.new n ≡ S.file shelf.old n }
+        → (text : List ℕ) × Ran u b.turns b.steps result text × (O.text out.new ≡ append_known (O.text out.old) text)
+        × (D.sectors disk.new ≡ D.sectors disk.old) × GoesOn u }
 {
     let _ = disk;
     match read_command(words) {
@@ -90,22 +67,8 @@ pub fn run<S: Shelf, O: Sink, D: Sectors>(
 // Boots an image under a schedule.
 fn run_boot<S: Shelf, O: Sink>(alloc: Global, boot: &Boot, shelf: &mut S, out: &mut O) -> Status
     requires { 1 ≤ (boot_view boot.now).turns }
-    ensures outcome { (words : List (List ℕ)) → command.IsBoot words (boot_view boot.now) → Outcome words (S.file shelf.old) result (O.text out.old) (O.text out.new) }
-    ensures headline { (image schedule : List ℕ) (u : CUnit)
-        → S.file shelf.old (boot_view boot.now).image ≡ Some image → S.file shelf.old (boot_view boot.now).schedule ≡ Some schedule → plans.Plans image schedule (plans.boots u)
-        → (Rose (S.faults shelf.old) (S.faults shelf.new) → ⊥) → (Rose (O.faults out.old) (O.faults out.new) → ⊥) → result ≢ Status.Memory
-        → Boots u (boot_view boot.now).turns (boot_view boot.now).steps result (O.text out.old) (O.text out.new) }
-    ensures refusal { (image schedule : List ℕ) (r : refusals.Refusal)
-        → S.file shelf.old (boot_view boot.now).image ≡ Some image → S.file shelf.old (boot_view boot.now).schedule ≡ Some schedule → plans.Plans image schedule (plans.refuses r)
-        → (Rose (S.faults shelf.old) (S.faults shelf.new) → ⊥) → (Rose (O.faults out.old) (O.faults out.new) → ⊥) → result ≢ Status.Memory
-        → (result ≡ Status.Refused) × (O.text out.new ≡ append_known (O.text out.old) (refusals.refusal_text r)) }
-    ensures too_long { S.taken shelf.new ≡ TOO_LONG
-        → ((result ≡ Status.Refused) × (O.text out.new ≡ append_known (O.text out.old) (refusals.refusal_text refusals.too_long))) ⊎ (result ≡ Status.Sink) }
-    ensures shelf { result ≡ Status.Shelf → Rose (S.faults shelf.old) (S.faults shelf.new) }
-    ensures sink { result ≡ Status.Sink → Rose (O.faults out.old) (O.faults out.new) }
-    ensures shelf_same { result ≢ Status.Shelf → S.faults shelf.new ≡ S.faults shelf.old }
-    ensures sink_same { result ≢ Status.Sink → O.faults out.new ≡ O.faults out.old }
-    ensures files { (n : List ℕ) → S.file shelf.new n ≡ S.file shelf.old n }
+    ensures ends { EndsAs (command.boot (boot_view boot.now)) (beside S.Shelf O.Sink) result (shelf.old, out.old) (shelf.new, out.new) }
+    ensures causes { (disk : Drive) → Causes (beside S.Shelf O.Sink disk) result (shelf.old, out.old) (shelf.new, out.new) }
 {
     match plan(alloc, boot, shelf) {
         Ok(unit) => run_kernel(alloc, &unit, boot.turns, boot.steps, out),
@@ -122,23 +85,10 @@ fn compile_user<S: Shelf, O: Sink>(
     shelf: &mut S,
     out: &mut O,
 ) -> Status
-    ensures outcome { (words : List (List ℕ)) → command.IsCompileUser words (user_view names.now) → Outcome words (S.file shelf.old) result (O.text out.old) (O.text out.new) }
-    ensures assembles { (text image : List ℕ) → S.file shelf.old (user_view names.now).text ≡ Some text → user.UserPlans text (user.puts image)
-        → (Rose (S.faults shelf.old) (S.faults shelf.new) → ⊥) → result ≢ Status.Memory
-        → (result ≡ Status.Done) × (O.text out.new ≡ O.text out.old) × (S.file shelf.new (user_view names.now).image ≡ retold (S.file shelf.old (user_view names.now).image) image) }
-    ensures refused { (text : List ℕ) (r : refusals.Refusal) → S.file shelf.old (user_view names.now).text ≡ Some text → user.UserPlans text (user.refuses r)
-        → (Rose (S.faults shelf.old) (S.faults shelf.new) → ⊥) → (Rose (O.faults out.old) (O.faults out.new) → ⊥) → result ≢ Status.Memory
-        → (result ≡ Status.Refused) × (O.text out.new ≡ append_known (O.text out.old) (refusals.refusal_text r)) }
-    ensures too_long { S.taken shelf.new ≡ TOO_LONG
-        → ((result ≡ Status.Refused) × (O.text out.new ≡ append_known (O.text out.old) (refusals.refusal_text refusals.too_long))) ⊎ (result ≡ Status.Sink) }
-    ensures shelf { result ≡ Status.Shelf → Rose (S.faults shelf.old) (S.faults shelf.new) }
-    ensures sink { result ≡ Status.Sink → Rose (O.faults out.old) (O.faults out.new) }
-    ensures shelf_same { result ≢ Status.Shelf → S.faults shelf.new ≡ S.faults shelf.old }
-    ensures sink_same { result ≢ Status.Sink → O.faults out.new ≡ O.faults out.old }
-    ensures image { ImageEnds result (S.file shelf.old (user_view names.now).text) (S.file shelf.old (user_view names.now).image) (S.file shelf.new (user_view names.now).image) }
-    ensures others { (n : List ℕ) → n ≢ (user_view names.now).image → S.file shelf.new n ≡ S.file shelf.old n }
+    ensures ends { EndsAs (command.compile_user (user_view names.now)) (beside S.Shelf O.Sink) result (shelf.old, out.old) (shelf.new, out.new) }
+    ensures causes { (disk : Drive) → Causes (beside S.Shelf O.Sink disk) result (shelf.old, out.old) (shelf.new, out.new) }
 {
-    let image = match user_image(alloc, names.text, shelf) {
+    let image = match user_image(alloc, names, shelf) {
         Ok(image) => image,
         Err(Stop::Refused(refusal)) => return refuse(&refusal, out),
         Err(Stop::Shelf) => return Status::Shelf,
@@ -165,17 +115,14 @@ fn say<O: Sink>(out: &mut O, text: &[u8], status: Status) -> Status
     }
 }
 
-// Prints the row of a refusal.
+// Prints the row of a refusal, beside its status.
 fn refuse<O: Sink>(refusal: &Refusal, out: &mut O) -> Status
-    ensures cases { (result ≡ Status.Refused) ⊎ (result ≡ Status.Sink) }
-    ensures whole { result ≡ Status.Refused → O.text out.new ≡ append_known (O.text out.old) (refusals.refusal_text (refusal_view refusal.now)) }
-    ensures part { result ≡ Status.Sink → AppendsPart (O.text out.old) (O.text out.new) (refusals.refusal_text (refusal_view refusal.now)) }
+    ensures cases { (result ≡ stated_status refusal.now) ⊎ (result ≡ Status.Sink) }
+    ensures whole { result ≡ stated_status refusal.now → O.text out.new ≡ append_known (O.text out.old) (stated_row refusal.now) }
+    ensures part { result ≡ Status.Sink → AppendsPart (O.text out.old) (O.text out.new) (stated_row refusal.now) }
     ensures rose { result ≡ Status.Sink → Rose (O.faults out.old) (O.faults out.new) }
     ensures same { result ≢ Status.Sink → O.faults out.new ≡ O.faults out.old }
 {
     let row = refusal.row();
-    say(out, row.as_str().as_bytes(), Status::Refused)
+    say(out, row.as_str().as_bytes(), refusal.status())
 }
-
-#[cfg(test)]
-mod tests;

@@ -1,9 +1,10 @@
-// The refusals, and the row of each.
-ghost use Rattle.std.specs.Prelude.{◌≡◌, ◌≤◌, ◌++◌, length, codes, decimal};
+// The refusals, with the row and the status of each.
+ghost use Rattle.std.specs.Prelude.{◌≡◌, ◌≢◌, ◌≤◌, ◌++◌, length, codes, decimal};
 ghost use Rattle.std.specs.Fmt.{signed_decimal};
-ghost use Rattle.cvm_shell.specs.Refusal.{refusal_text};
+ghost use Rattle.cvm_shell.specs.Refusal.{refusal_text, refusal_status};
 ghost use Rattle.cvm_shell.specs.Views.{refusal_view};
 
+use crate::status::Status;
 use arrayvec::ArrayString;
 use cvm_text::{decimal, decimal_u64};
 
@@ -58,6 +59,17 @@ impl Refusal {
             Refusal::Parameter { which, value } => parameter_row(*which, *value),
             Refusal::NotBuilt { at } => numbered_row("refused 59 ", *at),
             Refusal::TooLong => plain_row("refused 81\n"),
+        }
+    }
+
+    /// The status beside the row: `Shelf` where a file is too long, else `Refused`.
+    pub fn status(&self) -> Status
+        ensures is { result ≡ refusal_status (refusal_view self.now) }
+        ensures row { result ≢ Status.Sink }
+    {
+        match self {
+            Refusal::TooLong => Status::Shelf,
+            _ => Status::Refused,
         }
     }
 }

@@ -1,16 +1,13 @@
 // The text of a run: the row of its turn, and the report of its globals.
-ghost use Rattle.std.specs.Prelude.{◌≡◌, ◌<◌, ◌≤◌, ◌+◌, ◌*◌, ◌%◌, ◌^◌, ◌++◌, ℕ, pos, length, codes, decimal, slice_index_or, OnOk, OnErr};
+ghost use Rattle.std.specs.Prelude.{◌≡◌, ◌<◌, ◌≤◌, ◌+◌, ◌*◌, ◌%◌, ◌^◌, ◌++◌, length, codes, OnOk, OnErr};
 ghost use Rattle.std.specs.Fmt.{signed_decimal};
-ghost use Rattle.std.specs.Int.{cast_unsigned, w32};
 ghost use Rattle.std.specs.Io.KnownBytes.{append_known};
 ghost use Rattle.cvm_outside.specs.Causes.{Counts};
 ghost use Rattle.cvm_outside.specs.Told.{AppendsPart};
 ghost use Rattle.c0_tree.specs.First.{IsFirst};
 ghost use Rattle.c0_tree.specs.FirstView.{unit_view};
-ghost use Rattle.first_code.specs.Meaning.{final_values};
-ghost use Rattle.first_machine.specs.Machine.{word_at};
-ghost use Rattle.cvm_shell.specs.Cvm.{halted};
-ghost use Rattle.cvm_shell.specs.Text.{row_text, global_text, globals_text};
+ghost use Rattle.cvm_shell.specs.Stages.{HasGlobals, halting_row, turn_text, final_text, run_text};
+ghost use Rattle.cvm_shell.specs.Text.{row_text, global_text};
 
 use arrayvec::ArrayString;
 use c0_tree::Unit;
@@ -31,9 +28,9 @@ pub fn print_run<O: Sink>(
     requires aligned { at % 4 ≡ 0 }
     requires inside { at + 4 * length (unit_view unit.now).globals ≤ 4 * length machine.now.memory }
     requires small { at + 4 * length (unit_view unit.now).globals < 2 ^ 32 }
-    requires words { (k : ℕ) → k < length (unit_view unit.now).globals → word_at machine.now.memory (at + 4 * k) ≡ cast_unsigned w32 (slice_index_or (final_values (unit_view unit.now)) k (pos 0)) }
-    ensures whole { OnOk result (O.text out.new ≡ append_known (O.text out.old) ((row_text 0 begun.now.cause begun.now.edata 0 halted ++ codes "halted\n") ++ globals_text (unit_view unit.now).globals (final_values (unit_view unit.now)))) }
-    ensures part { OnErr result (AppendsPart (O.text out.old) (O.text out.new) ((row_text 0 begun.now.cause begun.now.edata 0 halted ++ codes "halted\n") ++ globals_text (unit_view unit.now).globals (final_values (unit_view unit.now)))) }
+    requires words { HasGlobals (unit_view unit.now) machine.now.memory at }
+    ensures whole { OnOk result (O.text out.new ≡ append_known (O.text out.old) (run_text (unit_view unit.now) begun.now.cause begun.now.edata)) }
+    ensures part { OnErr result (AppendsPart (O.text out.old) (O.text out.new) (run_text (unit_view unit.now) begun.now.cause begun.now.edata)) }
     ensures count { Counts (O.faults out.old) (O.faults out.new) result }
 {
     print_turn(begun.cause, begun.edata, out)?;
@@ -42,8 +39,8 @@ pub fn print_run<O: Sink>(
 
 // Prints the row of the one turn, and that its dispatch halted.
 fn print_turn<O: Sink>(cause: u32, edata: u32, out: &mut O) -> Result<(), SinkFault>
-    ensures whole { OnOk result (O.text out.new ≡ append_known (O.text out.old) (row_text 0 cause edata 0 halted ++ codes "halted\n")) }
-    ensures part { OnErr result (AppendsPart (O.text out.old) (O.text out.new) (row_text 0 cause edata 0 halted ++ codes "halted\n")) }
+    ensures whole { OnOk result (O.text out.new ≡ append_known (O.text out.old) (turn_text cause edata)) }
+    ensures part { OnErr result (AppendsPart (O.text out.old) (O.text out.new) (turn_text cause edata)) }
     ensures count { Counts (O.faults out.old) (O.faults out.new) result }
 {
     let row = turn_row(0, cause, edata, 0);
@@ -52,7 +49,7 @@ fn print_turn<O: Sink>(cause: u32, edata: u32, out: &mut O) -> Result<(), SinkFa
 
 // The row of a turn whose dispatch halted.
 fn turn_row(turn: u32, cause: u32, edata: u32, user: u32) -> ArrayString<128>
-    ensures { result.bytes ≡ row_text turn cause edata user halted }
+    ensures { result.bytes ≡ row_text (halting_row turn cause edata user) }
 {
     let number = decimal_u64(u64::from(turn));
     let why = decimal_u64(u64::from(cause));
@@ -82,9 +79,9 @@ fn print_globals<O: Sink>(
     requires aligned { at % 4 ≡ 0 }
     requires inside { at + 4 * length (unit_view unit.now).globals ≤ 4 * length machine.now.memory }
     requires small { at + 4 * length (unit_view unit.now).globals < 2 ^ 32 }
-    requires words { (k : ℕ) → k < length (unit_view unit.now).globals → word_at machine.now.memory (at + 4 * k) ≡ cast_unsigned w32 (slice_index_or (final_values (unit_view unit.now)) k (pos 0)) }
-    ensures whole { OnOk result (O.text out.new ≡ append_known (O.text out.old) (globals_text (unit_view unit.now).globals (final_values (unit_view unit.now)))) }
-    ensures part { OnErr result (AppendsPart (O.text out.old) (O.text out.new) (globals_text (unit_view unit.now).globals (final_values (unit_view unit.now)))) }
+    requires words { HasGlobals (unit_view unit.now) machine.now.memory at }
+    ensures whole { OnOk result (O.text out.new ≡ append_known (O.text out.old) (final_text (unit_view unit.now))) }
+    ensures part { OnErr result (AppendsPart (O.text out.old) (O.text out.new) (final_text (unit_view unit.now))) }
     ensures count { Counts (O.faults out.old) (O.faults out.new) result }
 {
     for (k, global) in unit.globals.iter().enumerate() {

@@ -1,6 +1,6 @@
 // How a command ended.
 ghost use Rattle.std.specs.Prelude.{◌≡◌, ◌≤◌};
-ghost use Rattle.cvm_shell.specs.Boot.{code_of};
+ghost use Rattle.cvm_shell.specs.Status.{code_of};
 
 /// How a command ended, in the order of the codes 0 to 8.
 #[derive(Clone, Copy, Debug, PartialEq, Eq)]

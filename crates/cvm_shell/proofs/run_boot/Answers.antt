@@ -1,24 +1,36 @@
-use Rattle.std.proofs.Common.{sym, subst}
+use Rattle.std.proofs.Common.{inl, inr, refl, sym, subst}
 use Rattle.c0_tree.specs.FirstView.{unit_view}
 use Rattle.cvm_shell.specs.declared.boot.Stop.{Stop}
+use Rattle.cvm_shell.specs.declared.boot.Stop.TheVariants as Stops
 use Rattle.cvm_shell.specs.declared.refusal.Refusal.{Refusal}
-use Rattle.cvm_shell.specs.Outcome.{ComesTo, boot_refused}
-use Rattle.cvm_shell.specs.Plan.{boots, refuses}
-use Rattle.cvm_shell.specs.Views.{boot_view, refusal_view, IfRefused}
-use Rattle.cvm_shell.proofs.Outcomes.{refused_end, kernel_end, headline_end}
+use Rattle.cvm_shell.specs.Command.{boot}
+use Rattle.cvm_shell.specs.Stages.{IsBootPlan}
+use Rattle.cvm_shell.specs.Views.{boot_view, IfRefused}
+use Rattle.cvm_shell.proofs.Endings.{Long, stopped_long, none_long, shelf_long, memory_long, refused_end, undone_end, kernel_end}
 use Rattle.cvm_shell.proofs.run_boot.Goals as goal
 
-pub returns-in-Ok-clause-outcome : goal.returns-in-Ok-clause-outcome
-returns-in-Ok-clause-outcome g c = λ words is. kernel_end _ _ _ _ _ _ _ (c.in-Ok.ensures.comes words is) c.run_kernel.ensures.ends
+pub returns-in-Ok-clause-ends : goal.returns-in-Ok-clause-ends
+returns-in-Ok-clause-ends g c = λ words disk is.
+    kernel_end words (boot_view c.args.boot.now) (unit_view c.in-Ok.unit) _ _ _ is c.in-Ok.ensures.comes (none_long _ _ c.in-Ok.ensures.long)
+    (record { files = c.in-Ok.ensures.files; disk = record { sectors = refl; size = refl } }) c.run_kernel.ensures.ends
 
-pub returns-in-Ok-clause-headline : goal.returns-in-Ok-clause-headline
-returns-in-Ok-clause-headline g c = λ image schedule u tells_image tells_schedule plans shelf sink memory.
-    headline_end (unit_view c.in-Ok.unit) u _ _ _ _ _ (c.in-Ok.ensures.only image schedule (boots u) tells_image tells_schedule plans) (λ e. sink (c.run_kernel.ensures.rose e)) memory c.run_kernel.ensures.ends
+pub returns-in-Err-Refused-clause-ends : goal.returns-in-Err-Refused-clause-ends
+returns-in-Err-Refused-clause-ends g c = λ words disk is.
+    let P : Stop → Type 0 = λ s. IfRefused (IsBootPlan (g.S.Shelf.file c.args.shelf.now) (boot_view c.args.boot.now)) s in
+    let L : Stop → Type 0 = λ s. Long s (g.S.Shelf.taken c.plan.new.shelf) in
+    let Q : Refusal → Type 0 = λ r. P (Stops.Refused r) in
+    let M : Refusal → Type 0 = λ r. L (Stops.Refused r) in
+    refused_end words (boot (boot_view c.args.boot.now)) _ _ _ _ is
+    (subst Q (sym c.in-Err-Refused.refusal-is) (subst P c.in-Err-Refused.field-0-is c.in-Err-Refused.ensures.comes))
+    (subst M (sym c.in-Err-Refused.refusal-is) (subst L c.in-Err-Refused.field-0-is (stopped_long _ _ c.in-Err-Refused.ensures.long)))
+    (record { files = c.in-Err-Refused.ensures.files; disk = record { sectors = refl; size = refl } }) c.refuse.ensures.cases c.refuse.ensures.whole c.refuse.ensures.part
 
-pub returns-in-Err-Refused-clause-outcome : goal.returns-in-Err-Refused-clause-outcome
-returns-in-Err-Refused-clause-outcome g c = λ words is.
-    let P : Stop → Type 0 = λ s. IfRefused (ComesTo words (g.S.Shelf.file c.args.shelf.now) (boot_view c.args.boot.now)) s in
-    let comes : ComesTo words (g.S.Shelf.file c.args.shelf.now) (boot_view c.args.boot.now) (refuses (refusal_view c.in-Err-Refused.refusal)) =
-    subst P c.in-Err-Refused.field-0-is (c.in-Err-Refused.ensures.comes words is) in
-    let Q : Refusal → Type 0 = λ r. ComesTo words (g.S.Shelf.file c.args.shelf.now) (boot_view c.args.boot.now) (refuses (refusal_view r)) in
-    refused_end _ _ _ _ _ _ (boot_refused _ (subst Q (sym c.in-Err-Refused.refusal-is) comes)) c.refuse.ensures.cases c.refuse.ensures.whole c.refuse.ensures.part
+pub returns-in-Err-Shelf-clause-ends : goal.returns-in-Err-Shelf-clause-ends
+returns-in-Err-Shelf-clause-ends g c = λ words disk is.
+    undone_end words (boot (boot_view c.args.boot.now)) _ _ _ is (inr refl) (shelf_long _ _ c.in-Err-Shelf.field-0-is (stopped_long _ _ c.in-Err-Shelf.ensures.long))
+    (record { files = c.in-Err-Shelf.ensures.files; disk = record { sectors = refl; size = refl } }) refl
+
+pub returns-in-Err-Memory-clause-ends : goal.returns-in-Err-Memory-clause-ends
+returns-in-Err-Memory-clause-ends g c = λ words disk is.
+    undone_end words (boot (boot_view c.args.boot.now)) _ _ _ is (inl refl) (memory_long _ _ c.in-Err-Memory.field-0-is (stopped_long _ _ c.in-Err-Memory.ensures.long))
+    (record { files = c.in-Err-Memory.ensures.files; disk = record { sectors = refl; size = refl } }) refl

@@ -1,12 +1,21 @@
-use Rattle.std.proofs.Common.{ap, Err}
+use Rattle.std.proofs.Common.{ap, Err, length, ◌<◌, rules}
+use Rattle.cvm_outside.specs.Told.{TOO_LONG}
+use Rattle.cvm_shell.specs.Stages.{compiled}
+use Rattle.cvm_shell.specs.Views.{user_view}
 use Rattle.std.proofs.lemmas.Result.{err_from_is_err_and}
 use Rattle.cvm_outside.specs.declared.shelf.ShelfFault.{ShelfFault}
-use Rattle.cvm_shell.proofs.LongFiles.{text_get_fault}
+use Rattle.cvm_shell.proofs.Plans.{got_fault, text_got}
 use Rattle.cvm_shell.proofs.assembly.user_image.Goals as goal
 
 pub returns-in_err-text-clause-comes : goal.returns-in_err-text-clause-comes
 returns-in_err-text-clause-comes g c =
     let p = err_from_is_err_and c.from_residual.result c.from_residual.ensures.1 in
-    rw (p.1, p.2) (text_get_fault _ _ c.in_err-text.field-0.0
+    rw (p.1, p.2) (got_fault _ _ _ _ c.in_err-text.field-0.0 (λ told. told)
     (λ e. c.in_err-text.ensures.long.0 (ap (λ (x : ShelfFault). Err x) e))
     (λ e. c.in_err-text.ensures.told_long (ap (λ (x : ShelfFault). Err x) e)))
+
+pub returns-clause-comes : goal.returns-clause-comes
+returns-clause-comes g c =
+    let short : length c.in_ok-text.text.items < TOO_LONG = search rules in
+    text_got (compiled (user_view c.args.names.now)) (g.S.Shelf.file c.args.shelf.now) (user_view c.args.names.now) c.in_ok-text.text.items c.assembled_image.result c.in_ok-text.ensures.bytes short
+    (rw c.deref.ensures.value at (c.assembled_image.ensures.comes (user_view c.args.names.now)))

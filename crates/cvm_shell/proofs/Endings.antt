@@ -1,0 +1,293 @@
+-- The exits of a command: what was printed, put or run is how its plan ends, and the counts of faults are as the status says.
+use Rattle.std.proofs.Common.{◌≡◌, ◌≢◌, ◌⊎◌, inl, inr, ℕ, List, [], refl, sym, ap, ◌∙◌, ◌<◌, length, subst, Some, Ok, Err, arith, Bool, true, false}
+use Rattle.std.specs.Prelude.{Option, Result, ◌↔◌, codes, take}
+use Rattle.std.specs.Io.KnownBytes.{append_known}
+use Rattle.cvm_outside.specs.Causes.{Rose}
+use Rattle.std.specs.Str.{bytes_eq}
+use Rattle.std.proofs.lemmas.Slice.Eq.{bytes_eq-Decides}
+use Rattle.cvm_outside.specs.Told.{AppendsPart, Tells, TOO_LONG, retold}
+use Rattle.std.specs.Option.{IsSome}
+use Rattle.first_source.specs.Reading.{Reads}
+use Rattle.cvm_shell.specs.Image.{Reading, gives, reading}
+use Rattle.cvm_outside.proofs.Parts.{append_known-nil}
+use Rattle.c0_tree.specs.FirstTree.{CUnit}
+use Rattle.cvm_shell.specs.declared.status.Status.{Status}
+use Rattle.cvm_shell.specs.declared.status.Status.TheVariants.{Done, Words, Refused, KernelFault, StepLimit, Disk, Shelf, Sink, Memory}
+use Rattle.cvm_shell.specs.declared.boot.Stop.{Stop}
+use Rattle.cvm_shell.specs.declared.boot.Stop.TheVariants as Stops
+use Rattle.cvm_shell.specs.declared.refusal.Refusal.{Refusal as ByCode}
+use Rattle.cvm_shell.specs.declared.refusal.Refusal.TheVariants as by
+use Rattle.cvm_shell.specs.Command.{Boot, CompileUser, Command, boot, compile_user, IsBoot, IsCompileUser, IsCommand, IsNoCommand}
+use Rattle.cvm_shell.specs.Outside.{Files, Outside, SameSectors, Leaves}
+use Rattle.cvm_shell.specs.Refusal.{Refusal, too_long, refusal_text, refusal_status}
+use Rattle.cvm_shell.specs.Plan.{Plan, bad_words, refuses, puts, boots, BootPlan, UserPlan, whole, AfterReading, reads, runs, ComesTo, no_command, boot_plan, user_plan, AllTold, IsPlan}
+use Rattle.cvm_shell.specs.Boot.{Ran, Boots, GoesOn, RunEnds}
+use Rattle.cvm_shell.specs.Outcome.{Says, said, broken, HasPut, Ends, Took, CommandEnds, done, undone, CausedBy}
+use Rattle.cvm_shell.specs.Stages.{KernelEnds, IsBootPlan, IsUserPlan}
+use Rattle.cvm_shell.specs.Views.{refusal_view}
+use Rattle.cvm_shell.proofs.Spellings.{words_of_one, words_of_one_user, of_one_kind}
+
+-- What words and files come to is one plan, by the command.
+
+one_boot : (words : List (List ℕ)) (b c : Boot) → IsBoot words b → IsBoot words c → b ≡ c
+one_boot words b c is other = words_of_one words (codes "boot") b.image b.schedule _ _ b.turns b.steps is.spelled refl is.turns_fit refl is.steps_fit c other
+
+one_user : (words : List (List ℕ)) (c d : CompileUser) → IsCompileUser words c → IsCompileUser words d → c ≡ d
+one_user words c d is other = let e : Some c ≡ Some d = words_of_one_user words (codes "compile") (codes "user") c.text c.image is.spelled d other in cc
+
+only_boot : (words : List (List ℕ)) (file : List ℕ → Option (List ℕ)) (b : Boot) (p : Plan) → IsBoot words b → ((q : Plan) → BootPlan file b q → q ≡ p) → (q : Plan) → ComesTo words file q → q ≡ p
+only_boot words file b p is only q (no_command none) = absurd (none (boot b) is)
+only_boot words file b p is only q (boot_plan c r other got) = only r (let P : Boot → Type 0 = λ x. BootPlan file x r in subst P (sym (one_boot words b c is other)) got)
+only_boot words file b p is only q (user_plan c r other got) = absurd (of_one_kind words b c is other)
+
+only_user : (words : List (List ℕ)) (file : List ℕ → Option (List ℕ)) (c : CompileUser) (p : Plan) → IsCompileUser words c → ((q : Plan) → UserPlan file c q → q ≡ p) → (q : Plan) → ComesTo words file q → q ≡ p
+only_user words file c p is only q (no_command none) = absurd (none (compile_user c) is)
+only_user words file c p is only q (boot_plan b r other got) = absurd (of_one_kind words b c other is)
+only_user words file c p is only q (user_plan d r other got) = only r (let P : CompileUser → Type 0 = λ x. UserPlan file x r in subst P (sym (one_user words c d is other)) got)
+
+only_none : (words : List (List ℕ)) (file : List ℕ → Option (List ℕ)) → IsNoCommand words → (q : Plan) → ComesTo words file q → q ≡ bad_words
+only_none words file none q (no_command also) = refl
+only_none words file none q (boot_plan b r other got) = absurd (none (boot b) other)
+only_none words file none q (user_plan c r other got) = absurd (none (compile_user c) other)
+
+plan_of_boot : (words : List (List ℕ)) (file : List ℕ → Option (List ℕ)) (b : Boot) (p : Plan) → IsBoot words b → IsBootPlan file b p → IsPlan (AllTold words file) (ComesTo words file) p
+plan_of_boot words file b p is plan = record { comes = boot_plan b p is plan.comes; only = λ told q h. only_boot words file b p is (plan.only (told (boot b) is)) q h }
+
+plan_of_user : (words : List (List ℕ)) (file : List ℕ → Option (List ℕ)) (c : CompileUser) (p : Plan) → IsCompileUser words c → IsUserPlan file c p → IsPlan (AllTold words file) (ComesTo words file) p
+plan_of_user words file c p is plan = record { comes = user_plan c p is plan.comes; only = λ told q h. only_user words file c p is (plan.only (told (compile_user c) is)) q h }
+
+-- the files of a command come to a plan
+abbrev pub FilesPlan : (List ℕ → Option (List ℕ)) → Command → Plan → Type 0
+FilesPlan file (boot b) p = IsBootPlan file b p
+FilesPlan file (compile_user c) p = IsUserPlan file c p
+
+plan_of : (words : List (List ℕ)) (file : List ℕ → Option (List ℕ)) (c : Command) (p : Plan) → IsCommand words c → FilesPlan file c p → IsPlan (AllTold words file) (ComesTo words file) p
+plan_of words file (boot b) p is plan = plan_of_boot words file b p is plan
+plan_of words file (compile_user c) p is plan = plan_of_user words file c p is plan
+
+-- How many bytes were taken.
+
+-- a stop says exactly where a file was too long
+abbrev pub Long : Stop → ℕ → Type 0
+Long stop taken = (stop ≡ Stops.Refused by.TooLong) ↔ (taken ≡ TOO_LONG)
+
+-- the answers of a stage
+abbrev err_of : (A : Type 0) → Stop → Result A Stop
+err_of A s = Err s
+
+abbrev ok_of : (A : Type 0) → A → Result A Stop
+ok_of A x = Ok x
+
+one_err : {A : Type 0} (s t : Stop) → err_of A s ≡ err_of A t → s ≡ t
+one_err s t h = cc
+
+pub stopped_long : {A : Type 0} (s : Stop) (taken : ℕ) → ((err_of A s ≡ err_of A (Stops.Refused by.TooLong)) ↔ (taken ≡ TOO_LONG)) → Long s taken
+stopped_long s taken long = (λ h. long.0 (ap (λ (x : Stop). Err x) h), λ h. one_err s (Stops.Refused by.TooLong) (long.1 h))
+
+-- none was
+pub none_long : {A : Type 0} (x : A) (taken : ℕ) → ((ok_of A x ≡ err_of A (Stops.Refused by.TooLong)) ↔ (taken ≡ TOO_LONG)) → taken ≢ TOO_LONG
+none_long x taken long h = let e = long.1 h in absurd cc
+
+pub shelf_long : (s : Stop) (taken : ℕ) → s ≡ Stops.Shelf → Long s taken → taken ≢ TOO_LONG
+shelf_long s taken e long h = let d : Stops.Shelf ≡ Stops.Refused by.TooLong = sym e ∙ long.1 h in absurd cc
+
+pub memory_long : (s : Stop) (taken : ℕ) → s ≡ Stops.Memory → Long s taken → taken ≢ TOO_LONG
+memory_long s taken e long h = let d : Stops.Memory ≡ Stops.Refused by.TooLong = sym e ∙ long.1 h in absurd cc
+
+-- a refusal is that of a file that is too long, or has the status of a refusal
+which : (r : ByCode) → (r ≡ by.TooLong) ⊎ ((refusal_view r ≢ too_long) × (refusal_status (refusal_view r) ≡ Refused))
+which (by.BadByte at) = inr (λ e. cc, refl)
+which (by.UnknownMnemonic line) = inr (λ e. cc, refl)
+which (by.BadOperand line) = inr (λ e. cc, refl)
+which (by.OutOfRange line value) = inr (λ e. cc, refl)
+which (by.UnknownLabel line) = inr (λ e. cc, refl)
+which (by.LabelTwice line) = inr (λ e. cc, refl)
+which by.TooManyWords = inr (λ e. cc, refl)
+which by.Magic = inr (λ e. cc, refl)
+which (by.Truncated at) = inr (λ e. cc, refl)
+which (by.Trailing at) = inr (λ e. cc, refl)
+which (by.Parameter number value) = inr (λ e. cc, refl)
+which (by.NotBuilt at) = inr (λ e. cc, refl)
+which by.TooLong = inl refl
+
+one_refusal : (r s : Refusal) → refuses r ≡ refuses s → r ≡ s
+one_refusal r s h = cc
+
+one_stop : (r s : ByCode) → Stops.Refused r ≡ Stops.Refused s → r ≡ s
+one_stop r s h = cc
+
+took_refused : (r : ByCode) (taken : ℕ) → Long (Stops.Refused r) taken → Took (refuses (refusal_view r)) taken
+took_refused r taken long = elim (which r) [
+  | inl e ↦ (λ h. long.0 (ap (λ (x : ByCode). Stops.Refused x) e), λ h. ap (λ (x : ByCode). refuses (refusal_view x)) (one_stop r by.TooLong (long.1 h)))
+  | inr e ↦ (λ h. absurd (e.0 (one_refusal _ _ h)), λ h. ap (λ (x : ByCode). refuses (refusal_view x)) (one_stop r by.TooLong (long.1 h)))
+]
+
+took_boots : (b : Boot) (u : CUnit) (taken : ℕ) → taken ≢ TOO_LONG → Took (boots b u) taken
+took_boots b u taken few = (λ h. absurd cc, λ h. absurd (few h))
+
+took_puts : (name bytes : List ℕ) (taken : ℕ) → taken ≢ TOO_LONG → Took (puts name bytes) taken
+took_puts name bytes taken few = (λ h. absurd cc, λ h. absurd (few h))
+
+-- The exits.
+
+pub record Unchanged (old new : Outside) : Type 0 where
+  pub files : (n : List ℕ) → new.shelf.file n ≡ old.shelf.file n
+  pub disk : SameSectors old.disk new.disk
+
+leaves : (old new : Outside) (text : List ℕ) → Unchanged old new → new.sink.text ≡ append_known old.sink.text text → Leaves old new text
+leaves old new text same e = record { printed = e; files = same.files; disk = same.disk }
+
+nothing : (old new : Outside) → Unchanged old new → new.sink.text ≡ old.sink.text → Leaves old new []
+nothing old new same e = leaves old new [] same (e ∙ sym (append_known-nil old.sink.text))
+
+-- a row was said, as far as the sink took it
+row_said : (stated status : Status) (row : List ℕ) (old new : Outside) → Unchanged old new → (status ≡ stated) ⊎ (status ≡ Sink) → (status ≡ stated → new.sink.text ≡ append_known old.sink.text row)
+    → (status ≡ Sink → AppendsPart old.sink.text new.sink.text row) → Says stated row old new status
+row_said stated status row old new same (inl e) all part = subst (Says stated row old new) (sym e) (said (leaves old new row same (all e)))
+row_said stated status row old new same (inr e) all part =
+    let p : AppendsPart old.sink.text new.sink.text row = part e in
+    subst (Says stated row old new) (sym e) (broken p.0 (leaves old new (take p.0 row) same p.1))
+
+-- the words are no command
+pub bad_words_end : (words : List (List ℕ)) (status : Status) (old new : Outside) → IsNoCommand words → Unchanged old new → (status ≡ Words) ⊎ (status ≡ Sink)
+    → (status ≡ Words → new.sink.text ≡ append_known old.sink.text (codes "bad words\n")) → (status ≡ Sink → AppendsPart old.sink.text new.sink.text (codes "bad words\n")) → CommandEnds words status old new
+bad_words_end words status old new none same cases all part =
+    done bad_words (record { comes = no_command none; only = λ told q h. only_none words old.shelf.file none q h }) tt (row_said Words status (codes "bad words\n") old new same cases all part)
+
+-- a file is refused
+pub refused_end : (words : List (List ℕ)) (c : Command) (r : ByCode) (status : Status) (old new : Outside) → IsCommand words c → FilesPlan old.shelf.file c (refuses (refusal_view r))
+    → Long (Stops.Refused r) new.shelf.taken → Unchanged old new → (status ≡ refusal_status (refusal_view r)) ⊎ (status ≡ Sink)
+    → (status ≡ refusal_status (refusal_view r) → new.sink.text ≡ append_known old.sink.text (refusal_text (refusal_view r)))
+    → (status ≡ Sink → AppendsPart old.sink.text new.sink.text (refusal_text (refusal_view r))) → CommandEnds words status old new
+refused_end words c r status old new is plan many same cases all part =
+    done (refuses (refusal_view r)) (plan_of words old.shelf.file c (refuses (refusal_view r)) is plan) (took_refused r new.shelf.taken many)
+    (row_said (refusal_status (refusal_view r)) status (refusal_text (refusal_view r)) old new same cases all part)
+
+-- the shelf or memory failed before a plan was there
+pub undone_end : (words : List (List ℕ)) (c : Command) (status : Status) (old new : Outside) → IsCommand words c → (status ≡ Memory) ⊎ (status ≡ Shelf) → new.shelf.taken ≢ TOO_LONG → Unchanged old new
+    → new.sink.text ≡ old.sink.text → CommandEnds words status old new
+undone_end words c status old new is cases few same e = undone c is cases few (nothing old new same e)
+
+-- the run of a kernel, with what it leaves alone
+run_ends : (u : CUnit) (turns steps : ℕ) (status : Status) (old new : Outside) → Unchanged old new → KernelEnds u turns steps status old.sink.text new.sink.text → RunEnds u turns steps status old new
+run_ends u turns steps Done old new same (text, ran, e, goes) = record { text = text; ran = ran; leaves = leaves old new text same e; goes_on = goes }
+run_ends u turns steps StepLimit old new same (text, ran, e, goes) = record { text = text; ran = ran; leaves = leaves old new text same e; goes_on = goes }
+run_ends u turns steps Sink old new same (status, text, ran, part) = record { status = status; text = text; ran = ran; count = part.0; leaves = leaves old new (take part.0 text) same part.1 }
+run_ends u turns steps Memory old new same e = nothing old new same e
+run_ends u turns steps Words old new same h = absurd h
+run_ends u turns steps Refused old new same h = absurd h
+run_ends u turns steps KernelFault old new same h = absurd h
+run_ends u turns steps Disk old new same h = absurd h
+run_ends u turns steps Shelf old new same h = absurd h
+
+-- a kernel was run
+pub kernel_end : (words : List (List ℕ)) (b : Boot) (u : CUnit) (status : Status) (old new : Outside) → IsBoot words b → IsBootPlan old.shelf.file b (boots b u) → new.shelf.taken ≢ TOO_LONG → Unchanged old new
+    → KernelEnds u b.turns b.steps status old.sink.text new.sink.text → CommandEnds words status old new
+kernel_end words b u status old new is plan few same ends =
+    done (boots b u) (plan_of_boot words old.shelf.file b (boots b u) is plan) (took_boots b u new.shelf.taken few) (run_ends u b.turns b.steps status old new same ends)
+
+-- a shelf before and after a put: first the files of another shelf, which are those at the start
+pub record Put (name put : List ℕ) (old mid new : Files) : Type 0 where
+  pub before : (n : List ℕ) → mid.file n ≡ old.file n
+  pub others : (n : List ℕ) → n ≢ name → new.file n ≡ mid.file n
+  pub taken : new.taken ≡ mid.taken
+
+moved : (told other : Option (List ℕ)) (a b : List ℕ) → told ≡ other → a ≡ b → retold told a ≡ retold other b
+moved told other a b e f = ap (λ (o : Option (List ℕ)). retold o a) e ∙ ap (retold other) f
+
+has_put : (name put bytes : List ℕ) (mid : Files) (old new : Outside) → Put name put old.shelf mid new.shelf → put ≡ bytes → new.sink.text ≡ old.sink.text → SameSectors old.disk new.disk
+    → new.shelf.file name ≡ retold (mid.file name) put → HasPut name bytes old new
+has_put name put bytes mid old new p e text disk f = record {
+  put = f ∙ moved (mid.file name) (old.shelf.file name) put bytes (p.before name) e;
+  others = λ n other. p.others n other ∙ p.before n;
+  text = text;
+  disk = disk;
+}
+
+-- a user's image was put
+pub put_end : (words : List (List ℕ)) (c : CompileUser) (put bytes : List ℕ) (mid : Files) (old new : Outside) → IsCompileUser words c → IsUserPlan old.shelf.file c (puts c.image bytes) → mid.taken ≢ TOO_LONG
+    → Put c.image put old.shelf mid new.shelf → put ≡ bytes → new.sink.text ≡ old.sink.text → SameSectors old.disk new.disk
+    → new.shelf.file c.image ≡ retold (mid.file c.image) put → CommandEnds words Done old new
+put_end words c put bytes mid old new is plan few p e text disk f =
+    done (puts c.image bytes) (plan_of_user words old.shelf.file c (puts c.image bytes) is plan) (took_puts c.image bytes new.shelf.taken (λ h. few (sym p.taken ∙ h))) (has_put c.image put bytes mid old new p e text disk f)
+
+-- a file that is kept, and the others
+every_file : (name n : List ℕ) (b : Bool) (a c : Option (List ℕ)) → (b ≡ true → n ≡ name) → (b ≡ false → n ≢ name) → (n ≡ name → a ≡ c) → (n ≢ name → a ≡ c) → a ≡ c
+every_file name n true a c same other here there = here (same refl)
+every_file name n false a c same other here there = there (other refl)
+
+kept_file : (name : List ℕ) (mid new : Files) → new.file name ≡ mid.file name → ((n : List ℕ) → n ≢ name → new.file n ≡ mid.file n) → (n : List ℕ) → new.file n ≡ mid.file n
+kept_file name mid new kept others n =
+    let d = bytes_eq-Decides n name in
+    every_file name n (bytes_eq n name) (new.file n) (mid.file n) d.0 (λ e h. let t = d.1 h in absurd cc) (λ e. let P : List ℕ → Type 0 = λ x. new.file x ≡ mid.file x in subst P (sym e) kept) (others n)
+
+-- or the put failed
+broken_put : (name put bytes : List ℕ) (mid : Files) (old new : Outside) → Put name put old.shelf mid new.shelf → put ≡ bytes → new.sink.text ≡ old.sink.text → SameSectors old.disk new.disk
+    → (new.shelf.file name ≡ mid.file name) ⊎ ((n : ℕ) × (new.shelf.file name ≡ retold (mid.file name) (take n put))) → Leaves old new [] ⊎ ((n : ℕ) × HasPut name (take n bytes) old new)
+broken_put name put bytes mid old new p e text disk (inl kept) =
+    inl (nothing old new (record { files = λ n. kept_file name mid new.shelf kept p.others n ∙ p.before n; disk = disk }) text)
+broken_put name put bytes mid old new p e text disk (inr (n, f)) =
+    inr (n, has_put name (take n put) (take n bytes) mid old new (record { before = p.before; others = p.others; taken = p.taken }) (ap (take n) e) text disk f)
+
+pub put_broken : (words : List (List ℕ)) (c : CompileUser) (put bytes : List ℕ) (mid : Files) (old new : Outside) → IsCompileUser words c → IsUserPlan old.shelf.file c (puts c.image bytes) → mid.taken ≢ TOO_LONG
+    → Put c.image put old.shelf mid new.shelf → put ≡ bytes → new.sink.text ≡ old.sink.text → SameSectors old.disk new.disk
+    → (new.shelf.file c.image ≡ mid.file c.image) ⊎ ((n : ℕ) × (new.shelf.file c.image ≡ retold (mid.file c.image) (take n put))) → CommandEnds words Shelf old new
+put_broken words c put bytes mid old new is plan few p e text disk f =
+    done (puts c.image bytes) (plan_of_user words old.shelf.file c (puts c.image bytes) is plan) (took_puts c.image bytes new.shelf.taken (λ h. few (sym p.taken ∙ h))) (broken_put c.image put bytes mid old new p e text disk f)
+
+-- The headline, from how a command ends and why.
+
+is_told : (told : Option (List ℕ)) (bytes : List ℕ) → told ≡ Some bytes → IsSome told
+is_told told bytes e = let P : Option (List ℕ) → Type 0 = λ o. IsSome o in subst P (sym e) refl
+
+tells : (told : Option (List ℕ)) (bytes : List ℕ) → told ≡ Some bytes → Tells told bytes
+tells told bytes e = let P : Option (List ℕ) → Type 0 = λ o. Tells o bytes in subst P (sym e) refl
+
+all_told : (words : List (List ℕ)) (file : List ℕ → Option (List ℕ)) (b : Boot) (image : List ℕ) → IsBoot words b → file b.image ≡ Some image → file b.schedule ≡ Some [] → AllTold words file
+all_told words file b image is told scheduled (boot other) also =
+    let P : Boot → Type 0 = λ x. IsSome (file x.image) × IsSome (file x.schedule) in
+    subst P (one_boot words b other is also) (is_told (file b.image) image told, is_told (file b.schedule) [] scheduled)
+all_told words file b image is told scheduled (compile_user c) also = absurd (of_one_kind words b c is also)
+
+-- the files come to the kernel
+comes_to_kernel : (file : List ℕ → Option (List ℕ)) (b : Boot) (image source : List ℕ) (u : CUnit) → file b.image ≡ Some image → file b.schedule ≡ Some [] → length image < TOO_LONG
+    → reading image ≡ gives source → Reads source u → BootPlan file b (boots b u)
+comes_to_kernel file b image source u told scheduled short e read =
+    let P : Reading → Type 0 = λ r. AfterReading b [] r (boots b u) in
+    whole image (boots b u) (tells (file b.image) image told) short
+    (whole [] (boots b u) (tells (file b.schedule) [] scheduled) (omega arith) (subst P (sym e) (reads u (boots b u) read (runs refl))))
+
+-- what the headline says
+abbrev pub Headline : CUnit → (turns steps : ℕ) → Status → (old new : Outside) → Type 0
+Headline u turns steps status old new = (text : List ℕ) × Ran u turns steps status text × (new.sink.text ≡ append_known old.sink.text text) × (new.disk.sectors ≡ old.disk.sectors) × GoesOn u
+
+booted : (u : CUnit) (turns steps : ℕ) (status : Status) (old new : Outside) → Boots u turns steps status old new → Headline u turns steps status old new
+booted u turns steps status old new b = (b.text, b.ran, b.leaves.printed, b.leaves.disk.sectors, b.goes_on)
+
+run_headline : (u : CUnit) (turns steps : ℕ) (status : Status) (old new : Outside) → RunEnds u turns steps status old new → CausedBy status old new → (Rose old.sink.faults new.sink.faults → ⊥) → status ≢ Memory
+    → Headline u turns steps status old new
+run_headline u turns steps Done old new ends why sink memory = booted u turns steps Done old new ends
+run_headline u turns steps StepLimit old new ends why sink memory = booted u turns steps StepLimit old new ends
+run_headline u turns steps Sink old new ends why sink memory = absurd (sink why.0)
+run_headline u turns steps Memory old new ends why sink memory = absurd (memory refl)
+run_headline u turns steps Words old new ends why sink memory = absurd ends
+run_headline u turns steps Refused old new ends why sink memory = absurd ends
+run_headline u turns steps KernelFault old new ends why sink memory = absurd ends
+run_headline u turns steps Disk old new ends why sink memory = absurd ends
+run_headline u turns steps Shelf old new ends why sink memory = absurd ends
+
+-- the shelf's fault, where not too many bytes were taken, is counted
+shelf_rose : (status : Status) (old new : Outside) → status ≡ Shelf → new.shelf.taken ≢ TOO_LONG → CausedBy status old new → Rose old.shelf.faults new.shelf.faults
+shelf_rose status old new e few why = let P : Status → Type 0 = λ s. CausedBy s old new in elim ((subst P e why).0) [ inl rose ↦ rose | inr long ↦ absurd (few long.0) ]
+
+pub headline_end : (words : List (List ℕ)) (b : Boot) (image source : List ℕ) (u : CUnit) (status : Status) (old new : Outside) → IsBoot words b
+    → old.shelf.file b.image ≡ Some image → old.shelf.file b.schedule ≡ Some [] → length image < TOO_LONG → reading image ≡ gives source → Reads source u
+    → (Rose old.shelf.faults new.shelf.faults → ⊥) → (Rose old.sink.faults new.sink.faults → ⊥) → status ≢ Memory
+    → CommandEnds words status old new → CausedBy status old new → Headline u b.turns b.steps status old new
+headline_end words b image source u status old new is told scheduled short e read shelf sink memory (done p plan took ends) why =
+    let comes : ComesTo words old.shelf.file (boots b u) = boot_plan b (boots b u) is (comes_to_kernel old.shelf.file b image source u told scheduled short e read) in
+    let same : boots b u ≡ p = plan.only (all_told words old.shelf.file b image is told scheduled) (boots b u) comes in
+    let P : Plan → Type 0 = λ q. Ends q status old new in
+    run_headline u b.turns b.steps status old new (subst P (sym same) ends) why sink memory
+headline_end words b image source u status old new is told scheduled short e read shelf sink memory (undone c also (inl h) few same) why = absurd (memory h)
+headline_end words b image source u status old new is told scheduled short e read shelf sink memory (undone c also (inr h) few same) why = absurd (shelf (shelf_rose status old new h few why))

@@ -1,0 +1,204 @@
+-- What files come to, stage by stage: each stage that stops, or goes on to what comes to one plan, comes to that plan and to no other.
+use Rattle.std.proofs.Common.{◌≡◌, ◌≢◌, ℕ, ◌<◌, ◌≤◌, Bool, true, false, ◌==◌, min, List, [], ◌∷◌, length, refl, sym, ap, ◌∙◌, subst, arith, Some, None, Ok, Err}
+use Rattle.std.specs.Prelude.{Option, IfSome, Result, ⊤, replicate}
+use Rattle.std.specs.Option.{IsSome}
+use Rattle.std.proofs.lemmas.Bool.Decides.{nat_tests}
+use Rattle.std.proofs.lemmas.List.{length-replicate}
+use Rattle.cvm_outside.specs.Told.{TOO_LONG, Tells}
+use Rattle.cvm_outside.specs.declared.shelf.ShelfFault.{ShelfFault}
+use Rattle.cvm_outside.specs.declared.shelf.ShelfFault.TheVariants.{Failed, TooLong as Long, Memory as NoMemory}
+use Rattle.c0_tree.specs.FirstTree.{CUnit}
+use Rattle.first_source.specs.Reading.{Reads, Breaks}
+use Rattle.mips_asm.specs.Assembled.{assembled}
+use Rattle.mips_asm.specs.declared.fault.AsmFault.{AsmFault}
+use Rattle.mips_asm.specs.declared.fault.AsmFault.TheVariants.{BadByte, UnknownMnemonic, BadOperand, OutOfRange, UnknownLabel, LabelTwice, TooLong, Memory}
+use Rattle.cvm_shell.specs.declared.boot.Stop.{Stop}
+use Rattle.cvm_shell.specs.declared.boot.Stop.TheVariants.{Refused, Shelf, Memory as OutOfMemory}
+use Rattle.cvm_shell.specs.Command.{Boot, CompileUser}
+use Rattle.cvm_shell.specs.Refusal.{Refusal, not_built, too_long, bad_byte, unknown_mnemonic, bad_operand, out_of_range, unknown_label, label_twice, too_many_words}
+use Rattle.cvm_shell.specs.Image.{Reading, gives, refuses as faulty, reading}
+use Rattle.cvm_shell.specs.Plan.{Plan, refuses, puts, boots, Got, long, whole, AfterSource, scheduled, runs, AfterImage, breaks, reads, AfterReading, AfterFiles, AfterText, no_words, assembles, bytes_of, refusal_of, IsPlan}
+use Rattle.cvm_shell.specs.Stages.{stop_of, text_stop, IsBootPlan, IsUserPlan}
+use Rattle.cvm_shell.specs.Views.{refusal_view, IfRefused, IfPlan}
+
+-- A file is got.
+
+-- contents that are told are the same each time
+same_told : (told : Option (List ℕ)) (a b : List ℕ) → IsSome told → Tells told a → Tells told b → a ≡ b
+same_told None a b some h k = absurd cc
+same_told (Some xs) a b some h k = h ∙ sym k
+
+too_short : (n : ℕ) → n < TOO_LONG → TOO_LONG ≤ n → ⊥
+too_short n a b = omega arith
+
+-- a list of at least so many
+a_long_list : (n : ℕ) → (xs : List ℕ) × (n ≤ length xs)
+a_long_list n = (replicate n 0, omega (arith, length-replicate {A = ℕ} n 0))
+
+-- the contents of a file that is too long
+long_contents : (told : Option (List ℕ)) (taken : ℕ) → taken ≡ TOO_LONG → IfSome told (λ bs. taken ≡ min (length bs) TOO_LONG) → (xs : List ℕ) × Tells told xs × (TOO_LONG ≤ length xs)
+long_contents None taken e h = let xs = a_long_list TOO_LONG in (xs.0, tt, xs.1)
+long_contents (Some xs) taken e h = (xs, refl, omega arith)
+
+only_long : (told : Option (List ℕ)) (next : List ℕ → Plan → Type 0) (bytes : List ℕ) → Tells told bytes → TOO_LONG ≤ length bytes → IsSome told → (q : Plan) → Got told next q → q ≡ refuses too_long
+only_long told next bytes t l some q (long other u m) = refl
+only_long told next bytes t l some q (whole other r u m n) =
+    let same : other ≡ bytes = same_told told other bytes some u t in
+    absurd (too_short (length other) m (subst (λ (xs : List ℕ). TOO_LONG ≤ length xs) (sym same) l))
+
+got_long : (told : Option (List ℕ)) (next : List ℕ → Plan → Type 0) (T : Type 0) (bytes : List ℕ) → (T → IsSome told) → Tells told bytes → TOO_LONG ≤ length bytes → IsPlan T (Got told next) (refuses too_long)
+got_long told next T bytes some t l = record { comes = long bytes t l; only = λ h q. only_long told next bytes t l (some h) q }
+
+only_whole : (told : Option (List ℕ)) (next : List ℕ → Plan → Type 0) (bytes : List ℕ) (p : Plan) → Tells told bytes → length bytes < TOO_LONG → ((q : Plan) → next bytes q → q ≡ p) → IsSome told → (q : Plan) → Got told next q → q ≡ p
+only_whole told next bytes p t s only some q (long other u m) =
+    let same : other ≡ bytes = same_told told other bytes some u t in
+    absurd (too_short (length bytes) s (subst (λ (xs : List ℕ). TOO_LONG ≤ length xs) same m))
+only_whole told next bytes p t s only some q (whole other r u m n) =
+    only r (subst (λ (xs : List ℕ). next xs r) (same_told told other bytes some u t) n)
+
+-- a file that is short enough: what comes of it is what comes of its bytes
+pub got_whole : (told : Option (List ℕ)) (next : List ℕ → Plan → Type 0) (T U : Type 0) (bytes : List ℕ) (p : Plan) → (T → IsSome told) → (T → U) → Tells told bytes → length bytes < TOO_LONG
+    → IsPlan U (next bytes) p → IsPlan T (Got told next) p
+got_whole told next T U bytes p some part t s is = record {
+  comes = whole bytes p t s is.comes;
+  only = λ h q got. only_whole told next bytes p t s (λ r n. is.only (part h) r n) (some h) q got;
+}
+
+-- a fault of the shelf: a file that is too long is refused
+pub got_fault : (told : Option (List ℕ)) (next : List ℕ → Plan → Type 0) (T : Type 0) (taken : ℕ) (f : ShelfFault) → (T → IsSome told)
+    → (f ≡ Long → taken ≡ TOO_LONG) → (f ≡ Long → IfSome told (λ bs. taken ≡ min (length bs) TOO_LONG)) → IfRefused (IsPlan T (Got told next)) (stop_of f)
+got_fault told next T taken Failed some all many = tt
+got_fault told next T taken Long some all many =
+    let contents = long_contents told taken (all refl) (many refl) in
+    got_long told next T contents.0 some contents.1 contents.2
+got_fault told next T taken NoMemory some all many = tt
+
+-- a fact of a plan and another that follows from it
+pub if_refused : (P Q : Plan → Type 0) → ((p : Plan) → P p → Q p) → (s : Stop) → IfRefused P s → IfRefused Q s
+if_refused P Q f (Refused r) h = f (refuses (refusal_view r)) h
+if_refused P Q f Shelf h = tt
+if_refused P Q f OutOfMemory h = tt
+
+pub if_plan : {A : Type 0} (made : A → Plan) (P Q : Plan → Type 0) → ((p : Plan) → P p → Q p) → (r : Result A Stop) → IfPlan made P r → IfPlan made Q r
+if_plan made P Q f (Ok x) h = f (made x) h
+if_plan made P Q f (Err s) h = if_refused P Q f s h
+
+-- A boot.
+
+one_source : (a b : List ℕ) → gives a ≡ gives b → a ≡ b
+one_source a b h = cc
+
+-- that a source breaks at one byte at most, and not where it is read
+pub record BreaksOnce : Type 0 where
+  pub place : (source : List ℕ) (at other : ℕ) → Breaks source at → Breaks source other → at ≡ other
+  pub never : (source : List ℕ) (at : ℕ) (u : CUnit) → Breaks source at → Reads source u → ⊥
+
+-- the reading of an image as it is told
+after_reading : (b : Boot) (image schedule : List ℕ) (r : Reading) (p : Plan) → reading image ≡ r → IsPlan ⊤ (AfterReading b schedule r) p → IsPlan ⊤ (AfterFiles b image schedule) p
+after_reading b image schedule r p e is = subst (λ (x : Reading). IsPlan ⊤ (AfterReading b schedule x) p) (sym e) is
+
+-- the image is refused
+pub image_refused : (b : Boot) (image schedule : List ℕ) (r : Refusal) → reading image ≡ faulty r → IsPlan ⊤ (AfterFiles b image schedule) (refuses r)
+image_refused b image schedule r e = after_reading b image schedule (faulty r) (refuses r) e (record { comes = refl; only = λ t q h. h })
+
+-- the source is refused
+only_broken : (b : Boot) (schedule source : List ℕ) → BreaksOnce → (at : ℕ) → Breaks source at → (q : Plan) → AfterImage b schedule source q → q ≡ refuses (not_built at)
+only_broken b schedule source once at broken q (breaks other h) = ap (λ (n : ℕ). refuses (not_built n)) (once.place source other at h broken)
+only_broken b schedule source once at broken q (reads u p h n) = absurd (once.never source at u broken h)
+
+pub source_refused : (b : Boot) (image schedule source : List ℕ) → BreaksOnce → (at : ℕ) → reading image ≡ gives source → Breaks source at → IsPlan ⊤ (AfterFiles b image schedule) (refuses (not_built at))
+source_refused b image schedule source once at e broken =
+    after_reading b image schedule (gives source) (refuses (not_built at)) e (record { comes = breaks at broken; only = λ t q h. only_broken b schedule source once at broken q h })
+
+-- the source is read
+only_read : (b : Boot) (schedule source : List ℕ) → BreaksOnce → (u : CUnit) (p : Plan) → Reads source u → ((v : CUnit) → Reads source v → u ≡ v) → ((q : Plan) → AfterSource b schedule u q → q ≡ p)
+    → (q : Plan) → AfterImage b schedule source q → q ≡ p
+only_read b schedule source once u p read one only q (breaks at h) = absurd (once.never source at u h read)
+only_read b schedule source once u p read one only q (reads v r h n) = only r (subst (λ (w : CUnit). AfterSource b schedule w r) (sym (one v h)) n)
+
+source_read : (b : Boot) (image schedule source : List ℕ) → BreaksOnce → (u : CUnit) (p : Plan) → reading image ≡ gives source → Reads source u → ((v : CUnit) → Reads source v → u ≡ v)
+    → AfterSource b schedule u p → ((q : Plan) → AfterSource b schedule u q → q ≡ p) → IsPlan ⊤ (AfterFiles b image schedule) p
+source_read b image schedule source once u p e read one next only =
+    after_reading b image schedule (gives source) p e (record { comes = reads u p read next; only = λ t q h. only_read b schedule source once u p read one only q h })
+
+only_scheduled : (b : Boot) (schedule : List ℕ) (u : CUnit) → schedule ≢ [] → (q : Plan) → AfterSource b schedule u q → q ≡ refuses (not_built 0)
+only_scheduled b schedule u some q (scheduled h) = refl
+only_scheduled b schedule u some q (runs h) = absurd (some h)
+
+only_runs : (b : Boot) (schedule : List ℕ) (u : CUnit) → schedule ≡ [] → (q : Plan) → AfterSource b schedule u q → q ≡ boots b u
+only_runs b schedule u none q (scheduled h) = absurd (h none)
+only_runs b schedule u none q (runs h) = refl
+
+some_schedule : (xs : List ℕ) (b : Bool) → b ≡ (length xs == 0) → b ≡ false → xs ≢ []
+some_schedule [] b e f h = absurd cc
+some_schedule (x ∷ xs) b e f h = absurd cc
+
+no_schedule_left : (xs : List ℕ) (b : Bool) → b ≡ (length xs == 0) → b ≡ true → xs ≡ []
+no_schedule_left [] b e f = refl
+no_schedule_left (x ∷ xs) b e f =
+    let no : (length (x ∷ xs) == 0) ≡ false = grind (arith, nat_tests) in
+    absurd cc
+
+-- the schedule is refused
+pub schedule_refused : (b : Boot) (image schedule source : List ℕ) → BreaksOnce → (u : CUnit) (empty : Bool) → reading image ≡ gives source → Reads source u → ((v : CUnit) → Reads source v → u ≡ v)
+    → empty ≡ (length schedule == 0) → empty ≡ false → IsPlan ⊤ (AfterFiles b image schedule) (refuses (not_built 0))
+schedule_refused b image schedule source once u empty e read one test not =
+    let some = some_schedule schedule empty test not in
+    source_read b image schedule source once u (refuses (not_built 0)) e read one (scheduled some) (only_scheduled b schedule u some)
+
+-- the kernel runs
+pub kernel_runs : (b : Boot) (image schedule source : List ℕ) → BreaksOnce → (u : CUnit) (empty : Bool) → reading image ≡ gives source → Reads source u → ((v : CUnit) → Reads source v → u ≡ v)
+    → empty ≡ (length schedule == 0) → empty ≡ true → IsPlan ⊤ (AfterFiles b image schedule) (boots b u)
+kernel_runs b image schedule source once u empty e read one test is =
+    let none = no_schedule_left schedule empty test is in
+    source_read b image schedule source once u (boots b u) e read one (runs none) (only_runs b schedule u none)
+
+-- The text of a user.
+
+text_is_refused : (name text : List ℕ) (f : AsmFault) (r : Refusal) → assembled text ≡ Err f → refusal_of f ≡ Some r → (q : Plan) → AfterText name text q → q ≡ refuses r
+text_is_refused name text f r e s q (no_words g t d k) =
+    let same : f ≡ g = cc in
+    let one : t ≡ r = let both : Some t ≡ Some r = sym k ∙ ap refusal_of (sym same) ∙ s in cc in
+    ap refuses one
+text_is_refused name text f r e s q (assembles words d) = absurd cc
+
+text_refused : (name text : List ℕ) (f : AsmFault) (r : Refusal) → assembled text ≡ Err f → refusal_of f ≡ Some r → IsPlan ⊤ (AfterText name text) (refuses r)
+text_refused name text f r e s = record { comes = no_words f r e s; only = λ t q h. text_is_refused name text f r e s q h }
+
+-- a fault of a text is refused
+pub text_fault : (name text : List ℕ) (f : AsmFault) → (f ≢ Memory → assembled text ≡ Err f) → IfRefused (IsPlan ⊤ (AfterText name text)) (text_stop f)
+text_fault name text (BadByte at) h = text_refused name text (BadByte at) (bad_byte at) (h (λ e. cc)) refl
+text_fault name text (UnknownMnemonic line) h = text_refused name text (UnknownMnemonic line) (unknown_mnemonic line) (h (λ e. cc)) refl
+text_fault name text (BadOperand line) h = text_refused name text (BadOperand line) (bad_operand line) (h (λ e. cc)) refl
+text_fault name text (OutOfRange line value) h = text_refused name text (OutOfRange line value) (out_of_range line value) (h (λ e. cc)) refl
+text_fault name text (UnknownLabel line) h = text_refused name text (UnknownLabel line) (unknown_label line) (h (λ e. cc)) refl
+text_fault name text (LabelTwice line) h = text_refused name text (LabelTwice line) (label_twice line) (h (λ e. cc)) refl
+text_fault name text TooLong h = text_refused name text TooLong too_many_words (h (λ e. cc)) refl
+text_fault name text Memory h = tt
+
+text_is_assembled : (name text words : List ℕ) → assembled text ≡ Ok words → (q : Plan) → AfterText name text q → q ≡ puts name (bytes_of words)
+text_is_assembled name text words e q (no_words f r d s) = absurd cc
+text_is_assembled name text words e q (assembles other d) = let same : other ≡ words = cc in ap (λ (ws : List ℕ). puts name (bytes_of ws)) same
+
+-- a text is assembled
+pub text_assembled : (name text words : List ℕ) → assembled text ≡ Ok words → IsPlan ⊤ (AfterText name text) (puts name (bytes_of words))
+text_assembled name text words e = record { comes = assembles words e; only = λ t q h. text_is_assembled name text words e q h }
+
+-- An image was got: a stop at the schedule is a stop of the boot.
+pub image_got : (file : List ℕ → Option (List ℕ)) (b : Boot) (image : List ℕ) (s : Stop) → Tells (file b.image) image → length image < TOO_LONG
+    → IfRefused (IsPlan (IsSome (file b.schedule)) (Got (file b.schedule) (AfterFiles b image))) s → IfRefused (IsBootPlan file b) s
+image_got file b image s t short h =
+    if_refused _ (IsBootPlan file b) (λ p is. got_whole (file b.image) (λ i. Got (file b.schedule) (AfterFiles b i)) (IsSome (file b.image) × IsSome (file b.schedule)) (IsSome (file b.schedule)) image p (λ told. told.0) (λ told. told.1) t short is) s h
+
+-- Both files were got: what their bytes come to is what the boot comes to.
+pub boot_got : {A : Type 0} (made : A → Plan) (file : List ℕ → Option (List ℕ)) (b : Boot) (image schedule : List ℕ) (r : Result A Stop) → Tells (file b.image) image → length image < TOO_LONG
+    → Tells (file b.schedule) schedule → length schedule < TOO_LONG → IfPlan made (IsPlan ⊤ (AfterFiles b image schedule)) r → IfPlan made (IsBootPlan file b) r
+boot_got made file b image schedule r t short u few h =
+    if_plan made _ (IsBootPlan file b) (λ p is. got_whole (file b.image) (λ i. Got (file b.schedule) (AfterFiles b i)) (IsSome (file b.image) × IsSome (file b.schedule)) (IsSome (file b.schedule)) image p (λ told. told.0) (λ told. told.1) t short
+    (got_whole (file b.schedule) (AfterFiles b image) (IsSome (file b.schedule)) ⊤ schedule p (λ told. told) (λ told. tt) u few is)) r h
+
+-- The text of a user was got.
+pub text_got : {A : Type 0} (made : A → Plan) (file : List ℕ → Option (List ℕ)) (c : CompileUser) (text : List ℕ) (r : Result A Stop) → Tells (file c.text) text → length text < TOO_LONG
+    → IfPlan made (IsPlan ⊤ (AfterText c.image text)) r → IfPlan made (IsUserPlan file c) r
+text_got made file c text r t short h =
+    if_plan made _ (IsUserPlan file c) (λ p is. got_whole (file c.text) (AfterText c.image) (IsSome (file c.text)) ⊤ text p (λ told. told) (λ told. tt) t short is) r h

@@ -1,0 +1,57 @@
+-- The outside of a command: named files, the text that is printed, and the disk, each as it is told, with its count of faults.
+use Rattle.std.specs.Prelude.{◌≡◌, ℕ, List, Option}
+use Rattle.std.specs.Io.KnownBytes.{append_known}
+use Rattle.cvm_outside.specs.declared.shelf.Shelf as shelf_of
+use Rattle.cvm_outside.specs.declared.sink.Sink as sink_of
+use Rattle.cvm_outside.specs.declared.sectors.Sectors as sectors_of
+
+-- files: the bytes of each where they are told, how many bytes the last `get` took, and the count of faults
+pub record Files : Type 0 where
+  pub file : List ℕ → Option (List ℕ)
+  pub taken : ℕ
+  pub faults : ℕ
+
+-- printed text, where it is told, and the count of faults
+pub record Paper : Type 0 where
+  pub text : Option (List ℕ)
+  pub faults : ℕ
+
+-- a disk: the words of its sectors where they are told, how many sectors there are, and the count of faults
+pub record Drive : Type 0 where
+  pub sectors : Option (List (List ℕ))
+  pub size : ℕ
+  pub faults : ℕ
+
+pub record Outside : Type 0 where
+  pub shelf : Files
+  pub sink : Paper
+  pub disk : Drive
+
+-- what a shelf, a sink and a disk tell
+abbrev pub files : {S : Type 0} → shelf_of.Ghosts S → S → Files
+files told s = record { file = told.file s; taken = told.taken s; faults = told.faults s }
+
+abbrev pub paper : {O : Type 0} → sink_of.Ghosts O → O → Paper
+paper told o = record { text = told.text o; faults = told.faults o }
+
+abbrev pub drive : {D : Type 0} → sectors_of.Ghosts D → D → Drive
+drive told d = record { sectors = told.sectors d; size = told.size d; faults = told.faults d }
+
+-- the three objects of a command as one outside
+abbrev pub seen : {S O D : Type 0} → shelf_of.Ghosts S → sink_of.Ghosts O → sectors_of.Ghosts D → S × O × D → Outside
+seen shelf sink disk (s, o, d) = record { shelf = files shelf s; sink = paper sink o; disk = drive disk d }
+
+-- a shelf and a sink beside a disk that stays as it is
+abbrev pub beside : {S O : Type 0} → shelf_of.Ghosts S → sink_of.Ghosts O → Drive → S × O → Outside
+beside shelf sink disk (s, o) = record { shelf = files shelf s; sink = paper sink o; disk = disk }
+
+-- the disk's sectors are as before
+pub record SameSectors (old new : Drive) : Type 0 where
+  pub sectors : new.sectors ≡ old.sectors
+  pub size : new.size ≡ old.size
+
+-- a text was printed, and nothing else changed
+pub record Leaves (old new : Outside) (text : List ℕ) : Type 0 where
+  pub printed : new.sink.text ≡ append_known old.sink.text text
+  pub files : (n : List ℕ) → new.shelf.file n ≡ old.shelf.file n
+  pub disk : SameSectors old.disk new.disk

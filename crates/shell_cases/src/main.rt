@@ -1,0 +1,211 @@
+// Runs commands of files of cases over an outside in memory, and prints how each ends: its text, its status, and the files and sectors
+// that are asked for. `case_file` says how a case is written. The kinds, in the order in which they stand:
+//
+// - `case NAME` begins with a new outside. Lines below it may say `shelf N ..`, `sink N ..` or `disk N ..`, the numbers of the calls of
+//   that object that fail, from 0; `room N`, how many bytes the sink has room for; `sectors N`, how many sectors the disk has;
+// - `file NAME` places a file with these bytes, and `zeros NAME` one with so many bytes 0. A put to it has room for as many;
+// - `run WORD ..` runs the command of these words;
+// - `show NAME` gets a file and prints its bytes, and `sector N` prints the words of a sector that aren't 0.
+#![tactic(auto)]
+
+use case_file::{Case, cases};
+use cvm_outside::{MemSectors, MemShelf, MemSink, Sectors, Shelf};
+use cvm_shell::run;
+use std::alloc::{AllocError, Global};
+use std::fmt::Write;
+use std::{env, fs, io, str};
+
+/// The room of a sink that says none, in bytes.
+const ROOM: usize = 65_536;
+
+/// An outside in memory.
+#[derive(Drop)]
+struct World {
+    shelf: MemShelf,
+    sink: MemSink,
+    disk: MemSectors,
+    /// How many bytes of the sink were shown.
+    shown: usize,
+}
+
+/// What the lines of a case say of its outside.
+#[derive(Drop)]
+struct Options {
+    shelf: Vec<u64>,
+    sink: Vec<u64>,
+    disk: Vec<u64>,
+    room: usize,
+    sectors: u32,
+}
+
+/// Reads the numbers of a text that stand between blanks.
+fn numbers(alloc: Global, text: &str) -> Result<Vec<u64>, AllocError> {
+    let mut numbers = Vec::new(alloc);
+    for word in text.split(' ') {
+        if let Ok(number) = word.parse::<u64>() {
+            numbers.push(number)?;
+        }
+    }
+    Ok(numbers)
+}
+
+/// Reads the lines of a case.
+fn read_options(alloc: Global, lines: &str) -> Result<Options, AllocError> {
+    let mut options = Options {
+        shelf: Vec::new(alloc),
+        sink: Vec::new(alloc),
+        disk: Vec::new(alloc),
+        room: ROOM,
+        sectors: 2,
+    };
+    for line in lines.lines() {
+        let (what, rest) = line.split_once(' ').unwrap_or((line, ""));
+        match what {
+            "shelf" => options.shelf = numbers(alloc, rest)?,
+            "sink" => options.sink = numbers(alloc, rest)?,
+            "disk" => options.disk = numbers(alloc, rest)?,
+            "room" => options.room = rest.parse::<usize>().unwrap_or(ROOM),
+            _ => options.sectors = rest.parse::<u32>().unwrap_or(2),
+        }
+    }
+    Ok(options)
+}
+
+/// A new outside.
+fn world_of(alloc: Global, lines: &[u8]) -> Result<World, AllocError> {
+    let options = read_options(alloc, str::from_utf8(lines).unwrap_or(""))?;
+    Ok(World {
+        shelf: MemShelf::new(alloc, options.shelf)?,
+        sink: MemSink::with_room(alloc, options.room, options.sink)?,
+        disk: MemSectors::new(alloc, options.sectors, options.disk)?,
+        shown: 0,
+    })
+}
+
+/// Prints bytes: printed ASCII as it is, and `\xHH` for each other one.
+fn put_bytes(out: &mut String, bytes: &[u8]) -> Result<(), AllocError> {
+    for byte in bytes {
+        if *byte >= b' ' && *byte <= b'~' && *byte != b'\\' {
+            out.push(char::from(*byte))?;
+        } else {
+            write!(out, "\\x{byte:02x}")?;
+        }
+    }
+    Ok(())
+}
+
+/// Prints the text of a command, and that its last line was cut off.
+fn put_text(out: &mut String, text: &[u8]) -> Result<(), AllocError> {
+    out.push_str(str::from_utf8(text).unwrap_or("(no text)"))?;
+    if !text.is_empty() && text.last() != Some(&b'\n') {
+        out.push_str(" ..\n")?;
+    }
+    Ok(())
+}
+
+/// Runs a command.
+fn run_words(
+    alloc: Global,
+    world: &mut World,
+    out: &mut String,
+    line: &str,
+) -> Result<(), AllocError> {
+    let mut words = Vec::new(alloc);
+    if !line.is_empty() {
+        for word in line.split(' ') {
+            words.push(String::from_str(alloc, word)?)?;
+        }
+    }
+    let status = run(
+        alloc,
+        &words,
+        &mut world.shelf,
+        &mut world.sink,
+        &mut world.disk,
+    );
+    let text = world.sink.bytes();
+    put_text(out, text.get(world.shown..).unwrap_or(b""))?;
+    world.shown = text.len();
+    writeln!(out, "status {}", status.code())
+}
+
+/// Prints the bytes of a file.
+fn show_file(
+    alloc: Global,
+    world: &mut World,
+    out: &mut String,
+    name: &str,
+) -> Result<(), AllocError> {
+    match world.shelf.get(alloc, name) {
+        Ok(bytes) => put_bytes(out, &bytes)?,
+        Err(_) => out.push_str("(not got)")?,
+    }
+    out.push('\n')
+}
+
+/// Prints the words of a sector that aren't 0.
+fn show_sector(world: &mut World, out: &mut String, number: &str) -> Result<(), AllocError> {
+    let mut words = [0; 1024];
+    let sector = number.parse::<u32>().unwrap_or(0);
+    if sector >= world.disk.count() || world.disk.read(sector, &mut words).is_err() {
+        return out.push_str("(not read)\n");
+    }
+    for (place, word) in words.iter().enumerate() {
+        if *word != 0 {
+            writeln!(out, "{place}: {word:08x}")?;
+        }
+    }
+    Ok(())
+}
+
+/// Places a file of so many zeros.
+fn place_zeros(
+    alloc: Global,
+    world: &mut World,
+    name: &str,
+    count: &[u8],
+) -> Result<(), AllocError> {
+    let count = str::from_utf8(count).unwrap_or("");
+    let zeros = vec![in alloc; 0; count.parse::<usize>().unwrap_or(0)]?;
+    world.shelf.place(alloc, name, &zeros)
+}
+
+/// Does what a part of a case says.
+fn do_part(
+    alloc: Global,
+    world: &mut World,
+    out: &mut String,
+    part: &Case,
+) -> Result<(), AllocError> {
+    let kind = part.kind.as_str();
+    let name = part.name.as_str();
+    if kind == "file" {
+        return world.shelf.place(alloc, name, &part.source);
+    }
+    if kind == "zeros" {
+        return place_zeros(alloc, world, name, &part.source);
+    }
+    writeln!(out, "== {kind} {name}")?;
+    match kind {
+        "case" => *world = world_of(alloc, &part.source)?,
+        "run" => run_words(alloc, world, out, name)?,
+        "show" => show_file(alloc, world, out, name)?,
+        "sector" => show_sector(world, out, name)?,
+        _ => out.push_str("(no such kind)\n")?,
+    }
+    Ok(())
+}
+
+/// The words are the names of files, whose cases are tried.
+fn main(rt: HostRuntime) -> io::Result<()> {
+    let alloc = rt.alloc();
+    let mut out = String::new(alloc);
+    let mut world = world_of(alloc, b"")?;
+    for file in env::args(&rt)?.skip(1) {
+        let text = fs::read_to_string(&rt, file.as_str())?;
+        for part in &cases(alloc, text.as_str())? {
+            do_part(alloc, &mut world, &mut out, part)?;
+        }
+    }
+    rt.print(out)
+}
