@@ -4,12 +4,12 @@ use Rattle.std.proofs.Common.{◌≡◌, ℕ, zero, suc, ◌+◌, ◌-◌, ◌*�
 use Rattle.std.specs.Prelude.{Option, codes, if◌then◌else◌, ◌==◌, slice_index, slice_index_or, replicate, pos}
 use Rattle.std.specs.Io.KnownBytes.{append_known}
 use Rattle.std.proofs.lemmas.List.{length-set, length-replicate, length-append}
-use Rattle.mips_table.specs.Core.{Move, Ran as Moves, Stored, Trapped, Asked, move}
+use Rattle.mips_table.specs.Processor.{Move, Ran as Moves, Loaded, Stored, Trapped, Privileged}
 use Rattle.cvm_outside.specs.Told.{AppendsPart}
 use Rattle.cvm_outside.proofs.Parts.{append_known-nil}
 use Rattle.c0_tree.specs.FirstTree.{CUnit, CExpr}
 use Rattle.c0_tree.specs.First.{IsFirst}
-use Rattle.first_machine.specs.Machine.{State, step, stepped, moved, seen, is_on, run, loaded, word_at, POWER}
+use Rattle.first_machine.specs.Machine.{State, step, stepped, moved, next_move, is_on, run, loaded, word_at, POWER}
 use Rattle.first_machine.specs.Turns.{complete, is_end}
 use Rattle.first_machine.specs.Ends.{Completes, RunsOut, shown}
 use Rattle.first_machine.specs.declared.machine.Begun.{Begun}
@@ -136,13 +136,14 @@ either true x y n h k = h
 either false x y n h k = k
 
 length-moved : (s : State) (m : Move) → length (moved s m).memory ≡ length s.memory
-length-moved s (Moves pc regs) = refl
-length-moved s (Stored pc regs address value) = either (address == POWER) _ _ (length s.memory) refl (length-set s.memory _ value)
+length-moved s (Moves after) = refl
+length-moved s (Loaded after register address) = refl
+length-moved s (Stored after address value) = either (address == POWER) _ _ (length s.memory) refl (length-set s.memory _ value)
 length-moved s (Trapped cause edata epc) = refl
-length-moved s (Asked word) = refl
+length-moved s (Privileged word) = refl
 
 length-stepped : (s : State) → length (stepped s).memory ≡ length s.memory
-length-stepped s = either s.reset _ (moved s (move (seen s) s.pc s.regs)) (length s.memory) refl (length-moved s (move (seen s) s.pc s.regs))
+length-stepped s = either s.reset _ (moved s (next_move s)) (length s.memory) refl (length-moved s (next_move s))
 
 length-step : (s : State) → length (step s).memory ≡ length s.memory
 unfolding step

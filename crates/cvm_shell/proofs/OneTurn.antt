@@ -2,8 +2,8 @@
 -- complete at the step that switches off. So the end of every run of it is known.
 use Rattle.std.proofs.Common.{◌≡◌, ℕ, zero, suc, ◌+◌, ◌-◌, ◌<◌, ◌≤◌, Bool, true, false, not, ◌&&◌, ◌||◌, refl, ap, ◌∙◌, arith, ◌⊎◌, inl, inr, Some, None, nat_eq}
 use Rattle.std.specs.Prelude.{if◌then◌else◌, Option}
-use Rattle.mips_table.specs.Core.{Move, Ran, Stored, Trapped, Asked, move}
-use Rattle.first_machine.specs.Machine.{State, step, stepped, moved, seen, is_on, run}
+use Rattle.mips_table.specs.Processor.{Move, Ran, Loaded, Stored, Trapped, Privileged}
+use Rattle.first_machine.specs.Machine.{State, step, stepped, moved, next_move, is_on, run}
 use Rattle.first_machine.specs.Turns.{in_user, begins, rests, turn_of, complete, is_end, end_within}
 
 -- a machine that is on for n steps, in system mode, and then off
@@ -31,14 +31,15 @@ both true x y r h k = h
 both false x y r h k = k
 
 moved-reset : (s : State) (m : Move) → (moved s m).reset ≡ s.reset
-moved-reset s (Ran pc regs) = refl
-moved-reset s (Stored pc regs address value) = both _ _ _ s.reset refl refl
+moved-reset s (Ran after) = refl
+moved-reset s (Loaded after register address) = refl
+moved-reset s (Stored after address value) = both _ _ _ s.reset refl refl
 moved-reset s (Trapped cause edata epc) = refl
-moved-reset s (Asked word) = refl
+moved-reset s (Privileged word) = refl
 
 -- the reset is taken by the first step, and no later one latches it
 stepped-reset : (s : State) → (stepped s).reset ≡ false
-stepped-reset s = either s.reset _ (moved s (move (seen s) s.pc s.regs)) (λ h. refl) (λ h. moved-reset s (move (seen s) s.pc s.regs) ∙ h)
+stepped-reset s = either s.reset _ (moved s (next_move s)) (λ h. refl) (λ h. moved-reset s (next_move s) ∙ h)
 
 and-false : (b c : Bool) → c ≡ false → (b && c) ≡ false
 and-false true c h = h
