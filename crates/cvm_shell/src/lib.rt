@@ -25,7 +25,7 @@ pub mod report;
 pub mod status;
 
 pub use assembly::{user_image, words_have_four_bytes};
-pub use boot::Stop;
+pub use boot::{Stop, kernels_run_once};
 use boot::{plan, run_kernel};
 pub use command::{Boot, Command, CompileUser, read_boot, read_command, read_compile_user};
 use cvm_outside::{Sectors, Shelf, Sink};
