@@ -10,9 +10,9 @@ ghost use Rattle.c0_body.specs.Scope.{Knows, env_view};
 ghost use Rattle.c0_body.specs.Stmts.{code_faults, resolved_of_stmts};
 
 use crate::parts::check_tested;
-use crate::scope::{Scope};
-use c0_meaning::form::Found;
+use crate::scope::Scope;
 use crate::stmts::check_stmts;
+use c0_meaning::form::Found;
 use c0_names::fault::Fault;
 use c0_tree::{CType, Expr, Stmt};
 

@@ -10,9 +10,9 @@ ghost use Rattle.c0_names.specs.Met.{met_view};
 ghost use Rattle.c0_body.specs.Scope.{Knows, callee_view, env_view, signature_view};
 ghost use Rattle.c0_body.specs.Stmts.{ChecksArgs};
 
-use c0_meaning::form::{Found, Form};
 use crate::parts::{check_given, meet_other};
 use crate::scope::{Callee, Scope};
+use c0_meaning::form::{Form, Found};
 use c0_names::fault::{Fault, Mistake, meet_at, meet_if};
 use c0_tree::{Expr, Function, Kind, Name, Scalar, Span};
 

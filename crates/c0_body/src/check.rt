@@ -8,15 +8,15 @@ ghost use Rattle.c0_names.specs.Met.{met_view};
 ghost use Rattle.c0_meaning.specs.Form.{found_view, is_declared};
 ghost use Rattle.c0_body.specs.Scope.{Knows, env_view};
 
-use c0_meaning::form::{Found, is_pointer_form};
 use crate::rules::{
     address, arrow, binary, deref, index, member, number_field, place_field, target, unary,
     variable, wrong,
 };
-use crate::scope::{Scope};
+use crate::scope::Scope;
 use crate::shape::is_local;
-use c0_meaning::shape::{compares, is_null, is_place, span_of};
+use c0_meaning::form::{Found, is_pointer_form};
 use c0_meaning::laws::meeting_is_free_of_order;
+use c0_meaning::shape::{compares, is_null, is_place, span_of};
 use c0_names::fault::{Fault, Mistake};
 use c0_tree::{BinaryOp, Expr};
 

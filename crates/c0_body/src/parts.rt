@@ -12,10 +12,10 @@ ghost use Rattle.c0_body.specs.Scope.{Knows, env_view};
 ghost use Rattle.c0_body.specs.Stmts.{ChecksGiven, ChecksLeft, ChecksTested};
 
 use crate::check::{check, check_asked};
-use c0_meaning::form::{Found, Form, same_form};
-use c0_meaning::need::is_deep;
 use crate::rules::{is_nothing, is_scalar_form, wrong};
-use crate::scope::{Scope};
+use crate::scope::Scope;
+use c0_meaning::form::{Form, Found, same_form};
+use c0_meaning::need::is_deep;
 use c0_meaning::shape::{is_place, span_of};
 use c0_names::fault::{Fault, Mistake, meet_at, meet_if};
 use c0_tree::{Expr, Span};

@@ -11,8 +11,8 @@ ghost use Rattle.c0_body.specs.Check.{Settles};
 ghost use Rattle.c0_names.specs.Met.{met_view, number_of};
 ghost use Rattle.c0_body.specs.Scope.{Knows, env_view, found_in, typed_view};
 
-use c0_meaning::form::{Found, Form, form_of, same_form};
 use crate::scope::{Scope, find_field, find_variable};
+use c0_meaning::form::{Form, Found, form_of, same_form};
 use c0_names::fault::{Fault, Mistake, meet_at};
 use c0_tree::{BinaryOp, Decl, Kind, Name, Span, UnaryOp};
 

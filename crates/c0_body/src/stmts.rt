@@ -15,11 +15,11 @@ ghost use Rattle.c0_body.specs.Scope.{Knows, env_view};
 ghost use Rattle.c0_body.specs.Stmts.{ChecksStmt, ChecksStmts, choice_faults, loop_faults, resolved_of_stmts};
 
 use crate::calls::{check_args, meet_callee, name_callee};
-use c0_meaning::form::{Found, Form};
-use c0_meaning::need::{is_deep_assignment, is_deep_call, is_deep_object};
 use crate::parts::{check_given, check_left, check_tested, meet_other};
 use crate::scope::{Scope, find_callee};
+use c0_meaning::form::{Form, Found};
 use c0_meaning::laws::meeting_is_free_of_order;
+use c0_meaning::need::{is_deep_assignment, is_deep_call, is_deep_object};
 use c0_names::fault::{Fault, Mistake, meet_if};
 use c0_names::types::check_type;
 use c0_tree::{CType, Expr, Name, Span, Stmt};

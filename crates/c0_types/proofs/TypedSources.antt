@@ -1,18 +1,18 @@
 -- A kernel's source is typed by the rules exactly where no fault stands in it.
-use Rattle.std.proofs.Common.{◌≡◌, ℕ, suc, ◌+◌, Bool, true, false, cond, List, [], ◌∷◌, ◌++◌, Option, Some, None, refl, sym, ap, ◌∙◌}
-use Rattle.std.specs.Prelude.{IsTrue, is_some, ◌↔◌}
+use Rattle.std.proofs.Common.{◌≡◌, ℕ, ◌+◌, Bool, true, false, cond, List, [], ◌∷◌, ◌++◌, Option, Some, None, refl, ap, ◌∙◌}
+use Rattle.std.specs.Prelude.{IsTrue, is_some}
 use Rattle.std.specs.List.{All}
-use Rattle.std.proofs.lemmas.Bool.{cases_Bool, cond-true, cond-false}
+use Rattle.std.proofs.lemmas.Bool.{cond-true}
 use Rattle.std.proofs.lemmas.List.Elements.{All-cons, All-nil, All-head, All-tail}
 use Rattle.mips_asm.specs.Text.{lines_of}
 use Rattle.c0_asm_text.specs.AsmText.{line_words, first_bad, bad_line}
 use Rattle.c0_tree.specs.declared.tree.Span.{Span}
-use Rattle.c0_tree.specs.Tree.{CBody, code, asm, CFunction, CUnit}
+use Rattle.c0_tree.specs.Tree.{CBody, code, asm, CFunction}
 use Rattle.c0_tree.specs.Primitives.{kernel_primitives}
 use Rattle.c0_meaning.specs.Typed.{KernelsAreFaultless}
 use Rattle.c0_meaning.specs.Unit.{kernel_faults}
-use Rattle.c0_types.specs.Source.{line_fault, asm_fault, asm_faults, read_unit, source_faults}
-use Rattle.c0_types.specs.TypedSource.{IsAllowedBody, IsTypedSource, SourcesAreFaultless}
+use Rattle.c0_types.specs.Source.{line_fault, asm_fault, asm_faults, read_unit}
+use Rattle.c0_types.specs.TypedSource.{IsAllowedBody, SourcesAreFaultless}
 
 none_left : {A : Type 0} (xs ys : List A) → xs ++ ys ≡ [] → xs ≡ []
 none_left [] ys h = refl
@@ -31,11 +31,12 @@ none_bad number (line ∷ rest) h =
 
 bad_none : (number : ℕ) (lines : List (List ℕ)) → first_bad number lines ≡ None → All (λ line. IsTrue (is_some (line_words line))) lines
 bad_none number [] h = All-nil (λ (line : List ℕ). IsTrue (is_some (line_words line)))
-bad_none number (line ∷ rest) h = by_test (is_some (line_words line)) refl h
+bad_none number (line ∷ rest) h = by_test (is_some (line_words line)) refl h (λ k. bad_none (number + 1) rest k)
   where
-    by_test : (b : Bool) → is_some (line_words line) ≡ b → cond b (first_bad (number + 1) rest) (Some number) ≡ None → All (λ line. IsTrue (is_some (line_words line))) (line ∷ rest)
-    by_test true e k = All-cons (λ (line : List ℕ). IsTrue (is_some (line_words line))) line rest e (bad_none (number + 1) rest k)
-    by_test false e k = absurd (cc)
+    by_test : (b : Bool) → is_some (line_words line) ≡ b → cond b (first_bad (number + 1) rest) (Some number) ≡ None
+        → (first_bad (number + 1) rest ≡ None → All (λ line. IsTrue (is_some (line_words line))) rest) → All (λ line. IsTrue (is_some (line_words line))) (line ∷ rest)
+    by_test true e k on = All-cons (λ (line : List ℕ). IsTrue (is_some (line_words line))) line rest e (on k)
+    by_test false e k on = absurd (cc)
 
 no_line : (o : Option ℕ) (span : Span) → line_fault o span ≡ [] → o ≡ None
 no_line None span h = refl

@@ -1,5 +1,5 @@
 -- The rules that a kernel's source has to meet, its asm texts among them. They know no fault and no order.
-use Rattle.std.specs.Prelude.{◌≡◌, ◌↔◌, [], List, IsTrue, is_some}
+use Rattle.std.specs.Prelude.{◌≡◌, ◌↔◌, [], IsTrue, is_some}
 use Rattle.std.specs.List.{All}
 use Rattle.mips_asm.specs.Text.{lines_of}
 use Rattle.c0_asm_text.specs.AsmText.{line_words}
