@@ -12,7 +12,7 @@ pub record Files : Type 0 where
   pub faults : ℕ
 
 -- printed text, where it is told, and the count of faults
-pub record Paper : Type 0 where
+pub record Output : Type 0 where
   pub text : Option (List ℕ)
   pub faults : ℕ
 
@@ -24,26 +24,26 @@ pub record Drive : Type 0 where
 
 pub record Outside : Type 0 where
   pub shelf : Files
-  pub sink : Paper
+  pub sink : Output
   pub disk : Drive
 
 -- what a shelf, a sink and a disk tell
 abbrev pub files : {S : Type 0} → shelf_of.Ghosts S → S → Files
 files told s = record { file = told.file s; taken = told.taken s; faults = told.faults s }
 
-abbrev pub paper : {O : Type 0} → sink_of.Ghosts O → O → Paper
-paper told o = record { text = told.text o; faults = told.faults o }
+abbrev pub output : {O : Type 0} → sink_of.Ghosts O → O → Output
+output told o = record { text = told.text o; faults = told.faults o }
 
 abbrev pub drive : {D : Type 0} → sectors_of.Ghosts D → D → Drive
 drive told d = record { sectors = told.sectors d; size = told.size d; faults = told.faults d }
 
 -- the three objects of a command as one outside
 abbrev pub seen : {S O D : Type 0} → shelf_of.Ghosts S → sink_of.Ghosts O → sectors_of.Ghosts D → S × O × D → Outside
-seen shelf sink disk (s, o, d) = record { shelf = files shelf s; sink = paper sink o; disk = drive disk d }
+seen shelf sink disk (s, o, d) = record { shelf = files shelf s; sink = output sink o; disk = drive disk d }
 
 -- a shelf and a sink beside a disk that stays as it is
 abbrev pub beside : {S O : Type 0} → shelf_of.Ghosts S → sink_of.Ghosts O → Drive → S × O → Outside
-beside shelf sink disk (s, o) = record { shelf = files shelf s; sink = paper sink o; disk = disk }
+beside shelf sink disk (s, o) = record { shelf = files shelf s; sink = output sink o; disk = disk }
 
 -- the disk's sectors are as before
 pub record SameSectors (old new : Drive) : Type 0 where
