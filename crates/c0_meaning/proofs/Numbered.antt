@@ -1,18 +1,18 @@
 -- What the rules type is typed by numbers, where its names are resolved.
-use Rattle.std.proofs.Common.{◌≡◌, ℕ, suc, Bool, true, false, ◌&&◌, List, [], ◌∷◌, ◌++◌, length, map, Option, Some, None, refl, sym, ap, ◌∙◌, subst, arith}
+use Rattle.std.proofs.Common.{◌≡◌, ℕ, suc, true, false, ◌&&◌, List, [], ◌∷◌, ◌++◌, length, map, Option, Some, None, refl, sym, ap, ◌∙◌, subst}
 use Rattle.std.specs.Prelude.{slice_get}
 use Rattle.std.specs.Option.{option_or, option_map}
 use Rattle.std.specs.List.{All, list_all}
-use Rattle.std.proofs.lemmas.Bool.{and_parts, leb-true, false≢true}
+use Rattle.std.proofs.lemmas.Bool.{and_parts, leb-true}
 use Rattle.std.proofs.lemmas.List.Elements.{All-cons, All-nil, All-head, All-tail}
 use Rattle.c0_tree.specs.declared.tree.Kind.{Kind}
 use Rattle.c0_tree.specs.declared.tree.Kind.TheVariants.{Global, Local, Function, Primitive}
-use Rattle.c0_tree.specs.Tree.{CName, CTy, CExpr, null, var, field, arrow, index, deref, address, CStmt, assign, call, new, choice, loop, CStmts, done, next, CBody, code, asm, CFunction, CUnit}
+use Rattle.c0_tree.specs.Tree.{CName, CExpr, var, arrow, deref, CStmt, CStmts, CBody, code, asm, CFunction, CUnit}
 use Rattle.c0_tree.specs.Primitives.{CPrimitive}
-use Rattle.c0_tree.specs.Plain.{is_plain_expr, is_short, is_plain_stmt, are_plain_stmts, stmts_length, is_plain_body}
+use Rattle.c0_tree.specs.Plain.{is_plain_expr, is_short, is_plain_stmt, are_plain_stmts, is_plain_body}
 use Rattle.c0_meaning.specs.Ty.{Ty, ty_of}
 use Rattle.c0_meaning.specs.Ty as ty
-use Rattle.c0_meaning.specs.Env.{Env, Typed, Signature, Variable, variable_of, variable_named, Callee, callee_of, callee_named, field_named, first_named, shape_of, env_of}
+use Rattle.c0_meaning.specs.Env.{Env, Typed, Signature, Variable, variable_of, variable_named, Callee, callee_of, callee_named, field_named, first_named, env_of}
 use Rattle.c0_meaning.specs.Words.{fields_named}
 use Rattle.c0_meaning.specs.Expression.{is_place, is_local, is_local_kind, type_of, member, target, resolved, numbered_variable, numbered_field}
 use Rattle.c0_meaning.specs.Judgement.{HasType, IsGiven}
@@ -21,10 +21,10 @@ use Rattle.c0_meaning.specs.Rules.{IsLeft, AreGiven, IsTested, IsTyped, AreTyped
 use Rattle.c0_meaning.specs.Rules as stmt
 use Rattle.c0_meaning.specs.Statement.{numbered_callee, stmt_resolved, stmts_resolved}
 use Rattle.c0_meaning.specs.DeclaredTypes.{type_faults, unknown_structs}
-use Rattle.c0_meaning.specs.Resolved.{IsResolved, resolved_type}
+use Rattle.c0_meaning.specs.Resolved.{resolved_type}
 use Rattle.c0_meaning.specs.Typed.{IsTypedBody, IsTypedFunction}
 use Rattle.c0_meaning.specs.Limits.{locals_of}
-use Rattle.c0_meaning.specs.Unit.{IsWellFormed, resolved_body, resolved_function, resolved_functions}
+use Rattle.c0_meaning.specs.Unit.{resolved_body, resolved_function, resolved_functions}
 use Rattle.c0_meaning.specs.Numbered.{variable_at, callee_at, field_at, is_in_frame, is_frame_place, HasNumberedType, IsNumberedGiven, IsNumberedLeft, AreNumberedGiven, IsNumberedTest, IsNumbered, AreNumbered, IsNumberedBody, NumbersTell}
 use Rattle.c0_meaning.specs.Numbered as number
 use Rattle.c0_meaning.proofs.Found.{found_there}

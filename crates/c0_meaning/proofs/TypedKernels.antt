@@ -1,18 +1,17 @@
 -- A kernel's unit is typed by the rules exactly where no fault stands in it, the missing `dispatch` among them.
-use Rattle.std.proofs.Common.{◌≡◌, inl, inr, ℕ, zero, suc, Bool, true, false, ◌&&◌, ◌||◌, List, [], ◌∷◌, ◌++◌, map, Some, refl, sym, ap, ◌∙◌}
+use Rattle.std.proofs.Common.{◌≡◌, inl, inr, ℕ, zero, suc, Bool, true, false, List, [], ◌∷◌, ◌++◌, map, Some, refl, ap, ◌∙◌}
 use Rattle.std.specs.Prelude.{not, codes, slice_get}
 use Rattle.std.specs.List.{list_any}
 use Rattle.std.specs.Str.{bytes_eq}
 use Rattle.std.proofs.lemmas.Bool.{and_parts, and_from, or_cases, or_left, or_right, false≢true}
 use Rattle.std.proofs.lemmas.Slice.Eq.{bytes_eq-Decides}
-use Rattle.c0_tree.specs.Tree.{CDecl, CFunction, CUnit}
-use Rattle.c0_tree.specs.Primitives.{CPrimitive}
+use Rattle.c0_tree.specs.Tree.{CDecl, CFunction}
 use Rattle.c0_meaning.specs.Ty.{Ty, int, ty_of, same_ty}
 use Rattle.c0_meaning.specs.Fault.{NO_DISPATCH}
 use Rattle.c0_meaning.specs.Limits.{is_asm, are_three_ints, is_dispatch, dispatch_faults, whole}
-use Rattle.c0_meaning.specs.Typed.{IsDispatch, HasDispatch, IsTypedKernel, KernelsAreFaultless}
+use Rattle.c0_meaning.specs.Typed.{IsDispatch, HasDispatch, KernelsAreFaultless}
 use Rattle.c0_meaning.specs.Unit.{unit_faults}
-use Rattle.c0_meaning.proofs.Ty.{equal-same_ty, same_ty-itself}
+use Rattle.c0_meaning.proofs.Ty.{equal-same_ty}
 use Rattle.c0_meaning.proofs.Units.{units_are_faultless, nothing_said}
 use Rattle.c0_meaning.proofs.WellFormed.{none_in_left, none_in_right, nothing_wrong}
 

@@ -1,6 +1,6 @@
 -- The rules of typing by numbers. What a name stands for is found by its kind and its number, and no text of a name in an expression or a
 -- statement is looked at: so a compiler reads a unit whose names are resolved.
-use Rattle.std.specs.Prelude.{ℕ, ◌≡◌, ◌≤◌, Bool, true, false, List, [], ◌∷◌, ◌++◌, length, Option, None, Some, IsTrue, slice_get}
+use Rattle.std.specs.Prelude.{ℕ, ◌≡◌, ◌≤◌, Bool, true, false, List, [], ◌∷◌, ◌++◌, Option, None, Some, IsTrue, slice_get}
 use Rattle.std.specs.List.{All}
 use Rattle.c0_tree.specs.declared.tree.Span.{Span}
 use Rattle.c0_tree.specs.declared.tree.Kind.{Kind}

@@ -1,7 +1,7 @@
 -- What sizes need of a unit: its structs are defined, small and resolved.
-use Rattle.std.specs.Prelude.{◌≡◌, ℕ, ◌*◌, ◌+◌, ◌≤◌, false, List, map, length, Option, Some, None}
+use Rattle.std.specs.Prelude.{◌≡◌, ◌+◌, ◌≤◌, false, List, map, length}
 use Rattle.std.specs.List.{All}
-use Rattle.c0_tree.specs.Tree.{CTy, int, bool, pointer, named, array, CName, CStruct, CFunction, CUnit}
+use Rattle.c0_tree.specs.Tree.{CTy, CStruct, CFunction, CUnit}
 use Rattle.c0_meaning.specs.Ty.{ty_of}
 use Rattle.c0_meaning.specs.Ty as ty
 use Rattle.c0_meaning.specs.Env.{Shape, shape_of, typed_of}

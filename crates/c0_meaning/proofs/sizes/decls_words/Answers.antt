@@ -3,7 +3,6 @@ use Rattle.c0_tree.specs.declared.tree.Decl.{Decl}
 use Rattle.c0_tree.specs.View.{type_view, unit_view}
 use Rattle.c0_meaning.specs.Ty.{ty_of}
 use Rattle.c0_meaning.specs.Env.{Shape}
-use Rattle.c0_meaning.specs.Words.{words}
 use Rattle.c0_meaning.specs.Sizes.{capped}
 use Rattle.c0_meaning.specs.Sound.{shapes, IsSized}
 use Rattle.c0_meaning.proofs.Sized.{decl_sized, words_left}
