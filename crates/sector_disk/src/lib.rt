@@ -13,8 +13,6 @@ ghost use Rattle.mips_table.specs.Device.{port_read, port_write, begun};
 ghost use Rattle.mips_table.specs.Fits.{NamesSector};
 ghost use Rattle.sector_disk.specs.Ports.{idle, device_of, StepEnd};
 
-#[cfg(test)]
-mod tests;
 mod transfer;
 
 use crate::transfer::{Transfer, put_word, read_sector, write_sector};
