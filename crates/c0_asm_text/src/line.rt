@@ -89,6 +89,14 @@ fn is_allowed(inst: Inst) -> bool
         Inst::Eret => false,
         Inst::Lw { .. } => false,
         Inst::Sw { .. } => false,
+        Inst::Mult { .. } => false,
+        Inst::Multu { .. } => false,
+        Inst::Div { .. } => false,
+        Inst::Divu { .. } => false,
+        Inst::Mfhi { .. } => false,
+        Inst::Mthi { .. } => false,
+        Inst::Mflo { .. } => false,
+        Inst::Mtlo { .. } => false,
     }
 }
 
