@@ -7,7 +7,7 @@ use Rattle.mips_table.specs.Arith.{signed_quotient, signed_remainder}
 use Rattle.mips_table.specs.Effect.{branch, divided, jump, next}
 use Rattle.mips_table.specs.Encoding.{encoding}
 use Rattle.mips_table.specs.Device.{Idle, COMMAND, SECTOR}
-use Rattle.mips_table.specs.Code.{Contents, reg, with_reg, Behind, World, Sound, Configuration, at_with, settle, commanded, effect_at, act, May, Reaches, CodeAt}
+use Rattle.mips_table.specs.Code.{Contents, reg, with_reg, Behind, World, Sound, Configuration, at_with, settle, commanded, effect_at, act, May, Reaches, CodeAt, Does}
 use Rattle.masm.specs.Says.{Says, Widens, Said, said, told, goes_on, straight, AllSaid, sayings, tellings}
 use Rattle.masm.specs.Blocks.{when_code, loop_code, when_words, loop_words}
 
@@ -71,6 +71,22 @@ pub record LoopRuns (w : World) (test : List Inst) (r : ℕ) (body : List Inst) 
 -- a routine: a body, and a jump to the address in register 31, which the body leaves there
 abbrev pub ReturnRuns : World → List Inst → Type 0
 ReturnRuns w body = (n m to : ℕ) (c : Contents) (d : Behind) (c' : Contents) (d' : Behind) → CodeAt w n (body ++ Jr 31 ∷ []) → Reaches w m (at_with n c d) (at_with (n + length body) c' d') → reg c'.regs 31 ≡ 4 * to → d'.pending ≡ Idle → Reaches w (m + 1) (at_with n c d) (at_with to c' d')
+
+-- the block leads from this very state to one of Q, by its end, in so many steps at most
+abbrev pub From : World → List Inst → ℕ → Contents → Behind → (Contents → Behind → Type 0) → Type 0
+From w is n c0 d0 Q = Does w is n (λ c d. (c ≡ c0) × (d ≡ d0)) Q
+
+-- A loop whose turns are paid for. Beside the machine's state there is one of the loop's own, that `next` leads on; `before` holds of
+-- both before each test, which takes `tests` steps at most, and `tested` after it; a turn's body takes `takes`, and `cost` is what is left to be
+-- spent. So no number of turns is asked for, and turns may cost different amounts. `ends` holds where the register is 0.
+pub record Pays (w : World) (test : List Inst) (r : ℕ) (body : List Inst) (State : Type 0) (before tested ends : State → Contents → Behind → Type 0) (tests : ℕ) (takes cost : State → ℕ) (next : State → State) : Type 0 where
+  pub idle_before : (a : State) (c : Contents) (d : Behind) → before a c d → d.pending ≡ Idle
+  pub idle_tested : (a : State) (c : Contents) (d : Behind) → tested a c d → d.pending ≡ Idle
+  pub tested_so : (a : State) → Does w test tests (before a) (tested a)
+  pub turned_so : (a : State) → Does w body (takes a) (λ c d. tested a c d × (reg c.regs r ≢ 0)) (before (next a))
+  pub paid : (a : State) (c : Contents) (d : Behind) → tested a c d → reg c.regs r ≢ 0 → tests + takes a + 2 + cost (next a) ≤ cost a
+  pub last : (a : State) (c : Contents) (d : Behind) → tested a c d → reg c.regs r ≡ 0 → ends a c d
+  pub stays : (a : State) (c : Contents) (d : Behind) → ends (next a) c d → ends a c d
 
 -- the words of a block are those of its instructions
 pub record WordsAreEncodings : Type 0 where

@@ -1,3 +1,4 @@
 pub mod Says
 pub mod Blocks
 pub mod Laws
+pub mod Copy

@@ -65,9 +65,7 @@ impl<const CAP: usize> Block<CAP> {
         requires room { length self.old + length next.now ≤ CAP }
         ensures { self.new ≡ self.old ++ next.now }
     {
-        for word in next.words() {
-            self.words.push(*word);
-        }
+        let _ = self.words.try_extend_from_slice(next.words());
     }
 
     /// Appends a body that is run where register `reg` (1 to 31) isn't 0.

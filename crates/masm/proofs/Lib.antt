@@ -1,0 +1,6 @@
+pub mod Runs
+pub mod Straight
+pub mod Jumps
+pub mod Blocks
+pub mod Loops
+pub mod Routines
