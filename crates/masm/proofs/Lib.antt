@@ -4,3 +4,4 @@ pub mod Jumps
 pub mod Blocks
 pub mod Loops
 pub mod Routines
+mod Copy

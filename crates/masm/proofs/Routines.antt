@@ -10,7 +10,7 @@ use Rattle.mips_table.specs.Code.{Contents, reg, Behind, World, Sound, Configura
 use Rattle.masm.specs.Says.{Says, straight, AllSaid, sayings, tellings}
 use Rattle.masm.specs.Blocks.{when_code, loop_code}
 use Rattle.masm.specs.Laws.{WhenRuns, Pays, From}
-use Rattle.masm.proofs.Runs.{none, joined, later, to_there, code_front, code_back}
+use Rattle.masm.proofs.Runs.{empty, joined, later, to_there, code_front, code_back}
 use Rattle.masm.proofs.Straight.{straight_runs}
 use Rattle.masm.proofs.Blocks.{when_laws, returning}
 use Rattle.masm.proofs.Loops.{loop_pays}
@@ -107,11 +107,11 @@ module _ (w : World) (f : Sound w) where
       → (a : A) → Does w (loop_code [] r body) (cost a + 1) (S a) R
   loop_goes {A} body r S Go cost e step R short idle pays does on out a =
       weaker w (loop_code [] r body) (cost a + 0 + 1) (cost a + 1) (S a) (S a) R R (omega arith) (λ c d s. s) (λ c d s. s)
-      (loop_pays S S (λ a. R) w f [] r body (omega (arith, short)) 0 e cost step
+      (loop_pays w S S (λ a. R) f [] r body (omega (arith, short)) 0 e cost step
       (record {
         idle_before = idle;
         idle_tested = idle;
-        tested_so = λ a. record { by = λ k c d at s. (c, d, s, to_there w 0 _ _ _ (ap (λ m. at_with m c d) (omega arith)) (none w (at_with k c d))) };
+        tested_so = λ a. record { by = λ k c d at s. (c, d, s, empty w k c d) };
         turned_so = λ a. record { by = λ k c d at s. (does a (on a c d s.0 s.1)).by k c d at s.0 };
         paid = λ a c d s z. let q = pays a (on a c d s z) in omega (arith, q);
         last = out;

@@ -25,6 +25,10 @@ steps_on w (suc n) m s t u a b =
 pub none : (w : World) (s : Configuration) → Reaches w 0 s s
 none w s = record { steps = 0; within = omega arith; run = (tt, refl) }
 
+-- no code takes no step, and its end is where it begins
+pub empty : (w : World) (n : ℕ) (c : Contents) (d : Behind) → Reaches w 0 (at_with n c d) (at_with (n + 0) c d)
+empty w n c d = let e : n ≡ n + 0 = omega arith in subst (λ m. Reaches w 0 (at_with n c d) (at_with m c d)) e (none w (at_with n c d))
+
 pub joined : (w : World) (n m : ℕ) (s t u : Configuration) → Reaches w n s t → Reaches w m t u → Reaches w (n + m) s u
 joined w n m s t u a b = record { steps = a.steps + b.steps; within = omega (arith, a.within, b.within); run = steps_on w a.steps b.steps s t u a.run b.run }
 
@@ -70,4 +74,4 @@ module _ (w : World) (code : ℕ → Option Inst) (within : IsPart code w.code) 
   reaches_wider n s t r = record { steps = r.steps; within = r.within; run = wider r.steps s t r.run }
 
 pub runs_compose : RunsCompose
-runs_compose = record { none = none; one = one; joined = joined; later = later; front = code_front; back = code_back; wider = reaches_wider; part_sound = part_sound; settles = idle_settle }
+runs_compose = record { none = none; empty = empty; one = one; joined = joined; later = later; front = code_front; back = code_back; wider = reaches_wider; part_sound = part_sound; settles = idle_settle }

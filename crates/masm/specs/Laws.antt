@@ -22,6 +22,7 @@ with_code w code = record w { code = code }
 -- runs join and may be given more steps; a block stands where its parts do; a run of part of the code is a run of all of it
 pub record RunsCompose : Type 0 where
   pub none : (w : World) (s : Configuration) → Reaches w 0 s s
+  pub empty : (w : World) (n : ℕ) (c : Contents) (d : Behind) → Reaches w 0 (at_with n c d) (at_with (n + 0) c d)
   pub one : (w : World) (s : Configuration) (i : Inst) → w.code s.at ≡ Some i → May w i s → Reaches w 1 s (act w i s)
   pub joined : (w : World) (n m : ℕ) (s t u : Configuration) → Reaches w n s t → Reaches w m t u → Reaches w (n + m) s u
   pub later : (w : World) (n m : ℕ) (s t : Configuration) → n ≤ m → Reaches w n s t → Reaches w m s t
@@ -87,6 +88,10 @@ pub record Pays (w : World) (test : List Inst) (r : ℕ) (body : List Inst) (Sta
   pub paid : (a : State) (c : Contents) (d : Behind) → tested a c d → reg c.regs r ≢ 0 → tests + takes a + 2 + cost (next a) ≤ cost a
   pub last : (a : State) (c : Contents) (d : Behind) → tested a c d → reg c.regs r ≡ 0 → ends a c d
   pub stays : (a : State) (c : Contents) (d : Behind) → ends (next a) c d → ends a c d
+
+-- a loop that pays for its turns ends, within what it may spend
+abbrev pub LoopPays : World → (State : Type 0) → (before tested ends : State → Contents → Behind → Type 0) → Type 0
+LoopPays w State before tested ends = (test : List Inst) (r : ℕ) (body : List Inst) → length test + length body + 2 ≤ 32768 → (tests : ℕ) (takes cost : State → ℕ) (next : State → State) → Pays w test r body State before tested ends tests takes cost next → (a : State) → Does w (loop_code test r body) (cost a + tests + 1) (before a) (ends a)
 
 -- the words of a block are those of its instructions
 pub record WordsAreEncodings : Type 0 where

@@ -4,9 +4,8 @@
 
 ghost use Rattle.mips_table.specs.declared.inst.Inst.{Inst};
 ghost use Rattle.std.specs.Prelude.{ℕ, List, ◌<◌, ◌≤◌, ◌+◌, length};
-ghost use Rattle.mips_table.specs.Code.{Contents, Behind, World, Sound, Does};
-ghost use Rattle.masm.specs.Blocks.{loop_code};
-ghost use Rattle.masm.specs.Laws.{RunsCompose, StraightRuns, JumpsLead, WhenRuns, LoopRuns, Pays, ReturnRuns, WordsAreEncodings};
+ghost use Rattle.mips_table.specs.Code.{Contents, Behind, World, Sound};
+ghost use Rattle.masm.specs.Laws.{RunsCompose, StraightRuns, JumpsLead, WhenRuns, LoopRuns, LoopPays, ReturnRuns, WordsAreEncodings};
 
 /// Runs join, a block's parts stand where the block does, and a run of part of the code is a run of all of it.
 pub fn runs_compose()
@@ -33,21 +32,21 @@ pub fn a_loop_turns()
     ensures { (w : World) → Sound w → (test : List Inst) (r : ℕ) (body : List Inst) → length test + length body + 2 ≤ 32768 → LoopRuns w test r body }
 {}
 
-/// What a loop keeps: a state of the loop's own, and what holds of it and of the machine's state before each test, after it,
-/// and behind the loop.
+/// What a loop keeps: a state of the loop's own, and what holds of it and of the machine's before each test, after it, and
+/// behind the loop, in each world.
 pub trait Turns {
     ghost State: { Type 0 };
 
-    ghost before: { State → Contents → Behind → Type 0 };
+    ghost before: { World → State → Contents → Behind → Type 0 };
 
-    ghost tested: { State → Contents → Behind → Type 0 };
+    ghost tested: { World → State → Contents → Behind → Type 0 };
 
-    ghost ends: { State → Contents → Behind → Type 0 };
+    ghost ends: { World → State → Contents → Behind → Type 0 };
 }
 
 /// A loop whose turns are paid for ends, within what it may spend.
 pub fn a_loop_pays<T: Turns>()
-    ensures { (w : World) → Sound w → (test : List Inst) (r : ℕ) (body : List Inst) → length test + length body + 2 ≤ 32768 → (tests : ℕ) (takes cost : T.State → ℕ) (next : T.State → T.State) → Pays w test r body T.State T.before T.tested T.ends tests takes cost next → (a : T.State) → Does w (loop_code test r body) (cost a + tests + 1) (T.before a) (T.ends a) }
+    ensures { (w : World) → Sound w → LoopPays w T.State (T.before w) (T.tested w) (T.ends w) }
 {}
 
 /// A body that ends in a jump to register 31 returns.

@@ -5,6 +5,7 @@
 #![tactic(auto)]
 
 mod block;
+pub mod copying;
 pub mod laws;
 pub mod registers;
 

@@ -3,4 +3,4 @@ use Rattle.masm.proofs.Loops.{loop_pays}
 use Rattle.masm.proofs.laws.a_loop_pays.Goals as goal
 
 pub returns : goal.returns
-returns c s = loop_pays c.T.Turns.before c.T.Turns.tested c.T.Turns.ends
+returns c s w = loop_pays w (c.T.Turns.before w) (c.T.Turns.tested w) (c.T.Turns.ends w)
