@@ -5,3 +5,4 @@ pub mod Blocks
 pub mod Loops
 pub mod Routines
 mod Copy
+mod Wait

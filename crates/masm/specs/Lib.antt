@@ -2,3 +2,4 @@ pub mod Says
 pub mod Blocks
 pub mod Laws
 pub mod Copy
+pub mod Wait

@@ -8,5 +8,6 @@ mod block;
 pub mod copying;
 pub mod laws;
 pub mod registers;
+pub mod waiting;
 
 pub use block::Block;
