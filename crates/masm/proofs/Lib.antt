@@ -4,5 +4,6 @@ pub mod Jumps
 pub mod Blocks
 pub mod Loops
 pub mod Routines
+pub mod Standing
 mod Copy
 mod Wait

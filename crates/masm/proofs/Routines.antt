@@ -10,7 +10,7 @@ use Rattle.mips_table.specs.Code.{Contents, reg, Behind, World, Sound, Configura
 use Rattle.masm.specs.Says.{Says, straight, AllSaid, sayings, tellings}
 use Rattle.masm.specs.Blocks.{when_code, loop_code}
 use Rattle.masm.specs.Laws.{WhenRuns, Pays, From}
-use Rattle.masm.proofs.Runs.{empty, joined, later, to_there, code_front, code_back}
+use Rattle.masm.proofs.Runs.{empty, joined, followed, later, code_front, code_back}
 use Rattle.masm.proofs.Straight.{straight_runs}
 use Rattle.masm.proofs.Blocks.{when_laws, returning}
 use Rattle.masm.proofs.Loops.{loop_pays}
@@ -21,8 +21,7 @@ follows w a b n m P Q R da db = record {
   by = λ k c d at p.
       let x = da.by k c d (code_front w k a b at) p in
       let y = db.by (k + length a) x.0 x.1 (code_back w k a b at) x.2 in
-      let e : k + length a + length b ≡ k + length (a ++ b) = omega (arith, length-append a b) in
-      (y.0, y.1, y.2, joined w n m _ _ _ x.3 (to_there w m _ _ _ (ap (λ q. at_with q y.0 y.1) e) y.3));
+      (y.0, y.1, y.2, followed w a b k n m c d x.0 x.1 y.0 y.1 x.3 y.3);
 }
 
 -- more steps, a stronger condition before and a weaker one after
@@ -75,8 +74,7 @@ module _ (w : World) (f : Sound w) where
   straight_then is b hs m c0 d0 R g idle h rest = from_at w (is ++ b) (length is + m) c0 d0 R (λ n at.
       let run = straight_runs w f is hs n c0 d0 (code_front w n is b at) g idle (h n) in
       let y = (rest n).by (n + length is) (sayings n is hs c0) (tellings hs d0) (code_back w n is b at) (refl, refl) in
-      let e : n + length is + length b ≡ n + length (is ++ b) = omega (arith, length-append is b) in
-      (y.0, y.1, y.2, joined w (length is) m _ _ _ run (to_there w m _ _ _ (ap (λ q. at_with q y.0 y.1) e) y.3)))
+      (y.0, y.1, y.2, followed w is b n (length is) m c0 d0 (sayings n is hs c0) (tellings hs d0) y.0 y.1 run y.3))
 
   pub straight_does : (is : List Inst) (P Q : Contents → Behind → Type 0) (hs : Contents → List Says) → straight is ≡ true → ((n : ℕ) (c : Contents) (d : Behind) → P c d → (d.pending ≡ Idle) × AllSaid w n is (hs c) c d × Q (sayings n is (hs c) c) (tellings (hs c) d)) → Does w is (length is) P Q
   straight_does is P Q hs g h = record { by = λ n c d at p. let a = h n c d p in (sayings n is (hs c) c, tellings (hs c) d, a.2, straight_runs w f is (hs c) n c d at g a.0 a.1) }

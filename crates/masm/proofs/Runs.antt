@@ -1,5 +1,5 @@
 -- Runs of code compose, and a run of part of the code is a run of all of it.
-use Rattle.std.proofs.Common.{◌≡◌, ℕ, zero, suc, ◌+◌, ◌≤◌, Option, Some, None, List, [], ◌∷◌, ◌++◌, length, refl, sym, ap, ◌∙◌, subst, arith}
+use Rattle.std.proofs.Common.{◌≡◌, ℕ, zero, suc, ◌+◌, ◌≤◌, Option, Some, None, List, [], ◌∷◌, ◌++◌, length, length-append, refl, sym, ap, ◌∙◌, subst, arith}
 use Rattle.mips_table.specs.declared.inst.Inst.{Inst}
 use Rattle.mips_table.specs.Device.{Idle}
 use Rattle.mips_table.specs.Code.{Contents, Behind, World, Sound, Configuration, at_with, settling, settle, act, May, MayAt, act_at, code_run, MayRun, Steps, Reaches, CodeAt}
@@ -31,6 +31,12 @@ empty w n c d = let e : n ≡ n + 0 = omega arith in subst (λ m. Reaches w 0 (a
 
 pub joined : (w : World) (n m : ℕ) (s t u : Configuration) → Reaches w n s t → Reaches w m t u → Reaches w (n + m) s u
 joined w n m s t u a b = record { steps = a.steps + b.steps; within = omega (arith, a.within, b.within); run = steps_on w a.steps b.steps s t u a.run b.run }
+
+-- one block's run, and then the next one's
+pub followed : (w : World) (a b : List Inst) (n p q : ℕ) (c : Contents) (d : Behind) (c' : Contents) (d' : Behind) (c'' : Contents) (d'' : Behind) → Reaches w p (at_with n c d) (at_with (n + length a) c' d') → Reaches w q (at_with (n + length a) c' d') (at_with (n + length a + length b) c'' d'') → Reaches w (p + q) (at_with n c d) (at_with (n + length (a ++ b)) c'' d'')
+followed w a b n p q c d c' d' c'' d'' x y =
+    let e : n + length a + length b ≡ n + length (a ++ b) = omega (arith, length-append a b) in
+    subst (λ m. Reaches w (p + q) (at_with n c d) (at_with m c'' d'')) e (joined w p q _ _ _ x y)
 
 pub later : (w : World) (n m : ℕ) (s t : Configuration) → n ≤ m → Reaches w n s t → Reaches w m s t
 later w n m s t le a = record { steps = a.steps; within = omega (arith, a.within); run = a.run }
@@ -74,4 +80,4 @@ module _ (w : World) (code : ℕ → Option Inst) (within : IsPart code w.code) 
   reaches_wider n s t r = record { steps = r.steps; within = r.within; run = wider r.steps s t r.run }
 
 pub runs_compose : RunsCompose
-runs_compose = record { none = none; empty = empty; one = one; joined = joined; later = later; front = code_front; back = code_back; wider = reaches_wider; part_sound = part_sound; settles = idle_settle }
+runs_compose = record { none = none; empty = empty; one = one; joined = joined; followed = followed; later = later; front = code_front; back = code_back; wider = reaches_wider; part_sound = part_sound; settles = idle_settle }

@@ -5,12 +5,22 @@
 ghost use Rattle.mips_table.specs.declared.inst.Inst.{Inst};
 ghost use Rattle.std.specs.Prelude.{ℕ, List, ◌<◌, ◌≤◌, ◌+◌, length};
 ghost use Rattle.mips_table.specs.Code.{Contents, Behind, World, Sound};
+ghost use Rattle.masm.specs.Standing.{BlockStands};
 ghost use Rattle.masm.specs.Laws.{RunsCompose, StraightRuns, JumpsLead, WhenRuns, LoopRuns, LoopPays, ReturnRuns, WordsAreEncodings};
+
+use mips_table::runs::code_runs_join;
 
 /// Runs join, a block's parts stand where the block does, and a run of part of the code is a run of all of it.
 pub fn runs_compose()
     ensures { RunsCompose }
 {}
+
+/// A block stands where its instructions do, and a run of it alone stays among them to its end.
+pub fn a_block_stands()
+    ensures { (n : ℕ) (is : List Inst) → BlockStands n is }
+{
+    code_runs_join();
+}
 
 /// Straight code does what is said of its instructions, in a step each.
 pub fn straight_code_runs()
