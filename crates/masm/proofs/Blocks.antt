@@ -7,7 +7,7 @@ use Rattle.mips_table.specs.Device.{Idle}
 use Rattle.mips_table.specs.Code.{Contents, reg, Behind, World, Sound, at_with, settle, Reaches, CodeAt}
 use Rattle.masm.specs.Blocks.{when_code, back_code, loop_code}
 use Rattle.masm.specs.Laws.{WhenRuns, LoopRuns, ReturnRuns}
-use Rattle.masm.proofs.Runs.{joined, later, idle_settle, to_there, code_front, code_back}
+use Rattle.masm.proofs.Runs.{joined, later, idle_settle, settled, to_there, code_front, code_back}
 use Rattle.masm.proofs.Jumps.{led, taken, taken_back, passed}
 
 module _ (w : World) (f : Sound w) where
@@ -19,7 +19,7 @@ module _ (w : World) (f : Sound w) where
         (taken w f _ n (length body) _ c d at.0 refl (eq-eqb (reg c.regs r) 0 z) short)
 
     when_enters : (n : ℕ) (c : Contents) (d : Behind) → CodeAt w n (when_code r body) → d.pending ≡ Idle → reg c.regs r ≢ 0 → Reaches w 1 (at_with n c d) (at_with (n + 1) c d)
-    when_enters n c d at idle z = to_there w 1 _ _ _ (idle_settle (n + 1) c d idle) (passed w f _ n (length body) _ c d at.0 refl (ne_eqb (reg c.regs r) 0 z))
+    when_enters n c d at idle z = settled w 1 (n + 1) _ c d idle (passed w f _ n (length body) _ c d at.0 refl (ne_eqb (reg c.regs r) 0 z))
 
     when_runs : (n m : ℕ) (c : Contents) (d : Behind) (c' : Contents) (d' : Behind) → CodeAt w n (when_code r body) → d.pending ≡ Idle → reg c.regs r ≢ 0 → Reaches w m (at_with (n + 1) c d) (at_with (n + 1 + length body) c' d') → Reaches w (m + 1) (at_with n c d) (at_with (n + length (when_code r body)) c' d')
     when_runs n m c d c' d' at idle z run =
@@ -71,13 +71,13 @@ module _ (w : World) (f : Sound w) where
 
     loop_turns : (n p q : ℕ) (c : Contents) (d : Behind) (c' : Contents) (d' : Behind) (c'' : Contents) (d'' : Behind) → CodeAt w n (loop_code test r body) → Reaches w p (at_with n c d) (at_with (n + length test) c' d') → d'.pending ≡ Idle → reg c'.regs r ≢ 0 → Reaches w q (at_with (n + length test + 1) c' d') (at_with (n + length test + 1 + length body) c'' d'') → d''.pending ≡ Idle → Reaches w (p + q + 2) (at_with n c d) (at_with n c'' d'')
     loop_turns n p q c d c' d' c'' d'' at tested idle z ran idle' =
-        let enter = to_there w 1 _ _ _ (idle_settle (n + length test + 1) c' d' idle) (loop_enters n c' d' at z) in
-        let back = to_there w 1 _ _ _ (idle_settle n c'' d'' idle') (loop_again n c'' d'' at) in
+        let enter = settled w 1 (n + length test + 1) _ c' d' idle (loop_enters n c' d' at z) in
+        let back = settled w 1 n _ c'' d'' idle' (loop_again n c'' d'' at) in
         later w (p + (1 + (q + 1))) (p + q + 2) _ _ (omega arith) (joined w p (1 + (q + 1)) _ _ _ tested (joined w 1 (q + 1) _ _ _ enter (joined w q 1 _ _ _ ran back)))
 
     loop_ends : (n p : ℕ) (c : Contents) (d : Behind) (c' : Contents) (d' : Behind) → CodeAt w n (loop_code test r body) → Reaches w p (at_with n c d) (at_with (n + length test) c' d') → d'.pending ≡ Idle → reg c'.regs r ≡ 0 → Reaches w (p + 1) (at_with n c d) (at_with (n + length (loop_code test r body)) c' d')
     loop_ends n p c d c' d' at tested idle z =
-        joined w p 1 _ _ _ tested (to_there w 1 _ _ _ (idle_settle (n + length (loop_code test r body)) c' d' idle) (loop_leaves n c' d' at z))
+        joined w p 1 _ _ _ tested (settled w 1 (n + length (loop_code test r body)) _ c' d' idle (loop_leaves n c' d' at z))
 
     pub loop_laws : LoopRuns w test r body
     loop_laws = record { test_stands = loop_test; body_stands = loop_body; leaves = loop_leaves; enters = loop_enters; again = loop_again; turns = loop_turns; ends = loop_ends }
@@ -85,4 +85,4 @@ module _ (w : World) (f : Sound w) where
   pub returning : (body : List Inst) → ReturnRuns w body
   returning body n m to c d c' d' at run r idle =
       let back = code_back w n body (Jr 31 ∷ []) at in
-      joined w m 1 _ _ _ run (to_there w 1 _ _ _ (idle_settle to c' d' idle) (led w f (Jr 31) (n + length body) to 0 0 c' d' back.0 (ap (Set 0 0) r)))
+      joined w m 1 _ _ _ run (settled w 1 to _ c' d' idle (led w f (Jr 31) (n + length body) to 0 0 c' d' back.0 (ap (Set 0 0) r)))

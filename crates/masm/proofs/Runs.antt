@@ -55,6 +55,9 @@ idle_settle n c d h = ap (λ p. settling p n c d) h
 pub to_there : (w : World) (n : ℕ) (s t u : Configuration) → t ≡ u → Reaches w n s t → Reaches w n s u
 to_there w n s t u e r = subst (λ x. Reaches w n s x) e r
 
+pub settled : (w : World) (n m : ℕ) (s : Configuration) (c : Contents) (d : Behind) → d.pending ≡ Idle → Reaches w n s (settle m c d) → Reaches w n s (at_with m c d)
+settled w n m s c d idle r = to_there w n s _ _ (idle_settle m c d idle) r
+
 module _ (w : World) (code : ℕ → Option Inst) (within : IsPart code w.code) where
   -- its code is sound too
   pub part_sound : Sound w → Sound (with_code w code)
@@ -80,4 +83,4 @@ module _ (w : World) (code : ℕ → Option Inst) (within : IsPart code w.code) 
   reaches_wider n s t r = record { steps = r.steps; within = r.within; run = wider r.steps s t r.run }
 
 pub runs_compose : RunsCompose
-runs_compose = record { none = none; empty = empty; one = one; joined = joined; followed = followed; later = later; front = code_front; back = code_back; wider = reaches_wider; part_sound = part_sound; settles = idle_settle }
+runs_compose = record { none = none; empty = empty; one = one; joined = joined; followed = followed; later = later; front = code_front; back = code_back; wider = reaches_wider; part_sound = part_sound; settled = settled; settles = idle_settle }

@@ -13,7 +13,7 @@ use Rattle.mips_table.specs.Machine.{LOG, LEFT, INPUT, LOG_ROOM}
 use Rattle.mips_table.specs.Code.{put, reg, Contents, with_reg, with_wide, Behind, World, Sound, at_with, settle, word_loaded, port_loaded, after_load, after_store, logged, commanded, privileged, acted, EffectMay, PrivilegedMay, effect_at, act, Reaches, CodeAt}
 use Rattle.masm.specs.Says.{Says, Gives, Widens, Reads, Writes, ReadsDisk, WritesDisk, Hears, Takes, Logs, Asks, is_disk_word, DiskWord, Said, written, said, told, goes_on, straight, AllSaid, sayings, tellings}
 use Rattle.masm.specs.Laws.{StraightRuns}
-use Rattle.masm.proofs.Runs.{none, joined, later, step_to, idle_settle, to_there}
+use Rattle.masm.proofs.Runs.{none, joined, later, step_to, settled, to_there}
 
 abbrev On : ℕ → Effect → Type 0
 On n (Set r u to) = to ≡ next (4 * n)
@@ -200,13 +200,16 @@ module _ (w : World) (f : Sound w) where
   still d (Logs v) e = cond_both (nat_lt (length d.log) LOG_ROOM) _ d (λ b. b.pending ≡ Idle) (λ t. e) (λ t. e)
   still d Asks e = e
 
+  pub next_step : (i : Inst) (h : Says) (n : ℕ) (c : Contents) (d : Behind) → w.code n ≡ Some i → goes_on i ≡ true → d.pending ≡ Idle → Said w i c d (effect_at i n c) h → Reaches w 1 (at_with n c d) (at_with (n + 1) (said i c (effect_at i n c) h) (told d h))
+  next_step i h n c d at g idle s = settled w 1 (n + 1) _ (said i c (effect_at i n c) h) (told d h) (still d h idle) (said_step i h n c d at g s)
+
   pub straight_runs : (is : List Inst) (hs : List Says) (n : ℕ) (c : Contents) (d : Behind) → CodeAt w n is → straight is ≡ true → d.pending ≡ Idle → AllSaid w n is hs c d → Reaches w (length is) (at_with n c d) (at_with (n + length is) (sayings n is hs c) (tellings hs d))
   straight_runs [] [] n c d at g idle s = let e : n ≡ n + 0 = omega arith in to_there w 0 _ _ _ (ap (λ m. at_with m c d) e) (none w (at_with n c d))
   straight_runs (i ∷ is) (h ∷ hs) n c d at g idle s =
       let b = and_parts (goes_on i) (straight is) g in
       let e : n + 1 + length is ≡ n + length (i ∷ is) = omega arith in
       let idle' = still d h idle in
-      let first = to_there w 1 _ _ _ (idle_settle (n + 1) (said i c (effect_at i n c) h) (told d h) idle') (said_step i h n c d at.0 b.0 s.0) in
+      let first = next_step i h n c d at.0 b.0 idle s.0 in
       let rest = straight_runs is hs (n + 1) (said i c (effect_at i n c) h) (told d h) at.1 b.1 idle' s.1 in
       let end = ap (λ m. at_with m (sayings (n + 1) is hs (said i c (effect_at i n c) h)) (tellings hs (told d h))) e in
       later w (1 + length is) _ _ _ (omega arith) (joined w 1 (length is) _ _ _ first (to_there w (length is) _ _ _ end rest))
@@ -225,4 +228,4 @@ module _ (w : World) (f : Sound w) where
               ∙ cond-false (is_busy d.pending) (settle (n + 1) c d) _ (not_busy d.pending idle))
 
   pub straight_code : StraightRuns w
-  straight_code = record { one = λ i h. said_step i h; all = straight_runs; division = division w; by_zero = by_zero w; command = commands }
+  straight_code = record { one = said_step; next = next_step; all = straight_runs; division = division w; by_zero = by_zero w; command = commands }

@@ -32,12 +32,15 @@ pub record RunsCompose : Type 0 where
   pub back : (w : World) (n : ℕ) (a b : List Inst) → CodeAt w n (a ++ b) → CodeAt w (n + length a) b
   pub wider : (w : World) (code : ℕ → Option Inst) → IsPart code w.code → (n : ℕ) (s t : Configuration) → Reaches (with_code w code) n s t → Reaches w n s t
   pub part_sound : (w : World) (code : ℕ → Option Inst) → IsPart code w.code → Sound w → Sound (with_code w code)
+  pub settled : (w : World) (n m : ℕ) (s : Configuration) (c : Contents) (d : Behind) → d.pending ≡ Idle → Reaches w n s (settle m c d) → Reaches w n s (at_with m c d)
   pub settles : (n : ℕ) (c : Contents) (d : Behind) → d.pending ≡ Idle → settle n c d ≡ at_with n c d
 
--- Straight code does what is said of its instructions: one of them, also while a command is under way, and all of a list while
+-- Straight code does what is said of its instructions: one of them, also while a command is under way, the next while
+-- none is, and all of a list while
 -- none is. A division by other than 0 is said by its remainder and quotient, and one by 0 leaves hi and lo.
 pub record StraightRuns (w : World) : Type 0 where
   pub one : (i : Inst) (h : Says) (n : ℕ) (c : Contents) (d : Behind) → w.code n ≡ Some i → goes_on i ≡ true → Said w i c d (effect_at i n c) h → Reaches w 1 (at_with n c d) (settle (n + 1) (said i c (effect_at i n c) h) (told d h))
+  pub next : (i : Inst) (h : Says) (n : ℕ) (c : Contents) (d : Behind) → w.code n ≡ Some i → goes_on i ≡ true → d.pending ≡ Idle → Said w i c d (effect_at i n c) h → Reaches w 1 (at_with n c d) (at_with (n + 1) (said i c (effect_at i n c) h) (told d h))
   pub all : (is : List Inst) (hs : List Says) (n : ℕ) (c : Contents) (d : Behind) → CodeAt w n is → straight is ≡ true → d.pending ≡ Idle → AllSaid w n is hs c d → Reaches w (length is) (at_with n c d) (at_with (n + length is) (sayings n is hs c) (tellings hs d))
   pub division : (i : Inst) (c : Contents) (d : Behind) (a b pc hi lo : ℕ) → b ≢ 0 → Said w i c d (divided a b pc hi lo) (Widens (signed_remainder a b) (signed_quotient a b))
   pub by_zero : (i : Inst) (c : Contents) (d : Behind) (a b pc hi lo : ℕ) → b ≡ 0 → Said w i c d (divided a b pc hi lo) (Widens hi lo)
