@@ -1,12 +1,14 @@
 -- A body under a condition, a loop and a routine.
-use Rattle.std.proofs.Common.{◌≡◌, ◌≢◌, ℕ, ◌+◌, ◌-◌, ◌*◌, ◌<◌, ◌≤◌, List, [], ◌∷◌, ◌++◌, length, refl, ap, ◌∙◌, arith, eq-eqb, ne_eqb, length-append}
+use Rattle.std.proofs.Common.{◌≡◌, ◌≢◌, ℕ, ◌+◌, ◌<◌, ◌≤◌, List, [], ◌∷◌, ◌++◌, length, refl, ap, ◌∙◌, arith, eq-eqb, ne_eqb, length-append}
 use Rattle.mips_table.specs.declared.inst.Inst.{Inst}
 use Rattle.mips_table.specs.declared.inst.Inst.TheVariants.{Beq, Jr}
 use Rattle.mips_table.specs.declared.effect.Effect.TheVariants.{Set}
+use Rattle.std.proofs.lemmas.List.Elements.{All-append, All-cons, All-nil}
+use Rattle.mips_table.specs.Encoding.{InRange}
 use Rattle.mips_table.specs.Device.{Idle}
 use Rattle.mips_table.specs.Code.{Contents, reg, Behind, World, Sound, at_with, settle, Reaches, CodeAt}
 use Rattle.masm.specs.Blocks.{when_code, back_code, loop_code}
-use Rattle.masm.specs.Laws.{WhenRuns, LoopRuns, ReturnRuns}
+use Rattle.masm.specs.Laws.{BlocksInRange, WhenRuns, LoopRuns, ReturnRuns}
 use Rattle.masm.proofs.Runs.{joined, later, idle_settle, settled, to_there, code_front, code_back}
 use Rattle.masm.proofs.Jumps.{led, taken, taken_back, passed}
 
@@ -86,3 +88,13 @@ module _ (w : World) (f : Sound w) where
   returning body n m to c d c' d' at run r idle =
       let back = code_back w n body (Jr 31 ∷ []) at in
       joined w m 1 _ _ _ run (settled w 1 to _ c' d' idle (led w f (Jr 31) (n + length body) to 0 0 c' d' back.0 (ap (Set 0 0) r)))
+
+pub in_range : BlocksInRange
+in_range = record {
+  joined = All-append InRange;
+  when = λ r body lt short all. All-cons InRange (Beq r 0 (length body)) body (lt, omega arith, omega (arith, short)) all;
+  loop = λ test r body lt short ta ba.
+      let back : InRange (back_code (length test + length body)) = (omega arith, omega arith, omega arith) in
+      let behind = All-append InRange body (back_code (length test + length body) ∷ []) ba (All-cons InRange (back_code (length test + length body)) [] back (All-nil InRange)) in
+      All-append InRange test _ ta (All-cons InRange (Beq r 0 (length body + 1)) (body ++ back_code (length test + length body) ∷ []) (lt, omega arith, omega (arith, short)) behind);
+}

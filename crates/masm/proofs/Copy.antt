@@ -1,11 +1,11 @@
 -- The loop that copies words, by the laws of straight code and of loops alone.
-use Rattle.std.proofs.Common.{◌≡◌, ◌≢◌, ℕ, zero, suc, ◌+◌, ◌-◌, ◌*◌, ◌/◌, ◌%◌, ◌<◌, ◌≤◌, ◌⊎◌, List, [], ◌∷◌, length, refl, sym, ap, ◌∙◌, subst, ⊎_elim, inl, inr, arith, eq-eqb, ne_eqb}
+use Rattle.std.proofs.Common.{◌≡◌, ◌≢◌, ℕ, suc, ◌+◌, ◌-◌, ◌*◌, ◌<◌, List, [], ◌∷◌, refl, sym, ap, ◌∙◌, subst, ⊎_elim, inl, inr, arith, eq-eqb, ne_eqb}
 use Rattle.std.proofs.lemmas.Bool.{cases_eq, cond-true, cond-false}
 use Rattle.mips_table.specs.Device.{Idle}
-use Rattle.mips_table.specs.Code.{put, Contents, reg, Behind, World, Sound, at_with, Reaches, CodeAt, Does}
+use Rattle.mips_table.specs.Code.{put, Contents, reg, Behind, World, Sound, Does}
 use Rattle.masm.specs.Says.{Says, Gives, Reads, Writes, sayings}
 use Rattle.masm.specs.Laws.{RunsCompose, StraightRuns, LoopPays, Pays}
-use Rattle.masm.specs.Copy.{copy_turn, copy_code, MayCopy, IsCopied, CopyRuns, Copying, onward, MidCopy, CopyEnds}
+use Rattle.masm.specs.Copy.{copy_turn, MayCopy, IsCopied, CopyRuns, Copying, onward, MidCopy, CopyEnds}
 
 put_same : (m : ℕ → ℕ) (a v k : ℕ) → k ≡ a → put m a v k ≡ v
 put_same m a v k e = cond-true _ v (m k) (eq-eqb k a e)
@@ -48,8 +48,7 @@ module _ (w : World) (f : Sound w) (straight : StraightRuns w) where
         let lt : a.made < a.n = omega (arith, left) in
         let idle : d.pending ≡ Idle = ap (λ d. d.pending) m.same ∙ m.may.idle in
         let run = straight.all copy_turn (turn_says a c) k c d at refl idle
-        ((omega arith, omega arith, refl), ((omega arith, omega arith, m.may.free a.made lt, refl), (omega arith, (omega arith, (omega arith, tt))))) in
-        (
+        ((omega arith, omega arith, refl), ((omega arith, omega arith, m.may.free a.made lt, refl), (omega arith, (omega arith, (omega arith, tt))))) in (
           sayings k copy_turn (turn_says a c) c,
           d,
           record { may = m.may; most = lt; source = refl; target = refl; count = refl; done = one_more a c d m lt; same = m.same },

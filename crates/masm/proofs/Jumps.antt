@@ -1,5 +1,5 @@
 -- Where branches and jumps lead.
-use Rattle.std.proofs.Common.{◌≡◌, ℕ, ◌+◌, ◌-◌, ◌*◌, ◌/◌, ◌%◌, ◌^◌, ◌<◌, ◌≤◌, Some, Bool, true, false, nat_lt, refl, sym, ap, ◌∙◌, subst, arith, lt-ltb, le-ltb}
+use Rattle.std.proofs.Common.{◌≡◌, ℕ, ◌+◌, ◌-◌, ◌*◌, ◌/◌, ◌%◌, ◌^◌, ◌<◌, ◌≤◌, Some, Bool, true, false, nat_lt, sym, ap, ◌∙◌, subst, arith, lt-ltb, le-ltb}
 use Rattle.std.proofs.lemmas.Bool.{cond-true, cond-false}
 use Rattle.mips_table.specs.declared.inst.Inst.{Inst}
 use Rattle.mips_table.specs.declared.effect.Effect.TheVariants.{Set}
@@ -17,7 +17,7 @@ module _ (w : World) (f : Sound w) where
       let may : EffectMay w i (Set r v (4 * to)) = omega arith in
       let there : 4 * to / 4 ≡ to = omega arith in
       step_to w (at_with k c d) _ i at (subst (λ y. EffectMay w i y) (sym e) may)
-          (ap (λ y. acted w i k c d y) e ∙ ap (λ m. settle m (with_reg c r v) d) there)
+      (ap (λ y. acted w i k c d y) e ∙ ap (λ m. settle m (with_reg c r v) d) there)
 
   forward : (k imm : ℕ) → k < w.words → imm < 32768 → (4 * k + 4 + 4 * extended imm) % 2 ^ 32 ≡ 4 * (k + 1 + imm)
   forward k imm lt le =

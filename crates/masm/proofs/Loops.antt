@@ -1,7 +1,6 @@
 -- Loops that pay for their turns, by induction on what they may still spend.
-use Rattle.std.proofs.Common.{◌≡◌, ◌≢◌, ℕ, zero, suc, ◌+◌, ◌≤◌, List, length, refl, ⊎_elim, arith}
+use Rattle.std.proofs.Common.{ℕ, zero, suc, ◌+◌, ◌≤◌, length, ⊎_elim, arith}
 use Rattle.std.proofs.lemmas.Bool.{cases_eq}
-use Rattle.mips_table.specs.declared.inst.Inst.{Inst}
 use Rattle.mips_table.specs.Code.{Contents, reg, Behind, World, Sound, at_with, Reaches, CodeAt}
 use Rattle.masm.specs.Blocks.{loop_code}
 use Rattle.masm.specs.Laws.{LoopRuns, LoopPays}

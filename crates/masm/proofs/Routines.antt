@@ -1,7 +1,7 @@
 -- The forms in which routines are proved, over conditions on states: blocks in sequence, under a condition and in loops, from each
 -- state of a condition (Does) or from one state (From). They follow from the laws that this crate's contracts state, and stand here as no
 -- contract can speak of every condition.
-use Rattle.std.proofs.Common.{◌≡◌, ◌≢◌, ℕ, ◌+◌, ◌*◌, ◌<◌, ◌≤◌, true, List, [], ◌∷◌, ◌++◌, length, length-append, refl, sym, ap, ◌∙◌, subst, ⊎_elim, arith}
+use Rattle.std.proofs.Common.{◌≡◌, ◌≢◌, ℕ, ◌+◌, ◌*◌, ◌<◌, ◌≤◌, true, List, [], ◌∷◌, ◌++◌, length, refl, sym, ap, ◌∙◌, subst, ⊎_elim, arith}
 use Rattle.std.proofs.lemmas.Bool.{cases_eq}
 use Rattle.mips_table.specs.declared.inst.Inst.{Inst}
 use Rattle.mips_table.specs.declared.inst.Inst.TheVariants.{Jr}
@@ -9,7 +9,7 @@ use Rattle.mips_table.specs.Device.{Idle}
 use Rattle.mips_table.specs.Code.{Contents, reg, Behind, World, Sound, Configuration, at_with, Reaches, CodeAt, Does, Goes}
 use Rattle.masm.specs.Says.{Says, straight, AllSaid, sayings, tellings}
 use Rattle.masm.specs.Blocks.{when_code, loop_code}
-use Rattle.masm.specs.Laws.{WhenRuns, Pays, From}
+use Rattle.masm.specs.Laws.{WhenRuns, From}
 use Rattle.masm.proofs.Runs.{empty, joined, followed, later, code_front, code_back}
 use Rattle.masm.proofs.Straight.{straight_runs}
 use Rattle.masm.proofs.Blocks.{when_laws, returning}

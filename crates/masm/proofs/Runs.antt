@@ -2,7 +2,7 @@
 use Rattle.std.proofs.Common.{◌≡◌, ℕ, zero, suc, ◌+◌, ◌≤◌, Option, Some, None, List, [], ◌∷◌, ◌++◌, length, length-append, refl, sym, ap, ◌∙◌, subst, arith}
 use Rattle.mips_table.specs.declared.inst.Inst.{Inst}
 use Rattle.mips_table.specs.Device.{Idle}
-use Rattle.mips_table.specs.Code.{Contents, Behind, World, Sound, Configuration, at_with, settling, settle, act, May, MayAt, act_at, code_run, MayRun, Steps, Reaches, CodeAt}
+use Rattle.mips_table.specs.Code.{Contents, Behind, World, Sound, Configuration, at_with, settling, settle, act, May, MayAt, act_at, Steps, Reaches, CodeAt}
 use Rattle.masm.specs.Laws.{IsPart, with_code, RunsCompose}
 
 pub code_front : (w : World) (n : ℕ) (a b : List Inst) → CodeAt w n (a ++ b) → CodeAt w n a

@@ -2,9 +2,15 @@
 use Rattle.std.proofs.Common.{◌≡◌, ℕ, ◌+◌, ◌<◌, ◌≤◌, Option, Some, None, nat_eq, List, [], ◌∷◌, length, refl, sym, ap, ◌∙◌, subst, ⊎_elim, arith, eq-eqb, ne_eqb}
 use Rattle.std.proofs.lemmas.Bool.{cond-true, cond-false, cases_eq}
 use Rattle.mips_table.specs.declared.inst.Inst.{Inst}
-use Rattle.mips_table.specs.Code.{World, Configuration, MayAt, code_run, Steps, CodeAt, RunLaws}
+use Rattle.std.specs.Prelude.{All}
+use Rattle.std.proofs.lemmas.List.Elements.{All-head, All-tail}
+use Rattle.mips_table.specs.Encoding.{InRange}
+use Rattle.mips_table.specs.Code.{World, Configuration, MayAt, code_run, CodeAt, RunLaws}
 use Rattle.masm.specs.Laws.{IsPart, with_code}
 use Rattle.masm.specs.Standing.{placed, alone, BlockStands}
+
+some_is : (i j : Inst) → Some i ≡ Some j → i ≡ j
+some_is i j e = ap (λ o. elim o as (λ o. Inst) [ None ↦ i | Some x ↦ x ]) e
 
 first : (n : ℕ) (i : Inst) (is : List Inst) (k : ℕ) → k ≡ n → placed n (i ∷ is) k ≡ Some i
 first n i is k e = cond-true (nat_eq k n) (Some i) (placed (n + 1) is k) (eq-eqb k n e)
@@ -17,6 +23,13 @@ inside n [] k j e = absurd (cc)
 inside n (i ∷ is) k j e = ⊎_elim
     (λ z. (omega arith, omega arith))
     (λ ne. let r = inside (n + 1) is k j (sym (others n i is k ne) ∙ e) in let a = r.0 in let b = r.1 in (omega arith, omega arith))
+    (cases_eq k n)
+
+range : (n : ℕ) (is : List Inst) → All InRange is → (k : ℕ) (j : Inst) → placed n is k ≡ Some j → InRange j
+range n [] a k j e = absurd (cc)
+range n (i ∷ is) a k j e = ⊎_elim
+    (λ z. subst InRange (some_is i j (sym (first n i is k z) ∙ e)) (All-head InRange i is a))
+    (λ ne. range (n + 1) is (All-tail InRange i is a) k j (sym (others n i is k ne) ∙ e))
     (cases_eq k n)
 
 part : (n : ℕ) (is : List Inst) (w : World) → CodeAt w n is → IsPart (placed n is) w.code
@@ -44,5 +57,6 @@ block_stands runs n is = record {
   part = part n is;
   stands = stands n is;
   inside = inside n is;
+  range = range n is;
   stays = λ w m j s t h lt. among w n is (code_run (alone w n is) s j) (placed n is (code_run (alone w n is) s j).at) refl (runs.each (alone w n is) m j s t h lt);
 }

@@ -1,6 +1,6 @@
 -- A straight block does what is said of its instructions: one step lemma, over the effect.
 use Rattle.std.proofs.Common.{◌≡◌, ◌≢◌, ℕ, ◌+◌, ◌*◌, ◌/◌, ◌%◌, ◌<◌, ◌≤◌, Some, Bool, true, false, cond, nat_lt, nat_eq, List, [], ◌∷◌, length, refl, sym, ap, ap₂, ◌∙◌, subst, ⊎_elim, arith, lt-ltb, le-ltb, ne_eqb, eq-eqb}
-use Rattle.std.specs.Prelude.{◌&&◌, ◌||◌, not, None, slice_index}
+use Rattle.std.specs.Prelude.{◌||◌, not, None, slice_index}
 use Rattle.std.proofs.lemmas.Bool.{cond-true, cond-false, and_parts, cond_both, and_right, or_cases, not-true, ltb-true, ltb-false, eqb-true}
 use Rattle.mips_table.specs.declared.inst.Inst.{Inst}
 use Rattle.mips_table.specs.declared.inst.Inst.TheVariants.{Sll, Srl, Sra, Sllv, Srlv, Srav, Addu, Subu, And, Or, Xor, Nor, Slt, Sltu, Addiu, Slti, Sltiu, Andi, Ori, Xori, Lui, Lw, Sw, Mult, Multu, Div, Divu, Mfhi, Mthi, Mflo, Mtlo, Mfc0, Mtc0}
@@ -8,10 +8,10 @@ use Rattle.mips_table.specs.declared.effect.Effect.{Effect}
 use Rattle.mips_table.specs.declared.effect.Effect.TheVariants.{Set, Wide, Load, Store, System}
 use Rattle.mips_table.specs.Arith.{signed_quotient, signed_remainder}
 use Rattle.mips_table.specs.Effect.{next, divided}
-use Rattle.mips_table.specs.Device.{Pending, Idle, BUFFER, SECTOR, COMMAND, POWER, is_buffer, is_busy}
+use Rattle.mips_table.specs.Device.{Pending, Idle, BUFFER, SECTOR, COMMAND, is_buffer, is_busy}
 use Rattle.mips_table.specs.Machine.{LOG, LEFT, INPUT, LOG_ROOM}
-use Rattle.mips_table.specs.Code.{put, reg, Contents, with_reg, with_wide, Behind, World, Sound, at_with, settle, word_loaded, port_loaded, after_load, after_store, logged, commanded, privileged, acted, EffectMay, PrivilegedMay, effect_at, act, Reaches, CodeAt}
-use Rattle.masm.specs.Says.{Says, Gives, Widens, Reads, Writes, ReadsDisk, WritesDisk, Hears, Takes, Logs, Asks, is_disk_word, DiskWord, Said, written, said, told, goes_on, straight, AllSaid, sayings, tellings}
+use Rattle.mips_table.specs.Code.{put, reg, Contents, with_reg, with_wide, Behind, World, Sound, at_with, settle, word_loaded, after_load, after_store, logged, commanded, acted, EffectMay, effect_at, act, Reaches, CodeAt}
+use Rattle.masm.specs.Says.{Says, Gives, Widens, Reads, Writes, ReadsDisk, WritesDisk, Hears, Takes, Logs, Asks, is_disk_word, DiskWord, Said, said, told, goes_on, straight, AllSaid, sayings, tellings}
 use Rattle.masm.specs.Laws.{StraightRuns}
 use Rattle.masm.proofs.Runs.{none, joined, later, step_to, settled, to_there}
 
@@ -91,11 +91,11 @@ module _ (w : World) (f : Sound w) where
       let small = f.small in
       let at = disk_bounds x h.0 in let low = at.0 in let high = at.1 in
       cond-false _ (c.memory x) _ (le-ltb x w.words (omega arith))
-          ∙ cond-false _ (length d.log) _ (ne_eqb x LOG (λ e. absurd (omega arith)))
-          ∙ cond-false _ (length d.input) _ (ne_eqb x LEFT (λ e. absurd (omega arith)))
-          ∙ cond-false _ (slice_index d.input 0) _ (ne_eqb x INPUT (λ e. absurd (omega arith)))
-          ∙ cond-false _ (cond (is_busy d.pending) 1 0) _ (ne_eqb x COMMAND (λ e. absurd (omega arith)))
-          ∙ cond-false _ 0 _ (and_right (is_buffer x) (is_busy d.pending) (not_busy d.pending h.2))
+      ∙ cond-false _ (length d.log) _ (ne_eqb x LOG (λ e. absurd (omega arith)))
+      ∙ cond-false _ (length d.input) _ (ne_eqb x LEFT (λ e. absurd (omega arith)))
+      ∙ cond-false _ (slice_index d.input 0) _ (ne_eqb x INPUT (λ e. absurd (omega arith)))
+      ∙ cond-false _ (cond (is_busy d.pending) 1 0) _ (ne_eqb x COMMAND (λ e. absurd (omega arith)))
+      ∙ cond-false _ 0 _ (and_right (is_buffer x) (is_busy d.pending) (not_busy d.pending h.2))
 
   disk_leaves : (d : Behind) (x : ℕ) → is_disk_word x ≡ true → after_load w d x ≡ d
   disk_leaves d x h =
@@ -110,10 +110,10 @@ module _ (w : World) (f : Sound w) where
       let at = disk_bounds x h.0 in let low = at.0 in let high = at.1 in
       let wrote = settle n (record c { memory = put c.memory x v }) d in
       cond-false _ wrote _ (le-ltb x w.words (omega arith))
-          ∙ cond-false _ (settle n c (logged d v)) _ (ne_eqb x LOG (λ e. absurd (omega arith)))
-          ∙ cond-false _ (settle n c d) _ (not_busy d.pending h.2)
-          ∙ cond-false _ (settle n c (commanded w d (c.memory SECTOR) v)) _ (ne_eqb x COMMAND (λ e. absurd (omega arith)))
-          ∙ either (is_buffer x) (nat_eq x SECTOR) wrote (settle n c d) h.0
+      ∙ cond-false _ (settle n c (logged d v)) _ (ne_eqb x LOG (λ e. absurd (omega arith)))
+      ∙ cond-false _ (settle n c d) _ (not_busy d.pending h.2)
+      ∙ cond-false _ (settle n c (commanded w d (c.memory SECTOR) v)) _ (ne_eqb x COMMAND (λ e. absurd (omega arith)))
+      ∙ either (is_buffer x) (nat_eq x SECTOR) wrote (settle n c d) h.0
 
   -- the one step lemma, over the effect
   acts : (i : Inst) (n : ℕ) (c : Contents) (d : Behind) (e : Effect) (h : Says) → n < w.words → On n e → Said w i c d e h → EffectMay w i e × (acted w i n c d e ≡ settle (n + 1) (said i c e h) (told d h))
@@ -129,8 +129,7 @@ module _ (w : World) (f : Sound w) where
       let small = f.small in let inside = s.1 in
       let at : a / 4 ≡ x = ap (λ t. t / 4) s.0 ∙ omega arith in
       let value : word_loaded w c d x ≡ v = cond-true (nat_lt x w.words) (c.memory x) _ (lt-ltb x w.words s.1) ∙ s.2 in
-      let left : after_load w d x ≡ d = cond-true (nat_lt x w.words) d _ (lt-ltb x w.words s.1) in
-      (
+      let left : after_load w d x ≡ d = cond-true (nat_lt x w.words) d _ (lt-ltb x w.words s.1) in (
         (ap (λ t. t % 4) s.0 ∙ omega arith, λ le. absurd (omega arith)),
         ap₂ (λ y z. settle (n + 1) (with_reg c r y) z) (ap (word_loaded w c d) at ∙ value) (ap (after_load w d) at ∙ left),
       )
@@ -142,8 +141,7 @@ module _ (w : World) (f : Sound w) where
       )
   acts i n c d (Load r a) (ReadsDisk x v) lt o s =
       let b = disk_bounds x s.1.0 in let low = b.0 in let high = b.1 in
-      let at : a / 4 ≡ x = ap (λ t. t / 4) s.0 ∙ omega arith in
-      (
+      let at : a / 4 ≡ x = ap (λ t. t / 4) s.0 ∙ omega arith in (
         (ap (λ t. t % 4) s.0 ∙ omega arith, λ le. s.1.1),
         ap₂ (λ y z. settle (n + 1) (with_reg c r y) z) (ap (word_loaded w c d) at ∙ disk_loads c d x s.1 ∙ s.2) (ap (after_load w d) at ∙ disk_leaves d x s.1.0),
       )
@@ -156,8 +154,7 @@ module _ (w : World) (f : Sound w) where
   acts i n c d (Load r a) (Hears x v) lt o s =
       let at : a / 4 ≡ x = ap (λ t. t / 4) s.0 ∙ omega arith in
       let value : word_loaded w c d x ≡ v = cond-false (nat_lt x w.words) (c.memory x) _ (le-ltb x w.words s.1) ∙ s.4 in
-      let left : after_load w d x ≡ d = cond-false (nat_lt x w.words) d _ (le-ltb x w.words s.1) ∙ cond-false _ _ d (ne_eqb x INPUT s.3) in
-      (
+      let left : after_load w d x ≡ d = cond-false (nat_lt x w.words) d _ (le-ltb x w.words s.1) ∙ cond-false _ _ d (ne_eqb x INPUT s.3) in (
         (ap (λ t. t % 4) s.0 ∙ omega arith, λ le. s.2),
         ap₂ (λ y z. settle (n + 1) (with_reg c r y) z) (ap (word_loaded w c d) at ∙ value) (ap (after_load w d) at ∙ left),
       )
@@ -166,8 +163,7 @@ module _ (w : World) (f : Sound w) where
       let at : a / 4 ≡ INPUT = ap (λ t. t / 4) s.0 in
       let above : nat_lt INPUT w.words ≡ false = le-ltb INPUT w.words (omega arith) in
       let value : word_loaded w c d INPUT ≡ v = cond-false (nat_lt INPUT w.words) (c.memory INPUT) _ above ∙ s.2 in
-      let left : after_load w d INPUT ≡ told d (Takes v) = cond-false (nat_lt INPUT w.words) d _ above in
-      (
+      let left : after_load w d INPUT ≡ told d (Takes v) = cond-false (nat_lt INPUT w.words) d _ above in (
         (ap (λ t. t % 4) s.0, λ le. s.1),
         ap₂ (λ y z. settle (n + 1) (with_reg c r y) z) (ap (word_loaded w c d) at ∙ value) (ap (after_load w d) at ∙ left),
       )
@@ -223,9 +219,9 @@ module _ (w : World) (f : Sound w) where
       let small = f.small in
       let may : EffectMay w i (Store (4 * COMMAND) v) = (refl, (λ le. system), free, λ p. absurd (omega (arith, p))) in
       step_to w (at_with n c d) _ i at (subst (λ y. EffectMay w i y) (sym e) may)
-          (ap (λ y. acted w i n c d y) e
-              ∙ cond-false (nat_lt COMMAND w.words) (settle (n + 1) (record c { memory = put c.memory COMMAND v }) d) _ (le-ltb COMMAND w.words (omega arith))
-              ∙ cond-false (is_busy d.pending) (settle (n + 1) c d) _ (not_busy d.pending idle))
+      (ap (λ y. acted w i n c d y) e
+      ∙ cond-false (nat_lt COMMAND w.words) (settle (n + 1) (record c { memory = put c.memory COMMAND v }) d) _ (le-ltb COMMAND w.words (omega arith))
+      ∙ cond-false (is_busy d.pending) (settle (n + 1) c d) _ (not_busy d.pending idle))
 
   pub straight_code : StraightRuns w
   straight_code = record { one = said_step; next = next_step; all = straight_runs; division = division w; by_zero = by_zero w; command = commands }

@@ -1,12 +1,12 @@
 -- The loop that waits for the disk, by induction on the steps that are left, three at a time.
-use Rattle.std.proofs.Common.{◌≡◌, ◌≢◌, ℕ, zero, suc, ◌+◌, ◌*◌, ◌<◌, ◌≤◌, true, List, [], ◌∷◌, refl, sym, ap, ◌∙◌, subst, arith}
+use Rattle.std.proofs.Common.{◌≡◌, ◌≢◌, ℕ, zero, suc, ◌+◌, ◌≤◌, true, [], ◌∷◌, refl, sym, ap, ◌∙◌, subst, arith}
 use Rattle.std.specs.Prelude.{if◌then◌else◌, ◌==◌}
 use Rattle.std.proofs.lemmas.Bool.{cond-false}
 use Rattle.std.proofs.Common.{ne_eqb}
 use Rattle.mips_table.specs.declared.inst.Inst.TheVariants.{Lw}
 use Rattle.mips_table.specs.Device.{Pending, Idle, Reading, Writing, COMMAND, is_busy}
-use Rattle.mips_table.specs.Code.{put, Contents, with_reg, reg, Behind, World, Sound, at_with, settle, filled, buffer_of, Reaches, CodeAt}
-use Rattle.masm.specs.Says.{Says, Hears}
+use Rattle.mips_table.specs.Code.{put, Contents, with_reg, Behind, World, Sound, at_with, settle, filled, buffer_of, Reaches, CodeAt}
+use Rattle.masm.specs.Says.{Hears}
 use Rattle.masm.specs.Laws.{RunsCompose, StraightRuns, LoopRuns}
 use Rattle.masm.specs.Wait.{wait_code, left, words_after, behind_after, Waited, WaitRuns}
 

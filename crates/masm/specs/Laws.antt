@@ -1,11 +1,11 @@
 -- The laws of blocks, as statements about runs of code from one configuration to another. They hold on the physical machine and on the flat one.
-use Rattle.std.specs.Prelude.{◌≡◌, ◌≢◌, ℕ, ◌+◌, ◌-◌, ◌*◌, ◌^◌, ◌<◌, ◌≤◌, Bool, true, false, List, [], ◌∷◌, ◌++◌, length, map, Option, Some, None}
+use Rattle.std.specs.Prelude.{◌≡◌, ◌≢◌, ℕ, ◌+◌, ◌-◌, ◌*◌, ◌<◌, ◌≤◌, Bool, true, false, List, [], ◌∷◌, ◌++◌, length, map, All, Option, Some, None}
 use Rattle.mips_table.specs.declared.inst.Inst.{Inst}
-use Rattle.mips_table.specs.declared.inst.Inst.TheVariants.{Jr, Sw}
+use Rattle.mips_table.specs.declared.inst.Inst.TheVariants.{Jr}
 use Rattle.mips_table.specs.declared.effect.Effect.TheVariants.{Set, Store}
 use Rattle.mips_table.specs.Arith.{signed_quotient, signed_remainder}
 use Rattle.mips_table.specs.Effect.{branch, divided, jump, next}
-use Rattle.mips_table.specs.Encoding.{encoding}
+use Rattle.mips_table.specs.Encoding.{InRange, encoding}
 use Rattle.mips_table.specs.Device.{Idle, COMMAND, SECTOR}
 use Rattle.mips_table.specs.Code.{Contents, reg, with_reg, Behind, World, Sound, Configuration, at_with, settle, commanded, effect_at, act, May, Reaches, CodeAt, Does}
 use Rattle.masm.specs.Says.{Says, Widens, Said, said, told, goes_on, straight, AllSaid, sayings, tellings}
@@ -97,6 +97,12 @@ pub record Pays (w : World) (test : List Inst) (r : ℕ) (body : List Inst) (Sta
 -- a loop that pays for its turns ends, within what it may spend
 abbrev pub LoopPays : World → (State : Type 0) → (before tested ends : State → Contents → Behind → Type 0) → Type 0
 LoopPays w State before tested ends = (test : List Inst) (r : ℕ) (body : List Inst) → length test + length body + 2 ≤ 32768 → (tests : ℕ) (takes cost : State → ℕ) (next : State → State) → Pays w test r body State before tested ends tests takes cost next → (a : State) → Does w (loop_code test r body) (cost a + tests + 1) (before a) (ends a)
+
+-- blocks of instructions in range have instructions in range
+pub record BlocksInRange : Type 0 where
+  pub joined : (a b : List Inst) → All InRange a → All InRange b → All InRange (a ++ b)
+  pub when : (r : ℕ) (body : List Inst) → r < 32 → length body < 65536 → All InRange body → All InRange (when_code r body)
+  pub loop : (test : List Inst) (r : ℕ) (body : List Inst) → r < 32 → length test + length body + 2 ≤ 32768 → All InRange test → All InRange body → All InRange (loop_code test r body)
 
 -- the words of a block are those of its instructions
 pub record WordsAreEncodings : Type 0 where

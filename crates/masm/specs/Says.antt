@@ -4,7 +4,7 @@ use Rattle.std.specs.Prelude.{◌≡◌, ◌≢◌, ℕ, ◌+◌, ◌*◌, ◌<�
 use Rattle.mips_table.specs.declared.inst.Inst.{Inst}
 use Rattle.mips_table.specs.declared.inst.Inst.TheVariants.{Sll, Srl, Sra, Sllv, Srlv, Srav, Addu, Subu, And, Or, Xor, Nor, Slt, Sltu, Addiu, Slti, Sltiu, Andi, Ori, Xori, Lui, Mfc0, Mtc0, Lw, Sw, Mult, Multu, Div, Divu, Mfhi, Mthi, Mflo, Mtlo}
 use Rattle.mips_table.specs.declared.effect.Effect.{Effect}
-use Rattle.mips_table.specs.declared.effect.Effect.TheVariants.{Set, Wide, Load, Store, Overflow, Call, System}
+use Rattle.mips_table.specs.declared.effect.Effect.TheVariants.{Set, Wide, Load, Store, System}
 use Rattle.mips_table.specs.Device.{Idle, SECTOR, is_buffer}
 use Rattle.mips_table.specs.Machine.{LOG, INPUT}
 use Rattle.mips_table.specs.Code.{put, Contents, with_reg, with_wide, Behind, World, port_loaded, logged, privileged, PrivilegedMay, effect_at}

@@ -83,7 +83,12 @@ impl<const CAP: usize> Block<CAP> {
     }
 
     /// Appends a loop: the test is run, and then, as long as register `reg` (1 to 31) isn't 0, the body and the test.
-    pub fn loop_while<const A: usize, const B: usize>(&mut self, test: &Block<A>, reg: u32, body: &Block<B>)
+    pub fn loop_while<const A: usize, const B: usize>(
+        &mut self,
+        test: &Block<A>,
+        reg: u32,
+        body: &Block<B>,
+    )
         requires room { length self.old + length test.now + length body.now + 2 ≤ CAP }
         requires register { (1 ≤ reg) × (reg ≤ 31) }
         ensures { self.new ≡ self.old ++ loop_words test.now reg body.now }

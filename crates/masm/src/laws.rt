@@ -6,7 +6,7 @@ ghost use Rattle.mips_table.specs.declared.inst.Inst.{Inst};
 ghost use Rattle.std.specs.Prelude.{ℕ, List, ◌<◌, ◌≤◌, ◌+◌, length};
 ghost use Rattle.mips_table.specs.Code.{Contents, Behind, World, Sound};
 ghost use Rattle.masm.specs.Standing.{BlockStands};
-ghost use Rattle.masm.specs.Laws.{RunsCompose, StraightRuns, JumpsLead, WhenRuns, LoopRuns, LoopPays, ReturnRuns, WordsAreEncodings};
+ghost use Rattle.masm.specs.Laws.{RunsCompose, StraightRuns, JumpsLead, WhenRuns, LoopRuns, BlocksInRange, LoopPays, ReturnRuns, WordsAreEncodings};
 
 use mips_table::runs::code_runs_join;
 
@@ -67,4 +67,9 @@ pub fn a_routine_returns()
 /// The words of a block are those of its instructions.
 pub fn words_are_encodings()
     ensures { WordsAreEncodings }
+{}
+
+/// The instructions of a block are in range where those of its parts are.
+pub fn blocks_are_in_range()
+    ensures { BlocksInRange }
 {}

@@ -24,9 +24,7 @@ fn condition() -> Block<4> {
         rs: 0,
         imm: 1,
     });
-    body.push(Inst::Jr {
-        rs: 31,
-    });
+    body.push(Inst::Jr { rs: 31 });
     let mut rest = Block::<1>::new();
     rest.push(Inst::Addu {
         rd: 2,
