@@ -7,3 +7,4 @@ pub mod Routines
 pub mod Standing
 mod Copy
 mod Wait
+mod Transfer

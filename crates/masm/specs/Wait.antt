@@ -1,9 +1,10 @@
 -- A loop that waits for the disk: it reads the status until that is 0.
-use Rattle.std.specs.Prelude.{◌≡◌, ◌≢◌, ℕ, ◌+◌, ◌==◌, if◌then◌else◌, true, List, [], ◌∷◌}
+use Rattle.std.specs.Prelude.{◌≡◌, ◌≢◌, ℕ, ◌+◌, ◌*◌, ◌<◌, ◌==◌, if◌then◌else◌, true, List, [], ◌∷◌, None}
 use Rattle.mips_table.specs.declared.inst.Inst.{Inst}
 use Rattle.mips_table.specs.declared.inst.Inst.TheVariants.{Lw}
-use Rattle.mips_table.specs.Device.{Pending, Idle, Reading, Writing}
-use Rattle.mips_table.specs.Code.{Contents, Behind, World, filled, buffer_of}
+use Rattle.mips_table.specs.declared.effect.Effect.TheVariants.{Store}
+use Rattle.mips_table.specs.Device.{Pending, Idle, Reading, Writing, COMMAND, SECTOR}
+use Rattle.mips_table.specs.Code.{Contents, Behind, World, effect_at, filled, buffer_of}
 use Rattle.masm.specs.Blocks.{loop_code}
 use Rattle.masm.specs.Laws.{From}
 
@@ -41,3 +42,18 @@ pub record Waited (m : ℕ → ℕ) (c c' : Contents) : Type 0 where
 -- the command under way is done within as many steps as were left, and five
 abbrev pub WaitRuns : World → Type 0
 WaitRuns w = w.system ≡ true → (c : Contents) (d : Behind) → From w wait_code (left d.pending + 5) c d (λ c' d'. Waited (words_after d.pending c.memory d) c c' × (d' ≡ behind_after d.pending c.memory d))
+
+-- A command v may be given by this instruction, wherever it stands: it stores v to the command port, ports may be used, no command is under
+-- way, and the sector is one of the disk's.
+pub record MayCommand (w : World) (i : Inst) (v : ℕ) (c : Contents) (d : Behind) : Type 0 where
+  pub stores : (n : ℕ) → effect_at i n c ≡ Store (4 * COMMAND) v
+  pub system : w.system ≡ true
+  pub free : w.kept COMMAND ≡ None
+  pub idle : d.pending ≡ Idle
+  pub sector : c.memory SECTOR < w.count
+
+-- A command and the wait for it take the busy time of the command's number and six steps more: after a 1 the buffer holds the
+-- sector, and after a 2 the sector holds the buffer.
+pub record TransfersRun (w : World) : Type 0 where
+  pub read : (i : Inst) (c : Contents) (d : Behind) → MayCommand w i 1 c d → From w (i ∷ wait_code) (w.busy d.commands + 6) c d (λ c' d'. Waited (filled c.memory (d.sectors (c.memory SECTOR))) c c' × (d' ≡ record d { pending = Idle; commands = d.commands + 1 }))
+  pub write : (i : Inst) (c : Contents) (d : Behind) → MayCommand w i 2 c d → From w (i ∷ wait_code) (w.busy d.commands + 6) c d (λ c' d'. Waited c.memory c c' × (d' ≡ record d { pending = Idle; commands = d.commands + 1; sectors = λ k. if k == c.memory SECTOR then buffer_of c.memory else d.sectors k }))

@@ -3,7 +3,7 @@
 ghost use Rattle.std.specs.Prelude.{◌≡◌, map};
 ghost use Rattle.mips_table.specs.Encoding.{encoding};
 ghost use Rattle.mips_table.specs.Code.{World, Sound};
-ghost use Rattle.masm.specs.Wait.{wait_code, WaitRuns};
+ghost use Rattle.masm.specs.Wait.{wait_code, WaitRuns, TransfersRun};
 
 use crate::block::Block;
 use crate::laws::{a_loop_turns, runs_compose, straight_code_runs};
@@ -32,4 +32,13 @@ pub fn the_disk_is_waited_for()
     runs_compose();
     straight_code_runs();
     a_loop_turns();
+}
+
+/// A sector is read into the buffer, or the buffer is written to it, by a command and the wait for it.
+pub fn sectors_are_transferred()
+    ensures { (w : World) → Sound w → TransfersRun w }
+{
+    runs_compose();
+    straight_code_runs();
+    the_disk_is_waited_for();
 }
