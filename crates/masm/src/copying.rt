@@ -46,8 +46,8 @@ pub fn copy_words() -> Block<7>
     code
 }
 
-/// The turns of the loop that copies.
-pub struct CopyTurns;
+// The turns of the loop that copies.
+struct CopyTurns;
 
 impl Turns for CopyTurns {
     ghost State = { Copying };
