@@ -35,9 +35,9 @@ pub record RunsCompose : Type 0 where
   pub settled : (w : World) (n m : ℕ) (s : Configuration) (c : Contents) (d : Behind) → d.pending ≡ Idle → Reaches w n s (settle m c d) → Reaches w n s (at_with m c d)
   pub settles : (n : ℕ) (c : Contents) (d : Behind) → d.pending ≡ Idle → settle n c d ≡ at_with n c d
 
--- Straight code does what is said of its instructions: one of them, also while a command is under way, the next while
--- none is, and all of a list while
--- none is. A division by other than 0 is said by its remainder and quotient, and one by 0 leaves hi and lo.
+-- Straight code does what is said of its instructions: any one of them, also while a command is under way; one of them, or all of a
+-- list, while none is. A division by other than 0 is said by its remainder and quotient, and one by 0 leaves hi and lo. A store to the
+-- command port gives the command.
 pub record StraightRuns (w : World) : Type 0 where
   pub one : (i : Inst) (h : Says) (n : ℕ) (c : Contents) (d : Behind) → w.code n ≡ Some i → goes_on i ≡ true → Said w i c d (effect_at i n c) h → Reaches w 1 (at_with n c d) (settle (n + 1) (said i c (effect_at i n c) h) (told d h))
   pub next : (i : Inst) (h : Says) (n : ℕ) (c : Contents) (d : Behind) → w.code n ≡ Some i → goes_on i ≡ true → d.pending ≡ Idle → Said w i c d (effect_at i n c) h → Reaches w 1 (at_with n c d) (at_with (n + 1) (said i c (effect_at i n c) h) (told d h))
@@ -64,7 +64,7 @@ pub record WhenRuns (w : World) (r : ℕ) (body : List Inst) : Type 0 where
   pub runs : (n m : ℕ) (c : Contents) (d : Behind) (c' : Contents) (d' : Behind) → CodeAt w n (when_code r body) → d.pending ≡ Idle → reg c.regs r ≢ 0 → Reaches w m (at_with (n + 1) c d) (at_with (n + 1 + length body) c' d') → Reaches w (m + 1) (at_with n c d) (at_with (n + length (when_code r body)) c' d')
 
 -- A loop: where its parts stand; from the end of the test it is left where the register is 0, and else the body is entered, from
--- whose end it goes back; a whole turn, and the last test, with their prices. Only these two ask that no command is under way.
+-- whose end it goes back. Then a whole turn, and the last test, with their prices, where no command is under way behind them.
 pub record LoopRuns (w : World) (test : List Inst) (r : ℕ) (body : List Inst) : Type 0 where
   pub test_stands : (n : ℕ) → CodeAt w n (loop_code test r body) → CodeAt w n test
   pub body_stands : (n : ℕ) → CodeAt w n (loop_code test r body) → CodeAt w (n + length test + 1) body
