@@ -1,0 +1,10 @@
+pub mod Runs
+pub mod Straight
+pub mod Jumps
+pub mod Blocks
+pub mod Loops
+pub mod Routines
+pub mod Standing
+mod Copy
+mod Wait
+mod Transfer

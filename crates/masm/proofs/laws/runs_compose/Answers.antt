@@ -1,0 +1,6 @@
+-- By induction on the steps.
+use Rattle.masm.proofs.Runs.{runs_compose}
+use Rattle.masm.proofs.laws.runs_compose.Goals as goal
+
+pub returns : goal.returns
+returns c = runs_compose

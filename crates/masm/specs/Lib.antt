@@ -1,0 +1,6 @@
+pub mod Says
+pub mod Blocks
+pub mod Laws
+pub mod Standing
+pub mod Copy
+pub mod Wait

@@ -1,0 +1,13 @@
+//! Blocks of machine code, with the laws of their runs: straight code, a body under a condition, a loop and a routine.
+//!
+//! A [`Block`] is machine code that stands anywhere: it is entered at its first word and left by its end. Contracts see it as
+//! the list of its words.
+#![tactic(auto)]
+
+mod block;
+pub mod copying;
+pub mod laws;
+pub mod registers;
+pub mod waiting;
+
+pub use block::Block;
