@@ -1,11 +1,11 @@
 -- What the functions of expressions need of the grammar: its pieces by levels of operators, and the parts of an expression one after another.
 use Rattle.std.proofs.Common.{◌≡◌, ◌<◌, List, [], ◌∷◌, length, map, refl, sym, ap, ◌∙◌, subst, arith, Ok, Err, Result}
-use Rattle.std.specs.Prelude.{Bool, true, false, not, ◌||◌, ◌&&◌, eqb}
+use Rattle.std.specs.Prelude.{Bool, true, false, not, ◌||◌, ◌&&◌}
 use Rattle.std.specs.Borrow.{Bor}
 use Rattle.c0_tokens.specs.Tokens.{CToken, token_view, lexeme_view, fixed}
 use Rattle.c0_tokens.specs.declared.token.Mark.TheVariants.{True, False, Null, OpenParen, CloseParen, OpenBracket, Dot, Arrow, Equal, NotEqual, Less, AtMost, Greater, AtLeast, Plus, Minus, Star, Slash, Percent, Not, Ampersand, And, Or}
 use Rattle.c0_tokens.specs.declared.token.Token.{Token}
-use Rattle.c0_parser.specs.Sorts.{Sort, place, mark, a_name, a_number, among}
+use Rattle.c0_parser.specs.Sorts.{Sort, mark, a_name, a_number, same_sort, among}
 use Rattle.c0_parser.specs.Value.{Value, token, pair, none, snoc, joined, chained, chain_value, suffixed, suffixes, primary_value, unary_value}
 use Rattle.c0_parser.specs.Grammar.{conjunction, equality, relation, sum, product, unary, postfix, primary, Piece, one_of, sign, ◌▸◌, many, maybe, the, production, meaning, EXPR, NAME}
 use Rattle.c0_parser.specs.Machine.{heads, kind, starts, picks, at, want, Leads, go, still}
@@ -35,7 +35,7 @@ or_skip false c = refl
 -- the next token is of the first sort or of one of the others
 pub heads_any_cons : (s : Sort) (ss : List Sort) (ts : List CToken) → heads_any (s ∷ ss) ts ≡ (heads (one_of s []) ts || heads_any ss ts)
 heads_any_cons s ss [] = refl
-heads_any_cons s ss (t ∷ ts) = or_skip (eqb (place s) (kind t)) (among ss (kind t))
+heads_any_cons s ss (t ∷ ts) = or_skip (same_sort s (kind t)) (among ss (kind t))
 
 -- a piece that begins with one of some sorts
 heads_any_pair : (s : Sort) (ss : List Sort) (b : Piece) (ts : List CToken) → heads (one_of s ss ▸ b) ts ≡ heads_any (s ∷ ss) ts
@@ -199,7 +199,7 @@ suffixes_fail ts rest left h c e f = fails_the postfix (fails_right c.begun (fai
 -- whether a suffix begins with one of its three marks
 pub suffix_heads : (ts : List CToken) → heads SUFFIX ts ≡ heads_any (mark Dot ∷ mark Arrow ∷ mark OpenBracket ∷ []) ts
 suffix_heads [] = refl
-suffix_heads (t ∷ ts) = three (eqb (place (mark Dot)) (kind t)) (eqb (place (mark Arrow)) (kind t)) (eqb (place (mark OpenBracket)) (kind t))
+suffix_heads (t ∷ ts) = three (same_sort (mark Dot) (kind t)) (same_sort (mark Arrow) (kind t)) (same_sort (mark OpenBracket) (kind t))
   where
     three : (a b c : Bool) → (((a || (b || false)) || false) || ((c || false) || false)) ≡ (a || (b || (c || false)))
     three true b c = refl
@@ -219,7 +219,7 @@ picks_element t ts rest e h =
 -- where a suffix begins, and with no opening bracket, it is a field
 pub field_here : (ts : List CToken) → heads SUFFIX ts ≡ true → heads (sign OpenBracket) ts ≡ false → heads_any (mark Dot ∷ mark Arrow ∷ []) ts ≡ true
 field_here [] h e = no_yes h
-field_here (t ∷ ts) h e = two (eqb (place (mark Dot)) (kind t)) (eqb (place (mark Arrow)) (kind t)) (eqb (place (mark OpenBracket)) (kind t) || false) h e
+field_here (t ∷ ts) h e = two (same_sort (mark Dot) (kind t)) (same_sort (mark Arrow) (kind t)) (same_sort (mark OpenBracket) (kind t) || false) h e
   where
     two : (a b c : Bool) → (((a || (b || false)) || false) || (c || false)) ≡ true → c ≡ false → (a || (b || false)) ≡ true
     two true b c h e = refl

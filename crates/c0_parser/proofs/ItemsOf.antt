@@ -1,18 +1,17 @@
 -- A unit is made of the items of its source, in order.
 use Rattle.std.proofs.Common.{◌≡◌, ℕ, ◌+◌, List, [], ◌∷◌, ◌++◌, length, refl, sym, ap, ◌∙◌, subst, arith}
-use Rattle.c0_tokens.specs.Tokens.{CToken, CLexeme, fixed, end}
+use Rattle.c0_tokens.specs.Tokens.{CToken, CLexeme, end}
 use Rattle.c0_tokens.specs.Nesting.{tokens_of}
 use Rattle.c0_tokens.specs.declared.token.Mark.TheVariants.{Semicolon}
-use Rattle.std.proofs.lemmas.Bool.{eqb-true}
-use Rattle.std.specs.Prelude.{true, eqb}
+use Rattle.std.specs.Prelude.{true}
 use Rattle.c0_tree.specs.Tree.{CDecl, CStruct, CFunction, CUnit}
-use Rattle.c0_parser.specs.Sorts.{the_end, mark_place, place, sort, among}
+use Rattle.c0_parser.specs.Sorts.{the_end, sort, among}
 use Rattle.c0_parser.specs.Value.{Value, token, pair, none, snoc, decl, body, a_function, defined, item_value, struct_in, global_in, function_in, structs, globals, functions, unit_of}
 use Rattle.c0_parser.specs.Grammar.{many, the, one_of, sign, ◌▸◌, ITEM, FUNCTION, UNIT, Derives, taken, both, first, second, no_more, one_more, made}
 use Rattle.c0_parser.specs.Grammar as grammar
 use Rattle.c0_parser.specs.Faults.{Reads}
 use Rattle.c0_parser.specs.Items.{CItem, struct_item, global_item, function_item, item_piece, item_meaning, DeclareAll, no_items, one_more_item, IsMadeOf, structs_among, globals_among, functions_among, unit_with}
-use Rattle.c0_parser.proofs.Tables.{mark_late, no_yes, or_false}
+use Rattle.c0_parser.proofs.Tables.{no_yes}
 use Rattle.c0_parser.proofs.Shapes.{IsADecl, IsABody, means}
 
 -- what a piece of the grammar declares
@@ -138,9 +137,8 @@ list_of (one_more_item {is = is} {i = i} d x) =
     }
 
 -- a token of the sort of the end is the end
-is_end : (l : CLexeme) → among (the_end ∷ []) (place (sort l)) ≡ true → l ≡ end
+is_end : (l : CLexeme) → among (the_end ∷ []) (sort l) ≡ true → l ≡ end
 is_end end h = refl
-is_end (fixed m) h = absurd (omega (arith, mark_late m, eqb-true 3 (mark_place m) (or_false (eqb 3 (mark_place m)) h)))
 is_end _ h = no_yes h
 
 unit_made : (source : List ℕ) (ts : List CToken) (items stop : Value) → ts ≡ tokens_of source → Derives UNIT ts (pair items stop) → (is : List CItem) × IsMadeOf source is × (unit_of (length source) items ≡ unit_with (length source) is)
@@ -156,7 +154,7 @@ made_of_items source u r = let m = unit_made source (tokens_of source) r.0 r.1 r
 pub items_read : (source : List ℕ) (items : List CItem) → IsMadeOf source items → Reads source (unit_with (length source) items)
 items_read source items m =
     let l = list_of m.declared in
-    (l.value, token m.last, subst (λ ts. Derives UNIT ts (pair l.value (token m.last))) (sym m.stand) (both l.derives (taken the_end [] m.last (ap (λ x. among (the_end ∷ []) (place (sort x))) m.ends))), same_unit (length source) l.value items l.meant)
+    (l.value, token m.last, subst (λ ts. Derives UNIT ts (pair l.value (token m.last))) (sym m.stand) (both l.derives (taken the_end [] m.last (ap (λ x. among (the_end ∷ []) (sort x)) m.ends))), same_unit (length source) l.value items l.meant)
 
 -- each item is of one kind
 pub count_items : (items : List CItem) → length (structs_among items) + length (globals_among items) + length (functions_among items) ≡ length items

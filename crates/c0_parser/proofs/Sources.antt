@@ -1,16 +1,15 @@
 -- What a whole source reads as, from what the machine does with its tokens.
 use Rattle.std.proofs.Common.{◌≡◌, ℕ, ◌≤◌, List, [], ◌∷◌, ◌++◌, map, length, refl, sym, ap, ◌∙◌, subst, arith, append_assoc, length-append}
-use Rattle.std.specs.Prelude.{Bool, true, false, eqb}
-use Rattle.std.proofs.lemmas.Bool.{eqb-true}
+use Rattle.std.specs.Prelude.{Bool, true, false}
 use Rattle.c0_tokens.specs.declared.token.TokenFault.TheVariants as token_fault
 use Rattle.c0_tokens.specs.declared.token.Token.{Token}
-use Rattle.c0_tokens.specs.Tokens.{CToken, CLexeme, fixed, faulty, end, token_view}
+use Rattle.c0_tokens.specs.Tokens.{CToken, CLexeme, faulty, end, token_view}
 use Rattle.c0_tokens.specs.Lexis.{is_last}
 use Rattle.c0_tokens.specs.Nesting.{tokens_of}
 use Rattle.c0_tokens.specs.Order.{EndsOnce}
 use Rattle.c0_tree.specs.Tree.{CUnit, CStruct, CDecl, CFunction}
 use Rattle.c0_tree.specs.View.{struct_view, decl_view, function_view}
-use Rattle.c0_parser.specs.Sorts.{Sort, sort, place, mark_place, the_end, a_fault, among}
+use Rattle.c0_parser.specs.Sorts.{Sort, sort, the_end, a_fault, among}
 use Rattle.c0_parser.specs.Value.{Value, token, pair, snoc, struct_in, global_in, function_in, globals, functions, unit_of}
 use Rattle.c0_parser.specs.Grammar.{one_of, the, decl, Derives, taken, both}
 use Rattle.c0_parser.specs.Factored.{FACTORED, SOURCE, factored_value, factored_structs, factored_globals, factored_functions}
@@ -26,7 +25,7 @@ use Rattle.std.specs.Prelude.{Result, Ok, Err}
 use Rattle.std.specs.Result.{IsErrAnd}
 use Rattle.c0_parser.specs.declared.fault.ReadFault.{ReadFault}
 use Rattle.c0_parser.specs.declared.source.Items.{Items}
-use Rattle.c0_parser.proofs.Tables.{within_at, mark_late, no_yes, or_false}
+use Rattle.c0_parser.proofs.Tables.{within_at, no_yes}
 use Rattle.c0_parser.proofs.Sound.{back}
 use Rattle.c0_parser.proofs.Exact.{ends_source, EndsSource, first_bad, derived, one_meaning, whole_means}
 use Rattle.c0_parser.proofs.Steps.{seen_length, goes_one}
@@ -47,8 +46,8 @@ no_item (t ∷ ts) h = not_by (starts (the decl) (kind t)) (starts FACTORED (kin
 
 -- a token that ends the tokens of a source
 last_ends : (t : CToken) (l : CLexeme) → l ≡ t.lexeme → is_last l ≡ true → ends_source t ≡ true
-last_ends t end e h = ap (λ x. among (the_end ∷ a_fault ∷ []) (place (sort x))) (sym e)
-last_ends t (faulty f) e h = ap (λ x. among (the_end ∷ a_fault ∷ []) (place (sort x))) (sym e)
+last_ends t end e h = ap (λ x. among (the_end ∷ a_fault ∷ []) (sort x)) (sym e)
+last_ends t (faulty f) e h = ap (λ x. among (the_end ∷ a_fault ∷ []) (sort x)) (sym e)
 last_ends t _ e h = no_yes h
 
 pub ends : (ts : List CToken) → EndsOnce ts → EndsSource ts
@@ -56,9 +55,8 @@ ends [] h = absurd h
 ends (t ∷ []) h = record { front = []; last = t; is = refl; ends = last_ends t t.lexeme refl h }
 ends (t ∷ u ∷ ts) h = let e = ends (u ∷ ts) h.1 in record { front = t ∷ e.front; last = e.last; is = ap (λ l. t ∷ l) e.is; ends = e.ends }
 
-end_is_last : (l : CLexeme) → among (the_end ∷ []) (place (sort l)) ≡ true → is_last l ≡ true
+end_is_last : (l : CLexeme) → among (the_end ∷ []) (sort l) ≡ true → is_last l ≡ true
 end_is_last end h = refl
-end_is_last (fixed m) h = absurd (omega (arith, mark_late m, eqb-true 3 (mark_place m) (or_false (eqb 3 (mark_place m)) h)))
 end_is_last (faulty f) h = refl
 end_is_last _ h = no_yes h
 

@@ -2,7 +2,7 @@
 
 ghost use Rattle.std.specs.Prelude.{◌≡◌, true, false, MatchOption};
 ghost use Rattle.c0_tokens.specs.declared.token.Mark.TheVariants.{Comma};
-ghost use Rattle.c0_parser.specs.Sorts.{mark_place, among};
+ghost use Rattle.c0_parser.specs.Sorts.{mark as a_mark, among};
 ghost use Rattle.c0_parser.specs.Grammar.{sign, ◌▸◌, many, EXPR, ARGS};
 ghost use Rattle.c0_parser.specs.Machine.{heads, expr_starts};
 ghost use Rattle.c0_parser.specs.Contract.{seen, GivesAny};
@@ -17,7 +17,7 @@ use std::alloc::Global;
 
 /// Whether an expression begins with the mark.
 pub fn mark_starts_expression(mark: Mark) -> bool
-    ensures { result ≡ among expr_starts (mark_place mark) }
+    ensures { result ≡ among expr_starts (a_mark mark) }
 {
     mark == Mark::Minus
         || mark == Mark::Not

@@ -3,7 +3,7 @@
 ghost use Rattle.std.specs.Prelude.{◌≡◌, ◌∷◌, [], ◌+◌, true, MatchOption, MatchResult};
 ghost use Rattle.c0_tokens.specs.Tokens.{CToken, token_view, lexeme_view};
 ghost use Rattle.c0_tokens.specs.declared.token.Mark.TheVariants.{True, False, Null};
-ghost use Rattle.c0_parser.specs.Sorts.{mark, place as sort_place, sort, among, a_name, a_number};
+ghost use Rattle.c0_parser.specs.Sorts.{mark, sort, among, a_name, a_number};
 ghost use Rattle.c0_parser.specs.Value.{token, pair, name_at, literal as literal_of_token, operator as operator_of, across as across_of, place_of, suffixed, joined, chained, primary_value, unary_value};
 ghost use Rattle.c0_parser.specs.Grammar.{EXPR, the, maybe, unary, postfix, primary};
 ghost use Rattle.c0_parser.specs.Machine.{heads};
@@ -221,7 +221,7 @@ fn name_of(alloc: Global, token: &Token<'_>, text: &[u8]) -> Result<Name, Halt>
 
 // Whether a token is a name, a number, `true`, `false` or `null`.
 fn is_literal(lexeme: &Lexeme<'_>) -> bool
-    ensures { result ≡ among (a_name ∷ a_number ∷ mark True ∷ mark False ∷ mark Null ∷ []) (sort_place (sort (lexeme_view lexeme.now))) }
+    ensures { result ≡ among (a_name ∷ a_number ∷ mark True ∷ mark False ∷ mark Null ∷ []) (sort (lexeme_view lexeme.now)) }
 {
     matches!(
         lexeme,

@@ -2,7 +2,7 @@
 
 ghost use Rattle.std.specs.Prelude.{◌≡◌, true, false, MatchOption};
 ghost use Rattle.c0_tree.specs.View.{expr_view, stmt_view};
-ghost use Rattle.c0_parser.specs.Sorts.{mark_place, among};
+ghost use Rattle.c0_parser.specs.Sorts.{mark as a_mark, among};
 ghost use Rattle.c0_parser.specs.Grammar.{the, statement, block, many, maybe, sign, ◌▸◌, code, CALL, EXPR, RIGHT};
 ghost use Rattle.c0_parser.specs.Machine.{heads, picks, rule_starts};
 ghost use Rattle.c0_parser.specs.Contract.{seen, Gives, GivesAny};
@@ -155,7 +155,7 @@ fn test_behind<'a>(
 
 // Whether a statement begins with the mark.
 fn mark_starts_statement(mark: Mark) -> bool
-    ensures { result ≡ among (rule_starts statement) (mark_place mark) }
+    ensures { result ≡ among (rule_starts statement) (a_mark mark) }
 {
     mark == Mark::If || mark == Mark::While || mark_starts_expression(mark)
 }

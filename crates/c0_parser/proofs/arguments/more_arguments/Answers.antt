@@ -2,7 +2,7 @@
 use Rattle.std.proofs.Common.{length, refl, ap, arith}
 use Rattle.c0_tokens.specs.declared.token.Mark.TheVariants.{Comma}
 use Rattle.c0_tokens.specs.Tokens.{token_view}
-use Rattle.c0_parser.specs.Sorts.{mark_place}
+use Rattle.c0_parser.specs.Sorts.{mark}
 use Rattle.c0_parser.specs.Value.{token, pair, none, snoc}
 use Rattle.c0_parser.specs.Grammar.{many, sign, ◌▸◌, EXPR}
 use Rattle.c0_parser.specs.Contract.{seen}
@@ -21,7 +21,7 @@ returns-in_err-part c =
     let i = c.loop-behind.invariant in
     let e = c.in-Some.ensures in
     exits_any (many (sign Comma ▸ EXPR)) (AreMoreArgs c.args.first) _ _ _ c.from_residual.ensures.1
-    (fails_many i.1 (heads_is (sign Comma ▸ EXPR) (mark_place Comma) e.0 (mark_kind e.1)) (fails_right (goes_sign _ _ _ _ e.0 e.1) c.in_err-part.ensures))
+    (fails_many i.1 (heads_is (sign Comma ▸ EXPR) (mark Comma) e.0 (mark_kind e.1)) (fails_right (goes_sign _ _ _ _ e.0 e.1) c.in_err-part.ensures))
 
 pub loop-behind-preserved : goal.loop-behind-preserved
 loop-behind-preserved c =
@@ -29,7 +29,7 @@ loop-behind-preserved c =
     let e = c.in-Some.ensures in
     let o = c.in_ok-part.ensures in (
       snoc i.0 (pair (token (token_view c.in-Some.field-0-0)) o.0),
-      list_item i.1 (heads_is (sign Comma ▸ EXPR) (mark_place Comma) e.0 (mark_kind e.1)) (goes_both (goes_sign _ _ _ _ e.0 e.1) o.1),
+      list_item i.1 (heads_is (sign Comma ▸ EXPR) (mark Comma) e.0 (mark_kind e.1)) (goes_both (goes_sign _ _ _ _ e.0 e.1) o.1),
       more_args c.args.first.items c.loop-behind.list.items c.push.new.self.items c.in_ok-part.part i.0 o.0 (token_view c.in-Some.field-0-0) i.2 o.2 c.in_ok-push.ensures.items,
       omega (arith, i.3, o.3, ap length e.0),
     )

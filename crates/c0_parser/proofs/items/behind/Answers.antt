@@ -1,5 +1,5 @@
 use Rattle.std.proofs.Common.{refl}
-use Rattle.c0_parser.specs.Sorts.{mark_place}
+use Rattle.c0_parser.specs.Sorts.{mark}
 use Rattle.c0_tokens.specs.declared.token.Mark.TheVariants.{Semicolon}
 use Rattle.c0_parser.specs.Grammar.{sign, FUNCTION}
 use Rattle.c0_parser.specs.Factored.{BEHIND}
@@ -10,7 +10,7 @@ use Rattle.c0_parser.proofs.items.behind.Goals as goal
 pub returns-in-Some : goal.returns-in-Some
 returns-in-Some c =
     let e = c.in-Some.ensures in
-    (_, goes_first_at (sign Semicolon) FUNCTION (mark_place Semicolon) e.0 (mark_kind e.1) refl refl (goes_sign _ _ _ _ e.0 e.1), refl, shorter _ _ _ e.0)
+    (_, goes_first_at (sign Semicolon) FUNCTION (mark Semicolon) e.0 (mark_kind e.1) refl refl (goes_sign _ _ _ _ e.0 e.1), refl, shorter _ _ _ e.0)
 
 pub returns-in-None : goal.returns-in-None
 returns-in-None c =

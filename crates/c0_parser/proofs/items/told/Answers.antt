@@ -1,5 +1,5 @@
 use Rattle.std.proofs.Common.{refl, sym, ap, ◌∙◌}
-use Rattle.c0_parser.specs.Sorts.{mark_place}
+use Rattle.c0_parser.specs.Sorts.{mark}
 use Rattle.c0_tokens.specs.declared.token.Mark.TheVariants.{OpenBrace, CloseBrace, Semicolon}
 use Rattle.c0_tokens.specs.Tokens.{token_view}
 use Rattle.c0_tree.specs.View.{name_view}
@@ -20,11 +20,11 @@ returns-in-Some c =
     tails (FIELDS or DEFINED) FIELDS (IsTold t (name_view c.args.name)) (IsStruct c.args.name) _ _ _
     (λ x r. (
       _,
-      goes_first_at FIELDS DEFINED (mark_place OpenBrace) e.0 (mark_kind e.1) refl refl r.1,
+      goes_first_at FIELDS DEFINED (mark OpenBrace) e.0 (mark_kind e.1) refl refl r.1,
       (λ y g. ap (factored.told t y) r.2.parts ∙ ap (struct_of y) (sym r.2.parts) ∙ r.2.is y g),
       r.3,
     ))
-    (λ h f. fails_first_at FIELDS DEFINED (mark_place OpenBrace) e.0 (mark_kind e.1) refl refl f) c.structure.ensures
+    (λ h f. fails_first_at FIELDS DEFINED (mark OpenBrace) e.0 (mark_kind e.1) refl refl f) c.structure.ensures
 
 pub returns-in-None : goal.returns-in-None
 returns-in-None c =
