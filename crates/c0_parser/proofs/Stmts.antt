@@ -86,27 +86,27 @@ or_false false e = e
 pub kind_of : (m : Mark) (t : CToken) (ts : List CToken) → heads (sign m) (t ∷ ts) ≡ true → mark m ≡ kind t
 kind_of m t ts e = same_sort_true (mark m) (kind t) (or_false (same_sort (mark m) (kind t)) e)
 
-pub not_begun : (p : Piece) (m : Mark) (ts : List CToken) → heads (sign m) ts ≡ true → starts p (mark m) ≡ false → heads p ts ≡ false
-not_begun p m [] e f = refl
-not_begun p m (t ∷ ts) e f = ap (starts p) (sym (kind_of m t ts e)) ∙ f
+pub not_headed_by : (p : Piece) (m : Mark) (ts : List CToken) → heads (sign m) ts ≡ true → starts p (mark m) ≡ false → heads p ts ≡ false
+not_headed_by p m [] e f = refl
+not_headed_by p m (t ∷ ts) e f = ap (starts p) (sym (kind_of m t ts e)) ∙ f
 
-pub picks_begun : (a b : Piece) (m : Mark) (ts : List CToken) → heads (sign m) ts ≡ true → starts a (mark m) ≡ true → starts b (mark m) ≡ false → picks a b ts ≡ true
-picks_begun a b m [] e f g = absurd (false≢true e)
-picks_begun a b m (t ∷ ts) e f g =
+pub picks_headed_by : (a b : Piece) (m : Mark) (ts : List CToken) → heads (sign m) ts ≡ true → starts a (mark m) ≡ true → starts b (mark m) ≡ false → picks a b ts ≡ true
+picks_headed_by a b m [] e f g = absurd (false≢true e)
+picks_headed_by a b m (t ∷ ts) e f g =
     ap (λ k. starts a k && (not (starts b k) || heads (sign OpenParen) ts)) (sym (kind_of m t ts e))
     ∙ ap (λ x. x && (not (starts b (mark m)) || heads (sign OpenParen) ts)) f ∙ ap (λ x. not x || heads (sign OpenParen) ts) g
 
 -- which statement comes
 pub stmt_by_choice : (ts : List Token) (r : Result (Stmt × Bor (List Token)) Halt) → heads (sign If) (seen ts) ≡ true → Gives CHOICE IsStmtOf ts r → Gives (the statement) IsStmt ts r
 stmt_by_choice ts r e g =
-    let n = not_begun ASSIGNMENT If (seen ts) e refl in
-    let q = picks_begun CHOICE LOOP If (seen ts) e refl refl in
+    let n = not_headed_by ASSIGNMENT If (seen ts) e refl in
+    let q = picks_headed_by CHOICE LOOP If (seen ts) e refl refl in
     lifted CHOICE (the statement) IsStmtOf IsStmt statement_value ts r (λ v rest d. goes_the statement (goes_second_not ASSIGNMENT n (goes_first LOOP q d))) (λ h d. fails_the statement (fails_second_not ASSIGNMENT n (fails_first LOOP q d))) (λ x v i. i) g
 
 pub stmt_by_loop : (ts : List Token) (r : Result (Stmt × Bor (List Token)) Halt) → heads (sign While) (seen ts) ≡ true → Gives LOOP IsStmtOf ts r → Gives (the statement) IsStmt ts r
 stmt_by_loop ts r e g =
-    let n = not_begun ASSIGNMENT While (seen ts) e refl in
-    let q = not_begun CHOICE While (seen ts) e refl in
+    let n = not_headed_by ASSIGNMENT While (seen ts) e refl in
+    let q = not_headed_by CHOICE While (seen ts) e refl in
     lifted LOOP (the statement) IsStmtOf IsStmt statement_value ts r (λ v rest d. goes_the statement (goes_second_not ASSIGNMENT n (goes_second_not CHOICE q d))) (λ h d. fails_the statement (fails_second_not ASSIGNMENT n (fails_second_not CHOICE q d))) (λ x v i. i) g
 
 alone : (a w e x : Bool) → (a || false) ≡ false → (w || false) ≡ false → (a || (w || e)) ≡ true → ((e || false) && (not (((a || false) || false) || ((w || false) || false)) || x)) ≡ true

@@ -10,4 +10,4 @@ pub mod Faults
 pub mod Items
 pub mod Levels
 pub mod Tails
-pub mod Whole
+pub mod ToEnd

@@ -10,7 +10,7 @@ ghost use Rattle.c0_parser.specs.Views.{AreArgs};
 ghost use Rattle.c0_parser.specs.Stmts.{AreMoreArgs};
 
 use crate::expressions::expression;
-use crate::reader::{Halt, begun, next, take};
+use crate::reader::{Halt, next, read_so_far, take};
 use c0_tokens::{Lexeme, Mark, Token};
 use c0_tree::Expr;
 use std::alloc::Global;
@@ -49,9 +49,9 @@ fn more_arguments<'a>(
 ) -> Result<(Vec<Expr>, &'a [Token<'a>]), Halt>
     ensures { GivesAny (many (sign Comma ▸ EXPR)) (AreMoreArgs first) ts.now result }
 {
-    let (mut list, mut rest) = begun(first, ts);
-    while let Some((_, behind)) = take(rest, Mark::Comma) {
-        let (part, after) = expression(alloc, behind)?;
+    let (mut list, mut rest) = read_so_far(first, ts);
+    while let Some((_, after_comma)) = take(rest, Mark::Comma) {
+        let (part, after) = expression(alloc, after_comma)?;
         list.push(part.expr)?;
         rest = after;
     }

@@ -187,10 +187,10 @@ fn field(alloc: Global, left: Part, sign: &Token<'_>, name: Name) -> Result<Part
     ensures { MatchResult result (λ p. (x : CToken) → name_at x ≡ name_view name → IsPart p (suffixed (part_value left) (pair (token (token_view sign.now)) (token x)))) (λ h. h ≡ Memory) }
 {
     let span = across(left.span, name.span);
-    let whole = Box::new(alloc, left.expr)?;
+    let owner = Box::new(alloc, left.expr)?;
     let expr = match sign.lexeme {
-        Lexeme::Fixed(Mark::Dot) => Expr::Field(span, whole, name),
-        _ => Expr::Arrow(span, whole, name),
+        Lexeme::Fixed(Mark::Dot) => Expr::Field(span, owner, name),
+        _ => Expr::Arrow(span, owner, name),
     };
     Ok(Part { expr, span })
 }
@@ -324,8 +324,8 @@ fn postfix<'a>(alloc: Global, ts: &'a [Token<'a>]) -> Result<(Part, &'a [Token<'
 {
     let (mut left, mut rest) = primary(alloc, ts)?;
     while begins_suffix(rest) {
-        let (whole, after) = suffix(alloc, left, rest)?;
-        left = whole;
+        let (longer, after) = suffix(alloc, left, rest)?;
+        left = longer;
         rest = after;
     }
     Ok((left, rest))
@@ -370,10 +370,10 @@ fn comparison<'a>(
 ) -> Result<(Part, &'a [Token<'a>]), Halt>
     ensures { GivesAny (maybe (operation level)) (λ p v. IsPart p (chained (part_value left) v)) ts.now result }
 {
-    let Some((sign, behind)) = take_any(ts, level.marks()) else {
+    let Some((sign, after_sign)) = take_any(ts, level.marks()) else {
         return Ok((left, ts));
     };
-    let (right, rest) = operand(alloc, level, behind)?;
+    let (right, rest) = operand(alloc, level, after_sign)?;
     Ok((join(alloc, &sign, left, right)?, rest))
 }
 
@@ -390,8 +390,8 @@ fn binary<'a>(
     if !level.chains() {
         return comparison(alloc, level, left, rest);
     }
-    while let Some((sign, behind)) = take_any(rest, level.marks()) {
-        let (right, after) = operand(alloc, level, behind)?;
+    while let Some((sign, after_sign)) = take_any(rest, level.marks()) {
+        let (right, after) = operand(alloc, level, after_sign)?;
         left = join(alloc, &sign, left, right)?;
         rest = after;
     }

@@ -57,7 +57,7 @@ pub otherwise-returns : goal.otherwise-returns
 otherwise-returns t c = (none, goes_without (sign Else ▸ the block) _ (heads_not (sign Else) (the block) (seen c.args.ts.now) refl c.in_default.ensures), refl, omega arith)
 
 pub statements-loop-here-init : goal.statements-loop-here-init
-statements-loop-here-init t c = (none, begins_list (the statement) _ _ c.begun-stmts.ensures.rest, rw (c.begun-stmts.ensures.value, c.new.ensures.items) refl, omega (arith, ap length c.begun-stmts.ensures.rest))
+statements-loop-here-init t c = (none, begins_list (the statement) _ _ c.read_so_far-stmts.ensures.rest, rw (c.read_so_far-stmts.ensures.value, c.new.ensures.items) refl, omega (arith, ap length c.read_so_far-stmts.ensures.rest))
 
 pub statements-returns-in_err-stmt : goal.statements-returns-in_err-stmt
 statements-returns-in_err-stmt t c =
