@@ -1,5 +1,5 @@
 -- What is derived is read: the machine follows a derivation to its end.
-use Rattle.std.proofs.Common.{◌≡◌, ℕ, List, [], ◌∷◌, ◌++◌, refl, sym, ap, ◌∙◌, subst, append_assoc, Some}
+use Rattle.std.proofs.Common.{◌≡◌, List, [], ◌∷◌, ◌++◌, refl, sym, ap, ◌∙◌, subst, append_assoc, Some}
 use Rattle.std.specs.Prelude.{Bool, true, false, cond, not, ◌&&◌, ◌||◌}
 use Rattle.c0_tokens.specs.Tokens.{CToken}
 use Rattle.c0_tokens.specs.declared.token.Mark.TheVariants.{OpenParen}
@@ -94,7 +94,7 @@ abbrev pub Stops : Piece → List CToken → Type 0
 Stops p [] = Unit {0}
 Stops p (t ∷ ts) = goes_on p (kind t) ≡ false
 
-stops_one : (p q : Piece) (ts : List CToken) → ((k : ℕ) → goes_on p k ≡ false → goes_on q k ≡ false) → Stops p ts → Stops q ts
+stops_one : (p q : Piece) (ts : List CToken) → ((k : Sort) → goes_on p k ≡ false → goes_on q k ≡ false) → Stops p ts → Stops q ts
 stops_one p q [] f h = tt
 stops_one p q (t ∷ ts) f h = f (kind t) h
 

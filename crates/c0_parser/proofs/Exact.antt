@@ -85,10 +85,10 @@ true_false : (a : Bool) → a ≡ true → a ≡ false → ⊥
 true_false a e f = cc
 
 -- behind a token that ends a source comes none
-none_behind : (front : List CToken) (l u : CToken) (more : List CToken) → ends_source l ≡ true → LastEnds (front ++ l ∷ u ∷ more) → ⊥
-none_behind [] l u more e f = true_false (ends_source l) e f.0
-none_behind (x ∷ []) l u more e f = none_behind [] l u more e f.1
-none_behind (x ∷ y ∷ front) l u more e f = none_behind (y ∷ front) l u more e f.1
+none_after : (front : List CToken) (l u : CToken) (more : List CToken) → ends_source l ≡ true → LastEnds (front ++ l ∷ u ∷ more) → ⊥
+none_after [] l u more e f = true_false (ends_source l) e f.0
+none_after (x ∷ []) l u more e f = none_after [] l u more e f.1
+none_after (x ∷ y ∷ front) l u more e f = none_after (y ∷ front) l u more e f.1
 
 -- the tokens end with one that ends a source
 pub record EndsSource (ts : List CToken) : Type 0 where
@@ -98,9 +98,9 @@ pub record EndsSource (ts : List CToken) : Type 0 where
   pub ends : ends_source last ≡ true
 
 -- this token is the first that cannot be, where what can be is derived from this piece
-pub record FirstBad (p : Piece) (ts : List CToken) (t : CToken) (behind : List CToken) : Type 0 where
+pub record FirstBad (p : Piece) (ts : List CToken) (t : CToken) (after : List CToken) : Type 0 where
   pub before : List CToken
-  pub stands : ts ≡ before ++ t ∷ behind
+  pub stands : ts ≡ before ++ t ∷ after
   pub more : List CToken
   pub value : Value
   pub good : Derives p (before ++ more) value
@@ -127,30 +127,30 @@ not_stuck xs t others v s d =
     one_end _ _ _ s.leads (accepts xs v d) (cond_false (among (s.sort ∷ s.sorts) (kind t)) _ _ s.refused) refl in
     absurd (omega (arith, ap length (ap left_of h)))
 
-pub whole_means : (xs : List CToken) (u : Value) → Means (want SOURCE ∷ []) [] xs u → (v : Value) × Derives SOURCE xs v
-whole_means xs u m = (m.2, subst (λ l. Derives SOURCE l m.2) (sym (m.3 ∙ ap (λ l. m.0 ++ l) m.5.0 ∙ append-nil m.0)) m.4)
+pub source_means : (xs : List CToken) (u : Value) → Means (want SOURCE ∷ []) [] xs u → (v : Value) × Derives SOURCE xs v
+source_means xs u m = (m.2, subst (λ l. Derives SOURCE l m.2) (sym (m.3 ∙ ap (λ l. m.0 ++ l) m.5.0 ∙ append-nil m.0)) m.4)
 
 not_all : (ts xs : List CToken) (t : CToken) (more : List CToken) (v : Value) → EndsSource ts → ts ≡ xs ++ [] → Derives SOURCE (xs ++ t ∷ more) v → ⊥
 not_all ts xs t more v e h d =
-    let whole : xs ++ t ∷ more ≡ e.front ++ e.last ∷ t ∷ more = ap (λ l. l ++ t ∷ more) (sym (append-nil xs) ∙ sym h ∙ e.is) ∙ append_assoc e.front (e.last ∷ []) (t ∷ more) in
-    none_behind e.front e.last t more e.ends (source_ends _ v (subst (λ l. Derives SOURCE l v) whole d))
+    let same_tokens : xs ++ t ∷ more ≡ e.front ++ e.last ∷ t ∷ more = ap (λ l. l ++ t ∷ more) (sym (append-nil xs) ∙ sym h ∙ e.is) ∙ append_assoc e.front (e.last ∷ []) (t ∷ more) in
+    none_after e.front e.last t more e.ends (source_ends _ v (subst (λ l. Derives SOURCE l v) same_tokens d))
 
 -- where the machine is stuck
-pub first_bad : (ts rest : List CToken) → EndsSource ts → Refuses SOURCE ts rest → (t : CToken) × (behind : List CToken) × (rest ≡ t ∷ behind) × FirstBad SOURCE ts t behind
+pub first_bad : (ts rest : List CToken) → EndsSource ts → Refuses SOURCE ts rest → (t : CToken) × (after : List CToken) × (rest ≡ t ∷ after) × FirstBad SOURCE ts t after
 first_bad ts [] e f =
     let s = f.by [] [] in
     let b = back _ _ s.leads in
     let c = completes_one s.sort s.sorts s.tasks s.values in
-    let d = whole_means _ c.2 (b.2 (c.0 ∷ c.1) c.2 c.3) in
+    let d = source_means _ c.2 (b.2 (c.0 ∷ c.1) c.2 c.3) in
     absurd (not_all ts b.0 c.0 c.1 d.0 e b.1 d.1)
-first_bad ts (t ∷ behind) e f =
+first_bad ts (t ∷ after) e f =
     let s = f.by [] [] in
     let b = back _ _ s.leads in
     let c = completes_one s.sort s.sorts s.tasks s.values in
-    let d = whole_means _ c.2 (b.2 (c.0 ∷ c.1) c.2 c.3) in
-    let stop : Stop (at (t ∷ behind) (want (one_of s.sort s.sorts) ∷ s.tasks) s.values) t behind = record { sort = s.sort; sorts = s.sorts; tasks = s.tasks; values = s.values; is = refl; refused = s.refused } in (
+    let d = source_means _ c.2 (b.2 (c.0 ∷ c.1) c.2 c.3) in
+    let stop : Stop (at (t ∷ after) (want (one_of s.sort s.sorts) ∷ s.tasks) s.values) t after = record { sort = s.sort; sorts = s.sorts; tasks = s.tasks; values = s.values; is = refl; refused = s.refused } in (
       t,
-      behind,
+      after,
       refl,
       record {
         before = b.0;
@@ -158,15 +158,15 @@ first_bad ts (t ∷ behind) e f =
         more = c.0 ∷ c.1;
         value = d.0;
         good = d.1;
-        bad = λ others v g. not_stuck (b.0 ++ t ∷ others) t others v (replay _ _ s.leads t behind others b.0 stop (source_good, tt) b.1) g;
+        bad = λ others v g. not_stuck (b.0 ++ t ∷ others) t others v (replay _ _ s.leads t after others b.0 stop (source_good, tt) b.1) g;
       },
     )
 
 -- what is read is derived
 pub derived : (ts : List CToken) (v : Value) → Goes SOURCE ts v [] → Derives SOURCE ts v
-unfolding whole_means
+unfolding source_means
 derived ts v g =
     let b = back _ _ (g.by [] []) in
     let m = b.2 [] v (refl, refl) in
-    let d = whole_means (b.0 ++ []) v m in
+    let d = source_means (b.0 ++ []) v m in
     subst (λ w. Derives SOURCE ts w) m.5.1 (subst (λ l. Derives SOURCE l d.0) (sym b.1) d.1)

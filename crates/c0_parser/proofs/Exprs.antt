@@ -1,11 +1,11 @@
 -- What the functions of expressions need of the grammar: its pieces by levels of operators, and the parts of an expression one after another.
 use Rattle.std.proofs.Common.{◌≡◌, ◌<◌, List, [], ◌∷◌, length, map, refl, sym, ap, ◌∙◌, subst, arith, Ok, Err, Result}
-use Rattle.std.specs.Prelude.{Bool, true, false, not, ◌||◌, ◌&&◌, eqb}
+use Rattle.std.specs.Prelude.{Bool, true, false, not, ◌||◌, ◌&&◌}
 use Rattle.std.specs.Borrow.{Bor}
 use Rattle.c0_tokens.specs.Tokens.{CToken, token_view, lexeme_view, fixed}
 use Rattle.c0_tokens.specs.declared.token.Mark.TheVariants.{True, False, Null, OpenParen, CloseParen, OpenBracket, Dot, Arrow, Equal, NotEqual, Less, AtMost, Greater, AtLeast, Plus, Minus, Star, Slash, Percent, Not, Ampersand, And, Or}
 use Rattle.c0_tokens.specs.declared.token.Token.{Token}
-use Rattle.c0_parser.specs.Sorts.{Sort, place, mark, a_name, a_number, among}
+use Rattle.c0_parser.specs.Sorts.{Sort, mark, a_name, a_number, same_sort, among}
 use Rattle.c0_parser.specs.Value.{Value, token, pair, none, snoc, joined, chained, chain_value, suffixed, suffixes, primary_value, unary_value}
 use Rattle.c0_parser.specs.Grammar.{conjunction, equality, relation, sum, product, unary, postfix, primary, Piece, one_of, sign, ◌▸◌, many, maybe, the, production, meaning, EXPR, NAME}
 use Rattle.c0_parser.specs.Machine.{heads, kind, starts, picks, at, want, Leads, go, still}
@@ -35,7 +35,7 @@ or_skip false c = refl
 -- the next token is of the first sort or of one of the others
 pub heads_any_cons : (s : Sort) (ss : List Sort) (ts : List CToken) → heads_any (s ∷ ss) ts ≡ (heads (one_of s []) ts || heads_any ss ts)
 heads_any_cons s ss [] = refl
-heads_any_cons s ss (t ∷ ts) = or_skip (eqb (place s) (kind t)) (among ss (kind t))
+heads_any_cons s ss (t ∷ ts) = or_skip (same_sort s (kind t)) (among ss (kind t))
 
 -- a piece that begins with one of some sorts
 heads_any_pair : (s : Sort) (ss : List Sort) (b : Piece) (ts : List CToken) → heads (one_of s ss ▸ b) ts ≡ heads_any (s ∷ ss) ts
@@ -95,40 +95,40 @@ operation_heads Sum ts = heads_any_pair (mark Plus) (mark Minus ∷ []) (the pro
 operation_heads Product ts = heads_any_pair (mark Star) (mark Slash ∷ mark Percent ∷ []) (the unary) ts
 
 -- an operation
-pub goes_operation : (l : Level) (t : Token) (ts behind : List Token) {rest : List CToken} {v : Value} → ts ≡ t ∷ behind → among (map mark (marks_of l)) (kind (token_view t)) ≡ true
-    → Goes (the (operand_of l)) (seen behind) v rest → Goes (operation l) (seen ts) (pair (token (token_view t)) v) rest
-goes_operation l t ts behind e h g = goes_both (goes_operator l t ts behind e h) g
+pub goes_operation : (l : Level) (t : Token) (ts others : List Token) {rest : List CToken} {v : Value} → ts ≡ t ∷ others → among (map mark (marks_of l)) (kind (token_view t)) ≡ true
+    → Goes (the (operand_of l)) (seen others) v rest → Goes (operation l) (seen ts) (pair (token (token_view t)) v) rest
+goes_operation l t ts others e h g = goes_both (goes_operator l t ts others e h) g
 
-pub fails_operation : (l : Level) (t : Token) (ts behind : List Token) {h : Halt} → ts ≡ t ∷ behind → among (map mark (marks_of l)) (kind (token_view t)) ≡ true
-    → Fails (the (operand_of l)) (seen behind) h → Fails (operation l) (seen ts) h
-fails_operation l t ts behind e h f = fails_right (goes_operator l t ts behind e h) f
+pub fails_operation : (l : Level) (t : Token) (ts others : List Token) {h : Halt} → ts ≡ t ∷ others → among (map mark (marks_of l)) (kind (token_view t)) ≡ true
+    → Fails (the (operand_of l)) (seen others) h → Fails (operation l) (seen ts) h
+fails_operation l t ts others e h f = fails_right (goes_operator l t ts others e h) f
 
 -- an operator stands next, so an operation follows
-pub operation_here : (l : Level) (t : Token) (ts behind : List Token) → ts ≡ t ∷ behind → among (map mark (marks_of l)) (kind (token_view t)) ≡ true → heads (operation l) (seen ts) ≡ true
-operation_here l t ts behind e h = operation_heads l (seen ts) ∙ heads_any_here (map mark (marks_of l)) t ts behind e h
+pub operation_here : (l : Level) (t : Token) (ts others : List Token) → ts ≡ t ∷ others → among (map mark (marks_of l)) (kind (token_view t)) ≡ true → heads (operation l) (seen ts) ≡ true
+operation_here l t ts others e h = operation_heads l (seen ts) ∙ heads_any_here (map mark (marks_of l)) t ts others e h
 
 -- a chain of operators so far: its first operand, and the operations behind it
 pub record ChainSoFar (l : Level) (ts : List Token) (left : Part) (rest : List Token) : Type 0 where
   pub first : Value
   pub mid : List CToken
   pub operations : Value
-  pub begun : Goes (the (operand_of l)) (seen ts) first mid
+  pub first_goes : Goes (the (operand_of l)) (seen ts) first mid
   pub on : GoesOn (operation l) mid none (seen rest) operations
   pub is : IsPart left (chained first operations)
   pub inside : length rest < length ts
 
 -- a chain with one more operation
-pub chain_more : (l : Level) (ts rest behind after : List Token) (left right both : Part) (t : Token) (v : Value) → ChainSoFar l ts left rest → rest ≡ t ∷ behind → among (map mark (marks_of l)) (kind (token_view t)) ≡ true
-    → Goes (the (operand_of l)) (seen behind) v (seen after) → IsPart right v → length after < length behind
+pub chain_more : (l : Level) (ts rest others after : List Token) (left right both : Part) (t : Token) (v : Value) → ChainSoFar l ts left rest → rest ≡ t ∷ others → among (map mark (marks_of l)) (kind (token_view t)) ≡ true
+    → Goes (the (operand_of l)) (seen others) v (seen after) → IsPart right v → length after < length others
     → IsPart both (joined (part_value left) (pair (token (token_view t)) (part_value right))) → ChainSoFar l ts both after
-chain_more l ts rest behind after left right both t v c e h g is inside both_is = record {
+chain_more l ts rest others after left right both t v c e h g is inside both_is = record {
   first = c.first;
   mid = c.mid;
   operations = snoc c.operations (pair (token (token_view t)) v);
-  begun = c.begun;
-  on = list_item c.on (operation_here l t rest behind e h) (goes_operation l t rest behind e h g);
+  first_goes = c.first_goes;
+  on = list_item c.on (operation_here l t rest others e h) (goes_operation l t rest others e h g);
   is = ap (λ x. joined x (pair (token (token_view t)) v)) c.is ∙ ap (λ x. joined (part_value left) (pair (token (token_view t)) x)) is ∙ both_is;
-  inside = omega (arith, c.inside, shorter t rest behind e, inside);
+  inside = omega (arith, c.inside, shorter t rest others e, inside);
 }
 
 -- the chain ends where no operator follows
@@ -136,16 +136,16 @@ pub chain_ends : (l : Level) (ts rest : List Token) (left : Part) → ChainSoFar
     → (v : Value) × Goes (the (rule_of l)) (seen ts) v (seen rest) × IsPart left v × (length rest < length ts)
 chain_ends l ts rest left c chain e = (
   meaning (rule_of l) (pair c.first c.operations),
-  goes_the (rule_of l) (subst (λ p. Goes p (seen ts) (pair c.first c.operations) (seen rest)) (sym (production_chain l chain)) (goes_both c.begun (goes_many c.on (operation_heads l (seen rest) ∙ e)))),
+  goes_the (rule_of l) (subst (λ p. Goes p (seen ts) (pair c.first c.operations) (seen rest)) (sym (production_chain l chain)) (goes_both c.first_goes (goes_many c.on (operation_heads l (seen rest) ∙ e)))),
   level_meaning l (pair c.first c.operations) ∙ c.is,
   c.inside,
 )
 
 -- a right operand cannot be read
-pub chain_fails : (l : Level) (ts rest behind : List Token) (left : Part) (t : Token) (h : Halt) → ChainSoFar l ts left rest → chains l ≡ true → rest ≡ t ∷ behind → among (map mark (marks_of l)) (kind (token_view t)) ≡ true
-    → Fails (the (operand_of l)) (seen behind) h → Fails (the (rule_of l)) (seen ts) h
-chain_fails l ts rest behind left t h c chain e m f =
-    fails_the (rule_of l) (subst (λ p. Fails p (seen ts) h) (sym (production_chain l chain)) (fails_right c.begun (fails_many c.on (operation_here l t rest behind e m) (fails_operation l t rest behind e m f))))
+pub chain_fails : (l : Level) (ts rest others : List Token) (left : Part) (t : Token) (h : Halt) → ChainSoFar l ts left rest → chains l ≡ true → rest ≡ t ∷ others → among (map mark (marks_of l)) (kind (token_view t)) ≡ true
+    → Fails (the (operand_of l)) (seen others) h → Fails (the (rule_of l)) (seen ts) h
+chain_fails l ts rest others left t h c chain e m f =
+    fails_the (rule_of l) (subst (λ p. Fails p (seen ts) h) (sym (production_chain l chain)) (fails_right c.first_goes (fails_many c.on (operation_here l t rest others e m) (fails_operation l t rest others e m f))))
 
 -- the left operand cannot be read
 pub first_fails : (l : Level) (ts : List Token) (h : Halt) → Fails (the (operand_of l)) (seen ts) h → Fails (the (rule_of l)) (seen ts) h
@@ -173,33 +173,33 @@ pub record SuffixesSoFar (ts : List Token) (left : Part) (rest : List Token) : T
   pub first : Value
   pub mid : List CToken
   pub parts : Value
-  pub begun : Goes (the primary) (seen ts) first mid
+  pub first_goes : Goes (the primary) (seen ts) first mid
   pub on : GoesOn SUFFIX mid none (seen rest) parts
   pub is : IsPart left (suffixes first parts)
   pub inside : length rest < length ts
 
-pub suffixes_more : (ts rest after : List Token) (left whole : Part) (v : Value) → SuffixesSoFar ts left rest → heads SUFFIX (seen rest) ≡ true → Goes SUFFIX (seen rest) v (seen after) → IsPart whole (suffixed (part_value left) v)
-    → length after < length rest → SuffixesSoFar ts whole after
-suffixes_more ts rest after left whole v c h g is inside = record {
+pub suffixes_more : (ts rest after : List Token) (left longer : Part) (v : Value) → SuffixesSoFar ts left rest → heads SUFFIX (seen rest) ≡ true → Goes SUFFIX (seen rest) v (seen after) → IsPart longer (suffixed (part_value left) v)
+    → length after < length rest → SuffixesSoFar ts longer after
+suffixes_more ts rest after left longer v c h g is inside = record {
   first = c.first;
   mid = c.mid;
   parts = snoc c.parts v;
-  begun = c.begun;
+  first_goes = c.first_goes;
   on = list_item c.on h g;
   is = ap (λ x. suffixed x v) c.is ∙ is;
   inside = omega (arith, c.inside, inside);
 }
 
 pub suffixes_end : (ts rest : List Token) (left : Part) → SuffixesSoFar ts left rest → heads SUFFIX (seen rest) ≡ false → (v : Value) × Goes (the postfix) (seen ts) v (seen rest) × IsPart left v × (length rest < length ts)
-suffixes_end ts rest left c h = (suffixes c.first c.parts, goes_the postfix (goes_both c.begun (goes_many c.on h)), c.is, c.inside)
+suffixes_end ts rest left c h = (suffixes c.first c.parts, goes_the postfix (goes_both c.first_goes (goes_many c.on h)), c.is, c.inside)
 
 pub suffixes_fail : (ts rest : List Token) (left : Part) (h : Halt) → SuffixesSoFar ts left rest → heads SUFFIX (seen rest) ≡ true → Fails SUFFIX (seen rest) h → Fails (the postfix) (seen ts) h
-suffixes_fail ts rest left h c e f = fails_the postfix (fails_right c.begun (fails_many c.on e f))
+suffixes_fail ts rest left h c e f = fails_the postfix (fails_right c.first_goes (fails_many c.on e f))
 
 -- whether a suffix begins with one of its three marks
 pub suffix_heads : (ts : List CToken) → heads SUFFIX ts ≡ heads_any (mark Dot ∷ mark Arrow ∷ mark OpenBracket ∷ []) ts
 suffix_heads [] = refl
-suffix_heads (t ∷ ts) = three (eqb (place (mark Dot)) (kind t)) (eqb (place (mark Arrow)) (kind t)) (eqb (place (mark OpenBracket)) (kind t))
+suffix_heads (t ∷ ts) = three (same_sort (mark Dot) (kind t)) (same_sort (mark Arrow) (kind t)) (same_sort (mark OpenBracket) (kind t))
   where
     three : (a b c : Bool) → (((a || (b || false)) || false) || ((c || false) || false)) ≡ (a || (b || (c || false)))
     three true b c = refl
@@ -219,7 +219,7 @@ picks_element t ts rest e h =
 -- where a suffix begins, and with no opening bracket, it is a field
 pub field_here : (ts : List CToken) → heads SUFFIX ts ≡ true → heads (sign OpenBracket) ts ≡ false → heads_any (mark Dot ∷ mark Arrow ∷ []) ts ≡ true
 field_here [] h e = no_yes h
-field_here (t ∷ ts) h e = two (eqb (place (mark Dot)) (kind t)) (eqb (place (mark Arrow)) (kind t)) (eqb (place (mark OpenBracket)) (kind t) || false) h e
+field_here (t ∷ ts) h e = two (same_sort (mark Dot) (kind t)) (same_sort (mark Arrow) (kind t)) (same_sort (mark OpenBracket) (kind t) || false) h e
   where
     two : (a b c : Bool) → (((a || (b || false)) || false) || (c || false)) ≡ true → c ≡ false → (a || (b || false)) ≡ true
     two true b c h e = refl

@@ -33,7 +33,7 @@ record Decided (a b : Piece) : Type 0 where
   good_second : good b ≡ true
   some_first : nullable a ≡ false
   some_second : nullable b ≡ false
-  told : (apart (starts a) (starts b) ≡ true) ⊎ (call_or_expr a b ≡ true)
+  decided : (apart (starts a) (starts b) ≡ true) ⊎ (call_or_expr a b ≡ true)
 
 decided : (a b : Piece) → good (a or b) ≡ true → Decided a b
 decided a b g =
@@ -45,7 +45,7 @@ decided a b g =
       good_second = and_left (good b) _ g1;
       some_first = not_of (nullable a) (and_left (not (nullable a)) _ g2);
       some_second = not_of (nullable b) (and_left (not (nullable b)) _ g3);
-      told = either_of (apart (starts a) (starts b)) (call_or_expr a b) (and_right (not (nullable b)) _ g3);
+      decided = either_of (apart (starts a) (starts b)) (call_or_expr a b) (and_right (not (nullable b)) _ g3);
     }
 
 pub follows : {p : Piece} {xs : List CToken} {v : Value} → Derives p xs v → good p ≡ true → Follows p xs v
@@ -55,11 +55,11 @@ follows (both {a} {b} {xs} {ys} {v} {w} d e) g =
     reads_both a b xs ys v w (and_right (good b) _ g1) (begins e) (full a xs v (follows d (and_left (good a) _ g))) (full b ys w (follows e (and_left (good b) _ g1)))
 follows (first {a} {b} {xs} {v} d) g =
     let h = decided a b g in
-    reads_first a b xs v (first_picked a b xs v h.some_first h.told d) (full a xs v (follows d h.good_first))
+    reads_first a b xs v (first_picked a b xs v h.some_first h.decided d) (full a xs v (follows d h.good_first))
 follows (second {a} {b} {xs} {v} d) g =
     let h = decided a b g in
     let f = full b xs v (follows d h.good_second) in
-    reads_second a b xs v (second_picked a b xs v h.some_second h.told (begins d) f) f
+    reads_second a b xs v (second_picked a b xs v h.some_second h.decided (begins d) f) f
 follows (no_more {a}) g = follows_no_more a
 follows (one_more {a} {xs} {ys} {v} {w} d e) g =
     let g1 = and_right (good a) _ g in

@@ -17,3 +17,5 @@ pub mod PlainTexts
 pub mod Plain
 pub mod StructFields
 pub mod PlainSources
+pub mod Shapes
+pub mod ItemsOf

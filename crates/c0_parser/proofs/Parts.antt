@@ -5,7 +5,7 @@ use Rattle.c0_tokens.specs.declared.token.Token.{Token}
 use Rattle.c0_tree.specs.declared.tree.Span.{Span}
 use Rattle.c0_tree.specs.Tree.{CName, CTy, named, CDecl, CBody, asm, CFunction, CStruct}
 use Rattle.c0_parser.specs.Value.{Value, token, pair, none, snoc, type, body, a_struct, a_function, place_of, across, text_of, name_at, base_value, type_suffixes, decl_of, decls_from, params_of, body_value, defined, defined_at, struct_of}
-use Rattle.c0_parser.specs.Factored.{declared_as, told, factored_value}
+use Rattle.c0_parser.specs.Factored.{declared_as, item_after_name, factored_value}
 use Rattle.c0_parser.specs.Views.{typed, item_view, IsDefined}
 use Rattle.c0_parser.specs.declared.types.Typed.{Typed}
 use Rattle.c0_parser.specs.declared.items.Item.{Item}
@@ -41,10 +41,10 @@ struct_meaning y a f q s t u o m ds n e g h i =
 none_type : (s : Span) (t : CTy) → none ≡ type s t → ⊥
 none_type s t e = cc
 
-pub told_defined : (t y : CToken) (base l w : Value) (s : Span) (ty : CTy) → type_suffixes base l ≡ type s ty → told t y (pair l w) ≡ declared_as (base_value (pair (token t) (token y))) (pair l w)
-told_defined t y base none w s ty e = refl
-told_defined t y base (snoc l x) w s ty e = refl
-told_defined t y base _ w s ty e = absurd (none_type s ty e)
+pub item_after_name_defined : (t y : CToken) (base l w : Value) (s : Span) (ty : CTy) → type_suffixes base l ≡ type s ty → item_after_name t y (pair l w) ≡ declared_as (base_value (pair (token t) (token y))) (pair l w)
+item_after_name_defined t y base none w s ty e = refl
+item_after_name_defined t y base (snoc l x) w s ty e = refl
+item_after_name_defined t y base _ w s ty e = absurd (none_type s ty e)
 
 pub factored_defined : (t : CToken) (base l w : Value) (s : Span) (ty : CTy) → type_suffixes base l ≡ type s ty → factored_value (pair (token t) (pair l w)) ≡ declared_as (base_value (token t)) (pair l w)
 factored_defined t base none w s ty e = refl
@@ -56,9 +56,9 @@ pub struct_typed : (t y : CToken) (m : CName) → name_at y ≡ m → base_value
 struct_typed t y m e = ap (λ z. type (across (place_of t) z.span) (named z)) e
 
 -- an item behind the first words of its type
-pub told_is : (t y : CToken) (m : CName) (b : Typed) (i : Item) (v : Value) → name_at y ≡ m → typed b ≡ type (across (place_of t) m.span) (named m) → IsDefined b i v → told t y v ≡ item_view i
-told_is t y m b i v g e d =
-    ap (told t y) d.parts ∙ told_defined t y (typed b) d.suffixes d.others d.span d.ty d.typed_so
+pub item_after_name_is : (t y : CToken) (m : CName) (b : Typed) (i : Item) (v : Value) → name_at y ≡ m → typed b ≡ type (across (place_of t) m.span) (named m) → IsDefined b i v → item_after_name t y v ≡ item_view i
+item_after_name_is t y m b i v g e d =
+    ap (item_after_name t y) d.parts ∙ item_after_name_defined t y (typed b) d.suffixes d.others d.span d.ty d.typed_so
     ∙ ap (λ z. declared_as z (pair d.suffixes d.others)) (struct_typed t y m g ∙ sym e) ∙ ap (declared_as (typed b)) (sym d.parts) ∙ d.is
 
 pub basic_is : (t : CToken) (b : Typed) (i : Item) (a v : Value) → a ≡ token t → base_value (token t) ≡ typed b → IsDefined b i v → factored_value (pair a v) ≡ item_view i

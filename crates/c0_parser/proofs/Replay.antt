@@ -118,9 +118,9 @@ call_not_stuck false c t text after st vs e h =
 true_false : (a : Bool) → a ≡ true → a ≡ false → ⊥
 true_false a e f = cc
 
-told_of : (a b : Bool) → (a || b) ≡ true → (a ≡ true) ⊎ (b ≡ true)
-told_of true b e = inl refl
-told_of false b e = inr e
+one_holds : (a b : Bool) → (a || b) ≡ true → (a ≡ true) ⊎ (b ≡ true)
+one_holds true b e = inl refl
+one_holds false b e = inr e
 
 -- where two pieces can begin with the token, it is a name, and is taken
 not_both : (x : Bool) (a b : Piece) (t : CToken) (after : List CToken) (st : List Task) (vs : List Value) → (apart (starts a) (starts b) ≡ true) ⊎ (call_or_expr a b ≡ true) →
@@ -133,8 +133,8 @@ not_both x a b t after st vs (inr h) e f g =
     (subst (λ p. Ends (at (t ∷ after) (want (cond x (NAME ▸ sign OpenParen ▸ c.0) p) ∷ st) vs) t after) c.2
     (subst (λ p. Ends (at (t ∷ after) (want (cond x p b) ∷ st) vs) t after) c.1 e))
 
-good_told : (a b : Piece) → good (a or b) ≡ true → (apart (starts a) (starts b) ≡ true) ⊎ (call_or_expr a b ≡ true)
-good_told a b g = told_of (apart (starts a) (starts b)) (call_or_expr a b) (and_right (not (nullable b)) _ (and_right (not (nullable a)) _ (and_right (good b) _ (and_right (good a) _ g))))
+good_decides : (a b : Piece) → good (a or b) ≡ true → (apart (starts a) (starts b) ≡ true) ⊎ (call_or_expr a b ≡ true)
+good_decides a b g = one_holds (apart (starts a) (starts b)) (call_or_expr a b) (and_right (not (nullable b)) _ (and_right (not (nullable a)) _ (and_right (good b) _ (and_right (good a) _ g))))
 
 -- a step once more, with other tokens behind the one at which the machine is stuck
 Again : List CToken → CToken → List CToken → List CToken → State → State → Type 0
@@ -168,7 +168,7 @@ again_or : (a b : Piece) (xs : List CToken) (t : CToken) (after others : List CT
     AgainIn xs t after others (at (xs ++ t ∷ after) (want (a or b) ∷ st) vs) (Some (at (xs ++ t ∷ after) (want (cond (picks a b (xs ++ t ∷ after)) a b) ∷ st) vs))
 unfolding Again
 again_or a b [] t after others st vs g h =
-    let e : picks a b (t ∷ after) ≡ picks a b (t ∷ others) = one_picks (starts a (kind t)) (starts b (kind t)) (heads (sign OpenParen) after) (heads (sign OpenParen) others) (not_both (picks a b (t ∷ after)) a b t after st vs (good_told a b g) h) in
+    let e : picks a b (t ∷ after) ≡ picks a b (t ∷ others) = one_picks (starts a (kind t)) (starts b (kind t)) (heads (sign OpenParen) after) (heads (sign OpenParen) others) (not_both (picks a b (t ∷ after)) a b t after st vs (good_decides a b g) h) in
     ([], refl, go _ (at (t ∷ others) (want (cond (picks a b (t ∷ after)) a b) ∷ st) vs) _ (ap (λ c. Some (at (t ∷ others) (want (cond c a b) ∷ st) vs)) (sym e)) (still _))
 again_or a b (x ∷ xs) t after others st vs g h = (
   x ∷ xs,

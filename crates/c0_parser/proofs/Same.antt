@@ -4,7 +4,7 @@ use Rattle.c0_tokens.specs.Tokens.{CToken}
 use Rattle.c0_tokens.specs.declared.token.Mark.TheVariants.{Struct}
 use Rattle.c0_parser.specs.Value.{Value, token, pair, none, snoc, type, decl_of, defined_at, item_value, base_value, type_suffixes, struct_in, global_in, function_in, structs, globals, functions}
 use Rattle.c0_parser.specs.Grammar.{type as type_rule, decl as decl_rule, Piece, sign, many, NAME, BASIC, SUFFIXES, ITEM, UNIT, Derives, taken, both, first, second, no_more, one_more, made}
-use Rattle.c0_parser.specs.Factored.{BEHIND, FACTORED, SOURCE, declared_as, told, factored_value, factored_structs, factored_globals, factored_functions}
+use Rattle.c0_parser.specs.Factored.{AFTER_DECL, FACTORED, SOURCE, declared_as, item_after_name, factored_value, factored_structs, factored_globals, factored_functions}
 
 -- a declaration and what stands behind it
 declared : (t : Value) (x : CToken) (v : Value) → item_value (pair (decl_of t x) v) ≡ defined_at (decl_of t x) v
@@ -21,10 +21,10 @@ list_like : {a : Piece} {xs : List CToken} {v : Value} → Derives (many a) xs v
 list_like no_more = tt
 list_like (one_more d e) = tt
 
-told_list : (t x : CToken) (l w : Value) → ListLike l → told t x (pair l w) ≡ declared_as (base_value (pair (token t) (token x))) (pair l w)
-told_list t x none w h = refl
-told_list t x (snoc l y) w h = refl
-told_list t x _ w h = absurd h
+item_after_name_list : (t x : CToken) (l w : Value) → ListLike l → item_after_name t x (pair l w) ≡ declared_as (base_value (pair (token t) (token x))) (pair l w)
+item_after_name_list t x none w h = refl
+item_after_name_list t x (snoc l y) w h = refl
+item_after_name_list t x _ w h = absurd h
 
 factored_list : (t : CToken) (l w : Value) → ListLike l → factored_value (pair (token t) (pair l w)) ≡ declared_as (base_value (token t)) (pair l w)
 factored_list t none w h = refl
@@ -37,7 +37,7 @@ record Other (p : Piece) (xs : List CToken) (f : Value → Value) (meant_ : Valu
   derives : Derives p xs value
   same : f value ≡ meant_
 
-to_basic : (t x : CToken) (xs ys : List CToken) (l v : Value) → Derives BASIC (t ∷ []) (token t) → Derives SUFFIXES xs l → Derives NAME (x ∷ []) (token x) → Derives BEHIND ys v →
+to_basic : (t x : CToken) (xs ys : List CToken) (l v : Value) → Derives BASIC (t ∷ []) (token t) → Derives SUFFIXES xs l → Derives NAME (x ∷ []) (token x) → Derives AFTER_DECL ys v →
     Other FACTORED ((((t ∷ []) ++ xs) ++ x ∷ []) ++ ys) factored_value (item_value (pair (decl_of (type_suffixes (base_value (token t)) l) x) v))
 to_basic t x xs ys l v b d n e = record {
   value = pair (token t) (pair l (pair (token x) v));
@@ -45,12 +45,12 @@ to_basic t x xs ys l v b d n e = record {
   same = factored_list t l (pair (token x) v) (list_like d) ∙ sym (declared (type_suffixes (base_value (token t)) l) x v);
 }
 
-to_struct : (t s x : CToken) (xs ys : List CToken) (l v : Value) → Derives (sign Struct) (t ∷ []) (token t) → Derives NAME (s ∷ []) (token s) → Derives SUFFIXES xs l → Derives NAME (x ∷ []) (token x) → Derives BEHIND ys v →
+to_struct : (t s x : CToken) (xs ys : List CToken) (l v : Value) → Derives (sign Struct) (t ∷ []) (token t) → Derives NAME (s ∷ []) (token s) → Derives SUFFIXES xs l → Derives NAME (x ∷ []) (token x) → Derives AFTER_DECL ys v →
     Other FACTORED ((((t ∷ s ∷ []) ++ xs) ++ x ∷ []) ++ ys) factored_value (item_value (pair (decl_of (type_suffixes (base_value (pair (token t) (token s))) l) x) v))
 to_struct t s x xs ys l v b m d n e = record {
   value = pair (token t) (pair (token s) (pair l (pair (token x) v)));
   derives = subst (λ z. Derives FACTORED (t ∷ s ∷ z) (pair (token t) (pair (token s) (pair l (pair (token x) v))))) (sym (append_assoc xs (x ∷ []) ys)) (first (both b (both m (second (both d (both n e))))));
-  same = told_list t s l (pair (token x) v) (list_like d) ∙ sym (declared (type_suffixes (base_value (pair (token t) (token s))) l) x v);
+  same = item_after_name_list t s l (pair (token x) v) (list_like d) ∙ sym (declared (type_suffixes (base_value (pair (token t) (token s))) l) x v);
 }
 
 to_factored : {xs : List CToken} {v : Value} → Derives ITEM xs v → Other FACTORED xs factored_value (item_value v)
@@ -65,7 +65,7 @@ from_factored (first (both (taken i is t h) (both (taken j js x k) (first (both 
 from_factored (first (both (taken i is t h) (both (taken m ms s g) (second (both {xs = xs} {v = l} d (both {ys = ys} {w = v} (taken j js x k) e)))))) = record {
   value = pair (decl_of (type_suffixes (base_value (pair (token t) (token s))) l) x) v;
   derives = subst (λ z. Derives ITEM (t ∷ s ∷ z) (pair (decl_of (type_suffixes (base_value (pair (token t) (token s))) l) x) v)) (append_assoc xs (x ∷ []) ys) (second (both (made decl_rule (both (made type_rule (both (second (both (taken i is t h) (taken m ms s g))) d)) (taken j js x k))) e));
-  same = declared (type_suffixes (base_value (pair (token t) (token s))) l) x v ∙ sym (told_list t s l (pair (token x) v) (list_like d));
+  same = declared (type_suffixes (base_value (pair (token t) (token s))) l) x v ∙ sym (item_after_name_list t s l (pair (token x) v) (list_like d));
 }
 from_factored (second (both (taken i is t h) (both {xs = xs} {v = l} d (both {ys = ys} {w = v} (taken j js x k) e)))) = record {
   value = pair (decl_of (type_suffixes (base_value (token t)) l) x) v;

@@ -1,14 +1,14 @@
 -- Each piece derives something, so whatever is still wanted can be completed.
 use Rattle.std.proofs.Common.{◌≡◌, List, [], ◌∷◌, ◌++◌, refl, ap, ◌∙◌}
 use Rattle.std.specs.Prelude.{◌||◌}
-use Rattle.std.proofs.lemmas.Bool.{eq-eqb}
 use Rattle.c0_tokens.specs.declared.token.TokenFault.TheVariants.{BadByte}
 use Rattle.c0_tokens.specs.Tokens.{CToken, CLexeme, name, number, asm_text, fixed, faulty, end}
-use Rattle.c0_parser.specs.Sorts.{Sort, mark, a_name, a_number, an_asm_text, the_end, a_fault, sort, place, among}
+use Rattle.c0_parser.specs.Sorts.{Sort, mark, a_name, a_number, an_asm_text, the_end, a_fault, sort, among}
 use Rattle.c0_parser.specs.Value.{Value, token}
 use Rattle.c0_parser.specs.Grammar.{Rule, disjunction, conjunction, equality, relation, sum, product, unary, postfix, primary, type, decl, block, statement, code, body, Piece, one_of, ◌▸◌, ◌or◌, many, maybe, the, production, Derives, taken, both, first, second, no_more, left_out, made}
 use Rattle.c0_parser.specs.Machine.{Task, want, more, act}
 use Rattle.c0_parser.proofs.Sound.{Means, top, no_more_of}
+use Rattle.c0_parser.proofs.Tables.{same_sort_refl}
 
 lexeme_of : Sort → CLexeme
 lexeme_of (mark m) = fixed m
@@ -36,7 +36,7 @@ record Sample (p : Piece) : Type 0 where
 a_token : (s : Sort) (ss : List Sort) → Sample (one_of s ss)
 a_token s ss =
     let t : CToken = record { lexeme = lexeme_of s; start = 0; stop = 0 } in
-    record { tokens = _; value = _; derives = taken s ss t (ap (λ x. among (s ∷ ss) (place x)) (sort_of s) ∙ ap (λ x. x || among ss (place s)) (eq-eqb (place s) (place s) refl)) }
+    record { tokens = _; value = _; derives = taken s ss t (ap (λ x. among (s ∷ ss) x) (sort_of s) ∙ ap (λ x. x || among ss s) (same_sort_refl s)) }
 
 pair_of : (a b : Piece) → Sample a → Sample b → Sample (a ▸ b)
 pair_of a b x y = record { tokens = _; value = _; derives = both x.derives y.derives }
@@ -144,4 +144,4 @@ pub completes_one : (s : Sort) (ss : List Sort) (st : List Task) (vs : List Valu
 completes_one s ss st vs =
     let t : CToken = record { lexeme = lexeme_of s; start = 0; stop = 0 } in
     let c = completes st (token t ∷ vs) in
-    (t, c.0, c.1, (t ∷ [], c.0, token t, refl, taken s ss t (ap (λ x. among (s ∷ ss) (place x)) (sort_of s) ∙ ap (λ x. x || among ss (place s)) (eq-eqb (place s) (place s) refl)), c.2))
+    (t, c.0, c.1, (t ∷ [], c.0, token t, refl, taken s ss t (ap (λ x. among (s ∷ ss) x) (sort_of s) ∙ ap (λ x. x || among ss s) (same_sort_refl s)), c.2))

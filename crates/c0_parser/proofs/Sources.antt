@@ -1,23 +1,22 @@
 -- What a whole source reads as, from what the machine does with its tokens.
 use Rattle.std.proofs.Common.{◌≡◌, ℕ, ◌≤◌, List, [], ◌∷◌, ◌++◌, map, length, refl, sym, ap, ◌∙◌, subst, arith, append_assoc, length-append}
-use Rattle.std.specs.Prelude.{Bool, true, false, eqb}
-use Rattle.std.proofs.lemmas.Bool.{eqb-true}
+use Rattle.std.specs.Prelude.{Bool, true, false}
 use Rattle.c0_tokens.specs.declared.token.TokenFault.TheVariants as token_fault
 use Rattle.c0_tokens.specs.declared.token.Token.{Token}
-use Rattle.c0_tokens.specs.Tokens.{CToken, CLexeme, fixed, faulty, end, token_view}
+use Rattle.c0_tokens.specs.Tokens.{CToken, CLexeme, faulty, end, token_view}
 use Rattle.c0_tokens.specs.Lexis.{is_last}
 use Rattle.c0_tokens.specs.Nesting.{tokens_of}
 use Rattle.c0_tokens.specs.Order.{EndsOnce}
 use Rattle.c0_tree.specs.Tree.{CUnit, CStruct, CDecl, CFunction}
 use Rattle.c0_tree.specs.View.{struct_view, decl_view, function_view}
-use Rattle.c0_parser.specs.Sorts.{Sort, sort, place, mark_place, the_end, a_fault, among}
+use Rattle.c0_parser.specs.Sorts.{Sort, sort, the_end, a_fault, among}
 use Rattle.c0_parser.specs.Value.{Value, token, pair, snoc, struct_in, global_in, function_in, globals, functions, unit_of}
 use Rattle.c0_parser.specs.Grammar.{one_of, the, decl, Derives, taken, both}
 use Rattle.c0_parser.specs.Factored.{FACTORED, SOURCE, factored_value, factored_structs, factored_globals, factored_functions}
 use Rattle.c0_parser.specs.Machine.{kind, heads, starts}
 use Rattle.c0_parser.specs.Contract.{seen, Goes, Refuses, Fails}
 use Rattle.c0_parser.specs.Faults.{Reads, IsFirstBad, fault_by, fault_at, FaultIs}
-use Rattle.c0_parser.specs.Whole.{AreItems, IsAdded, ReadsWhole, Whole}
+use Rattle.c0_parser.specs.ToEnd.{AreItems, IsAdded, ReadsToEnd, GivesToEnd}
 use Rattle.c0_parser.specs.Views.{item_view}
 use Rattle.c0_parser.specs.declared.items.Item.{Item}
 use Rattle.c0_parser.specs.declared.reader.Halt.{Halt}
@@ -26,9 +25,9 @@ use Rattle.std.specs.Prelude.{Result, Ok, Err}
 use Rattle.std.specs.Result.{IsErrAnd}
 use Rattle.c0_parser.specs.declared.fault.ReadFault.{ReadFault}
 use Rattle.c0_parser.specs.declared.source.Items.{Items}
-use Rattle.c0_parser.proofs.Tables.{within_at, mark_late, no_yes, or_false}
+use Rattle.c0_parser.proofs.Tables.{within_at, no_yes}
 use Rattle.c0_parser.proofs.Sound.{back}
-use Rattle.c0_parser.proofs.Exact.{ends_source, EndsSource, first_bad, derived, one_meaning, whole_means}
+use Rattle.c0_parser.proofs.Exact.{ends_source, EndsSource, first_bad, derived, one_meaning, source_means}
 use Rattle.c0_parser.proofs.Steps.{seen_length, goes_one}
 use Rattle.c0_parser.proofs.Same.{SameItems, unit_to, unit_from}
 
@@ -47,8 +46,8 @@ no_item (t ∷ ts) h = not_by (starts (the decl) (kind t)) (starts FACTORED (kin
 
 -- a token that ends the tokens of a source
 last_ends : (t : CToken) (l : CLexeme) → l ≡ t.lexeme → is_last l ≡ true → ends_source t ≡ true
-last_ends t end e h = ap (λ x. among (the_end ∷ a_fault ∷ []) (place (sort x))) (sym e)
-last_ends t (faulty f) e h = ap (λ x. among (the_end ∷ a_fault ∷ []) (place (sort x))) (sym e)
+last_ends t end e h = ap (λ x. among (the_end ∷ a_fault ∷ []) (sort x)) (sym e)
+last_ends t (faulty f) e h = ap (λ x. among (the_end ∷ a_fault ∷ []) (sort x)) (sym e)
 last_ends t _ e h = no_yes h
 
 pub ends : (ts : List CToken) → EndsOnce ts → EndsSource ts
@@ -56,9 +55,8 @@ ends [] h = absurd h
 ends (t ∷ []) h = record { front = []; last = t; is = refl; ends = last_ends t t.lexeme refl h }
 ends (t ∷ u ∷ ts) h = let e = ends (u ∷ ts) h.1 in record { front = t ∷ e.front; last = e.last; is = ap (λ l. t ∷ l) e.is; ends = e.ends }
 
-end_is_last : (l : CLexeme) → among (the_end ∷ []) (place (sort l)) ≡ true → is_last l ≡ true
+end_is_last : (l : CLexeme) → among (the_end ∷ []) (sort l) ≡ true → is_last l ≡ true
 end_is_last end h = refl
-end_is_last (fixed m) h = absurd (omega (arith, mark_late m, eqb-true 3 (mark_place m) (or_false (eqb 3 (mark_place m)) h)))
 end_is_last (faulty f) h = refl
 end_is_last _ h = no_yes h
 
@@ -67,17 +65,17 @@ not_last [] t u r h = h.0
 not_last (y ∷ []) t u r h = not_last [] t u r h.1
 not_last (y ∷ z ∷ ys) t u r h = not_last (z ∷ ys) t u r h.1
 
-nothing_behind : (xs rest : List CToken) (v : Value) → Derives SOURCE xs v → EndsOnce (xs ++ rest) → rest ≡ []
-nothing_behind _ [] _ d h = refl
-nothing_behind _ (u ∷ r) _ (both {xs = ys} d (taken s ss t k)) h = absurd (no_yes (sym (not_last ys t u r h) ∙ end_is_last t.lexeme k))
+nothing_after : (xs rest : List CToken) (v : Value) → Derives SOURCE xs v → EndsOnce (xs ++ rest) → rest ≡ []
+nothing_after _ [] _ d h = refl
+nothing_after _ (u ∷ r) _ (both {xs = ys} d (taken s ss t k)) h = absurd (no_yes (sym (not_last ys t u r h) ∙ end_is_last t.lexeme k))
 
 -- a source is read to the end of its tokens
 pub read_to_end : (ts rest : List CToken) (v : Value) → EndsOnce ts → Goes SOURCE ts v rest → Derives SOURCE ts v
 read_to_end ts rest v h g =
     let b = back _ _ (g.by [] []) in
     let m = b.2 [] v (refl, refl) in
-    let d = whole_means (b.0 ++ []) v m in
-    let none_left : rest ≡ [] = nothing_behind (b.0 ++ []) rest d.0 d.1 (subst EndsOnce (b.1 ∙ ap (λ l. l ++ rest) (sym (all_of b.0))) h) in
+    let d = source_means (b.0 ++ []) v m in
+    let none_left : rest ≡ [] = nothing_after (b.0 ++ []) rest d.0 d.1 (subst EndsOnce (b.1 ∙ ap (λ l. l ++ rest) (sym (all_of b.0))) h) in
     derived ts v (subst (Goes SOURCE ts v) none_left g)
   where
     all_of : (l : List CToken) → l ++ [] ≡ l
@@ -104,7 +102,7 @@ same_fields : (a b c d : Value) → pair a b ≡ pair c d → (a ≡ c) × (b �
 same_fields a b c d e = (cc, cc)
 
 -- what is read is what the grammar derives
-pub reads_found : (source : List ℕ) (ts : List Token) (i : Items) → seen ts ≡ tokens_of source → EndsOnce (tokens_of source) → ReadsWhole ts i → Reads source (unit_seen (length source) i)
+pub reads_found : (source : List ℕ) (ts : List Token) (i : Items) → seen ts ≡ tokens_of source → EndsOnce (tokens_of source) → ReadsToEnd ts i → Reads source (unit_seen (length source) i)
 reads_found source ts i e h r =
     let d = subst (λ l. Derives SOURCE l (pair r.items r.stop)) e (read_to_end (seen ts) r.rest (pair r.items r.stop) (subst EndsOnce (sym e) h) r.goes) in
     let u = unit_from (tokens_of source) (pair r.items r.stop) d in
@@ -131,7 +129,7 @@ not_read source rest u h f r =
     b.3.bad b.1 (pair g.2 g.1) (subst (λ l. Derives SOURCE l (pair g.2 g.1)) b.3.stands g.4)
 
 -- and the token is the first that cannot be
-pub is_first_bad : (source : List ℕ) (rest : List CToken) → EndsOnce (tokens_of source) → Refuses SOURCE (tokens_of source) rest → (t : CToken) × (behind : List CToken) × (rest ≡ t ∷ behind) × IsFirstBad (tokens_of source) t
+pub is_first_bad : (source : List ℕ) (rest : List CToken) → EndsOnce (tokens_of source) → Refuses SOURCE (tokens_of source) rest → (t : CToken) × (after : List CToken) × (rest ≡ t ∷ after) × IsFirstBad (tokens_of source) t
 is_first_bad source rest h f =
     let b = first_bad (tokens_of source) rest (ends (tokens_of source) h) f in
     let k = b.3 in
@@ -141,7 +139,7 @@ is_first_bad source rest h f =
       b.2,
       record {
         before = k.before;
-        behind = b.1;
+        after = b.1;
         stands = k.stands;
         good = (k.more, pair g.2 g.1, g.4);
         bad = λ p.
@@ -170,7 +168,7 @@ seen_same : (us : List Token) (ys : List CToken) → seen us ≡ ys → length u
 seen_same us ys e = sym (seen_length us) ∙ ap length e
 
 -- a token of the source's tokens in its place among the tokens in memory
-pub in_place : (ts : List Token) (a : List CToken) (t : CToken) (b : List CToken) → seen ts ≡ a ++ t ∷ b → (before : List Token) × (u : Token) × (behind : List Token) × (ts ≡ before ++ u ∷ behind) × (token_view u ≡ t) × (length behind ≡ length b)
+pub in_place : (ts : List Token) (a : List CToken) (t : CToken) (b : List CToken) → seen ts ≡ a ++ t ∷ b → (before : List Token) × (u : Token) × (after : List Token) × (ts ≡ before ++ u ∷ after) × (token_view u ≡ t) × (length after ≡ length b)
 in_place [] [] t b e = absurd (omega (arith, ap length e))
 in_place [] (x ∷ a) t b e = absurd (omega (arith, ap length e))
 in_place (u ∷ ts) [] t b e = ([], u, ts, refl, first_same (token_view u) t (seen ts) b e, seen_same ts b (rest_of (token_view u) t (seen ts) b e))
@@ -187,9 +185,9 @@ items_more v x all item i a e d = record {
 }
 
 -- where a `?` leaves
-pub exits_whole : (ts : List Token) (r : Result Items Halt) (e : Halt) → IsErrAnd r (λ y. y ≡ e) → Fails SOURCE (seen ts) e → Whole ts r
-exits_whole ts (Ok x) e h f = absurd h
-exits_whole ts (Err y) e h f = subst (Fails SOURCE (seen ts)) (sym h) f
+pub exits_to_end : (ts : List Token) (r : Result Items Halt) (e : Halt) → IsErrAnd r (λ y. y ≡ e) → Fails SOURCE (seen ts) e → GivesToEnd ts r
+exits_to_end ts (Ok x) e h f = absurd h
+exits_to_end ts (Err y) e h f = subst (Fails SOURCE (seen ts)) (sym h) f
 
 -- a token that may stand next is taken
 pub goes_heads : (s : Sort) (ss : List Sort) (ts : List CToken) → heads (one_of s ss) ts ≡ true → (t : CToken) × (rest : List CToken) × Goes (one_of s ss) ts (token t) rest
@@ -218,12 +216,12 @@ fits source ts us n e g h f =
 pub not_read_so : (source : List ℕ) (ts : List Token) (n : ℕ) (u : CUnit) → seen ts ≡ tokens_of source → EndsOnce (tokens_of source) → Fails SOURCE (seen ts) (Left n) → Reads source u → ⊥
 not_read_so source ts n u e h f r = let g = refused source ts n e f in not_read source g.0 u h g.1 r
 
-pub fault_told : (source : List ℕ) (ts us : List Token) (n : ℕ) (x : ReadFault) → length source ≤ 1048576 → seen ts ≡ tokens_of source → seen us ≡ tokens_of source → EndsOnce (tokens_of source) → Fails SOURCE (seen ts) (Left n) →
-    ((before behind : List Token) (t : Token) → us ≡ before ++ t ∷ behind → length (t ∷ behind) ≡ n → x ≡ fault_at (token_view t)) → FaultIs source x
-fault_told source ts us n x le e g h f told =
+pub fault_of_first_bad : (source : List ℕ) (ts us : List Token) (n : ℕ) (x : ReadFault) → length source ≤ 1048576 → seen ts ≡ tokens_of source → seen us ≡ tokens_of source → EndsOnce (tokens_of source) → Fails SOURCE (seen ts) (Left n) →
+    ((before after : List Token) (t : Token) → us ≡ before ++ t ∷ after → length (t ∷ after) ≡ n → x ≡ fault_at (token_view t)) → FaultIs source x
+fault_of_first_bad source ts us n x le e g h f is_fault =
     let r = refused source ts n e f in
     let b = is_first_bad source r.0 h r.1 in
     let at_front : tokens_of source ≡ first_bad_before source r.0 h r.1 ++ b.0 ∷ b.1 = first_bad_stands source r.0 h r.1 ∙ ap (λ l. first_bad_before source r.0 h r.1 ++ l) b.2 in
     let p = in_place us (first_bad_before source r.0 h r.1) b.0 b.1 (g ∙ at_front) in
-    let is : x ≡ fault_at b.0 = told p.0 p.2 p.1 p.3 (omega (arith, p.5, r.2, ap length b.2)) ∙ ap fault_at p.4 in
+    let is : x ≡ fault_at b.0 = is_fault p.0 p.2 p.1 p.3 (omega (arith, p.5, r.2, ap length b.2)) ∙ ap fault_at p.4 in
     subst (FaultIs source) (sym is) (fault_is source b.0 le b.3)

@@ -1,14 +1,13 @@
 -- How what is read, or refused, of the parts of a piece makes what is read, or refused, of the piece.
 use Rattle.std.proofs.Common.{◌≡◌, ℕ, ◌<◌, List, [], ◌∷◌, ◌++◌, length, map, append_assoc, refl, sym, ap, ◌∙◌, subst, arith, Some}
-use Rattle.std.specs.Prelude.{Bool, true, false, not, eqb, ◌&&◌, ◌||◌}
-use Rattle.std.proofs.lemmas.Bool.{eq-eqb}
+use Rattle.std.specs.Prelude.{Bool, true, false, not, ◌&&◌, ◌||◌}
 use Rattle.std.proofs.lemmas.List.{map-append, append-nil}
-use Rattle.c0_parser.proofs.Tables.{apart, apart_at}
+use Rattle.c0_parser.proofs.Tables.{apart, apart_at, same_sort_refl}
 use Rattle.c0_tokens.specs.Tokens.{CToken, CLexeme, name, number, fixed, token_view, lexeme_view}
 use Rattle.c0_tokens.specs.declared.token.Mark.{Mark}
 use Rattle.c0_tokens.specs.declared.token.Mark.TheVariants.{OpenParen}
 use Rattle.c0_tokens.specs.declared.token.Token.{Token}
-use Rattle.c0_parser.specs.Sorts.{Sort, mark, a_name, a_number, mark_place, place, sort, among}
+use Rattle.c0_parser.specs.Sorts.{Sort, mark, a_name, a_number, sort, same_sort, among}
 use Rattle.c0_parser.specs.Value.{Value, token, pair, none, snoc, type, decl, name_at, text_of, place_of, across, base_value, decl_value, decls, decls_in}
 use Rattle.c0_tree.specs.declared.tree.Decl.{Decl}
 use Rattle.c0_tree.specs.View.{decl_view}
@@ -154,8 +153,8 @@ pub fails_many : {a : Piece} {ts mid : List CToken} {v : Value} {h : Halt} → G
 fails_many g p f = record { by = λ n e. let r = f.by n e in (r.0, refuses_many g p r.1, r.2) }
 
 -- a mark that stands next
-sign_taken : (m : Mark) (l : CLexeme) → l ≡ fixed m → among (mark m ∷ []) (place (sort l)) ≡ true
-sign_taken m l e = ap (λ x. among (mark m ∷ []) (place (sort x))) e ∙ ap (λ x. x || false) (eq-eqb (mark_place m) (mark_place m) refl)
+sign_taken : (m : Mark) (l : CLexeme) → l ≡ fixed m → among (mark m ∷ []) (sort l) ≡ true
+sign_taken m l e = ap (λ x. among (mark m ∷ []) (sort x)) e ∙ ap (λ x. x || false) (same_sort_refl (mark m))
 
 pub goes_sign : (m : Mark) (t : Token) (ts rest : List Token) → ts ≡ t ∷ rest → lexeme_view t.lexeme ≡ fixed m → Goes (sign m) (seen ts) (token (token_view t)) (seen rest)
 goes_sign m t ts rest e h = goes_one (mark m) [] (token_view t) (seen ts) (seen rest) (ap seen e) (sign_taken m (lexeme_view t.lexeme) h)
@@ -172,7 +171,7 @@ fails_sign m ts h = fails_by (length ts) (refuses_one (mark m) [] (seen ts) h) (
 
 -- a name that stands next
 pub goes_name : (text : List ℕ) (t : Token) (ts rest : List Token) → ts ≡ t ∷ rest → lexeme_view t.lexeme ≡ name text → Goes NAME (seen ts) (token (token_view t)) (seen rest)
-goes_name text t ts rest e h = goes_one a_name [] (token_view t) (seen ts) (seen rest) (ap seen e) (ap (λ x. among (a_name ∷ []) (place (sort x))) h)
+goes_name text t ts rest e h = goes_one a_name [] (token_view t) (seen ts) (seen rest) (ap seen e) (ap (λ x. among (a_name ∷ []) (sort x)) h)
 
 abbrev name_of : List ℕ → Token → CName
 name_of l t = record { text = l; span = record { start = t.start; end = t.end }; kind = Unresolved; number = 0 }
@@ -185,7 +184,7 @@ fails_name ts h = fails_by (length ts) (refuses_one a_name [] (seen ts) h) (seen
 
 -- a number that stands next
 pub goes_number : (n : ℕ) (t : Token) (ts rest : List Token) → ts ≡ t ∷ rest → lexeme_view t.lexeme ≡ number n → Goes NUMBER (seen ts) (token (token_view t)) (seen rest)
-goes_number n t ts rest e h = goes_one a_number [] (token_view t) (seen ts) (seen rest) (ap seen e) (ap (λ x. among (a_number ∷ []) (place (sort x))) h)
+goes_number n t ts rest e h = goes_one a_number [] (token_view t) (seen ts) (seen rest) (ap seen e) (ap (λ x. among (a_number ∷ []) (sort x)) h)
 
 pub fails_number : (ts : List Token) → heads NUMBER (seen ts) ≡ false → Fails NUMBER (seen ts) (Left (length ts))
 fails_number ts h = fails_by (length ts) (refuses_one a_number [] (seen ts) h) (seen_length ts)
@@ -203,14 +202,14 @@ pub picks_not : (a b : Piece) (ts : List CToken) → heads a ts ≡ false → pi
 picks_not a b [] f = refl
 picks_not a b (t ∷ ts) f = ap (λ x. x && (not (starts b (kind t)) || heads (sign OpenParen) ts)) f
 
-pub mark_kind : {m : Mark} {l : CLexeme} → l ≡ fixed m → place (sort l) ≡ mark_place m
-mark_kind e = ap (λ l. place (sort l)) e
+pub mark_kind : {m : Mark} {l : CLexeme} → l ≡ fixed m → sort l ≡ mark m
+mark_kind e = ap (λ l. sort l) e
 
 -- a piece that begins with tokens of this sort
-pub heads_at : (p : Piece) (k : ℕ) (t : Token) (ts rest : List Token) → ts ≡ t ∷ rest → kind (token_view t) ≡ k → starts p k ≡ true → heads p (seen ts) ≡ true
+pub heads_at : (p : Piece) (k : Sort) (t : Token) (ts rest : List Token) → ts ≡ t ∷ rest → kind (token_view t) ≡ k → starts p k ≡ true → heads p (seen ts) ≡ true
 heads_at p k t ts rest e f h = ap (λ l. heads p (seen l)) e ∙ ap (starts p) f ∙ h
 
-pub picks_at : (a b : Piece) (k : ℕ) (t : Token) (ts rest : List Token) → ts ≡ t ∷ rest → kind (token_view t) ≡ k → starts a k ≡ true → starts b k ≡ false → picks a b (seen ts) ≡ true
+pub picks_at : (a b : Piece) (k : Sort) (t : Token) (ts rest : List Token) → ts ≡ t ∷ rest → kind (token_view t) ≡ k → starts a k ≡ true → starts b k ≡ false → picks a b (seen ts) ≡ true
 picks_at a b k t ts rest e f g h =
     ap (λ l. picks a b (seen l)) e ∙ ap (λ x. starts a x && (not (starts b x) || heads (sign OpenParen) (seen rest))) f
     ∙ ap (λ x. x && (not (starts b k) || heads (sign OpenParen) (seen rest))) g ∙ ap (λ x. not x || heads (sign OpenParen) (seen rest)) h
@@ -225,10 +224,10 @@ exits_any p Is ts (Ok x) e h f = absurd h
 exits_any p Is ts (Err y) e h f = subst (Fails p (seen ts)) (sym h) f
 
 -- the first of two pieces, at a token of a known sort
-pub goes_first_at : (a b : Piece) (k : ℕ) {t : Token} {ts rest : List Token} {v : Value} {after : List CToken} → ts ≡ t ∷ rest → kind (token_view t) ≡ k → starts a k ≡ true → starts b k ≡ false → Goes a (seen ts) v after → Goes (a or b) (seen ts) v after
+pub goes_first_at : (a b : Piece) (k : Sort) {t : Token} {ts rest : List Token} {v : Value} {after : List CToken} → ts ≡ t ∷ rest → kind (token_view t) ≡ k → starts a k ≡ true → starts b k ≡ false → Goes a (seen ts) v after → Goes (a or b) (seen ts) v after
 goes_first_at a b k {t} {ts} {rest} e f g h d = goes_first b (picks_at a b k t ts rest e f g h) d
 
-pub fails_first_at : (a b : Piece) (k : ℕ) {t : Token} {ts rest : List Token} {h : Halt} → ts ≡ t ∷ rest → kind (token_view t) ≡ k → starts a k ≡ true → starts b k ≡ false → Fails a (seen ts) h → Fails (a or b) (seen ts) h
+pub fails_first_at : (a b : Piece) (k : Sort) {t : Token} {ts rest : List Token} {h : Halt} → ts ≡ t ∷ rest → kind (token_view t) ≡ k → starts a k ≡ true → starts b k ≡ false → Fails a (seen ts) h → Fails (a or b) (seen ts) h
 fails_first_at a b k {t} {ts} {rest} e f g h d = fails_first b (picks_at a b k t ts rest e f g h) d
 
 -- the second of two pieces, where the first cannot begin
@@ -239,10 +238,10 @@ pub fails_second_not : (a : Piece) {b : Piece} {ts : List CToken} {h : Halt} →
 fails_second_not a {b} {ts} h d = fails_second a (picks_not a b ts h) d
 
 -- a mark among those that may stand next
-pub goes_mark : (s : Sort) (ss : List Sort) (m : Mark) (t : Token) (ts rest : List Token) → among (s ∷ ss) (mark_place m) ≡ true → ts ≡ t ∷ rest → lexeme_view t.lexeme ≡ fixed m → Goes (one_of s ss) (seen ts) (token (token_view t)) (seen rest)
+pub goes_mark : (s : Sort) (ss : List Sort) (m : Mark) (t : Token) (ts rest : List Token) → among (s ∷ ss) (mark m) ≡ true → ts ≡ t ∷ rest → lexeme_view t.lexeme ≡ fixed m → Goes (one_of s ss) (seen ts) (token (token_view t)) (seen rest)
 goes_mark s ss m t ts rest h e f = goes_one s ss (token_view t) (seen ts) (seen rest) (ap seen e) (ap (among (s ∷ ss)) (mark_kind f) ∙ h)
 
-pub heads_is : (p : Piece) (k : ℕ) {t : Token} {ts rest : List Token} → ts ≡ t ∷ rest → kind (token_view t) ≡ k → heads p (seen ts) ≡ starts p k
+pub heads_is : (p : Piece) (k : Sort) {t : Token} {ts rest : List Token} → ts ≡ t ∷ rest → kind (token_view t) ≡ k → heads p (seen ts) ≡ starts p k
 heads_is p k e f = ap (λ l. heads p (seen l)) e ∙ ap (starts p) f
 
 either : (x y : Bool) → (x || false) ≡ false → (y || false) ≡ false → (x || (y || false)) ≡ false
@@ -251,7 +250,7 @@ either false y f g = g
 
 pub heads_two : (a b : Sort) (ts : List CToken) → heads (one_of a []) ts ≡ false → heads (one_of b []) ts ≡ false → heads (one_of a (b ∷ [])) ts ≡ false
 heads_two a b [] f g = refl
-heads_two a b (t ∷ ts) f g = either (eqb (place a) (kind t)) (eqb (place b) (kind t)) f g
+heads_two a b (t ∷ ts) f g = either (same_sort a (kind t)) (same_sort b (kind t)) f g
 
 -- where a last call answers
 pub tails : {A : Type 0} (p q : Piece) (Is Js : A → Value → Type 0) (ts us : List Token) (r : Result (A × Bor (List Token)) Halt) → ((x : A × Bor (List Token)) → Reading q Js us x → Reading p Is ts x) → ((h : Halt) → Fails q (seen us) h → Fails p (seen ts) h) → Gives q Js us r → Gives p Is ts r

@@ -1,8 +1,8 @@
 -- What the parts of a statement mean together, and which alternative of a statement comes: the functions that read statements cite these.
 use Rattle.std.proofs.Common.{◌≡◌, List, [], ◌∷◌, ◌++◌, map, length, append_assoc, refl, sym, ap, ◌∙◌, subst, Option, Some, None, Result, Ok, Err}
-use Rattle.std.specs.Prelude.{IsErrAnd, Bool, true, false, not, eqb, ◌&&◌, ◌||◌}
+use Rattle.std.specs.Prelude.{IsErrAnd, Bool, true, false, not, ◌&&◌, ◌||◌}
 use Rattle.std.proofs.lemmas.List.{map-append, append-nil}
-use Rattle.std.proofs.lemmas.Bool.{false≢true, eqb-true}
+use Rattle.std.proofs.lemmas.Bool.{false≢true}
 use Rattle.std.specs.Borrow.{Bor}
 use Rattle.c0_tokens.specs.declared.token.Mark.{Mark}
 use Rattle.c0_tokens.specs.declared.token.Mark.TheVariants.{If, While, OpenParen, CloseParen, Assign, Semicolon}
@@ -14,7 +14,8 @@ use Rattle.c0_tree.specs.declared.tree.Expr.{Expr}
 use Rattle.c0_tree.specs.declared.tree.Stmt.{Stmt}
 use Rattle.c0_tree.specs.Tree.{CExpr, CStmt, CDecl, call, code}
 use Rattle.c0_tree.specs.View.{name_view, expr_view, stmt_view, stmts_of}
-use Rattle.c0_parser.specs.Sorts.{mark_place, among}
+use Rattle.c0_parser.specs.Sorts.{mark, same_sort, among}
+use Rattle.c0_parser.proofs.Tables.{same_sort_true}
 use Rattle.c0_parser.specs.Value.{Value, token, pair, none, snoc, expr, stmt, block, body, name_at, args_of, stored, stmts, decls, exprs, exprs_in, chosen, statement_value, block_value, code_value}
 use Rattle.c0_parser.specs.Grammar.{Piece, sign, ◌▸◌, ◌or◌, many, the, unary, statement, block as a_block, EXPR, RIGHT}
 use Rattle.c0_parser.specs.Machine.{heads, picks, starts, kind, expr_starts}
@@ -82,30 +83,30 @@ or_false : (b : Bool) → (b || false) ≡ true → b ≡ true
 or_false true e = refl
 or_false false e = e
 
-pub kind_of : (m : Mark) (t : CToken) (ts : List CToken) → heads (sign m) (t ∷ ts) ≡ true → mark_place m ≡ kind t
-kind_of m t ts e = eqb-true (mark_place m) (kind t) (or_false (eqb (mark_place m) (kind t)) e)
+pub kind_of : (m : Mark) (t : CToken) (ts : List CToken) → heads (sign m) (t ∷ ts) ≡ true → mark m ≡ kind t
+kind_of m t ts e = same_sort_true (mark m) (kind t) (or_false (same_sort (mark m) (kind t)) e)
 
-pub not_begun : (p : Piece) (m : Mark) (ts : List CToken) → heads (sign m) ts ≡ true → starts p (mark_place m) ≡ false → heads p ts ≡ false
-not_begun p m [] e f = refl
-not_begun p m (t ∷ ts) e f = ap (starts p) (sym (kind_of m t ts e)) ∙ f
+pub not_headed_by : (p : Piece) (m : Mark) (ts : List CToken) → heads (sign m) ts ≡ true → starts p (mark m) ≡ false → heads p ts ≡ false
+not_headed_by p m [] e f = refl
+not_headed_by p m (t ∷ ts) e f = ap (starts p) (sym (kind_of m t ts e)) ∙ f
 
-pub picks_begun : (a b : Piece) (m : Mark) (ts : List CToken) → heads (sign m) ts ≡ true → starts a (mark_place m) ≡ true → starts b (mark_place m) ≡ false → picks a b ts ≡ true
-picks_begun a b m [] e f g = absurd (false≢true e)
-picks_begun a b m (t ∷ ts) e f g =
+pub picks_headed_by : (a b : Piece) (m : Mark) (ts : List CToken) → heads (sign m) ts ≡ true → starts a (mark m) ≡ true → starts b (mark m) ≡ false → picks a b ts ≡ true
+picks_headed_by a b m [] e f g = absurd (false≢true e)
+picks_headed_by a b m (t ∷ ts) e f g =
     ap (λ k. starts a k && (not (starts b k) || heads (sign OpenParen) ts)) (sym (kind_of m t ts e))
-    ∙ ap (λ x. x && (not (starts b (mark_place m)) || heads (sign OpenParen) ts)) f ∙ ap (λ x. not x || heads (sign OpenParen) ts) g
+    ∙ ap (λ x. x && (not (starts b (mark m)) || heads (sign OpenParen) ts)) f ∙ ap (λ x. not x || heads (sign OpenParen) ts) g
 
 -- which statement comes
 pub stmt_by_choice : (ts : List Token) (r : Result (Stmt × Bor (List Token)) Halt) → heads (sign If) (seen ts) ≡ true → Gives CHOICE IsStmtOf ts r → Gives (the statement) IsStmt ts r
 stmt_by_choice ts r e g =
-    let n = not_begun ASSIGNMENT If (seen ts) e refl in
-    let q = picks_begun CHOICE LOOP If (seen ts) e refl refl in
+    let n = not_headed_by ASSIGNMENT If (seen ts) e refl in
+    let q = picks_headed_by CHOICE LOOP If (seen ts) e refl refl in
     lifted CHOICE (the statement) IsStmtOf IsStmt statement_value ts r (λ v rest d. goes_the statement (goes_second_not ASSIGNMENT n (goes_first LOOP q d))) (λ h d. fails_the statement (fails_second_not ASSIGNMENT n (fails_first LOOP q d))) (λ x v i. i) g
 
 pub stmt_by_loop : (ts : List Token) (r : Result (Stmt × Bor (List Token)) Halt) → heads (sign While) (seen ts) ≡ true → Gives LOOP IsStmtOf ts r → Gives (the statement) IsStmt ts r
 stmt_by_loop ts r e g =
-    let n = not_begun ASSIGNMENT While (seen ts) e refl in
-    let q = not_begun CHOICE While (seen ts) e refl in
+    let n = not_headed_by ASSIGNMENT While (seen ts) e refl in
+    let q = not_headed_by CHOICE While (seen ts) e refl in
     lifted LOOP (the statement) IsStmtOf IsStmt statement_value ts r (λ v rest d. goes_the statement (goes_second_not ASSIGNMENT n (goes_second_not CHOICE q d))) (λ h d. fails_the statement (fails_second_not ASSIGNMENT n (fails_second_not CHOICE q d))) (λ x v i. i) g
 
 alone : (a w e x : Bool) → (a || false) ≡ false → (w || false) ≡ false → (a || (w || e)) ≡ true → ((e || false) && (not (((a || false) || false) || ((w || false) || false)) || x)) ≡ true
@@ -116,7 +117,7 @@ alone false false false x p q r = absurd (false≢true r)
 
 pub picks_assignment : (ts : List CToken) → heads (sign If) ts ≡ false → heads (sign While) ts ≡ false → heads (the statement) ts ≡ true → picks ASSIGNMENT (CHOICE or LOOP) ts ≡ true
 picks_assignment [] e f g = absurd (false≢true g)
-picks_assignment (t ∷ ts) e f g = alone (eqb (mark_place If) (kind t)) (eqb (mark_place While) (kind t)) (among expr_starts (kind t)) (heads (sign OpenParen) ts) e f g
+picks_assignment (t ∷ ts) e f g = alone (same_sort (mark If) (kind t)) (same_sort (mark While) (kind t)) (among expr_starts (kind t)) (heads (sign OpenParen) ts) e f g
 
 pub stmt_by_assignment : (ts here : List Token) (r : Result (Stmt × Bor (List Token)) Halt) → heads (sign If) (seen ts) ≡ false → heads (sign While) (seen ts) ≡ false → (here ≡ ts) × (heads (the statement) (seen ts) ≡ true) → Gives ASSIGNMENT IsStmtOf here r → Gives (the statement) IsStmt ts r
 stmt_by_assignment ts here r e f h g =
@@ -140,8 +141,8 @@ record NoStatement (ts : List CToken) : Type 0 where
 no_statement : (ts : List CToken) → heads (the statement) ts ≡ false → NoStatement ts
 no_statement [] e = record { no_choice = refl; no_loop = refl; no_place = refl }
 no_statement (t ∷ ts) e =
-    let a = eqb (mark_place If) (kind t) in
-    let w = eqb (mark_place While) (kind t) in
+    let a = same_sort (mark If) (kind t) in
+    let w = same_sort (mark While) (kind t) in
     let x = among expr_starts (kind t) in
     let r = neither_right a (w || x) e in
     record { no_choice = ap (λ b. b || false) (neither_left a (w || x) e); no_loop = ap (λ b. b || false) (neither_left w x r); no_place = neither_right w x r }

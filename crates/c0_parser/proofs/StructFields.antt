@@ -1,11 +1,11 @@
 -- Each struct of a source has a field: the grammar has at least one line between its braces, and what derives a line means a declaration.
-use Rattle.std.proofs.Common.{◌≡◌, Bool, true, ◌&&◌, List, [], refl, ap}
+use Rattle.std.proofs.Common.{◌≡◌, Bool, true, List, [], refl, ap}
 use Rattle.std.specs.List.{list_all}
 use Rattle.std.proofs.lemmas.Bool.{and_from}
 use Rattle.c0_tokens.specs.Tokens.{CToken}
 use Rattle.c0_tree.specs.Tree.{CDecl, CStruct}
 use Rattle.c0_tree.specs.Plain.{has_part}
-use Rattle.c0_parser.specs.Value.{Value, token, pair, none, snoc, type, decl, body, a_struct, base_value, type_suffixed, type_suffixes, type_value, decl_of, decls_from, defined, item_value, struct_in, structs}
+use Rattle.c0_parser.specs.Value.{Value, token, pair, type, decl, body, base_value, type_suffixed, type_suffixes, decl_of, decls_from, defined, item_value, struct_in, structs}
 use Rattle.c0_parser.specs.Grammar.{BASE, SUFFIX, SUFFIXES, ITEM, many, the, Derives, taken, both, first, second, no_more, one_more, made}
 use Rattle.c0_parser.specs.Grammar as grammar
 use Rattle.c0_parser.proofs.Plain.{all_append}

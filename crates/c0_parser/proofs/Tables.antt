@@ -1,11 +1,11 @@
 -- Which tokens may follow a piece without ending it, and the checks of the whole grammar that let one token decide.
-use Rattle.std.proofs.Common.{◌≡◌, ◌≢◌, ℕ, zero, suc, ◌-◌, ◌<◌, ◌≤◌, get_or, List, [], ◌∷◌, refl, sym, ap, ◌∙◌, arith}
-use Rattle.std.specs.Prelude.{Bool, true, false, not, ◌&&◌, ◌||◌, eqb}
-use Rattle.std.proofs.lemmas.Bool.{eqb-true, eqb-false}
+use Rattle.std.proofs.Common.{◌≡◌, ℕ, List, [], ◌∷◌, refl, sym, ap, subst}
+use Rattle.std.specs.Prelude.{Bool, true, false, not, ◌&&◌, ◌||◌}
+use Rattle.std.specs.List.{list_all}
 use Rattle.c0_tokens.specs.declared.token.Mark.{Mark}
 use Rattle.c0_tokens.specs.declared.token.Mark.TheVariants.{Int, Bool as Boolean, Struct, If, Else, While, Return, New, True, False, Null, Asm, OpenBrace, CloseBrace, OpenParen, CloseParen, OpenBracket, CloseBracket, Semicolon, Comma, Dot, Arrow, Assign, Equal, NotEqual, Less, AtMost, Greater, AtLeast, Plus, Minus, Star, Slash, Percent, Not, Ampersand, And, Or}
-use Rattle.c0_tokens.specs.Tokens.{CLexeme, CToken, name, number, asm_text, fixed, faulty, end}
-use Rattle.c0_parser.specs.Sorts.{Sort, mark, a_name, a_number, an_asm_text, the_end, a_fault, sort, mark_place, place, among}
+use Rattle.c0_tokens.specs.Tokens.{CLexeme, CToken, name, fixed}
+use Rattle.c0_parser.specs.Sorts.{Sort, mark, a_name, a_number, an_asm_text, the_end, a_fault, sort, same_mark, same_sort, among}
 use Rattle.c0_parser.specs.Grammar.{Rule, disjunction, conjunction, equality, relation, sum, product, unary, postfix, primary, type, decl, block, statement, code, body, Piece, one_of, ◌▸◌, ◌or◌, many, maybe, the, production}
 use Rattle.c0_parser.specs.Machine.{kind, nullable, starts, rule_starts}
 use Rattle.c0_parser.specs.Factored.{SOURCE}
@@ -44,7 +44,7 @@ rule_on code = []
 rule_on body = []
 
 -- whether a token of this sort goes on with a piece that could end before it
-abbrev pub goes_on : Piece → ℕ → Bool
+abbrev pub goes_on : Piece → Sort → Bool
 goes_on (one_of s ss) k = false
 goes_on (a ▸ b) k = goes_on b k || (nullable b && goes_on a k)
 goes_on (a or b) k = goes_on a k || goes_on b k
@@ -52,17 +52,17 @@ goes_on (many a) k = starts a k || goes_on a k
 goes_on (maybe a) k = starts a k || goes_on a k
 goes_on (the r) k = among (rule_on r) k
 
-abbrev pub below : ℕ → (ℕ → Bool) → Bool
-below zero f = true
-below (suc n) f = f n && below n f
+-- all sorts of tokens
+abbrev all_sorts : List Sort
+all_sorts = a_name ∷ a_number ∷ an_asm_text ∷ the_end ∷ a_fault ∷ mark Int ∷ mark Boolean ∷ mark Struct ∷ mark If ∷ mark Else ∷ mark While ∷ mark Return ∷ mark New ∷ mark True ∷ mark False ∷ mark Null ∷ mark Asm ∷ mark OpenBrace ∷ mark CloseBrace ∷ mark OpenParen ∷ mark CloseParen ∷ mark OpenBracket ∷ mark CloseBracket ∷ mark Semicolon ∷ mark Comma ∷ mark Dot ∷ mark Arrow ∷ mark Assign ∷ mark Equal ∷ mark NotEqual ∷ mark Less ∷ mark AtMost ∷ mark Greater ∷ mark AtLeast ∷ mark Plus ∷ mark Minus ∷ mark Star ∷ mark Slash ∷ mark Percent ∷ mark Not ∷ mark Ampersand ∷ mark And ∷ mark Or ∷ []
 
 -- whether no sort passes both tests
-abbrev pub apart : (ℕ → Bool) → (ℕ → Bool) → Bool
-apart f g = below 43 (λ k. not (f k && g k))
+abbrev pub apart : (Sort → Bool) → (Sort → Bool) → Bool
+apart f g = list_all (λ k. not (f k && g k)) all_sorts
 
 -- whether each sort that passes the first test passes the second
-abbrev pub within : (ℕ → Bool) → (ℕ → Bool) → Bool
-within f g = below 43 (λ k. not (f k) || g k)
+abbrev pub within : (Sort → Bool) → (Sort → Bool) → Bool
+within f g = list_all (λ k. not (f k) || g k) all_sorts
 
 -- a call and an expression, which both can begin with a name
 abbrev pub call_or_expr : Piece → Piece → Bool
@@ -149,104 +149,158 @@ all_on statement = refl
 all_on code = refl
 all_on body = refl
 
--- the number of a mark tells it
-abbrev mark_at : ℕ → Mark
-mark_at k = get_or (Int ∷ Boolean ∷ Struct ∷ If ∷ Else ∷ While ∷ Return ∷ New ∷ True ∷ False ∷ Null ∷ Asm ∷ OpenBrace ∷ CloseBrace ∷ OpenParen ∷ CloseParen ∷ OpenBracket ∷ CloseBracket ∷ Semicolon ∷ Comma ∷ Dot ∷ Arrow ∷ Assign ∷ Equal ∷ NotEqual ∷ Less ∷ AtMost ∷ Greater ∷ AtLeast ∷ Plus ∷ Minus ∷ Star ∷ Slash ∷ Percent ∷ Not ∷ Ampersand ∷ And ∷ Or ∷ []) (k - 5) Int
+pub no_yes : {A : Type 0} → false ≡ true → A
+no_yes e = absurd (cc_of e)
+  where
+    cc_of : false ≡ true → ⊥
+    cc_of e = cc
 
-pub mark_at_place : (m : Mark) → mark_at (mark_place m) ≡ m
-mark_at_place Int = refl
-mark_at_place Boolean = refl
-mark_at_place Struct = refl
-mark_at_place If = refl
-mark_at_place Else = refl
-mark_at_place While = refl
-mark_at_place Return = refl
-mark_at_place New = refl
-mark_at_place True = refl
-mark_at_place False = refl
-mark_at_place Null = refl
-mark_at_place Asm = refl
-mark_at_place OpenBrace = refl
-mark_at_place CloseBrace = refl
-mark_at_place OpenParen = refl
-mark_at_place CloseParen = refl
-mark_at_place OpenBracket = refl
-mark_at_place CloseBracket = refl
-mark_at_place Semicolon = refl
-mark_at_place Comma = refl
-mark_at_place Dot = refl
-mark_at_place Arrow = refl
-mark_at_place Assign = refl
-mark_at_place Equal = refl
-mark_at_place NotEqual = refl
-mark_at_place Less = refl
-mark_at_place AtMost = refl
-mark_at_place Greater = refl
-mark_at_place AtLeast = refl
-mark_at_place Plus = refl
-mark_at_place Minus = refl
-mark_at_place Star = refl
-mark_at_place Slash = refl
-mark_at_place Percent = refl
-mark_at_place Not = refl
-mark_at_place Ampersand = refl
-mark_at_place And = refl
-mark_at_place Or = refl
+same_mark_refl : (m : Mark) → same_mark m m ≡ true
+same_mark_refl Int = refl
+same_mark_refl Boolean = refl
+same_mark_refl Struct = refl
+same_mark_refl If = refl
+same_mark_refl Else = refl
+same_mark_refl While = refl
+same_mark_refl Return = refl
+same_mark_refl New = refl
+same_mark_refl True = refl
+same_mark_refl False = refl
+same_mark_refl Null = refl
+same_mark_refl Asm = refl
+same_mark_refl OpenBrace = refl
+same_mark_refl CloseBrace = refl
+same_mark_refl OpenParen = refl
+same_mark_refl CloseParen = refl
+same_mark_refl OpenBracket = refl
+same_mark_refl CloseBracket = refl
+same_mark_refl Semicolon = refl
+same_mark_refl Comma = refl
+same_mark_refl Dot = refl
+same_mark_refl Arrow = refl
+same_mark_refl Assign = refl
+same_mark_refl Equal = refl
+same_mark_refl NotEqual = refl
+same_mark_refl Less = refl
+same_mark_refl AtMost = refl
+same_mark_refl Greater = refl
+same_mark_refl AtLeast = refl
+same_mark_refl Plus = refl
+same_mark_refl Minus = refl
+same_mark_refl Star = refl
+same_mark_refl Slash = refl
+same_mark_refl Percent = refl
+same_mark_refl Not = refl
+same_mark_refl Ampersand = refl
+same_mark_refl And = refl
+same_mark_refl Or = refl
 
-pub same_mark : (m n : Mark) → eqb (mark_place m) (mark_place n) ≡ true → m ≡ n
-same_mark m n e = sym (mark_at_place m) ∙ ap mark_at (eqb-true (mark_place m) (mark_place n) e) ∙ mark_at_place n
+same_mark_true : (m n : Mark) → same_mark m n ≡ true → m ≡ n
+same_mark_true Int Int e = refl
+same_mark_true Boolean Boolean e = refl
+same_mark_true Struct Struct e = refl
+same_mark_true If If e = refl
+same_mark_true Else Else e = refl
+same_mark_true While While e = refl
+same_mark_true Return Return e = refl
+same_mark_true New New e = refl
+same_mark_true True True e = refl
+same_mark_true False False e = refl
+same_mark_true Null Null e = refl
+same_mark_true Asm Asm e = refl
+same_mark_true OpenBrace OpenBrace e = refl
+same_mark_true CloseBrace CloseBrace e = refl
+same_mark_true OpenParen OpenParen e = refl
+same_mark_true CloseParen CloseParen e = refl
+same_mark_true OpenBracket OpenBracket e = refl
+same_mark_true CloseBracket CloseBracket e = refl
+same_mark_true Semicolon Semicolon e = refl
+same_mark_true Comma Comma e = refl
+same_mark_true Dot Dot e = refl
+same_mark_true Arrow Arrow e = refl
+same_mark_true Assign Assign e = refl
+same_mark_true Equal Equal e = refl
+same_mark_true NotEqual NotEqual e = refl
+same_mark_true Less Less e = refl
+same_mark_true AtMost AtMost e = refl
+same_mark_true Greater Greater e = refl
+same_mark_true AtLeast AtLeast e = refl
+same_mark_true Plus Plus e = refl
+same_mark_true Minus Minus e = refl
+same_mark_true Star Star e = refl
+same_mark_true Slash Slash e = refl
+same_mark_true Percent Percent e = refl
+same_mark_true Not Not e = refl
+same_mark_true Ampersand Ampersand e = refl
+same_mark_true And And e = refl
+same_mark_true Or Or e = refl
+same_mark_true _ _ e = no_yes e
 
-mark_small : (m : Mark) → (5 ≤ mark_place m) × (mark_place m < 43)
-mark_small Int = (omega arith, omega arith)
-mark_small Boolean = (omega arith, omega arith)
-mark_small Struct = (omega arith, omega arith)
-mark_small If = (omega arith, omega arith)
-mark_small Else = (omega arith, omega arith)
-mark_small While = (omega arith, omega arith)
-mark_small Return = (omega arith, omega arith)
-mark_small New = (omega arith, omega arith)
-mark_small True = (omega arith, omega arith)
-mark_small False = (omega arith, omega arith)
-mark_small Null = (omega arith, omega arith)
-mark_small Asm = (omega arith, omega arith)
-mark_small OpenBrace = (omega arith, omega arith)
-mark_small CloseBrace = (omega arith, omega arith)
-mark_small OpenParen = (omega arith, omega arith)
-mark_small CloseParen = (omega arith, omega arith)
-mark_small OpenBracket = (omega arith, omega arith)
-mark_small CloseBracket = (omega arith, omega arith)
-mark_small Semicolon = (omega arith, omega arith)
-mark_small Comma = (omega arith, omega arith)
-mark_small Dot = (omega arith, omega arith)
-mark_small Arrow = (omega arith, omega arith)
-mark_small Assign = (omega arith, omega arith)
-mark_small Equal = (omega arith, omega arith)
-mark_small NotEqual = (omega arith, omega arith)
-mark_small Less = (omega arith, omega arith)
-mark_small AtMost = (omega arith, omega arith)
-mark_small Greater = (omega arith, omega arith)
-mark_small AtLeast = (omega arith, omega arith)
-mark_small Plus = (omega arith, omega arith)
-mark_small Minus = (omega arith, omega arith)
-mark_small Star = (omega arith, omega arith)
-mark_small Slash = (omega arith, omega arith)
-mark_small Percent = (omega arith, omega arith)
-mark_small Not = (omega arith, omega arith)
-mark_small Ampersand = (omega arith, omega arith)
-mark_small And = (omega arith, omega arith)
-mark_small Or = (omega arith, omega arith)
+pub same_sort_refl : (s : Sort) → same_sort s s ≡ true
+same_sort_refl (mark m) = same_mark_refl m
+same_sort_refl a_name = refl
+same_sort_refl a_number = refl
+same_sort_refl an_asm_text = refl
+same_sort_refl the_end = refl
+same_sort_refl a_fault = refl
 
-place_small : (s : Sort) → place s < 43
-place_small a_name = omega arith
-place_small a_number = omega arith
-place_small an_asm_text = omega arith
-place_small the_end = omega arith
-place_small a_fault = omega arith
-place_small (mark m) = (mark_small m).1
+pub same_sort_true : (s x : Sort) → same_sort s x ≡ true → s ≡ x
+same_sort_true (mark m) (mark n) e = ap mark (same_mark_true m n e)
+same_sort_true a_name a_name e = refl
+same_sort_true a_number a_number e = refl
+same_sort_true an_asm_text an_asm_text e = refl
+same_sort_true the_end the_end e = refl
+same_sort_true a_fault a_fault e = refl
+same_sort_true _ _ e = no_yes e
 
--- a mark is none of the other sorts
-pub mark_late : (m : Mark) → 5 ≤ mark_place m
-mark_late m = (mark_small m).0
+-- each sort is among all sorts
+mark_listed : (m : Mark) → among all_sorts (mark m) ≡ true
+mark_listed Int = refl
+mark_listed Boolean = refl
+mark_listed Struct = refl
+mark_listed If = refl
+mark_listed Else = refl
+mark_listed While = refl
+mark_listed Return = refl
+mark_listed New = refl
+mark_listed True = refl
+mark_listed False = refl
+mark_listed Null = refl
+mark_listed Asm = refl
+mark_listed OpenBrace = refl
+mark_listed CloseBrace = refl
+mark_listed OpenParen = refl
+mark_listed CloseParen = refl
+mark_listed OpenBracket = refl
+mark_listed CloseBracket = refl
+mark_listed Semicolon = refl
+mark_listed Comma = refl
+mark_listed Dot = refl
+mark_listed Arrow = refl
+mark_listed Assign = refl
+mark_listed Equal = refl
+mark_listed NotEqual = refl
+mark_listed Less = refl
+mark_listed AtMost = refl
+mark_listed Greater = refl
+mark_listed AtLeast = refl
+mark_listed Plus = refl
+mark_listed Minus = refl
+mark_listed Star = refl
+mark_listed Slash = refl
+mark_listed Percent = refl
+mark_listed Not = refl
+mark_listed Ampersand = refl
+mark_listed And = refl
+mark_listed Or = refl
+
+sort_listed : (s : Sort) → among all_sorts s ≡ true
+sort_listed (mark m) = mark_listed m
+sort_listed a_name = refl
+sort_listed a_number = refl
+sort_listed an_asm_text = refl
+sort_listed the_end = refl
+sort_listed a_fault = refl
 
 pub and_left : (a b : Bool) → (a && b) ≡ true → a ≡ true
 and_left true b e = refl
@@ -256,13 +310,14 @@ pub and_right : (a b : Bool) → (a && b) ≡ true → b ≡ true
 and_right true b e = e
 and_right false b e = cc
 
-at_or_under : (n k : ℕ) (f : ℕ → Bool) (b : Bool) → eqb k n ≡ b → f n ≡ true → (k ≢ n → f k ≡ true) → f k ≡ true
-at_or_under n k f true e h g = ap f (eqb-true k n e) ∙ h
-at_or_under n k f false e h g = g (eqb-false k n e)
+-- what holds of each of a list holds of one among them
+holds_at : (f : Sort → Bool) (s x : Sort) (ss : List Sort) (b : Bool) → same_sort s x ≡ b → (f s && list_all f ss) ≡ true → (among ss x ≡ true → f x ≡ true) → (b || among ss x) ≡ true → f x ≡ true
+holds_at f s x ss true e h g m = subst (λ y. f y ≡ true) (same_sort_true s x e) (and_left (f s) (list_all f ss) h)
+holds_at f s x ss false e h g m = g m
 
-below_at : (n : ℕ) (f : ℕ → Bool) (k : ℕ) → below n f ≡ true → k < n → f k ≡ true
-below_at zero f k h lt = absurd (omega (arith, lt))
-below_at (suc n) f k h lt = at_or_under n k f (eqb k n) refl (and_left (f n) (below n f) h) (λ ne. below_at n f k (and_right (f n) (below n f) h) (omega (arith, lt, ne)))
+holds_among : (f : Sort → Bool) (x : Sort) (ss : List Sort) → list_all f ss ≡ true → among ss x ≡ true → f x ≡ true
+holds_among f x [] h m = no_yes m
+holds_among f x (s ∷ ss) h m = holds_at f s x ss (same_sort s x) refl h (holds_among f x ss (and_right (f s) (list_all f ss) h)) m
 
 nand : (a b : Bool) → not (a && b) ≡ true → a ≡ true → b ≡ false
 nand true true h e = sym h
@@ -274,36 +329,22 @@ implies true b h e = h
 implies false b h e = cc
 
 -- a token that passes the first of two tests that no sort passes together fails the second
-pub apart_at : (f g : ℕ → Bool) (t : CToken) → apart f g ≡ true → f (kind t) ≡ true → g (kind t) ≡ false
-apart_at f g t h e = nand (f (kind t)) (g (kind t)) (below_at 43 (λ k. not (f k && g k)) (kind t) h (place_small (sort t.lexeme))) e
+pub apart_at : (f g : Sort → Bool) (t : CToken) → apart f g ≡ true → f (kind t) ≡ true → g (kind t) ≡ false
+apart_at f g t h e = nand (f (kind t)) (g (kind t)) (holds_among (λ k. not (f k && g k)) (kind t) all_sorts h (sort_listed (kind t))) e
 
-pub within_at : (f g : ℕ → Bool) (t : CToken) → within f g ≡ true → f (kind t) ≡ true → g (kind t) ≡ true
-within_at f g t h e = implies (f (kind t)) (g (kind t)) (below_at 43 (λ k. not (f k) || g k) (kind t) h (place_small (sort t.lexeme))) e
+pub within_at : (f g : Sort → Bool) (t : CToken) → within f g ≡ true → f (kind t) ≡ true → g (kind t) ≡ true
+within_at f g t h e = implies (f (kind t)) (g (kind t)) (holds_among (λ k. not (f k) || g k) (kind t) all_sorts h (sort_listed (kind t))) e
 
 pub or_false : (a : Bool) → (a || false) ≡ true → a ≡ true
 or_false true e = refl
 or_false false e = e
 
 -- a token of the sort of names is a name
-pub is_name : (l : CLexeme) → among (a_name ∷ []) (place (sort l)) ≡ true → (text : List ℕ) × (l ≡ name text)
+pub is_name : (l : CLexeme) → among (a_name ∷ []) (sort l) ≡ true → (text : List ℕ) × (l ≡ name text)
 is_name (name text) e = (text, refl)
-is_name (number value) e = absurd (omega (arith, eqb-true 0 1 (or_false (eqb 0 1) e)))
-is_name (asm_text text) e = absurd (omega (arith, eqb-true 0 2 (or_false (eqb 0 2) e)))
-is_name (fixed m) e = absurd (omega (arith, mark_late m, eqb-true 0 (mark_place m) (or_false (eqb 0 (mark_place m)) e)))
-is_name (faulty f) e = absurd (omega (arith, eqb-true 0 4 (or_false (eqb 0 4) e)))
-is_name end e = absurd (omega (arith, eqb-true 0 3 (or_false (eqb 0 3) e)))
+is_name _ e = no_yes e
 
 -- a token of a mark's sort is that mark
-pub is_mark : (m : Mark) (l : CLexeme) → among (mark m ∷ []) (place (sort l)) ≡ true → l ≡ fixed m
-is_mark m (name text) e = absurd (omega (arith, mark_late m, eqb-true (mark_place m) 0 (or_false (eqb (mark_place m) 0) e)))
-is_mark m (number value) e = absurd (omega (arith, mark_late m, eqb-true (mark_place m) 1 (or_false (eqb (mark_place m) 1) e)))
-is_mark m (asm_text text) e = absurd (omega (arith, mark_late m, eqb-true (mark_place m) 2 (or_false (eqb (mark_place m) 2) e)))
-is_mark m (fixed n) e = ap fixed (sym (same_mark m n (or_false (eqb (mark_place m) (mark_place n)) e)))
-is_mark m (faulty f) e = absurd (omega (arith, mark_late m, eqb-true (mark_place m) 4 (or_false (eqb (mark_place m) 4) e)))
-is_mark m end e = absurd (omega (arith, mark_late m, eqb-true (mark_place m) 3 (or_false (eqb (mark_place m) 3) e)))
-
-pub no_yes : {A : Type 0} → false ≡ true → A
-no_yes e = absurd (cc_of e)
-  where
-    cc_of : false ≡ true → ⊥
-    cc_of e = cc
+pub is_mark : (m : Mark) (l : CLexeme) → among (mark m ∷ []) (sort l) ≡ true → l ≡ fixed m
+is_mark m (fixed n) e = ap fixed (sym (same_mark_true m n (or_false (same_mark m n) e)))
+is_mark m _ e = no_yes e

@@ -7,13 +7,13 @@ use Rattle.c0_parser.specs.Sorts.{the_end}
 use Rattle.c0_parser.specs.Value.{Value, token, pair, none, snoc, base_value, type_suffixes, decl_of, defined_at, struct_of, struct_in, global_in, function_in}
 use Rattle.c0_parser.specs.Grammar.{Piece, one_of, sign, ◌▸◌, ◌or◌, many, NAME, BASIC, SUFFIXES, FIELDS, FUNCTION}
 
--- what stands behind a global's or function's name
-abbrev pub BEHIND : Piece
-BEHIND = sign Semicolon or FUNCTION
+-- what stands after the declaration of a global or a function
+abbrev pub AFTER_DECL : Piece
+AFTER_DECL = sign Semicolon or FUNCTION
 
 -- what stands behind the first word or words of a declaration's type
 abbrev pub DEFINED : Piece
-DEFINED = SUFFIXES ▸ NAME ▸ BEHIND
+DEFINED = SUFFIXES ▸ NAME ▸ AFTER_DECL
 
 -- a struct, a global or a function
 abbrev pub FACTORED : Piece
@@ -28,13 +28,13 @@ abbrev pub declared_as : Value → Value → Value
 declared_as base (pair l (pair (token x) v)) = defined_at (decl_of (type_suffixes base l) x) v
 declared_as base _ = none
 
--- behind `struct` and a name
-abbrev pub told : CToken → CToken → Value → Value
-told t x (pair (token opening) v) = struct_of x (pair (token opening) v)
-told t x v = declared_as (base_value (pair (token t) (token x))) v
+-- an item from its first word `struct` and a name on: a struct where `{` stands next, else a global or a function
+abbrev pub item_after_name : CToken → CToken → Value → Value
+item_after_name t x (pair (token opening) v) = struct_of x (pair (token opening) v)
+item_after_name t x v = declared_as (base_value (pair (token t) (token x))) v
 
 abbrev pub factored_value : Value → Value
-factored_value (pair (token t) (pair (token x) v)) = told t x v
+factored_value (pair (token t) (pair (token x) v)) = item_after_name t x v
 factored_value (pair (token t) v) = declared_as (base_value (token t)) v
 factored_value _ = none
 

@@ -20,8 +20,8 @@ IsPrefix ts = (more : List CToken) × (v : Value) × Derives UNIT (ts ++ more) v
 -- a token is the first that cannot be: those before it begin some unit, and with it they begin none
 pub record IsFirstBad (ts : List CToken) (t : CToken) : Type 0 where
   pub before : List CToken
-  pub behind : List CToken
-  pub stands : ts ≡ before ++ t ∷ behind
+  pub after : List CToken
+  pub stands : ts ≡ before ++ t ∷ after
   pub good : IsPrefix before
   pub bad : IsPrefix (before ++ t ∷ []) → ⊥
 

@@ -4,7 +4,7 @@ use Rattle.std.specs.Prelude.{IsTrue, List, [], ◌∷◌, ◌++◌}
 use Rattle.c0_tokens.specs.Tokens.{CToken}
 use Rattle.c0_tokens.specs.declared.token.Mark.{Mark}
 use Rattle.c0_tokens.specs.declared.token.Mark.TheVariants.{Int, Bool as Boolean, Struct, If, Else, While, Return, New, True, False, Null, Asm, OpenBrace, CloseBrace, OpenParen, CloseParen, OpenBracket, CloseBracket, Semicolon, Comma, Dot, Arrow, Assign, Equal, NotEqual, Less, AtMost, Greater, AtLeast, Plus, Minus, Star, Slash, Percent, Not, Ampersand, And, Or}
-use Rattle.c0_parser.specs.Sorts.{Sort, mark, a_name, a_number, an_asm_text, the_end, sort, place, among}
+use Rattle.c0_parser.specs.Sorts.{Sort, mark, a_name, a_number, an_asm_text, the_end, sort, among}
 use Rattle.c0_parser.specs.Value.{Value, token, pair, none, snoc, chain_value, unary_value, postfix_value, primary_value, type_value, decl_value, block_value, statement_value, code_value, body_value}
 
 -- the productions
@@ -123,7 +123,7 @@ UNIT = many ITEM ▸ one_of the_end []
 
 -- that a piece derives these tokens with this meaning
 pub data Derives : Piece → List CToken → Value → Type 0 where
-  taken : (s : Sort) (ss : List Sort) (t : CToken) → IsTrue (among (s ∷ ss) (place (sort t.lexeme))) → Derives (one_of s ss) (t ∷ []) (token t)
+  taken : (s : Sort) (ss : List Sort) (t : CToken) → IsTrue (among (s ∷ ss) (sort t.lexeme)) → Derives (one_of s ss) (t ∷ []) (token t)
   both : {a b : Piece} {xs ys : List CToken} {v w : Value} → Derives a xs v → Derives b ys w → Derives (a ▸ b) (xs ++ ys) (pair v w)
   first : {a b : Piece} {xs : List CToken} {v : Value} → Derives a xs v → Derives (a or b) xs v
   second : {a b : Piece} {xs : List CToken} {v : Value} → Derives b xs v → Derives (a or b) xs v

@@ -7,6 +7,7 @@ pub mod Contract
 pub mod Views
 pub mod Stmts
 pub mod Faults
+pub mod Items
 pub mod Levels
 pub mod Tails
-pub mod Whole
+pub mod ToEnd

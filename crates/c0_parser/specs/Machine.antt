@@ -1,14 +1,14 @@
 -- The grammar as a machine that reads token by token, with a stack of what is still wanted and a stack of what was read: for proofs.
-use Rattle.std.specs.Prelude.{ℕ, ◌≡◌, Bool, true, false, not, ◌&&◌, ◌||◌, cond, Option, Some, None, List, [], ◌∷◌}
+use Rattle.std.specs.Prelude.{◌≡◌, Bool, true, false, not, ◌&&◌, ◌||◌, cond, Option, Some, None, List, [], ◌∷◌}
 use Rattle.c0_tokens.specs.Tokens.{CToken}
 use Rattle.c0_tokens.specs.declared.token.Mark.TheVariants.{Int, Bool as Boolean, Struct, If, While, True, False, Null, Asm, OpenBrace, OpenParen, Minus, Star, Not, Ampersand}
-use Rattle.c0_parser.specs.Sorts.{Sort, mark, a_name, a_number, sort, place, among}
+use Rattle.c0_parser.specs.Sorts.{Sort, mark, a_name, a_number, sort, among}
 use Rattle.c0_parser.specs.Value.{Value, token, pair, none, snoc}
 use Rattle.c0_parser.specs.Grammar.{Rule, disjunction, conjunction, equality, relation, sum, product, unary, postfix, primary, type, decl, block, statement, code, body, Piece, one_of, sign, ◌▸◌, ◌or◌, many, maybe, the, production, meaning}
 
--- the number of a token's sort
-abbrev pub kind : CToken → ℕ
-kind t = place (sort t.lexeme)
+-- the sort of a token
+abbrev pub kind : CToken → Sort
+kind t = sort t.lexeme
 
 -- whether nothing may stand for a piece
 abbrev pub nullable : Piece → Bool
@@ -46,7 +46,7 @@ rule_starts code = mark OpenBrace ∷ []
 rule_starts body = mark OpenBrace ∷ mark Asm ∷ []
 
 -- whether a token of this sort can begin a piece
-abbrev pub starts : Piece → ℕ → Bool
+abbrev pub starts : Piece → Sort → Bool
 starts (one_of s ss) k = among (s ∷ ss) k
 starts (a ▸ b) k = starts a k || (nullable a && starts b k)
 starts (a or b) k = starts a k || starts b k

@@ -1,5 +1,5 @@
 -- The sorts of tokens: each reserved word and each mark is a sort of its own.
-use Rattle.std.specs.Prelude.{ℕ, eqb, Bool, List}
+use Rattle.std.specs.Prelude.{Bool, true, false, List}
 use Rattle.std.specs.List.{list_any}
 use Rattle.c0_tokens.specs.declared.token.Mark.{Mark}
 use Rattle.c0_tokens.specs.declared.token.Mark.TheVariants.{Int, Bool as Boolean, Struct, If, Else, While, Return, New, True, False, Null, Asm, OpenBrace, CloseBrace, OpenParen, CloseParen, OpenBracket, CloseBracket, Semicolon, Comma, Dot, Arrow, Assign, Equal, NotEqual, Less, AtMost, Greater, AtLeast, Plus, Minus, Star, Slash, Percent, Not, Ampersand, And, Or}
@@ -19,56 +19,58 @@ sort (fixed m) = mark m
 sort (faulty fault) = a_fault
 sort end = the_end
 
--- the marks and reserved words are numbered, from 5 on
-abbrev pub mark_place : Mark → ℕ
-mark_place Int = 5
-mark_place Boolean = 6
-mark_place Struct = 7
-mark_place If = 8
-mark_place Else = 9
-mark_place While = 10
-mark_place Return = 11
-mark_place New = 12
-mark_place True = 13
-mark_place False = 14
-mark_place Null = 15
-mark_place Asm = 16
-mark_place OpenBrace = 17
-mark_place CloseBrace = 18
-mark_place OpenParen = 19
-mark_place CloseParen = 20
-mark_place OpenBracket = 21
-mark_place CloseBracket = 22
-mark_place Semicolon = 23
-mark_place Comma = 24
-mark_place Dot = 25
-mark_place Arrow = 26
-mark_place Assign = 27
-mark_place Equal = 28
-mark_place NotEqual = 29
-mark_place Less = 30
-mark_place AtMost = 31
-mark_place Greater = 32
-mark_place AtLeast = 33
-mark_place Plus = 34
-mark_place Minus = 35
-mark_place Star = 36
-mark_place Slash = 37
-mark_place Percent = 38
-mark_place Not = 39
-mark_place Ampersand = 40
-mark_place And = 41
-mark_place Or = 42
+-- whether two reserved words or marks are the same
+abbrev pub same_mark : Mark → Mark → Bool
+same_mark Int Int = true
+same_mark Boolean Boolean = true
+same_mark Struct Struct = true
+same_mark If If = true
+same_mark Else Else = true
+same_mark While While = true
+same_mark Return Return = true
+same_mark New New = true
+same_mark True True = true
+same_mark False False = true
+same_mark Null Null = true
+same_mark Asm Asm = true
+same_mark OpenBrace OpenBrace = true
+same_mark CloseBrace CloseBrace = true
+same_mark OpenParen OpenParen = true
+same_mark CloseParen CloseParen = true
+same_mark OpenBracket OpenBracket = true
+same_mark CloseBracket CloseBracket = true
+same_mark Semicolon Semicolon = true
+same_mark Comma Comma = true
+same_mark Dot Dot = true
+same_mark Arrow Arrow = true
+same_mark Assign Assign = true
+same_mark Equal Equal = true
+same_mark NotEqual NotEqual = true
+same_mark Less Less = true
+same_mark AtMost AtMost = true
+same_mark Greater Greater = true
+same_mark AtLeast AtLeast = true
+same_mark Plus Plus = true
+same_mark Minus Minus = true
+same_mark Star Star = true
+same_mark Slash Slash = true
+same_mark Percent Percent = true
+same_mark Not Not = true
+same_mark Ampersand Ampersand = true
+same_mark And And = true
+same_mark Or Or = true
+same_mark _ _ = false
 
--- and so are the sorts
-abbrev pub place : Sort → ℕ
-place a_name = 0
-place a_number = 1
-place an_asm_text = 2
-place the_end = 3
-place a_fault = 4
-place (mark m) = mark_place m
+-- whether two sorts are the same
+abbrev pub same_sort : Sort → Sort → Bool
+same_sort (mark m) (mark n) = same_mark m n
+same_sort a_name a_name = true
+same_sort a_number a_number = true
+same_sort an_asm_text an_asm_text = true
+same_sort the_end the_end = true
+same_sort a_fault a_fault = true
+same_sort _ _ = false
 
--- whether the sort of this number is among these
-abbrev pub among : List Sort → ℕ → Bool
-among sorts k = list_any (λ s. eqb (place s) k) sorts
+-- whether a sort is among these
+abbrev pub among : List Sort → Sort → Bool
+among sorts x = list_any (λ s. same_sort s x) sorts

@@ -11,7 +11,7 @@ use Rattle.c0_tree.specs.declared.tree.Body.{Body}
 use Rattle.c0_tree.specs.Tree.{CTy, pointer, array, CExpr, CStmt, assign, call, new, CName, asm}
 use Rattle.c0_tree.specs.View.{name_view, type_view, expr_view, decl_view, stmt_view, stmts_view, struct_view, body_view, function_view}
 use Rattle.c0_parser.specs.Value.{Value, token, pair, expr, type, decl, stmt, block, body, a_struct, a_global, a_function, place_of, name_at, text_of, defined, struct_of, args_of, stmts, decls, decls_from, params_of, decls_in, type_suffixes, type_suffixed, number_of, base_value, stored}
-use Rattle.c0_parser.specs.Factored.{factored_value, declared_as, told}
+use Rattle.c0_parser.specs.Factored.{factored_value, declared_as, item_after_name}
 use Rattle.c0_parser.specs.declared.expressions.Part.{Part}
 use Rattle.c0_parser.specs.declared.types.Typed.{Typed}
 use Rattle.c0_parser.specs.declared.types.Suffix.{Suffix}
@@ -136,9 +136,9 @@ AreMoreLines first ds v = map decl_view first.items ++ decls v ≡ map decl_view
 abbrev pub IsAsm : Body → Value → Type 0
 IsAsm b v = (t : CToken) × (v ≡ token t) × (asm (text_of t.lexeme) (place_of t) [] ≡ body_view b)
 
--- what stands behind the name of a global or a function
-abbrev pub IsBehind : Decl → Item → Value → Type 0
-IsBehind d i v = defined (decl_view d) v ≡ item_view i
+-- the global or function of this declaration
+abbrev pub IsItemOfDecl : Decl → Item → Value → Type 0
+IsItemOfDecl d i v = defined (decl_view d) v ≡ item_view i
 
 -- a global or a function behind the first word or words of its type
 pub record IsDefined (base : Typed) (i : Item) (v : Value) : Type 0 where
@@ -158,5 +158,5 @@ pub record IsStruct (x : Name) (i : Item) (v : Value) : Type 0 where
   pub is : (y : CToken) → name_at y ≡ name_view x → struct_of y v ≡ item_view i
 
 -- a struct, or a global or function of a struct type, behind `struct` and a name
-abbrev pub IsTold : CToken → CName → Item → Value → Type 0
-IsTold t x i v = (y : CToken) → name_at y ≡ x → told t y v ≡ item_view i
+abbrev pub IsItemAfterName : CToken → CName → Item → Value → Type 0
+IsItemAfterName t x i v = (y : CToken) → name_at y ≡ x → item_after_name t y v ≡ item_view i

@@ -2,7 +2,7 @@
 
 ghost use Rattle.std.specs.Prelude.{◌≡◌, true, false, MatchOption};
 ghost use Rattle.c0_tokens.specs.declared.token.Mark.TheVariants.{Comma};
-ghost use Rattle.c0_parser.specs.Sorts.{mark_place, among};
+ghost use Rattle.c0_parser.specs.Sorts.{mark as a_mark, among};
 ghost use Rattle.c0_parser.specs.Grammar.{sign, ◌▸◌, many, EXPR, ARGS};
 ghost use Rattle.c0_parser.specs.Machine.{heads, expr_starts};
 ghost use Rattle.c0_parser.specs.Contract.{seen, GivesAny};
@@ -10,14 +10,14 @@ ghost use Rattle.c0_parser.specs.Views.{AreArgs};
 ghost use Rattle.c0_parser.specs.Stmts.{AreMoreArgs};
 
 use crate::expressions::expression;
-use crate::reader::{Halt, begun, next, take};
+use crate::reader::{Halt, next, read_so_far, take};
 use c0_tokens::{Lexeme, Mark, Token};
 use c0_tree::Expr;
 use std::alloc::Global;
 
 /// Whether an expression begins with the mark.
 pub fn mark_starts_expression(mark: Mark) -> bool
-    ensures { result ≡ among expr_starts (mark_place mark) }
+    ensures { result ≡ among expr_starts (a_mark mark) }
 {
     mark == Mark::Minus
         || mark == Mark::Not
@@ -49,9 +49,9 @@ fn more_arguments<'a>(
 ) -> Result<(Vec<Expr>, &'a [Token<'a>]), Halt>
     ensures { GivesAny (many (sign Comma ▸ EXPR)) (AreMoreArgs first) ts.now result }
 {
-    let (mut list, mut rest) = begun(first, ts);
-    while let Some((_, behind)) = take(rest, Mark::Comma) {
-        let (part, after) = expression(alloc, behind)?;
+    let (mut list, mut rest) = read_so_far(first, ts);
+    while let Some((_, after_comma)) = take(rest, Mark::Comma) {
+        let (part, after) = expression(alloc, after_comma)?;
         list.push(part.expr)?;
         rest = after;
     }

@@ -3,7 +3,7 @@
 ghost use Rattle.std.specs.Prelude.{◌≡◌, ◌∷◌, [], ◌+◌, true, MatchOption, MatchResult};
 ghost use Rattle.c0_tokens.specs.Tokens.{CToken, token_view, lexeme_view};
 ghost use Rattle.c0_tokens.specs.declared.token.Mark.TheVariants.{True, False, Null};
-ghost use Rattle.c0_parser.specs.Sorts.{mark, place as sort_place, sort, among, a_name, a_number};
+ghost use Rattle.c0_parser.specs.Sorts.{mark, sort, among, a_name, a_number};
 ghost use Rattle.c0_parser.specs.Value.{token, pair, name_at, literal as literal_of_token, operator as operator_of, across as across_of, place_of, suffixed, joined, chained, primary_value, unary_value};
 ghost use Rattle.c0_parser.specs.Grammar.{EXPR, the, maybe, unary, postfix, primary};
 ghost use Rattle.c0_parser.specs.Machine.{heads};
@@ -187,10 +187,10 @@ fn field(alloc: Global, left: Part, sign: &Token<'_>, name: Name) -> Result<Part
     ensures { MatchResult result (λ p. (x : CToken) → name_at x ≡ name_view name → IsPart p (suffixed (part_value left) (pair (token (token_view sign.now)) (token x)))) (λ h. h ≡ Memory) }
 {
     let span = across(left.span, name.span);
-    let whole = Box::new(alloc, left.expr)?;
+    let owner = Box::new(alloc, left.expr)?;
     let expr = match sign.lexeme {
-        Lexeme::Fixed(Mark::Dot) => Expr::Field(span, whole, name),
-        _ => Expr::Arrow(span, whole, name),
+        Lexeme::Fixed(Mark::Dot) => Expr::Field(span, owner, name),
+        _ => Expr::Arrow(span, owner, name),
     };
     Ok(Part { expr, span })
 }
@@ -221,7 +221,7 @@ fn name_of(alloc: Global, token: &Token<'_>, text: &[u8]) -> Result<Name, Halt>
 
 // Whether a token is a name, a number, `true`, `false` or `null`.
 fn is_literal(lexeme: &Lexeme<'_>) -> bool
-    ensures { result ≡ among (a_name ∷ a_number ∷ mark True ∷ mark False ∷ mark Null ∷ []) (sort_place (sort (lexeme_view lexeme.now))) }
+    ensures { result ≡ among (a_name ∷ a_number ∷ mark True ∷ mark False ∷ mark Null ∷ []) (sort (lexeme_view lexeme.now)) }
 {
     matches!(
         lexeme,
@@ -324,8 +324,8 @@ fn postfix<'a>(alloc: Global, ts: &'a [Token<'a>]) -> Result<(Part, &'a [Token<'
 {
     let (mut left, mut rest) = primary(alloc, ts)?;
     while begins_suffix(rest) {
-        let (whole, after) = suffix(alloc, left, rest)?;
-        left = whole;
+        let (longer, after) = suffix(alloc, left, rest)?;
+        left = longer;
         rest = after;
     }
     Ok((left, rest))
@@ -370,10 +370,10 @@ fn comparison<'a>(
 ) -> Result<(Part, &'a [Token<'a>]), Halt>
     ensures { GivesAny (maybe (operation level)) (λ p v. IsPart p (chained (part_value left) v)) ts.now result }
 {
-    let Some((sign, behind)) = take_any(ts, level.marks()) else {
+    let Some((sign, after_sign)) = take_any(ts, level.marks()) else {
         return Ok((left, ts));
     };
-    let (right, rest) = operand(alloc, level, behind)?;
+    let (right, rest) = operand(alloc, level, after_sign)?;
     Ok((join(alloc, &sign, left, right)?, rest))
 }
 
@@ -390,8 +390,8 @@ fn binary<'a>(
     if !level.chains() {
         return comparison(alloc, level, left, rest);
     }
-    while let Some((sign, behind)) = take_any(rest, level.marks()) {
-        let (right, after) = operand(alloc, level, behind)?;
+    while let Some((sign, after_sign)) = take_any(rest, level.marks()) {
+        let (right, after) = operand(alloc, level, after_sign)?;
         left = join(alloc, &sign, left, right)?;
         rest = after;
     }

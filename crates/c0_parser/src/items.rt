@@ -5,9 +5,9 @@ ghost use Rattle.c0_tokens.specs.Tokens.{token_view};
 ghost use Rattle.c0_parser.specs.Sorts.{an_asm_text};
 ghost use Rattle.c0_tree.specs.View.{name_view};
 ghost use Rattle.c0_parser.specs.Grammar.{the, one_of, ◌or◌, code, body, FIELDS, FUNCTION};
-ghost use Rattle.c0_parser.specs.Factored.{FACTORED, BEHIND, DEFINED};
+ghost use Rattle.c0_parser.specs.Factored.{FACTORED, AFTER_DECL, DEFINED};
 ghost use Rattle.c0_parser.specs.Contract.{Gives};
-ghost use Rattle.c0_parser.specs.Views.{IsAsm, IsBody, IsItem, IsBehind, IsDefined, IsStruct, IsTold};
+ghost use Rattle.c0_parser.specs.Views.{IsAsm, IsBody, IsItem, IsItemOfDecl, IsDefined, IsStruct, IsItemAfterName};
 
 use crate::reader::{Halt, expect, name, take, take_asm};
 use crate::statements::code;
@@ -63,7 +63,7 @@ fn function<'a>(
     decl: Decl,
     ts: &'a [Token<'a>],
 ) -> Result<(Item, &'a [Token<'a>]), Halt>
-    ensures { Gives FUNCTION (IsBehind decl) ts.now result }
+    ensures { Gives FUNCTION (IsItemOfDecl decl) ts.now result }
 {
     let (_, rest) = expect(ts, Mark::OpenParen)?;
     let (params, rest) = parameters(alloc, rest)?;
@@ -79,13 +79,13 @@ fn function<'a>(
     Ok((Item::AFunction(function), rest))
 }
 
-// What stands behind the name of a global or a function.
-fn behind<'a>(
+// The global or function of this declaration, from what stands after it.
+fn item_of_decl<'a>(
     alloc: Global,
     decl: Decl,
     ts: &'a [Token<'a>],
 ) -> Result<(Item, &'a [Token<'a>]), Halt>
-    ensures { Gives BEHIND (IsBehind decl) ts.now result }
+    ensures { Gives AFTER_DECL (IsItemOfDecl decl) ts.now result }
 {
     match take(ts, Mark::Semicolon) {
         Some((_, rest)) => Ok((Item::AGlobal(decl), rest)),
@@ -108,7 +108,7 @@ fn defined<'a>(
         ty_span: typed.span,
         name,
     };
-    behind(alloc, decl, rest)
+    item_of_decl(alloc, decl, rest)
 }
 
 // A struct, from its `{` on.
@@ -127,13 +127,13 @@ fn structure<'a>(
 }
 
 // A struct, or a global or function of a struct type, behind `struct` and a name.
-fn told<'a>(
+fn item_after_name<'a>(
     alloc: Global,
     word: &Token<'_>,
     name: Name,
     ts: &'a [Token<'a>],
 ) -> Result<(Item, &'a [Token<'a>]), Halt>
-    ensures { Gives (FIELDS or DEFINED) (IsTold (token_view word.now) (name_view name)) ts.now result }
+    ensures { Gives (FIELDS or DEFINED) (IsItemAfterName (token_view word.now) (name_view name)) ts.now result }
 {
     match take(ts, Mark::OpenBrace) {
         Some((_, _)) => structure(alloc, name, ts),
@@ -147,7 +147,7 @@ pub fn next_item<'a>(alloc: Global, ts: &'a [Token<'a>]) -> Result<(Item, &'a [T
 {
     if let Some((word, rest)) = take(ts, Mark::Struct) {
         let (name, rest) = name(alloc, rest)?;
-        return told(alloc, &word, name, rest);
+        return item_after_name(alloc, &word, name, rest);
     }
     match take_basic(ts) {
         Some((base, rest)) => defined(alloc, base, rest),

@@ -5,10 +5,12 @@ mod arguments;
 mod expressions;
 mod fault;
 mod items;
+mod laws;
 mod reader;
 mod source;
 mod statements;
 mod types;
 
 pub use fault::ReadFault;
+pub use laws::unit_has_all_items;
 pub use source::parse;

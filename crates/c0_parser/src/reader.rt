@@ -39,7 +39,7 @@ impl<T: Drop> From<AllocFailed<T>> for Halt {
 }
 
 /// What was read so far, and the tokens left: what a loop that reads on begins with.
-pub fn begun<'a, T>(value: T, ts: &'a [Token<'a>]) -> (T, &'a [Token<'a>])
+pub fn read_so_far<'a, T>(value: T, ts: &'a [Token<'a>]) -> (T, &'a [Token<'a>])
     ensures value { result.0 ≡ value }
     ensures rest { result.1.now ≡ ts.now }
 {

@@ -12,14 +12,14 @@ ghost use Rattle.c0_parser.specs.Machine.{heads};
 ghost use Rattle.c0_parser.specs.Grammar.{many, one_of};
 ghost use Rattle.c0_parser.specs.Factored.{FACTORED, SOURCE};
 ghost use Rattle.c0_parser.specs.Contract.{seen, GivesAny};
-ghost use Rattle.c0_parser.specs.Whole.{IsAdded, AreItems, Whole};
+ghost use Rattle.c0_parser.specs.ToEnd.{IsAdded, AreItems, GivesToEnd};
 ghost use Rattle.c0_parser.specs.Faults.{Reads, FaultIs, fault_at};
 ghost use Rattle.c0_parser.specs.declared.reader.Halt.TheVariants.{Memory as Full};
 ghost use Rattle.c0_parser.specs.declared.fault.ReadFault.TheVariants.{SourceTooLong, Memory};
 
 use crate::fault::{ReadFault, fault_of};
 use crate::items::{Item, next_item};
-use crate::reader::{Halt, begun, next};
+use crate::reader::{Halt, next, read_so_far};
 use crate::types::type_ahead;
 use c0_tokens::{
     Lexeme, MAX_SOURCE, Token, tokens, tokens_are_few_and_small, tokens_stand_in_order,
@@ -63,7 +63,7 @@ fn added(items: Items, item: Item) -> Result<Items, Halt>
 fn all_items<'a>(alloc: Global, ts: &'a [Token<'a>]) -> Result<(Items, &'a [Token<'a>]), Halt>
     ensures { GivesAny (many FACTORED) AreItems ts.now result }
 {
-    let (mut all, mut rest) = begun(no_items(alloc), ts);
+    let (mut all, mut rest) = read_so_far(no_items(alloc), ts);
     while let Some(here) = type_ahead(rest) {
         let (item, after) = next_item(alloc, here)?;
         all = added(all, item)?;
@@ -83,8 +83,8 @@ fn is_end<'a>(ts: &'a [Token<'a>]) -> bool
 }
 
 // All items, up to the end of the source.
-fn whole<'a>(alloc: Global, ts: &'a [Token<'a>]) -> Result<Items, Halt>
-    ensures { Whole ts.now result }
+fn items_to_end<'a>(alloc: Global, ts: &'a [Token<'a>]) -> Result<Items, Halt>
+    ensures { GivesToEnd ts.now result }
 {
     let (items, rest) = all_items(alloc, ts)?;
     if is_end(rest) {
@@ -97,7 +97,7 @@ fn whole<'a>(alloc: Global, ts: &'a [Token<'a>]) -> Result<Items, Halt>
 // The fault of the token that has so many tokens from it on.
 fn fault_from_end(ts: &[Token<'_>], left: usize) -> ReadFault
     requires { left ≤ length ts.now }
-    ensures { (before behind : List OneToken) (t : OneToken) → ts.now ≡ before ++ t ∷ behind → length (t ∷ behind) ≡ left → result ≡ fault_at (token_view t) }
+    ensures { (before after : List OneToken) (t : OneToken) → ts.now ≡ before ++ t ∷ after → length (t ∷ after) ≡ left → result ≡ fault_at (token_view t) }
 {
     match ts.get(ts.len() - left) {
         Some(t) => fault_of(t),
@@ -121,7 +121,7 @@ pub fn parse(alloc: Global, source: &[u8]) -> Result<Unit, ReadFault>
     let tokens = tokens(alloc, source)?;
     tokens_stand_in_order();
     tokens_are_few_and_small();
-    match whole(alloc, &tokens) {
+    match items_to_end(alloc, &tokens) {
         Ok(items) => Ok(Unit {
             length: source.len() as u32,
             structs: items.structs,

@@ -2,7 +2,7 @@
 
 ghost use Rattle.std.specs.Prelude.{◌≡◌, true, false, MatchOption};
 ghost use Rattle.c0_tree.specs.View.{expr_view, stmt_view};
-ghost use Rattle.c0_parser.specs.Sorts.{mark_place, among};
+ghost use Rattle.c0_parser.specs.Sorts.{mark as a_mark, among};
 ghost use Rattle.c0_parser.specs.Grammar.{the, statement, block, many, maybe, sign, ◌▸◌, code, CALL, EXPR, RIGHT};
 ghost use Rattle.c0_parser.specs.Machine.{heads, picks, rule_starts};
 ghost use Rattle.c0_parser.specs.Contract.{seen, Gives, GivesAny};
@@ -11,7 +11,7 @@ ghost use Rattle.c0_parser.specs.Stmts.{ASSIGNMENT, CHOICE, LOOP, OTHERWISE, RET
 
 use crate::arguments::{arguments, mark_starts_expression};
 use crate::expressions::{expression, unary};
-use crate::reader::{Halt, begun, expect, name, next, take, take_name};
+use crate::reader::{Halt, expect, name, next, read_so_far, take, take_name};
 use crate::types::{lines, type_of};
 use c0_tokens::{Lexeme, Mark, Token};
 use c0_tree::{Body, CType, Code, Expr, Name, Span, Stmt};
@@ -135,7 +135,7 @@ fn assignment<'a>(alloc: Global, ts: &'a [Token<'a>]) -> Result<(Stmt, &'a [Toke
 }
 
 // The word, and a test in parentheses.
-fn test_behind<'a>(
+fn word_and_test<'a>(
     alloc: Global,
     ts: &'a [Token<'a>],
     word: Mark,
@@ -155,7 +155,7 @@ fn test_behind<'a>(
 
 // Whether a statement begins with the mark.
 fn mark_starts_statement(mark: Mark) -> bool
-    ensures { result ≡ among (rule_starts statement) (mark_place mark) }
+    ensures { result ≡ among (rule_starts statement) (a_mark mark) }
 {
     mark == Mark::If || mark == Mark::While || mark_starts_expression(mark)
 }
@@ -241,7 +241,7 @@ pub fn statement<'a>(alloc: Global, ts: &'a [Token<'a>]) -> Result<(Stmt, &'a [T
 fn choice<'a>(alloc: Global, ts: &'a [Token<'a>]) -> Result<(Stmt, &'a [Token<'a>]), Halt>
     ensures { Gives CHOICE IsStmtOf ts.now result }
 {
-    let (test, rest) = test_behind(alloc, ts, Mark::If)?;
+    let (test, rest) = word_and_test(alloc, ts, Mark::If)?;
     let (yes, rest) = braces(alloc, rest)?;
     let (no, rest) = otherwise(alloc, rest)?;
     let stmt = choice_of(alloc, test, yes, no);
@@ -268,7 +268,7 @@ fn otherwise<'a>(
 fn repetition<'a>(alloc: Global, ts: &'a [Token<'a>]) -> Result<(Stmt, &'a [Token<'a>]), Halt>
     ensures { Gives LOOP IsStmtOf ts.now result }
 {
-    let (test, rest) = test_behind(alloc, ts, Mark::While)?;
+    let (test, rest) = word_and_test(alloc, ts, Mark::While)?;
     let (block, rest) = braces(alloc, rest)?;
     let stmt = loop_of(test, block);
     Ok((stmt, rest))
@@ -282,7 +282,7 @@ pub fn statements<'a>(
 ) -> Result<(Vec<Stmt>, &'a [Token<'a>]), Halt>
     ensures { GivesAny (many (the statement)) AreStmts ts.now result }
 {
-    let (mut stmts, mut rest) = begun(Vec::new(alloc), ts);
+    let (mut stmts, mut rest) = read_so_far(Vec::new(alloc), ts);
     while let Some(here) = statement_ahead(rest) {
         let (stmt, after) = statement(alloc, here)?;
         stmts.push(stmt)?;

@@ -12,7 +12,7 @@ ghost use Rattle.c0_parser.specs.Contract.{seen, Gives, GivesAny, Reading};
 ghost use Rattle.c0_parser.specs.Machine.{heads};
 ghost use Rattle.c0_parser.specs.Views.{typed, IsBase, IsBasic, IsListed, AreMoreLines, IsExtended, with_length, IsSuffix, IsTyped, AreSuffixes, IsDecl, AreLines, AreFields, AreParams};
 
-use crate::reader::{Halt, begun, expect, name, next, number_here, take};
+use crate::reader::{Halt, expect, name, next, number_here, read_so_far, take};
 use c0_tokens::{Lexeme, Mark, Token};
 use c0_tree::{CType, Decl, Name, Span};
 use std::alloc::Global;
@@ -101,13 +101,13 @@ pub fn suffixes<'a>(
 ) -> Result<(Typed, &'a [Token<'a>]), Halt>
     ensures { GivesAny SUFFIXES (AreSuffixes base) ts.now result }
 {
-    let (mut whole, mut rest) = begun(base, ts);
+    let (mut ty, mut rest) = read_so_far(base, ts);
     while let Some(here) = suffix_ahead(rest) {
-        let (next_whole, after) = extended(alloc, whole, here)?;
-        whole = next_whole;
+        let (longer, after) = extended(alloc, ty, here)?;
+        ty = longer;
         rest = after;
     }
-    Ok((whole, rest))
+    Ok((ty, rest))
 }
 
 // `int`.
@@ -226,7 +226,7 @@ fn more_lines<'a>(
 ) -> Result<(Vec<Decl>, &'a [Token<'a>]), Halt>
     ensures { GivesAny (many LINE) (AreMoreLines first) ts.now result }
 {
-    let (mut list, mut rest) = begun(first, ts);
+    let (mut list, mut rest) = read_so_far(first, ts);
     while let Some(here) = type_ahead(rest) {
         let (decl, after) = line(alloc, here)?;
         list.push(decl)?;
@@ -260,9 +260,9 @@ fn more_parameters<'a>(
 ) -> Result<(Vec<Decl>, &'a [Token<'a>]), Halt>
     ensures { GivesAny (many (sign Comma ▸ the decl)) (AreMoreLines first) ts.now result }
 {
-    let (mut list, mut rest) = begun(first, ts);
-    while let Some((_, behind)) = take(rest, Mark::Comma) {
-        let (decl, after) = declaration(alloc, behind)?;
+    let (mut list, mut rest) = read_so_far(first, ts);
+    while let Some((_, after_comma)) = take(rest, Mark::Comma) {
+        let (decl, after) = declaration(alloc, after_comma)?;
         list.push(decl)?;
         rest = after;
     }

@@ -7,8 +7,8 @@ use Rattle.c0_parser.specs.Grammar.{sign, ◌▸◌, EXPR}
 use Rattle.c0_parser.specs.Contract.{seen, GoesOn}
 use Rattle.c0_parser.proofs.arguments.more_arguments.Given as goal
 
-abbrev pub invariant-loop-behind : goal.invariant-loop-behind
-invariant-loop-behind l = (v : Value) × GoesOn (sign Comma ▸ EXPR) (seen l.fn.ts) none (seen l.rest) v × (map expr_view l.fn.first.items ++ exprs v ≡ map expr_view l.list.items) × (length l.rest ≤ length l.fn.ts)
+abbrev pub invariant-loop-after_comma : goal.invariant-loop-after_comma
+invariant-loop-after_comma l = (v : Value) × GoesOn (sign Comma ▸ EXPR) (seen l.fn.ts) none (seen l.rest) v × (map expr_view l.fn.first.items ++ exprs v ≡ map expr_view l.list.items) × (length l.rest ≤ length l.fn.ts)
 
-abbrev pub decreases-loop-behind : goal.decreases-loop-behind
-decreases-loop-behind l = length l.rest
+abbrev pub decreases-loop-after_comma : goal.decreases-loop-after_comma
+decreases-loop-after_comma l = length l.rest

@@ -26,7 +26,7 @@ pub binary-loop-sign-init : goal.binary-loop-sign-init
 binary-loop-sign-init t c =
     let g = c.in_ok-left.ensures in
     record {
-      chain = record { first = g.0; mid = seen c.in_ok-left.rest.now; operations = none; begun = g.1; on = list_starts (operation c.args.level) (seen c.in_ok-left.rest.now) none; is = g.2; inside = g.3 };
+      chain = record { first = g.0; mid = seen c.in_ok-left.rest.now; operations = none; first_goes = g.1; on = list_starts (operation c.args.level) (seen c.in_ok-left.rest.now) none; is = g.2; inside = g.3 };
       follow = sym c.chains.ensures ∙ c.if-not-chains.false;
     }
 
@@ -81,16 +81,16 @@ postfix-returns-in_err-left t c = exits (the postfix) IsPart _ _ _ c.from_residu
 pub postfix-loop-alloc-init : goal.postfix-loop-alloc-init
 postfix-loop-alloc-init t c =
     let g = c.in_ok-left.ensures in
-    record { first = g.0; mid = seen c.in_ok-left.rest.now; parts = none; begun = g.1; on = list_starts SUFFIX (seen c.in_ok-left.rest.now) none; is = g.2; inside = g.3 }
+    record { first = g.0; mid = seen c.in_ok-left.rest.now; parts = none; first_goes = g.1; on = list_starts SUFFIX (seen c.in_ok-left.rest.now) none; is = g.2; inside = g.3 }
 
-pub postfix-returns-in_err-whole : goal.postfix-returns-in_err-whole
-postfix-returns-in_err-whole t c =
-    exits (the postfix) IsPart _ _ _ c.from_residual-in_err-whole.ensures.1
-    (suffixes_fail _ _ _ _ c.loop-alloc.invariant (sym c.begins_suffix.ensures ∙ c.loop-alloc-test.true) c.in_err-whole.ensures)
+pub postfix-returns-in_err-longer : goal.postfix-returns-in_err-longer
+postfix-returns-in_err-longer t c =
+    exits (the postfix) IsPart _ _ _ c.from_residual-in_err-longer.ensures.1
+    (suffixes_fail _ _ _ _ c.loop-alloc.invariant (sym c.begins_suffix.ensures ∙ c.loop-alloc-test.true) c.in_err-longer.ensures)
 
 pub postfix-loop-alloc-preserved : goal.postfix-loop-alloc-preserved
 postfix-loop-alloc-preserved t c =
-    let g = c.in_ok-whole.ensures in
+    let g = c.in_ok-longer.ensures in
     suffixes_more _ _ _ _ _ g.0 c.loop-alloc.invariant (sym c.begins_suffix.ensures ∙ c.loop-alloc-test.true) g.1 g.2 g.3
 
 pub postfix-returns : goal.postfix-returns

@@ -1,5 +1,5 @@
 use Rattle.std.proofs.Common.{[], refl, ap, arith}
-use Rattle.c0_parser.specs.Sorts.{an_asm_text, mark_place}
+use Rattle.c0_parser.specs.Sorts.{an_asm_text, mark}
 use Rattle.c0_tokens.specs.declared.token.Mark.TheVariants.{Asm, OpenBrace}
 use Rattle.c0_parser.specs.Value.{body_value}
 use Rattle.c0_parser.specs.Grammar.{the, code, body, one_of, sign, ◌▸◌}
@@ -12,8 +12,8 @@ pub returns-in-Some : goal.returns-in-Some
 returns-in-Some c =
     let e = c.in-Some.ensures in
     tails (the body) (the code) IsBody IsBody _ _ _
-    (λ x r. (_, goes_the body (goes_first_at (the code) (sign Asm ▸ one_of an_asm_text []) (mark_place OpenBrace) e.0 (mark_kind e.1) refl refl r.1), ap body_value r.2, r.3))
-    (λ h f. fails_the body (fails_first_at (the code) (sign Asm ▸ one_of an_asm_text []) (mark_place OpenBrace) e.0 (mark_kind e.1) refl refl f)) c.code.ensures
+    (λ x r. (_, goes_the body (goes_first_at (the code) (sign Asm ▸ one_of an_asm_text []) (mark OpenBrace) e.0 (mark_kind e.1) refl refl r.1), ap body_value r.2, r.3))
+    (λ h f. fails_the body (fails_first_at (the code) (sign Asm ▸ one_of an_asm_text []) (mark OpenBrace) e.0 (mark_kind e.1) refl refl f)) c.code.ensures
 
 pub returns-in_err-rest : goal.returns-in_err-rest
 returns-in_err-rest c =

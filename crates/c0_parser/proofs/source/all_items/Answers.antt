@@ -3,14 +3,14 @@ use Rattle.c0_parser.specs.Value.{none, snoc}
 use Rattle.c0_parser.specs.Grammar.{many}
 use Rattle.c0_parser.specs.Factored.{FACTORED}
 use Rattle.c0_parser.specs.Contract.{seen}
-use Rattle.c0_parser.specs.Whole.{AreItems}
+use Rattle.c0_parser.specs.ToEnd.{AreItems}
 use Rattle.c0_parser.proofs.Steps.{list_begins, list_more, goes_many, fails_list, exits_any}
 use Rattle.c0_parser.proofs.Sources.{item_heads, no_item, items_more}
 use Rattle.c0_parser.proofs.source.all_items.Goals as goal
 
 pub loop-here-init : goal.loop-here-init
 loop-here-init c =
-    let b = c.begun-all.ensures in
+    let b = c.read_so_far-all.ensures in
     (none, list_begins FACTORED _ _ b.rest, subst (λ i. AreItems i none) (sym b.value) c.no_items.ensures, omega (arith, ap length b.rest))
 
 pub returns-in_err-item : goal.returns-in_err-item

@@ -2,7 +2,7 @@ use Rattle.std.proofs.Common.{◌≤◌, length}
 use Rattle.c0_parser.specs.Value.{Value, none}
 use Rattle.c0_parser.specs.Factored.{FACTORED}
 use Rattle.c0_parser.specs.Contract.{seen, GoesOn}
-use Rattle.c0_parser.specs.Whole.{AreItems}
+use Rattle.c0_parser.specs.ToEnd.{AreItems}
 use Rattle.c0_parser.proofs.source.all_items.Given as goal
 
 abbrev pub invariant-loop-here : goal.invariant-loop-here

@@ -1,7 +1,7 @@
 use Rattle.std.proofs.Common.{ap, ◌∙◌, subst}
 use Rattle.c0_parser.specs.Contract.{seen, Fails}
 use Rattle.c0_parser.specs.Factored.{SOURCE}
-use Rattle.c0_parser.proofs.Sources.{reads_found, one_tree, fits, not_read_so, fault_told}
+use Rattle.c0_parser.proofs.Sources.{reads_found, one_tree, fits, not_read_so, fault_of_first_bad}
 use Rattle.c0_parser.proofs.PlainSources.{reads_plain}
 use Rattle.c0_parser.proofs.source.parse.Goals as goal
 
@@ -35,6 +35,6 @@ returns-clause-only c = λ u le r.
 pub returns-clause-fault : goal.returns-clause-fault
 returns-clause-fault c =
     let source = c.args.source.now in
-    fault_told source c.deref.result.now c.deref-in-Err-Left.result.now c.in-Err-Left.left _ c.if-source-gt-MAX_SOURCE.false
+    fault_of_first_bad source c.deref.result.now c.deref-in-Err-Left.result.now c.in-Err-Left.left _ c.if-source-gt-MAX_SOURCE.false
     (ap seen c.deref.ensures.value ∙ c.in_ok-tokens.ensures) (ap seen c.deref-in-Err-Left.ensures.value ∙ c.in_ok-tokens.ensures)
     (c.tokens_stand_in_order.ensures.ends source) (subst (Fails SOURCE (seen c.deref.result.now)) c.in-Err-Left.field-0-is c.in-Err-Left.ensures) c.fault_from_end.ensures

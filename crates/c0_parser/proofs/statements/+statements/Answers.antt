@@ -1,7 +1,7 @@
 -- Each statement and block is read, or refused, as the grammar's piece for it.
 use Rattle.std.proofs.Common.{length, refl, sym, ap, ◌∙◌, arith}
 use Rattle.c0_tokens.specs.declared.token.Mark.TheVariants.{Else, CloseBrace}
-use Rattle.c0_parser.specs.Sorts.{mark_place}
+use Rattle.c0_parser.specs.Sorts.{mark}
 use Rattle.c0_parser.specs.Value.{none}
 use Rattle.c0_parser.specs.Grammar.{sign, ◌▸◌, the, many, block, statement}
 use Rattle.c0_parser.specs.Contract.{seen}
@@ -45,19 +45,19 @@ choice-returns t c =
 pub otherwise-returns-in_err-block : goal.otherwise-returns-in_err-block
 otherwise-returns-in_err-block t c =
     let e = c.in-Some.ensures in
-    exits_any OTHERWISE IsOtherwise _ _ _ c.from_residual.ensures.1 (fails_with (heads_at (sign Else ▸ the block) (mark_place Else) _ _ _ e.0 (mark_kind e.1) refl) (fails_right (goes_sign _ _ _ _ e.0 e.1) c.in_err-block.ensures))
+    exits_any OTHERWISE IsOtherwise _ _ _ c.from_residual.ensures.1 (fails_with (heads_at (sign Else ▸ the block) (mark Else) _ _ _ e.0 (mark_kind e.1) refl) (fails_right (goes_sign _ _ _ _ e.0 e.1) c.in_err-block.ensures))
 
 pub otherwise-returns-in-Some : goal.otherwise-returns-in-Some
 otherwise-returns-in-Some t c =
     let e = c.in-Some.ensures in
     let b = c.in_ok-block.ensures in
-    (_, goes_with (heads_at (sign Else ▸ the block) (mark_place Else) _ _ _ e.0 (mark_kind e.1) refl) (goes_both (goes_sign _ _ _ _ e.0 e.1) b.1), other _ c.in_ok-block.block _ b.2, omega (arith, shorter _ _ _ e.0, b.3))
+    (_, goes_with (heads_at (sign Else ▸ the block) (mark Else) _ _ _ e.0 (mark_kind e.1) refl) (goes_both (goes_sign _ _ _ _ e.0 e.1) b.1), other _ c.in_ok-block.block _ b.2, omega (arith, shorter _ _ _ e.0, b.3))
 
 pub otherwise-returns : goal.otherwise-returns
 otherwise-returns t c = (none, goes_without (sign Else ▸ the block) _ (heads_not (sign Else) (the block) (seen c.args.ts.now) refl c.in_default.ensures), refl, omega arith)
 
 pub statements-loop-here-init : goal.statements-loop-here-init
-statements-loop-here-init t c = (none, begins_list (the statement) _ _ c.begun-stmts.ensures.rest, rw (c.begun-stmts.ensures.value, c.new.ensures.items) refl, omega (arith, ap length c.begun-stmts.ensures.rest))
+statements-loop-here-init t c = (none, begins_list (the statement) _ _ c.read_so_far-stmts.ensures.rest, rw (c.read_so_far-stmts.ensures.value, c.new.ensures.items) refl, omega (arith, ap length c.read_so_far-stmts.ensures.rest))
 
 pub statements-returns-in_err-stmt : goal.statements-returns-in_err-stmt
 statements-returns-in_err-stmt t c =

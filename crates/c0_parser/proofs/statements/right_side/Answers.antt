@@ -1,7 +1,7 @@
 -- A right side is read as the one of its three forms that the first two tokens tell.
 use Rattle.std.proofs.Common.{refl, sym, ◌∙◌, arith}
 use Rattle.c0_tokens.specs.declared.token.Mark.TheVariants.{New}
-use Rattle.c0_parser.specs.Sorts.{mark_place}
+use Rattle.c0_parser.specs.Sorts.{mark}
 use Rattle.c0_parser.specs.Grammar.{sign, ◌▸◌, ◌or◌, the, type, CALL, EXPR, RIGHT}
 use Rattle.c0_parser.specs.Contract.{seen}
 use Rattle.c0_parser.specs.Views.{IsRight}
@@ -12,13 +12,13 @@ use Rattle.c0_parser.proofs.statements.right_side.Goals as goal
 pub returns-in_err-made : goal.returns-in_err-made
 returns-in_err-made c =
     let e = c.in-Some.ensures in
-    exits RIGHT IsRight _ _ _ c.from_residual.ensures.1 (fails_first_at (sign New ▸ the type) (CALL or EXPR) (mark_place New) e.0 (mark_kind e.1) refl refl (fails_right (goes_sign _ _ _ _ e.0 e.1) c.in_err-made.ensures))
+    exits RIGHT IsRight _ _ _ c.from_residual.ensures.1 (fails_first_at (sign New ▸ the type) (CALL or EXPR) (mark New) e.0 (mark_kind e.1) refl refl (fails_right (goes_sign _ _ _ _ e.0 e.1) c.in_err-made.ensures))
 
 pub returns-in-Some : goal.returns-in-Some
 returns-in-Some c =
     let e = c.in-Some.ensures in
     let m = c.in_ok-made.ensures in
-    (_, goes_first_at (sign New ▸ the type) (CALL or EXPR) (mark_place New) e.0 (mark_kind e.1) refl refl (goes_both (goes_sign _ _ _ _ e.0 e.1) m.1), (λ s p. rw m.2 refl), omega (arith, shorter _ _ _ e.0, m.3))
+    (_, goes_first_at (sign New ▸ the type) (CALL or EXPR) (mark New) e.0 (mark_kind e.1) refl refl (goes_both (goes_sign _ _ _ _ e.0 e.1) m.1), (λ s p. rw m.2 refl), omega (arith, shorter _ _ _ e.0, m.3))
 
 pub returns-then-starts_call : goal.returns-then-starts_call
 returns-then-starts_call c =

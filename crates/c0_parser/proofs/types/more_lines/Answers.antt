@@ -9,7 +9,7 @@ use Rattle.c0_parser.proofs.types.more_lines.Goals as goal
 
 pub loop-here-init : goal.loop-here-init
 loop-here-init c =
-    let b = c.begun-list.ensures in
+    let b = c.read_so_far-list.ensures in
     (none, list_begins LINE _ _ b.rest, no_decls _ _ (ap (λ v. v.items) b.value), omega (arith, ap length b.rest))
 
 pub returns-in_err-decl : goal.returns-in_err-decl

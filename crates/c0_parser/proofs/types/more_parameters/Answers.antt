@@ -3,30 +3,30 @@ use Rattle.c0_tokens.specs.declared.token.Mark.TheVariants.{Comma}
 use Rattle.c0_parser.specs.Value.{token, pair, none, snoc}
 use Rattle.c0_parser.specs.Grammar.{many, sign, the, decl, ◌▸◌}
 use Rattle.c0_parser.specs.Contract.{seen}
-use Rattle.c0_parser.specs.Sorts.{mark_place}
+use Rattle.c0_parser.specs.Sorts.{mark}
 use Rattle.c0_tokens.specs.Tokens.{token_view}
 use Rattle.c0_parser.specs.Views.{AreMoreLines}
 use Rattle.c0_parser.proofs.Steps.{list_begins, list_item, goes_many, goes_both, goes_sign, heads_not, heads_is, mark_kind, fails_many, fails_right, more_decls, no_decls, comma_decl, exits_any}
 use Rattle.c0_parser.proofs.types.more_parameters.Goals as goal
 
-pub loop-behind-init : goal.loop-behind-init
-loop-behind-init c =
-    let b = c.begun-list.ensures in
+pub loop-after_comma-init : goal.loop-after_comma-init
+loop-after_comma-init c =
+    let b = c.read_so_far-list.ensures in
     (none, list_begins (sign Comma ▸ the decl) _ _ b.rest, no_decls _ _ (ap (λ v. v.items) b.value), omega (arith, ap length b.rest))
 
 pub returns-in_err-decl : goal.returns-in_err-decl
 returns-in_err-decl c =
-    let i = c.loop-behind.invariant in
+    let i = c.loop-after_comma.invariant in
     let e = c.in-Some.ensures in
     exits_any (many (sign Comma ▸ the decl)) (AreMoreLines c.args.first) _ _ _ c.from_residual.ensures.1
-    (fails_many i.1 (heads_is (sign Comma ▸ the decl) (mark_place Comma) e.0 (mark_kind e.1)) (fails_right (goes_sign _ _ _ _ e.0 e.1) c.in_err-decl.ensures))
+    (fails_many i.1 (heads_is (sign Comma ▸ the decl) (mark Comma) e.0 (mark_kind e.1)) (fails_right (goes_sign _ _ _ _ e.0 e.1) c.in_err-decl.ensures))
 
-pub loop-behind-preserved : goal.loop-behind-preserved
-loop-behind-preserved c =
-    let i = c.loop-behind.invariant in
+pub loop-after_comma-preserved : goal.loop-after_comma-preserved
+loop-after_comma-preserved c =
+    let i = c.loop-after_comma.invariant in
     let e = c.in-Some.ensures in
     let o = c.in_ok-decl.ensures in
-    (snoc i.0 (pair (token (token_view c.in-Some.field-0-0)) o.0), list_item i.1 (heads_is (sign Comma ▸ the decl) (mark_place Comma) e.0 (mark_kind e.1)) (goes_both (goes_sign _ _ _ _ e.0 e.1) o.1), more_decls c.args.first.items c.loop-behind.list.items c.push.new.self.items c.in_ok-decl.decl i.0 (pair (token (token_view c.in-Some.field-0-0)) o.0) i.2 (comma_decl (token (token_view c.in-Some.field-0-0)) o.0 c.in_ok-decl.decl refl o.2) c.in_ok-push.ensures.items, omega (arith, i.3, o.3, ap length e.0))
+    (snoc i.0 (pair (token (token_view c.in-Some.field-0-0)) o.0), list_item i.1 (heads_is (sign Comma ▸ the decl) (mark Comma) e.0 (mark_kind e.1)) (goes_both (goes_sign _ _ _ _ e.0 e.1) o.1), more_decls c.args.first.items c.loop-after_comma.list.items c.push.new.self.items c.in_ok-decl.decl i.0 (pair (token (token_view c.in-Some.field-0-0)) o.0) i.2 (comma_decl (token (token_view c.in-Some.field-0-0)) o.0 c.in_ok-decl.decl refl o.2) c.in_ok-push.ensures.items, omega (arith, i.3, o.3, ap length e.0))
 
 pub returns : goal.returns
-returns c = let i = c.loop-behind.invariant in (i.0, goes_many i.1 (heads_not (sign Comma) (the decl) (seen c.loop-behind.rest.now) refl c.in_default.ensures), i.2, i.3)
+returns c = let i = c.loop-after_comma.invariant in (i.0, goes_many i.1 (heads_not (sign Comma) (the decl) (seen c.loop-after_comma.rest.now) refl c.in_default.ensures), i.2, i.3)

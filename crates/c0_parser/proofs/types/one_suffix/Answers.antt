@@ -1,5 +1,5 @@
 use Rattle.std.proofs.Common.{refl, arith}
-use Rattle.c0_parser.specs.Sorts.{mark_place}
+use Rattle.c0_parser.specs.Sorts.{mark}
 use Rattle.c0_parser.specs.Views.{IsSuffix}
 use Rattle.c0_parser.specs.Grammar.{sign, ◌▸◌, NUMBER, SUFFIX}
 use Rattle.c0_tokens.specs.declared.token.Mark.TheVariants.{Star, OpenBracket, CloseBracket}
@@ -9,7 +9,7 @@ use Rattle.c0_parser.proofs.types.one_suffix.Goals as goal
 pub returns-in-Some : goal.returns-in-Some
 returns-in-Some c =
     let e = c.in-Some.ensures in
-    (_, goes_first_at (sign Star) (sign OpenBracket ▸ NUMBER ▸ sign CloseBracket) (mark_place Star) e.0 (mark_kind e.1) refl refl (goes_sign _ _ _ _ e.0 e.1), (λ s t. refl), shorter _ _ _ e.0)
+    (_, goes_first_at (sign Star) (sign OpenBracket ▸ NUMBER ▸ sign CloseBracket) (mark Star) e.0 (mark_kind e.1) refl refl (goes_sign _ _ _ _ e.0 e.1), (λ s t. refl), shorter _ _ _ e.0)
 
 pub returns-in_err-rest : goal.returns-in_err-rest
 returns-in_err-rest c =

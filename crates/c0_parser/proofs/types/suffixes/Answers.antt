@@ -7,20 +7,20 @@ use Rattle.c0_parser.proofs.types.suffixes.Goals as goal
 
 pub loop-here-init : goal.loop-here-init
 loop-here-init c =
-    let b = c.begun-whole.ensures in
+    let b = c.read_so_far-ty.ensures in
     (none, list_begins SUFFIX _ _ b.rest, ap typed (sym b.value), omega (arith, ap length b.rest))
 
-pub returns-in_err-next_whole : goal.returns-in_err-next_whole
-returns-in_err-next_whole c =
+pub returns-in_err-longer : goal.returns-in_err-longer
+returns-in_err-longer c =
     let i = c.loop-here.invariant in
     let a = c.in-Some.ensures in
-    exits_any SUFFIXES (AreSuffixes c.args.base) _ _ _ c.from_residual.ensures.1 (fails_list i.1 a.0 a.1 c.in_err-next_whole.ensures)
+    exits_any SUFFIXES (AreSuffixes c.args.base) _ _ _ c.from_residual.ensures.1 (fails_list i.1 a.0 a.1 c.in_err-longer.ensures)
 
 pub loop-here-preserved : goal.loop-here-preserved
 loop-here-preserved c =
     let i = c.loop-here.invariant in
     let a = c.in-Some.ensures in
-    let o = c.in_ok-next_whole.ensures in
+    let o = c.in_ok-longer.ensures in
     (snoc i.0 o.0, list_more i.1 a.0 a.1 o.1, ap (λ t. type_suffixed t o.0) i.2 ∙ o.2, omega (arith, i.3, o.3, ap length a.0))
 
 pub returns : goal.returns

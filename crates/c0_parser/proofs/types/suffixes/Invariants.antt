@@ -6,7 +6,7 @@ use Rattle.c0_parser.specs.Views.{typed}
 use Rattle.c0_parser.proofs.types.suffixes.Given as goal
 
 abbrev pub invariant-loop-here : goal.invariant-loop-here
-invariant-loop-here l = (v : Value) × GoesOn SUFFIX (seen l.fn.ts) none (seen l.rest) v × (type_suffixes (typed l.fn.base) v ≡ typed l.whole) × (length l.rest ≤ length l.fn.ts)
+invariant-loop-here l = (v : Value) × GoesOn SUFFIX (seen l.fn.ts) none (seen l.rest) v × (type_suffixes (typed l.fn.base) v ≡ typed l.ty) × (length l.rest ≤ length l.fn.ts)
 
 abbrev pub decreases-loop-here : goal.decreases-loop-here
 decreases-loop-here l = length l.rest

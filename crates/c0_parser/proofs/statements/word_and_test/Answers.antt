@@ -5,7 +5,7 @@ use Rattle.c0_parser.specs.Grammar.{sign, ◌▸◌, EXPR}
 use Rattle.c0_tokens.specs.Tokens.{token_view}
 use Rattle.c0_parser.proofs.Steps.{goes_both, fails_left, fails_right}
 use Rattle.c0_parser.proofs.Stmts.{exits_test, tested}
-use Rattle.c0_parser.proofs.statements.test_behind.Goals as goal
+use Rattle.c0_parser.proofs.statements.word_and_test.Goals as goal
 
 pub returns-in_err-first : goal.returns-in_err-first
 returns-in_err-first c = exits_test _ _ _ _ c.from_residual.ensures.1 (λ q. fails_left (sign OpenParen ▸ EXPR ▸ sign CloseParen ▸ q) c.in_err-first.ensures)

@@ -1,4 +1,4 @@
--- What the functions of a whole source give.
+-- What the functions give that read a source to its end.
 use Rattle.std.specs.Prelude.{◌≡◌, ◌++◌, List, map, Result, Ok, Err}
 use Rattle.c0_tokens.specs.Tokens.{CToken}
 use Rattle.c0_tokens.specs.declared.token.Token.{Token}
@@ -24,13 +24,13 @@ pub record IsAdded (before : Items) (item : Item) (i : Items) : Type 0 where
   pub more_functions : map function_view i.functions.items ≡ map function_view before.functions.items ++ function_in (item_view item)
 
 -- a source is read to its end
-pub record ReadsWhole (ts : List Token) (i : Items) : Type 0 where
+pub record ReadsToEnd (ts : List Token) (i : Items) : Type 0 where
   pub items : Value
   pub stop : Value
   pub rest : List CToken
   pub goes : Goes SOURCE (seen ts) (pair items stop) rest
   pub are : AreItems i items
 
-abbrev pub Whole : List Token → Result Items Halt → Type 0
-Whole ts (Ok i) = ReadsWhole ts i
-Whole ts (Err h) = Fails SOURCE (seen ts) h
+abbrev pub GivesToEnd : List Token → Result Items Halt → Type 0
+GivesToEnd ts (Ok i) = ReadsToEnd ts i
+GivesToEnd ts (Err h) = Fails SOURCE (seen ts) h

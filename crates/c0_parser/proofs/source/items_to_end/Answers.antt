@@ -4,11 +4,11 @@ use Rattle.c0_parser.specs.Value.{token}
 use Rattle.c0_parser.specs.Grammar.{one_of}
 use Rattle.c0_parser.specs.Contract.{seen}
 use Rattle.c0_parser.proofs.Steps.{goes_both, fails_left, fails_right, fails_by, refuses_one, seen_length}
-use Rattle.c0_parser.proofs.Sources.{exits_whole, goes_heads}
-use Rattle.c0_parser.proofs.source.whole.Goals as goal
+use Rattle.c0_parser.proofs.Sources.{exits_to_end, goes_heads}
+use Rattle.c0_parser.proofs.source.items_to_end.Goals as goal
 
 pub returns-in_err-items : goal.returns-in_err-items
-returns-in_err-items c = exits_whole _ _ _ c.from_residual.ensures.1 (fails_left (one_of the_end []) c.in_err-items.ensures)
+returns-in_err-items c = exits_to_end _ _ _ c.from_residual.ensures.1 (fails_left (one_of the_end []) c.in_err-items.ensures)
 
 pub returns-then-is_end : goal.returns-then-is_end
 returns-then-is_end c =

@@ -1,0 +1,15 @@
+// What holds of the tree of every source.
+
+ghost use Rattle.std.specs.Prelude.{ℕ, ◌≡◌, ◌+◌, List, length};
+ghost use Rattle.c0_tree.specs.Tree.{CUnit};
+ghost use Rattle.c0_parser.specs.Faults.{Reads};
+ghost use Rattle.c0_parser.specs.Items.{CItem, IsMadeOf, structs_among, globals_among, functions_among, unit_with};
+
+/// A law: a source that has a tree is a row of items and its end, and its unit is made of these: its structs, globals and functions are those
+/// of the source, each in the order of the source. So no item vanishes, and none is added. The other way round, each row of items with the
+/// end behind it has the tree that is made of these items.
+pub fn unit_has_all_items()
+    ensures made { (source : List ℕ) (u : CUnit) → Reads source u → (items : List CItem) × IsMadeOf source items × (u ≡ unit_with (length source) items) }
+    ensures reads { (source : List ℕ) (items : List CItem) → IsMadeOf source items → Reads source (unit_with (length source) items) }
+    ensures count { (items : List CItem) → length (structs_among items) + length (globals_among items) + length (functions_among items) ≡ length items }
+{}
