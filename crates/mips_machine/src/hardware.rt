@@ -104,7 +104,9 @@ impl Hardware {
     pub(crate) fn latch(&mut self, lines: Lines)
         ensures { self.new ≡ record self.old { mask = bit_or self.old.mask lines.0 } }
     {
-        self.mask |= lines.0;
+        if lines.0 != 0 {
+            self.mask |= lines.0;
+        }
     }
 
     /// Takes the interrupt with the least cause that comes, or else makes one instruction. The disk has `count` sectors.
