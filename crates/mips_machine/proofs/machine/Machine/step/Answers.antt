@@ -1,10 +1,10 @@
 -- The parts of the code's step make one step of the state that callers see.
-use Rattle.std.proofs.Common.{◌≡◌, ◌+◌, ◌≤◌, ℕ, List, [], sym, ap, ◌∙◌, subst, arith}
+use Rattle.std.proofs.Common.{◌≡◌, ◌+◌, ◌≤◌, ℕ, [], sym, ap, ◌∙◌, subst, arith}
 use Rattle.std.proofs.lemmas.Result.{MatchResult-from_err}
 use Rattle.sector_disk.specs.Ports.{Ports, device_of}
-use Rattle.mips_machine.specs.Hardware.{Hardware, state_in, chosen, Comes}
+use Rattle.mips_machine.specs.Hardware.{Hardware}
 use Rattle.mips_machine.specs.Machine.{Held}
-use Rattle.mips_machine.specs.Steps.{outside_of, Steps, Fails}
+use Rattle.mips_machine.specs.Steps.{Steps, Fails}
 use Rattle.mips_machine.proofs.Whole.{held, off_steps, steps, fails, counted_commands}
 use Rattle.mips_machine.proofs.machine.Machine.step.Goals as goal
 
