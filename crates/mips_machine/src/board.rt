@@ -298,7 +298,11 @@ impl Board {
         ensures kept { result ≡ self.old.kept }
         ensures board { self.new ≡ record self.old { kept = None } }
     {
-        self.kept.take()
+        let kept = self.kept;
+        if kept.is_some() {
+            self.kept = None;
+        }
+        kept
     }
 
     /// Appends a word to the console's log, which is lost where the log is full.

@@ -104,17 +104,20 @@ impl Hardware {
     pub(crate) fn latch(&mut self, lines: Lines)
         ensures { self.new ≡ record self.old { mask = bit_or self.old.mask lines.0 } }
     {
-        self.mask |= lines.0;
+        if lines.0 != 0 {
+            self.mask |= lines.0;
+        }
     }
 
-    /// Takes the interrupt with the least cause that comes, or else makes one instruction. The disk has `count` sectors.
+    /// Takes the interrupt with the least cause that comes, or else makes one instruction. A write outside memory asks the disk for
+    /// its count of sectors.
     #[inline]
-    pub(crate) fn act(&mut self, schedule: &Schedule, count: u32) -> Event
+    pub(crate) fn act<D: Sectors>(&mut self, schedule: &Schedule, disk: &D) -> Event
         requires on { self.old.off ≡ None }
         requires room { self.old.ports.commands < 2 ^ 64 - 1 }
         ensures comes { (time : ℕ) (sectors : List (List ℕ))
-            → Comes (chosen (outside_of schedule.now count) (state_in self.old time sectors)) (state_in self.new time sectors) result }
-        ensures keeps { Keeps count self.old self.new }
+            → Comes (chosen (outside_of schedule.now (D.size disk.now)) (state_in self.old time sectors)) (state_in self.new time sectors) result }
+        ensures keeps { Keeps (D.size disk.now) self.old self.new }
     {
         if self.reset {
             self.reset = false;
@@ -125,7 +128,7 @@ impl Hardware {
             self.mask = 0;
             return self.interrupt(Cause::External, mask);
         }
-        self.execute(schedule, count)
+        self.execute(schedule, disk)
     }
 
     /// Takes an interrupt. The pc is where the interrupted program goes on.
@@ -139,17 +142,17 @@ impl Hardware {
 
     /// Makes one instruction, or takes the interrupt that it comes to.
     #[inline]
-    fn execute(&mut self, schedule: &Schedule, count: u32) -> Event
+    fn execute<D: Sectors>(&mut self, schedule: &Schedule, disk: &D) -> Event
         requires on { self.old.off ≡ None }
         requires room { self.old.ports.commands < 2 ^ 64 - 1 }
         ensures comes { (time : ℕ) (sectors : List (List ℕ))
-            → Comes (instructed (outside_of schedule.now count) (state_in self.old time sectors)) (state_in self.new time sectors) result }
-        ensures keeps { Keeps count self.old self.new }
+            → Comes (instructed (outside_of schedule.now (D.size disk.now)) (state_in self.old time sectors)) (state_in self.new time sectors) result }
+        ensures keeps { Keeps (D.size disk.now) self.old self.new }
     {
         match instruct(&mut self.cpu, &mut self.board) {
             Outcome::Done => match self.board.take_kept() {
                 None => Event::Ran,
-                Some(write) => self.write_port(write, schedule, count),
+                Some(write) => self.write_port(write, schedule, disk.count()),
             },
             Outcome::Trap(cause, edata) => match cause {
                 Cause::Illegal => self.illegal(edata),

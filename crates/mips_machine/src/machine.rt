@@ -87,10 +87,10 @@ impl Machine {
         }
         let at = self.next_line;
         let (lines, next_line) = self.schedule.raised_from(at, self.steps);
-        self.hardware.latch(lines);
-        let event = self.hardware.act(&self.schedule, disk.count());
         self.next_line = next_line;
         self.steps += 1;
+        self.hardware.latch(lines);
+        let event = self.hardware.act(&self.schedule, disk);
         self.hardware.end_step(disk)?;
         Ok(event)
     }
