@@ -1,0 +1,6 @@
+pub mod Words
+pub mod Loops
+pub mod Answers
+pub mod Steps
+pub mod Spelled
+pub mod Given

@@ -1,0 +1,415 @@
+-- Bytes that are answered by an image are its spelling: each step that went on is taken back.
+use Rattle.std.proofs.Common.{◌≡◌, ℕ, zero, suc, ◌+◌, ◌*◌, ◌^◌, ◌<◌, ◌≤◌, false, true, ltb, ◌||◌, All, List, [], ◌∷◌, ◌++◌, length, take, drop, map, Result, Ok, Err, inl, inr, refl, sym, ap, subst, ◌∙◌, append_assoc, arith}
+use Rattle.std.specs.Prelude.{◌⊎◌, codes, nat_eq, if◌then◌else◌}
+use Rattle.std.specs.Str.{bytes_eq}
+use Rattle.std.specs.List.{flat_map, AllByRecursion}
+use Rattle.std.proofs.lemmas.Bool.{lt-ltb, le-ltb, cond-true, cond-false, cases_lt, cases_Bool, or_left, or_right}
+use Rattle.std.proofs.lemmas.List.{append-nil, length-append, length-take, take-append-drop, length-map}
+use Rattle.std.proofs.lemmas.List.Elements.{All-from_recursion}
+use Rattle.std.proofs.lemmas.Slice.Eq.{bytes_eq-Decides}
+use Rattle.layer_map.specs.declared.params.Params.{Params}
+use Rattle.layer_map.specs.Map.{ParamsInRange}
+use Rattle.boot_image.specs.declared.fault.ImageFault.{ImageFault}
+use Rattle.boot_image.specs.declared.fault.ImageFault.TheVariants.{Truncated, Parameter}
+use Rattle.boot_image.specs.declared.reading.Header.{Header}
+use Rattle.boot_image.specs.Parts.{Parts}
+use Rattle.boot_image.specs.Format.{word, spelling, fields, bare_params, most_words, AreWords, IsSystem, IsInRange}
+use Rattle.boot_image.specs.Reading.{◌>>=◌, mark_at, number_at, form_at, params_at, counts_at, bare_at, system_at, header_of, part_at, users_at, parts_of, image_of, words_of, users_of, answer}
+use Rattle.boot_image.proofs.Words.{length-word, number-word, words_of-words, IsBytes, IsBytes-drop, IsBytes-take, Front, front, Made, made}
+use Rattle.boot_image.proofs.Loops.{part_short, part_whole, users_go_on, FirstWhole, first_whole}
+use Rattle.boot_image.proofs.Steps.{onto, words-onto, number_whole, users_read, bare, system}
+
+-- a step and the next one went on
+record Went (A B : Type 0) (r : Result A ImageFault) (f : A → Result B ImageFault) (y : B) : Type 0 where
+  x : A
+  is : r ≡ Ok x
+  next : f x ≡ Ok y
+
+went : {A B : Type 0} (r : Result A ImageFault) (f : A → Result B ImageFault) (y : B) → (r >>= f) ≡ Ok y → Went A B r f y
+went (Ok x) f y h = record { x = x; is = refl; next = h }
+went (Err e) f y h = absurd cc
+
+-- ---- a number
+
+record NumberIs (least most : ℕ) (bytes : List ℕ) (x : ℕ × List ℕ) : Type 0 where
+  is : bytes ≡ word x.0 ++ x.1
+  low : least ≤ x.0
+  high : x.0 ≤ most
+  fits : IsBytes x.1
+
+number_short : (which least most : ℕ) (bytes : List ℕ) → length bytes < 4 → number_at which least most bytes ≡ Err (Truncated (4 * which))
+unfolding number_at
+number_short which least most bytes short = cond-true (ltb (length bytes) 4) _ _ (lt-ltb (length bytes) 4 short)
+
+number_out : (which least most n : ℕ) (rest : List ℕ) → n < 2 ^ 32 → (ltb n least || ltb most n) ≡ true → number_at which least most (word n ++ rest) ≡ Err (Parameter which n)
+unfolding number_at
+number_out which least most n rest small out =
+    let long : ltb (length (word n ++ rest)) 4 ≡ false = le-ltb _ _ (omega (arith, length-append (word n) rest, length-word n)) in
+    rw (long, number-word n rest small, out) refl
+
+none_is_both : {A : Type 0} (P : Type 0) (r : Result A ImageFault) (e : ImageFault) (x : A) → r ≡ Err e → r ≡ Ok x → P
+none_is_both P r e x bad good = absurd cc
+
+one_is : {A : Type 0} (r : Result A ImageFault) (x y : A) → r ≡ Ok x → r ≡ Ok y → x ≡ y
+one_is r x y a b = cc
+
+number_from : (which least most : ℕ) (bytes : List ℕ) (x : ℕ × List ℕ) (f : Front bytes) → number_at which least most bytes ≡ Ok x → NumberIs least most bytes x
+number_from which least most bytes x f h =
+    let read : number_at which least most (word f.number ++ f.rest) ≡ Ok x = sym (ap (number_at which least most) f.is) ∙ h in
+    elim (cases_lt f.number least) [
+      | inl under ↦ none_is_both _ _ _ x (number_out which least most f.number f.rest f.small (or_left (ltb f.number least) (ltb most f.number) (lt-ltb f.number least under))) read
+      | inr low ↦
+          elim (cases_lt most f.number) [
+            | inl over ↦ none_is_both _ _ _ x (number_out which least most f.number f.rest f.small (or_right (ltb f.number least) (ltb most f.number) (lt-ltb most f.number over))) read
+            | inr high ↦
+                let same : (f.number, f.rest) ≡ x = one_is _ (f.number, f.rest) x (number_whole which least most f.number f.rest f.small low high) read in
+                subst (λ (y : ℕ × List ℕ). NumberIs least most bytes y) same (record { is = f.is; low = low; high = high; fits = f.fits })
+          ]
+    ]
+
+number_is : (which least most : ℕ) (bytes : List ℕ) (x : ℕ × List ℕ) → IsBytes bytes → number_at which least most bytes ≡ Ok x → NumberIs least most bytes x
+number_is which least most bytes x fits h =
+    elim (cases_lt (length bytes) 4) [
+      | inl short ↦ none_is_both _ _ _ x (number_short which least most bytes short) h
+      | inr long ↦ number_from which least most bytes x (front bytes fits long) h
+    ]
+
+-- ---- the mark and the form
+
+mark_is : (bytes rest : List ℕ) → mark_at bytes ≡ Ok rest → IsBytes bytes → (bytes ≡ codes "CVMI" ++ rest) × IsBytes rest
+unfolding mark_at
+mark_is bytes rest h fits =
+    elim (cases_lt (length bytes) 4) [
+      | inl short ↦ none_is_both _ _ _ rest (cond-true (ltb (length bytes) 4) _ _ (lt-ltb (length bytes) 4 short)) h
+      | inr long ↦
+          let behind = sym (cond-false (ltb (length bytes) 4) _ _ (le-ltb (length bytes) 4 long)) ∙ h in
+          elim (cases_Bool (bytes_eq (take 4 bytes) (codes "CVMI"))) [
+            | inl same ↦
+                let left : drop 4 bytes ≡ rest = one_is _ (drop 4 bytes) rest (cond-true (bytes_eq (take 4 bytes) (codes "CVMI")) _ _ same) behind in
+                let mark : take 4 bytes ≡ codes "CVMI" = (bytes_eq-Decides (take 4 bytes) (codes "CVMI")).0 same in
+                (sym (take-append-drop 4 bytes) ∙ ap (λ (l : List ℕ). l ++ drop 4 bytes) mark ∙ ap (λ (l : List ℕ). codes "CVMI" ++ l) left, subst IsBytes left (IsBytes-drop 4 bytes fits))
+            | inr other ↦ none_is_both _ _ _ rest (cond-false (bytes_eq (take 4 bytes) (codes "CVMI")) _ _ other) behind
+          ]
+    ]
+
+record FormIs (bytes : List ℕ) (x : ℕ × List ℕ) : Type 0 where
+  is : bytes ≡ word x.0 ++ x.1
+  form : (x.0 ≡ 1) ⊎ (x.0 ≡ 3)
+  fits : IsBytes x.1
+
+one_or_three : (n : ℕ) → 1 ≤ n → n ≤ 3 → (nat_eq n 2 ≡ false) → (n ≡ 1) ⊎ (n ≡ 3)
+one_or_three zero low high other = absurd (omega (arith, low))
+one_or_three (suc zero) low high other = inl refl
+one_or_three (suc (suc zero)) low high other = absurd cc
+one_or_three (suc (suc (suc zero))) low high other = inr refl
+one_or_three (suc (suc (suc (suc n)))) low high other = absurd (omega (arith, high))
+
+form_is : (bytes : List ℕ) (x : ℕ × List ℕ) → form_at bytes ≡ Ok x → IsBytes bytes → FormIs bytes x
+unfolding form_at
+form_is bytes x h fits =
+    let w = went (number_at 1 1 3 bytes) _ x h in
+    let n : NumberIs 1 3 bytes w.x = number_is 1 1 3 bytes w.x fits w.is in
+    elim (cases_Bool (nat_eq w.x.0 2)) [
+      | inl two ↦ none_is_both _ _ _ x (cond-true (nat_eq w.x.0 2) _ _ two) w.next
+      | inr other ↦
+          let same : w.x ≡ x = one_is _ w.x x (cond-false (nat_eq w.x.0 2) _ _ other) w.next in
+          subst (λ (y : ℕ × List ℕ). FormIs bytes y) same (record { is = n.is; form = one_or_three w.x.0 n.low n.high other; fits = n.fits })
+    ]
+
+-- ---- the parameters and the numbers of words
+
+record ParamsIs (bytes : List ℕ) (x : Params × List ℕ) : Type 0 where
+  is : bytes ≡ onto (x.0.pages ∷ x.0.frames ∷ x.0.heap ∷ x.0.stack ∷ []) x.1
+  range : ParamsInRange x.0
+  fits : IsBytes x.1
+
+params_is : (bytes : List ℕ) (x : Params × List ℕ) → params_at bytes ≡ Ok x → IsBytes bytes → ParamsIs bytes x
+unfolding params_at
+params_is bytes x h fits =
+    let a = went (number_at 3 1 1024 bytes) _ x h in
+    let p : NumberIs 1 1024 bytes a.x = number_is 3 1 1024 bytes a.x fits a.is in
+    let b = went (number_at 4 2 16384 a.x.1) _ x a.next in
+    let f : NumberIs 2 16384 a.x.1 b.x = number_is 4 2 16384 a.x.1 b.x p.fits b.is in
+    let c = went (number_at 5 0 1048576 b.x.1) _ x b.next in
+    let g : NumberIs 0 1048576 b.x.1 c.x = number_is 5 0 1048576 b.x.1 c.x f.fits c.is in
+    let d = went (number_at 6 64 262144 c.x.1) _ x c.next in
+    let s : NumberIs 64 262144 c.x.1 d.x = number_is 6 64 262144 c.x.1 d.x g.fits d.is in
+    let found : Params = record { pages = a.x.0; frames = b.x.0; heap = c.x.0; stack = d.x.0 } in
+    let same : (found, d.x.1) ≡ x = one_is _ (found, d.x.1) x refl d.next in
+    subst (λ (y : Params × List ℕ). ParamsIs bytes y) same
+    (record {
+      is =
+          p.is ∙ ap (λ (l : List ℕ). word a.x.0 ++ l) f.is ∙ ap (λ (l : List ℕ). word a.x.0 ++ (word b.x.0 ++ l)) g.is
+          ∙ ap (λ (l : List ℕ). word a.x.0 ++ (word b.x.0 ++ (word c.x.0 ++ l))) s.is;
+      range = record { a_page = p.low; pages = p.high; two_frames = f.low; frames = f.high; heap = g.high; least_stack = s.low; stack = s.high };
+      fits = s.fits;
+    })
+
+record CountsAre (first : List ℕ) (most users : ℕ) (bytes : List ℕ) (x : List ℕ × List ℕ) : Type 0 where
+  counts : List ℕ
+  found : x.0 ≡ first ++ counts
+  many : length counts ≡ users
+  range : AllByRecursion (λ n. n ≤ most) counts
+  is : bytes ≡ onto counts x.1
+  fits : IsBytes x.1
+
+counts_are : (first : List ℕ) (most users : ℕ) (bytes : List ℕ) (x : List ℕ × List ℕ) → counts_at first most users bytes ≡ Ok x → IsBytes bytes → CountsAre first most users bytes x
+unfolding counts_at
+counts_are first most zero bytes x h fits =
+    let same : (first, bytes) ≡ x = one_is _ (first, bytes) x refl h in
+    subst (λ (y : List ℕ × List ℕ). CountsAre first most zero bytes y) same (record { counts = []; found = sym (append-nil first); many = refl; range = tt; is = refl; fits = fits })
+counts_are first most (suc users) bytes x h fits =
+    let w = went (number_at (9 + length first) 0 most bytes) _ x h in
+    let n : NumberIs 0 most bytes w.x = number_is (9 + length first) 0 most bytes w.x fits w.is in
+    let r : CountsAre (first ++ w.x.0 ∷ []) most users w.x.1 x = counts_are (first ++ w.x.0 ∷ []) most users w.x.1 x w.next n.fits in
+    record {
+      counts = w.x.0 ∷ r.counts;
+      found = r.found ∙ append_assoc first (w.x.0 ∷ []) r.counts;
+      many = ap suc r.many;
+      range = (n.high, r.range);
+      is = n.is ∙ ap (λ (l : List ℕ). word w.x.0 ++ l) r.is;
+      fits = r.fits;
+    }
+
+-- ---- the parts
+
+record PartIs (size : ℕ) (bytes : List ℕ) (x : List ℕ × List ℕ) : Type 0 where
+  is : bytes ≡ x.0 ++ x.1
+  many : length x.0 ≡ size
+  part : IsBytes x.0
+  fits : IsBytes x.1
+
+part_is : (at size : ℕ) (bytes : List ℕ) (x : List ℕ × List ℕ) → part_at at size bytes ≡ Ok x → IsBytes bytes → PartIs size bytes x
+part_is at size bytes x h fits =
+    elim (cases_lt (length bytes) size) [
+      | inl short ↦ none_is_both _ _ _ x (part_short at size bytes short) h
+      | inr long ↦
+          let same : (take size bytes, drop size bytes) ≡ x = one_is _ (take size bytes, drop size bytes) x (part_whole at size bytes long) h in
+          subst (λ (y : List ℕ × List ℕ). PartIs size bytes y) same
+          (record { is = sym (take-append-drop size bytes); many = omega (arith, length-take size bytes, long); part = IsBytes-take size bytes fits; fits = IsBytes-drop size bytes fits })
+    ]
+
+record UsersAre (counts bytes : List ℕ) : Type 0 where
+  users : List (List ℕ)
+  many : map length users ≡ counts
+  bits : AllByRecursion AreWords users
+  is : bytes ≡ flat_map (flat_map word) users
+
+users_are : (at : ℕ) (counts bytes : List ℕ) → users_at at counts bytes ≡ Ok tt → IsBytes bytes → UsersAre counts bytes
+unfolding users_at
+users_are at [] [] h fits = record { users = []; many = refl; bits = tt; is = refl }
+users_are at [] (b ∷ bytes) h fits = none_is_both _ _ _ tt (users_go_on at 0 [] (b ∷ bytes) (omega arith) (omega arith)) h
+users_are at (n ∷ counts) bytes h fits =
+    let f : FirstWhole at n counts bytes = first_whole at n counts bytes h in
+    let m : Made n (take (4 * n) bytes) = made n (take (4 * n) bytes) (IsBytes-take (4 * n) bytes fits) (omega (arith, length-take (4 * n) bytes, f.long)) in
+    let r : UsersAre counts (drop (4 * n) bytes) = users_are (at + 4 * n) counts (drop (4 * n) bytes) f.others (IsBytes-drop (4 * n) bytes fits) in
+    record {
+      users = m.words ∷ r.users;
+      many = ap (λ (k : ℕ). k ∷ map length r.users) m.counted ∙ ap (λ (l : List ℕ). n ∷ l) r.many;
+      bits = (All-from_recursion (λ w. w < 2 ^ 32) m.words m.small, r.bits);
+      is = sym (take-append-drop (4 * n) bytes) ∙ ap (λ (l : List ℕ). l ++ drop (4 * n) bytes) m.is ∙ ap (λ (l : List ℕ). flat_map word m.words ++ l) r.is;
+    }
+
+record PartsAre (h : Header) (counts bytes : List ℕ) (x : List ℕ × (List ℕ × List ℕ)) : Type 0 where
+  source : List ℕ
+  words : List ℕ
+  users : List (List ℕ)
+  source_many : length source ≡ h.source_length
+  words_many : length words ≡ h.word_count
+  users_many : map length users ≡ counts
+  bits : AreWords words
+  user_bits : All AreWords users
+  is : bytes ≡ source ++ (flat_map word words ++ flat_map (flat_map word) users)
+  image : image_of h counts x.0 x.1.0 x.1.1 ≡ record { params = h.params; form = h.form; source = source; words = words; users = users }
+
+parts_are : (h : Header) (counts bytes : List ℕ) (x : List ℕ × (List ℕ × List ℕ)) → parts_of h counts bytes ≡ Ok x → IsBytes bytes → PartsAre h counts bytes x
+unfolding parts_of
+parts_are h counts bytes x got fits =
+    let a = went (part_at h.parts_at h.source_length bytes) _ x got in
+    let s : PartIs h.source_length bytes a.x = part_is h.parts_at h.source_length bytes a.x a.is fits in
+    let b = went (part_at (h.parts_at + h.source_length) (4 * h.word_count) a.x.1) _ x a.next in
+    let w : PartIs (4 * h.word_count) a.x.1 b.x = part_is (h.parts_at + h.source_length) (4 * h.word_count) a.x.1 b.x b.is s.fits in
+    let c = went (users_at (h.parts_at + h.source_length + 4 * h.word_count) counts b.x.1) _ x b.next in
+    let u : UsersAre counts b.x.1 = users_are (h.parts_at + h.source_length + 4 * h.word_count) counts b.x.1 c.is w.fits in
+    let m : Made h.word_count b.x.0 = made h.word_count b.x.0 w.part w.many in
+    let same : (a.x.0, (b.x.0, b.x.1)) ≡ x = one_is _ (a.x.0, (b.x.0, b.x.1)) x refl c.next in
+    let words : words_of b.x.0 ≡ m.words = ap words_of m.is ∙ words_of-words m.words m.small in
+    let users : users_of counts b.x.1 ≡ u.users = ap (λ (l : List ℕ). users_of l b.x.1) (sym u.many) ∙ ap (users_of (map length u.users)) u.is ∙ users_read u.users u.bits in
+    subst (λ (y : List ℕ × (List ℕ × List ℕ)). PartsAre h counts bytes y) same
+    (record {
+      source = a.x.0;
+      words = m.words;
+      users = u.users;
+      source_many = s.many;
+      words_many = m.counted;
+      users_many = u.many;
+      bits = All-from_recursion (λ w. w < 2 ^ 32) m.words m.small;
+      user_bits = All-from_recursion AreWords u.users u.bits;
+      is = s.is ∙ ap (λ (l : List ℕ). a.x.0 ++ l) (w.is ∙ ap (λ (l : List ℕ). l ++ b.x.1) m.is ∙ ap (λ (l : List ℕ). flat_map word m.words ++ l) u.is);
+      image =
+          ap (λ (ws : List ℕ). record { params = h.params; form = h.form; source = a.x.0; words = ws; users = users_of counts b.x.1 }) words
+          ∙ ap (λ (us : List (List ℕ)). record { params = h.params; form = h.form; source = a.x.0; words = m.words; users = us }) users;
+    })
+
+-- ---- the fields
+
+record BareIs (bytes : List ℕ) (x : Header × (List ℕ × List ℕ)) : Type 0 where
+  n : ℕ
+  rest : List ℕ
+  few : n ≤ 1048576
+  found : x ≡ (record { form = 1; params = bare_params; source_length = n; word_count = 0; parts_at = 12 }, ([], rest))
+  is : bytes ≡ codes "CVMI" ++ onto (1 ∷ n ∷ []) rest
+  fits : IsBytes rest
+
+record SystemIs (bytes : List ℕ) (x : Header × (List ℕ × List ℕ)) : Type 0 where
+  params : Params
+  users : ℕ
+  n : ℕ
+  k : ℕ
+  counts : List ℕ
+  rest : List ℕ
+  range : ParamsInRange params
+  few : n ≤ 1048576
+  least : 16384 ≤ k
+  most : k ≤ 4194304
+  many : length counts ≡ users
+  few_users : users ≤ 64
+  sizes : AllByRecursion (λ c. c ≤ most_words params.pages) counts
+  found : x ≡ (record { form = 3; params = params; source_length = n; word_count = k; parts_at = 36 + 4 * users }, (counts, rest))
+  is : bytes ≡ codes "CVMI" ++ (word 3 ++ (word users ++ onto (params.pages ∷ params.frames ∷ params.heap ∷ params.stack ∷ []) (word n ++ (word k ++ onto counts rest))))
+  fits : IsBytes rest
+
+bare_is : (bytes rest : List ℕ) (x : Header × (List ℕ × List ℕ)) → bytes ≡ codes "CVMI" ++ (word 1 ++ rest) → bare_at rest ≡ Ok x → IsBytes rest → BareIs bytes x
+unfolding bare_at
+bare_is bytes rest x is h fits =
+    let w = went (number_at 2 0 1048576 rest) _ x h in
+    let n : NumberIs 0 1048576 rest w.x = number_is 2 0 1048576 rest w.x fits w.is in
+    record { n = w.x.0; rest = w.x.1; few = n.high; found = sym (one_is _ _ x refl w.next); is = is ∙ ap (λ (l : List ℕ). codes "CVMI" ++ (word 1 ++ l)) n.is; fits = n.fits }
+
+system_is : (bytes rest : List ℕ) (x : Header × (List ℕ × List ℕ)) → bytes ≡ codes "CVMI" ++ (word 3 ++ rest) → system_at rest ≡ Ok x → IsBytes rest → SystemIs bytes x
+unfolding system_at
+system_is bytes rest x is h fits =
+    let a = went (number_at 2 0 64 rest) _ x h in
+    let u : NumberIs 0 64 rest a.x = number_is 2 0 64 rest a.x fits a.is in
+    let b = went (params_at a.x.1) _ x a.next in
+    let p : ParamsIs a.x.1 b.x = params_is a.x.1 b.x b.is u.fits in
+    let c = went (number_at 7 0 1048576 b.x.1) _ x b.next in
+    let n : NumberIs 0 1048576 b.x.1 c.x = number_is 7 0 1048576 b.x.1 c.x p.fits c.is in
+    let d = went (number_at 8 16384 4194304 c.x.1) _ x c.next in
+    let k : NumberIs 16384 4194304 c.x.1 d.x = number_is 8 16384 4194304 c.x.1 d.x n.fits d.is in
+    let e = went (counts_at [] (most_words b.x.0.pages) a.x.0 d.x.1) _ x d.next in
+    let s : CountsAre [] (most_words b.x.0.pages) a.x.0 d.x.1 e.x = counts_are [] (most_words b.x.0.pages) a.x.0 d.x.1 e.x e.is k.fits in
+    record {
+      params = b.x.0;
+      users = a.x.0;
+      n = c.x.0;
+      k = d.x.0;
+      counts = s.counts;
+      rest = e.x.1;
+      range = p.range;
+      few = n.high;
+      least = k.low;
+      most = k.high;
+      many = s.many;
+      few_users = u.high;
+      sizes = s.range;
+      found =
+          sym (one_is _ _ x refl e.next)
+          ∙ ap (λ (l : List ℕ). (record { form = 3; params = b.x.0; source_length = c.x.0; word_count = d.x.0; parts_at = 36 + 4 * a.x.0 }, (l, e.x.1))) s.found;
+      is =
+          is ∙ ap (λ (l : List ℕ). codes "CVMI" ++ (word 3 ++ l)) u.is ∙ ap (λ (l : List ℕ). codes "CVMI" ++ (word 3 ++ (word a.x.0 ++ l))) p.is
+          ∙ ap (λ (l : List ℕ). codes "CVMI" ++ (word 3 ++ (word a.x.0 ++ onto (b.x.0.pages ∷ b.x.0.frames ∷ b.x.0.heap ∷ b.x.0.stack ∷ []) l))) (n.is ∙ ap (λ (l : List ℕ). word c.x.0 ++ l) (k.is ∙ ap (λ (l : List ℕ). word d.x.0 ++ l) s.is));
+      fits = s.fits;
+    }
+
+header_is : (bytes : List ℕ) (x : Header × (List ℕ × List ℕ)) → header_of bytes ≡ Ok x → IsBytes bytes → BareIs bytes x ⊎ SystemIs bytes x
+unfolding header_of
+header_is bytes x h fits =
+    let a = went (mark_at bytes) _ x h in
+    let m : (bytes ≡ codes "CVMI" ++ a.x) × IsBytes a.x = mark_is bytes a.x a.is fits in
+    let b = went (form_at a.x) _ x a.next in
+    let f : FormIs a.x b.x = form_is a.x b.x b.is m.1 in
+    let goes_on : ℕ → Type 0 = λ n. (if nat_eq n 1 then bare_at b.x.1 else system_at b.x.1) ≡ Ok x in
+    let begins : (n : ℕ) → b.x.0 ≡ n → bytes ≡ codes "CVMI" ++ (word n ++ b.x.1) = λ n is. m.0 ∙ ap (λ (l : List ℕ). codes "CVMI" ++ l) f.is ∙ ap (λ (k : ℕ). codes "CVMI" ++ (word k ++ b.x.1)) is in
+    elim f.form [
+      | inl one ↦ inl (bare_is bytes b.x.1 x (begins 1 one) (subst goes_on one b.next) f.fits)
+      | inr three ↦ inr (system_is bytes b.x.1 x (begins 3 three) (subst goes_on three b.next) f.fits)
+    ]
+
+-- ---- the image
+
+nil_of_none : {X : Type 0} (xs : List X) → length xs ≡ 0 → xs ≡ []
+nil_of_none [] none = refl
+nil_of_none (x ∷ xs) none = absurd (omega (arith, none))
+
+sizes_back : (most : ℕ) (users : List (List ℕ)) → AllByRecursion (λ n. n ≤ most) (map length users) → AllByRecursion (λ u. length u ≤ most) users
+sizes_back most [] fits = tt
+sizes_back most (u ∷ users) fits = (fits.0, sizes_back most users fits.1)
+
+abbrev IsSpelled : List ℕ → Parts → Type 0
+IsSpelled bytes i = IsInRange i × (bytes ≡ spelling i)
+
+bare_spelled : (bytes source : List ℕ) → length source ≤ 1048576 → bytes ≡ codes "CVMI" ++ onto (1 ∷ length source ∷ []) (source ++ []) → IsSpelled bytes (bare source)
+bare_spelled bytes source few is = (
+  record {
+    spelled = record { source = few; form = inl (record { form = refl; params = refl; words = refl; users = refl }) };
+    bits = All-from_recursion (λ w. w < 2 ^ 32) [] tt;
+    user_bits = All-from_recursion AreWords [] tt;
+  },
+  is ∙ ap (λ (l : List ℕ). codes "CVMI" ++ l) (sym (words-onto (1 ∷ length source ∷ []) (source ++ []))),
+)
+
+bare_from : (bytes : List ℕ) (x : Header × (List ℕ × List ℕ)) (y : List ℕ × (List ℕ × List ℕ)) → BareIs bytes x → parts_of x.0 x.1.0 x.1.1 ≡ Ok y → IsSpelled bytes (image_of x.0 x.1.0 y.0 y.1.0 y.1.1)
+bare_from bytes x y b h =
+    let header : Header = record { form = 1; params = bare_params; source_length = b.n; word_count = 0; parts_at = 12 } in
+    let read : parts_of header [] b.rest ≡ Ok y = sym (ap (λ (z : Header × (List ℕ × List ℕ)). parts_of z.0 z.1.0 z.1.1) b.found) ∙ h in
+    let p : PartsAre header [] b.rest y = parts_are header [] b.rest y read b.fits in
+    let none : p.words ≡ [] = nil_of_none p.words p.words_many in
+    let alone : p.users ≡ [] = nil_of_none p.users (sym (length-map p.users length) ∙ ap length p.users_many) in
+    let image : image_of x.0 x.1.0 y.0 y.1.0 y.1.1 ≡ bare p.source =
+    ap (λ (z : Header × (List ℕ × List ℕ)). image_of z.0 z.1.0 y.0 y.1.0 y.1.1) b.found ∙ p.image
+    ∙ ap (λ (ws : List ℕ). record { params = bare_params; form = 1; source = p.source; words = ws; users = p.users }) none
+    ∙ ap (λ (us : List (List ℕ)). record { params = bare_params; form = 1; source = p.source; words = []; users = us }) alone in
+    let spelled : bytes ≡ codes "CVMI" ++ onto (1 ∷ length p.source ∷ []) (p.source ++ []) =
+    b.is ∙ ap (λ (n : ℕ). codes "CVMI" ++ onto (1 ∷ n ∷ []) b.rest) (sym p.source_many)
+    ∙ ap (λ (l : List ℕ). codes "CVMI" ++ onto (1 ∷ length p.source ∷ []) l)
+    (p.is ∙ ap (λ (ws : List ℕ). p.source ++ (flat_map word ws ++ flat_map (flat_map word) p.users)) none ∙ ap (λ (us : List (List ℕ)). p.source ++ flat_map (flat_map word) us) alone) in
+    subst (IsSpelled bytes) (sym image) (bare_spelled bytes p.source (omega (arith, p.source_many, b.few)) spelled)
+
+abbrev system_bytes : Params → ℕ → ℕ → ℕ → List ℕ → List ℕ → List ℕ
+system_bytes p users n k counts rest = codes "CVMI" ++ (word 3 ++ (word users ++ onto (p.pages ∷ p.frames ∷ p.heap ∷ p.stack ∷ []) (word n ++ (word k ++ onto counts rest))))
+
+system_from : (bytes : List ℕ) (x : Header × (List ℕ × List ℕ)) (y : List ℕ × (List ℕ × List ℕ)) → SystemIs bytes x → parts_of x.0 x.1.0 x.1.1 ≡ Ok y → IsSpelled bytes (image_of x.0 x.1.0 y.0 y.1.0 y.1.1)
+system_from bytes x y b h =
+    let header : Header = record { form = 3; params = b.params; source_length = b.n; word_count = b.k; parts_at = 36 + 4 * b.users } in
+    let read : parts_of header b.counts b.rest ≡ Ok y = sym (ap (λ (z : Header × (List ℕ × List ℕ)). parts_of z.0 z.1.0 z.1.1) b.found) ∙ h in
+    let p : PartsAre header b.counts b.rest y = parts_are header b.counts b.rest y read b.fits in
+    let i : Parts = system b.params p.source p.words p.users in
+    let image : image_of x.0 x.1.0 y.0 y.1.0 y.1.1 ≡ i = ap (λ (z : Header × (List ℕ × List ℕ)). image_of z.0 z.1.0 y.0 y.1.0 y.1.1) b.found ∙ p.image in
+    let many : b.users ≡ length p.users = sym b.many ∙ ap length (sym p.users_many) ∙ length-map p.users length in
+    let rest : List ℕ = p.source ++ (flat_map word p.words ++ flat_map (flat_map word) p.users) in
+    let sizes : AllByRecursion (λ u. length u ≤ most_words b.params.pages) p.users = sizes_back (most_words b.params.pages) p.users (subst (AllByRecursion (λ n. n ≤ most_words b.params.pages)) (sym p.users_many) b.sizes) in
+    let spelled : bytes ≡ spelling i =
+    b.is ∙ ap (λ (u : ℕ). system_bytes b.params u b.n b.k b.counts b.rest) many ∙ ap (λ (n : ℕ). system_bytes b.params (length p.users) n b.k b.counts b.rest) (sym p.source_many)
+    ∙ ap (λ (k : ℕ). system_bytes b.params (length p.users) (length p.source) k b.counts b.rest) (sym p.words_many)
+    ∙ ap (λ (l : List ℕ). system_bytes b.params (length p.users) (length p.source) (length p.words) l b.rest) (sym p.users_many)
+    ∙ ap (λ (l : List ℕ). system_bytes b.params (length p.users) (length p.source) (length p.words) (map length p.users) l) p.is
+    ∙ ap (λ (l : List ℕ). codes "CVMI" ++ l) (sym (words-onto (fields i) rest)) in
+    let system_range : IsSystem i = record {
+      form = refl;
+      params = b.range;
+      least = omega (arith, p.words_many, b.least);
+      most = omega (arith, p.words_many, b.most);
+      users = omega (arith, many, b.few_users);
+      sizes = All-from_recursion (λ (u : List ℕ). length u ≤ most_words b.params.pages) p.users sizes;
+    } in
+    let in_range : IsInRange i = record { spelled = record { source = omega (arith, p.source_many, b.few); form = inr system_range }; bits = p.bits; user_bits = p.user_bits } in
+    subst (IsSpelled bytes) (sym image) (in_range, spelled)
+
+pub answer_spelled : (bytes : List ℕ) → IsBytes bytes → (image : Parts) → answer bytes ≡ Ok image → IsSpelled bytes image
+unfolding answer
+answer_spelled bytes fits image h =
+    let a = went (header_of bytes) _ image h in
+    let b = went (parts_of a.x.0 a.x.1.0 a.x.1.1) _ image a.next in
+    let same : image_of a.x.0 a.x.1.0 b.x.0 b.x.1.0 b.x.1.1 ≡ image = one_is _ _ image refl b.next in
+    subst (IsSpelled bytes) same (elim (header_is bytes a.x a.is fits) [ inl bare ↦ bare_from bytes a.x b.x bare b.is | inr system ↦ system_from bytes a.x b.x system b.is ])

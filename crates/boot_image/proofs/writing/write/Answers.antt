@@ -1,0 +1,15 @@
+-- The bytes are the spelling of an image that a file may be, so they are read as that image.
+use Rattle.std.proofs.Common.{rules, ap, ◌∙◌, arith}
+use Rattle.std.proofs.lemmas.Grind.{common_steps}
+use Rattle.boot_image.specs.Reading.{answer}
+use Rattle.boot_image.proofs.Steps.{read_back}
+use Rattle.boot_image.proofs.writing.write.Goals as goal
+
+pub returns-clause-spelled : goal.returns-clause-spelled
+returns-clause-spelled c = grind (arith, common_steps)
+
+pub returns-clause-in_range : goal.returns-clause-in_range
+returns-clause-in_range c = search rules
+
+pub returns-clause-read_back : goal.returns-clause-read_back
+returns-clause-read_back c = ap answer (returns-clause-spelled c) ∙ read_back c.args.image.now (returns-clause-in_range c)

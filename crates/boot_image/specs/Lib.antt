@@ -1,0 +1,4 @@
+pub mod Parts
+pub mod Format
+pub mod Fault
+pub mod Reading

@@ -1,0 +1,92 @@
+// An image to bytes.
+
+ghost use Rattle.std.specs.Prelude.{◌≡◌, ◌≤◌, ◌++◌, All, length, map, OnOk, IfOk, Ok};
+ghost use Rattle.std.specs.List.{flat_map};
+ghost use Rattle.boot_image.specs.Format.{word, spelling, fields, HasSpelling, IsInRange, AreWords};
+ghost use Rattle.boot_image.specs.Reading.{answer};
+
+use crate::image::Image;
+use byteorder::{ByteOrder, LittleEndian};
+use std::alloc::{AllocError, Global};
+
+/// Writes an image: its one spelling, which reads as that image.
+pub fn write(alloc: Global, image: &Image) -> Result<Vec<u8>, AllocError>
+    requires { HasSpelling image.now }
+    ensures spelled { IfOk result (λ bytes. bytes.items ≡ spelling image.now) }
+    ensures in_range { IfOk result (λ bytes. IsInRange image.now) }
+    ensures read_back { IfOk result (λ bytes. answer bytes.items ≡ Ok image.now) }
+{
+    let mut bytes = Vec::new(alloc);
+    bytes.extend_from_slice(b"CVMI")?;
+    push_fields(&mut bytes, image)?;
+    bytes.extend_from_slice(&image.source)?;
+    push_words(&mut bytes, &image.words)?;
+    push_users(&mut bytes, &image.users)?;
+    Ok(bytes)
+}
+
+// Writes the fields at the end.
+fn push_fields(bytes: &mut Vec<u8>, image: &Image) -> Result<(), AllocError>
+    requires { HasSpelling image.now }
+    ensures { OnOk result (bytes.new.items ≡ bytes.old.items ++ flat_map word (fields image.now)) }
+{
+    let source_length = image.source.len() as u32;
+    if image.form == 1 {
+        return push_words(bytes, &[1, source_length]);
+    }
+    let numbers = [
+        3,
+        image.users.len() as u32,
+        image.params.pages,
+        image.params.frames,
+        image.params.heap,
+        image.params.stack,
+        source_length,
+        image.words.len() as u32,
+    ];
+    push_words(bytes, &numbers)?;
+    push_counts(bytes, &image.users)
+}
+
+// Writes the numbers of words of users at the end.
+fn push_counts(bytes: &mut Vec<u8>, users: &[Vec<u32>]) -> Result<(), AllocError>
+    requires { All (λ u. length u ≤ 65536) (map (λ u. u.items) users.now) }
+    ensures { OnOk result (bytes.new.items ≡ bytes.old.items ++ flat_map word (map length (map (λ u. u.items) users.now))) }
+{
+    for user in users {
+        push_word(bytes, user.len() as u32)?;
+    }
+    Ok(())
+}
+
+// Writes the words of users at the end.
+fn push_users(bytes: &mut Vec<u8>, users: &[Vec<u32>]) -> Result<(), AllocError>
+    ensures written { OnOk result (bytes.new.items ≡ bytes.old.items ++ flat_map (flat_map word) (map (λ u. u.items) users.now)) }
+    ensures bits { OnOk result (All AreWords (map (λ u. u.items) users.now)) }
+{
+    for user in users {
+        push_words(bytes, user)?;
+    }
+    Ok(())
+}
+
+// Writes words at the end.
+fn push_words(bytes: &mut Vec<u8>, words: &[u32]) -> Result<(), AllocError>
+    ensures written { OnOk result (bytes.new.items ≡ bytes.old.items ++ flat_map word words.now) }
+    ensures bits { AreWords words.now }
+{
+    for number in words {
+        push_word(bytes, *number)?;
+    }
+    Ok(())
+}
+
+// Writes a word at the end.
+#[tactic(auto, unfolding(crate::specs::Format::word))]
+fn push_word(bytes: &mut Vec<u8>, number: u32) -> Result<(), AllocError>
+    ensures { OnOk result (bytes.new.items ≡ bytes.old.items ++ word number) }
+{
+    let mut word = [0; 4];
+    LittleEndian::write_u32(&mut word, number);
+    bytes.extend_from_slice(&word)
+}

@@ -1,0 +1,91 @@
+// Reads the bytes of files of cases as boot images, and prints the parameters, the source, the words and the users of each, and whether
+// writing it gives the same bytes again; or the refusal of docs/REFUSALS.md. `case_file` says how a case is written; the kind of each
+// is `image`.
+#![tactic(auto)]
+
+use boot_image::{Image, ImageFault, read, write};
+use case_file::{Case, cases};
+use std::alloc::{AllocError, Global};
+use std::fmt::Write;
+use std::{env, fs, io};
+
+// The numbers of words of the users.
+fn put_users(out: &mut String, image: &Image) -> Result<(), AllocError> {
+    write!(out, "users, {}:", image.users.len())?;
+    for user in &image.users {
+        write!(out, " {}", user.len())?;
+        for word in user.iter().take(2) {
+            write!(out, " {word:08x}")?;
+        }
+    }
+    out.push('\n')
+}
+
+// The fields of an image, and the numbers of its parts.
+fn put_image(out: &mut String, image: &Image) -> Result<(), AllocError> {
+    let params = &image.params;
+    writeln!(
+        out,
+        "form {}: pages {} frames {} heap {} stack {}",
+        image.form, params.pages, params.frames, params.heap, params.stack
+    )?;
+    writeln!(out, "source, {} bytes", image.source.len())?;
+    writeln!(out, "words, {}", image.words.len())?;
+    put_users(out, image)
+}
+
+// Whether an image is written as it was read.
+fn put_written(out: &mut String, is_same: bool) -> Result<(), AllocError> {
+    out.push_str(if is_same {
+        "written as it was\n"
+    } else {
+        "written otherwise\n"
+    })
+}
+
+// Why bytes are no image.
+fn put_fault(out: &mut String, fault: ImageFault) -> Result<(), AllocError> {
+    match fault {
+        ImageFault::Magic => writeln!(out, "50"),
+        ImageFault::Truncated { at } => writeln!(out, "51 at {at}"),
+        ImageFault::Trailing { at } => writeln!(out, "52 at {at}"),
+        ImageFault::Parameter { which, value } => writeln!(out, "53 word {which}, value {value}"),
+        ImageFault::Memory => writeln!(out, "57"),
+    }
+}
+
+// What is printed of bytes that are read as an image.
+fn put_answer(alloc: Global, out: &mut String, bytes: &[u8]) -> Result<(), AllocError> {
+    match read(alloc, bytes) {
+        Ok(image) => {
+            put_image(out, &image)?;
+            let written = write(alloc, &image)?;
+            put_written(out, written.as_slice() == bytes)
+        }
+        Err(fault) => put_fault(out, fault),
+    }
+}
+
+// A case, and what is answered.
+fn put_case(alloc: Global, out: &mut String, case: &Case) -> Result<(), AllocError> {
+    let kind = case.kind.as_str();
+    let name = case.name.as_str();
+    writeln!(out, "== {kind} {name}")?;
+    match kind {
+        "image" => put_answer(alloc, out, &case.source),
+        _ => out.push_str("no such kind\n"),
+    }
+}
+
+// The words are the names of files, whose cases are tried.
+fn main(rt: HostRuntime) -> io::Result<()> {
+    let alloc = rt.alloc();
+    let mut out = String::new(alloc);
+    for file in env::args(&rt)?.skip(1) {
+        let text = fs::read_to_string(&rt, file.as_str())?;
+        for case in &cases(alloc, text.as_str())? {
+            put_case(alloc, &mut out, case)?;
+        }
+    }
+    rt.print(out)
+}
