@@ -39,3 +39,4 @@ pub mod OffsetLemmas
 pub mod PartsApart
 pub mod TypedKernels
 pub mod TypeAtLemmas
+pub mod TypesTold

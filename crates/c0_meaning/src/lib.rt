@@ -26,6 +26,7 @@ pub mod offsets;
 pub mod run_laws;
 pub mod shape;
 pub mod sizes;
+pub mod type_at;
 pub mod world;
 
 pub use checked::Checked;
