@@ -109,15 +109,14 @@ impl Hardware {
         }
     }
 
-    /// Takes the interrupt with the least cause that comes, or else makes one instruction. A write outside memory asks the disk for
-    /// its count of sectors.
+    /// Takes the interrupt with the least cause that comes, or else makes one instruction. The disk has `count` sectors.
     #[inline]
-    pub(crate) fn act<D: Sectors>(&mut self, schedule: &Schedule, disk: &D) -> Event
+    pub(crate) fn act(&mut self, schedule: &Schedule, count: u32) -> Event
         requires on { self.old.off ≡ None }
         requires room { self.old.ports.commands < 2 ^ 64 - 1 }
         ensures comes { (time : ℕ) (sectors : List (List ℕ))
-            → Comes (chosen (outside_of schedule.now (D.size disk.now)) (state_in self.old time sectors)) (state_in self.new time sectors) result }
-        ensures keeps { Keeps (D.size disk.now) self.old self.new }
+            → Comes (chosen (outside_of schedule.now count) (state_in self.old time sectors)) (state_in self.new time sectors) result }
+        ensures keeps { Keeps count self.old self.new }
     {
         if self.reset {
             self.reset = false;
@@ -128,7 +127,7 @@ impl Hardware {
             self.mask = 0;
             return self.interrupt(Cause::External, mask);
         }
-        self.execute(schedule, disk)
+        self.execute(schedule, count)
     }
 
     /// Takes an interrupt. The pc is where the interrupted program goes on.
@@ -142,17 +141,17 @@ impl Hardware {
 
     /// Makes one instruction, or takes the interrupt that it comes to.
     #[inline]
-    fn execute<D: Sectors>(&mut self, schedule: &Schedule, disk: &D) -> Event
+    fn execute(&mut self, schedule: &Schedule, count: u32) -> Event
         requires on { self.old.off ≡ None }
         requires room { self.old.ports.commands < 2 ^ 64 - 1 }
         ensures comes { (time : ℕ) (sectors : List (List ℕ))
-            → Comes (instructed (outside_of schedule.now (D.size disk.now)) (state_in self.old time sectors)) (state_in self.new time sectors) result }
-        ensures keeps { Keeps (D.size disk.now) self.old self.new }
+            → Comes (instructed (outside_of schedule.now count) (state_in self.old time sectors)) (state_in self.new time sectors) result }
+        ensures keeps { Keeps count self.old self.new }
     {
         match instruct(&mut self.cpu, &mut self.board) {
             Outcome::Done => match self.board.take_kept() {
                 None => Event::Ran,
-                Some(write) => self.write_port(write, schedule, disk.count()),
+                Some(write) => self.write_port(write, schedule, count),
             },
             Outcome::Trap(cause, edata) => match cause {
                 Cause::Illegal => self.illegal(edata),

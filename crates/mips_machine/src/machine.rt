@@ -90,7 +90,7 @@ impl Machine {
         self.next_line = next_line;
         self.steps += 1;
         self.hardware.latch(lines);
-        let event = self.hardware.act(&self.schedule, disk);
+        let event = self.hardware.act(&self.schedule, disk.count());
         self.hardware.end_step(disk)?;
         Ok(event)
     }

@@ -21,13 +21,13 @@ use frame_store::Frames;
 use std::marker::Model;
 
 /// The number of the buffer's first word: its address, ffffe000, divided by 4.
-const FIRST: u32 = 0x3fff_f800;
+const BUFFER: u32 = 0x3fff_f800;
 
 /// The word number of the sector register, at fffff000.
-const REGISTER: u32 = 0x3fff_fc00;
+const SECTOR: u32 = 0x3fff_fc00;
 
 /// The word number of the command (written) and the status (read), at fffff004.
-const CONTROL: u32 = 0x3fff_fc01;
+const COMMAND: u32 = 0x3fff_fc01;
 
 /// The command that reads a sector into the buffer.
 const READ: u32 = 1;
@@ -81,16 +81,16 @@ impl Disk {
     {
         let busy = self.transfer.is_busy();
         let word = address / 4;
-        if word == CONTROL {
+        if word == COMMAND {
             return u32::from(busy);
         }
-        if word >= FIRST && word < REGISTER {
+        if word >= BUFFER && word < SECTOR {
             if busy {
                 return 0;
             }
-            return frames.lend(buffer)[(word - FIRST) as usize];
+            return frames.lend(buffer)[(word - BUFFER) as usize];
         }
-        if word == REGISTER { self.sector } else { 0 }
+        if word == SECTOR { self.sector } else { 0 }
     }
 
     /// Writes `value` to the port at the byte address `address`, where the frame `buffer` is the
@@ -121,11 +121,11 @@ impl Disk {
             return;
         }
         let word = address / 4;
-        if word == CONTROL {
+        if word == COMMAND {
             self.begin(value, count, busy);
-        } else if word >= FIRST && word < REGISTER {
-            put_word(frames, buffer, word - FIRST, value);
-        } else if word == REGISTER {
+        } else if word >= BUFFER && word < SECTOR {
+            put_word(frames, buffer, word - BUFFER, value);
+        } else if word == SECTOR {
             self.sector = value;
         }
     }

@@ -11,20 +11,20 @@ use Rattle.mips_machine.proofs.hardware.Hardware.act.Goals as goal
 use Rattle.mips_machine.proofs.hardware.Hardware.act.Goals.{else-special-eq1-via-then-special-eq1+else-self-ne0, else-special-eq1-via-else-special-eq1}
 
 pub returns-then-self-clause-comes : goal.returns-then-self-clause-comes
-returns-then-self-clause-comes g c time sectors =
+returns-then-self-clause-comes c time sectors =
     let i = c.self.inside in
     let h : Hardware = hardware_of (cpu_of i.cpu) i.board i.mask i.reset i.off in
-    let x = outside_of c.args.schedule.now (g.D.Sectors.size c.args.disk.now) in
+    let x = outside_of c.args.schedule.now c.args.count in
     let new = c.interrupt.new.self in
     let P : Hardware → Type 0 = λ v. Comes (chosen x (state_in v time sectors)) (state_in new time sectors) c.interrupt.result in
     let Q : Coming → Type 0 = λ v. Comes v (state_in new time sectors) c.interrupt.result in
     subst P c.self.view_is (subst Q (sym (chosen_reset x (state_in h time sectors) c.if-self.true)) (record { state = ap (λ (v : Hardware). state_in v time sectors) c.interrupt.ensures.hardware; event = c.interrupt.ensures.event }))
 
 pub returns-then-self-ne0-clause-comes : goal.returns-then-self-ne0-clause-comes
-returns-then-self-ne0-clause-comes g c time sectors =
+returns-then-self-ne0-clause-comes c time sectors =
     let i = c.self.inside in
     let h : Hardware = hardware_of (cpu_of i.cpu) i.board i.mask i.reset i.off in
-    let x = outside_of c.args.schedule.now (g.D.Sectors.size c.args.disk.now) in
+    let x = outside_of c.args.schedule.now c.args.count in
     let r = c.interrupt-then-self-ne0 in
     let P : Hardware → Type 0 = λ v. Comes (chosen x (state_in v time sectors)) (state_in r.new.self time sectors) r.result in
     let Q : Coming → Type 0 = λ v. Comes v (state_in r.new.self time sectors) r.result in
@@ -34,10 +34,10 @@ returns-then-self-ne0-clause-comes g c time sectors =
     (record { state = subst E c.from-mask.ensures (ap (λ (v : Hardware). state_in v time sectors) r.ensures.hardware); event = r.ensures.event }))
 
 pub returns-clause-comes : goal.returns-clause-comes
-returns-clause-comes g c time sectors =
+returns-clause-comes c time sectors =
     let i = c.self.inside in
     let h : Hardware = hardware_of (cpu_of i.cpu) i.board i.mask i.reset i.off in
-    let x = outside_of c.args.schedule.now (g.D.Sectors.size c.args.disk.now) in
+    let x = outside_of c.args.schedule.now c.args.count in
     let same : chosen x (state_in h time sectors) ≡ instructed x (state_in h time sectors) =
     elim c.else-special-eq1.branch [
       | else-special-eq1-via-then-special-eq1+else-self-ne0 w ↦ chosen_without_lines x (state_in h time sectors) c.if-self.false w.if-self-ne0.false

@@ -1,10 +1,10 @@
 -- The parts of the code's step make one step of the state that callers see.
-use Rattle.std.proofs.Common.{◌≡◌, ◌+◌, ◌≤◌, ℕ, [], sym, ap, ◌∙◌, subst, arith}
+use Rattle.std.proofs.Common.{◌≡◌, ◌+◌, ◌≤◌, ℕ, List, [], sym, ap, ◌∙◌, subst, arith}
 use Rattle.std.proofs.lemmas.Result.{MatchResult-from_err}
 use Rattle.sector_disk.specs.Ports.{Ports, device_of}
-use Rattle.mips_machine.specs.Hardware.{Hardware}
+use Rattle.mips_machine.specs.Hardware.{Hardware, state_in, chosen, Comes}
 use Rattle.mips_machine.specs.Machine.{Held}
-use Rattle.mips_machine.specs.Steps.{Steps, Fails}
+use Rattle.mips_machine.specs.Steps.{outside_of, Steps, Fails}
 use Rattle.mips_machine.proofs.Whole.{held, off_steps, steps, fails, counted_commands}
 use Rattle.mips_machine.proofs.machine.Machine.step.Goals as goal
 
@@ -30,11 +30,12 @@ returns-in_err-end_step-clause-fault g c =
     let left = c.end_step.new.self in
     let told = g.D.Sectors.sectors c.args.disk.now in
     let retold = g.D.Sectors.sectors c.end_step.new.disk in
+    let All_come : ℕ → Type 0 = λ n. (t : ℕ) (sectors : List (List ℕ)) → Comes (chosen (outside_of i.schedule n) (state_in c.latch.new.self t sectors)) (state_in acted t sectors) c.act-event.result in
     let P : Held → Type 0 = λ v. Fails size v (held left i.schedule (i.steps + 1)) told retold in
     MatchResult-from_err c.from_residual.result _ _ c.from_residual.ensures.0
     (λ _. subst P c.self.view_is
     (fails i.hardware c.latch.new.self acted left i.schedule i.steps c.raised_from-next_line.result.0.0 size c.act-event.result (sym c.off.ensures ∙ c.in_default.is) c.raised_from-next_line.ensures.lines c.latch.ensures
-    c.act-event.ensures.comes c.end_step.ensures.hardware told retold c.end_step.ensures.end.ports c.in_err-end_step.ensures.end.fault))
+    (subst All_come c.count.ensures c.act-event.ensures.comes) c.end_step.ensures.hardware told retold c.end_step.ensures.end.ports c.in_err-end_step.ensures.end.fault))
 
 pub returns-clause-ok : goal.returns-clause-ok
 returns-clause-ok g c =
@@ -44,7 +45,8 @@ returns-clause-ok g c =
     let left = c.end_step.new.self in
     let told = g.D.Sectors.sectors c.args.disk.now in
     let retold = g.D.Sectors.sectors c.end_step.new.disk in
+    let All_come : ℕ → Type 0 = λ n. (t : ℕ) (sectors : List (List ℕ)) → Comes (chosen (outside_of i.schedule n) (state_in c.latch.new.self t sectors)) (state_in acted t sectors) c.act-event.result in
     let P : Held → Type 0 = λ v. Steps size v (held left i.schedule (i.steps + 1)) told retold c.act-event.result in
     subst P c.self.view_is
     (steps i.hardware c.latch.new.self acted left i.schedule i.steps c.raised_from-next_line.result.0.0 size c.act-event.result (sym c.off.ensures ∙ c.in_default.is) c.raised_from-next_line.ensures.lines c.latch.ensures
-    c.act-event.ensures.comes c.end_step.ensures.hardware told retold c.in_ok-end_step.ensures.end.ended)
+    (subst All_come c.count.ensures c.act-event.ensures.comes) c.end_step.ensures.hardware told retold c.in_ok-end_step.ensures.end.ended)
