@@ -7,6 +7,7 @@ use c0_asm_text::read_asm;
 use c0_front::read_unit;
 use c0_meaning::{Checked, frame_words};
 use c0_parser::parse;
+use c0_structs::measured;
 use c0_tree::Unit;
 use std::alloc::{AllocError, Global};
 use std::fmt::Write;
@@ -71,11 +72,12 @@ pub fn put_names(alloc: Global, out: &mut String, source: &[u8]) -> Result<(), A
 }
 
 // The words of the frame of each function.
-fn put_frames(out: &mut String, checked: &Checked) -> Result<(), AllocError> {
+fn put_frames(alloc: Global, out: &mut String, checked: &Checked) -> Result<(), AllocError> {
     let unit = checked.unit();
+    let sizes = measured(alloc, unit)?;
     for number in 0..unit.functions.len() as u32 {
         put_bytes(out, &unit.functions[number as usize].name.bytes)?;
-        writeln!(out, " {}", frame_words(unit, number))?;
+        writeln!(out, " {}", frame_words(&sizes, number))?;
     }
     Ok(())
 }
@@ -83,7 +85,7 @@ fn put_frames(out: &mut String, checked: &Checked) -> Result<(), AllocError> {
 /// The words of the frames of a source, or its fault.
 pub fn put_sizes(alloc: Global, out: &mut String, source: &[u8]) -> Result<(), AllocError> {
     match read_unit(alloc, source) {
-        Ok(checked) => put_frames(out, &checked),
+        Ok(checked) => put_frames(alloc, out, &checked),
         Err(fault) => put_source_fault(out, fault),
     }
 }
