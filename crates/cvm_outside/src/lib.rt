@@ -16,8 +16,6 @@ pub mod sink;
 pub mod sure_sectors;
 pub mod sure_shelf;
 pub mod sure_sink;
-#[cfg(test)]
-mod tests;
 
 pub use file_sectors::FileSectors;
 pub use file_shelf::FileShelf;

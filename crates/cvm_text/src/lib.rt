@@ -9,6 +9,3 @@ pub mod write;
 pub use cutting::{cut, trim, trim_start};
 pub use read::{read_decimal, read_numbers_are_spelled, spelled_numbers_are_read};
 pub use write::{decimal, decimal_u64, hex8};
-
-#[cfg(test)]
-mod tests;

@@ -5,7 +5,5 @@ pub mod compiler;
 mod count;
 mod emit;
 mod statements;
-#[cfg(test)]
-mod tests;
 
 pub use compiler::{Kernel, compile, kernel_runs};

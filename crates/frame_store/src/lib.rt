@@ -134,37 +134,3 @@ pub fn a_frame_is_its_part()
     ensures one_word { (words : List ℕ) (frame i value : ℕ) → 1024 * frame + 1024 ≤ length words → i < 1024
         → slice_set words (1024 * frame + i) value ≡ with_frame words frame (slice_set (frame_of words frame) i value) }
 {}
-
-#[cfg(test)]
-mod tests {
-    use super::*;
-
-    #[test]
-    fn keeps_what_is_written(rt: HostRuntime) -> Result<(), AllocError> {
-        let mut frames = Frames::new(rt.alloc(), 3)?;
-        assert_eq!(rt; frames.get(3071), 0);
-        frames.put(1023, 7);
-        let words = frames.lend_mut(1);
-        words[0] = 11;
-        words[1023] = 13;
-        assert_eq!(rt; frames.get(1023), 7);
-        assert_eq!(rt; frames.get(1024), 11);
-        assert_eq!(rt; frames.get(2047), 13);
-        assert_eq!(rt; frames.get(2048), 0);
-        assert_eq!(rt; frames.lend(0)[1023], 7);
-        assert_eq!(rt; frames.lend(1)[1023], 13);
-        Ok(())
-    }
-
-    #[test]
-    fn copies_a_frame(rt: HostRuntime) -> Result<(), AllocError> {
-        let mut frames = Frames::new(rt.alloc(), 2)?;
-        frames.lend_mut(0)[5] = 4294967295;
-        let words = *frames.lend(0);
-        *frames.lend_mut(1) = words;
-        assert_eq!(rt; frames.get(1029), 4294967295);
-        assert_eq!(rt; frames.get(2047), 0);
-        a_frame_is_its_part();
-        Ok(())
-    }
-}

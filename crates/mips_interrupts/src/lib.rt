@@ -88,20 +88,3 @@ pub fn number_of(cause: Cause) -> u32
         Cause::DataFault => 8,
     }
 }
-
-#[cfg(test)]
-mod tests {
-    use super::*;
-
-    #[test]
-    fn takes_and_leaves(rt: HostRuntime) {
-        let mut special = Special {
-            regs: [1, 0, 0, 0, 0, 0x20000, 4, 1, 0],
-        };
-        assert_eq!(rt; take(0x104, &mut special, Cause::Syscall, 12), 0);
-        assert_eq!(rt; special.regs, [0, 1, 6, 0x104, 12, 0x20000, 4, 0, 1]);
-        assert_eq!(rt; leave(&mut special), 0x104);
-        assert_eq!(rt; special.regs, [1, 1, 6, 0x104, 12, 0x20000, 4, 1, 1]);
-        assert_eq!(rt; number_of(Cause::DataFault), 8);
-    }
-}

@@ -11,6 +11,3 @@ pub use cpu::{Cpu, Outcome};
 pub use flat::{Flat, flat_step};
 pub use mips_table::Cause;
 pub use stepping::{step, step_in_memory};
-
-#[cfg(test)]
-mod tests;

@@ -97,7 +97,7 @@ pub fn extended(imm: u32) -> u32
     requires { imm < 2 ^ 16 }
     ensures { result ≡ extended imm }
 {
-    if imm < 0x8000 { imm } else { imm + 0xffff_0000 }
+    (imm << 16).cast_signed().wrapping_shr(16).cast_unsigned()
 }
 
 /// The product of two signed words, as 64 bits.

@@ -21,6 +21,3 @@ pub use effect::{Effect, effect_of};
 pub use encoding::encode;
 pub use inst::Inst;
 pub use table::{Row, Table, mips32, mnemonic_of};
-
-#[cfg(test)]
-mod tests;

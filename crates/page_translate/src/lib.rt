@@ -67,35 +67,3 @@ fn physical(address: u32, entry: u32) -> u32
 {
     entry / PAGE_BYTES * PAGE_BYTES + address % PAGE_BYTES
 }
-
-#[cfg(test)]
-mod tests {
-    use super::*;
-
-    #[test]
-    fn finds_entries(rt: HostRuntime) {
-        assert_eq!(rt; entry_address(0, 0), 0);
-        assert_eq!(rt; entry_address(0x5fff, 0x10000), 0x10014);
-        assert_eq!(rt; entry_address(0xffffffff, 0xffc00008), 4);
-    }
-
-    #[test]
-    fn translates(rt: HostRuntime) {
-        assert_eq!(rt;
-            translate(0x1234, 0, 2, false, 0xabcde800),
-            Some(0xabcde234)
-        );
-        assert_eq!(rt; translate(0x1234, 0, 2, true, 0xabcdebff), Some(0xabcde234));
-        assert_eq!(rt; translate(0x1234, 0, 2, true, 0xabcdec00), None);
-        assert_eq!(rt;
-            translate(0x1234, 0, 2, false, 0xabcdec00),
-            Some(0xabcde234)
-        );
-        assert_eq!(rt; translate(0x1234, 0, 1, false, 0xabcde800), None);
-        assert_eq!(rt; translate(0x1234, 0, 2, false, 0xabcde7ff), None);
-        assert_eq!(rt;
-            translate(0xffffffff, 0, 0x100000, false, 0x800),
-            Some(0xfff)
-        );
-    }
-}
