@@ -6,4 +6,4 @@
 mod code;
 pub mod laws;
 
-
+pub use code::{con_get, con_left, con_put, vm_get, vm_set, vm_size};
