@@ -1,10 +1,10 @@
 //! Loaded runs: what `turn` and `report` come to on the run of the machine.
 //!
-//! Each law is the contract of a function that does nothing.
+//! The definitions are in `specs/`. Each law and each worked row is the contract of a function that does nothing.
 #![tactic(auto)]
 
-ghost use Rattle.mips_table.specs.Turns.{TurnLaws};
-
 mod answers;
+mod rows;
 
 pub use answers::{RunFault, Turn, View};
+pub use rows::{a_line_at_each_step, machine_rows};
