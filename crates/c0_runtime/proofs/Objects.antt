@@ -1,19 +1,17 @@
 -- The routine `new`: the test of the room, and its two ends.
-use Rattle.std.proofs.Common.{◌≡◌, ◌≢◌, ℕ, zero, suc, ◌+◌, ◌*◌, ◌<◌, ◌≤◌, ◌==◌, Bool, true, false, nat_lt, List, [], ◌∷◌, ◌++◌, refl, sym, ap, ◌∙◌, ⊎_elim, ◌⊎◌, inl, inr, arith, lt-ltb, le-ltb}
+use Rattle.std.proofs.Common.{◌≡◌, ℕ, zero, suc, ◌+◌, ◌*◌, ◌<◌, ◌≤◌, ◌==◌, nat_lt, List, [], ◌∷◌, ◌++◌, refl, ap, ◌∙◌, inl, arith, lt-ltb, le-ltb}
 use Rattle.std.specs.Prelude.{not, None}
 use Rattle.mips_table.specs.declared.inst.Inst.{Inst}
-use Rattle.mips_table.specs.declared.inst.Inst.TheVariants.{Lw, Sw, Sll, Addu, Addiu, Sltu, Bne, Jr}
+use Rattle.mips_table.specs.declared.inst.Inst.TheVariants.{Lw, Sw, Addu, Addiu, Sltu, Bne, Jr}
 use Rattle.mips_table.specs.declared.effect.Effect.TheVariants.{Set}
 use Rattle.mips_table.specs.Arith.{flag}
-use Rattle.mips_table.specs.Device.{Idle}
 use Rattle.mips_table.specs.Code.{put, Contents, Behind, World, Sound, at_with, Reaches, CodeAt}
-use Rattle.masm.specs.Says.{Says, Gives, Reads, Writes}
+use Rattle.masm.specs.Says.{Gives, Reads, Writes}
 use Rattle.masm.specs.Laws.{RunsCompose, StraightRuns, JumpsLead}
-use Rattle.layer_map.specs.Map.{heap_used_at, heap_words_at, heap_first_at}
 use Rattle.c0_runtime.specs.Code.{room_code, raise_code, bounds_code, clear_code, new_code}
-use Rattle.c0_runtime.specs.Laws.{IsCalled, ComesBack, HeapIs, IsAsked, NewKeeps, IsRefused, IsMade, NewRuns}
+use Rattle.c0_runtime.specs.Laws.{IsCalled, ComesBack, HeapIs, IsAsked, IsRefused, IsMade, NewRuns}
 use Rattle.c0_runtime.proofs.Steps.{moved, rests, put_other, four_above, two_above, flag_set, flag_clear}
-use Rattle.c0_runtime.proofs.Clear.{IsCleared, loop_words, MayClear, clears}
+use Rattle.c0_runtime.proofs.Clear.{IsCleared, MayClear, clears}
 
 -- the test's straight part, and what is said of it
 abbrev test_code : List Inst

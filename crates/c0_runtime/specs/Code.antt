@@ -1,5 +1,5 @@
 -- The code that every kernel has beside its functions: the entry, and the routines that `Places` names.
-use Rattle.std.specs.Prelude.{ℕ, ◌+◌, ◌/◌, ◌%◌, ◌^◌, List, [], ◌∷◌, ◌++◌, slice_index}
+use Rattle.std.specs.Prelude.{ℕ, ◌/◌, ◌%◌, ◌^◌, List, [], ◌∷◌, ◌++◌, slice_index}
 use Rattle.mips_table.specs.declared.inst.Inst.{Inst}
 use Rattle.mips_table.specs.declared.inst.Inst.TheVariants.{Lui, Ori, Lw, Sw, Sll, Addu, Addiu, Sltu, Bne, J, Jal, Jr, Mult, Div, Mfhi, Mflo}
 use Rattle.masm.specs.declared.registers.Places.{Places}

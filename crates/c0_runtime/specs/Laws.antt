@@ -1,5 +1,5 @@
 -- What the entry and the routines do, as statements about runs of their code, wherever it stands.
-use Rattle.std.specs.Prelude.{◌≡◌, ◌≢◌, ℕ, ◌+◌, ◌*◌, ◌/◌, ◌^◌, ◌<◌, ◌≤◌, ◌⊎◌, List, Result, Ok, Err, None}
+use Rattle.std.specs.Prelude.{◌≡◌, ◌≢◌, ℕ, ◌+◌, ◌*◌, ◌/◌, ◌^◌, ◌<◌, ◌≤◌, ◌⊎◌, List, Ok, Err, None}
 use Rattle.mips_table.specs.declared.inst.Inst.{Inst}
 use Rattle.mips_table.specs.Device.{Idle}
 use Rattle.mips_table.specs.Code.{Contents, Behind, World, at_with, Reaches, CodeAt}
@@ -10,8 +10,8 @@ use Rattle.cvm_words.specs.Words.{int_of, word_of}
 use Rattle.c0_tree.specs.declared.tree.BinaryOp.{BinaryOp}
 use Rattle.c0_tree.specs.declared.tree.BinaryOp.TheVariants.{Mul, Div, Rem}
 use Rattle.c0_meaning.specs.Value.{int}
-use Rattle.c0_meaning.specs.Operators.{Failure, DivZero, faulted, on_ints}
-use Rattle.c0_runtime.specs.Code.{entry_code, new_code, multiply_code, divide_code, remainder_code, runtime_code, zero_exit}
+use Rattle.c0_meaning.specs.Operators.{DivZero, faulted, on_ints}
+use Rattle.c0_runtime.specs.Code.{entry_code, new_code, multiply_code, divide_code, remainder_code, zero_exit}
 use Rattle.c0_runtime.specs.declared.entry.TheConstants.{LEAVE}
 use Rattle.c0_runtime.specs.declared.runtime.TheConstants.{NEW_OBJECT, MULTIPLY, DIVIDE, REMAINDER}
 
