@@ -1,15 +1,15 @@
 -- The routine `new`: the test of the room, and its two ends.
-use Rattle.std.proofs.Common.{◌≡◌, ℕ, zero, suc, ◌+◌, ◌*◌, ◌<◌, ◌≤◌, ◌==◌, nat_lt, List, [], ◌∷◌, ◌++◌, refl, ap, ◌∙◌, inl, arith, lt-ltb, le-ltb}
+use Rattle.std.proofs.Common.{◌≡◌, ℕ, zero, suc, ◌+◌, ◌*◌, ◌<◌, ◌≤◌, ◌==◌, nat_lt, List, [], ◌∷◌, ◌++◌, refl, ap, ◌∙◌, subst, inl, arith, lt-ltb, le-ltb}
 use Rattle.std.specs.Prelude.{not, None}
 use Rattle.mips_table.specs.declared.inst.Inst.{Inst}
 use Rattle.mips_table.specs.declared.inst.Inst.TheVariants.{Lw, Sw, Addu, Addiu, Sltu, Bne, Jr}
 use Rattle.mips_table.specs.declared.effect.Effect.TheVariants.{Set}
 use Rattle.mips_table.specs.Arith.{flag}
-use Rattle.mips_table.specs.Code.{put, Contents, Behind, World, Sound, at_with, Reaches, CodeAt}
+use Rattle.mips_table.specs.Code.{put, Contents, Behind, World, Sound, at_with, Steps, Reaches, CodeAt, RunLaws}
 use Rattle.masm.specs.Says.{Gives, Reads, Writes}
 use Rattle.masm.specs.Laws.{RunsCompose, StraightRuns, JumpsLead}
 use Rattle.c0_runtime.specs.Code.{room_code, raise_code, bounds_code, clear_code, new_code}
-use Rattle.c0_runtime.specs.Laws.{IsCalled, ComesBack, HeapIs, IsAsked, IsRefused, IsMade, NewRuns}
+use Rattle.c0_runtime.specs.Laws.{IsCalled, ComesBack, ComesBackIn, HeapIs, IsAsked, IsRefused, IsMade, NewRuns}
 use Rattle.c0_runtime.proofs.Steps.{moved, rests, put_other, four_above, two_above, flag_set, flag_clear}
 use Rattle.c0_runtime.proofs.Clear.{IsCleared, MayClear, clears}
 
@@ -31,7 +31,7 @@ taken used first size c = record c {
   memory = put c.memory 1026 (used + size);
 }
 
-module _ (w : World) (f : Sound w) (runs : RunsCompose) (straight : StraightRuns w) (jumps : JumpsLead w) where
+module _ (w : World) (f : Sound w) (joins : RunLaws) (runs : RunsCompose) (straight : StraightRuns w) (jumps : JumpsLead w) where
   test_runs : (n to used heap first size : ℕ) (c : Contents) (d : Behind) → CodeAt w n new_code → IsCalled to c d → HeapIs w used heap first c → IsAsked size c → Reaches w 4 (at_with n c d) (at_with (n + 4) (tested used heap size c) d)
   test_runs n to used heap first size c d at call h q =
       let small = f.small in let behind = h.behind in let inside = h.inside in let within = h.within in let most = q.most in
@@ -104,7 +104,7 @@ module _ (w : World) (f : Sound w) (runs : RunsCompose) (straight : StraightRuns
         };
       }
 
-  makes : (n to used heap first size : ℕ) (c : Contents) (d : Behind) → CodeAt w n new_code → IsCalled to c d → HeapIs w used heap first c → IsAsked size c → used + size ≤ heap → ComesBack w (13 + 3 * size) n to c d (IsMade used first size c)
+  makes : (n to used heap first size : ℕ) (c : Contents) (d : Behind) → CodeAt w n new_code → IsCalled to c d → HeapIs w used heap first c → IsAsked size c → used + size ≤ heap → ComesBackIn w (3 * size) (13 + 3 * size) n to c d (IsMade used first size c)
   makes n to used heap first zero c d at call h q le = let least = q.least in absurd (omega (arith, least))
   makes n to used heap first (suc left) c d at call h q le =
       let size = suc left in
@@ -118,12 +118,17 @@ module _ (w : World) (f : Sound w) (runs : RunsCompose) (straight : StraightRuns
       let take = take_runs n to used heap first (suc left) c d at call h q le in
       let code = loop_at n at in
       let may : MayClear w (first + used) (suc left) c2 = record { first = refl; last = refl; inside = omega (arith, inside, le); free = free } in
-      let z = clears w f runs straight jumps left (n + 12) (first + used) c2 d (code.0, (code.1.0, (code.1.1.0, tt))) call.idle may in
+      let z = clears w f joins runs straight jumps left (n + 12) (first + used) c2 d (code.0, (code.1.0, (code.1.1.0, tt))) call.idle may in
       let kept : z.0.regs 31 ≡ 4 * to = z.1.regs 31 (λ e. absurd (omega (arith, e))) ∙ back in
-      let home = rests w runs (at_with (n + 12 + 1 + 1 + 1) z.0 d) to to z.0 d call.idle refl (jumps.led (Jr 31) (n + 12 + 1 + 1 + 1) to 0 0 z.0 d code.1.1.1.0 (ap (Set 0 0) kept)) in (
+      let home = rests w runs (at_with (n + 12 + 1 + 1 + 1) z.0 d) to to z.0 d call.idle refl (jumps.led (Jr 31) (n + 12 + 1 + 1 + 1) to 0 0 z.0 d code.1.1.1.0 (ap (Set 0 0) kept)) in
+      let start = runs.joined w (4 + 1) 7 (at_with n c d) (at_with (n + 5) c1 d) (at_with (n + 12) c2 d) (runs.joined w 4 1 (at_with n c d) (at_with (n + 4) c1 d) (at_with (n + 5) c1 d) test on) take in
+      let there : n + 12 + 3 ≡ n + 12 + 1 + 1 + 1 = omega arith in
+      let cleared = subst (λ k. Steps w (3 * suc left) (at_with (n + 12) c2 d) (at_with k z.0 d)) there z.2 in
+      let all = joins.joined w (start.steps + 3 * suc left) home.steps (at_with n c d) (at_with (n + 12 + 1 + 1 + 1) z.0 d) (at_with to z.0 d) (joins.joined w start.steps (3 * suc left) (at_with n c d) (at_with (n + 12) c2 d) (at_with (n + 12 + 1 + 1 + 1) z.0 d) start.run cleared) home.run in (
         z.0,
         made used heap first (suc left) c z.0 h le z.1,
-        runs.later w (4 + 1 + 7 + 3 * suc left + 1) (13 + 3 * suc left) _ _ (omega arith) (runs.joined w (4 + 1 + 7 + 3 * suc left) 1 _ _ _ (runs.joined w (4 + 1 + 7) (3 * suc left) _ _ _ (runs.joined w (4 + 1) 7 _ _ _ (runs.joined w 4 1 _ _ _ test on) take) (moved w (3 * suc left) (at_with (n + 12) c2 d) (n + 12 + 3) (n + 12 + 1 + 1 + 1) z.0 d (omega arith) z.2)) home),
+        record { steps = start.steps + 3 * suc left + home.steps; within = omega (arith, start.within, home.within); run = all },
+        omega arith,
       )
     where
       free : (k : ℕ) → k < suc left → w.kept (first + used + k) ≡ None

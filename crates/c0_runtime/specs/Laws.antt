@@ -24,6 +24,10 @@ pub record IsCalled (to : ℕ) (c : Contents) (d : Behind) : Type 0 where
 abbrev pub ComesBack : World → (steps n to : ℕ) → Contents → Behind → (Contents → Type 0) → Type 0
 ComesBack w steps n to c d Q = (c' : Contents) × Q c' × Reaches w steps (at_with n c d) (at_with to c' d)
 
+-- it comes back so, and takes at least so many steps
+abbrev pub ComesBackIn : World → (least most n to : ℕ) → Contents → Behind → (Contents → Type 0) → Type 0
+ComesBackIn w least most n to c d Q = (c' : Contents) × Q c' × (r : Reaches w most (at_with n c d) (at_with to c' d)) × (least ≤ r.steps)
+
 -- The layer's variables say that so many words are used of the heap, which has so many, from word `first` on. It lies in memory behind the
 -- variables. Its words and the count of those used may be written.
 pub record HeapIs (w : World) (used heap first : ℕ) (c : Contents) : Type 0 where
@@ -65,10 +69,11 @@ pub record IsMade (used first size : ℕ) (c c' : Contents) : Type 0 where
   pub keeps : NewKeeps c c'
 
 -- `new` refuses within 7 steps exactly where the words used and those of the object exceed the heap, and else makes the object in 13
--- steps and 3 for each of its words. The instruction that says how many, the call and the store of the answer are three more.
+-- steps and 3 for each of its words, and no fewer than those 3. The instructions that say how many, the call and the store of the answer
+-- come beside these.
 pub record NewRuns (w : World) : Type 0 where
   pub refuses : (n to used heap first size : ℕ) (c : Contents) (d : Behind) → CodeAt w n new_code → IsCalled to c d → HeapIs w used heap first c → IsAsked size c → heap < used + size → ComesBack w 7 n to c d (IsRefused c)
-  pub makes : (n to used heap first size : ℕ) (c : Contents) (d : Behind) → CodeAt w n new_code → IsCalled to c d → HeapIs w used heap first c → IsAsked size c → used + size ≤ heap → ComesBack w (13 + 3 * size) n to c d (IsMade used first size c)
+  pub makes : (n to used heap first size : ℕ) (c : Contents) (d : Behind) → CodeAt w n new_code → IsCalled to c d → HeapIs w used heap first c → IsAsked size c → used + size ≤ heap → ComesBackIn w (3 * size) (13 + 3 * size) n to c d (IsMade used first size c)
 
 -- the operands are words
 pub record AreOperands (a b : ℕ) (c : Contents) : Type 0 where

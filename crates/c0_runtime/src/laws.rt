@@ -8,11 +8,13 @@ ghost use Rattle.c0_runtime.specs.Code.{runtime_code};
 ghost use Rattle.c0_runtime.specs.Laws.{NewRuns, MultiplyRuns, DivideRuns, EntryRuns, RoutinesStand};
 
 use masm::laws::{jumps_lead, runs_compose, straight_code_runs};
+use mips_table::runs::code_runs_join;
 
 /// The routine `new` makes an object, or refuses it where the heap has no room.
 pub fn objects_are_made()
     ensures { (w : World) → Sound w → NewRuns w }
 {
+    code_runs_join();
     runs_compose();
     straight_code_runs();
     jumps_lead();
