@@ -49,13 +49,17 @@ whole_fits args g r le h =
     record {
       size = omega (arith, joined, behind, few, le);
       each = All-append IsWord (0 ∷ 0 ∷ 0 ∷ 0 ∷ argument_words args) (replicate (28 - count args) 0)
-          (All-cons IsWord 0 (0 ∷ 0 ∷ 0 ∷ argument_words args) (omega arith) (All-cons IsWord 0 (0 ∷ 0 ∷ argument_words args) (omega arith) (All-cons IsWord 0 (0 ∷ argument_words args) (omega arith) (All-cons IsWord 0 (argument_words args) (omega arith) (words_fit args g r h)))))
+          (All-cons IsWord 0 (0 ∷ 0 ∷ 0 ∷ argument_words args) (omega arith)
+          (All-cons IsWord 0 (0 ∷ 0 ∷ argument_words args) (omega arith)
+          (All-cons IsWord 0 (0 ∷ argument_words args) (omega arith)
+          (All-cons IsWord 0 (argument_words args) (omega arith) (words_fit args g r h)))))
           (All-replicate IsWord (28 - count args) 0 (omega arith));
       none = refl;
     }
 
 -- an argument's word, where there is one
-argument_is : (args : Values) (g : ℕ → ℕ) (r i : ℕ) → HoldInts g r args → i < count args → (g (r + i) ≡ slice_index (argument_words args) i) × (g (r + i) < 2 ^ 32)
+argument_is : (args : Values) (g : ℕ → ℕ) (r i : ℕ) → HoldInts g r args → i < count args → (g (r + i) ≡ slice_index (argument_words args) i) ×
+    (g (r + i) < 2 ^ 32)
 argument_is empty g r i h lt = absurd (omega (arith, lt))
 argument_is (part (int a) vs) g r zero h lt = let e : r ≡ r + 0 = omega arith in (subst (λ k. g k ≡ word_of a) e h.0, subst (λ k. g k < 2 ^ 32) e h.1)
 argument_is (part (int a) vs) g r (suc i) h lt =
@@ -71,13 +75,15 @@ reg_above : (g : ℕ → ℕ) (r : ℕ) → r ≢ 0 → reg g r ≡ g r
 reg_above g r ne = cond-false _ 0 (g r) (ne_eqb r 0 ne)
 
 -- what the instruction for argument i gives, where the argument registers are as at the start
-pub source : (args : Values) (g h : ℕ → ℕ) (i : ℕ) → HoldInts g 20 args → ((r : ℕ) → 20 ≤ r → h r ≡ g r) → sum (reg h (if nat_lt i (count args) then 20 + i else 0)) 0 ≡ slice_index (argument_words args) i
+pub source : (args : Values) (g h : ℕ → ℕ) (i : ℕ) → HoldInts g 20 args → ((r : ℕ) → 20 ≤ r → h r ≡ g r) → sum
+    (reg h (if nat_lt i (count args) then 20 + i else 0)) 0 ≡ slice_index (argument_words args) i
 source args g h i held kept = by_test (nat_lt i (count args)) refl
   where
     by_test : (b : Bool) → nat_lt i (count args) ≡ b → sum (reg h (if b then 20 + i else 0)) 0 ≡ slice_index (argument_words args) i
     by_test true e =
         let a = argument_is args g 20 i held (ltb-true i (count args) e) in
-        let is : reg h (20 + i) ≡ slice_index (argument_words args) i = reg_above h (20 + i) (λ z. absurd (omega (arith, z))) ∙ kept (20 + i) (omega arith) ∙ a.0 in
+        let is : reg h (20 + i) ≡ slice_index (argument_words args) i = reg_above h (20 + i) (λ z. absurd (omega (arith, z))) ∙ kept (20 + i)
+        (omega arith) ∙ a.0 in
         let low : slice_index (argument_words args) i < 2 ^ 32 = subst (λ n. n < 2 ^ 32) a.0 a.1 in
         ap (λ n. (n + 0) % 2 ^ 32) is ∙ omega (arith, low)
     by_test false e =

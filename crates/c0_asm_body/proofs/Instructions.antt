@@ -25,7 +25,8 @@ pub record Sets (n : ℕ) (c : Contents) (regs : List ℕ) (i : Inst) : Type 0 w
   pub straight : goes_on i ≡ true
 
 module _ (n : ℕ) (c : Contents) (regs : List ℕ) (same : Agree c regs) where
-  from_one : (i : Inst) (f : ℕ → ℕ) (d r : ℕ) → may_use d && may_use r ≡ true → effect_at i n c ≡ Set d (f (reg c.regs r)) (next (4 * n)) → effect_of i 0 (slice_index regs) 0 0 ≡ Set d (f (slice_index regs r)) (next 0) → goes_on i ≡ true → Sets n c regs i
+  from_one : (i : Inst) (f : ℕ → ℕ) (d r : ℕ) → may_use d && may_use r ≡ true → effect_at i n c ≡ Set d (f (reg c.regs r)) (next (4 * n)) →
+      effect_of i 0 (slice_index regs) 0 0 ≡ Set d (f (slice_index regs r)) (next 0) → goes_on i ≡ true → Sets n c regs i
   from_one i f d r ok e l g = record {
     register = d;
     value = f (slice_index regs r);
@@ -35,7 +36,9 @@ module _ (n : ℕ) (c : Contents) (regs : List ℕ) (same : Agree c regs) where
     straight = g;
   }
 
-  from_two : (i : Inst) (f : ℕ → ℕ → ℕ) (d r s : ℕ) → may_use d && (may_use r && may_use s) ≡ true → effect_at i n c ≡ Set d (f (reg c.regs r) (reg c.regs s)) (next (4 * n)) → effect_of i 0 (slice_index regs) 0 0 ≡ Set d (f (slice_index regs r) (slice_index regs s)) (next 0) → goes_on i ≡ true → Sets n c regs i
+  from_two : (i : Inst) (f : ℕ → ℕ → ℕ) (d r s : ℕ) → may_use d && (may_use r && may_use s) ≡ true → effect_at i n c ≡ Set d
+      (f (reg c.regs r) (reg c.regs s)) (next (4 * n)) → effect_of i 0 (slice_index regs) 0 0 ≡ Set d (f (slice_index regs r) (slice_index regs s))
+      (next 0) → goes_on i ≡ true → Sets n c regs i
   from_two i f d r s ok e l g =
       let rest = right (may_use d) (may_use r && may_use s) ok in
       record {

@@ -37,7 +37,8 @@ pub record IsOf (word : ℕ) (i : Inst) : Type 0 where
   pub encoded : encoding i ≡ word
 
 module _ (decoded : (word : ℕ) → IfSome (decoding word) (λ i. InRange i × (encoding i ≡ word))) where
-  by_decoding : (word : ℕ) (o : Option Inst) → decoding word ≡ o → tested o ≡ true → IfSome o (λ i. InRange i × (encoding i ≡ word)) → IsOf word (inst_or_none o)
+  by_decoding : (word : ℕ) (o : Option Inst) → decoding word ≡ o → tested o ≡ true → IfSome o (λ i. InRange i × (encoding i ≡ word)) → IsOf word
+      (inst_or_none o)
   by_decoding word None e ok h = absurd (is_not ok)
   by_decoding word (Some i) e ok h = record { decoded = e; allowed = ok; range = h.0; encoded = h.1 }
 
@@ -49,4 +50,8 @@ module _ (decoded : (word : ℕ) → IfSome (decoding word) (λ i. InRange i × 
   are_encoded (word ∷ words) ok =
       let first = is_of word (left (is_allowed_word word) (are_allowed_words words) ok) in
       let rest = are_encoded words (right (is_allowed_word word) (are_allowed_words words) ok) in
-      record { same = ap₂ (λ x xs. x ∷ xs) first.encoded rest.same; range = All-cons InRange (instruction_of word) (body_code words) first.range rest.range }
+      record {
+        same = ap₂ (λ x xs. x ∷ xs) first.encoded rest.same;
+        range = All-cons InRange (instruction_of word)
+            (body_code words) first.range rest.range;
+      }

@@ -28,9 +28,11 @@ pub record IsDone (words : List ℕ) (args : Values) (c c' : Contents) : Type 0 
 -- The code of words that an asm body may have, with at most four arguments before it, is done within a step for each word and six more, and
 -- takes at least the steps of the words.
 abbrev pub AsmRuns : World → Type 0
-AsmRuns w = (words : List ℕ) (args : Values) (n : ℕ) (c : Contents) (d : Behind) → IsTrue (are_allowed_words words) → count args ≤ 4 → HoldInts c.regs ARGUMENTS args →
+AsmRuns w = (words : List ℕ) (args : Values) (n : ℕ) (c : Contents) (d : Behind) → IsTrue (are_allowed_words words) → count args ≤ 4 →
+    HoldInts c.regs ARGUMENTS args →
     CodeAt w n (asm_code (count args) words) → d.pending ≡ Idle →
-    (c' : Contents) × IsDone words args c c' × (r : Reaches w (6 + length words) (at_with n c d) (at_with (n + length (asm_code (count args) words)) c' d)) × (length words ≤ r.steps)
+    (c' : Contents) × IsDone words args c c' × (r : Reaches w (6 + length words) (at_with n c d)
+    (at_with (n + length (asm_code (count args) words)) c' d)) × (length words ≤ r.steps)
 
 -- words that an asm body may have are those of their instructions, which are in range
 pub record AreEncoded (words : List ℕ) : Type 0 where
