@@ -1,5 +1,5 @@
 -- Jumps, calls and returns, from where jumps lead.
-use Rattle.std.proofs.Common.{◌≡◌, ℕ, ◌+◌, ◌*◌, ◌/◌, Some, refl, ap, ◌∙◌, subst}
+use Rattle.std.proofs.Common.{◌≡◌, ℕ, ◌+◌, ◌*◌, ◌/◌, Some, refl, ap, subst}
 use Rattle.mips_table.specs.declared.inst.Inst.TheVariants.{J, Jal, Jr}
 use Rattle.mips_table.specs.declared.effect.Effect.TheVariants.{Set}
 use Rattle.mips_table.specs.Effect.{next}
