@@ -25,10 +25,12 @@ is_computed o a b hi lo answer c h = record { answer = h; regs = λ r ne. put_ot
 
 module _ (w : World) (f : Sound w) (runs : RunsCompose) (straight : StraightRuns w) (jumps : JumpsLead w) where
   -- the return
-  home : (n to hi lo answer : ℕ) (c : Contents) (d : Behind) → w.code n ≡ Some (Jr 31) → IsCalled to c d → Reaches w 1 (at_with n (computed hi lo answer c) d) (at_with to (computed hi lo answer c) d)
+  home : (n to hi lo answer : ℕ) (c : Contents) (d : Behind) → w.code n ≡ Some (Jr 31) → IsCalled to c d → Reaches w 1
+      (at_with n (computed hi lo answer c) d) (at_with to (computed hi lo answer c) d)
   home n to hi lo answer c d at call =
       let back : c.regs 31 ≡ 4 * to = call.back in
-      rests w runs (at_with n (computed hi lo answer c) d) to to (computed hi lo answer c) d call.idle refl (jumps.led (Jr 31) n to 0 0 (computed hi lo answer c) d at (ap (Set 0 0) back))
+      rests w runs (at_with n (computed hi lo answer c) d) to to (computed hi lo answer c) d call.idle refl
+      (jumps.led (Jr 31) n to 0 0 (computed hi lo answer c) d at (ap (Set 0 0) back))
 
   pub multiplies : MultiplyRuns w
   multiplies n to a b c d at call h =
@@ -43,28 +45,35 @@ module _ (w : World) (f : Sound w) (runs : RunsCompose) (straight : StraightRuns
       )
 
   -- the test of the divisor, where it isn't 0
-  goes_on : (n a b exit : ℕ) (rest : List Inst) (c : Contents) (d : Behind) → CodeAt w n (Bne 21 0 1 ∷ J (exit / 4) ∷ rest) → d.pending ≡ Idle → AreOperands a b c → b ≢ 0 → Reaches w 1 (at_with n c d) (at_with (n + 1 + 1) c d)
+  goes_on : (n a b exit : ℕ) (rest : List Inst) (c : Contents) (d : Behind) → CodeAt w n (Bne 21 0 1 ∷ J (exit / 4) ∷ rest) → d.pending ≡ Idle →
+      AreOperands a b c → b ≢ 0 → Reaches w 1 (at_with n c d) (at_with (n + 1 + 1) c d)
   goes_on n a b exit rest c d at idle h ne =
       let right : c.regs 21 ≡ b = h.right in
-      rests w runs _ (n + 1 + 1) (n + 1 + 1) c d idle refl (jumps.taken (Bne 21 0 1) n 1 (not (c.regs 21 == 0)) c d at.0 refl (ap not (ne_eqb (c.regs 21) 0 (λ e. ne (sym right ∙ e)))) (omega arith))
+      rests w runs _ (n + 1 + 1) (n + 1 + 1) c d idle refl (jumps.taken (Bne 21 0 1) n 1 (not (c.regs 21 == 0)) c d at.0 refl
+      (ap not (ne_eqb (c.regs 21) 0 (λ e. ne (sym right ∙ e)))) (omega arith))
 
   -- and where it is
-  leaves : (n a exit : ℕ) (rest : List Inst) (c : Contents) (d : Behind) → CodeAt w n (Bne 21 0 1 ∷ J (exit / 4) ∷ rest) → d.pending ≡ Idle → AreOperands a 0 c → Reaches w 2 (at_with n c d) (at_with (exit / 4) c d)
+  leaves : (n a exit : ℕ) (rest : List Inst) (c : Contents) (d : Behind) → CodeAt w n (Bne 21 0 1 ∷ J (exit / 4) ∷ rest) → d.pending ≡ Idle →
+      AreOperands a 0 c → Reaches w 2 (at_with n c d) (at_with (exit / 4) c d)
   leaves n a exit rest c d at idle h =
       let right : c.regs 21 ≡ 0 = h.right in
       runs.joined w 1 1 _ _ _
-      (rests w runs _ (n + 1) (n + 1) c d idle refl (jumps.passed (Bne 21 0 1) n 1 (not (c.regs 21 == 0)) c d at.0 refl (ap not (eq-eqb (c.regs 21) 0 right))))
+      (rests w runs _ (n + 1) (n + 1) c d idle refl (jumps.passed (Bne 21 0 1) n 1 (not (c.regs 21 == 0)) c d at.0 refl
+      (ap not (eq-eqb (c.regs 21) 0 right))))
       (rests w runs _ (exit / 4) (exit / 4) c d idle refl (jumps.jumped (J (exit / 4)) (n + 1) (exit / 4) 0 0 c d at.1.0 refl))
 
   -- the division itself, and the instruction that takes its answer
-  answers : (o : BinaryOp) (n to a b exit answer : ℕ) (i : Inst) (c : Contents) (d : Behind) → CodeAt w n (Bne 21 0 1 ∷ J (exit / 4) ∷ Div 20 21 ∷ i ∷ Jr 31 ∷ []) → IsCalled to c d → AreOperands a b c → b ≢ 0
-      → ((hi lo : ℕ) → hi ≡ signed_remainder a b → lo ≡ signed_quotient a b → Reaches w 1 (at_with (n + 1 + 1 + 1) (record c { hi = hi; lo = lo }) d) (at_with (n + 1 + 1 + 1 + 1) (computed hi lo answer c) d))
+  answers : (o : BinaryOp) (n to a b exit answer : ℕ) (i : Inst) (c : Contents) (d : Behind) → CodeAt w n
+      (Bne 21 0 1 ∷ J (exit / 4) ∷ Div 20 21 ∷ i ∷ Jr 31 ∷ []) → IsCalled to c d → AreOperands a b c → b ≢ 0
+      → ((hi lo : ℕ) → hi ≡ signed_remainder a b → lo ≡ signed_quotient a b → Reaches w 1 (at_with (n + 1 + 1 + 1) (record c { hi = hi; lo = lo }) d)
+      (at_with (n + 1 + 1 + 1 + 1) (computed hi lo answer c) d))
       → HasAnswer o a b answer → ComesBack w 4 n to c d (IsComputed o a b c)
   answers o n to a b exit answer i c d at call h ne takes is =
       let left : c.regs 20 ≡ a = h.left in let right : c.regs 21 ≡ b = h.right in
       let hi = signed_remainder (c.regs 20) (c.regs 21) in let lo = signed_quotient (c.regs 20) (c.regs 21) in
       let test = goes_on n a b exit (Div 20 21 ∷ i ∷ Jr 31 ∷ []) c d at call.idle h ne in
-      let one = straight.next (Div 20 21) (Widens hi lo) (n + 1 + 1) c d at.1.1.0 refl call.idle (straight.division (Div 20 21) c d (c.regs 20) (c.regs 21) (4 * (n + 1 + 1)) c.hi c.lo (λ e. ne (sym right ∙ e))) in
+      let one = straight.next (Div 20 21) (Widens hi lo) (n + 1 + 1) c d at.1.1.0 refl call.idle
+      (straight.division (Div 20 21) c d (c.regs 20) (c.regs 21) (4 * (n + 1 + 1)) c.hi c.lo (λ e. ne (sym right ∙ e))) in
       let take = takes hi lo (ap₂ signed_remainder left right) (ap₂ signed_quotient left right) in
       let out = home (n + 1 + 1 + 1 + 1) to hi lo answer c d at.1.1.1.1.0 call in (
         computed hi lo answer c,
@@ -76,13 +85,15 @@ module _ (w : World) (f : Sound w) (runs : RunsCompose) (straight : StraightRuns
   divides exit = (
     record {
       divides = λ n to a b c d at call h ne. answers op.Div n to a b exit (signed_quotient a b) (Mflo 2) c d at call h ne
-          (λ hi lo eh el. straight.next (Mflo 2) (Gives (signed_quotient a b)) (n + 1 + 1 + 1) (record c { hi = hi; lo = lo }) d at.1.1.1.0 refl call.idle el)
+          (λ hi lo eh el. straight.next (Mflo 2) (Gives (signed_quotient a b)) (n + 1 + 1 + 1)
+          (record c { hi = hi; lo = lo }) d at.1.1.1.0 refl call.idle el)
           (_, by_other quotient (int_of a) (int_of b) (not_zero b h.right_word ne), quotient_word a b h.left_word);
       faults = λ n a c d at idle h. (refl, leaves n a exit (Div 20 21 ∷ Mflo 2 ∷ Jr 31 ∷ []) c d at idle h);
     },
     record {
       divides = λ n to a b c d at call h ne. answers op.Rem n to a b exit (signed_remainder a b) (Mfhi 2) c d at call h ne
-          (λ hi lo eh el. straight.next (Mfhi 2) (Gives (signed_remainder a b)) (n + 1 + 1 + 1) (record c { hi = hi; lo = lo }) d at.1.1.1.0 refl call.idle eh)
+          (λ hi lo eh el. straight.next (Mfhi 2) (Gives (signed_remainder a b)) (n + 1 + 1 + 1)
+          (record c { hi = hi; lo = lo }) d at.1.1.1.0 refl call.idle eh)
           (_, by_other remainder (int_of a) (int_of b) (not_zero b h.right_word ne), refl);
       faults = λ n a c d at idle h. (refl, leaves n a exit (Div 20 21 ∷ Mfhi 2 ∷ Jr 31 ∷ []) c d at idle h);
     },

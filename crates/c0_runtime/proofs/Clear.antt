@@ -63,29 +63,54 @@ cleared_more x size c c1 c' a b = record {
 
 module _ (w : World) (f : Sound w) (joins : RunLaws) (runs : RunsCompose) (straight : StraightRuns w) (jumps : JumpsLead w) where
   -- one turn's straight part
-  turn : (n x size : ℕ) (c : Contents) (d : Behind) → CodeAt w n loop_words → d.pending ≡ Idle → MayClear w x (suc size) c → Steps w 2 (at_with n c d) (at_with (n + 1 + 1) (turned x c) d)
+  turn : (n x size : ℕ) (c : Contents) (d : Behind) → CodeAt w n loop_words → d.pending ≡ Idle → MayClear w x (suc size) c → Steps w 2
+      (at_with n c d) (at_with (n + 1 + 1) (turned x c) d)
   turn n x size c d at idle may =
       let small = f.small in let first = may.first in let inside = may.inside in
       let c1 : Contents = record c { memory = put c.memory x 0 } in
       joins.joined w 1 1 (at_with n c d) (at_with (n + 1) c1 d) (at_with (n + 1 + 1) (turned x c) d)
-      (one_step w n (n + 1) c d c1 d (λ e. absurd (omega (arith, e))) (straight.next (Sw 0 3 0) (Writes x 0) n c d at.0 refl idle (omega arith, omega arith, free, refl)))
-      (one_step w (n + 1) (n + 1 + 1) c1 d (turned x c) d (λ e. absurd (omega (arith, e))) (straight.next (Addiu 3 3 4) (Gives (4 * (x + 1))) (n + 1) c1 d at.1.0 refl idle (omega arith)))
+      (one_step w n (n + 1) c d c1 d (λ e. absurd (omega (arith, e)))
+      (straight.next (Sw 0 3 0) (Writes x 0) n c d at.0 refl idle (omega arith, omega arith, free, refl)))
+      (one_step w (n + 1) (n + 1 + 1) c1 d (turned x c) d (λ e. absurd (omega (arith, e)))
+      (straight.next (Addiu 3 3 4) (Gives (4 * (x + 1))) (n + 1) c1 d at.1.0 refl idle (omega arith)))
     where
       free : w.kept x ≡ None
       free = let e : x ≡ x + 0 = omega arith in ap w.kept e ∙ may.free 0 (omega arith)
 
-  pub clears : (left n x : ℕ) (c : Contents) (d : Behind) → CodeAt w n loop_words → d.pending ≡ Idle → MayClear w x (suc left) c → (c' : Contents) × IsCleared x (suc left) c c' × Steps w (3 * suc left) (at_with n c d) (at_with (n + 3) c' d)
+  pub clears : (left n x : ℕ) (c : Contents) (d : Behind) → CodeAt w n loop_words → d.pending ≡ Idle → MayClear w x (suc left) c →
+      (c' : Contents) × IsCleared x (suc left) c c' × Steps w (3 * suc left) (at_with n c d) (at_with (n + 3) c' d)
   clears zero n x c d at idle may =
       let last = may.last in
       let same : 4 * (x + 1) ≡ c.regs 5 = omega (arith, last) in
       let first = turn n x 0 c d at idle may in
-      let out = rests w runs (at_with (n + 1 + 1) (turned x c) d) _ (n + 3) (turned x c) d idle (omega arith) (jumps.passed (Bne 3 5 65533) (n + 1 + 1) 65533 (not (4 * (x + 1) == c.regs 5)) (turned x c) d at.1.1.0 refl (ap not (eq-eqb (4 * (x + 1)) (c.regs 5) same))) in
-      (turned x c, cleared_one x c, joins.joined w 2 1 (at_with n c d) (at_with (n + 1 + 1) (turned x c) d) (at_with (n + 3) (turned x c) d) first (one_step w (n + 1 + 1) (n + 3) (turned x c) d (turned x c) d (λ e. absurd (omega (arith, e))) out))
+      let out = rests w runs (at_with (n + 1 + 1) (turned x c) d) _ (n + 3) (turned x c) d idle (omega arith)
+      (jumps.passed (Bne 3 5 65533) (n + 1 + 1) 65533 (not (4 * (x + 1) == c.regs 5)) (turned x c) d at.1.1.0 refl
+      (ap not (eq-eqb (4 * (x + 1)) (c.regs 5) same))) in (
+        turned x c,
+        cleared_one x c,
+        joins.joined w 2 1 (at_with n c d) (at_with (n + 1 + 1) (turned x c) d) (at_with (n + 3) (turned x c) d) first
+            (one_step w (n + 1 + 1) (n + 3) (turned x c) d (turned x c) d (λ e. absurd (omega (arith, e))) out),
+      )
   clears (suc left) n x c d at idle may =
       let last = may.last in let inside = may.inside in
       let first = turn n x (suc left) c d at idle may in
-      let back = rests w runs (at_with (n + 1 + 1) (turned x c) d) _ n (turned x c) d idle refl (jumps.taken_back (Bne 3 5 65533) (n + 1 + 1) n 3 (not (4 * (x + 1) == c.regs 5)) (turned x c) d at.1.1.0 refl (ap not (ne_eqb (4 * (x + 1)) (c.regs 5) (λ e. absurd (omega (arith, e, last))))) (omega arith) (omega arith) (omega arith)) in
-      let rest = clears left n (x + 1) (turned x c) d at idle (record { first = refl; last = last ∙ omega arith; inside = omega (arith, inside); free = λ k lt. let e : x + 1 + k ≡ x + suc k = omega arith in ap w.kept e ∙ may.free (suc k) (omega (arith, lt)) }) in
-      let one = joins.joined w 2 1 (at_with n c d) (at_with (n + 1 + 1) (turned x c) d) (at_with n (turned x c) d) first (one_step w (n + 1 + 1) n (turned x c) d (turned x c) d (λ e. absurd (omega (arith, e))) back) in
-      let count : 3 + 3 * suc left ≡ 3 * suc (suc left) = omega arith in
-      (rest.0, cleared_more x (suc left) c (turned x c) rest.0 (cleared_one x c) rest.1, subst (λ k. Steps w k (at_with n c d) (at_with (n + 3) rest.0 d)) count (joins.joined w 3 (3 * suc left) (at_with n c d) (at_with n (turned x c) d) (at_with (n + 3) rest.0 d) one rest.2))
+      let back = rests w runs (at_with (n + 1 + 1) (turned x c) d) _ n (turned x c) d idle refl
+      (jumps.taken_back (Bne 3 5 65533) (n + 1 + 1) n 3 (not (4 * (x + 1) == c.regs 5)) (turned x c) d at.1.1.0 refl
+      (ap not (ne_eqb (4 * (x + 1)) (c.regs 5) (λ e. absurd (omega (arith, e, last))))) (omega arith) (omega arith) (omega arith)) in
+      let rest = clears left n (x + 1) (turned x c) d at idle
+      (record {
+        first = refl;
+        last = last ∙ omega arith;
+        inside = omega
+            (arith, inside);
+        free = λ k lt. let e : x + 1 + k ≡ x + suc k = omega arith in ap w.kept e ∙ may.free (suc k) (omega (arith, lt));
+      }) in
+      let one = joins.joined w 2 1 (at_with n c d) (at_with (n + 1 + 1) (turned x c) d) (at_with n (turned x c) d) first
+      (one_step w (n + 1 + 1) n (turned x c) d (turned x c) d (λ e. absurd (omega (arith, e))) back) in
+      let count : 3 + 3 * suc left ≡ 3 * suc (suc left) = omega arith in (
+        rest.0,
+        cleared_more x (suc left) c (turned x c) rest.0 (cleared_one x c) rest.1,
+        subst
+            (λ k. Steps w k (at_with n c d) (at_with (n + 3) rest.0 d)) count
+            (joins.joined w 3 (3 * suc left) (at_with n c d) (at_with n (turned x c) d) (at_with (n + 3) rest.0 d) one rest.2),
+      )

@@ -35,7 +35,8 @@ int_small : (n : ℕ) → n < 2 ^ 32 → unsigned_abs (int_of n) ≤ 2 ^ 31
 int_small n lt = grind arith
 
 pub product_word : (a b : ℕ) → a < 2 ^ 32 → b < 2 ^ 32 → lower (signed_product a b) ≡ word_of (int_wrap w32 (int_of a *ℤ int_of b))
-product_word a b la lb = low_word (int_of a *ℤ int_of b) (fits_signed_mul w64 (int_of a) (int_of b) (2 ^ 31) (2 ^ 31) (int_small a la) (int_small b lb) (omega arith))
+product_word a b la lb = low_word (int_of a *ℤ int_of b) (fits_signed_mul w64 (int_of a) (int_of b) (2 ^ 31) (2 ^ 31) (int_small a la)
+    (int_small b lb) (omega arith))
 
 -- a word other than 0 means a number other than 0
 pub not_zero : (b : ℕ) → b < 2 ^ 32 → b ≢ 0 → int_of b ≢ pos 0

@@ -8,15 +8,18 @@ use Rattle.mips_table.specs.Code.{put, Contents, Behind, World, Configuration, a
 use Rattle.masm.specs.Laws.{RunsCompose}
 
 -- the end of a run, by another number
-pub moved : (w : World) (m : ℕ) (s : Configuration) (p q : ℕ) (c : Contents) (d : Behind) → p ≡ q → Reaches w m s (at_with p c d) → Reaches w m s (at_with q c d)
+pub moved : (w : World) (m : ℕ) (s : Configuration) (p q : ℕ) (c : Contents) (d : Behind) → p ≡ q → Reaches w m s (at_with p c d) → Reaches w m s
+    (at_with q c d)
 moved w m s p q c d e r = subst (λ k. Reaches w m s (at_with k c d)) e r
 
 -- a step to a place, where no command is under way
-pub rests : (w : World) (runs : RunsCompose) (s : Configuration) (p q : ℕ) (c : Contents) (d : Behind) → d.pending ≡ Idle → p ≡ q → Reaches w 1 s (settle p c d) → Reaches w 1 s (at_with q c d)
+pub rests : (w : World) (runs : RunsCompose) (s : Configuration) (p q : ℕ) (c : Contents) (d : Behind) → d.pending ≡ Idle → p ≡ q → Reaches w 1 s
+    (settle p c d) → Reaches w 1 s (at_with q c d)
 rests w runs s p q c d idle e r = moved w 1 s p q c d e (runs.settled w 1 p s c d idle r)
 
 -- a run of one step at most that leads elsewhere is one step
-pub one_step : (w : World) (n m : ℕ) (c : Contents) (d : Behind) (c' : Contents) (d' : Behind) → n ≢ m → Reaches w 1 (at_with n c d) (at_with m c' d') → Steps w 1 (at_with n c d) (at_with m c' d')
+pub one_step : (w : World) (n m : ℕ) (c : Contents) (d : Behind) (c' : Contents) (d' : Behind) → n ≢ m → Reaches w 1 (at_with n c d)
+    (at_with m c' d') → Steps w 1 (at_with n c d) (at_with m c' d')
 one_step w n m c d c' d' ne r = by_count r.steps r.within r.run
   where
     by_count : (k : ℕ) → k ≤ 1 → Steps w k (at_with n c d) (at_with m c' d') → Steps w 1 (at_with n c d) (at_with m c' d')

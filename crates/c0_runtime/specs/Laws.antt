@@ -72,8 +72,10 @@ pub record IsMade (used first size : ℕ) (c c' : Contents) : Type 0 where
 -- steps and 3 for each of its words, and no fewer than those 3. The instructions that say how many, the call and the store of the answer
 -- come beside these.
 pub record NewRuns (w : World) : Type 0 where
-  pub refuses : (n to used heap first size : ℕ) (c : Contents) (d : Behind) → CodeAt w n new_code → IsCalled to c d → HeapIs w used heap first c → IsAsked size c → heap < used + size → ComesBack w 7 n to c d (IsRefused c)
-  pub makes : (n to used heap first size : ℕ) (c : Contents) (d : Behind) → CodeAt w n new_code → IsCalled to c d → HeapIs w used heap first c → IsAsked size c → used + size ≤ heap → ComesBackIn w (3 * size) (13 + 3 * size) n to c d (IsMade used first size c)
+  pub refuses : (n to used heap first size : ℕ) (c : Contents) (d : Behind) → CodeAt w n new_code → IsCalled to c d → HeapIs w used heap first c →
+      IsAsked size c → heap < used + size → ComesBack w 7 n to c d (IsRefused c)
+  pub makes : (n to used heap first size : ℕ) (c : Contents) (d : Behind) → CodeAt w n new_code → IsCalled to c d → HeapIs w used heap first c →
+      IsAsked size c → used + size ≤ heap → ComesBackIn w (3 * size) (13 + 3 * size) n to c d (IsMade used first size c)
 
 -- the operands are words
 pub record AreOperands (a b : ℕ) (c : Contents) : Type 0 where
@@ -95,13 +97,16 @@ pub record IsComputed (op : BinaryOp) (a b : ℕ) (c c' : Contents) : Type 0 whe
 
 -- products take three steps
 abbrev pub MultiplyRuns : World → Type 0
-MultiplyRuns w = (n to a b : ℕ) (c : Contents) (d : Behind) → CodeAt w n multiply_code → IsCalled to c d → AreOperands a b c → ComesBack w 3 n to c d (IsComputed Mul a b c)
+MultiplyRuns w = (n to a b : ℕ) (c : Contents) (d : Behind) → CodeAt w n multiply_code → IsCalled to c d → AreOperands a b c → ComesBack w 3 n to c d
+    (IsComputed Mul a b c)
 
 -- Divisions take four steps where the divisor isn't 0; where it is, they fault, and the code goes on at the exit after two steps with nothing
 -- changed. The exit's address is that of a word.
 pub record DivisionRuns (w : World) (op : BinaryOp) (code : List Inst) (exit : ℕ) : Type 0 where
-  pub divides : (n to a b : ℕ) (c : Contents) (d : Behind) → CodeAt w n code → IsCalled to c d → AreOperands a b c → b ≢ 0 → ComesBack w 4 n to c d (IsComputed op a b c)
-  pub faults : (n a : ℕ) (c : Contents) (d : Behind) → CodeAt w n code → d.pending ≡ Idle → AreOperands a 0 c → (on_ints op (int_of a) (int_of 0) ≡ Err (faulted DivZero)) × Reaches w 2 (at_with n c d) (at_with (exit / 4) c d)
+  pub divides : (n to a b : ℕ) (c : Contents) (d : Behind) → CodeAt w n code → IsCalled to c d → AreOperands a b c → b ≢ 0 → ComesBack w 4 n to c d
+      (IsComputed op a b c)
+  pub faults : (n a : ℕ) (c : Contents) (d : Behind) → CodeAt w n code → d.pending ≡ Idle → AreOperands a 0 c →
+      (on_ints op (int_of a) (int_of 0) ≡ Err (faulted DivZero)) × Reaches w 2 (at_with n c d) (at_with (exit / 4) c d)
 
 -- quotients, and what they leave
 abbrev pub DivideRuns : World → Type 0
@@ -128,8 +133,10 @@ pub record IsEntered (variables first words from : ℕ) (c c' : Contents) : Type
 
 -- The entry comes to the function's first word within seven steps; from where that returns to, one step leads to the layer's entry that is left by.
 pub record EntryRuns (w : World) : Type 0 where
-  pub enters : (n globals dispatch first stack : ℕ) (c : Contents) (d : Behind) → CodeAt w n (entry_code globals (4 * dispatch)) → d.pending ≡ Idle → StackIs w first stack c → ComesBack w 7 n dispatch c d (IsEntered globals first stack (n + 7) c)
-  pub leaves : (n globals dispatch : ℕ) (c : Contents) (d : Behind) → CodeAt w n (entry_code globals dispatch) → d.pending ≡ Idle → Reaches w 1 (at_with (n + 7) c d) (at_with (LEAVE / 4) c d)
+  pub enters : (n globals dispatch first stack : ℕ) (c : Contents) (d : Behind) → CodeAt w n (entry_code globals (4 * dispatch)) → d.pending ≡ Idle →
+      StackIs w first stack c → ComesBack w 7 n dispatch c d (IsEntered globals first stack (n + 7) c)
+  pub leaves : (n globals dispatch : ℕ) (c : Contents) (d : Behind) → CodeAt w n (entry_code globals dispatch) → d.pending ≡ Idle → Reaches w 1
+      (at_with (n + 7) c d) (at_with (LEAVE / 4) c d)
 
 -- each routine stands where its number says, in words from the first routine on
 pub record RoutinesStand (w : World) (n : ℕ) (p : Places) : Type 0 where

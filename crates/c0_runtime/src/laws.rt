@@ -50,6 +50,4 @@ pub fn kernels_are_entered()
 /// Each routine stands where its number says.
 pub fn routines_stand()
     ensures { (w : World) (n : ℕ) (p : Places) → CodeAt w n (runtime_code p) → RoutinesStand w n p }
-{
-    runs_compose();
-}
+{}

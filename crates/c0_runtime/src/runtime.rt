@@ -2,7 +2,8 @@
 
 ghost use Rattle.std.specs.Prelude.{◌≡◌, ◌++◌, ◌<◌, ◌^◌, map, OnOk, OnErr};
 ghost use Rattle.mips_table.specs.Encoding.{encoding};
-ghost use Rattle.c0_runtime.specs.Code.{multiply_code, division_code, divide_code, remainder_code, zero_exit, runtime_code};
+ghost use Rattle.masm.specs.Places.{ArePlaces};
+ghost use Rattle.c0_runtime.specs.Code.{multiply_code, division_code, divide_code, remainder_code, runtime_code};
 
 use crate::new_object::new_object;
 use masm::Block;
@@ -30,7 +31,7 @@ pub const RUNTIME_WORDS: u32 = 31;
 ///
 /// Want of memory leaves `code` as it was.
 pub fn emit_runtime(_alloc: Global, places: &Places, code: &mut Vec<u32>) -> Result<(), AllocError>
-    requires { zero_exit places.now < 2 ^ 28 }
+    requires { ArePlaces places.now }
     ensures appended { OnOk result (code.new.items ≡ code.old.items ++ map encoding (runtime_code places.now)) }
     ensures unchanged { OnErr result (code.new.items ≡ code.old.items) }
 {
