@@ -88,14 +88,12 @@ stays_more c c1 c' a b = record {
 }
 
 -- a run of one step at most that leads elsewhere is one step
-one_step : (w : World) (n m : ℕ) (c : Contents) (d : Behind) (c' : Contents) (d' : Behind) → n ≢ m → Reaches w 1 (at_with n c d) (at_with m c' d') →
-    Steps w 1 (at_with n c d) (at_with m c' d')
-one_step w n m c d c' d' ne r = by_count r.steps r.within r.run
-  where
-    by_count : (k : ℕ) → k ≤ 1 → Steps w k (at_with n c d) (at_with m c' d') → Steps w 1 (at_with n c d) (at_with m c' d')
-    by_count zero le run = absurd (ne (ap (λ s. s.at) run.1))
-    by_count (suc zero) le run = run
-    by_count (suc (suc k)) le run = absurd (omega (arith, le))
+one_step : (w : World) (runs : RunsCompose) (n m : ℕ) (c : Contents) (d : Behind) (c' : Contents) (d' : Behind) → n ≢ m →
+    Reaches w 1 (at_with n c d) (at_with m c' d') → Steps w 1 (at_with n c d) (at_with m c' d')
+one_step w runs n m c d c' d' ne r =
+    let some = runs.elsewhere w 1 (at_with n c d) (at_with m c' d') ne r in let most = r.within in
+    let one : r.steps ≡ 1 = omega (arith, some, most) in
+    subst (λ k. Steps w k (at_with n c d) (at_with m c' d')) one r.run
 
 -- what a list of registers is as a processor's
 fits_cpu : (regs : List ℕ) → AreRegisters regs → CpuFits (record { pc = 0; regs = regs; hi = 0; lo = 0 })
@@ -116,7 +114,7 @@ module _ (w : World) (decoded : (word : ℕ) → IfSome (decoding word) (λ i. I
       (at_with n c d) (at_with (n + 1) (with_reg c s.register s.value) d)
   step n i c d regs at idle s =
       let said : Said w i c d (effect_at i n c) (Gives s.value) = subst (λ e. Said w i c d e (Gives s.value)) (sym s.code) refl in
-      one_step w n (n + 1) c d (with_reg c s.register s.value) d (λ e. absurd (omega (arith, e)))
+      one_step w runs n (n + 1) c d (with_reg c s.register s.value) d (λ e. absurd (omega (arith, e)))
       (subst (λ e. Reaches w 1 (at_with n c d) (at_with (n + 1) (with_reg c (written e) s.value) d)) s.code
       (straight.next i (Gives s.value) n c d at s.straight idle said))
 

@@ -69,9 +69,9 @@ module _ (w : World) (f : Sound w) (joins : RunLaws) (runs : RunsCompose) (strai
       let small = f.small in let first = may.first in let inside = may.inside in
       let c1 : Contents = record c { memory = put c.memory x 0 } in
       joins.joined w 1 1 (at_with n c d) (at_with (n + 1) c1 d) (at_with (n + 1 + 1) (turned x c) d)
-      (one_step w n (n + 1) c d c1 d (λ e. absurd (omega (arith, e)))
+      (one_step w runs n (n + 1) c d c1 d (λ e. absurd (omega (arith, e)))
       (straight.next (Sw 0 3 0) (Writes x 0) n c d at.0 refl idle (omega arith, omega arith, free, refl)))
-      (one_step w (n + 1) (n + 1 + 1) c1 d (turned x c) d (λ e. absurd (omega (arith, e)))
+      (one_step w runs (n + 1) (n + 1 + 1) c1 d (turned x c) d (λ e. absurd (omega (arith, e)))
       (straight.next (Addiu 3 3 4) (Gives (4 * (x + 1))) (n + 1) c1 d at.1.0 refl idle (omega arith)))
     where
       free : w.kept x ≡ None
@@ -89,7 +89,7 @@ module _ (w : World) (f : Sound w) (joins : RunLaws) (runs : RunsCompose) (strai
         turned x c,
         cleared_one x c,
         joins.joined w 2 1 (at_with n c d) (at_with (n + 1 + 1) (turned x c) d) (at_with (n + 3) (turned x c) d) first
-            (one_step w (n + 1 + 1) (n + 3) (turned x c) d (turned x c) d (λ e. absurd (omega (arith, e))) out),
+            (one_step w runs (n + 1 + 1) (n + 3) (turned x c) d (turned x c) d (λ e. absurd (omega (arith, e))) out),
       )
   clears (suc left) n x c d at idle may =
       let last = may.last in let inside = may.inside in
@@ -106,7 +106,7 @@ module _ (w : World) (f : Sound w) (joins : RunLaws) (runs : RunsCompose) (strai
         free = λ k lt. let e : x + 1 + k ≡ x + suc k = omega arith in ap w.kept e ∙ may.free (suc k) (omega (arith, lt));
       }) in
       let one = joins.joined w 2 1 (at_with n c d) (at_with (n + 1 + 1) (turned x c) d) (at_with n (turned x c) d) first
-      (one_step w (n + 1 + 1) n (turned x c) d (turned x c) d (λ e. absurd (omega (arith, e))) back) in
+      (one_step w runs (n + 1 + 1) n (turned x c) d (turned x c) d (λ e. absurd (omega (arith, e))) back) in
       let count : 3 + 3 * suc left ≡ 3 * suc (suc left) = omega arith in (
         rest.0,
         cleared_more x (suc left) c (turned x c) rest.0 (cleared_one x c) rest.1,

@@ -1,5 +1,5 @@
 -- Small steps that the proofs of the routines share: where a run ends, and registers and words that a write leaves.
-use Rattle.std.proofs.Common.{◌≡◌, ◌≢◌, ℕ, zero, suc, ◌<◌, ◌≤◌, ◌==◌, Bool, true, false, ap, ◌∙◌, subst, arith, eq-eqb, ne_eqb}
+use Rattle.std.proofs.Common.{◌≡◌, ◌≢◌, ℕ, ◌<◌, ◌≤◌, ◌==◌, Bool, true, false, ap, ◌∙◌, subst, arith, eq-eqb, ne_eqb}
 use Rattle.std.specs.Prelude.{not}
 use Rattle.std.proofs.lemmas.Bool.{cond-true, cond-false}
 use Rattle.mips_table.specs.Arith.{flag}
@@ -18,14 +18,12 @@ pub rests : (w : World) (runs : RunsCompose) (s : Configuration) (p q : ℕ) (c 
 rests w runs s p q c d idle e r = moved w 1 s p q c d e (runs.settled w 1 p s c d idle r)
 
 -- a run of one step at most that leads elsewhere is one step
-pub one_step : (w : World) (n m : ℕ) (c : Contents) (d : Behind) (c' : Contents) (d' : Behind) → n ≢ m → Reaches w 1 (at_with n c d)
-    (at_with m c' d') → Steps w 1 (at_with n c d) (at_with m c' d')
-one_step w n m c d c' d' ne r = by_count r.steps r.within r.run
-  where
-    by_count : (k : ℕ) → k ≤ 1 → Steps w k (at_with n c d) (at_with m c' d') → Steps w 1 (at_with n c d) (at_with m c' d')
-    by_count zero le run = absurd (ne (ap (λ s. s.at) run.1))
-    by_count (suc zero) le run = run
-    by_count (suc (suc k)) le run = absurd (omega (arith, le))
+pub one_step : (w : World) (runs : RunsCompose) (n m : ℕ) (c : Contents) (d : Behind) (c' : Contents) (d' : Behind) → n ≢ m →
+    Reaches w 1 (at_with n c d) (at_with m c' d') → Steps w 1 (at_with n c d) (at_with m c' d')
+one_step w runs n m c d c' d' ne r =
+    let some = runs.elsewhere w 1 (at_with n c d) (at_with m c' d') ne r in let most = r.within in
+    let one : r.steps ≡ 1 = omega (arith, some, most) in
+    subst (λ k. Steps w k (at_with n c d) (at_with m c' d')) one r.run
 
 pub put_same : (m : ℕ → ℕ) (a v k : ℕ) → k ≡ a → put m a v k ≡ v
 put_same m a v k e = cond-true _ v (m k) (eq-eqb k a e)

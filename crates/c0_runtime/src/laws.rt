@@ -4,8 +4,9 @@
 ghost use Rattle.std.specs.Prelude.{ℕ};
 ghost use Rattle.mips_table.specs.Code.{World, Sound, CodeAt};
 ghost use Rattle.masm.specs.declared.registers.Places.{Places};
-ghost use Rattle.c0_runtime.specs.Code.{runtime_code};
+ghost use Rattle.c0_runtime.specs.Code.{entry_code, new_code, runtime_code};
 ghost use Rattle.c0_runtime.specs.Laws.{NewRuns, MultiplyRuns, DivideRuns, EntryRuns, RoutinesStand};
+ghost use Rattle.c0_runtime.specs.Samples.{after, contents, LastWords, NoRoom, SampleAnswers, SampleEntered};
 
 use masm::laws::{jumps_lead, runs_compose, straight_code_runs};
 use mips_table::runs::code_runs_join;
@@ -50,4 +51,12 @@ pub fn kernels_are_entered()
 /// Each routine stands where its number says.
 pub fn routines_stand()
     ensures { (w : World) (n : ℕ) (p : Places) → CodeAt w n (runtime_code p) → RoutinesStand w n p }
+{}
+
+/// Small runs of the routines come to what is known of them.
+pub fn sample_runs_are_right()
+    ensures made { LastWords (after new_code (contents 3 0 0) 22) }
+    ensures refused { NoRoom (after new_code (contents 4 0 0) 7) }
+    ensures answers { SampleAnswers }
+    ensures entered { SampleEntered (after (entry_code 0x12345678 12) (contents 0 0 0) 7) }
 {}
