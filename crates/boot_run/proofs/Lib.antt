@@ -1,4 +1,3 @@
-pub mod MachineRows
 pub mod Stepping
 pub mod Counting
 pub mod Stretches
