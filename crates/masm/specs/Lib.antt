@@ -4,3 +4,4 @@ pub mod Laws
 pub mod Standing
 pub mod Copy
 pub mod Wait
+pub mod Stays

@@ -6,6 +6,7 @@ ghost use Rattle.mips_table.specs.declared.inst.Inst.{Inst};
 ghost use Rattle.std.specs.Prelude.{ℕ, List, ◌<◌, ◌≤◌, ◌+◌, length};
 ghost use Rattle.mips_table.specs.Code.{Contents, Behind, World, Sound};
 ghost use Rattle.masm.specs.Standing.{BlockStands};
+ghost use Rattle.masm.specs.Stays.{RegistersStay};
 ghost use Rattle.masm.specs.Laws.{RunsCompose, StraightRuns, JumpsLead, WhenRuns, LoopRuns, BlocksInRange, LoopPays, ReturnRuns, WordsAreEncodings};
 
 use mips_table::runs::code_runs_join;
@@ -25,6 +26,11 @@ pub fn a_block_stands()
 /// Straight code does what is said of its instructions, in a step each.
 pub fn straight_code_runs()
     ensures { (w : World) → Sound w → StraightRuns w }
+{}
+
+/// A register that straight code doesn't write stays.
+pub fn registers_stay()
+    ensures { RegistersStay }
 {}
 
 /// Branches and jumps lead where they name, in one step.
