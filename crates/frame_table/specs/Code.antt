@@ -1,0 +1,60 @@
+-- Code on entries, counts and the hand.
+use Rattle.std.specs.Prelude.{ℕ, ◌+◌, ◌*◌, ◌/◌, ◌%◌, List, [], ◌∷◌, ◌++◌, length}
+use Rattle.mips_table.specs.declared.inst.Inst.{Inst}
+use Rattle.mips_table.specs.declared.inst.Inst.TheVariants.{Sll, Srl, Addu, Subu, Bne, Beq, Addiu, Ori, Lui, Lw, Sw}
+use Rattle.page_model.specs.Places.{Places}
+use Rattle.swap_layer.specs.Swap.{swap_out_code}
+
+-- a number in a register
+abbrev pub const_code : ℕ → ℕ → List Inst
+const_code r v = Lui r (v / 65536) ∷ Ori r r (v % 65536) ∷ []
+
+-- FIND: register 16 is a page; 20 becomes the address of its entry, 21 the frame that it names, 24 is 1 where it is valid
+abbrev pub find_code : Places → List Inst
+find_code p = const_code 20 (4 * p.tables) ++ (Sll 8 16 2 ∷ Addu 20 20 8 ∷ Lw 8 20 0 ∷ Srl 21 8 12 ∷ Srl 24 8 11 ∷ Sll 24 24 31 ∷ Srl 24 24 31 ∷ [])
+
+-- register 8 becomes 0 for the zero frame, and else the user frame's number from 1
+abbrev pub user_code : Places → List Inst
+user_code p = const_code 9 p.layout.zeros ++ (Subu 8 21 9 ∷ [])
+
+-- the count of that user frame, in register 9; its address in 8
+abbrev pub count_code : Places → List Inst
+count_code p = const_code 9 (4 * p.counts) ++ (Addiu 8 8 65535 ∷ Sll 8 8 5 ∷ Addu 8 8 9 ∷ Lw 9 8 0 ∷ [])
+
+abbrev pub less_code : Places → List Inst
+less_code p = count_code p ++ (Addiu 9 9 65535 ∷ Sw 9 8 0 ∷ [])
+
+-- register 17 the hand's index, 18 the address of its frame, 19 what a valid entry of it is shifted by 11;
+-- 20 the address of an entry, 22 that of the end, 23 that of the first
+abbrev pub hand_code : Places → List Inst
+hand_code p = Lw 17 0 0x1004 ∷ (const_code 18 (4096 * (p.layout.zeros + 1)) ++ (Sll 8 17 12 ∷ Addu 18 18 8 ∷ Srl 19 18 11 ∷ Addiu 19 19 1 ∷ []))
+
+abbrev pub start_code : Places → List Inst
+start_code p = const_code 20 (4 * p.tables) ++ (Addu 23 20 0 ∷ const_code 22 (4 * (p.tables + p.layout.pages)))
+
+abbrev pub equal_code : ℕ → ℕ → List Inst → List Inst
+equal_code r t body = Bne r t (length body) ∷ body
+
+abbrev pub read_code : List Inst
+read_code = Lw 8 20 0 ∷ Srl 8 8 11 ∷ []
+
+abbrev pub number_code : List Inst
+number_code = Subu 21 20 23 ∷ Srl 21 21 2 ∷ []
+
+abbrev pub out_code : List Inst
+out_code = number_code ++ (swap_out_code ++ (Sw 0 20 0 ∷ []))
+
+abbrev pub next_code : List Inst
+next_code = Addiu 20 20 4 ∷ []
+
+abbrev pub scan_body : List Inst
+scan_body = read_code ++ (equal_code 8 19 out_code ++ next_code)
+
+abbrev pub scan_code : List Inst
+scan_code = Beq 20 22 (length scan_body + 1) ∷ (scan_body ++ [])
+
+abbrev pub clear_code : Places → List Inst
+clear_code p = const_code 9 (4 * p.counts) ++ (Sll 8 17 5 ∷ Addu 8 8 9 ∷ Sw 0 8 0 ∷ [])
+
+abbrev pub evict_code : Places → List Inst
+evict_code p = (hand_code p ++ start_code p) ++ (scan_code ++ clear_code p)

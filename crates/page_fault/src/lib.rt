@@ -1,0 +1,7 @@
+//! The page-fault block.
+#![tactic(auto)]
+
+/// One.
+pub fn one() -> u32 {
+    1
+}
