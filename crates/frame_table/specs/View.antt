@@ -1,5 +1,5 @@
 -- What is asked of a world, and what the scan leaves.
-use Rattle.std.specs.Prelude.{◌≡◌, ◌≢◌, ℕ, ◌+◌, ◌*◌, ◌/◌, ◌%◌, ◌^◌, ◌<◌, ◌≤◌, ◌⊎◌, Bool, true, false, if◌then◌else◌, nat_lt, None}
+use Rattle.std.specs.Prelude.{◌≡◌, ◌≢◌, ℕ, ◌+◌, ◌*◌, ◌^◌, ◌<◌, ◌≤◌, ◌⊎◌, Bool, true, false, if◌then◌else◌, nat_lt, None}
 use Rattle.mips_table.specs.Device.{BUFFER}
 use Rattle.mips_table.specs.Code.{Contents, Behind, World}
 use Rattle.layer_map.specs.Map.{hand_at}

@@ -1,7 +1,6 @@
 //! A stand-in.
 #![tactic(auto)]
 
-/// One.
-pub fn one() -> u32 {
-    1
-}
+mod code;
+
+pub use code::{count, find, less, number, user, zeros};

@@ -1,2 +1,0 @@
-pub mod Swap
-pub mod Laws
