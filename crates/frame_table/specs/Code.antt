@@ -3,7 +3,6 @@ use Rattle.std.specs.Prelude.{ℕ, ◌+◌, ◌*◌, ◌/◌, ◌%◌, List, [],
 use Rattle.mips_table.specs.declared.inst.Inst.{Inst}
 use Rattle.mips_table.specs.declared.inst.Inst.TheVariants.{Sll, Srl, Addu, Subu, Bne, Beq, Addiu, Ori, Lui, Lw, Sw}
 use Rattle.page_model.specs.Places.{Places}
-use Rattle.swap_layer.specs.Swap.{swap_out_code}
 
 -- a number in a register
 abbrev pub const_code : ℕ → ℕ → List Inst
@@ -41,20 +40,20 @@ read_code = Lw 8 20 0 ∷ Srl 8 8 11 ∷ []
 abbrev pub number_code : List Inst
 number_code = Subu 21 20 23 ∷ Srl 21 21 2 ∷ []
 
-abbrev pub out_code : List Inst
-out_code = number_code ++ (swap_out_code ++ (Sw 0 20 0 ∷ []))
+abbrev pub out_code : List Inst → List Inst
+out_code out = number_code ++ (out ++ (Sw 0 20 0 ∷ []))
 
 abbrev pub next_code : List Inst
 next_code = Addiu 20 20 4 ∷ []
 
-abbrev pub scan_body : List Inst
-scan_body = read_code ++ (equal_code 8 19 out_code ++ next_code)
+abbrev pub scan_body : List Inst → List Inst
+scan_body out = read_code ++ (equal_code 8 19 (out_code out) ++ next_code)
 
-abbrev pub scan_code : List Inst
-scan_code = Beq 20 22 (length scan_body + 1) ∷ (scan_body ++ [])
+abbrev pub scan_code : List Inst → List Inst
+scan_code out = Beq 20 22 (length (scan_body out) + 1) ∷ (scan_body out ++ [])
 
 abbrev pub clear_code : Places → List Inst
 clear_code p = const_code 9 (4 * p.counts) ++ (Sll 8 17 5 ∷ Addu 8 8 9 ∷ Sw 0 8 0 ∷ [])
 
-abbrev pub evict_code : Places → List Inst
-evict_code p = (hand_code p ++ start_code p) ++ (scan_code ++ clear_code p)
+abbrev pub evict_code : Places → List Inst → List Inst
+evict_code p out = (hand_code p ++ start_code p) ++ (scan_code out ++ clear_code p)

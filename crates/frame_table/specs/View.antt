@@ -7,16 +7,7 @@ use Rattle.page_model.specs.Paging.{counted}
 use Rattle.page_model.specs.Edits.{Evicted}
 use Rattle.page_model.specs.Places.{Places, view}
 use Rattle.mips_table.specs.Device.{Idle}
-use Rattle.swap_layer.specs.Swap.{HasDisk}
-
--- the special registers, hi and lo, the console's log and input are as before, and no command is under way
-pub record Besides (c0 : Contents) (d0 : Behind) (c : Contents) (d : Behind) : Type 0 where
-  pub special : c.special ≡ c0.special
-  pub hi : c.hi ≡ c0.hi
-  pub lo : c.lo ≡ c0.lo
-  pub log : d.log ≡ d0.log
-  pub input : d.input ≡ d0.input
-  pub idle : d.pending ≡ Idle
+use Rattle.masm.specs.Frames.{HasDisk, Besides}
 
 -- the parts stand in this order, inside memory, apart, and may be written
 pub record Sited (p : Places) (w : World) : Type 0 where

@@ -7,12 +7,12 @@ use Rattle.mips_table.specs.Arith.{extended}
 use Rattle.mips_table.specs.Device.{Idle}
 use Rattle.mips_table.specs.Code.{put, Contents, Behind, World}
 use Rattle.masm.specs.Laws.{RunsCompose, StraightRuns, WhenRuns}
+use Rattle.masm.specs.Frames.{Besides}
 use Rattle.masm.specs.Stays.{RegistersStay}
 use Rattle.page_model.specs.Paging.{Valid, Names}
 use Rattle.page_model.specs.Laws.{EntriesAreCounted, EntriesShow, EvictionsStand, FillsStand, ProtectionStands}
-use Rattle.swap_layer.specs.Swap.{Spares, Commanded}
-use Rattle.swap_layer.specs.Laws.{Fetches, Settles}
-use Rattle.frame_table.specs.View.{Besides, Kept, scratch}
+use Rattle.swap_layer.specs.Laws.{SwapsOut, Fetches, Settles}
+use Rattle.frame_table.specs.View.{Kept, scratch}
 use Rattle.frame_table.specs.Laws.{Evicts}
 
 -- the laws that the body calls
@@ -26,6 +26,7 @@ pub record Laws (w : World) : Type 0 where
   pub evictions : EvictionsStand
   pub fills : FillsStand
   pub protection : ProtectionStands
+  pub swaps : SwapsOut w
   pub fetches : Fetches w
   pub settles : Settles w
   pub evicts : Evicts w
@@ -54,10 +55,6 @@ kept_out x o = ⊎_elim
     (λ h. let h0 = h.0 in let h1 = h.1 in cond-false (nat_lt x 13) true _ (le-ltb x 13 (omega arith)) ∙ cond-true (nat_lt x 17) false _ (lt-ltb x 17 h1))
     (λ h. cond-false (nat_lt x 13) true _ (le-ltb x 13 (omega arith)) ∙ cond-false (nat_lt x 17) false _ (le-ltb x 17 (omega arith)) ∙ le-ltb x 26 (omega arith))
     o
-
--- what a swap leaves
-pub besides_swap : (r : ℕ) (c0 c : Contents) (d0 d : Behind) → Spares r c0 c → Commanded d0 d → Besides c0 d0 c d
-besides_swap r c0 c d0 d s k = record { special = s.special; hi = s.hi; lo = s.lo; log = k.log; input = k.input; idle = k.idle }
 
 -- what stays, through two blocks, and through one that changes nothing of it
 pub besides_on : (c0 c1 c : Contents) (d0 d1 d : Behind) → Besides c0 d0 c1 d1 → Besides c1 d1 c d → Besides c0 d0 c d

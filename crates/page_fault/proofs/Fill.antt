@@ -6,6 +6,7 @@ use Rattle.layer_map.specs.Map.{hand_at}
 use Rattle.masm.specs.Laws.{From}
 use Rattle.page_model.specs.Paging.{shown_word, Pages, PagesStand}
 use Rattle.page_model.specs.Places.{Places, view}
+use Rattle.swap_layer.specs.Code.{swap_out_code}
 use Rattle.frame_table.specs.Code.{evict_code}
 use Rattle.frame_table.specs.View.{Sited, Ported, Emptied, names_hand}
 use Rattle.page_fault.specs.Code.{place_code, fill_code}
@@ -53,5 +54,5 @@ module _ (w : World) (f : Sound w) (laws : Laws w) (p : Places) (b : ℕ) (si : 
   -- FILL: six steps an entry, a swap for each name of the frame at the hand, and one
   pub fill_from : From w (fill_code p) (6 * p.layout.pages + names_hand p c0.memory * (b + 2702) + b + 2758) c0 d0 (FillDone p v q c0 d0)
   fill_from = from_later w laws.runs (fill_code p) ((6 * p.layout.pages + names_hand p c0.memory * (b + 2702) + 18) + (b + 2740)) _ c0 d0 _ _ (omega arith) (λ c d k. k)
-      (from_then w laws.runs (evict_code p) (place_code p) _ (b + 2740) c0 d0 (Emptied p c0 d0) _ (laws.evicts p b c0 d0 si pt a.small a.idle in_range)
+      (from_then w laws.runs (evict_code p swap_out_code) (place_code p) _ (b + 2740) c0 d0 (Emptied p c0 d0) _ (laws.evicts p b swap_out_code (b + 2699) c0 d0 si pt (omega arith) (laws.swaps b pt.disk) a.small a.idle in_range)
       (λ c1 d1 e. from_later w laws.runs (place_code p) (b + 2740) (b + 2740) c1 d1 _ _ (omega arith) (λ c d k. done c1 d1 c d e k) (places w f laws p b si pt q (c0.memory hand_at) c1 d1 (asked c1 d1 e))))

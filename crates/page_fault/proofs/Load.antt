@@ -7,9 +7,10 @@ use Rattle.masm.specs.Blocks.{when_code}
 use Rattle.masm.specs.Laws.{From}
 use Rattle.page_model.specs.Paging.{IsUserFrame, IsFrame, Names, naming}
 use Rattle.page_model.specs.Places.{Places, count_at}
-use Rattle.swap_layer.specs.Swap.{settle_code}
+use Rattle.swap_layer.specs.Code.{settle_code}
 use Rattle.frame_table.specs.Code.{user_code, less_code}
-use Rattle.frame_table.specs.View.{Sited, Ported, Kept, scratch, Besides}
+use Rattle.masm.specs.Frames.{Besides}
+use Rattle.frame_table.specs.View.{Sited, Ported, Kept, scratch}
 use Rattle.page_fault.specs.Code.{leave_code}
 use Rattle.page_fault.proofs.From.{from_straight, from_when, from_later, straight_then}
 use Rattle.page_fault.proofs.Basics.{Laws, const_is, put_same, put_other, names_own, names_one, kept_out, besides_same}
@@ -37,16 +38,16 @@ module _ (w : World) (f : Sound w) (laws : Laws w) (p : Places) (b : ℕ) (si : 
         words = λ i li. k.words i li ∙ s.words i li;
         count = λ x le lt. k.others x (inl (omega arith)) ∙ s.memory x (omega arith);
         memory = λ x lx o o'. k.others x o ∙ s.memory x lx;
-        index = k.spares.regs 17 (omega arith) ∙ s.index;
-        frame = k.spares.regs 18 (omega arith) ∙ s.frame;
-        entry = k.spares.regs 20 (omega arith) ∙ s.entry;
-        named = k.spares.regs 21 (omega arith) ∙ s.named;
-        valid = k.spares.regs 24 (omega arith) ∙ s.valid;
+        index = k.regs 17 (omega arith) ∙ s.index;
+        frame = k.regs 18 (omega arith) ∙ s.frame;
+        entry = k.regs 20 (omega arith) ∙ s.entry;
+        named = k.regs 21 (omega arith) ∙ s.named;
+        valid = k.regs 24 (omega arith) ∙ s.valid;
         sectors = λ x i. ap (λ t. t.sectors x i) k.behind ∙ s.sectors x i;
-        regs = λ x o. k.spares.regs x (⊎_elim (λ h. omega arith) (λ h. omega arith) o) ∙ s.regs x o;
-        besides = subst (λ d'. Besides c1 d1 c' d') (sym k.behind) (besides_same c1 c c' d1 d k.spares.special k.spares.hi k.spares.lo s.besides);
+        regs = λ x o. k.regs x (⊎_elim (λ h. omega arith) (λ h. omega arith) o) ∙ s.regs x o;
+        besides = subst (λ d'. Besides c1 d1 c' d') (sym k.behind) (besides_same c1 c c' d1 d k.special k.hi k.lo s.besides);
       })
-      (laws.settles s.a g c d (record { inside = omega arith; free = λ x le lx. si.free x (omega arith) (omega arith) }) s.from s.frame (⊎_elim (λ z. inl z) (λ z. inr (z, pt.disk.system)) s.place) s.apart s.besides.idle)
+      (laws.settles b s.a g c d pt.disk s.from s.frame (omega arith, λ x le lx. si.free x (omega arith) (omega arith)) s.place s.apart s.besides.idle)
 
   -- no count changes
   same_counts : (c c' : Contents) (d : Behind) → c'.memory ≡ c.memory → ((y : ℕ) → IsUserFrame p.layout y → naming e y ≡ 0) → (c'.regs 17 ≡ c.regs 17) × (c'.regs 18 ≡ c.regs 18) × (c'.regs 20 ≡ c.regs 20) × (c'.regs 21 ≡ c.regs 21) × (c'.regs 24 ≡ c.regs 24)

@@ -16,7 +16,8 @@ use Rattle.page_model.specs.Edits.{Retargeted}
 use Rattle.page_model.specs.Faults.{InPlace, ByFill, Brought}
 use Rattle.page_model.specs.Places.{Places, count_at, view}
 use Rattle.frame_table.specs.Code.{user_code}
-use Rattle.frame_table.specs.View.{Sited, Ported, Kept, scratch, names_hand, Besides}
+use Rattle.masm.specs.Frames.{Besides}
+use Rattle.frame_table.specs.View.{Sited, Ported, Kept, scratch, names_hand}
 use Rattle.page_fault.specs.Code.{seen_code, fill_code, open_code, alone_code, shared_code, guard_code, test_code, page_code}
 use Rattle.page_fault.specs.Asked.{PageAsked, PageDone, PageBlock, fault_steps}
 use Rattle.page_fault.proofs.From.{from_straight, from_then, from_when, from_later, straight_then}

@@ -7,7 +7,8 @@ use Rattle.page_model.specs.Paging.{IsUserFrame, IsFrame, Names, shown_word, nex
 use Rattle.page_model.specs.Edits.{Placed}
 use Rattle.page_model.specs.Faults.{ByFill}
 use Rattle.page_model.specs.Places.{Places, count_at, view}
-use Rattle.frame_table.specs.View.{Besides, Kept}
+use Rattle.masm.specs.Frames.{Besides}
+use Rattle.frame_table.specs.View.{Kept}
 
 -- the page q is to be placed in the frame at the hand, of index h, which no entry names
 pub record PlaceAsked (p : Places) (q h : ℕ) (c : Contents) (d : Behind) : Type 0 where

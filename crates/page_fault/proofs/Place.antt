@@ -11,7 +11,7 @@ use Rattle.masm.specs.Blocks.{when_code}
 use Rattle.masm.specs.Laws.{From}
 use Rattle.page_model.specs.Paging.{Layout, IsUserFrame, next_frame, naming, private_entry}
 use Rattle.page_model.specs.Places.{Places, count_at}
-use Rattle.swap_layer.specs.Swap.{settle_code}
+use Rattle.swap_layer.specs.Code.{settle_code}
 use Rattle.frame_table.specs.View.{Sited, Ported, Kept, scratch}
 use Rattle.page_fault.specs.Code.{source_code, leave_code, own_code, step_code, place_code}
 use Rattle.page_fault.proofs.From.{from_straight, from_then, from_when, from_later, straight_then}

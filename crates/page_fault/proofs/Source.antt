@@ -9,11 +9,12 @@ use Rattle.masm.specs.Blocks.{when_code}
 use Rattle.masm.specs.Laws.{From}
 use Rattle.page_model.specs.Paging.{IsFrame, Names}
 use Rattle.page_model.specs.Places.{Places, view}
-use Rattle.swap_layer.specs.Swap.{fetch_code, Fetched}
+use Rattle.swap_layer.specs.Code.{fetch_code}
+use Rattle.swap_layer.specs.Laws.{Fetched}
 use Rattle.frame_table.specs.View.{Sited, Ported, scratch}
 use Rattle.page_fault.specs.Code.{seen_code, source_code}
 use Rattle.page_fault.proofs.From.{from_straight, from_then, from_when, from_later, straight_then}
-use Rattle.page_fault.proofs.Basics.{Laws, const_is, names_own, kept_out, besides_same, besides_swap, besides_none, besides_on}
+use Rattle.page_fault.proofs.Basics.{Laws, const_is, names_own, kept_out, besides_same, besides_none, besides_on}
 use Rattle.page_fault.proofs.Parts.{PlaceAsked, Sourced}
 
 -- what is said of the instructions that look at an entry e of page q: v tells whether it is valid, and a whether it isn't
@@ -37,8 +38,8 @@ module _ (w : World) (f : Sound w) (laws : Laws w) (p : Places) (b : ℕ) (si : 
       (from_when w laws.runs laws.whens 25 fetch_code (b + 8) _ d1 _ (omega arith) a.idle
       (λ ne. laws.fetches b q _ d1 pt.disk a.page (omega arith) a.idle)
       (λ z. absurd (omega arith)))
-      (λ c3 d3 k. from_when w laws.runs laws.whens 24 (Sll 1 21 12 ∷ []) 1 c3 d3 _ (omega arith) k.commanded.idle
-      (λ ne. absurd (ne (k.spares.regs 24 (omega arith))))
+      (λ c3 d3 k. from_when w laws.runs laws.whens 24 (Sll 1 21 12 ∷ []) 1 c3 d3 _ (omega arith) k.besides.idle
+      (λ ne. absurd (ne (k.regs 24 (omega arith))))
       (λ z. record {
         a = BUFFER;
         from = k.from;
@@ -46,14 +47,14 @@ module _ (w : World) (f : Sound w) (laws : Laws w) (p : Places) (b : ℕ) (si : 
         apart = inr (omega arith);
         words = λ i li. k.words i li ∙ sym (laws.shows.gone (view p c1.memory d1.sectors) q i gone);
         memory = λ x lx. k.memory x lx;
-        index = k.spares.regs 17 (omega arith) ∙ a.index;
-        frame = k.spares.regs 18 (omega arith) ∙ a.frame;
-        entry = k.spares.regs 20 (omega arith);
-        named = k.spares.regs 21 (omega arith);
-        valid = k.spares.regs 24 (omega arith) ∙ sym gone;
+        index = k.regs 17 (omega arith) ∙ a.index;
+        frame = k.regs 18 (omega arith) ∙ a.frame;
+        entry = k.regs 20 (omega arith);
+        named = k.regs 21 (omega arith);
+        valid = k.regs 24 (omega arith) ∙ sym gone;
         sectors = k.sectors;
-        regs = λ x o. k.spares.regs x (⊎_elim (λ h. omega arith) (λ h. omega arith) o) ∙ laws.stays scratch x (kept_out x o) (seen_code p 25) (seen_says p q (c1.memory (p.tables + q)) 0 1) n c1 refl refl;
-        besides = besides_on c1 _ c3 d1 d1 d3 (besides_same c1 c1 (sayings n (seen_code p 25) (seen_says p q (c1.memory (p.tables + q)) 0 1) c1) d1 d1 refl refl refl (besides_none c1 d1 a.idle)) (besides_swap 5 _ c3 d1 d3 k.spares k.commanded);
+        regs = λ x o. k.regs x (⊎_elim (λ h. omega arith) (λ h. omega arith) o) ∙ laws.stays scratch x (kept_out x o) (seen_code p 25) (seen_says p q (c1.memory (p.tables + q)) 0 1) n c1 refl refl;
+        besides = besides_on c1 _ c3 d1 d1 d3 (besides_same c1 c1 (sayings n (seen_code p 25) (seen_says p q (c1.memory (p.tables + q)) 0 1) c1) d1 d1 refl refl refl (besides_none c1 d1 a.idle)) k.besides;
       })))
 
   -- from the frame that it shares

@@ -8,7 +8,8 @@ use Rattle.masm.specs.Laws.{From}
 use Rattle.page_model.specs.Paging.{Pages, PagesStand, Passes}
 use Rattle.page_model.specs.Faults.{Brought}
 use Rattle.page_model.specs.Places.{Places, view}
-use Rattle.frame_table.specs.View.{Besides, Sited, Ported, names_hand}
+use Rattle.masm.specs.Frames.{Besides}
+use Rattle.frame_table.specs.View.{Sited, Ported, names_hand}
 use Rattle.page_fault.specs.Code.{page_code}
 
 -- page q, below its user's size, is asked for in register 16, to store where register 15 isn't 0; the machine shows v, entries are words, and no command is under way

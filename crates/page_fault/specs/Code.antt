@@ -4,7 +4,7 @@ use Rattle.mips_table.specs.declared.inst.Inst.{Inst}
 use Rattle.mips_table.specs.declared.inst.Inst.TheVariants.{Sll, Srl, Addu, Subu, Addiu, Sltiu, Lw, Sw}
 use Rattle.masm.specs.Blocks.{when_code}
 use Rattle.page_model.specs.Places.{Places}
-use Rattle.swap_layer.specs.Swap.{fetch_code, settle_code}
+use Rattle.swap_layer.specs.Code.{swap_out_code, fetch_code, settle_code}
 use Rattle.frame_table.specs.Code.{const_code, find_code, user_code, count_code, less_code, evict_code}
 
 -- register 20 becomes the address of the page's entry, 21 the frame that it names, 24 is 1 where it is valid, and register r where it isn't
@@ -33,7 +33,7 @@ place_code p = source_code p ++ (settle_code ++ (leave_code p ++ (own_code p ++ 
 
 -- FILL: that frame is emptied first
 abbrev pub fill_code : Places → List Inst
-fill_code p = evict_code p ++ place_code p
+fill_code p = evict_code p swap_out_code ++ place_code p
 
 -- the entry, in register 10, loses its protection; register 12 tells that no frame has to be filled
 abbrev pub open_code : List Inst
