@@ -10,10 +10,10 @@ use Rattle.masm.specs.Frames.{WritesFrames}
 use Rattle.page_model.specs.Paging.{IsUserFrame}
 use Rattle.page_model.specs.Places.{Places, count_at}
 use Rattle.frame_table.specs.Code.{hand_code, start_code, clear_code, scan_code, evict_code}
-use Rattle.frame_table.specs.View.{Sited, Ported, scratch, Emptied, names_hand}
+use Rattle.frame_table.specs.View.{Sited, Ported, scratch, Emptied, names_hand, At, Swept}
+use Rattle.frame_table.specs.Laws.{Evicts}
 use Rattle.frame_table.proofs.From.{from_straight, from_then, from_later, straight_then}
 use Rattle.frame_table.proofs.Basics.{Laws, const_is, put_same, put_other, kept_out, besides_same, besides_none}
-use Rattle.frame_table.proofs.Parts.{At, Swept}
 use Rattle.frame_table.proofs.Sweep.{scans}
 
 module _ (w : World) (f : Sound w) (laws : Laws w) (p : Places) (b : ℕ) (si : Sited p w) (pt : Ported p w b) (out : List Inst) (short : length out ≤ 1000) (steps : ℕ) (writes : WritesFrames w out steps) (c0 : Contents) (d0 : Behind) (small : (q : ℕ) → q < p.layout.pages → c0.memory (p.tables + q) < 2 ^ 32) (idle : d0.pending ≡ Idle) (in_range : c0.memory hand_at < p.layout.frames) where
@@ -77,3 +77,10 @@ module _ (w : World) (f : Sound w) (laws : Laws w) (p : Places) (b : ℕ) (si : 
         },
       ))
       (λ c d k. clears c d k.0 k.1)))
+
+-- the eviction as the law has it
+pub evicts_by : (w : World) (f : Sound w) (laws : Laws w) → Evicts w
+evicts_by w f laws out p b c d short writes si pt small idle range =
+    let e : names_hand p c.memory * (b + 2699 + 3) ≡ names_hand p c.memory * (b + 2702) = ap (λ t. names_hand p c.memory * t) (let s : b + 2699 + 3 ≡ b + 2702 = omega arith in s) in
+    from_later w laws.runs (evict_code p out) (6 * p.layout.pages + names_hand p c.memory * (b + 2699 + 3) + 18) (6 * p.layout.pages + names_hand p c.memory * (b + 2702) + 18) c d _ _ (omega arith) (λ c' d' k. k)
+    (evicts w f laws p b si pt out short (b + 2699) writes c d small idle range)

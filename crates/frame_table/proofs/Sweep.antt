@@ -2,7 +2,7 @@
 use Rattle.std.proofs.Common.{length-append, ◌≡◌, ◌≢◌, ℕ, zero, suc, ◌+◌, ◌-◌, ◌*◌, ◌/◌, ◌^◌, ◌<◌, ◌≤◌, ◌⊎◌, true, false, cond, nat_eq, nat_lt, [], ◌∷◌, refl, sym, ap, ◌∙◌, subst, ⊎_elim, inl, inr, arith, lt-ltb, le-ltb, eq-eqb, ne_eqb, List, length, ◌++◌}
 use Rattle.std.proofs.lemmas.Bool.{cases_eq, cond-true, cond-false}
 use Rattle.mips_table.specs.declared.inst.Inst.{Inst}
-use Rattle.mips_table.specs.declared.inst.Inst.TheVariants.{Sw}
+use Rattle.mips_table.specs.declared.inst.Inst.TheVariants.{Addiu, Sw}
 use Rattle.mips_table.specs.Device.{BUFFER}
 use Rattle.mips_table.specs.Code.{put, with_reg, Contents, Behind, World, Sound}
 use Rattle.masm.specs.Says.{Gives, Reads, Writes}
@@ -11,11 +11,10 @@ use Rattle.masm.specs.Frames.{SwappedOut, WritesFrames}
 use Rattle.page_model.specs.Paging.{IsUserFrame, Names, naming, counted}
 use Rattle.page_model.specs.Laws.{EntriesShow}
 use Rattle.page_model.specs.Places.{Places}
-use Rattle.frame_table.specs.Code.{read_code, number_code, out_code, next_code, scan_body, scan_code}
-use Rattle.frame_table.specs.View.{Sited, Ported, Kept, scratch}
+use Rattle.frame_table.specs.Code.{read_code, number_code, out_code, scan_body, scan_code}
+use Rattle.frame_table.specs.View.{Sited, Ported, Kept, scratch, At, Swept}
 use Rattle.frame_table.proofs.From.{from_straight, from_then, from_equal, from_later, straight_then, until_pays}
 use Rattle.frame_table.proofs.Basics.{Laws, put_same, put_other, kept_out, besides_on, besides_same, besides_none}
-use Rattle.frame_table.proofs.Parts.{At, Swept}
 
 -- what the first n entries cost, s for each that names the frame
 pub paid : (ℕ → ℕ) → ℕ → ℕ → ℕ → ℕ
@@ -139,17 +138,17 @@ module _ (w : World) (f : Sound w) (laws : Laws w) (p : Places) (b : ℕ) (si : 
       weak : (x : ℕ) → (suc n ≤ x) ⊎ (Names (ent x) g → ⊥) → (n ≤ x) ⊎ (Names (ent x) g → ⊥)
       weak x o = ⊎_elim (λ z. inl (omega arith)) (λ z. inr z) o
 
-  next_one : (n : ℕ) (c : Contents) (d : Behind) → n < p.layout.pages → Looked n c d → From w next_code 1 c d (State (suc n))
+  next_one : (n : ℕ) (c : Contents) (d : Behind) → n < p.layout.pages → Looked n c d → From w (Addiu 20 20 4 ∷ []) 1 c d (State (suc n))
   next_one n c d lt k =
       let at = k.0 in
       let entry = at.entry in
       let low = si.low in let first = si.first in let second = si.second in let third = si.third in let words = f.small in
-      from_straight w laws.runs laws.straight next_code (Gives (4 * (p.tables + suc n)) ∷ []) c d (State (suc n)) refl k.1.besides.idle
+      from_straight w laws.runs laws.straight (Addiu 20 20 4 ∷ []) (Gives (4 * (p.tables + suc n)) ∷ []) c d (State (suc n)) refl k.1.besides.idle
       (λ m. (
         (omega arith, tt),
         (
           record { index = at.index; frame = at.frame; tag = at.tag; entry = refl; end = at.end; base = at.base },
-          swept_on (suc n) c _ d refl (refl, refl, refl) (λ x o. laws.stays scratch x (kept_out x o) next_code (Gives (4 * (p.tables + suc n)) ∷ []) m c refl refl) k.1,
+          swept_on (suc n) c _ d refl (refl, refl, refl) (λ x o. laws.stays scratch x (kept_out x o) (Addiu 20 20 4 ∷ []) (Gives (4 * (p.tables + suc n)) ∷ []) m c refl refl) k.1,
         ),
       ))
 
@@ -161,7 +160,7 @@ module _ (w : World) (f : Sound w) (laws : Laws w) (p : Places) (b : ℕ) (si : 
       let low = si.low in let first = si.first in let second = si.second in let third = si.third in let words = f.small in
       straight_then w laws.runs laws.straight read_code _ (Reads (p.tables + n) (ent n) ∷ Gives (ent n / 2048) ∷ []) _ c d _ refl s.besides.idle
       (λ m. ((omega arith, omega arith, s.entries n lt (inl (omega arith))), (refl, tt)))
-      (λ m. from_then w laws.runs _ next_code (steps + 3 + 1) 1 _ d (Looked n) _
+      (λ m. from_then w laws.runs _ (Addiu 20 20 4 ∷ []) (steps + 3 + 1) 1 _ d (Looked n) _
       (from_equal w laws.runs laws.jumps 8 19 (out_code out) (steps + 3) _ d (Looked n) (let l = length-append out (Sw 0 20 0 ∷ []) in omega (arith, short)) s.besides.idle
       (λ eq. goes_out n _ d lt (record { index = at.index; frame = at.frame; tag = at.tag; entry = at.entry; end = at.end; base = at.base })
       (swept_on n c _ d refl (refl, refl, refl) (λ x o. laws.stays scratch x (kept_out x o) read_code (Reads (p.tables + n) (ent n) ∷ Gives (ent n / 2048) ∷ []) m c refl refl) s) names)
@@ -175,7 +174,7 @@ module _ (w : World) (f : Sound w) (laws : Laws w) (p : Places) (b : ℕ) (si : 
       let low = si.low in let first = si.first in let second = si.second in let third = si.third in let words = f.small in
       straight_then w laws.runs laws.straight read_code _ (Reads (p.tables + n) (ent n) ∷ Gives (ent n / 2048) ∷ []) _ c d _ refl s.besides.idle
       (λ m. ((omega arith, omega arith, s.entries n lt (inl (omega arith))), (refl, tt)))
-      (λ m. from_then w laws.runs _ next_code (0 + 1) 1 _ d (Looked n) _
+      (λ m. from_then w laws.runs _ (Addiu 20 20 4 ∷ []) (0 + 1) 1 _ d (Looked n) _
       (from_equal w laws.runs laws.jumps 8 19 (out_code out) 0 _ d (Looked n) (let l = length-append out (Sw 0 20 0 ∷ []) in omega (arith, short)) s.besides.idle
       (λ eq. absurd (nay (eq ∙ at.tag)))
       (λ ne. (
@@ -202,7 +201,7 @@ module _ (w : World) (f : Sound w) (laws : Laws w) (p : Places) (b : ℕ) (si : 
       let z = paid_none (λ x. c0.memory (p.tables + x)) g (steps + 3) in
       let is = paid_is laws.shows (λ x. c0.memory (p.tables + x)) g (steps + 3) p.layout.pages in
       from_later w laws.runs (scan_code out) (6 * (p.layout.pages - 0) + (paid ent g (steps + 3) p.layout.pages - paid ent g (steps + 3) 0) + 1) _ c d _ _ (omega arith) (λ c' d' k. k)
-      (until_pays w laws.runs laws.jumps (scan_body out) 20 22 State (λ n. n < p.layout.pages) (λ n. 6 * (p.layout.pages - n) + (paid ent g (steps + 3) p.layout.pages - paid ent g (steps + 3) n)) (λ n. 4 + share n) suc (State p.layout.pages) (let l = length-append out (Sw 0 20 0 ∷ []) in let m = length-append (out ++ (Sw 0 20 0 ∷ [])) next_code in omega (arith, short))
+      (until_pays w laws.runs laws.jumps (scan_body out) 20 22 State (λ n. n < p.layout.pages) (λ n. 6 * (p.layout.pages - n) + (paid ent g (steps + 3) p.layout.pages - paid ent g (steps + 3) n)) (λ n. 4 + share n) suc (State p.layout.pages) (let l = length-append out (Sw 0 20 0 ∷ []) in let m = length-append (out ++ (Sw 0 20 0 ∷ [])) (Addiu 20 20 4 ∷ []) in omega (arith, short))
       (λ n c d st. st.1.besides.idle)
       (λ n lt. let on = paid_on ent g (steps + 3) (suc n) (p.layout.pages - suc n) p.layout.pages (omega arith) in omega arith)
       turn

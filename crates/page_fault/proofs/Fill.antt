@@ -54,7 +54,5 @@ module _ (w : World) (f : Sound w) (laws : Laws w) (p : Places) (b : ℕ) (si : 
   -- FILL: six steps an entry, a swap for each name of the frame at the hand, and one
   pub fill_from : From w (fill_code p) (6 * p.layout.pages + names_hand p c0.memory * (b + 2702) + b + 2758) c0 d0 (FillDone p v q c0 d0)
   fill_from = from_later w laws.runs (fill_code p) ((6 * p.layout.pages + names_hand p c0.memory * (b + 2702) + 18) + (b + 2740)) _ c0 d0 _ _ (omega arith) (λ c d k. k)
-      (from_then w laws.runs (evict_code p swap_out_code) (place_code p) (6 * p.layout.pages + names_hand p c0.memory * (b + 2702) + 18) (b + 2740) c0 d0 (Emptied p c0 d0) _ (from_later w laws.runs (evict_code p swap_out_code) (6 * p.layout.pages + names_hand p c0.memory * (b + 2699 + 3) + 18) (6 * p.layout.pages + names_hand p c0.memory * (b + 2702) + 18) c0 d0 _ _
-      (let e : names_hand p c0.memory * (b + 2699 + 3) ≡ names_hand p c0.memory * (b + 2702) = ap (λ t. names_hand p c0.memory * t) (let s : b + 2699 + 3 ≡ b + 2702 = omega arith in s) in omega arith) (λ c d k. k)
-      (laws.evicts p b swap_out_code (b + 2699) c0 d0 si pt (omega arith) (laws.swaps b pt.disk) a.small a.idle in_range))
+      (from_then w laws.runs (evict_code p swap_out_code) (place_code p) (6 * p.layout.pages + names_hand p c0.memory * (b + 2702) + 18) (b + 2740) c0 d0 (Emptied p c0 d0) _ (laws.evicts swap_out_code p b c0 d0 (omega arith) (laws.swaps b pt.disk) si pt a.small a.idle in_range)
       (λ c1 d1 e. from_later w laws.runs (place_code p) (b + 2740) (b + 2740) c1 d1 _ _ (omega arith) (λ c d k. done c1 d1 c d e k) (places w f laws p b si pt q (c0.memory hand_at) c1 d1 (asked c1 d1 e))))

@@ -19,7 +19,8 @@ use Rattle.frame_table.specs.Code.{user_code}
 use Rattle.masm.specs.Frames.{Besides}
 use Rattle.frame_table.specs.View.{Sited, Ported, Kept, scratch, names_hand}
 use Rattle.page_fault.specs.Code.{seen_code, fill_code, open_code, alone_code, shared_code, guard_code, test_code, page_code}
-use Rattle.page_fault.specs.Asked.{PageAsked, PageDone, PageBlock, fault_steps}
+use Rattle.page_fault.specs.Asked.{BringsIn, IsPageBlock, PageAsked, PageDone, PageBlock, fault_steps}
+use Rattle.masm.specs.Laws.{RunsCompose}
 use Rattle.page_fault.proofs.From.{from_straight, from_then, from_when, from_later, straight_then}
 use Rattle.page_fault.proofs.Basics.{Laws, const_is, put_same, put_other, names_own, kept_out, besides_same, besides_on}
 use Rattle.page_fault.proofs.Parts.{FillAsked, FillDone}
@@ -246,17 +247,22 @@ module _ (w : World) (f : Sound w) (laws : Laws w) (p : Places) (b : ℕ) (si : 
   pub few_names : names_hand p c0.memory ≤ 4
   few_names = a.stands.few _ a.stands.hand
 
--- THE PREMISE of the primitives, met
-pub page_block : (w : World) (f : Sound w) (laws : Laws w) (p : Places) (b : ℕ) → Sited p w → Ported p w b → PageBlock w p b
-page_block w f laws p b si pt = record {
+-- the law, for every map, page and state
+pub brings : (w : World) → Sound w → Laws w → BringsIn w
+brings w f laws p b v q store c d si pt a = (page_from w f laws p b si pt v q store c d a, few_names w f laws p b si pt v q store c d a)
+
+-- the block of the primitives: four swaps at most for the frame at the hand
+page_block : (w : World) (runs : RunsCompose) (law : BringsIn w) (p : Places) (b : ℕ) → Sited p w → Ported p w b → PageBlock w p b
+page_block w runs law p b si pt = record {
   code = page_code p;
   short = omega arith;
   steps = fault_steps p b;
   within = omega arith;
-  does = λ v q store c0 d0 a. from_later w laws.runs (page_code p) (6 * p.layout.pages + names_hand p c0.memory * (b + 2702) + b + 2792) (fault_steps p b) c0 d0 _ _
-      (let le : names_hand p c0.memory * (b + 2702) ≤ 4 * (b + 2702) = mul-le-mul_right _ (few_names w f laws p b si pt v q store c0 d0 a) in omega arith) (λ c d k. k) (page_from w f laws p b si pt v q store c0 d0 a);
+  does = λ v q store c d a. let k = law p b v q store c d si pt a in
+      from_later w runs (page_code p) (6 * p.layout.pages + names_hand p c.memory * (b + 2702) + b + 2792) (fault_steps p b) c d _ _
+      (let le : names_hand p c.memory * (b + 2702) ≤ 4 * (b + 2702) = mul-le-mul_right _ k.1 in omega arith) (λ c' d' r. r) k.0;
 }
 
-pub page_block_is : (w : World) (f : Sound w) (laws : Laws w) (p : Places) (b : ℕ) → Sited p w → Ported p w b → (block : PageBlock w p b) × (block.code ≡ page_code p) × (block.steps ≡ fault_steps p b)
+pub page_block_is : (w : World) (runs : RunsCompose) (law : BringsIn w) → IsPageBlock w
 unfolding page_block
-page_block_is w f laws p b si pt = (page_block w f laws p b si pt, refl, refl)
+page_block_is w runs law p b si pt = (page_block w runs law p b si pt, refl, refl)

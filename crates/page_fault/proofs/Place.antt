@@ -2,7 +2,8 @@
 use Rattle.std.proofs.Common.{◌≡◌, ◌≢◌, ℕ, ◌+◌, ◌*◌, ◌/◌, ◌^◌, ◌<◌, ◌≤◌, ◌⊎◌, nat_lt, List, [], ◌∷◌, ◌++◌, refl, sym, ap, ◌∙◌, subst, ⊎_elim, inl, inr, arith, lt-ltb, le-ltb}
 use Rattle.std.proofs.lemmas.Bool.{cases_eq, cond-true, cond-false}
 use Rattle.std.proofs.lemmas.Bool.Decides.{nat_tests}
-use Rattle.mips_table.specs.declared.inst.Inst.TheVariants.{Addiu, Sw}
+use Rattle.mips_table.specs.declared.inst.Inst.{Inst}
+use Rattle.mips_table.specs.declared.inst.Inst.TheVariants.{Sll, Addu, Subu, Sltiu, Addiu, Sw}
 use Rattle.mips_table.specs.Arith.{difference}
 use Rattle.mips_table.specs.Code.{put, Contents, Behind, World, Sound}
 use Rattle.layer_map.specs.Map.{hand_at}
@@ -13,7 +14,8 @@ use Rattle.page_model.specs.Paging.{Layout, IsUserFrame, next_frame, naming, pri
 use Rattle.page_model.specs.Places.{Places, count_at}
 use Rattle.swap_layer.specs.Code.{settle_code}
 use Rattle.frame_table.specs.View.{Sited, Ported, Kept, scratch}
-use Rattle.page_fault.specs.Code.{source_code, leave_code, own_code, step_code, place_code}
+use Rattle.frame_table.specs.Code.{const_code}
+use Rattle.page_fault.specs.Code.{source_code, leave_code, place_code}
 use Rattle.page_fault.proofs.From.{from_straight, from_then, from_when, from_later, straight_then}
 use Rattle.page_fault.proofs.Basics.{Laws, const_is, small_is, put_same, put_other, kept_out, besides_same}
 use Rattle.page_fault.proofs.Parts.{PlaceAsked, Sourced, Loaded, PlaceDone}
@@ -22,6 +24,13 @@ use Rattle.page_fault.proofs.Load.{Untouched, Lowered, settles, leaves}
 
 next_user : (l : Layout) (y : ℕ) → IsUserFrame l y → IsUserFrame l (next_frame l y)
 next_user l y u = let u0 = u.0 in let u1 = u.1 in grind (arith, nat_tests)
+
+-- the same instructions, cut behind the test of the hand
+abbrev turned_code : Places → List Inst
+turned_code p = (Addiu 8 18 2048 ∷ Sw 8 20 0 ∷ const_code 9 (4 * p.counts)) ++ (Sll 8 17 5 ∷ Addu 8 8 9 ∷ Addiu 9 0 1 ∷ Sw 9 8 0 ∷ Addiu 17 17 1 ∷ Addiu 8 0 p.layout.frames ∷ Subu 8 17 8 ∷ Sltiu 8 8 1 ∷ [])
+
+abbrev step_code : List Inst
+step_code = when_code 8 (Addiu 17 0 0 ∷ []) ++ (Sw 17 0 0x1004 ∷ [])
 
 module _ (w : World) (f : Sound w) (laws : Laws w) (p : Places) (b : ℕ) (si : Sited p w) (pt : Ported p w b) (q h : ℕ) (c1 : Contents) (d1 : Behind) (a : PlaceAsked p q h c1 d1) where
   abbrev g : ℕ
@@ -92,12 +101,12 @@ module _ (w : World) (f : Sound w) (laws : Laws w) (p : Places) (b : ℕ) (si : 
   own_says u v = Gives (private_entry g) ∷ Writes (p.tables + q) (private_entry g) ∷ Gives (4 * p.counts / 65536 * 2 ^ 16) ∷ Gives (4 * p.counts) ∷ Gives (32 * h) ∷ Gives (4 * (p.counts + 8 * h)) ∷ Gives 1 ∷ Writes (p.counts + 8 * h) 1 ∷ Gives (h + 1) ∷ Gives p.layout.frames ∷ Gives u ∷ Gives v ∷ []
 
   -- the hand comes to the last frame, and doesn't
-  last : (c : Contents) (d : Behind) → Ready c d → h + 1 ≡ p.layout.frames → From w (own_code p ++ step_code) (12 + ((1 + 1) + 1)) c d (PlaceDone p q h c1 d1)
+  last : (c : Contents) (d : Behind) → Ready c d → h + 1 ≡ p.layout.frames → From w (turned_code p ++ step_code) (12 + ((1 + 1) + 1)) c d (PlaceDone p q h c1 d1)
   last c d s end =
       let low = si.low in let first = si.first in let second = si.second in let third = si.third in let words = f.small in let inside = a.inside in let range = a.in_range in let most = si.most in
       let r17 = s.index in let r18 = s.frame in let r20 = s.entry in
       let kf = small_is p.layout.frames (omega arith) in
-      straight_then w laws.runs laws.straight (own_code p) step_code (own_says 0 1) ((1 + 1) + 1) c d _ refl s.besides.idle
+      straight_then w laws.runs laws.straight (turned_code p) step_code (own_says 0 1) ((1 + 1) + 1) c d _ refl s.besides.idle
       (λ n. (omega arith, ((omega arith, omega arith, si.free _ (omega arith) (omega arith), refl), (refl, (const_is (4 * p.counts), (omega arith, (omega arith, (refl, ((omega arith, omega arith, si.free _ (omega arith) (omega arith), refl), (omega arith, (omega arith, (omega arith, (refl, tt)))))))))))))
       (λ n. from_then w laws.runs (when_code 8 (Addiu 17 0 0 ∷ [])) (Sw 17 0 0x1004 ∷ []) (1 + 1) 1 _ d (λ c' d'. Owned c 0 c' × (d' ≡ d)) _
       (from_when w laws.runs laws.whens 8 (Addiu 17 0 0 ∷ []) 1 _ d _ (omega arith) s.besides.idle
@@ -108,7 +117,7 @@ module _ (w : World) (f : Sound w) (laws : Laws w) (p : Places) (b : ℕ) (si : 
           record {
             memory = refl;
             index = refl;
-            regs = λ x o. laws.stays scratch x (kept_out x o) (Addiu 17 0 0 ∷ []) (Gives 0 ∷ []) m (sayings n (own_code p) (own_says 0 1) c) refl refl ∙ laws.stays scratch x (kept_out x o) (own_code p) (own_says 0 1) n c refl refl;
+            regs = λ x o. laws.stays scratch x (kept_out x o) (Addiu 17 0 0 ∷ []) (Gives 0 ∷ []) m (sayings n (turned_code p) (own_says 0 1) c) refl refl ∙ laws.stays scratch x (kept_out x o) (turned_code p) (own_says 0 1) n c refl refl;
             special = refl;
             hi = refl;
             lo = refl;
@@ -119,13 +128,13 @@ module _ (w : World) (f : Sound w) (laws : Laws w) (p : Places) (b : ℕ) (si : 
       (λ z. absurd (omega arith)))
       (λ c' d' k. subst (λ t. From w (Sw 17 0 0x1004 ∷ []) 1 c' t (PlaceDone p q h c1 d1)) (sym k.1) (ends c d 0 c' s (at_end end) k.0)))
 
-  more : (c : Contents) (d : Behind) → Ready c d → h + 1 ≢ p.layout.frames → From w (own_code p ++ step_code) (12 + ((0 + 1) + 1)) c d (PlaceDone p q h c1 d1)
+  more : (c : Contents) (d : Behind) → Ready c d → h + 1 ≢ p.layout.frames → From w (turned_code p ++ step_code) (12 + ((0 + 1) + 1)) c d (PlaceDone p q h c1 d1)
   more c d s ne =
       let low = si.low in let first = si.first in let second = si.second in let third = si.third in let words = f.small in let inside = a.inside in let range = a.in_range in let most = si.most in
       let r17 = s.index in let r18 = s.frame in let r20 = s.entry in
       let kf = small_is p.layout.frames (omega arith) in
       let some : 1 ≤ difference (h + 1) p.layout.frames = omega arith in
-      straight_then w laws.runs laws.straight (own_code p) step_code (own_says (difference (h + 1) p.layout.frames) 0) ((0 + 1) + 1) c d _ refl s.besides.idle
+      straight_then w laws.runs laws.straight (turned_code p) step_code (own_says (difference (h + 1) p.layout.frames) 0) ((0 + 1) + 1) c d _ refl s.besides.idle
       (λ n. (omega arith, ((omega arith, omega arith, si.free _ (omega arith) (omega arith), refl), (refl, (const_is (4 * p.counts), (omega arith, (omega arith, (refl, ((omega arith, omega arith, si.free _ (omega arith) (omega arith), refl), (omega arith, (omega arith, (refl, (cond-false (nat_lt (difference (h + 1) p.layout.frames) 1) 1 0 (le-ltb _ 1 some), tt)))))))))))))
       (λ n. from_then w laws.runs (when_code 8 (Addiu 17 0 0 ∷ [])) (Sw 17 0 0x1004 ∷ []) (0 + 1) 1 _ d (λ c' d'. Owned c (h + 1) c' × (d' ≡ d)) _
       (from_when w laws.runs laws.whens 8 (Addiu 17 0 0 ∷ []) 0 _ d _ (omega arith) s.besides.idle
@@ -134,7 +143,7 @@ module _ (w : World) (f : Sound w) (laws : Laws w) (p : Places) (b : ℕ) (si : 
         record {
           memory = refl;
           index = refl;
-          regs = λ x o. laws.stays scratch x (kept_out x o) (own_code p) (own_says (difference (h + 1) p.layout.frames) 0) n c refl refl;
+          regs = λ x o. laws.stays scratch x (kept_out x o) (turned_code p) (own_says (difference (h + 1) p.layout.frames) 0) n c refl refl;
           special = refl;
             hi = refl;
             lo = refl;
@@ -143,10 +152,10 @@ module _ (w : World) (f : Sound w) (laws : Laws w) (p : Places) (b : ℕ) (si : 
       )))
       (λ c' d' k. subst (λ t. From w (Sw 17 0 0x1004 ∷ []) 1 c' t (PlaceDone p q h c1 d1)) (sym k.1) (ends c d (h + 1) c' s (not_end ne) k.0)))
 
-  owns : (c : Contents) (d : Behind) → Ready c d → From w (own_code p ++ step_code) 15 c d (PlaceDone p q h c1 d1)
+  owns : (c : Contents) (d : Behind) → Ready c d → From w (turned_code p ++ step_code) 15 c d (PlaceDone p q h c1 d1)
   owns c d s = ⊎_elim
-      (λ z. from_later w laws.runs (own_code p ++ step_code) (12 + ((1 + 1) + 1)) 15 c d _ _ (omega arith) (λ c d k. k) (last c d s z))
-      (λ ne. from_later w laws.runs (own_code p ++ step_code) (12 + ((0 + 1) + 1)) 15 c d _ _ (omega arith) (λ c d k. k) (more c d s ne))
+      (λ z. from_later w laws.runs (turned_code p ++ step_code) (12 + ((1 + 1) + 1)) 15 c d _ _ (omega arith) (λ c d k. k) (last c d s z))
+      (λ ne. from_later w laws.runs (turned_code p ++ step_code) (12 + ((0 + 1) + 1)) 15 c d _ _ (omega arith) (λ c d k. k) (more c d s ne))
       (cases_eq (h + 1) p.layout.frames)
 
   -- PLACE

@@ -1,11 +1,11 @@
 -- The page-fault block: register 16 is the page that is asked for, and register 15 isn't 0 where it is to be stored to.
 use Rattle.std.specs.Prelude.{ℕ, ◌+◌, ◌*◌, List, [], ◌∷◌, ◌++◌}
 use Rattle.mips_table.specs.declared.inst.Inst.{Inst}
-use Rattle.mips_table.specs.declared.inst.Inst.TheVariants.{Sll, Srl, Addu, Subu, Addiu, Sltiu, Lw, Sw}
+use Rattle.mips_table.specs.declared.inst.Inst.TheVariants.{Sll, Srl, Addu, Addiu, Sltiu, Lw, Sw}
 use Rattle.masm.specs.Blocks.{when_code}
 use Rattle.page_model.specs.Places.{Places}
 use Rattle.swap_layer.specs.Code.{swap_out_code, fetch_code, settle_code}
-use Rattle.frame_table.specs.Code.{const_code, find_code, user_code, count_code, less_code, evict_code}
+use Rattle.frame_table.specs.Code.{const_code, find_code, user_code, count_code, less_code, evict_code, next_code}
 
 -- register 20 becomes the address of the page's entry, 21 the frame that it names, 24 is 1 where it is valid, and register r where it isn't
 abbrev pub seen_code : Places → ℕ → List Inst
@@ -19,17 +19,13 @@ source_code p = seen_code p 25 ++ (when_code 25 fetch_code ++ when_code 24 (Sll 
 abbrev pub leave_code : Places → List Inst
 leave_code p = when_code 24 (user_code p ++ when_code 8 (less_code p))
 
--- the entry becomes private, the count of the frame at the hand 1, and register 17 the hand's next number, with 8 not 0 where that is past the last
+-- the entry becomes private, and the count of the frame at the hand 1
 abbrev pub own_code : Places → List Inst
-own_code p = (Addiu 8 18 2048 ∷ Sw 8 20 0 ∷ const_code 9 (4 * p.counts)) ++ (Sll 8 17 5 ∷ Addu 8 8 9 ∷ Addiu 9 0 1 ∷ Sw 9 8 0 ∷ Addiu 17 17 1 ∷ Addiu 8 0 p.layout.frames ∷ Subu 8 17 8 ∷ Sltiu 8 8 1 ∷ [])
-
--- the hand moves on
-abbrev pub step_code : List Inst
-step_code = when_code 8 (Addiu 17 0 0 ∷ []) ++ (Sw 17 0 0x1004 ∷ [])
+own_code p = (Addiu 8 18 2048 ∷ Sw 8 20 0 ∷ const_code 9 (4 * p.counts)) ++ (Sll 8 17 5 ∷ Addu 8 8 9 ∷ Addiu 9 0 1 ∷ Sw 9 8 0 ∷ [])
 
 -- PLACE: the page comes into the frame at the hand
 abbrev pub place_code : Places → List Inst
-place_code p = source_code p ++ (settle_code ++ (leave_code p ++ (own_code p ++ step_code)))
+place_code p = source_code p ++ (settle_code ++ (leave_code p ++ (own_code p ++ next_code p)))
 
 -- FILL: that frame is emptied first
 abbrev pub fill_code : Places → List Inst

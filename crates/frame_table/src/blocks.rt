@@ -2,7 +2,7 @@
 ghost use Rattle.std.specs.Prelude.{◌≡◌, ◌<◌, ◌≤◌, ◌+◌, length, map, ◌++◌};
 ghost use Rattle.mips_table.specs.Encoding.{encoding};
 ghost use Rattle.page_model.specs.Places.{places_of};
-ghost use Rattle.frame_table.specs.Code.{const_code, find_code, user_code, count_code, less_code};
+ghost use Rattle.frame_table.specs.Code.{const_code, find_code, user_code, count_code, less_code, more_code, next_code};
 
 use layer_map::Map;
 use masm::Block;
@@ -121,7 +121,7 @@ pub fn count(places: &Map) -> Block<6>
 }
 
 /// Code that lowers it by one.
-pub fn less(places: &Map) -> Block<8>
+pub fn lower_count(places: &Map) -> Block<8>
     ensures { result ≡ map encoding (less_code (places_of places.now)) }
 {
     let mut code = Block::<8>::new();
@@ -135,6 +135,65 @@ pub fn less(places: &Map) -> Block<8>
         rt: 9,
         rs: 8,
         imm: 0,
+    });
+    code
+}
+
+/// Code that raises it by one.
+pub fn raise_count(places: &Map) -> Block<8>
+    ensures { result ≡ map encoding (more_code (places_of places.now)) }
+{
+    let mut code = Block::<8>::new();
+    code.then(&count(places));
+    code.push(Inst::Addiu {
+        rt: 9,
+        rs: 9,
+        imm: 1,
+    });
+    code.push(Inst::Sw {
+        rt: 9,
+        rs: 8,
+        imm: 0,
+    });
+    code
+}
+
+/// Code that moves the hand, in register 17, on.
+pub fn move_hand(places: &Map) -> Block<7>
+    ensures { result ≡ map encoding (next_code (places_of places.now)) }
+{
+    let mut first = Block::<1>::new();
+    first.push(Inst::Addiu {
+        rt: 17,
+        rs: 0,
+        imm: 0,
+    });
+    let mut code = Block::<7>::new();
+    code.push(Inst::Addiu {
+        rt: 17,
+        rs: 17,
+        imm: 1,
+    });
+    code.push(Inst::Addiu {
+        rt: 8,
+        rs: 0,
+        imm: places.frames(),
+    });
+    code.push(Inst::Subu {
+        rd: 8,
+        rs: 17,
+        rt: 8,
+    });
+    code.push(Inst::Sltiu {
+        rt: 8,
+        rs: 8,
+        imm: 1,
+    });
+    code.when(8, &first);
+    code.push(Inst::Sw {
+        rt: 17,
+        rs: 0,
+        imm: 0x1004,
     });
     code
 }
