@@ -131,6 +131,21 @@ impl Map {
         self.zero_frame() + 4096
     }
 
+    /// The first address behind the page tables.
+    pub fn page_tables_end(&self) -> u32
+        ensures { result ≡ 4 * (tables_at self.now + self.now.users * self.now.params.pages) }
+    {
+        4 * (self.page_tables() / 4 + self.users * self.params.pages)
+    }
+
+    /// The number of user frames, 2 to 16,384.
+    pub fn frames(&self) -> u32
+        ensures value { result ≡ self.now.params.frames }
+        ensures most { result ≤ 16384 }
+    {
+        self.params.frames
+    }
+
     /// The number of frames of memory, at most 22,210.
     pub fn memory_frames(&self) -> u32
         ensures value { result ≡ frames_of_memory self.now }
