@@ -13,14 +13,16 @@ use Rattle.cvm_primitives.proofs.Forms.{from_straight, from_then, from_later, st
 use Rattle.cvm_primitives.specs.Copy.{word_at, with_word}
 use Rattle.page_model.specs.Places.{Places, count_at, view}
 use Rattle.layer_map.specs.Map.{hand_at}
-use Rattle.cvm_primitives.specs.View.{Sited, page_steps, Held, PageBlock, Came, Located, UsersIn, WordGood, number, Quiet, Start, start, BehindStays}
+use Rattle.frame_table.specs.View.{Sited}
+use Rattle.page_fault.specs.Asked.{PageBlock}
+use Rattle.cvm_primitives.specs.View.{page_steps, Held, Came, Located, UsersIn, WordGood, number, Quiet, Start, start, BehindStays}
 use Rattle.cvm_primitives.specs.Code.{locate_code, load_code, store_code, vm_word_code, vm_put_code}
 use Rattle.cvm_primitives.proofs.Basics.{put_same, put_other, held_to}
 use Rattle.cvm_primitives.proofs.Moves.{locate_from}
 use Rattle.cvm_primitives.proofs.Bring.{brings}
 use Rattle.cvm_primitives.proofs.Asks.{product_below, asked_from}
 
-module _ (w : World) (f : RoutineLaws w) (p : Places) (b : ℕ) (si : Sited p w b) (page : PageBlock w p b) (v : Pages) (g : Start) where
+module _ (w : World) (f : RoutineLaws w) (p : Places) (b : ℕ) (si : Sited p w) (page : PageBlock w p b) (v : Pages) (g : Start) where
   -- the frame of a page that passes
   resident : (m : ℕ → ℕ) (s : ℕ → ℕ → ℕ) (q : ℕ) (store : Bool) → PagesStand p.layout v (view p m s) → q < p.layout.pages → v.live q ≡ true → Passes (view p m s) q store
       → IsFrame p.layout (m (p.tables + q) / 4096) × ((i : ℕ) → i < 1024 → m (1024 * (m (p.tables + q) / 4096) + i) ≡ v.word q i)
@@ -118,7 +120,7 @@ number_good p users per size v c u a us good =
     let e : number per u a / 1024 ≡ (u - 1) * per + a / 4096 = omega arith in
     (omega arith, ap v.live e ∙ us.live u (a / 4096) g0 g1 (omega arith) ∙ lt-ltb (a / 4096) (size u) (omega arith))
 
-module _ (w : World) (f : RoutineLaws w) (p : Places) (b : ℕ) (si : Sited p w b) (page : PageBlock w p b) (users per : ℕ) (size : ℕ → ℕ) (v : Pages) (c : Contents) (d : Behind) (held : Held p v (start c d) c d) (us : UsersIn p users per size v c) (u a : ℕ) (ru : c.regs 20 ≡ u) (ra : c.regs 21 ≡ a) (su : u < 2 ^ 32) (sa : a < 2 ^ 32) where
+module _ (w : World) (f : RoutineLaws w) (p : Places) (b : ℕ) (si : Sited p w) (page : PageBlock w p b) (users per : ℕ) (size : ℕ → ℕ) (v : Pages) (c : Contents) (d : Behind) (held : Held p v (start c d) c d) (us : UsersIn p users per size v c) (u a : ℕ) (ru : c.regs 20 ≡ u) (ra : c.regs 21 ≡ a) (su : u < 2 ^ 32) (sa : a < 2 ^ 32) where
   quiet_held : (c1 : Contents) (d1 : Behind) → Quiet c d c1 d1 → Held p v (start c d) c1 d1
   quiet_held c1 d1 k = held_to p v (start c d) c d c1 d1 held k.memory k.special k.r28 k.r29 k.r30 k.r31 k.disk
 

@@ -13,14 +13,16 @@ use Rattle.cvm_primitives.proofs.Forms.{from_then, from_later, straight_then}
 use Rattle.cvm_primitives.specs.Copy.{copied, Apart}
 use Rattle.page_model.specs.Places.{Places, count_at, view}
 use Rattle.layer_map.specs.Map.{hand_at}
-use Rattle.cvm_primitives.specs.View.{Sited, Held, Keeps, PageBlock, BothIn, Located, Start, BehindStays}
+use Rattle.frame_table.specs.View.{Sited}
+use Rattle.page_fault.specs.Asked.{PageBlock}
+use Rattle.cvm_primitives.specs.View.{Held, Keeps, BothIn, Located, Start, BehindStays}
 use Rattle.cvm_primitives.specs.Code.{both_code, locate_code, words_code, copy_code}
 use Rattle.cvm_primitives.proofs.Basics.{kept_on}
 use Rattle.cvm_primitives.proofs.Loop.{word_before, word_in, word_past}
 use Rattle.cvm_primitives.proofs.Moves.{moves, locate_from}
 use Rattle.cvm_primitives.proofs.Bring.{both_from}
 
-module _ (w : World) (f : RoutineLaws w) (p : Places) (b : ℕ) (si : Sited p w b) (g : Start) (u : Pages) (x y l : ℕ) (apart : Apart x y l) (some : 0 < l) (source : x % 1024 + l ≤ 1024) (target : y % 1024 + l ≤ 1024) (lx : x < 1024 * p.layout.pages) (ly : y < 1024 * p.layout.pages) (ax : u.live (x / 1024) ≡ true) (ay : u.live (y / 1024) ≡ true) where
+module _ (w : World) (f : RoutineLaws w) (p : Places) (b : ℕ) (si : Sited p w) (g : Start) (u : Pages) (x y l : ℕ) (apart : Apart x y l) (some : 0 < l) (source : x % 1024 + l ≤ 1024) (target : y % 1024 + l ≤ 1024) (lx : x < 1024 * p.layout.pages) (ly : y < 1024 * p.layout.pages) (ax : u.live (x / 1024) ≡ true) (ay : u.live (y / 1024) ≡ true) where
   -- in the state m, with both pages in
   module _ (m : ℕ → ℕ) (s : ℕ → ℕ → ℕ) (st : PagesStand p.layout u (view p m s)) (px : Passes (view p m s) (x / 1024) false) (py : Passes (view p m s) (y / 1024) true) where
     nx : Names (m (p.tables + x / 1024)) (m (p.tables + x / 1024) / 4096)

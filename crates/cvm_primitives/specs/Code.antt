@@ -1,13 +1,10 @@
 -- The primitives' instructions.
-use Rattle.std.specs.Prelude.{ℕ, ◌+◌, ◌*◌, ◌/◌, ◌%◌, List, [], ◌∷◌, ◌++◌}
+use Rattle.std.specs.Prelude.{ℕ, ◌+◌, ◌*◌, List, [], ◌∷◌, ◌++◌}
 use Rattle.mips_table.specs.declared.inst.Inst.{Inst}
-use Rattle.mips_table.specs.declared.inst.Inst.TheVariants.{Sll, Srl, Addu, Subu, Sltu, Addiu, Sltiu, Ori, Lui, Multu, Mflo, Lw, Sw}
+use Rattle.mips_table.specs.declared.inst.Inst.TheVariants.{Sll, Srl, Addu, Subu, Sltu, Addiu, Sltiu, Ori, Multu, Mflo, Lw, Sw}
 use Rattle.masm.specs.Blocks.{when_code, loop_code}
 use Rattle.page_model.specs.Places.{Places}
-
--- a number in a register
-abbrev pub const_code : ℕ → ℕ → List Inst
-const_code r v = Lui r (v / 65536) ∷ Ori r r (v % 65536) ∷ []
+use Rattle.frame_table.specs.Code.{const_code, find_code, user_code, count_code, less_code, more_code}
 
 -- COPY: register 3's count of words from the address in register 1 to that in register 2
 abbrev pub copy_body : List Inst
@@ -15,24 +12,6 @@ copy_body = Lw 4 1 0 ∷ Sw 4 2 0 ∷ Addiu 1 1 4 ∷ Addiu 2 2 4 ∷ Addiu 3 3 
 
 abbrev pub copy_code : List Inst
 copy_code = loop_code [] 3 copy_body
-
--- FIND: register 16 is a page; 20 becomes the address of its entry, 21 the frame that it names, 24 is 1 where it is valid
-abbrev pub find_code : Places → List Inst
-find_code p = const_code 20 (4 * p.tables) ++ (Sll 8 16 2 ∷ Addu 20 20 8 ∷ Lw 8 20 0 ∷ Srl 21 8 12 ∷ Srl 24 8 11 ∷ Sll 24 24 31 ∷ Srl 24 24 31 ∷ [])
-
--- register 8 becomes 0 for the zero frame, and else the user frame's number from 1
-abbrev pub user_code : Places → List Inst
-user_code p = const_code 9 p.layout.zeros ++ (Subu 8 21 9 ∷ [])
-
--- the count of that user frame, in register 9; its address in 8
-abbrev pub count_code : Places → List Inst
-count_code p = const_code 9 (4 * p.counts) ++ (Addiu 8 8 65535 ∷ Sll 8 8 5 ∷ Addu 8 8 9 ∷ Lw 9 8 0 ∷ [])
-
-abbrev pub less_code : Places → List Inst
-less_code p = count_code p ++ (Addiu 9 9 65535 ∷ Sw 9 8 0 ∷ [])
-
-abbrev pub more_code : Places → List Inst
-more_code p = count_code p ++ (Addiu 9 9 1 ∷ Sw 9 8 0 ∷ [])
 
 -- DROP: the entry of the page in register 16 is made invalid, and the count of the user frame that it named is lowered
 abbrev pub drop_code : Places → List Inst
