@@ -1,4 +1,4 @@
 pub mod From
 pub mod Basics
 pub mod Sweep
-pub mod Evict
+pub mod Emptying

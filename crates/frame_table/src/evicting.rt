@@ -84,3 +84,85 @@ fn clear(places: &Map) -> Block<5>
     });
     code
 }
+
+// One entry is looked at: where it names the frame, its page goes out by a block that writes frames.
+fn look<const OUT: usize>(out: &Block<OUT>) -> Block<40>
+    requires { length out.now ≤ 30 }
+    ensures { (is : List Instruction) → out.now ≡ map encoding is → result ≡ map encoding (scan_body is) }
+{
+    words_are_encodings();
+    let mut code = Block::<40>::new();
+    code.push(Inst::Lw {
+        rt: 8,
+        rs: 20,
+        imm: 0,
+    });
+    code.push(Inst::Srl {
+        rd: 8,
+        rt: 8,
+        sa: 11,
+    });
+    code.push(Inst::Bne {
+        rs: 8,
+        rt: 19,
+        imm: out.len() as u32 + 3,
+    });
+    code.push(Inst::Subu {
+        rd: 21,
+        rs: 20,
+        rt: 23,
+    });
+    code.push(Inst::Srl {
+        rd: 21,
+        rt: 21,
+        sa: 2,
+    });
+    code.then(out);
+    code.push(Inst::Sw {
+        rt: 0,
+        rs: 20,
+        imm: 0,
+    });
+    code.push(Inst::Addiu {
+        rt: 20,
+        rs: 20,
+        imm: 4,
+    });
+    code
+}
+
+// All entries are.
+fn scan<const OUT: usize>(out: &Block<OUT>) -> Block<42>
+    requires { length out.now ≤ 30 }
+    ensures { (is : List Instruction) → out.now ≡ map encoding is → result ≡ map encoding (scan_code is) }
+{
+    words_are_encodings();
+    let turn = look(out);
+    let mut code = Block::<42>::new();
+    code.push(Inst::Beq {
+        rs: 20,
+        rt: 22,
+        imm: out.len() as u32 + 8,
+    });
+    code.then(&turn);
+    code.push(Inst::Beq {
+        rs: 0,
+        rt: 0,
+        imm: 65536 - (out.len() as u32 + 9),
+    });
+    code
+}
+
+/// Code that empties the frame at the hand. `out`, of at most 30 words, writes the frame at the address in register 18 to the sector in register 21.
+pub fn evict<const OUT: usize>(places: &Map, out: &Block<OUT>) -> Block<59>
+    requires { length out.now ≤ 30 }
+    ensures { (is : List Instruction) → out.now ≡ map encoding is → result ≡ map encoding (evict_code (places_of places.now) is) }
+{
+    words_are_encodings();
+    let mut code = Block::<59>::new();
+    code.then(&hand(places));
+    code.then(&start(places));
+    code.then(&scan(out));
+    code.then(&clear(places));
+    code
+}

@@ -11,9 +11,13 @@ use Rattle.frame_table.specs.Code.{const_code, find_code, user_code, count_code,
 abbrev pub seen_code : Places → ℕ → List Inst
 seen_code p r = find_code p ++ (Sltiu r 24 1 ∷ [])
 
+-- from its sector into the buffer where register 25 isn't 0, and from the frame in register 21 where 24 isn't: the words' address in register 1
+abbrev pub choose_code : List Inst
+choose_code = when_code 25 fetch_code ++ when_code 24 (Sll 1 21 12 ∷ [])
+
 -- the page's words stand at the address in register 1: in the buffer, from its sector, or in the frame that it shares
 abbrev pub source_code : Places → List Inst
-source_code p = seen_code p 25 ++ (when_code 25 fetch_code ++ when_code 24 (Sll 1 21 12 ∷ []))
+source_code p = seen_code p 25 ++ choose_code
 
 -- the count of the user frame that it shared falls by one
 abbrev pub leave_code : Places → List Inst

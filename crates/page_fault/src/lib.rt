@@ -5,6 +5,8 @@
 //! words, from its sector or from the frame that it shared. Registers 13 to 16 and from 26 on stay.
 #![tactic(auto)]
 
+mod block;
 mod laws;
 
+pub use block::code;
 pub use laws::{a_page_is_brought_in, the_block_is_a_page_block};

@@ -1,5 +1,5 @@
 -- By the laws that the body calls.
-use Rattle.frame_table.proofs.Evict.{evicts_by}
+use Rattle.frame_table.proofs.Emptying.{evicts_by}
 use Rattle.frame_table.proofs.laws.the_hand_is_emptied.Goals as goal
 
 pub returns : goal.returns
