@@ -56,6 +56,20 @@ impl Map {
         }
     }
 
+    /// The parameters.
+    pub fn params(&self) -> Params
+        ensures { result ≡ self.now.params }
+    {
+        self.params
+    }
+
+    /// The number of users.
+    pub fn users(&self) -> u32
+        ensures { result ≡ self.now.users }
+    {
+        self.users
+    }
+
     /// The first address of the kernel's code, in bytes, as all addresses here.
     pub fn code(&self) -> u32
         ensures { result ≡ 4 * code_at self.now }
