@@ -63,8 +63,11 @@ module _ (w : World) (f : Sound w) (spared : RegistersStay) (shows : EntriesShow
       (λ n. ((refl, omega arith, refl), (refl, (const_is (4096 * (p.layout.zeros + 1)), (omega arith, (omega arith, (omega arith, (omega arith, (refl, (const_is (4 * p.tables), (omega arith, (refl, (const_is (4 * (p.tables + p.layout.pages)), tt)))))))))))))
       (λ n. from_then w (scan_code out) (clear_code p) (6 * p.layout.pages + names_hand p c0.memory * (b + 2702) + 1) 5 _ d0 (λ c d. At p g h p.layout.pages c × Swept p g c0 d0 p.layout.pages c d) _
       (from_later w (scan_code out) _ _ _ d0 _ _ (omega arith)
-      (λ c d k. (k.0, begun c d _ (λ x o. spared scratch x (kept_out x o) (hand_code p ++ start_code p) (Reads hand_at h ∷ Gives (4096 * (p.layout.zeros + 1) / 65536 * 2 ^ 16) ∷ Gives (4096 * (p.layout.zeros + 1)) ∷ Gives (4096 * h) ∷ Gives (4096 * g) ∷ Gives (2 * g) ∷ Gives (2 * g + 1)
-      ∷ Gives (4 * p.tables / 65536 * 2 ^ 16) ∷ Gives (4 * p.tables) ∷ Gives (4 * p.tables) ∷ Gives (4 * (p.tables + p.layout.pages) / 65536 * 2 ^ 16) ∷ Gives (4 * (p.tables + p.layout.pages)) ∷ []) n c0 refl refl) refl refl refl refl k.1))
+      (λ c d k. (
+        k.0,
+        begun c d _ (λ x o. spared scratch x (kept_out x o) (hand_code p ++ start_code p) (Reads hand_at h ∷ Gives (4096 * (p.layout.zeros + 1) / 65536 * 2 ^ 16) ∷ Gives (4096 * (p.layout.zeros + 1)) ∷ Gives (4096 * h) ∷ Gives (4096 * g) ∷ Gives (2 * g) ∷ Gives (2 * g + 1)
+            ∷ Gives (4 * p.tables / 65536 * 2 ^ 16) ∷ Gives (4 * p.tables) ∷ Gives (4 * p.tables) ∷ Gives (4 * (p.tables + p.layout.pages) / 65536 * 2 ^ 16) ∷ Gives (4 * (p.tables + p.layout.pages)) ∷ []) n c0 refl refl) refl refl refl refl k.1,
+      ))
       (scans out p b g h _ d0 short writes si pt small ug (record { index = refl; frame = refl; tag = refl; entry = omega arith; end = refl; base = refl }) idle))
       (λ c d k. clears c d k.0 k.1)))
     where

@@ -15,6 +15,8 @@ mod blocks;
 mod evicting;
 mod laws;
 
+pub use blocks::{find, lower_count, move_hand, raise_count};
+pub use evicting::evict;
 pub use laws::{
     a_count_falls, a_count_rises, an_entry_is_found, entries_are_scanned, the_hand_is_emptied,
     the_hand_moves_on,
