@@ -5,3 +5,4 @@ pub mod Standing
 pub mod Copy
 pub mod Wait
 pub mod Stays
+pub mod Frames
