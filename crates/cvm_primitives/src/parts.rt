@@ -103,7 +103,7 @@ pub fn first_page(places: &Map) -> Block<3>
     code.push(Inst::Addiu {
         rt: 10,
         rs: 0,
-        imm: places.pages(),
+        imm: places.params().pages,
     });
     code.push(Inst::Multu {
         rs: 8,

@@ -133,7 +133,7 @@ fn resize_test(places: &Map) -> Block<5>
     code.push(Inst::Sltiu {
         rt: 12,
         rs: 26,
-        imm: places.pages() + 1,
+        imm: places.params().pages + 1,
     });
     code
 }

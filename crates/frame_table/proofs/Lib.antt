@@ -1,4 +1,6 @@
-pub mod From
-pub mod Basics
-pub mod Sweep
-pub mod Emptying
+mod Basics
+mod Paid
+mod Branches
+mod Sweeping
+mod Emptying
+mod Counts

@@ -1,17 +1,18 @@
-// Blocks on entries and counts.
-ghost use Rattle.std.specs.Prelude.{◌≡◌, ◌<◌, ◌≤◌, ◌+◌, length, map, ◌++◌};
+// The blocks of one entry, of a count and of the hand.
+ghost use Rattle.std.specs.Prelude.{◌≡◌, ◌<◌, [], ◌∷◌, map as each};
+ghost use Rattle.mips_table.specs.declared.inst.Inst.TheVariants.{Sll, Srl, Addu, Subu, Addiu, Sltiu, Sw};
 ghost use Rattle.mips_table.specs.Encoding.{encoding};
-ghost use Rattle.page_model.specs.Places.{places_of};
+ghost use Rattle.page_model.specs.Places.{layout_of, places_of};
 ghost use Rattle.frame_table.specs.Code.{const_code, find_code, user_code, count_code, less_code, more_code, next_code};
 
-use layer_map::Map;
+use layer_map::{HAND, Map};
 use masm::Block;
 use mips_table::Inst;
 
-/// Code after which register `register` is `value`.
-pub fn number(register: u32, value: u32) -> Block<2>
+/// Code after which `register`, below 32, is `value`.
+pub fn constant(register: u32, value: u32) -> Block<2>
     requires { register < 32 }
-    ensures { result ≡ map encoding (const_code register value) }
+    ensures { result ≡ each encoding (const_code register value) }
 {
     let mut code = Block::<2>::new();
     code.push(Inst::Lui {
@@ -26,12 +27,12 @@ pub fn number(register: u32, value: u32) -> Block<2>
     code
 }
 
-/// Code that finds the entry of the page in register 16.
-pub fn find(places: &Map) -> Block<9>
-    ensures { result ≡ map encoding (find_code (places_of places.now)) }
+/// Code that finds the entry of the page in register 16: 20 becomes its address, 21 the frame in it, 24 its valid bit; 8 changes.
+pub fn find(map: &Map) -> Block<9>
+    ensures { result ≡ each encoding (find_code (places_of map.now)) }
 {
     let mut code = Block::<9>::new();
-    code.then(&number(20, places.page_tables()));
+    code.then(&constant(20, map.page_tables()));
     code.push(Inst::Sll {
         rd: 8,
         rt: 16,
@@ -47,6 +48,15 @@ pub fn find(places: &Map) -> Block<9>
         rs: 20,
         imm: 0,
     });
+    code.then(&fields());
+    code
+}
+
+// The frame and the valid bit of the entry in register 8.
+fn fields() -> Block<4>
+    ensures { result ≡ each encoding (Srl 21 8 12 ∷ Srl 24 8 11 ∷ Sll 24 24 31 ∷ Srl 24 24 31 ∷ []) }
+{
+    let mut code = Block::<4>::new();
     code.push(Inst::Srl {
         rd: 21,
         rt: 8,
@@ -70,19 +80,12 @@ pub fn find(places: &Map) -> Block<9>
     code
 }
 
-/// The number of the zero frame.
-pub fn zeros(places: &Map) -> u32
-    ensures { result ≡ (places_of places.now).layout.zeros }
-{
-    places.zero_frame() / 4096
-}
-
-/// Code after which register 8 is 0 where the frame in register 21 is the zero frame, and else the user frame's number from 1.
-pub fn user(places: &Map) -> Block<3>
-    ensures { result ≡ map encoding (user_code (places_of places.now)) }
+/// Code after which register 8 is 0 where the frame in register 21 is the zero frame, and else the user frame's number, from 1; 9 changes.
+pub fn number_user(map: &Map) -> Block<3>
+    ensures { result ≡ each encoding (user_code (places_of map.now)) }
 {
     let mut code = Block::<3>::new();
-    code.then(&number(9, zeros(places)));
+    code.then(&constant(9, map.zero_frame() / 4096));
     code.push(Inst::Subu {
         rd: 8,
         rs: 21,
@@ -91,12 +94,12 @@ pub fn user(places: &Map) -> Block<3>
     code
 }
 
-/// Code that reads the count of that user frame into register 9, with its address in 8.
-pub fn count(places: &Map) -> Block<6>
-    ensures { result ≡ map encoding (count_code (places_of places.now)) }
+/// Code that reads the count of the user frame whose number, from 1, is in register 8: 9 becomes the count, and 8 its address.
+pub fn read_count(map: &Map) -> Block<6>
+    ensures { result ≡ each encoding (count_code (places_of map.now)) }
 {
     let mut code = Block::<6>::new();
-    code.then(&number(9, places.frame_table()));
+    code.then(&constant(9, map.frame_table()));
     code.push(Inst::Addiu {
         rt: 8,
         rs: 8,
@@ -120,55 +123,50 @@ pub fn count(places: &Map) -> Block<6>
     code
 }
 
-/// Code that lowers it by one.
-pub fn lower_count(places: &Map) -> Block<8>
-    ensures { result ≡ map encoding (less_code (places_of places.now)) }
+// Register 9 changes by a number below 65,536, without its sign, and goes to the count at the address in register 8.
+fn add_and_store(by: u32) -> Block<2>
+    requires { by < 65536 }
+    ensures { result ≡ each encoding (Addiu 9 9 by ∷ Sw 9 8 0 ∷ []) }
 {
-    let mut code = Block::<8>::new();
-    code.then(&count(places));
+    let mut code = Block::<2>::new();
     code.push(Inst::Addiu {
         rt: 9,
         rs: 9,
-        imm: 65535,
+        imm: by,
     });
     code.push(Inst::Sw {
         rt: 9,
         rs: 8,
         imm: 0,
     });
+    code
+}
+
+/// Code that lowers by one the count of the user frame whose number, from 1, is in register 8. Registers 8 and 9 change.
+pub fn lower_count(map: &Map) -> Block<8>
+    ensures { result ≡ each encoding (less_code (places_of map.now)) }
+{
+    let mut code = Block::<8>::new();
+    code.then(&read_count(map));
+    code.then(&add_and_store(65535));
     code
 }
 
 /// Code that raises it by one.
-pub fn raise_count(places: &Map) -> Block<8>
-    ensures { result ≡ map encoding (more_code (places_of places.now)) }
+pub fn raise_count(map: &Map) -> Block<8>
+    ensures { result ≡ each encoding (more_code (places_of map.now)) }
 {
     let mut code = Block::<8>::new();
-    code.then(&count(places));
-    code.push(Inst::Addiu {
-        rt: 9,
-        rs: 9,
-        imm: 1,
-    });
-    code.push(Inst::Sw {
-        rt: 9,
-        rs: 8,
-        imm: 0,
-    });
+    code.then(&read_count(map));
+    code.then(&add_and_store(1));
     code
 }
 
-/// Code that moves the hand, in register 17, on.
-pub fn move_hand(places: &Map) -> Block<7>
-    ensures { result ≡ map encoding (next_code (places_of places.now)) }
+// Register 17 goes on by one, and 8 becomes 1 where it is the number of user frames then, and else 0.
+fn go_on(map: &Map) -> Block<4>
+    ensures { result ≡ each encoding (Addiu 17 17 1 ∷ Addiu 8 0 (layout_of map.now).frames ∷ Subu 8 17 8 ∷ Sltiu 8 8 1 ∷ []) }
 {
-    let mut first = Block::<1>::new();
-    first.push(Inst::Addiu {
-        rt: 17,
-        rs: 0,
-        imm: 0,
-    });
-    let mut code = Block::<7>::new();
+    let mut code = Block::<4>::new();
     code.push(Inst::Addiu {
         rt: 17,
         rs: 17,
@@ -177,7 +175,7 @@ pub fn move_hand(places: &Map) -> Block<7>
     code.push(Inst::Addiu {
         rt: 8,
         rs: 0,
-        imm: places.frames(),
+        imm: map.params().frames,
     });
     code.push(Inst::Subu {
         rd: 8,
@@ -189,11 +187,26 @@ pub fn move_hand(places: &Map) -> Block<7>
         rs: 8,
         imm: 1,
     });
+    code
+}
+
+/// Code that moves the hand on, which is in register 17, from the last user frame to the first. Register 8 changes, too.
+pub fn move_hand(map: &Map) -> Block<7>
+    ensures { result ≡ each encoding (next_code (places_of map.now)) }
+{
+    let mut first = Block::<1>::new();
+    first.push(Inst::Addiu {
+        rt: 17,
+        rs: 0,
+        imm: 0,
+    });
+    let mut code = Block::<7>::new();
+    code.then(&go_on(map));
     code.when(8, &first);
     code.push(Inst::Sw {
         rt: 17,
         rs: 0,
-        imm: 0x1004,
+        imm: HAND,
     });
     code
 }

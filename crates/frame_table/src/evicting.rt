@@ -1,28 +1,33 @@
 // The eviction.
-ghost use Rattle.std.specs.Prelude.{◌≡◌, ◌≤◌, ◌+◌, ◌*◌, List, length, map, ◌++◌};
+ghost use Rattle.std.specs.Prelude.{◌≡◌, ◌+◌, ◌*◌, List, map as each};
 ghost use Rattle.mips_table.specs.declared.inst.Inst.{Inst as Instruction};
 ghost use Rattle.mips_table.specs.Encoding.{encoding};
-ghost use Rattle.page_model.specs.Places.{places_of};
+ghost use Rattle.page_model.specs.Places.{layout_of, places_of};
 ghost use Rattle.frame_table.specs.Code.{hand_code, start_code, out_code, scan_body, scan_code, clear_code, evict_code};
 
-use crate::blocks::number;
-use layer_map::{Map, parts_begin_pages};
+use crate::blocks::constant;
+use layer_map::{HAND, Map};
 use masm::Block;
-use masm::laws::words_are_encodings;
 use mips_table::Inst;
 
-// The hand, its frame, and what an entry that names it is.
-fn hand(places: &Map) -> Block<7>
-    ensures { result ≡ map encoding (hand_code (places_of places.now)) }
+// The address of the first user frame.
+fn first_frame(map: &Map) -> u32
+    ensures { result ≡ 4096 * ((layout_of map.now).zeros + 1) }
 {
-    parts_begin_pages();
+    map.user_frames()
+}
+
+// The hand, its frame's address, and what an entry that names this frame is when it is shifted right by 11.
+fn read_hand(map: &Map) -> Block<7>
+    ensures { result ≡ each encoding (hand_code (places_of map.now)) }
+{
     let mut code = Block::<7>::new();
     code.push(Inst::Lw {
         rt: 17,
         rs: 0,
-        imm: 0x1004,
+        imm: HAND,
     });
-    code.then(&number(18, places.user_frames()));
+    code.then(&constant(18, first_frame(map)));
     code.push(Inst::Sll {
         rd: 8,
         rt: 17,
@@ -46,27 +51,103 @@ fn hand(places: &Map) -> Block<7>
     code
 }
 
-// The first entry, and the end.
-fn start(places: &Map) -> Block<5>
-    ensures { result ≡ map encoding (start_code (places_of places.now)) }
+// The first entry's address, and that behind the last.
+fn start(map: &Map) -> Block<5>
+    ensures { result ≡ each encoding (start_code (places_of map.now)) }
 {
     let mut code = Block::<5>::new();
-    code.then(&number(20, places.page_tables()));
+    code.then(&constant(20, map.page_tables()));
     code.push(Inst::Addu {
         rd: 23,
         rs: 20,
         rt: 0,
     });
-    code.then(&number(22, places.page_tables_end()));
+    code.then(&constant(22, map.page_tables_end()));
+    code
+}
+
+// A page of the frame goes out, and its entry becomes invalid.
+fn write_page(out: &Block<30>) -> Block<33>
+    ensures { (is : List Instruction) → out.now ≡ each encoding is → result ≡ each encoding (out_code is) }
+{
+    let _size = out.len();
+    let mut code = Block::<33>::new();
+    code.push(Inst::Subu {
+        rd: 21,
+        rs: 20,
+        rt: 23,
+    });
+    code.push(Inst::Srl {
+        rd: 21,
+        rt: 21,
+        sa: 2,
+    });
+    code.then(out);
+    code.push(Inst::Sw {
+        rt: 0,
+        rs: 20,
+        imm: 0,
+    });
+    code
+}
+
+// An entry is looked at.
+fn look(out: &Block<30>) -> Block<37>
+    ensures { (is : List Instruction) → out.now ≡ each encoding is → result ≡ each encoding (scan_body is) }
+{
+    let body = write_page(out);
+    let mut code = Block::<37>::new();
+    code.push(Inst::Lw {
+        rt: 8,
+        rs: 20,
+        imm: 0,
+    });
+    code.push(Inst::Srl {
+        rd: 8,
+        rt: 8,
+        sa: 11,
+    });
+    code.push(Inst::Bne {
+        rs: 8,
+        rt: 19,
+        imm: body.len() as u32,
+    });
+    code.then(&body);
+    code.push(Inst::Addiu {
+        rt: 20,
+        rs: 20,
+        imm: 4,
+    });
+    code
+}
+
+// All entries are.
+fn scan(out: &Block<30>) -> Block<39>
+    ensures { (is : List Instruction) → out.now ≡ each encoding is → result ≡ each encoding (scan_code is) }
+{
+    let body = look(out);
+    let inside = body.len() as u32;
+    let mut code = Block::<39>::new();
+    code.push(Inst::Beq {
+        rs: 20,
+        rt: 22,
+        imm: inside + 1,
+    });
+    code.then(&body);
+    code.push(Inst::Beq {
+        rs: 0,
+        rt: 0,
+        imm: 65536 - (inside + 2),
+    });
     code
 }
 
 // The count of the frame at the hand becomes 0.
-fn clear(places: &Map) -> Block<5>
-    ensures { result ≡ map encoding (clear_code (places_of places.now)) }
+fn clear_count(map: &Map) -> Block<5>
+    ensures { result ≡ each encoding (clear_code (places_of map.now)) }
 {
     let mut code = Block::<5>::new();
-    code.then(&number(9, places.frame_table()));
+    code.then(&constant(9, map.frame_table()));
     code.push(Inst::Sll {
         rd: 8,
         rt: 17,
@@ -85,84 +166,15 @@ fn clear(places: &Map) -> Block<5>
     code
 }
 
-// One entry is looked at: where it names the frame, its page goes out by a block that writes frames.
-fn look<const OUT: usize>(out: &Block<OUT>) -> Block<40>
-    requires { length out.now ≤ 30 }
-    ensures { (is : List Instruction) → out.now ≡ map encoding is → result ≡ map encoding (scan_body is) }
+/// Code that empties the frame at the hand. `out` is the code that writes the frame at the address in register 18 to the sector in
+/// register 21, at most 30 words.
+pub fn evict(map: &Map, out: &Block<30>) -> Block<56>
+    ensures { (is : List Instruction) → out.now ≡ each encoding is → result ≡ each encoding (evict_code (places_of map.now) is) }
 {
-    words_are_encodings();
-    let mut code = Block::<40>::new();
-    code.push(Inst::Lw {
-        rt: 8,
-        rs: 20,
-        imm: 0,
-    });
-    code.push(Inst::Srl {
-        rd: 8,
-        rt: 8,
-        sa: 11,
-    });
-    code.push(Inst::Bne {
-        rs: 8,
-        rt: 19,
-        imm: out.len() as u32 + 3,
-    });
-    code.push(Inst::Subu {
-        rd: 21,
-        rs: 20,
-        rt: 23,
-    });
-    code.push(Inst::Srl {
-        rd: 21,
-        rt: 21,
-        sa: 2,
-    });
-    code.then(out);
-    code.push(Inst::Sw {
-        rt: 0,
-        rs: 20,
-        imm: 0,
-    });
-    code.push(Inst::Addiu {
-        rt: 20,
-        rs: 20,
-        imm: 4,
-    });
-    code
-}
-
-// All entries are.
-fn scan<const OUT: usize>(out: &Block<OUT>) -> Block<42>
-    requires { length out.now ≤ 30 }
-    ensures { (is : List Instruction) → out.now ≡ map encoding is → result ≡ map encoding (scan_code is) }
-{
-    words_are_encodings();
-    let turn = look(out);
-    let mut code = Block::<42>::new();
-    code.push(Inst::Beq {
-        rs: 20,
-        rt: 22,
-        imm: out.len() as u32 + 8,
-    });
-    code.then(&turn);
-    code.push(Inst::Beq {
-        rs: 0,
-        rt: 0,
-        imm: 65536 - (out.len() as u32 + 9),
-    });
-    code
-}
-
-/// Code that empties the frame at the hand. `out`, of at most 30 words, writes the frame at the address in register 18 to the sector in register 21.
-pub fn evict<const OUT: usize>(places: &Map, out: &Block<OUT>) -> Block<59>
-    requires { length out.now ≤ 30 }
-    ensures { (is : List Instruction) → out.now ≡ map encoding is → result ≡ map encoding (evict_code (places_of places.now) is) }
-{
-    words_are_encodings();
-    let mut code = Block::<59>::new();
-    code.then(&hand(places));
-    code.then(&start(places));
+    let mut code = Block::<56>::new();
+    code.then(&read_hand(map));
+    code.then(&start(map));
     code.then(&scan(out));
-    code.then(&clear(places));
+    code.then(&clear_count(map));
     code
 }

@@ -56,22 +56,20 @@ impl Map {
         }
     }
 
-    /// The number of users, 0 to 64.
+    /// The parameters.
+    pub fn params(&self) -> Params
+        ensures value { result ≡ self.now.params }
+        ensures range { ParamsInRange result }
+    {
+        self.params
+    }
+
+    /// The number of users.
     pub fn users(&self) -> u32
         ensures value { result ≡ self.now.users }
         ensures most { result ≤ 64 }
     {
-        let _in_range = &self.params;
         self.users
-    }
-
-    /// The most pages that a user may have, 1 to 1,024.
-    pub fn pages(&self) -> u32
-        ensures value { result ≡ self.now.params.pages }
-        ensures most { result ≤ 1024 }
-    {
-        let _in_range = &self.params;
-        self.params.pages
     }
 
     /// The first address of the kernel's code, in bytes, as all addresses here.
@@ -109,6 +107,13 @@ impl Map {
         4 * next_page(self.stack() / 4 + self.params.stack)
     }
 
+    /// The address behind the last word of the page tables.
+    pub fn page_tables_end(&self) -> u32
+        ensures { result ≡ 4 * (tables_at self.now + self.now.users * self.now.params.pages) }
+    {
+        4 * (self.page_tables() / 4 + self.users * self.params.pages)
+    }
+
     /// The first address of the frame table. It has eight words for each user frame, and then for the zero frame.
     pub fn frame_table(&self) -> u32
         ensures { result ≡ 4 * frame_table_at self.now }
@@ -129,21 +134,6 @@ impl Map {
     {
         let _in_range = &self.params;
         self.zero_frame() + 4096
-    }
-
-    /// The first address behind the page tables.
-    pub fn page_tables_end(&self) -> u32
-        ensures { result ≡ 4 * (tables_at self.now + self.now.users * self.now.params.pages) }
-    {
-        4 * (self.page_tables() / 4 + self.users * self.params.pages)
-    }
-
-    /// The number of user frames, 2 to 16,384.
-    pub fn frames(&self) -> u32
-        ensures value { result ≡ self.now.params.frames }
-        ensures most { result ≤ 16384 }
-    {
-        self.params.frames
     }
 
     /// The number of frames of memory, at most 22,210.

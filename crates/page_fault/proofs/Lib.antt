@@ -6,3 +6,4 @@ pub mod Load
 pub mod Place
 pub mod Fill
 pub mod Page
+pub mod Siting

@@ -145,8 +145,8 @@ module _ (w : World) (f : Sound w) (laws : Laws w) (p : Places) (b : ℕ) (si : 
           index = refl;
           regs = λ x o. laws.stays scratch x (kept_out x o) (turned_code p) (own_says (difference (h + 1) p.layout.frames) 0) n c refl refl;
           special = refl;
-            hi = refl;
-            lo = refl;
+          hi = refl;
+          lo = refl;
         },
         refl,
       )))

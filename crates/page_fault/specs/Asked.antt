@@ -1,13 +1,13 @@
 -- What the page-fault block is asked for, and what it comes to.
-use Rattle.std.specs.Prelude.{◌≡◌, ◌≢◌, ℕ, ◌+◌, ◌*◌, ◌^◌, ◌<◌, ◌≤◌, ◌⊎◌, Bool, true, false, List, length}
+use Rattle.std.specs.Prelude.{◌≡◌, ◌≢◌, ℕ, ◌+◌, ◌*◌, ◌^◌, ◌<◌, ◌≤◌, ◌⊎◌, Bool, true, false, List, length, None}
 use Rattle.mips_table.specs.declared.inst.Inst.{Inst}
 use Rattle.mips_table.specs.Device.{Idle}
-use Rattle.mips_table.specs.Code.{Contents, Behind, World, Sound}
-use Rattle.layer_map.specs.Map.{hand_at}
+use Rattle.mips_table.specs.Code.{Contents, Behind, World}
+use Rattle.layer_map.specs.Map.{Map, MapInRange, hand_at, tables_at, memory_words}
 use Rattle.masm.specs.Laws.{From}
 use Rattle.page_model.specs.Paging.{Pages, PagesStand, Passes}
 use Rattle.page_model.specs.Faults.{Brought}
-use Rattle.page_model.specs.Places.{Places, view}
+use Rattle.page_model.specs.Places.{Places, places_of, view}
 use Rattle.masm.specs.Frames.{Besides}
 use Rattle.frame_table.specs.View.{Sited, Ported, names_hand}
 use Rattle.page_fault.specs.Code.{page_code}
@@ -56,3 +56,7 @@ pub record PageBlock (w : World) (p : Places) (b : ℕ) : Type 0 where
 -- this block is one
 abbrev pub IsPageBlock : World → Type 0
 IsPageBlock w = (p : Places) (b : ℕ) → Sited p w → Ported p w b → (block : PageBlock w p b) × (block.code ≡ page_code p) × (block.steps ≡ fault_steps p b)
+
+-- every map in range has its parts so, in a memory that holds them and keeps no word from the page tables on
+abbrev pub MapsAreSited : Type 0
+MapsAreSited = (m : Map) (w : World) → MapInRange m → memory_words m ≤ w.words → ((x : ℕ) → tables_at m ≤ x → x < w.words → w.kept x ≡ None) → Sited (places_of m) w

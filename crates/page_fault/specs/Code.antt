@@ -1,5 +1,5 @@
 -- The page-fault block: register 16 is the page that is asked for, and register 15 isn't 0 where it is to be stored to.
-use Rattle.std.specs.Prelude.{ℕ, ◌+◌, ◌*◌, List, [], ◌∷◌, ◌++◌}
+use Rattle.std.specs.Prelude.{ℕ, ◌*◌, List, [], ◌∷◌, ◌++◌}
 use Rattle.mips_table.specs.declared.inst.Inst.{Inst}
 use Rattle.mips_table.specs.declared.inst.Inst.TheVariants.{Sll, Srl, Addu, Addiu, Sltiu, Lw, Sw}
 use Rattle.masm.specs.Blocks.{when_code}

@@ -1,12 +1,12 @@
 // The block.
-ghost use Rattle.std.specs.Prelude.{◌≡◌, ◌<◌, map};
+ghost use Rattle.std.specs.Prelude.{◌≡◌, ◌<◌, map as each};
 ghost use Rattle.mips_table.specs.Encoding.{encoding};
 ghost use Rattle.page_model.specs.Places.{places_of};
 ghost use Rattle.swap_layer.specs.Code.{swap_out_code};
 ghost use Rattle.frame_table.specs.Code.{evict_code};
 ghost use Rattle.page_fault.specs.Code.{seen_code, choose_code, source_code, leave_code, own_code, place_code, fill_code, open_code, alone_code, shared_code, guard_code, test_code, page_code};
 
-use frame_table::{count, evict, find, lower_count, move_hand, number, user};
+use frame_table::{constant, evict, find, lower_count, move_hand, number_user, read_count};
 use layer_map::Map;
 use masm::Block;
 use masm::laws::words_are_encodings;
@@ -14,12 +14,12 @@ use mips_table::Inst;
 use swap_layer::{fetch, settle, swap_out};
 
 // The page's entry, and in register `absent` whether it isn't valid.
-fn seen(places: &Map, absent: u32) -> Block<10>
+fn seen(map: &Map, absent: u32) -> Block<10>
     requires { absent < 32 }
-    ensures { result ≡ map encoding (seen_code (places_of places.now) absent) }
+    ensures { result ≡ each encoding (seen_code (places_of map.now) absent) }
 {
     let mut code = Block::<10>::new();
-    code.then(&find(places));
+    code.then(&find(map));
     code.push(Inst::Sltiu {
         rt: absent,
         rs: 24,
@@ -30,7 +30,7 @@ fn seen(places: &Map, absent: u32) -> Block<10>
 
 // The words come from the sector, or from the frame that the page shares.
 fn choose() -> Block<10>
-    ensures { result ≡ map encoding choose_code }
+    ensures { result ≡ each encoding choose_code }
 {
     let mut shared = Block::<1>::new();
     shared.push(Inst::Sll {
@@ -45,32 +45,32 @@ fn choose() -> Block<10>
 }
 
 // The page's words, at the address in register 1.
-fn source(places: &Map) -> Block<20>
-    ensures { result ≡ map encoding (source_code (places_of places.now)) }
+fn source(map: &Map) -> Block<20>
+    ensures { result ≡ each encoding (source_code (places_of map.now)) }
 {
     words_are_encodings();
     let mut code = Block::<20>::new();
-    code.then(&seen(places, 25));
+    code.then(&seen(map, 25));
     code.then(&choose());
     code
 }
 
 // The count of the frame that it shared falls.
-fn leave(places: &Map) -> Block<13>
-    ensures { result ≡ map encoding (leave_code (places_of places.now)) }
+fn leave(map: &Map) -> Block<13>
+    ensures { result ≡ each encoding (leave_code (places_of map.now)) }
 {
     words_are_encodings();
     let mut inside = Block::<12>::new();
-    inside.then(&user(places));
-    inside.when(8, &lower_count(places));
+    inside.then(&number_user(map));
+    inside.when(8, &lower_count(map));
     let mut code = Block::<13>::new();
     code.when(24, &inside);
     code
 }
 
 // The entry becomes private, and the count 1.
-fn own(places: &Map) -> Block<8>
-    ensures { result ≡ map encoding (own_code (places_of places.now)) }
+fn own(map: &Map) -> Block<8>
+    ensures { result ≡ each encoding (own_code (places_of map.now)) }
 {
     let mut code = Block::<8>::new();
     code.push(Inst::Addiu {
@@ -83,7 +83,7 @@ fn own(places: &Map) -> Block<8>
         rs: 20,
         imm: 0,
     });
-    code.then(&number(9, places.frame_table()));
+    code.then(&constant(9, map.frame_table()));
     code.push(Inst::Sll {
         rd: 8,
         rt: 17,
@@ -108,39 +108,39 @@ fn own(places: &Map) -> Block<8>
 }
 
 // The page comes into the frame at the hand.
-fn place(places: &Map) -> Block<71>
-    ensures { result ≡ map encoding (place_code (places_of places.now)) }
+fn place(map: &Map) -> Block<71>
+    ensures { result ≡ each encoding (place_code (places_of map.now)) }
 {
     words_are_encodings();
     let mut code = Block::<71>::new();
-    code.then(&source(places));
+    code.then(&source(map));
     code.then(&settle());
-    code.then(&leave(places));
-    code.then(&own(places));
-    code.then(&move_hand(places));
+    code.then(&leave(map));
+    code.then(&own(map));
+    code.then(&move_hand(map));
     code
 }
 
 // The frame at the hand is emptied.
-fn empty(places: &Map) -> Block<59>
-    ensures { result ≡ map encoding (evict_code (places_of places.now) swap_out_code) }
+fn empty(map: &Map) -> Block<56>
+    ensures { result ≡ each encoding (evict_code (places_of map.now) swap_out_code) }
 {
-    evict(places, &swap_out())
+    evict(map, &swap_out())
 }
 
 // That frame is emptied first.
-fn fill(places: &Map) -> Block<127>
-    ensures { result ≡ map encoding (fill_code (places_of places.now)) }
+fn fill(map: &Map) -> Block<127>
+    ensures { result ≡ each encoding (fill_code (places_of map.now)) }
 {
     let mut code = Block::<127>::new();
-    code.then(&empty(places));
-    code.then(&place(places));
+    code.then(&empty(map));
+    code.then(&place(map));
     code
 }
 
 // The entry loses its protection.
 fn open() -> Block<3>
-    ensures { result ≡ map encoding open_code }
+    ensures { result ≡ each encoding open_code }
 {
     let mut code = Block::<3>::new();
     code.push(Inst::Addiu {
@@ -162,11 +162,11 @@ fn open() -> Block<3>
 }
 
 // Whether the page alone names its user frame.
-fn alone(places: &Map) -> Block<8>
-    ensures { result ≡ map encoding (alone_code (places_of places.now)) }
+fn alone(map: &Map) -> Block<8>
+    ensures { result ≡ each encoding (alone_code (places_of map.now)) }
 {
     let mut code = Block::<8>::new();
-    code.then(&count(places));
+    code.then(&read_count(map));
     code.push(Inst::Addiu {
         rt: 9,
         rs: 9,
@@ -181,12 +181,12 @@ fn alone(places: &Map) -> Block<8>
 }
 
 // What is done with a protected page that is to be stored to.
-fn shared(places: &Map) -> Block<17>
-    ensures { result ≡ map encoding (shared_code (places_of places.now)) }
+fn shared(map: &Map) -> Block<17>
+    ensures { result ≡ each encoding (shared_code (places_of map.now)) }
 {
     words_are_encodings();
     let mut inside = Block::<12>::new();
-    inside.then(&alone(places));
+    inside.then(&alone(map));
     inside.when(9, &open());
     let mut code = Block::<17>::new();
     code.push(Inst::Addiu {
@@ -194,14 +194,14 @@ fn shared(places: &Map) -> Block<17>
         rs: 0,
         imm: 1,
     });
-    code.then(&user(places));
+    code.then(&number_user(map));
     code.when(8, &inside);
     code
 }
 
 // Whether the page is protected.
-fn guard(places: &Map) -> Block<21>
-    ensures { result ≡ map encoding (guard_code (places_of places.now)) }
+fn guard(map: &Map) -> Block<21>
+    ensures { result ≡ each encoding (guard_code (places_of map.now)) }
 {
     words_are_encodings();
     let mut code = Block::<21>::new();
@@ -220,30 +220,30 @@ fn guard(places: &Map) -> Block<21>
         rt: 11,
         sa: 31,
     });
-    code.when(11, &shared(places));
+    code.when(11, &shared(map));
     code
 }
 
 // Whether it has a valid entry, and is to be stored to.
-fn test(places: &Map) -> Block<23>
-    ensures { result ≡ map encoding (test_code (places_of places.now)) }
+fn test(map: &Map) -> Block<23>
+    ensures { result ≡ each encoding (test_code (places_of map.now)) }
 {
     words_are_encodings();
     let mut inside = Block::<22>::new();
-    inside.when(24, &guard(places));
+    inside.when(24, &guard(map));
     let mut code = Block::<23>::new();
     code.when(15, &inside);
     code
 }
 
 /// The words of the block in a system with this map.
-pub fn code(places: &Map) -> Block<161>
-    ensures { result ≡ map encoding (page_code (places_of places.now)) }
+pub fn code(map: &Map) -> Block<161>
+    ensures { result ≡ each encoding (page_code (places_of map.now)) }
 {
     words_are_encodings();
     let mut code = Block::<161>::new();
-    code.then(&seen(places, 12));
-    code.then(&test(places));
-    code.when(12, &fill(places));
+    code.then(&seen(map, 12));
+    code.then(&test(map));
+    code.when(12, &fill(map));
     code
 }

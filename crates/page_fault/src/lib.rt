@@ -9,4 +9,4 @@ mod block;
 mod laws;
 
 pub use block::code;
-pub use laws::{a_page_is_brought_in, the_block_is_a_page_block};
+pub use laws::{a_page_is_brought_in, maps_are_sited, the_block_is_a_page_block};
