@@ -1,0 +1,16 @@
+mod Machine
+mod Paths
+mod Words
+mod Offsets
+mod Steps
+mod Spots
+mod Nodes
+mod Products
+mod Scales
+mod Elements
+mod Ranges
+mod Operators
+mod Immediates
+mod Lengths
+mod Found
+mod Whole
