@@ -14,3 +14,5 @@ mod Immediates
 mod Lengths
 mod Found
 mod Whole
+mod Tests
+mod TestsWhole
