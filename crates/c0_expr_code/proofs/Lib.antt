@@ -20,3 +20,6 @@ mod TestsWhole
 mod Costs
 mod Filled
 mod Names
+mod Stores
+mod Parts
+mod Ready

@@ -1,6 +1,6 @@
 //! The laws of the code of expressions. Each is the contract of a function that does nothing.
 
-ghost use Rattle.c0_expr_code.specs.Laws.{CodesAreShort, CostsAreFew, ExpressionsRun, GivenRun, NamesAreEnough, TestsRun};
+ghost use Rattle.c0_expr_code.specs.Laws.{CodesAreShort, CostsAreFew, ExpressionsRun, GivenRun, HeldStays, NamesAreEnough, PartsFit, StoresHold, TestsRun};
 
 use masm::laws::{jumps_lead, straight_code_runs};
 
@@ -34,4 +34,19 @@ pub fn costs_are_few()
 /// The types of expressions hang on the names of structs, globals and variables alone.
 pub fn names_are_enough()
     ensures { NamesAreEnough }
+{}
+
+/// Where a scalar is stored, the state with it stands in the machine.
+pub fn stores_hold()
+    ensures { StoresHold }
+{}
+
+/// What stands in words stays where these do.
+pub fn held_stays()
+    ensures { HeldStays }
+{}
+
+/// Typed values stay typed with a part changed, and with more objects.
+pub fn parts_fit()
+    ensures { PartsFit }
 {}
