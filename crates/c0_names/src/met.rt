@@ -1,4 +1,4 @@
-// Faults, and the least of those met.
+// What was met on the way: faults, and the least of them.
 
 ghost use Rattle.std.specs.Prelude.{◌≡◌};
 ghost use Rattle.c0_meaning.specs.DeclaredTypes.{fault_if};

@@ -7,7 +7,7 @@ use Rattle.c0_tree.specs.declared.tree.StructDef.{StructDef}
 use Rattle.c0_tree.specs.View.{struct_view}
 use Rattle.c0_meaning.specs.Env.{Shape, shape_of, first_named}
 use Rattle.c0_names.specs.Names.{look, number_named}
-use Rattle.c0_structs.proofs.unit.numbers.Goals as goal
+use Rattle.c0_structs.proofs.unit.struct_numbers.Goals as goal
 
 numbers_in : (b : Bool) (o : Option ℕ) (n : ℕ) (rest here : Option ℕ) (e : here ≡ cond b (Some n) rest) → option_or (option_or o (cond b (Some n) None)) rest ≡ option_or o here
 numbers_in b (Some v) n rest here e = refl

@@ -3,7 +3,7 @@ use Rattle.std.specs.Option.{option_or}
 use Rattle.c0_tree.specs.View.{struct_view}
 use Rattle.c0_meaning.specs.Env.{shape_of}
 use Rattle.c0_names.specs.Names.{look, number_named}
-use Rattle.c0_cases.proofs.structs.numbers.Given as goal
+use Rattle.c0_structs.proofs.unit.struct_numbers.Given as goal
 
 abbrev pub invariant-loop-def : goal.invariant-loop-def
 invariant-loop-def l = record {
