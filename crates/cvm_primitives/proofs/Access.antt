@@ -61,17 +61,17 @@ module _ (w : World) (f : RoutineLaws w) (p : Places) (b : ℕ) (si : Sited p w)
       let u0 = u.0 in let u1 = u.1 in
       f.stores p.layout v (with_word v z x) (z / 1024) (m (p.tables + z / 1024) / 4096) ((with_word v z x).word (z / 1024)) (view p m s) (view p m' s) st (omega arith) al n (pass.unprotected refl)
       (record { live = al; word = λ i li. refl; lives = λ q lq ne. refl; words = λ q lq ne i li. cond-false _ x (v.word q i) (ne_eqb _ _ (omega arith)) })
-        (record {
-          entries = λ q lq. others (p.tables + q) (omega arith);
-          counts = λ h uh. let h0 = uh.0 in let h1 = uh.1 in others (count_at p h) (omega arith);
-          words = λ i li. ⊎_elim
-      (λ e. ap m' (omega arith) ∙ here ∙ sym (cond-true _ x (v.word (z / 1024) i) (eq-eqb _ _ (omega arith))))
-      (λ ne. others _ (omega arith) ∙ res.1 i li ∙ sym (cond-false _ x (v.word (z / 1024) i) (ne_eqb _ _ (omega arith))))
-      (cases_eq i (z % 1024));
-          frames = λ h uh ne i li. others _ (omega arith);
-          sectors = λ q lq i li. refl;
-          hand = ap (λ h. p.layout.zeros + 1 + h) (others hand_at (omega arith));
-        })
+      (record {
+        entries = λ q lq. others (p.tables + q) (omega arith);
+        counts = λ h uh. let h0 = uh.0 in let h1 = uh.1 in others (count_at p h) (omega arith);
+        words = λ i li. ⊎_elim
+            (λ e. ap m' (omega arith) ∙ here ∙ sym (cond-true _ x (v.word (z / 1024) i) (eq-eqb _ _ (omega arith))))
+            (λ ne. others _ (omega arith) ∙ res.1 i li ∙ sym (cond-false _ x (v.word (z / 1024) i) (ne_eqb _ _ (omega arith))))
+            (cases_eq i (z % 1024));
+        frames = λ h uh ne i li. others _ (omega arith);
+        sectors = λ q lq i li. refl;
+        hand = ap (λ h. p.layout.zeros + 1 + h) (others hand_at (omega arith));
+      })
 
   pub store_from : (z x : ℕ) (c : Contents) (d : Behind) → Held p v g c d → c.regs 26 ≡ z → c.regs 22 ≡ x → x < 2 ^ 32 → z < 1024 * p.layout.pages → v.live (z / 1024) ≡ true → From w (store_code p page.code) (3 + (page.steps + (1 + 11 + 2))) c d (λ c' d'. Held p (with_word v z x) g c' d' × (c'.regs 2 ≡ 1))
   store_from z x c d h at ax sx lz al =
@@ -106,7 +106,9 @@ module _ (w : World) (f : RoutineLaws w) (p : Places) (b : ℕ) (si : Sited p w)
             low = λ y ly ne. others y (omega arith) ∙ h1.low y ly ne;
             special = k2.keeps.special ∙ h1.special;
             r28 = k2.keeps.r28 ∙ h1.r28;
-            r29 = k2.keeps.r29 ∙ h1.r29; r30 = k2.keeps.r30 ∙ h1.r30; r31 = k2.keeps.r31 ∙ h1.r31;
+            r29 = k2.keeps.r29 ∙ h1.r29;
+            r30 = k2.keeps.r30 ∙ h1.r30;
+            r31 = k2.keeps.r31 ∙ h1.r31;
             behind = subst (BehindStays p g) (sym (k2.disk)) h1.behind;
             idle = ap (λ d. d.pending) k2.disk ∙ h1.idle;
           }

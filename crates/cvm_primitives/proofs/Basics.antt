@@ -84,7 +84,9 @@ held_to p u g c d c' d' h m s r28 r29 r30 r31 e = record {
   low = λ x lx ne. ap (λ m. m x) m ∙ h.low x lx ne;
   special = s ∙ h.special;
   r28 = r28 ∙ h.r28;
-  r29 = r29 ∙ h.r29; r30 = r30 ∙ h.r30; r31 = r31 ∙ h.r31;
+  r29 = r29 ∙ h.r29;
+  r30 = r30 ∙ h.r30;
+  r31 = r31 ∙ h.r31;
   behind = subst (BehindStays p g) (sym (e)) h.behind;
   idle = ap (λ d. d.pending) e ∙ h.idle;
 }

@@ -44,7 +44,9 @@ module _ (w : World) (f : RoutineLaws w) (p : Places) (b : ℕ) (si : Sited p w)
           low = λ x lx ne. k.low x lx ne ∙ h.low x lx ne;
           special = k.besides.special ∙ h.special;
           r28 = k.regs 28 (inr (omega arith)) ∙ h.r28;
-          r29 = k.regs 29 (inr (omega arith)) ∙ h.r29; r30 = k.regs 30 (inr (omega arith)) ∙ h.r30; r31 = k.regs 31 (inr (omega arith)) ∙ h.r31;
+          r29 = k.regs 29 (inr (omega arith)) ∙ h.r29;
+          r30 = k.regs 30 (inr (omega arith)) ∙ h.r30;
+          r31 = k.regs 31 (inr (omega arith)) ∙ h.r31;
           behind = record { log = k.besides.log ∙ h.behind.log; input = k.besides.input ∙ h.behind.input; past = λ x i le. k.beyond x i le ∙ h.behind.past x i le };
           idle = k.besides.idle;
         };
@@ -62,7 +64,9 @@ module _ (w : World) (f : RoutineLaws w) (p : Places) (b : ℕ) (si : Sited p w)
     low = λ x lx ne. ap (λ m. m x) m ∙ h.low x lx ne;
     special = k.special ∙ h.special;
     r28 = k.r28 ∙ h.r28;
-    r29 = k.r29 ∙ h.r29; r30 = k.r30 ∙ h.r30; r31 = k.r31 ∙ h.r31;
+    r29 = k.r29 ∙ h.r29;
+    r30 = k.r30 ∙ h.r30;
+    r31 = k.r31 ∙ h.r31;
     behind = h.behind;
     idle = h.idle;
   }

@@ -87,7 +87,9 @@ module _ (w : World) (f : RoutineLaws w) (p : Places) (b : ℕ) (si : Sited p w)
             low = λ z lz ne. h.low z lz ∙ s.held.low z lz ne;
             special = h.keeps.special ∙ s.held.special;
             r28 = h.keeps.r28 ∙ s.held.r28;
-            r29 = h.keeps.r29 ∙ s.held.r29; r30 = h.keeps.r30 ∙ s.held.r30; r31 = h.keeps.r31 ∙ s.held.r31;
+            r29 = h.keeps.r29 ∙ s.held.r29;
+            r30 = h.keeps.r30 ∙ s.held.r30;
+            r31 = h.keeps.r31 ∙ s.held.r31;
             behind = subst (BehindStays p g) (sym (h.disk)) s.held.behind;
             idle = ap (λ d. d.pending) h.disk ∙ s.held.idle;
           };
@@ -158,7 +160,9 @@ module _ (w : World) (f : RoutineLaws w) (p : Places) (b : ℕ) (si : Sited p w)
               low = λ z lz ne. others z (omega arith) ∙ h.low z lz ne;
               special = h.special;
               r28 = h.r28;
-              r29 = h.r29; r30 = h.r30; r31 = h.r31;
+              r29 = h.r29;
+              r30 = h.r30;
+              r31 = h.r31;
               behind = h.behind;
               idle = h.idle;
             }
@@ -237,7 +241,9 @@ module _ (w : World) (f : RoutineLaws w) (p : Places) (b : ℕ) (si : Sited p w)
         low = λ z lz ne. refl;
         special = refl;
         r28 = refl;
-        r29 = refl; r30 = refl; r31 = refl;
+        r29 = refl;
+        r30 = refl;
+        r31 = refl;
         behind = record { log = h.behind.log; input = h.behind.input; past = h.behind.past };
         idle = h.idle;
       }

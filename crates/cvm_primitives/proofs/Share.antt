@@ -70,7 +70,9 @@ module _ (w : World) (f : RoutineLaws w) (p : Places) (b : ℕ) (si : Sited p w)
         low = λ z lz nz. k.low z lz ∙ h.low z lz nz;
         special = k.keeps.special ∙ h.special;
         r28 = k.keeps.r28 ∙ h.r28;
-        r29 = k.keeps.r29 ∙ h.r29; r30 = k.keeps.r30 ∙ h.r30; r31 = k.keeps.r31 ∙ h.r31;
+        r29 = k.keeps.r29 ∙ h.r29;
+        r30 = k.keeps.r30 ∙ h.r30;
+        r31 = k.keeps.r31 ∙ h.r31;
         behind = subst (BehindStays p g) (sym (k.disk)) h.behind;
         idle = ap (λ d. d.pending) k.disk ∙ h.idle;
       }
@@ -168,7 +170,9 @@ module _ (w : World) (f : RoutineLaws w) (p : Places) (b : ℕ) (si : Sited p w)
               low = λ z lz nz. others z (omega arith) (omega arith) (inl (omega arith)) ∙ k.held.low z lz nz;
               special = keeps.special ∙ k.held.special;
               r28 = keeps.r28 ∙ k.held.r28;
-              r29 = keeps.r29 ∙ k.held.r29; r30 = keeps.r30 ∙ k.held.r30; r31 = keeps.r31 ∙ k.held.r31;
+              r29 = keeps.r29 ∙ k.held.r29;
+              r30 = keeps.r30 ∙ k.held.r30;
+              r31 = keeps.r31 ∙ k.held.r31;
               behind = subst (BehindStays p g) (sym (disk)) k.held.behind;
               idle = ap (λ d. d.pending) disk ∙ k.held.idle;
             },

@@ -1,12 +1,12 @@
 // The parts of `vm_copy`.
-ghost use Rattle.std.specs.Prelude.{◌≡◌, ◌<◌, ◌≤◌, ◌+◌, ◌*◌, ◌∷◌, [], map, length, ◌++◌};
+ghost use Rattle.std.specs.Prelude.{◌≡◌, ◌<◌, ◌≤◌, ◌+◌, ◌*◌, ◌∷◌, [], map as each, length, ◌++◌};
 ghost use Rattle.mips_table.specs.Encoding.{encoding};
 ghost use Rattle.page_model.specs.Places.{places_of};
 ghost use Rattle.cvm_primitives.specs.Code.{protect_code, copy_code, least_code, to_end_code, length_code, room_code, share_code, whole_code, both_code, paste_code, words_code, read_code, advance_code, choose_code, piece_end_code, piece_rest_code, piece_read_code, piece_code};
 ghost use Rattle.page_fault.specs.Code.{page_code};
 
 use crate::parts::{drop_page, locate};
-use frame_table::{count, find, number, raise_count, user};
+use frame_table::{constant, find, number_user, raise_count, read_count};
 use layer_map::Map;
 use masm::Block;
 use masm::laws::words_are_encodings;
@@ -15,7 +15,7 @@ use page_fault::code as page;
 
 // Words are copied from the address in register 1 to that in 2, as many as register 3 says.
 fn copy_words() -> Block<7>
-    ensures { result ≡ map encoding copy_code }
+    ensures { result ≡ each encoding copy_code }
 {
     let mut turn = Block::<5>::new();
     turn.push(Inst::Lw {
@@ -51,7 +51,7 @@ fn copy_words() -> Block<7>
 
 // Register 13 becomes the lesser of itself and register 8.
 fn least() -> Block<3>
-    ensures { result ≡ map encoding (least_code 8) }
+    ensures { result ≡ each encoding (least_code 8) }
 {
     let mut body = Block::<1>::new();
     body.push(Inst::Addu {
@@ -72,7 +72,7 @@ fn least() -> Block<3>
 // Register 8 becomes the number of words from that in register `word` on to its page's end.
 fn to_end(word: u32) -> Block<4>
     requires { word < 32 }
-    ensures { result ≡ map encoding (to_end_code word) }
+    ensures { result ≡ each encoding (to_end_code word) }
 {
     let mut code = Block::<4>::new();
     code.push(Inst::Sll {
@@ -100,7 +100,7 @@ fn to_end(word: u32) -> Block<4>
 
 // Register 13 becomes the length of the piece.
 fn piece_length() -> Block<15>
-    ensures { result ≡ map encoding length_code }
+    ensures { result ≡ each encoding length_code }
 {
     words_are_encodings();
     let mut code = Block::<15>::new();
@@ -117,12 +117,12 @@ fn piece_length() -> Block<15>
 }
 
 // Register 12 tells whether fewer than four pages name the frame.
-fn room(places: &Map) -> Block<7>
-    ensures { result ≡ map encoding (room_code (places_of places.now)) }
+fn room(map: &Map) -> Block<7>
+    ensures { result ≡ each encoding (room_code (places_of map.now)) }
 {
     words_are_encodings();
     let mut code = Block::<7>::new();
-    code.then(&count(places));
+    code.then(&read_count(map));
     code.push(Inst::Sltiu {
         rt: 12,
         rs: 9,
@@ -132,8 +132,8 @@ fn room(places: &Map) -> Block<7>
 }
 
 // The entry of the source becomes protected, and register 20 the address of the target's.
-fn protect(places: &Map) -> Block<8>
-    ensures { result ≡ map encoding (protect_code (places_of places.now)) }
+fn protect(map: &Map) -> Block<8>
+    ensures { result ≡ each encoding (protect_code (places_of map.now)) }
 {
     words_are_encodings();
     let mut code = Block::<8>::new();
@@ -152,7 +152,7 @@ fn protect(places: &Map) -> Block<8>
         rs: 20,
         imm: 0,
     });
-    code.then(&number(20, places.page_tables()));
+    code.then(&constant(20, map.page_tables()));
     code.push(Inst::Srl {
         rd: 9,
         rt: 27,
@@ -172,19 +172,19 @@ fn protect(places: &Map) -> Block<8>
 }
 
 // The target takes the source's frame.
-fn share(places: &Map) -> Block<22>
-    ensures { result ≡ map encoding (share_code (places_of places.now)) }
+fn share(map: &Map) -> Block<22>
+    ensures { result ≡ each encoding (share_code (places_of map.now)) }
 {
     words_are_encodings();
     let mut code = Block::<22>::new();
-    code.then(&protect(places));
+    code.then(&protect(map));
     code.push(Inst::Sw {
         rt: 10,
         rs: 20,
         imm: 0,
     });
-    code.then(&user(places));
-    code.when(8, &raise_count(places));
+    code.then(&number_user(map));
+    code.when(8, &raise_count(map));
     code.push(Inst::Addiu {
         rt: 15,
         rs: 0,
@@ -194,8 +194,8 @@ fn share(places: &Map) -> Block<22>
 }
 
 // A whole page: the target's is dropped, and takes the source's frame where there is room.
-fn whole(places: &Map) -> Block<69>
-    ensures { result ≡ map encoding (whole_code (places_of places.now)) }
+fn whole(map: &Map) -> Block<69>
+    ensures { result ≡ each encoding (whole_code (places_of map.now)) }
 {
     words_are_encodings();
     let mut code = Block::<69>::new();
@@ -204,27 +204,27 @@ fn whole(places: &Map) -> Block<69>
         rt: 27,
         sa: 10,
     });
-    code.then(&drop_page(places));
+    code.then(&drop_page(map));
     code.push(Inst::Srl {
         rd: 16,
         rt: 26,
         sa: 10,
     });
-    code.then(&find(places));
+    code.then(&find(map));
     code.push(Inst::Addiu {
         rt: 12,
         rs: 0,
         imm: 1,
     });
-    code.then(&user(places));
-    code.when(8, &room(places));
-    code.when(12, &share(places));
+    code.then(&number_user(map));
+    code.when(8, &room(map));
+    code.when(12, &share(map));
     code
 }
 
 // Both pages come in.
-fn both(places: &Map) -> Block<328>
-    ensures { result ≡ map encoding (both_code (page_code (places_of places.now))) }
+fn both(map: &Map) -> Block<328>
+    ensures { result ≡ each encoding (both_code (page_code (places_of map.now))) }
 {
     words_are_encodings();
     let mut code = Block::<328>::new();
@@ -238,7 +238,7 @@ fn both(places: &Map) -> Block<328>
         rs: 0,
         imm: 1,
     });
-    code.then(&page(places));
+    code.then(&page(map));
     code.push(Inst::Addiu {
         rt: 9,
         rs: 16,
@@ -259,13 +259,13 @@ fn both(places: &Map) -> Block<328>
         rs: 15,
         imm: 1,
     });
-    code.then(&page(places));
+    code.then(&page(map));
     code
 }
 
 // The words of a piece are copied, once both pages are in.
-fn paste(places: &Map) -> Block<34>
-    ensures { result ≡ map encoding (paste_code (places_of places.now)) }
+fn paste(map: &Map) -> Block<34>
+    ensures { result ≡ each encoding (paste_code (places_of map.now)) }
 {
     words_are_encodings();
     let mut code = Block::<34>::new();
@@ -274,7 +274,7 @@ fn paste(places: &Map) -> Block<34>
         rs: 26,
         rt: 0,
     });
-    code.then(&locate(places));
+    code.then(&locate(map));
     code.push(Inst::Addu {
         rd: 1,
         rs: 8,
@@ -285,7 +285,7 @@ fn paste(places: &Map) -> Block<34>
         rs: 27,
         rt: 0,
     });
-    code.then(&locate(places));
+    code.then(&locate(map));
     code.push(Inst::Addu {
         rd: 2,
         rs: 8,
@@ -301,19 +301,19 @@ fn paste(places: &Map) -> Block<34>
 }
 
 // Both pages come in, and the words of a piece are copied.
-fn words(places: &Map) -> Block<362>
-    ensures { result ≡ map encoding (words_code (places_of places.now) (page_code (places_of places.now))) }
+fn words(map: &Map) -> Block<362>
+    ensures { result ≡ each encoding (words_code (places_of map.now) (page_code (places_of map.now))) }
 {
     words_are_encodings();
     let mut code = Block::<362>::new();
-    code.then(&both(places));
-    code.then(&paste(places));
+    code.then(&both(map));
+    code.then(&paste(map));
     code
 }
 
 // The source's page comes in.
-fn read(places: &Map) -> Block<163>
-    ensures { result ≡ map encoding (read_code (page_code (places_of places.now))) }
+fn read(map: &Map) -> Block<163>
+    ensures { result ≡ each encoding (read_code (page_code (places_of map.now))) }
 {
     words_are_encodings();
     let mut code = Block::<163>::new();
@@ -327,13 +327,13 @@ fn read(places: &Map) -> Block<163>
         rs: 0,
         imm: 0,
     });
-    code.then(&page(places));
+    code.then(&page(map));
     code
 }
 
 // The next piece begins behind this one.
 fn advance() -> Block<3>
-    ensures { result ≡ map encoding advance_code }
+    ensures { result ≡ each encoding advance_code }
 {
     let mut code = Block::<3>::new();
     code.push(Inst::Addu {
@@ -355,8 +355,8 @@ fn advance() -> Block<3>
 }
 
 // A whole page takes a frame, where there is room.
-fn choose(places: &Map) -> Block<73>
-    ensures { result ≡ map encoding (choose_code (places_of places.now)) }
+fn choose(map: &Map) -> Block<73>
+    ensures { result ≡ each encoding (choose_code (places_of map.now)) }
 {
     words_are_encodings();
     let mut code = Block::<73>::new();
@@ -375,50 +375,50 @@ fn choose(places: &Map) -> Block<73>
         rs: 8,
         imm: 1,
     });
-    code.when(8, &whole(places));
+    code.when(8, &whole(map));
     code
 }
 
 // The end of a piece: its words are copied where it took no frame.
-fn piece_end(places: &Map) -> Block<366>
-    ensures { result ≡ map encoding (piece_end_code (places_of places.now) (page_code (places_of places.now))) }
+fn piece_end(map: &Map) -> Block<366>
+    ensures { result ≡ each encoding (piece_end_code (places_of map.now) (page_code (places_of map.now))) }
 {
     words_are_encodings();
     let mut code = Block::<366>::new();
-    code.when(15, &words(places));
+    code.when(15, &words(map));
     code.then(&advance());
     code
 }
 
 // A piece whose source's page is in.
-fn piece_rest(places: &Map) -> Block<439>
-    ensures { result ≡ map encoding (piece_rest_code (places_of places.now) (page_code (places_of places.now))) }
+fn piece_rest(map: &Map) -> Block<439>
+    ensures { result ≡ each encoding (piece_rest_code (places_of map.now) (page_code (places_of map.now))) }
 {
     words_are_encodings();
     let mut code = Block::<439>::new();
-    code.then(&choose(places));
-    code.then(&piece_end(places));
+    code.then(&choose(map));
+    code.then(&piece_end(map));
     code
 }
 
 // A piece of known length.
-fn piece_read(places: &Map) -> Block<602>
-    ensures { result ≡ map encoding (piece_read_code (places_of places.now) (page_code (places_of places.now))) }
+fn piece_read(map: &Map) -> Block<602>
+    ensures { result ≡ each encoding (piece_read_code (places_of map.now) (page_code (places_of map.now))) }
 {
     words_are_encodings();
     let mut code = Block::<602>::new();
-    code.then(&read(places));
-    code.then(&piece_rest(places));
+    code.then(&read(map));
+    code.then(&piece_rest(map));
     code
 }
 
 /// A piece is copied.
-pub fn piece(places: &Map) -> Block<617>
-    ensures { result ≡ map encoding (piece_code (places_of places.now) (page_code (places_of places.now))) }
+pub fn piece(map: &Map) -> Block<617>
+    ensures { result ≡ each encoding (piece_code (places_of map.now) (page_code (places_of map.now))) }
 {
     words_are_encodings();
     let mut code = Block::<617>::new();
     code.then(&piece_length());
-    code.then(&piece_read(places));
+    code.then(&piece_read(map));
     code
 }

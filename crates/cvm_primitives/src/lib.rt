@@ -4,13 +4,13 @@
 //! to 31 stay.
 #![tactic(auto)]
 
+mod accessing;
+mod copy_parts;
 mod copying;
 pub mod laws;
 mod parts;
-mod copy_parts;
 mod resizing;
-mod accessing;
 
+pub use accessing::{vm_put, vm_word};
 pub use copying::vm_copy;
 pub use resizing::vm_resize;
-pub use accessing::{vm_put, vm_word};

@@ -1,19 +1,19 @@
 // Parts that several primitives share.
-ghost use Rattle.std.specs.Prelude.{◌≡◌, ◌<◌, ◌≤◌, ◌+◌, ◌*◌, ◌∷◌, [], map, length, ◌++◌};
+ghost use Rattle.std.specs.Prelude.{◌≡◌, ◌<◌, ◌≤◌, ◌+◌, ◌*◌, ◌∷◌, [], map as each, length, ◌++◌};
 ghost use Rattle.mips_table.specs.Encoding.{encoding};
 ghost use Rattle.page_model.specs.Places.{places_of};
 ghost use Rattle.cvm_primitives.specs.Code.{frame_code, drop_code, locate_code, base_code, size_code};
 ghost use Rattle.frame_table.specs.Code.{const_code};
 
-use frame_table::{find, lower_count, number, user};
+use frame_table::{constant, find, lower_count, number_user};
 use layer_map::Map;
 use masm::Block;
 use masm::laws::words_are_encodings;
 use mips_table::Inst;
 
 /// The entry of the page in register 16 is made invalid, and the count of its user frame lowered.
-pub fn drop_page(places: &Map) -> Block<23>
-    ensures { result ≡ map encoding (drop_code (places_of places.now)) }
+pub fn drop_page(map: &Map) -> Block<23>
+    ensures { result ≡ each encoding (drop_code (places_of map.now)) }
 {
     words_are_encodings();
     let mut body = Block::<13>::new();
@@ -22,21 +22,21 @@ pub fn drop_page(places: &Map) -> Block<23>
         rs: 20,
         imm: 0,
     });
-    body.then(&user(places));
-    body.when(8, &lower_count(places));
+    body.then(&number_user(map));
+    body.when(8, &lower_count(map));
     let mut code = Block::<23>::new();
-    code.then(&find(places));
+    code.then(&find(map));
     code.when(24, &body);
     code
 }
 
 // The frame of the word whose number is in register 8, in register 10.
-fn word_frame(places: &Map) -> Block<8>
-    ensures { result ≡ map encoding (const_code 9 (4 * (places_of places.now).tables) ++ frame_code) }
+fn word_frame(map: &Map) -> Block<8>
+    ensures { result ≡ each encoding (const_code 9 (4 * (places_of map.now).tables) ++ frame_code) }
 {
     words_are_encodings();
     let mut code = Block::<8>::new();
-    code.then(&number(9, places.page_tables()));
+    code.then(&constant(9, map.page_tables()));
     code.push(Inst::Srl {
         rd: 10,
         rt: 8,
@@ -71,12 +71,12 @@ fn word_frame(places: &Map) -> Block<8>
 }
 
 /// Register 8 becomes the address of the word whose number it is; the page of that word is resident. Registers 9 and 10 change.
-pub fn locate(places: &Map) -> Block<11>
-    ensures { result ≡ map encoding (locate_code (places_of places.now)) }
+pub fn locate(map: &Map) -> Block<11>
+    ensures { result ≡ each encoding (locate_code (places_of map.now)) }
 {
     words_are_encodings();
     let mut code = Block::<11>::new();
-    code.then(&word_frame(places));
+    code.then(&word_frame(map));
     code.push(Inst::Sll {
         rd: 9,
         rt: 8,
@@ -96,28 +96,23 @@ pub fn locate(places: &Map) -> Block<11>
 }
 
 /// Register 10 becomes the number of the first page of the user whose number less 1 is in register 8.
-pub fn first_page(places: &Map) -> Block<3>
-    ensures { result ≡ map encoding (base_code places.now.params.pages) }
+pub fn first_page(map: &Map) -> Block<3>
+    ensures { result ≡ each encoding (base_code map.now.params.pages) }
 {
     let mut code = Block::<3>::new();
     code.push(Inst::Addiu {
         rt: 10,
         rs: 0,
-        imm: places.params().pages,
+        imm: map.params().pages,
     });
-    code.push(Inst::Multu {
-        rs: 8,
-        rt: 10,
-    });
-    code.push(Inst::Mflo {
-        rd: 10,
-    });
+    code.push(Inst::Multu { rs: 8, rt: 10 });
+    code.push(Inst::Mflo { rd: 10 });
     code
 }
 
 /// Register 11 becomes the address of the size's word of that user.
 pub fn size_place() -> Block<3>
-    ensures { result ≡ map encoding size_code }
+    ensures { result ≡ each encoding size_code }
 {
     let mut code = Block::<3>::new();
     code.push(Inst::Ori {

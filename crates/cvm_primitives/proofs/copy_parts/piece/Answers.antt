@@ -7,4 +7,4 @@ use Rattle.cvm_primitives.proofs.copy_parts.piece.Goals as goal
 
 pub returns : goal.returns
 returns c =
-    two c.words_are_encodings.ensures length_code (piece_read_code (places_of c.args.places.now) (page_code (places_of c.args.places.now))) _ _ _ _ _ c.new-code.ensures c.then.ensures c.then-2.ensures c.piece_length.ensures c.piece_read.ensures
+    two c.words_are_encodings.ensures length_code (piece_read_code (places_of c.args.map.now) (page_code (places_of c.args.map.now))) _ _ _ _ _ c.new-code.ensures c.then.ensures c.then-2.ensures c.piece_length.ensures c.piece_read.ensures

@@ -7,4 +7,4 @@ use Rattle.cvm_primitives.proofs.copy_parts.words.Goals as goal
 
 pub returns : goal.returns
 returns c =
-    two c.words_are_encodings.ensures (both_code (page_code (places_of c.args.places.now))) (paste_code (places_of c.args.places.now)) _ _ _ _ _ c.new-code.ensures c.then.ensures c.then-2.ensures c.both.ensures c.paste.ensures
+    two c.words_are_encodings.ensures (both_code (page_code (places_of c.args.map.now))) (paste_code (places_of c.args.map.now)) _ _ _ _ _ c.new-code.ensures c.then.ensures c.then-2.ensures c.both.ensures c.paste.ensures

@@ -9,4 +9,4 @@ use Rattle.cvm_primitives.proofs.copying.second_range.Goals as goal
 
 pub returns : goal.returns
 returns c =
-    two c.words_are_encodings.ensures next_range_code (range_code c.args.places.now.users c.args.places.now.params.pages (apart_code ++ when_code 8 (pieces_code (places_of c.args.places.now) (page_code (places_of c.args.places.now))))) _ _ _ _ _ c.new-code.ensures c.then.ensures c.then-2.ensures c.next_range.ensures (c.range.ensures ∙ range_is c.words_are_encodings.ensures c.args.places.now.users c.args.places.now.params.pages (apart_code ++ when_code 8 (pieces_code (places_of c.args.places.now) (page_code (places_of c.args.places.now)))) _ c.apart_pieces.ensures)
+    two c.words_are_encodings.ensures next_range_code (range_code c.args.map.now.users c.args.map.now.params.pages (apart_code ++ when_code 8 (pieces_code (places_of c.args.map.now) (page_code (places_of c.args.map.now))))) _ _ _ _ _ c.new-code.ensures c.then.ensures c.then-2.ensures c.next_range.ensures (c.range.ensures ∙ range_is c.words_are_encodings.ensures c.args.map.now.users c.args.map.now.params.pages (apart_code ++ when_code 8 (pieces_code (places_of c.args.map.now) (page_code (places_of c.args.map.now)))) _ c.apart_pieces.ensures)
