@@ -17,7 +17,7 @@ pub record Entered (w : World) (p : Places) (b users per : ℕ) (size : ℕ → 
   pub ported : Ported p w b
   pub held : Held p v (start c d) c d
   pub sizes : UsersIn p users per size v c
-  pub blocks : (k : ℕ) → k < 64 → w.kept (12320 + 64 * k) ≡ None
+  pub blocks : (k : ℕ) → k < users → w.kept (12320 + 64 * k) ≡ None
 
 -- vm_word: the word, within two units and a page; or -1, within a unit
 abbrev pub VmWord : Type 0
