@@ -22,14 +22,14 @@ use Rattle.mips_table.specs.declared.inst.Inst.{Inst}
 use Rattle.mips_table.specs.Fits.{IsWord}
 use Rattle.page_fault.specs.Code.{page_code}
 use Rattle.cvm_model.specs.Kernel.{Put, Size}
-use Rattle.cvm_model.specs.Primitives.{changed, is_place, is_within, pieces as pieces_at, with_word as with_byte, with_words, resized as resized_flat, puts, overlap}
-use Rattle.cvm_primitives.specs.Copy.{pieces, with_word, copied, resized}
+use Rattle.cvm_model.specs.Primitives.{VmCopy as MakeCopy, changed, is_place, is_within, pieces as pieces_at, with_word as with_byte, with_words, resized as resized_flat, puts, overlap}
+use Rattle.cvm_primitives.specs.Copy.{Apart, pieces, with_word, copied, resized}
 use Rattle.cvm_primitives.specs.Code.{vm_word_code, vm_put_code, vm_copy_code, vm_resize_code}
 use Rattle.cvm_primitives.specs.Routines.{RoutineLaws}
 use Rattle.cvm_primitives.specs.Laws.{Entered, VmWord, VmPut, VmCopy, VmResize}
 use Rattle.cvm_primitives.specs.Calls.{CallEntered, CallLeft, given, call_steps, Answers, word_call, put_call, copy_call, resize_call}
 use Rattle.cvm_primitives.proofs.Forms.{from_later}
-use Rattle.cvm_primitives.proofs.Numbers.{within_is, place_is, overlap_is, as_word, and_false}
+use Rattle.cvm_primitives.proofs.Numbers.{within_is, place_is, overlap_is, signed_pos, signed_neg, as_word, and_false}
 use Rattle.cvm_primitives.proofs.Users.{in_lists, stands_same}
 
 same_all : (l : Layout) (v : Pages) → Same l v v
@@ -116,6 +116,33 @@ taken_length ws a n b l le lt =
 
 steps_enough : (x y n q : ℕ) → x ≡ y → 600 * (1 + n) + x ≤ 600 * (1 + n + q) + y
 steps_enough x y n q e = omega arith
+
+-- five conditions
+abbrev chain : (x y z v q : Bool) → Bool
+chain x y z v q = x && y && z && v && q
+
+chain_true : (x y z v q : Bool) → x ≡ true → y ≡ true → z ≡ true → v ≡ true → q ≡ true → chain x y z v q ≡ true
+chain_true true true true true true a b c d e = refl
+chain_true false y z v q a b c d e = absurd (cc)
+chain_true true false z v q a b c d e = absurd (cc)
+chain_true true true false v q a b c d e = absurd (cc)
+chain_true true true true false q a b c d e = absurd (cc)
+chain_true true true true true false a b c d e = absurd (cc)
+
+chain_1 : (x y z v q : Bool) → x ≡ false → chain x y z v q ≡ false
+chain_1 x y z v q h = ap (λ x. chain x y z v q) h
+
+chain_2 : (x y z v q : Bool) → y ≡ false → chain x y z v q ≡ false
+chain_2 x y z v q h = ap (λ b. b && z && v && q) (ap (λ y. x && y) h ∙ and_false x)
+
+chain_3 : (x y z v q : Bool) → z ≡ false → chain x y z v q ≡ false
+chain_3 x y z v q h = ap (λ b. b && v && q) (ap (λ z. (x && y) && z) h ∙ and_false (x && y))
+
+chain_4 : (x y z v q : Bool) → v ≡ false → chain x y z v q ≡ false
+chain_4 x y z v q h = ap (λ b. b && q) (ap (λ v. ((x && y) && z) && v) h ∙ and_false ((x && y) && z))
+
+chain_5 : (x y z v q : Bool) → q ≡ false → chain x y z v q ≡ false
+chain_5 x y z v q h = ap (λ q. (((x && y) && z) && v) && q) h ∙ and_false (((x && y) && z) && v)
 
 -- cvm_model counts a copy's pieces by addresses, and the law by words
 or_if : (x y z : Bool) → ◌≡◌ {A = ℕ} (cond ((x || y) || z) 1 0) (cond x 1 (cond y 1 (cond z 1 0)))
@@ -335,3 +362,70 @@ module _ (w : World) (f : Sound w) (r : RoutineLaws w) (p : Places) (b most : �
   copy_steps u a t s n =
       let e1 : page_steps p.layout.pages b * (3 * pieces (number most u a) (number most t s) n) ≡ page_steps p.layout.pages b * (3 * pieces_at a s n) = ap (λ z. page_steps p.layout.pages b * (3 * z)) (lists.pieces u a t s n ∙ sym (pieces_are a s n)) in
       steps_enough (page_steps p.layout.pages b * (3 * pieces (number most u a) (number most t s) n)) (page_steps p.layout.pages b * (3 * pieces_at a s n)) n (3 * pieces_at a s n) e1
+
+  -- the call's good conditions, one after the other
+  abbrev good_copy : (u a t s : ℤ) → ℕ → Bool
+  good_copy u a t s n = is_within 1 (length users) u && is_within 1 (length users) t && is_place (user_of users (nat_abs u)) a n && is_place (user_of users (nat_abs t)) s n && not (nat_eq (nat_abs u) (nat_abs t) && overlap (nat_abs a) (nat_abs s) n)
+
+  abbrev user_bit : ℕ → Bool
+  user_bit u = is_within 1 (length users) (signed u)
+
+  abbrev place_bit : (u a n : ℕ) → Bool
+  place_bit u a n = is_place (user_of users (nat_abs (signed u))) (signed a) n
+
+  abbrev apart_bit : (u a t s n : ℕ) → Bool
+  apart_bit u a t s n = not (nat_eq (nat_abs (signed u)) (nat_abs (signed t)) && overlap (nat_abs (signed a)) (nat_abs (signed s)) n)
+
+  -- whether the arguments are good is decided
+  decided : (u a t s n : ℕ) → u < 2 ^ 32 → a < 2 ^ 32 → t < 2 ^ 32 → s < 2 ^ 32 → n < 2 ^ 31
+      → (CopyArgs (length users) sizes_of u a t s n × (good_copy (signed u) (signed a) (signed t) (signed s) n ≡ true) × ((nat_abs (signed u) ≡ u) × (nat_abs (signed a) ≡ a) × (nat_abs (signed t) ≡ t) × (nat_abs (signed s) ≡ s))) ⊎ ((CopyArgs (length users) sizes_of u a t s n → ⊥) × (good_copy (signed u) (signed a) (signed t) (signed s) n ≡ false))
+  decided u a t s n su sa st ss sn =
+      let few = e.few in
+      ⊎_elim
+      (λ x. ⊎_elim
+      (λ y. let pu = word_good n (signed u) u x.3 (signed a) in let pt = word_good n (signed t) t y.3 (signed s) in
+      ⊎_elim
+      (λ z. ⊎_elim
+      (λ v. ⊎_elim
+      (λ q. inl (record { source = (x.0, x.1, z.0, z.1); target = (y.0, y.1, v.0, v.1); apart = λ same. ⊎_elim (λ h. absurd (h.0 same)) (λ h. h.0) q }, chain_true (user_bit u) (user_bit t) (place_bit u a n) (place_bit t s n) (apart_bit u a t s n) x.2 y.2 (pu ∙ z.2) (pt ∙ v.2) (shared x.3 z.3 y.3 v.3 ∙ ⊎_elim (λ h. ap (λ b. not (b && overlap a s n)) (ne_eqb u t h.0)) (λ h. ap (λ b. not (nat_eq u t && b)) h.1 ∙ ap not (and_false (nat_eq u t))) q), (x.3, z.3, y.3, v.3)))
+      (λ q. inr (λ g. q.1 (g.apart q.0), chain_5 (user_bit u) (user_bit t) (place_bit u a n) (place_bit t s n) (apart_bit u a t s n) (shared x.3 z.3 y.3 v.3 ∙ ap₂ (λ b k. not (b && k)) (eq-eqb u t q.0) q.2)))
+      (overlapping u a t s n z.0 v.0))
+      (λ v. inr (λ g. v.0 g.target.2 g.target.3, chain_4 (user_bit u) (user_bit t) (place_bit u a n) (place_bit t s n) (apart_bit u a t s n) (pt ∙ v.1)))
+      (place_is (user_of users t) s n (small_user t (y.0, y.1)) ss))
+      (λ z. inr (λ g. z.0 g.source.2 g.source.3, chain_3 (user_bit u) (user_bit t) (place_bit u a n) (place_bit t s n) (apart_bit u a t s n) (pu ∙ z.1)))
+      (place_is (user_of users u) a n (small_user u (x.0, x.1)) sa))
+      (λ y. inr (λ g. y.0 g.target.0 g.target.1, chain_2 (user_bit u) (user_bit t) (place_bit u a n) (place_bit t s n) (apart_bit u a t s n) y.1))
+      (within_is 1 (length users) t (omega arith) st))
+      (λ x. inr (λ g. x.0 g.source.0 g.source.1, chain_1 (user_bit u) (user_bit t) (place_bit u a n) (place_bit t s n) (apart_bit u a t s n) x.1))
+      (within_is 1 (length users) u (omega arith) su)
+    where
+      shared : nat_abs (signed u) ≡ u → nat_abs (signed a) ≡ a → nat_abs (signed t) ≡ t → nat_abs (signed s) ≡ s → not (nat_eq (nat_abs (signed u)) (nat_abs (signed t)) && overlap (nat_abs (signed a)) (nat_abs (signed s)) n) ≡ not (nat_eq u t && overlap a s n)
+      shared eu ea et es = ap₂ (λ u t. not (nat_eq u t && overlap (nat_abs (signed a)) (nat_abs (signed s)) n)) eu et ∙ ap₂ (λ a s. not (nat_eq u t && overlap a s n)) ea es
+
+      overlapping : (u a t s n : ℕ) → a % 4 ≡ 0 → s % 4 ≡ 0 → ((u ≢ t × Unit {0}) ⊎ (Apart (a / 4) (s / 4) n × (overlap a s n ≡ false))) ⊎ ((u ≡ t) × (Apart (a / 4) (s / 4) n → ⊥) × (overlap a s n ≡ true))
+      overlapping u a t s n za zs = ⊎_elim (λ same. ⊎_elim (λ h. inl (inr h)) (λ h. inr (same, h.0, h.1)) (overlap_is a s n za zs)) (λ ne. inl (inl (ne, tt))) (cases_eq u t)
+
+  -- vm_copy's code comes to this
+  abbrev Is : Given → Type 0
+  Is g = From w (vm_copy_code p (length users) most (page_code p)) (call_steps p b g) c d (CallLeft p most users g c d)
+
+  -- VM_COPY
+  pub copies : VmCopy → Answers w (vm_copy_code p (length users) most (page_code p)) (copy_call c) p b most users c d
+  copies law =
+      let k = law w p b (length users) most sizes_of (pages_by most users) c d entered (c.regs 20) (c.regs 21) (c.regs 22) (c.regs 23) (c.regs 24) refl refl refl refl refl (e.regs 20) (e.regs 21) (e.regs 22) (e.regs 23) (e.regs 24) in
+      ⊎_elim
+      (λ lt. let en = signed_pos (c.regs 24) lt in
+      ⊎_elim
+      (λ g. granting _ (copy_call c) (ap (λ n. is_good most users (MakeCopy (signed (c.regs 20)) (signed (c.regs 21)) (signed (c.regs 22)) (signed (c.regs 23)) n)) en ∙ g.1)
+      (named (nat_abs (signed (c.regs 20))) (nat_abs (signed (c.regs 21))) (nat_abs (signed (c.regs 22))) (nat_abs (signed (c.regs 23))) (nat_abs (signed (c.regs 24))) g.2.0 g.2.1 g.2.2 g.2.3 (ap nat_abs en)
+      (from_later w r _ (600 * (1 + c.regs 24) + page_steps p.layout.pages b * (3 * pieces (number most (c.regs 20) (c.regs 21)) (number most (c.regs 22) (c.regs 23)) (c.regs 24))) _ c d _ _ (copy_steps (c.regs 20) (c.regs 21) (c.regs 22) (c.regs 23) (c.regs 24)) (λ c1 d1 h. copy_left (c.regs 20) (c.regs 21) (c.regs 22) (c.regs 23) (c.regs 24) g.0 c1 d1 h.0 h.1) (k.0 g.0))))
+      (λ g. refusing _ (copy_call c) 0 (ap (λ n. is_good most users (MakeCopy (signed (c.regs 20)) (signed (c.regs 21)) (signed (c.regs 22)) (signed (c.regs 23)) n)) en ∙ g.1) refl (k.1 g.0))
+      (decided (c.regs 20) (c.regs 21) (c.regs 22) (c.regs 23) (c.regs 24) (e.regs 20) (e.regs 21) (e.regs 22) (e.regs 23) lt))
+      (λ ge. refusing _ (copy_call c) 0 (ap (λ n. is_good most users (MakeCopy (signed (c.regs 20)) (signed (c.regs 21)) (signed (c.regs 22)) (signed (c.regs 23)) n)) (signed_neg (c.regs 24) ge (e.regs 24))) refl
+      (k.1 (λ g. let u3 = g.source.3 in let few = small_user (c.regs 20) (g.source.0, g.source.1) in absurd (omega arith))))
+      (cases_lt (c.regs 24) (2 ^ 31))
+    where
+      named : (u a t s n : ℕ) → u ≡ c.regs 20 → a ≡ c.regs 21 → t ≡ c.regs 22 → s ≡ c.regs 23 → n ≡ c.regs 24 → Is (copy_given (c.regs 20) (c.regs 21) (c.regs 22) (c.regs 23) (c.regs 24)) → Is (copy_given u a t s n)
+      named u a t s n eu ea et es en h =
+          subst (λ u. Is (copy_given u a t s n)) (sym eu) (subst (λ a. Is (copy_given (c.regs 20) a t s n)) (sym ea) (subst (λ t. Is (copy_given (c.regs 20) (c.regs 21) t s n)) (sym et)
+          (subst (λ s. Is (copy_given (c.regs 20) (c.regs 21) (c.regs 22) s n)) (sym es) (subst (λ n. Is (copy_given (c.regs 20) (c.regs 21) (c.regs 22) (c.regs 23) n)) (sym en) h))))

@@ -4,6 +4,7 @@ ghost use Rattle.mips_table.specs.Code.{World, Sound};
 ghost use Rattle.page_model.specs.Paging.{Layout, Pages, Paged, PagesStand};
 ghost use Rattle.cvm_primitives.specs.Routines.{RoutineLaws};
 ghost use Rattle.cvm_primitives.specs.Laws.{VmWord, VmPut, VmCopy, VmResize};
+ghost use Rattle.cvm_primitives.specs.Calls.{MemoryAnswers};
 ghost use Rattle.cvm_primitives.specs.Users.{Lists, InLists, Same};
 
 use masm::laws::{a_condition_is_tested, a_loop_turns, runs_compose, straight_code_runs};
@@ -67,3 +68,15 @@ pub fn numbers_are_lists()
     ensures lists { (l : Layout) (users per : ℕ) (size : ℕ → ℕ) (memory : ℕ → List ℕ) → Lists users per size memory → InLists l users per size memory }
     ensures stands { (l : Layout) (u v : Pages) (a : Paged) → Same l u v → PagesStand l u a → PagesStand l v a }
 {}
+
+/// Each call answers and changes what the abstract machine says of it, whatever its arguments are, within 600 steps a unit and those of its
+/// pages: a bad call changes nothing and answers -1 or false.
+pub fn memory_answers()
+    ensures { (w : World) → Sound w → MemoryAnswers w }
+{
+    routines_have_laws();
+    a_word_is_read();
+    a_word_is_put();
+    words_are_copied();
+    a_memory_is_resized();
+}
