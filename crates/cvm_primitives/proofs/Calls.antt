@@ -180,6 +180,7 @@ module _ (w : World) (f : Sound w) (r : RoutineLaws w) (p : Places) (b most : �
       live = lists.live;
     };
     blocks = λ k lt. ap w.kept (omega arith) ∙ e.free (k + 1) (omega arith, omega arith);
+    regs = e.regs;
   }
 
   -- registers 28 to 31
@@ -227,7 +228,7 @@ module _ (w : World) (f : Sound w) (r : RoutineLaws w) (p : Places) (b most : �
   -- VM_WORD
   pub words : VmWord → Answers w (vm_word_code p (length users) most (page_code p)) (word_call c) p b most users c d
   words law =
-      let few = e.few in let k = law w p b (length users) most sizes_of (pages_by most users) c d entered (c.regs 20) (c.regs 21) refl refl (e.regs 20) (e.regs 21) in
+      let few = e.few in let k = law w p b (length users) most sizes_of (pages_by most users) c d entered in
       ⊎_elim
       (λ u. ⊎_elim
       (λ a. let u0 = u.0 in let u1 = u.1 in let a1 = a.1 in
@@ -238,10 +239,10 @@ module _ (w : World) (f : Sound w) (r : RoutineLaws w) (p : Places) (b most : �
       (λ c1 d1 h. left_of (granted users (console_of d) (word_call c)) (pages_by most users) c1 d1 h.0 (same_all p.layout (pages_by most users)) (blocks_kept users c.memory c1.memory (kept (pages_by most users) c1 d1 h.0) e.few e.blocks) refl
       (ap₂ (λ x y. cast_unsigned w32 (signed (slice_index (user_of users x).words (y / 4))) ∷ []) u.3 a.3 ∙ ap (λ z. z ∷ [])
       (as_word (slice_index (words_of (c.regs 20)) (c.regs 21 / 4)) (All-get_or IsWord (words_of (c.regs 20)) (c.regs 21 / 4) 0 (omega arith) (e.each (c.regs 20) (u.0, u.1)).words) ∙ sym (h.1 ∙ lists.word (c.regs 20) (c.regs 21) good))))
-      (k.0 good)))
-      (λ a. refusing _ (word_call c) (2 ^ 32 - 1) (ap₂ (λ x y. x && y) u.2 (word_good 1 (signed (c.regs 20)) (c.regs 20) u.3 (signed (c.regs 21)) ∙ a.1)) refl (k.1 (λ g. let g3 = g.3 in a.0 g.2 (omega arith))))
+      (k.good good)))
+      (λ a. refusing _ (word_call c) (2 ^ 32 - 1) (ap₂ (λ x y. x && y) u.2 (word_good 1 (signed (c.regs 20)) (c.regs 20) u.3 (signed (c.regs 21)) ∙ a.1)) refl (k.bad (λ g. let g3 = g.3 in a.0 g.2 (omega arith))))
       (place_is (user_of users (c.regs 20)) (c.regs 21) 1 (small_user (c.regs 20) (u.0, u.1)) (e.regs 21)))
-      (λ u. refusing _ (word_call c) (2 ^ 32 - 1) (ap (λ x. x && is_place (user_of users (nat_abs (signed (c.regs 20)))) (signed (c.regs 21)) 1) u.1) refl (k.1 (λ g. u.0 g.0 g.1)))
+      (λ u. refusing _ (word_call c) (2 ^ 32 - 1) (ap (λ x. x && is_place (user_of users (nat_abs (signed (c.regs 20)))) (signed (c.regs 21)) 1) u.1) refl (k.bad (λ g. u.0 g.0 g.1)))
       (within_is 1 (length users) (c.regs 20) (omega arith) (e.regs 20))
 
   -- what a store gives
@@ -265,7 +266,7 @@ module _ (w : World) (f : Sound w) (r : RoutineLaws w) (p : Places) (b most : �
   -- VM_PUT
   pub stores : VmPut → Answers w (vm_put_code p (length users) most (page_code p)) (put_call c) p b most users c d
   stores law =
-      let few = e.few in let k = law w p b (length users) most sizes_of (pages_by most users) c d entered (c.regs 20) (c.regs 21) (c.regs 22) refl refl refl (e.regs 20) (e.regs 21) (e.regs 22) in
+      let few = e.few in let k = law w p b (length users) most sizes_of (pages_by most users) c d entered in
       ⊎_elim
       (λ u. ⊎_elim
       (λ a. let u0 = u.0 in let u1 = u.1 in let a1 = a.1 in
@@ -274,10 +275,10 @@ module _ (w : World) (f : Sound w) (r : RoutineLaws w) (p : Places) (b most : �
       (subst (λ u. From w (vm_put_code p (length users) most (page_code p)) (call_steps p b (put_given u (nat_abs (signed (c.regs 21))) (cast_unsigned w32 (signed (c.regs 22))))) c d (CallLeft p most users (put_given u (nat_abs (signed (c.regs 21))) (cast_unsigned w32 (signed (c.regs 22)))) c d)) (sym u.3)
       (subst (λ a. From w (vm_put_code p (length users) most (page_code p)) (call_steps p b (put_given (c.regs 20) a (cast_unsigned w32 (signed (c.regs 22))))) c d (CallLeft p most users (put_given (c.regs 20) a (cast_unsigned w32 (signed (c.regs 22)))) c d)) (sym a.3)
       (subst (λ x. From w (vm_put_code p (length users) most (page_code p)) (call_steps p b (put_given (c.regs 20) (c.regs 21) x)) c d (CallLeft p most users (put_given (c.regs 20) (c.regs 21) x) c d)) (sym (as_word (c.regs 22) (e.regs 22)))
-      (from_later w r _ (600 * 2 + page_steps p.layout.pages b) _ c d _ _ (omega arith) (λ c1 d1 h. put_left (c.regs 20) (c.regs 21) (c.regs 22) good c1 d1 h.0 h.1) (k.0 good))))))
-      (λ a. refusing _ (put_call c) 0 (ap₂ (λ x y. x && y) u.2 (word_good 1 (signed (c.regs 20)) (c.regs 20) u.3 (signed (c.regs 21)) ∙ a.1)) refl (k.1 (λ g. let g3 = g.3 in a.0 g.2 (omega arith))))
+      (from_later w r _ (600 * 2 + page_steps p.layout.pages b) _ c d _ _ (omega arith) (λ c1 d1 h. put_left (c.regs 20) (c.regs 21) (c.regs 22) good c1 d1 h.0 h.1) (k.good good))))))
+      (λ a. refusing _ (put_call c) 0 (ap₂ (λ x y. x && y) u.2 (word_good 1 (signed (c.regs 20)) (c.regs 20) u.3 (signed (c.regs 21)) ∙ a.1)) refl (k.bad (λ g. let g3 = g.3 in a.0 g.2 (omega arith))))
       (place_is (user_of users (c.regs 20)) (c.regs 21) 1 (small_user (c.regs 20) (u.0, u.1)) (e.regs 21)))
-      (λ u. refusing _ (put_call c) 0 (ap (λ x. x && is_place (user_of users (nat_abs (signed (c.regs 20)))) (signed (c.regs 21)) 1) u.1) refl (k.1 (λ g. u.0 g.0 g.1)))
+      (λ u. refusing _ (put_call c) 0 (ap (λ x. x && is_place (user_of users (nat_abs (signed (c.regs 20)))) (signed (c.regs 21)) 1) u.1) refl (k.bad (λ g. u.0 g.0 g.1)))
       (within_is 1 (length users) (c.regs 20) (omega arith) (e.regs 20))
 
   -- what a resize gives
@@ -316,7 +317,7 @@ module _ (w : World) (f : Sound w) (r : RoutineLaws w) (p : Places) (b most : �
   -- VM_RESIZE
   pub resizes : VmResize → Answers w (vm_resize_code p (length users) most) (resize_call c) p b most users c d
   resizes law =
-      let few = e.few in let limit = e.limit in let k = law w p b (length users) most sizes_of (pages_by most users) c d entered (c.regs 20) (c.regs 21) refl refl (e.regs 20) (e.regs 21) in
+      let few = e.few in let limit = e.limit in let k = law w p b (length users) most sizes_of (pages_by most users) c d entered in
       ⊎_elim
       (λ u. ⊎_elim
       (λ a.
@@ -325,10 +326,10 @@ module _ (w : World) (f : Sound w) (r : RoutineLaws w) (p : Places) (b most : �
       granting _ (resize_call c) (ap₂ (λ x y. x && y) u.2 a.2)
       (subst (λ u. From w (vm_resize_code p (length users) most) (call_steps p b (size_given u (nat_abs (signed (c.regs 21))))) c d (CallLeft p most users (size_given u (nat_abs (signed (c.regs 21)))) c d)) (sym u.3)
       (subst (λ n. From w (vm_resize_code p (length users) most) (call_steps p b (size_given (c.regs 20) n)) c d (CallLeft p most users (size_given (c.regs 20) n) c d)) (sym a.3)
-      (from_later w r _ (600 + page_steps p.layout.pages b * ((sizes_of (c.regs 20) - c.regs 21) + (c.regs 21 - sizes_of (c.regs 20)))) _ c d _ _ (omega arith) (λ c1 d1 h. size_left (c.regs 20) (c.regs 21) good c1 d1 h.0 h.1) (k.0 good)))))
-      (λ a. refusing _ (resize_call c) 0 (ap₂ (λ x y. x && y) u.2 a.1) refl (k.1 (λ g. a.0 (omega arith) g.2)))
+      (from_later w r _ (600 + page_steps p.layout.pages b * ((sizes_of (c.regs 20) - c.regs 21) + (c.regs 21 - sizes_of (c.regs 20)))) _ c d _ _ (omega arith) (λ c1 d1 h. size_left (c.regs 20) (c.regs 21) good c1 d1 h.0.0 h.0.1) (k.good good)))))
+      (λ a. refusing _ (resize_call c) 0 (ap₂ (λ x y. x && y) u.2 a.1) refl (k.bad (λ g. a.0 (omega arith) g.2)))
       (within_is 0 most (c.regs 21) (omega arith) (e.regs 21)))
-      (λ u. refusing _ (resize_call c) 0 (ap (λ x. x && is_within 0 most (signed (c.regs 21))) u.1) refl (k.1 (λ g. u.0 g.0 g.1)))
+      (λ u. refusing _ (resize_call c) 0 (ap (λ x. x && is_within 0 most (signed (c.regs 21))) u.1) refl (k.bad (λ g. u.0 g.0 g.1)))
       (within_is 1 (length users) (c.regs 20) (omega arith) (e.regs 20))
 
   -- what a copy gives
@@ -412,17 +413,17 @@ module _ (w : World) (f : Sound w) (r : RoutineLaws w) (p : Places) (b most : �
   -- VM_COPY
   pub copies : VmCopy → Answers w (vm_copy_code p (length users) most (page_code p)) (copy_call c) p b most users c d
   copies law =
-      let k = law w p b (length users) most sizes_of (pages_by most users) c d entered (c.regs 20) (c.regs 21) (c.regs 22) (c.regs 23) (c.regs 24) refl refl refl refl refl (e.regs 20) (e.regs 21) (e.regs 22) (e.regs 23) (e.regs 24) in
+      let k = law w p b (length users) most sizes_of (pages_by most users) c d entered in
       ⊎_elim
       (λ lt. let en = signed_pos (c.regs 24) lt in
       ⊎_elim
       (λ g. granting _ (copy_call c) (ap (λ n. is_good most users (MakeCopy (signed (c.regs 20)) (signed (c.regs 21)) (signed (c.regs 22)) (signed (c.regs 23)) n)) en ∙ g.1)
       (named (nat_abs (signed (c.regs 20))) (nat_abs (signed (c.regs 21))) (nat_abs (signed (c.regs 22))) (nat_abs (signed (c.regs 23))) (nat_abs (signed (c.regs 24))) g.2.0 g.2.1 g.2.2 g.2.3 (ap nat_abs en)
-      (from_later w r _ (600 * (1 + c.regs 24) + page_steps p.layout.pages b * (3 * pieces (number most (c.regs 20) (c.regs 21)) (number most (c.regs 22) (c.regs 23)) (c.regs 24))) _ c d _ _ (copy_steps (c.regs 20) (c.regs 21) (c.regs 22) (c.regs 23) (c.regs 24)) (λ c1 d1 h. copy_left (c.regs 20) (c.regs 21) (c.regs 22) (c.regs 23) (c.regs 24) g.0 c1 d1 h.0 h.1) (k.0 g.0))))
-      (λ g. refusing _ (copy_call c) 0 (ap (λ n. is_good most users (MakeCopy (signed (c.regs 20)) (signed (c.regs 21)) (signed (c.regs 22)) (signed (c.regs 23)) n)) en ∙ g.1) refl (k.1 g.0))
+      (from_later w r _ (600 * (1 + c.regs 24) + page_steps p.layout.pages b * (3 * pieces (number most (c.regs 20) (c.regs 21)) (number most (c.regs 22) (c.regs 23)) (c.regs 24))) _ c d _ _ (copy_steps (c.regs 20) (c.regs 21) (c.regs 22) (c.regs 23) (c.regs 24)) (λ c1 d1 h. copy_left (c.regs 20) (c.regs 21) (c.regs 22) (c.regs 23) (c.regs 24) g.0 c1 d1 h.0 h.1) (k.good g.0))))
+      (λ g. refusing _ (copy_call c) 0 (ap (λ n. is_good most users (MakeCopy (signed (c.regs 20)) (signed (c.regs 21)) (signed (c.regs 22)) (signed (c.regs 23)) n)) en ∙ g.1) refl (k.bad g.0))
       (decided (c.regs 20) (c.regs 21) (c.regs 22) (c.regs 23) (c.regs 24) (e.regs 20) (e.regs 21) (e.regs 22) (e.regs 23) lt))
       (λ ge. refusing _ (copy_call c) 0 (ap (λ n. is_good most users (MakeCopy (signed (c.regs 20)) (signed (c.regs 21)) (signed (c.regs 22)) (signed (c.regs 23)) n)) (signed_neg (c.regs 24) ge (e.regs 24))) refl
-      (k.1 (λ g. let u3 = g.source.3 in let few = small_user (c.regs 20) (g.source.0, g.source.1) in absurd (omega arith))))
+      (k.bad (λ g. let u3 = g.source.3 in let few = small_user (c.regs 20) (g.source.0, g.source.1) in absurd (omega arith))))
       (cases_lt (c.regs 24) (2 ^ 31))
     where
       named : (u a t s n : ℕ) → u ≡ c.regs 20 → a ≡ c.regs 21 → t ≡ c.regs 22 → s ≡ c.regs 23 → n ≡ c.regs 24 → Is (copy_given (c.regs 20) (c.regs 21) (c.regs 22) (c.regs 23) (c.regs 24)) → Is (copy_given u a t s n)

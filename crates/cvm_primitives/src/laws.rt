@@ -3,7 +3,7 @@ ghost use Rattle.std.specs.Prelude.{ℕ, List};
 ghost use Rattle.mips_table.specs.Code.{World, Sound};
 ghost use Rattle.page_model.specs.Paging.{Layout, Pages, Paged, PagesStand};
 ghost use Rattle.cvm_primitives.specs.Routines.{RoutineLaws};
-ghost use Rattle.cvm_primitives.specs.Laws.{VmWord, VmPut, VmCopy, VmResize};
+ghost use Rattle.cvm_primitives.specs.Laws.{VmWord, VmPut, VmCopy, VmResize, PieceShares};
 ghost use Rattle.cvm_primitives.specs.Calls.{MemoryAnswers};
 ghost use Rattle.cvm_primitives.specs.Users.{Lists, InLists, Same};
 
@@ -61,6 +61,15 @@ pub fn a_memory_is_resized()
     ensures { VmResize }
 {
     routines_have_laws();
+}
+
+/// One piece of a copy, and how a whole page is copied: the target's page names the source's frame, unless that was a user frame that four
+/// other pages named.
+pub fn a_piece_shares()
+    ensures { (w : World) → Sound w → PieceShares w }
+{
+    routines_have_laws();
+    the_block_is_a_page_block();
 }
 
 /// What the laws say by numbers of pages and words is what the users' lists of words say.
