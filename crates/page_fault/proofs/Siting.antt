@@ -1,8 +1,8 @@
 -- A map's parts stand as the block asks.
-use Rattle.std.proofs.Common.{◌≡◌, ℕ, ◌+◌, ◌*◌, ◌/◌, ◌%◌, ◌<◌, ◌≤◌, None, arith}
+use Rattle.std.proofs.Common.{◌≡◌, ℕ, ◌*◌, ◌<◌, ◌≤◌, None, arith}
 use Rattle.std.proofs.Math.Nat.{mul-le-mul}
 use Rattle.mips_table.specs.Code.{World}
-use Rattle.layer_map.specs.Map.{Map, MapInRange, PartsInOrder, PartsBeginPages, tables_at, frame_table_at, zero_frame_at, memory_words}
+use Rattle.layer_map.specs.Map.{Map, MapInRange, PartsInOrder, PartsBeginPages, tables_at, memory_words}
 use Rattle.page_model.specs.Places.{places_of}
 use Rattle.frame_table.specs.View.{Sited}
 
