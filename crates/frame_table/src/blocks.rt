@@ -3,14 +3,14 @@ ghost use Rattle.std.specs.Prelude.{◌≡◌, ◌<◌, [], ◌∷◌, map as ea
 ghost use Rattle.mips_table.specs.declared.inst.Inst.TheVariants.{Sll, Srl, Addu, Subu, Addiu, Sltiu, Sw};
 ghost use Rattle.mips_table.specs.Encoding.{encoding};
 ghost use Rattle.page_model.specs.Places.{layout_of, places_of};
-ghost use Rattle.frame_table.specs.Code.{const_code, find_code, count_code, less_code, more_code, next_code};
+ghost use Rattle.frame_table.specs.Code.{const_code, find_code, user_code, count_code, less_code, more_code, next_code};
 
 use layer_map::{HAND, Map};
 use masm::Block;
 use mips_table::Inst;
 
-// A number in a register.
-pub(crate) fn constant(register: u32, value: u32) -> Block<2>
+/// Code after which `register`, below 32, is `value`.
+pub fn constant(register: u32, value: u32) -> Block<2>
     requires { register < 32 }
     ensures { result ≡ each encoding (const_code register value) }
 {
@@ -80,8 +80,22 @@ fn fields() -> Block<4>
     code
 }
 
-// The count of the user frame whose number, from 1, is in register 8: 9 becomes the count, and 8 its address.
-fn read_count(map: &Map) -> Block<6>
+/// Code after which register 8 is 0 where the frame in register 21 is the zero frame, and else the user frame's number, from 1; 9 changes.
+pub fn number_user(map: &Map) -> Block<3>
+    ensures { result ≡ each encoding (user_code (places_of map.now)) }
+{
+    let mut code = Block::<3>::new();
+    code.then(&constant(9, map.zero_frame() / 4096));
+    code.push(Inst::Subu {
+        rd: 8,
+        rs: 21,
+        rt: 9,
+    });
+    code
+}
+
+/// Code that reads the count of the user frame whose number, from 1, is in register 8: 9 becomes the count, and 8 its address.
+pub fn read_count(map: &Map) -> Block<6>
     ensures { result ≡ each encoding (count_code (places_of map.now)) }
 {
     let mut code = Block::<6>::new();
