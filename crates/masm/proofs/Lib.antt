@@ -9,3 +9,4 @@ mod Stays
 mod Copy
 mod Wait
 mod Transfer
+mod Calls

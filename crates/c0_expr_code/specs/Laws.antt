@@ -1,0 +1,101 @@
+-- The laws of the code of expressions.
+use Rattle.std.specs.Prelude.{◌≡◌, ◌≢◌, ℕ, ◌+◌, ◌-◌, ◌*◌, ◌<◌, ◌≤◌, Bool, true, false, List, [], ◌∷◌, ◌++◌, length, Some, slice_get}
+use Rattle.mips_table.specs.Code.{put, Contents, with_reg, World, Sound}
+use Rattle.masm.specs.declared.registers.TheConstants.{ARGUMENTS}
+use Rattle.c0_tree.specs.Tree.{CExpr}
+use Rattle.c0_tree.specs.Size.{nodes}
+use Rattle.c0_meaning.specs.Ty.{Ty, bool, named, is_scalar}
+use Rattle.c0_meaning.specs.Env.{Env, Shape}
+use Rattle.c0_meaning.specs.Words.{fields_named, words}
+use Rattle.c0_meaning.specs.Addresses.{words_to_part}
+use Rattle.c0_meaning.specs.Value.{locals, Location, Value, put as put_value}
+use Rattle.c0_meaning.specs.TypedState.{Layout, types_of, LeadsFrom, Fits, AreParts}
+use Rattle.c0_meaning.specs.Evaluation.{value_of, place_of}
+use Rattle.c0_meaning.specs.Numbered.{HasNumberedType, IsNumberedGiven}
+use Rattle.c0_meaning.specs.State.{State, write}
+use Rattle.c0_expr_code.specs.Scope.{Scope}
+use Rattle.c0_expr_code.specs.Code.{operand_code, made, value_code, place_spot}
+use Rattle.c0_expr_code.specs.Test.{test_code}
+use Rattle.c0_expr_code.specs.Bases.{words_of_all, Bases, types_in, word_at, word, RegionHeld}
+use Rattle.c0_expr_code.specs.Relation.{layout, Scene, Ready, Keeps, Area, units_of, Right, TestRuns}
+
+-- the code of every typed expression comes to what it means: as a value, as an operand, and as a place
+abbrev pub ExpressionsRun : Type 0
+ExpressionsRun = (w : World) (sc : Scope) (p : Bases) (s : State) → Sound w → Area w sc p → Scene sc p s
+    → (e : CExpr) (t : Ty) → HasNumberedType sc.env e t → nodes e ≤ 2000 → Right w sc p s e t
+
+-- so does the code of an expression that may stand where a type is asked, as `null` where a pointer is
+abbrev pub GivenRun : Type 0
+GivenRun = (w : World) (sc : Scope) (p : Bases) (s : State) → Sound w → Area w sc p → Scene sc p s
+    → (e : CExpr) (t : Ty) → IsNumberedGiven sc.env e t → nodes e ≤ 2000 → Right w sc p s e t
+
+-- the code of every typed test goes where its answer says
+abbrev pub TestsRun : Type 0
+TestsRun = (w : World) (sc : Scope) (p : Bases) (s : State) → Sound w → Area w sc p → Scene sc p s
+    → (e : CExpr) → IsNumberedGiven sc.env e bool → nodes e ≤ 2000 → TestRuns w sc p s e
+
+-- The code is short: at most 14 words a node, with room for three more behind a place, and 15 for a test; never empty as a value or a test; and
+-- a test's is as long for each distance.
+pub record CodesAreShort : Type 0 where
+  pub value : (sc : Scope) (e : CExpr) (d r : ℕ) → length (value_code sc e d r) ≤ 14 * nodes e
+  pub operand : (sc : Scope) (e : CExpr) (r : ℕ) → length (operand_code (made sc e) r) ≤ 14 * nodes e
+  pub place : (sc : Scope) (e : CExpr) (r : ℕ) → length (place_spot sc e r).code + 3 ≤ 14 * nodes e
+  pub test : (sc : Scope) (e : CExpr) (s : Bool) (far r : ℕ) → length (test_code sc e s far r) ≤ 15 * nodes e
+  pub some : (sc : Scope) (e : CExpr) (d r : ℕ) → 1 ≤ length (value_code sc e d r)
+  pub test_some : (sc : Scope) (e : CExpr) (s : Bool) (far r : ℕ) → 1 ≤ length (test_code sc e s far r)
+  pub same : (sc : Scope) (e : CExpr) (s : Bool) (far other r : ℕ) → length (test_code sc e s far r) ≡ length (test_code sc e s other r)
+
+-- no evaluation costs more units than its expression has nodes
+pub record CostsAreFew : Type 0 where
+  pub value : (e : CExpr) (s : State) → units_of (value_of e s) ≤ nodes e
+  pub place : (e : CExpr) (s : State) → units_of (place_of e s) ≤ nodes e
+
+-- two environments with the same structs, globals and variables: their functions and primitives may differ
+pub record HaveSameNames (a b : Env) : Type 0 where
+  pub structs : a.structs ≡ b.structs
+  pub globals : a.globals ≡ b.globals
+  pub locals : a.locals ≡ b.locals
+
+-- no function and no primitive stands in an expression
+abbrev pub NamesAreEnough : Type 0
+NamesAreEnough = (a b : Env) → HaveSameNames a b → (e : CExpr) (t : Ty) → HasNumberedType a e t → HasNumberedType b e t
+
+-- globals, heap and the frame stand one behind the other
+pub record AreSpread (sc : Scope) (p : Bases) : Type 0 where
+  pub heap_behind : p.globals + words_of_all sc.env.structs (types_of sc.env.globals) ≤ p.heap
+  pub frame_behind : p.heap + words_of_all sc.env.structs p.objects ≤ p.frame_end - sc.frame
+
+-- the contents with a word of memory written
+abbrev pub with_word : Contents → ℕ → ℕ → Contents
+with_word c k v = record c { memory = put c.memory k v }
+
+-- a layout with more objects
+abbrev pub with_more : Layout → List Ty → Layout
+with_more layout more = record { globals = layout.globals; objects = layout.objects ++ more }
+
+-- Where a scalar's word is stored at a location, in memory or in a register, the state that has the scalar there stands in the machine;
+-- and it is typed where the scalar fits.
+pub record StoresHold : Type 0 where
+  pub in_memory : (w : World) (sc : Scope) (p : Bases) (s : State) (c : Contents) → Area w sc p → AreSpread sc p → Ready sc p s c → (l : Location) (t : Ty) (x : Value) → LeadsFrom sc.env.structs (types_in sc p l.region) l.path t
+      → (l.region ≡ locals → sc.in_registers ≡ false) → is_scalar t ≡ true → Ready sc p (write s l x) (with_word c (word_at sc p l) (word sc p x))
+  pub in_register : (w : World) (sc : Scope) (p : Bases) (s : State) (c : Contents) → Area w sc p → Ready sc p s c → (n : ℕ) (t : Ty) (x : Value) → sc.in_registers ≡ true → slice_get (types_of sc.env.locals) n ≡ Some t
+      → Ready sc p (write s (record { region = locals; path = n ∷ [] }) x) (with_reg c (ARGUMENTS + n) (word sc p x))
+  pub typed : (sc : Scope) (p : Bases) (s : State) → Scene sc p s → (l : Location) (t : Ty) (x : Value) → LeadsFrom sc.env.structs (types_in sc p l.region) l.path t → Fits sc.env.structs (layout sc p) t x → Scene sc p (write s l x)
+
+-- a struct's words are those of its fields
+abbrev pub IsOpened : List Shape → Type 0
+IsOpened structs = (x : List ℕ) → words structs (named x) ≡ words_of_all structs (types_of (fields_named structs x))
+
+-- What code keeps by registers and words it keeps of the state; a region stands where its words are the same; and where one word of a region
+-- alone changes, the region with the scalar there.
+pub record HeldStays : Type 0 where
+  pub ready : (sc : Scope) (p : Bases) (s : State) (a b : Contents) → Keeps 0 0 a b → Ready sc p s a → Ready sc p s b
+  pub same : (sc : Scope) (p : Bases) → IsOpened sc.env.structs → (m other : ℕ → ℕ) (a : ℕ) (types : List Ty) (v : Value) → ((k : ℕ) → a ≤ k → k < a + words_of_all sc.env.structs types → other k ≡ m k) → RegionHeld sc p m a types v → RegionHeld sc p other a types v
+  pub written : (sc : Scope) (p : Bases) → IsOpened sc.env.structs → (m other : ℕ → ℕ) (a k : ℕ) (types : List Ty) (path : List ℕ) (t : Ty) (v x : Value) → LeadsFrom sc.env.structs types path t → is_scalar t ≡ true
+      → k ≡ a + words_to_part sc.env.structs types path → other k ≡ word sc p x → ((i : ℕ) → i ≢ k → other i ≡ m i) → RegionHeld sc p m a types v → RegionHeld sc p other a types (put_value v path x)
+
+-- typed values stay typed with a part changed, and with more objects
+pub record PartsFit : Type 0 where
+  pub changed : (structs : List Shape) (layout : Layout) (types : List Ty) (path : List ℕ) (t : Ty) (v x : Value) → LeadsFrom structs types path t → AreParts structs layout types v → Fits structs layout t x → AreParts structs layout types (put_value v path x)
+  pub more : (structs : List Shape) (layout : Layout) (objects : List Ty) (types : List Ty) (v : Value) → AreParts structs layout types v → AreParts structs (with_more layout objects) types v
+  pub more_of : (structs : List Shape) (layout : Layout) (objects : List Ty) (t : Ty) (v : Value) → Fits structs layout t v → Fits structs (with_more layout objects) t v
