@@ -23,3 +23,4 @@ mod Names
 mod Stores
 mod Parts
 mod Ready
+mod Areas

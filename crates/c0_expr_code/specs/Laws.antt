@@ -2,9 +2,10 @@
 use Rattle.std.specs.Prelude.{◌≡◌, ◌≢◌, ℕ, ◌+◌, ◌-◌, ◌*◌, ◌<◌, ◌≤◌, Bool, true, false, List, [], ◌∷◌, ◌++◌, length, Some, slice_get}
 use Rattle.mips_table.specs.Code.{put, Contents, with_reg, World, Sound}
 use Rattle.masm.specs.declared.registers.TheConstants.{ARGUMENTS}
-use Rattle.c0_tree.specs.Tree.{CExpr}
+use Rattle.c0_tree.specs.Primitives.{CPrimitive}
+use Rattle.c0_tree.specs.Tree.{CTy, CExpr, CFunction, CUnit}
 use Rattle.c0_tree.specs.Size.{nodes}
-use Rattle.c0_meaning.specs.Ty.{Ty, bool, named, is_scalar}
+use Rattle.c0_meaning.specs.Ty.{Ty, bool, named, ty_of, is_scalar}
 use Rattle.c0_meaning.specs.Env.{Env, Shape}
 use Rattle.c0_meaning.specs.Words.{fields_named, words}
 use Rattle.c0_meaning.specs.Addresses.{words_to_part}
@@ -13,7 +14,11 @@ use Rattle.c0_meaning.specs.TypedState.{Layout, types_of, LeadsFrom, Fits, ArePa
 use Rattle.c0_meaning.specs.Evaluation.{value_of, place_of}
 use Rattle.c0_meaning.specs.Numbered.{HasNumberedType, IsNumberedGiven}
 use Rattle.c0_meaning.specs.State.{State, write}
-use Rattle.c0_expr_code.specs.Scope.{Scope}
+use Rattle.c0_meaning.specs.Sound.{shapes}
+use Rattle.c0_meaning.specs.Typed.{IsDeclarable}
+use Rattle.c0_meaning.specs.Unit.{IsWellFormed}
+use Rattle.masm.specs.declared.registers.Places.{Places}
+use Rattle.c0_expr_code.specs.Scope.{Scope, scope_of}
 use Rattle.c0_expr_code.specs.Code.{operand_code, made, value_code, place_spot}
 use Rattle.c0_expr_code.specs.Test.{test_code}
 use Rattle.c0_expr_code.specs.Bases.{words_of_all, Bases, types_in, word_at, word, RegionHeld}
@@ -99,3 +104,22 @@ pub record PartsFit : Type 0 where
   pub changed : (structs : List Shape) (layout : Layout) (types : List Ty) (path : List ℕ) (t : Ty) (v x : Value) → LeadsFrom structs types path t → AreParts structs layout types v → Fits structs layout t x → AreParts structs layout types (put_value v path x)
   pub more : (structs : List Shape) (layout : Layout) (objects : List Ty) (types : List Ty) (v : Value) → AreParts structs layout types v → AreParts structs (with_more layout objects) types v
   pub more_of : (structs : List Shape) (layout : Layout) (objects : List Ty) (t : Ty) (v : Value) → Fits structs layout t v → Fits structs (with_more layout objects) t v
+
+-- a type is one that may be declared, and so are types
+abbrev pub IsDeclared : List Shape → Ty → Type 0
+IsDeclared structs t = (c : CTy) × (ty_of c ≡ t) × IsDeclarable structs c
+
+abbrev pub AreDeclared : List Shape → List Ty → Type 0
+AreDeclared structs types = (i : ℕ) (t : Ty) → slice_get types i ≡ Some t → IsDeclared structs t
+
+-- heap and frame lie in memory, the globals don't begin at word 0, and the frame is in the stack whole
+pub record HasRoom (w : World) (sc : Scope) (p : Bases) : Type 0 where
+  pub from : 0 < p.globals
+  pub heap : p.heap + words_of_all sc.env.structs p.objects ≤ w.words
+  pub frame : p.frame_end ≤ w.words
+  pub inside : sc.frame ≤ p.frame_end
+
+-- in a unit that is well formed all that the code of a function's expressions rests on holds
+abbrev pub AreasHold : Type 0
+AreasHold = (primitives : List CPrimitive) (u : CUnit) → IsWellFormed primitives u → (f : CFunction) (number : ℕ) → slice_get u.functions number ≡ Some f → (places : Places) (w : World) (p : Bases)
+    → HasRoom w (scope_of u f places) p → AreSpread (scope_of u f places) p → AreDeclared (shapes u) p.objects → Area w (scope_of u f places) p

@@ -1,7 +1,9 @@
 //! The laws of the code of expressions. Each is the contract of a function that does nothing.
 
-ghost use Rattle.c0_expr_code.specs.Laws.{CodesAreShort, CostsAreFew, ExpressionsRun, GivenRun, HeldStays, NamesAreEnough, PartsFit, StoresHold, TestsRun};
+ghost use Rattle.c0_expr_code.specs.Laws.{AreasHold, CodesAreShort, CostsAreFew, ExpressionsRun, GivenRun, HeldStays, NamesAreEnough, PartsFit, StoresHold, TestsRun};
 
+use c0_meaning::laws::{units_are_typed_or_faulty, words_are_those_of_the_parts};
+use c0_meaning::run_laws::{declared_types_have_words, parts_of_a_type_are_apart};
 use masm::laws::{jumps_lead, straight_code_runs};
 
 /// The code of a typed expression gives its value, or its place, or leaves by the exit of its fault.
@@ -50,3 +52,13 @@ pub fn held_stays()
 pub fn parts_fit()
     ensures { PartsFit }
 {}
+
+/// In a unit that is well formed all that the code of expressions rests on holds.
+pub fn areas_hold()
+    ensures { AreasHold }
+{
+    units_are_typed_or_faulty();
+    words_are_those_of_the_parts();
+    declared_types_have_words();
+    parts_of_a_type_are_apart();
+}
