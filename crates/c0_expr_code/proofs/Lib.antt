@@ -24,3 +24,4 @@ mod Stores
 mod Parts
 mod Ready
 mod Areas
+mod Storing

@@ -3,7 +3,7 @@
 use Rattle.std.specs.Prelude.{ℕ, zero, suc, ◌+◌, ◌*◌, ◌-◌, ◌/◌, ◌%◌, ◌^◌, Bool, true, false, ◌==◌, nat_lt, if◌then◌else◌, List, [], ◌∷◌, ◌++◌, length, Option, Some, None, unwrap_or}
 use Rattle.mips_table.specs.Arith.{extended}
 use Rattle.mips_table.specs.declared.inst.Inst.{Inst}
-use Rattle.mips_table.specs.declared.inst.Inst.TheVariants.{Addu, Subu, Xor, Slt, Sltu, J, Beq, Bne, Addiu, Slti, Sltiu, Ori, Xori, Lui, Lw, Sll, Mult, Div as Divide, Mfhi, Mflo}
+use Rattle.mips_table.specs.declared.inst.Inst.TheVariants.{Addu, Subu, Xor, Slt, Sltu, J, Beq, Bne, Addiu, Slti, Sltiu, Ori, Xori, Lui, Lw, Sw, Sll, Mult, Div as Divide, Mfhi, Mflo}
 use Rattle.masm.specs.declared.registers.TheConstants.{SCRATCH, ARGUMENTS, GLOBALS, FRAME_END}
 use Rattle.c0_tree.specs.declared.tree.Kind.{Kind}
 use Rattle.c0_tree.specs.declared.tree.Kind.TheVariants.{Unresolved, Struct, Field, Global, Local, Function, Primitive}
@@ -82,6 +82,10 @@ on_spot f r x =
 -- what stands at a place, into a register
 abbrev pub load_code : ℕ → ℕ → Spot → List Inst
 load_code d r x = on_spot (λ b k. Lw d b k) r x
+
+-- a register's word, to a place
+abbrev pub store_code : ℕ → ℕ → Spot → List Inst
+store_code q r x = on_spot (λ b k. Sw q b k) r x
 
 -- no code, where a value stands already
 abbrev pub or_code : Option ℕ → List Inst → List Inst

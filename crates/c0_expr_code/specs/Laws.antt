@@ -1,7 +1,8 @@
 -- The laws of the code of expressions.
-use Rattle.std.specs.Prelude.{◌≡◌, ◌≢◌, ℕ, ◌+◌, ◌-◌, ◌*◌, ◌<◌, ◌≤◌, Bool, true, false, List, [], ◌∷◌, ◌++◌, length, Some, slice_get}
-use Rattle.mips_table.specs.Code.{put, Contents, with_reg, World, Sound}
-use Rattle.masm.specs.declared.registers.TheConstants.{ARGUMENTS}
+use Rattle.std.specs.Prelude.{◌≡◌, ◌≢◌, ℕ, ◌+◌, ◌-◌, ◌*◌, ◌%◌, ◌^◌, ◌<◌, ◌≤◌, Bool, true, false, List, [], ◌∷◌, ◌++◌, length, None, Some, slice_get}
+use Rattle.mips_table.specs.Code.{put, Contents, reg, with_reg, Behind, World, Sound, at_with, Reaches, CodeAt}
+use Rattle.mips_table.specs.Device.{Idle}
+use Rattle.masm.specs.declared.registers.TheConstants.{SCRATCH, ARGUMENTS}
 use Rattle.c0_tree.specs.Primitives.{CPrimitive}
 use Rattle.c0_tree.specs.Tree.{CTy, CExpr, CFunction, CUnit}
 use Rattle.c0_tree.specs.Size.{nodes}
@@ -19,10 +20,10 @@ use Rattle.c0_meaning.specs.Typed.{IsDeclarable}
 use Rattle.c0_meaning.specs.Unit.{IsWellFormed}
 use Rattle.masm.specs.declared.registers.Places.{Places}
 use Rattle.c0_expr_code.specs.Scope.{Scope, scope_of}
-use Rattle.c0_expr_code.specs.Code.{operand_code, made, value_code, place_spot}
+use Rattle.c0_expr_code.specs.Code.{Spot, store_code, operand_code, made, value_code, place_spot}
 use Rattle.c0_expr_code.specs.Test.{test_code}
 use Rattle.c0_expr_code.specs.Bases.{words_of_all, Bases, types_in, word_at, word, RegionHeld}
-use Rattle.c0_expr_code.specs.Relation.{layout, Scene, Ready, Keeps, Area, units_of, Right, TestRuns}
+use Rattle.c0_expr_code.specs.Relation.{layout, Scene, Ready, Keeps, Area, Source, units_of, Right, TestRuns}
 
 -- the code of every typed expression comes to what it means: as a value, as an operand, and as a place
 abbrev pub ExpressionsRun : Type 0
@@ -123,3 +124,9 @@ pub record HasRoom (w : World) (sc : Scope) (p : Bases) : Type 0 where
 abbrev pub AreasHold : Type 0
 AreasHold = (primitives : List CPrimitive) (u : CUnit) → IsWellFormed primitives u → (f : CFunction) (number : ℕ) → slice_get u.functions number ≡ Some f → (places : Places) (w : World) (p : Bases)
     → HasRoom w (scope_of u f places) p → AreSpread (scope_of u f places) p → AreDeclared (shapes u) p.objects → Area w (scope_of u f places) p
+
+-- The code that stores a register's word at a place, from behind the place's code: the word stands there, and the rest is kept, in at most three steps.
+abbrev pub StoresRun : World → Type 0
+StoresRun w = (x : Spot) (q r n a v : ℕ) (c : Contents) (k : Behind) → k.pending ≡ Idle → 8 ≤ r → r < 20 → Source r x.base → q ≢ r → q ≢ SCRATCH → CodeAt w n (store_code q r x)
+    → (reg c.regs x.base + x.shift) % 2 ^ 32 ≡ 4 * a → a < w.words → w.kept a ≡ None → reg c.regs q ≡ v
+    → (c' : Contents) × Keeps r r (with_word c a v) c' × Reaches w 3 (at_with (n + length x.code) c k) (at_with (n + length (store_code q r x)) c' k)

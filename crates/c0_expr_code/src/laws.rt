@@ -1,6 +1,7 @@
 //! The laws of the code of expressions. Each is the contract of a function that does nothing.
 
-ghost use Rattle.c0_expr_code.specs.Laws.{AreasHold, CodesAreShort, CostsAreFew, ExpressionsRun, GivenRun, HeldStays, NamesAreEnough, PartsFit, StoresHold, TestsRun};
+ghost use Rattle.c0_expr_code.specs.Laws.{AreasHold, CodesAreShort, CostsAreFew, ExpressionsRun, GivenRun, HeldStays, NamesAreEnough, PartsFit, StoresHold, StoresRun, TestsRun};
+ghost use Rattle.mips_table.specs.Code.{World, Sound};
 
 use c0_meaning::laws::{units_are_typed_or_faulty, words_are_those_of_the_parts};
 use c0_meaning::run_laws::{declared_types_have_words, parts_of_a_type_are_apart};
@@ -61,4 +62,12 @@ pub fn areas_hold()
     words_are_those_of_the_parts();
     declared_types_have_words();
     parts_of_a_type_are_apart();
+}
+
+/// A register's word is stored at a place.
+pub fn stores_run()
+    ensures { (w : World) → Sound w → StoresRun w }
+{
+    straight_code_runs();
+    jumps_lead();
 }
