@@ -25,3 +25,4 @@ mod Parts
 mod Ready
 mod Areas
 mod Storing
+mod Elsewhere

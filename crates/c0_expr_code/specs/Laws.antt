@@ -130,3 +130,16 @@ abbrev pub StoresRun : World → Type 0
 StoresRun w = (x : Spot) (q r n a v : ℕ) (c : Contents) (k : Behind) → k.pending ≡ Idle → 8 ≤ r → r < 20 → Source r x.base → q ≢ r → q ≢ SCRATCH → CodeAt w n (store_code q r x)
     → (reg c.regs x.base + x.shift) % 2 ^ 32 ≡ 4 * a → a < w.words → w.kept a ≡ None → reg c.regs q ≡ v
     → (c' : Contents) × Keeps r r (with_word c a v) c' × Reaches w 3 (at_with (n + length x.code) c k) (at_with (n + length (store_code q r x)) c' k)
+
+-- another scope of the same unit, and bases with the same beginnings of globals and heap, where there may be more objects
+pub record IsLater (sc : Scope) (p : Bases) (other : Scope) (q : Bases) : Type 0 where
+  pub structs : other.env.structs ≡ sc.env.structs
+  pub global_types : other.env.globals ≡ sc.env.globals
+  pub globals : q.globals ≡ p.globals
+  pub heap : q.heap ≡ p.heap
+  pub objects : (more : List Ty) × (q.objects ≡ p.objects ++ more)
+
+-- typed values stand as before there, and the words of scalars are the same: no value points to a variable
+pub record HeldElsewhere : Type 0 where
+  pub region : (sc : Scope) (p : Bases) (other : Scope) (q : Bases) → IsLater sc p other q → (m : ℕ → ℕ) (a : ℕ) (types : List Ty) (v : Value) → AreParts sc.env.structs (layout sc p) types v → RegionHeld sc p m a types v → RegionHeld other q m a types v
+  pub scalar : (sc : Scope) (p : Bases) (other : Scope) (q : Bases) → IsLater sc p other q → (t : Ty) (v : Value) → Fits sc.env.structs (layout sc p) t v → is_scalar t ≡ true → word other q v ≡ word sc p v

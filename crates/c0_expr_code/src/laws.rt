@@ -1,6 +1,6 @@
 //! The laws of the code of expressions. Each is the contract of a function that does nothing.
 
-ghost use Rattle.c0_expr_code.specs.Laws.{AreasHold, CodesAreShort, CostsAreFew, ExpressionsRun, GivenRun, HeldStays, NamesAreEnough, PartsFit, StoresHold, StoresRun, TestsRun};
+ghost use Rattle.c0_expr_code.specs.Laws.{AreasHold, CodesAreShort, CostsAreFew, ExpressionsRun, GivenRun, HeldElsewhere, HeldStays, NamesAreEnough, PartsFit, StoresHold, StoresRun, TestsRun};
 ghost use Rattle.mips_table.specs.Code.{World, Sound};
 
 use c0_meaning::laws::{units_are_typed_or_faulty, words_are_those_of_the_parts};
@@ -71,3 +71,8 @@ pub fn stores_run()
     straight_code_runs();
     jumps_lead();
 }
+
+/// Typed values stand as before where another function runs, and where there are more objects.
+pub fn held_elsewhere()
+    ensures { HeldElsewhere }
+{}
