@@ -2,6 +2,7 @@
 
 ghost use Rattle.c0_expr_code.specs.Laws.{AreasHold, CodesAreShort, CostsAreFew, ExpressionsRun, GivenRun, HeldElsewhere, HeldStays, NamesAreEnough, PartsFit, StoresHold, StoresRun, TestsRun};
 ghost use Rattle.mips_table.specs.Code.{World, Sound};
+ghost use Rattle.c0_expr_code.specs.Rows.{ArePlaces, AreSums, AreTests};
 
 use c0_meaning::laws::{units_are_typed_or_faulty, words_are_those_of_the_parts};
 use c0_meaning::run_laws::{declared_types_have_words, parts_of_a_type_are_apart};
@@ -75,4 +76,11 @@ pub fn stores_run()
 /// Typed values stand as before where another function runs, and where there are more objects.
 pub fn held_elsewhere()
     ensures { HeldElsewhere }
+{}
+
+/// The code of some expressions, word by word.
+pub fn worked_rows()
+    ensures sums { AreSums }
+    ensures places { ArePlaces }
+    ensures tests { AreTests }
 {}
