@@ -82,11 +82,14 @@ with_more layout more = record { globals = layout.globals; objects = layout.obje
 -- Where a scalar's word is stored at a location, in memory or in a register, the state that has the scalar there stands in the machine;
 -- and it is typed where the scalar fits.
 pub record StoresHold : Type 0 where
-  pub in_memory : (w : World) (sc : Scope) (p : Bases) (s : State) (c : Contents) → Area w sc p → AreSpread sc p → Ready sc p s c → (l : Location) (t : Ty) (x : Value) → LeadsFrom sc.env.structs (types_in sc p l.region) l.path t
+  pub in_memory : (w : World) (sc : Scope) (p : Bases) (s : State) (c : Contents) → Area w sc p → AreSpread sc p → Ready sc p s c
+      → (l : Location) (t : Ty) (x : Value) → LeadsFrom sc.env.structs (types_in sc p l.region) l.path t
       → (l.region ≡ locals → sc.in_registers ≡ false) → is_scalar t ≡ true → Ready sc p (write s l x) (with_word c (word_at sc p l) (word sc p x))
-  pub in_register : (w : World) (sc : Scope) (p : Bases) (s : State) (c : Contents) → Area w sc p → Ready sc p s c → (n : ℕ) (t : Ty) (x : Value) → sc.in_registers ≡ true → slice_get (types_of sc.env.locals) n ≡ Some t
+  pub in_register : (w : World) (sc : Scope) (p : Bases) (s : State) (c : Contents) → Area w sc p → Ready sc p s c → (n : ℕ) (t : Ty) (x : Value)
+      → sc.in_registers ≡ true → slice_get (types_of sc.env.locals) n ≡ Some t
       → Ready sc p (write s (record { region = locals; path = n ∷ [] }) x) (with_reg c (ARGUMENTS + n) (word sc p x))
-  pub typed : (sc : Scope) (p : Bases) (s : State) → Scene sc p s → (l : Location) (t : Ty) (x : Value) → LeadsFrom sc.env.structs (types_in sc p l.region) l.path t → Fits sc.env.structs (layout sc p) t x → Scene sc p (write s l x)
+  pub typed : (sc : Scope) (p : Bases) (s : State) → Scene sc p s → (l : Location) (t : Ty) (x : Value)
+      → LeadsFrom sc.env.structs (types_in sc p l.region) l.path t → Fits sc.env.structs (layout sc p) t x → Scene sc p (write s l x)
 
 -- a struct's words are those of its fields
 abbrev pub IsOpened : List Shape → Type 0
@@ -96,15 +99,22 @@ IsOpened structs = (x : List ℕ) → words structs (named x) ≡ words_of_all s
 -- alone changes, the region with the scalar there.
 pub record HeldStays : Type 0 where
   pub ready : (sc : Scope) (p : Bases) (s : State) (a b : Contents) → Keeps 0 0 a b → Ready sc p s a → Ready sc p s b
-  pub same : (sc : Scope) (p : Bases) → IsOpened sc.env.structs → (m other : ℕ → ℕ) (a : ℕ) (types : List Ty) (v : Value) → ((k : ℕ) → a ≤ k → k < a + words_of_all sc.env.structs types → other k ≡ m k) → RegionHeld sc p m a types v → RegionHeld sc p other a types v
-  pub written : (sc : Scope) (p : Bases) → IsOpened sc.env.structs → (m other : ℕ → ℕ) (a k : ℕ) (types : List Ty) (path : List ℕ) (t : Ty) (v x : Value) → LeadsFrom sc.env.structs types path t → is_scalar t ≡ true
-      → k ≡ a + words_to_part sc.env.structs types path → other k ≡ word sc p x → ((i : ℕ) → i ≢ k → other i ≡ m i) → RegionHeld sc p m a types v → RegionHeld sc p other a types (put_value v path x)
+  pub same : (sc : Scope) (p : Bases) → IsOpened sc.env.structs → (m other : ℕ → ℕ) (a : ℕ) (types : List Ty) (v : Value)
+      → ((k : ℕ) → a ≤ k → k < a + words_of_all sc.env.structs types → other k ≡ m k) → RegionHeld sc p m a types v → RegionHeld sc p other a types v
+  pub written : (sc : Scope) (p : Bases) → IsOpened sc.env.structs
+      → (m other : ℕ → ℕ) (a k : ℕ) (types : List Ty) (path : List ℕ) (t : Ty) (v x : Value) → LeadsFrom sc.env.structs types path t
+      → is_scalar t ≡ true
+      → k ≡ a + words_to_part sc.env.structs types path → other k ≡ word sc p x → ((i : ℕ) → i ≢ k → other i ≡ m i) → RegionHeld sc p m a types v
+      → RegionHeld sc p other a types (put_value v path x)
 
 -- typed values stay typed with a part changed, and with more objects
 pub record PartsFit : Type 0 where
-  pub changed : (structs : List Shape) (layout : Layout) (types : List Ty) (path : List ℕ) (t : Ty) (v x : Value) → LeadsFrom structs types path t → AreParts structs layout types v → Fits structs layout t x → AreParts structs layout types (put_value v path x)
-  pub more : (structs : List Shape) (layout : Layout) (objects : List Ty) (types : List Ty) (v : Value) → AreParts structs layout types v → AreParts structs (with_more layout objects) types v
-  pub more_of : (structs : List Shape) (layout : Layout) (objects : List Ty) (t : Ty) (v : Value) → Fits structs layout t v → Fits structs (with_more layout objects) t v
+  pub changed : (structs : List Shape) (layout : Layout) (types : List Ty) (path : List ℕ) (t : Ty) (v x : Value) → LeadsFrom structs types path t
+      → AreParts structs layout types v → Fits structs layout t x → AreParts structs layout types (put_value v path x)
+  pub more : (structs : List Shape) (layout : Layout) (objects : List Ty) (types : List Ty) (v : Value) → AreParts structs layout types v
+      → AreParts structs (with_more layout objects) types v
+  pub more_of : (structs : List Shape) (layout : Layout) (objects : List Ty) (t : Ty) (v : Value) → Fits structs layout t v
+      → Fits structs (with_more layout objects) t v
 
 -- a type is one that may be declared, and so are types
 abbrev pub IsDeclared : List Shape → Ty → Type 0
@@ -122,12 +132,14 @@ pub record HasRoom (w : World) (sc : Scope) (p : Bases) : Type 0 where
 
 -- in a unit that is well formed all that the code of a function's expressions rests on holds
 abbrev pub AreasHold : Type 0
-AreasHold = (primitives : List CPrimitive) (u : CUnit) → IsWellFormed primitives u → (f : CFunction) (number : ℕ) → slice_get u.functions number ≡ Some f → (places : Places) (w : World) (p : Bases)
+AreasHold = (primitives : List CPrimitive) (u : CUnit) → IsWellFormed primitives u → (f : CFunction) (number : ℕ)
+    → slice_get u.functions number ≡ Some f → (places : Places) (w : World) (p : Bases)
     → HasRoom w (scope_of u f places) p → AreSpread (scope_of u f places) p → AreDeclared (shapes u) p.objects → Area w (scope_of u f places) p
 
 -- The code that stores a register's word at a place, from behind the place's code: the word stands there, and the rest is kept, in at most three steps.
 abbrev pub StoresRun : World → Type 0
-StoresRun w = (x : Spot) (q r n a v : ℕ) (c : Contents) (k : Behind) → k.pending ≡ Idle → 8 ≤ r → r < 20 → Source r x.base → q ≢ r → q ≢ SCRATCH → CodeAt w n (store_code q r x)
+StoresRun w = (x : Spot) (q r n a v : ℕ) (c : Contents) (k : Behind) → k.pending ≡ Idle → 8 ≤ r → r < 20 → Source r x.base → q ≢ r → q ≢ SCRATCH
+    → CodeAt w n (store_code q r x)
     → (reg c.regs x.base + x.shift) % 2 ^ 32 ≡ 4 * a → a < w.words → w.kept a ≡ None → reg c.regs q ≡ v
     → (c' : Contents) × Keeps r r (with_word c a v) c' × Reaches w 3 (at_with (n + length x.code) c k) (at_with (n + length (store_code q r x)) c' k)
 
@@ -141,5 +153,7 @@ pub record IsLater (sc : Scope) (p : Bases) (other : Scope) (q : Bases) : Type 0
 
 -- typed values stand as before there, and the words of scalars are the same: no value points to a variable
 pub record HeldElsewhere : Type 0 where
-  pub region : (sc : Scope) (p : Bases) (other : Scope) (q : Bases) → IsLater sc p other q → (m : ℕ → ℕ) (a : ℕ) (types : List Ty) (v : Value) → AreParts sc.env.structs (layout sc p) types v → RegionHeld sc p m a types v → RegionHeld other q m a types v
-  pub scalar : (sc : Scope) (p : Bases) (other : Scope) (q : Bases) → IsLater sc p other q → (t : Ty) (v : Value) → Fits sc.env.structs (layout sc p) t v → is_scalar t ≡ true → word other q v ≡ word sc p v
+  pub region : (sc : Scope) (p : Bases) (other : Scope) (q : Bases) → IsLater sc p other q → (m : ℕ → ℕ) (a : ℕ) (types : List Ty) (v : Value)
+      → AreParts sc.env.structs (layout sc p) types v → RegionHeld sc p m a types v → RegionHeld other q m a types v
+  pub scalar : (sc : Scope) (p : Bases) (other : Scope) (q : Bases) → IsLater sc p other q → (t : Ty) (v : Value)
+      → Fits sc.env.structs (layout sc p) t v → is_scalar t ≡ true → word other q v ≡ word sc p v

@@ -93,11 +93,14 @@ pub record AreSums : Type 0 where
 pub record ArePlaces : Type 0 where
   pub known : value_code (scope false) (index z a (number 3)) 8 8 ≡ Lw 8 28 16 ∷ []
   pub last : value_code (scope false) (index z a (number 9)) 8 8 ≡ Lw 8 28 40 ∷ []
-  pub outside : value_code (scope false) (index z a (number 10)) 8 8 ≡ Ori 9 0 10 ∷ Sltiu 1 9 10 ∷ Bne 1 0 1 ∷ J 101 ∷ Sll 1 9 2 ∷ Addu 8 28 1 ∷ Lw 8 8 4 ∷ []
-  pub element : value_code (scope false) (index z a i) 8 8 ≡ Lw 9 29 65528 ∷ Sltiu 1 9 10 ∷ Bne 1 0 1 ∷ J 101 ∷ Sll 1 9 2 ∷ Addu 8 28 1 ∷ Lw 8 8 4 ∷ []
+  pub outside : value_code (scope false) (index z a (number 10)) 8 8
+      ≡ Ori 9 0 10 ∷ Sltiu 1 9 10 ∷ Bne 1 0 1 ∷ J 101 ∷ Sll 1 9 2 ∷ Addu 8 28 1 ∷ Lw 8 8 4 ∷ []
+  pub element : value_code (scope false) (index z a i) 8 8
+      ≡ Lw 9 29 65528 ∷ Sltiu 1 9 10 ∷ Bne 1 0 1 ∷ J 101 ∷ Sll 1 9 2 ∷ Addu 8 28 1 ∷ Lw 8 8 4 ∷ []
   pub long : value_code (scope true) (index z b i) 8 8 ≡ Ori 1 0 50000 ∷ Sltu 1 20 1 ∷ Bne 1 0 1 ∷ J 101 ∷ Sll 1 20 2 ∷ Addu 8 28 1 ∷ Lw 8 8 48 ∷ []
   pub far : value_code (scope true) (index z b (number 20000)) 9 8 ≡ Lui 1 1 ∷ Addu 8 28 1 ∷ Lw 9 8 14512 ∷ []
-  pub path : value_code (scope true) (arrow z (arrow z n (name Field 1)) (name Field 0)) 8 8 ≡ Bne 21 0 1 ∷ J 100 ∷ Lw 8 21 4 ∷ Bne 8 0 1 ∷ J 100 ∷ Lw 8 8 0 ∷ []
+  pub path : value_code (scope true) (arrow z (arrow z n (name Field 1)) (name Field 0)) 8 8
+      ≡ Bne 21 0 1 ∷ J 100 ∷ Lw 8 21 4 ∷ Bne 8 0 1 ∷ J 100 ∷ Lw 8 8 0 ∷ []
   pub place : value_code (scope true) (address z (index z a i)) 8 8 ≡ Sltiu 1 20 10 ∷ Bne 1 0 1 ∷ J 101 ∷ Sll 1 20 2 ∷ Addu 8 28 1 ∷ Addiu 8 8 4 ∷ []
   pub stored : store_code 8 9 (place_spot (scope false) i 9) ≡ Sw 8 29 65528 ∷ []
   pub power : scale_code 1024 9 ≡ Sll 1 9 12 ∷ []
@@ -116,6 +119,9 @@ pub record AreTests : Type 0 where
   pub other : value_code (scope true) (binary z Ne i g) 8 8 ≡ Lw 9 28 0 ∷ Xor 8 20 9 ∷ Sltu 8 0 8 ∷ []
   pub both : value_code (scope true) (binary z And (binary z Lt i g) (unary z Not (binary z Eq n (null z)))) 8 8
       ≡ Lw 9 28 0 ∷ Slt 8 20 9 ∷ Beq 8 0 2 ∷ Sltiu 8 21 1 ∷ Xori 8 8 1 ∷ []
-  pub test : test_code (scope true) (binary z And (binary z Lt i g) (unary z Not (binary z Eq n (null z)))) false 7 8 ≡ Lw 9 28 0 ∷ Slt 1 20 9 ∷ Beq 1 0 8 ∷ Beq 21 0 7 ∷ []
-  pub over : test_code (scope true) (binary z Or (binary z Lt i (number 0)) (binary z Ge i (number 9))) false 7 8 ≡ Bltz 20 2 ∷ Slti 1 20 9 ∷ Bne 1 0 7 ∷ []
-  pub back : test_code (scope true) (binary z Or (binary z Lt i (number 0)) (binary z Ge i (number 9))) true 65530 8 ≡ Bltz 20 65532 ∷ Slti 1 20 9 ∷ Beq 1 0 65530 ∷ []
+  pub test : test_code (scope true) (binary z And (binary z Lt i g) (unary z Not (binary z Eq n (null z)))) false 7 8
+      ≡ Lw 9 28 0 ∷ Slt 1 20 9 ∷ Beq 1 0 8 ∷ Beq 21 0 7 ∷ []
+  pub over : test_code (scope true) (binary z Or (binary z Lt i (number 0)) (binary z Ge i (number 9))) false 7 8
+      ≡ Bltz 20 2 ∷ Slti 1 20 9 ∷ Bne 1 0 7 ∷ []
+  pub back : test_code (scope true) (binary z Or (binary z Lt i (number 0)) (binary z Ge i (number 9))) true 65530 8
+      ≡ Bltz 20 65532 ∷ Slti 1 20 9 ∷ Beq 1 0 65530 ∷ []
