@@ -26,3 +26,4 @@ mod Ready
 mod Areas
 mod Storing
 mod Elsewhere
+mod InRange

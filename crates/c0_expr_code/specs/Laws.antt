@@ -5,7 +5,10 @@ use Rattle.mips_table.specs.Device.{Idle}
 use Rattle.masm.specs.declared.registers.TheConstants.{SCRATCH, ARGUMENTS}
 use Rattle.c0_tree.specs.Primitives.{CPrimitive}
 use Rattle.c0_tree.specs.Tree.{CTy, CExpr, CFunction, CUnit}
-use Rattle.c0_tree.specs.Size.{nodes}
+use Rattle.mips_table.specs.Encoding.{InRange}
+use Rattle.std.specs.List.{All}
+use Rattle.c0_tree.specs.Size.{need, nodes}
+use Rattle.c0_meaning.specs.Operators.{KernelFault}
 use Rattle.c0_meaning.specs.Ty.{Ty, bool, named, ty_of, is_scalar}
 use Rattle.c0_meaning.specs.Env.{Env, Shape}
 use Rattle.c0_meaning.specs.Words.{fields_named, words}
@@ -20,7 +23,7 @@ use Rattle.c0_meaning.specs.Typed.{IsDeclarable}
 use Rattle.c0_meaning.specs.Unit.{IsWellFormed}
 use Rattle.masm.specs.declared.registers.Places.{Places}
 use Rattle.c0_expr_code.specs.Scope.{Scope, scope_of}
-use Rattle.c0_expr_code.specs.Code.{Spot, store_code, operand_code, made, value_code, place_spot}
+use Rattle.c0_expr_code.specs.Code.{Spot, store_code, operand_code, operand_register, made, value_code, place_spot}
 use Rattle.c0_expr_code.specs.Test.{test_code}
 use Rattle.c0_expr_code.specs.Bases.{words_of_all, Bases, types_in, word_at, word, RegionHeld}
 use Rattle.c0_expr_code.specs.Relation.{layout, Scene, Ready, Keeps, Area, Source, units_of, Right, TestRuns}
@@ -157,3 +160,17 @@ pub record HeldElsewhere : Type 0 where
       → AreParts sc.env.structs (layout sc p) types v → RegionHeld sc p m a types v → RegionHeld other q m a types v
   pub scalar : (sc : Scope) (p : Bases) (other : Scope) (q : Bases) → IsLater sc p other q → (t : Ty) (v : Value)
       → Fits sc.env.structs (layout sc p) t v → is_scalar t ≡ true → word other q v ≡ word sc p v
+
+-- each exit is a word that a jump reaches
+abbrev pub HasNearExits : Scope → Type 0
+HasNearExits sc = (f : KernelFault) → sc.exit f < 2 ^ 26
+
+-- Where the exits lie in the part that jumps reach, all code is in range, for every expression: of values, operands, places, stores and tests, with
+-- registers enough for the expression's need.
+pub record CodesInRange : Type 0 where
+  pub value : (sc : Scope) → HasNearExits sc → (e : CExpr) (d r : ℕ) → d < 32 → r + need e ≤ 32 → All InRange (value_code sc e d r)
+  pub operand : (sc : Scope) → HasNearExits sc → (e : CExpr) (r : ℕ) → r + need e ≤ 32 → All InRange (operand_code (made sc e) r)
+  pub register : (sc : Scope) → HasNearExits sc → (e : CExpr) (r : ℕ) → r + need e ≤ 32 → operand_register (made sc e) r < 32
+  pub place : (sc : Scope) → HasNearExits sc → (e : CExpr) (r : ℕ) → r + need e ≤ 32 → All InRange (place_spot sc e r).code
+  pub store : (sc : Scope) → HasNearExits sc → (e : CExpr) (q r : ℕ) → q < 32 → r + need e ≤ 32 → All InRange (store_code q r (place_spot sc e r))
+  pub test : (sc : Scope) → HasNearExits sc → (e : CExpr) (s : Bool) (far r : ℕ) → far < 2 ^ 16 → r + need e ≤ 32 → All InRange (test_code sc e s far r)

@@ -1,6 +1,6 @@
 //! The laws of the code of expressions. Each is the contract of a function that does nothing.
 
-ghost use Rattle.c0_expr_code.specs.Laws.{AreasHold, CodesAreShort, CostsAreFew, ExpressionsRun, GivenRun, HeldElsewhere, HeldStays, NamesAreEnough, PartsFit, StoresHold, StoresRun, TestsRun};
+ghost use Rattle.c0_expr_code.specs.Laws.{AreasHold, CodesAreShort, CodesInRange, CostsAreFew, ExpressionsRun, GivenRun, HeldElsewhere, HeldStays, NamesAreEnough, PartsFit, StoresHold, StoresRun, TestsRun};
 ghost use Rattle.mips_table.specs.Code.{World, Sound};
 ghost use Rattle.c0_expr_code.specs.Rows.{ArePlaces, AreSums, AreTests};
 
@@ -83,4 +83,9 @@ pub fn worked_rows()
     ensures sums { AreSums }
     ensures places { ArePlaces }
     ensures tests { AreTests }
+{}
+
+/// The instructions of the code are in range.
+pub fn codes_are_in_range()
+    ensures { CodesInRange }
 {}
