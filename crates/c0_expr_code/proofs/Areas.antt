@@ -1,12 +1,11 @@
 -- In a unit that is well formed all that the code of expressions rests on holds.
 use Rattle.std.specs.Prelude.{slice_get, map, nat_le}
 use Rattle.std.specs.List.{All, list_all}
-use Rattle.std.proofs.Common.{◌≡◌, inl, inr, ◌⊎◌, ℕ, zero, suc, ◌+◌, ◌-◌, ◌*◌, ◌<◌, ◌≤◌, Bool, true, false, ◌&&◌, ◌||◌, cond, List, [], ◌∷◌, ◌++◌, length, Option, Some, refl, sym, ap, ◌∙◌, subst, arith}
+use Rattle.std.proofs.Common.{◌≡◌, inl, inr, ◌⊎◌, ℕ, zero, suc, ◌+◌, ◌*◌, ◌<◌, ◌≤◌, Bool, true, false, ◌&&◌, ◌||◌, List, [], ◌∷◌, ◌++◌, length, Some, refl, sym, ap, ◌∙◌, subst, arith}
 use Rattle.std.proofs.lemmas.Bool.{cases_Bool, cond-true, cond-false, and_parts, leb-true, false≢true}
 use Rattle.std.proofs.lemmas.List.Elements.{All-head, All-tail}
 use Rattle.std.proofs.lemmas.Option.{slice_get_within}
 use Rattle.std.proofs.lemmas.Slice.Eq.{bytes_eq-Decides}
-use Rattle.std.proofs.Math.Nat.{mul_comm}
 use Rattle.std.specs.Str.{bytes_eq}
 use Rattle.mips_table.specs.Code.{World}
 use Rattle.c0_tree.specs.Tree.{CTy, CDecl, CStruct, CFunction, CUnit}
@@ -17,9 +16,9 @@ use Rattle.c0_meaning.specs.Ty.{Ty, ty_of, is_scalar}
 use Rattle.c0_meaning.specs.Ty as ty
 use Rattle.c0_meaning.specs.Env.{Typed, Shape, shape_of, typed_of, first_named, fields_of}
 use Rattle.c0_meaning.specs.Words.{fields_named, have_field, Holds, by_field, by_part, words, all_words, WordsAreThose}
-use Rattle.c0_meaning.specs.DeclaredTypes.{has_empty_array, MAX_TYPE_WORDS}
-use Rattle.c0_meaning.specs.Addresses.{words_to_part, PartsAreApart}
-use Rattle.c0_meaning.specs.Limits.{frame, locals_of}
+use Rattle.c0_meaning.specs.DeclaredTypes.{has_empty_array}
+use Rattle.c0_meaning.specs.Addresses.{PartsAreApart}
+use Rattle.c0_meaning.specs.Limits.{locals_of}
 use Rattle.c0_meaning.specs.Sound.{shapes}
 use Rattle.c0_meaning.specs.Typed.{IsDeclarable, IsTypedStruct, IsTypedFunction, IsTypedUnit}
 use Rattle.c0_meaning.specs.Unit.{IsWellFormed}

@@ -1,8 +1,7 @@
 -- The code of values and of tests is never empty, and a test's is as long for every distance.
-use Rattle.std.specs.Prelude.{Ok}
-use Rattle.std.proofs.Common.{◌≡◌, ℕ, ◌+◌, ◌*◌, ◌%◌, ◌^◌, ◌≤◌, Bool, true, false, not, cond, nat_eq, nat_lt, Option, Some, None, List, [], ◌∷◌, ◌++◌, length, refl, sym, ap, ◌∙◌, arith, length-append}
+use Rattle.std.proofs.Common.{◌≡◌, ℕ, ◌+◌, ◌%◌, ◌^◌, ◌≤◌, Bool, true, false, not, cond, nat_eq, nat_lt, Option, Some, None, List, [], ◌∷◌, ◌++◌, length, refl, sym, ◌∙◌, arith, length-append}
 use Rattle.mips_table.specs.declared.inst.Inst.{Inst}
-use Rattle.mips_table.specs.declared.inst.Inst.TheVariants.{Addu, Addiu, Subu, Lui, Ori, Lw, Xori, Slti, Sltiu, Sltu, Beq, Bne, Mflo, Mfhi, Div as Divide}
+use Rattle.mips_table.specs.declared.inst.Inst.TheVariants.{Addu, Addiu, Subu, Lw, Xori, Sltiu, Sltu, Mflo, Mfhi, Div as Divide}
 use Rattle.c0_tree.specs.declared.tree.Kind.{Kind}
 use Rattle.c0_tree.specs.declared.tree.Kind.TheVariants.{Unresolved, Struct, Field, Global, Local, Function, Primitive}
 use Rattle.c0_tree.specs.declared.tree.UnaryOp.{UnaryOp}
@@ -11,8 +10,8 @@ use Rattle.c0_tree.specs.declared.tree.BinaryOp.{BinaryOp}
 use Rattle.c0_tree.specs.declared.tree.BinaryOp.TheVariants.{Add, Sub, Mul, Div, Rem, Lt, Le, Gt, Ge, Eq, Ne, And, Or}
 use Rattle.c0_tree.specs.Tree.{CExpr, num, true_, false_, null, var, field, arrow, index, deref, address, unary, binary}
 use Rattle.c0_expr_code.specs.Scope.{Scope}
-use Rattle.c0_expr_code.specs.Code.{low, high, is_near, negated, Spot, Made, constant_code, on_spot, operand_code, operand_register, at_place, no_spot, global_spot, register_made, register_of, local_spot, variable_made, one_code, two_code, logic_code, operator_code, Immediate, when_near, equality_with, immediate, immediate_of, operator_made, sum_made, is_sure, divisor_code, division_made, binary_made, negative_made, unary_made, made}
-use Rattle.c0_expr_code.specs.Test.{branch_code, negative_branch, positive_branch, below_code, compare_code, ImmediateTest, immediate_test, immediate_test_of, Testing, compare_test, both_code, binary_test, plain_test, unary_test, test_code}
+use Rattle.c0_expr_code.specs.Code.{is_near, negated, Spot, Made, constant_code, on_spot, operand_code, operand_register, at_place, no_spot, global_spot, register_made, register_of, local_spot, variable_made, one_code, two_code, operator_code, Immediate, when_near, equality_with, immediate, immediate_of, operator_made, sum_made, is_sure, divisor_code, division_made, binary_made, negative_made, unary_made, made}
+use Rattle.c0_expr_code.specs.Test.{branch_code, compare_code, ImmediateTest, immediate_test, immediate_test_of, Testing, compare_test, both_code, binary_test, plain_test, test_code}
 
 -- two codes of lengths
 behind : (is js : List Inst) → 1 ≤ length js → 1 ≤ length (is ++ js)

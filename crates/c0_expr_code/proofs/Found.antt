@@ -1,10 +1,9 @@
 -- The types that the code goes by, and which constants nodes are.
-use Rattle.std.specs.Prelude.{ℤ, pos, neg_ℤ, option_map, slice_get, FitsSigned, Ok, Err}
+use Rattle.std.specs.Prelude.{pos, neg_ℤ, option_map, FitsSigned, Ok}
 use Rattle.std.specs.Int.{int_wrap, w32}
-use Rattle.std.proofs.Common.{◌≡◌, ℕ, ◌+◌, ◌-◌, ◌*◌, ◌%◌, ◌^◌, ◌<◌, ◌≤◌, Bool, true, false, cond, nat_eq, Option, Some, None, List, refl, sym, ap, ◌∙◌, subst, arith}
+use Rattle.std.proofs.Common.{◌≡◌, ℕ, ◌+◌, ◌-◌, ◌%◌, ◌^◌, ◌≤◌, Bool, true, false, cond, Option, Some, None, refl, sym, ap, ◌∙◌, subst, arith}
 use Rattle.std.proofs.lemmas.Bool.{cond-true}
 use Rattle.std.proofs.lemmas.Int.{SFits-int_wrap}
-use Rattle.mips_table.specs.declared.inst.Inst.{Inst}
 use Rattle.c0_tree.specs.declared.tree.Kind.{Kind}
 use Rattle.c0_tree.specs.declared.tree.Kind.TheVariants.{Unresolved, Struct, Field, Global, Local, Function, Primitive}
 use Rattle.c0_tree.specs.declared.tree.UnaryOp.TheVariants.{Negate, Not}
@@ -26,7 +25,7 @@ use Rattle.c0_meaning.specs.Operators.{on_unary}
 use Rattle.c0_meaning.specs.Evaluation.{Costed, costs, at_no_cost, paying, ◌>>=◌, value_of}
 use Rattle.cvm_words.specs.Words.{word_of}
 use Rattle.c0_expr_code.specs.Scope.{Scope}
-use Rattle.c0_expr_code.specs.Code.{Made, at_place, register_made, register_of, local_spot, variable_made, negated, negative_made, unary_made, Immediate, immediate_of, operator_made, sum_made, binary_made, made}
+use Rattle.c0_expr_code.specs.Code.{Made, at_place, register_made, register_of, local_spot, variable_made, negated, negative_made, Immediate, immediate_of, operator_made, sum_made, binary_made, made}
 use Rattle.c0_expr_code.specs.Bases.{Bases, word}
 use Rattle.c0_expr_code.specs.Relation.{layout}
 use Rattle.c0_expr_code.proofs.Words.{word_pos, word_negative}

@@ -1,7 +1,7 @@
 -- Operators on a value in a register and a constant.
 use Rattle.std.specs.Prelude.{ℤ, pos, negsuc, ◌+ℤ◌, ◌-ℤ◌, int_lt, int_le, FitsSigned, bit_xor, Result, Ok}
 use Rattle.std.specs.Int.{cast_signed, int_wrap, w32}
-use Rattle.std.proofs.Common.{◌≡◌, ◌≢◌, inl, inr, ◌⊎◌, ℕ, zero, suc, ◌+◌, ◌-◌, ◌*◌, ◌%◌, ◌^◌, ◌<◌, ◌≤◌, Bool, true, false, not, cond, nat_eq, nat_lt, Option, Some, None, List, [], ◌∷◌, length, refl, sym, ap, ap₂, ◌∙◌, subst, arith, lt-ltb, le-ltb, ne_eqb}
+use Rattle.std.proofs.Common.{◌≡◌, ◌≢◌, inl, inr, ◌⊎◌, ℕ, zero, suc, ◌+◌, ◌-◌, ◌%◌, ◌^◌, ◌<◌, ◌≤◌, Bool, true, false, not, cond, nat_eq, nat_lt, Some, None, List, [], ◌∷◌, length, refl, sym, ap, ap₂, ◌∙◌, subst, arith, lt-ltb, le-ltb, ne_eqb}
 use Rattle.std.proofs.lemmas.Bool.{cases_Bool, eqb-true, ltb-true, ltb-false, cond-true, cond-false}
 use Rattle.std.proofs.lemmas.Int.{ints, SFits-int_wrap, to_z-of_z}
 use Rattle.std.proofs.Math.IntN.{+ℤ_comm}
@@ -22,11 +22,11 @@ use Rattle.c0_meaning.specs.Evaluation.{at_no_cost}
 use Rattle.c0_meaning.specs.TypedState.{Fits}
 use Rattle.cvm_words.specs.Words.{word_of}
 use Rattle.c0_expr_code.specs.Scope.{Scope}
-use Rattle.c0_expr_code.specs.Code.{low, is_near, negated, Immediate, when_near, equality_with, immediate}
+use Rattle.c0_expr_code.specs.Code.{low, is_near, negated, equality_with, immediate}
 use Rattle.c0_expr_code.specs.Bases.{Bases, word}
 use Rattle.c0_expr_code.specs.Relation.{layout, Scene, Area, Comes, Gives}
 use Rattle.c0_expr_code.proofs.Machine.{Machine, said_step}
-use Rattle.c0_expr_code.proofs.Words.{word_sum, word_difference, word_less, xor_tests, xor_differs, not_flag, not_less}
+use Rattle.c0_expr_code.proofs.Words.{word_sum, word_difference, word_less, xor_tests, not_flag, not_less}
 use Rattle.c0_expr_code.proofs.Steps.{same_read}
 use Rattle.c0_expr_code.proofs.Operators.{FinishesOne, once, twice, same_words}
 

@@ -1,10 +1,10 @@
 -- The instructions of the code are in range: each field fits its place in the word.
 use Rattle.std.specs.List.{All}
-use Rattle.std.proofs.Common.{◌≡◌, inl, inr, ℕ, zero, suc, max, ◌+◌, ◌-◌, ◌*◌, ◌/◌, ◌%◌, ◌^◌, ◌<◌, ◌≤◌, Bool, true, false, not, cond, nat_eq, nat_lt, Option, Some, None, List, [], ◌∷◌, ◌++◌, length, refl, sym, ap, ◌∙◌, subst, arith}
+use Rattle.std.proofs.Common.{◌≡◌, inl, inr, ℕ, zero, suc, max, ◌+◌, ◌*◌, ◌/◌, ◌%◌, ◌^◌, ◌<◌, ◌≤◌, Bool, true, false, not, cond, nat_eq, nat_lt, Option, Some, None, List, [], ◌∷◌, ◌++◌, refl, sym, ◌∙◌, subst, arith}
 use Rattle.std.proofs.lemmas.Bool.{cases_Bool, ltb-true, cond-true, cond-false}
 use Rattle.std.proofs.lemmas.List.Elements.{All-nil, All-cons}
 use Rattle.mips_table.specs.declared.inst.Inst.{Inst}
-use Rattle.mips_table.specs.declared.inst.Inst.TheVariants.{Addu, Subu, Xor, Slt, Sltu, J, Beq, Bne, Addiu, Slti, Sltiu, Ori, Xori, Lui, Lw, Sw, Sll, Mult, Div as Divide, Mfhi, Mflo}
+use Rattle.mips_table.specs.declared.inst.Inst.TheVariants.{Addu, Subu, Sltu, Beq, Bne, Addiu, Sltiu, Ori, Xori, Lui, Lw, Sw, Div as Divide, Mfhi, Mflo}
 use Rattle.mips_table.specs.Encoding.{InRange}
 use Rattle.c0_tree.specs.declared.tree.Kind.{Kind}
 use Rattle.c0_tree.specs.declared.tree.Kind.TheVariants.{Unresolved, Struct, Field, Global, Local, Function, Primitive}
@@ -17,8 +17,8 @@ use Rattle.c0_tree.specs.Size.{need, binary_need}
 use Rattle.c0_meaning.specs.Operators.{KernelFault, NullUse, Bounds, DivZero}
 use Rattle.c0_meaning.specs.TypeAt.{type_at}
 use Rattle.c0_expr_code.specs.Scope.{Scope}
-use Rattle.c0_expr_code.specs.Code.{element_words, length_in, Spot, Made, constant_code, is_near, low, high, on_spot, store_code, or_code, operand_code, operand_register, no_spot, at_place, constant, only_value, global_spot, local_spot, register_made, register_of, variable_made, moved, target_spot, bound_code, shift_within, POWERS, scaled_code, scale_code, element_code, tested_spot, element_spot, index_made, to_code, two_code, one_code, logic_code, negated, negative_made, unary_made, operator_code, Immediate, when_near, equality_with, immediate, immediate_of, operator_made, sum_made, is_sure, divisor_code, division_made, binary_made, made}
-use Rattle.c0_expr_code.specs.Test.{branch_code, negative_branch, positive_branch, below_code, compare_code, ImmediateTest, immediate_test, immediate_test_of, Testing, compare_test, both_code, binary_test, plain_test, unary_test, test_code}
+use Rattle.c0_expr_code.specs.Code.{element_words, length_in, Spot, Made, constant_code, is_near, low, high, on_spot, store_code, or_code, operand_code, operand_register, no_spot, at_place, constant, only_value, global_spot, local_spot, register_made, register_of, variable_made, moved, target_spot, bound_code, shift_within, POWERS, scaled_code, scale_code, tested_spot, element_spot, to_code, two_code, one_code, logic_code, negated, negative_made, unary_made, operator_code, Immediate, when_near, equality_with, immediate, immediate_of, operator_made, sum_made, is_sure, divisor_code, division_made, binary_made, made}
+use Rattle.c0_expr_code.specs.Test.{branch_code, negative_branch, positive_branch, below_code, compare_code, ImmediateTest, immediate_test, immediate_test_of, Testing, compare_test, both_code, binary_test, plain_test, test_code}
 use Rattle.c0_expr_code.proofs.Whole.{need_some}
 
 -- instruction by instruction

@@ -2,7 +2,7 @@
 use Rattle.std.specs.Prelude.{ℤ, Result, Ok, int_lt, int_le, neg_ℤ, ◌+ℤ◌, ◌-ℤ◌, FitsSigned, bit_xor, ◌*ℤ◌, Err, unsigned_abs, pos, negsuc, int_div, int_rem}
 use Rattle.std.specs.Int.{int_wrap, w32}
 use Rattle.std.specs.Str.{bytes_eq}
-use Rattle.std.proofs.Common.{◌≡◌, ◌≢◌, inl, inr, ◌⊎◌, ℕ, ◌+◌, ◌*◌, ◌%◌, ◌^◌, ◌<◌, ◌≤◌, Bool, true, false, not, ◌&&◌, nat_eq, nat_lt, Some, List, [], ◌∷◌, ◌++◌, length, refl, sym, ap, ap₂, ◌∙◌, subst, arith, length-append, eq-eqb, ne_eqb, zero, suc, ◌-◌, ◌/◌}
+use Rattle.std.proofs.Common.{◌≡◌, ◌≢◌, inl, inr, ◌⊎◌, ℕ, ◌+◌, ◌*◌, ◌%◌, ◌^◌, ◌<◌, ◌≤◌, Bool, true, false, not, ◌&&◌, nat_eq, nat_lt, Some, List, [], ◌∷◌, ◌++◌, length, refl, sym, ap, ap₂, ◌∙◌, subst, arith, length-append, eq-eqb, ne_eqb, zero, suc, ◌/◌}
 use Rattle.std.proofs.lemmas.Bool.{cases_Bool, cases_eq, cond-true, cond-false, and_parts, and_from, false_from_ne_true, eqb-true}
 use Rattle.std.proofs.lemmas.Int.{SFits-int_wrap, to_z-of_z, of_z-to_z, ints}
 use Rattle.std.proofs.lemmas.Slice.Eq.{bytes_eq-Decides}
@@ -30,7 +30,7 @@ use Rattle.c0_expr_code.specs.Bases.{Bases, word_at, word}
 use Rattle.c0_expr_code.specs.Code.{Made, operand_code, operand_register, two_code, one_code, to_code, logic_code, operator_code, divisor_code}
 use Rattle.c0_expr_code.specs.Relation.{layout, Scene, Ready, Keeps, Area, Comes, Gives, ValueRuns, OperandRuns}
 use Rattle.c0_expr_code.proofs.Words.{plain, word_sum, word_difference, word_negative, word_less, xor_tests, xor_differs, int_words, bool_words, not_flag, not_less}
-use Rattle.c0_expr_code.proofs.Steps.{same_read, keeps_all, keeps_on, keeps_in, keeps_put, keeps_low, ready_on, source_kept, node, after, binds, says, onward, ends_at, arrives, other_reg, more, faults, jumps}
+use Rattle.c0_expr_code.proofs.Steps.{same_read, keeps_all, keeps_on, keeps_in, keeps_put, keeps_low, ready_on, source_kept, node, after, binds, says, onward, ends_at, arrives, other_reg, faults, jumps}
 use Rattle.c0_expr_code.proofs.Nodes.{word_small, pointer_room, skips, falls}
 use Rattle.c0_meaning.specs.Ty as ty
 use Rattle.std.proofs.Math.Nat.{div-le_self}
@@ -166,7 +166,6 @@ module _ (w : World) (sc : Scope) (p : Bases) (s : State) (f : Machine w) (area 
   sums _ d r nz sub = on_numbers (λ q g. operator_code Sub d q g) d r ty.int (on_binary Sub) (λ x y q g n a k idle fx fy ex ey there.
       once d r (word_of (int_wrap w32 (x -ℤ y))) n ty.int (int (int_wrap w32 (x -ℤ y))) a k nz refl (SFits-int_wrap w32 _)
       (said_step w f (Subu d q g) (Becomes (word_of (int_wrap w32 (x -ℤ y)))) n a k there.0 refl idle (ap₂ difference ex ey ∙ word_difference x y fx fy)))
-
   sums _ d r nz mul = on_numbers (λ q g. operator_code Mul d q g) d r ty.int (on_binary Mul) (λ x y q g n a k idle fx fy ex ey there.
       let product : lower (signed_product (reg a.regs q) (reg a.regs g)) ≡ word_of (int_wrap w32 (x *ℤ y)) = ap₂ (λ u v. lower (signed_product u v)) ex ey ∙ word_product x y fx fy in
       let one = said_step w f (Mult q g) (Widens (upper (signed_product (reg a.regs q) (reg a.regs g))) (word_of (int_wrap w32 (x *ℤ y)))) n a k there.0 refl idle (refl, product) in

@@ -1,5 +1,5 @@
 -- Paths, and one part more.
-use Rattle.std.specs.Prelude.{slice_get, replicate, map}
+use Rattle.std.specs.Prelude.{slice_get, replicate}
 use Rattle.std.proofs.Common.{◌≡◌, ℕ, zero, suc, ◌<◌, List, [], ◌∷◌, ◌++◌, Some, refl, sym, ap, subst, arith}
 use Rattle.c0_meaning.specs.Ty.{Ty}
 use Rattle.c0_meaning.specs.Ty as ty

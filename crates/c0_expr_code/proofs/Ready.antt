@@ -1,18 +1,16 @@
 -- A scalar that is stored stands where its location is, and all else as before.
-use Rattle.std.proofs.Common.{◌≡◌, ◌≢◌, ℕ, ◌+◌, ◌-◌, ◌*◌, ◌<◌, ◌≤◌, Bool, true, false, cond, nat_eq, Some, List, [], ◌∷◌, refl, sym, ap, ◌∙◌, subst, arith, eq-eqb, ne_eqb}
+use Rattle.std.proofs.Common.{◌≡◌, ◌≢◌, ℕ, ◌+◌, ◌-◌, ◌<◌, Bool, true, false, cond, nat_eq, Some, List, [], ◌∷◌, refl, sym, ap, ◌∙◌, arith, eq-eqb, ne_eqb}
 use Rattle.std.specs.Prelude.{slice_get}
 use Rattle.std.proofs.lemmas.Bool.{cond-true, cond-false}
 use Rattle.mips_table.specs.Code.{put, Contents, with_reg, World}
 use Rattle.c0_meaning.specs.Ty.{Ty, is_scalar}
-use Rattle.c0_meaning.specs.Words.{words}
-use Rattle.c0_meaning.specs.Sizes.{words_before}
 use Rattle.c0_meaning.specs.Addresses.{words_to_part}
 use Rattle.c0_meaning.specs.Value.{Region, globals, heap, locals, Location, Value, group, empty}
 use Rattle.c0_meaning.specs.Value as value
 use Rattle.c0_meaning.specs.State.{Frame, State, variables_of, with_variables, write}
 use Rattle.c0_meaning.specs.TypedState.{types_of, LeadsFrom, Fits, AreParts}
 use Rattle.c0_expr_code.specs.Scope.{Scope}
-use Rattle.c0_expr_code.specs.Bases.{words_of_all, Bases, types_in, word_at, word, RegionHeld}
+use Rattle.c0_expr_code.specs.Bases.{Bases, types_in, word_at, word, RegionHeld}
 use Rattle.c0_expr_code.specs.Relation.{layout, Scene, Ready, Area}
 use Rattle.c0_expr_code.specs.Laws.{AreSpread, with_word}
 use Rattle.c0_expr_code.proofs.Offsets.{one_word, room_from, before_scalars}

@@ -1,5 +1,5 @@
 -- The code that scales an index: a shift, where an element's words are a power of two, or a multiplication.
-use Rattle.std.proofs.Common.{◌≡◌, ◌≢◌, inl, inr, ℕ, zero, suc, ◌+◌, ◌*◌, ◌%◌, ◌^◌, ◌<◌, ◌≤◌, true, false, nat_eq, Option, Some, None, List, [], ◌∷◌, ◌++◌, length, refl, sym, ap, ap₂, ◌∙◌, subst, arith, length-append, ne_eqb}
+use Rattle.std.proofs.Common.{◌≡◌, ◌≢◌, inl, inr, ℕ, zero, suc, ◌+◌, ◌*◌, ◌%◌, ◌^◌, ◌<◌, nat_eq, Option, Some, None, List, [], ◌∷◌, length, refl, sym, ap, ap₂, ◌∙◌, subst, arith, length-append, ne_eqb}
 use Rattle.std.proofs.lemmas.Bool.{cases_Bool, cases_eq, eqb-true, cond-true, cond-false}
 use Rattle.std.proofs.Math.Nat.{mul_comm, mul_assoc}
 use Rattle.std.proofs.lemmas.Nat.{pow-add}
@@ -16,7 +16,7 @@ use Rattle.c0_expr_code.specs.Code.{constant_code, shift_within, POWERS, scaled_
 use Rattle.c0_expr_code.specs.Relation.{Scene, Area, Keeps}
 use Rattle.c0_expr_code.proofs.Machine.{Machine, joined, later, code_front, code_back, said_step}
 use Rattle.c0_expr_code.proofs.Products.{number_product}
-use Rattle.c0_expr_code.proofs.Steps.{other_reg, other_read, same_read, keeps_on, keeps_one}
+use Rattle.c0_expr_code.proofs.Steps.{other_reg, other_read, keeps_on, keeps_one}
 use Rattle.c0_expr_code.proofs.Nodes.{constant_runs}
 
 shift_is : (n k by : ℕ) → shift_within n k ≡ Some by → 2 ^ by ≡ 4 * k

@@ -1,13 +1,12 @@
 -- A word is stored at a place.
-use Rattle.std.proofs.Common.{◌≡◌, ◌≢◌, inl, inr, ℕ, ◌+◌, ◌*◌, ◌%◌, ◌^◌, ◌<◌, ◌≤◌, true, false, None, List, [], ◌∷◌, ◌++◌, length, refl, sym, ap, ◌∙◌, subst, arith, length-append}
+use Rattle.std.proofs.Common.{◌≡◌, ◌≢◌, inl, inr, ℕ, ◌+◌, ◌*◌, ◌%◌, ◌^◌, ◌<◌, ◌≤◌, None, [], ◌∷◌, ◌++◌, length, refl, ap, ◌∙◌, subst, arith, length-append}
 use Rattle.std.proofs.lemmas.Bool.{cases_Bool, eqb-true, cond-true, cond-false}
-use Rattle.mips_table.specs.declared.inst.Inst.{Inst}
 use Rattle.mips_table.specs.declared.inst.Inst.TheVariants.{Sw, Addu, Lui}
 use Rattle.mips_table.specs.Arith.{sum, extended}
 use Rattle.mips_table.specs.Device.{Idle}
-use Rattle.mips_table.specs.Code.{put, Contents, reg, with_reg, Behind, World, at_with, Reaches, CodeAt}
+use Rattle.mips_table.specs.Code.{Contents, reg, with_reg, Behind, World, at_with, Reaches, CodeAt}
 use Rattle.masm.specs.Says.{Gives as Becomes, Writes}
-use Rattle.c0_expr_code.specs.Code.{Spot, is_near, low, high, on_spot, store_code}
+use Rattle.c0_expr_code.specs.Code.{Spot, is_near, low, high, store_code}
 use Rattle.c0_expr_code.specs.Relation.{Keeps, Source}
 use Rattle.c0_expr_code.specs.Laws.{with_word}
 use Rattle.c0_expr_code.proofs.Machine.{Machine, joined, later, code_back, said_step}

@@ -4,7 +4,7 @@ use Rattle.mips_table.specs.declared.inst.Inst.{Inst}
 use Rattle.c0_tree.specs.declared.tree.UnaryOp.TheVariants.{Negate, Not}
 use Rattle.c0_tree.specs.declared.tree.BinaryOp.{BinaryOp}
 use Rattle.c0_tree.specs.declared.tree.BinaryOp.TheVariants.{Add, Sub, Mul, Div, Rem, Lt, Le, Gt, Ge, Eq, Ne, And, Or}
-use Rattle.c0_tree.specs.Tree.{CExpr, num, true_, false_, null, var, field, arrow, index, deref, address, unary, binary}
+use Rattle.c0_tree.specs.Tree.{CExpr, field, arrow, index, deref, address, unary, binary}
 use Rattle.c0_tree.specs.Size.{nodes}
 use Rattle.c0_expr_code.specs.Scope.{Scope}
 use Rattle.c0_expr_code.specs.Code.{is_near, Made, operand_code, operand_register, two_code, made}
@@ -118,4 +118,3 @@ module _ (sc : Scope) where
   test_length (unary span Negate e) b far r = leaf_length (unary span Negate e) b far r
   test_length (binary span o a c) b far r = binary_length o (made sc (binary span o a c)) (made sc a) (made sc c) (test_code sc a) (test_code sc c) (nodes a) (nodes c) (short sc (binary span o a c)) (short sc a) (short sc c) (λ b far r. test_length a b far r) (λ b far r. test_length c b far r) b far r
   test_length e b far r = leaf_length e b far r
-

@@ -9,15 +9,15 @@ use Rattle.mips_table.specs.declared.inst.Inst.TheVariants.{Slt, Slti}
 use Rattle.mips_table.specs.Arith.{less, flag, extended, is_negative, is_positive}
 use Rattle.mips_table.specs.Device.{Idle}
 use Rattle.mips_table.specs.Code.{Contents, reg, with_reg, Behind, World, at_with, Reaches, CodeAt}
-use Rattle.c0_tree.specs.declared.tree.UnaryOp.TheVariants.{Negate, Not}
+use Rattle.c0_tree.specs.declared.tree.UnaryOp.TheVariants.{Not}
 use Rattle.c0_tree.specs.declared.tree.BinaryOp.{BinaryOp}
-use Rattle.c0_tree.specs.declared.tree.BinaryOp.TheVariants.{Add, Sub, Mul, Div, Rem, Lt, Le, Gt, Ge, Eq, Ne, And, Or}
-use Rattle.c0_tree.specs.Tree.{CExpr, true_, false_, null, var, field, arrow, index, deref, address, unary, binary}
+use Rattle.c0_tree.specs.declared.tree.BinaryOp.TheVariants.{Lt, Le, Gt, Ge, Eq, Ne, And, Or}
+use Rattle.c0_tree.specs.Tree.{CExpr, true_, false_, null, var, field, arrow, index, deref, binary}
 use Rattle.c0_tree.specs.Size.{need, binary_need, nodes}
 use Rattle.c0_meaning.specs.Ty.{Ty, is_scalar}
 use Rattle.c0_meaning.specs.Ty as ty
 use Rattle.c0_meaning.specs.Judgement.{IsOrder, lt, le, gt, ge, IsEquality, eq, ne, IsLogical, and, or}
-use Rattle.c0_meaning.specs.Numbered.{HasNumberedType, a_number, a_true, a_false, a_variable, a_field, a_target_field, an_element, a_target, an_address, a_negative, a_negation, arithmetic, order, logic, equality, null_left, null_right, IsNumberedGiven, a_value, a_null}
+use Rattle.c0_meaning.specs.Numbered.{HasNumberedType, a_number, a_true, a_false, a_variable, a_field, a_target_field, an_element, a_target, an_address, a_negative, a_negation, arithmetic, order, logic, equality, null_left, null_right, IsNumberedGiven, a_value}
 use Rattle.c0_meaning.specs.Value.{Value, int, bool, at, group}
 use Rattle.c0_meaning.specs.Value as value
 use Rattle.c0_meaning.specs.State.{State}

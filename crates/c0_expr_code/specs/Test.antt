@@ -8,7 +8,7 @@ use Rattle.c0_tree.specs.declared.tree.UnaryOp.{UnaryOp}
 use Rattle.c0_tree.specs.declared.tree.UnaryOp.TheVariants.{Negate, Not}
 use Rattle.c0_tree.specs.declared.tree.BinaryOp.{BinaryOp}
 use Rattle.c0_tree.specs.declared.tree.BinaryOp.TheVariants.{Add, Sub, Mul, Div, Rem, Lt, Le, Gt, Ge, Eq, Ne, And, Or}
-use Rattle.c0_tree.specs.Tree.{CExpr, num, true_, false_, null, var, field, arrow, index, deref, address, unary, binary}
+use Rattle.c0_tree.specs.Tree.{CExpr, unary, binary}
 use Rattle.c0_expr_code.specs.Scope.{Scope}
 use Rattle.c0_expr_code.specs.Code.{low, is_near, Made, one_code, two_code, made}
 
