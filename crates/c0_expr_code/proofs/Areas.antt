@@ -36,7 +36,8 @@ get_all P [] i x h e = absurd (cc)
 get_all P (y ∷ xs) zero x h e = let q : y ≡ x = cc in subst P q (All-head P y xs h)
 get_all P (y ∷ xs) (suc i) x h e = get_all P xs i x (All-tail P y xs h) e
 
-mapped_there : {A B : Type 0} (f : A → B) (xs : List A) (i : ℕ) (y : B) → slice_get (map f xs) i ≡ Some y → (x : A) × (slice_get xs i ≡ Some x) × (f x ≡ y)
+mapped_there : {A B : Type 0} (f : A → B) (xs : List A) (i : ℕ) (y : B) → slice_get (map f xs) i ≡ Some y
+    → (x : A) × (slice_get xs i ≡ Some x) × (f x ≡ y)
 mapped_there f [] i y e = absurd (cc)
 mapped_there f (x ∷ xs) zero y e = (x, refl, cc)
 mapped_there f (x ∷ xs) (suc i) y e = mapped_there f xs i y e
@@ -59,7 +60,8 @@ words_same : (structs : List Shape) (decls : List Typed) → all_words structs d
 words_same structs [] = refl
 words_same structs (d ∷ rest) = ap (λ n. words structs d.ty + n) (words_same structs rest)
 
-words_append : (structs : List Shape) (xs ys : List CDecl) → words_of_all structs (types_of (map typed_of (xs ++ ys))) ≡ all_words structs (map typed_of xs) + all_words structs (map typed_of ys)
+words_append : (structs : List Shape) (xs ys : List CDecl)
+    → words_of_all structs (types_of (map typed_of (xs ++ ys))) ≡ all_words structs (map typed_of xs) + all_words structs (map typed_of ys)
 words_append structs [] ys = let g = words_same structs (map typed_of ys) in omega (arith, g)
 words_append structs (x ∷ xs) ys = let g = words_append structs xs ys in omega (arith, g)
 
@@ -71,7 +73,8 @@ record Struct (all : List CStruct) (x : List ℕ) (fields : List Typed) : Type 0
   name : its.name.text ≡ x
   is : fields ≡ map typed_of its.fields
 
-named_struct : (all : List CStruct) (k : ℕ) (x : List ℕ) → (fields_of (first_named (λ s. s.text) x k (map shape_of all)) ≡ []) ⊎ Struct all x (fields_of (first_named (λ s. s.text) x k (map shape_of all)))
+named_struct : (all : List CStruct) (k : ℕ) (x : List ℕ)
+    → (fields_of (first_named (λ s. s.text) x k (map shape_of all)) ≡ []) ⊎ Struct all x (fields_of (first_named (λ s. s.text) x k (map shape_of all)))
 named_struct [] k x = inl refl
 named_struct (s ∷ rest) k x = elim (cases_Bool (bytes_eq s.name.text x)) [
   | inl e ↦ inr (record { its = s; number = 0; there = refl; name = (bytes_eq-Decides s.name.text x).0 e; is = ap fields_of (cond-true (bytes_eq s.name.text x) (Some (k, shape_of s)) (first_named (λ s. s.text) x (suc k) (map shape_of rest)) e) })
@@ -124,18 +127,21 @@ module _ (all : List CStruct) (typed : All (IsTypedStruct (map shape_of all)) al
   part ty.bool (i ∷ path) u h l = absurd l
   part (ty.pointer t) (i ∷ path) u h l = absurd l
 
-  part_of : (types : List Ty) (path : List ℕ) (u : Ty) → AreDeclared (map shape_of all) types → LeadsFrom (map shape_of all) types path u → IsDeclared (map shape_of all) u
+  part_of : (types : List Ty) (path : List ℕ) (u : Ty) → AreDeclared (map shape_of all) types → LeadsFrom (map shape_of all) types path u
+      → IsDeclared (map shape_of all) u
   part_of types [] u h l = absurd l
   part_of types (i ∷ path) u h l = part l.0 path u (h i l.0 l.1) l.2
 
 -- the types of declarations
-declared : (structs : List Shape) (decls : List CDecl) → All (λ d. IsDeclarable structs d.ty) decls → AreDeclared structs (types_of (map typed_of decls))
+declared : (structs : List Shape) (decls : List CDecl) → All (λ d. IsDeclarable structs d.ty) decls
+    → AreDeclared structs (types_of (map typed_of decls))
 declared structs decls h i t e =
     let a = mapped_there (λ (d : Typed). d.ty) (map typed_of decls) i t e in
     let b = mapped_there typed_of decls i a.0 a.1 in
     (b.0.ty, ap (λ (d : Typed). d.ty) b.2 ∙ a.2, get_all (λ (d : CDecl). IsDeclarable structs d.ty) decls i b.0 h b.1)
 
-declared_both : (structs : List Shape) (xs ys : List CDecl) → AreDeclared structs (types_of (map typed_of xs)) → AreDeclared structs (types_of (map typed_of ys)) → AreDeclared structs (types_of (map typed_of (xs ++ ys)))
+declared_both : (structs : List Shape) (xs ys : List CDecl) → AreDeclared structs (types_of (map typed_of xs))
+    → AreDeclared structs (types_of (map typed_of ys)) → AreDeclared structs (types_of (map typed_of (xs ++ ys)))
 declared_both structs [] ys h g i t e = g i t e
 declared_both structs (x ∷ xs) ys h g zero t e = h 0 t e
 declared_both structs (x ∷ xs) ys h g (suc i) t e = declared_both structs xs ys (λ j u q. h (suc j) u q) g i t e
@@ -158,7 +164,9 @@ module _ (primitives : List CPrimitive) (u : CUnit) (formed : IsWellFormed primi
     one_word : (g : Region) (path : List ℕ) (t : Ty) → LeadsFrom (shapes u) (types_in (scope_of u f places) p g) path t → 1 ≤ words (shapes u) t
     one_word g path t l = some_words t (part_of u.structs typed.structs (types_in (scope_of u f places) p g) path t (all_declared g) l)
 
-    by_region : (t : Ty) (a b : Region) (x y : List ℕ) → PointsTo (shapes u) (layout (scope_of u f places) p) a x t → PointsTo (shapes u) (layout (scope_of u f places) p) b y t → word_at (scope_of u f places) p (record { region = a; path = x }) ≡ word_at (scope_of u f places) p (record { region = b; path = y })
+    by_region : (t : Ty) (a b : Region) (x y : List ℕ) → PointsTo (shapes u) (layout (scope_of u f places) p) a x t
+        → PointsTo (shapes u) (layout (scope_of u f places) p) b y t
+        → word_at (scope_of u f places) p (record { region = a; path = x }) ≡ word_at (scope_of u f places) p (record { region = b; path = y })
         → ◌≡◌ {A = Location} (record { region = a; path = x }) (record { region = b; path = y })
     by_region t globals globals x y h g e = ap (λ z. record { region = globals; path = z }) (apart primitives u (types_in (scope_of u f places) p globals) x y t formed h g (one_word globals x t h) (omega (arith, e)))
     by_region t heap heap x y h g e = ap (λ z. record { region = heap; path = z }) (apart primitives u p.objects x y t formed h g (one_word heap x t h) (omega (arith, e)))

@@ -132,7 +132,8 @@ module _ (w : World) (sc : Scope) (p : Bases) (s : State) (f : Machine w) (area 
       Out : Location → Contents → Type 0
       Out = Leads sc p r x.shift r local t c
 
-      outside : (a : Contents) (v : ℕ) → len < 2 ^ 32 → q ≢ 1 → nat_lt v len ≡ false → reg a.regs q ≡ v → Comes w sc 10 n2 to a k Out (at_no_cost (Err (faulted Bounds)))
+      outside : (a : Contents) (v : ℕ) → len < 2 ^ 32 → q ≢ 1 → nat_lt v len ≡ false → reg a.regs q ≡ v
+          → Comes w sc 10 n2 to a k Out (at_no_cost (Err (faulted Bounds)))
       outside a v short ne out is =
           let test = tests q len n2 a k short idle ne (code_front w n2 (bound_code q len) tail last_there) in
           let zero_is : reg test.core.regs 1 ≡ reg test.core.regs 0 = test.is ∙ ap (λ y. flag (nat_lt y len)) is ∙ ap flag out in
@@ -174,7 +175,8 @@ module _ (w : World) (sc : Scope) (p : Bases) (s : State) (f : Machine w) (area 
             keeps = kept;
           }) (later w 9 10 _ _ (omega arith) run')
         where
-          address : (base shift more from there : ℕ) → (base + shift) % 2 ^ 32 ≡ 4 * from → there ≡ from + more → 4 * there < 2 ^ 32 → (sum base (4 * more % 2 ^ 32) + shift) % 2 ^ 32 ≡ 4 * there
+          address : (base shift more from there : ℕ) → (base + shift) % 2 ^ 32 ≡ 4 * from → there ≡ from + more → 4 * there < 2 ^ 32
+              → (sum base (4 * more % 2 ^ 32) + shift) % 2 ^ 32 ≡ 4 * there
           address base shift further from there h e small = omega arith
 
       by_test : (l : Location) (b : Contents) (g : Leads sc p x.base x.shift r local (ty.array t len) c l b) (ready_b : Ready sc p s b) (a : Contents) (j : ℕ) → Source (r + 1) q → Keeps (r + 1) (r + 1) b a → reg a.regs q ≡ j → j < 2 ^ 31 → len < 2 ^ 32 → (y : Bool) → nat_lt j len ≡ y → Comes w sc 10 n2 to a k Out (at_no_cost (if y then Ok (below l j) else Err (faulted Bounds)))

@@ -15,19 +15,22 @@ use Rattle.c0_expr_code.specs.Relation.{layout}
 use Rattle.c0_expr_code.specs.Laws.{IsLater}
 use Rattle.c0_expr_code.proofs.Parts.{get_before}
 
-before_more : (structs : List Shape) (types more : List Ty) (i : ℕ) (t : Ty) → slice_get types i ≡ Some t → words_before structs (types ++ more) i ≡ words_before structs types i
+before_more : (structs : List Shape) (types more : List Ty) (i : ℕ) (t : Ty) → slice_get types i ≡ Some t
+    → words_before structs (types ++ more) i ≡ words_before structs types i
 before_more structs [] more i t e = absurd (cc)
 before_more structs (u ∷ types) more zero t e = refl
 before_more structs (u ∷ types) more (suc i) t e = ap (λ n. words structs u + n) (before_more structs types more i t e)
 
-to_more : (structs : List Shape) (types more : List Ty) (path : List ℕ) (t : Ty) → LeadsFrom structs types path t → words_to_part structs (types ++ more) path ≡ words_to_part structs types path
+to_more : (structs : List Shape) (types more : List Ty) (path : List ℕ) (t : Ty) → LeadsFrom structs types path t
+    → words_to_part structs (types ++ more) path ≡ words_to_part structs types path
 to_more structs types more [] t l = absurd l
 to_more structs types more (i ∷ path) t l =
     let e : slice_get (types ++ more) i ≡ slice_get types i = get_before types more i l.0 l.1 ∙ sym l.1 in
     ap₂ (λ m n. m + n) (before_more structs types more i l.0 l.1) (ap (λ o. words_to structs (unwrap_or o ty.int) path) e)
 
 module _ (sc : Scope) (p : Bases) (other : Scope) (q : Bases) (later : IsLater sc p other q) (m : ℕ → ℕ) where
-  word_at_same : (g : Region) (path : List ℕ) (t : Ty) → PointsTo sc.env.structs (layout sc p) g path t → word_at other q (record { region = g; path = path }) ≡ word_at sc p (record { region = g; path = path })
+  word_at_same : (g : Region) (path : List ℕ) (t : Ty) → PointsTo sc.env.structs (layout sc p) g path t
+      → word_at other q (record { region = g; path = path }) ≡ word_at sc p (record { region = g; path = path })
   word_at_same globals path t h = ap₂ (λ a b. a + b) later.globals (ap₂ (λ s ds. words_to_part s (types_of ds) path) later.structs later.global_types)
   word_at_same heap path t h = ap₂ (λ a b. a + b) later.heap (ap₂ (λ s ts. words_to_part s ts path) later.structs later.objects.1 ∙ to_more sc.env.structs p.objects later.objects.0 path t h)
   word_at_same locals path t h = absurd h
@@ -57,7 +60,8 @@ module _ (sc : Scope) (p : Bases) (other : Scope) (q : Bases) (later : IsLater s
     all_held a [] (part v vs) f h = absurd h
     all_held a (t ∷ ts) empty f h = absurd h
 
-  pub region : (a : ℕ) (ts : List Ty) (v : Value) → AreParts sc.env.structs (layout sc p) ts v → RegionHeld sc p m a ts v → RegionHeld other q m a ts v
+  pub region : (a : ℕ) (ts : List Ty) (v : Value) → AreParts sc.env.structs (layout sc p) ts v → RegionHeld sc p m a ts v
+      → RegionHeld other q m a ts v
   region a ts (group vs) f h = all_held a ts vs f h
   region a ts (int z) f h = absurd h
   region a ts (bool b) f h = absurd h

@@ -88,7 +88,8 @@ some_of : (o : BinaryOp) (k : Option ℕ) → Some_ (immediate_of o k)
 some_of o None = tt
 some_of o (Some k) = some_at o k
 
-operators : (im : Immediate) (o : BinaryOp) (a b : Made) → Some_ im → ((d q t : ℕ) → 1 ≤ length (operator_code o d q t)) → Filled (operator_made im o a b)
+operators : (im : Immediate) (o : BinaryOp) (a b : Made) → Some_ im → ((d q t : ℕ) → 1 ≤ length (operator_code o d q t))
+    → Filled (operator_made im o a b)
 operators (Some g) o a b h i d r = one_some (λ q. g d q) a r (λ q. h d q)
 operators None o a b h i d r = two_some (λ q t. operator_code o d q t) a b r (λ q t. i d q t)
 
@@ -149,7 +150,8 @@ module _ (sc : Scope) where
       let c = h (operand_register m r) in
       omega (arith, a, b, c)
 
-  two_same : (f g : ℕ → ℕ → List Inst) (x y : Made) (r : ℕ) → ((q t : ℕ) → length (f q t) ≡ length (g q t)) → length (two_code f x y r) ≡ length (two_code g x y r)
+  two_same : (f g : ℕ → ℕ → List Inst) (x y : Made) (r : ℕ) → ((q t : ℕ) → length (f q t) ≡ length (g q t))
+      → length (two_code f x y r) ≡ length (two_code g x y r)
   two_same f g x y r h =
       let a = length-append (operand_code x r) (operand_code y (r + 1) ++ f (operand_register x r) (operand_register y (r + 1))) in
       let b = length-append (operand_code y (r + 1)) (f (operand_register x r) (operand_register y (r + 1))) in
@@ -170,7 +172,8 @@ module _ (sc : Scope) where
   SteadyTest None = Unit {0}
   SteadyTest (Some g) = ((s : Bool) (far q : ℕ) → 1 ≤ length (g s far q)) × ((s : Bool) (far far' q : ℕ) → length (g s far q) ≡ length (g s far' q))
 
-  by_tests : (b c : Bool) (f g : Bool → ℕ → ℕ → List Inst) → ((s : Bool) (far q : ℕ) → length (f s far q) ≡ 1) → ((s : Bool) (far q : ℕ) → length (g s far q) ≡ 2) → SteadyTest (cond b (Some f) (cond c (Some g) None))
+  by_tests : (b c : Bool) (f g : Bool → ℕ → ℕ → List Inst) → ((s : Bool) (far q : ℕ) → length (f s far q) ≡ 1)
+      → ((s : Bool) (far q : ℕ) → length (g s far q) ≡ 2) → SteadyTest (cond b (Some f) (cond c (Some g) None))
   by_tests true c f g h i = ((λ s far q. let a = h s far q in omega (arith, a)), λ s far far' q. h s far q ∙ sym (h s far' q))
   by_tests false true f g h i = ((λ s far q. let a = i s far q in omega (arith, a)), λ s far far' q. i s far q ∙ sym (i s far' q))
   by_tests false false f g h i = tt
@@ -194,7 +197,8 @@ module _ (sc : Scope) where
   steady_of o None = tt
   steady_of o (Some k) = steady_at o k
 
-  compares : (im : ImmediateTest) (o : BinaryOp) (a b : Made) → SteadyTest im → ((s : Bool) (far q t : ℕ) → 1 ≤ length (compare_code o s far q t)) → ((s : Bool) (far far' q t : ℕ) → length (compare_code o s far q t) ≡ length (compare_code o s far' q t)) → Steady (compare_test im o a b)
+  compares : (im : ImmediateTest) (o : BinaryOp) (a b : Made) → SteadyTest im → ((s : Bool) (far q t : ℕ) → 1 ≤ length (compare_code o s far q t))
+      → ((s : Bool) (far far' q t : ℕ) → length (compare_code o s far q t) ≡ length (compare_code o s far' q t)) → Steady (compare_test im o a b)
   compares (Some g) o a b h i j = record { some = λ s far r. one_some (λ q. g s far q) a r (λ q. h.0 s far q); same = λ s far far' r. one_same (λ q. g s far q) (λ q. g s far' q) a r (λ q. h.1 s far far' q) }
   compares None o a b h i j = record { some = λ s far r. two_some (λ q t. compare_code o s far q t) a b r (λ q t. i s far q t); same = λ s far far' r. two_same (λ q t. compare_code o s far q t) (λ q t. compare_code o s far' q t) a b r (λ q t. j s far far' q t) }
 

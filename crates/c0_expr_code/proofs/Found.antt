@@ -162,7 +162,8 @@ module _ (sc : Scope) where
     negative_word : (n : ℕ) → FitsSigned w32 (pos n) → word_of (int_wrap w32 (neg_ℤ (pos n))) ≡ negated n
     negative_word n h = sym (word_negative (pos n) h) ∙ ap (λ y. (0 + (2 ^ 32 - y)) % 2 ^ 32) (word_pos n h) ∙ omega arith
 
-    pub negative_known : (e : CExpr) (s : State) (k : ℕ) (o : Option ℕ) → HasNumberedType sc.env e ty.int → (made sc e).literal ≡ o → (negative_made o (made sc e)).known ≡ Some k → KnownAs ty.int k (paying 1 (value_of e s >>= λ v. at_no_cost (on_unary Negate v)))
+    pub negative_known : (e : CExpr) (s : State) (k : ℕ) (o : Option ℕ) → HasNumberedType sc.env e ty.int → (made sc e).literal ≡ o
+        → (negative_made o (made sc e)).known ≡ Some k → KnownAs ty.int k (paying 1 (value_of e s >>= λ v. at_no_cost (on_unary Negate v)))
     negative_known e s k None h q g = absurd (cc)
     negative_known e s k (Some n) h q g =
         let fits = small_literal e n h q in

@@ -139,7 +139,8 @@ bounds q n h = elim (cases_Bool (nat_lt n (2 ^ 15))) [
 one_fine : (g : ℕ → List Inst) (m : Made) (need r : ℕ) → Fine m need → r + need ≤ 32 → ((q : ℕ) → q < 32 → Ranged (g q)) → Ranged (one_code g m r)
 one_fine g m need r h le i = both (operand_code m r) _ (operands m need r h le) (i (operand_register m r) (registers m need r h le))
 
-two_fine : (g : ℕ → ℕ → List Inst) (a b : Made) (na nb r : ℕ) → Fine a na → Fine b nb → r + na ≤ 32 → r + 1 + nb ≤ 32 → ((q t : ℕ) → q < 32 → t < 32 → Ranged (g q t)) → Ranged (two_code g a b r)
+two_fine : (g : ℕ → ℕ → List Inst) (a b : Made) (na nb r : ℕ) → Fine a na → Fine b nb → r + na ≤ 32 → r + 1 + nb ≤ 32
+    → ((q t : ℕ) → q < 32 → t < 32 → Ranged (g q t)) → Ranged (two_code g a b r)
 two_fine g a b na nb r h k la lb i =
     both (operand_code a r) _ (operands a na r h la) (both (operand_code b (r + 1)) _ (operands b nb (r + 1) k lb) (i (operand_register a r) (operand_register b (r + 1)) (registers a na r h la) (registers b nb (r + 1) k lb)))
 
@@ -196,7 +197,8 @@ operator_fine Ne d q t ld lq lt = ((ld, lq, lt), ((ld, omega arith, ld), tt))
 operator_fine And d q t ld lq lt = tt
 operator_fine Or d q t ld lq lt = tt
 
-operators : (im : Immediate) (o : BinaryOp) (a b : Made) (na nb : ℕ) → FineIm im → Fine a na → Fine b nb → Fine (operator_made im o a b) (max na (nb + 1))
+operators : (im : Immediate) (o : BinaryOp) (a b : Made) (na nb : ℕ) → FineIm im → Fine a na → Fine b nb
+    → Fine (operator_made im o a b) (max na (nb + 1))
 operators (Some g) o a b na nb f h k = values (λ d r. one_code (λ q. g d q) a r) (max na (nb + 1)) (let s = h.some in omega (arith, s)) (λ d r l le. one_fine (λ q. g d q) a na r h (omega (arith, le)) (λ q lq. f d q l lq))
 operators None o a b na nb f h k = values (λ d r. two_code (λ q t. operator_code o d q t) a b r) (max na (nb + 1)) (let s = h.some in omega (arith, s)) (λ d r l le. two_fine (λ q t. operator_code o d q t) a b na nb r h k (omega (arith, le)) (omega (arith, le)) (λ q t lq lt. operator_fine o d q t l lq lt))
 
@@ -213,11 +215,13 @@ module _ (sc : Scope) (exits : (f : KernelFault) → sc.exit f < 2 ^ 26) where
   divisor_fine true t h = tt
   divisor_fine false t h = ((h, omega arith, omega arith), (exits DivZero, tt))
 
-  divisions : (takes : ℕ → Inst) (a b : Made) (na nb : ℕ) → ((d : ℕ) → d < 32 → InRange (takes d)) → Fine a na → Fine b nb → Fine (division_made sc takes a b) (max na (nb + 1))
+  divisions : (takes : ℕ → Inst) (a b : Made) (na nb : ℕ) → ((d : ℕ) → d < 32 → InRange (takes d)) → Fine a na → Fine b nb
+      → Fine (division_made sc takes a b) (max na (nb + 1))
   divisions takes a b na nb f h k = values (λ d r. two_code (λ q t. divisor_code sc (is_sure b.known) t ++ (Divide q t ∷ takes d ∷ [])) a b r) (max na (nb + 1)) (let s = h.some in omega (arith, s))
       (λ d r l le. two_fine (λ q t. divisor_code sc (is_sure b.known) t ++ (Divide q t ∷ takes d ∷ [])) a b na nb r h k (omega (arith, le)) (omega (arith, le)) (λ q t lq lt. both (divisor_code sc (is_sure b.known) t) _ (divisor_fine (is_sure b.known) t lt) ((lq, lt), (f d l, tt))))
 
-  logics : (skip : ℕ → ℕ → Inst) (a b : Made) (na nb : ℕ) → ((r k : ℕ) → r < 32 → k < 2 ^ 16 → InRange (skip r k)) → Fine a na → Fine b nb → Fine (only_value (λ d r. logic_code (λ k. skip r k) a b d r)) (max na nb)
+  logics : (skip : ℕ → ℕ → Inst) (a b : Made) (na nb : ℕ) → ((r k : ℕ) → r < 32 → k < 2 ^ 16 → InRange (skip r k)) → Fine a na → Fine b nb
+      → Fine (only_value (λ d r. logic_code (λ k. skip r k) a b d r)) (max na nb)
   logics skip a b na nb f h k = values (λ d r. logic_code (λ k. skip r k) a b d r) (max na nb) (let s = h.some in omega (arith, s)) (λ d r l le.
       let s = h.some in
       let low : r < 32 = omega (arith, s, le) in
@@ -259,7 +263,8 @@ module _ (sc : Scope) (exits : (f : KernelFault) → sc.exit f < 2 ^ 26) where
         base = low;
       }
 
-  elements : (o : Option ℕ) (w n : ℕ) (x : Spot) (m : Made) (nm r : ℕ) → FineSpot x → Fine m nm → r + 1 + nm ≤ 32 → FineSpot (element_spot sc w n o x m r)
+  elements : (o : Option ℕ) (w n : ℕ) (x : Spot) (m : Made) (nm r : ℕ) → FineSpot x → Fine m nm → r + 1 + nm ≤ 32
+      → FineSpot (element_spot sc w n o x m r)
   elements None w n x m nm r h g le = tested w n x m nm r h g le
   elements (Some c) w n x m nm r h g le = by_test (nat_lt c n)
     where
@@ -347,7 +352,8 @@ module _ (sc : Scope) (exits : (f : KernelFault) → sc.exit f < 2 ^ 26) where
   plains : (m : Made) (n : ℕ) → Fine m n → Tests (plain_test m) n
   plains m n h s far r l le = one_fine (λ q. branch_code (not s) q 0 far ∷ []) m n r h le (λ q lq. (branch_fine (not s) q 0 far lq (omega arith) l, tt))
 
-  compares : (im : ImmediateTest) (o : BinaryOp) (a b : Made) (na nb : ℕ) → FineTest im → Fine a na → Fine b nb → Tests (compare_test im o a b) (max na (nb + 1))
+  compares : (im : ImmediateTest) (o : BinaryOp) (a b : Made) (na nb : ℕ) → FineTest im → Fine a na → Fine b nb
+      → Tests (compare_test im o a b) (max na (nb + 1))
   compares (Some g) o a b na nb f h k s far r l le = one_fine (λ q. g s far q) a na r h (omega (arith, le)) (λ q lq. f s far q l lq)
   compares None o a b na nb f h k s far r l le = two_fine (λ q t. compare_code o s far q t) a b na nb r h k (omega (arith, le)) (omega (arith, le)) (λ q t lq lt. compare_fine o s far q t l lq lt)
 
@@ -357,7 +363,8 @@ module _ (sc : Scope) (exits : (f : KernelFault) → sc.exit f < 2 ^ 26) where
   boths false x y na nb h k true far r l le = both _ (y true far r) (h false _ r (omega arith) (omega (arith, le))) (k true far r l (omega (arith, le)))
   boths false x y na nb h k false far r l le = both _ (y false far r) (h false _ r (omega arith) (omega (arith, le))) (k false far r l (omega (arith, le)))
 
-  binary_tests : (o : BinaryOp) (m a b : Made) (x y : Testing) (na nb : ℕ) → Fine m (binary_need o na nb) → Fine a na → Fine b nb → Tests x na → Tests y nb → Tests (binary_test o m a b x y) (binary_need o na nb)
+  binary_tests : (o : BinaryOp) (m a b : Made) (x y : Testing) (na nb : ℕ) → Fine m (binary_need o na nb) → Fine a na → Fine b nb → Tests x na
+      → Tests y nb → Tests (binary_test o m a b x y) (binary_need o na nb)
   binary_tests And m a b x y na nb f h k i j = boths false x y na nb i j
   binary_tests Or m a b x y na nb f h k i j = boths true x y na nb i j
   binary_tests Lt m a b x y na nb f h k i j = compares (immediate_test_of Lt b.known) Lt a b na nb (test_of Lt b.known) h k

@@ -55,7 +55,8 @@ module _ (w : World) (sc : Scope) (p : Bases) (s : State) (f : Machine w) (area 
     pub others : (x : ℕ) → x ≢ 1 → reg core.regs x ≡ reg a.regs x
     pub run : Reaches w 4 (at_with n a d) (at_with (n + length code) core d)
 
-  scales_by : (o : Option ℕ) (k q n : ℕ) (a : Contents) (d : Behind) → d.pending ≡ Idle → q ≢ 1 → 4 * k < 2 ^ 31 → reg a.regs q < 2 ^ 31 → ((by : ℕ) → o ≡ Some by → 2 ^ by ≡ 4 * k) → CodeAt w n (scaled_code o k q) → Scaled (scaled_code o k q) k q n a d
+  scales_by : (o : Option ℕ) (k q n : ℕ) (a : Contents) (d : Behind) → d.pending ≡ Idle → q ≢ 1 → 4 * k < 2 ^ 31 → reg a.regs q < 2 ^ 31
+      → ((by : ℕ) → o ≡ Some by → 2 ^ by ≡ 4 * k) → CodeAt w n (scaled_code o k q) → Scaled (scaled_code o k q) k q n a d
   scales_by (Some by) k q n a d idle ne small low is there =
       let v : ℕ = 4 * (k * reg a.regs q) % 2 ^ 32 in
       let e : reg a.regs q * 2 ^ by % 2 ^ 32 ≡ 4 * (k * reg a.regs q) % 2 ^ 32 = ap (λ x. x % 2 ^ 32) (ap (λ y. reg a.regs q * y) (is by refl) ∙ mul_comm (reg a.regs q) (4 * k) ∙ mul_assoc 4 k (reg a.regs q)) in
@@ -91,5 +92,6 @@ module _ (w : World) (sc : Scope) (p : Bases) (s : State) (f : Machine w) (area 
         run = subst (λ t. Reaches w 4 (at_with n a d) (at_with t (with_reg b2 1 (4 * (k * reg a.regs q) % 2 ^ 32)) d)) len run;
       }
 
-  pub scales : (k q n : ℕ) (a : Contents) (d : Behind) → d.pending ≡ Idle → q ≢ 1 → 4 * k < 2 ^ 31 → reg a.regs q < 2 ^ 31 → CodeAt w n (scale_code k q) → Scaled (scale_code k q) k q n a d
+  pub scales : (k q n : ℕ) (a : Contents) (d : Behind) → d.pending ≡ Idle → q ≢ 1 → 4 * k < 2 ^ 31 → reg a.regs q < 2 ^ 31
+      → CodeAt w n (scale_code k q) → Scaled (scale_code k q) k q n a d
   scales k q n a d idle ne small low there = scales_by (shift_within POWERS k) k q n a d idle ne small low (λ by e. shift_is POWERS k by e) there

@@ -14,7 +14,8 @@ use Rattle.c0_expr_code.proofs.Words.{near_is, far_is}
 use Rattle.c0_expr_code.proofs.Steps.{same_read, other_read, other_reg, keeps_all, source_other}
 
 module _ (w : World) (f : Machine w) where
-  pub stores : (x : Spot) (q r n a v : ℕ) (c : Contents) (k : Behind) → k.pending ≡ Idle → 8 ≤ r → r < 20 → Source r x.base → q ≢ r → q ≢ 1 → CodeAt w n (store_code q r x) → (reg c.regs x.base + x.shift) % 2 ^ 32 ≡ 4 * a → a < w.words → w.kept a ≡ None → reg c.regs q ≡ v
+  pub stores : (x : Spot) (q r n a v : ℕ) (c : Contents) (k : Behind) → k.pending ≡ Idle → 8 ≤ r → r < 20 → Source r x.base → q ≢ r → q ≢ 1
+      → CodeAt w n (store_code q r x) → (reg c.regs x.base + x.shift) % 2 ^ 32 ≡ 4 * a → a < w.words → w.kept a ≡ None → reg c.regs q ≡ v
       → (c' : Contents) × Keeps r r (with_word c a v) c' × Reaches w 3 (at_with (n + length x.code) c k) (at_with (n + length (store_code q r x)) c' k)
   stores x q r n a v c k idle lo hi source nr n1 code address inside free is = elim (cases_Bool (is_near x.shift)) [
     | inl e ↦
