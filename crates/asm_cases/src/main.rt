@@ -1,64 +1,16 @@
-// Reads assembler texts from standard input, one a line, and prints the words of each, and the text that they are written as,
-// or why it has none. In a line `\n`, `\r`, `\t`, `\d` and `\\` stand for LF, CR, a tab, the byte 127 and a backslash, and
-// `TEXT|COUNT|` for TEXT so many times.
+// Assembles the texts of files of cases, and prints the words of each, and the text that they are written as; or the refusal of
+// docs/REFUSALS.md. `case_file` says how a case is written; the kind of each is `text`.
 #![tactic(auto)]
 
-use cvm_text::{decimal, decimal_u64, hex8, read_decimal};
+use case_file::{Case, cases};
+use cvm_text::hex8;
 use mips_asm::{AsmFault, assemble, disassemble};
 use std::alloc::{AllocError, Global};
-use std::io;
+use std::fmt::Write;
+use std::{env, fs, io};
 
 /// The greatest number of words that are shown one by one.
 const FEW: usize = 16;
-
-// Appends a text whose escapes stand for other bytes.
-fn append(text: &mut Vec<u8>, escaped: &[u8]) -> Result<(), AllocError> {
-    let mut is_escape = false;
-    for c in escaped {
-        let byte = match *c {
-            b'n' if is_escape => b'\n',
-            b'r' if is_escape => b'\r',
-            b't' if is_escape => b'\t',
-            b'd' if is_escape => 127,
-            c => c,
-        };
-        is_escape = *c == b'\\' && !is_escape;
-        if !is_escape {
-            text.push(byte)?;
-        }
-    }
-    Ok(())
-}
-
-// Appends such a text so many times.
-fn append_times(text: &mut Vec<u8>, escaped: &[u8], count: u64) -> Result<(), AllocError> {
-    for _ in 0..count {
-        append(text, escaped)?;
-    }
-    Ok(())
-}
-
-// The text that a line of the input writes.
-fn text_of(alloc: Global, line: &[u8]) -> Result<Vec<u8>, AllocError> {
-    let mut text = Vec::new(alloc);
-    let mut last: &[u8] = &[];
-    for (index, field) in line.split(|c| *c == b'|').enumerate() {
-        if index % 2 == 0 {
-            append(&mut text, field)?;
-            last = field;
-        } else {
-            let count = read_decimal(field, 0).map_or(1, |read| read.0);
-            append_times(&mut text, last, count.saturating_sub(1))?;
-        }
-    }
-    Ok(text)
-}
-
-// Shows a word and a number.
-fn show(shown: &mut String, word: &str, number: u64) -> Result<(), AllocError> {
-    shown.push_str(word)?;
-    shown.push_str(decimal_u64(number).as_str())
-}
 
 // Shows the lines of a text, each after a bar.
 fn show_lines(shown: &mut String, text: &[u8]) -> Result<(), AllocError> {
@@ -75,7 +27,8 @@ fn show_lines(shown: &mut String, text: &[u8]) -> Result<(), AllocError> {
 // Shows words, and the text that they are written as; of many words the count alone.
 fn show_words(alloc: Global, shown: &mut String, words: &[u32]) -> Result<(), AllocError> {
     if words.len() > FEW {
-        return show(shown, " words ", words.len() as u64);
+        let count = words.len();
+        return write!(shown, " words {count}");
     }
     for word in words {
         shown.push(' ')?;
@@ -88,39 +41,48 @@ fn show_words(alloc: Global, shown: &mut String, words: &[u32]) -> Result<(), Al
 
 // Shows why a text has no words: the fault's number and its fields.
 fn show_fault(shown: &mut String, fault: AsmFault) -> Result<(), AllocError> {
-    shown.push_str(" refused")?;
-    match fault {
-        AsmFault::BadByte { at } => show(shown, " 1 ", at),
-        AsmFault::UnknownMnemonic { line } => show(shown, " 2 ", line),
-        AsmFault::BadOperand { line } => show(shown, " 3 ", line),
-        AsmFault::OutOfRange { line, value } => {
-            show(shown, " 4 ", line)?;
-            shown.push(' ')?;
-            shown.push_str(decimal(value).as_str())
-        }
-        AsmFault::UnknownLabel { line } => show(shown, " 5 ", line),
-        AsmFault::LabelTwice { line } => show(shown, " 6 ", line),
-        AsmFault::TooLong => shown.push_str(" 7"),
-        AsmFault::Memory => shown.push_str(" 8"),
+    write!(shown, " refused {}", fault.number())?;
+    if let Some(at) = fault.at() {
+        write!(shown, " {at}")?;
     }
-}
-
-// What a text is read as.
-fn reading(alloc: Global, text: &[u8]) -> Result<String, AllocError> {
-    let mut shown = String::new(alloc);
-    match assemble(alloc, text) {
-        Ok(words) => show_words(alloc, &mut shown, words.as_slice())?,
-        Err(fault) => show_fault(&mut shown, fault)?,
+    if let Some(line) = fault.line() {
+        write!(shown, " {line}")?;
     }
-    Ok(shown)
-}
-
-fn main(rt: HostRuntime) -> io::Result<()> {
-    for line in rt.lines(rt.alloc()) {
-        let line = line?;
-        let text = text_of(rt.alloc(), line.as_bytes())?;
-        let shown = reading(rt.alloc(), text.as_slice())?;
-        println!(rt; "{line}\n{shown}")?;
+    if let Some(value) = fault.value() {
+        write!(shown, " {value}")?;
     }
     Ok(())
+}
+
+// Shows what a text is read as.
+fn show_reading(alloc: Global, shown: &mut String, text: &[u8]) -> Result<(), AllocError> {
+    match assemble(alloc, text) {
+        Ok(words) => show_words(alloc, shown, words.as_slice()),
+        Err(fault) => show_fault(shown, fault),
+    }
+}
+
+// A case, and what its text is read as.
+fn put_case(alloc: Global, out: &mut String, case: &Case) -> Result<(), AllocError> {
+    let kind = case.kind.as_str();
+    let name = case.name.as_str();
+    writeln!(out, "== {kind} {name}")?;
+    match kind {
+        "text" => show_reading(alloc, out, &case.source)?,
+        _ => out.push_str("no such kind")?,
+    }
+    out.push('\n')
+}
+
+// The words are the names of files, whose cases are tried.
+fn main(rt: HostRuntime) -> io::Result<()> {
+    let alloc = rt.alloc();
+    let mut out = String::new(alloc);
+    for file in env::args(&rt)?.skip(1) {
+        let text = fs::read_to_string(&rt, file.as_str())?;
+        for case in &cases(alloc, text.as_str())? {
+            put_case(alloc, &mut out, case)?;
+        }
+    }
+    rt.print(out)
 }

@@ -145,9 +145,14 @@ abbrev pub TwoFaults : Outside → System → List (List ℕ) → Type 0
 TwoFaults x y old = (k a b : ℕ) → complete x (loaded y old) a ≡ k → complete x (loaded y old) b ≡ k → a ≤ b →
     ((j : ℕ) → a ≤ j → j < b → begins x (run x (loaded y old) j) ≡ false) → faults_before x (loaded y old) b ≤ faults_before x (loaded y old) a + 2
 
+-- the CVM run is defined for as many turns as are complete at any step
+abbrev pub IsDefined : Outside → System → List (List ℕ) → Type 0
+IsDefined x y old = (t : ℕ) → (c : Cvm) × IsCvm y (lines_of x (loaded y old)) (complete x (loaded y old) t) c
+
 -- what holds of each boot under the premises, whatever is printed
 pub record Machines (x : Outside) (y : System) (old : List (List ℕ)) : Type 0 where
   pub goes_on : GoesOn x y old
+  pub defined : IsDefined x y old
   pub two_faults : TwoFaults x y old
   pub ahead : (k t : ℕ) (c d : Cvm) → Stood x y old k t c → c.status ≡ Running → IsCvm y (lines_of x (loaded y old)) (suc k) d → Ahead x y old k t c
   pub replays : (u turns steps : ℕ) → 1 ≤ u → u ≤ length y.boot.users → TraceReplays x y old u turns steps

@@ -2,3 +2,4 @@ pub mod Trace
 pub mod TurnEnds
 pub mod Headline
 pub mod Samples
+pub mod Rows

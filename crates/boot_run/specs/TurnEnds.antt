@@ -65,7 +65,7 @@ pub record Ahead (x : Outside) (y : System) (old : List (List ℕ)) (k t : ℕ) 
   pub between : (j : ℕ) → t ≤ j → j < end → complete x (loaded y old) j ≡ k
   pub on : (j : ℕ) → j < end → (machine x y old j).off ≡ None
   pub stood : Stood x y old (suc k) end after
-  pub within : end + c.bound ≤ t + after.bound
+  pub within : t ≤ c.bound → end ≤ after.bound
 
 -- THE TEXT at step t: the rows of the complete turns; or the start row and the rows of what is shown, but for a last row of steps
 abbrev pub Printed : Outside → System → List (List ℕ) → View → ℕ → List ℕ → Type 0

@@ -1,13 +1,10 @@
 -- What contracts see of the check of an expression.
-use Rattle.std.specs.Prelude.{◌≡◌, Bool, false, Option, Some, None}
+use Rattle.std.specs.Prelude.{◌≡◌, Option}
 use Rattle.c0_tree.specs.Tree.{CExpr}
-use Rattle.c0_meaning.specs.Ty.{Ty, int, bool, pointer, named, array, same_ty}
+use Rattle.c0_meaning.specs.Ty.{Ty}
 use Rattle.c0_meaning.specs.Env.{Env}
 use Rattle.c0_meaning.specs.Fault.{Fault, kept_all}
 use Rattle.c0_meaning.specs.Expression.{Verdict, given, own, type_of, faults, resolved, asked, asked_faults}
-use Rattle.c0_meaning.specs.Form.{ty_view}
-use Rattle.c0_meaning.specs.declared.form.Form.{Form}
-use Rattle.c0_meaning.specs.declared.form.Form.TheVariants as form
 
 -- a type, and the least fault met before and after, are as a rule says
 abbrev pub Settles : Option Ty → Option Fault → Option Fault → Verdict → Type 0

@@ -1,16 +1,15 @@
 -- What contracts see of the names that a body is checked with.
-use Rattle.std.specs.Prelude.{◌≡◌, min, get_or, ◌<◌, ℕ, List, map, ◌++◌, length, Bool, true, false, Option, Some, None}
+use Rattle.std.specs.Prelude.{◌≡◌, min, get_or, ◌<◌, ℕ, List, map, ◌++◌, length, Option, Some, None}
 use Rattle.std.specs.Borrow.{Bor}
 use Rattle.std.specs.declared.vec.Vec.{Vec}
 use Rattle.indexmap.specs.IndexMap.{IndexMap}
-use Rattle.c0_tree.specs.declared.tree.CType.{CType}
 use Rattle.c0_tree.specs.declared.tree.Decl.{Decl}
 use Rattle.c0_tree.specs.declared.tree.StructDef.{StructDef}
 use Rattle.c0_tree.specs.declared.tree.Function.{Function}
 use Rattle.c0_tree.specs.declared.primitive.Primitive.{Primitive}
-use Rattle.c0_tree.specs.View.{type_view, decl_view, struct_view, function_view}
+use Rattle.c0_tree.specs.View.{decl_view, struct_view, function_view}
 use Rattle.c0_tree.specs.Primitives.{primitive_view}
-use Rattle.c0_meaning.specs.Ty.{Ty, int, bool, pointer, named, ty_of}
+use Rattle.c0_meaning.specs.Ty.{named}
 use Rattle.c0_meaning.specs.Env.{Typed, Shape, Signature, Env, typed_of, shape_of, signature_of, primitive_signature, first_named, callee_of}
 use Rattle.c0_meaning.specs.Env as spec
 use Rattle.c0_tree.specs.declared.tree.Kind.TheVariants as kind
@@ -20,7 +19,7 @@ use Rattle.c0_body.specs.declared.scope.Callee.TheVariants.{Primitive as CallsPr
 use Rattle.c0_meaning.specs.Form.{ty_view}
 use Rattle.c0_meaning.specs.Words.{words}
 use Rattle.c0_names.specs.Names.{look, number_named}
-use Rattle.c0_names.specs.Structs.{WORDS_CAP}
+use Rattle.c0_meaning.specs.Sizes.{WORDS_CAP}
 use Rattle.c0_body.specs.declared.scope.Scope.{Scope}
 
 -- a variable or field

@@ -13,7 +13,7 @@ use crate::parts::check_tested;
 use crate::scope::Scope;
 use crate::stmts::check_stmts;
 use c0_meaning::form::Found;
-use c0_names::fault::Fault;
+use c0_names::met::Fault;
 use c0_tree::{CType, Expr, Stmt};
 
 /// Checks the statements of a body and the expression that is returned, whose type is to be the function's: their names

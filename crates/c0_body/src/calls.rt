@@ -13,7 +13,7 @@ ghost use Rattle.c0_body.specs.Stmts.{ChecksArgs};
 use crate::parts::{check_given, meet_other};
 use crate::scope::{Callee, Scope};
 use c0_meaning::form::{Form, Found};
-use c0_names::fault::{Fault, Mistake, meet_at, meet_if};
+use c0_names::met::{Fault, Mistake, meet_at, meet_if};
 use c0_tree::{Expr, Function, Kind, Name, Scalar, Span};
 
 // A primitive's type.

@@ -17,7 +17,7 @@ use crate::shape::is_local;
 use c0_meaning::form::{Found, is_pointer_form};
 use c0_meaning::laws::meeting_is_free_of_order;
 use c0_meaning::shape::{compares, is_null, is_place, span_of};
-use c0_names::fault::{Fault, Mistake};
+use c0_names::met::{Fault, Mistake};
 use c0_tree::{BinaryOp, Expr};
 
 // Whether an expression is a `null` of which a particular pointer type is asked.

@@ -17,7 +17,7 @@ use crate::scope::Scope;
 use c0_meaning::form::{Form, Found, same_form};
 use c0_meaning::need::is_deep;
 use c0_meaning::shape::{is_place, span_of};
-use c0_names::fault::{Fault, Mistake, meet_at, meet_if};
+use c0_names::met::{Fault, Mistake, meet_at, meet_if};
 use c0_tree::{Expr, Span};
 
 /// Another type than is asked is met, where both are there.

@@ -13,7 +13,7 @@ ghost use Rattle.c0_body.specs.Scope.{Knows, env_view, found_in, typed_view};
 
 use crate::scope::{Scope, find_field, find_variable};
 use c0_meaning::form::{Form, Found, form_of, same_form};
-use c0_names::fault::{Fault, Mistake, meet_at};
+use c0_names::met::{Fault, Mistake, meet_at};
 use c0_tree::{BinaryOp, Decl, Kind, Name, Span, UnaryOp};
 
 /// A mistake leaves no type.

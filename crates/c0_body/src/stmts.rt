@@ -20,7 +20,7 @@ use crate::scope::{Scope, find_callee};
 use c0_meaning::form::{Form, Found};
 use c0_meaning::laws::meeting_is_free_of_order;
 use c0_meaning::need::{is_deep_assignment, is_deep_call, is_deep_object};
-use c0_names::fault::{Fault, Mistake, meet_if};
+use c0_names::met::{Fault, Mistake, meet_if};
 use c0_names::types::check_type;
 use c0_tree::{CType, Expr, Name, Span, Stmt};
 

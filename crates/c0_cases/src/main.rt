@@ -5,6 +5,7 @@
 // - `tree`, `parts`: its tree as a text with brackets, or the place and the text of each part of it;
 // - `check`: whether it is typed; `kernel`: whether it is with a `dispatch` behind it;
 // - `names`, `sizes`: its tree with what each name stands for, or the words of each function's frame;
+// - `offsets`: where its globals, each function's parameters and locals, and each struct's fields begin, in words;
 // - `structs`: the words of its structs, up to 1,048,577, and whether they hold themselves, typed or not;
 // - `asm`: the words of an asm text, and its first line that is not allowed;
 // - `first`, `first-tokens`: what the reader of the first kernels answers.
@@ -15,6 +16,7 @@
 mod answers;
 mod faults;
 mod first;
+mod offsets;
 mod structs;
 mod tokens;
 mod tree_spans;
@@ -37,6 +39,7 @@ fn put_answer(alloc: Global, out: &mut String, case: &Case) -> Result<(), AllocE
         "kernel" => answers::put_kernel(alloc, out, source),
         "names" => answers::put_names(alloc, out, source),
         "sizes" => answers::put_sizes(alloc, out, source),
+        "offsets" => offsets::put_offsets(alloc, out, source),
         "structs" => structs::put_structs(alloc, out, source),
         "asm" => answers::put_asm(alloc, out, source),
         "first" => first::put_first(alloc, out, source),

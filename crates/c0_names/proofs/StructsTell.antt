@@ -16,7 +16,8 @@ use Rattle.c0_meaning.specs.Words.{words, struct_words, all_words_with, fields_n
 use Rattle.c0_meaning.specs.DeclaredTypes.{MAX_TYPE_WORDS, fault_if, unknown_structs, has_empty_array, type_faults}
 use Rattle.c0_meaning.specs.Resolved.{looked_up, resolved_type}
 use Rattle.c0_names.specs.Names.{number_named}
-use Rattle.c0_names.specs.Structs.{WORDS_CAP, unknown_name, unknown_by, numbered_struct, numbered_type, listed_words, capped_words, type_faults_by}
+use Rattle.c0_meaning.specs.Sizes.{WORDS_CAP}
+use Rattle.c0_names.specs.Structs.{unknown_name, unknown_by, numbered_struct, numbered_type, listed_words, capped_words, type_faults_by}
 
 le_product : (a n : ℕ) → 0 < n → a ≤ n * a
 le_product a zero h = absurd (omega arith)

@@ -2,10 +2,10 @@
 use Rattle.std.specs.Prelude.{ℕ, Option}
 use Rattle.std.specs.Option.{option_map}
 use Rattle.c0_meaning.specs.Fault as spec
-use Rattle.c0_names.specs.declared.fault.Fault.{Fault}
-use Rattle.c0_names.specs.declared.fault.Fault.TheVariants.{Wrong, BadLine}
-use Rattle.c0_names.specs.declared.fault.Mistake.{Mistake}
-use Rattle.c0_names.specs.declared.fault.Mistake.TheVariants.{UnknownName, NameTwice, WrongType, WrongCount, NotAPlace, LocalAddress, StructHoldsItself, TooDeep, TooManyNodes, UnitTooLarge, GlobalsTooLarge, NoDispatch, TooManyParameters, TypeTooLarge, EmptyArray}
+use Rattle.c0_names.specs.declared.met.Fault.{Fault}
+use Rattle.c0_names.specs.declared.met.Fault.TheVariants.{Wrong, BadLine}
+use Rattle.c0_names.specs.declared.met.Mistake.{Mistake}
+use Rattle.c0_names.specs.declared.met.Mistake.TheVariants.{UnknownName, NameTwice, WrongType, WrongCount, NotAPlace, LocalAddress, StructHoldsItself, TooDeep, TooManyNodes, UnitTooLarge, GlobalsTooLarge, NoDispatch, TooManyParameters, TypeTooLarge, EmptyArray}
 
 -- the number of a mistake
 abbrev pub number_of : Mistake → ℕ

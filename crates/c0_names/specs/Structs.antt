@@ -9,14 +9,11 @@ use Rattle.c0_tree.specs.Tree.{CName, CTy, int, bool, pointer, named, array}
 use Rattle.c0_meaning.specs.Ty as ty
 use Rattle.c0_meaning.specs.Env.{Shape}
 use Rattle.c0_meaning.specs.Fault.{Fault, fault, UNKNOWN_NAME, TYPE_TOO_LARGE, EMPTY_ARRAY}
+use Rattle.c0_meaning.specs.Sizes.{WORDS_CAP}
 use Rattle.c0_meaning.specs.Words.{words}
 use Rattle.c0_meaning.specs.DeclaredTypes.{MAX_TYPE_WORDS, fault_if, has_empty_array}
 use Rattle.c0_meaning.specs.Resolved.{standing_for}
 use Rattle.c0_names.specs.Names.{look, number_named}
-
--- how many words are told apart: one more than a type may have
-abbrev pub WORDS_CAP : ℕ
-WORDS_CAP = 1048577
 
 -- the fault of a struct's name at this span, if it has no number
 abbrev pub unknown_name : Option ℕ → Span → List Fault

@@ -2,7 +2,7 @@
 //! the least of the faults that were met.
 #![tactic(auto)]
 
-pub mod fault;
+pub mod met;
 pub mod names;
 pub mod spaces;
 pub mod types;

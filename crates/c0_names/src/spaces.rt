@@ -9,7 +9,7 @@ ghost use Rattle.c0_tree.specs.View.{decl_view};
 ghost use Rattle.c0_names.specs.Met.{met_view};
 ghost use Rattle.c0_names.specs.Names.{look, number_named};
 
-use crate::fault::{Fault, Mistake, meet_at};
+use crate::met::{Fault, Mistake, meet_at};
 use crate::names::set_name;
 use c0_tree::{Decl, Name};
 use indexmap::IndexMap;

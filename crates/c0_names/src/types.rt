@@ -11,17 +11,18 @@ ghost use Rattle.c0_meaning.specs.Fault.{kept_all};
 ghost use Rattle.c0_tree.specs.View.{name_view, type_view};
 ghost use Rattle.c0_names.specs.Met.{met_view};
 ghost use Rattle.c0_names.specs.Names.{look};
+ghost use Rattle.c0_meaning.specs.Sizes as table;
 ghost use Rattle.c0_names.specs.Structs as structs;
 
-use crate::fault::{Fault, Mistake, meet_at, meet_if};
+use crate::met::{Fault, Mistake, meet_at, meet_if};
 use crate::names::Names;
 use c0_tree::{CType, Kind, Name, Span};
 
 /// How many words a type has at most.
-const MAX_TYPE_WORDS: u32 = 1_048_576;
+pub const MAX_TYPE_WORDS: u32 = 1_048_576;
 
 /// One word more: more words than these aren't told apart.
-const WORDS_CAP: u32 = MAX_TYPE_WORDS + 1;
+pub const WORDS_CAP: u32 = MAX_TYPE_WORDS + 1;
 
 // Gives a struct's name its number, or meets it as the name of no struct.
 fn number_struct(names: &Names, name: &mut Name, least: &mut Option<Fault>)
@@ -82,7 +83,7 @@ pub fn words_by(names: &Names, sizes: &[u32], ty: &CType) -> u32
 
 /// The words of a type, up to 1,048,577.
 pub fn capped_words(names: &Names, sizes: &[u32], ty: &CType) -> u32
-    ensures { (shapes : List Shape) → structs.KnowsStructs names.now sizes.now shapes → result ≡ min (words shapes (ty_of (type_view ty.now))) structs.WORDS_CAP }
+    ensures { (shapes : List Shape) → structs.KnowsStructs names.now sizes.now shapes → result ≡ min (words shapes (ty_of (type_view ty.now))) table.WORDS_CAP }
 {
     words_by(names, sizes, ty)
 }

@@ -8,7 +8,8 @@ use Rattle.c0_meaning.specs.Ty as ty
 use Rattle.c0_meaning.specs.Env.{shape_of}
 use Rattle.c0_meaning.specs.Words.{holds, HoldsAsTested, WordsAreThose, words}
 use Rattle.c0_meaning.specs.Sizes.{struct_sizes}
-use Rattle.c0_names.specs.Structs.{WORDS_CAP, listed_words}
+use Rattle.c0_meaning.specs.Sizes.{WORDS_CAP}
+use Rattle.c0_names.specs.Structs.{listed_words}
 use Rattle.c0_structs.specs.declared.walk.Mark.{Mark}
 use Rattle.c0_structs.specs.declared.walk.Mark.TheVariants.{Unseen, Open, Done}
 use Rattle.c0_structs.specs.Graph.{IsIn}

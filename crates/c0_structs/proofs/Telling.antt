@@ -13,7 +13,8 @@ use Rattle.c0_meaning.specs.Env.{Shape, Typed, shape_of, typed_of, first_named, 
 use Rattle.c0_meaning.specs.Words.{is_made_of, fields_named, have_field, has_field_of, Holds, by_field, by_part, words, all_words, WordsAreThose}
 use Rattle.c0_meaning.proofs.Capped.{capped_product}
 use Rattle.c0_names.specs.Names.{number_named}
-use Rattle.c0_names.specs.Structs.{WORDS_CAP, listed_words, capped_words}
+use Rattle.c0_meaning.specs.Sizes.{WORDS_CAP}
+use Rattle.c0_names.specs.Structs.{listed_words, capped_words}
 use Rattle.c0_structs.specs.Graph.{IsIn, Leads, by_edge, by_way}
 use Rattle.c0_structs.specs.Parts.{struct_number, parts, is_number, has_part, all_capped, fields_at, edges, AreWordsOf, TellsFirst}
 use Rattle.c0_structs.proofs.GraphLemmas.{in_left, in_right, in_parts}

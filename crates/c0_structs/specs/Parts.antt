@@ -6,7 +6,8 @@ use Rattle.c0_meaning.specs.Ty as ty
 use Rattle.c0_meaning.specs.Env.{shape_of}
 use Rattle.c0_meaning.specs.Words.{words}
 use Rattle.c0_names.specs.Names.{number_named}
-use Rattle.c0_names.specs.Structs.{WORDS_CAP, capped_words}
+use Rattle.c0_meaning.specs.Sizes.{WORDS_CAP}
+use Rattle.c0_names.specs.Structs.{capped_words}
 
 -- the number of the struct that a type is, or is an array of
 abbrev pub struct_number : (List ℕ → Option ℕ) → CTy → Option ℕ

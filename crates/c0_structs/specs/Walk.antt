@@ -3,7 +3,7 @@
 use Rattle.std.specs.Prelude.{◌≡◌, ℕ, zero, suc, ◌+◌, ◌-◌, ◌<◌, ◌≤◌, min, Bool, true, false, ◌||◌, nat_lt, List, [], ◌∷◌, ◌++◌, length, drop, take, get_or, Option, None, Some}
 use Rattle.std.proofs.Math.ListN.{set}
 use Rattle.c0_tree.specs.Tree.{CStruct}
-use Rattle.c0_names.specs.Structs.{WORDS_CAP}
+use Rattle.c0_meaning.specs.Sizes.{WORDS_CAP}
 use Rattle.c0_structs.specs.declared.walk.Mark.{Mark}
 use Rattle.c0_structs.specs.declared.walk.Mark.TheVariants.{Unseen, Open, Done}
 use Rattle.c0_structs.specs.declared.walk.Group.{Group}

@@ -3,17 +3,14 @@
 ghost use Rattle.std.specs.Prelude.{◌≡◌, ◌++◌, List, OnOk, map, min};
 ghost use Rattle.std.specs.Option.{option_to_list};
 ghost use Rattle.c0_names.specs.Names.{look};
-ghost use Rattle.c0_names.specs.Structs as structs;
+ghost use Rattle.c0_meaning.specs.Sizes as table;
 ghost use Rattle.c0_structs.specs.Parts as parts;
 ghost use Rattle.c0_tree.specs.View.{decl_view, type_view};
 
 use c0_names::names::Names;
-use c0_names::types::words_by;
+use c0_names::types::{WORDS_CAP, words_by};
 use c0_tree::{CType, Decl};
 use std::alloc::AllocError;
-
-/// One more word than a type may have: more words than these aren't told apart.
-const WORDS_CAP: u32 = 1_048_577;
 
 // The number of the struct that a type is, or is an array of.
 fn struct_number(names: &Names, ty: &CType) -> Option<u32>
@@ -77,7 +74,7 @@ pub(crate) fn has_part(names: &Names, fields: &[Decl], number: u32) -> bool
 
 /// The words of fields one after another, up to 1,048,577, where those of each struct are given.
 pub(crate) fn fields_words(names: &Names, sizes: &[u32], fields: &[Decl]) -> u32
-    ensures { result ≡ min (parts.all_capped (look names.now) sizes.now (map decl_view fields.now)) structs.WORDS_CAP }
+    ensures { result ≡ min (parts.all_capped (look names.now) sizes.now (map decl_view fields.now)) table.WORDS_CAP }
 {
     let mut words = 0;
     for field in fields {

@@ -1,4 +1,4 @@
-// The sizes of a well formed unit.
+// The numbers of structs, and the sizes of a well formed unit.
 
 ghost use Rattle.std.specs.Prelude.{◌≡◌, ◌<◌, ◌^◌, IfOk, List, length, map};
 ghost use Rattle.c0_meaning.specs.Unit.{IsWellFormed};
@@ -14,8 +14,8 @@ use c0_tree::{StructDef, Unit};
 use indexmap::IndexMap;
 use std::alloc::{AllocError, Global};
 
-// The number of the first struct of each name.
-fn numbers(alloc: Global, structs: &[StructDef]) -> Result<Names, AllocError>
+/// The number of the first struct of each name. The one error is want of memory.
+pub fn struct_numbers(alloc: Global, structs: &[StructDef]) -> Result<Names, AllocError>
     requires { length structs.now < 2 ^ 32 }
     ensures { IfOk result (λ names. TellsFirst (look names) (map struct_view structs.now)) }
 {
@@ -35,7 +35,7 @@ pub fn measured<'a>(alloc: Global, unit: &'a Unit) -> Result<Measured<'a>, Alloc
     requires { (primitives : List CPrimitive) × IsWellFormed primitives (unit_view unit.now) }
     ensures { IfOk result (λ m. m ≡ unit.now) }
 {
-    let names = numbers(alloc, &unit.structs)?;
+    let names = struct_numbers(alloc, &unit.structs)?;
     let sizes = struct_sizes(alloc, &names, &unit.structs)?;
     Ok(Measured::new(unit, sizes.words))
 }

@@ -11,7 +11,7 @@ use Rattle.c0_meaning.specs.DeclaredTypes.{MAX_TYPE_WORDS}
 use Rattle.c0_meaning.specs.Env.{Shape, first_named}
 use Rattle.c0_meaning.specs.Resolved.{resolved_structs}
 use Rattle.c0_names.specs.Names.{number_named}
-use Rattle.c0_names.specs.Structs.{WORDS_CAP}
+use Rattle.c0_meaning.specs.Sizes.{WORDS_CAP}
 use Rattle.c0_types.specs.NumberedStruct.{numbered_struct}
 use Rattle.c0_types.proofs.DeclaredInPlace.{numbered}
 

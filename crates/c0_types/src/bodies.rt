@@ -30,7 +30,7 @@ use c0_asm_text::{AsmReading, read_asm};
 use c0_body::body::check_code;
 use c0_body::scope::Scope;
 use c0_meaning::nodes::{expr_nodes, stmts_nodes_of};
-use c0_names::fault::{Fault, Mistake, meet, meet_if};
+use c0_names::met::{Fault, Mistake, meet, meet_if};
 use c0_names::names::Names;
 use c0_names::spaces::{declare_all, twice_by_test_is_twice};
 use c0_tree::{AsmText, Body, Code, Decl, Expr, Function, Kind, Primitive, Span, Stmt, StructDef};

@@ -11,7 +11,7 @@ ghost use Rattle.c0_names.specs.Met.{met_view};
 ghost use Rattle.c0_names.specs.Structs.{KnowsStructs};
 ghost use Rattle.c0_tree.specs.View.{decl_view};
 
-use c0_names::fault::Fault;
+use c0_names::met::Fault;
 use c0_names::names::Names;
 use c0_names::types::{capped_words, check_type};
 use c0_tree::{Decl, Kind};

@@ -12,7 +12,7 @@ ghost use Rattle.c0_tree.specs.View.{body_view, decl_view, function_view, type_v
 ghost use Rattle.c0_types.specs.Parts.{heading_faults, headed};
 
 use crate::decls::check_decls;
-use c0_names::fault::{Fault, Mistake, meet_at, meet_if};
+use c0_names::met::{Fault, Mistake, meet_at, meet_if};
 use c0_names::names::Names;
 use c0_names::types::check_type;
 use c0_tree::{Body, CType, Decl, Function, Kind, Span};

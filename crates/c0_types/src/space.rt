@@ -10,7 +10,7 @@ ghost use Rattle.c0_tree.specs.Primitives.{primitive_view};
 ghost use Rattle.c0_tree.specs.View.{decl_view, function_view};
 ghost use Rattle.c0_types.specs.SourceOrder.{comes_next};
 
-use c0_names::fault::Fault;
+use c0_names::met::Fault;
 use c0_names::names::{Names, set_name};
 use c0_names::spaces::{declare, twice_by_test_is_twice};
 use c0_tree::{Decl, Function, Primitive};

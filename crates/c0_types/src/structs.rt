@@ -18,17 +18,14 @@ ghost use Rattle.c0_tree.specs.View.{decl_view, struct_view};
 ghost use Rattle.c0_types.specs.NumberedStruct.{numbered_struct};
 
 use crate::decls::check_decls;
-use c0_names::fault::{Fault, Mistake, meet_if};
+use c0_names::met::{Fault, Mistake, meet_if};
 use c0_names::names::Names;
 use c0_names::spaces::{declare, declare_all, twice_by_test_is_twice};
-use c0_names::types::struct_words;
+use c0_names::types::{MAX_TYPE_WORDS, struct_words};
 use c0_structs::sizes::struct_sizes;
 use c0_tree::{Decl, Kind, Name, StructDef};
 use indexmap::IndexMap;
 use std::alloc::{AllocError, Global};
-
-/// How many words a struct has at most.
-const MAX_STRUCT_WORDS: u32 = 1_048_576;
 
 /// What is known of the structs of a unit.
 #[derive(Drop)]
@@ -81,7 +78,7 @@ fn name_fields(
 fn is_too_large(names: &Names, words: &[u32], name: &Name) -> bool
     ensures { (shapes : List Shape) → KnowsStructs names.now words.now shapes → result ≡ spec.is_too_large shapes (ty.named name.now.bytes.items) }
 {
-    struct_words(names, words, name.bytes.as_slice()) > MAX_STRUCT_WORDS
+    struct_words(names, words, name.bytes.as_slice()) > MAX_TYPE_WORDS
 }
 
 // Checks the struct of this number: its name and those of its fields get their numbers, and its faults are met. The answer has the numbers

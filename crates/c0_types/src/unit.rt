@@ -29,7 +29,7 @@ use c0_meaning::Checked;
 use c0_meaning::laws::{
     faultless_units_are_checked, kept_fault_is_least, meeting_is_free_of_order, resolving_is_stable,
 };
-use c0_names::fault::{Fault, Mistake, meet_if};
+use c0_names::met::{Fault, Mistake, meet_if};
 use c0_names::names::Names;
 use c0_tree::{AsmText, Body, CType, Decl, Function, Kind, Primitive, Span, Unit, primitives};
 use std::alloc::{AllocError, Global};

@@ -1,5 +1,3 @@
-pub mod Worked
-pub mod PrintedRows
 pub mod Replays
 pub mod Isolation
 pub mod PrimitiveReplays

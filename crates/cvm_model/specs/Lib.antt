@@ -8,3 +8,4 @@ pub mod Paged
 pub mod Stands
 pub mod TypedKernel
 pub mod Samples
+pub mod Rows

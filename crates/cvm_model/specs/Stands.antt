@@ -9,6 +9,8 @@ use Rattle.mips_table.specs.Machine.{State, LOG_ROOM}
 use Rattle.mips_table.specs.Turns.{is_on, in_user}
 use Rattle.mips_table.specs.Fits.{CpuFits, Fits}
 use Rattle.layer_map.specs.Map.{Map, current_at, heap_used_at, heap_words_at, stack_words_at, block_at, globals_at, heap_at, memory_words, table_of}
+use Rattle.page_model.specs.Paging.{PagesStand}
+use Rattle.page_model.specs.Places.{layout_of}
 use Rattle.c0_meaning.specs.Value as value
 use Rattle.c0_meaning.specs.Value.{Region, Location}
 use Rattle.c0_meaning.specs.State.{State as C0, region_value}
@@ -16,7 +18,7 @@ use Rattle.c0_meaning.specs.RunLaws.{scalars}
 use Rattle.cvm_model.specs.Kernel.{offset, flat, Core}
 use Rattle.cvm_model.specs.Primitives.{user_of, pages_of}
 use Rattle.cvm_model.specs.Cvm.{Status, Running, Cvm}
-use Rattle.cvm_model.specs.Paged.{PagesStand, layout_of, paged_of, pages_by}
+use Rattle.cvm_model.specs.Paged.{paged_of, pages_by}
 
 -- what is fixed for a run: the map and the linked words
 pub record Site : Type 0 where

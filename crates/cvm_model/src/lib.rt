@@ -2,7 +2,8 @@
 //! this CVM state".
 //!
 //! The definitions are in `specs/`: what a kernel means and what its primitives do, a turn and a run with what they may cost, a
-//! user's journal and its replay, the printed text, and the relation. Each law is the contract of a function that does nothing.
+//! user's journal and its replay, the printed text, and the relation. Each law is the contract of a function that does nothing, and so
+//! are the worked rows, which compute the definitions on small systems.
 #![tactic(auto)]
 
 ghost use Rattle.cvm_model.specs.KernelMeaning.{CallsAreTold, UnitsAreKernels, UnitsReplay};
@@ -13,6 +14,7 @@ ghost use Rattle.cvm_model.specs.Journal.{ReplayJoins, Isolated, PrimitivesRepla
 mod kernel_fault;
 mod kernel_world;
 mod row;
+mod rows;
 
 use c0_meaning::run_laws::{
     calls_answer_their_types, calls_are_safe, first_states_are_typed, more_units_change_nothing,
@@ -21,6 +23,7 @@ use c0_meaning::run_laws::{
 pub use kernel_fault::KernelFault;
 pub use kernel_world::KernelWorld;
 pub use row::{Next, Row};
+pub use rows::{journal_rows, map_rows, primitive_rows, system_rows, text_rows};
 
 /// A law: a call of a primitive is told by its number and its arguments.
 pub fn calls_are_told()

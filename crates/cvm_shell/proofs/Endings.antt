@@ -96,13 +96,7 @@ memory_long s taken e long h = let d : Stops.Memory ≡ Stops.Refused by.TooLong
 
 -- a refusal is that of a file that is too long, or has the status of a refusal
 which : (r : ByCode) → (r ≡ by.TooLong) ⊎ ((refusal_view r ≢ too_long) × (refusal_status (refusal_view r) ≡ Refused))
-which (by.BadByte at) = inr (λ e. cc, refl)
-which (by.UnknownMnemonic line) = inr (λ e. cc, refl)
-which (by.BadOperand line) = inr (λ e. cc, refl)
-which (by.OutOfRange line value) = inr (λ e. cc, refl)
-which (by.UnknownLabel line) = inr (λ e. cc, refl)
-which (by.LabelTwice line) = inr (λ e. cc, refl)
-which by.TooManyWords = inr (λ e. cc, refl)
+which (by.BadText fault) = inr (λ e. cc, refl)
 which by.Magic = inr (λ e. cc, refl)
 which (by.Truncated at) = inr (λ e. cc, refl)
 which (by.Trailing at) = inr (λ e. cc, refl)

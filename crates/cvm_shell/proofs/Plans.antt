@@ -15,9 +15,9 @@ use Rattle.mips_asm.specs.declared.fault.AsmFault.TheVariants.{BadByte, UnknownM
 use Rattle.cvm_shell.specs.declared.boot.Stop.{Stop}
 use Rattle.cvm_shell.specs.declared.boot.Stop.TheVariants.{Refused, Shelf, Memory as OutOfMemory}
 use Rattle.cvm_shell.specs.Command.{Boot, CompileUser}
-use Rattle.cvm_shell.specs.Refusal.{Refusal, not_built, too_long, bad_byte, unknown_mnemonic, bad_operand, out_of_range, unknown_label, label_twice, too_many_words}
+use Rattle.cvm_shell.specs.Refusal.{Refusal, not_built, too_long, bad_text}
 use Rattle.cvm_shell.specs.Image.{Reading, gives, refuses as faulty, reading}
-use Rattle.cvm_shell.specs.Plan.{Plan, refuses, puts, boots, Got, long, whole, AfterSource, scheduled, runs, AfterImage, breaks, reads, AfterReading, AfterFiles, AfterText, no_words, assembles, bytes_of, refusal_of, IsPlan}
+use Rattle.cvm_shell.specs.Plan.{Plan, refuses, puts, boots, Got, long, whole, AfterSource, scheduled, runs, AfterImage, breaks, reads, AfterReading, AfterFiles, AfterText, no_words, assembles, bytes_of, IsPlan}
 use Rattle.cvm_shell.specs.Stages.{stop_of, text_stop, IsBootPlan, IsUserPlan}
 use Rattle.cvm_shell.specs.Views.{refusal_view, IfRefused, IfPlan}
 
@@ -155,29 +155,26 @@ kernel_runs b image schedule source once u empty e read one test is =
 
 -- The text of a user.
 
-text_is_refused : (name text : List ℕ) (f : AsmFault) (r : Refusal) → assembled text ≡ Err f → refusal_of f ≡ Some r → (q : Plan) → AfterText name text q → q ≡ refuses r
-text_is_refused name text f r e s q (no_words g t d k) =
-    let same : f ≡ g = cc in
-    let one : t ≡ r = let both : Some t ≡ Some r = sym k ∙ ap refusal_of (sym same) ∙ s in cc in
-    ap refuses one
-text_is_refused name text f r e s q (assembles words d) = absurd cc
+text_is_refused : (name text : List ℕ) (f : AsmFault) → assembled text ≡ Err f → (q : Plan) → AfterText name text q → q ≡ refuses (bad_text f)
+text_is_refused name text f e q (no_words g d) = let same : g ≡ f = cc in ap (λ (x : AsmFault). refuses (bad_text x)) same
+text_is_refused name text f e q (assembles words d) = absurd cc
 
-text_refused : (name text : List ℕ) (f : AsmFault) (r : Refusal) → assembled text ≡ Err f → refusal_of f ≡ Some r → IsPlan ⊤ (AfterText name text) (refuses r)
-text_refused name text f r e s = record { comes = no_words f r e s; only = λ t q h. text_is_refused name text f r e s q h }
+text_refused : (name text : List ℕ) (f : AsmFault) → assembled text ≡ Err f → IsPlan ⊤ (AfterText name text) (refuses (bad_text f))
+text_refused name text f e = record { comes = no_words f e; only = λ t q h. text_is_refused name text f e q h }
 
 -- a fault of a text is refused
 pub text_fault : (name text : List ℕ) (f : AsmFault) → (f ≢ Memory → assembled text ≡ Err f) → IfRefused (IsPlan ⊤ (AfterText name text)) (text_stop f)
-text_fault name text (BadByte at) h = text_refused name text (BadByte at) (bad_byte at) (h (λ e. cc)) refl
-text_fault name text (UnknownMnemonic line) h = text_refused name text (UnknownMnemonic line) (unknown_mnemonic line) (h (λ e. cc)) refl
-text_fault name text (BadOperand line) h = text_refused name text (BadOperand line) (bad_operand line) (h (λ e. cc)) refl
-text_fault name text (OutOfRange line value) h = text_refused name text (OutOfRange line value) (out_of_range line value) (h (λ e. cc)) refl
-text_fault name text (UnknownLabel line) h = text_refused name text (UnknownLabel line) (unknown_label line) (h (λ e. cc)) refl
-text_fault name text (LabelTwice line) h = text_refused name text (LabelTwice line) (label_twice line) (h (λ e. cc)) refl
-text_fault name text TooLong h = text_refused name text TooLong too_many_words (h (λ e. cc)) refl
+text_fault name text (BadByte at) h = text_refused name text (BadByte at) (h (λ e. cc))
+text_fault name text (UnknownMnemonic line) h = text_refused name text (UnknownMnemonic line) (h (λ e. cc))
+text_fault name text (BadOperand line) h = text_refused name text (BadOperand line) (h (λ e. cc))
+text_fault name text (OutOfRange line value) h = text_refused name text (OutOfRange line value) (h (λ e. cc))
+text_fault name text (UnknownLabel line) h = text_refused name text (UnknownLabel line) (h (λ e. cc))
+text_fault name text (LabelTwice line) h = text_refused name text (LabelTwice line) (h (λ e. cc))
+text_fault name text TooLong h = text_refused name text TooLong (h (λ e. cc))
 text_fault name text Memory h = tt
 
 text_is_assembled : (name text words : List ℕ) → assembled text ≡ Ok words → (q : Plan) → AfterText name text q → q ≡ puts name (bytes_of words)
-text_is_assembled name text words e q (no_words f r d s) = absurd cc
+text_is_assembled name text words e q (no_words f d) = absurd cc
 text_is_assembled name text words e q (assembles other d) = let same : other ≡ words = cc in ap (λ (ws : List ℕ). puts name (bytes_of ws)) same
 
 -- a text is assembled

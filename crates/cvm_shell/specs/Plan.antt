@@ -1,5 +1,5 @@
 -- What words and the files that they name come to, before anything is put or run: stage by stage, in the order of work.
-use Rattle.std.specs.Prelude.{◌≡◌, ◌≢◌, ℕ, ◌<◌, ◌≤◌, List, [], length, flat_map, Option, Some, None, Ok, Err}
+use Rattle.std.specs.Prelude.{◌≡◌, ◌≢◌, ℕ, ◌<◌, ◌≤◌, List, [], length, flat_map, Option, Ok, Err}
 use Rattle.std.specs.Int.{to_le_bytes, w32}
 use Rattle.std.specs.Option.{IsSome}
 use Rattle.cvm_outside.specs.Told.{TOO_LONG, Tells}
@@ -7,9 +7,8 @@ use Rattle.c0_tree.specs.FirstTree.{CUnit}
 use Rattle.first_source.specs.Reading.{Reads, Breaks}
 use Rattle.mips_asm.specs.Assembled.{assembled}
 use Rattle.mips_asm.specs.declared.fault.AsmFault.{AsmFault}
-use Rattle.mips_asm.specs.declared.fault.AsmFault.TheVariants.{BadByte, UnknownMnemonic, BadOperand, OutOfRange, UnknownLabel, LabelTwice, TooLong, Memory}
 use Rattle.cvm_shell.specs.Command.{Boot, CompileUser, Command, boot, compile_user, IsBoot, IsCompileUser, IsCommand, IsNoCommand}
-use Rattle.cvm_shell.specs.Refusal.{Refusal, bad_byte, unknown_mnemonic, bad_operand, out_of_range, unknown_label, label_twice, too_many_words, not_built, too_long}
+use Rattle.cvm_shell.specs.Refusal.{Refusal, bad_text, not_built, too_long}
 use Rattle.cvm_shell.specs.Image.{Reading, gives, refuses as faulty, reading}
 
 -- what is to be done
@@ -54,20 +53,9 @@ BootPlan file b p = Got (file b.image) (λ image. Got (file b.schedule) (AfterFi
 abbrev pub bytes_of : List ℕ → List ℕ
 bytes_of words = flat_map (to_le_bytes w32) words
 
--- what a fault of a text is refused with; want of memory is none of the text's
-abbrev pub refusal_of : AsmFault → Option Refusal
-refusal_of (BadByte at) = Some (bad_byte at)
-refusal_of (UnknownMnemonic line) = Some (unknown_mnemonic line)
-refusal_of (BadOperand line) = Some (bad_operand line)
-refusal_of (OutOfRange line value) = Some (out_of_range line value)
-refusal_of (UnknownLabel line) = Some (unknown_label line)
-refusal_of (LabelTwice line) = Some (label_twice line)
-refusal_of TooLong = Some too_many_words
-refusal_of Memory = None
-
 -- AFTER THE TEXT of a user it is assembled
 pub data AfterText (name text : List ℕ) : Plan → Type 0 where
-  no_words : (f : AsmFault) (r : Refusal) → assembled text ≡ Err f → refusal_of f ≡ Some r → AfterText name text (refuses r)
+  no_words : (f : AsmFault) → assembled text ≡ Err f → AfterText name text (refuses (bad_text f))
   assembles : (words : List ℕ) → assembled text ≡ Ok words → AfterText name text (puts name (bytes_of words))
 
 -- compile user ASM IMG gets the text

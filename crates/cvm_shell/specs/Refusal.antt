@@ -1,24 +1,14 @@
 -- The refusals, with the row and the status of each.
-use Rattle.std.specs.Prelude.{ℕ, ℤ, List, ◌++◌, decimal, codes}
+use Rattle.std.specs.Prelude.{ℕ, ℤ, List, [], ◌∷◌, ◌++◌, Option, Some, None, decimal, codes}
 use Rattle.std.specs.Fmt.{signed_decimal}
+use Rattle.mips_asm.specs.Fault.{asm_fault_number, asm_fault_place, asm_fault_line, asm_fault_value}
+use Rattle.mips_asm.specs.declared.fault.AsmFault.{AsmFault}
 use Rattle.cvm_shell.specs.declared.status.Status.{Status}
 use Rattle.cvm_shell.specs.declared.status.Status.TheVariants.{Refused, Shelf}
 
 pub data Refusal : Type 0 where
-  -- 1: the byte of a user's text here is none of a text
-  bad_byte : (at : ℕ) → Refusal
-  -- 2: this line has an unknown mnemonic
-  unknown_mnemonic : (line : ℕ) → Refusal
-  -- 3: this line has an operand that isn't as it is to be
-  bad_operand : (line : ℕ) → Refusal
-  -- 4: this line has a value out of its range
-  out_of_range : (line : ℕ) (value : ℤ) → Refusal
-  -- 5: this line names a label that is never set
-  unknown_label : (line : ℕ) → Refusal
-  -- 6: this line sets a label again
-  label_twice : (line : ℕ) → Refusal
-  -- 7: a user's text gives more than 65,536 words
-  too_many_words : Refusal
+  -- 1 to 7: a user's text has no words
+  bad_text : (fault : AsmFault) → Refusal
   -- 50: the first four bytes are there, and aren't those of an image
   magic : Refusal
   -- 51: the field or part that begins at this byte isn't whole
@@ -32,15 +22,24 @@ pub data Refusal : Type 0 where
   -- 81: a file has more than 67,108,864 bytes
   too_long : Refusal
 
+-- a field of a row, if it has one
+abbrev pub field_text : Option ℕ → List ℕ
+field_text None = []
+field_text (Some n) = 32 ∷ decimal n
+
+abbrev pub signed_field_text : Option ℤ → List ℕ
+signed_field_text None = []
+signed_field_text (Some n) = 32 ∷ signed_decimal n
+
+-- the row of a fault of a user's text: its number, and the place, the line and the value that it has
+abbrev pub text_fault_row : AsmFault → List ℕ
+text_fault_row f =
+    codes "refused " ++ decimal (asm_fault_number f) ++ field_text (asm_fault_place f) ++ field_text (asm_fault_line f)
+    ++ signed_field_text (asm_fault_value f) ++ codes "\n"
+
 -- the row that is printed
 abbrev pub refusal_text : Refusal → List ℕ
-refusal_text (bad_byte at) = codes "refused 1 " ++ decimal at ++ codes "\n"
-refusal_text (unknown_mnemonic line) = codes "refused 2 " ++ decimal line ++ codes "\n"
-refusal_text (bad_operand line) = codes "refused 3 " ++ decimal line ++ codes "\n"
-refusal_text (out_of_range line value) = codes "refused 4 " ++ decimal line ++ codes " " ++ signed_decimal value ++ codes "\n"
-refusal_text (unknown_label line) = codes "refused 5 " ++ decimal line ++ codes "\n"
-refusal_text (label_twice line) = codes "refused 6 " ++ decimal line ++ codes "\n"
-refusal_text too_many_words = codes "refused 7\n"
+refusal_text (bad_text f) = text_fault_row f
 refusal_text magic = codes "refused 50\n"
 refusal_text (truncated at) = codes "refused 51 " ++ decimal at ++ codes "\n"
 refusal_text (trailing at) = codes "refused 52 " ++ decimal at ++ codes "\n"

@@ -35,14 +35,8 @@ stop_of fault.Memory = stop.Memory
 
 -- what a fault of a user's text comes to
 abbrev pub text_stop : AsmFault → Stop
-text_stop (text.BadByte at) = stop.Refused (refusal.BadByte at)
-text_stop (text.UnknownMnemonic line) = stop.Refused (refusal.UnknownMnemonic line)
-text_stop (text.BadOperand line) = stop.Refused (refusal.BadOperand line)
-text_stop (text.OutOfRange line value) = stop.Refused (refusal.OutOfRange line value)
-text_stop (text.UnknownLabel line) = stop.Refused (refusal.UnknownLabel line)
-text_stop (text.LabelTwice line) = stop.Refused (refusal.LabelTwice line)
-text_stop text.TooLong = stop.Refused refusal.TooManyWords
 text_stop text.Memory = stop.Memory
+text_stop f = stop.Refused (refusal.BadText f)
 
 -- what a stop says of the shelf's count of faults
 abbrev pub StopCount : ℕ → ℕ → Stop → Type 0

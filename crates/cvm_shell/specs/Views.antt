@@ -11,7 +11,7 @@ use Rattle.cvm_shell.specs.declared.command.CompileUser.{CompileUser}
 use Rattle.cvm_shell.specs.declared.command.Command.{Command}
 use Rattle.cvm_shell.specs.declared.command.Command.TheVariants as command_code
 use Rattle.cvm_shell.specs.declared.refusal.Refusal.{Refusal}
-use Rattle.cvm_shell.specs.declared.refusal.Refusal.TheVariants.{BadByte, UnknownMnemonic, BadOperand, OutOfRange, UnknownLabel, LabelTwice, TooManyWords, Magic, Truncated, Trailing, Parameter, NotBuilt, TooLong}
+use Rattle.cvm_shell.specs.declared.refusal.Refusal.TheVariants.{BadText, Magic, Truncated, Trailing, Parameter, NotBuilt, TooLong}
 use Rattle.cvm_shell.specs.declared.boot.Stop.{Stop}
 use Rattle.cvm_shell.specs.declared.boot.Stop.TheVariants.{Refused, Shelf, Memory}
 
@@ -30,13 +30,7 @@ command_view (command_code.CompileUser c) = command.compile_user (user_view c)
 
 -- a refusal
 abbrev pub refusal_view : Refusal → refusal.Refusal
-refusal_view (BadByte at) = refusal.bad_byte at
-refusal_view (UnknownMnemonic line) = refusal.unknown_mnemonic line
-refusal_view (BadOperand line) = refusal.bad_operand line
-refusal_view (OutOfRange line value) = refusal.out_of_range line value
-refusal_view (UnknownLabel line) = refusal.unknown_label line
-refusal_view (LabelTwice line) = refusal.label_twice line
-refusal_view TooManyWords = refusal.too_many_words
+refusal_view (BadText fault) = refusal.bad_text fault
 refusal_view Magic = refusal.magic
 refusal_view (Truncated at) = refusal.truncated at
 refusal_view (Trailing at) = refusal.trailing at

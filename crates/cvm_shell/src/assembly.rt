@@ -18,16 +18,8 @@ impl From<AsmFault> for Stop {
 
     fn from(fault: AsmFault) -> Self {
         match fault {
-            AsmFault::BadByte { at } => Stop::Refused(Refusal::BadByte { at }),
-            AsmFault::UnknownMnemonic { line } => Stop::Refused(Refusal::UnknownMnemonic { line }),
-            AsmFault::BadOperand { line } => Stop::Refused(Refusal::BadOperand { line }),
-            AsmFault::OutOfRange { line, value } => {
-                Stop::Refused(Refusal::OutOfRange { line, value })
-            }
-            AsmFault::UnknownLabel { line } => Stop::Refused(Refusal::UnknownLabel { line }),
-            AsmFault::LabelTwice { line } => Stop::Refused(Refusal::LabelTwice { line }),
-            AsmFault::TooLong => Stop::Refused(Refusal::TooManyWords),
             AsmFault::Memory => Stop::Memory,
+            fault => Stop::Refused(Refusal::BadText(fault)),
         }
     }
 }

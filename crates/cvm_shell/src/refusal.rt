@@ -1,31 +1,19 @@
 // The refusals, with the row and the status of each.
-ghost use Rattle.std.specs.Prelude.{◌≡◌, ◌≢◌, ◌≤◌, ◌++◌, length, codes, decimal};
-ghost use Rattle.std.specs.Fmt.{signed_decimal};
-ghost use Rattle.cvm_shell.specs.Refusal.{refusal_text, refusal_status};
+ghost use Rattle.std.specs.Prelude.{◌≡◌, ◌≢◌, ◌≤◌, ◌+◌, ◌++◌, length, codes, decimal};
+ghost use Rattle.cvm_shell.specs.Refusal.{refusal_text, refusal_status, field_text, signed_field_text, text_fault_row};
 ghost use Rattle.cvm_shell.specs.Views.{refusal_view};
 
 use crate::status::Status;
 use arrayvec::ArrayString;
 use cvm_text::{decimal, decimal_u64};
+use mips_asm::AsmFault;
 
 /// A fault that an image, a schedule, a source or a user's text has. Places are bytes, counted from
 /// 0, and lines are counted from 1.
 #[derive(Clone, Copy, Debug, PartialEq, Eq)]
 pub enum Refusal {
-    /// A byte of a user's text that is neither printable ASCII nor a tab, CR or LF.
-    BadByte { at: u64 },
-    /// A line of a user's text has an unknown mnemonic.
-    UnknownMnemonic { line: u64 },
-    /// The operands of a line, or its rest, don't have the instruction's form.
-    BadOperand { line: u64 },
-    /// A line has a value that its operand can't have: a number, or a branch's offset in words.
-    OutOfRange { line: u64, value: i64 },
-    /// A line names a label that is never set.
-    UnknownLabel { line: u64 },
-    /// A line sets a label that was set before.
-    LabelTwice { line: u64 },
-    /// A user's text gives more than 65,536 words.
-    TooManyWords,
+    /// A user's text has no words.
+    BadText(AsmFault),
     /// The first four bytes are there, and aren't those of an image.
     Magic,
     /// The field or part that begins at this byte isn't whole.
@@ -42,17 +30,11 @@ pub enum Refusal {
 
 impl Refusal {
     /// The row that is printed.
-    pub fn row(&self) -> ArrayString<64>
+    pub fn row(&self) -> ArrayString<96>
         ensures { result.bytes ≡ refusal_text (refusal_view self.now) }
     {
         match self {
-            Refusal::BadByte { at } => numbered_row("refused 1 ", *at),
-            Refusal::UnknownMnemonic { line } => numbered_row("refused 2 ", *line),
-            Refusal::BadOperand { line } => numbered_row("refused 3 ", *line),
-            Refusal::OutOfRange { line, value } => range_row(*line, *value),
-            Refusal::UnknownLabel { line } => numbered_row("refused 5 ", *line),
-            Refusal::LabelTwice { line } => numbered_row("refused 6 ", *line),
-            Refusal::TooManyWords => plain_row("refused 7\n"),
+            Refusal::BadText(fault) => text_row(*fault),
             Refusal::Magic => plain_row("refused 50\n"),
             Refusal::Truncated { at } => numbered_row("refused 51 ", *at),
             Refusal::Trailing { at } => numbered_row("refused 52 ", *at),
@@ -75,7 +57,7 @@ impl Refusal {
 }
 
 // A text as a row.
-fn plain_row(text: &str) -> ArrayString<64>
+fn plain_row(text: &str) -> ArrayString<96>
     requires { length text.now ≤ 16 }
     ensures { result.bytes ≡ text.now }
 {
@@ -85,7 +67,7 @@ fn plain_row(text: &str) -> ArrayString<64>
 }
 
 // A row that ends with a number.
-fn numbered_row(head: &str, number: u64) -> ArrayString<64>
+fn numbered_row(head: &str, number: u64) -> ArrayString<96>
     requires { length head.now ≤ 16 }
     ensures { result.bytes ≡ head.now ++ decimal number ++ codes "\n" }
 {
@@ -98,7 +80,7 @@ fn numbered_row(head: &str, number: u64) -> ArrayString<64>
 }
 
 // The row of a field out of its range.
-fn parameter_row(which: u32, value: u32) -> ArrayString<64>
+fn parameter_row(which: u32, value: u32) -> ArrayString<96>
     ensures { result.bytes ≡ codes "refused 53 " ++ decimal which ++ codes " " ++ decimal value ++ codes "\n" }
 {
     let place = decimal_u64(u64::from(which));
@@ -112,17 +94,43 @@ fn parameter_row(which: u32, value: u32) -> ArrayString<64>
     row
 }
 
-// The row of a line's value out of its range.
-fn range_row(line: u64, value: i64) -> ArrayString<64>
-    ensures { result.bytes ≡ codes "refused 4 " ++ decimal line ++ codes " " ++ signed_decimal value ++ codes "\n" }
+// Appends a field, if there is one.
+fn put_field(row: &mut ArrayString<96>, field: Option<u64>)
+    requires { length row.old.bytes ≤ 70 }
+    ensures bytes { row.new.bytes ≡ row.old.bytes ++ field_text field }
+    ensures few { length row.new.bytes ≤ length row.old.bytes + 21 }
 {
-    let place = decimal_u64(line);
-    let digits = decimal(value);
+    if let Some(number) = field {
+        let digits = decimal_u64(number);
+        row.push_str(" ");
+        row.push_str(digits.as_str());
+    }
+}
+
+// Appends a field with a sign, if there is one.
+fn put_signed_field(row: &mut ArrayString<96>, field: Option<i64>)
+    requires { length row.old.bytes ≤ 70 }
+    ensures bytes { row.new.bytes ≡ row.old.bytes ++ signed_field_text field }
+    ensures few { length row.new.bytes ≤ length row.old.bytes + 21 }
+{
+    if let Some(number) = field {
+        let digits = decimal(number);
+        row.push_str(" ");
+        row.push_str(digits.as_str());
+    }
+}
+
+// The row of a fault of a user's text.
+fn text_row(fault: AsmFault) -> ArrayString<96>
+    ensures { result.bytes ≡ text_fault_row fault }
+{
+    let number = decimal_u64(u64::from(fault.number()));
     let mut row = ArrayString::new();
-    row.push_str("refused 4 ");
-    row.push_str(place.as_str());
-    row.push_str(" ");
-    row.push_str(digits.as_str());
+    row.push_str("refused ");
+    row.push_str(number.as_str());
+    put_field(&mut row, fault.at());
+    put_field(&mut row, fault.line());
+    put_signed_field(&mut row, fault.value());
     row.push_str("\n");
     row
 }

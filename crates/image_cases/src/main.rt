@@ -45,13 +45,17 @@ fn put_written(out: &mut String, is_same: bool) -> Result<(), AllocError> {
 
 // Why bytes are no image.
 fn put_fault(out: &mut String, fault: ImageFault) -> Result<(), AllocError> {
-    match fault {
-        ImageFault::Magic => writeln!(out, "50"),
-        ImageFault::Truncated { at } => writeln!(out, "51 at {at}"),
-        ImageFault::Trailing { at } => writeln!(out, "52 at {at}"),
-        ImageFault::Parameter { which, value } => writeln!(out, "53 word {which}, value {value}"),
-        ImageFault::Memory => writeln!(out, "57"),
+    write!(out, "{}", fault.number())?;
+    if let Some(at) = fault.at() {
+        write!(out, " at {at}")?;
     }
+    if let Some(which) = fault.which() {
+        write!(out, " word {which}")?;
+    }
+    if let Some(value) = fault.value() {
+        write!(out, ", value {value}")?;
+    }
+    out.push('\n')
 }
 
 // What is printed of bytes that are read as an image.

@@ -11,11 +11,13 @@ use Rattle.mips_table.specs.Turns.{is_handled, handled}
 use Rattle.mips_table.specs.Processor.{Cpu}
 use Rattle.mips_table.specs.Fits.{CpuFits}
 use Rattle.layer_map.specs.Map.{Map, MapInRange}
+use Rattle.page_model.specs.Paging.{IsUserFrame, Names, counted, PagesStand}
+use Rattle.page_model.specs.Places.{layout_of}
 use Rattle.c0_meaning.specs.Value.{group, empty}
 use Rattle.cvm_model.specs.Kernel.{Core}
 use Rattle.cvm_model.specs.Cvm.{Running}
 use Rattle.cvm_model.specs.Primitives.{user_of, pages_of}
-use Rattle.cvm_model.specs.Paged.{IsUserFrame, Names, counted, PagesStand, layout_of, paged_of, pages_by}
+use Rattle.cvm_model.specs.Paged.{paged_of, pages_by}
 use Rattle.cvm_model.specs.Stands.{Site, UserFits, CoreFits, Stands}
 use Rattle.layer_contract.specs.Users.{Premises, ChangesWord, SomeStores}
 

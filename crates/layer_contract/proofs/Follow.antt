@@ -17,9 +17,10 @@ use Rattle.mips_table.specs.Processor.{Access, Move, Ran, Loaded, Stored, Trappe
 use Rattle.mips_table.specs.Flat.{Flat, VStep, Next as Goes, Trap, flat_access, answered}
 use Rattle.mips_table.specs.Machine.{State, Coming, Interrupt, Done, located, read_at, after_read_at, written_at, access, moved, fetched, latched, ended}
 use Rattle.mips_table.specs.Turns.{is_handled}
+use Rattle.page_model.specs.Paging.{Protected, Names}
 use Rattle.cvm_model.specs.Kernel.{Core}
 use Rattle.cvm_model.specs.Primitives.{user_of}
-use Rattle.cvm_model.specs.Paged.{Protected, Names, paged_of}
+use Rattle.cvm_model.specs.Paged.{paged_of}
 use Rattle.cvm_model.specs.Stands.{Site}
 use Rattle.layer_contract.specs.Layer.{page_at}
 use Rattle.layer_contract.proofs.Places.{own, Place, Past, Faults, There, Known, place}

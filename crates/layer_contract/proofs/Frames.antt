@@ -3,9 +3,11 @@ use Rattle.std.proofs.Common.{◌≡◌, ◌≢◌, ℕ, ◌+◌, ◌-◌, ◌*�
 use Rattle.mips_table.specs.Device.{Outside}
 use Rattle.mips_table.specs.Machine.{State}
 use Rattle.layer_map.specs.Map.{zero_frame_at, memory_words}
+use Rattle.page_model.specs.Paging.{IsFrame, Protected, Names}
+use Rattle.page_model.specs.Places.{layout_of}
 use Rattle.cvm_model.specs.Kernel.{Core}
 use Rattle.cvm_model.specs.Primitives.{user_of, pages_of}
-use Rattle.cvm_model.specs.Paged.{IsFrame, Protected, Names, layout_of, paged_of, pages_by}
+use Rattle.cvm_model.specs.Paged.{paged_of, pages_by}
 use Rattle.cvm_model.specs.Stands.{Site}
 use Rattle.layer_contract.specs.Layer.{page_at}
 use Rattle.layer_contract.proofs.Pages.{shown_valid}

@@ -1,7 +1,7 @@
 -- What a store to an unprotected page does to the pages that the machine shows.
 use Rattle.std.proofs.Common.{◌≡◌, ◌≢◌, ℕ, zero, suc, ◌+◌, ◌*◌, ◌/◌, ◌%◌, ◌<◌, ◌≤◌, ◌⊎◌, cond, nat_eq, refl, sym, ap, ap₂, ◌∙◌, subst, ⊎_elim, inl, inr, arith, eq-eqb, ne_eqb}
 use Rattle.std.proofs.lemmas.Bool.{cases_eq, cond-true, cond-false}
-use Rattle.cvm_model.specs.Paged.{Layout, IsUserFrame, IsFrame, Valid, Protected, Names, counted, Paged, shown_word, Pages, PagesStand}
+use Rattle.page_model.specs.Paging.{Layout, IsUserFrame, IsFrame, Valid, Protected, Names, counted, Paged, shown_word, Pages, PagesStand}
 
 abbrev hit : ℕ → ℕ → ℕ
 hit e f = cond (nat_eq (e / 2048) (2 * f + 1)) 1 0

@@ -5,11 +5,12 @@ use Rattle.mips_table.specs.Device.{Outside}
 use Rattle.mips_table.specs.Machine.{PTO, PTL, MODE, in_system, entry_address, is_valid, is_protected, translated}
 use Rattle.mips_table.specs.Machine.{State, located}
 use Rattle.layer_map.specs.Map.{Map, MapInRange, layer_words, code_at, globals_at, heap_at, stack_at, tables_at, frame_table_at, zero_frame_at, memory_words}
+use Rattle.page_model.specs.Paging.{Valid, Protected, Names}
 use Rattle.layer_contract.proofs.Apart.{PartsApart}
 use Rattle.cvm_model.specs.Kernel.{Core}
 use Rattle.cvm_model.specs.Primitives.{no_flat, user_of, pages_of}
 use Rattle.cvm_model.specs.Cvm.{Running}
-use Rattle.cvm_model.specs.Paged.{Valid, Protected, Names, paged_of}
+use Rattle.cvm_model.specs.Paged.{paged_of}
 use Rattle.cvm_model.specs.Stands.{Site, UserFits, Stands, Runs}
 use Rattle.layer_contract.specs.Layer.{page_at}
 use Rattle.layer_contract.proofs.Apart.{apart_of}

@@ -4,12 +4,14 @@ use Rattle.std.specs.Prelude.{◌≢◌, nat_eq}
 use Rattle.std.proofs.lemmas.List.{get_or-take, get_or-drop, get_or-map, length-append, length-map, length-take, length-drop}
 use Rattle.mips_table.specs.Machine.{zero_cpu}
 use Rattle.layer_map.specs.Map.{layer_words, current_at, hand_at, heap_used_at, block_at, code_at, globals_at, heap_at, stack_at, tables_at, frame_table_at, zero_frame_at, memory_words}
+use Rattle.page_model.specs.Paging.{Layout, IsUserFrame, Names, counted, Paged, Pages, PagesStand}
+use Rattle.page_model.specs.Places.{layout_of}
 use Rattle.layer_contract.proofs.Apart.{PartsApart, apart_of}
 use Rattle.c0_meaning.specs.Value.{Location, Value, int as an_int, bool as a_bool, null, at, group, Values, empty, part}
 use Rattle.c0_meaning.specs.RunLaws.{scalars, all_scalars}
 use Rattle.cvm_model.specs.Kernel.{flat, flats}
 use Rattle.cvm_model.specs.Primitives.{no_flat, pages_of}
-use Rattle.cvm_model.specs.Paged.{Layout, IsUserFrame, Names, counted, Paged, Pages, PagesStand, layout_of, paged_of, pages_by}
+use Rattle.cvm_model.specs.Paged.{paged_of, pages_by}
 use Rattle.cvm_model.specs.Stands.{address_of, block_cpu, runs_user}
 use Rattle.layer_contract.specs.Layer.{BlockLinked, ResetStands}
 

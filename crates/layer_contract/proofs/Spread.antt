@@ -5,7 +5,9 @@ use Rattle.std.proofs.lemmas.Bool.{cases_eq, cond-true}
 use Rattle.mips_table.specs.Device.{sector_of}
 use Rattle.mips_table.specs.Machine.{State, zero_cpu}
 use Rattle.mips_table.specs.Flat.{Flat}
-use Rattle.cvm_model.specs.Paged.{IsUserFrame, Names, Protected, counted, shown_word, Paged, Pages, PagesStand, layout_of, paged_of, pages_by}
+use Rattle.page_model.specs.Paging.{IsUserFrame, Names, Protected, counted, shown_word, Paged, Pages, PagesStand}
+use Rattle.page_model.specs.Places.{layout_of}
+use Rattle.cvm_model.specs.Paged.{paged_of, pages_by}
 use Rattle.layer_contract.specs.Samples.{spread_word, spread_map, AreSpread}
 
 -- the words of memory from the page tables on

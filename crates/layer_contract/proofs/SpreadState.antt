@@ -9,11 +9,13 @@ use Rattle.mips_table.specs.Device.{Outside}
 use Rattle.mips_table.specs.Fits.{IsWord}
 use Rattle.mips_table.specs.Machine.{State}
 use Rattle.layer_map.specs.Map.{layer_words, current_at, heap_used_at, block_at}
+use Rattle.page_model.specs.Paging.{PagesStand}
+use Rattle.page_model.specs.Places.{layout_of}
 use Rattle.c0_meaning.specs.RunLaws.{scalars}
 use Rattle.cvm_model.specs.Kernel.{flat, Core}
 use Rattle.cvm_model.specs.Primitives.{no_flat}
 use Rattle.cvm_model.specs.Cvm.{Running}
-use Rattle.cvm_model.specs.Paged.{PagesStand, layout_of, paged_of, pages_by}
+use Rattle.cvm_model.specs.Paged.{paged_of, pages_by}
 use Rattle.cvm_model.specs.Stands.{address_of, runs_user, Stands}
 use Rattle.layer_contract.specs.Layer.{BlockLinked, Linked, Starts, AfterReset}
 use Rattle.layer_contract.specs.Samples.{spread_map}

@@ -9,9 +9,11 @@ use Rattle.mips_table.specs.Processor.{Cpu}
 use Rattle.mips_table.specs.Flat.{Flat}
 use Rattle.mips_table.specs.Machine.{State}
 use Rattle.layer_map.specs.Map.{hand_at, block_at, globals_at, tables_at, frame_table_at, zero_frame_at}
+use Rattle.page_model.specs.Paging.{Layout, Protected, Names, Paged, Pages, PagesStand}
+use Rattle.page_model.specs.Places.{layout_of}
 use Rattle.cvm_model.specs.Kernel.{Core}
 use Rattle.cvm_model.specs.Primitives.{user_of, with_user}
-use Rattle.cvm_model.specs.Paged.{Layout, Protected, Names, Paged, Pages, PagesStand, layout_of, paged_of, pages_by}
+use Rattle.cvm_model.specs.Paged.{paged_of, pages_by}
 use Rattle.cvm_model.specs.Stands.{Site, block_cpu}
 use Rattle.layer_contract.specs.Layer.{page_at}
 use Rattle.layer_contract.proofs.Pages.{Edit, stored}

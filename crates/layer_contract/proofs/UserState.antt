@@ -5,9 +5,11 @@ use Rattle.std.proofs.lemmas.List.{drop-set-lt}
 use Rattle.std.proofs.lemmas.List.Elements.{All-from_recursion, All-set}
 use Rattle.mips_table.specs.Fits.{IsWord}
 use Rattle.layer_map.specs.Map.{Map, current_at, hand_at, heap_used_at, block_at, code_at, globals_at, heap_at, stack_at, tables_at, table_of, frame_table_at, zero_frame_at, memory_words}
+use Rattle.page_model.specs.Paging.{Layout, IsUserFrame, IsFrame, Names, Protected, counted, Paged, shown_word, Pages, PagesStand}
+use Rattle.page_model.specs.Places.{layout_of}
 use Rattle.layer_contract.proofs.Apart.{PartsApart}
 use Rattle.cvm_model.specs.Primitives.{no_flat, user_of, pages_of}
-use Rattle.cvm_model.specs.Paged.{Layout, IsUserFrame, IsFrame, Names, Protected, counted, Paged, shown_word, Pages, PagesStand, layout_of, paged_of, pages_by}
+use Rattle.cvm_model.specs.Paged.{paged_of, pages_by}
 use Rattle.cvm_model.specs.Stands.{is_own, UserFits, block_cpu, runs_user}
 use Rattle.layer_contract.specs.Layer.{for_user, UserStands}
 use Rattle.layer_contract.proofs.Apart.{apart_of}

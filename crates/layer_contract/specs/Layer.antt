@@ -16,6 +16,7 @@ use Rattle.layer_contract.specs.declared.registers.TheConstants.{ARGUMENT, ANSWE
 use Rattle.layer_contract.specs.declared.entry.Entry.{Entry}
 use Rattle.layer_contract.specs.declared.entry.Entry.TheVariants.{Dispatch, Primitive, Fault as Exit, Leave}
 use Rattle.layer_map.specs.Map.{Map, MapInRange, layer_words, current_at, hand_at, heap_used_at, heap_words_at, heap_first_at, stack_first_at, stack_words_at, block_at, code_at, heap_at, stack_at, table_of, memory_words}
+use Rattle.page_model.specs.Paging.{Passes}
 use Rattle.cvm_model.specs.Kernel.{flat, Core, power_of}
 use Rattle.cvm_model.specs.declared.kernel_fault.KernelFault.{KernelFault}
 use Rattle.cvm_model.specs.declared.kernel_fault.KernelFault.TheVariants.{BadUser}
@@ -23,7 +24,7 @@ use Rattle.cvm_model.specs.Primitives.{Call, Given, prim, primitive_number, argu
 use Rattle.cvm_model.specs.declared.row.Next.{Next}
 use Rattle.cvm_model.specs.declared.row.Next.TheVariants.{Fault}
 use Rattle.cvm_model.specs.Cvm.{Status, Running, Halted, Faulted, next_of, status_of, core_of, page_steps, reset_steps, enter_steps, leave_steps, run_steps}
-use Rattle.cvm_model.specs.Paged.{Passes, paged_of, pages_by}
+use Rattle.cvm_model.specs.Paged.{paged_of, pages_by}
 use Rattle.cvm_model.specs.Stands.{Site, IsUser, CoreFits, Stands, runs_user}
 
 -- The address of each entry. A kernel's code is made without a layer, so they are the same for every layer: the code begins with the

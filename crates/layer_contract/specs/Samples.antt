@@ -4,11 +4,12 @@ use Rattle.std.specs.List.{range_with_len}
 use Rattle.mips_table.specs.Device.{Outside}
 use Rattle.mips_table.specs.Machine.{State}
 use Rattle.layer_map.specs.Map.{Map, layer_words, heap_words_at, heap_first_at, stack_first_at, stack_words_at, heap_at, stack_at}
+use Rattle.page_model.specs.Paging.{Paged, Names}
 use Rattle.cvm_model.specs.Cvm.{System, Running, first_core}
 use Rattle.cvm_model.specs.Stands.{Stands, runs_user}
 use Rattle.c0_meaning.specs.Kernels.{counts}
 use Rattle.cvm_model.specs.KernelMeaning.{kernel_meaning}
-use Rattle.cvm_model.specs.Paged.{Paged, Names, paged_of}
+use Rattle.cvm_model.specs.Paged.{paged_of}
 use Rattle.cvm_model.specs.Samples.{params, a_map, overflowing, counting_system}
 use Rattle.layer_contract.specs.Follows.{site_of}
 

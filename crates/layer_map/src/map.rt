@@ -56,6 +56,32 @@ impl Map {
         }
     }
 
+    /// The parameters.
+    pub fn params(&self) -> Params
+        ensures value { result ≡ self.now.params }
+        ensures range { ParamsInRange result }
+    {
+        self.params
+    }
+
+    /// The number of users, 0 to 64.
+    pub fn users(&self) -> u32
+        ensures value { result ≡ self.now.users }
+        ensures most { result ≤ 64 }
+    {
+        let _in_range = &self.params;
+        self.users
+    }
+
+    /// The most pages that a user may have, 1 to 1,024.
+    pub fn pages(&self) -> u32
+        ensures value { result ≡ self.now.params.pages }
+        ensures most { result ≤ 1024 }
+    {
+        let _in_range = &self.params;
+        self.params.pages
+    }
+
     /// The first address of the kernel's code, in bytes, as all addresses here.
     pub fn code(&self) -> u32
         ensures { result ≡ 4 * code_at self.now }
@@ -89,6 +115,13 @@ impl Map {
         ensures { result ≡ 4 * tables_at self.now }
     {
         4 * next_page(self.stack() / 4 + self.params.stack)
+    }
+
+    /// The address behind the last word of the page tables.
+    pub fn page_tables_end(&self) -> u32
+        ensures { result ≡ 4 * (tables_at self.now + self.now.users * self.now.params.pages) }
+    {
+        4 * (self.page_tables() / 4 + self.users * self.params.pages)
     }
 
     /// The first address of the frame table. It has eight words for each user frame, and then for the zero frame.

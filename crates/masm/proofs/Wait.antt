@@ -8,7 +8,7 @@ use Rattle.mips_table.specs.Device.{Pending, Idle, Reading, Writing, COMMAND, is
 use Rattle.mips_table.specs.Code.{put, Contents, with_reg, Behind, World, Sound, at_with, settle, filled, buffer_of, Reaches, CodeAt}
 use Rattle.masm.specs.Says.{Hears}
 use Rattle.masm.specs.Laws.{RunsCompose, StraightRuns, LoopRuns}
-use Rattle.masm.specs.Wait.{wait_code, left, words_after, behind_after, Waited, WaitRuns}
+use Rattle.masm.specs.Wait.{wait_code, wait_steps, words_after, behind_after, Waited, WaitRuns}
 
 put_other : (m : ℕ → ℕ) (a v k : ℕ) → k ≢ a → put m a v k ≡ m k
 put_other m a v k ne = cond-false _ v (m k) (ne_eqb k a ne)
@@ -70,12 +70,8 @@ module _ (w : World) (f : Sound w) (system : w.system ≡ true) (runs : RunsComp
       let run = turned c c1 c1 c1 (k (suc (suc (suc b)))) (k (suc (suc b))) (k (suc b)) (k b) (busy (suc (suc (suc b)))) refl (falls (suc (suc b)) (n + 1) c1) (falls (suc b) (n + 1 + 1) c1) (falls b n c1) in
       behind (b + 5) (suc (suc (suc b)) + 5) m' c c1 (k (suc (suc (suc b)))) (k b) end refl refl refl refl (omega arith) run (waits k m m' end busy falls last idle b c1 h)
 
-  sooner : (c : Contents) (d : Behind) → Waits 2 c.memory c d d → Waits (0 + 5) c.memory c d d
-  unfolding Waits
-  sooner c d x = (x.0, x.1, runs.later w 2 (0 + 5) _ _ (omega arith) x.2)
-
-  by_pending : (p : Pending) (c : Contents) (d : Behind) → Waits (left p + 5) (words_after p c.memory d) c (record d { pending = p }) (behind_after p c.memory (record d { pending = p }))
-  by_pending Idle c d = sooner c (record d { pending = Idle }) (ended c (record d { pending = Idle }) refl)
+  by_pending : (p : Pending) (c : Contents) (d : Behind) → Waits (wait_steps p) (words_after p c.memory d) c (record d { pending = p }) (behind_after p c.memory (record d { pending = p }))
+  by_pending Idle c d = ended c (record d { pending = Idle }) refl
   by_pending (Reading b s) c d = waits (λ b. record d { pending = Reading b s }) c.memory (filled c.memory (d.sectors s)) (record d { pending = Idle }) (λ b. refl) (λ b p c. refl)
       (λ p c h. ap (λ g. at_with p (record c { memory = filled g (d.sectors s) }) (record d { pending = Idle })) h) refl b c refl
   by_pending (Writing b s) c d = waits (λ b. record d { pending = Writing b s }) c.memory c.memory (record d { sectors = λ k. if k == s then buffer_of c.memory else d.sectors k; pending = Idle }) (λ b. refl) (λ b p c. refl)
@@ -89,5 +85,5 @@ wait_runs w f runs straight loop system c0 d0 = record {
       let t = ap (λ d. at_with n c0 d) e.1 in
       let s = ap (λ c. at_with n c d) e.0 in
       let d' = behind_after d0.pending c0.memory d0 in
-      (x.0, d', (x.1, refl), subst (λ s. Reaches w (left d0.pending + 5) s (at_with (n + 3) x.0 d')) (sym (s ∙ t)) x.2);
+      (x.0, d', (x.1, refl), subst (λ s. Reaches w (wait_steps d0.pending) s (at_with (n + 3) x.0 d')) (sym (s ∙ t)) x.2);
 }

@@ -12,11 +12,11 @@ use Rattle.masm.specs.Laws.{From}
 abbrev pub wait_code : List Inst
 wait_code = loop_code (Lw 1 0 0xf004 ∷ []) 1 []
 
--- the steps that end before the transfer of the command under way
-abbrev pub left : Pending → ℕ
-left Idle = 0
-left (Reading steps sector) = steps
-left (Writing steps sector) = steps
+-- the steps of the wait: five more than those that end before the transfer of the command under way, and two where none is
+abbrev pub wait_steps : Pending → ℕ
+wait_steps Idle = 2
+wait_steps (Reading steps sector) = steps + 5
+wait_steps (Writing steps sector) = steps + 5
 
 -- the words once the command is done: those that a sector is read into
 abbrev pub words_after : Pending → (ℕ → ℕ) → Behind → ℕ → ℕ
@@ -39,9 +39,9 @@ pub record Waited (m : ℕ → ℕ) (c c' : Contents) : Type 0 where
   pub lo : c'.lo ≡ c.lo
   pub special : c'.special ≡ c.special
 
--- the command under way is done within as many steps as were left, and five
+-- the command under way is done within the steps of the wait
 abbrev pub WaitRuns : World → Type 0
-WaitRuns w = w.system ≡ true → (c : Contents) (d : Behind) → From w wait_code (left d.pending + 5) c d (λ c' d'. Waited (words_after d.pending c.memory d) c c' × (d' ≡ behind_after d.pending c.memory d))
+WaitRuns w = w.system ≡ true → (c : Contents) (d : Behind) → From w wait_code (wait_steps d.pending) c d (λ c' d'. Waited (words_after d.pending c.memory d) c c' × (d' ≡ behind_after d.pending c.memory d))
 
 -- A command v may be given by this instruction, wherever it stands: it stores v to the command port, ports may be used, no command is under
 -- way, and the sector is one of the disk's.
@@ -52,8 +52,8 @@ pub record MayCommand (w : World) (i : Inst) (v : ℕ) (c : Contents) (d : Behin
   pub idle : d.pending ≡ Idle
   pub sector : c.memory SECTOR < w.count
 
--- A command and the wait for it take the busy time of the command's number and six steps more: after a 1 the buffer holds the
+-- A command and the wait for it take the busy time of the command's number and five steps more: after a 1 the buffer holds the
 -- sector, and after a 2 the sector holds the buffer.
 pub record TransfersRun (w : World) : Type 0 where
-  pub read : (i : Inst) (c : Contents) (d : Behind) → MayCommand w i 1 c d → From w (i ∷ wait_code) (w.busy d.commands + 6) c d (λ c' d'. Waited (filled c.memory (d.sectors (c.memory SECTOR))) c c' × (d' ≡ record d { pending = Idle; commands = d.commands + 1 }))
-  pub write : (i : Inst) (c : Contents) (d : Behind) → MayCommand w i 2 c d → From w (i ∷ wait_code) (w.busy d.commands + 6) c d (λ c' d'. Waited c.memory c c' × (d' ≡ record d { pending = Idle; commands = d.commands + 1; sectors = λ k. if k == c.memory SECTOR then buffer_of c.memory else d.sectors k }))
+  pub read : (i : Inst) (c : Contents) (d : Behind) → MayCommand w i 1 c d → From w (i ∷ wait_code) (w.busy d.commands + 5) c d (λ c' d'. Waited (filled c.memory (d.sectors (c.memory SECTOR))) c c' × (d' ≡ record d { pending = Idle; commands = d.commands + 1 }))
+  pub write : (i : Inst) (c : Contents) (d : Behind) → MayCommand w i 2 c d → From w (i ∷ wait_code) (w.busy d.commands + 5) c d (λ c' d'. Waited c.memory c c' × (d' ≡ record d { pending = Idle; commands = d.commands + 1; sectors = λ k. if k == c.memory SECTOR then buffer_of c.memory else d.sectors k }))

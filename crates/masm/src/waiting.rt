@@ -25,7 +25,7 @@ pub fn wait_for_disk() -> Block<3>
     code
 }
 
-/// Whatever command is under way, it is done within its own steps and five more, where ports may be used.
+/// Whatever command is under way, it is done within its own steps and five more, and where none is, the wait takes two, where ports may be used.
 pub fn the_disk_is_waited_for()
     ensures { (w : World) → Sound w → WaitRuns w }
 {

@@ -3,6 +3,7 @@
 ghost use Rattle.std.specs.Prelude.{◌≡◌, ◌<◌, ◌≤◌, ◌+◌, ◌^◌, ◌%◌, IfSome};
 ghost use Rattle.std.specs.Option.{option_or};
 ghost use Rattle.mips_asm.specs.Assembled.{meaning_fault, twice_fault, offset as offset_of, branch_to as branch_to_of, jump_to as jump_to_of, resolved as resolved_of};
+ghost use Rattle.mips_asm.specs.Fault.{asm_fault_number, asm_fault_place, asm_fault_line, asm_fault_value};
 ghost use Rattle.mips_asm.specs.Passes.{look, Near};
 ghost use Rattle.mips_asm.specs.View.{view};
 
@@ -38,6 +39,60 @@ pub enum AsmFault {
     /// Want of memory.
     #[error("out of memory")]
     Memory,
+}
+
+impl AsmFault {
+    /// The number that is printed for it: 1 to 7, or 8 for want of memory.
+    pub fn number(&self) -> u32
+        ensures { result ≡ asm_fault_number self.now }
+    {
+        match self {
+            AsmFault::BadByte { .. } => 1,
+            AsmFault::UnknownMnemonic { .. } => 2,
+            AsmFault::BadOperand { .. } => 3,
+            AsmFault::OutOfRange { .. } => 4,
+            AsmFault::UnknownLabel { .. } => 5,
+            AsmFault::LabelTwice { .. } => 6,
+            AsmFault::TooLong => 7,
+            AsmFault::Memory => 8,
+        }
+    }
+
+    /// The byte of the text that it names, if any.
+    pub fn at(&self) -> Option<u64>
+        ensures { result ≡ asm_fault_place self.now }
+    {
+        match self {
+            AsmFault::BadByte { at } => Some(*at),
+            _ => None,
+        }
+    }
+
+    /// The line of the text that it names, if any.
+    pub fn line(&self) -> Option<u64>
+        ensures { result ≡ asm_fault_line self.now }
+    {
+        match self {
+            AsmFault::BadByte { .. } => None,
+            AsmFault::UnknownMnemonic { line } => Some(*line),
+            AsmFault::BadOperand { line } => Some(*line),
+            AsmFault::OutOfRange { line, .. } => Some(*line),
+            AsmFault::UnknownLabel { line } => Some(*line),
+            AsmFault::LabelTwice { line } => Some(*line),
+            AsmFault::TooLong => None,
+            AsmFault::Memory => None,
+        }
+    }
+
+    /// The number that its operand can't have, where that is the fault.
+    pub fn value(&self) -> Option<i64>
+        ensures { result ≡ asm_fault_value self.now }
+    {
+        match self {
+            AsmFault::OutOfRange { value, .. } => Some(*value),
+            _ => None,
+        }
+    }
 }
 
 // The offset of a branch at one word to another.

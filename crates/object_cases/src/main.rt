@@ -54,13 +54,14 @@ fn put_written(
 
 // Why bytes are no object.
 fn put_fault(out: &mut String, fault: ObjectFault) -> Result<(), AllocError> {
-    match fault {
-        ObjectFault::Magic => writeln!(out, "40"),
-        ObjectFault::Truncated { at } => writeln!(out, "41 at {at}"),
-        ObjectFault::Trailing { at } => writeln!(out, "42 at {at}"),
-        ObjectFault::Field { at, value } => writeln!(out, "43 at {at}, value {value}"),
-        ObjectFault::Memory => writeln!(out, "44"),
+    write!(out, "{}", fault.number())?;
+    if let Some(at) = fault.at() {
+        write!(out, " at {at}")?;
     }
+    if let Some(value) = fault.value() {
+        write!(out, ", value {value}")?;
+    }
+    out.push('\n')
 }
 
 // What is printed of bytes that are read as an object.

@@ -1,6 +1,6 @@
 use Rattle.std.proofs.Common.{◌≡◌, ◌≤◌, ◌+◌, map, drop, min}
 use Rattle.c0_names.specs.Names.{look}
-use Rattle.c0_names.specs.Structs.{WORDS_CAP}
+use Rattle.c0_meaning.specs.Sizes.{WORDS_CAP}
 use Rattle.c0_structs.specs.Parts as parts
 use Rattle.c0_tree.specs.View.{decl_view}
 use Rattle.c0_structs.proofs.fields.fields_words.Given as goal

@@ -6,7 +6,8 @@ use Rattle.c0_meaning.specs.Env.{shape_of}
 use Rattle.c0_meaning.specs.Ty as ty
 use Rattle.c0_meaning.specs.Words.{holds, words}
 use Rattle.c0_names.specs.Names.{look}
-use Rattle.c0_names.specs.Structs.{KnowsStructs, WORDS_CAP, listed_words}
+use Rattle.c0_meaning.specs.Sizes.{WORDS_CAP}
+use Rattle.c0_names.specs.Structs.{KnowsStructs, listed_words}
 use Rattle.c0_structs.specs.Walk.{state_of, listed_cyclic}
 use Rattle.c0_meaning.specs.Sizes.{struct_sizes}
 use Rattle.c0_structs.proofs.Ends.{words_told, table_told, all_held_told}

@@ -1,0 +1,89 @@
+-- What the routines share: numbers in registers, writes to memory, and an edit of one entry as memory shows it.
+use Rattle.std.proofs.Common.{◌≡◌, ◌≢◌, ℕ, ◌+◌, ◌-◌, ◌*◌, ◌/◌, ◌%◌, ◌^◌, ◌<◌, ◌≤◌, ◌⊎◌, nat_lt, bit_or, refl, sym, ap, ap₂, ◌∙◌, subst, ⊎_elim, inl, inr, arith, lt-ltb, le-ltb, eq-eqb, ne_eqb}
+use Rattle.std.proofs.lemmas.Bool.{cases_eq, cases_lt, cond-true, cond-false}
+use Rattle.std.proofs.lemmas.Nat.{or_shifted}
+use Rattle.page_model.specs.Paging.{IsUserFrame, Names, naming, Pages, PagesStand}
+use Rattle.page_model.specs.Edits.{Retargeted}
+use Rattle.mips_table.specs.Arith.{extended, flag}
+use Rattle.mips_table.specs.Code.{put, Contents, Behind, World}
+use Rattle.page_model.specs.Places.{Places, count_at, view}
+use Rattle.layer_map.specs.Map.{hand_at}
+use Rattle.cvm_primitives.specs.View.{Sited, Held, Keeps, DropAsked, Start, BehindStays}
+use Rattle.cvm_primitives.specs.Routines.{RoutineLaws}
+
+pub const_is : (v : ℕ) → bit_or (v / 65536 * 2 ^ 16) (v % 65536) ≡ v
+const_is v = or_shifted (v / 65536) 16 (v % 65536) (omega arith) ∙ omega arith
+
+pub small_is : (v : ℕ) → v < 32768 → extended v ≡ v
+small_is v lt = cond-true (nat_lt v (2 ^ 15)) v (v + (2 ^ 32 - 2 ^ 16)) (lt-ltb v (2 ^ 15) lt)
+
+pub put_same : (m : ℕ → ℕ) (a v x : ℕ) → x ≡ a → put m a v x ≡ v
+put_same m a v x e = cond-true _ v (m x) (eq-eqb x a e)
+
+pub put_other : (m : ℕ → ℕ) (a v x : ℕ) → x ≢ a → put m a v x ≡ m x
+put_other m a v x ne = cond-false _ v (m x) (ne_eqb x a ne)
+
+pub flag_of : (a b : ℕ) → ((flag (nat_lt a b) ≡ 1) × (a < b)) ⊎ ((flag (nat_lt a b) ≡ 0) × (b ≤ a))
+flag_of a b = ⊎_elim (λ lt. inl (cond-true (nat_lt a b) 1 0 (lt-ltb a b lt), lt)) (λ le. inr (cond-false (nat_lt a b) 1 0 (le-ltb a b le), le)) (cases_lt a b)
+
+pub all_kept : (c : Contents) → Keeps c c
+all_kept c = record { r13 = refl; r14 = refl; r15 = refl; r16 = refl; r26 = refl; r27 = refl; r28 = refl; r29 = refl; r30 = refl; r31 = refl; special = refl }
+
+pub kept_on : (a b c : Contents) → Keeps a b → Keeps b c → Keeps a c
+kept_on a b c k l = record { r13 = l.r13 ∙ k.r13; r14 = l.r14 ∙ k.r14; r15 = l.r15 ∙ k.r15; r16 = l.r16 ∙ k.r16; r26 = l.r26 ∙ k.r26; r27 = l.r27 ∙ k.r27; r28 = l.r28 ∙ k.r28; r29 = l.r29 ∙ k.r29; r30 = l.r30 ∙ k.r30; r31 = l.r31 ∙ k.r31; special = l.special ∙ k.special }
+
+-- one entry is written, and counts
+pub edit_is : (p : Places) (w : World) (b : ℕ) → Sited p w b → (q e : ℕ) (m m' : ℕ → ℕ) (s : ℕ → ℕ → ℕ) → q < p.layout.pages → m' (p.tables + q) ≡ e
+    → ((x : ℕ) → x ≢ p.tables + q → (x < p.counts) ⊎ (p.counts + 8 * p.layout.frames ≤ x) → m' x ≡ m x)
+    → ((f : ℕ) → IsUserFrame p.layout f → m' (count_at p f) + naming (m (p.tables + q)) f ≡ m (count_at p f) + naming e f)
+    → Retargeted p.layout q e (view p m s) (view p m' s)
+edit_is p w b si q e m m' s lt here others counts =
+    let low = si.low in let first = si.first in let second = si.second in record {
+      entry = here;
+      entries = λ x lx ne. others (p.tables + x) (omega arith) (inl (omega arith));
+      counts = counts;
+      frames = λ f u i li. let u0 = u.0 in others (1024 * f + i) (omega arith) (inr (omega arith));
+      sectors = λ x lx ne i li. refl;
+      hand = ap (λ h. p.layout.zeros + 1 + h) (others hand_at (omega arith) (inl (omega arith)));
+    }
+
+-- an entry names a frame, and no other
+pub named_is : (e f g : ℕ) → Names e f → Names e g → f ≡ g
+named_is e f g n k = omega arith
+
+-- the counts when an entry e becomes e2 and the count of one user frame is written
+pub counts_one : (p : Places) (e e2 f v : ℕ) (m m' : ℕ → ℕ) → IsUserFrame p.layout f → m' (count_at p f) ≡ v → ((x : ℕ) → x ≢ count_at p f → p.counts ≤ x → m' x ≡ m x)
+    → v + naming e f ≡ m (count_at p f) + naming e2 f → ((g : ℕ) → g ≢ f → naming e g ≡ naming e2 g)
+    → (g : ℕ) → IsUserFrame p.layout g → m' (count_at p g) + naming e g ≡ m (count_at p g) + naming e2 g
+counts_one p e e2 f v m m' uf here others own other g ug = ⊎_elim
+    (λ eq. subst (λ g. m' (count_at p g) + naming e g ≡ m (count_at p g) + naming e2 g) (sym eq) (ap (λ y. y + naming e f) here ∙ own))
+    (λ ne. let u0 = uf.0 in let g0 = ug.0 in ap₂ (λ y z. y + z) (others (count_at p g) (omega arith) (omega arith)) (other g ne))
+    (cases_eq g f)
+
+pub counts_none : (p : Places) (e e2 : ℕ) (m m' : ℕ → ℕ) → ((x : ℕ) → p.counts ≤ x → m' x ≡ m x) → ((g : ℕ) → IsUserFrame p.layout g → naming e g ≡ naming e2 g)
+    → (g : ℕ) → IsUserFrame p.layout g → m' (count_at p g) + naming e g ≡ m (count_at p g) + naming e2 g
+counts_none p e e2 m m' others other g ug = ap₂ (λ y z. y + z) (others (count_at p g) (omega arith)) (other g ug)
+
+-- what a block that edits entries may ask of the relation
+pub drop_asked : (w : World) (f : RoutineLaws w) (p : Places) (u : Pages) (q : ℕ) (g : Start) (c : Contents) (d : Behind) → Held p u g c d → c.regs 16 ≡ q → q < p.layout.pages → DropAsked p q c d
+drop_asked w f p u q g c d h page lt = record {
+  page = page;
+  inside = lt;
+  small = h.small;
+  named = λ h1 n. h.stands.named q h1 lt n;
+  count = λ h1 uf n. let o = f.counts.one (view p c.memory d.sectors).entry h1 q p.layout.pages lt n in let e = h.stands.counts h1 uf in let few = h.stands.few h1 uf in (omega arith, omega arith);
+  idle = h.idle;
+}
+
+-- the same memory and disk, in another core
+pub held_to : (p : Places) (u : Pages) (g : Start) (c : Contents) (d : Behind) (c' : Contents) (d' : Behind) → Held p u g c d → c'.memory ≡ c.memory → c'.special ≡ c.special → c'.regs 28 ≡ c.regs 28 → c'.regs 29 ≡ c.regs 29 → c'.regs 30 ≡ c.regs 30 → c'.regs 31 ≡ c.regs 31 → d' ≡ d → Held p u g c' d'
+held_to p u g c d c' d' h m s r28 r29 r30 r31 e = record {
+  stands = subst (λ m. PagesStand p.layout u (view p m d'.sectors)) (sym m) (subst (λ d. PagesStand p.layout u (view p c.memory d.sectors)) (sym e) h.stands);
+  small = λ x lx. subst (λ m. m (p.tables + x) < 2 ^ 32) (sym m) (h.small x lx);
+  low = λ x lx ne. ap (λ m. m x) m ∙ h.low x lx ne;
+  special = s ∙ h.special;
+  r28 = r28 ∙ h.r28;
+  r29 = r29 ∙ h.r29; r30 = r30 ∙ h.r30; r31 = r31 ∙ h.r31;
+  behind = subst (BehindStays p g) (sym (e)) h.behind;
+  idle = ap (λ d. d.pending) e ∙ h.idle;
+}

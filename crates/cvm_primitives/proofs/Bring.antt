@@ -1,0 +1,166 @@
+-- Pages are brought in by the page-fault block; two at once for vm_copy.
+use Rattle.std.proofs.Common.{◌≡◌, ◌≢◌, ℕ, ◌+◌, ◌-◌, ◌*◌, ◌/◌, ◌%◌, ◌^◌, ◌<◌, ◌≤◌, Bool, true, false, nat_lt, [], ◌∷◌, refl, sym, ap, ◌∙◌, subst, ⊎_elim, inl, inr, arith, cond, nat_eq, eq-eqb, ne_eqb}
+use Rattle.std.proofs.lemmas.Bool.{cases_eq, cond-true, cond-false}
+use Rattle.mips_table.specs.declared.inst.Inst.TheVariants.{Srl, Addiu, Subu, Sltiu}
+use Rattle.mips_table.specs.Arith.{flag}
+use Rattle.page_model.specs.Paging.{Layout, IsUserFrame, Names, Paged, Pages, PagesStand, Passes, counted}
+use Rattle.page_model.specs.Faults.{Brought}
+use Rattle.mips_table.specs.Code.{Contents, Behind, World}
+use Rattle.cvm_primitives.specs.Routines.{RoutineLaws}
+use Rattle.masm.specs.Says.{Gives}
+use Rattle.masm.specs.Laws.{From}
+use Rattle.cvm_primitives.proofs.Forms.{from_straight, from_then, from_later}
+use Rattle.page_model.specs.Places.{Places, view}
+use Rattle.cvm_primitives.specs.View.{Sited, Held, Keeps, PageBlock, Came, BothIn, FourOthers, Start}
+use Rattle.cvm_primitives.specs.Code.{both_code}
+use Rattle.cvm_primitives.proofs.Basics.{flag_of}
+
+-- two pages: q can be read, r is brought in to store, and q again: to store where it is r
+pub both_pass : (w : World) (f : RoutineLaws w) (l : Layout) (q r : ℕ) (s : Bool) (b c d : Paged) → 2 ≤ l.frames → q < l.pages → r < l.pages → IsUserFrame l b.hand → Passes b q false → Brought l r true b c → (q ≡ r → s ≡ true) → (q ≢ r → s ≡ false) → Brought l q s c d → Passes d q false × Passes d r true
+both_pass w f l q r s b c d two lq lr u x y same other z = ⊎_elim
+    (λ e. let k : Passes d q true = subst (λ t. Passes d q t) (same e) (f.handled.passes l q s c d z.handled) in
+    (record { valid = k.valid; unprotected = λ t. absurd (cc) }, subst (λ y. Passes d y true) e k))
+    (λ ne. let k = f.handled.passes l q s c d z.handled in (
+      record { valid = k.valid; unprotected = λ t. absurd (cc) },
+      ⊎_elim
+          (λ i. let pc : Passes c q false = f.handled.stays b c q false (i.entries q lq ne) x in
+          let z' : Brought l q false c d = subst (λ t. Brought l q t c d) (other ne) z in
+          f.handled.stays c d r true ((z'.idle pc).entries r lr (λ e. ne (sym e))) i.passes)
+          (λ fi. f.handled.kept l r q s c d lr (λ e. ne (sym e)) (f.handled.last l r b c two u fi) z.handled true)
+          y.handled,
+    ))
+    (cases_eq q r)
+
+module _ (w : World) (f : RoutineLaws w) (p : Places) (b : ℕ) (si : Sited p w b) (page : PageBlock w p b) (g : Start) where
+  pub brings : (u : Pages) (q : ℕ) (store : Bool) (c : Contents) (d : Behind) → Held p u g c d → c.regs 16 ≡ q → q < p.layout.pages → u.live q ≡ true → (store ≡ false → c.regs 15 ≡ 0) → (store ≡ true → c.regs 15 ≢ 0) → From w page.code page.steps c d (Came p u g q store c d)
+  brings u q store c d h at lt live load save =
+      from_later w f page.code page.steps page.steps c d _ _ (omega arith)
+      (λ c' d' k. record {
+        held = record {
+          stands = k.stands;
+          small = k.small;
+          low = λ x lx ne. k.low x lx ne ∙ h.low x lx ne;
+          special = k.special ∙ h.special;
+          r28 = k.regs 28 (inr (omega arith)) ∙ h.r28;
+          r29 = k.regs 29 (inr (omega arith)) ∙ h.r29; r30 = k.regs 30 (inr (omega arith)) ∙ h.r30; r31 = k.regs 31 (inr (omega arith)) ∙ h.r31;
+          behind = record { log = k.log ∙ h.behind.log; input = k.input ∙ h.behind.input; past = λ x i le. k.past x i le ∙ h.behind.past x i le };
+          idle = k.idle;
+        };
+        brought = k.brought;
+        stays = k.stays;
+        keeps = record { r13 = k.regs 13 (inl (omega arith, omega arith)); r14 = k.regs 14 (inl (omega arith, omega arith)); r15 = k.regs 15 (inl (omega arith, omega arith)); r16 = k.regs 16 (inl (omega arith, omega arith)); r26 = k.regs 26 (inr (omega arith)); r27 = k.regs 27 (inr (omega arith)); r28 = k.regs 28 (inr (omega arith)); r29 = k.regs 29 (inr (omega arith)); r30 = k.regs 30 (inr (omega arith)); r31 = k.regs 31 (inr (omega arith)); special = k.special };
+      })
+      (page.does u q store c d (record { page = at; inside = lt; live = live; stands = h.stands; small = h.small; idle = h.idle; load = load; save = save }))
+
+  -- a core that differs in registers that aren't in hand
+  pub held_regs : (u : Pages) (c c' : Contents) (d : Behind) → c'.memory ≡ c.memory → Keeps c c' → Held p u g c d → Held p u g c' d
+  held_regs u c c' d m k h = record {
+    stands = subst (λ m. PagesStand p.layout u (view p m d.sectors)) (sym m) h.stands;
+    small = λ x lx. subst (λ m. m (p.tables + x) < 2 ^ 32) (sym m) (h.small x lx);
+    low = λ x lx ne. ap (λ m. m x) m ∙ h.low x lx ne;
+    special = k.special ∙ h.special;
+    r28 = k.r28 ∙ h.r28;
+    r29 = k.r29 ∙ h.r29; r30 = k.r30 ∙ h.r30; r31 = k.r31 ∙ h.r31;
+    behind = h.behind;
+    idle = h.idle;
+  }
+
+  -- the state before the first page is asked for, and before the second
+  record Asks1 (u : Pages) (y : ℕ) (c0 : Contents) (d0 : Behind) (c : Contents) (d : Behind) : Type 0 where
+    held : Held p u g c d
+    number : c.regs 16 ≡ y / 1024
+    store : c.regs 15 ≡ 1
+    same : c.memory ≡ c0.memory
+    r13 : c.regs 13 ≡ c0.regs 13
+    r26 : c.regs 26 ≡ c0.regs 26
+    r27 : c.regs 27 ≡ c0.regs 27
+    r14 : c.regs 14 ≡ c0.regs 14
+    disk : d ≡ d0
+
+  record Asks2 (u : Pages) (x y : ℕ) (c0 : Contents) (d0 : Behind) (c : Contents) (d : Behind) : Type 0 where
+    held : Held p u g c d
+    number : c.regs 16 ≡ x / 1024
+    store : c.regs 15 ≡ flag (nat_lt ((x / 1024 + (2 ^ 32 - y / 1024)) % 2 ^ 32) 1)
+    brought : Brought p.layout (y / 1024) true (view p c0.memory d0.sectors) (view p c.memory d.sectors)
+    r13 : c.regs 13 ≡ c0.regs 13
+    r26 : c.regs 26 ≡ c0.regs 26
+    r27 : c.regs 27 ≡ c0.regs 27
+    r14 : c.regs 14 ≡ c0.regs 14
+
+  pub both_from : (u : Pages) (x y : ℕ) (c : Contents) (d : Behind) → Held p u g c d → c.regs 26 ≡ x → c.regs 27 ≡ y → x < 1024 * p.layout.pages → y < 1024 * p.layout.pages → u.live (x / 1024) ≡ true → u.live (y / 1024) ≡ true
+      → Passes (view p c.memory d.sectors) (x / 1024) false → From w (both_code page.code) (2 + (page.steps + (4 + page.steps))) c d (BothIn p u g x y c)
+  both_from u x y c d h from to lx ly ax ay pass =
+      let pages = si.pages in
+      from_then w f (Srl 16 27 10 ∷ Addiu 15 0 1 ∷ []) _ 2 (page.steps + (4 + page.steps)) c d (Asks1 u y c d) (BothIn p u g x y c)
+      (from_straight w f (Srl 16 27 10 ∷ Addiu 15 0 1 ∷ []) (Gives (y / 1024) ∷ Gives 1 ∷ []) c d (Asks1 u y c d) refl h.idle
+      (λ n. ((ap (λ z. z / 2 ^ 10) to, (refl, tt)), record { held = record { stands = h.stands; small = h.small; low = h.low; special = h.special; r28 = h.r28; r29 = h.r29; r30 = h.r30; r31 = h.r31; behind = h.behind; idle = h.idle }; number = refl; store = refl; same = refl; r13 = refl; r26 = refl; r27 = refl; r14 = refl; disk = refl })))
+      (λ c1 d1 a. let store1 = a.store in
+      from_then w f page.code _ page.steps (4 + page.steps) c1 d1 (Came p u g (y / 1024) true c1 d1) (BothIn p u g x y c)
+      (brings u (y / 1024) true c1 d1 a.held a.number (omega arith) ay (λ e. absurd (cc)) (λ e. omega arith))
+      (λ c2 d2 k. from_then w f (Addiu 9 16 0 ∷ Srl 16 26 10 ∷ Subu 15 16 9 ∷ Sltiu 15 15 1 ∷ []) page.code 4 page.steps c2 d2 (Asks2 u x y c d) (BothIn p u g x y c)
+      (from_straight w f (Addiu 9 16 0 ∷ Srl 16 26 10 ∷ Subu 15 16 9 ∷ Sltiu 15 15 1 ∷ []) (Gives (y / 1024) ∷ Gives (x / 1024) ∷ Gives ((x / 1024 + (2 ^ 32 - y / 1024)) % 2 ^ 32) ∷ Gives (flag (nat_lt ((x / 1024 + (2 ^ 32 - y / 1024)) % 2 ^ 32) 1)) ∷ []) c2 d2 (Asks2 u x y c d) refl k.held.idle
+      (λ n. let r16 = k.keeps.r16 in let page1 = a.number in (
+        (omega arith, (ap (λ z. z / 2 ^ 10) (k.keeps.r26 ∙ a.r26 ∙ from), (refl, (refl, tt)))),
+        record {
+          held = record { stands = k.held.stands; small = k.held.small; low = k.held.low; special = k.held.special; r28 = k.held.r28; r29 = k.held.r29; r30 = k.held.r30; r31 = k.held.r31; behind = k.held.behind; idle = k.held.idle };
+          number = refl;
+          store = refl;
+          brought = subst (λ m. Brought p.layout (y / 1024) true (view p m d.sectors) (view p c2.memory d2.sectors)) a.same (subst (λ t. Brought p.layout (y / 1024) true (view p c1.memory t.sectors) (view p c2.memory d2.sectors)) a.disk k.brought);
+          r13 = k.keeps.r13 ∙ a.r13;
+          r26 = k.keeps.r26 ∙ a.r26;
+          r27 = k.keeps.r27 ∙ a.r27;
+          r14 = k.keeps.r14 ∙ a.r14;
+        },
+      )))
+      (λ c3 d3 t. last u x y c d c3 d3 h lx ly ax ay pass t)))
+    where
+      end : (u : Pages) (x y : ℕ) (c : Contents) (d : Behind) (c3 : Contents) (d3 : Behind) (s : Bool) → Held p u g c d → x < 1024 * p.layout.pages → y < 1024 * p.layout.pages → Passes (view p c.memory d.sectors) (x / 1024) false → Asks2 u x y c d c3 d3 → (x / 1024 ≡ y / 1024 → s ≡ true) → (x / 1024 ≢ y / 1024 → s ≡ false)
+          → (c4 : Contents) (d4 : Behind) → Came p u g (x / 1024) s c3 d3 c4 d4 → BothIn p u g x y c c4 d4
+      end u x y c d c3 d3 s h lx ly pass t same other c4 d4 k =
+          let b = both_pass w f p.layout (x / 1024) (y / 1024) s (view p c.memory d.sectors) (view p c3.memory d3.sectors) (view p c4.memory d4.sectors) si.frames (omega arith) (omega arith) h.stands.hand pass t.brought same other k.brought in
+          record { held = k.held; source = b.0; target = b.1; r13 = k.keeps.r13 ∙ t.r13; r26 = k.keeps.r26 ∙ t.r26; r27 = k.keeps.r27 ∙ t.r27; r14 = k.keeps.r14 ∙ t.r14 }
+
+      last : (u : Pages) (x y : ℕ) (c : Contents) (d : Behind) (c3 : Contents) (d3 : Behind) → Held p u g c d → x < 1024 * p.layout.pages → y < 1024 * p.layout.pages → u.live (x / 1024) ≡ true → u.live (y / 1024) ≡ true → Passes (view p c.memory d.sectors) (x / 1024) false → Asks2 u x y c d c3 d3 → From w page.code page.steps c3 d3 (BothIn p u g x y c)
+      last u x y c d c3 d3 h lx ly ax ay pass t =
+          let pages = si.pages in let store = t.store in
+          ⊎_elim
+          (λ one. let v = one.0 in let lt = one.1 in let same : x / 1024 ≡ y / 1024 = omega arith in
+          from_later w f page.code page.steps page.steps c3 d3 _ _ (omega arith) (end u x y c d c3 d3 true h lx ly pass t (λ e. refl) (λ ne. absurd (ne same)))
+          (brings u (x / 1024) true c3 d3 t.held t.number (omega arith) ax (λ e. absurd (cc)) (λ e. omega arith)))
+          (λ zero_. let v = zero_.0 in let le = zero_.1 in
+          from_later w f page.code page.steps page.steps c3 d3 _ _ (omega arith) (end u x y c d c3 d3 false h lx ly pass t (λ e. absurd (omega arith)) (λ ne. refl))
+          (brings u (x / 1024) false c3 d3 t.held t.number (omega arith) ax (λ e. omega arith) (λ e. absurd (cc))))
+          (flag_of ((x / 1024 + (2 ^ 32 - y / 1024)) % 2 ^ 32) 1)
+
+-- where four others name the frame after the source was brought in to be read, they did so before
+pub others_back : (w : World) (f : RoutineLaws w) (p : Places) (u : Pages) (g : Start) (q y : ℕ) (c0 : Contents) (d0 : Behind) (c : Contents) (d : Behind) → q < p.layout.pages → Came p u g q false c0 d0 c d → FourOthers p q y c.memory → FourOthers p q y c0.memory
+others_back w f p u g q y c0 d0 c d lq k h = ⊎_elim
+    (λ i. let same : c.memory (p.tables + q) ≡ c0.memory (p.tables + q) = k.stays (record { valid = i.was; unprotected = λ s. absurd (cc) }) in
+    let all : (z : ℕ) → z < p.layout.pages → c.memory (p.tables + z) ≡ c0.memory (p.tables + z) = λ z lz. ⊎_elim (λ e. ap (λ z. c.memory (p.tables + z)) e ∙ same ∙ ap (λ z. c0.memory (p.tables + z)) (sym e)) (λ ne. i.entries z lz ne) (cases_eq z q) in
+    let fr : c.memory (p.tables + q) / 4096 ≡ c0.memory (p.tables + q) / 4096 = ap (λ e. e / 4096) same in
+    record {
+      names = subst (λ e. Names e (e / 4096)) same h.names;
+      user = subst (IsUserFrame p.layout) fr h.user;
+      four = subst (λ a. 4 ≤ counted (λ z. cond (nat_eq z y) 0 (c0.memory (p.tables + z))) a p.layout.pages) fr (subst (λ n. 4 ≤ n) (f.counts.same (λ z. cond (nat_eq z y) 0 (c0.memory (p.tables + z))) (λ z. cond (nat_eq z y) 0 (c.memory (p.tables + z))) (c.memory (p.tables + q) / 4096) p.layout.pages (λ z lz. ap (λ e. cond (nat_eq z y) 0 e) (all z lz))) h.four);
+    })
+    (λ b. let entry = b.entry in let fr : ℕ = c.memory (p.tables + q) / 4096 in
+    let hand : c.memory (p.tables + q) / 4096 ≡ (view p c0.memory d0.sectors).hand = omega arith in
+    let away : (z : ℕ) → z < p.layout.pages → z ≢ q → Names (c.memory (p.tables + z)) (c.memory (p.tables + q) / 4096) → ⊥ = λ z lz ne n.
+    let nh : Names (c.memory (p.tables + z)) (view p c0.memory d0.sectors).hand = n ∙ ap (λ f. 2 * f + 1) hand in
+    ⊎_elim (λ old. let gone = b.evicted z lz ne old in absurd (omega arith)) (λ no. no (ap (λ e. e / 2048) (sym (b.entries z lz ne no)) ∙ nh)) (f.shows.either (c0.memory (p.tables + z)) (view p c0.memory d0.sectors).hand) in
+    let one = few (λ z. cond (nat_eq z y) 0 (c.memory (p.tables + z))) q (c.memory (p.tables + q) / 4096) p.layout.pages lq (λ z lz ne n. ⊎_elim
+    (λ e. let zero_ : cond (nat_eq z y) 0 (c.memory (p.tables + z)) ≡ 0 = cond-true _ 0 (c.memory (p.tables + z)) (eq-eqb z y e) in absurd (omega arith))
+    (λ nz. away z lz ne (ap (λ e. e / 2048) (sym (cond-false _ 0 (c.memory (p.tables + z)) (ne_eqb z y nz))) ∙ n))
+    (cases_eq z y)) in
+    let four = h.four in absurd (omega arith))
+    k.brought.handled
+  where
+    -- a frame that one page alone may name has a count of one at most
+    few : (e : ℕ → ℕ) (q h n : ℕ) → q < n → ((z : ℕ) → z < n → z ≢ q → Names (e z) h → ⊥) → counted e h n ≤ 1
+    few e q h n lq nay =
+        let c = f.counts.edit (λ z. cond (nat_eq z q) 0 (e z)) e h q n lq (λ z lz ne. sym (cond-false _ 0 (e z) (ne_eqb z q ne))) in
+        let none = f.counts.none (λ z. cond (nat_eq z q) 0 (e z)) h n (λ z lz m. ⊎_elim
+        (λ eq. let v : cond (nat_eq z q) 0 (e z) ≡ 0 = cond-true _ 0 (e z) (eq-eqb z q eq) in absurd (omega arith))
+        (λ ne. nay z lz ne (ap (λ e. e / 2048) (sym (cond-false _ 0 (e z) (ne_eqb z q ne))) ∙ m))
+        (cases_eq z q)) in
+        ⊎_elim (λ m. let h1 = f.shows.names (e q) h m in omega arith) (λ m. let h0 = f.shows.misses (e q) h m in omega arith) (f.shows.either (e q) h)

@@ -1,0 +1,15 @@
+pub mod Forms
+pub mod Pieces
+pub mod Loop
+pub mod Basics
+pub mod Drop
+pub mod Moves
+pub mod Bring
+pub mod Words
+pub mod Share
+pub mod Piece
+pub mod Asks
+pub mod Access
+pub mod Copies
+pub mod Resize
+pub mod Users

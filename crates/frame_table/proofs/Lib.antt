@@ -1,0 +1,6 @@
+mod Basics
+mod Paid
+mod Branches
+mod Sweeping
+mod Emptying
+mod Counts

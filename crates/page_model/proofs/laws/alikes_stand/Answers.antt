@@ -1,0 +1,6 @@
+-- Part by part.
+use Rattle.page_model.proofs.Gathered.{alikes_are}
+use Rattle.page_model.proofs.laws.alikes_stand.Goals as goal
+
+pub returns : goal.returns
+returns c = alikes_are

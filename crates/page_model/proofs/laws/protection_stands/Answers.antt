@@ -1,0 +1,6 @@
+-- Edits of one entry.
+use Rattle.page_model.proofs.Gathered.{protections_are}
+use Rattle.page_model.proofs.laws.protection_stands.Goals as goal
+
+pub returns : goal.returns
+returns c = protections_are

@@ -1,0 +1,6 @@
+-- An edit that leaves the entry.
+use Rattle.page_model.proofs.Gathered.{stores_are}
+use Rattle.page_model.proofs.laws.stores_stand.Goals as goal
+
+pub returns : goal.returns
+returns c = stores_are

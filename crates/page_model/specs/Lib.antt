@@ -1,0 +1,5 @@
+pub mod Paging
+pub mod Places
+pub mod Edits
+pub mod Faults
+pub mod Laws

@@ -1,0 +1,3 @@
+pub mod Code
+pub mod Blocks
+pub mod Laws
