@@ -27,3 +27,4 @@ mod Areas
 mod Storing
 mod Elsewhere
 mod InRange
+mod Patches

@@ -1,7 +1,9 @@
 //! The laws of the code of expressions. Each is the contract of a function that does nothing.
 
-ghost use Rattle.c0_expr_code.specs.Laws.{AreasHold, CodesAreShort, CodesInRange, CostsAreFew, ExpressionsRun, GivenRun, HeldElsewhere, HeldStays, NamesAreEnough, PartsFit, StoresHold, StoresRun, TestsRun};
+ghost use Rattle.c0_expr_code.specs.Laws.{AreasHold, CodesAreShort, CodesInRange, CostsAreFew, ExpressionsRun, GivenRun};
+ghost use Rattle.c0_expr_code.specs.Laws.{HeldElsewhere, HeldStays, NamesAreEnough, PartsFit, StoresHold, StoresRun, TestsRun};
 ghost use Rattle.mips_table.specs.Code.{World, Sound};
+ghost use Rattle.c0_expr_code.specs.Jumps.{PatchesAim};
 ghost use Rattle.c0_expr_code.specs.Rows.{ArePlaces, AreSums, AreTests};
 
 use c0_meaning::laws::{units_are_typed_or_faulty, words_are_those_of_the_parts};
@@ -88,4 +90,9 @@ pub fn worked_rows()
 /// The instructions of the code are in range.
 pub fn codes_are_in_range()
     ensures { CodesInRange }
+{}
+
+/// A test's code whose branches have no distances yet is the test's code once it is patched.
+pub fn patches_aim()
+    ensures { PatchesAim }
 {}
