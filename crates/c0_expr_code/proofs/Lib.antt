@@ -28,3 +28,4 @@ mod Storing
 mod Elsewhere
 mod InRange
 mod Patches
+mod Exits

@@ -1,6 +1,6 @@
 //! The laws of the code of expressions. Each is the contract of a function that does nothing.
 
-ghost use Rattle.c0_expr_code.specs.Laws.{AreasHold, CodesAreShort, CodesInRange, CostsAreFew, ExpressionsRun, GivenRun};
+ghost use Rattle.c0_expr_code.specs.Laws.{AreasHold, CodesAreShort, CodesInRange, CostsAreFew, ExitsAreNear, ExpressionsRun, GivenRun};
 ghost use Rattle.c0_expr_code.specs.Laws.{HeldElsewhere, HeldStays, NamesAreEnough, PartsFit, StoresHold, StoresRun, TestsRun};
 ghost use Rattle.mips_table.specs.Code.{World, Sound};
 ghost use Rattle.c0_expr_code.specs.Jumps.{PatchesAim};
@@ -87,9 +87,10 @@ pub fn worked_rows()
     ensures tests { AreTests }
 {}
 
-/// The instructions of the code are in range.
+/// The instructions of the code are in range, and the exits of a function's scope where jumps reach them.
 pub fn codes_are_in_range()
-    ensures { CodesInRange }
+    ensures codes { CodesInRange }
+    ensures exits { ExitsAreNear }
 {}
 
 /// A test's code whose branches have no distances yet is the test's code once it is patched.
