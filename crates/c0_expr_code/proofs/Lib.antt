@@ -27,3 +27,5 @@ mod Areas
 mod Storing
 mod Elsewhere
 mod InRange
+mod Patches
+mod Exits

@@ -22,6 +22,7 @@ use Rattle.c0_meaning.specs.Sound.{shapes}
 use Rattle.c0_meaning.specs.Typed.{IsDeclarable}
 use Rattle.c0_meaning.specs.Unit.{IsWellFormed}
 use Rattle.masm.specs.declared.registers.Places.{Places}
+use Rattle.masm.specs.Places.{ArePlaces}
 use Rattle.c0_expr_code.specs.Scope.{Scope, scope_of}
 use Rattle.c0_expr_code.specs.Code.{Spot, store_code, operand_code, operand_register, made, value_code, place_spot}
 use Rattle.c0_expr_code.specs.Test.{test_code}
@@ -164,6 +165,10 @@ pub record HeldElsewhere : Type 0 where
 -- each exit is a word that a jump reaches
 abbrev pub HasNearExits : Scope → Type 0
 HasNearExits sc = (f : KernelFault) → sc.exit f < 2 ^ 26
+
+-- a law: where the places are addresses that jumps reach, so are the exits of a function's scope
+abbrev pub ExitsAreNear : Type 0
+ExitsAreNear = (u : CUnit) (f : CFunction) (places : Places) → ArePlaces places → HasNearExits (scope_of u f places)
 
 -- Where the exits lie in the part that jumps reach, all code is in range, for every expression: of values, operands, places, stores and tests, with
 -- registers enough for the expression's need.

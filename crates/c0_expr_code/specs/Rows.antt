@@ -89,7 +89,7 @@ pub record AreSums : Type 0 where
   pub by_zero : value_code (scope true) (binary z Rem i (number 0)) 20 8 ≡ Bne 0 0 1 ∷ J 102 ∷ Divide 20 0 ∷ Mfhi 20 ∷ []
 
 -- Places: elements with and without a test, a path through pointers, an address, a far element, a store, and sizes of elements.
-pub record ArePlaces : Type 0 where
+pub record AreSpots : Type 0 where
   pub known : value_code (scope false) (index z a (number 3)) 8 8 ≡ Lw 8 28 16 ∷ []
   pub last : value_code (scope false) (index z a (number 9)) 8 8 ≡ Lw 8 28 40 ∷ []
   pub outside : value_code (scope false) (index z a (number 10)) 8 8

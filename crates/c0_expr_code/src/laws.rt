@@ -1,8 +1,10 @@
 //! The laws of the code of expressions. Each is the contract of a function that does nothing.
 
-ghost use Rattle.c0_expr_code.specs.Laws.{AreasHold, CodesAreShort, CodesInRange, CostsAreFew, ExpressionsRun, GivenRun, HeldElsewhere, HeldStays, NamesAreEnough, PartsFit, StoresHold, StoresRun, TestsRun};
+ghost use Rattle.c0_expr_code.specs.Laws.{AreasHold, CodesAreShort, CodesInRange, CostsAreFew, ExitsAreNear, ExpressionsRun, GivenRun};
+ghost use Rattle.c0_expr_code.specs.Laws.{HeldElsewhere, HeldStays, NamesAreEnough, PartsFit, StoresHold, StoresRun, TestsRun};
 ghost use Rattle.mips_table.specs.Code.{World, Sound};
-ghost use Rattle.c0_expr_code.specs.Rows.{ArePlaces, AreSums, AreTests};
+ghost use Rattle.c0_expr_code.specs.Jumps.{PatchesAim};
+ghost use Rattle.c0_expr_code.specs.Rows.{AreSpots, AreSums, AreTests};
 
 use c0_meaning::laws::{units_are_typed_or_faulty, words_are_those_of_the_parts};
 use c0_meaning::run_laws::{declared_types_have_words, parts_of_a_type_are_apart};
@@ -81,11 +83,17 @@ pub fn held_elsewhere()
 /// The code of some expressions, word by word.
 pub fn worked_rows()
     ensures sums { AreSums }
-    ensures places { ArePlaces }
+    ensures places { AreSpots }
     ensures tests { AreTests }
 {}
 
-/// The instructions of the code are in range.
+/// The instructions of the code are in range, and the exits of a function's scope where jumps reach them.
 pub fn codes_are_in_range()
-    ensures { CodesInRange }
+    ensures codes { CodesInRange }
+    ensures exits { ExitsAreNear }
+{}
+
+/// A test's code whose branches have no distances yet is the test's code once it is patched.
+pub fn patches_aim()
+    ensures { PatchesAim }
 {}
