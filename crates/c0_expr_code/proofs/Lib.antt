@@ -23,3 +23,7 @@ mod Names
 mod Stores
 mod Parts
 mod Ready
+mod Areas
+mod Storing
+mod Elsewhere
+mod InRange
