@@ -1,0 +1,4 @@
+mod Basics
+mod Deciding
+mod Faults
+mod Entering
