@@ -2,3 +2,4 @@ mod Basics
 mod Deciding
 mod Faults
 mod Entering
+mod Leaving
