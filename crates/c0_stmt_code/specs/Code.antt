@@ -1,8 +1,9 @@
 -- The code of statements, of calls and of functions: one fold over the tree. It doesn't depend on where it stands, but for the calls' indices.
-use Rattle.std.specs.Prelude.{◌≡◌, ℕ, zero, suc, ◌+◌, ◌-◌, ◌*◌, ◌/◌, ◌^◌, Bool, true, false, ◌||◌, nat_lt, nat_le, if◌then◌else◌, List, [], ◌∷◌, ◌++◌, length, map, slice_index, Option, Some, None}
+use Rattle.std.specs.Prelude.{◌≡◌, ℕ, zero, suc, ◌+◌, ◌-◌, ◌*◌, ◌/◌, ◌%◌, ◌^◌, Bool, true, false, ◌||◌, nat_lt, nat_le, if◌then◌else◌, List, [], ◌∷◌, ◌++◌, length, map, slice_index, Option, Some, None}
 use Rattle.mips_table.specs.declared.inst.Inst.{Inst}
 use Rattle.mips_table.specs.declared.inst.Inst.TheVariants.{Addu, Sltu, J, Jal, Jr, Beq, Bne, Addiu, Lw, Sw}
 use Rattle.masm.specs.declared.registers.Places.{Places}
+use Rattle.masm.specs.declared.registers.TheConstants.{SCRATCH, ANSWER, EXPRESSIONS, FRAME_END, STACK_END, RETURN}
 use Rattle.c0_tree.specs.declared.tree.Kind.{Kind}
 use Rattle.c0_tree.specs.declared.tree.Kind.TheVariants.{Function, Primitive}
 use Rattle.c0_tree.specs.Tree.{CName, CTy, CExpr, CStmt, assign, call, new, choice, loop, CStmts, done, next, CBody, code, asm, CDecl, CFunction}
@@ -10,8 +11,8 @@ use Rattle.c0_meaning.specs.Ty.{ty_of}
 use Rattle.c0_meaning.specs.Env.{typed_of}
 use Rattle.c0_meaning.specs.Words.{words, all_words}
 use Rattle.c0_meaning.specs.Operators.{StackOut}
-use Rattle.c0_expr_code.specs.Places.{Scope}
-use Rattle.c0_expr_code.specs.Code.{Spot, Made, constant_code, on_spot, operand_code, operand_register, made, value_code}
+use Rattle.c0_expr_code.specs.Scope.{Scope}
+use Rattle.c0_expr_code.specs.Code.{Spot, Made, frame_back, register_of, constant_code, on_spot, operand_code, operand_register, made, value_code}
 use Rattle.c0_expr_code.specs.Test.{test_code}
 use Rattle.c0_asm_body.specs.Code.{asm_code}
 
@@ -29,7 +30,7 @@ callee_index x _ n = 0
 
 -- a jump over so many words
 abbrev pub skip : ℕ → Inst
-skip n = Beq 0 0 n
+skip n = Beq 0 0 (n % 2 ^ 16)
 
 -- the value of register q goes to a variable that stands in a register, or to a place, with the free registers from r
 abbrev pub stored_code : (q r : ℕ) → Option ℕ → (ℕ → Spot) → List Inst
@@ -38,29 +39,29 @@ stored_code q r None place = on_spot (λ b k. Sw q b k) r (place r)
 
 -- an answer in register 2 goes to a place
 abbrev pub answer_code : Scope → CExpr → List Inst
-answer_code sc p = stored_code 2 8 (made sc p).stands (made sc p).place
+answer_code sc p = stored_code ANSWER EXPRESSIONS (made sc p).stands (made sc p).place
 
 -- a value goes to a variable that stands in a register, or first to a register and from there to a place
 abbrev pub assigned_code : Option ℕ → Made → Made → List Inst
-assigned_code (Some x) p v = v.value x 8
-assigned_code None p v = operand_code v 8 ++ on_spot (λ b k. Sw (operand_register v 8) b k) 9 (p.place 9)
+assigned_code (Some x) p v = v.value x EXPRESSIONS
+assigned_code None p v = operand_code v EXPRESSIONS ++ on_spot (λ b k. Sw (operand_register v EXPRESSIONS) b k) 9 (p.place 9)
 
 -- an assignment
 abbrev pub assign_code : Scope → CExpr → CExpr → List Inst
 assign_code sc p v = assigned_code (made sc p).stands (made sc p) (made sc v)
 
--- arguments, the first of them to register r
-abbrev pub args_code : Scope → List CExpr → ℕ → List Inst
-args_code sc [] r = []
-args_code sc (e ∷ es) r = value_code sc e r 8 ++ args_code sc es (suc r)
+-- arguments, of which the first has the number i, go to their registers
+abbrev pub args_code : Scope → List CExpr → (i : ℕ) → List Inst
+args_code sc [] i = []
+args_code sc (e ∷ es) i = value_code sc e (register_of i) EXPRESSIONS ++ args_code sc es (suc i)
 
 -- a call
 abbrev pub call_code : Scope → Links → Kind → ℕ → List CExpr → CExpr → List Inst
-call_code sc x kind n args p = args_code sc args 20 ++ (Jal (callee_index x kind n) ∷ answer_code sc p)
+call_code sc x kind n args p = args_code sc args 0 ++ (Jal (callee_index x kind n) ∷ answer_code sc p)
 
 -- `new` of a type of so many words
 abbrev pub new_code : Scope → Links → ℕ → CExpr → List Inst
-new_code sc x n p = constant_code 2 n ++ (Jal x.new_object ∷ answer_code sc p)
+new_code sc x n p = constant_code ANSWER (n % 2 ^ 32) ++ (Jal x.new_object ∷ answer_code sc p)
 
 -- the other branch of an `if`, where there is one: the first jumps over it
 abbrev pub otherwise : CStmts → List Inst → List Inst
@@ -74,15 +75,15 @@ otherwise_at (next s rest) = 1
 
 -- an `if`, by the code of its branches
 abbrev pub choice_code : Scope → CExpr → CStmts → (yes_code no_code : List Inst) → List Inst
-choice_code sc t b yes_code no_code = test_code sc t false (length yes_code + otherwise_at b) 8 ++ (yes_code ++ otherwise b no_code)
+choice_code sc t b yes_code no_code = test_code sc t false ((length yes_code + otherwise_at b) % 2 ^ 16) EXPRESSIONS ++ (yes_code ++ otherwise b no_code)
 
 -- the distance back from the end of a loop's test to its body, modulo 2 ^ 16
 abbrev pub back : Scope → CExpr → List Inst → ℕ
-back sc t body = 65536 - (length body + length (test_code sc t true 0 8))
+back sc t body = (2 ^ 16 - (length body + length (test_code sc t true 0 EXPRESSIONS)) % 2 ^ 16) % 2 ^ 16
 
 -- the test of a loop whose body is this code
 abbrev pub turn_code : Scope → CExpr → List Inst → List Inst
-turn_code sc t body = test_code sc t true (back sc t body) 8
+turn_code sc t body = test_code sc t true (back sc t body) EXPRESSIONS
 
 -- a loop, by the code of its body: the test stands behind it
 abbrev pub while_code : Scope → CExpr → List Inst → List Inst
@@ -93,7 +94,7 @@ abbrev mutual
   pub stmt_code : Scope → Links → CStmt → List Inst
   stmt_code sc x (assign s p v) = assign_code sc p v
   stmt_code sc x (call s p cs f args) = call_code sc x f.kind f.number args p
-  stmt_code sc x (new s p t ts) = new_code sc x (words sc.structs (ty_of t)) p
+  stmt_code sc x (new s p t ts) = new_code sc x (words sc.env.structs (ty_of t)) p
   stmt_code sc x (choice s t a b) = choice_code sc t b (stmts_code sc x a) (stmts_code sc x b)
   stmt_code sc x (loop s t b) = while_code sc t (stmts_code sc x b)
 
@@ -116,11 +117,11 @@ abbrev mutual
 
 -- the frame's word of a number: register 29 is the frame's end
 abbrev pub frame_spot : Scope → ℕ → Spot
-frame_spot sc i = record { code = []; base = 29; shift = 2 ^ 32 - 4 * sc.frame + 4 * i }
+frame_spot sc i = record { code = []; base = FRAME_END; shift = (frame_back sc + 4 * i) % 2 ^ 32 }
 
 -- a register becomes register 29 and so many bytes, modulo 2 ^ 32
 abbrev pub end_code : (d bytes : ℕ) → List Inst
-end_code d bytes = on_spot (λ b k. Addiu d b k) d (record { code = []; base = 29; shift = bytes })
+end_code d bytes = on_spot (λ b k. Addiu d b k) d (record { code = []; base = FRAME_END; shift = bytes % 2 ^ 32 })
 
 -- the words of the largest stack
 abbrev pub MAX_STACK : ℕ
@@ -132,67 +133,67 @@ large_code sc = if nat_lt MAX_STACK sc.frame then J (sc.exit StackOut) ∷ [] el
 
 -- the test of the stack: register d becomes the new frame's end, which must not lie behind the stack's
 abbrev pub stack_test : Scope → ℕ → List Inst
-stack_test sc d = large_code sc ++ (end_code d (4 * sc.frame) ++ (Sltu 1 30 d ∷ Beq 1 0 1 ∷ J (sc.exit StackOut) ∷ []))
+stack_test sc d = large_code sc ++ (end_code d (4 * sc.frame) ++ (Sltu SCRATCH STACK_END d ∷ Beq SCRATCH 0 1 ∷ J (sc.exit StackOut) ∷ []))
 
 -- the return address goes to the frame's first word, and comes back from it, where it is written in between
 abbrev pub save_code : Scope → Bool → List Inst
-save_code sc calling = if calling then on_spot (λ b k. Sw 31 b k) 1 (frame_spot sc 0) else []
+save_code sc calling = if calling then on_spot (λ b k. Sw RETURN b k) SCRATCH (frame_spot sc 0) else []
 
 abbrev pub restore_code : Scope → Bool → List Inst
-restore_code sc calling = if calling then on_spot (λ b k. Lw 31 b k) 1 (frame_spot sc 0) else []
+restore_code sc calling = if calling then on_spot (λ b k. Lw RETURN b k) SCRATCH (frame_spot sc 0) else []
 
--- so many arguments go from the registers from r on to the frame's words from i on
-abbrev pub params_code : Scope → (n r i : ℕ) → List Inst
-params_code sc zero r i = []
-params_code sc (suc n) r i = on_spot (λ b k. Sw r b k) 1 (frame_spot sc i) ++ params_code sc n (suc r) (suc i)
+-- so many arguments, of which the first has the number i, go from their registers to the frame, behind its three words
+abbrev pub params_code : Scope → (n i : ℕ) → List Inst
+params_code sc zero i = []
+params_code sc (suc n) i = on_spot (λ b k. Sw (register_of i) b k) SCRATCH (frame_spot sc (3 + i)) ++ params_code sc n (suc i)
 
 -- so many words of the frame from i on become 0, a store each
 abbrev pub zeros_code : Scope → (n i : ℕ) → List Inst
 zeros_code sc zero i = []
-zeros_code sc (suc n) i = on_spot (λ b k. Sw 0 b k) 1 (frame_spot sc i) ++ zeros_code sc n (suc i)
+zeros_code sc (suc n) i = on_spot (λ b k. Sw 0 b k) SCRATCH (frame_spot sc i) ++ zeros_code sc n (suc i)
 
 -- the frame's words from i to its end become 0, in a loop
 abbrev pub zeros_loop : Scope → ℕ → List Inst
-zeros_loop sc i = on_spot (λ b k. Addiu 2 b k) 2 (frame_spot sc i) ++ (Sw 0 2 0 ∷ Addiu 2 2 4 ∷ Bne 2 29 65533 ∷ [])
+zeros_loop sc i = on_spot (λ b k. Addiu ANSWER b k) ANSWER (frame_spot sc i) ++ (Sw 0 ANSWER 0 ∷ Addiu ANSWER ANSWER 4 ∷ Bne ANSWER FRAME_END 65533 ∷ [])
 
 -- the locals' words, of which there are n, from i to the frame's end
 abbrev pub locals_code : Scope → (n i : ℕ) → List Inst
 locals_code sc n i = if nat_le n 8 then zeros_code sc n i else zeros_loop sc i
 
--- so many registers from r on become 0
-abbrev pub clear_code : (n r : ℕ) → List Inst
-clear_code zero r = []
-clear_code (suc n) r = Addu r 0 0 ∷ clear_code n (suc r)
+-- so many registers of variables become 0, of which the first has the number i
+abbrev pub clear_code : (n i : ℕ) → List Inst
+clear_code zero i = []
+clear_code (suc n) i = Addu (register_of i) 0 0 ∷ clear_code n (suc i)
 
 -- the begin of a function that has a frame: the stack's test, the return address, the parameters and the locals
 abbrev pub frame_entry : Scope → (params : ℕ) → (locals : ℕ) → Bool → List Inst
 frame_entry sc params locals calling =
-    stack_test sc 29 ++ (save_code sc calling ++ (params_code sc params 20 3 ++ locals_code sc locals (3 + params)))
+    stack_test sc FRAME_END ++ (save_code sc calling ++ (params_code sc params 0 ++ locals_code sc locals (3 + params)))
 
 -- the return from it, whose answer is in register 2
 abbrev pub frame_return : Scope → Bool → List Inst
-frame_return sc calling = restore_code sc calling ++ (end_code 29 (2 ^ 32 - 4 * sc.frame) ++ (Jr 31 ∷ []))
+frame_return sc calling = restore_code sc calling ++ (end_code FRAME_END (frame_back sc) ++ (Jr RETURN ∷ []))
 
 -- the begin of a function whose variables stand in registers: register 29 stays, and only `new` writes the return register
 abbrev pub register_entry : Scope → (params locals : ℕ) → Bool → List Inst
-register_entry sc params locals calling = stack_test sc 1 ++ ((if calling then Sw 31 29 0 ∷ [] else []) ++ clear_code locals (20 + params))
+register_entry sc params locals calling = stack_test sc SCRATCH ++ ((if calling then Sw RETURN FRAME_END 0 ∷ [] else []) ++ clear_code locals params)
 
 -- the return from it
 abbrev pub register_return : Bool → List Inst
-register_return calling = (if calling then Lw 31 29 0 ∷ [] else []) ++ (Jr 31 ∷ [])
+register_return calling = (if calling then Lw RETURN FRAME_END 0 ∷ [] else []) ++ (Jr RETURN ∷ [])
 
 -- the begin of a function with statements, and its return behind its answer's code
 abbrev pub entry_code : Scope → (params : ℕ) → List CDecl → Bool → List Inst
 entry_code sc params locals calling =
     if sc.in_registers then register_entry sc params (length locals) calling
-    else frame_entry sc params (all_words sc.structs (map typed_of locals)) calling
+    else frame_entry sc params (all_words sc.env.structs (map typed_of locals)) calling
 
 abbrev pub exit_code : Scope → Bool → List Inst
 exit_code sc calling = if sc.in_registers then register_return calling else frame_return sc calling
 
 -- the answer goes to register 2, and the function returns
 abbrev pub return_code : Scope → Bool → CExpr → List Inst
-return_code sc calling answer = value_code sc answer 2 8 ++ exit_code sc calling
+return_code sc calling answer = value_code sc answer ANSWER EXPRESSIONS ++ exit_code sc calling
 
 -- a function that has statements
 abbrev pub statements_function : Scope → Links → (params : ℕ) → List CDecl → CStmts → CExpr → List Inst
@@ -201,7 +202,7 @@ statements_function sc x params locals stmts answer =
 
 -- a function that has an asm body: it needs no frame, and the stack is tested all the same
 abbrev pub asm_function : Scope → (params : ℕ) → List ℕ → List Inst
-asm_function sc params words = stack_test sc 1 ++ (asm_code params words ++ (Jr 31 ∷ []))
+asm_function sc params words = stack_test sc SCRATCH ++ (asm_code params words ++ (Jr RETURN ∷ []))
 
 -- a body's code
 abbrev pub body_code : Scope → Links → ℕ → CBody → List Inst
@@ -224,3 +225,7 @@ links_of p = record {
   primitive = λ n. slice_index p.primitives.items n / 4;
   new_object = p.new_object / 4;
 }
+
+-- temporary
+abbrev pub CodeIs : Type 0
+CodeIs = (sc : Scope) (x : Links) → stmts_code sc x done ≡ []
