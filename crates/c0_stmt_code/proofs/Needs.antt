@@ -1,0 +1,45 @@
+-- What the proofs of this crate take from the crates below, as premises.
+use Rattle.std.proofs.Common.{◌≡◌, ◌≢◌, ℕ, ◌+◌, ◌*◌, ◌<◌, ◌≤◌, List, ◌∷◌}
+use Rattle.mips_table.specs.Code.{World}
+use Rattle.c0_tree.specs.Size.{need, nodes}
+use Rattle.c0_tree.specs.Tree.{CExpr, CFunction, CUnit}
+use Rattle.c0_meaning.specs.Ty.{Ty, bool, is_scalar}
+use Rattle.c0_meaning.specs.Expression.{is_place}
+use Rattle.c0_meaning.specs.Numbered.{is_frame_place, IsNumberedGiven, IsNumberedLeft}
+use Rattle.c0_meaning.specs.Env.{Env, Shape, typed_of}
+use Rattle.c0_meaning.specs.Value.{Region, globals, heap, locals, Location, Value, put}
+use Rattle.c0_meaning.specs.State.{Frame, State, write}
+use Rattle.c0_meaning.specs.Sound.{shapes}
+use Rattle.c0_meaning.specs.Addresses.{words_to_part}
+use Rattle.c0_meaning.specs.TypedState.{types_of, LeadsFrom, Fits, variable_types, layout_of, IsTypedWith}
+use Rattle.c0_meaning.specs.Evaluation.{value_of, place_of}
+use Rattle.std.specs.Prelude.{None, Some, IsTrue, map, slice_get}
+use Rattle.c0_expr_code.specs.Scope.{Scope}
+use Rattle.c0_expr_code.specs.Code.{made}
+use Rattle.c0_expr_code.specs.Bases.{Bases, words_of_all, word, RegionHeld}
+use Rattle.c0_expr_code.specs.Relation.{ValueRuns, OperandRuns, PlaceRuns, TestRuns}
+
+-- the code of a function's expressions does what they mean, in a state that stands in the machine
+pub record ExpressionsDo (w : World) (env : Env) (sc : Scope) (p : Bases) (s : State) : Type 0 where
+  pub value : (e : CExpr) (t : Ty) → IsNumberedGiven env e t → IsTrue (is_scalar t) → nodes e ≤ 2000 → ValueRuns w sc p s (made sc e) (need e) t (value_of e s)
+  pub operand : (e : CExpr) (t : Ty) → IsNumberedGiven env e t → IsTrue (is_scalar t) → nodes e ≤ 2000 → OperandRuns w sc p s (made sc e) (need e) t (value_of e s)
+  pub place : (e : CExpr) (t : Ty) → IsNumberedLeft env e t → nodes e ≤ 2000 → (made sc e).stands ≡ None → PlaceRuns w sc p s (made sc e) (need e) (is_frame_place e) t (place_of e s)
+  pub test : (e : CExpr) → IsNumberedGiven env e bool → nodes e ≤ 2000 → TestRuns w sc p s e
+
+-- what stands in words stays while these stay, and a scalar that is stored in its word stands there
+pub record HeldStays (structs : List Shape) : Type 0 where
+  pub same : (sc : Scope) (p : Bases) (m m' : ℕ → ℕ) (a : ℕ) (types : List Ty) (v : Value) → sc.env.structs ≡ structs → ((x : ℕ) → a ≤ x → x < a + words_of_all structs types → m' x ≡ m x) → RegionHeld sc p m a types v → RegionHeld sc p m' a types v
+  pub stored : (sc : Scope) (p : Bases) (m m' : ℕ → ℕ) (a : ℕ) (types : List Ty) (path : List ℕ) (t : Ty) (v x : Value) → sc.env.structs ≡ structs → LeadsFrom structs types path t → IsTrue (is_scalar t) → RegionHeld sc p m a types v
+      → m' (a + words_to_part structs types path) ≡ word sc p x → ((y : ℕ) → a ≤ y → y < a + words_of_all structs types → y ≢ a + words_to_part structs types path → m' y ≡ m y) → RegionHeld sc p m' a types (put v path x)
+  pub inside : (types : List Ty) (path : List ℕ) (t : Ty) → LeadsFrom structs types path t → IsTrue (is_scalar t) → words_to_part structs types path < words_of_all structs types
+
+-- the types of a region's variables or objects, for a function
+abbrev pub types_for : CUnit → List Ty → CFunction → Region → List Ty
+types_for u objects f globals = types_of (map typed_of u.globals)
+types_for u objects f heap = objects
+types_for u objects f locals = variable_types f
+
+-- a typed state stays typed where a value that fits is stored
+pub record TypedStays (u : CUnit) : Type 0 where
+  pub written : (objects : List Ty) (s : State) (g : Frame) (fs : List Frame) (f : CFunction) (l : Location) (t : Ty) (v : Value) → s.frames ≡ g ∷ fs → slice_get u.functions g.function ≡ Some f → IsTypedWith u objects s
+      → LeadsFrom (shapes u) (types_for u objects f l.region) l.path t → Fits (shapes u) (layout_of u objects) t v → IsTypedWith u objects (write s l v)
