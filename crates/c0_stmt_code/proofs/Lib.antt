@@ -1,8 +1,12 @@
 pub mod Blocks
+pub mod Costs
 pub mod Held
+pub mod Lengths
 pub mod Needs
+pub mod Places
 pub mod Rooms
 pub mod Sim
+pub mod Spots
 pub mod State
 pub mod Stores
 pub mod Ways

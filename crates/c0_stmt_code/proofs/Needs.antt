@@ -1,5 +1,5 @@
 -- What the proofs of this crate take from the crates below, as premises.
-use Rattle.std.proofs.Common.{◌≡◌, ◌≢◌, ℕ, ◌+◌, ◌*◌, ◌<◌, ◌≤◌, List, ◌∷◌}
+use Rattle.std.proofs.Common.{◌≡◌, ◌≢◌, ℕ, ◌+◌, ◌*◌, ◌<◌, ◌≤◌, Bool, List, ◌∷◌, length}
 use Rattle.mips_table.specs.Code.{World}
 use Rattle.c0_tree.specs.Size.{need, nodes}
 use Rattle.c0_tree.specs.Tree.{CExpr, CFunction, CUnit}
@@ -15,7 +15,8 @@ use Rattle.c0_meaning.specs.TypedState.{types_of, LeadsFrom, Fits, variable_type
 use Rattle.c0_meaning.specs.Evaluation.{value_of, place_of}
 use Rattle.std.specs.Prelude.{None, Some, IsTrue, map, slice_get}
 use Rattle.c0_expr_code.specs.Scope.{Scope}
-use Rattle.c0_expr_code.specs.Code.{made}
+use Rattle.c0_expr_code.specs.Code.{operand_code, made, value_code}
+use Rattle.c0_expr_code.specs.Test.{test_code}
 use Rattle.c0_expr_code.specs.Bases.{Bases, words_of_all, word, RegionHeld}
 use Rattle.c0_expr_code.specs.Relation.{ValueRuns, OperandRuns, PlaceRuns, TestRuns}
 
@@ -43,3 +44,13 @@ types_for u objects f locals = variable_types f
 pub record TypedStays (u : CUnit) : Type 0 where
   pub written : (objects : List Ty) (s : State) (g : Frame) (fs : List Frame) (f : CFunction) (l : Location) (t : Ty) (v : Value) → s.frames ≡ g ∷ fs → slice_get u.functions g.function ≡ Some f → IsTypedWith u objects s
       → LeadsFrom (shapes u) (types_for u objects f l.region) l.path t → Fits (shapes u) (layout_of u objects) t v → IsTypedWith u objects (write s l v)
+
+-- how long the code of expressions is
+pub record LengthsFit (sc : Scope) : Type 0 where
+  pub value : (e : CExpr) (d r : ℕ) → length (value_code sc e d r) ≤ 14 * nodes e
+  pub value_some : (e : CExpr) (d r : ℕ) → 1 ≤ length (value_code sc e d r)
+  pub operand : (e : CExpr) (r : ℕ) → length (operand_code (made sc e) r) ≤ 14 * nodes e
+  pub place : (e : CExpr) (r : ℕ) → length ((made sc e).place r).code + 3 ≤ 14 * nodes e
+  pub test : (e : CExpr) (s : Bool) (far r : ℕ) → length (test_code sc e s far r) ≤ 14 * nodes e
+  pub test_some : (e : CExpr) (s : Bool) (far r : ℕ) → 1 ≤ length (test_code sc e s far r)
+  pub test_same : (e : CExpr) (s : Bool) (far r : ℕ) → length (test_code sc e s far r) ≡ length (test_code sc e s 0 r)

@@ -18,7 +18,8 @@ use Rattle.c0_stmt_code.specs.Setup.{Setup}
 use Rattle.c0_stmt_code.specs.Journey.{Led, Stopped}
 use Rattle.c0_stmt_code.specs.Ahead.{Activation, Block, Ahead}
 use Rattle.c0_stmt_code.specs.Standing.{text, scope, bases, unit_scope, Waiting, Runs, UnderWay, Stands, Simulated, AtExit, StepIs}
-use Rattle.c0_stmt_code.proofs.Ways.{Way, on, of, within}
+use Rattle.c0_stmt_code.proofs.Ways.{Way, on, of, away, within}
+use Rattle.c0_stmt_code.proofs.Costs.{Within}
 use Rattle.c0_stmt_code.proofs.Blocks.{taken, Follows, behind}
 
 module _ (runs : RunLaws) (compose : RunsCompose) (W E : Type 0) (Outer : W → Contents → Behind → Type 0) (Passes : Machine → Machine → Type 0) (z : Setup W E Outer Passes) (jumps : JumpsLead z.w) where
@@ -72,27 +73,27 @@ module _ (runs : RunLaws) (compose : RunsCompose) (W E : Type 0) (Outer : W → 
       (at_with b.to c d, b.left, record { own = way.own; passes = j; high = omega (arith, le, high, owed); low = omega (arith, ge, low); ended_so = en; run = way.run }, simulated b.left (push rest work) h' b.to c d objects a others st under b.ahead)
 
   -- an evaluation on the way of a step: it leads on, or the step stops at its fault's exit
-  pub then_comes : {A : Type 0} (l n j own debt : ℕ) (cost : Cost) (h h0 : Configuration W E) (s : Machine) (f : CFunction) (from to : ℕ) (c : Contents) (d : Behind) (objects : List Ty) (Q : A → Contents → Type 0) (e : Costed A) (go : Cost → A → Step W E)
-      → Path l n j s (at_with from c d) → n + own ≤ 60 * cost.own + debt → ended h ≡ ended h0 + j → Standing objects h c d → Comes z.w (scope W E Outer Passes z f) own from to c d Q e
-      → ((k : ℕ) (x : A) (c' : Contents) → Q x c' → Path l (n + (own + 16 * k)) j s (at_with to c' d) → StepIs W E Outer Passes z debt h0 s (go (plus cost (units k)) x)) → StepIs W E Outer Passes z debt h0 s (then_go cost h e go)
-  then_comes l n j own debt cost h h0 s f from to c d objects Q (costs k (Ok x)) go path high en st comes next =
-      next k x comes.0 comes.1 (within runs z.w Passes (l + 0) (n + (own + 16 * k)) (j + 0) l (n + (own + 16 * k)) j s (at_with to comes.0 d) (omega arith) (omega arith) (omega arith) (on runs z.w Passes l n j 0 (own + 16 * k) 0 s (at_with from c d) (at_with to comes.0 d) path (of runs z.w Passes (own + 16 * k) _ _ comes.2)))
-  then_comes l n j own debt cost h h0 s f from to c d objects Q (costs k (Err (faulted x))) go path high en st comes next =
+  pub then_comes : {A : Type 0} (l n j own debt lo hi : ℕ) (cost : Cost) (h h0 : Configuration W E) (s : Machine) (f : CFunction) (from to : ℕ) (c : Contents) (d : Behind) (objects : List Ty) (Q : A → Contents → Type 0) (e : Costed A) (go : Cost → A → Step W E)
+      → Path l n j s (at_with from c d) → n + own ≤ 60 * cost.own + debt → ended h ≡ ended h0 + j → Standing objects h c d → Within lo hi e → Comes z.w (scope W E Outer Passes z f) own from to c d Q e
+      → ((k : ℕ) (x : A) (c' : Contents) → lo ≤ k → k ≤ hi → Q x c' → Path l (n + (own + 16 * k)) j s (at_with to c' d) → StepIs W E Outer Passes z debt h0 s (go (plus cost (units k)) x)) → StepIs W E Outer Passes z debt h0 s (then_go cost h e go)
+  then_comes l n j own debt lo hi cost h h0 s f from to c d objects Q (costs k (Ok x)) go path high en st bounds comes next =
+      next k x comes.0 bounds.0 bounds.1 comes.1 (within runs z.w Passes (l + 0) (n + (own + 16 * k)) (j + 0) l (n + (own + 16 * k)) j s (at_with to comes.0 d) (omega arith) (omega arith) (omega arith) (on runs z.w Passes l n j 0 (own + 16 * k) 0 s (at_with from c d) (at_with to comes.0 d) path (of runs z.w Passes (own + 16 * k) _ _ comes.2)))
+  then_comes l n j own debt lo hi cost h h0 s f from to c d objects Q (costs k (Err (faulted x))) go path high en st bounds comes next =
       let exit = (scope W E Outer Passes z f).exit x in
       let way = on runs z.w Passes l n j 0 (own + 16 * k) 0 s (at_with from c d) (at_with exit comes.0 d) path (of runs z.w Passes (own + 16 * k) _ _ comes.2) in
       let le = way.high in
       (at_with exit comes.0 d, record { own = way.own; passes = j + 0; high = omega (arith, le, high); ended_so = omega (arith, en); run = way.run }, record { objects = objects; stands = stands_on objects h c comes.0 d comes.1 st; at = refl })
-  then_comes l n j own debt cost h h0 s f from to c d objects Q (costs k (Err stuck)) go path high en st comes next = absurd comes
+  then_comes l n j own debt lo hi cost h h0 s f from to c d objects Q (costs k (Err stuck)) go path high en st bounds comes next = absurd comes
 
   -- a test on the way of a step
-  pub then_splits : {A : Type 0} (l n j own debt : ℕ) (cost : Cost) (h h0 : Configuration W E) (s : Machine) (f : CFunction) (from : ℕ) (to : A → ℕ) (c : Contents) (d : Behind) (objects : List Ty) (Q : A → Contents → Type 0) (e : Costed A) (go : Cost → A → Step W E)
-      → Path l n j s (at_with from c d) → n + own ≤ 60 * cost.own + debt → ended h ≡ ended h0 + j → Standing objects h c d → Splits z.w (scope W E Outer Passes z f) own from to c d Q e
-      → ((k : ℕ) (x : A) (c' : Contents) → Q x c' → Path l (n + (own + 16 * k)) j s (at_with (to x) c' d) → StepIs W E Outer Passes z debt h0 s (go (plus cost (units k)) x)) → StepIs W E Outer Passes z debt h0 s (then_go cost h e go)
-  then_splits l n j own debt cost h h0 s f from to c d objects Q (costs k (Ok x)) go path high en st comes next =
-      next k x comes.0 comes.1 (within runs z.w Passes (l + 0) (n + (own + 16 * k)) (j + 0) l (n + (own + 16 * k)) j s (at_with (to x) comes.0 d) (omega arith) (omega arith) (omega arith) (on runs z.w Passes l n j 0 (own + 16 * k) 0 s (at_with from c d) (at_with (to x) comes.0 d) path (of runs z.w Passes (own + 16 * k) _ _ comes.2)))
-  then_splits l n j own debt cost h h0 s f from to c d objects Q (costs k (Err (faulted x))) go path high en st comes next =
+  pub then_splits : {A : Type 0} (l n j own debt lo hi : ℕ) (cost : Cost) (h h0 : Configuration W E) (s : Machine) (f : CFunction) (from : ℕ) (to : A → ℕ) (c : Contents) (d : Behind) (objects : List Ty) (Q : A → Contents → Type 0) (e : Costed A) (go : Cost → A → Step W E) → ((x : A) → from ≢ to x)
+      → Path l n j s (at_with from c d) → n + own ≤ 60 * cost.own + debt → ended h ≡ ended h0 + j → Standing objects h c d → Within lo hi e → Splits z.w (scope W E Outer Passes z f) own from to c d Q e
+      → ((k : ℕ) (x : A) (c' : Contents) → lo ≤ k → k ≤ hi → Q x c' → Path (l + 1) (n + (own + 16 * k)) j s (at_with (to x) c' d) → StepIs W E Outer Passes z debt h0 s (go (plus cost (units k)) x)) → StepIs W E Outer Passes z debt h0 s (then_go cost h e go)
+  then_splits l n j own debt lo hi cost h h0 s f from to c d objects Q (costs k (Ok x)) go apart path high en st bounds comes next =
+      next k x comes.0 bounds.0 bounds.1 comes.1 (within runs z.w Passes (l + 1) (n + (own + 16 * k)) (j + 0) (l + 1) (n + (own + 16 * k)) j s (at_with (to x) comes.0 d) (omega arith) (omega arith) (omega arith) (on runs z.w Passes l n j 1 (own + 16 * k) 0 s (at_with from c d) (at_with (to x) comes.0 d) path (away runs z.w Passes (own + 16 * k) (at_with from c d) (at_with (to x) comes.0 d) (apart x) comes.2)))
+  then_splits l n j own debt lo hi cost h h0 s f from to c d objects Q (costs k (Err (faulted x))) go apart path high en st bounds comes next =
       let exit = (scope W E Outer Passes z f).exit x in
       let way = on runs z.w Passes l n j 0 (own + 16 * k) 0 s (at_with from c d) (at_with exit comes.0 d) path (of runs z.w Passes (own + 16 * k) _ _ comes.2) in
       let le = way.high in
       (at_with exit comes.0 d, record { own = way.own; passes = j + 0; high = omega (arith, le, high); ended_so = omega (arith, en); run = way.run }, record { objects = objects; stands = stands_on objects h c comes.0 d comes.1 st; at = refl })
-  then_splits l n j own debt cost h h0 s f from to c d objects Q (costs k (Err stuck)) go path high en st comes next = absurd comes
+  then_splits l n j own debt lo hi cost h h0 s f from to c d objects Q (costs k (Err stuck)) go apart path high en st bounds comes next = absurd comes

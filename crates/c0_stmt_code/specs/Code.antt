@@ -1,5 +1,5 @@
 -- The code of statements, of calls and of functions: one fold over the tree. It doesn't depend on where it stands, but for the calls' indices.
-use Rattle.std.specs.Prelude.{◌≡◌, ℕ, zero, suc, ◌+◌, ◌-◌, ◌*◌, ◌/◌, ◌%◌, ◌^◌, Bool, true, false, ◌||◌, nat_lt, nat_le, if◌then◌else◌, List, [], ◌∷◌, ◌++◌, length, map, slice_index, Option, Some, None}
+use Rattle.std.specs.Prelude.{◌≡◌, ℕ, zero, suc, ◌+◌, ◌-◌, ◌*◌, ◌/◌, ◌%◌, ◌^◌, Bool, true, false, ◌||◌, nat_lt, nat_le, max, if◌then◌else◌, List, [], ◌∷◌, ◌++◌, length, map, slice_index, Option, Some, None}
 use Rattle.mips_table.specs.declared.inst.Inst.{Inst}
 use Rattle.mips_table.specs.declared.inst.Inst.TheVariants.{Addu, Sltu, J, Jal, Jr, Beq, Bne, Addiu, Lw, Sw}
 use Rattle.masm.specs.declared.registers.Places.{Places}
@@ -77,9 +77,10 @@ otherwise_at (next s rest) = 1
 abbrev pub choice_code : Scope → CExpr → CStmts → (yes_code no_code : List Inst) → List Inst
 choice_code sc t b yes_code no_code = test_code sc t false ((length yes_code + otherwise_at b) % 2 ^ 16) EXPRESSIONS ++ (yes_code ++ otherwise b no_code)
 
--- the distance back from the end of a loop's test to its body, modulo 2 ^ 16
+-- The distance back from the end of a loop's test to its body, modulo 2 ^ 16. Where there is no body, the test goes back to the jump before it, which
+-- does nothing then: so each turn leads elsewhere.
 abbrev pub back : Scope → CExpr → List Inst → ℕ
-back sc t body = (2 ^ 16 - (length body + length (test_code sc t true 0 EXPRESSIONS)) % 2 ^ 16) % 2 ^ 16
+back sc t body = (2 ^ 16 - (max (length body) 1 + length (test_code sc t true 0 EXPRESSIONS)) % 2 ^ 16) % 2 ^ 16
 
 -- the test of a loop whose body is this code
 abbrev pub turn_code : Scope → CExpr → List Inst → List Inst
