@@ -13,6 +13,7 @@ use Rattle.c0_expr_code.specs.Code.{Spot, is_near, low, high, on_spot, constant_
 use Rattle.c0_expr_code.specs.Test.{test_code}
 use Rattle.c0_stmt_code.specs.Code.{Links, skip, callee_index, answer_code, stored_code, assigned_code, assign_code, args_code, call_code, new_code, otherwise, otherwise_at, choice_code, back, turn_code, while_code, stmt_code, stmts_code}
 use Rattle.c0_stmt_code.proofs.Needs.{LengthsFit}
+use Rattle.c0_stmt_code.proofs.Spots.{spot_longer}
 
 pub spot_length : (i : ℕ → ℕ → Inst) (r : ℕ) (x : Spot) → length (on_spot i r x) ≤ length x.code + 3
 spot_length i r x = elim (cases_Bool (is_near x.shift)) [
@@ -84,3 +85,19 @@ module _ (sc : Scope) (x : Links) (fit : LengthsFit sc) where
         let n = stmt_length s in
         let m = stmts_length rest in
         omega (arith, n, m, length-append (stmt_code sc x s) (stmts_code sc x rest))
+
+  assigned_some : (p v : CExpr) (o : Option ℕ) → 1 ≤ length (assigned_code o (made sc p) (made sc v))
+  assigned_some p v (Some y) = fit.value_some v y 8
+  assigned_some p v None =
+      let s = spot_longer (λ b k. Sw (operand_register (made sc v) 8) b k) 9 ((made sc p).place 9) in
+      omega (arith, s, length-append (operand_code (made sc v) 8) (on_spot (λ b k. Sw (operand_register (made sc v) 8) b k) 9 ((made sc p).place 9)))
+
+  -- no statement is without code
+  pub stmt_some : (t : CStmt) → 1 ≤ length (stmt_code sc x t)
+  stmt_some (assign s p v) = assigned_some p v (made sc p).stands
+  stmt_some (call s p cs f args) = omega (arith, length-append (args_code sc args 0) (Jal (callee_index x f.kind f.number) ∷ answer_code sc p))
+  stmt_some (new s p t ts) = omega (arith, length-append (constant_code 2 (words sc.env.structs (ty_of t) % 2 ^ 32)) (Jal x.new_object ∷ answer_code sc p))
+  stmt_some (choice s t a b) =
+      let n = fit.test_some t false ((length (stmts_code sc x a) + otherwise_at b) % 2 ^ 16) 8 in
+      omega (arith, n, length-append (test_code sc t false ((length (stmts_code sc x a) + otherwise_at b) % 2 ^ 16) 8) (stmts_code sc x a ++ otherwise b (stmts_code sc x b)))
+  stmt_some (loop s t b) = omega arith

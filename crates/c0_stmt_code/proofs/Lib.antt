@@ -8,5 +8,6 @@ pub mod Rooms
 pub mod Sim
 pub mod Spots
 pub mod State
+pub mod Statements
 pub mod Stores
 pub mod Ways
