@@ -1,0 +1,71 @@
+-- Where the values of C0 stand in the machine: where regions begin, the words of locations, and values as words.
+use Rattle.std.specs.Prelude.{◌≡◌, ℕ, ◌+◌, ◌*◌, ◌-◌, Bool, if◌then◌else◌, List, [], ◌∷◌, replicate}
+use Rattle.mips_table.specs.Arith.{flag}
+use Rattle.cvm_words.specs.Words.{word_of}
+use Rattle.c0_meaning.specs.Ty.{Ty}
+use Rattle.c0_meaning.specs.Ty as ty
+use Rattle.c0_meaning.specs.Env.{Shape}
+use Rattle.c0_meaning.specs.Words.{fields_named, words}
+use Rattle.c0_meaning.specs.Addresses.{words_to_part}
+use Rattle.c0_meaning.specs.Value.{Region, globals, heap, locals, Location, Value, int, bool, null, at, group, Values, empty, part}
+use Rattle.c0_meaning.specs.TypedState.{types_of}
+use Rattle.c0_expr_code.specs.Scope.{Scope}
+
+-- the words of values of these types, one after another
+abbrev pub words_of_all : List Shape → List Ty → ℕ
+words_of_all structs [] = 0
+words_of_all structs (t ∷ ts) = words structs t + words_of_all structs ts
+
+-- The words at which globals and heap begin; the word behind the frame; and the types of the heap's objects.
+pub record Bases : Type 0 where
+  pub globals : ℕ
+  pub heap : ℕ
+  pub frame_end : ℕ
+  pub objects : List Ty
+
+-- the variables begin in the frame's fourth word, or in register 20
+abbrev pub locals_start : Scope → Bases → ℕ
+locals_start sc p = if sc.in_registers then 20 else (p.frame_end - sc.frame) + 3
+
+-- where a region begins
+abbrev pub start_of : Scope → Bases → Region → ℕ
+start_of sc p globals = p.globals
+start_of sc p heap = p.heap
+start_of sc p locals = locals_start sc p
+
+-- the types of a region's variables or objects
+abbrev pub types_in : Scope → Bases → Region → List Ty
+types_in sc p globals = types_of sc.env.globals
+types_in sc p heap = p.objects
+types_in sc p locals = types_of sc.env.locals
+
+-- the word number of a location
+abbrev pub word_at : Scope → Bases → Location → ℕ
+word_at sc p l = start_of sc p l.region + words_to_part sc.env.structs (types_in sc p l.region) l.path
+
+-- the word of a scalar: a pointer is an address, and null is 0
+abbrev pub word : Scope → Bases → Value → ℕ
+word sc p (int z) = word_of z
+word sc p (bool b) = flag b
+word sc p null = 0
+word sc p (at l) = 4 * word_at sc p l
+word sc p (group vs) = 0
+
+-- a value of a type stands in these words from a on, and so do values one after another
+abbrev mutual
+  pub Held : Scope → Bases → (ℕ → ℕ) → ℕ → Ty → Value → Type 0
+  Held sc p m a (ty.named x) (group vs) = AllHeld sc p m a (types_of (fields_named sc.env.structs x)) vs
+  Held sc p m a (ty.array t n) (group vs) = AllHeld sc p m a (replicate n t) vs
+  Held sc p m a (ty.named x) _ = ⊥
+  Held sc p m a (ty.array t n) _ = ⊥
+  Held sc p m a _ v = m a ≡ word sc p v
+
+  pub AllHeld : Scope → Bases → (ℕ → ℕ) → ℕ → List Ty → Values → Type 0
+  AllHeld sc p m a [] empty = Unit {0}
+  AllHeld sc p m a (t ∷ ts) (part v vs) = Held sc p m a t v × AllHeld sc p m (a + words sc.env.structs t) ts vs
+  AllHeld sc p m a _ _ = ⊥
+
+-- the variables or objects of a region stand from a on
+abbrev pub RegionHeld : Scope → Bases → (ℕ → ℕ) → ℕ → List Ty → Value → Type 0
+RegionHeld sc p m a types (group vs) = AllHeld sc p m a types vs
+RegionHeld sc p m a types _ = ⊥

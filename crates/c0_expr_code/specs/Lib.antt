@@ -1,0 +1,6 @@
+pub mod Scope
+pub mod Code
+pub mod Test
+pub mod Bases
+pub mod Relation
+pub mod Laws
