@@ -46,7 +46,7 @@ module _ (w : World) (f : Sound w) where
   passed i k imm b c d at e passes =
       led i k (k + 1) 0 0 c d at (e ∙ ap (λ t. Set 0 0 (branch (4 * k) imm t)) passes ∙ ap (Set 0 0) (after i k at))
 
-  jumped : (i : Inst) (k index r v : ℕ) (c : Contents) (d : Behind) → w.code k ≡ Some i → effect_at i k c ≡ Set r v (jump (4 * k) index) → Reaches w 1 (at_with k c d) (settle index (with_reg c r v) d)
+  pub jumped : (i : Inst) (k index r v : ℕ) (c : Contents) (d : Behind) → w.code k ≡ Some i → effect_at i k c ≡ Set r v (jump (4 * k) index) → Reaches w 1 (at_with k c d) (settle index (with_reg c r v) d)
   jumped i k index r v c d at e =
       let lt = f.inside k i at in let s = f.small in
       let there : jump (4 * k) index ≡ 4 * index = omega arith in

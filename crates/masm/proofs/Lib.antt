@@ -8,3 +8,4 @@ pub mod Standing
 mod Copy
 mod Wait
 mod Transfer
+mod Calls

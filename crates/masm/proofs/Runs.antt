@@ -1,5 +1,5 @@
 -- Runs of code compose, and a run of part of the code is a run of all of it.
-use Rattle.std.proofs.Common.{◌≡◌, ℕ, zero, suc, ◌+◌, ◌≤◌, Option, Some, None, List, [], ◌∷◌, ◌++◌, length, length-append, refl, sym, ap, ◌∙◌, subst, arith}
+use Rattle.std.proofs.Common.{◌≡◌, ◌≢◌, ℕ, zero, suc, ◌+◌, ◌≤◌, Option, Some, None, List, [], ◌∷◌, ◌++◌, length, length-append, refl, sym, ap, ◌∙◌, subst, arith}
 use Rattle.mips_table.specs.declared.inst.Inst.{Inst}
 use Rattle.mips_table.specs.Device.{Idle}
 use Rattle.mips_table.specs.Code.{Contents, Behind, World, Sound, Configuration, at_with, settling, settle, act, May, MayAt, act_at, Steps, Reaches, CodeAt}
@@ -82,5 +82,12 @@ module _ (w : World) (code : ℕ → Option Inst) (within : IsPart code w.code) 
   pub reaches_wider : (n : ℕ) (s t : Configuration) → Reaches (with_code w code) n s t → Reaches w n s t
   reaches_wider n s t r = record { steps = r.steps; within = r.within; run = wider r.steps s t r.run }
 
+elsewhere : (w : World) (n : ℕ) (s t : Configuration) → s.at ≢ t.at → (r : Reaches w n s t) → 1 ≤ r.steps
+elsewhere w n s t ne r = by_steps r.steps r.run
+  where
+    by_steps : (k : ℕ) → Steps w k s t → 1 ≤ k
+    by_steps zero run = absurd (ne (ap (λ x. x.at) run.1))
+    by_steps (suc k) run = omega arith
+
 pub runs_compose : RunsCompose
-runs_compose = record { none = none; empty = empty; one = one; joined = joined; followed = followed; later = later; front = code_front; back = code_back; wider = reaches_wider; part_sound = part_sound; settled = settled; settles = idle_settle }
+runs_compose = record { none = none; empty = empty; one = one; joined = joined; followed = followed; later = later; elsewhere = elsewhere; front = code_front; back = code_back; wider = reaches_wider; part_sound = part_sound; settled = settled; settles = idle_settle }

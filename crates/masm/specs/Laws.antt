@@ -20,7 +20,8 @@ abbrev pub with_code : World → (ℕ → Option Inst) → World
 with_code w code = record w { code = code }
 
 -- Runs join, so do those of two blocks that follow one another, and a run may be given more steps. A block's parts stand where it
--- does, and a run of part of the code is a run of all of it. Where no command is under way a step ends where it leads.
+-- does, and a run of part of the code is a run of all of it. Where no command is under way a step ends where it leads. A run that leads
+-- elsewhere takes a step.
 pub record RunsCompose : Type 0 where
   pub none : (w : World) (s : Configuration) → Reaches w 0 s s
   pub empty : (w : World) (n : ℕ) (c : Contents) (d : Behind) → Reaches w 0 (at_with n c d) (at_with (n + 0) c d)
@@ -28,6 +29,7 @@ pub record RunsCompose : Type 0 where
   pub joined : (w : World) (n m : ℕ) (s t u : Configuration) → Reaches w n s t → Reaches w m t u → Reaches w (n + m) s u
   pub followed : (w : World) (a b : List Inst) (n p q : ℕ) (c : Contents) (d : Behind) (c' : Contents) (d' : Behind) (c'' : Contents) (d'' : Behind) → Reaches w p (at_with n c d) (at_with (n + length a) c' d') → Reaches w q (at_with (n + length a) c' d') (at_with (n + length a + length b) c'' d'') → Reaches w (p + q) (at_with n c d) (at_with (n + length (a ++ b)) c'' d'')
   pub later : (w : World) (n m : ℕ) (s t : Configuration) → n ≤ m → Reaches w n s t → Reaches w m s t
+  pub elsewhere : (w : World) (n : ℕ) (s t : Configuration) → s.at ≢ t.at → (r : Reaches w n s t) → 1 ≤ r.steps
   pub front : (w : World) (n : ℕ) (a b : List Inst) → CodeAt w n (a ++ b) → CodeAt w n a
   pub back : (w : World) (n : ℕ) (a b : List Inst) → CodeAt w n (a ++ b) → CodeAt w (n + length a) b
   pub wider : (w : World) (code : ℕ → Option Inst) → IsPart code w.code → (n : ℕ) (s t : Configuration) → Reaches (with_code w code) n s t → Reaches w n s t

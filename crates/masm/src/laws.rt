@@ -5,6 +5,7 @@
 ghost use Rattle.mips_table.specs.declared.inst.Inst.{Inst};
 ghost use Rattle.std.specs.Prelude.{ℕ, List, ◌<◌, ◌≤◌, ◌+◌, length};
 ghost use Rattle.mips_table.specs.Code.{Contents, Behind, World, Sound};
+ghost use Rattle.masm.specs.Places.{CallsLead};
 ghost use Rattle.masm.specs.Standing.{BlockStands};
 ghost use Rattle.masm.specs.Laws.{RunsCompose, StraightRuns, JumpsLead, WhenRuns, LoopRuns, BlocksInRange, LoopPays, ReturnRuns, WordsAreEncodings};
 
@@ -30,6 +31,11 @@ pub fn straight_code_runs()
 /// Branches and jumps lead where they name, in one step.
 pub fn jumps_lead()
     ensures { (w : World) → Sound w → JumpsLead w }
+{}
+
+/// A jump, a call and a return lead where they name, and a call's return leads behind it.
+pub fn calls_lead()
+    ensures { (w : World) → Sound w → CallsLead w }
 {}
 
 /// A body under a condition is run where the register isn't 0, and passed over where it is.

@@ -44,7 +44,7 @@ pub const STACK_END: u32 = 30;
 /// The return address.
 pub const RETURN: u32 = 31;
 
-/// First addresses, in bytes, of what the code of a unit names. Each is a multiple of 4 below 0x10000000.
+/// First addresses, in bytes, of what the code of a unit names. Each is a multiple of 4 below 0x10000000: contracts say so by `ArePlaces`.
 #[derive(Drop)]
 pub struct Places {
     /// The globals.

@@ -1,0 +1,4 @@
+mod Words
+mod Instructions
+mod Arguments
+mod Bodies

@@ -1,0 +1,6 @@
+mod Steps
+mod Clear
+mod Objects
+mod Numbers
+mod Arithmetic
+mod Entering
