@@ -1,3 +1,4 @@
+pub mod Args
 pub mod Blocks
 pub mod Costs
 pub mod Held
