@@ -7,13 +7,14 @@ use Rattle.mips_table.specs.declared.inst.Inst.TheVariants.{Addu, Addiu, Sltu, B
 use Rattle.mips_table.specs.Arith.{sum, extended, flag}
 use Rattle.mips_table.specs.Effect.{branch, jump}
 use Rattle.mips_table.specs.Device.{Idle}
-use Rattle.mips_table.specs.Code.{Contents, put, reg, with_reg, Behind, World, Sound, at_with, settle, Reaches, CodeAt}
+use Rattle.mips_table.specs.Code.{Contents, put, reg, with_reg, Behind, World, Sound, Configuration, at_with, settle, Reaches, RunLaws, CodeAt}
 use Rattle.masm.specs.Says.{Gives, Writes, Reads}
 use Rattle.masm.specs.Laws.{RunsCompose, StraightRuns, JumpsLead}
 use Rattle.c0_meaning.specs.Operators.{StackOut}
 use Rattle.c0_expr_code.specs.Scope.{Scope}
 use Rattle.c0_expr_code.specs.Code.{Spot, low, frame_back, register_of, on_spot}
 use Rattle.c0_stmt_code.specs.Code.{MAX_STACK, frame_spot, end_code, large_code, stack_test, params_code, zeros_code, zeros_loop}
+use Rattle.c0_stmt_code.proofs.Ways.{Way, none, on, of, away, within}
 use Rattle.c0_stmt_code.proofs.Blocks.{front, back}
 use Rattle.c0_stmt_code.proofs.Rooms.{put_same, put_other}
 use Rattle.c0_stmt_code.proofs.Spots.{same_reg, other_reg, same_read, read_is, like_read, Near, on_place, Wrote, writes}
@@ -186,3 +187,59 @@ module _ (compose : RunsCompose) (w : World) (sound : Sound w) (straight : Strai
         let place : (e - sc.frame) + suc i ≡ (e - sc.frame) + i + 1 = omega arith in
         (rest.0, filled_on ((e - sc.frame) + i) n 0 (λ j. 0) c first.0 rest.0 first.1 (subst (λ m. Filled m n (λ j. 0) first.0 rest.0) place rest.1) refl,
         compose.later w (3 + 3 * n) (3 * suc n) _ _ (omega arith) (compose.joined w 3 (3 * n) _ _ _ first.2 (subst (λ m. Reaches w (3 * n) (at_with (k + length (on_spot (λ y x. Sw 0 y x) 1 (frame_spot sc i))) first.0 d) (at_with m rest.0 d)) len rest.2)))
+
+    -- the locals' words become 0, in a loop: a turn for each
+    module _ (runs : RunLaws) (P : Configuration → Configuration → Type 0) where
+      -- a turn's first two steps
+      cleared : (b k : ℕ) (c : Contents) (d : Behind) → d.pending ≡ Idle → e - sc.frame ≤ b → b < e → c.regs 2 ≡ 4 * b → CodeAt w k (Sw 0 2 0 ∷ Addiu 2 2 4 ∷ Bne 2 29 65533 ∷ [])
+          → Way runs w P 1 2 0 (at_with k c d) (at_with (k + 2) (with_reg (record c { memory = put c.memory b 0 }) 2 (4 * (b + 1))) d)
+      cleared b k c d idle from to at code =
+          let c1 : Contents = record c { memory = put c.memory b 0 } in
+          let one = straight.next (Sw 0 2 0) (Writes b 0) k c d code.0 refl idle (omega (arith, at, to, small), omega (arith, to, fits), free b from to, refl) in
+          let two = straight.next (Addiu 2 2 4) (Gives (4 * (b + 1))) (k + 1) c1 d code.1.0 refl idle (omega (arith, at, to, small)) in
+          let way = on runs w P 1 1 0 0 1 0 (at_with k c d) (at_with (k + 1) c1 d) (at_with (k + 1 + 1) (with_reg c1 2 (4 * (b + 1))) d) (away runs w P 1 (at_with k c d) (at_with (k + 1) c1 d) (λ q. absurd (omega (arith, q))) one) (of runs w P 1 (at_with (k + 1) c1 d) (at_with (k + 1 + 1) (with_reg c1 2 (4 * (b + 1))) d) two) in
+          subst (λ m. Way runs w P 1 2 0 (at_with k c d) (at_with m (with_reg c1 2 (4 * (b + 1))) d)) (omega arith) way
+
+      loop_run : (n b k : ℕ) (c : Contents) (d : Behind) → d.pending ≡ Idle → e - sc.frame ≤ b → b + suc n ≡ e → c.regs 2 ≡ 4 * b → c.regs 29 ≡ 4 * e → CodeAt w k (Sw 0 2 0 ∷ Addiu 2 2 4 ∷ Bne 2 29 65533 ∷ [])
+          → (c' : Contents) × Filled b (suc n) (λ j. 0) c c' × Way runs w P (suc n) (3 * suc n) 0 (at_with k c d) (at_with (k + 3) c' d)
+      loop_run zero b k c d idle from sum at end code =
+          let c2 : Contents = with_reg (record c { memory = put c.memory b 0 }) 2 (4 * (b + 1)) in
+          let first = cleared b k c d idle from (omega (arith, sum)) at code in
+          let equal : 4 * (b + 1) ≡ c.regs 29 = omega (arith, sum, end) in
+          let test : not (nat_eq (4 * (b + 1)) (c.regs 29)) ≡ false = ap not (eq-eqb (4 * (b + 1)) (c.regs 29) equal) in
+          let last = compose.settled w 1 (k + 2 + 1) (at_with (k + 2) c2 d) c2 d idle (jumps.passed (Bne 2 29 65533) (k + 2) 65533 (not (nat_eq (4 * (b + 1)) (c.regs 29))) c2 d (subst (λ m. w.code m ≡ Some (Bne 2 29 65533)) (omega arith) code.1.1.0) refl test) in
+          let way = on runs w P 1 2 0 0 1 0 (at_with k c d) (at_with (k + 2) c2 d) (at_with (k + 2 + 1) c2 d) first (of runs w P 1 (at_with (k + 2) c2 d) (at_with (k + 2 + 1) c2 d) last) in
+          (c2, word_zero b c, subst (λ m. Way runs w P 1 3 0 (at_with k c d) (at_with m c2 d)) (omega arith) way)
+        where
+          word_zero : (b : ℕ) (c : Contents) → Filled b 1 (λ j. 0) c (with_reg (record c { memory = put c.memory b 0 }) 2 (4 * (b + 1)))
+          word_zero b c = record {
+            words = λ j lt. let here : b + j ≡ b = omega (arith, lt) in ap (put c.memory b 0) here ∙ put_same c.memory b 0;
+            others = λ x side. put_other c.memory b 0 x (λ q. elim side [ | inl lt ↦ absurd (omega (arith, lt, q)) | inr le ↦ absurd (omega (arith, le, q)) ]);
+            special = refl;
+            regs = λ x ne me. other_reg c.regs 2 (4 * (b + 1)) x me;
+          }
+      loop_run (suc n) b k c d idle from sum at end code =
+          let c2 : Contents = with_reg (record c { memory = put c.memory b 0 }) 2 (4 * (b + 1)) in
+          let first = cleared b k c d idle from (omega (arith, sum)) at code in
+          let differ : 4 * (b + 1) ≢ c.regs 29 = λ q. absurd (omega (arith, sum, end, q)) in
+          let test : not (nat_eq (4 * (b + 1)) (c.regs 29)) ≡ true = ap not (ne_eqb (4 * (b + 1)) (c.regs 29) differ) in
+          let back_there = compose.settled w 1 k (at_with (k + 2) c2 d) c2 d idle (jumps.taken_back (Bne 2 29 65533) (k + 2) k 3 (not (nat_eq (4 * (b + 1)) (c.regs 29))) c2 d (subst (λ m. w.code m ≡ Some (Bne 2 29 65533)) (omega arith) code.1.1.0) refl test (omega arith) (omega arith) (omega arith)) in
+          let way = on runs w P 1 2 0 0 1 0 (at_with k c d) (at_with (k + 2) c2 d) (at_with k c2 d) first (of runs w P 1 (at_with (k + 2) c2 d) (at_with k c2 d) back_there) in
+          let rest = loop_run n (b + 1) k c2 d idle (omega (arith, from)) (omega (arith, sum)) refl end code in
+          (rest.0, words_on n b c rest.0 rest.1, within runs w P (1 + 0 + suc n) (2 + 1 + 3 * suc n) (0 + 0 + 0) (suc (suc n)) (3 * suc (suc n)) 0 (at_with k c d) (at_with (k + 3) rest.0 d) (omega arith) (omega arith) refl
+          (on runs w P (1 + 0) (2 + 1) (0 + 0) (suc n) (3 * suc n) 0 (at_with k c d) (at_with k c2 d) (at_with (k + 3) rest.0 d) way rest.2))
+        where
+          words_on : (n b : ℕ) (c r : Contents) → Filled (b + 1) (suc n) (λ j. 0) (with_reg (record c { memory = put c.memory b 0 }) 2 (4 * (b + 1))) r → Filled b (suc (suc n)) (λ j. 0) c r
+          words_on n b c r h = record {
+            words = by_number;
+            others = λ x side. elim side [
+              | inl lt ↦ h.others x (inl (omega (arith, lt))) ∙ put_other c.memory b 0 x (λ q. absurd (omega (arith, q, lt)))
+              | inr le ↦ h.others x (inr (omega (arith, le))) ∙ put_other c.memory b 0 x (λ q. absurd (omega (arith, q, le)))
+            ];
+            special = h.special;
+            regs = λ x ne me. h.regs x ne me ∙ other_reg c.regs 2 (4 * (b + 1)) x me;
+          }
+            where
+              by_number : (j : ℕ) → j < suc (suc n) → r.memory (b + j) ≡ 0
+              by_number zero lt = let here : b + 0 ≡ b = omega arith in ap r.memory here ∙ h.others b (inl (omega arith)) ∙ put_same c.memory b 0
+              by_number (suc j) lt = let here : b + suc j ≡ b + 1 + j = omega arith in ap r.memory here ∙ h.words j (omega (arith, lt))
