@@ -200,7 +200,7 @@ module _ (compose : RunsCompose) (w : World) (sound : Sound w) (straight : Strai
           let way = on runs w P 1 1 0 0 1 0 (at_with k c d) (at_with (k + 1) c1 d) (at_with (k + 1 + 1) (with_reg c1 2 (4 * (b + 1))) d) (away runs w P 1 (at_with k c d) (at_with (k + 1) c1 d) (λ q. absurd (omega (arith, q))) one) (of runs w P 1 (at_with (k + 1) c1 d) (at_with (k + 1 + 1) (with_reg c1 2 (4 * (b + 1))) d) two) in
           subst (λ m. Way runs w P 1 2 0 (at_with k c d) (at_with m (with_reg c1 2 (4 * (b + 1))) d)) (omega arith) way
 
-      loop_run : (n b k : ℕ) (c : Contents) (d : Behind) → d.pending ≡ Idle → e - sc.frame ≤ b → b + suc n ≡ e → c.regs 2 ≡ 4 * b → c.regs 29 ≡ 4 * e → CodeAt w k (Sw 0 2 0 ∷ Addiu 2 2 4 ∷ Bne 2 29 65533 ∷ [])
+      pub loop_run : (n b k : ℕ) (c : Contents) (d : Behind) → d.pending ≡ Idle → e - sc.frame ≤ b → b + suc n ≡ e → c.regs 2 ≡ 4 * b → c.regs 29 ≡ 4 * e → CodeAt w k (Sw 0 2 0 ∷ Addiu 2 2 4 ∷ Bne 2 29 65533 ∷ [])
           → (c' : Contents) × Filled b (suc n) (λ j. 0) c c' × Way runs w P (suc n) (3 * suc n) 0 (at_with k c d) (at_with (k + 3) c' d)
       loop_run zero b k c d idle from sum at end code =
           let c2 : Contents = with_reg (record c { memory = put c.memory b 0 }) 2 (4 * (b + 1)) in

@@ -1,6 +1,7 @@
 pub mod Args
 pub mod Blocks
 pub mod Costs
+pub mod Entry
 pub mod Frames
 pub mod Held
 pub mod Lengths
