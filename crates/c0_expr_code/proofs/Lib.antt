@@ -14,5 +14,9 @@ mod Immediates
 mod Lengths
 mod Found
 mod Whole
+mod TestLengths
 mod Tests
 mod TestsWhole
+mod Costs
+mod Filled
+mod Names

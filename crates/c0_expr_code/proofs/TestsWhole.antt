@@ -17,7 +17,7 @@ use Rattle.c0_tree.specs.Size.{need, binary_need, nodes}
 use Rattle.c0_meaning.specs.Ty.{Ty, is_scalar}
 use Rattle.c0_meaning.specs.Ty as ty
 use Rattle.c0_meaning.specs.Judgement.{IsOrder, lt, le, gt, ge, IsEquality, eq, ne, IsLogical, and, or}
-use Rattle.c0_meaning.specs.Numbered.{HasNumberedType, a_number, a_true, a_false, a_variable, a_field, a_target_field, an_element, a_target, an_address, a_negative, a_negation, arithmetic, order, logic, equality, null_left, null_right}
+use Rattle.c0_meaning.specs.Numbered.{HasNumberedType, a_number, a_true, a_false, a_variable, a_field, a_target_field, an_element, a_target, an_address, a_negative, a_negation, arithmetic, order, logic, equality, null_left, null_right, IsNumberedGiven, a_value, a_null}
 use Rattle.c0_meaning.specs.Value.{Value, int, bool, at, group}
 use Rattle.c0_meaning.specs.Value as value
 use Rattle.c0_meaning.specs.State.{State}
@@ -38,7 +38,7 @@ use Rattle.c0_expr_code.proofs.Operators.{same_words}
 use Rattle.c0_expr_code.proofs.Immediates.{near_some, less_near}
 use Rattle.c0_expr_code.proofs.Found.{KnownAs, known_is}
 use Rattle.c0_expr_code.proofs.Whole.{need_some, right, null_right_is}
-use Rattle.c0_expr_code.proofs.Lengths.{Short, operand_length, short}
+use Rattle.c0_expr_code.proofs.TestLengths.{both_length, test_length}
 use Rattle.c0_expr_code.proofs.Tests.{split_more, split_paid, split_binds, as_split, split_says, split_at, split_arrives, truth_paying, truth_binds, branches, negative_branches, positive_branches}
 
 -- the place by the answer, where the answer is turned
@@ -415,113 +415,6 @@ module _ (w : World) (sc : Scope) (p : Bases) (s : State) (f : Machine w) (area 
           (split_says w sc 1 n1 _ b k (λ z c'. Keeps r r b c') (λ z c'. Keeps r r c c') y (λ q j h. keeps_on r r c b j g h)
           (t2 (not decides) far to r n1 b k idle (ready_on sc p s c b (keeps_low r r c b hi g) ready) (code_back w n is js code) lo hb (aims_in n n1 (n1 + length js) far to (omega arith) (aims_at n end (n1 + length js) far to (sym len) aims)))))))
 
-  -- lengths
-  abbrev FewTests : ImmediateTest → Type 0
-  FewTests None = Unit {0}
-  FewTests (Some g) = (b : Bool) (far q : ℕ) → length (g b far q) ≤ 2
-
-  few_test : (z d : Bool) (c g : Bool → ℕ → ℕ → List Inst) → ((b : Bool) (far q : ℕ) → length (c b far q) ≤ 2) → ((b : Bool) (far q : ℕ) → length (g b far q) ≤ 2) → FewTests (cond z (Some c) (cond d (Some g) None))
-  few_test true d c g h i = h
-  few_test false true c g h i = i
-  few_test false false c g h i = tt
-
-  few_at : (o : BinaryOp) (k : ℕ) → FewTests (immediate_test o k)
-  few_at Lt k = few_test (nat_eq k 0) (is_near k) _ _ (λ b far q. omega arith) (λ b far q. omega arith)
-  few_at Ge k = few_test (nat_eq k 0) (is_near k) _ _ (λ b far q. omega arith) (λ b far q. omega arith)
-  few_at Gt k = few_test (nat_eq k 0) (is_near ((k + 1) % 2 ^ 32)) _ _ (λ b far q. omega arith) (λ b far q. omega arith)
-  few_at Le k = few_test (nat_eq k 0) (is_near ((k + 1) % 2 ^ 32)) _ _ (λ b far q. omega arith) (λ b far q. omega arith)
-  few_at Eq k = tt
-  few_at Ne k = tt
-  few_at Add k = tt
-  few_at Sub k = tt
-  few_at Mul k = tt
-  few_at Div k = tt
-  few_at Rem k = tt
-  few_at And k = tt
-  few_at Or k = tt
-
-  few_tests : (o : BinaryOp) (k : Option ℕ) → FewTests (immediate_test_of o k)
-  few_tests o None = tt
-  few_tests o (Some k) = few_at o k
-
-  compare_length : (o : BinaryOp) (b : Bool) (far q g : ℕ) → length (compare_code o b far q g) ≤ 2
-  compare_length Eq b far q g = omega arith
-  compare_length Ne b far q g = omega arith
-  compare_length Lt b far q g = omega arith
-  compare_length Gt b far q g = omega arith
-  compare_length Le b far q g = omega arith
-  compare_length Ge b far q g = omega arith
-  compare_length Add b far q g = omega arith
-  compare_length Sub b far q g = omega arith
-  compare_length Mul b far q g = omega arith
-  compare_length Div b far q g = omega arith
-  compare_length Rem b far q g = omega arith
-  compare_length And b far q g = omega arith
-  compare_length Or b far q g = omega arith
-
-  plain_length : (m : Made) (k : ℕ) → Short m k → (b : Bool) (far r : ℕ) → length (plain_test m b far r) ≤ 14 * k + 1
-  plain_length m k h b far r =
-      let x = operand_length m k r h in
-      let y = length-append (operand_code m r) (branch_code (not b) (operand_register m r) 0 far ∷ []) in
-      omega (arith, x, y)
-
-  both_length : (decides b : Bool) (one two : Testing) (j k far r : ℕ) → ((b : Bool) (far r : ℕ) → length (one b far r) ≤ 15 * j) → ((b : Bool) (far r : ℕ) → length (two b far r) ≤ 15 * k) → length (both_code decides b one two far r) ≤ 15 * (j + k + 1)
-  both_length true true one two j k far r h g = let a = h true ((far + length (two true far r)) % 2 ^ 16) r in let c = g true far r in let d = length-append (one true ((far + length (two true far r)) % 2 ^ 16) r) (two true far r) in omega (arith, a, c, d)
-  both_length true false one two j k far r h g = let a = h true (length (two false far r) % 2 ^ 16) r in let c = g false far r in let d = length-append (one true (length (two false far r) % 2 ^ 16) r) (two false far r) in omega (arith, a, c, d)
-  both_length false true one two j k far r h g = let a = h false (length (two true far r) % 2 ^ 16) r in let c = g true far r in let d = length-append (one false (length (two true far r) % 2 ^ 16) r) (two true far r) in omega (arith, a, c, d)
-  both_length false false one two j k far r h g = let a = h false ((far + length (two false far r)) % 2 ^ 16) r in let c = g false far r in let d = length-append (one false ((far + length (two false far r)) % 2 ^ 16) r) (two false far r) in omega (arith, a, c, d)
-
-  compared_length : (o : BinaryOp) (ma mb : Made) (j k : ℕ) → Short ma j → Short mb k → (b : Bool) (far r : ℕ) → length (two_code (λ q t. compare_code o b far q t) ma mb r) ≤ 15 * (j + k + 1)
-  compared_length o ma mb j k h g b far r =
-      let x = operand_length ma j r h in
-      let y = operand_length mb k (r + 1) g in
-      let t = compare_length o b far (operand_register ma r) (operand_register mb (r + 1)) in
-      let u = length-append (operand_code ma r) (operand_code mb (r + 1) ++ compare_code o b far (operand_register ma r) (operand_register mb (r + 1))) in
-      let v = length-append (operand_code mb (r + 1)) (compare_code o b far (operand_register ma r) (operand_register mb (r + 1))) in
-      omega (arith, x, y, t, u, v)
-
-  with_length : (im : ImmediateTest) (o : BinaryOp) (ma mb : Made) (j k : ℕ) → FewTests im → Short ma j → Short mb k → (b : Bool) (far r : ℕ) → length (compare_test im o ma mb b far r) ≤ 15 * (j + k + 1)
-  with_length (Some g) o ma mb j k few h i b far r =
-      let x = operand_length ma j r h in
-      let y = few b far (operand_register ma r) in
-      let z = length-append (operand_code ma r) (g b far (operand_register ma r)) in
-      omega (arith, x, y, z)
-  with_length None o ma mb j k few h i b far r = compared_length o ma mb j k h i b far r
-
-  binary_length : (o : BinaryOp) (m ma mb : Made) (one two : Testing) (j k : ℕ) → Short m (j + k + 1) → Short ma j → Short mb k → ((b : Bool) (far r : ℕ) → length (one b far r) ≤ 15 * j) → ((b : Bool) (far r : ℕ) → length (two b far r) ≤ 15 * k) → (b : Bool) (far r : ℕ) → length (binary_test o m ma mb one two b far r) ≤ 15 * (j + k + 1)
-  binary_length And m ma mb one two j k s sa sb h g b far r = both_length false b one two j k far r h g
-  binary_length Or m ma mb one two j k s sa sb h g b far r = both_length true b one two j k far r h g
-  binary_length Lt m ma mb one two j k s sa sb h g b far r = with_length (immediate_test_of Lt mb.known) Lt ma mb j k (few_tests Lt mb.known) sa sb b far r
-  binary_length Le m ma mb one two j k s sa sb h g b far r = with_length (immediate_test_of Le mb.known) Le ma mb j k (few_tests Le mb.known) sa sb b far r
-  binary_length Gt m ma mb one two j k s sa sb h g b far r = with_length (immediate_test_of Gt mb.known) Gt ma mb j k (few_tests Gt mb.known) sa sb b far r
-  binary_length Ge m ma mb one two j k s sa sb h g b far r = with_length (immediate_test_of Ge mb.known) Ge ma mb j k (few_tests Ge mb.known) sa sb b far r
-  binary_length Eq m ma mb one two j k s sa sb h g b far r = compared_length Eq ma mb j k sa sb b far r
-  binary_length Ne m ma mb one two j k s sa sb h g b far r = compared_length Ne ma mb j k sa sb b far r
-  binary_length Add m ma mb one two j k s sa sb h g b far r = let a = plain_length m (j + k + 1) s b far r in omega (arith, a)
-  binary_length Sub m ma mb one two j k s sa sb h g b far r = let a = plain_length m (j + k + 1) s b far r in omega (arith, a)
-  binary_length Mul m ma mb one two j k s sa sb h g b far r = let a = plain_length m (j + k + 1) s b far r in omega (arith, a)
-  binary_length Div m ma mb one two j k s sa sb h g b far r = let a = plain_length m (j + k + 1) s b far r in omega (arith, a)
-  binary_length Rem m ma mb one two j k s sa sb h g b far r = let a = plain_length m (j + k + 1) s b far r in omega (arith, a)
-
-  nodes_some : (e : CExpr) → 1 ≤ nodes e
-  nodes_some (field p e f) = omega arith
-  nodes_some (arrow p e f) = omega arith
-  nodes_some (index p e i) = omega arith
-  nodes_some (deref p e) = omega arith
-  nodes_some (address p e) = omega arith
-  nodes_some (unary p o e) = omega arith
-  nodes_some (binary p o a b) = omega arith
-  nodes_some _ = omega arith
-
-  leaf_length : (e : CExpr) (b : Bool) (far r : ℕ) → length (plain_test (made sc e) b far r) ≤ 15 * nodes e
-  leaf_length e b far r = let a = plain_length (made sc e) (nodes e) (short sc e) b far r in let n = nodes_some e in omega (arith, a, n)
-
-  pub test_length : (e : CExpr) (b : Bool) (far r : ℕ) → length (test_code sc e b far r) ≤ 15 * nodes e
-  test_length (unary span Not e) b far r = let a = test_length e (not b) far r in omega (arith, a)
-  test_length (unary span Negate e) b far r = leaf_length (unary span Negate e) b far r
-  test_length (binary span o a c) b far r = binary_length o (made sc (binary span o a c)) (made sc a) (made sc c) (test_code sc a) (test_code sc c) (nodes a) (nodes c) (short sc (binary span o a c)) (short sc a) (short sc c) (λ b far r. test_length a b far r) (λ b far r. test_length c b far r) b far r
-  test_length e b far r = leaf_length e b far r
-
   -- `!`
   negated : (m n : ℕ) (to : Bool → ℕ) (c : Contents) (k : Behind) (Q : Contents → Type 0) (x : Costed Value) → Splits w sc m n to c k (λ y b. Q b) (truth x) → Splits w sc m n (λ z. to (not z)) c k (λ y b. Q b) (truth (x >>= λ v. at_no_cost (on_unary Not v)))
   negated m n to c k Q (costs u (Ok (bool true))) h = (h.0, h.1, later w (m + 16 * (u + 0)) (m + 16 * (u + 0 + 0)) _ _ (omega arith) h.2)
@@ -589,7 +482,7 @@ module _ (w : World) (sc : Scope) (p : Bases) (s : State) (f : Machine w) (area 
     where
       by_side : (b : Bool) (far to r n : ℕ) (c : Contents) (d : Behind) → d.pending ≡ Idle → Ready sc p s c → CodeAt w n (both_code false b ta tb far r) → 8 ≤ r → r + max na nb ≤ 20 → Aims n (n + length (both_code false b ta tb far r)) far to → Splits w sc 2 n (ends b to (n + length (both_code false b ta tb far r))) c d (λ y c'. Keeps r r c c') (truth (truth x >>= λ b. if b then y else at_no_cost (Ok (bool false))))
       by_side true far to r n c d idle ready code lo hi aims =
-          let size = both_length false true ta tb j k far r la lb in
+          let size = both_length sc false true ta tb j k far r la lb in
           subst (λ e. Splits w sc 2 n (ends true to (n + length (both_code false true ta tb far r))) c d (λ y c'. Keeps r r c c') e) (sym (truth_binds (truth x) (λ b. if b then y else at_no_cost (Ok (bool false)))))
           (over_two false ta tb na nb (truth x) (truth y) (λ b. truth (if b then y else at_no_cost (Ok (bool false)))) t1 t2 refl refl far to r n c d idle ready lo (omega arith) (omega arith) (omega arith) (omega (arith, size, few)) code aims)
       by_side false far to r n c d idle ready code lo hi aims =
@@ -599,7 +492,7 @@ module _ (w : World) (sc : Scope) (p : Bases) (s : State) (f : Machine w) (area 
     where
       by_side : (b : Bool) (far to r n : ℕ) (c : Contents) (d : Behind) → d.pending ≡ Idle → Ready sc p s c → CodeAt w n (both_code true b ta tb far r) → 8 ≤ r → r + max na nb ≤ 20 → Aims n (n + length (both_code true b ta tb far r)) far to → Splits w sc 2 n (ends b to (n + length (both_code true b ta tb far r))) c d (λ y c'. Keeps r r c c') (truth (truth x >>= λ b. if b then at_no_cost (Ok (bool true)) else y))
       by_side false far to r n c d idle ready code lo hi aims =
-          let size = both_length true false ta tb j k far r la lb in
+          let size = both_length sc true false ta tb j k far r la lb in
           subst (λ e. Splits w sc 2 n (ends false to (n + length (both_code true false ta tb far r))) c d (λ y c'. Keeps r r c c') e) (sym (truth_binds (truth x) (λ b. if b then at_no_cost (Ok (bool true)) else y)))
           (over_two true ta tb na nb (truth x) (truth y) (λ b. truth (if b then at_no_cost (Ok (bool true)) else y)) t1 t2 refl refl far to r n c d idle ready lo (omega arith) (omega arith) (omega arith) (omega (arith, size, few)) code aims)
       by_side true far to r n c d idle ready code lo hi aims =
@@ -619,7 +512,7 @@ module _ (w : World) (sc : Scope) (p : Bases) (s : State) (f : Machine w) (area 
       (split_at w sc 1 n (λ z. ends (not b) to (n + length (test_code sc e (not b) far r)) (not z)) (ends b to (n + length (test_code sc e (not b) far r))) c k (λ y c'. Keeps r r c c') (truth (value_of e s >>= λ v. at_no_cost (on_unary Not v))) (turned b to (n + length (test_code sc e (not b) far r)))
       (negated 1 n (ends (not b) to (n + length (test_code sc e (not b) far r))) c k (λ c'. Keeps r r c c') (value_of e s) one)))
   tests _ _ (order {s = span} {o = o} {a = a} {b = b} k h g) q few = order_tests o k (made sc (binary span o a b)) (made sc a) (made sc b) (test_code sc a) (test_code sc b) (need a) (need b) (value_of a s) (value_of b s) (need_some a) (need_some b) (λ k e. known_is sc p b ty.int s k g e) (operand_of a ty.int refl h (omega arith)) (operand_of b ty.int refl g (omega arith))
-  tests _ _ (logic {s = span} {o = o} {a = a} {b = b} k h g) q few = logic_tests o k (made sc (binary span o a b)) (made sc a) (made sc b) (test_code sc a) (test_code sc b) (need a) (need b) (nodes a) (nodes b) (value_of a s) (value_of b s) (need_some a) (λ y far r. test_length a y far r) (λ y far r. test_length b y far r) few (tests a ty.bool h refl (omega arith)) (tests b ty.bool g refl (omega arith))
+  tests _ _ (logic {s = span} {o = o} {a = a} {b = b} k h g) q few = logic_tests o k (made sc (binary span o a b)) (made sc a) (made sc b) (test_code sc a) (test_code sc b) (need a) (need b) (nodes a) (nodes b) (value_of a s) (value_of b s) (need_some a) (λ y far r. test_length sc a y far r) (λ y far r. test_length sc b y far r) few (tests a ty.bool h refl (omega arith)) (tests b ty.bool g refl (omega arith))
   tests _ _ (equality {s = span} {o = o} {a = a} {b = b} {t = t} k z h g) q few = equal_tests o k t z (made sc (binary span o a b)) (made sc a) (made sc b) (test_code sc a) (test_code sc b) (need a) (need b) (value_of a s) (value_of b s) (need_some b) (operand_of a t z h (omega arith)) (operand_of b t z g (omega arith))
   tests _ _ (null_left {s = whole} {r = span} {o = o} {b = b} {t = t} k g) q few = equal_tests o k (ty.pointer t) refl (made sc (binary whole o (null span) b)) (made sc (null span)) (made sc b) (test_code sc (null span)) (test_code sc b) 1 (need b) (value_of (null span) s) (value_of b s) (need_some b) ((null_right_is w sc p s f area scene span t).operand refl) (operand_of b (ty.pointer t) refl g (omega arith))
   tests _ _ (null_right {s = whole} {r = span} {o = o} {a = a} {t = t} k h) q few = equal_tests o k (ty.pointer t) refl (made sc (binary whole o a (null span))) (made sc a) (made sc (null span)) (test_code sc a) (test_code sc (null span)) (need a) 1 (value_of a s) (value_of (null span) s) (omega arith) (operand_of a (ty.pointer t) refl h (omega arith)) ((null_right_is w sc p s f area scene span t).operand refl)
@@ -634,3 +527,6 @@ module _ (w : World) (sc : Scope) (p : Bases) (s : State) (f : Machine w) (area 
   tests _ _ (an_address pl away h) q few = absurd (cc)
   tests _ _ (a_negative h) q few = absurd (cc)
   tests _ _ (arithmetic k h g) q few = absurd (cc)
+
+  pub given_tests : (e : CExpr) → IsNumberedGiven sc.env e ty.bool → nodes e ≤ 2000 → TestRuns w sc p s e
+  given_tests _ (a_value {e = e} h) few = tests e ty.bool h refl few

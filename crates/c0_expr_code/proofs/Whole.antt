@@ -22,7 +22,7 @@ use Rattle.c0_meaning.specs.Words.{fields_named, words}
 use Rattle.c0_meaning.specs.Sizes.{words_before}
 use Rattle.c0_meaning.specs.Expression.{is_place, target}
 use Rattle.c0_meaning.specs.Judgement.{IsArithmetic, add, sub, mul, div, rem, IsOrder, lt, le, gt, ge, IsEquality, eq, ne, IsLogical, and, or}
-use Rattle.c0_meaning.specs.Numbered.{variable_at, is_in_frame, is_frame_place, HasNumberedType, a_number, a_true, a_false, a_variable, a_field, a_target_field, an_element, a_target, an_address, a_negative, a_negation, arithmetic, order, logic, equality, null_left, null_right}
+use Rattle.c0_meaning.specs.Numbered.{variable_at, is_in_frame, is_frame_place, HasNumberedType, a_number, a_true, a_false, a_variable, a_field, a_target_field, an_element, a_target, an_address, a_negative, a_negation, arithmetic, order, logic, equality, null_left, null_right, IsNumberedGiven, a_value, a_null}
 use Rattle.c0_meaning.specs.Value.{Region, globals, heap, locals, Location, Value, int, bool, at, group}
 use Rattle.c0_meaning.specs.Value as value
 use Rattle.c0_meaning.specs.State.{State, read}
@@ -435,3 +435,8 @@ module _ (w : World) (sc : Scope) (p : Bases) (s : State) (f : Machine w) (area 
       equals_right o q (ty.pointer t) refl (made sc (null span)) (made sc b) 1 (need b) false (value_of (null span) s) (value_of b s) _ (omega arith) (need_some b) ((null_right_is span t).operand refl) ((right b (ty.pointer t) g (omega arith)).operand refl) (λ k e. known_is sc p b (ty.pointer t) s k g e)
   right _ _ (null_right {r = span} {o = o} {a = a} {t = t} q h) few =
       equals_right o q (ty.pointer t) refl (made sc a) (made sc (null span)) (need a) 1 false (value_of a s) (value_of (null span) s) _ (need_some a) (omega arith) ((right a (ty.pointer t) h (omega arith)).operand refl) ((null_right_is span t).operand refl) (λ k e. null_known sc p t k e)
+
+  -- and every expression that may stand where a type is asked
+  pub given : (e : CExpr) (t : Ty) → IsNumberedGiven sc.env e t → nodes e ≤ 2000 → Right w sc p s e t
+  given _ t (a_value {e = e} h) few = right e t h few
+  given _ _ (a_null {s = span} {t = t}) few = null_right_is span t

@@ -59,6 +59,10 @@ pub record Area (w : World) (sc : Scope) (p : Bases) : Type 0 where
   pub filled : (g : Region) (path : List ℕ) (t : Ty) → LeadsFrom sc.env.structs (types_in sc p g) path t → 1 ≤ words sc.env.structs t
   pub apart : (t : Ty) (l m : Location) → PointsTo sc.env.structs (layout sc p) l.region l.path t → PointsTo sc.env.structs (layout sc p) m.region m.path t → word_at sc p l ≡ word_at sc p m → l ≡ m
 
+-- the units that an evaluation took
+abbrev pub units_of : {A : Type 0} → Costed A → ℕ
+units_of (costs k r) = k
+
 -- an evaluation's code goes from n to to with Q, or leaves by the exit of its fault; it takes so many steps and 16 for each unit, and is never stuck
 abbrev pub Comes : {A : Type 0} → World → Scope → (own n to : ℕ) → Contents → Behind → (A → Contents → Type 0) → Costed A → Type 0
 Comes w sc own n to c d Q (costs k (Ok x)) = (c' : Contents) × Q x c' × Reaches w (own + 16 * k) (at_with n c d) (at_with to c' d)

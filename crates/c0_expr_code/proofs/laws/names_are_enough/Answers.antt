@@ -1,0 +1,5 @@
+use Rattle.c0_expr_code.proofs.Names.{typed}
+use Rattle.c0_expr_code.proofs.laws.names_are_enough.Goals as goal
+
+pub returns : goal.returns
+returns c = typed
