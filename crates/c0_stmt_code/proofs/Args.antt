@@ -39,6 +39,11 @@ SoftComes w sc n to c d Q (costs k (Ok x)) = (c' : Contents) × Q x c' × Reache
 SoftComes w sc n to c d Q (costs k (Err (faulted f))) = (c' : Contents) × Soft c c' × Reaches w (16 * k) (at_with n c d) (at_with (sc.exit f) c' d)
 SoftComes w sc n to c d Q (costs k (Err stuck)) = ⊥
 
+-- each of these types is a scalar's
+abbrev pub AllScalar : List Ty → Type 0
+AllScalar [] = Unit {0}
+AllScalar (t ∷ ts) = IsTrue (is_scalar t) × AllScalar ts
+
 module _ (compose : RunsCompose) (w : World) (sc : Scope) where
   -- one evaluation, and then another
   pub soft_binds : {A B : Type 0} (n mid to : ℕ) (c : Contents) (d : Behind) (Q : A → Contents → Type 0) (R : B → Contents → Type 0) (e : Costed A) (f : A → Costed B) → Comes w sc 0 n mid c d Q e → ((b : Contents) → Keeps 0 0 c b → Soft c b)
@@ -78,11 +83,6 @@ module _ (compose : RunsCompose) (w : World) (sc : Scope) where
     pub fits : AllFit sc.env.structs (layout sc p) ts vs
     pub soft : Soft c c'
     pub before : (x : ℕ) → 20 ≤ x → x < 20 + i → c'.regs x ≡ c.regs x
-
-  -- each of these types is a scalar's
-  abbrev pub AllScalar : List Ty → Type 0
-  AllScalar [] = Unit {0}
-  AllScalar (t ∷ ts) = IsTrue (is_scalar t) × AllScalar ts
 
   pub args_run : (env : Env) (p : Bases) (s : State) (d : Behind) → ExpressionsDo w env sc p s → sc.in_registers ≡ false → d.pending ≡ Idle → (es : List CExpr) (ts : List Ty) (i n : ℕ) (c : Contents) → Ready sc p s c → AreNumberedGiven env es ts → AllScalar ts → args_need es ≤ 12 → args_nodes es ≤ 2000 → i + length es ≤ 8
       → CodeAt w n (args_code sc es i) → SoftComes w sc n (n + length (args_code sc es i)) c d (InRegisters p i ts c) (values_of es s)

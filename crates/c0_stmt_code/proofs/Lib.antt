@@ -13,4 +13,5 @@ pub mod Spots
 pub mod State
 pub mod Statements
 pub mod Stores
+pub mod Variables
 pub mod Ways

@@ -51,6 +51,6 @@ pub record LengthsFit (sc : Scope) : Type 0 where
   pub value_some : (e : CExpr) (d r : ℕ) → 1 ≤ length (value_code sc e d r)
   pub operand : (e : CExpr) (r : ℕ) → length (operand_code (made sc e) r) ≤ 14 * nodes e
   pub place : (e : CExpr) (r : ℕ) → length ((made sc e).place r).code + 3 ≤ 14 * nodes e
-  pub test : (e : CExpr) (s : Bool) (far r : ℕ) → length (test_code sc e s far r) ≤ 14 * nodes e
+  pub test : (e : CExpr) (s : Bool) (far r : ℕ) → length (test_code sc e s far r) ≤ 15 * nodes e
   pub test_some : (e : CExpr) (s : Bool) (far r : ℕ) → 1 ≤ length (test_code sc e s far r)
   pub test_same : (e : CExpr) (s : Bool) (far r : ℕ) → length (test_code sc e s far r) ≡ length (test_code sc e s 0 r)

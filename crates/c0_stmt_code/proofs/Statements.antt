@@ -167,7 +167,7 @@ module _ (runs : RunLaws) (compose : RunsCompose) (W E : Type 0) (Outer : W → 
       branches : (b : Bool) (u : ℕ) (c1 : Contents) → 1 ≤ u → u ≤ nodes t → Keeps 8 8 c c1
           → Path runs compose W E Outer Passes z jumps (0 + 1) (0 + (1 + 16 * u)) 0 s (at_with (ends false (k + length (its_test t false (far_of x y)) + (yes_words x + otherwise_at y)) (k + length (its_test t false (far_of x y))) b) c1 d)
           → CodeAt z.w (k + length (its_test t false (far_of x y))) (its_stmts x ++ otherwise y (its_stmts y))
-          → length (its_test t false (far_of x y)) ≤ 14 * nodes t → length (its_stmts x) ≤ 16 * stmts_nodes x → otherwise_at y ≤ 1
+          → length (its_test t false (far_of x y)) ≤ 15 * nodes t → length (its_stmts x) ≤ 16 * stmts_nodes x → otherwise_at y ≤ 1
           → StepIs W E Outer Passes z debt here s (Go (plus (units 1) (units u)) (push (if b then x else y) (push rest work)) here)
       branches true u c1 least most kept path1 there l1 l2 at =
           let end : ℕ = k + length (its_test t false (far_of x y)) in
