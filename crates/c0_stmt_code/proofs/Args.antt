@@ -20,7 +20,7 @@ use Rattle.c0_expr_code.specs.Bases.{Bases, locals_start, word, RegionHeld}
 use Rattle.c0_expr_code.specs.Relation.{layout, Ready, Keeps, Comes, Gives}
 use Rattle.c0_stmt_code.specs.Code.{args_code}
 use Rattle.c0_stmt_code.specs.Standing.{AreIn}
-use Rattle.c0_stmt_code.proofs.Needs.{ExpressionsDo}
+use Rattle.c0_stmt_code.proofs.Needs.{ExpressionsDo, AllScalar}
 use Rattle.c0_stmt_code.proofs.Blocks.{front, back}
 use Rattle.c0_stmt_code.proofs.Spots.{read_is}
 
@@ -38,11 +38,6 @@ abbrev pub SoftComes : {A : Type 0} → World → Scope → (n to : ℕ) → Con
 SoftComes w sc n to c d Q (costs k (Ok x)) = (c' : Contents) × Q x c' × Reaches w (16 * k) (at_with n c d) (at_with to c' d)
 SoftComes w sc n to c d Q (costs k (Err (faulted f))) = (c' : Contents) × Soft c c' × Reaches w (16 * k) (at_with n c d) (at_with (sc.exit f) c' d)
 SoftComes w sc n to c d Q (costs k (Err stuck)) = ⊥
-
--- each of these types is a scalar's
-abbrev pub AllScalar : List Ty → Type 0
-AllScalar [] = Unit {0}
-AllScalar (t ∷ ts) = IsTrue (is_scalar t) × AllScalar ts
 
 module _ (compose : RunsCompose) (w : World) (sc : Scope) where
   -- one evaluation, and then another

@@ -1,17 +1,19 @@
 -- What the proofs of this crate take from the crates below, as premises.
-use Rattle.std.proofs.Common.{◌≡◌, ◌≢◌, ℕ, ◌+◌, ◌*◌, ◌<◌, ◌≤◌, Bool, List, ◌∷◌, length}
+use Rattle.std.proofs.Common.{◌≡◌, ◌≢◌, ℕ, ◌+◌, ◌*◌, ◌<◌, ◌≤◌, Bool, List, [], ◌∷◌, ◌++◌, length}
 use Rattle.mips_table.specs.Code.{World}
-use Rattle.c0_tree.specs.Size.{need, nodes}
-use Rattle.c0_tree.specs.Tree.{CExpr, CFunction, CUnit}
-use Rattle.c0_meaning.specs.Ty.{Ty, bool, is_scalar}
+use Rattle.c0_tree.specs.Primitives.{CPrimitive}
+use Rattle.c0_tree.specs.Size.{need, nodes, stmts_nodes}
+use Rattle.c0_tree.specs.Tree.{CExpr, CStmts, CBody, code, CDecl, CFunction, CUnit}
+use Rattle.c0_meaning.specs.Ty.{Ty, bool, is_scalar, ty_of}
+use Rattle.c0_meaning.specs.Limits.{locals_of}
 use Rattle.c0_meaning.specs.Expression.{is_place}
-use Rattle.c0_meaning.specs.Numbered.{is_frame_place, IsNumberedGiven, IsNumberedLeft}
-use Rattle.c0_meaning.specs.Env.{Env, Shape, typed_of}
-use Rattle.c0_meaning.specs.Value.{Region, globals, heap, locals, Location, Value, put}
-use Rattle.c0_meaning.specs.State.{Frame, State, write}
+use Rattle.c0_meaning.specs.Numbered.{is_frame_place, IsNumberedGiven, IsNumberedLeft, IsNumberedTest, AreNumbered}
+use Rattle.c0_meaning.specs.Env.{Env, Shape, typed_of, env_of}
+use Rattle.c0_meaning.specs.Value.{Region, globals, heap, locals, Location, Value, Values, group, followed_by, zeros_of, put}
+use Rattle.c0_meaning.specs.State.{Frame, State, write, pushed}
 use Rattle.c0_meaning.specs.Sound.{shapes}
 use Rattle.c0_meaning.specs.Addresses.{words_to_part}
-use Rattle.c0_meaning.specs.TypedState.{types_of, LeadsFrom, Fits, variable_types, layout_of, IsTypedWith}
+use Rattle.c0_meaning.specs.TypedState.{types_of, LeadsFrom, Fits, AllFit, variable_types, layout_of, IsTypedWith}
 use Rattle.c0_meaning.specs.Evaluation.{value_of, place_of}
 use Rattle.std.specs.Prelude.{None, Some, IsTrue, map, slice_get}
 use Rattle.c0_expr_code.specs.Scope.{Scope}
@@ -44,6 +46,10 @@ types_for u objects f locals = variable_types f
 pub record TypedStays (u : CUnit) : Type 0 where
   pub written : (objects : List Ty) (s : State) (g : Frame) (fs : List Frame) (f : CFunction) (l : Location) (t : Ty) (v : Value) → s.frames ≡ g ∷ fs → slice_get u.functions g.function ≡ Some f → IsTypedWith u objects s
       → LeadsFrom (shapes u) (types_for u objects f l.region) l.path t → Fits (shapes u) (layout_of u objects) t v → IsTypedWith u objects (write s l v)
+  pub zeros : (objects : List Ty) (n : ℕ) (f : CFunction) (locals : List CDecl) (stmts : CStmts) (answer : CExpr) → slice_get u.functions n ≡ Some f → f.body ≡ code locals stmts answer
+      → AllFit (shapes u) (layout_of u objects) (types_of (map typed_of locals)) (zeros_of (shapes u) (map typed_of locals))
+  pub entered : (objects : List Ty) (s : State) (n : ℕ) (f : CFunction) (locals : List CDecl) (stmts : CStmts) (answer : CExpr) (args : Values) → slice_get u.functions n ≡ Some f → f.body ≡ code locals stmts answer → IsTypedWith u objects s
+      → AllFit (shapes u) (layout_of u objects) (types_of (map typed_of f.params)) args → IsTypedWith u objects (pushed (record { function = n; variables = group (followed_by args (zeros_of (shapes u) (map typed_of locals))) }) s)
 
 -- how long the code of expressions is
 pub record LengthsFit (sc : Scope) : Type 0 where
@@ -54,3 +60,16 @@ pub record LengthsFit (sc : Scope) : Type 0 where
   pub test : (e : CExpr) (s : Bool) (far r : ℕ) → length (test_code sc e s far r) ≤ 15 * nodes e
   pub test_some : (e : CExpr) (s : Bool) (far r : ℕ) → 1 ≤ length (test_code sc e s far r)
   pub test_same : (e : CExpr) (s : Bool) (far r : ℕ) → length (test_code sc e s far r) ≡ length (test_code sc e s 0 r)
+
+-- each of these types is a scalar's
+abbrev pub AllScalar : List Ty → Type 0
+AllScalar [] = Unit {0}
+AllScalar (t ∷ ts) = IsTrue (is_scalar t) × AllScalar ts
+
+-- what is known of the functions of a unit
+pub record FunctionsAre (table : List CPrimitive) (u : CUnit) : Type 0 where
+  pub scalars : (n : ℕ) (f : CFunction) → slice_get u.functions n ≡ Some f → AllScalar (types_of (map typed_of f.params))
+  pub few : (n : ℕ) (f : CFunction) → slice_get u.functions n ≡ Some f → length f.params ≤ 8
+  pub typed : (n : ℕ) (f : CFunction) (locals : List CDecl) (stmts : CStmts) (answer : CExpr) → slice_get u.functions n ≡ Some f → f.body ≡ code locals stmts answer
+      → AreNumbered (env_of table u (f.params ++ locals_of f.body)) stmts × IsNumberedTest (env_of table u (f.params ++ locals_of f.body)) answer (ty_of f.answer)
+  pub nodes : (n : ℕ) (f : CFunction) (locals : List CDecl) (stmts : CStmts) (answer : CExpr) → slice_get u.functions n ≡ Some f → f.body ≡ code locals stmts answer → stmts_nodes stmts + nodes answer ≤ 2000

@@ -10,7 +10,7 @@ use Rattle.c0_meaning.specs.TypedState.{Layout, types_of, Fits, AllFit}
 use Rattle.c0_expr_code.specs.Scope.{Scope}
 use Rattle.c0_expr_code.specs.Bases.{Bases, words_of_all, word, Held, AllHeld}
 use Rattle.c0_stmt_code.specs.Standing.{AreIn}
-use Rattle.c0_stmt_code.proofs.Args.{AllScalar}
+use Rattle.c0_stmt_code.proofs.Needs.{AllScalar}
 
 -- a value as it is at the start
 abbrev mutual
