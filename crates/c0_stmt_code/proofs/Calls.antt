@@ -95,3 +95,47 @@ module _ (runs : RunLaws) (compose : RunsCompose) (W E : Type 0) (Outer : W → 
           ]) special st.outer);
           idle = st.idle;
         }
+
+    -- types of parameters and locals, one behind the other
+    types_joined : (ds es : List CDecl) → types_of (map typed_of (ds ++ es)) ≡ types_of (map typed_of ds) ++ types_of (map typed_of es)
+    types_joined [] es = refl
+    types_joined (q ∷ ds) es = ap (λ ts. ty_of q.ty ∷ ts) (types_joined ds es)
+
+    types_length : (ds : List CDecl) → length (types_of (map typed_of ds)) ≡ length ds
+    types_length [] = refl
+    types_length (q ∷ ds) = let e = types_length ds in omega (arith, e)
+
+    -- the frame that begins
+    abbrev frame_of : List CDecl → Frame
+    frame_of locals = record { function = n; variables = group (followed_by args (zeros_of (shapes z.p.unit) (map typed_of locals))) }
+
+    size : (locals : List CDecl) (stmts : CStmts) (result : CExpr) → f.body ≡ code locals stmts result → 3 + length f.params + all_words (shapes z.p.unit) (map typed_of locals) ≡ sc.frame
+    size locals stmts result e =
+        let ls : locals_of f.body ≡ locals = ap locals_of e in
+        let l = ap (λ ds. all_words (shapes z.p.unit) (map typed_of ds)) ls in
+        let ps = words_by_types (shapes z.p.unit) (map typed_of f.params) in
+        let k = scalars_words sc (bases W E Outer Passes z objects fs) (layout_of z.p.unit objects) opened c.memory (types_of (map typed_of f.params)) (functions.scalars n f is) in
+        let t = types_length f.params in
+        omega (arith, l, ps, k, t)
+
+    variables_stand : (locals : List CDecl) (stmts : CStmts) (result : CExpr) (m : ℕ → ℕ) (regs : ℕ → ℕ) → f.body ≡ code locals stmts result → sc.in_registers ≡ false
+        → ((j : ℕ) → j < length f.params → m (low + 3 + j) ≡ c.regs (20 + j)) → ((x : ℕ) → low + 3 + length f.params ≤ x → x < low + sc.frame → m x ≡ 0) → VariablesHeld W E Outer Passes z objects regs m f (frame_of locals ∷ fs)
+    variables_stand locals stmts result m regs e form args_at zeros_at = by_form sc.in_registers form
+      where
+        by_form : (b : Bool) → b ≡ false → RegionHeld sc (bases W E Outer Passes z objects (frame_of locals ∷ fs)) (if b then regs else m) (if b then 20 else (end_of W E Outer Passes z (frame_of locals ∷ fs) - frame (shapes z.p.unit) f) + 3) (types_of sc.env.locals) (frame_of locals).variables
+        by_form true q = absurd (cc)
+        by_form false q =
+            let on = frame_on z.p.unit (frame_of locals) fs f is in
+            let sz = size locals stmts result e in
+            let at : ℕ = (end_of W E Outer Passes z (frame_of locals ∷ fs) - frame (shapes z.p.unit) f) + 3 in
+            let b : Bases = bases W E Outer Passes z objects (frame_of locals ∷ fs) in
+            let k = scalars_words sc (bases W E Outer Passes z objects fs) (layout_of z.p.unit objects) opened c.memory (types_of (map typed_of f.params)) (functions.scalars n f is) in
+            let t = types_length f.params in
+            let ls = words_by_types (shapes z.p.unit) (map typed_of locals) in
+            let first = args_held sc (bases W E Outer Passes z objects (frame_of locals ∷ fs)) (layout_of z.p.unit objects) opened m c.regs at 20 (types_of (map typed_of f.params)) args (functions.scalars n f is) fits
+                (are_in objects (frame_of locals ∷ fs) f c.regs 20 (types_of (map typed_of f.params)) args fits arguments) (λ j lt. ap m (omega (arith, on)) ∙ args_at j (omega (arith, lt, t))) in
+            let second = zeros_held sc (bases W E Outer Passes z objects (frame_of locals ∷ fs)) (layout_of z.p.unit objects) opened m (at + words_of_all (shapes z.p.unit) (types_of (map typed_of f.params))) (types_of (map typed_of locals)) (zeros_of (shapes z.p.unit) (map typed_of locals))
+                (typing.zeros objects n f locals stmts result is e) (zeros_zero (shapes z.p.unit) (map typed_of locals)) (λ x le lt. zeros_at x (omega (arith, le, on, k, t)) (omega (arith, lt, on, k, t, ls, sz))) in
+            let types : types_of (map typed_of f.params) ++ types_of (map typed_of locals) ≡ types_of sc.env.locals = sym (types_joined f.params (locals_of f.body) ∙ ap (λ ds. types_of (map typed_of f.params) ++ types_of (map typed_of ds)) (ap locals_of e)) in
+            subst (λ ts. AllHeld sc (bases W E Outer Passes z objects (frame_of locals ∷ fs)) m at ts (followed_by args (zeros_of (shapes z.p.unit) (map typed_of locals)))) types
+            (joined_held sc (bases W E Outer Passes z objects (frame_of locals ∷ fs)) (layout_of z.p.unit objects) opened m at (types_of (map typed_of f.params)) (types_of (map typed_of locals)) args (zeros_of (shapes z.p.unit) (map typed_of locals)) first second)
