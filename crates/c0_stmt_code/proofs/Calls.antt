@@ -2,6 +2,8 @@
 use Rattle.std.specs.Prelude.{map, slice_get, IsTrue, Some, None, Ok, Err, ok_or, if◌then◌else◌, nat_lt}
 use Rattle.std.proofs.Common.{◌≡◌, ◌≢◌, inl, inr, ℕ, zero, suc, ◌+◌, ◌-◌, ◌*◌, ◌%◌, ◌^◌, ◌<◌, ◌≤◌, ◌⊎◌, Bool, true, false, Option, List, [], ◌∷◌, ◌++◌, length, refl, sym, ap, ◌∙◌, subst, arith, length-append}
 use Rattle.std.proofs.lemmas.Bool.{cases_Bool, cond-true, cond-false, ltb-true, ltb-false}
+use Rattle.mips_table.specs.declared.inst.Inst.{Inst}
+use Rattle.mips_table.specs.declared.inst.Inst.TheVariants.{Sltu, Beq, J}
 use Rattle.mips_table.specs.Code.{Contents, reg, Behind, Configuration as Machine, at_with, Reaches, RunLaws, CodeAt}
 use Rattle.masm.specs.Laws.{RunsCompose, JumpsLead, StraightRuns}
 use Rattle.c0_tree.specs.Size.{nodes, stmts_nodes}
@@ -20,12 +22,12 @@ use Rattle.c0_meaning.specs.Running.{Target, Work, leave, push, Step, Go, Stop, 
 use Rattle.c0_meaning.specs.TypedState.{types_of, AllFit, Fits, layout_of, IsTypedWith}
 use Rattle.c0_expr_code.specs.Scope.{Scope}
 use Rattle.c0_expr_code.specs.Bases.{Bases, words_of_all, word, AllHeld, RegionHeld}
-use Rattle.c0_stmt_code.specs.Code.{MAX_STACK, are_calling, calls_in, stack_test, save_code, params_code, locals_code, frame_entry, entry_code, exit_code, return_code, stmts_code, statements_function, function_code}
+use Rattle.c0_stmt_code.specs.Code.{MAX_STACK, large_code, end_code, body_code, register_entry, are_calling, calls_in, stack_test, save_code, params_code, locals_code, frame_entry, entry_code, exit_code, return_code, stmts_code, statements_function, function_code}
 use Rattle.c0_stmt_code.specs.Setup.{Setup, IsOurs}
 use Rattle.c0_stmt_code.specs.Ahead.{Activation, env_in, Block, Awaits, ReturnStands, Ahead}
 use Rattle.c0_stmt_code.specs.Standing.{text, scope, bases, end_of, unit_scope, AreIn, VariablesHeld, Waiting, Runs, UnderWay, Stands, StepIs}
 use Rattle.c0_stmt_code.proofs.Needs.{HeldStays, TypedStays, FunctionsAre, LengthsFit, AllScalar}
-use Rattle.c0_stmt_code.proofs.Ways.{Way, on, of, within}
+use Rattle.c0_stmt_code.proofs.Ways.{Way, on, of, away, within}
 use Rattle.c0_stmt_code.proofs.Blocks.{front, back, block_of}
 use Rattle.c0_stmt_code.proofs.Held.{word_same, region}
 use Rattle.c0_stmt_code.proofs.State.{rest_of, state_of, standing_at}
@@ -139,3 +141,100 @@ module _ (runs : RunLaws) (compose : RunsCompose) (W E : Type 0) (Outer : W → 
             let types : types_of (map typed_of f.params) ++ types_of (map typed_of locals) ≡ types_of sc.env.locals = sym (types_joined f.params (locals_of f.body) ∙ ap (λ ds. types_of (map typed_of f.params) ++ types_of (map typed_of ds)) (ap locals_of e)) in
             subst (λ ts. AllHeld sc (bases W E Outer Passes z objects (frame_of locals ∷ fs)) m at ts (followed_by args (zeros_of (shapes z.p.unit) (map typed_of locals)))) types
             (joined_held sc (bases W E Outer Passes z objects (frame_of locals ∷ fs)) (layout_of z.p.unit objects) opened m at (types_of (map typed_of f.params)) (types_of (map typed_of locals)) args (zeros_of (shapes z.p.unit) (map typed_of locals)) first second)
+
+    abbrev its_entry : List CDecl → CStmts → List Inst
+    its_entry locals stmts = save_code sc (are_calling stmts) ++ (params_code sc (length f.params) 0 ++ locals_code sc (all_words (shapes z.p.unit) (map typed_of locals)) (3 + length f.params))
+
+    abbrev its_body : CStmts → CExpr → List Inst
+    its_body stmts result = stmts_code sc (text W E Outer Passes z).links stmts ++ return_code sc (are_calling stmts) result
+
+    code_is : (locals : List CDecl) (stmts : CStmts) (result : CExpr) → f.body ≡ code locals stmts result → sc.in_registers ≡ false → function_code sc (text W E Outer Passes z).links f ≡ (stack_test sc 29 ++ its_entry locals stmts) ++ its_body stmts result
+    code_is locals stmts result e form =
+        ap (λ b. body_code sc (text W E Outer Passes z).links (length f.params) b) e
+        ∙ ap (λ is. is ++ its_body stmts result) (cond-false sc.in_registers (register_entry sc (length f.params) (length locals) (are_calling stmts)) (frame_entry sc (length f.params) (all_words (shapes z.p.unit) (map typed_of locals)) (are_calling stmts)) form)
+
+    test_some : 1 ≤ length (stack_test sc 29)
+    test_some = omega (arith, length-append (large_code sc) (end_code 29 (4 * sc.frame) ++ (Sltu 1 30 29 ∷ Beq 1 0 1 ∷ J (sc.exit StackOut) ∷ [])), length-append (end_code 29 (4 * sc.frame)) (Sltu 1 30 29 ∷ Beq 1 0 1 ∷ J (sc.exit StackOut) ∷ []))
+
+    pub enters : (l m j k : ℕ) (cost : Cost) (h0 : Configuration W E) (s0 : Machine) (locals : List CDecl) (stmts : CStmts) (result : CExpr) → f.body ≡ code locals stmts result → sc.in_registers ≡ false
+        → Path runs compose W E Outer Passes z jumps l m j s0 (at_with k c d) → CodeAt z.w k (function_code sc (text W E Outer Passes z).links f) → cost.own + 9 ≤ 2048 * (l + 1) → m ≤ 60 * cost.own + 20 → length calls ≡ ended h0 + j
+        → StepIs W E Outer Passes z debt h0 s0 (call_function z.p cost n args target work here)
+    enters l m j k cost h0 s0 locals stmts result e form path there low_paid high_paid en =
+        subst (λ o. StepIs W E Outer Passes z debt h0 s0 (then_go (plus cost (units 1)) here (at_no_cost (ok_or o stuck)) (λ cost g. if nat_lt z.p.stack (stack_words z.p.unit fs + frame (shapes z.p.unit) g) then Stop cost (faulted StackOut) here else enter z.p cost n g.body args target work here))) (sym is)
+        (elim (cases_Bool (nat_lt z.p.stack (stack_words z.p.unit fs + frame (shapes z.p.unit) f))) [
+          | inl over ↦ subst (λ t. StepIs W E Outer Passes z debt h0 s0 t) (sym (cond-true (nat_lt z.p.stack (stack_words z.p.unit fs + frame (shapes z.p.unit) f)) (Stop cost2 (faulted StackOut) here) (enter z.p cost2 n f.body args target work here) over)) (fails (ltb-true z.p.stack (stack_words z.p.unit fs + frame (shapes z.p.unit) f) over))
+          | inr fine ↦ subst (λ t. StepIs W E Outer Passes z debt h0 s0 t) (sym (cond-false (nat_lt z.p.stack (stack_words z.p.unit fs + frame (shapes z.p.unit) f)) (Stop cost2 (faulted StackOut) here) (enter z.p cost2 n f.body args target work here) fine))
+              (subst (λ b. StepIs W E Outer Passes z debt h0 s0 (enter z.p cost2 n b args target work here)) (sym e) (goes (ltb-false z.p.stack (stack_words z.p.unit fs + frame (shapes z.p.unit) f) fine)))
+        ])
+      where
+        cost2 : Cost
+        cost2 = plus (plus cost (units 1)) (units 0)
+
+        code_at : CodeAt z.w k ((stack_test sc 29 ++ its_entry locals stmts) ++ its_body stmts result)
+        code_at = subst (CodeAt z.w k) (code_is locals stmts result e form) there
+
+        test_at : CodeAt z.w k (stack_test sc 29)
+        test_at = front z.w k (stack_test sc 29) (its_entry locals stmts) (front z.w k (stack_test sc 29 ++ its_entry locals stmts) (its_body stmts result) code_at)
+
+        fails : z.p.stack < stack_words z.p.unit fs + frame (shapes z.p.unit) f → StepIs W E Outer Passes z debt h0 s0 (Stop cost2 (faulted StackOut) here)
+        fails over =
+            let sf = z.stack_fits in
+            let sm = z.stack_small in
+            let ws = z.sound.small in
+            let sr = st.stack_room in
+            let r = (tested compose z.w z.sound straight jumps sc low (z.a.stack + z.p.stack) 29 k c d st.idle (λ q. absurd (omega (arith, q))) (λ q. absurd (omega (arith, q))) at_end st.stack_end (omega (arith, sr)) (omega (arith, sf, ws)) (omega (arith, sm)) test_at).0 (omega (arith, over)) in
+            let way = on runs z.w Passes l m j 0 7 0 s0 (at_with k c d) (at_with (sc.exit StackOut) r.0 d) path (of runs z.w Passes 7 _ _ r.2) in
+            let le = way.high in
+            (at_with (sc.exit StackOut) r.0 d, record { own = way.own; passes = j + 0; high = omega (arith, le, high_paid); ended_so = omega (arith, en); run = way.run },
+              record { objects = objects; stands = stands_in here r.0 refl st.typed refl refl refl st.stack_room (λ x side. ap (λ m. m x) r.1.memory) r.1.special (r.1.others 28 (λ q. absurd (omega (arith, q))) (λ q. absurd (omega (arith, q)))) (r.1.others 30 (λ q. absurd (omega (arith, q))) (λ q. absurd (omega (arith, q)))); at = refl })
+
+        goes : stack_words z.p.unit fs + frame (shapes z.p.unit) f ≤ z.p.stack → StepIs W E Outer Passes z debt h0 s0 (Go (plus cost2 (units (all_words (shapes z.p.unit) (map typed_of locals)))) (push stmts (leave result target ∷ work)) (with_state here (pushed (frame_of locals) (state_of gv hv hw fs))))
+        goes fine =
+            let sf = z.stack_fits in
+            let sm = z.stack_small in
+            let ws = z.sound.small in
+            let sr = st.stack_room in
+            let gf = z.globals_fit in
+            let hf = z.heap_fits in
+            let sz = size locals stmts result e in
+            let few = functions.few n f is in
+            let on_frame = frame_on z.p.unit (frame_of locals) fs f is in
+            let t = (tested compose z.w z.sound straight jumps sc low (z.a.stack + z.p.stack) 29 k c d st.idle (λ q. absurd (omega (arith, q))) (λ q. absurd (omega (arith, q))) at_end st.stack_end (omega (arith, sr)) (omega (arith, sf, ws)) (omega (arith, sm)) test_at).1 (omega (arith, fine)) in
+            let c1 : Contents = t.0 in
+            let k1 : ℕ = k + length (stack_test sc 29) in
+            let entry_at = back z.w k (stack_test sc 29) (its_entry locals stmts) (front z.w k (stack_test sc 29 ++ its_entry locals stmts) (its_body stmts result) code_at) in
+            let fr = frames compose z.w z.sound straight jumps runs Passes sc (low + sc.frame) (omega arith) (omega (arith, fine, sf, ws)) (omega (arith, fine, sf)) (λ x ge lt. z.ours x (inl (omega (arith, ge, gf, hf), omega (arith, lt, fine)))) (are_calling stmts) (length f.params) (all_words (shapes z.p.unit) (map typed_of locals)) k1 t.0 d st.idle sz few (t.1.is (λ q. absurd (omega (arith, q)))) entry_at in
+            let c2 : Contents = fr.contents in
+            let base : low + sc.frame - sc.frame ≡ low = omega arith in
+            let kb : ℕ = k + length (stack_test sc 29 ++ its_entry locals stmts) in
+            let len : k1 + length (its_entry locals stmts) ≡ kb = omega (arith, length-append (stack_test sc 29) (its_entry locals stmts)) in
+            let body_at = back z.w k (stack_test sc 29 ++ its_entry locals stmts) (its_body stmts result) code_at in
+            let regs : (x : ℕ) → x ≢ 1 → x ≢ 2 → x ≢ 29 → fr.contents.regs x ≡ c.regs x = λ x n1 n2 n29. fr.made.regs x n1 n2 ∙ t.1.others x n1 n29 in
+            let memory : (x : ℕ) → (x < low) ⊎ (low + sc.frame ≤ x) → fr.contents.memory x ≡ c.memory x = λ x side. fr.made.others x (subst (λ y. (x < y) ⊎ (low + sc.frame ≤ x)) (sym base) side) ∙ ap (λ m. m x) t.1.memory in
+            let st2 = stands_in (with_state here (pushed (frame_of locals) (state_of gv hv hw fs))) fr.contents refl (typing.entered objects (state_of gv hv hw fs) n f locals stmts result args is e st.typed fits) refl refl refl (omega (arith, on_frame, fine))
+                (λ x side. elim side [ | inl lt ↦ memory x (inl lt) | inr ge ↦ memory x (inr (omega (arith, ge, fine))) ]) (fr.made.special ∙ t.1.special) (regs 28 (λ q. absurd (omega (arith, q))) (λ q. absurd (omega (arith, q))) (λ q. absurd (omega (arith, q)))) (regs 30 (λ q. absurd (omega (arith, q))) (λ q. absurd (omega (arith, q))) (λ q. absurd (omega (arith, q)))) in
+            let new : Activation = record { function = f; to = to } in
+            let runs_new : Runs W E Outer Passes z objects fr.contents (record { function = f; to = to }) (frame_of locals) fs = record {
+              is = is;
+              return_at = returns (are_calling stmts) (ap calls_in e) fr.contents (λ q. ap fr.contents.memory (sym base) ∙ fr.made.saved q ∙ t.1.others 31 (λ q. absurd (omega (arith, q))) (λ q. absurd (omega (arith, q))) ∙ return_at) (regs 31 (λ q. absurd (omega (arith, q))) (λ q. absurd (omega (arith, q))) (λ q. absurd (omega (arith, q))) ∙ return_at);
+              frame_at = fr.made.regs 29 (λ q. absurd (omega (arith, q))) (λ q. absurd (omega (arith, q))) ∙ t.1.is (λ q. absurd (omega (arith, q))) ∙ omega (arith, on_frame) ∙ sym (ap (λ b. 4 * (if b then low else end_of W E Outer Passes z (frame_of locals ∷ fs))) form);
+              variables = variables_stand locals stmts result fr.contents.memory fr.contents.regs e form (λ i lt. ap fr.contents.memory (omega arith) ∙ fr.made.arguments i lt ∙ t.1.others (20 + i) (λ q. absurd (omega (arith, q))) (λ q. absurd (omega (arith, q, lt, few))))
+                  (λ x ge lt. ap fr.contents.memory (omega (arith, ge)) ∙ fr.made.zeros (x - (low + 3 + length f.params)) (omega (arith, ge, lt, sz)));
+            } in
+            let waits2 = waiting_same W E Outer Passes z held objects c.memory fr.contents.memory acts fs (λ x le lt. memory x (inl lt)) waits in
+            let bodies = functions.typed n f locals stmts result is e in
+            let count = functions.nodes n f locals stmts result is e in
+            let calling : are_calling stmts ≡ calls_in f.body = sym (ap calls_in e) in
+            let result_at = back z.w kb (stmts_code sc (text W E Outer Passes z).links stmts) (return_code sc (are_calling stmts) result) body_at in
+            let block = block_of (text W E Outer Passes z) f (λ at left. Ahead (text W E Outer Passes z) (record { function = f; to = to } ∷ acts) at left (leave result target ∷ work)) stmts kb 0 (kb + length (stmts_code sc (text W E Outer Passes z).links stmts)) debt debt bodies.0 (omega (arith, count))
+                (front z.w kb (stmts_code sc (text W E Outer Passes z).links stmts) (return_code sc (are_calling stmts) result) body_at) refl (omega arith)
+                (record { test = bodies.1; few = omega (arith, count); code = subst (λ b. CodeAt z.w (kb + length (stmts_code sc (text W E Outer Passes z).links stmts)) (return_code sc b result)) calling result_at }, ahead) in
+            let way1 = on runs z.w Passes l m j 1 7 0 s0 (at_with k c d) (at_with k1 t.0 d) path (away runs z.w Passes 7 (at_with k c d) (at_with k1 t.0 d) (λ q. let ts = test_some in absurd (omega (arith, q, ts))) t.2) in
+            let way2 = on runs z.w Passes (l + 1) (m + 7) (j + 0) fr.least (3 + 3 * length f.params + 3 * all_words (shapes z.p.unit) (map typed_of locals) + 3) 0 s0 (at_with k1 t.0 d) (at_with kb fr.contents d) way1 (subst (λ y. Way runs z.w Passes fr.least (3 + 3 * length f.params + 3 * all_words (shapes z.p.unit) (map typed_of locals) + 3) 0 (at_with k1 t.0 d) (at_with y fr.contents d)) len fr.way) in
+            let paid = fr.paid in
+            arrives runs compose W E Outer Passes z jumps (l + 1 + fr.least) (m + 7 + (3 + 3 * length f.params + 3 * all_words (shapes z.p.unit) (map typed_of locals) + 3)) (j + 0 + 0) debt debt (plus cost2 (units (all_words (shapes z.p.unit) (map typed_of locals)))) h0 (with_state here (pushed (frame_of locals) (state_of gv hv hw fs))) s0 kb fr.contents d objects
+            (record { function = f; to = to }) acts stmts (leave result target ∷ work) way2 (omega (arith, paid, low_paid)) (omega (arith, high_paid, few)) (omega (arith, en)) st2 (runs_new, waits2) block
+          where
+            returns : (b : Bool) → calls_in f.body ≡ b → (c2 : Contents) → (b ≡ true → c2.memory low ≡ 4 * to) → c2.regs 31 ≡ 4 * to → (if calls_in f.body then c2.memory low else c2.regs 31) ≡ 4 * to
+            returns true q c2 h g = ap (λ b. if b then c2.memory low else c2.regs 31) q ∙ h refl
+            returns false q c2 h g = ap (λ b. if b then c2.memory low else c2.regs 31) q ∙ g
