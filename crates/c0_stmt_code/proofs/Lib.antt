@@ -8,6 +8,7 @@ pub mod Held
 pub mod Lengths
 pub mod Needs
 pub mod Places
+pub mod Returns
 pub mod Rooms
 pub mod Sim
 pub mod Spots
