@@ -46,6 +46,7 @@ types_for u objects f locals = variable_types f
 pub record TypedStays (u : CUnit) : Type 0 where
   pub written : (objects : List Ty) (s : State) (g : Frame) (fs : List Frame) (f : CFunction) (l : Location) (t : Ty) (v : Value) → s.frames ≡ g ∷ fs → slice_get u.functions g.function ≡ Some f → IsTypedWith u objects s
       → LeadsFrom (shapes u) (types_for u objects f l.region) l.path t → Fits (shapes u) (layout_of u objects) t v → IsTypedWith u objects (write s l v)
+  pub popped : (objects : List Ty) (s : State) (g : Frame) (fs : List Frame) → s.frames ≡ g ∷ fs → IsTypedWith u objects s → IsTypedWith u objects (record s { frames = fs })
   pub zeros : (objects : List Ty) (n : ℕ) (f : CFunction) (locals : List CDecl) (stmts : CStmts) (answer : CExpr) → slice_get u.functions n ≡ Some f → f.body ≡ code locals stmts answer
       → AllFit (shapes u) (layout_of u objects) (types_of (map typed_of locals)) (zeros_of (shapes u) (map typed_of locals))
   pub entered : (objects : List Ty) (s : State) (n : ℕ) (f : CFunction) (locals : List CDecl) (stmts : CStmts) (answer : CExpr) (args : Values) → slice_get u.functions n ≡ Some f → f.body ≡ code locals stmts answer → IsTypedWith u objects s
@@ -69,6 +70,7 @@ AllScalar (t ∷ ts) = IsTrue (is_scalar t) × AllScalar ts
 -- what is known of the functions of a unit
 pub record FunctionsAre (table : List CPrimitive) (u : CUnit) : Type 0 where
   pub scalars : (n : ℕ) (f : CFunction) → slice_get u.functions n ≡ Some f → AllScalar (types_of (map typed_of f.params))
+  pub answers : (n : ℕ) (f : CFunction) → slice_get u.functions n ≡ Some f → IsTrue (is_scalar (ty_of f.answer))
   pub few : (n : ℕ) (f : CFunction) → slice_get u.functions n ≡ Some f → length f.params ≤ 8
   pub typed : (n : ℕ) (f : CFunction) (locals : List CDecl) (stmts : CStmts) (answer : CExpr) → slice_get u.functions n ≡ Some f → f.body ≡ code locals stmts answer
       → AreNumbered (env_of table u (f.params ++ locals_of f.body)) stmts × IsNumberedTest (env_of table u (f.params ++ locals_of f.body)) answer (ty_of f.answer)
