@@ -9,6 +9,9 @@ use Rattle.c0_tree.specs.Tree.{CStmt, CStmts, done, next, CFunction}
 use Rattle.c0_meaning.specs.Env.{Env}
 use Rattle.c0_meaning.specs.Numbered.{IsNumbered, AreNumbered, no_statement, a_statement}
 use Rattle.c0_meaning.specs.Running.{Work, act_on, finish, again, leave, begin, push}
+use Rattle.std.specs.Prelude.{IsTrue}
+use Rattle.std.proofs.lemmas.Bool.{and_parts}
+use Rattle.c0_expr_code.specs.Scope.{is_free_of_calls, are_free_of_calls}
 use Rattle.c0_stmt_code.specs.Code.{skip, stmt_code, stmts_code}
 use Rattle.c0_stmt_code.specs.Ahead.{Activation, Text, env_in, MAX_NODES, Skips, Block, Ahead}
 use Rattle.c0_stmt_code.proofs.Ways.{Way, none, on, within, away}
@@ -44,15 +47,15 @@ back w m (i ∷ a) b g = let e : m + 1 + length a ≡ m + length (i ∷ a) = ome
 
 module _ (x : Text) (f : CFunction) (follows : ℕ → ℕ → Type 0) where
   -- statements stand at a word, and jumps behind them lead to what follows
-  pub block_of : (ss : CStmts) (k n to left debt : ℕ) → AreNumbered (env_in x f) ss → stmts_nodes ss ≤ MAX_NODES → CodeAt x.w k (stmts_code (x.scope f) x.links ss)
+  pub block_of : (ss : CStmts) (k n to left debt : ℕ) → AreNumbered (env_in x f) ss → stmts_nodes ss ≤ MAX_NODES → ((x.scope f).in_registers ≡ true → IsTrue (are_free_of_calls ss)) → CodeAt x.w k (stmts_code (x.scope f) x.links ss)
       → Skips x.w n (k + length (stmts_code (x.scope f) x.links ss)) to → debt ≡ n + left → follows to left → Block x f k debt ss follows
-  block_of done k n to left debt typed few code skips e h = (n, to, left, e, subst (λ y. Skips x.w n y to) (omega arith) skips, h)
-  block_of (next t rest) k n to left debt typed few code skips e h =
+  block_of done k n to left debt typed few free code skips e h = (n, to, left, e, subst (λ y. Skips x.w n y to) (omega arith) skips, h)
+  block_of (next t rest) k n to left debt typed few free code skips e h =
       let g = first_typed (env_in x f) t rest typed in
       let le : k + length (stmt_code (x.scope f) x.links t ++ stmts_code (x.scope f) x.links rest) ≡ k + length (stmt_code (x.scope f) x.links t) + length (stmts_code (x.scope f) x.links rest) = omega (arith, length-append (stmt_code (x.scope f) x.links t) (stmts_code (x.scope f) x.links rest)) in
       (
-        g.0, omega (arith, few), front x.w k (stmt_code (x.scope f) x.links t) (stmts_code (x.scope f) x.links rest) code,
-        block_of rest (k + length (stmt_code (x.scope f) x.links t)) n to left debt g.1 (omega (arith, few)) (back x.w k (stmt_code (x.scope f) x.links t) (stmts_code (x.scope f) x.links rest) code) (subst (λ y. Skips x.w n y to) le skips) e h,
+        record { typed = g.0; few = omega (arith, few); free = λ e. (and_parts (is_free_of_calls t) (are_free_of_calls rest) (free e)).0; code = front x.w k (stmt_code (x.scope f) x.links t) (stmts_code (x.scope f) x.links rest) code },
+        block_of rest (k + length (stmt_code (x.scope f) x.links t)) n to left debt g.1 (omega (arith, few)) (λ e. (and_parts (is_free_of_calls t) (are_free_of_calls rest) (free e)).1) (back x.w k (stmt_code (x.scope f) x.links t) (stmts_code (x.scope f) x.links rest) code) (subst (λ y. Skips x.w n y to) le skips) e h,
       )
 
 -- where the rest of a block and then what is left to do stand ahead

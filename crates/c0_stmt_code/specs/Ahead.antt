@@ -1,5 +1,5 @@
 -- What is left to do, as code that stands ahead: where each work item's code is, and how control comes from one to the next.
-use Rattle.std.specs.Prelude.{◌≡◌, ℕ, zero, suc, ◌+◌, ◌*◌, ◌<◌, ◌≤◌, Bool, List, [], ◌∷◌, ◌++◌, length, Some}
+use Rattle.std.specs.Prelude.{◌≡◌, ℕ, zero, suc, ◌+◌, ◌*◌, ◌<◌, ◌≤◌, Bool, true, IsTrue, List, [], ◌∷◌, ◌++◌, length, Some}
 use Rattle.mips_table.specs.Code.{Contents, Behind, World, Configuration, CodeAt}
 use Rattle.c0_tree.specs.Primitives.{CPrimitive}
 use Rattle.c0_tree.specs.Size.{nodes, args_nodes, stmt_nodes, stmts_nodes}
@@ -10,7 +10,7 @@ use Rattle.c0_meaning.specs.Limits.{locals_of}
 use Rattle.c0_meaning.specs.Statement.{MAX_NEED, new_need}
 use Rattle.c0_meaning.specs.Numbered.{IsNumberedLeft, IsNumberedTest, IsNumbered, AreNumbered}
 use Rattle.c0_meaning.specs.Running.{Target, into, outward, Work, act_on, finish, again, leave, begin}
-use Rattle.c0_expr_code.specs.Scope.{Scope}
+use Rattle.c0_expr_code.specs.Scope.{Scope, is_free_of_calls, are_free_of_calls}
 use Rattle.c0_stmt_code.specs.Code.{Links, skip, answer_code, turn_code, while_code, stmt_code, stmts_code, return_code, calls_in}
 
 -- a function that is under way, and the word of the code to which it returns
@@ -41,12 +41,19 @@ abbrev pub Skips : World → ℕ → ℕ → ℕ → Type 0
 Skips w zero k to = k ≡ to
 Skips w (suc n) k to = (over : ℕ) × (over < 32768) × (w.code k ≡ Some (skip over)) × Skips w n (k + 1 + over) to
 
+-- A statement of a function stands at a word. Functions whose variables stand in registers call nothing.
+pub record StatementStands (x : Text) (f : CFunction) (k : ℕ) (t : CStmt) : Type 0 where
+  pub typed : IsNumbered (env_in x f) t
+  pub few : stmt_nodes t ≤ MAX_NODES
+  pub free : (x.scope f).in_registers ≡ true → IsTrue (is_free_of_calls t)
+  pub code : CodeAt x.w k (stmt_code (x.scope f) x.links t)
+
 -- Statements of a function stand at a word, each behind the one before it. Behind the last, jumps lead to where `next` holds. `debt` is how many
 -- jumps are ahead in all, those of `next` among them.
 abbrev pub Block : Text → CFunction → (at debt : ℕ) → CStmts → (next : ℕ → ℕ → Type 0) → Type 0
 Block x f k debt done follows = (n : ℕ) × (to : ℕ) × (left : ℕ) × (debt ≡ n + left) × Skips x.w n k to × follows to left
 Block x f k debt (next t rest) follows =
-    IsNumbered (env_in x f) t × (stmt_nodes t ≤ MAX_NODES) × CodeAt x.w k (stmt_code (x.scope f) x.links t) × Block x f (k + length (stmt_code (x.scope f) x.links t)) debt rest follows
+    StatementStands x f k t × Block x f (k + length (stmt_code (x.scope f) x.links t)) debt rest follows
 
 -- a place that an answer of a type goes to, which is found with free registers from 8 on
 pub record IsAnswered (x : Text) (f : CFunction) (place : CExpr) (t : Ty) : Type 0 where
@@ -67,6 +74,7 @@ pub record LoopStands (x : Text) (f : CFunction) (k : ℕ) (t : CExpr) (body : C
   pub test : IsNumberedTest (env_in x f) t bool
   pub body_typed : AreNumbered (env_in x f) body
   pub few : nodes t + stmts_nodes body ≤ MAX_NODES
+  pub free : (x.scope f).in_registers ≡ true → IsTrue (are_free_of_calls body)
   pub code : CodeAt x.w k (while_code (x.scope f) t (stmts_code (x.scope f) x.links body))
 
 -- the code of a function's statements
