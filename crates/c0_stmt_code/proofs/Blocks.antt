@@ -1,5 +1,5 @@
 -- What is left to do as code ahead: pending jumps are taken, and blocks end where the next item stands.
-use Rattle.std.proofs.Common.{◌≡◌, ◌≢◌, ℕ, zero, suc, ◌+◌, ◌*◌, ◌%◌, ◌^◌, ◌<◌, ◌≤◌, true, List, [], ◌∷◌, ◌++◌, length, Some, refl, sym, ap, ◌∙◌, subst, arith, eq-eqb, length-append}
+use Rattle.std.proofs.Common.{◌≡◌, ◌≢◌, ℕ, zero, suc, ◌+◌, ◌*◌, ◌%◌, ◌^◌, ◌<◌, ◌≤◌, ◌||◌, Bool, true, false, List, [], ◌∷◌, ◌++◌, length, Some, refl, sym, ap, ◌∙◌, subst, arith, eq-eqb, length-append}
 use Rattle.mips_table.specs.Code.{Contents, Behind, World, Configuration, at_with, settle, Reaches, RunLaws, CodeAt}
 use Rattle.mips_table.specs.Device.{Idle}
 use Rattle.mips_table.specs.declared.inst.Inst.{Inst}
@@ -12,7 +12,7 @@ use Rattle.c0_meaning.specs.Running.{Work, act_on, finish, again, leave, begin, 
 use Rattle.std.specs.Prelude.{IsTrue}
 use Rattle.std.proofs.lemmas.Bool.{and_parts}
 use Rattle.c0_expr_code.specs.Scope.{is_free_of_calls, are_free_of_calls}
-use Rattle.c0_stmt_code.specs.Code.{skip, stmt_code, stmts_code}
+use Rattle.c0_stmt_code.specs.Code.{is_calling, are_calling, calls_in, skip, stmt_code, stmts_code}
 use Rattle.c0_stmt_code.specs.Ahead.{Activation, Text, env_in, MAX_NODES, Skips, Block, Ahead}
 use Rattle.c0_stmt_code.proofs.Ways.{Way, none, on, within, away}
 
@@ -36,6 +36,14 @@ module _ (runs : RunLaws) (compose : RunsCompose) (w : World) (P : Configuration
 pub first_typed : (env : Env) (t : CStmt) (rest : CStmts) → AreNumbered env (next t rest) → IsNumbered env t × AreNumbered env rest
 first_typed env t rest (a_statement g gs) = (g, gs)
 
+pub or_left : (a b : Bool) → a ≡ true → (a || b) ≡ true
+or_left true b e = refl
+or_left false b e = absurd (cc)
+
+pub or_right : (a b : Bool) → b ≡ true → (a || b) ≡ true
+or_right true b e = refl
+or_right false b e = e
+
 -- where the parts of code stand
 pub front : (w : World) (m : ℕ) (a b : List Inst) → CodeAt w m (a ++ b) → CodeAt w m a
 front w m [] b g = tt
@@ -47,15 +55,15 @@ back w m (i ∷ a) b g = let e : m + 1 + length a ≡ m + length (i ∷ a) = ome
 
 module _ (x : Text) (f : CFunction) (follows : ℕ → ℕ → Type 0) where
   -- statements stand at a word, and jumps behind them lead to what follows
-  pub block_of : (ss : CStmts) (k n to left debt : ℕ) → AreNumbered (env_in x f) ss → stmts_nodes ss ≤ MAX_NODES → ((x.scope f).in_registers ≡ true → IsTrue (are_free_of_calls ss)) → CodeAt x.w k (stmts_code (x.scope f) x.links ss)
+  pub block_of : (ss : CStmts) (k n to left debt : ℕ) → AreNumbered (env_in x f) ss → stmts_nodes ss ≤ MAX_NODES → ((x.scope f).in_registers ≡ true → IsTrue (are_free_of_calls ss)) → (IsTrue (are_calling ss) → calls_in f.body ≡ true) → CodeAt x.w k (stmts_code (x.scope f) x.links ss)
       → Skips x.w n (k + length (stmts_code (x.scope f) x.links ss)) to → debt ≡ n + left → follows to left → Block x f k debt ss follows
-  block_of done k n to left debt typed few free code skips e h = (n, to, left, e, subst (λ y. Skips x.w n y to) (omega arith) skips, h)
-  block_of (next t rest) k n to left debt typed few free code skips e h =
+  block_of done k n to left debt typed few free calls code skips e h = (n, to, left, e, subst (λ y. Skips x.w n y to) (omega arith) skips, h)
+  block_of (next t rest) k n to left debt typed few free calls code skips e h =
       let g = first_typed (env_in x f) t rest typed in
       let le : k + length (stmt_code (x.scope f) x.links t ++ stmts_code (x.scope f) x.links rest) ≡ k + length (stmt_code (x.scope f) x.links t) + length (stmts_code (x.scope f) x.links rest) = omega (arith, length-append (stmt_code (x.scope f) x.links t) (stmts_code (x.scope f) x.links rest)) in
       (
-        record { typed = g.0; few = omega (arith, few); free = λ e. (and_parts (is_free_of_calls t) (are_free_of_calls rest) (free e)).0; code = front x.w k (stmt_code (x.scope f) x.links t) (stmts_code (x.scope f) x.links rest) code },
-        block_of rest (k + length (stmt_code (x.scope f) x.links t)) n to left debt g.1 (omega (arith, few)) (λ e. (and_parts (is_free_of_calls t) (are_free_of_calls rest) (free e)).1) (back x.w k (stmt_code (x.scope f) x.links t) (stmts_code (x.scope f) x.links rest) code) (subst (λ y. Skips x.w n y to) le skips) e h,
+        record { typed = g.0; few = omega (arith, few); free = λ e. (and_parts (is_free_of_calls t) (are_free_of_calls rest) (free e)).0; calls = λ e. calls (or_left (is_calling t) (are_calling rest) e); code = front x.w k (stmt_code (x.scope f) x.links t) (stmts_code (x.scope f) x.links rest) code },
+        block_of rest (k + length (stmt_code (x.scope f) x.links t)) n to left debt g.1 (omega (arith, few)) (λ e. (and_parts (is_free_of_calls t) (are_free_of_calls rest) (free e)).1) (λ e. calls (or_right (is_calling t) (are_calling rest) e)) (back x.w k (stmt_code (x.scope f) x.links t) (stmts_code (x.scope f) x.links rest) code) (subst (λ y. Skips x.w n y to) le skips) e h,
       )
 
 -- where the rest of a block and then what is left to do stand ahead

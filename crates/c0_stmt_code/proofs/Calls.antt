@@ -74,6 +74,7 @@ module _ (runs : RunLaws) (compose : RunsCompose) (W E : Type 0) (Outer : W → 
         let wt = words_by_types (shapes z.p.unit) (map typed_of z.p.unit.globals) in
         record {
           typed = typed;
+          declared = st.declared;
           used = st.used ∙ sym ew;
           room = subst (λ y. y ≤ z.p.heap) (sym ew) st.room;
           stack_room = room;
@@ -226,7 +227,7 @@ module _ (runs : RunLaws) (compose : RunsCompose) (W E : Type 0) (Outer : W → 
             let count = functions.nodes n f locals stmts result is e in
             let calling : are_calling stmts ≡ calls_in f.body = sym (ap calls_in e) in
             let result_at = back z.w kb (stmts_code sc (text W E Outer Passes z).links stmts) (return_code sc (are_calling stmts) result) body_at in
-            let block = block_of (text W E Outer Passes z) f (λ at left. Ahead (text W E Outer Passes z) (record { function = f; to = to } ∷ acts) at left (leave result target ∷ work)) stmts kb 0 (kb + length (stmts_code sc (text W E Outer Passes z).links stmts)) debt debt bodies.0 (omega (arith, count)) (λ q. let w : true ≡ false = sym q ∙ form in absurd (cc))
+            let block = block_of (text W E Outer Passes z) f (λ at left. Ahead (text W E Outer Passes z) (record { function = f; to = to } ∷ acts) at left (leave result target ∷ work)) stmts kb 0 (kb + length (stmts_code sc (text W E Outer Passes z).links stmts)) debt debt bodies.0 (omega (arith, count)) (λ q. let w : true ≡ false = sym q ∙ form in absurd (cc)) (λ q. ap calls_in e ∙ q)
                 (front z.w kb (stmts_code sc (text W E Outer Passes z).links stmts) (return_code sc (are_calling stmts) result) body_at) refl (omega arith)
                 (record { test = bodies.1; few = omega (arith, count); code = subst (λ b. CodeAt z.w (kb + length (stmts_code sc (text W E Outer Passes z).links stmts)) (return_code sc b result)) calling result_at }, ahead) in
             let way1 = on runs z.w Passes l m j 1 7 0 s0 (at_with k c d) (at_with k1 t.0 d) path (away runs z.w Passes 7 (at_with k c d) (at_with k1 t.0 d) (λ q. let ts = test_some in absurd (omega (arith, q, ts))) t.2) in

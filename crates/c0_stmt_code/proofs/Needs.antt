@@ -33,7 +33,7 @@ pub record ExpressionsDo (w : World) (env : Env) (sc : Scope) (p : Bases) (s : S
 pub record HeldStays (structs : List Shape) : Type 0 where
   pub same : (sc : Scope) (p : Bases) (m m' : ℕ → ℕ) (a : ℕ) (types : List Ty) (v : Value) → sc.env.structs ≡ structs → ((x : ℕ) → a ≤ x → x < a + words_of_all structs types → m' x ≡ m x) → RegionHeld sc p m a types v → RegionHeld sc p m' a types v
   pub stored : (sc : Scope) (p : Bases) (m m' : ℕ → ℕ) (a : ℕ) (types : List Ty) (path : List ℕ) (t : Ty) (v x : Value) → sc.env.structs ≡ structs → LeadsFrom structs types path t → IsTrue (is_scalar t) → RegionHeld sc p m a types v
-      → m' (a + words_to_part structs types path) ≡ word sc p x → ((y : ℕ) → a ≤ y → y < a + words_of_all structs types → y ≢ a + words_to_part structs types path → m' y ≡ m y) → RegionHeld sc p m' a types (put v path x)
+      → m' (a + words_to_part structs types path) ≡ word sc p x → ((y : ℕ) → y ≢ a + words_to_part structs types path → m' y ≡ m y) → RegionHeld sc p m' a types (put v path x)
   pub inside : (types : List Ty) (path : List ℕ) (t : Ty) → LeadsFrom structs types path t → IsTrue (is_scalar t) → words_to_part structs types path < words_of_all structs types
 
 -- the types of a region's variables or objects, for a function

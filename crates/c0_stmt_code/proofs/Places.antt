@@ -57,7 +57,7 @@ module _ (runs : RunLaws) (compose : RunsCompose) (W E : Type 0) (Outer : W → 
 
   -- the expressions of the function that runs
   pub its_exprs : ExpressionsDo z.w (env_in (text W E Outer Passes z) a.function) sc (bases W E Outer Passes z objects (g ∷ fs)) (state_of gv hv hw (g ∷ fs))
-  its_exprs = let u = st.used in let o = st.room in exprs objects (state_of gv hv hw (g ∷ fs)) g fs a.function refl r.is st.typed (omega (arith, u, o)) st.stack_room
+  its_exprs = let u = st.used in let o = st.room in exprs objects (state_of gv hv hw (g ∷ fs)) g fs a.function refl r.is st.typed st.declared (omega (arith, u, o)) st.stack_room
 
   pub its_ready : Ready sc (bases W E Outer Passes z objects (g ∷ fs)) (state_of gv hv hw (g ∷ fs)) c
   its_ready = ready W E Outer Passes z objects gv hv hw g fs world calls answer c d a st r

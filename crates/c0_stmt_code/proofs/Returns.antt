@@ -126,7 +126,7 @@ module _ (runs : RunLaws) (compose : RunsCompose) (W E : Type 0) (Outer : W → 
       let s = stands_on runs compose W E Outer Passes z jumps objects here c (record c { memory = c'.memory; special = c'.special }) d k st in
       record {
         typed = typing.popped objects (state_of gv hv hw (g ∷ fs)) g fs refl st.typed;
-        used = st.used; room = st.room; stack_room = omega (arith, on, o);
+        declared = st.declared; used = st.used; room = st.room; stack_room = omega (arith, on, o);
         globals = s.globals; heap = s.heap; used_word = s.used_word; heap_size = s.heap_size; heap_first = s.heap_first; stack_first = s.stack_first; stack_size = s.stack_size;
         globals_at = r28 ∙ st.globals_at; stack_end = r30 ∙ st.stack_end;
         outer = z.outer_stays world c c' d (λ y o. ap (λ m. m y) memory) special st.outer;
@@ -166,7 +166,7 @@ module _ (runs : RunLaws) (compose : RunsCompose) (W E : Type 0) (Outer : W → 
       })
       by_target [] [] w outward [] ah e = (at_with a.to c' d, debt, led_to (record there { answer = Some v }) refl, record {
         objects = objects;
-        stands = let s = stands_below c' memory special r28 r30 in record { typed = s.typed; used = s.used; room = s.room; stack_room = s.stack_room; globals = s.globals; heap = s.heap; used_word = s.used_word; heap_size = s.heap_size; heap_first = s.heap_first; stack_first = s.stack_first; stack_size = s.stack_size; globals_at = s.globals_at; stack_end = s.stack_end; outer = s.outer; idle = s.idle };
+        stands = let s = stands_below c' memory special r28 r30 in record { typed = s.typed; declared = s.declared; used = s.used; room = s.room; stack_room = s.stack_room; globals = s.globals; heap = s.heap; used_word = s.used_word; heap_size = s.heap_size; heap_first = s.heap_first; stack_first = s.stack_first; stack_size = s.stack_size; globals_at = s.globals_at; stack_end = s.stack_end; outer = s.outer; idle = s.idle };
         no_frames = sym e;
         at = ah;
         value = v;

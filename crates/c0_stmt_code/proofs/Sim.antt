@@ -33,6 +33,7 @@ module _ (runs : RunLaws) (compose : RunsCompose) (W E : Type 0) (Outer : W → 
   pub stands_on : (objects : List Ty) (h : Configuration W E) (c c' : Contents) (d : Behind) → Keeps 0 0 c c' → Standing objects h c d → Standing objects h c' d
   stands_on objects h c c' d k st = record {
     typed = st.typed;
+    declared = st.declared;
     used = st.used;
     room = st.room;
     stack_room = st.stack_room;

@@ -17,7 +17,7 @@ use Rattle.c0_expr_code.specs.Relation.{Ready, Keeps}
 use Rattle.c0_stmt_code.specs.Code.{calls_in}
 use Rattle.c0_stmt_code.specs.Setup.{Setup}
 use Rattle.c0_stmt_code.specs.Ahead.{Activation, env_in}
-use Rattle.c0_stmt_code.specs.Standing.{text, scope, bases, end_of, unit_scope, VariablesHeld, Waiting, Runs, UnderWay, Stands}
+use Rattle.c0_stmt_code.specs.Standing.{AreDeclared, text, scope, bases, end_of, unit_scope, VariablesHeld, Waiting, Runs, UnderWay, Stands}
 use Rattle.c0_stmt_code.proofs.Needs.{ExpressionsDo, HeldStays}
 use Rattle.c0_stmt_code.proofs.Held.{Rest, region}
 
@@ -35,7 +35,7 @@ standing_at gv hv hw frames world calls answer = record { state = state_of gv hv
 module _ (W E : Type 0) (Outer : W → Contents → Behind → Type 0) (Passes : Machine → Machine → Type 0) (z : Setup W E Outer Passes) where
   -- what is known of the expressions of each function that runs
   abbrev pub Exprs : Type 0
-  Exprs = (objects : List Ty) (s : State) (g : Frame) (fs : List Frame) (f : CFunction) → s.frames ≡ g ∷ fs → slice_get z.p.unit.functions g.function ≡ Some f → IsTypedWith z.p.unit objects s
+  Exprs = (objects : List Ty) (s : State) (g : Frame) (fs : List Frame) (f : CFunction) → s.frames ≡ g ∷ fs → slice_get z.p.unit.functions g.function ≡ Some f → IsTypedWith z.p.unit objects s → AreDeclared (shapes z.p.unit) objects
       → words_of_all (shapes z.p.unit) objects ≤ z.p.heap → stack_words z.p.unit (g ∷ fs) ≤ z.p.stack
       → ExpressionsDo z.w (env_in (text W E Outer Passes z) f) (scope W E Outer Passes z f) (bases W E Outer Passes z objects (g ∷ fs)) s
 

@@ -1,5 +1,5 @@
 -- Assignments, choices and loops.
-use Rattle.std.specs.Prelude.{map, slice_get, max, ◌&&◌, IsTrue, Some, None, Ok, Err, if◌then◌else◌}
+use Rattle.std.specs.Prelude.{map, slice_get, max, ◌&&◌, ◌||◌, IsTrue, Some, None, Ok, Err, if◌then◌else◌}
 use Rattle.std.proofs.Common.{◌≡◌, ◌≢◌, inl, inr, ℕ, zero, suc, ◌+◌, ◌-◌, ◌*◌, ◌%◌, ◌^◌, ◌<◌, ◌≤◌, Bool, true, false, Option, List, [], ◌∷◌, ◌++◌, length, refl, sym, ap, ◌∙◌, subst, arith, length-append}
 use Rattle.mips_table.specs.declared.inst.Inst.{Inst}
 use Rattle.mips_table.specs.declared.inst.Inst.TheVariants.{Sw}
@@ -23,13 +23,13 @@ use Rattle.c0_expr_code.specs.Code.{Made, Spot, on_spot, made, operand_code, ope
 use Rattle.c0_expr_code.specs.Bases.{Bases}
 use Rattle.c0_expr_code.specs.Test.{test_code}
 use Rattle.c0_expr_code.specs.Relation.{Ready, Keeps, Comes, Gives, Source, nought, its, far, Splits, ends, Aims}
-use Rattle.c0_stmt_code.specs.Code.{Links, skip, assigned_code, assign_code, otherwise, otherwise_at, choice_code, back, turn_code, while_code, stmt_code, stmts_code}
+use Rattle.c0_stmt_code.specs.Code.{Links, are_calling, calls_in, skip, assigned_code, assign_code, otherwise, otherwise_at, choice_code, back, turn_code, while_code, stmt_code, stmts_code}
 use Rattle.c0_stmt_code.specs.Setup.{Setup}
 use Rattle.c0_stmt_code.specs.Ahead.{Activation, env_in, Skips, Block, LoopStands, Ahead}
 use Rattle.c0_stmt_code.specs.Standing.{text, scope, bases, Waiting, Runs, UnderWay, Stands, StepIs}
 use Rattle.c0_stmt_code.proofs.Needs.{ExpressionsDo, HeldStays, TypedStays, LengthsFit}
 use Rattle.c0_stmt_code.proofs.Ways.{Way, none, on, of, away, within}
-use Rattle.c0_stmt_code.proofs.Blocks.{front, skipped, Follows, behind, block_of}
+use Rattle.c0_stmt_code.proofs.Blocks.{or_left, or_right, front, skipped, Follows, behind, block_of}
 use Rattle.c0_stmt_code.proofs.Blocks as blocks
 use Rattle.c0_stmt_code.proofs.Costs.{value_within, truth_within}
 use Rattle.c0_stmt_code.proofs.Lengths.{stmts_length, stmt_length, stmt_some}
@@ -136,9 +136,9 @@ module _ (runs : RunLaws) (compose : RunsCompose) (W E : Type 0) (Outer : W → 
   far_of x y = (yes_words x + otherwise_at y) % 2 ^ 16
 
   pub chooses : (t : CExpr) (x y : CStmts) → IsNumberedTest (env_in (text W E Outer Passes z) a.function) t bool → AreNumbered (env_in (text W E Outer Passes z) a.function) x → AreNumbered (env_in (text W E Outer Passes z) a.function) y
-      → nodes t + stmts_nodes x + stmts_nodes y + 1 ≤ 2000 → (sc.in_registers ≡ true → IsTrue (are_free_of_calls x && are_free_of_calls y)) → CodeAt z.w k (choice_code sc t y (its_stmts x) (its_stmts y)) → Behind_it (k + length (choice_code sc t y (its_stmts x) (its_stmts y))) debt
+      → nodes t + stmts_nodes x + stmts_nodes y + 1 ≤ 2000 → (sc.in_registers ≡ true → IsTrue (are_free_of_calls x && are_free_of_calls y)) → (IsTrue (are_calling x || are_calling y) → calls_in a.function.body ≡ true) → CodeAt z.w k (choice_code sc t y (its_stmts x) (its_stmts y)) → Behind_it (k + length (choice_code sc t y (its_stmts x) (its_stmts y))) debt
       → StepIs W E Outer Passes z debt here s (then_go (units 1) here (truth (value_of t here.state)) (λ cost b. Go cost (push (if b then x else y) (push rest work)) here))
-  chooses t x y test tx ty few free code block =
+  chooses t x y test tx ty few free its_calls code block =
       let end : ℕ = k + length (its_test t false (far_of x y)) in
       let f = fit a.function in
       let l1 = f.test t false (far_of x y) 8 in
@@ -180,7 +180,7 @@ module _ (runs : RunLaws) (compose : RunsCompose) (W E : Type 0) (Outer : W → 
           let len : k + length (choice_code sc t y (its_stmts x) (its_stmts y)) ≡ end + length (its_stmts x) + otherwise_at y + length (its_stmts y) =
               let e = otherwise_length z.w sc (text W E Outer Passes z).links y in omega (arith, e, length-append (its_test t false (far_of x y)) (its_stmts x ++ otherwise y (its_stmts y)), length-append (its_stmts x) (otherwise y (its_stmts y))) in
           let over = otherwise_over z.w sc (text W E Outer Passes z).links y (end + length (its_stmts x)) follows.count follows.to (blocks.back z.w end (its_stmts x) (otherwise y (its_stmts y)) there) (omega (arith, l3, few)) (subst (λ m. Skips z.w follows.count m follows.to) len follows.skips) in
-          let b = block_of (text W E Outer Passes z) a.function (λ to left. Ahead (text W E Outer Passes z) (a ∷ others) to left (push rest work)) x end (otherwise_at y + follows.count) follows.to follows.left (otherwise_at y + debt) tx (omega (arith, few)) (λ q. (and_parts (are_free_of_calls x) (are_free_of_calls y) (free q)).0)
+          let b = block_of (text W E Outer Passes z) a.function (λ to left. Ahead (text W E Outer Passes z) (a ∷ others) to left (push rest work)) x end (otherwise_at y + follows.count) follows.to follows.left (otherwise_at y + debt) tx (omega (arith, few)) (λ q. (and_parts (are_free_of_calls x) (are_free_of_calls y) (free q)).0) (λ q. its_calls (or_left (are_calling x) (are_calling y) q))
               (front z.w end (its_stmts x) (otherwise y (its_stmts y)) there) over (omega (arith, owed)) follows.ahead in
           arrives runs compose W E Outer Passes z jumps (0 + 1) (0 + (1 + 16 * u)) 0 debt (otherwise_at y + debt) (plus (units 1) (units u)) here here s end c1 d objects a others x (push rest work) path1 (omega (arith, most, few)) (omega (arith, at)) (omega arith) st1 under b
       branches false u c1 least most kept path1 there l1 l2 at =
@@ -191,7 +191,7 @@ module _ (runs : RunLaws) (compose : RunsCompose) (W E : Type 0) (Outer : W → 
           let len : k + length (choice_code sc t y (its_stmts x) (its_stmts y)) ≡ end + (yes_words x + otherwise_at y) + length (its_stmts y) =
               let e = otherwise_length z.w sc (text W E Outer Passes z).links y in omega (arith, e, length-append (its_test t false (far_of x y)) (its_stmts x ++ otherwise y (its_stmts y)), length-append (its_stmts x) (otherwise y (its_stmts y))) in
           let place : end + length (its_stmts x) + otherwise_at y ≡ end + (yes_words x + otherwise_at y) = omega arith in
-          let b = block_of (text W E Outer Passes z) a.function (λ to left. Ahead (text W E Outer Passes z) (a ∷ others) to left (push rest work)) y (end + (yes_words x + otherwise_at y)) follows.count follows.to follows.left debt ty (omega (arith, few)) (λ q. (and_parts (are_free_of_calls x) (are_free_of_calls y) (free q)).1)
+          let b = block_of (text W E Outer Passes z) a.function (λ to left. Ahead (text W E Outer Passes z) (a ∷ others) to left (push rest work)) y (end + (yes_words x + otherwise_at y)) follows.count follows.to follows.left debt ty (omega (arith, few)) (λ q. (and_parts (are_free_of_calls x) (are_free_of_calls y) (free q)).1) (λ q. its_calls (or_right (are_calling x) (are_calling y) q))
               (subst (λ m. CodeAt z.w m (its_stmts y)) place (otherwise_there z.w sc (text W E Outer Passes z).links y (end + length (its_stmts x)) (blocks.back z.w end (its_stmts x) (otherwise y (its_stmts y)) there)))
               (subst (λ m. Skips z.w follows.count m follows.to) len follows.skips) follows.owed follows.ahead in
           arrives runs compose W E Outer Passes z jumps (0 + 1) (0 + (1 + 16 * u)) 0 debt debt (plus (units 1) (units u)) here here s (end + (yes_words x + otherwise_at y)) c1 d objects a others y (push rest work) path1 (omega (arith, most, few)) (omega arith) (omega arith) st1 under b
@@ -237,15 +237,15 @@ module _ (runs : RunLaws) (compose : RunsCompose) (W E : Type 0) (Outer : W → 
       then_again : Ahead (text W E Outer Passes z) (a ∷ others) (turn_at t x from) debt (again t x rest ∷ work)
       then_again = (from, stands, refl, block)
 
-      entered : (y : CStmts) → y ≡ x → AreNumbered (env_in (text W E Outer Passes z) a.function) y → stmts_nodes y ≤ 2000 → (sc.in_registers ≡ true → IsTrue (are_free_of_calls y)) → z.w.code from ≡ Some (skip (length (its_stmts y))) → CodeAt z.w (from + 1) (its_stmts y)
+      entered : (y : CStmts) → y ≡ x → AreNumbered (env_in (text W E Outer Passes z) a.function) y → stmts_nodes y ≤ 2000 → (sc.in_registers ≡ true → IsTrue (are_free_of_calls y)) → (IsTrue (are_calling y) → calls_in a.function.body ≡ true) → z.w.code from ≡ Some (skip (length (its_stmts y))) → CodeAt z.w (from + 1) (its_stmts y)
           → (owed : ℕ) × (owed ≤ 1 + debt) × Block (text W E Outer Passes z) a.function (body_at y from) owed y (λ to left. Ahead (text W E Outer Passes z) (a ∷ others) to left (again t x rest ∷ work))
-      entered done e typed few free jump code =
+      entered done e typed few free its_calls jump code =
           let there : from + 1 + 0 ≡ turn_at t x from = let q : length (its_stmts done) ≡ length (its_stmts x) = ap (λ y. length (its_stmts y)) e in omega (arith, q) in
-          (1 + debt, omega arith, block_of (text W E Outer Passes z) a.function (λ to left. Ahead (text W E Outer Passes z) (a ∷ others) to left (again t x rest ∷ work)) done from 1 (turn_at t x from) debt (1 + debt) typed few free tt
+          (1 + debt, omega arith, block_of (text W E Outer Passes z) a.function (λ to left. Ahead (text W E Outer Passes z) (a ∷ others) to left (again t x rest ∷ work)) done from 1 (turn_at t x from) debt (1 + debt) typed few free its_calls tt
           (0, omega arith, subst (λ m. z.w.code m ≡ Some (skip 0)) (omega arith) jump, omega (arith, there)) (omega arith) then_again)
-      entered (next q w) e typed few free jump code =
+      entered (next q w) e typed few free its_calls jump code =
           let there : from + 1 + length (its_stmts (next q w)) ≡ turn_at t x from = ap (λ y. from + 1 + length (its_stmts y)) e in
-          (debt, omega arith, block_of (text W E Outer Passes z) a.function (λ to left. Ahead (text W E Outer Passes z) (a ∷ others) to left (again t x rest ∷ work)) (next q w) (from + 1) 0 (turn_at t x from) debt debt typed few free code there (omega arith) then_again)
+          (debt, omega arith, block_of (text W E Outer Passes z) a.function (λ to left. Ahead (text W E Outer Passes z) (a ∷ others) to left (again t x rest ∷ work)) (next q w) (from + 1) 0 (turn_at t x from) debt debt typed few free its_calls code there (omega arith) then_again)
 
       branches : (b : Bool) (u : ℕ) (c1 : Contents) → 1 ≤ u → u ≤ nodes t → Keeps 8 8 c c1
           → Path runs compose W E Outer Passes z jumps (0 + 1) (first + (1 + 16 * u)) 0 s0 (at_with (ends true (body_at x from) (turn_at t x from + length (turn_code sc t (its_stmts x))) b) c1 d)
@@ -255,7 +255,7 @@ module _ (runs : RunLaws) (compose : RunsCompose) (W E : Type 0) (Outer : W → 
           let keeps = keeps_low 8 c c1 (omega arith) kept in
           let st1 = stands_on runs compose W E Outer Passes z jumps objects here c c1 d keeps st in
           let under = under_on W E Outer Passes z held objects (g ∷ fs) c c1 (a ∷ others) keeps (r, waits) in
-          let b = entered x refl stands.body_typed (omega (arith, n)) stands.free stands.code.0 (front z.w (from + 1) (its_stmts x) (turn_code sc t (its_stmts x)) stands.code.1) in
+          let b = entered x refl stands.body_typed (omega (arith, n)) stands.free stands.calls stands.code.0 (front z.w (from + 1) (its_stmts x) (turn_code sc t (its_stmts x)) stands.code.1) in
           let owed = b.1 in
           arrives runs compose W E Outer Passes z jumps (0 + 1) (first + (1 + 16 * u)) 0 debt b.0 (plus (units extra) (units u)) here here s0 (body_at x from) c1 d objects a others x (again t x rest ∷ work) path1 (omega (arith, most, n, few_units)) (omega (arith, owed, paid, le)) (omega arith) st1 under b.2
       branches false u c1 least most kept path1 =

@@ -86,10 +86,11 @@ module _ (W E : Type 0) (Outer : W → Contents → Behind → Type 0) (Passes :
         let here : c'.memory (place globals path) ≡ its_word v = ap (λ f. f (place globals path)) m ∙ put_same c.memory (place globals path) (its_word v) in
         (record {
           typed = typing.written objects (state_of gv hv hw (g ∷ fs)) g fs a.function (record { region = globals; path = path }) t v refl r.is st.typed l fits;
+          declared = st.declared;
           used = st.used;
           room = st.room;
           stack_room = st.stack_room;
-          globals = held.stored (unit_scope z.p.unit) (bases W E Outer Passes z objects []) c.memory c'.memory z.a.globals (types_of (map typed_of z.p.unit.globals)) path t gv v refl l scalar st.globals (here ∙ canonical) (λ y le lt ne. other y ne);
+          globals = held.stored (unit_scope z.p.unit) (bases W E Outer Passes z objects []) c.memory c'.memory z.a.globals (types_of (map typed_of z.p.unit.globals)) path t gv v refl l scalar st.globals (here ∙ canonical) other;
           heap = held.same (unit_scope z.p.unit) (bases W E Outer Passes z objects []) c.memory c'.memory z.a.heap objects hv refl (λ x le lt. other x (λ e. absurd (omega (arith, e, le, i, w, gf)))) st.heap;
           used_word = other 1026 (λ e. absurd (omega (arith, e, from, low))) ∙ st.used_word;
           heap_size = other 1027 (λ e. absurd (omega (arith, e, from, low))) ∙ st.heap_size;
@@ -119,11 +120,12 @@ module _ (W E : Type 0) (Outer : W → Contents → Behind → Type 0) (Passes :
         let here : c'.memory (place heap path) ≡ its_word v = ap (λ f. f (place heap path)) m ∙ put_same c.memory (place heap path) (its_word v) in
         (record {
           typed = typing.written objects (state_of gv hv hw (g ∷ fs)) g fs a.function (record { region = heap; path = path }) t v refl r.is st.typed l fits;
+          declared = st.declared;
           used = st.used;
           room = st.room;
           stack_room = st.stack_room;
           globals = held.same (unit_scope z.p.unit) (bases W E Outer Passes z objects []) c.memory c'.memory z.a.globals (types_of (map typed_of z.p.unit.globals)) gv refl (λ x le lt. other x (λ e. absurd (omega (arith, e, lt, w, gf)))) st.globals;
-          heap = held.stored (unit_scope z.p.unit) (bases W E Outer Passes z objects []) c.memory c'.memory z.a.heap objects path t hv v refl l scalar st.heap (here ∙ canonical) (λ y le lt ne. other y ne);
+          heap = held.stored (unit_scope z.p.unit) (bases W E Outer Passes z objects []) c.memory c'.memory z.a.heap objects path t hv v refl l scalar st.heap (here ∙ canonical) other;
           used_word = other 1026 (λ e. absurd (omega (arith, e, from, low))) ∙ st.used_word;
           heap_size = other 1027 (λ e. absurd (omega (arith, e, from, low))) ∙ st.heap_size;
           heap_first = other 1028 (λ e. absurd (omega (arith, e, from, low))) ∙ st.heap_first;
@@ -155,6 +157,7 @@ module _ (W E : Type 0) (Outer : W → Contents → Behind → Type 0) (Passes :
         let here : c'.memory (place locals path) ≡ its_word v = ap (λ f. f (place locals path)) m ∙ put_same c.memory (place locals path) (its_word v) in
         (record {
           typed = typing.written objects (state_of gv hv hw (g ∷ fs)) g fs a.function (record { region = locals; path = path }) t v refl r.is st.typed l fits;
+          declared = st.declared;
           used = st.used;
           room = st.room;
           stack_room = st.stack_room;
@@ -185,4 +188,4 @@ module _ (W E : Type 0) (Outer : W → Contents → Behind → Type 0) (Passes :
             → RegionHeld (scope W E Outer Passes z a.function) (bases W E Outer Passes z objects (g ∷ fs)) (if b then c.regs else c.memory) (if b then 20 else (end_of W E Outer Passes z (g ∷ fs) - frame (shapes z.p.unit) a.function) + 3) (types_of (scope W E Outer Passes z a.function).env.locals) g.variables
             → RegionHeld (scope W E Outer Passes z a.function) (bases W E Outer Passes z objects (g ∷ fs)) (if b then c'.regs else c'.memory) (if b then 20 else (end_of W E Outer Passes z (g ∷ fs) - frame (shapes z.p.unit) a.function) + 3) (types_of (scope W E Outer Passes z a.function).env.locals) (put g.variables path v)
         by_form true q at here other h = absurd (cc)
-        by_form false q at here other h = held.stored (scope W E Outer Passes z a.function) (bases W E Outer Passes z objects (g ∷ fs)) c.memory c'.memory ((end_of W E Outer Passes z (g ∷ fs) - frame (shapes z.p.unit) a.function) + 3) (types_of (scope W E Outer Passes z a.function).env.locals) path t g.variables v refl l scalar h here (λ y le lt ne. other y ne)
+        by_form false q at here other h = held.stored (scope W E Outer Passes z a.function) (bases W E Outer Passes z objects (g ∷ fs)) c.memory c'.memory ((end_of W E Outer Passes z (g ∷ fs) - frame (shapes z.p.unit) a.function) + 3) (types_of (scope W E Outer Passes z a.function).env.locals) path t g.variables v refl l scalar h here other

@@ -11,7 +11,7 @@ use Rattle.c0_meaning.specs.Statement.{MAX_NEED, new_need}
 use Rattle.c0_meaning.specs.Numbered.{IsNumberedLeft, IsNumberedTest, IsNumbered, AreNumbered}
 use Rattle.c0_meaning.specs.Running.{Target, into, outward, Work, act_on, finish, again, leave, begin}
 use Rattle.c0_expr_code.specs.Scope.{Scope, is_free_of_calls, are_free_of_calls}
-use Rattle.c0_stmt_code.specs.Code.{Links, skip, answer_code, turn_code, while_code, stmt_code, stmts_code, return_code, calls_in}
+use Rattle.c0_stmt_code.specs.Code.{Links, is_calling, are_calling, skip, answer_code, turn_code, while_code, stmt_code, stmts_code, return_code, calls_in}
 
 -- a function that is under way, and the word of the code to which it returns
 pub record Activation : Type 0 where
@@ -46,6 +46,7 @@ pub record StatementStands (x : Text) (f : CFunction) (k : ℕ) (t : CStmt) : Ty
   pub typed : IsNumbered (env_in x f) t
   pub few : stmt_nodes t ≤ MAX_NODES
   pub free : (x.scope f).in_registers ≡ true → IsTrue (is_free_of_calls t)
+  pub calls : IsTrue (is_calling t) → calls_in f.body ≡ true
   pub code : CodeAt x.w k (stmt_code (x.scope f) x.links t)
 
 -- Statements of a function stand at a word, each behind the one before it. Behind the last, jumps lead to where `next` holds. `debt` is how many
@@ -75,6 +76,7 @@ pub record LoopStands (x : Text) (f : CFunction) (k : ℕ) (t : CExpr) (body : C
   pub body_typed : AreNumbered (env_in x f) body
   pub few : nodes t + stmts_nodes body ≤ MAX_NODES
   pub free : (x.scope f).in_registers ≡ true → IsTrue (are_free_of_calls body)
+  pub calls : IsTrue (are_calling body) → calls_in f.body ≡ true
   pub code : CodeAt x.w k (while_code (x.scope f) t (stmts_code (x.scope f) x.links body))
 
 -- the code of a function's statements

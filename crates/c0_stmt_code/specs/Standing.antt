@@ -2,9 +2,10 @@
 use Rattle.std.specs.Prelude.{◌≡◌, ℕ, zero, suc, ◌+◌, ◌*◌, ◌<◌, ◌≤◌, Bool, true, false, if◌then◌else◌, List, [], ◌∷◌, ◌++◌, length, map, Some, slice_get}
 use Rattle.mips_table.specs.Device.{Idle}
 use Rattle.mips_table.specs.Code.{Contents, Behind, Configuration as Machine, CodeAt}
-use Rattle.c0_tree.specs.Tree.{CExpr, CStmts, CFunction, CUnit}
+use Rattle.c0_tree.specs.Tree.{CTy, CExpr, CStmts, CFunction, CUnit}
 use Rattle.c0_meaning.specs.Ty.{Ty, ty_of}
-use Rattle.c0_meaning.specs.Env.{typed_of, env_of}
+use Rattle.c0_meaning.specs.Env.{Shape, typed_of, env_of}
+use Rattle.c0_meaning.specs.Typed.{IsDeclarable}
 use Rattle.c0_meaning.specs.Words.{words}
 use Rattle.c0_meaning.specs.Sound.{shapes}
 use Rattle.c0_meaning.specs.Value.{Value, Values, empty, part}
@@ -29,6 +30,10 @@ unit_scope u = record { env = env_of [] u []; in_registers = false; frame = 0; e
 abbrev pub AreIn : Scope → Bases → (ℕ → ℕ) → ℕ → Values → Type 0
 AreIn sc b regs r empty = Unit {0}
 AreIn sc b regs r (part v vs) = (regs r ≡ word sc b v) × AreIn sc b regs (suc r) vs
+
+-- each of these types is one that may be declared
+abbrev pub AreDeclared : List Shape → List Ty → Type 0
+AreDeclared structs types = (i : ℕ) (t : Ty) → slice_get types i ≡ Some t → (c : CTy) × (ty_of c ≡ t) × IsDeclarable structs c
 
 module _ (W E : Type 0) (Outer : W → Contents → Behind → Type 0) (Passes : Machine → Machine → Type 0) (z : Setup W E Outer Passes) where
   -- what is the same for all functions
@@ -82,6 +87,7 @@ module _ (W E : Type 0) (Outer : W → Contents → Behind → Type 0) (Passes :
   -- globals' address and the stack's end; and the rest of the machine stands for the world's value
   pub record Stands (objects : List Ty) (h : Configuration W E) (c : Contents) (d : Behind) : Type 0 where
     pub typed : IsTypedWith z.p.unit objects h.state
+    pub declared : AreDeclared (shapes z.p.unit) objects
     pub used : words_of_all (shapes z.p.unit) objects ≡ h.state.heap_words
     pub room : h.state.heap_words ≤ z.p.heap
     pub stack_room : stack_words z.p.unit h.state.frames ≤ z.p.stack
