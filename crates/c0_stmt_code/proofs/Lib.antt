@@ -1,5 +1,6 @@
 pub mod Args
 pub mod Blocks
+pub mod CallActs
 pub mod Calls
 pub mod Costs
 pub mod Entry
