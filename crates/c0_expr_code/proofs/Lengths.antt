@@ -27,7 +27,7 @@ pub record Short (m : Made) (k : ℕ) : Type 0 where
 constant_length : (d n : ℕ) → length (constant_code d n) ≤ 2
 constant_length d n =
     cond_length (nat_lt n (2 ^ 16)) (Ori d 0 n ∷ []) _ 2 (omega arith)
-    (cond_length (is_near n) (Addiu d 0 (low n) ∷ []) (Lui d (n / 2 ^ 16) ∷ Ori d d (n % 2 ^ 16) ∷ []) 2 (omega arith) (omega arith))
+    (cond_length (is_near n) (Addiu d 0 (low n) ∷ []) (Lui d (n / 2 ^ 16 % 2 ^ 16) ∷ Ori d d (low n) ∷ []) 2 (omega arith) (omega arith))
 
 spot_length : (i : ℕ → ℕ → Inst) (r : ℕ) (x : Spot) → length (on_spot i r x) ≤ length x.code + 3
 spot_length i r x =

@@ -20,3 +20,10 @@ mod TestsWhole
 mod Costs
 mod Filled
 mod Names
+mod Stores
+mod Parts
+mod Ready
+mod Areas
+mod Storing
+mod Elsewhere
+mod InRange

@@ -32,39 +32,39 @@ use Rattle.c0_meaning.specs.Ty as ty
 
 module _ (w : World) (sc : Scope) (p : Bases) (s : State) (f : Machine w) (area : Area w sc p) (scene : Scene sc p s) where
   -- a constant is in a register
-  pub constant_runs : (d r v n : ℕ) (c : Contents) (k : Behind) → k.pending ≡ Idle → d ≢ 0 → CodeAt w n (constant_code d v) → (b : Contents) × (reg b.regs d ≡ v) × Keeps r d c b × ((x : ℕ) → x ≢ d → reg b.regs x ≡ reg c.regs x) × Reaches w 2 (at_with n c k) (at_with (n + length (constant_code d v)) b k)
-  constant_runs d r v n c k idle nz code = elim (cases_Bool (nat_lt v (2 ^ 16))) [
+  pub constant_runs : (d r v n : ℕ) (c : Contents) (k : Behind) → v < 2 ^ 32 → k.pending ≡ Idle → d ≢ 0 → CodeAt w n (constant_code d v) → (b : Contents) × (reg b.regs d ≡ v) × Keeps r d c b × ((x : ℕ) → x ≢ d → reg b.regs x ≡ reg c.regs x) × Reaches w 2 (at_with n c k) (at_with (n + length (constant_code d v)) b k)
+  constant_runs d r v n c k small idle nz code = elim (cases_Bool (nat_lt v (2 ^ 16))) [
     | inl e ↦
         let same : constant_code d v ≡ Ori d 0 v ∷ [] = cond-true (nat_lt v (2 ^ 16)) (Ori d 0 v ∷ []) _ e in
         let there = subst (CodeAt w n) same code in
         let one = said_step w f (Ori d 0 v) (Becomes v) n c k there.0 refl idle refl in
         let len : n + 1 ≡ n + length (constant_code d v) = omega (arith, ap length same) in
         (with_reg c d v, same_read c.regs d v nz, keeps_put r d v c, (λ x ne. other_read c.regs d v x ne), subst (λ t. Reaches w 2 (at_with n c k) (at_with t (with_reg c d v) k)) len (later w 1 2 _ _ (omega arith) one))
-    | inr e ↦ by_near (cond-false (nat_lt v (2 ^ 16)) (Ori d 0 v ∷ []) (cond (is_near v) (Addiu d 0 (low v) ∷ []) (Lui d (v / 2 ^ 16) ∷ Ori d d (v % 2 ^ 16) ∷ [])) e) (cases_Bool (is_near v))
+    | inr e ↦ by_near (cond-false (nat_lt v (2 ^ 16)) (Ori d 0 v ∷ []) (cond (is_near v) (Addiu d 0 (low v) ∷ []) (Lui d (v / 2 ^ 16 % 2 ^ 16) ∷ Ori d d (low v) ∷ [])) e) (cases_Bool (is_near v))
   ]
     where
-      by_near : constant_code d v ≡ cond (is_near v) (Addiu d 0 (low v) ∷ []) (Lui d (v / 2 ^ 16) ∷ Ori d d (v % 2 ^ 16) ∷ []) → (is_near v ≡ true) ⊎ (is_near v ≡ false) → (b : Contents) × (reg b.regs d ≡ v) × Keeps r d c b × ((x : ℕ) → x ≢ d → reg b.regs x ≡ reg c.regs x) × Reaches w 2 (at_with n c k) (at_with (n + length (constant_code d v)) b k)
+      by_near : constant_code d v ≡ cond (is_near v) (Addiu d 0 (low v) ∷ []) (Lui d (v / 2 ^ 16 % 2 ^ 16) ∷ Ori d d (low v) ∷ []) → (is_near v ≡ true) ⊎ (is_near v ≡ false) → (b : Contents) × (reg b.regs d ≡ v) × Keeps r d c b × ((x : ℕ) → x ≢ d → reg b.regs x ≡ reg c.regs x) × Reaches w 2 (at_with n c k) (at_with (n + length (constant_code d v)) b k)
       by_near q (inl e) =
           let same : constant_code d v ≡ Addiu d 0 (low v) ∷ [] = q ∙ cond-true (is_near v) (Addiu d 0 (low v) ∷ []) _ e in
           let there = subst (CodeAt w n) same code in
           let near : extended (v % 2 ^ 16) ≡ v = eqb-true (extended (low v)) v e in
-          let small = extended_small (v % 2 ^ 16) (omega arith) in
+          let below = extended_small (v % 2 ^ 16) (omega arith) in
           let one = said_step w f (Addiu d 0 (low v)) (Becomes v) n c k there.0 refl idle (near_is v 0 near ∙ omega (arith, near, small)) in
           let len : n + 1 ≡ n + length (constant_code d v) = omega (arith, ap length same) in
           (with_reg c d v, same_read c.regs d v nz, keeps_put r d v c, (λ x ne. other_read c.regs d v x ne), subst (λ t. Reaches w 2 (at_with n c k) (at_with t (with_reg c d v) k)) len (later w 1 2 _ _ (omega arith) one))
       by_near q (inr e) =
-          let same : constant_code d v ≡ Lui d (v / 2 ^ 16) ∷ Ori d d (v % 2 ^ 16) ∷ [] = q ∙ cond-false (is_near v) (Addiu d 0 (low v) ∷ []) (Lui d (v / 2 ^ 16) ∷ Ori d d (v % 2 ^ 16) ∷ []) e in
+          let same : constant_code d v ≡ Lui d (v / 2 ^ 16 % 2 ^ 16) ∷ Ori d d (low v) ∷ [] = q ∙ cond-false (is_near v) (Addiu d 0 (low v) ∷ []) (Lui d (v / 2 ^ 16 % 2 ^ 16) ∷ Ori d d (low v) ∷ []) e in
           let there = subst (CodeAt w n) same code in
           let c1 : Contents = with_reg c d (v / 2 ^ 16 * 2 ^ 16) in
-          let one = said_step w f (Lui d (v / 2 ^ 16)) (Becomes (v / 2 ^ 16 * 2 ^ 16)) n c k there.0 refl idle refl in
+          let one = said_step w f (Lui d (v / 2 ^ 16 % 2 ^ 16)) (Becomes (v / 2 ^ 16 * 2 ^ 16)) n c k there.0 refl idle (omega (arith, small)) in
           let whole : bit_or (reg c1.regs d) (v % 2 ^ 16) ≡ v = ap (λ y. bit_or y (v % 2 ^ 16)) (same_read c.regs d (v / 2 ^ 16 * 2 ^ 16) nz) ∙ halves v in
-          let two = said_step w f (Ori d d (v % 2 ^ 16)) (Becomes v) (n + 1) c1 k there.1.0 refl idle whole in
+          let two = said_step w f (Ori d d (low v)) (Becomes v) (n + 1) c1 k there.1.0 refl idle whole in
           let len : n + 1 + 1 ≡ n + length (constant_code d v) = omega (arith, ap length same) in
           (with_reg c1 d v, same_read c1.regs d v nz, keeps_on r d c c1 (with_reg c1 d v) (keeps_put r d _ c) (keeps_put r d v c1), (λ x ne. other_read c1.regs d v x ne ∙ other_read c.regs d (v / 2 ^ 16 * 2 ^ 16) x ne), subst (λ t. Reaches w 2 (at_with n c k) (at_with t (with_reg c1 d v) k)) len (joined w 1 1 _ _ _ one two))
 
-  pub constant_gives : (d r n v : ℕ) (t : Ty) (x : Value) (c : Contents) (k : Behind) → k.pending ≡ Idle → d ≢ 0 → CodeAt w n (constant_code d v) → v ≡ word sc p x → Fits sc.env.structs (layout sc p) t x → Comes w sc 0 n (n + length (constant_code d v)) c k (Gives sc p d r d t c) (paying 1 (at_no_cost (Ok x)))
-  constant_gives d r n v t x c k idle nz code e fits =
-      let a = constant_runs d r v n c k idle nz code in
+  pub constant_gives : (d r n v : ℕ) (t : Ty) (x : Value) (c : Contents) (k : Behind) → v < 2 ^ 32 → k.pending ≡ Idle → d ≢ 0 → CodeAt w n (constant_code d v) → v ≡ word sc p x → Fits sc.env.structs (layout sc p) t x → Comes w sc 0 n (n + length (constant_code d v)) c k (Gives sc p d r d t c) (paying 1 (at_no_cost (Ok x)))
+  constant_gives d r n v t x c k small idle nz code e fits =
+      let a = constant_runs d r v n c k small idle nz code in
       node w sc 2 n (n + length (constant_code d v)) c k (Gives sc p d r d t c) (at_no_cost (Ok x)) (omega arith)
       (arrives w sc 2 n _ c a.0 k (Gives sc p d r d t c) x (record { is = a.1 ∙ e; fits = fits; keeps = a.2 }) a.4)
 

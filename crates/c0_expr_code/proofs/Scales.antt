@@ -69,7 +69,7 @@ module _ (w : World) (sc : Scope) (p : Bases) (s : State) (f : Machine w) (area 
       }
   scales_by None k q n a d idle ne small low is there =
       let js : List Inst = Mult q 1 ∷ Mflo 1 ∷ [] in
-      let first = constant_runs w sc p s f area scene 1 1 (4 * k % 2 ^ 32) n a d idle (λ z. absurd (omega (arith, z))) (code_front w n (constant_code 1 (4 * k % 2 ^ 32)) (Mult q 1 ∷ Mflo 1 ∷ []) there) in
+      let first = constant_runs w sc p s f area scene 1 1 (4 * k % 2 ^ 32) n a d (omega arith) idle (λ z. absurd (omega (arith, z))) (code_front w n (constant_code 1 (4 * k % 2 ^ 32)) (Mult q 1 ∷ Mflo 1 ∷ []) there) in
       let rest = code_back w n (constant_code 1 (4 * k % 2 ^ 32)) (Mult q 1 ∷ Mflo 1 ∷ []) there in
       let b : Contents = first.0 in
       let product : lower (signed_product (reg first.0.regs q) (reg first.0.regs 1)) ≡ 4 * (k * reg a.regs q) % 2 ^ 32 =

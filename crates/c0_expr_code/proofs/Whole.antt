@@ -97,20 +97,20 @@ module _ (w : World) (sc : Scope) (p : Bases) (s : State) (f : Machine w) (area 
   dearer : (u d q r n to : ℕ) (t : Ty) (x : Value) (c : Contents) (k : Behind) → 1 ≤ u → Comes w sc 0 n to c k (Gives sc p q r d t c) (paying 1 (at_no_cost (Ok x))) → Comes w sc 0 n to c k (Gives sc p q r d t c) (costs u (Ok x))
   dearer u d q r n to t x c k some h = (h.0, h.1, later w (0 + 16 * (1 + 0)) (0 + 16 * u) _ _ (omega arith) h.2)
 
-  constants_by : (b : Bool) (v u need : ℕ) (x : Value) (t : Ty) (literal : Option ℕ) (local : Bool) (l : Costed Location) → 1 ≤ u → nat_eq v 0 ≡ b → v ≡ word sc p x → Fits sc.env.structs (layout sc p) t x → OperandRuns w sc p s (record (constant v literal) { stands = cond b (Some 0) None }) need t (costs u (Ok x))
-  constants_by true v u need x t literal local l some z e fits r n c k idle ready code lo hi = (nought, dearer u r 0 r n (n + 0) t x c k some (nothing_gives w sc p s f area scene r n t x c k (sym (eqb-true v 0 z) ∙ e) fits))
-  constants_by false v u need x t literal local l some z e fits r n c k idle ready code lo hi = (its, dearer u r r r n _ t x c k some (constant_gives w sc p s f area scene r r n v t x c k idle (λ z. absurd (omega (arith, z, lo))) code e fits))
+  constants_by : (b : Bool) (v u need : ℕ) (x : Value) (t : Ty) (literal : Option ℕ) (local : Bool) (l : Costed Location) → v < 2 ^ 32 → 1 ≤ u → nat_eq v 0 ≡ b → v ≡ word sc p x → Fits sc.env.structs (layout sc p) t x → OperandRuns w sc p s (record (constant v literal) { stands = cond b (Some 0) None }) need t (costs u (Ok x))
+  constants_by true v u need x t literal local l small some z e fits r n c k idle ready code lo hi = (nought, dearer u r 0 r n (n + 0) t x c k some (nothing_gives w sc p s f area scene r n t x c k (sym (eqb-true v 0 z) ∙ e) fits))
+  constants_by false v u need x t literal local l small some z e fits r n c k idle ready code lo hi = (its, dearer u r r r n _ t x c k some (constant_gives w sc p s f area scene r r n v t x c k small idle (λ z. absurd (omega (arith, z, lo))) code e fits))
 
-  pub constants : (v u need : ℕ) (x : Value) (t : Ty) (literal : Option ℕ) (local : Bool) (l : Costed Location) → 1 ≤ u → v ≡ word sc p x → Fits sc.env.structs (layout sc p) t x → Claims w sc p s (constant v literal) need false local t (costs u (Ok x)) l
-  constants v u need x t literal local l some e fits = record {
-    value = λ scalar d r n c k idle ready code lo hi nz no1. dearer u d d r n _ t x c k some (constant_gives w sc p s f area scene d r n v t x c k idle nz code e fits);
-    operand = λ scalar. constants_by (nat_eq v 0) v u need x t literal local l some refl e fits;
+  pub constants : (v u need : ℕ) (x : Value) (t : Ty) (literal : Option ℕ) (local : Bool) (l : Costed Location) → v < 2 ^ 32 → 1 ≤ u → v ≡ word sc p x → Fits sc.env.structs (layout sc p) t x → Claims w sc p s (constant v literal) need false local t (costs u (Ok x)) l
+  constants v u need x t literal local l small some e fits = record {
+    value = λ scalar d r n c k idle ready code lo hi nz no1. dearer u d d r n _ t x c k some (constant_gives w sc p s f area scene d r n v t x c k small idle nz code e fits);
+    operand = λ scalar. constants_by (nat_eq v 0) v u need x t literal local l small some refl e fits;
     place = λ q. absurd (cc);
   }
 
   -- `null` is given where any pointer is asked
   pub null_right_is : (span : Span) (t : Ty) → Right w sc p s (null span) (ty.pointer t)
-  null_right_is span t = constants 0 1 1 value.null (ty.pointer t) None false (place_of (null span) s) (omega arith) refl tt
+  null_right_is span t = constants 0 1 1 value.null (ty.pointer t) None false (place_of (null span) s) (omega arith) (omega arith) refl tt
 
   -- variables
   global_variables : (x : ℕ) (t : Ty) → slice_get (types_of sc.env.globals) x ≡ Some t → Claims w sc p s (variable_made sc Global x) 1 true false t (paying 1 (loaded s (at_no_cost (variable_location Global x)))) (paying 1 (at_no_cost (variable_location Global x)))
@@ -383,15 +383,15 @@ module _ (w : World) (sc : Scope) (p : Bases) (s : State) (f : Machine w) (area 
   negatives_right : (o : Option ℕ) (m : Made) (need : ℕ) (x : Costed Value) (l : Costed Location) → 1 ≤ need → OperandRuns w sc p s m need ty.int x → ((k : ℕ) → (negative_made o m).known ≡ Some k → KnownAs sc p ty.int k (paying 1 (x >>= λ v. at_no_cost (on_unary Negate v)))) → Claims w sc p s (negative_made o m) need false false ty.int (paying 1 (x >>= λ v. at_no_cost (on_unary Negate v))) l
   negatives_right (Some n) m need x l some oa known =
       let a = known (Rattle.c0_expr_code.specs.Code.negated n) refl in
-      subst (λ y. Claims w sc p s (negative_made (Some n) m) need false false ty.int y l) (sym a.is) (constants (Rattle.c0_expr_code.specs.Code.negated n) a.units need a.value ty.int None false l a.some (sym a.word_is) a.fits)
+      subst (λ y. Claims w sc p s (negative_made (Some n) m) need false false ty.int y l) (sym a.is) (constants (Rattle.c0_expr_code.specs.Code.negated n) a.units need a.value ty.int None false l (omega arith) a.some (sym a.word_is) a.fits)
   negatives_right None m need x l some oa known = valued (negative_made None m) need false ty.int _ l refl (λ d r n c k idle ready code lo hi nz no1.
       ones w sc p s f area scene (λ q. Subu d 0 q ∷ []) m need (on_unary Negate) ty.int ty.int d r n c k x idle lo hi some ready code oa (negatives w sc p s f area scene d r nz))
 
   -- every typed expression
   pub right : (e : CExpr) (t : Ty) → HasNumberedType sc.env e t → nodes e ≤ 2000 → Right w sc p s e t
-  right _ _ (a_number {n = n} h) few = constants n 1 1 (int (pos n)) ty.int (Some n) false _ (omega arith) (sym (word_pos n (record { sfits = omega (arith, h) }))) (record { sfits = omega (arith, h) })
-  right _ _ a_true few = constants 1 1 1 (bool true) ty.bool None false _ (omega arith) refl tt
-  right _ _ a_false few = constants 0 1 1 (bool false) ty.bool None false _ (omega arith) refl tt
+  right _ _ (a_number {n = n} h) few = constants n 1 1 (int (pos n)) ty.int (Some n) false _ (omega (arith, h)) (omega arith) (sym (word_pos n (record { sfits = omega (arith, h) }))) (record { sfits = omega (arith, h) })
+  right _ _ a_true few = constants 1 1 1 (bool true) ty.bool None false _ (omega arith) (omega arith) refl tt
+  right _ _ a_false few = constants 0 1 1 (bool false) ty.bool None false _ (omega arith) (omega arith) refl tt
   right _ _ (a_variable {x = x} {d = d} h) few = variables x.kind x.number d h
   right _ _ (a_field {e = e} {f = g} {x = x} {d = d} pl h q) few =
       let part = right e (ty.named x) h (omega arith) in

@@ -4,3 +4,4 @@ pub mod Test
 pub mod Bases
 pub mod Relation
 pub mod Laws
+pub mod Rows

@@ -1,7 +1,11 @@
 //! The laws of the code of expressions. Each is the contract of a function that does nothing.
 
-ghost use Rattle.c0_expr_code.specs.Laws.{CodesAreShort, CostsAreFew, ExpressionsRun, GivenRun, NamesAreEnough, TestsRun};
+ghost use Rattle.c0_expr_code.specs.Laws.{AreasHold, CodesAreShort, CodesInRange, CostsAreFew, ExpressionsRun, GivenRun, HeldElsewhere, HeldStays, NamesAreEnough, PartsFit, StoresHold, StoresRun, TestsRun};
+ghost use Rattle.mips_table.specs.Code.{World, Sound};
+ghost use Rattle.c0_expr_code.specs.Rows.{ArePlaces, AreSums, AreTests};
 
+use c0_meaning::laws::{units_are_typed_or_faulty, words_are_those_of_the_parts};
+use c0_meaning::run_laws::{declared_types_have_words, parts_of_a_type_are_apart};
 use masm::laws::{jumps_lead, straight_code_runs};
 
 /// The code of a typed expression gives its value, or its place, or leaves by the exit of its fault.
@@ -34,4 +38,54 @@ pub fn costs_are_few()
 /// The types of expressions hang on the names of structs, globals and variables alone.
 pub fn names_are_enough()
     ensures { NamesAreEnough }
+{}
+
+/// Where a scalar is stored, the state with it stands in the machine.
+pub fn stores_hold()
+    ensures { StoresHold }
+{}
+
+/// What stands in words stays where these do.
+pub fn held_stays()
+    ensures { HeldStays }
+{}
+
+/// Typed values stay typed with a part changed, and with more objects.
+pub fn parts_fit()
+    ensures { PartsFit }
+{}
+
+/// In a unit that is well formed all that the code of expressions rests on holds.
+pub fn areas_hold()
+    ensures { AreasHold }
+{
+    units_are_typed_or_faulty();
+    words_are_those_of_the_parts();
+    declared_types_have_words();
+    parts_of_a_type_are_apart();
+}
+
+/// A register's word is stored at a place.
+pub fn stores_run()
+    ensures { (w : World) → Sound w → StoresRun w }
+{
+    straight_code_runs();
+    jumps_lead();
+}
+
+/// Typed values stand as before where another function runs, and where there are more objects.
+pub fn held_elsewhere()
+    ensures { HeldElsewhere }
+{}
+
+/// The code of some expressions, word by word.
+pub fn worked_rows()
+    ensures sums { AreSums }
+    ensures places { ArePlaces }
+    ensures tests { AreTests }
+{}
+
+/// The instructions of the code are in range.
+pub fn codes_are_in_range()
+    ensures { CodesInRange }
 {}
