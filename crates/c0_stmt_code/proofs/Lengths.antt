@@ -24,7 +24,7 @@ spot_length i r x = elim (cases_Bool (is_near x.shift)) [
 pub constant_length : (d n : ℕ) → length (constant_code d n) ≤ 2
 constant_length d n = by_tests (nat_lt n (2 ^ 16)) (is_near n)
   where
-    by_tests : (a b : Bool) → length (if a then Ori d 0 n ∷ [] else if b then Addiu d 0 (low n) ∷ [] else Lui d (n / 2 ^ 16) ∷ Ori d d (n % 2 ^ 16) ∷ []) ≤ 2
+    by_tests : (a b : Bool) → length (if a then Ori d 0 n ∷ [] else if b then Addiu d 0 (low n) ∷ [] else Lui d (n / 2 ^ 16 % 2 ^ 16) ∷ Ori d d (n % 2 ^ 16) ∷ []) ≤ 2
     by_tests true b = omega arith
     by_tests false true = omega arith
     by_tests false false = omega arith

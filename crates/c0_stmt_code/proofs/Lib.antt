@@ -5,6 +5,7 @@ pub mod Calls
 pub mod Costs
 pub mod Entry
 pub mod Frames
+pub mod Given
 pub mod Held
 pub mod Lengths
 pub mod Needs
