@@ -6,6 +6,7 @@ pub mod Costs
 pub mod Entry
 pub mod Frames
 pub mod Given
+pub mod Given2
 pub mod Held
 pub mod Lengths
 pub mod Needs
