@@ -17,6 +17,7 @@ pub mod Sim
 pub mod Spots
 pub mod State
 pub mod Statements
+pub mod Steps
 pub mod Stores
 pub mod Variables
 pub mod Ways

@@ -1,8 +1,11 @@
 -- How a configuration of C0 with what is left to do stands in the machine.
-use Rattle.std.specs.Prelude.{◌≡◌, ℕ, zero, suc, ◌+◌, ◌*◌, ◌<◌, ◌≤◌, Bool, true, false, if◌then◌else◌, List, [], ◌∷◌, ◌++◌, length, map, Some, slice_get}
+use Rattle.std.specs.Prelude.{◌≡◌, ℕ, zero, suc, ◌+◌, ◌*◌, ◌<◌, ◌≤◌, Bool, true, false, if◌then◌else◌, List, [], ◌∷◌, ◌++◌, length, map, Some, None, slice_get}
 use Rattle.mips_table.specs.Device.{Idle}
 use Rattle.mips_table.specs.Code.{Contents, Behind, Configuration as Machine, CodeAt}
-use Rattle.c0_tree.specs.Tree.{CTy, CExpr, CStmts, CFunction, CUnit}
+use Rattle.c0_tree.specs.declared.tree.Kind.TheVariants.{Function}
+use Rattle.c0_tree.specs.Tree.{CTy, CExpr, CStmt, assign, call, new, choice, loop, CStmts, CFunction, CUnit}
+use Rattle.c0_meaning.specs.Limits.{is_asm}
+use Rattle.c0_expr_code.specs.Code.{made}
 use Rattle.c0_meaning.specs.Ty.{Ty, ty_of}
 use Rattle.c0_meaning.specs.Env.{Shape, typed_of, env_of}
 use Rattle.c0_meaning.specs.Typed.{IsDeclarable}
@@ -180,12 +183,39 @@ module _ (W E : Type 0) (Outer : W → Contents → Behind → Type 0) (Passes :
   RunIs debt used h s (Failed cost stuck h') = ⊥
   RunIs debt used h s (NotYet cost h') = (t : Machine) × (units : ℕ) × (cost.own ≡ used.own + units) × (left : ℕ) × (work : List Work) × Led z.w Passes units debt left h h' s t × Simulated left work h' t
 
--- A law: from where a function is entered the machine does what a run of C0 does, step by step, over any machine with primitives.
-abbrev pub StepsRun : (W E : Type 0) (Outer : W → Contents → Behind → Type 0) (Passes : Machine → Machine → Type 0) → Type 0
-StepsRun W E Outer Passes = (z : Setup W E Outer Passes) (debt : ℕ) (item : Work) (work : List Work) (h : Configuration W E) (s : Machine) →
-    Simulated W E Outer Passes z debt (item ∷ work) h s → StepIs W E Outer Passes z debt h s (act z.p item work h)
+  -- a function that has statements, and a frame for its variables
+  pub record HasFrame (f : CFunction) : Type 0 where
+    pub in_memory : (scope f).in_registers ≡ false
+    pub statements : is_asm f.body ≡ false
 
--- a law: and so does a whole run
-abbrev pub RunsAre : (W E : Type 0) (Outer : W → Contents → Behind → Type 0) (Passes : Machine → Machine → Type 0) → Type 0
-RunsAre W E Outer Passes = (z : Setup W E Outer Passes) (debt steps limit : ℕ) (used : Cost) (work : List Work) (h : Configuration W E) (s : Machine) →
-    Simulated W E Outer Passes z debt work h s → RunIs W E Outer Passes z debt used h s (run z.p steps limit used work h)
+  -- the function of a number, if there is one, has a frame
+  abbrev pub FrameAt : ℕ → Type 0
+  FrameAt n = (f : CFunction) → slice_get z.p.unit.functions n ≡ Some f → HasFrame f
+
+  -- A statement of a function whose step is proved: an assignment to a place in memory, an `if`, a loop, or a call of a function that has a frame.
+  abbrev pub IsCoveredStatement : CFunction → CStmt → Type 0
+  IsCoveredStatement f (assign s p v) = (made (scope f) p).stands ≡ None
+  IsCoveredStatement f (call s p cs callee args) = (callee.kind ≡ Function) × FrameAt callee.number
+  IsCoveredStatement f (new s p t ts) = ⊥
+  IsCoveredStatement f (choice s t a b) = Unit {0}
+  IsCoveredStatement f (loop s t b) = Unit {0}
+
+  -- a work item of a function whose step is proved
+  abbrev pub IsCoveredItem : CFunction → Work → Type 0
+  IsCoveredItem f (act_on t rest) = IsCoveredStatement f t
+  IsCoveredItem f (finish place v rest) = (made (scope f) place).stands ≡ None
+  IsCoveredItem f (again t body rest) = Unit {0}
+  IsCoveredItem f (leave answer target) = (scope f).in_registers ≡ false
+  IsCoveredItem f (begin n args) = FrameAt n
+
+  -- of the function that runs, or of the one that is called first
+  abbrev pub IsCovered : List Frame → Work → Type 0
+  IsCovered [] (begin n args) = FrameAt n
+  IsCovered [] item = ⊥
+  IsCovered (g ∷ frames) item = (f : CFunction) → slice_get z.p.unit.functions g.function ≡ Some f → IsCoveredItem f item
+
+-- A law: where what is left to do stands in the machine, a step of C0's meaning is a run of the code, over any machine with primitives. It is stated of
+-- the steps that are proved.
+abbrev pub StepsRun : (W E : Type 0) (Outer : W → Contents → Behind → Type 0) (Passes : Machine → Machine → Type 0) → Type 0
+StepsRun W E Outer Passes = (z : Setup W E Outer Passes) (debt : ℕ) (item : Work) (work : List Work) (h : Configuration W E) (s : Machine)
+    → IsCovered W E Outer Passes z h.state.frames item → Simulated W E Outer Passes z debt (item ∷ work) h s → StepIs W E Outer Passes z debt h s (act z.p item work h)

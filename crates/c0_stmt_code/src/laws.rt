@@ -1,10 +1,14 @@
 //! The laws of the code of statements: each function says one, and does nothing.
 
-ghost use Rattle.c0_stmt_code.specs.Standing.{StepsRun, RunsAre};
-ghost use Rattle.std.specs.Prelude.{ℕ};
+ghost use Rattle.c0_stmt_code.specs.Standing.{StepsRun};
 ghost use Rattle.mips_table.specs.Code.{Contents, Behind, Configuration};
 
-/// The machine under a unit's code: what its primitives stand for.
+use c0_expr_code::laws::{areas_hold, codes_are_short, expressions_run, held_stays, names_are_enough, parts_fit, tests_run};
+use c0_meaning::laws::{numbers_tell, units_are_typed_or_faulty};
+use masm::laws::{jumps_lead, runs_compose, straight_code_runs};
+use mips_table::runs::code_runs_join;
+
+/// The machine under a unit's code: what the rest of it stands for, and how primitives are passed.
 pub trait Outside {
     ghost Standing: { Type 0 };
 
@@ -15,8 +19,21 @@ pub trait Outside {
     ghost passes: { Configuration → Configuration → Type 0 };
 }
 
-/// Nothing.
-pub fn nothing<M: Outside>()
-    ensures steps { StepsRun M.Standing M.Entry M.outer M.passes → StepsRun M.Standing M.Entry M.outer M.passes }
-    ensures runs { RunsAre M.Standing M.Entry M.outer M.passes → RunsAre M.Standing M.Entry M.outer M.passes }
-{}
+/// A step of C0's meaning is a run of the code.
+pub fn steps_run<M: Outside>()
+    ensures { StepsRun M.Standing M.Entry M.outer M.passes }
+{
+    expressions_run();
+    tests_run();
+    names_are_enough();
+    areas_hold();
+    codes_are_short();
+    held_stays();
+    parts_fit();
+    numbers_tell();
+    units_are_typed_or_faulty();
+    runs_compose();
+    straight_code_runs();
+    jumps_lead();
+    code_runs_join();
+}
