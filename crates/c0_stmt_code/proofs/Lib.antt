@@ -21,3 +21,4 @@ pub mod Steps
 pub mod Stores
 pub mod Variables
 pub mod Ways
+pub mod Whole

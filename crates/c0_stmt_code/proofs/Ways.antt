@@ -15,7 +15,7 @@ module _ (laws : RunLaws) (w : World) (P : Configuration → Configuration → T
   steps_on n m zero s t u a b = laws.joined w n m s t u a b
   steps_on n m (suc j) s t u a b = (n + b.0, b.1, b.2, b.3, omega (arith, b.4), laws.joined w n b.0 s t b.2 a b.5, b.6, b.7)
 
-  journey_on : (n m j i : ℕ) (s t u : Configuration) → Journey w P n j s t → Journey w P m i t u → Journey w P (n + m) (j + i) s u
+  pub journey_on : (n m j i : ℕ) (s t u : Configuration) → Journey w P n j s t → Journey w P m i t u → Journey w P (n + m) (j + i) s u
   journey_on n m zero i s t u a b = let e : i ≡ 0 + i = omega arith in subst (λ k. Journey w P (n + m) k s u) e (steps_on n m i s t u a b)
   journey_on n m (suc j) i s t u a b =
       let rest = journey_on a.1 m j i a.3 t u a.7 b in

@@ -219,3 +219,13 @@ module _ (W E : Type 0) (Outer : W → Contents → Behind → Type 0) (Passes :
 abbrev pub StepsRun : (W E : Type 0) (Outer : W → Contents → Behind → Type 0) (Passes : Machine → Machine → Type 0) → Type 0
 StepsRun W E Outer Passes = (z : Setup W E Outer Passes) (debt : ℕ) (item : Work) (work : List Work) (h : Configuration W E) (s : Machine)
     → IsCovered W E Outer Passes z h.state.frames item → Simulated W E Outer Passes z debt (item ∷ work) h s → StepIs W E Outer Passes z debt h s (act z.p item work h)
+
+-- every step is so, whatever is left to do
+abbrev pub EachStepRuns : (W E : Type 0) (Outer : W → Contents → Behind → Type 0) (Passes : Machine → Machine → Type 0) → Setup W E Outer Passes → Type 0
+EachStepRuns W E Outer Passes z = (debt : ℕ) (item : Work) (work : List Work) (h : Configuration W E) (s : Machine) → Simulated W E Outer Passes z debt (item ∷ work) h s → StepIs W E Outer Passes z debt h s (act z.p item work h)
+
+-- A law: where every step is so, so is a run, within any number of units: it is done where the code returns to, it failed where the fault's exit is
+-- reached, and a run that isn't over stands where more of it stands ahead; and its units are so many steps, at most and at least.
+abbrev pub RunsAre : (W E : Type 0) (Outer : W → Contents → Behind → Type 0) (Passes : Machine → Machine → Type 0) → Type 0
+RunsAre W E Outer Passes = (z : Setup W E Outer Passes) → EachStepRuns W E Outer Passes z → (debt steps limit : ℕ) (used : Cost) (work : List Work) (h : Configuration W E) (s : Machine)
+    → Simulated W E Outer Passes z debt work h s → RunIs W E Outer Passes z debt used h s (run z.p steps limit used work h)

@@ -1,6 +1,6 @@
 //! The laws of the code of statements: each function says one, and does nothing.
 
-ghost use Rattle.c0_stmt_code.specs.Standing.{StepsRun};
+ghost use Rattle.c0_stmt_code.specs.Standing.{RunsAre, StepsRun};
 ghost use Rattle.mips_table.specs.Code.{Contents, Behind, Configuration};
 
 use c0_expr_code::laws::{areas_hold, codes_are_short, expressions_run, held_stays, names_are_enough, parts_fit, tests_run};
@@ -35,5 +35,12 @@ pub fn steps_run<M: Outside>()
     runs_compose();
     straight_code_runs();
     jumps_lead();
+    code_runs_join();
+}
+
+/// A run of C0's meaning is a run of the code, where each of its steps is.
+pub fn runs_follow_steps<M: Outside>()
+    ensures { RunsAre M.Standing M.Entry M.outer M.passes }
+{
     code_runs_join();
 }
