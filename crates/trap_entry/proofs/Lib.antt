@@ -1,0 +1,5 @@
+mod Basics
+mod Deciding
+mod Faults
+mod Entering
+mod Leaving

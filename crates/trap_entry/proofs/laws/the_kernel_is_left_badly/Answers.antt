@@ -1,0 +1,6 @@
+-- By the laws that the body calls.
+use Rattle.trap_entry.proofs.Leaving.{leaving_badly}
+use Rattle.trap_entry.proofs.laws.the_kernel_is_left_badly.Goals as goal
+
+pub returns : goal.returns
+returns c w f = leaving_badly w f c.runs_compose.ensures (c.a_condition_is_tested.ensures w f)
