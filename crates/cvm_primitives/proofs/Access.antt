@@ -15,7 +15,8 @@ use Rattle.page_model.specs.Places.{Places, count_at, view}
 use Rattle.layer_map.specs.Map.{hand_at}
 use Rattle.frame_table.specs.View.{Sited}
 use Rattle.page_fault.specs.Asked.{PageBlock}
-use Rattle.cvm_primitives.specs.View.{page_steps, Held, Came, Located, UsersIn, WordGood, number, Quiet, Start, start, BehindStays}
+use Rattle.cvm_primitives.specs.View.{page_steps, Held, UsersIn, WordGood, number, Start, start, BehindStays}
+use Rattle.cvm_primitives.proofs.Between.{Came, Located, Quiet}
 use Rattle.cvm_primitives.specs.Code.{locate_code, load_code, store_code, vm_word_code, vm_put_code}
 use Rattle.cvm_primitives.proofs.Basics.{put_same, put_other, held_to}
 use Rattle.cvm_primitives.proofs.Moves.{locate_from}

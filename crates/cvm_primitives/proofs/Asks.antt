@@ -12,7 +12,8 @@ use Rattle.masm.specs.Laws.{From}
 use Rattle.cvm_primitives.proofs.Forms.{from_straight, from_then, from_when, straight_then}
 use Rattle.page_model.specs.Places.{Places}
 use Rattle.frame_table.specs.View.{Sited}
-use Rattle.cvm_primitives.specs.View.{UsersIn, WordGood, number, size_at, Quiet}
+use Rattle.cvm_primitives.specs.View.{UsersIn, WordGood, number, size_at}
+use Rattle.cvm_primitives.proofs.Between.{Quiet}
 use Rattle.cvm_primitives.specs.Code.{base_code, word_test_code, word_code}
 use Rattle.cvm_primitives.proofs.Basics.{flag_of, put_other, small_is}
 

@@ -9,7 +9,8 @@ use Rattle.mips_table.specs.Code.{put, Contents, Behind, World}
 use Rattle.page_model.specs.Places.{Places, count_at, view}
 use Rattle.layer_map.specs.Map.{hand_at}
 use Rattle.frame_table.specs.View.{Sited}
-use Rattle.cvm_primitives.specs.View.{Held, Keeps, DropAsked, Start, BehindStays}
+use Rattle.cvm_primitives.specs.View.{Held, Start, BehindStays}
+use Rattle.cvm_primitives.proofs.Between.{Keeps, DropAsked}
 use Rattle.cvm_primitives.specs.Routines.{RoutineLaws}
 
 pub const_is : (v : ℕ) → bit_or (v / 65536 * 2 ^ 16) (v % 65536) ≡ v

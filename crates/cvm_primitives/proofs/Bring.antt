@@ -13,7 +13,8 @@ use Rattle.cvm_primitives.proofs.Forms.{from_straight, from_then, from_later}
 use Rattle.page_model.specs.Places.{Places, view}
 use Rattle.frame_table.specs.View.{Sited}
 use Rattle.page_fault.specs.Asked.{PageBlock}
-use Rattle.cvm_primitives.specs.View.{Held, Keeps, Came, BothIn, FourOthers, Start}
+use Rattle.cvm_primitives.specs.View.{Held, FourOthers, Start}
+use Rattle.cvm_primitives.proofs.Between.{Keeps, Came, BothIn}
 use Rattle.cvm_primitives.specs.Code.{both_code}
 use Rattle.cvm_primitives.proofs.Basics.{flag_of}
 

@@ -1,5 +1,5 @@
 -- The primitives on memory, as the abstract machine has them.
-use Rattle.std.proofs.Common.{◌≡◌, ◌≢◌, ℕ, zero, suc, ◌+◌, ◌-◌, ◌*◌, ◌/◌, ◌%◌, ◌^◌, ◌<◌, ◌≤◌, ◌⊎◌, ◌&&◌, ◌||◌, Bool, true, false, not, cond, nat_eq, nat_lt, nat_le, nat_abs, ℤ, pos, negsuc, List, [], ◌∷◌, ◌++◌, length, take, drop, replicate, slice_index, slice_set, None, refl, sym, ap, ap₂, ◌∙◌, subst, ⊎_elim, inl, inr, arith, lt-ltb, le-ltb, eq-eqb, ne_eqb, get_or-set_same, get_or-set_other}
+use Rattle.std.proofs.Common.{◌≡◌, ◌≢◌, ℕ, zero, suc, ◌+◌, ◌-◌, ◌*◌, ◌/◌, ◌%◌, ◌^◌, ◌<◌, ◌≤◌, ◌⊎◌, ◌&&◌, ◌||◌, Bool, true, false, not, cond, nat_eq, nat_lt, nat_abs, ℤ, List, [], ◌∷◌, ◌++◌, length, take, drop, replicate, slice_index, slice_set, refl, sym, ap, ap₂, ◌∙◌, subst, ⊎_elim, inl, inr, arith, eq-eqb, ne_eqb, get_or-set_same, get_or-set_other}
 use Rattle.std.proofs.lemmas.Bool.{cases_eq, cases_lt, cond-true, cond-false}
 use Rattle.std.proofs.lemmas.List.{length-set, length-take-le, length-take, length-drop, length-replicate, length-append}
 use Rattle.std.specs.Int.{cast_unsigned, w32}
@@ -8,15 +8,14 @@ use Rattle.mips_table.specs.Flat.{Flat}
 use Rattle.mips_table.specs.Code.{put, Contents, Behind, World, Sound}
 use Rattle.masm.specs.Laws.{From}
 use Rattle.layer_map.specs.Map.{block_at, hand_at}
-use Rattle.page_model.specs.Paging.{Layout, Pages, PagesStand}
+use Rattle.page_model.specs.Paging.{Layout, Pages}
 use Rattle.page_model.specs.Places.{Places, view}
 use Rattle.cvm_model.specs.Kernel.{flat}
-use Rattle.cvm_model.specs.Primitives.{Call, Given, user_of, with_user, pages_of, register_of, is_good, granted, refused, unchanged, prim}
+use Rattle.cvm_model.specs.Primitives.{Call, Given, user_of, with_user, pages_of, is_good, granted, refused, unchanged}
 use Rattle.cvm_model.specs.Paged.{pages_by}
-use Rattle.cvm_model.specs.Stands.{UserFits}
 use Rattle.register_primitives.specs.Blocks.{word_of, IsOneOf, BlocksHold, console_of}
-use Rattle.cvm_primitives.specs.Users.{flat_of, replaced, sized, put_words, Same, Lists, InLists}
-use Rattle.cvm_primitives.specs.View.{start, Held, UsersIn, WordGood, RangeGood, CopyArgs, ResizeGood, number, size_at, page_steps}
+use Rattle.cvm_primitives.proofs.Flats.{flat_of, replaced, sized, put_words, Same, InLists}
+use Rattle.cvm_primitives.specs.View.{start, Held, WordGood, CopyArgs, ResizeGood, number, size_at, page_steps}
 use Rattle.std.proofs.lemmas.List.Elements.{All-get_or}
 use Rattle.mips_table.specs.declared.inst.Inst.{Inst}
 use Rattle.mips_table.specs.Fits.{IsWord}
@@ -27,7 +26,7 @@ use Rattle.cvm_primitives.specs.Copy.{Apart, pieces, with_word, copied, resized}
 use Rattle.cvm_primitives.specs.Code.{vm_word_code, vm_put_code, vm_copy_code, vm_resize_code}
 use Rattle.cvm_primitives.specs.Routines.{RoutineLaws}
 use Rattle.cvm_primitives.specs.Laws.{Entered, VmWord, VmPut, VmCopy, VmResize}
-use Rattle.cvm_primitives.specs.Calls.{CallEntered, CallLeft, given, call_steps, Answers, word_call, put_call, copy_call, resize_call}
+use Rattle.cvm_primitives.specs.Calls.{CallEntered, CallLeft, call_steps, Answers, word_call, put_call, copy_call, resize_call}
 use Rattle.cvm_primitives.proofs.Forms.{from_later}
 use Rattle.cvm_primitives.proofs.Numbers.{within_is, place_is, overlap_is, signed_pos, signed_neg, as_word, and_false}
 use Rattle.cvm_primitives.proofs.Users.{in_lists, stands_same}

@@ -16,7 +16,8 @@ use Rattle.cvm_primitives.specs.Copy.{Apart, copied, pieces}
 use Rattle.page_model.specs.Places.{Places}
 use Rattle.frame_table.specs.View.{Sited}
 use Rattle.page_fault.specs.Asked.{PageBlock}
-use Rattle.cvm_primitives.specs.View.{page_steps, Held, Marks, CopyGood, UsersIn, RangeGood, CopyArgs, Tests, number, size_at, start}
+use Rattle.cvm_primitives.specs.View.{page_steps, Held, Marks, CopyGood, UsersIn, RangeGood, CopyArgs, number, size_at, start}
+use Rattle.cvm_primitives.proofs.Between.{Tests}
 use Rattle.cvm_primitives.specs.Code.{base_code, size_code, range_code, apart_code, copy_asked_code, copies_code, vm_copy_code}
 use Rattle.cvm_primitives.proofs.Basics.{flag_of, small_is, held_to}
 use Rattle.cvm_primitives.proofs.Piece.{copy_law, run_short}

@@ -14,7 +14,7 @@ use Rattle.masm.specs.Laws.{From}
 use Rattle.cvm_primitives.proofs.Forms.{from_straight, from_then, from_when, from_later}
 use Rattle.page_model.specs.Places.{Places, count_at, view}
 use Rattle.frame_table.specs.View.{Sited}
-use Rattle.cvm_primitives.specs.View.{Keeps, Found, DropAsked, DropDone}
+use Rattle.cvm_primitives.proofs.Between.{Keeps, Found, DropAsked, DropDone}
 use Rattle.frame_table.specs.Code.{find_code, user_code, count_code, less_code}
 use Rattle.cvm_primitives.specs.Code.{drop_code}
 use Rattle.cvm_primitives.proofs.Basics.{const_is, put_same, put_other, kept_on, edit_is, counts_one, counts_none}

@@ -1,4 +1,6 @@
 pub mod Forms
+pub mod Flats
+pub mod Between
 pub mod Pieces
 pub mod Loop
 pub mod Basics

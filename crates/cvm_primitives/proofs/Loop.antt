@@ -9,7 +9,8 @@ use Rattle.masm.specs.Blocks.{loop_code}
 use Rattle.cvm_primitives.proofs.Forms.{weaker, loop_pays}
 use Rattle.cvm_primitives.specs.Copy.{word_at, copied, Apart, pieces, piece, copy_cost}
 use Rattle.page_model.specs.Places.{Places}
-use Rattle.cvm_primitives.specs.View.{page_steps, Held, Marks, CopyGood, PieceLaw, Start}
+use Rattle.cvm_primitives.specs.View.{page_steps, Held, Marks, CopyGood, Start}
+use Rattle.cvm_primitives.proofs.Between.{PieceLaw}
 use Rattle.cvm_primitives.proofs.Pieces.{fits, pieces_step}
 
 -- two flat memories with the same words

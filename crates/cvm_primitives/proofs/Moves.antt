@@ -10,7 +10,7 @@ use Rattle.cvm_primitives.proofs.Forms.{loop_pays}
 use Rattle.cvm_primitives.proofs.Forms.{from_straight, from_later, from_does, does_from}
 use Rattle.page_model.specs.Places.{Places}
 use Rattle.frame_table.specs.View.{Sited}
-use Rattle.cvm_primitives.specs.View.{Keeps, MoveAsked, Moved, Located}
+use Rattle.cvm_primitives.proofs.Between.{Keeps, MoveAsked, Moved, Located}
 use Rattle.cvm_primitives.specs.Code.{copy_body, copy_code, locate_code}
 use Rattle.cvm_primitives.proofs.Basics.{const_is, put_same, put_other, all_kept, kept_on}
 

@@ -16,7 +16,8 @@ use Rattle.cvm_primitives.specs.Copy.{copied, Apart, least, piece, pieces}
 use Rattle.page_model.specs.Places.{Places, view}
 use Rattle.frame_table.specs.View.{Sited}
 use Rattle.page_fault.specs.Asked.{PageBlock}
-use Rattle.cvm_primitives.specs.View.{page_steps, Held, Marks, CopyGood, PieceLaw, SharesFrame, FourOthers, Start}
+use Rattle.cvm_primitives.specs.View.{page_steps, Held, Marks, CopyGood, SharesFrame, FourOthers, Start}
+use Rattle.cvm_primitives.proofs.Between.{PieceLaw}
 use Rattle.cvm_primitives.specs.Code.{to_end_code, least_code, length_code, read_code, whole_code, words_code, piece_code, both_code, copy_code, locate_code}
 use Rattle.cvm_primitives.proofs.Basics.{flag_of, held_to}
 use Rattle.cvm_primitives.proofs.Pieces.{Fits, fits}

@@ -16,7 +16,8 @@ use Rattle.cvm_primitives.specs.Copy.{cut, grown, resized}
 use Rattle.page_model.specs.Places.{Places, count_at, view}
 use Rattle.layer_map.specs.Map.{hand_at}
 use Rattle.frame_table.specs.View.{Sited}
-use Rattle.cvm_primitives.specs.View.{page_steps, Held, DropDone, UsersIn, size_at, ResizeGood, Fresh, Start, start, BehindStays}
+use Rattle.cvm_primitives.specs.View.{page_steps, Held, UsersIn, size_at, ResizeGood, Fresh, Start, start, BehindStays}
+use Rattle.cvm_primitives.proofs.Between.{DropDone}
 use Rattle.frame_table.specs.Code.{const_code}
 use Rattle.cvm_primitives.specs.Code.{drop_code, cut_body, grow_body, cut_code, grow_code, base_code, size_code, vm_resize_code}
 use Rattle.cvm_primitives.proofs.Basics.{const_is, small_is, put_same, put_other, flag_of, edit_is, counts_none, drop_asked, held_to}

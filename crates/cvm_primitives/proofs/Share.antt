@@ -16,7 +16,8 @@ use Rattle.cvm_primitives.proofs.Forms.{from_straight, from_then, from_when, fro
 use Rattle.cvm_primitives.specs.Copy.{copied}
 use Rattle.page_model.specs.Places.{Places, count_at, view}
 use Rattle.frame_table.specs.View.{Sited}
-use Rattle.cvm_primitives.specs.View.{Held, Keeps, DropDone, Found, SharesFrame, FourOthers, Start, BehindStays}
+use Rattle.cvm_primitives.specs.View.{Held, SharesFrame, FourOthers, Start, BehindStays}
+use Rattle.cvm_primitives.proofs.Between.{Keeps, DropDone, Found}
 use Rattle.frame_table.specs.Code.{find_code, user_code, more_code}
 use Rattle.cvm_primitives.specs.Code.{drop_code, room_code, share_code, whole_code}
 use Rattle.cvm_primitives.proofs.Basics.{const_is, put_same, put_other, flag_of, kept_on, edit_is, counts_none, drop_asked, held_to}

@@ -3,10 +3,10 @@ use Rattle.std.proofs.Common.{◌≡◌, ◌≢◌, ℕ, zero, suc, ◌+◌, ◌
 use Rattle.std.proofs.lemmas.Bool.{cases_eq, cases_lt, cond-true, cond-false, ltb-true}
 use Rattle.std.proofs.lemmas.List.{get_or_append_left, get_or-append_right, get_or-take, get_or-drop, get_or-replicate, length-take-le, length-take, length-drop}
 use Rattle.page_model.specs.Paging.{Layout, Pages, Paged, PagesStand}
-use Rattle.cvm_primitives.specs.Users.{flat_of}
+use Rattle.cvm_primitives.proofs.Flats.{flat_of}
 use Rattle.cvm_primitives.specs.Copy.{word_at, with_word, copied, cut, grown, pieces}
 use Rattle.cvm_primitives.specs.View.{WordGood, CopyArgs, ResizeGood, number}
-use Rattle.cvm_primitives.specs.Users.{replaced, put_words, sized, Same, Lists, InLists}
+use Rattle.cvm_primitives.proofs.Flats.{replaced, put_words, sized, Same, Lists, InLists}
 use Rattle.cvm_primitives.proofs.Asks.{product_below}
 use Rattle.cvm_primitives.proofs.Loop.{word_before, word_in, word_past}
 use Rattle.cvm_primitives.proofs.Resize.{before_is, within_is, past_is, grown_word, grown_zero}

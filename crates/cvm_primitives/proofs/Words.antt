@@ -15,7 +15,8 @@ use Rattle.page_model.specs.Places.{Places, count_at, view}
 use Rattle.layer_map.specs.Map.{hand_at}
 use Rattle.frame_table.specs.View.{Sited}
 use Rattle.page_fault.specs.Asked.{PageBlock}
-use Rattle.cvm_primitives.specs.View.{Held, Keeps, BothIn, Located, Start, BehindStays}
+use Rattle.cvm_primitives.specs.View.{Held, Start, BehindStays}
+use Rattle.cvm_primitives.proofs.Between.{Keeps, BothIn, Located}
 use Rattle.cvm_primitives.specs.Code.{both_code, locate_code, words_code, copy_code}
 use Rattle.cvm_primitives.proofs.Basics.{kept_on}
 use Rattle.cvm_primitives.proofs.Loop.{word_before, word_in, word_past}

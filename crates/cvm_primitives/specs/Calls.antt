@@ -34,8 +34,8 @@ pub record CallEntered (w : World) (p : Places) (b most : ℕ) (users : List Fla
   pub free : (u : ℕ) → IsOneOf users u → w.kept (block_at u + 32) ≡ None
   pub regs : (r : ℕ) → c.regs r < 2 ^ 32
 
--- What it leaves: its answer, and the users and the console after it. All words below the page tables but the hand and the users' sizes, the
--- special registers, registers 28 to 31 and the sectors past the pages stay; entries are words; and no command is under way.
+-- What it leaves: its answer, and the users and the console after it. All words below the page tables but the hand and the users' sizes,
+-- the special registers, registers 28 to 31 and the sectors past the pages stay; entries are words; and no command is under way.
 pub record CallLeft (p : Places) (per : ℕ) (users : List Flat) (g : Given) (c0 : Contents) (d0 : Behind) (c : Contents) (d : Behind) : Type 0 where
   pub answer : flat (λ _. 0) g.answer ≡ c.regs 2 ∷ []
   pub stands : PagesStand p.layout (pages_by per g.users) (view p c.memory d.sectors)
@@ -72,11 +72,17 @@ given most users d call = prim most call users (console_of d)
 
 -- by this code the call takes at most what it is worth, and comes to what is said of it, whatever its arguments are
 abbrev pub Answers : World → List Inst → Call → Places → (b most : ℕ) → List Flat → Contents → Behind → Type 0
-Answers w code call p b most users c d = From w code (call_steps p b (given most users d call)) c d (CallLeft p most users (given most users d call) c d)
+Answers w code call p b most users c d =
+    From w code (call_steps p b (given most users d call)) c d (CallLeft p most users (given most users d call) c d)
 
 -- vm_word, vm_put, vm_copy and vm_resize
-pub record MemoryAnswers (w : World) : Type 0 where
-  pub word : (p : Places) (b most : ℕ) (users : List Flat) (c : Contents) (d : Behind) → CallEntered w p b most users c d → Answers w (vm_word_code p (length users) most (page_code p)) (word_call c) p b most users c d
-  pub put : (p : Places) (b most : ℕ) (users : List Flat) (c : Contents) (d : Behind) → CallEntered w p b most users c d → Answers w (vm_put_code p (length users) most (page_code p)) (put_call c) p b most users c d
-  pub copy : (p : Places) (b most : ℕ) (users : List Flat) (c : Contents) (d : Behind) → CallEntered w p b most users c d → Answers w (vm_copy_code p (length users) most (page_code p)) (copy_call c) p b most users c d
-  pub resize : (p : Places) (b most : ℕ) (users : List Flat) (c : Contents) (d : Behind) → CallEntered w p b most users c d → Answers w (vm_resize_code p (length users) most) (resize_call c) p b most users c d
+pub record CallsAnswer (w : World) (p : Places) (b most : ℕ) (users : List Flat) (c : Contents) (d : Behind) : Type 0 where
+  pub word : Answers w (vm_word_code p (length users) most (page_code p)) (word_call c) p b most users c d
+  pub put : Answers w (vm_put_code p (length users) most (page_code p)) (put_call c) p b most users c d
+  pub copy : Answers w (vm_copy_code p (length users) most (page_code p)) (copy_call c) p b most users c d
+  pub resize : Answers w (vm_resize_code p (length users) most) (resize_call c) p b most users c d
+
+-- they do from wherever they are entered
+abbrev pub MemoryAnswers : World → Type 0
+MemoryAnswers w = (p : Places) (b most : ℕ) (users : List Flat) (c : Contents) (d : Behind) →
+    CallEntered w p b most users c d → CallsAnswer w p b most users c d

@@ -41,7 +41,8 @@ length_code = (Addu 13 14 0 ∷ to_end_code 26) ++ (least_code 8 ++ (to_end_code
 
 -- register 20 becomes the address of the target's entry, and the source's becomes protected, with register 10 what it is
 abbrev pub protect_code : Places → List Inst
-protect_code p = (Sll 10 21 12 ∷ Addiu 10 10 3072 ∷ Sw 10 20 0 ∷ const_code 20 (4 * p.tables)) ++ (Srl 9 27 10 ∷ Sll 9 9 2 ∷ Addu 20 20 9 ∷ [])
+protect_code p = (Sll 10 21 12 ∷ Addiu 10 10 3072 ∷ Sw 10 20 0 ∷ const_code 20 (4 * p.tables))
+    ++ (Srl 9 27 10 ∷ Sll 9 9 2 ∷ Addu 20 20 9 ∷ [])
 
 -- a whole page: the target's page is dropped, and takes the source's frame unless four pages name it; 15 becomes 0 where it does
 abbrev pub share_code : Places → List Inst
@@ -57,11 +58,13 @@ whole_code p = (Srl 16 27 10 ∷ []) ++ (drop_code p ++ ((Srl 16 26 10 ∷ []) +
 
 -- both pages come in; page is the page-fault block
 abbrev pub both_code : List Inst → List Inst
-both_code page = (Srl 16 27 10 ∷ Addiu 15 0 1 ∷ []) ++ (page ++ ((Addiu 9 16 0 ∷ Srl 16 26 10 ∷ Subu 15 16 9 ∷ Sltiu 15 15 1 ∷ []) ++ page))
+both_code page = (Srl 16 27 10 ∷ Addiu 15 0 1 ∷ [])
+    ++ (page ++ ((Addiu 9 16 0 ∷ Srl 16 26 10 ∷ Subu 15 16 9 ∷ Sltiu 15 15 1 ∷ []) ++ page))
 
 -- the words are copied, once both are
 abbrev pub paste_code : Places → List Inst
-paste_code p = (Addu 8 26 0 ∷ locate_code p) ++ ((Addu 1 8 0 ∷ Addu 8 27 0 ∷ locate_code p) ++ ((Addu 2 8 0 ∷ Addu 3 13 0 ∷ []) ++ copy_code))
+paste_code p = (Addu 8 26 0 ∷ locate_code p)
+    ++ ((Addu 1 8 0 ∷ Addu 8 27 0 ∷ locate_code p) ++ ((Addu 2 8 0 ∷ Addu 3 13 0 ∷ []) ++ copy_code))
 
 -- both pages come in, and the words are copied
 abbrev pub words_code : Places → List Inst → List Inst
@@ -120,7 +123,8 @@ abbrev pub load_code : Places → List Inst → List Inst
 load_code p page = (Srl 16 26 10 ∷ Addiu 15 0 0 ∷ []) ++ (page ++ ((Addu 8 26 0 ∷ locate_code p) ++ (Lw 2 8 0 ∷ [])))
 
 abbrev pub store_code : Places → List Inst → List Inst
-store_code p page = (Addu 27 22 0 ∷ Srl 16 26 10 ∷ Addiu 15 0 1 ∷ []) ++ (page ++ ((Addu 8 26 0 ∷ locate_code p) ++ (Sw 27 8 0 ∷ Addiu 2 0 1 ∷ [])))
+store_code p page = (Addu 27 22 0 ∷ Srl 16 26 10 ∷ Addiu 15 0 1 ∷ [])
+    ++ (page ++ ((Addu 8 26 0 ∷ locate_code p) ++ (Sw 27 8 0 ∷ Addiu 2 0 1 ∷ [])))
 
 abbrev pub vm_word_code : Places → ℕ → ℕ → List Inst → List Inst
 vm_word_code p users per page = word_code 65535 users per (load_code p page)
@@ -184,7 +188,8 @@ second_range_code p users per page = next_range_code ++ range_code users per (ap
 abbrev pub vm_copy_code : Places → (users per : ℕ) → List Inst → List Inst
 vm_copy_code p users per page = copy_asked_code users per (pieces_code p page)
 
--- VM_RESIZE has u in 20, the new size in 21. CUT: 16 is the first page, 14 their number; GROW: 20 is the first entry's address, 13 the zero frame's entry
+-- VM_RESIZE has u in 20, the new size in 21. CUT: 16 is the first page, 14 their number; GROW: 20 is the first entry's address, 13 what a
+-- fresh entry is
 abbrev pub cut_body : Places → List Inst
 cut_body p = drop_code p ++ (Addiu 16 16 1 ∷ Addiu 14 14 65535 ∷ [])
 

@@ -9,7 +9,9 @@ word_at v z = v.word (z / 1024) (z % 1024)
 abbrev pub copied : Pages → ℕ → ℕ → ℕ → Pages
 copied v x y k = record {
   live = v.live;
-  word = λ q i. if nat_lt (1024 * q + i) y then v.word q i else if nat_lt (1024 * q + i) (y + k) then word_at v (x + (1024 * q + i - y)) else v.word q i;
+  word = λ q i. if nat_lt (1024 * q + i) y then v.word q i else
+      if nat_lt (1024 * q + i) (y + k) then word_at v (x + (1024 * q + i - y)) else
+      v.word q i;
 }
 
 -- the ranges share no word

@@ -1,6 +1,6 @@
 -- The laws of the four primitives on memory, by numbers of pages and words. Each is entered with its arguments in registers 20 to 24 and
 -- answers in register 2.
-use Rattle.std.specs.Prelude.{◌≡◌, ℕ, ◌+◌, ◌-◌, ◌*◌, ◌/◌, ◌^◌, ◌<◌, ◌≤◌, ◌⊎◌, None}
+use Rattle.std.specs.Prelude.{◌≡◌, ℕ, ◌+◌, ◌-◌, ◌*◌, ◌/◌, ◌^◌, ◌<◌, ◌⊎◌, None}
 use Rattle.mips_table.specs.Code.{put, Contents, Behind, World, Sound}
 use Rattle.masm.specs.Laws.{From}
 use Rattle.page_model.specs.Paging.{Pages}
@@ -11,7 +11,7 @@ use Rattle.cvm_primitives.specs.Copy.{word_at, with_word, copied, resized, piece
 use Rattle.cvm_primitives.specs.View.{page_steps, Start, start, Held, Marks, CopyGood, UsersIn, WordGood, CopyArgs, ResizeGood, number, size_at, Fresh, SharesFrame, FourOthers}
 use Rattle.cvm_primitives.specs.Code.{vm_word_code, vm_put_code, vm_copy_code, vm_resize_code, piece_code}
 
--- what every primitive is entered with: the machine stands for v, the users have these sizes, whose words may be written, and registers hold words
+-- what every primitive is entered with: the machine stands for v, the users have these sizes, whose words may be written
 pub record Entered (w : World) (p : Places) (b users per : ℕ) (size : ℕ → ℕ) (v : Pages) (c : Contents) (d : Behind) : Type 0 where
   pub sound : Sound w
   pub sited : Sited p w
@@ -71,36 +71,46 @@ GrowsFresh p per size c c' = Fresh p ((c.regs 20 - 1) * per + size (c.regs 20)) 
 
 -- vm_word: the word; or -1
 pub record WordRead (w : World) (p : Places) (b users per : ℕ) (size : ℕ → ℕ) (v : Pages) (c : Contents) (d : Behind) : Type 0 where
-  pub good : GoodWord users size c → From w (vm_word_code p users per (page_code p)) (word_steps p b) c d (Answered p v (start c d) (word_at v (first_word per c)))
+  pub good : GoodWord users size c →
+      From w (vm_word_code p users per (page_code p)) (word_steps p b) c d (Answered p v (start c d) (word_at v (first_word per c)))
   pub bad : (GoodWord users size c → ⊥) → From w (vm_word_code p users per (page_code p)) 600 c d (Answered p v (start c d) (2 ^ 32 - 1))
 
 -- vm_put: true, with the word stored; or false
 pub record WordPut (w : World) (p : Places) (b users per : ℕ) (size : ℕ → ℕ) (v : Pages) (c : Contents) (d : Behind) : Type 0 where
-  pub good : GoodWord users size c → From w (vm_put_code p users per (page_code p)) (word_steps p b) c d (Answered p (with_word v (first_word per c) (c.regs 22)) (start c d) 1)
+  pub good : GoodWord users size c →
+      From w (vm_put_code p users per (page_code p)) (word_steps p b) c d (Answered p (with_word v (first_word per c) (c.regs 22)) (start c d) 1)
   pub bad : (GoodWord users size c → ⊥) → From w (vm_put_code p users per (page_code p)) 600 c d (Answered p v (start c d) 0)
 
 -- vm_copy: true, with the words copied; or false
 pub record WordsCopied (w : World) (p : Places) (b users per : ℕ) (size : ℕ → ℕ) (v : Pages) (c : Contents) (d : Behind) : Type 0 where
-  pub good : GoodCopy users size c → From w (vm_copy_code p users per (page_code p)) (copy_steps p b per c) c d (Answered p (copied v (first_word per c) (second_word per c) (c.regs 24)) (start c d) 1)
+  pub good : GoodCopy users size c →
+      From w (vm_copy_code p users per (page_code p)) (copy_steps p b per c) c d
+      (Answered p (copied v (first_word per c) (second_word per c) (c.regs 24)) (start c d) 1)
   pub bad : (GoodCopy users size c → ⊥) → From w (vm_copy_code p users per (page_code p)) 600 c d (Answered p v (start c d) 0)
 
 -- vm_resize: true, with the pages cut off or added, each of these as the zero frame, and the size written; or false
 pub record MemoryResized (w : World) (p : Places) (b users per : ℕ) (size : ℕ → ℕ) (v : Pages) (c : Contents) (d : Behind) : Type 0 where
-  pub good : GoodSize users per c → From w (vm_resize_code p users per) (resize_steps p b size c) c d (λ c' d'. Answered p (pages_resized per size v c) (size_written c d) 1 c' d' × GrowsFresh p per size c c')
+  pub good : GoodSize users per c →
+      From w (vm_resize_code p users per) (resize_steps p b size c) c d
+      (λ c' d'. Answered p (pages_resized per size v c) (size_written c d) 1 c' d' × GrowsFresh p per size c c')
   pub bad : (GoodSize users per c → ⊥) → From w (vm_resize_code p users per) 600 c d (Answered p v (start c d) 0)
 
 -- each of the four, from wherever it is entered
 abbrev pub VmWord : Type 0
-VmWord = (w : World) (p : Places) (b users per : ℕ) (size : ℕ → ℕ) (v : Pages) (c : Contents) (d : Behind) → Entered w p b users per size v c d → WordRead w p b users per size v c d
+VmWord = (w : World) (p : Places) (b users per : ℕ) (size : ℕ → ℕ) (v : Pages) (c : Contents) (d : Behind) →
+    Entered w p b users per size v c d → WordRead w p b users per size v c d
 
 abbrev pub VmPut : Type 0
-VmPut = (w : World) (p : Places) (b users per : ℕ) (size : ℕ → ℕ) (v : Pages) (c : Contents) (d : Behind) → Entered w p b users per size v c d → WordPut w p b users per size v c d
+VmPut = (w : World) (p : Places) (b users per : ℕ) (size : ℕ → ℕ) (v : Pages) (c : Contents) (d : Behind) →
+    Entered w p b users per size v c d → WordPut w p b users per size v c d
 
 abbrev pub VmCopy : Type 0
-VmCopy = (w : World) (p : Places) (b users per : ℕ) (size : ℕ → ℕ) (v : Pages) (c : Contents) (d : Behind) → Entered w p b users per size v c d → WordsCopied w p b users per size v c d
+VmCopy = (w : World) (p : Places) (b users per : ℕ) (size : ℕ → ℕ) (v : Pages) (c : Contents) (d : Behind) →
+    Entered w p b users per size v c d → WordsCopied w p b users per size v c d
 
 abbrev pub VmResize : Type 0
-VmResize = (w : World) (p : Places) (b users per : ℕ) (size : ℕ → ℕ) (v : Pages) (c : Contents) (d : Behind) → Entered w p b users per size v c d → MemoryResized w p b users per size v c d
+VmResize = (w : World) (p : Places) (b users per : ℕ) (size : ℕ → ℕ) (v : Pages) (c : Contents) (d : Behind) →
+    Entered w p b users per size v c d → MemoryResized w p b users per size v c d
 
 -- the first piece of n words from x to y is copied
 abbrev pub PieceDone : Places → Pages → Start → (x y n : ℕ) → Contents → Behind → Type 0
@@ -112,5 +122,7 @@ Shared p x y l c c' = l ≡ 1024 → (SharesFrame p (x / 1024) (y / 1024) c') �
 
 -- PIECE: one turn of vm_copy's loop
 abbrev pub PieceShares : World → Type 0
-PieceShares w = (p : Places) (b : ℕ) (v : Pages) (g : Start) (x y n : ℕ) (c : Contents) (d : Behind) → Sited p w → Ported p w b → 0 < n → CopyGood p.layout v x y n → Held p v g c d → Marks x y n c →
-    From w (piece_code p (page_code p)) (3 * page_steps p.layout.pages b + 600 * piece x y n) c d (λ c' d'. PieceDone p v g x y n c' d' × Shared p x y (piece x y n) c c')
+PieceShares w = (p : Places) (b : ℕ) (v : Pages) (g : Start) (x y n : ℕ) (c : Contents) (d : Behind) →
+    Sited p w → Ported p w b → 0 < n → CopyGood p.layout v x y n → Held p v g c d → Marks x y n c →
+    From w (piece_code p (page_code p)) (3 * page_steps p.layout.pages b + 600 * piece x y n) c d
+    (λ c' d'. PieceDone p v g x y n c' d' × Shared p x y (piece x y n) c c')

@@ -6,8 +6,8 @@ ghost use Rattle.cvm_primitives.specs.Code.{first_test_code, second_test_code, t
 ghost use Rattle.page_fault.specs.Code.{page_code};
 ghost use Rattle.masm.specs.Blocks.{when_words, when_code};
 
-use crate::parts::{first_page, size_place};
 use crate::copy_parts::piece;
+use crate::parts::{first_page, size_place};
 use layer_map::Map;
 use masm::Block;
 use masm::laws::words_are_encodings;
