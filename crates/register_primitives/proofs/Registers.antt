@@ -1,5 +1,5 @@
 -- The primitives that use no page.
-use Rattle.std.proofs.Common.{◌≡◌, ◌≢◌, ℕ, ◌+◌, ◌-◌, ◌*◌, ◌%◌, ◌^◌, ◌<◌, ◌≤◌, ◌&&◌, not, Bool, true, false, cond, nat_eq, nat_lt, nat_le, if◌then◌else◌, nat_abs, List, [], ◌∷◌, ◌++◌, length, slice_index, slice_set, refl, sym, ap, ap₂, ◌∙◌, subst, ⊎_elim, arith, lt-ltb, le-ltb, le-leb, ne_eqb}
+use Rattle.std.proofs.Common.{◌≡◌, ◌≢◌, ℕ, ◌+◌, ◌-◌, ◌*◌, ◌%◌, ◌^◌, ◌<◌, ◌≤◌, ◌&&◌, not, Bool, true, false, cond, nat_eq, nat_lt, nat_le, if◌then◌else◌, nat_abs, List, [], ◌∷◌, ◌++◌, length, slice_index, slice_index_or, slice_set, slice_set, refl, sym, ap, ap₂, ◌∙◌, subst, ⊎_elim, arith, lt-ltb, le-ltb, le-leb, ne_eqb}
 use Rattle.std.proofs.lemmas.Bool.{cases_eq, cases_lt, cond-true, cond-false, lt-leb}
 use Rattle.std.proofs.lemmas.List.{get_or-set_same, get_or-set_other, length-set}
 use Rattle.std.specs.Int.{cast_unsigned, w32}
@@ -16,7 +16,7 @@ use Rattle.masm.specs.Laws.{From}
 use Rattle.layer_map.specs.Map.{block_at}
 use Rattle.c0_meaning.specs.Value.{bool}
 use Rattle.cvm_model.specs.Kernel.{Set, flat}
-use Rattle.cvm_model.specs.Primitives.{Call, ConGet, ConLeft, Given, user_of, with_user, pages_of, register_of, with_register, is_within, is_good, unchanged, changed, refused, granted, prim}
+use Rattle.cvm_model.specs.Primitives.{no_flat, Call, ConGet, ConLeft, Given, user_of, with_user, pages_of, register_of, with_register, is_within, is_good, unchanged, changed, refused, granted, prim}
 use Rattle.register_primitives.specs.Code.{user_code, register_code, place_code, asked_code, vm_get_code, vm_set_code, vm_size_code, con_put_code, con_get_code, con_left_code}
 use Rattle.register_primitives.specs.Blocks.{word_of, IsOneOf, BlocksHold, console_of, Entered, Left}
 use Rattle.register_primitives.specs.Laws.{get_call, set_call, size_call, put_call}
@@ -50,6 +50,15 @@ user_same users u g o = let o0 = o.0 in let o1 = o.1 in get_or-set_same users (u
 
 user_other : (users : List Flat) (u v : ℕ) (g : Flat) → 1 ≤ u → 1 ≤ v → v ≢ u → user_of (with_user users u g) v ≡ user_of users v
 user_other users u v g a b ne = get_or-set_other users (u - 1) (v - 1) g _ (omega arith)
+
+-- the users' memories stay
+set_words : (users : List Flat) (u : ℕ) (g : Flat) → IsOneOf users u → g.words ≡ (user_of users u).words → (v : ℕ) → (user_of (with_user users u g) v).words ≡ (user_of users v).words
+set_words users u g o same v =
+    let o0 = o.0 in let o1 = o.1 in
+    ⊎_elim
+    (λ e. ap (λ k. (slice_index_or (slice_set users (u - 1) g) k no_flat).words) e ∙ ap (λ g. g.words) (get_or-set_same users (u - 1) g no_flat (omega arith)) ∙ same ∙ ap (λ k. (slice_index_or users k no_flat).words) (sym e))
+    (λ ne. ap (λ g. g.words) (get_or-set_other users (u - 1) (v - 1) g no_flat ne))
+    (cases_eq (v - 1) (u - 1))
 
 -- the blocks hold the users once a register is set
 blocks_set : (users : List Flat) (m : ℕ → ℕ) (u r x : ℕ) → BlocksHold users m → IsOneOf users u → 1 ≤ r → r ≤ 32 → length (user_of users u).cpu.regs ≡ 32 → BlocksHold (with_user users u (with_register (user_of users u) r x)) (put m (word_of u r) x)
@@ -116,6 +125,8 @@ module _ (w : World) (f : CodeLaws w) (users : List Flat) (c : Contents) (d : Be
   stayed g c1 q a us o = record {
     answer = a;
     blocks = subst (λ us. BlocksHold us c1.memory) (sym us) (subst (λ m. BlocksHold users m) (sym q.memory) e.blocks);
+    count = ap length us;
+    flats = λ v. ap (λ us. (user_of us v).words) us;
     log = ap (λ o. o.log) (sym o);
     input = ap (λ o. o.input) (sym o);
     words = λ k out. ap (λ m. m k) q.memory;
@@ -243,6 +254,8 @@ module _ (w : World) (f : CodeLaws w) (users : List Flat) (c : Contents) (d : Be
           let o0 = one.0 in let o1 = one.1 in record {
             answer = refl;
             blocks = subst (λ m. BlocksHold (with_user users (c.regs 20) (with_register (user_of users (c.regs 20)) (c.regs 21) x)) (put m (word_of (c.regs 20) (c.regs 21)) x)) (sym q.memory) (blocks_set users c.memory (c.regs 20) (c.regs 21) x e.blocks one r1 r32 (e.whole (c.regs 20) one));
+            count = length-set users (c.regs 20 - 1) (with_register (user_of users (c.regs 20)) (c.regs 21) x);
+            flats = set_words users (c.regs 20) (with_register (user_of users (c.regs 20)) (c.regs 21) x) one refl;
             log = refl;
             input = refl;
             words = λ k out. put_other c1.memory (word_of (c.regs 20) (c.regs 21)) x k (⊎_elim (λ lt. omega arith) (λ ge. omega arith) out) ∙ ap (λ m. m k) q.memory;
@@ -259,7 +272,7 @@ module _ (w : World) (f : CodeLaws w) (users : List Flat) (c : Contents) (d : Be
   told : (g : Given) (c1 : Contents) (d1 : Behind) → Quiet c c1 → flat (λ _. 0) g.answer ≡ c1.regs 2 ∷ [] → g.users ≡ users → d1.log ≡ g.console.log → d1.input ≡ g.console.input → d1.sectors ≡ d.sectors → d1.commands ≡ d.commands → d1.pending ≡ d.pending → Left users g c d c1 d1
   told g c1 d1 q a us l i s k p =
       let h = stayed (unchanged users (console_of d) g.answer 0 0) c1 q a refl refl in
-      record { answer = a; blocks = subst (λ us. BlocksHold us c1.memory) (sym us) h.blocks; log = l; input = i; words = h.words; regs = h.regs; hi = h.hi; lo = h.lo; special = h.special; sectors = s; commands = k; idle = p ∙ e.idle }
+      record { answer = a; blocks = subst (λ us. BlocksHold us c1.memory) (sym us) h.blocks; count = ap length us; flats = λ v. ap (λ us. (user_of us v).words) us; log = l; input = i; words = h.words; regs = h.regs; hi = h.hi; lo = h.lo; special = h.special; sectors = s; commands = k; idle = p ∙ e.idle }
 
   -- CON_LEFT
   pub lefts : (most : ℕ) → From w con_left_code 1 c d (Left users (prim most ConLeft users (console_of d)) c d)

@@ -42,11 +42,13 @@ pub record Entered (w : World) (users : List Flat) (c : Contents) (d : Behind) :
   pub input : (k : ℕ) → slice_index d.input k < 2 ^ 32
   pub idle : d.pending ≡ Idle
 
--- What it leaves: its answer, the users and the console after it. All words but those of the control blocks, the registers from 12 on, hi and
+-- What it leaves: its answer, the users, whose memories are as before, and the console after it. All words but those of the control blocks, the registers from 12 on, hi and
 -- lo, the special registers and the sectors stay, and no command is under way.
 pub record Left (users : List Flat) (g : Given) (c0 : Contents) (d0 : Behind) (c : Contents) (d : Behind) : Type 0 where
   pub answer : flat (λ _. 0) g.answer ≡ c.regs 2 ∷ []
   pub blocks : BlocksHold g.users c.memory
+  pub count : length g.users ≡ length users
+  pub flats : (u : ℕ) → (user_of g.users u).words ≡ (user_of users u).words
   pub log : d.log ≡ g.console.log
   pub input : d.input ≡ g.console.input
   pub words : (k : ℕ) → (k < block_at 1) ⊎ (block_at (length users + 1) ≤ k) → c.memory k ≡ c0.memory k

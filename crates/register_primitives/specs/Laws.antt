@@ -27,10 +27,14 @@ abbrev pub put_call : Contents → Call
 put_call c = ConPut (signed (c.regs 20))
 
 -- vm_get, vm_set and vm_size, and the console's calls
-pub record RegistersAnswer (w : World) : Type 0 where
-  pub get : (most : ℕ) (users : List Flat) (c : Contents) (d : Behind) → Entered w users c d → Answers w (vm_get_code (length users)) 14 (get_call c) most users c d
-  pub set : (most : ℕ) (users : List Flat) (c : Contents) (d : Behind) → Entered w users c d → Answers w (vm_set_code (length users)) 15 (set_call c) most users c d
-  pub size : (most : ℕ) (users : List Flat) (c : Contents) (d : Behind) → Entered w users c d → Answers w (vm_size_code (length users)) 8 (size_call c) most users c d
-  pub put : (most : ℕ) (users : List Flat) (c : Contents) (d : Behind) → Entered w users c d → Answers w con_put_code 3 (put_call c) most users c d
-  pub take : (most : ℕ) (users : List Flat) (c : Contents) (d : Behind) → Entered w users c d → Answers w con_get_code 1 ConGet most users c d
-  pub left : (most : ℕ) (users : List Flat) (c : Contents) (d : Behind) → Entered w users c d → Answers w con_left_code 1 ConLeft most users c d
+pub record CallsAnswer (w : World) (most : ℕ) (users : List Flat) (c : Contents) (d : Behind) : Type 0 where
+  pub get : Answers w (vm_get_code (length users)) 14 (get_call c) most users c d
+  pub set : Answers w (vm_set_code (length users)) 15 (set_call c) most users c d
+  pub size : Answers w (vm_size_code (length users)) 8 (size_call c) most users c d
+  pub put : Answers w con_put_code 3 (put_call c) most users c d
+  pub take : Answers w con_get_code 1 ConGet most users c d
+  pub left : Answers w con_left_code 1 ConLeft most users c d
+
+-- they do from wherever they are entered
+abbrev pub RegistersAnswer : World → Type 0
+RegistersAnswer w = (most : ℕ) (users : List Flat) (c : Contents) (d : Behind) → Entered w users c d → CallsAnswer w most users c d

@@ -4,12 +4,12 @@ use Rattle.register_primitives.proofs.Registers.{gets, sets, sizes, puts, takes,
 use Rattle.register_primitives.proofs.laws.registers_answer.Goals as goal
 
 pub returns : goal.returns
-returns k w s =
+returns k w s = λ most users c d e.
     let f : CodeLaws w = record { small = s.small; runs = k.runs_compose.ensures; straight = k.straight_code_runs.ensures w s; stays = k.registers_stay.ensures; whens = k.a_condition_is_tested.ensures w s } in record {
-      get = λ most users c d e. gets w f users c d e most;
-      set = λ most users c d e. sets w f users c d e most;
-      size = λ most users c d e. sizes w f users c d e most;
-      put = λ most users c d e. puts w f users c d e most;
-      take = λ most users c d e. takes w f users c d e most;
-      left = λ most users c d e. lefts w f users c d e most;
+      get = gets w f users c d e most;
+      set = sets w f users c d e most;
+      size = sizes w f users c d e most;
+      put = puts w f users c d e most;
+      take = takes w f users c d e most;
+      left = lefts w f users c d e most;
     }
