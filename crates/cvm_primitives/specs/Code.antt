@@ -1,8 +1,9 @@
 -- The primitives' instructions.
-use Rattle.std.specs.Prelude.{ℕ, ◌+◌, ◌*◌, List, [], ◌∷◌, ◌++◌}
+use Rattle.std.specs.Prelude.{ℕ, ◌+◌, ◌*◌, List, [], ◌∷◌, ◌++◌, map}
 use Rattle.mips_table.specs.declared.inst.Inst.{Inst}
 use Rattle.mips_table.specs.declared.inst.Inst.TheVariants.{Sll, Srl, Addu, Subu, Sltu, Addiu, Sltiu, Ori, Multu, Mflo, Lw, Sw}
-use Rattle.masm.specs.Blocks.{when_code, loop_code}
+use Rattle.mips_table.specs.Encoding.{encoding}
+use Rattle.masm.specs.Blocks.{when_code, loop_code, when_words}
 use Rattle.page_model.specs.Places.{Places}
 use Rattle.frame_table.specs.Code.{const_code, find_code, user_code, count_code, less_code, more_code}
 
@@ -119,6 +120,11 @@ word_number_code per = base_code per ++ (Sll 10 10 10 ∷ Srl 9 21 2 ∷ Addu 26
 abbrev pub word_code : ℕ → ℕ → ℕ → List Inst → List Inst
 word_code bad users per work = user_test_code bad users ++ when_code 9 (word_test_code ++ when_code 9 (when_code 12 (word_number_code per ++ work)))
 
+-- its words
+abbrev pub word_words : (bad users per : ℕ) → List ℕ → List ℕ
+word_words bad users per work =
+    map encoding (user_test_code bad users) ++ when_words 9 (map encoding word_test_code ++ when_words 9 (when_words 12 (map encoding (word_number_code per) ++ work)))
+
 abbrev pub load_code : Places → List Inst → List Inst
 load_code p page = (Srl 16 26 10 ∷ Addiu 15 0 0 ∷ []) ++ (page ++ ((Addu 8 26 0 ∷ locate_code p) ++ (Lw 2 8 0 ∷ [])))
 
@@ -156,6 +162,12 @@ range_number_code per = base_code per ++ (Sll 10 10 10 ∷ Addu 10 10 12 ∷ [])
 abbrev pub range_code : (users per : ℕ) → List Inst → List Inst
 range_code users per inside = first_test_code users ++ when_code 9 (second_test_code
     ++ when_code 12 (third_test_code ++ when_code 9 (fourth_test_code ++ when_code 9 (range_number_code per ++ inside))))
+
+-- its words
+abbrev pub range_words : (users per : ℕ) → List ℕ → List ℕ
+range_words users per inside =
+    map encoding (first_test_code users) ++ when_words 9 (map encoding second_test_code ++ when_words 12 (map encoding third_test_code
+    ++ when_words 9 (map encoding fourth_test_code ++ when_words 9 (map encoding (range_number_code per) ++ inside))))
 
 -- VM_COPY has u, a, v, b, n in 20 to 24. Register 27 is where the target begins, and 8 becomes 1 where the source begins before the target's end
 abbrev pub order_code : List Inst

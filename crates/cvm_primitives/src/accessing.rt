@@ -2,7 +2,7 @@
 ghost use Rattle.std.specs.Prelude.{◌≡◌, ◌<◌, ◌≤◌, ◌+◌, ◌*◌, ◌∷◌, [], map as each, length, ◌++◌};
 ghost use Rattle.mips_table.specs.Encoding.{encoding};
 ghost use Rattle.page_model.specs.Places.{places_of};
-ghost use Rattle.cvm_primitives.specs.Code.{user_test_code, word_number_code, word_test_code, load_code, store_code, word_code, vm_word_code, vm_put_code, base_code};
+ghost use Rattle.cvm_primitives.specs.Code.{user_test_code, word_number_code, word_words, word_test_code, load_code, store_code, word_code, vm_word_code, vm_put_code, base_code};
 ghost use Rattle.page_fault.specs.Code.{page_code};
 ghost use Rattle.masm.specs.Blocks.{when_words};
 
@@ -51,7 +51,7 @@ fn word_test() -> Block<8>
 // The work is done on the word in register 26 where user and address are good.
 fn asked(bad: u32, map: &Map, work: &Block<178>) -> Block<198>
     requires { bad < 65536 }
-    ensures { result ≡ each encoding (user_test_code bad map.now.users) ++ when_words 9 (each encoding word_test_code ++ when_words 9 (when_words 12 (each encoding (word_number_code map.now.params.pages) ++ work.now))) }
+    ensures { result ≡ word_words bad map.now.users map.now.params.pages work.now }
 {
     let _fits = work.len();
     let mut inner = Block::<184>::new();

@@ -2,7 +2,7 @@
 ghost use Rattle.std.specs.Prelude.{◌≡◌, ◌<◌, ◌≤◌, ◌+◌, ◌*◌, ◌∷◌, [], map as each, length, ◌++◌};
 ghost use Rattle.mips_table.specs.Encoding.{encoding};
 ghost use Rattle.page_model.specs.Places.{places_of};
-ghost use Rattle.cvm_primitives.specs.Code.{first_test_code, second_test_code, third_test_code, fourth_test_code, range_number_code, order_code, apart_code, pieces_code, next_range_code, second_range_code, begin_code, vm_copy_code};
+ghost use Rattle.cvm_primitives.specs.Code.{range_words, first_test_code, second_test_code, third_test_code, fourth_test_code, range_number_code, order_code, apart_code, pieces_code, next_range_code, second_range_code, begin_code, vm_copy_code};
 ghost use Rattle.page_fault.specs.Code.{page_code};
 ghost use Rattle.masm.specs.Blocks.{when_words, when_code};
 
@@ -131,7 +131,7 @@ fn range_number(map: &Map) -> Block<5>
 fn range<const N: usize, const M: usize>(map: &Map, inside: &Block<N>) -> Block<M>
     requires room { N + 24 ≤ M }
     requires most { M ≤ 16384 }
-    ensures { result ≡ each encoding (first_test_code map.now.users) ++ when_words 9 (each encoding second_test_code ++ when_words 12 (each encoding third_test_code ++ when_words 9 (each encoding fourth_test_code ++ when_words 9 (each encoding (range_number_code map.now.params.pages) ++ inside.now)))) }
+    ensures { result ≡ range_words map.now.users map.now.params.pages inside.now }
 {
     let _fits = inside.len();
     let mut work = Block::<M>::new();

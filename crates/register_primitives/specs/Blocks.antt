@@ -42,8 +42,8 @@ pub record Entered (w : World) (users : List Flat) (c : Contents) (d : Behind) :
   pub input : (k : ℕ) → slice_index d.input k < 2 ^ 32
   pub idle : d.pending ≡ Idle
 
--- What it leaves: its answer, the users, whose memories are as before, and the console after it. All words but those of the control blocks, the registers from 12 on, hi and
--- lo, the special registers and the sectors stay, and no command is under way.
+-- What it leaves: its answer, the users, whose memories are as before, and the console after it. All words but those of the control blocks,
+-- the registers from 12 on, hi and lo, the special registers and the sectors stay, and no command is under way.
 pub record Left (users : List Flat) (g : Given) (c0 : Contents) (d0 : Behind) (c : Contents) (d : Behind) : Type 0 where
   pub answer : flat (λ _. 0) g.answer ≡ c.regs 2 ∷ []
   pub blocks : BlocksHold g.users c.memory

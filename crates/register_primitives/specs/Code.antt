@@ -1,8 +1,9 @@
 -- The instructions of the primitives that use no page. Arguments stand in registers 20 to 22, and the answer comes into register 2.
-use Rattle.std.specs.Prelude.{ℕ, List, [], ◌∷◌, ◌++◌}
+use Rattle.std.specs.Prelude.{ℕ, List, [], ◌∷◌, ◌++◌, map}
 use Rattle.mips_table.specs.declared.inst.Inst.{Inst}
 use Rattle.mips_table.specs.declared.inst.Inst.TheVariants.{Sll, Srl, Addiu, Addu, Sltiu, Ori, Lw, Sw}
-use Rattle.masm.specs.Blocks.{when_code}
+use Rattle.mips_table.specs.Encoding.{encoding}
+use Rattle.masm.specs.Blocks.{when_code, when_words}
 
 -- the answer is the bad one first; register 8 becomes u - 1, and 9 isn't 0 where u, in register 20, is a user
 abbrev pub user_code : ℕ → ℕ → List Inst
@@ -19,6 +20,10 @@ place_code = Ori 11 0 49152 ∷ Sll 9 8 8 ∷ Addu 11 11 9 ∷ Sll 10 21 27 ∷ 
 -- the work is done where both arguments are good
 abbrev pub asked_code : ℕ → ℕ → List Inst → List Inst
 asked_code bad users work = user_code bad users ++ when_code 9 (register_code ++ when_code 9 (place_code ++ work))
+
+-- its words
+abbrev pub asked_words : (bad users : ℕ) → List ℕ → List ℕ
+asked_words bad users work = map encoding (user_code bad users) ++ when_words 9 (map encoding register_code ++ when_words 9 (map encoding place_code ++ work))
 
 -- vm_get
 abbrev pub vm_get_code : ℕ → List Inst

@@ -1,8 +1,7 @@
 // The code of the primitives that use no page.
 ghost use Rattle.std.specs.Prelude.{◌≡◌, ◌<◌, ◌≤◌, ◌++◌, map as each, length};
 ghost use Rattle.mips_table.specs.Encoding.{encoding};
-ghost use Rattle.masm.specs.Blocks.{when_words};
-ghost use Rattle.register_primitives.specs.Code.{user_code, register_code, place_code, vm_get_code, vm_set_code, vm_size_code, con_put_code, con_get_code, con_left_code};
+ghost use Rattle.register_primitives.specs.Code.{user_code, register_code, place_code, asked_words, vm_get_code, vm_set_code, vm_size_code, con_put_code, con_get_code, con_left_code};
 
 use layer_map::Map;
 use masm::Block;
@@ -93,7 +92,7 @@ fn place() -> Block<6>
 fn asked(bad: u32, users: u32, work: &Block<2>) -> Block<15>
     requires bad { bad < 65536 }
     requires users { users ≤ 64 }
-    ensures { result ≡ each encoding (user_code bad users) ++ when_words 9 (each encoding register_code ++ when_words 9 (each encoding place_code ++ work.now)) }
+    ensures { result ≡ asked_words bad users work.now }
 {
     let _fits = work.len();
     let mut inner = Block::<8>::new();
