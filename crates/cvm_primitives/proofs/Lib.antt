@@ -14,3 +14,5 @@ pub mod Copies
 pub mod Resize
 pub mod Users
 pub mod Emit
+pub mod Numbers
+pub mod Calls

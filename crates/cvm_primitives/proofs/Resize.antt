@@ -248,7 +248,7 @@ module _ (w : World) (f : RoutineLaws w) (p : Places) (b : ℕ) (si : Sited p w)
         idle = h.idle;
       }
 
-  module _ (users per : ℕ) (size : ℕ → ℕ) (v : Pages) (c : Contents) (d : Behind) (held : Held p v (start c d) c d) (us : UsersIn p users per size v c) (blocks : (k : ℕ) → k < 64 → w.kept (12320 + 64 * k) ≡ None) (u new : ℕ) (ru : c.regs 20 ≡ u) (rn : c.regs 21 ≡ new) (su : u < 2 ^ 32) (sn : new < 2 ^ 32) where
+  module _ (users per : ℕ) (size : ℕ → ℕ) (v : Pages) (c : Contents) (d : Behind) (held : Held p v (start c d) c d) (us : UsersIn p users per size v c) (blocks : (k : ℕ) → k < users → w.kept (12320 + 64 * k) ≡ None) (u new : ℕ) (ru : c.regs 20 ≡ u) (rn : c.regs 21 ≡ new) (su : u < 2 ^ 32) (sn : new < 2 ^ 32) where
     -- m steps are enough for the change, where it is made
     resize_from : (m : ℕ) (Q : Contents → Behind → Type 0)
         → (ResizeGood users per u new → (27 * ((size u - new) + (new - size u)) + 20 ≤ m) × ((c1 : Contents) (d1 : Behind) → Held p (resized v ((u - 1) * per) (size u) new) (start (record c { memory = put c.memory (size_at u) new }) d) c1 d1 → c1.regs 2 ≡ 1 → Fresh p ((u - 1) * per + size u) (new - size u) c1 → Q c1 d1))

@@ -6,7 +6,7 @@ use Rattle.page_model.specs.Paging.{Layout, Pages, Paged, PagesStand}
 use Rattle.cvm_primitives.specs.Users.{flat_of}
 use Rattle.cvm_primitives.specs.Copy.{word_at, with_word, copied, cut, grown, pieces}
 use Rattle.cvm_primitives.specs.View.{WordGood, CopyArgs, ResizeGood, number}
-use Rattle.cvm_primitives.specs.Users.{with_user, put_words, sized, Same, Lists, InLists}
+use Rattle.cvm_primitives.specs.Users.{replaced, put_words, sized, Same, Lists, InLists}
 use Rattle.cvm_primitives.proofs.Asks.{product_below}
 use Rattle.cvm_primitives.proofs.Loop.{word_before, word_in, word_past}
 use Rattle.cvm_primitives.proofs.Resize.{before_is, within_is, past_is, grown_word, grown_zero}
@@ -15,10 +15,10 @@ use Rattle.cvm_primitives.proofs.Resize.{before_is, within_is, past_is, grown_wo
 page_number : (per p u : ℕ) → p < per → ((u * per + p) / per ≡ u) × ((u * per + p) % per ≡ p)
 page_number per p u lt = (grind arith, grind arith)
 
-user_same : {A : Type 0} (all : ℕ → A) (u : ℕ) (new : A) (k : ℕ) → k ≡ u → with_user all u new k ≡ new
+user_same : {A : Type 0} (all : ℕ → A) (u : ℕ) (new : A) (k : ℕ) → k ≡ u → replaced all u new k ≡ new
 user_same all u new k e = cond-true (nat_eq k u) new (all k) (eq-eqb k u e)
 
-user_other : {A : Type 0} (all : ℕ → A) (u : ℕ) (new : A) (k : ℕ) → k ≢ u → with_user all u new k ≡ all k
+user_other : {A : Type 0} (all : ℕ → A) (u : ℕ) (new : A) (k : ℕ) → k ≢ u → replaced all u new k ≡ all k
 user_other all u new k ne = cond-false (nat_eq k u) new (all k) (ne_eqb k u ne)
 
 parts_of : (per q : ℕ) → 0 < per → (q ≡ q / per * per + q % per) × (q % per < per)
@@ -60,7 +60,7 @@ module _ (l : Layout) (users per : ℕ) (size : ℕ → ℕ) (memory : ℕ → L
   puts : (u : ℕ) (new : List ℕ) (f : Pages) → 0 < u → ((q : ℕ) → f.live q ≡ (flat_of per size memory).live q)
       → ((q i : ℕ) → i < 1024 → q / per + 1 ≡ u → f.word q i ≡ slice_index new (1024 * (q % per) + i))
       → ((q i : ℕ) → i < 1024 → q / per + 1 ≢ u → f.word q i ≡ (flat_of per size memory).word q i)
-      → Same l f (flat_of per size (with_user memory u new))
+      → Same l f (flat_of per size (replaced memory u new))
   puts u new f some live here there = record {
     live = λ q lq. sym (live q);
     word = λ q i lq al ii. ⊎_elim
@@ -69,7 +69,7 @@ module _ (l : Layout) (users per : ℕ) (size : ℕ → ℕ) (memory : ℕ → L
         (cases_eq (q / per + 1) u);
   }
 
-  put_in : (u a x : ℕ) → WordGood users size u a → Same l (with_word (flat_of per size memory) (number per u a) x) (flat_of per size (with_user memory u (slice_set (memory u) (a / 4) x)))
+  put_in : (u a x : ℕ) → WordGood users size u a → Same l (with_word (flat_of per size memory) (number per u a) x) (flat_of per size (replaced memory u (slice_set (memory u) (a / 4) x)))
   put_in u a x good =
       let u0 = good.0 in let u1 = good.1 in let a3 = good.3 in let fit = li.fit u u0 u1 in let some = li.some in let len = li.lengths u u0 u1 in
       puts u (slice_set (memory u) (a / 4) x) (with_word (flat_of per size memory) (number per u a) x) u0 (λ q. refl)
@@ -80,7 +80,7 @@ module _ (l : Layout) (users per : ℕ) (size : ℕ → ℕ) (memory : ℕ → L
       (cases_eq (1024 * (q % per) + i) (a / 4)))
       (λ q i ii ne. let o = away per u q i li.some u0 ii ne in cond-false _ x ((flat_of per size memory).word q i) (ne_eqb _ _ (⊎_elim (λ h. omega arith) (λ h. omega arith) o)))
 
-  copy_in : (u a t s n : ℕ) → CopyArgs users size u a t s n → Same l (copied (flat_of per size memory) (number per u a) (number per t s) n) (flat_of per size (with_user memory t (put_words (memory t) (s / 4) (memory u) (a / 4) n)))
+  copy_in : (u a t s n : ℕ) → CopyArgs users size u a t s n → Same l (copied (flat_of per size memory) (number per u a) (number per t s) n) (flat_of per size (replaced memory t (put_words (memory t) (s / 4) (memory u) (a / 4) n)))
   copy_in u a t s n g =
       let u0 = g.source.0 in let u1 = g.source.1 in let u2 = g.source.2 in let u3 = g.source.3 in let t0 = g.target.0 in let t1 = g.target.1 in let t2 = g.target.2 in let t3 = g.target.3 in
       let fu = li.fit u u0 u1 in let ft = li.fit t t0 t1 in let lu = li.lengths u u0 u1 in let lt = li.lengths t t0 t1 in
@@ -112,10 +112,10 @@ module _ (l : Layout) (users per : ℕ) (size : ℕ → ℕ) (memory : ℕ → L
       ap₂ (λ y z. y + z) (pieces_in u a t s n) (ap₂ (λ y z. cond (nat_eq n 0) 1 (cond (nat_eq y 0) 1 (cond (nat_eq z 0) 1 0))) e g)
 
   -- sizes and memories of another user stay
-  other_live : (u new q : ℕ) (words : List ℕ) → q / per + 1 ≢ u → (flat_of per (with_user size u new) (with_user memory u words)).live q ≡ (flat_of per size memory).live q
+  other_live : (u new q : ℕ) (words : List ℕ) → q / per + 1 ≢ u → (flat_of per (replaced size u new) (replaced memory u words)).live q ≡ (flat_of per size memory).live q
   other_live u new q words ne = ap (λ s. nat_lt (q % per) s) (user_other size u new (q / per + 1) ne)
 
-  own_live : (u new q : ℕ) (words : List ℕ) → q / per + 1 ≡ u → (flat_of per (with_user size u new) (with_user memory u words)).live q ≡ nat_lt (q % per) new
+  own_live : (u new q : ℕ) (words : List ℕ) → q / per + 1 ≡ u → (flat_of per (replaced size u new) (replaced memory u words)).live q ≡ nat_lt (q % per) new
   own_live u new q words e = ap (λ s. nat_lt (q % per) s) (user_same size u new (q / per + 1) e)
 
   old_live : (u q : ℕ) → q / per + 1 ≡ u → (flat_of per size memory).live q ≡ nat_lt (q % per) (size u)
@@ -132,7 +132,7 @@ module _ (l : Layout) (users per : ℕ) (size : ℕ → ℕ) (memory : ℕ → L
       let len = li.lengths u some most in let t = length-take (1024 * new) (memory u) in
       get_or-append_right (take (1024 * new) (memory u)) (replicate (1024 * new - length (memory u)) 0) (1024 * size u) k 0 (omega arith) b ∙ get_or-replicate (1024 * new - length (memory u)) (k - 1024 * size u) 0 0 (omega arith)
 
-  cut_in : (u new : ℕ) → ResizeGood users per u new → new < size u → Same l (cut (flat_of per size memory) ((u - 1) * per + new) (size u - new)) (flat_of per (with_user size u new) (with_user memory u (sized (memory u) new)))
+  cut_in : (u new : ℕ) → ResizeGood users per u new → new < size u → Same l (cut (flat_of per size memory) ((u - 1) * per + new) (size u - new)) (flat_of per (replaced size u new) (replaced memory u (sized (memory u) new)))
   cut_in u new good lt =
       let u0 = good.0 in let u1 = good.1 in let fit = li.fit u u0 u1 in record {
         live = λ q lq. ⊎_elim
@@ -152,7 +152,7 @@ module _ (l : Layout) (users per : ℕ) (size : ℕ → ℕ) (memory : ℕ → L
             (cases_eq (q / per + 1) u);
       }
 
-  grown_in : (u new : ℕ) → ResizeGood users per u new → size u ≤ new → Same l (grown (flat_of per size memory) ((u - 1) * per + size u) (new - size u)) (flat_of per (with_user size u new) (with_user memory u (sized (memory u) new)))
+  grown_in : (u new : ℕ) → ResizeGood users per u new → size u ≤ new → Same l (grown (flat_of per size memory) ((u - 1) * per + size u) (new - size u)) (flat_of per (replaced size u new) (replaced memory u (sized (memory u) new)))
   grown_in u new good le =
       let u0 = good.0 in let u1 = good.1 in let n2 = good.2 in let fit = li.fit u u0 u1 in record {
         live = λ q lq. ⊎_elim
@@ -183,8 +183,8 @@ module _ (l : Layout) (users per : ℕ) (size : ℕ → ℕ) (memory : ℕ → L
     copy = copy_in;
     pieces = pieces_in;
     resize = λ u new g. ⊎_elim
-        (λ lt. subst (λ v. Same l v (flat_of per (with_user size u new) (with_user memory u (sized (memory u) new)))) (sym (cond-true (nat_lt new (size u)) (cut (flat_of per size memory) ((u - 1) * per + new) (size u - new)) (grown (flat_of per size memory) ((u - 1) * per + size u) (new - size u)) (lt-ltb new (size u) lt))) (cut_in u new g lt))
-        (λ le. subst (λ v. Same l v (flat_of per (with_user size u new) (with_user memory u (sized (memory u) new)))) (sym (cond-false (nat_lt new (size u)) (cut (flat_of per size memory) ((u - 1) * per + new) (size u - new)) (grown (flat_of per size memory) ((u - 1) * per + size u) (new - size u)) (le-ltb new (size u) le))) (grown_in u new g le))
+        (λ lt. subst (λ v. Same l v (flat_of per (replaced size u new) (replaced memory u (sized (memory u) new)))) (sym (cond-true (nat_lt new (size u)) (cut (flat_of per size memory) ((u - 1) * per + new) (size u - new)) (grown (flat_of per size memory) ((u - 1) * per + size u) (new - size u)) (lt-ltb new (size u) lt))) (cut_in u new g lt))
+        (λ le. subst (λ v. Same l v (flat_of per (replaced size u new) (replaced memory u (sized (memory u) new)))) (sym (cond-false (nat_lt new (size u)) (cut (flat_of per size memory) ((u - 1) * per + new) (size u - new)) (grown (flat_of per size memory) ((u - 1) * per + size u) (new - size u)) (le-ltb new (size u) le))) (grown_in u new g le))
         (cases_lt new (size u));
   }
 

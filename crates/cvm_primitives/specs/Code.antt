@@ -45,13 +45,15 @@ protect_code p = (Sll 10 21 12 ∷ Addiu 10 10 3072 ∷ Sw 10 20 0 ∷ const_cod
 
 -- a whole page: the target's page is dropped, and takes the source's frame unless four pages name it; 15 becomes 0 where it does
 abbrev pub share_code : Places → List Inst
-share_code p = (Sll 10 21 12 ∷ Addiu 10 10 3072 ∷ Sw 10 20 0 ∷ const_code 20 (4 * p.tables)) ++ ((Srl 9 27 10 ∷ Sll 9 9 2 ∷ Addu 20 20 9 ∷ Sw 10 20 0 ∷ user_code p) ++ (when_code 8 (more_code p) ++ (Addiu 15 0 0 ∷ [])))
+share_code p = (Sll 10 21 12 ∷ Addiu 10 10 3072 ∷ Sw 10 20 0 ∷ const_code 20 (4 * p.tables))
+    ++ ((Srl 9 27 10 ∷ Sll 9 9 2 ∷ Addu 20 20 9 ∷ Sw 10 20 0 ∷ user_code p) ++ (when_code 8 (more_code p) ++ (Addiu 15 0 0 ∷ [])))
 
 abbrev pub room_code : Places → List Inst
 room_code p = count_code p ++ (Sltiu 12 9 4 ∷ [])
 
 abbrev pub whole_code : Places → List Inst
-whole_code p = (Srl 16 27 10 ∷ []) ++ (drop_code p ++ ((Srl 16 26 10 ∷ []) ++ (find_code p ++ ((Addiu 12 0 1 ∷ user_code p) ++ (when_code 8 (room_code p) ++ when_code 12 (share_code p))))))
+whole_code p = (Srl 16 27 10 ∷ []) ++ (drop_code p ++ ((Srl 16 26 10 ∷ []) ++ (find_code p
+    ++ ((Addiu 12 0 1 ∷ user_code p) ++ (when_code 8 (room_code p) ++ when_code 12 (share_code p))))))
 
 -- both pages come in; page is the page-fault block
 abbrev pub both_code : List Inst → List Inst
@@ -148,11 +150,16 @@ range_number_code per = base_code per ++ (Sll 10 10 10 ∷ Addu 10 10 12 ∷ [])
 
 -- a user, an address and a length: u in 20, a in 21, n in 14; inside goes on where they are good, with 10 the first word's number
 abbrev pub range_code : (users per : ℕ) → List Inst → List Inst
-range_code users per inside = first_test_code users ++ when_code 9 (second_test_code ++ when_code 12 (third_test_code ++ when_code 9 (fourth_test_code ++ when_code 9 (range_number_code per ++ inside))))
+range_code users per inside = first_test_code users ++ when_code 9 (second_test_code
+    ++ when_code 12 (third_test_code ++ when_code 9 (fourth_test_code ++ when_code 9 (range_number_code per ++ inside))))
 
--- VM_COPY: u, a, v, b, n in 20 to 24
+-- VM_COPY has u, a, v, b, n in 20 to 24. Register 27 is where the target begins, and 8 becomes 1 where the source begins before the target's end
+abbrev pub order_code : List Inst
+order_code = Addu 27 10 0 ∷ Addu 8 27 14 ∷ Sltu 8 26 8 ∷ []
+
+-- register 8 isn't 0 where the ranges are apart
 abbrev pub apart_code : List Inst
-apart_code = Addu 27 10 0 ∷ Addu 8 27 14 ∷ Sltu 8 26 8 ∷ Addu 9 26 14 ∷ Sltu 9 27 9 ∷ Addu 8 8 9 ∷ Sltiu 8 8 2 ∷ []
+apart_code = order_code ++ (Addu 9 26 14 ∷ Sltu 9 27 9 ∷ Addu 8 8 9 ∷ Sltiu 8 8 2 ∷ [])
 
 -- the answer is false until all is done, and register 14 is the number of words
 abbrev pub begin_code : List Inst
@@ -188,14 +195,16 @@ abbrev pub cut_code : Places → List Inst
 cut_code p = (Subu 14 14 26 ∷ Addu 16 27 0 ∷ []) ++ (loop_code [] 14 (cut_body p) ++ (Addu 13 27 0 ∷ []))
 
 abbrev pub grow_code : Places → List Inst
-grow_code p = (const_code 20 (4 * p.tables) ++ (Sll 8 13 2 ∷ Addu 20 20 8 ∷ Subu 14 27 13 ∷ const_code 13 (4096 * p.layout.zeros + 3072))) ++ (loop_code [] 14 grow_body ++ (Addiu 2 0 1 ∷ []))
+grow_code p = (const_code 20 (4 * p.tables) ++ (Sll 8 13 2 ∷ Addu 20 20 8 ∷ Subu 14 27 13 ∷ const_code 13 (4096 * p.layout.zeros + 3072)))
+    ++ (loop_code [] 14 grow_body ++ (Addiu 2 0 1 ∷ []))
 
 abbrev pub resize_test_code : (users per : ℕ) → List Inst
 resize_test_code users per = Addiu 2 0 0 ∷ Addu 26 21 0 ∷ Addiu 8 20 65535 ∷ Sltiu 9 8 users ∷ Sltiu 12 26 (per + 1) ∷ []
 
 -- the size's word is written, and the pages are cut off or added
 abbrev pub resize_work_code : Places → ℕ → List Inst
-resize_work_code p per = (size_code ++ (Lw 14 11 0 ∷ Sw 26 11 0 ∷ [])) ++ (base_code per ++ ((Addu 27 10 26 ∷ Addu 13 10 14 ∷ Sltu 9 26 14 ∷ []) ++ (when_code 9 (cut_code p) ++ grow_code p)))
+resize_work_code p per = (size_code ++ (Lw 14 11 0 ∷ Sw 26 11 0 ∷ []))
+    ++ (base_code per ++ ((Addu 27 10 26 ∷ Addu 13 10 14 ∷ Sltu 9 26 14 ∷ []) ++ (when_code 9 (cut_code p) ++ grow_code p)))
 
 -- VM_RESIZE
 abbrev pub vm_resize_code : Places → (users per : ℕ) → List Inst

@@ -4,3 +4,4 @@ pub mod Code
 pub mod Users
 pub mod Laws
 pub mod Routines
+pub mod Calls

@@ -12,8 +12,8 @@ flat_of per size memory = record {
 }
 
 -- the memories, or the sizes, with that of user u replaced
-abbrev pub with_user : {A : Type 0} → (ℕ → A) → ℕ → A → ℕ → A
-with_user all u new k = if nat_eq k u then new else all k
+abbrev pub replaced : {A : Type 0} → (ℕ → A) → ℕ → A → ℕ → A
+replaced all u new k = if nat_eq k u then new else all k
 
 -- n words of the list from are put into the list to from word b on
 abbrev pub put_words : List ℕ → ℕ → List ℕ → ℕ → ℕ → List ℕ
@@ -38,7 +38,7 @@ pub record Lists (users per : ℕ) (size : ℕ → ℕ) (memory : ℕ → List �
 pub record InLists (l : Layout) (users per : ℕ) (size : ℕ → ℕ) (memory : ℕ → List ℕ) : Type 0 where
   pub live : (u i : ℕ) → 0 < u → u ≤ users → i < per → (flat_of per size memory).live ((u - 1) * per + i) ≡ nat_lt i (size u)
   pub word : (u a : ℕ) → WordGood users size u a → word_at (flat_of per size memory) (number per u a) ≡ slice_index (memory u) (a / 4)
-  pub put : (u a x : ℕ) → WordGood users size u a → Same l (with_word (flat_of per size memory) (number per u a) x) (flat_of per size (with_user memory u (slice_set (memory u) (a / 4) x)))
-  pub copy : (u a t s n : ℕ) → CopyArgs users size u a t s n → Same l (copied (flat_of per size memory) (number per u a) (number per t s) n) (flat_of per size (with_user memory t (put_words (memory t) (s / 4) (memory u) (a / 4) n)))
+  pub put : (u a x : ℕ) → WordGood users size u a → Same l (with_word (flat_of per size memory) (number per u a) x) (flat_of per size (replaced memory u (slice_set (memory u) (a / 4) x)))
+  pub copy : (u a t s n : ℕ) → CopyArgs users size u a t s n → Same l (copied (flat_of per size memory) (number per u a) (number per t s) n) (flat_of per size (replaced memory t (put_words (memory t) (s / 4) (memory u) (a / 4) n)))
   pub pieces : (u a t s n : ℕ) → pieces (number per u a) (number per t s) n ≡ pieces (a / 4) (s / 4) n
-  pub resize : (u new : ℕ) → ResizeGood users per u new → Same l (resized (flat_of per size memory) ((u - 1) * per) (size u) new) (flat_of per (with_user size u new) (with_user memory u (sized (memory u) new)))
+  pub resize : (u new : ℕ) → ResizeGood users per u new → Same l (resized (flat_of per size memory) ((u - 1) * per) (size u) new) (flat_of per (replaced size u new) (replaced memory u (sized (memory u) new)))

@@ -2,12 +2,12 @@
 ghost use Rattle.std.specs.Prelude.{◌≡◌, ◌<◌, ◌≤◌, ◌+◌, ◌*◌, ◌∷◌, [], map as each, length, ◌++◌};
 ghost use Rattle.mips_table.specs.Encoding.{encoding};
 ghost use Rattle.page_model.specs.Places.{places_of};
-ghost use Rattle.cvm_primitives.specs.Code.{first_test_code, second_test_code, third_test_code, fourth_test_code, range_number_code, apart_code, pieces_code, next_range_code, second_range_code, begin_code, vm_copy_code};
+ghost use Rattle.cvm_primitives.specs.Code.{first_test_code, second_test_code, third_test_code, fourth_test_code, range_number_code, order_code, apart_code, pieces_code, next_range_code, second_range_code, begin_code, vm_copy_code};
 ghost use Rattle.page_fault.specs.Code.{page_code};
 ghost use Rattle.masm.specs.Blocks.{when_words, when_code};
 
-use crate::copy_parts::piece;
 use crate::parts::{first_page, size_place};
+use crate::copy_parts::piece;
 use layer_map::Map;
 use masm::Block;
 use masm::laws::words_are_encodings;
@@ -152,11 +152,11 @@ fn range<const N: usize, const M: usize>(map: &Map, inside: &Block<N>) -> Block<
     code
 }
 
-// Register 8 tells whether the ranges are apart; register 27 is where the second begins.
-fn apart() -> Block<7>
-    ensures { result ≡ each encoding apart_code }
+// Register 27 is where the second range begins, and 8 tells whether the first begins before its end.
+fn order() -> Block<3>
+    ensures { result ≡ each encoding order_code }
 {
-    let mut code = Block::<7>::new();
+    let mut code = Block::<3>::new();
     code.push(Inst::Addu {
         rd: 27,
         rs: 10,
@@ -172,6 +172,16 @@ fn apart() -> Block<7>
         rs: 26,
         rt: 8,
     });
+    code
+}
+
+// Register 8 tells whether the ranges are apart.
+fn apart() -> Block<7>
+    ensures { result ≡ each encoding apart_code }
+{
+    words_are_encodings();
+    let mut code = Block::<7>::new();
+    code.then(&order());
     code.push(Inst::Addu {
         rd: 9,
         rs: 26,

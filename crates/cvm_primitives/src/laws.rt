@@ -3,7 +3,8 @@ ghost use Rattle.std.specs.Prelude.{ℕ, List};
 ghost use Rattle.mips_table.specs.Code.{World, Sound};
 ghost use Rattle.page_model.specs.Paging.{Layout, Pages, Paged, PagesStand};
 ghost use Rattle.cvm_primitives.specs.Routines.{RoutineLaws};
-ghost use Rattle.cvm_primitives.specs.Laws.{VmWord, VmPut, VmCopy, VmResize};
+ghost use Rattle.cvm_primitives.specs.Laws.{VmWord, VmPut, VmCopy, VmResize, PieceShares};
+ghost use Rattle.cvm_primitives.specs.Calls.{MemoryAnswers};
 ghost use Rattle.cvm_primitives.specs.Users.{Lists, InLists, Same};
 
 use masm::laws::{a_condition_is_tested, a_loop_turns, runs_compose, straight_code_runs};
@@ -62,8 +63,29 @@ pub fn a_memory_is_resized()
     routines_have_laws();
 }
 
+/// One piece of a copy, and how a whole page is copied: the target's page names the source's frame, unless that was a user frame that four
+/// other pages named.
+pub fn a_piece_shares()
+    ensures { (w : World) → Sound w → PieceShares w }
+{
+    routines_have_laws();
+    the_block_is_a_page_block();
+}
+
 /// What the laws say by numbers of pages and words is what the users' lists of words say.
 pub fn numbers_are_lists()
     ensures lists { (l : Layout) (users per : ℕ) (size : ℕ → ℕ) (memory : ℕ → List ℕ) → Lists users per size memory → InLists l users per size memory }
     ensures stands { (l : Layout) (u v : Pages) (a : Paged) → Same l u v → PagesStand l u a → PagesStand l v a }
 {}
+
+/// Each call answers and changes what the abstract machine says of it, whatever its arguments are, within 600 steps a unit and those of its
+/// pages: a bad call changes nothing and answers -1 or false.
+pub fn memory_answers()
+    ensures { (w : World) → Sound w → MemoryAnswers w }
+{
+    routines_have_laws();
+    a_word_is_read();
+    a_word_is_put();
+    words_are_copied();
+    a_memory_is_resized();
+}

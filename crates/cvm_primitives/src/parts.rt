@@ -105,8 +105,13 @@ pub fn first_page(map: &Map) -> Block<3>
         rs: 0,
         imm: map.params().pages,
     });
-    code.push(Inst::Multu { rs: 8, rt: 10 });
-    code.push(Inst::Mflo { rd: 10 });
+    code.push(Inst::Multu {
+        rs: 8,
+        rt: 10,
+    });
+    code.push(Inst::Mflo {
+        rd: 10,
+    });
     code
 }
 

@@ -1,0 +1,82 @@
+-- Calls of the primitives on memory, as the abstract machine has them: what they are entered with, and what they leave.
+use Rattle.std.specs.Prelude.{◌≡◌, ◌≢◌, ℕ, ◌+◌, ◌*◌, ◌^◌, ◌<◌, ◌≤◌, List, [], ◌∷◌, length, None}
+use Rattle.mips_table.specs.Arith.{signed}
+use Rattle.mips_table.specs.Device.{Idle}
+use Rattle.mips_table.specs.Flat.{Flat}
+use Rattle.mips_table.specs.declared.inst.Inst.{Inst}
+use Rattle.mips_table.specs.Code.{Contents, Behind, World}
+use Rattle.layer_map.specs.Map.{block_at, hand_at}
+use Rattle.masm.specs.Laws.{From}
+use Rattle.page_model.specs.Paging.{PagesStand}
+use Rattle.page_model.specs.Places.{Places, view}
+use Rattle.frame_table.specs.View.{Sited, Ported}
+use Rattle.page_fault.specs.Code.{page_code}
+use Rattle.cvm_model.specs.Kernel.{flat}
+use Rattle.cvm_model.specs.Primitives.{Call, VmWord, VmPut, VmCopy, VmResize, Given, user_of, prim, units_of}
+use Rattle.cvm_model.specs.Paged.{pages_by}
+use Rattle.cvm_model.specs.Stands.{UserFits}
+use Rattle.register_primitives.specs.Blocks.{IsOneOf, BlocksHold, console_of}
+use Rattle.cvm_primitives.specs.View.{page_steps, start, Held}
+use Rattle.cvm_primitives.specs.Code.{vm_word_code, vm_put_code, vm_copy_code, vm_resize_code}
+
+-- What a call is entered with: at most 64 users of at most so many pages each, whose pages the machine shows and whose control blocks hold
+-- them; the disk and all that paging needs; the words of sizes may be written.
+pub record CallEntered (w : World) (p : Places) (b most : ℕ) (users : List Flat) (c : Contents) (d : Behind) : Type 0 where
+  pub sited : Sited p w
+  pub ported : Ported p w b
+  pub held : Held p (pages_by most users) (start c d) c d
+  pub few : length users ≤ 64
+  pub some : 1 ≤ most
+  pub limit : most ≤ 1024
+  pub shape : p.layout.pages ≡ length users * most
+  pub blocks : BlocksHold users c.memory
+  pub each : (u : ℕ) → IsOneOf users u → UserFits most (user_of users u)
+  pub free : (u : ℕ) → IsOneOf users u → w.kept (block_at u + 32) ≡ None
+  pub regs : (r : ℕ) → c.regs r < 2 ^ 32
+
+-- What it leaves: its answer, and the users and the console after it. All words below the page tables but the hand and the users' sizes, the
+-- special registers, registers 28 to 31 and the sectors past the pages stay; entries are words; and no command is under way.
+pub record CallLeft (p : Places) (per : ℕ) (users : List Flat) (g : Given) (c0 : Contents) (d0 : Behind) (c : Contents) (d : Behind) : Type 0 where
+  pub answer : flat (λ _. 0) g.answer ≡ c.regs 2 ∷ []
+  pub stands : PagesStand p.layout (pages_by per g.users) (view p c.memory d.sectors)
+  pub blocks : BlocksHold g.users c.memory
+  pub log : d.log ≡ g.console.log
+  pub input : d.input ≡ g.console.input
+  pub words : (x : ℕ) → x < p.tables → x ≢ hand_at → ((u : ℕ) → IsOneOf users u → x ≢ block_at u + 32) → c.memory x ≡ c0.memory x
+  pub small : (x : ℕ) → x < p.layout.pages → c.memory (p.tables + x) < 2 ^ 32
+  pub special : c.special ≡ c0.special
+  pub regs : (r : ℕ) → 28 ≤ r → r ≤ 31 → c.regs r ≡ c0.regs r
+  pub past : (q i : ℕ) → p.layout.pages ≤ q → d.sectors q i ≡ d0.sectors q i
+  pub idle : d.pending ≡ Idle
+
+-- what a call is worth: 600 steps a unit, and those of its pages
+abbrev pub call_steps : Places → ℕ → Given → ℕ
+call_steps p b g = 600 * units_of g + page_steps p.layout.pages b * g.pages
+
+-- the calls, with their arguments as registers hold them
+abbrev pub word_call : Contents → Call
+word_call c = VmWord (signed (c.regs 20)) (signed (c.regs 21))
+
+abbrev pub put_call : Contents → Call
+put_call c = VmPut (signed (c.regs 20)) (signed (c.regs 21)) (signed (c.regs 22))
+
+abbrev pub copy_call : Contents → Call
+copy_call c = VmCopy (signed (c.regs 20)) (signed (c.regs 21)) (signed (c.regs 22)) (signed (c.regs 23)) (signed (c.regs 24))
+
+abbrev pub resize_call : Contents → Call
+resize_call c = VmResize (signed (c.regs 20)) (signed (c.regs 21))
+
+-- what a call comes to
+abbrev pub given : ℕ → List Flat → Behind → Call → Given
+given most users d call = prim most call users (console_of d)
+
+-- by this code the call takes at most what it is worth, and comes to what is said of it, whatever its arguments are
+abbrev pub Answers : World → List Inst → Call → Places → (b most : ℕ) → List Flat → Contents → Behind → Type 0
+Answers w code call p b most users c d = From w code (call_steps p b (given most users d call)) c d (CallLeft p most users (given most users d call) c d)
+
+-- vm_word, vm_put, vm_copy and vm_resize
+pub record MemoryAnswers (w : World) : Type 0 where
+  pub word : (p : Places) (b most : ℕ) (users : List Flat) (c : Contents) (d : Behind) → CallEntered w p b most users c d → Answers w (vm_word_code p (length users) most (page_code p)) (word_call c) p b most users c d
+  pub put : (p : Places) (b most : ℕ) (users : List Flat) (c : Contents) (d : Behind) → CallEntered w p b most users c d → Answers w (vm_put_code p (length users) most (page_code p)) (put_call c) p b most users c d
+  pub copy : (p : Places) (b most : ℕ) (users : List Flat) (c : Contents) (d : Behind) → CallEntered w p b most users c d → Answers w (vm_copy_code p (length users) most (page_code p)) (copy_call c) p b most users c d
+  pub resize : (p : Places) (b most : ℕ) (users : List Flat) (c : Contents) (d : Behind) → CallEntered w p b most users c d → Answers w (vm_resize_code p (length users) most) (resize_call c) p b most users c d
