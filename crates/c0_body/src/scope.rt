@@ -1,8 +1,8 @@
 // The names that a body is checked with.
 
-ghost use Rattle.std.specs.Prelude.{◌≡◌, ◌<◌, IfSome, length, map};
+ghost use Rattle.std.specs.Prelude.{◌≡◌, ◌<◌, ℕ, List, IfSome, length, map};
 ghost use Rattle.std.specs.Option.{option_map};
-ghost use Rattle.c0_meaning.specs.Env.{callee_named, field_named, first_named, variable_named};
+ghost use Rattle.c0_meaning.specs.Env.{Shape, Signature, Typed, callee_named, field_named, first_named, variable_named};
 ghost use Rattle.c0_body.specs.Scope.{Knows, Tells, callee_view, env_view, found_in, primitive_signature_view, shape_view, signature_view, typed_view, variable_view};
 
 use c0_names::names::Names;
@@ -59,10 +59,51 @@ pub enum Callee<'a> {
     Function(u32, &'a Function),
 }
 
-/// The first declaration of a name, with its number.
-pub fn find_declared<'a>(names: &Names, list: &'a [Decl], text: &[u8]) -> Option<(u32, &'a Decl)>
-    requires { Tells (λ v. v.text) names.now (map typed_view list.now) }
-    ensures found { found_in typed_view result ≡ first_named (λ v. v.text) text.now 0 (map typed_view list.now) }
+/// What contracts see of the elements of a list in which names are looked up, and the name of each.
+pub trait Listed {
+    ghost Seen: { Type 0 };
+
+    ghost seen: { Self → Seen };
+
+    ghost spelled: { Seen → List ℕ };
+}
+
+impl Listed for Decl {
+    ghost Seen = { Typed };
+
+    ghost seen = { typed_view };
+
+    ghost spelled = { λ v. v.text };
+}
+
+impl Listed for StructDef {
+    ghost Seen = { Shape };
+
+    ghost seen = { shape_view };
+
+    ghost spelled = { λ s. s.text };
+}
+
+impl Listed for Primitive {
+    ghost Seen = { Signature };
+
+    ghost seen = { primitive_signature_view };
+
+    ghost spelled = { λ s. s.text };
+}
+
+impl Listed for Function {
+    ghost Seen = { Signature };
+
+    ghost seen = { signature_view };
+
+    ghost spelled = { λ s. s.text };
+}
+
+/// The first element of a name, with its number.
+pub fn find<'a, T: Listed>(names: &Names, list: &'a [T], text: &[u8]) -> Option<(u32, &'a T)>
+    requires { Tells T.spelled names.now (map T.seen list.now) }
+    ensures found { found_in T.seen result ≡ first_named T.spelled text.now 0 (map T.seen list.now) }
     ensures within { IfSome result (λ p. p.0 < length list.now) }
 {
     match names.get(text) {
@@ -102,7 +143,7 @@ pub fn find_variable<'a>(scope: &Scope<'a>, text: &[u8]) -> Option<Variable<'a>>
             ty: &decl.ty,
         });
     }
-    match find_declared(scope.global_names, scope.globals, text) {
+    match find(scope.global_names, scope.globals, text) {
         None => None,
         Some((number, decl)) => Some(Variable {
             kind: Kind::Global,
@@ -112,59 +153,14 @@ pub fn find_variable<'a>(scope: &Scope<'a>, text: &[u8]) -> Option<Variable<'a>>
     }
 }
 
-/// The first struct of a name, with its number.
-pub fn find_struct<'a>(
-    names: &Names,
-    list: &'a [StructDef],
-    text: &[u8],
-) -> Option<(u32, &'a StructDef)>
-    requires { Tells (λ s. s.text) names.now (map shape_view list.now) }
-    ensures { found_in shape_view result ≡ first_named (λ s. s.text) text.now 0 (map shape_view list.now) }
-{
-    match names.get(text) {
-        None => None,
-        Some(number) => Some((*number, &list[*number as usize])),
-    }
-}
-
-/// The first primitive of a name, with its number.
-pub fn find_primitive<'a>(
-    names: &Names,
-    list: &'a [Primitive],
-    text: &[u8],
-) -> Option<(u32, &'a Primitive)>
-    requires { Tells (λ s. s.text) names.now (map primitive_signature_view list.now) }
-    ensures { found_in primitive_signature_view result ≡ first_named (λ s. s.text) text.now 0 (map primitive_signature_view list.now) }
-{
-    match names.get(text) {
-        None => None,
-        Some(number) => Some((*number, &list[*number as usize])),
-    }
-}
-
-/// The first function of a name, with its number.
-pub fn find_function<'a>(
-    names: &Names,
-    list: &'a [Function],
-    text: &[u8],
-) -> Option<(u32, &'a Function)>
-    requires { Tells (λ s. s.text) names.now (map signature_view list.now) }
-    ensures { found_in signature_view result ≡ first_named (λ s. s.text) text.now 0 (map signature_view list.now) }
-{
-    match names.get(text) {
-        None => None,
-        Some(number) => Some((*number, &list[*number as usize])),
-    }
-}
-
 /// What a name before `(` stands for: a primitive comes before a function of its name.
 pub fn find_callee<'a>(scope: &Scope<'a>, text: &[u8]) -> Option<Callee<'a>>
     requires { Knows scope.now }
     ensures { option_map callee_view result ≡ callee_named (env_view scope.now) text.now }
 {
-    match find_primitive(scope.primitive_names, scope.primitives, text) {
+    match find(scope.primitive_names, scope.primitives, text) {
         Some((number, primitive)) => Some(Callee::Primitive(number, primitive)),
-        None => match find_function(scope.function_names, scope.functions, text) {
+        None => match find(scope.function_names, scope.functions, text) {
             None => None,
             Some((number, function)) => Some(Callee::Function(number, function)),
         },
@@ -182,7 +178,7 @@ pub fn find_field<'a>(scope: &Scope<'a>, owner: &[u8], text: &[u8]) -> Option<(u
             let place = *number as usize;
             let names = &scope.field_names[place];
             let found = &scope.structs[place];
-            find_declared(names, found.fields.as_slice(), text)
+            find(names, found.fields.as_slice(), text)
         }
     }
 }

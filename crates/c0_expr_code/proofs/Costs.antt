@@ -1,6 +1,6 @@
 -- No evaluation costs more than its nodes.
 use Rattle.std.specs.Prelude.{Result, Ok, Err, ok_or, Bool, true, false, if◌then◌else◌}
-use Rattle.std.proofs.Common.{◌≡◌, ℕ, ◌+◌, ◌*◌, ◌≤◌, refl, arith}
+use Rattle.std.proofs.Common.{ℕ, ◌+◌, ◌≤◌, arith}
 use Rattle.c0_tree.specs.declared.tree.BinaryOp.{BinaryOp}
 use Rattle.c0_tree.specs.declared.tree.BinaryOp.TheVariants.{Add, Sub, Mul, Div, Rem, Lt, Le, Gt, Ge, Eq, Ne, And, Or}
 use Rattle.c0_tree.specs.Tree.{CName, CExpr, num, true_, false_, null, var, field, arrow, index, deref, address, unary, binary}
@@ -35,7 +35,8 @@ module _ (s : State) where
   indexes : (m n : ℕ) (e : Costed Location) (i : Costed Value) → units_of e ≤ m → units_of i ≤ n → units_of (indexed s e i) ≤ m + n
   indexes m n e i h g = binds m n e (λ l. i >>= λ v. at_no_cost (element_of l (read s l) v)) h (λ l. free n i (λ v. element_of l (read s l) v) g)
 
-  sides : (m n : ℕ) (x y : Costed Value) (on : Value → Value → Result Value Failure) → units_of x ≤ m → units_of y ≤ n → units_of (x >>= λ v. y >>= λ u. at_no_cost (on v u)) ≤ m + n
+  sides : (m n : ℕ) (x y : Costed Value) (on : Value → Value → Result Value Failure) → units_of x ≤ m → units_of y ≤ n
+      → units_of (x >>= λ v. y >>= λ u. at_no_cost (on v u)) ≤ m + n
   sides m n x y on h g = binds m n x (λ v. y >>= λ u. at_no_cost (on v u)) h (λ v. free n y (λ u. on v u) g)
 
   truths : (n : ℕ) (e : Costed Value) → units_of e ≤ n → units_of (truth e) ≤ n

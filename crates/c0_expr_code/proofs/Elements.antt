@@ -1,7 +1,7 @@
 -- Elements of arrays, with the test of the index.
 use Rattle.std.specs.Prelude.{Ok, Err, pos, negsuc, if◌then◌else◌}
-use Rattle.std.proofs.Common.{◌≡◌, ◌≢◌, inl, inr, ℕ, zero, suc, ◌+◌, ◌*◌, ◌%◌, ◌^◌, ◌<◌, ◌≤◌, Bool, true, false, nat_eq, nat_lt, Some, List, [], ◌∷◌, ◌++◌, length, refl, sym, ap, ap₂, ◌∙◌, subst, arith, length-append, le-ltb, ne_eqb}
-use Rattle.std.proofs.lemmas.Bool.{cases_Bool, cases_eq, ltb-true, cond-true, cond-false}
+use Rattle.std.proofs.Common.{◌≡◌, ◌≢◌, inl, inr, ℕ, zero, suc, ◌+◌, ◌*◌, ◌%◌, ◌^◌, ◌<◌, ◌≤◌, Bool, true, false, nat_lt, Some, List, [], ◌∷◌, ◌++◌, length, refl, sym, ap, ap₂, ◌∙◌, subst, arith, length-append, le-ltb}
+use Rattle.std.proofs.lemmas.Bool.{cases_Bool, ltb-true, cond-true, cond-false}
 use Rattle.std.proofs.Math.Nat.{mul_comm}
 use Rattle.mips_table.specs.declared.inst.Inst.{Inst}
 use Rattle.mips_table.specs.declared.inst.Inst.TheVariants.{J, Bne, Addu, Sltiu, Sltu}
@@ -40,8 +40,8 @@ module _ (w : World) (sc : Scope) (p : Bases) (s : State) (f : Machine w) (area 
     others : (x : ℕ) → x ≢ 1 → reg core.regs x ≡ reg a.regs x
     run : Reaches w 3 (at_with n a k) (at_with (n + length (bound_code q len)) core k)
 
-  tests : (q len n : ℕ) (a : Contents) (k : Behind) → k.pending ≡ Idle → q ≢ 1 → CodeAt w n (bound_code q len) → Tested q len n a k
-  tests q len n a k idle ne code = elim (cases_Bool (nat_lt len (2 ^ 15))) [
+  tests : (q len n : ℕ) (a : Contents) (k : Behind) → len < 2 ^ 32 → k.pending ≡ Idle → q ≢ 1 → CodeAt w n (bound_code q len) → Tested q len n a k
+  tests q len n a k short idle ne code = elim (cases_Bool (nat_lt len (2 ^ 15))) [
     | inl e ↦
         let same : bound_code q len ≡ Sltiu 1 q len ∷ [] = cond-true (nat_lt len (2 ^ 15)) (Sltiu 1 q len ∷ []) (constant_code 1 len ++ (Sltu 1 q 1 ∷ [])) e in
         let there = subst (CodeAt w n) same code in
@@ -52,7 +52,7 @@ module _ (w : World) (sc : Scope) (p : Bases) (s : State) (f : Machine w) (area 
     | inr e ↦
         let same : bound_code q len ≡ constant_code 1 len ++ (Sltu 1 q 1 ∷ []) = cond-false (nat_lt len (2 ^ 15)) (Sltiu 1 q len ∷ []) (constant_code 1 len ++ (Sltu 1 q 1 ∷ [])) e in
         let there = subst (CodeAt w n) same code in
-        let first = constant_runs w sc p s f area scene 1 1 len n a k idle (λ z. absurd (omega (arith, z))) (code_front w n (constant_code 1 len) (Sltu 1 q 1 ∷ []) there) in
+        let first = constant_runs w sc p s f area scene 1 1 len n a k short idle (λ z. absurd (omega (arith, z))) (code_front w n (constant_code 1 len) (Sltu 1 q 1 ∷ []) there) in
         let b : Contents = first.0 in
         let value : flag (nat_lt (reg first.0.regs q) (reg first.0.regs 1)) ≡ flag (nat_lt (reg a.regs q) len) = ap₂ (λ y z. flag (nat_lt y z)) (first.3 q ne) first.1 in
         let two = said_step w f (Sltu 1 q 1) (Becomes (flag (nat_lt (reg a.regs q) len))) (n + length (constant_code 1 len)) first.0 k (code_back w n (constant_code 1 len) (Sltu 1 q 1 ∷ []) there).0 refl idle value in
@@ -132,18 +132,19 @@ module _ (w : World) (sc : Scope) (p : Bases) (s : State) (f : Machine w) (area 
       Out : Location → Contents → Type 0
       Out = Leads sc p r x.shift r local t c
 
-      outside : (a : Contents) (v : ℕ) → q ≢ 1 → nat_lt v len ≡ false → reg a.regs q ≡ v → Comes w sc 10 n2 to a k Out (at_no_cost (Err (faulted Bounds)))
-      outside a v ne out is =
-          let test = tests q len n2 a k idle ne (code_front w n2 (bound_code q len) tail last_there) in
+      outside : (a : Contents) (v : ℕ) → len < 2 ^ 32 → q ≢ 1 → nat_lt v len ≡ false → reg a.regs q ≡ v
+          → Comes w sc 10 n2 to a k Out (at_no_cost (Err (faulted Bounds)))
+      outside a v short ne out is =
+          let test = tests q len n2 a k short idle ne (code_front w n2 (bound_code q len) tail last_there) in
           let zero_is : reg test.core.regs 1 ≡ reg test.core.regs 0 = test.is ∙ ap (λ y. flag (nat_lt y len)) is ∙ ap flag out in
           let go = falls w sc p s f area scene n3 1 0 test.core k idle tail_there.0 zero_is in
           let run = joined w 3 2 _ _ _ test.run (joined w 1 1 _ _ _ go (jumps w f (n3 + 1) (sc.exit Bounds) test.core k idle tail_there.1.0)) in
           faults w sc 10 n2 to a test.core k Out Bounds (keeps_low 0 0 a test.core (omega arith) (test.keeps 0)) (later w 5 10 _ _ (omega arith) run)
 
-      inside : (l : Location) (b : Contents) (g : Leads sc p x.base x.shift r local (ty.array t len) c l b) (ready_b : Ready sc p s b) (a : Contents) (j : ℕ) → Source (r + 1) q → Keeps (r + 1) (r + 1) b a → nat_lt j len ≡ true → reg a.regs q ≡ j → j < 2 ^ 31 → Comes w sc 10 n2 to a k Out (at_no_cost (Ok (below l j)))
-      inside l b g ready_b a j src keeps within is low =
+      inside : (l : Location) (b : Contents) (g : Leads sc p x.base x.shift r local (ty.array t len) c l b) (ready_b : Ready sc p s b) (a : Contents) (j : ℕ) → Source (r + 1) q → Keeps (r + 1) (r + 1) b a → nat_lt j len ≡ true → reg a.regs q ≡ j → j < 2 ^ 31 → len < 2 ^ 32 → Comes w sc 10 n2 to a k Out (at_no_cost (Ok (below l j)))
+      inside l b g ready_b a j src keeps within is low short =
           let ne = source_other (r + 1) q (omega arith) src in
-          let test = tests q len n2 a k idle ne (code_front w n2 (bound_code q len) tail last_there) in
+          let test = tests q len n2 a k short idle ne (code_front w n2 (bound_code q len) tail last_there) in
           let one_is : reg test.core.regs 1 ≡ 1 = test.is ∙ ap (λ y. flag (nat_lt y len)) is ∙ ap flag within in
           let go = skips w sc p s f area scene n3 1 0 test.core k idle tail_there.0 (λ z. let z0 : reg test.core.regs 1 ≡ 0 = z in absurd (omega (arith, z0, one_is))) in
           let path : PathLeads sc.env.structs (ty.array t len) (j ∷ []) t = (ltb-true j len within, refl) in
@@ -174,24 +175,32 @@ module _ (w : World) (sc : Scope) (p : Bases) (s : State) (f : Machine w) (area 
             keeps = kept;
           }) (later w 9 10 _ _ (omega arith) run')
         where
-          address : (base shift more from there : ℕ) → (base + shift) % 2 ^ 32 ≡ 4 * from → there ≡ from + more → 4 * there < 2 ^ 32 → (sum base (4 * more % 2 ^ 32) + shift) % 2 ^ 32 ≡ 4 * there
+          address : (base shift more from there : ℕ) → (base + shift) % 2 ^ 32 ≡ 4 * from → there ≡ from + more → 4 * there < 2 ^ 32
+              → (sum base (4 * more % 2 ^ 32) + shift) % 2 ^ 32 ≡ 4 * there
           address base shift further from there h e small = omega arith
 
-      by_test : (l : Location) (b : Contents) (g : Leads sc p x.base x.shift r local (ty.array t len) c l b) (ready_b : Ready sc p s b) (a : Contents) (j : ℕ) → Source (r + 1) q → Keeps (r + 1) (r + 1) b a → reg a.regs q ≡ j → j < 2 ^ 31 → (y : Bool) → nat_lt j len ≡ y → Comes w sc 10 n2 to a k Out (at_no_cost (if y then Ok (below l j) else Err (faulted Bounds)))
-      by_test l b g ready_b a j src keeps is low true e = inside l b g ready_b a j src keeps e is low
-      by_test l b g ready_b a j src keeps is low false e = outside a j (source_other (r + 1) q (omega arith) src) e is
+      by_test : (l : Location) (b : Contents) (g : Leads sc p x.base x.shift r local (ty.array t len) c l b) (ready_b : Ready sc p s b) (a : Contents) (j : ℕ) → Source (r + 1) q → Keeps (r + 1) (r + 1) b a → reg a.regs q ≡ j → j < 2 ^ 31 → len < 2 ^ 32 → (y : Bool) → nat_lt j len ≡ y → Comes w sc 10 n2 to a k Out (at_no_cost (if y then Ok (below l j) else Err (faulted Bounds)))
+      by_test l b g ready_b a j src keeps is low short true e = inside l b g ready_b a j src keeps e is low short
+      by_test l b g ready_b a j src keeps is low short false e = outside a j short (source_other (r + 1) q (omega arith) src) e is
+
+      wide : (n m : ℕ) → 1 ≤ n * m → n ≤ n * m
+      wide n zero h = absurd (omega (arith, h))
+      wide n (suc m) h = let z = mul_comm n (suc m) in omega (arith, z)
+
+      short_array : (l : Location) (b : Contents) → Leads sc p x.base x.shift r local (ty.array t len) c l b → Ready sc p s b → len < 2 ^ 32
+      short_array l b g ready_b =
+          let room = (found w sc p s f area scene b l (ty.array t len) ready_b g.leads g.standing).inside in
+          let some = wide len (words sc.env.structs t) (area.filled l.region l.path (ty.array t len) g.leads) in
+          let small = f.sound.small in
+          omega (arith, room, some, small)
 
       by_value : (l : Location) (b : Contents) (g : Leads sc p x.base x.shift r local (ty.array t len) c l b) (ready_b : Ready sc p s b) (a : Contents) → Source (r + 1) q → (y v : Value) → Fits sc.env.structs (layout sc p) (ty.array t len) y → Gives sc p q (r + 1) (r + 1) ty.int b v a → Comes w sc 10 n2 to a k Out (at_no_cost (element_of l (Some y) v))
       by_value l b g ready_b a src (group vs) (int (pos j)) fits h =
           let is : reg a.regs q ≡ j = h.is ∙ word_pos j h.fits in
           let c0 : count vs ≡ len = length_fits sc.env.structs (layout sc p) len t vs fits in
-          by_test l b g ready_b a j src h.keeps is (pos_small j h.fits) (nat_lt j (count vs)) (ap (nat_lt j) (sym c0))
-      by_value l b g ready_b a src (group vs) (int (negsuc j)) fits h = outside a (word_of (negsuc j)) (source_other (r + 1) q (omega arith) src) (le-ltb (word_of (negsuc j)) len (too_large j h.fits)) h.is
+          by_test l b g ready_b a j src h.keeps is (pos_small j h.fits) (short_array l b g ready_b) (nat_lt j (count vs)) (ap (nat_lt j) (sym c0))
+      by_value l b g ready_b a src (group vs) (int (negsuc j)) fits h = outside a (word_of (negsuc j)) (short_array l b g ready_b) (source_other (r + 1) q (omega arith) src) (le-ltb (word_of (negsuc j)) len (too_large j h.fits)) h.is
         where
-          wide : (n m : ℕ) → 1 ≤ n * m → n ≤ n * m
-          wide n zero h = absurd (omega (arith, h))
-          wide n (suc m) h = let z = mul_comm n (suc m) in omega (arith, z)
-
           too_large : (j : ℕ) → Fits sc.env.structs (layout sc p) ty.int (int (negsuc j)) → len ≤ word_of (negsuc j)
           too_large j fits = let big = word_negsuc j fits in
               let room = (found w sc p s f area scene b l (ty.array t len) ready_b g.leads g.standing).inside in

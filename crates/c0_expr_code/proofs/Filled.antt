@@ -1,8 +1,7 @@
 -- The code of values and of tests is never empty, and a test's is as long for every distance.
-use Rattle.std.specs.Prelude.{Ok}
-use Rattle.std.proofs.Common.{◌≡◌, ℕ, ◌+◌, ◌*◌, ◌%◌, ◌^◌, ◌≤◌, Bool, true, false, not, cond, nat_eq, nat_lt, Option, Some, None, List, [], ◌∷◌, ◌++◌, length, refl, sym, ap, ◌∙◌, arith, length-append}
+use Rattle.std.proofs.Common.{◌≡◌, ℕ, ◌+◌, ◌%◌, ◌^◌, ◌≤◌, Bool, true, false, not, cond, nat_eq, nat_lt, Option, Some, None, List, [], ◌∷◌, ◌++◌, length, refl, sym, ◌∙◌, arith, length-append}
 use Rattle.mips_table.specs.declared.inst.Inst.{Inst}
-use Rattle.mips_table.specs.declared.inst.Inst.TheVariants.{Addu, Addiu, Subu, Lui, Ori, Lw, Xori, Slti, Sltiu, Sltu, Beq, Bne, Mflo, Mfhi, Div as Divide}
+use Rattle.mips_table.specs.declared.inst.Inst.TheVariants.{Addu, Addiu, Subu, Lw, Xori, Sltiu, Sltu, Mflo, Mfhi, Div as Divide}
 use Rattle.c0_tree.specs.declared.tree.Kind.{Kind}
 use Rattle.c0_tree.specs.declared.tree.Kind.TheVariants.{Unresolved, Struct, Field, Global, Local, Function, Primitive}
 use Rattle.c0_tree.specs.declared.tree.UnaryOp.{UnaryOp}
@@ -11,8 +10,8 @@ use Rattle.c0_tree.specs.declared.tree.BinaryOp.{BinaryOp}
 use Rattle.c0_tree.specs.declared.tree.BinaryOp.TheVariants.{Add, Sub, Mul, Div, Rem, Lt, Le, Gt, Ge, Eq, Ne, And, Or}
 use Rattle.c0_tree.specs.Tree.{CExpr, num, true_, false_, null, var, field, arrow, index, deref, address, unary, binary}
 use Rattle.c0_expr_code.specs.Scope.{Scope}
-use Rattle.c0_expr_code.specs.Code.{low, high, is_near, negated, Spot, Made, constant_code, on_spot, operand_code, operand_register, at_place, no_spot, global_spot, register_made, register_of, local_spot, variable_made, one_code, two_code, logic_code, operator_code, Immediate, when_near, equality_with, immediate, immediate_of, operator_made, sum_made, is_sure, divisor_code, division_made, binary_made, negative_made, unary_made, made}
-use Rattle.c0_expr_code.specs.Test.{branch_code, negative_branch, positive_branch, below_code, compare_code, ImmediateTest, immediate_test, immediate_test_of, Testing, compare_test, both_code, binary_test, plain_test, unary_test, test_code}
+use Rattle.c0_expr_code.specs.Code.{is_near, negated, Spot, Made, constant_code, on_spot, operand_code, operand_register, at_place, no_spot, global_spot, register_made, register_of, local_spot, variable_made, one_code, two_code, operator_code, Immediate, when_near, equality_with, immediate, immediate_of, operator_made, sum_made, is_sure, divisor_code, division_made, binary_made, negative_made, unary_made, made}
+use Rattle.c0_expr_code.specs.Test.{branch_code, compare_code, ImmediateTest, immediate_test, immediate_test_of, Testing, compare_test, both_code, binary_test, plain_test, test_code}
 
 -- two codes of lengths
 behind : (is js : List Inst) → 1 ≤ length js → 1 ≤ length (is ++ js)
@@ -89,7 +88,8 @@ some_of : (o : BinaryOp) (k : Option ℕ) → Some_ (immediate_of o k)
 some_of o None = tt
 some_of o (Some k) = some_at o k
 
-operators : (im : Immediate) (o : BinaryOp) (a b : Made) → Some_ im → ((d q t : ℕ) → 1 ≤ length (operator_code o d q t)) → Filled (operator_made im o a b)
+operators : (im : Immediate) (o : BinaryOp) (a b : Made) → Some_ im → ((d q t : ℕ) → 1 ≤ length (operator_code o d q t))
+    → Filled (operator_made im o a b)
 operators (Some g) o a b h i d r = one_some (λ q. g d q) a r (λ q. h d q)
 operators None o a b h i d r = two_some (λ q t. operator_code o d q t) a b r (λ q t. i d q t)
 
@@ -150,7 +150,8 @@ module _ (sc : Scope) where
       let c = h (operand_register m r) in
       omega (arith, a, b, c)
 
-  two_same : (f g : ℕ → ℕ → List Inst) (x y : Made) (r : ℕ) → ((q t : ℕ) → length (f q t) ≡ length (g q t)) → length (two_code f x y r) ≡ length (two_code g x y r)
+  two_same : (f g : ℕ → ℕ → List Inst) (x y : Made) (r : ℕ) → ((q t : ℕ) → length (f q t) ≡ length (g q t))
+      → length (two_code f x y r) ≡ length (two_code g x y r)
   two_same f g x y r h =
       let a = length-append (operand_code x r) (operand_code y (r + 1) ++ f (operand_register x r) (operand_register y (r + 1))) in
       let b = length-append (operand_code y (r + 1)) (f (operand_register x r) (operand_register y (r + 1))) in
@@ -171,7 +172,8 @@ module _ (sc : Scope) where
   SteadyTest None = Unit {0}
   SteadyTest (Some g) = ((s : Bool) (far q : ℕ) → 1 ≤ length (g s far q)) × ((s : Bool) (far far' q : ℕ) → length (g s far q) ≡ length (g s far' q))
 
-  by_tests : (b c : Bool) (f g : Bool → ℕ → ℕ → List Inst) → ((s : Bool) (far q : ℕ) → length (f s far q) ≡ 1) → ((s : Bool) (far q : ℕ) → length (g s far q) ≡ 2) → SteadyTest (cond b (Some f) (cond c (Some g) None))
+  by_tests : (b c : Bool) (f g : Bool → ℕ → ℕ → List Inst) → ((s : Bool) (far q : ℕ) → length (f s far q) ≡ 1)
+      → ((s : Bool) (far q : ℕ) → length (g s far q) ≡ 2) → SteadyTest (cond b (Some f) (cond c (Some g) None))
   by_tests true c f g h i = ((λ s far q. let a = h s far q in omega (arith, a)), λ s far far' q. h s far q ∙ sym (h s far' q))
   by_tests false true f g h i = ((λ s far q. let a = i s far q in omega (arith, a)), λ s far far' q. i s far q ∙ sym (i s far' q))
   by_tests false false f g h i = tt
@@ -195,7 +197,8 @@ module _ (sc : Scope) where
   steady_of o None = tt
   steady_of o (Some k) = steady_at o k
 
-  compares : (im : ImmediateTest) (o : BinaryOp) (a b : Made) → SteadyTest im → ((s : Bool) (far q t : ℕ) → 1 ≤ length (compare_code o s far q t)) → ((s : Bool) (far far' q t : ℕ) → length (compare_code o s far q t) ≡ length (compare_code o s far' q t)) → Steady (compare_test im o a b)
+  compares : (im : ImmediateTest) (o : BinaryOp) (a b : Made) → SteadyTest im → ((s : Bool) (far q t : ℕ) → 1 ≤ length (compare_code o s far q t))
+      → ((s : Bool) (far far' q t : ℕ) → length (compare_code o s far q t) ≡ length (compare_code o s far' q t)) → Steady (compare_test im o a b)
   compares (Some g) o a b h i j = record { some = λ s far r. one_some (λ q. g s far q) a r (λ q. h.0 s far q); same = λ s far far' r. one_same (λ q. g s far q) (λ q. g s far' q) a r (λ q. h.1 s far far' q) }
   compares None o a b h i j = record { some = λ s far r. two_some (λ q t. compare_code o s far q t) a b r (λ q t. i s far q t); same = λ s far far' r. two_same (λ q t. compare_code o s far q t) (λ q t. compare_code o s far' q t) a b r (λ q t. j s far far' q t) }
 

@@ -1,10 +1,9 @@
 -- The types that the code goes by, and which constants nodes are.
-use Rattle.std.specs.Prelude.{ℤ, pos, neg_ℤ, option_map, slice_get, FitsSigned, Ok, Err}
+use Rattle.std.specs.Prelude.{pos, neg_ℤ, option_map, FitsSigned, Ok}
 use Rattle.std.specs.Int.{int_wrap, w32}
-use Rattle.std.proofs.Common.{◌≡◌, ℕ, ◌+◌, ◌-◌, ◌*◌, ◌%◌, ◌^◌, ◌<◌, ◌≤◌, Bool, true, false, cond, nat_eq, Option, Some, None, List, refl, sym, ap, ◌∙◌, subst, arith}
+use Rattle.std.proofs.Common.{◌≡◌, ℕ, ◌+◌, ◌-◌, ◌%◌, ◌^◌, ◌≤◌, Bool, true, false, cond, Option, Some, None, refl, sym, ap, ◌∙◌, subst, arith}
 use Rattle.std.proofs.lemmas.Bool.{cond-true}
 use Rattle.std.proofs.lemmas.Int.{SFits-int_wrap}
-use Rattle.mips_table.specs.declared.inst.Inst.{Inst}
 use Rattle.c0_tree.specs.declared.tree.Kind.{Kind}
 use Rattle.c0_tree.specs.declared.tree.Kind.TheVariants.{Unresolved, Struct, Field, Global, Local, Function, Primitive}
 use Rattle.c0_tree.specs.declared.tree.UnaryOp.TheVariants.{Negate, Not}
@@ -26,7 +25,7 @@ use Rattle.c0_meaning.specs.Operators.{on_unary}
 use Rattle.c0_meaning.specs.Evaluation.{Costed, costs, at_no_cost, paying, ◌>>=◌, value_of}
 use Rattle.cvm_words.specs.Words.{word_of}
 use Rattle.c0_expr_code.specs.Scope.{Scope}
-use Rattle.c0_expr_code.specs.Code.{Made, at_place, register_made, register_of, local_spot, variable_made, negated, negative_made, unary_made, Immediate, immediate_of, operator_made, sum_made, binary_made, made}
+use Rattle.c0_expr_code.specs.Code.{Made, at_place, register_made, register_of, local_spot, variable_made, negated, negative_made, Immediate, immediate_of, operator_made, sum_made, binary_made, made}
 use Rattle.c0_expr_code.specs.Bases.{Bases, word}
 use Rattle.c0_expr_code.specs.Relation.{layout}
 use Rattle.c0_expr_code.proofs.Words.{word_pos, word_negative}
@@ -163,7 +162,8 @@ module _ (sc : Scope) where
     negative_word : (n : ℕ) → FitsSigned w32 (pos n) → word_of (int_wrap w32 (neg_ℤ (pos n))) ≡ negated n
     negative_word n h = sym (word_negative (pos n) h) ∙ ap (λ y. (0 + (2 ^ 32 - y)) % 2 ^ 32) (word_pos n h) ∙ omega arith
 
-    pub negative_known : (e : CExpr) (s : State) (k : ℕ) (o : Option ℕ) → HasNumberedType sc.env e ty.int → (made sc e).literal ≡ o → (negative_made o (made sc e)).known ≡ Some k → KnownAs ty.int k (paying 1 (value_of e s >>= λ v. at_no_cost (on_unary Negate v)))
+    pub negative_known : (e : CExpr) (s : State) (k : ℕ) (o : Option ℕ) → HasNumberedType sc.env e ty.int → (made sc e).literal ≡ o
+        → (negative_made o (made sc e)).known ≡ Some k → KnownAs ty.int k (paying 1 (value_of e s >>= λ v. at_no_cost (on_unary Negate v)))
     negative_known e s k None h q g = absurd (cc)
     negative_known e s k (Some n) h q g =
         let fits = small_literal e n h q in

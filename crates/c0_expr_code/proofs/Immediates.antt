@@ -1,7 +1,7 @@
 -- Operators on a value in a register and a constant.
 use Rattle.std.specs.Prelude.{ℤ, pos, negsuc, ◌+ℤ◌, ◌-ℤ◌, int_lt, int_le, FitsSigned, bit_xor, Result, Ok}
 use Rattle.std.specs.Int.{cast_signed, int_wrap, w32}
-use Rattle.std.proofs.Common.{◌≡◌, ◌≢◌, inl, inr, ◌⊎◌, ℕ, zero, suc, ◌+◌, ◌-◌, ◌*◌, ◌%◌, ◌^◌, ◌<◌, ◌≤◌, Bool, true, false, not, cond, nat_eq, nat_lt, Option, Some, None, List, [], ◌∷◌, length, refl, sym, ap, ap₂, ◌∙◌, subst, arith, lt-ltb, le-ltb, ne_eqb}
+use Rattle.std.proofs.Common.{◌≡◌, ◌≢◌, inl, inr, ◌⊎◌, ℕ, zero, suc, ◌+◌, ◌-◌, ◌%◌, ◌^◌, ◌<◌, ◌≤◌, Bool, true, false, not, cond, nat_eq, nat_lt, Some, None, List, [], ◌∷◌, length, refl, sym, ap, ap₂, ◌∙◌, subst, arith, lt-ltb, le-ltb, ne_eqb}
 use Rattle.std.proofs.lemmas.Bool.{cases_Bool, eqb-true, ltb-true, ltb-false, cond-true, cond-false}
 use Rattle.std.proofs.lemmas.Int.{ints, SFits-int_wrap, to_z-of_z}
 use Rattle.std.proofs.Math.IntN.{+ℤ_comm}
@@ -22,11 +22,11 @@ use Rattle.c0_meaning.specs.Evaluation.{at_no_cost}
 use Rattle.c0_meaning.specs.TypedState.{Fits}
 use Rattle.cvm_words.specs.Words.{word_of}
 use Rattle.c0_expr_code.specs.Scope.{Scope}
-use Rattle.c0_expr_code.specs.Code.{low, is_near, negated, Immediate, when_near, equality_with, immediate}
+use Rattle.c0_expr_code.specs.Code.{low, is_near, negated, equality_with, immediate}
 use Rattle.c0_expr_code.specs.Bases.{Bases, word}
 use Rattle.c0_expr_code.specs.Relation.{layout, Scene, Area, Comes, Gives}
 use Rattle.c0_expr_code.proofs.Machine.{Machine, said_step}
-use Rattle.c0_expr_code.proofs.Words.{word_sum, word_difference, word_less, xor_tests, xor_differs, not_flag, not_less}
+use Rattle.c0_expr_code.proofs.Words.{word_sum, word_difference, word_less, xor_tests, not_flag, not_less}
 use Rattle.c0_expr_code.proofs.Steps.{same_read}
 use Rattle.c0_expr_code.proofs.Operators.{FinishesOne, once, twice, same_words}
 
@@ -70,7 +70,8 @@ after_word z f k e near = ap (cast_signed w32) (by_number z f e (near_cases k ne
 less_after : (x z : ℤ) → int_lt x (z +ℤ pos 1) ≡ int_le x z
 less_after x z = grind (arith, ints)
 
-pub less_near : (x z : ℤ) (k : ℕ) → FitsSigned w32 x → FitsSigned w32 z → k ≡ (word_of z + 1) % 2 ^ 32 → extended (k % 2 ^ 16) ≡ k → less (word_of x) (extended (k % 2 ^ 16)) ≡ int_le x z
+pub less_near : (x z : ℤ) (k : ℕ) → FitsSigned w32 x → FitsSigned w32 z → k ≡ (word_of z + 1) % 2 ^ 32 → extended (k % 2 ^ 16) ≡ k
+    → less (word_of x) (extended (k % 2 ^ 16)) ≡ int_le x z
 less_near x z k f g e near = ap₂ int_lt (to_z-of_z w32 x f) (ap (cast_signed w32) near ∙ after_word z g k e near) ∙ less_after x z
 
 below_one : (n : ℕ) → nat_lt n 1 ≡ nat_eq n 0
@@ -94,12 +95,14 @@ module _ (w : World) (sc : Scope) (p : Bases) (s : State) (f : Machine w) (area 
   on_number g d r z on h (at l) q n a k idle fx ex there = absurd fx
   on_number g d r z on h (group vs) q n a k idle fx ex there = absurd fx
 
-  adds : (d r : ℕ) (z : ℤ) → d ≢ 0 → FitsSigned w32 z → extended (word_of z % 2 ^ 16) ≡ word_of z → With (λ d q. Addiu d q (low (word_of z)) ∷ []) d r ty.int ty.int (λ x. on_binary Add x (int z))
+  adds : (d r : ℕ) (z : ℤ) → d ≢ 0 → FitsSigned w32 z → extended (word_of z % 2 ^ 16) ≡ word_of z
+      → With (λ d q. Addiu d q (low (word_of z)) ∷ []) d r ty.int ty.int (λ x. on_binary Add x (int z))
   adds d r z nz fz near = on_number (λ d q. Addiu d q (low (word_of z)) ∷ []) d r ty.int _ (λ x q n a k idle fx ex there.
       once w sc p s f area scene d r (word_of (int_wrap w32 (x +ℤ z))) n ty.int (int (int_wrap w32 (x +ℤ z))) a k nz refl (SFits-int_wrap w32 _)
       (said_step w f (Addiu d q (low (word_of z))) (Becomes (word_of (int_wrap w32 (x +ℤ z)))) n a k there.0 refl idle (ap₂ sum ex near ∙ word_sum x z fx fz)))
 
-  pub adds_left : (d r : ℕ) (z : ℤ) → d ≢ 0 → FitsSigned w32 z → (g : ℕ → ℕ → List Inst) → immediate Add (word_of z) ≡ Some g → With g d r ty.int ty.int (λ x. on_binary Add (int z) x)
+  pub adds_left : (d r : ℕ) (z : ℤ) → d ≢ 0 → FitsSigned w32 z → (g : ℕ → ℕ → List Inst) → immediate Add (word_of z) ≡ Some g
+      → With g d r ty.int ty.int (λ x. on_binary Add (int z) x)
   adds_left d r z nz fz g e =
       let h = near_some (word_of z) (λ d q. Addiu d q (low (word_of z)) ∷ []) g e in
       subst (λ g. With g d r ty.int ty.int (λ x. on_binary Add (int z) x)) h.1
@@ -107,7 +110,8 @@ module _ (w : World) (sc : Scope) (p : Bases) (s : State) (f : Machine w) (area 
       once w sc p s f area scene d r (word_of (int_wrap w32 (z +ℤ x))) n ty.int (int (int_wrap w32 (z +ℤ x))) a k nz refl (SFits-int_wrap w32 _)
       (said_step w f (Addiu d q (low (word_of z))) (Becomes (word_of (int_wrap w32 (z +ℤ x)))) n a k there.0 refl idle (ap₂ sum ex h.0 ∙ word_sum x z fx fz ∙ ap (λ y. word_of (int_wrap w32 y)) (+ℤ_comm x z)))))
 
-  subtracts : (d r : ℕ) (z : ℤ) → d ≢ 0 → FitsSigned w32 z → extended (negated (word_of z) % 2 ^ 16) ≡ negated (word_of z) → With (λ d q. Addiu d q (low (negated (word_of z))) ∷ []) d r ty.int ty.int (λ x. on_binary Sub x (int z))
+  subtracts : (d r : ℕ) (z : ℤ) → d ≢ 0 → FitsSigned w32 z → extended (negated (word_of z) % 2 ^ 16) ≡ negated (word_of z)
+      → With (λ d q. Addiu d q (low (negated (word_of z))) ∷ []) d r ty.int ty.int (λ x. on_binary Sub x (int z))
   subtracts d r z nz fz near = on_number (λ d q. Addiu d q (low (negated (word_of z))) ∷ []) d r ty.int _ (λ x q n a k idle fx ex there.
       once w sc p s f area scene d r (word_of (int_wrap w32 (x -ℤ z))) n ty.int (int (int_wrap w32 (x -ℤ z))) a k nz refl (SFits-int_wrap w32 _)
       (said_step w f (Addiu d q (low (negated (word_of z)))) (Becomes (word_of (int_wrap w32 (x -ℤ z)))) n a k there.0 refl idle (ap₂ sum ex near ∙ less_is (word_of x) (word_of z) ∙ word_difference x z fx fz)))
@@ -115,17 +119,20 @@ module _ (w : World) (sc : Scope) (p : Bases) (s : State) (f : Machine w) (area 
       less_is : (a b : ℕ) → sum a (negated b) ≡ difference a b
       less_is a b = omega arith
 
-  below : (d r : ℕ) (z : ℤ) → d ≢ 0 → FitsSigned w32 z → extended (word_of z % 2 ^ 16) ≡ word_of z → With (λ d q. Slti d q (low (word_of z)) ∷ []) d r ty.int ty.bool (λ x. on_binary Lt x (int z))
+  below : (d r : ℕ) (z : ℤ) → d ≢ 0 → FitsSigned w32 z → extended (word_of z % 2 ^ 16) ≡ word_of z
+      → With (λ d q. Slti d q (low (word_of z)) ∷ []) d r ty.int ty.bool (λ x. on_binary Lt x (int z))
   below d r z nz fz near = on_number (λ d q. Slti d q (low (word_of z)) ∷ []) d r ty.bool _ (λ x q n a k idle fx ex there.
       once w sc p s f area scene d r (flag (int_lt x z)) n ty.bool (bool (int_lt x z)) a k nz refl tt
       (said_step w f (Slti d q (low (word_of z))) (Becomes (flag (int_lt x z))) n a k there.0 refl idle (ap flag (ap₂ less ex near ∙ word_less x z fx fz))))
 
-  at_most : (d r : ℕ) (z : ℤ) → d ≢ 0 → FitsSigned w32 z → (k : ℕ) → k ≡ (word_of z + 1) % 2 ^ 32 → extended (k % 2 ^ 16) ≡ k → With (λ d q. Slti d q (low k) ∷ []) d r ty.int ty.bool (λ x. on_binary Le x (int z))
+  at_most : (d r : ℕ) (z : ℤ) → d ≢ 0 → FitsSigned w32 z → (k : ℕ) → k ≡ (word_of z + 1) % 2 ^ 32 → extended (k % 2 ^ 16) ≡ k
+      → With (λ d q. Slti d q (low k) ∷ []) d r ty.int ty.bool (λ x. on_binary Le x (int z))
   at_most d r z nz fz b e near = on_number (λ d q. Slti d q (low b) ∷ []) d r ty.bool _ (λ x q n a k idle fx ex there.
       once w sc p s f area scene d r (flag (int_le x z)) n ty.bool (bool (int_le x z)) a k nz refl tt
       (said_step w f (Slti d q (low b)) (Becomes (flag (int_le x z))) n a k there.0 refl idle (ap flag (ap (λ y. less y (extended (low b))) ex ∙ less_near x z b fx fz e near))))
 
-  at_least : (d r : ℕ) (z : ℤ) → d ≢ 0 → FitsSigned w32 z → extended (word_of z % 2 ^ 16) ≡ word_of z → With (λ d q. Slti d q (low (word_of z)) ∷ Xori d d 1 ∷ []) d r ty.int ty.bool (λ x. on_binary Ge x (int z))
+  at_least : (d r : ℕ) (z : ℤ) → d ≢ 0 → FitsSigned w32 z → extended (word_of z % 2 ^ 16) ≡ word_of z
+      → With (λ d q. Slti d q (low (word_of z)) ∷ Xori d d 1 ∷ []) d r ty.int ty.bool (λ x. on_binary Ge x (int z))
   at_least d r z nz fz near = on_number (λ d q. Slti d q (low (word_of z)) ∷ Xori d d 1 ∷ []) d r ty.bool _ (λ x q n a k idle fx ex there.
       twice w sc p s f area scene d r (flag (int_lt x z)) (flag (int_le z x)) n ty.bool (bool (int_le z x)) a k nz refl tt
       (said_step w f (Slti d q (low (word_of z))) (Becomes (flag (int_lt x z))) n a k there.0 refl idle (ap flag (ap₂ less ex near ∙ word_less x z fx fz)))
@@ -133,7 +140,8 @@ module _ (w : World) (sc : Scope) (p : Bases) (s : State) (f : Machine w) (area 
 
   -- what an instruction tells of a difference from 0
   record Tells (i : ℕ → ℕ → Inst) (turn : Bool → Bool) : Type 0 where
-    steps : (d q n v : ℕ) (a : Contents) (k : Behind) → k.pending ≡ Idle → w.code n ≡ Some (i d q) → reg a.regs q ≡ v → Rattle.mips_table.specs.Code.Reaches w 1 (at_with n a k) (at_with (n + 1) (with_reg a d (flag (turn (nat_eq v 0)))) k)
+    steps : (d q n v : ℕ) (a : Contents) (k : Behind) → k.pending ≡ Idle → w.code n ≡ Some (i d q) → reg a.regs q ≡ v
+        → Rattle.mips_table.specs.Code.Reaches w 1 (at_with n a k) (at_with (n + 1) (with_reg a d (flag (turn (nat_eq v 0)))) k)
 
   tells_equal : Tells (λ d q. Sltiu d q 1) (λ b. b)
   tells_equal = record { steps = λ d q n v a k idle there e. said_step w f (Sltiu d q 1) (Becomes (flag (nat_eq v 0))) n a k there refl idle (ap (λ y. flag (nat_lt y 1)) e ∙ ap flag (below_one v)) }
@@ -144,12 +152,17 @@ module _ (w : World) (sc : Scope) (p : Bases) (s : State) (f : Machine w) (area 
   xor_zero : (a b : ℕ) → nat_eq (bit_xor a b) 0 ≡ nat_eq a b
   xor_zero a b = sym (below_one (bit_xor a b)) ∙ xor_tests a b
 
-  equal_with : (o : BinaryOp) (i : ℕ → ℕ → Inst) (turn : Bool → Bool) → Tells i turn → ((x y : Value) → on_binary o x y ≡ Ok (bool (turn (same x y)))) → (d r : ℕ) (t : Ty) (v : Value) → d ≢ 0 → is_scalar t ≡ true → Fits sc.env.structs (layout sc p) t v → (g : ℕ → ℕ → List Inst) → equality_with i (word sc p v) ≡ Some g → With g d r t ty.bool (λ x. on_binary o x v)
+  equal_with : (o : BinaryOp) (i : ℕ → ℕ → Inst) (turn : Bool → Bool) → Tells i turn
+      → ((x y : Value) → on_binary o x y ≡ Ok (bool (turn (same x y)))) → (d r : ℕ) (t : Ty) (v : Value) → d ≢ 0 → is_scalar t ≡ true
+      → Fits sc.env.structs (layout sc p) t v → (g : ℕ → ℕ → List Inst) → equality_with i (word sc p v) ≡ Some g
+      → With g d r t ty.bool (λ x. on_binary o x v)
   equal_with o i turn tells on d r t v nz scalar fv g e x q n a k idle fx ex there =
       let is = same_words w sc p s f area scene t x v scalar fx fv in
       subst (λ z. Comes w sc 5 n (n + length (g d q)) a k (Gives sc p d r d ty.bool a) (at_no_cost z)) (sym (on x v)) (by_code is (either_some (nat_eq (word sc p v) 0) (nat_lt (word sc p v) (2 ^ 16)) (λ d q. i d q ∷ []) (λ d q. Xori d q (word sc p v) ∷ i d d ∷ []) g e))
     where
-      by_code : same x v ≡ nat_eq (word sc p x) (word sc p v) → ((nat_eq (word sc p v) 0 ≡ true) × ((λ d q. i d q ∷ []) ≡ g)) ⊎ ((λ d q. Xori d q (word sc p v) ∷ i d d ∷ []) ≡ g) → Comes w sc 5 n (n + length (g d q)) a k (Gives sc p d r d ty.bool a) (at_no_cost (Ok (bool (turn (same x v)))))
+      by_code : same x v ≡ nat_eq (word sc p x) (word sc p v)
+          → ((nat_eq (word sc p v) 0 ≡ true) × ((λ d q. i d q ∷ []) ≡ g)) ⊎ ((λ d q. Xori d q (word sc p v) ∷ i d d ∷ []) ≡ g)
+          → Comes w sc 5 n (n + length (g d q)) a k (Gives sc p d r d ty.bool a) (at_no_cost (Ok (bool (turn (same x v)))))
       by_code is (inl h) =
           let zero_is : nat_eq (word sc p x) 0 ≡ same x v = ap (nat_eq (word sc p x)) (sym (eqb-true (word sc p v) 0 h.0)) ∙ sym is in
           let code = subst (λ g. CodeAt w n (g d q)) (sym h.1) there in
@@ -164,23 +177,30 @@ module _ (w : World) (sc : Scope) (p : Bases) (s : State) (f : Machine w) (area 
           (said_step w f (Xori d q (word sc p v)) (Becomes (bit_xor (word sc p x) (word sc p v))) n a k code.0 refl idle (ap (λ y. bit_xor y (word sc p v)) ex))
           (tells.steps d d (n + 1) (bit_xor (word sc p x) (word sc p v)) (with_reg a d (bit_xor (word sc p x) (word sc p v))) k idle code.1.0 (same_read a.regs d (bit_xor (word sc p x) (word sc p v)) nz)))
 
-  pub equals_with : (d r : ℕ) (t : Ty) (v : Value) → d ≢ 0 → is_scalar t ≡ true → Fits sc.env.structs (layout sc p) t v → (g : ℕ → ℕ → List Inst) → immediate Eq (word sc p v) ≡ Some g → With g d r t ty.bool (λ x. on_binary Eq x v)
+  pub equals_with : (d r : ℕ) (t : Ty) (v : Value) → d ≢ 0 → is_scalar t ≡ true → Fits sc.env.structs (layout sc p) t v → (g : ℕ → ℕ → List Inst)
+      → immediate Eq (word sc p v) ≡ Some g → With g d r t ty.bool (λ x. on_binary Eq x v)
   equals_with d r t v nz scalar fv g e = equal_with Eq (λ d q. Sltiu d q 1) (λ b. b) tells_equal (λ x y. refl) d r t v nz scalar fv g e
 
-  pub differs_with : (d r : ℕ) (t : Ty) (v : Value) → d ≢ 0 → is_scalar t ≡ true → Fits sc.env.structs (layout sc p) t v → (g : ℕ → ℕ → List Inst) → immediate Ne (word sc p v) ≡ Some g → With g d r t ty.bool (λ x. on_binary Ne x v)
+  pub differs_with : (d r : ℕ) (t : Ty) (v : Value) → d ≢ 0 → is_scalar t ≡ true → Fits sc.env.structs (layout sc p) t v → (g : ℕ → ℕ → List Inst)
+      → immediate Ne (word sc p v) ≡ Some g → With g d r t ty.bool (λ x. on_binary Ne x v)
   differs_with d r t v nz scalar fv g e = equal_with Ne (λ d q. Sltu d 0 q) not tells_other (λ x y. refl) d r t v nz scalar fv g e
 
-  pub adds_with : (d r : ℕ) (z : ℤ) → d ≢ 0 → FitsSigned w32 z → (g : ℕ → ℕ → List Inst) → immediate Add (word_of z) ≡ Some g → With g d r ty.int ty.int (λ x. on_binary Add x (int z))
+  pub adds_with : (d r : ℕ) (z : ℤ) → d ≢ 0 → FitsSigned w32 z → (g : ℕ → ℕ → List Inst) → immediate Add (word_of z) ≡ Some g
+      → With g d r ty.int ty.int (λ x. on_binary Add x (int z))
   adds_with d r z nz fz g e = let h = near_some (word_of z) (λ d q. Addiu d q (low (word_of z)) ∷ []) g e in subst (λ g. With g d r ty.int ty.int (λ x. on_binary Add x (int z))) h.1 (adds d r z nz fz h.0)
 
-  pub subtracts_with : (d r : ℕ) (z : ℤ) → d ≢ 0 → FitsSigned w32 z → (g : ℕ → ℕ → List Inst) → immediate Sub (word_of z) ≡ Some g → With g d r ty.int ty.int (λ x. on_binary Sub x (int z))
+  pub subtracts_with : (d r : ℕ) (z : ℤ) → d ≢ 0 → FitsSigned w32 z → (g : ℕ → ℕ → List Inst) → immediate Sub (word_of z) ≡ Some g
+      → With g d r ty.int ty.int (λ x. on_binary Sub x (int z))
   subtracts_with d r z nz fz g e = let h = near_some (negated (word_of z)) (λ d q. Addiu d q (low (negated (word_of z))) ∷ []) g e in subst (λ g. With g d r ty.int ty.int (λ x. on_binary Sub x (int z))) h.1 (subtracts d r z nz fz h.0)
 
-  pub below_with : (d r : ℕ) (z : ℤ) → d ≢ 0 → FitsSigned w32 z → (g : ℕ → ℕ → List Inst) → immediate Lt (word_of z) ≡ Some g → With g d r ty.int ty.bool (λ x. on_binary Lt x (int z))
+  pub below_with : (d r : ℕ) (z : ℤ) → d ≢ 0 → FitsSigned w32 z → (g : ℕ → ℕ → List Inst) → immediate Lt (word_of z) ≡ Some g
+      → With g d r ty.int ty.bool (λ x. on_binary Lt x (int z))
   below_with d r z nz fz g e = let h = near_some (word_of z) (λ d q. Slti d q (low (word_of z)) ∷ []) g e in subst (λ g. With g d r ty.int ty.bool (λ x. on_binary Lt x (int z))) h.1 (below d r z nz fz h.0)
 
-  pub at_most_with : (d r : ℕ) (z : ℤ) → d ≢ 0 → FitsSigned w32 z → (g : ℕ → ℕ → List Inst) → immediate Le (word_of z) ≡ Some g → With g d r ty.int ty.bool (λ x. on_binary Le x (int z))
+  pub at_most_with : (d r : ℕ) (z : ℤ) → d ≢ 0 → FitsSigned w32 z → (g : ℕ → ℕ → List Inst) → immediate Le (word_of z) ≡ Some g
+      → With g d r ty.int ty.bool (λ x. on_binary Le x (int z))
   at_most_with d r z nz fz g e = let h = near_some ((word_of z + 1) % 2 ^ 32) (λ d q. Slti d q (low ((word_of z + 1) % 2 ^ 32)) ∷ []) g e in subst (λ g. With g d r ty.int ty.bool (λ x. on_binary Le x (int z))) h.1 (at_most d r z nz fz ((word_of z + 1) % 2 ^ 32) refl h.0)
 
-  pub at_least_with : (d r : ℕ) (z : ℤ) → d ≢ 0 → FitsSigned w32 z → (g : ℕ → ℕ → List Inst) → immediate Ge (word_of z) ≡ Some g → With g d r ty.int ty.bool (λ x. on_binary Ge x (int z))
+  pub at_least_with : (d r : ℕ) (z : ℤ) → d ≢ 0 → FitsSigned w32 z → (g : ℕ → ℕ → List Inst) → immediate Ge (word_of z) ≡ Some g
+      → With g d r ty.int ty.bool (λ x. on_binary Ge x (int z))
   at_least_with d r z nz fz g e = let h = near_some (word_of z) (λ d q. Slti d q (low (word_of z)) ∷ Xori d d 1 ∷ []) g e in subst (λ g. With g d r ty.int ty.bool (λ x. on_binary Ge x (int z))) h.1 (at_least d r z nz fz h.0)

@@ -27,7 +27,7 @@ pub record Short (m : Made) (k : ℕ) : Type 0 where
 constant_length : (d n : ℕ) → length (constant_code d n) ≤ 2
 constant_length d n =
     cond_length (nat_lt n (2 ^ 16)) (Ori d 0 n ∷ []) _ 2 (omega arith)
-    (cond_length (is_near n) (Addiu d 0 (low n) ∷ []) (Lui d (n / 2 ^ 16) ∷ Ori d d (n % 2 ^ 16) ∷ []) 2 (omega arith) (omega arith))
+    (cond_length (is_near n) (Addiu d 0 (low n) ∷ []) (Lui d (n / 2 ^ 16 % 2 ^ 16) ∷ Ori d d (low n) ∷ []) 2 (omega arith) (omega arith))
 
 spot_length : (i : ℕ → ℕ → Inst) (r : ℕ) (x : Spot) → length (on_spot i r x) ≤ length x.code + 3
 spot_length i r x =
@@ -143,7 +143,8 @@ module _ (sc : Scope) where
       let g = scaled_length (shift_within POWERS w) w q in
       omega (arith, a, d, e, g)
 
-  tested_length : (w n : ℕ) (x : Spot) (m : Made) (j k r : ℕ) → length x.code + 3 ≤ 14 * j → Short m k → length (tested_spot sc w n x m r).code + 3 ≤ 14 * (j + k + 1)
+  tested_length : (w n : ℕ) (x : Spot) (m : Made) (j k r : ℕ) → length x.code + 3 ≤ 14 * j → Short m k
+      → length (tested_spot sc w n x m r).code + 3 ≤ 14 * (j + k + 1)
   tested_length w n x m j k r h g =
       let a = operand_length m k (r + 1) g in
       let b = element_length (operand_register m (r + 1)) x.base r w n in
@@ -151,7 +152,8 @@ module _ (sc : Scope) where
       let d = length-append (operand_code m (r + 1)) (element_code sc (operand_register m (r + 1)) x.base r w n) in
       omega (arith, a, b, c, d, h)
 
-  elements : (o : Option ℕ) (w n : ℕ) (x : Spot) (m : Made) (j k r : ℕ) → length x.code + 3 ≤ 14 * j → Short m k → length (element_spot sc w n o x m r).code + 3 ≤ 14 * (j + k + 1)
+  elements : (o : Option ℕ) (w n : ℕ) (x : Spot) (m : Made) (j k r : ℕ) → length x.code + 3 ≤ 14 * j → Short m k
+      → length (element_spot sc w n o x m r).code + 3 ≤ 14 * (j + k + 1)
   elements None w n x m j k r h g = tested_length w n x m j k r h g
   elements (Some c) w n x m j k r h g = by_test (nat_lt c n)
     where
@@ -171,7 +173,8 @@ module _ (sc : Scope) where
       let v = length-append (b.value r r) (to_code d r) in
       omega (arith, x, y, t, u, v)
 
-  two_length : (code : ℕ → ℕ → List Inst) (a b : Made) (j k r : ℕ) → ((q t : ℕ) → length (code q t) ≤ 4) → Short a j → Short b k → length (two_code code a b r) ≤ 14 * (j + k + 1)
+  two_length : (code : ℕ → ℕ → List Inst) (a b : Made) (j k r : ℕ) → ((q t : ℕ) → length (code q t) ≤ 4) → Short a j → Short b k
+      → length (two_code code a b r) ≤ 14 * (j + k + 1)
   two_length code a b j k r few h g =
       let x = operand_length a j r h in
       let y = operand_length b k (r + 1) g in

@@ -23,3 +23,9 @@ mod Names
 mod Stores
 mod Parts
 mod Ready
+mod Areas
+mod Storing
+mod Elsewhere
+mod InRange
+mod Patches
+mod Exits

@@ -1,5 +1,5 @@
 -- Runs of code: how they join, what straight code does, and where branches and jumps lead.
-use Rattle.std.proofs.Common.{◌≡◌, ◌≢◌, ℕ, zero, suc, ◌+◌, ◌*◌, ◌≤◌, ◌%◌, ◌^◌, Bool, true, false, not, nat_eq, eq-eqb, ne_eqb, Some, List, [], ◌∷◌, ◌++◌, length, refl, sym, ap, ◌∙◌, subst, arith}
+use Rattle.std.proofs.Common.{◌≡◌, ◌≢◌, ℕ, zero, suc, ◌+◌, ◌*◌, ◌≤◌, ◌%◌, ◌^◌, true, not, nat_eq, eq-eqb, ne_eqb, Some, List, [], ◌∷◌, ◌++◌, length, sym, ap, ◌∙◌, subst, arith}
 use Rattle.mips_table.specs.declared.inst.Inst.{Inst}
 use Rattle.mips_table.specs.declared.inst.Inst.TheVariants.{Beq, Bne}
 use Rattle.mips_table.specs.declared.effect.Effect.TheVariants.{Set}
@@ -47,21 +47,26 @@ pub idle_settle : (n : ℕ) (c : Contents) (d : Behind) → d.pending ≡ Idle �
 idle_settle n c d h = ap (λ p. settling p n c d) h
 
 module _ (w : World) (f : Machine w) where
-  pub said_step : (i : Inst) (h : Says) (n : ℕ) (c : Contents) (d : Behind) → w.code n ≡ Some i → goes_on i ≡ true → d.pending ≡ Idle → Said w i c d (effect_at i n c) h → Reaches w 1 (at_with n c d) (at_with (n + 1) (said i c (effect_at i n c) h) (told d h))
+  pub said_step : (i : Inst) (h : Says) (n : ℕ) (c : Contents) (d : Behind) → w.code n ≡ Some i → goes_on i ≡ true → d.pending ≡ Idle
+      → Said w i c d (effect_at i n c) h → Reaches w 1 (at_with n c d) (at_with (n + 1) (said i c (effect_at i n c) h) (told d h))
   said_step i h n c d at g idle s = f.straight.next i h n c d at g idle s
 
   -- a branch or a jump, where it is known where it leads
-  pub goes : (i : Inst) (k to : ℕ) (c : Contents) (d : Behind) → d.pending ≡ Idle → w.code k ≡ Some i → effect_at i k c ≡ Set 0 0 (4 * to) → Reaches w 1 (at_with k c d) (at_with to c d)
+  pub goes : (i : Inst) (k to : ℕ) (c : Contents) (d : Behind) → d.pending ≡ Idle → w.code k ≡ Some i → effect_at i k c ≡ Set 0 0 (4 * to)
+      → Reaches w 1 (at_with k c d) (at_with to c d)
   goes i k to c d idle at e = subst (λ t. Reaches w 1 (at_with k c d) t) (idle_settle to c d idle) (f.leads.led i k to 0 0 c d at e)
 
-  pub differ_goes : (k : ℕ) (c : Contents) (d : Behind) (a b imm to : ℕ) → d.pending ≡ Idle → w.code k ≡ Some (Bne a b imm) → branch (4 * k) imm (not (nat_eq (reg c.regs a) (reg c.regs b))) ≡ 4 * to → Reaches w 1 (at_with k c d) (at_with to c d)
+  pub differ_goes : (k : ℕ) (c : Contents) (d : Behind) (a b imm to : ℕ) → d.pending ≡ Idle → w.code k ≡ Some (Bne a b imm)
+      → branch (4 * k) imm (not (nat_eq (reg c.regs a) (reg c.regs b))) ≡ 4 * to → Reaches w 1 (at_with k c d) (at_with to c d)
   differ_goes k c d a b imm to idle at e = goes (Bne a b imm) k to c d idle at (ap (Set 0 0) e)
 
   -- a branch where two registers are equal
-  pub taken : (k : ℕ) (c : Contents) (d : Behind) (a b imm to : ℕ) → d.pending ≡ Idle → w.code k ≡ Some (Beq a b imm) → reg c.regs a ≡ reg c.regs b → (4 * k + 4 + 4 * extended imm) % 2 ^ 32 ≡ 4 * to → Reaches w 1 (at_with k c d) (at_with to c d)
+  pub taken : (k : ℕ) (c : Contents) (d : Behind) (a b imm to : ℕ) → d.pending ≡ Idle → w.code k ≡ Some (Beq a b imm) → reg c.regs a ≡ reg c.regs b
+      → (4 * k + 4 + 4 * extended imm) % 2 ^ 32 ≡ 4 * to → Reaches w 1 (at_with k c d) (at_with to c d)
   taken k c d a b imm to idle at z e = goes (Beq a b imm) k to c d idle at (ap (Set 0 0) (cond-true _ _ (next (4 * k)) (eq-eqb _ _ z) ∙ e))
 
-  pub passed : (k : ℕ) (c : Contents) (d : Behind) (a b imm : ℕ) → d.pending ≡ Idle → w.code k ≡ Some (Beq a b imm) → reg c.regs a ≢ reg c.regs b → Reaches w 1 (at_with k c d) (at_with (k + 1) c d)
+  pub passed : (k : ℕ) (c : Contents) (d : Behind) (a b imm : ℕ) → d.pending ≡ Idle → w.code k ≡ Some (Beq a b imm) → reg c.regs a ≢ reg c.regs b
+      → Reaches w 1 (at_with k c d) (at_with (k + 1) c d)
   passed k c d a b imm idle at z =
       let lt = f.sound.inside k _ at in let small = f.sound.small in
       goes (Beq a b imm) k (k + 1) c d idle at (ap (Set 0 0) (cond-false _ ((4 * k + 4 + 4 * extended imm) % 2 ^ 32) (next (4 * k)) (ne_eqb _ _ z) ∙ omega arith))

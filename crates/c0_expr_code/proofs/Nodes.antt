@@ -32,50 +32,57 @@ use Rattle.c0_meaning.specs.Ty as ty
 
 module _ (w : World) (sc : Scope) (p : Bases) (s : State) (f : Machine w) (area : Area w sc p) (scene : Scene sc p s) where
   -- a constant is in a register
-  pub constant_runs : (d r v n : ℕ) (c : Contents) (k : Behind) → k.pending ≡ Idle → d ≢ 0 → CodeAt w n (constant_code d v) → (b : Contents) × (reg b.regs d ≡ v) × Keeps r d c b × ((x : ℕ) → x ≢ d → reg b.regs x ≡ reg c.regs x) × Reaches w 2 (at_with n c k) (at_with (n + length (constant_code d v)) b k)
-  constant_runs d r v n c k idle nz code = elim (cases_Bool (nat_lt v (2 ^ 16))) [
+  pub constant_runs : (d r v n : ℕ) (c : Contents) (k : Behind) → v < 2 ^ 32 → k.pending ≡ Idle → d ≢ 0 → CodeAt w n (constant_code d v)
+      → (b : Contents) × (reg b.regs d ≡ v) × Keeps r d c b × ((x : ℕ) → x ≢ d → reg b.regs x ≡ reg c.regs x) × Reaches w 2 (at_with n c k) (at_with (n + length (constant_code d v)) b k)
+  constant_runs d r v n c k small idle nz code = elim (cases_Bool (nat_lt v (2 ^ 16))) [
     | inl e ↦
         let same : constant_code d v ≡ Ori d 0 v ∷ [] = cond-true (nat_lt v (2 ^ 16)) (Ori d 0 v ∷ []) _ e in
         let there = subst (CodeAt w n) same code in
         let one = said_step w f (Ori d 0 v) (Becomes v) n c k there.0 refl idle refl in
         let len : n + 1 ≡ n + length (constant_code d v) = omega (arith, ap length same) in
         (with_reg c d v, same_read c.regs d v nz, keeps_put r d v c, (λ x ne. other_read c.regs d v x ne), subst (λ t. Reaches w 2 (at_with n c k) (at_with t (with_reg c d v) k)) len (later w 1 2 _ _ (omega arith) one))
-    | inr e ↦ by_near (cond-false (nat_lt v (2 ^ 16)) (Ori d 0 v ∷ []) (cond (is_near v) (Addiu d 0 (low v) ∷ []) (Lui d (v / 2 ^ 16) ∷ Ori d d (v % 2 ^ 16) ∷ [])) e) (cases_Bool (is_near v))
+    | inr e ↦ by_near (cond-false (nat_lt v (2 ^ 16)) (Ori d 0 v ∷ []) (cond (is_near v) (Addiu d 0 (low v) ∷ []) (Lui d (v / 2 ^ 16 % 2 ^ 16) ∷ Ori d d (low v) ∷ [])) e) (cases_Bool (is_near v))
   ]
     where
-      by_near : constant_code d v ≡ cond (is_near v) (Addiu d 0 (low v) ∷ []) (Lui d (v / 2 ^ 16) ∷ Ori d d (v % 2 ^ 16) ∷ []) → (is_near v ≡ true) ⊎ (is_near v ≡ false) → (b : Contents) × (reg b.regs d ≡ v) × Keeps r d c b × ((x : ℕ) → x ≢ d → reg b.regs x ≡ reg c.regs x) × Reaches w 2 (at_with n c k) (at_with (n + length (constant_code d v)) b k)
+      by_near : constant_code d v ≡ cond (is_near v) (Addiu d 0 (low v) ∷ []) (Lui d (v / 2 ^ 16 % 2 ^ 16) ∷ Ori d d (low v) ∷ [])
+          → (is_near v ≡ true) ⊎ (is_near v ≡ false)
+          → (b : Contents) × (reg b.regs d ≡ v) × Keeps r d c b × ((x : ℕ) → x ≢ d → reg b.regs x ≡ reg c.regs x) × Reaches w 2 (at_with n c k) (at_with (n + length (constant_code d v)) b k)
       by_near q (inl e) =
           let same : constant_code d v ≡ Addiu d 0 (low v) ∷ [] = q ∙ cond-true (is_near v) (Addiu d 0 (low v) ∷ []) _ e in
           let there = subst (CodeAt w n) same code in
           let near : extended (v % 2 ^ 16) ≡ v = eqb-true (extended (low v)) v e in
-          let small = extended_small (v % 2 ^ 16) (omega arith) in
+          let below = extended_small (v % 2 ^ 16) (omega arith) in
           let one = said_step w f (Addiu d 0 (low v)) (Becomes v) n c k there.0 refl idle (near_is v 0 near ∙ omega (arith, near, small)) in
           let len : n + 1 ≡ n + length (constant_code d v) = omega (arith, ap length same) in
           (with_reg c d v, same_read c.regs d v nz, keeps_put r d v c, (λ x ne. other_read c.regs d v x ne), subst (λ t. Reaches w 2 (at_with n c k) (at_with t (with_reg c d v) k)) len (later w 1 2 _ _ (omega arith) one))
       by_near q (inr e) =
-          let same : constant_code d v ≡ Lui d (v / 2 ^ 16) ∷ Ori d d (v % 2 ^ 16) ∷ [] = q ∙ cond-false (is_near v) (Addiu d 0 (low v) ∷ []) (Lui d (v / 2 ^ 16) ∷ Ori d d (v % 2 ^ 16) ∷ []) e in
+          let same : constant_code d v ≡ Lui d (v / 2 ^ 16 % 2 ^ 16) ∷ Ori d d (low v) ∷ [] = q ∙ cond-false (is_near v) (Addiu d 0 (low v) ∷ []) (Lui d (v / 2 ^ 16 % 2 ^ 16) ∷ Ori d d (low v) ∷ []) e in
           let there = subst (CodeAt w n) same code in
           let c1 : Contents = with_reg c d (v / 2 ^ 16 * 2 ^ 16) in
-          let one = said_step w f (Lui d (v / 2 ^ 16)) (Becomes (v / 2 ^ 16 * 2 ^ 16)) n c k there.0 refl idle refl in
+          let one = said_step w f (Lui d (v / 2 ^ 16 % 2 ^ 16)) (Becomes (v / 2 ^ 16 * 2 ^ 16)) n c k there.0 refl idle (omega (arith, small)) in
           let whole : bit_or (reg c1.regs d) (v % 2 ^ 16) ≡ v = ap (λ y. bit_or y (v % 2 ^ 16)) (same_read c.regs d (v / 2 ^ 16 * 2 ^ 16) nz) ∙ halves v in
-          let two = said_step w f (Ori d d (v % 2 ^ 16)) (Becomes v) (n + 1) c1 k there.1.0 refl idle whole in
+          let two = said_step w f (Ori d d (low v)) (Becomes v) (n + 1) c1 k there.1.0 refl idle whole in
           let len : n + 1 + 1 ≡ n + length (constant_code d v) = omega (arith, ap length same) in
           (with_reg c1 d v, same_read c1.regs d v nz, keeps_on r d c c1 (with_reg c1 d v) (keeps_put r d _ c) (keeps_put r d v c1), (λ x ne. other_read c1.regs d v x ne ∙ other_read c.regs d (v / 2 ^ 16 * 2 ^ 16) x ne), subst (λ t. Reaches w 2 (at_with n c k) (at_with t (with_reg c1 d v) k)) len (joined w 1 1 _ _ _ one two))
 
-  pub constant_gives : (d r n v : ℕ) (t : Ty) (x : Value) (c : Contents) (k : Behind) → k.pending ≡ Idle → d ≢ 0 → CodeAt w n (constant_code d v) → v ≡ word sc p x → Fits sc.env.structs (layout sc p) t x → Comes w sc 0 n (n + length (constant_code d v)) c k (Gives sc p d r d t c) (paying 1 (at_no_cost (Ok x)))
-  constant_gives d r n v t x c k idle nz code e fits =
-      let a = constant_runs d r v n c k idle nz code in
+  pub constant_gives : (d r n v : ℕ) (t : Ty) (x : Value) (c : Contents) (k : Behind) → v < 2 ^ 32 → k.pending ≡ Idle → d ≢ 0
+      → CodeAt w n (constant_code d v) → v ≡ word sc p x → Fits sc.env.structs (layout sc p) t x
+      → Comes w sc 0 n (n + length (constant_code d v)) c k (Gives sc p d r d t c) (paying 1 (at_no_cost (Ok x)))
+  constant_gives d r n v t x c k small idle nz code e fits =
+      let a = constant_runs d r v n c k small idle nz code in
       node w sc 2 n (n + length (constant_code d v)) c k (Gives sc p d r d t c) (at_no_cost (Ok x)) (omega arith)
       (arrives w sc 2 n _ c a.0 k (Gives sc p d r d t c) x (record { is = a.1 ∙ e; fits = fits; keeps = a.2 }) a.4)
 
   -- a value that is in register 0 already
-  pub nothing_gives : (r n : ℕ) (t : Ty) (x : Value) (c : Contents) (k : Behind) → 0 ≡ word sc p x → Fits sc.env.structs (layout sc p) t x → Comes w sc 0 n (n + 0) c k (Gives sc p 0 r r t c) (paying 1 (at_no_cost (Ok x)))
+  pub nothing_gives : (r n : ℕ) (t : Ty) (x : Value) (c : Contents) (k : Behind) → 0 ≡ word sc p x → Fits sc.env.structs (layout sc p) t x
+      → Comes w sc 0 n (n + 0) c k (Gives sc p 0 r r t c) (paying 1 (at_no_cost (Ok x)))
   nothing_gives r n t x c k e fits =
       node w sc 0 n (n + 0) c k (Gives sc p 0 r r t c) (at_no_cost (Ok x)) (omega arith)
       (arrives w sc 0 n (n + 0) c c k (Gives sc p 0 r r t c) x (record { is = e; fits = fits; keeps = keeps_all r r c }) (stays w _ _ (ap (λ m. at_with m c k) (omega arith))))
 
   -- a variable in a register
-  in_register : (form : Bool) → form ≡ true → (x : ℕ) (t : Ty) (c : Contents) → slice_get (types_of sc.env.locals) x ≡ Some t → words_before sc.env.structs (types_of sc.env.locals) x ≡ x → is_scalar t ≡ true →
+  in_register : (form : Bool) → form ≡ true → (x : ℕ) (t : Ty) (c : Contents) → slice_get (types_of sc.env.locals) x ≡ Some t
+      → words_before sc.env.structs (types_of sc.env.locals) x ≡ x → is_scalar t ≡ true →
       RegionHeld sc p (cond form c.regs c.memory) (cond form 20 (p.frame_end - sc.frame + 3)) (types_of sc.env.locals) (variables_of s.frames) →
       (v : Value) × (read s (record { region = locals; path = x ∷ [] }) ≡ Some v) × Fits sc.env.structs (layout sc p) t v × (c.regs (20 + x) ≡ word sc p v)
   in_register true e x t c h b scalar g =
@@ -84,13 +91,16 @@ module _ (w : World) (sc : Scope) (p : Bases) (s : State) (f : Machine w) (area 
       (r.value, r.is, r.fits, ap c.regs (sym here) ∙ scalar_held sc p c.regs t r.value _ scalar r.held)
   in_register false e x t c h b scalar g = absurd (cc)
 
-  pub register_holds : sc.in_registers ≡ true → (x : ℕ) (t : Ty) (c : Contents) → Ready sc p s c → slice_get (types_of sc.env.locals) x ≡ Some t → (v : Value) × (read s (record { region = locals; path = x ∷ [] }) ≡ Some v) × Fits sc.env.structs (layout sc p) t v × (reg c.regs (20 + x) ≡ word sc p v)
+  pub register_holds : sc.in_registers ≡ true → (x : ℕ) (t : Ty) (c : Contents) → Ready sc p s c → slice_get (types_of sc.env.locals) x ≡ Some t
+      → (v : Value) × (read s (record { region = locals; path = x ∷ [] }) ≡ Some v) × Fits sc.env.structs (layout sc p) t v × (reg c.regs (20 + x) ≡ word sc p v)
   register_holds form x t c ready h =
       let b = before_scalars sc.env.structs (types_of sc.env.locals) x t (λ n u q. (area.scalars form n u q).0) h in
       let r = in_register sc.in_registers form x t c h b (area.scalars form x t h).0 ready.local_values in
       (r.0, r.1, r.2, cond-false (nat_eq (20 + x) 0) 0 (c.regs (20 + x)) (ne_eqb (20 + x) 0 (λ e. absurd (omega (arith, e)))) ∙ r.3)
 
-  pub register_operand : sc.in_registers ≡ true → (x r n : ℕ) (t : Ty) (c : Contents) (k : Behind) → Ready sc p s c → slice_get (types_of sc.env.locals) x ≡ Some t → Comes w sc 0 n (n + 0) c k (Gives sc p (20 + x) r r t c) (paying 1 (loaded s (at_no_cost (Ok (record { region = locals; path = x ∷ [] })))))
+  pub register_operand : sc.in_registers ≡ true → (x r n : ℕ) (t : Ty) (c : Contents) (k : Behind) → Ready sc p s c
+      → slice_get (types_of sc.env.locals) x ≡ Some t
+      → Comes w sc 0 n (n + 0) c k (Gives sc p (20 + x) r r t c) (paying 1 (loaded s (at_no_cost (Ok (record { region = locals; path = x ∷ [] })))))
   register_operand form x r n t c k ready h =
       let g = register_holds form x t c ready h in
       node w sc 0 n (n + 0) c k (Gives sc p (20 + x) r r t c) (loaded s (at_no_cost (Ok (record { region = locals; path = x ∷ [] })))) (omega arith)
@@ -102,7 +112,8 @@ module _ (w : World) (sc : Scope) (p : Bases) (s : State) (f : Machine w) (area 
   flag_small true = omega arith
   flag_small false = omega arith
 
-  address_small : (g : Region) (path : List ℕ) (t : Ty) → PointsTo sc.env.structs (layout sc p) g path t → 4 * word_at sc p (record { region = g; path = path }) < 2 ^ 32
+  address_small : (g : Region) (path : List ℕ) (t : Ty) → PointsTo sc.env.structs (layout sc p) g path t
+      → 4 * word_at sc p (record { region = g; path = path }) < 2 ^ 32
   address_small globals path t h = let r = room_from sc.env.structs area.opened (types_of sc.env.globals) path t h in let a = area.globals_room in let small = f.sound.small in omega (arith, r, a, small)
   address_small heap path t h = let r = room_from sc.env.structs area.opened p.objects path t h in let a = area.heap_room in let small = f.sound.small in omega (arith, r, a, small)
   address_small locals path t h = absurd h
@@ -116,7 +127,9 @@ module _ (w : World) (sc : Scope) (p : Bases) (s : State) (f : Machine w) (area 
   word_small v (ty.array t n) h e = absurd (cc)
   word_small _ _ h e = absurd h
 
-  pub register_value : sc.in_registers ≡ true → (x d r n : ℕ) (t : Ty) (c : Contents) (k : Behind) → k.pending ≡ Idle → d ≢ 0 → Ready sc p s c → slice_get (types_of sc.env.locals) x ≡ Some t → CodeAt w n (Addu d (20 + x) 0 ∷ []) → Comes w sc 0 n (n + 1) c k (Gives sc p d r d t c) (paying 1 (loaded s (at_no_cost (Ok (record { region = locals; path = x ∷ [] })))))
+  pub register_value : sc.in_registers ≡ true → (x d r n : ℕ) (t : Ty) (c : Contents) (k : Behind) → k.pending ≡ Idle → d ≢ 0 → Ready sc p s c
+      → slice_get (types_of sc.env.locals) x ≡ Some t → CodeAt w n (Addu d (20 + x) 0 ∷ [])
+      → Comes w sc 0 n (n + 1) c k (Gives sc p d r d t c) (paying 1 (loaded s (at_no_cost (Ok (record { region = locals; path = x ∷ [] })))))
   register_value form x d r n t c k idle nz ready h code =
       let g = register_holds form x t c ready h in
       let small = word_small g.0 t g.2 (area.scalars form x t h).0 in
@@ -127,32 +140,39 @@ module _ (w : World) (sc : Scope) (p : Bases) (s : State) (f : Machine w) (area 
       (arrives w sc 1 n (n + 1) c (with_reg c d (word sc p g.0)) k (Gives sc p d r d t c) g.0 (record { is = same_read c.regs d (word sc p g.0) nz; fits = g.2; keeps = keeps_put r d (word sc p g.0) c }) one))
 
   -- a branch over one instruction
-  pub skips : (n a b : ℕ) (c : Contents) (k : Behind) → k.pending ≡ Idle → w.code n ≡ Some (Bne a b 1) → reg c.regs a ≢ reg c.regs b → Reaches w 1 (at_with n c k) (at_with (n + 2) c k)
+  pub skips : (n a b : ℕ) (c : Contents) (k : Behind) → k.pending ≡ Idle → w.code n ≡ Some (Bne a b 1) → reg c.regs a ≢ reg c.regs b
+      → Reaches w 1 (at_with n c k) (at_with (n + 2) c k)
   skips n a b c k idle code ne =
       let lt = f.sound.inside n _ code in let small = f.sound.small in
       differ_goes w f n c k a b 1 (n + 2) idle code (ap (λ y. branch (4 * n) 1 (not y)) (ne_eqb _ _ ne) ∙ omega arith)
 
-  pub falls : (n a b : ℕ) (c : Contents) (k : Behind) → k.pending ≡ Idle → w.code n ≡ Some (Bne a b 1) → reg c.regs a ≡ reg c.regs b → Reaches w 1 (at_with n c k) (at_with (n + 1) c k)
+  pub falls : (n a b : ℕ) (c : Contents) (k : Behind) → k.pending ≡ Idle → w.code n ≡ Some (Bne a b 1) → reg c.regs a ≡ reg c.regs b
+      → Reaches w 1 (at_with n c k) (at_with (n + 1) c k)
   falls n a b c k idle code e =
       let lt = f.sound.inside n _ code in let small = f.sound.small in
       differ_goes w f n c k a b 1 (n + 1) idle code (ap (λ y. branch (4 * n) 1 (not y)) (eq-eqb _ _ e) ∙ omega arith)
 
   -- what a pointer points to
-  pub pointer_room : (g : Region) (path : List ℕ) (t : Ty) → PointsTo sc.env.structs (layout sc p) g path t → (0 < word_at sc p (record { region = g; path = path })) × (4 * word_at sc p (record { region = g; path = path }) < 2 ^ 32)
+  pub pointer_room : (g : Region) (path : List ℕ) (t : Ty) → PointsTo sc.env.structs (layout sc p) g path t
+      → (0 < word_at sc p (record { region = g; path = path })) × (4 * word_at sc p (record { region = g; path = path }) < 2 ^ 32)
   pointer_room globals path t h = let r = room_from sc.env.structs area.opened (types_of sc.env.globals) path t h in let a = area.globals_room in let b = area.globals_from in let small = f.sound.small in (omega (arith, b), omega (arith, r, a, small))
   pointer_room heap path t h = let r = room_from sc.env.structs area.opened p.objects path t h in let a = area.heap_room in let b = area.heap_from in let small = f.sound.small in (omega (arith, b), omega (arith, r, a, small))
   pointer_room locals path t h = absurd h
 
-  pointer_leads : (g : Region) (path : List ℕ) (t : Ty) → PointsTo sc.env.structs (layout sc p) g path t → LeadsFrom sc.env.structs (types_in sc p g) path t × (g ≡ locals → sc.in_registers ≡ false)
+  pointer_leads : (g : Region) (path : List ℕ) (t : Ty) → PointsTo sc.env.structs (layout sc p) g path t
+      → LeadsFrom sc.env.structs (types_in sc p g) path t × (g ≡ locals → sc.in_registers ≡ false)
   pointer_leads globals path t h = (h, λ e. absurd (cc))
   pointer_leads heap path t h = (h, λ e. absurd (cc))
   pointer_leads locals path t h = absurd h
 
-  pub targets : (t : Ty) (q r from n : ℕ) (c : Contents) (k : Behind) (e : Costed Value) → k.pending ≡ Idle → r < 20 → CodeAt w n (Bne q 0 1 ∷ J (sc.exit NullUse) ∷ []) → Comes w sc 0 from n c k (Gives sc p q r r (ty.pointer t) c) e → Comes w sc 2 from (n + 2) c k (Leads sc p q 0 r false t c) (pointed e)
+  pub targets : (t : Ty) (q r from n : ℕ) (c : Contents) (k : Behind) (e : Costed Value) → k.pending ≡ Idle → r < 20
+      → CodeAt w n (Bne q 0 1 ∷ J (sc.exit NullUse) ∷ []) → Comes w sc 0 from n c k (Gives sc p q r r (ty.pointer t) c) e
+      → Comes w sc 2 from (n + 2) c k (Leads sc p q 0 r false t c) (pointed e)
   targets t q r from n c k e idle hi code h =
       binds w sc 0 2 from n (n + 2) c k (Gives sc p q r r (ty.pointer t) c) (Leads sc p q 0 r false t c) e _ h (λ v b g. keeps_low r r c b hi g.keeps) by_value
     where
-      by_value : (v : Value) (b : Contents) → Gives sc p q r r (ty.pointer t) c v b → Comes w sc 2 n (n + 2) b k (Leads sc p q 0 r false t c) (at_no_cost (behind v))
+      by_value : (v : Value) (b : Contents) → Gives sc p q r r (ty.pointer t) c v b
+          → Comes w sc 2 n (n + 2) b k (Leads sc p q 0 r false t c) (at_no_cost (behind v))
       by_value null b g =
           let go = falls n q 0 b k idle code.0 g.is in
           faults w sc 2 n (n + 2) b b k (Leads sc p q 0 r false t c) NullUse (keeps_all 0 0 b) (joined w 1 1 _ _ _ go (jumps w f (n + 1) (sc.exit NullUse) b k idle code.1.0))
@@ -169,7 +189,9 @@ module _ (w : World) (sc : Scope) (p : Bases) (s : State) (f : Machine w) (area 
       by_value (group vs) b g = absurd g.fits
 
   -- a part of a place
-  pub part_leads : (b k j r i : ℕ) (local : Bool) (u t : Ty) (c a : Contents) (l : Location) → PathLeads sc.env.structs u (i ∷ []) t → words_to sc.env.structs u (i ∷ []) ≡ j → word_at sc p (below l i) + words sc.env.structs t ≤ w.words → Leads sc p b k r local u c l a → Leads sc p b ((k + 4 * j) % 2 ^ 32) r local t c (below l i) a
+  pub part_leads : (b k j r i : ℕ) (local : Bool) (u t : Ty) (c a : Contents) (l : Location) → PathLeads sc.env.structs u (i ∷ []) t
+      → words_to sc.env.structs u (i ∷ []) ≡ j → word_at sc p (below l i) + words sc.env.structs t ≤ w.words → Leads sc p b k r local u c l a
+      → Leads sc p b ((k + 4 * j) % 2 ^ 32) r local t c (below l i) a
   part_leads b k j r i local u t c a l path e room h =
       let on = offset_from_on sc.env.structs (types_in sc p l.region) l.path u i h.leads in
       let is = h.is in
@@ -182,7 +204,9 @@ module _ (w : World) (sc : Scope) (p : Bases) (s : State) (f : Machine w) (area 
         keeps = h.keeps;
       }
 
-  pub fields : (x : List ℕ) (i : CName) (b m r from n : ℕ) (k : ℕ) (local : Bool) (t : Ty) (c : Contents) (d : Behind) (e : Costed Location) → r < 20 → Ready sc p s c → slice_get (types_of (fields_named sc.env.structs x)) i.number ≡ Some t → Comes w sc m from n c d (Leads sc p b k r local (ty.named x) c) e →
+  pub fields : (x : List ℕ) (i : CName) (b m r from n : ℕ) (k : ℕ) (local : Bool) (t : Ty) (c : Contents) (d : Behind) (e : Costed Location) → r < 20
+      → Ready sc p s c → slice_get (types_of (fields_named sc.env.structs x)) i.number ≡ Some t
+      → Comes w sc m from n c d (Leads sc p b k r local (ty.named x) c) e →
       Comes w sc m from n c d (Leads sc p b ((k + 4 * words_before sc.env.structs (types_of (fields_named sc.env.structs x)) i.number) % 2 ^ 32) r local t c) (field_of i e)
   fields x i b m r from n k local t c d e hi ready h g =
       more w sc (m + 0) m from n c d (Leads sc p b ((k + 4 * words_before sc.env.structs (types_of (fields_named sc.env.structs x)) i.number) % 2 ^ 32) r local t c) (field_of i e) (omega arith)

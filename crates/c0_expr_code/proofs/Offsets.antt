@@ -31,13 +31,15 @@ before_replicate structs zero i t h = absurd (omega (arith, h))
 before_replicate structs (suc n) zero t h = omega arith
 before_replicate structs (suc n) (suc i) t h = let g = before_replicate structs n i t (omega (arith, h)) in omega (arith, g)
 
-pub before_room : (structs : List Shape) (ts : List Ty) (i : ℕ) (t : Ty) → slice_get ts i ≡ Some t → words_before structs ts i + words structs t ≤ words_of_all structs ts
+pub before_room : (structs : List Shape) (ts : List Ty) (i : ℕ) (t : Ty) → slice_get ts i ≡ Some t
+    → words_before structs ts i + words structs t ≤ words_of_all structs ts
 before_room structs [] i t e = absurd (cc)
 before_room structs (u ∷ ts) zero t e = let q : u ≡ t = cc in subst (λ v. 0 + words structs v ≤ words structs u + words_of_all structs ts) q (omega arith)
 before_room structs (u ∷ ts) (suc i) t e = let g = before_room structs ts i t e in omega (arith, g)
 
 -- scalars one after another
-pub before_scalars : (structs : List Shape) (ts : List Ty) (i : ℕ) (t : Ty) → ((n : ℕ) (u : Ty) → slice_get ts n ≡ Some u → is_scalar u ≡ true) → slice_get ts i ≡ Some t → words_before structs ts i ≡ i
+pub before_scalars : (structs : List Shape) (ts : List Ty) (i : ℕ) (t : Ty) → ((n : ℕ) (u : Ty) → slice_get ts n ≡ Some u → is_scalar u ≡ true)
+    → slice_get ts i ≡ Some t → words_before structs ts i ≡ i
 before_scalars structs [] i t h e = absurd (cc)
 before_scalars structs (u ∷ ts) zero t h e = refl
 before_scalars structs (u ∷ ts) (suc i) t h e =
@@ -46,7 +48,8 @@ before_scalars structs (u ∷ ts) (suc i) t h e =
     omega (arith, g, o)
 
 -- the offset of one part more
-pub offset_on : (structs : List Shape) (t : Ty) (path : List ℕ) (u : Ty) (i : ℕ) → PathLeads structs t path u → words_to structs t (path ++ i ∷ []) ≡ words_to structs t path + words_to structs u (i ∷ [])
+pub offset_on : (structs : List Shape) (t : Ty) (path : List ℕ) (u : Ty) (i : ℕ) → PathLeads structs t path u
+    → words_to structs t (path ++ i ∷ []) ≡ words_to structs t path + words_to structs u (i ∷ [])
 offset_on structs t [] u i h = let q : words_to structs t (i ∷ []) ≡ words_to structs u (i ∷ []) = ap (λ v. words_to structs v (i ∷ [])) h in omega (arith, q)
 offset_on structs (ty.named x) (j ∷ path) u i h =
     let a : words_to structs (unwrap_or (slice_get (types_of (fields_named structs x)) j) ty.int) (path ++ i ∷ []) ≡ words_to structs h.0 (path ++ i ∷ []) = ap (λ o. words_to structs (unwrap_or o ty.int) (path ++ i ∷ [])) h.1 in
@@ -58,7 +61,8 @@ offset_on structs ty.int (j ∷ path) u i h = absurd h
 offset_on structs ty.bool (j ∷ path) u i h = absurd h
 offset_on structs (ty.pointer t) (j ∷ path) u i h = absurd h
 
-pub offset_from_on : (structs : List Shape) (types : List Ty) (path : List ℕ) (u : Ty) (i : ℕ) → LeadsFrom structs types path u → words_to_part structs types (path ++ i ∷ []) ≡ words_to_part structs types path + words_to structs u (i ∷ [])
+pub offset_from_on : (structs : List Shape) (types : List Ty) (path : List ℕ) (u : Ty) (i : ℕ) → LeadsFrom structs types path u
+    → words_to_part structs types (path ++ i ∷ []) ≡ words_to_part structs types path + words_to structs u (i ∷ [])
 offset_from_on structs types [] u i h = absurd h
 offset_from_on structs types (j ∷ path) u i h =
     let a : words_to structs (unwrap_or (slice_get types j) ty.int) (path ++ i ∷ []) ≡ words_to structs h.0 (path ++ i ∷ []) = ap (λ o. words_to structs (unwrap_or o ty.int) (path ++ i ∷ [])) h.1 in
@@ -66,7 +70,8 @@ offset_from_on structs types (j ∷ path) u i h =
     let g = offset_on structs h.0 path u i h.2 in
     omega (arith, a, b, g)
 
-pub field_offset : (structs : List Shape) (x : List ℕ) (i : ℕ) (t : Ty) → slice_get (types_of (fields_named structs x)) i ≡ Some t → words_to structs (ty.named x) (i ∷ []) ≡ words_before structs (types_of (fields_named structs x)) i
+pub field_offset : (structs : List Shape) (x : List ℕ) (i : ℕ) (t : Ty) → slice_get (types_of (fields_named structs x)) i ≡ Some t
+    → words_to structs (ty.named x) (i ∷ []) ≡ words_before structs (types_of (fields_named structs x)) i
 field_offset structs x i t e = omega arith
 
 module _ (structs : List Shape) (opened : (x : List ℕ) → words structs (ty.named x) ≡ words_of_all structs (types_of (fields_named structs x))) where
@@ -86,7 +91,8 @@ module _ (structs : List Shape) (opened : (x : List ℕ) → words structs (ty.n
   room ty.bool (j ∷ path) u h = absurd h
   room (ty.pointer t) (j ∷ path) u h = absurd h
 
-  pub room_from : (types : List Ty) (path : List ℕ) (u : Ty) → LeadsFrom structs types path u → words_to_part structs types path + words structs u ≤ words_of_all structs types
+  pub room_from : (types : List Ty) (path : List ℕ) (u : Ty) → LeadsFrom structs types path u
+      → words_to_part structs types path + words structs u ≤ words_of_all structs types
   room_from types [] u h = absurd h
   room_from types (i ∷ path) u h =
       let b : words_to structs (unwrap_or (slice_get types i) ty.int) path ≡ words_to structs h.0 path = ap (λ o. words_to structs (unwrap_or o ty.int) path) h.1 in
@@ -105,7 +111,8 @@ module _ (sc : Scope) (p : Bases) (m : ℕ → ℕ) where
   moved : (o : Option Value) (a b : ℕ) (t : Ty) → a ≡ b → Seen o a t → Seen o b t
   moved o a b t e h = subst (λ x. Seen o x t) e h
 
-  nth_seen : (ts : List Ty) (vs : Values) (a i : ℕ) (t : Ty) → AllFit sc.env.structs (layout sc p) ts vs → AllHeld sc p m a ts vs → slice_get ts i ≡ Some t → Seen (nth vs i) (a + words_before sc.env.structs ts i) t
+  nth_seen : (ts : List Ty) (vs : Values) (a i : ℕ) (t : Ty) → AllFit sc.env.structs (layout sc p) ts vs → AllHeld sc p m a ts vs
+      → slice_get ts i ≡ Some t → Seen (nth vs i) (a + words_before sc.env.structs ts i) t
   nth_seen [] empty a i t f h e = absurd (cc)
   nth_seen (u ∷ ts) (part v vs) a zero t f h e =
       let q : u ≡ t = cc in
@@ -114,12 +121,15 @@ module _ (sc : Scope) (p : Bases) (m : ℕ → ℕ) where
   nth_seen [] (part v vs) a i t f h e = absurd h
   nth_seen (u ∷ ts) empty a i t f h e = absurd h
 
-  from_seen : (path : List ℕ) (t : Ty) (o : Option Value) (a b : ℕ) (u : Ty) → Seen o a u → ((v : Value) → Fits sc.env.structs (layout sc p) u v → Held sc p m a u v → Seen (get v path) b t) → Seen (option_and_then (λ w. get w path) o) b t
+  from_seen : (path : List ℕ) (t : Ty) (o : Option Value) (a b : ℕ) (u : Ty) → Seen o a u
+      → ((v : Value) → Fits sc.env.structs (layout sc p) u v → Held sc p m a u v → Seen (get v path) b t)
+      → Seen (option_and_then (λ w. get w path) o) b t
   from_seen path t o a b u h f =
       let r = f h.value h.fits h.held in
       record { value = r.value; is = ap (option_and_then (λ w. get w path)) h.is ∙ r.is; fits = r.fits; held = r.held }
 
-  pub get_seen : (t : Ty) (path : List ℕ) (u : Ty) (v : Value) (a : ℕ) → PathLeads sc.env.structs t path u → Fits sc.env.structs (layout sc p) t v → Held sc p m a t v → Seen (get v path) (a + words_to sc.env.structs t path) u
+  pub get_seen : (t : Ty) (path : List ℕ) (u : Ty) (v : Value) (a : ℕ) → PathLeads sc.env.structs t path u → Fits sc.env.structs (layout sc p) t v
+      → Held sc p m a t v → Seen (get v path) (a + words_to sc.env.structs t path) u
   get_seen t [] u v a l f h = moved (Some v) a (a + 0) u (omega arith) (subst (Seen (Some v) a) l (record { value = v; is = refl; fits = f; held = h }))
   get_seen (ty.named x) (i ∷ path) u (group vs) a l f h =
       let ts = types_of (fields_named sc.env.structs x) in
@@ -134,7 +144,9 @@ module _ (sc : Scope) (p : Bases) (m : ℕ → ℕ) where
   get_seen ty.bool (i ∷ path) u _ a l f h = absurd l
   get_seen (ty.pointer t) (i ∷ path) u _ a l f h = absurd l
 
-  pub region_seen : (types : List Ty) (path : List ℕ) (u : Ty) (v : Value) (a : ℕ) → LeadsFrom sc.env.structs types path u → AreParts sc.env.structs (layout sc p) types v → RegionHeld sc p m a types v → Seen (get v path) (a + words_to_part sc.env.structs types path) u
+  pub region_seen : (types : List Ty) (path : List ℕ) (u : Ty) (v : Value) (a : ℕ) → LeadsFrom sc.env.structs types path u
+      → AreParts sc.env.structs (layout sc p) types v → RegionHeld sc p m a types v
+      → Seen (get v path) (a + words_to_part sc.env.structs types path) u
   region_seen types [] u v a l f h = absurd l
   region_seen types (i ∷ path) u (group vs) a l f h =
       let b : words_to sc.env.structs (unwrap_or (slice_get types i) ty.int) path ≡ words_to sc.env.structs l.0 path = ap (λ o. words_to sc.env.structs (unwrap_or o ty.int) path) l.1 in

@@ -2,7 +2,7 @@
 use Rattle.std.specs.Prelude.{ℤ, Result, Ok, int_lt, int_le, neg_ℤ, ◌+ℤ◌, ◌-ℤ◌, FitsSigned, bit_xor, ◌*ℤ◌, Err, unsigned_abs, pos, negsuc, int_div, int_rem}
 use Rattle.std.specs.Int.{int_wrap, w32}
 use Rattle.std.specs.Str.{bytes_eq}
-use Rattle.std.proofs.Common.{◌≡◌, ◌≢◌, inl, inr, ◌⊎◌, ℕ, ◌+◌, ◌*◌, ◌%◌, ◌^◌, ◌<◌, ◌≤◌, Bool, true, false, not, ◌&&◌, nat_eq, nat_lt, Some, List, [], ◌∷◌, ◌++◌, length, refl, sym, ap, ap₂, ◌∙◌, subst, arith, length-append, eq-eqb, ne_eqb, zero, suc, ◌-◌, ◌/◌}
+use Rattle.std.proofs.Common.{◌≡◌, ◌≢◌, inl, inr, ◌⊎◌, ℕ, ◌+◌, ◌*◌, ◌%◌, ◌^◌, ◌<◌, ◌≤◌, Bool, true, false, not, ◌&&◌, nat_eq, nat_lt, Some, List, [], ◌∷◌, ◌++◌, length, refl, sym, ap, ap₂, ◌∙◌, subst, arith, length-append, eq-eqb, ne_eqb, zero, suc, ◌/◌}
 use Rattle.std.proofs.lemmas.Bool.{cases_Bool, cases_eq, cond-true, cond-false, and_parts, and_from, false_from_ne_true, eqb-true}
 use Rattle.std.proofs.lemmas.Int.{SFits-int_wrap, to_z-of_z, of_z-to_z, ints}
 use Rattle.std.proofs.lemmas.Slice.Eq.{bytes_eq-Decides}
@@ -30,7 +30,7 @@ use Rattle.c0_expr_code.specs.Bases.{Bases, word_at, word}
 use Rattle.c0_expr_code.specs.Code.{Made, operand_code, operand_register, two_code, one_code, to_code, logic_code, operator_code, divisor_code}
 use Rattle.c0_expr_code.specs.Relation.{layout, Scene, Ready, Keeps, Area, Comes, Gives, ValueRuns, OperandRuns}
 use Rattle.c0_expr_code.proofs.Words.{plain, word_sum, word_difference, word_negative, word_less, xor_tests, xor_differs, int_words, bool_words, not_flag, not_less}
-use Rattle.c0_expr_code.proofs.Steps.{same_read, keeps_all, keeps_on, keeps_in, keeps_put, keeps_low, ready_on, source_kept, node, after, binds, says, onward, ends_at, arrives, other_reg, more, faults, jumps}
+use Rattle.c0_expr_code.proofs.Steps.{same_read, keeps_all, keeps_on, keeps_in, keeps_put, keeps_low, ready_on, source_kept, node, after, binds, says, onward, ends_at, arrives, other_reg, faults, jumps}
 use Rattle.c0_expr_code.proofs.Nodes.{word_small, pointer_room, skips, falls}
 use Rattle.c0_meaning.specs.Ty as ty
 use Rattle.std.proofs.Math.Nat.{div-le_self}
@@ -74,7 +74,9 @@ not_zero (negsuc n) f some e = let g = f.sfits in absurd (omega (arith, ints, g,
 module _ (w : World) (sc : Scope) (p : Bases) (s : State) (f : Machine w) (area : Area w sc p) (scene : Scene sc p s) where
   -- what an operator's own code does, from a state in which both sides are in registers
   abbrev pub FinishesFor : (Value → Type 0) → (ℕ → ℕ → List Inst) → ℕ → ℕ → Ty → Ty → Ty → (Value → Value → Result Value Failure) → Type 0
-  FinishesFor P code d r t u z on = (x y : Value) → P y → (q g n : ℕ) (a : Contents) (k : Behind) → k.pending ≡ Idle → Fits sc.env.structs (layout sc p) t x → Fits sc.env.structs (layout sc p) u y → reg a.regs q ≡ word sc p x → reg a.regs g ≡ word sc p y → CodeAt w n (code q g) →
+  FinishesFor P code d r t u z on = (x y : Value) → P y → (q g n : ℕ) (a : Contents) (k : Behind) → k.pending ≡ Idle
+      → Fits sc.env.structs (layout sc p) t x → Fits sc.env.structs (layout sc p) u y → reg a.regs q ≡ word sc p x → reg a.regs g ≡ word sc p y
+      → CodeAt w n (code q g) →
       Comes w sc 5 n (n + length (code q g)) a k (Gives sc p d r d z a) (at_no_cost (on x y))
 
   abbrev pub Finishes : (ℕ → ℕ → List Inst) → ℕ → ℕ → Ty → Ty → Ty → (Value → Value → Result Value Failure) → Type 0
@@ -109,7 +111,8 @@ module _ (w : World) (sc : Scope) (p : Bases) (s : State) (f : Machine w) (area 
       (finish v e h.0 (operand_register ma r) (operand_register mb (r + 1)) _ i k idle g.fits h.1.fits (source_kept r (operand_register ma r) b i lo (omega arith) a.0 h.1.keeps ∙ g.is) h.1.is last)))))
 
   abbrev pub FinishesOne : (ℕ → List Inst) → ℕ → ℕ → Ty → Ty → (Value → Result Value Failure) → Type 0
-  FinishesOne code d r t z on = (x : Value) (q n : ℕ) (a : Contents) (k : Behind) → k.pending ≡ Idle → Fits sc.env.structs (layout sc p) t x → reg a.regs q ≡ word sc p x → CodeAt w n (code q) → Comes w sc 5 n (n + length (code q)) a k (Gives sc p d r d z a) (at_no_cost (on x))
+  FinishesOne code d r t z on = (x : Value) (q n : ℕ) (a : Contents) (k : Behind) → k.pending ≡ Idle → Fits sc.env.structs (layout sc p) t x
+      → reg a.regs q ≡ word sc p x → CodeAt w n (code q) → Comes w sc 5 n (n + length (code q)) a k (Gives sc p d r d z a) (at_no_cost (on x))
 
   pub ones : (code : ℕ → List Inst) (m : Made) (need : ℕ) (on : Value → Result Value Failure) (t z : Ty) (d r n : ℕ) (c : Contents) (k : Behind) (x : Costed Value) → k.pending ≡ Idle → 8 ≤ r → r + need ≤ 20 → 1 ≤ need → Ready sc p s c → CodeAt w n (one_code code m r) →
       OperandRuns w sc p s m need t x → FinishesOne code d r t z on → Comes w sc 0 n (n + length (one_code code m r)) c k (Gives sc p d r d z c) (paying 1 (x >>= λ v. at_no_cost (on v)))
@@ -125,10 +128,14 @@ module _ (w : World) (sc : Scope) (p : Bases) (s : State) (f : Machine w) (area 
       (finish v (operand_register m r) _ b k idle g.fits g.is (code_back w n (operand_code m r) (code (operand_register m r)) there)))))
 
   -- one instruction, or two, that leave a word in d
-  pub once : (d r v n : ℕ) (z : Ty) (x : Value) (a : Contents) (k : Behind) → d ≢ 0 → v ≡ word sc p x → Fits sc.env.structs (layout sc p) z x → Reaches w 1 (at_with n a k) (at_with (n + 1) (with_reg a d v) k) → Comes w sc 5 n (n + 1) a k (Gives sc p d r d z a) (at_no_cost (Ok x))
+  pub once : (d r v n : ℕ) (z : Ty) (x : Value) (a : Contents) (k : Behind) → d ≢ 0 → v ≡ word sc p x → Fits sc.env.structs (layout sc p) z x
+      → Reaches w 1 (at_with n a k) (at_with (n + 1) (with_reg a d v) k) → Comes w sc 5 n (n + 1) a k (Gives sc p d r d z a) (at_no_cost (Ok x))
   once d r v n z x a k nz e fits run = arrives w sc 5 n (n + 1) a (with_reg a d v) k (Gives sc p d r d z a) x (record { is = same_read a.regs d v nz ∙ e; fits = fits; keeps = keeps_put r d v a }) (later w 1 5 _ _ (omega arith) run)
 
-  pub twice : (d r u v n : ℕ) (z : Ty) (x : Value) (a : Contents) (k : Behind) → d ≢ 0 → v ≡ word sc p x → Fits sc.env.structs (layout sc p) z x → Reaches w 1 (at_with n a k) (at_with (n + 1) (with_reg a d u) k) → Reaches w 1 (at_with (n + 1) (with_reg a d u) k) (at_with (n + 1 + 1) (with_reg (with_reg a d u) d v) k) → Comes w sc 5 n (n + 2) a k (Gives sc p d r d z a) (at_no_cost (Ok x))
+  pub twice : (d r u v n : ℕ) (z : Ty) (x : Value) (a : Contents) (k : Behind) → d ≢ 0 → v ≡ word sc p x → Fits sc.env.structs (layout sc p) z x
+      → Reaches w 1 (at_with n a k) (at_with (n + 1) (with_reg a d u) k)
+      → Reaches w 1 (at_with (n + 1) (with_reg a d u) k) (at_with (n + 1 + 1) (with_reg (with_reg a d u) d v) k)
+      → Comes w sc 5 n (n + 2) a k (Gives sc p d r d z a) (at_no_cost (Ok x))
   twice d r u v n z x a k nz e fits one two =
       let b : Contents = with_reg a d u in
       let end : n + 1 + 1 ≡ n + 2 = omega arith in
@@ -136,7 +143,9 @@ module _ (w : World) (sc : Scope) (p : Bases) (s : State) (f : Machine w) (area 
       (arrives w sc 5 n (n + 1 + 1) a (with_reg b d v) k (Gives sc p d r d z a) x (record { is = same_read b.regs d v nz ∙ e; fits = fits; keeps = keeps_on r d a b (with_reg b d v) (keeps_put r d u a) (keeps_put r d v b) }) (later w 2 5 _ _ (omega arith) (joined w 1 1 _ _ _ one two)))
 
   -- one instruction that takes hi or lo
-  widened : (d r hi lo v n to : ℕ) (z : Ty) (x : Value) (a : Contents) (k : Behind) → d ≢ 0 → v ≡ word sc p x → Fits sc.env.structs (layout sc p) z x → Reaches w 5 (at_with n a k) (at_with to (with_reg (with_wide a hi lo) d v) k) → Comes w sc 5 n to a k (Gives sc p d r d z a) (at_no_cost (Ok x))
+  widened : (d r hi lo v n to : ℕ) (z : Ty) (x : Value) (a : Contents) (k : Behind) → d ≢ 0 → v ≡ word sc p x → Fits sc.env.structs (layout sc p) z x
+      → Reaches w 5 (at_with n a k) (at_with to (with_reg (with_wide a hi lo) d v) k)
+      → Comes w sc 5 n to a k (Gives sc p d r d z a) (at_no_cost (Ok x))
   widened d r hi lo v n to z x a k nz e fits run =
       arrives w sc 5 n to a (with_reg (with_wide a hi lo) d v) k (Gives sc p d r d z a) x
       (record { is = same_read a.regs d v nz ∙ e; fits = fits; keeps = record { memory = refl; special = refl; below = λ x n m l. other_reg a.regs d v x m; above = λ x n l. other_reg a.regs d v x n } }) run
@@ -166,7 +175,6 @@ module _ (w : World) (sc : Scope) (p : Bases) (s : State) (f : Machine w) (area 
   sums _ d r nz sub = on_numbers (λ q g. operator_code Sub d q g) d r ty.int (on_binary Sub) (λ x y q g n a k idle fx fy ex ey there.
       once d r (word_of (int_wrap w32 (x -ℤ y))) n ty.int (int (int_wrap w32 (x -ℤ y))) a k nz refl (SFits-int_wrap w32 _)
       (said_step w f (Subu d q g) (Becomes (word_of (int_wrap w32 (x -ℤ y)))) n a k there.0 refl idle (ap₂ difference ex ey ∙ word_difference x y fx fy)))
-
   sums _ d r nz mul = on_numbers (λ q g. operator_code Mul d q g) d r ty.int (on_binary Mul) (λ x y q g n a k idle fx fy ex ey there.
       let product : lower (signed_product (reg a.regs q) (reg a.regs g)) ≡ word_of (int_wrap w32 (x *ℤ y)) = ap₂ (λ u v. lower (signed_product u v)) ex ey ∙ word_product x y fx fy in
       let one = said_step w f (Mult q g) (Widens (upper (signed_product (reg a.regs q) (reg a.regs g))) (word_of (int_wrap w32 (x *ℤ y)))) n a k there.0 refl idle (refl, product) in
@@ -182,8 +190,10 @@ module _ (w : World) (sc : Scope) (p : Bases) (s : State) (f : Machine w) (area 
 
   -- what is taken of a division, with a step for it
   record Takes (i : Inst) (d : ℕ) (pick : ℕ → ℕ → ℕ) (div : ℤ → ℤ → ℤ) : Type 0 where
-    picks : (n : ℕ) (a : Contents) (k : Behind) (hi lo : ℕ) → k.pending ≡ Idle → w.code n ≡ Some i → Reaches w 1 (at_with n (with_wide a hi lo) k) (at_with (n + 1) (with_reg (with_wide a hi lo) d (pick hi lo)) k)
-    words : (x y : ℤ) → FitsSigned w32 x → FitsSigned w32 y → pick (signed_remainder (word_of x) (word_of y)) (signed_quotient (word_of x) (word_of y)) ≡ word_of (div x y)
+    picks : (n : ℕ) (a : Contents) (k : Behind) (hi lo : ℕ) → k.pending ≡ Idle → w.code n ≡ Some i
+        → Reaches w 1 (at_with n (with_wide a hi lo) k) (at_with (n + 1) (with_reg (with_wide a hi lo) d (pick hi lo)) k)
+    words : (x y : ℤ) → FitsSigned w32 x → FitsSigned w32 y
+        → pick (signed_remainder (word_of x) (word_of y)) (signed_quotient (word_of x) (word_of y)) ≡ word_of (div x y)
     fits : (x y : ℤ) → FitsSigned w32 y → 0 < unsigned_abs y → FitsSigned w32 (div x y)
 
   takes_quotient : (d : ℕ) → Takes (Mflo d) d (λ hi lo. lo) quotient
@@ -201,7 +211,9 @@ module _ (w : World) (sc : Scope) (p : Bases) (s : State) (f : Machine w) (area 
   }
 
   -- the division itself
-  parts : (i : Inst) (d r : ℕ) (pick : ℕ → ℕ → ℕ) (div : ℤ → ℤ → ℤ) → Takes i d pick div → d ≢ 0 → (x y : ℤ) (q g n m : ℕ) (a : Contents) (k : Behind) → k.pending ≡ Idle → FitsSigned w32 x → FitsSigned w32 y → 0 < unsigned_abs y → reg a.regs q ≡ word_of x → reg a.regs g ≡ word_of y → CodeAt w m (Divide q g ∷ i ∷ []) →
+  parts : (i : Inst) (d r : ℕ) (pick : ℕ → ℕ → ℕ) (div : ℤ → ℤ → ℤ) → Takes i d pick div → d ≢ 0
+      → (x y : ℤ) (q g n m : ℕ) (a : Contents) (k : Behind) → k.pending ≡ Idle → FitsSigned w32 x → FitsSigned w32 y → 0 < unsigned_abs y
+      → reg a.regs q ≡ word_of x → reg a.regs g ≡ word_of y → CodeAt w m (Divide q g ∷ i ∷ []) →
       Reaches w 1 (at_with n a k) (at_with m a k) → Comes w sc 5 n (m + 2) a k (Gives sc p d r d ty.int a) (at_no_cost (Ok (int (div x y))))
   parts i d r pick div takes nz x y q g n m a k idle fx fy some ex ey there before =
       let u : ℕ = signed_remainder (reg a.regs q) (reg a.regs g) in
@@ -213,11 +225,14 @@ module _ (w : World) (sc : Scope) (p : Bases) (s : State) (f : Machine w) (area 
       widened d r (signed_remainder (reg a.regs q) (reg a.regs g)) (signed_quotient (reg a.regs q) (reg a.regs g)) (pick (signed_remainder (reg a.regs q) (reg a.regs g)) (signed_quotient (reg a.regs q) (reg a.regs g))) n (m + 2) ty.int (int (div x y)) a k nz e (takes.fits x y fy some)
       (later w 3 5 _ _ (omega arith) (joined w 1 2 _ _ _ before (moved_to (m + 1 + 1) (m + 2) 2 (at_with m a k) _ k (omega arith) (joined w 1 1 _ _ _ one two))))
 
-  divisions : (o : BinaryOp) (i : Inst) (d r : ℕ) (pick : ℕ → ℕ → ℕ) (div : ℤ → ℤ → ℤ) → Takes i d pick div → d ≢ 0 → ((x y : ℤ) → on_binary o (int x) (int y) ≡ divided div x y) → (sure : Bool)
+  divisions : (o : BinaryOp) (i : Inst) (d r : ℕ) (pick : ℕ → ℕ → ℕ) (div : ℤ → ℤ → ℤ) → Takes i d pick div → d ≢ 0
+      → ((x y : ℤ) → on_binary o (int x) (int y) ≡ divided div x y) → (sure : Bool)
       → FinishesFor (λ y. sure ≡ true → word sc p y ≢ 0) (λ q g. divisor_code sc sure g ++ (Divide q g ∷ i ∷ [])) d r ty.int ty.int ty.int (on_binary o)
   divisions o i d r pick div takes nz on sure (int x) (int y) known q g n a k idle fx fy ex ey there = subst (λ e. Comes w sc 5 n (n + length (divisor_code sc sure g ++ (Divide q g ∷ i ∷ []))) a k (Gives sc p d r d ty.int a) (at_no_cost e)) (sym (on x y)) (by_divisor sure y known fy ey there)
     where
-      whole : (sure : Bool) (y : ℤ) → 0 < unsigned_abs y → FitsSigned w32 y → reg a.regs g ≡ word_of y → CodeAt w n (divisor_code sc sure g ++ (Divide q g ∷ i ∷ [])) → Comes w sc 5 n (n + length (divisor_code sc sure g ++ (Divide q g ∷ i ∷ []))) a k (Gives sc p d r d ty.int a) (at_no_cost (Ok (int (div x y))))
+      whole : (sure : Bool) (y : ℤ) → 0 < unsigned_abs y → FitsSigned w32 y → reg a.regs g ≡ word_of y
+          → CodeAt w n (divisor_code sc sure g ++ (Divide q g ∷ i ∷ []))
+          → Comes w sc 5 n (n + length (divisor_code sc sure g ++ (Divide q g ∷ i ∷ []))) a k (Gives sc p d r d ty.int a) (at_no_cost (Ok (int (div x y))))
       whole true y some fy ey there = parts i d r pick div takes nz x y q g n n a k idle fx fy some ex ey there (later w 0 1 _ _ (omega arith) (stays w _ _ refl))
       whole false y some fy ey there =
           let go = skips w sc p s f area scene n g 0 a k idle there.0 (λ z. absurd (not_zero y fy some (sym ey ∙ z))) in
@@ -225,7 +240,9 @@ module _ (w : World) (sc : Scope) (p : Bases) (s : State) (f : Machine w) (area 
           ends_at w sc 5 n (n + 2 + 2) (n + 4) a k (Gives sc p d r d ty.int a) (at_no_cost (Ok (int (div x y)))) (omega arith)
           (parts i d r pick div takes nz x y q g n (n + 2) a k idle fx fy some ex ey (subst (λ m. CodeAt w m (Divide q g ∷ i ∷ [])) z there.1.1) go)
 
-      by_divisor : (sure : Bool) (y : ℤ) → (sure ≡ true → word_of y ≢ 0) → FitsSigned w32 y → reg a.regs g ≡ word_of y → CodeAt w n (divisor_code sc sure g ++ (Divide q g ∷ i ∷ [])) → Comes w sc 5 n (n + length (divisor_code sc sure g ++ (Divide q g ∷ i ∷ []))) a k (Gives sc p d r d ty.int a) (at_no_cost (divided div x y))
+      by_divisor : (sure : Bool) (y : ℤ) → (sure ≡ true → word_of y ≢ 0) → FitsSigned w32 y → reg a.regs g ≡ word_of y
+          → CodeAt w n (divisor_code sc sure g ++ (Divide q g ∷ i ∷ []))
+          → Comes w sc 5 n (n + length (divisor_code sc sure g ++ (Divide q g ∷ i ∷ []))) a k (Gives sc p d r d ty.int a) (at_no_cost (divided div x y))
       by_divisor true (pos zero) known fy ey there = absurd (known refl refl)
       by_divisor false (pos zero) known fy ey there =
           let go = falls w sc p s f area scene n g 0 a k idle there.0 ey in
@@ -241,10 +258,12 @@ module _ (w : World) (sc : Scope) (p : Bases) (s : State) (f : Machine w) (area 
   divisions o i d r pick div takes nz on sure (at l) y known q g n a k idle fx fy ex ey there = absurd fx
   divisions o i d r pick div takes nz on sure (group vs) y known q g n a k idle fx fy ex ey there = absurd fx
 
-  pub quotients : (d r : ℕ) → d ≢ 0 → (sure : Bool) → FinishesFor (λ y. sure ≡ true → word sc p y ≢ 0) (λ q g. divisor_code sc sure g ++ (Divide q g ∷ Mflo d ∷ [])) d r ty.int ty.int ty.int (on_binary Div)
+  pub quotients : (d r : ℕ) → d ≢ 0 → (sure : Bool)
+      → FinishesFor (λ y. sure ≡ true → word sc p y ≢ 0) (λ q g. divisor_code sc sure g ++ (Divide q g ∷ Mflo d ∷ [])) d r ty.int ty.int ty.int (on_binary Div)
   quotients d r nz sure = divisions Div (Mflo d) d r (λ hi lo. lo) quotient (takes_quotient d) nz (λ x y. refl) sure
 
-  pub remainders : (d r : ℕ) → d ≢ 0 → (sure : Bool) → FinishesFor (λ y. sure ≡ true → word sc p y ≢ 0) (λ q g. divisor_code sc sure g ++ (Divide q g ∷ Mfhi d ∷ [])) d r ty.int ty.int ty.int (on_binary Rem)
+  pub remainders : (d r : ℕ) → d ≢ 0 → (sure : Bool)
+      → FinishesFor (λ y. sure ≡ true → word sc p y ≢ 0) (λ q g. divisor_code sc sure g ++ (Divide q g ∷ Mfhi d ∷ [])) d r ty.int ty.int ty.int (on_binary Rem)
   remainders d r nz sure = divisions Rem (Mfhi d) d r (λ hi lo. hi) remainder (takes_remainder d) nz (λ x y. refl) sure
 
   pub orders : (o : BinaryOp) (d r : ℕ) → d ≢ 0 → IsOrder o → Finishes (λ q g. operator_code o d q g) d r ty.int ty.int ty.bool (on_binary o)
@@ -278,7 +297,9 @@ module _ (w : World) (sc : Scope) (p : Bases) (s : State) (f : Machine w) (area 
   location : Region → List ℕ → Location
   location g path = record { region = g; path = path }
 
-  at_same : (t : Ty) (l m : Location) → PointsTo sc.env.structs (layout sc p) l.region l.path t → PointsTo sc.env.structs (layout sc p) m.region m.path t → (same_region l.region m.region && bytes_eq l.path m.path) ≡ nat_eq (4 * word_at sc p l) (4 * word_at sc p m)
+  at_same : (t : Ty) (l m : Location) → PointsTo sc.env.structs (layout sc p) l.region l.path t
+      → PointsTo sc.env.structs (layout sc p) m.region m.path t
+      → (same_region l.region m.region && bytes_eq l.path m.path) ≡ nat_eq (4 * word_at sc p l) (4 * word_at sc p m)
   at_same t l m h g = elim (cases_eq (4 * word_at sc p l) (4 * word_at sc p m)) [
     | inl e ↦
         let q = area.apart t l m h g (omega (arith, e)) in
@@ -290,7 +311,8 @@ module _ (w : World) (sc : Scope) (p : Bases) (s : State) (f : Machine w) (area 
         n (ap (λ x. 4 * word_at sc p x) q)) ∙ sym (ne_eqb _ _ n)
   ]
 
-  pub same_words : (t : Ty) (x y : Value) → is_scalar t ≡ true → Fits sc.env.structs (layout sc p) t x → Fits sc.env.structs (layout sc p) t y → same x y ≡ nat_eq (word sc p x) (word sc p y)
+  pub same_words : (t : Ty) (x y : Value) → is_scalar t ≡ true → Fits sc.env.structs (layout sc p) t x → Fits sc.env.structs (layout sc p) t y
+      → same x y ≡ nat_eq (word sc p x) (word sc p y)
   same_words ty.int (int x) (int y) e h g = int_words x y h g
   same_words ty.bool (bool x) (bool y) e h g = bool_words x y
   same_words (ty.pointer t) null null e h g = refl
@@ -307,7 +329,8 @@ module _ (w : World) (sc : Scope) (p : Bases) (s : State) (f : Machine w) (area 
   same_words (ty.named x) _ _ e h g = absurd (cc)
   same_words (ty.array t n) _ _ e h g = absurd (cc)
 
-  pub equals : (o : BinaryOp) (t : Ty) (d r : ℕ) → is_scalar t ≡ true → d ≢ 0 → IsEquality o → Finishes (λ q g. operator_code o d q g) d r t t ty.bool (on_binary o)
+  pub equals : (o : BinaryOp) (t : Ty) (d r : ℕ) → is_scalar t ≡ true → d ≢ 0 → IsEquality o
+      → Finishes (λ q g. operator_code o d q g) d r t t ty.bool (on_binary o)
   equals _ t d r scalar nz eq x y o q g n a k idle fx fy ex ey there =
       let u : ℕ = bit_xor (word sc p x) (word sc p y) in
       twice d r (bit_xor (word sc p x) (word sc p y)) (flag (same x y)) n ty.bool (bool (same x y)) a k nz refl tt
@@ -366,7 +389,8 @@ module _ (w : World) (sc : Scope) (p : Bases) (s : State) (f : Machine w) (area 
     keeps : Keeps r d b core
     run : Reaches w 1 (at_with n b k) (at_with (n + length (to_code d r)) core k)
 
-  brings : (d r v n : ℕ) (b : Contents) (k : Behind) → k.pending ≡ Idle → d ≢ 0 → reg b.regs r ≡ v → v < 2 ^ 32 → CodeAt w n (to_code d r) → Brought d r v n b k
+  brings : (d r v n : ℕ) (b : Contents) (k : Behind) → k.pending ≡ Idle → d ≢ 0 → reg b.regs r ≡ v → v < 2 ^ 32 → CodeAt w n (to_code d r)
+      → Brought d r v n b k
   brings d r v n b k idle nz e small there = elim (cases_Bool (nat_eq d r)) [
     | inl h ↦
         let len : n ≡ n + length (to_code d r) = omega (arith, ap length (cond-true (nat_eq d r) [] (Addu d r 0 ∷ []) h)) in
@@ -380,10 +404,12 @@ module _ (w : World) (sc : Scope) (p : Bases) (s : State) (f : Machine w) (area 
   ]
 
   -- the bool that a value in a register is
-  truths : (r n to : ℕ) (c : Contents) (k : Behind) (x : Costed Value) → r < 20 → Comes w sc 0 n to c k (Gives sc p r r r ty.bool c) x → Comes w sc 0 n to c k (λ y b. (reg b.regs r ≡ flag y) × Keeps r r c b) (truth x)
+  truths : (r n to : ℕ) (c : Contents) (k : Behind) (x : Costed Value) → r < 20 → Comes w sc 0 n to c k (Gives sc p r r r ty.bool c) x
+      → Comes w sc 0 n to c k (λ y b. (reg b.regs r ≡ flag y) × Keeps r r c b) (truth x)
   truths r n to c k x hi h = binds w sc 0 0 n to to c k (Gives sc p r r r ty.bool c) (λ y b. (reg b.regs r ≡ flag y) × Keeps r r c b) x _ h (λ v b g. keeps_low r r c b hi g.keeps) by_value
     where
-      by_value : (v : Value) (b : Contents) → Gives sc p r r r ty.bool c v b → Comes w sc 0 to to b k (λ y b. (reg b.regs r ≡ flag y) × Keeps r r c b) (at_no_cost (bool_of v))
+      by_value : (v : Value) (b : Contents) → Gives sc p r r r ty.bool c v b
+          → Comes w sc 0 to to b k (λ y b. (reg b.regs r ≡ flag y) × Keeps r r c b) (at_no_cost (bool_of v))
       by_value (bool z) b g = arrives w sc 0 to to b b k (λ y b. (reg b.regs r ≡ flag y) × Keeps r r c b) z (g.is, g.keeps) (stays w _ _ refl)
       by_value (int z) b g = absurd g.fits
       by_value null b g = absurd g.fits

@@ -1,5 +1,5 @@
 -- Values that fit their types, with a part changed, and with more objects.
-use Rattle.std.proofs.Common.{◌≡◌, ℕ, zero, suc, ◌<◌, List, [], ◌∷◌, ◌++◌, Some, refl, sym, subst, arith}
+use Rattle.std.proofs.Common.{◌≡◌, ℕ, zero, suc, List, [], ◌∷◌, ◌++◌, Some, sym, subst}
 use Rattle.std.specs.Prelude.{slice_get, replicate}
 use Rattle.c0_meaning.specs.Ty.{Ty}
 use Rattle.c0_meaning.specs.Ty as ty
@@ -16,7 +16,8 @@ get_before (u ∷ types) more zero t e = e
 get_before (u ∷ types) more (suc i) t e = get_before types more i t e
 
 module _ (structs : List Shape) (layout : Layout) where
-  pub change_fits : (ts : List Ty) (vs : Values) (i : ℕ) (t : Ty) (f : Value → Value) → AllFit structs layout ts vs → slice_get ts i ≡ Some t → ((v : Value) → Fits structs layout t v → Fits structs layout t (f v)) → AllFit structs layout ts (change_nth vs i f)
+  pub change_fits : (ts : List Ty) (vs : Values) (i : ℕ) (t : Ty) (f : Value → Value) → AllFit structs layout ts vs → slice_get ts i ≡ Some t
+      → ((v : Value) → Fits structs layout t v → Fits structs layout t (f v)) → AllFit structs layout ts (change_nth vs i f)
   change_fits [] empty i t f h e g = h
   change_fits (u ∷ ts) (part v vs) zero t f h e g =
       let q : u ≡ t = cc in
@@ -25,7 +26,8 @@ module _ (structs : List Shape) (layout : Layout) where
   change_fits [] (part v vs) i t f h e g = absurd h
   change_fits (u ∷ ts) empty i t f h e g = absurd h
 
-  pub put_fits : (t : Ty) (path : List ℕ) (u : Ty) (v x : Value) → Leads structs t path u → Fits structs layout t v → Fits structs layout u x → Fits structs layout t (put v path x)
+  pub put_fits : (t : Ty) (path : List ℕ) (u : Ty) (v x : Value) → Leads structs t path u → Fits structs layout t v → Fits structs layout u x
+      → Fits structs layout t (put v path x)
   put_fits t [] u v x l h g = subst (λ w. Fits structs layout w x) (sym l) g
   put_fits (ty.named y) (i ∷ path) u (group vs) x l h g = change_fits (types_of (fields_named structs y)) vs i l.0 (λ w. put w path x) h l.1 (λ v k. put_fits l.0 path u v x l.2 k g)
   put_fits (ty.array t n) (i ∷ path) u (group vs) x l h g = change_fits (replicate n t) vs i t (λ w. put w path x) h (there t n i l.0) (λ v k. put_fits t path u v x l.1 k g)
@@ -35,7 +37,8 @@ module _ (structs : List Shape) (layout : Layout) where
   put_fits ty.bool (i ∷ path) u _ x l h g = absurd l
   put_fits (ty.pointer t) (i ∷ path) u _ x l h g = absurd l
 
-  pub put_parts : (types : List Ty) (path : List ℕ) (u : Ty) (v x : Value) → LeadsFrom structs types path u → AreParts structs layout types v → Fits structs layout u x → AreParts structs layout types (put v path x)
+  pub put_parts : (types : List Ty) (path : List ℕ) (u : Ty) (v x : Value) → LeadsFrom structs types path u → AreParts structs layout types v
+      → Fits structs layout u x → AreParts structs layout types (put v path x)
   put_parts types [] u v x l h g = absurd l
   put_parts types (i ∷ path) u (group vs) x l h g = change_fits types vs i l.0 (λ w. put w path x) h l.1 (λ v k. put_fits l.0 path u v x l.2 k g)
   put_parts types (i ∷ path) u (int z) x l h g = absurd h

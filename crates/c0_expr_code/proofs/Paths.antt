@@ -1,5 +1,5 @@
 -- Paths, and one part more.
-use Rattle.std.specs.Prelude.{slice_get, replicate, map}
+use Rattle.std.specs.Prelude.{slice_get, replicate}
 use Rattle.std.proofs.Common.{◌≡◌, ℕ, zero, suc, ◌<◌, List, [], ◌∷◌, ◌++◌, Some, refl, sym, ap, subst, arith}
 use Rattle.c0_meaning.specs.Ty.{Ty}
 use Rattle.c0_meaning.specs.Ty as ty
@@ -12,7 +12,8 @@ there t zero i h = absurd (omega (arith, h))
 there t (suc n) zero h = refl
 there t (suc n) (suc i) h = there t n i (omega (arith, h))
 
-leads_on : (structs : List Shape) (t : Ty) (path : List ℕ) (u : Ty) (i : ℕ) (w : Ty) → Leads structs t path u → Leads structs u (i ∷ []) w → Leads structs t (path ++ i ∷ []) w
+leads_on : (structs : List Shape) (t : Ty) (path : List ℕ) (u : Ty) (i : ℕ) (w : Ty) → Leads structs t path u → Leads structs u (i ∷ []) w
+    → Leads structs t (path ++ i ∷ []) w
 leads_on structs t [] u i w h g = subst (λ v. Leads structs v (i ∷ []) w) (sym h) g
 leads_on structs (ty.named x) (j ∷ path) u i w h g = (h.0, h.1, leads_on structs h.0 path u i w h.2 g)
 leads_on structs (ty.array t n) (j ∷ path) u i w h g = (h.0, leads_on structs t path u i w h.1 g)
@@ -20,11 +21,13 @@ leads_on structs ty.int (j ∷ path) u i w h g = absurd h
 leads_on structs ty.bool (j ∷ path) u i w h g = absurd h
 leads_on structs (ty.pointer t) (j ∷ path) u i w h g = absurd h
 
-pub leads_from_on : (structs : List Shape) (types : List Ty) (path : List ℕ) (u : Ty) (i : ℕ) (w : Ty) → LeadsFrom structs types path u → Leads structs u (i ∷ []) w → LeadsFrom structs types (path ++ i ∷ []) w
+pub leads_from_on : (structs : List Shape) (types : List Ty) (path : List ℕ) (u : Ty) (i : ℕ) (w : Ty) → LeadsFrom structs types path u
+    → Leads structs u (i ∷ []) w → LeadsFrom structs types (path ++ i ∷ []) w
 leads_from_on structs types [] u i w h g = absurd h
 leads_from_on structs types (j ∷ path) u i w h g = (h.0, h.1, leads_on structs h.0 path u i w h.2 g)
 
-pub points_on : (structs : List Shape) (layout : Layout) (r : Region) (path : List ℕ) (u : Ty) (i : ℕ) (w : Ty) → PointsTo structs layout r path u → Leads structs u (i ∷ []) w → PointsTo structs layout r (path ++ i ∷ []) w
+pub points_on : (structs : List Shape) (layout : Layout) (r : Region) (path : List ℕ) (u : Ty) (i : ℕ) (w : Ty) → PointsTo structs layout r path u
+    → Leads structs u (i ∷ []) w → PointsTo structs layout r (path ++ i ∷ []) w
 points_on structs layout globals path u i w h g = leads_from_on structs layout.globals path u i w h g
 points_on structs layout heap path u i w h g = leads_from_on structs layout.objects path u i w h g
 points_on structs layout locals path u i w h g = absurd h

@@ -1,8 +1,8 @@
 -- Products and quotients of words.
 use Rattle.std.specs.Prelude.{ℤ, pos, negsuc, ◌*ℤ◌, FitsSigned, unsigned_abs}
 use Rattle.std.specs.Int.{cast_signed, cast_unsigned, int_wrap, w32, w64}
-use Rattle.std.proofs.Common.{◌≡◌, ℕ, zero, suc, ◌+◌, ◌*◌, ◌-◌, ◌/◌, ◌%◌, ◌^◌, ◌<◌, ◌≤◌, refl, sym, ap, ap₂, ◌∙◌, arith, mul-le-mul}
-use Rattle.std.proofs.lemmas.Int.{ints, to_z-of_z, unsigned_abs-mul}
+use Rattle.std.proofs.Common.{◌≡◌, ℕ, ◌*◌, ◌%◌, ◌^◌, ◌<◌, ◌≤◌, refl, ap, ap₂, ◌∙◌, arith, mul-le-mul}
+use Rattle.std.proofs.lemmas.Int.{to_z-of_z, unsigned_abs-mul}
 use Rattle.mips_table.specs.Arith.{lower, signed_product}
 use Rattle.cvm_words.specs.Words.{word_of}
 use Rattle.c0_expr_code.proofs.Words.{from_signed}

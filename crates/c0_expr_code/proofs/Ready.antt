@@ -1,18 +1,16 @@
 -- A scalar that is stored stands where its location is, and all else as before.
-use Rattle.std.proofs.Common.{◌≡◌, ◌≢◌, ℕ, ◌+◌, ◌-◌, ◌*◌, ◌<◌, ◌≤◌, Bool, true, false, cond, nat_eq, Some, List, [], ◌∷◌, refl, sym, ap, ◌∙◌, subst, arith, eq-eqb, ne_eqb}
+use Rattle.std.proofs.Common.{◌≡◌, ◌≢◌, ℕ, ◌+◌, ◌-◌, ◌<◌, Bool, true, false, cond, nat_eq, Some, List, [], ◌∷◌, refl, sym, ap, ◌∙◌, arith, eq-eqb, ne_eqb}
 use Rattle.std.specs.Prelude.{slice_get}
 use Rattle.std.proofs.lemmas.Bool.{cond-true, cond-false}
 use Rattle.mips_table.specs.Code.{put, Contents, with_reg, World}
 use Rattle.c0_meaning.specs.Ty.{Ty, is_scalar}
-use Rattle.c0_meaning.specs.Words.{words}
-use Rattle.c0_meaning.specs.Sizes.{words_before}
 use Rattle.c0_meaning.specs.Addresses.{words_to_part}
 use Rattle.c0_meaning.specs.Value.{Region, globals, heap, locals, Location, Value, group, empty}
 use Rattle.c0_meaning.specs.Value as value
 use Rattle.c0_meaning.specs.State.{Frame, State, variables_of, with_variables, write}
 use Rattle.c0_meaning.specs.TypedState.{types_of, LeadsFrom, Fits, AreParts}
 use Rattle.c0_expr_code.specs.Scope.{Scope}
-use Rattle.c0_expr_code.specs.Bases.{words_of_all, Bases, types_in, word_at, word, RegionHeld}
+use Rattle.c0_expr_code.specs.Bases.{Bases, types_in, word_at, word, RegionHeld}
 use Rattle.c0_expr_code.specs.Relation.{layout, Scene, Ready, Area}
 use Rattle.c0_expr_code.specs.Laws.{AreSpread, with_word}
 use Rattle.c0_expr_code.proofs.Offsets.{one_word, room_from, before_scalars}
@@ -28,16 +26,22 @@ put_other m a v y ne = cond-false (nat_eq y a) v (m y) (ne_eqb y a ne)
 
 module _ (w : World) (sc : Scope) (p : Bases) (s : State) (c : Contents) (area : Area w sc p) where
   -- the variables of the newest frame
-  new_variables : (types : List Ty) (m m' : ℕ → ℕ) (a : ℕ) (path : List ℕ) (u : Ty) (x : Value) (frames : List Frame) → LeadsFrom sc.env.structs types path u
-      → (RegionHeld sc p m a types (variables_of frames) → RegionHeld sc p m' a types (value.put (variables_of frames) path x)) → RegionHeld sc p m a types (variables_of frames) → RegionHeld sc p m' a types (variables_of (with_variables frames (value.put (variables_of frames) path x)))
+  new_variables : (types : List Ty) (m m' : ℕ → ℕ) (a : ℕ) (path : List ℕ) (u : Ty) (x : Value) (frames : List Frame)
+      → LeadsFrom sc.env.structs types path u
+      → (RegionHeld sc p m a types (variables_of frames) → RegionHeld sc p m' a types (value.put (variables_of frames) path x))
+      → RegionHeld sc p m a types (variables_of frames)
+      → RegionHeld sc p m' a types (variables_of (with_variables frames (value.put (variables_of frames) path x)))
   new_variables [] m m' a path u x [] l f h = no_lead path l f h
     where
-      no_lead : (path : List ℕ) → LeadsFrom sc.env.structs [] path u → (RegionHeld sc p m a [] (group empty) → RegionHeld sc p m' a [] (value.put (group empty) path x)) → RegionHeld sc p m a [] (group empty) → RegionHeld sc p m' a [] (group empty)
+      no_lead : (path : List ℕ) → LeadsFrom sc.env.structs [] path u
+          → (RegionHeld sc p m a [] (group empty) → RegionHeld sc p m' a [] (value.put (group empty) path x)) → RegionHeld sc p m a [] (group empty)
+          → RegionHeld sc p m' a [] (group empty)
       no_lead path l f h = tt
   new_variables (t ∷ ts) m m' a path u x [] l f h = absurd h
   new_variables types m m' a path u x (frame ∷ rest) l f h = f h
 
-  memory_at : (g : Region) (path : List ℕ) (t : Ty) (x : Value) → AreSpread sc p → Ready sc p s c → LeadsFrom sc.env.structs (types_in sc p g) path t → (g ≡ locals → sc.in_registers ≡ false) → is_scalar t ≡ true
+  memory_at : (g : Region) (path : List ℕ) (t : Ty) (x : Value) → AreSpread sc p → Ready sc p s c → LeadsFrom sc.env.structs (types_in sc p g) path t
+      → (g ≡ locals → sc.in_registers ≡ false) → is_scalar t ≡ true
       → Ready sc p (write s (record { region = g; path = path }) x) (with_word c (word_at sc p (record { region = g; path = path })) (word sc p x))
   memory_at globals path t x spread h l o scalar =
       let b : ℕ = p.globals + words_to_part sc.env.structs (types_of sc.env.globals) path in
@@ -95,7 +99,8 @@ module _ (w : World) (sc : Scope) (p : Bases) (s : State) (c : Contents) (area :
         local_values = by_form sc.in_registers (word_at sc p (record { region = locals; path = path })) (o refl) q h.local_values;
       }
     where
-      beside : (y b : ℕ) → y ≡ b → b ≡ p.frame_end - sc.frame + 3 + words_to_part sc.env.structs (types_of sc.env.locals) path → y < p.frame_end - sc.frame → ⊥
+      beside : (y b : ℕ) → y ≡ b → b ≡ p.frame_end - sc.frame + 3 + words_to_part sc.env.structs (types_of sc.env.locals) path
+          → y < p.frame_end - sc.frame → ⊥
       beside y b e q less = absurd (omega (arith, e, q, less))
 
       by_form : (f : Bool) (b : ℕ) → f ≡ false → b ≡ p.frame_end - sc.frame + 3 + words_to_part sc.env.structs (types_of sc.env.locals) path
@@ -106,7 +111,8 @@ module _ (w : World) (sc : Scope) (p : Bases) (s : State) (c : Contents) (area :
           (λ v. put_word sc p area.opened c.memory (put c.memory b (word sc p x)) (p.frame_end - sc.frame + 3) b (types_of sc.env.locals) path t (variables_of s.frames) x l scalar q (put_same c.memory b (word sc p x)) (λ y ne. put_other c.memory b (word sc p x) y ne) v) v
 
   -- a variable in a register
-  pub registered : (n : ℕ) (t : Ty) (x : Value) → sc.in_registers ≡ true → Ready sc p s c → slice_get (types_of sc.env.locals) n ≡ Some t → Ready sc p (write s (record { region = locals; path = n ∷ [] }) x) (with_reg c (20 + n) (word sc p x))
+  pub registered : (n : ℕ) (t : Ty) (x : Value) → sc.in_registers ≡ true → Ready sc p s c → slice_get (types_of sc.env.locals) n ≡ Some t
+      → Ready sc p (write s (record { region = locals; path = n ∷ [] }) x) (with_reg c (20 + n) (word sc p x))
   registered n t x form h e =
       let known = area.scalars form n t e in
       let low = known.1 in
@@ -118,7 +124,8 @@ module _ (w : World) (sc : Scope) (p : Bases) (s : State) (c : Contents) (area :
         local_values = by_form sc.in_registers form h.local_values;
       }
     where
-      by_form : (f : Bool) → f ≡ true → RegionHeld sc p (cond f c.regs c.memory) (cond f 20 (p.frame_end - sc.frame + 3)) (types_of sc.env.locals) (variables_of s.frames)
+      by_form : (f : Bool) → f ≡ true
+          → RegionHeld sc p (cond f c.regs c.memory) (cond f 20 (p.frame_end - sc.frame + 3)) (types_of sc.env.locals) (variables_of s.frames)
           → RegionHeld sc p (cond f (with_reg c (20 + n) (word sc p x)).regs c.memory) (cond f 20 (p.frame_end - sc.frame + 3)) (types_of sc.env.locals) (variables_of (with_variables s.frames (value.put (variables_of s.frames) (n ∷ []) x)))
       by_form false z v = absurd (cc)
       by_form true z v =
@@ -126,19 +133,24 @@ module _ (w : World) (sc : Scope) (p : Bases) (s : State) (c : Contents) (area :
           new_variables (types_of sc.env.locals) c.regs (with_reg c (20 + n) (word sc p x)).regs 20 (n ∷ []) t x s.frames (t, e, refl)
           (λ v. put_word sc p area.opened c.regs (with_reg c (20 + n) (word sc p x)).regs 20 (20 + n) (types_of sc.env.locals) (n ∷ []) t (variables_of s.frames) x (t, e, refl) (area.scalars form n t e).0 (omega (arith, b)) (same_reg c.regs (20 + n) (word sc p x) (λ z. absurd (omega (arith, z)))) (λ y ne. other_reg c.regs (20 + n) (word sc p x) y ne) v) v
 
-  pub stored : (l : Location) (t : Ty) (x : Value) → AreSpread sc p → Ready sc p s c → LeadsFrom sc.env.structs (types_in sc p l.region) l.path t → (l.region ≡ locals → sc.in_registers ≡ false) → is_scalar t ≡ true → Ready sc p (write s l x) (with_word c (word_at sc p l) (word sc p x))
+  pub stored : (l : Location) (t : Ty) (x : Value) → AreSpread sc p → Ready sc p s c → LeadsFrom sc.env.structs (types_in sc p l.region) l.path t
+      → (l.region ≡ locals → sc.in_registers ≡ false) → is_scalar t ≡ true → Ready sc p (write s l x) (with_word c (word_at sc p l) (word sc p x))
   stored l t x spread h leads o scalar = memory_at l.region l.path t x spread h leads o scalar
 
 -- the state stays typed
 module _ (sc : Scope) (p : Bases) (s : State) where
-  new_parts : (types : List Ty) (path : List ℕ) (u : Ty) (x : Value) (frames : List Frame) → LeadsFrom sc.env.structs types path u → Fits sc.env.structs (layout sc p) u x → AreParts sc.env.structs (layout sc p) types (variables_of frames) → AreParts sc.env.structs (layout sc p) types (variables_of (with_variables frames (value.put (variables_of frames) path x)))
+  new_parts : (types : List Ty) (path : List ℕ) (u : Ty) (x : Value) (frames : List Frame) → LeadsFrom sc.env.structs types path u
+      → Fits sc.env.structs (layout sc p) u x → AreParts sc.env.structs (layout sc p) types (variables_of frames)
+      → AreParts sc.env.structs (layout sc p) types (variables_of (with_variables frames (value.put (variables_of frames) path x)))
   new_parts types path u x [] l f h = h
   new_parts types path u x (frame ∷ rest) l f h = put_parts sc.env.structs (layout sc p) types path u frame.variables x l h f
 
-  typed_at : (g : Region) (path : List ℕ) (t : Ty) (x : Value) → Scene sc p s → LeadsFrom sc.env.structs (types_in sc p g) path t → Fits sc.env.structs (layout sc p) t x → Scene sc p (write s (record { region = g; path = path }) x)
+  typed_at : (g : Region) (path : List ℕ) (t : Ty) (x : Value) → Scene sc p s → LeadsFrom sc.env.structs (types_in sc p g) path t
+      → Fits sc.env.structs (layout sc p) t x → Scene sc p (write s (record { region = g; path = path }) x)
   typed_at globals path t x h l f = record { global_values = put_parts sc.env.structs (layout sc p) (types_of sc.env.globals) path t s.global_values x l h.global_values f; heap_values = h.heap_values; local_values = h.local_values }
   typed_at heap path t x h l f = record { global_values = h.global_values; heap_values = put_parts sc.env.structs (layout sc p) p.objects path t s.heap_values x l h.heap_values f; local_values = h.local_values }
   typed_at locals path t x h l f = record { global_values = h.global_values; heap_values = h.heap_values; local_values = new_parts (types_of sc.env.locals) path t x s.frames l f h.local_values }
 
-  pub typed : (l : Location) (t : Ty) (x : Value) → Scene sc p s → LeadsFrom sc.env.structs (types_in sc p l.region) l.path t → Fits sc.env.structs (layout sc p) t x → Scene sc p (write s l x)
+  pub typed : (l : Location) (t : Ty) (x : Value) → Scene sc p s → LeadsFrom sc.env.structs (types_in sc p l.region) l.path t
+      → Fits sc.env.structs (layout sc p) t x → Scene sc p (write s l x)
   typed l t x h leads f = typed_at l.region l.path t x h leads f

@@ -1,5 +1,5 @@
 -- The code that scales an index: a shift, where an element's words are a power of two, or a multiplication.
-use Rattle.std.proofs.Common.{◌≡◌, ◌≢◌, inl, inr, ℕ, zero, suc, ◌+◌, ◌*◌, ◌%◌, ◌^◌, ◌<◌, ◌≤◌, true, false, nat_eq, Option, Some, None, List, [], ◌∷◌, ◌++◌, length, refl, sym, ap, ap₂, ◌∙◌, subst, arith, length-append, ne_eqb}
+use Rattle.std.proofs.Common.{◌≡◌, ◌≢◌, inl, inr, ℕ, zero, suc, ◌+◌, ◌*◌, ◌%◌, ◌^◌, ◌<◌, nat_eq, Option, Some, None, List, [], ◌∷◌, length, refl, sym, ap, ap₂, ◌∙◌, subst, arith, length-append, ne_eqb}
 use Rattle.std.proofs.lemmas.Bool.{cases_Bool, cases_eq, eqb-true, cond-true, cond-false}
 use Rattle.std.proofs.Math.Nat.{mul_comm, mul_assoc}
 use Rattle.std.proofs.lemmas.Nat.{pow-add}
@@ -16,7 +16,7 @@ use Rattle.c0_expr_code.specs.Code.{constant_code, shift_within, POWERS, scaled_
 use Rattle.c0_expr_code.specs.Relation.{Scene, Area, Keeps}
 use Rattle.c0_expr_code.proofs.Machine.{Machine, joined, later, code_front, code_back, said_step}
 use Rattle.c0_expr_code.proofs.Products.{number_product}
-use Rattle.c0_expr_code.proofs.Steps.{other_reg, other_read, same_read, keeps_on, keeps_one}
+use Rattle.c0_expr_code.proofs.Steps.{other_reg, other_read, keeps_on, keeps_one}
 use Rattle.c0_expr_code.proofs.Nodes.{constant_runs}
 
 shift_is : (n k by : ℕ) → shift_within n k ≡ Some by → 2 ^ by ≡ 4 * k
@@ -55,7 +55,8 @@ module _ (w : World) (sc : Scope) (p : Bases) (s : State) (f : Machine w) (area 
     pub others : (x : ℕ) → x ≢ 1 → reg core.regs x ≡ reg a.regs x
     pub run : Reaches w 4 (at_with n a d) (at_with (n + length code) core d)
 
-  scales_by : (o : Option ℕ) (k q n : ℕ) (a : Contents) (d : Behind) → d.pending ≡ Idle → q ≢ 1 → 4 * k < 2 ^ 31 → reg a.regs q < 2 ^ 31 → ((by : ℕ) → o ≡ Some by → 2 ^ by ≡ 4 * k) → CodeAt w n (scaled_code o k q) → Scaled (scaled_code o k q) k q n a d
+  scales_by : (o : Option ℕ) (k q n : ℕ) (a : Contents) (d : Behind) → d.pending ≡ Idle → q ≢ 1 → 4 * k < 2 ^ 31 → reg a.regs q < 2 ^ 31
+      → ((by : ℕ) → o ≡ Some by → 2 ^ by ≡ 4 * k) → CodeAt w n (scaled_code o k q) → Scaled (scaled_code o k q) k q n a d
   scales_by (Some by) k q n a d idle ne small low is there =
       let v : ℕ = 4 * (k * reg a.regs q) % 2 ^ 32 in
       let e : reg a.regs q * 2 ^ by % 2 ^ 32 ≡ 4 * (k * reg a.regs q) % 2 ^ 32 = ap (λ x. x % 2 ^ 32) (ap (λ y. reg a.regs q * y) (is by refl) ∙ mul_comm (reg a.regs q) (4 * k) ∙ mul_assoc 4 k (reg a.regs q)) in
@@ -69,7 +70,7 @@ module _ (w : World) (sc : Scope) (p : Bases) (s : State) (f : Machine w) (area 
       }
   scales_by None k q n a d idle ne small low is there =
       let js : List Inst = Mult q 1 ∷ Mflo 1 ∷ [] in
-      let first = constant_runs w sc p s f area scene 1 1 (4 * k % 2 ^ 32) n a d idle (λ z. absurd (omega (arith, z))) (code_front w n (constant_code 1 (4 * k % 2 ^ 32)) (Mult q 1 ∷ Mflo 1 ∷ []) there) in
+      let first = constant_runs w sc p s f area scene 1 1 (4 * k % 2 ^ 32) n a d (omega arith) idle (λ z. absurd (omega (arith, z))) (code_front w n (constant_code 1 (4 * k % 2 ^ 32)) (Mult q 1 ∷ Mflo 1 ∷ []) there) in
       let rest = code_back w n (constant_code 1 (4 * k % 2 ^ 32)) (Mult q 1 ∷ Mflo 1 ∷ []) there in
       let b : Contents = first.0 in
       let product : lower (signed_product (reg first.0.regs q) (reg first.0.regs 1)) ≡ 4 * (k * reg a.regs q) % 2 ^ 32 =
@@ -91,5 +92,6 @@ module _ (w : World) (sc : Scope) (p : Bases) (s : State) (f : Machine w) (area 
         run = subst (λ t. Reaches w 4 (at_with n a d) (at_with t (with_reg b2 1 (4 * (k * reg a.regs q) % 2 ^ 32)) d)) len run;
       }
 
-  pub scales : (k q n : ℕ) (a : Contents) (d : Behind) → d.pending ≡ Idle → q ≢ 1 → 4 * k < 2 ^ 31 → reg a.regs q < 2 ^ 31 → CodeAt w n (scale_code k q) → Scaled (scale_code k q) k q n a d
+  pub scales : (k q n : ℕ) (a : Contents) (d : Behind) → d.pending ≡ Idle → q ≢ 1 → 4 * k < 2 ^ 31 → reg a.regs q < 2 ^ 31
+      → CodeAt w n (scale_code k q) → Scaled (scale_code k q) k q n a d
   scales k q n a d idle ne small low there = scales_by (shift_within POWERS k) k q n a d idle ne small low (λ by e. shift_is POWERS k by e) there

@@ -1,6 +1,6 @@
 -- Places: what is loaded from them, variables, targets of pointers, fields.
-use Rattle.std.specs.Prelude.{Ok, ok_or, slice_get, nat_le}
-use Rattle.std.proofs.Common.{◌≡◌, ◌≢◌, inl, inr, ℕ, ◌⊎◌, ◌+◌, ◌-◌, ◌*◌, ◌%◌, ◌^◌, ◌<◌, ◌≤◌, Bool, true, false, cond, nat_lt, Some, List, [], ◌∷◌, ◌++◌, length, refl, sym, ap, ◌∙◌, subst, arith, length-append}
+use Rattle.std.specs.Prelude.{Ok, ok_or, slice_get}
+use Rattle.std.proofs.Common.{◌≡◌, ◌≢◌, inl, inr, ℕ, ◌+◌, ◌-◌, ◌*◌, ◌%◌, ◌^◌, ◌<◌, ◌≤◌, Bool, true, false, cond, Some, List, [], ◌∷◌, ◌++◌, length, refl, sym, ap, ◌∙◌, subst, arith, length-append}
 use Rattle.std.proofs.lemmas.Bool.{cases_Bool, eqb-true, cond-true, cond-false}
 use Rattle.mips_table.specs.declared.inst.Inst.{Inst}
 use Rattle.mips_table.specs.declared.inst.Inst.TheVariants.{Lw, Addiu, Addu, Lui}
@@ -44,7 +44,8 @@ module _ (w : World) (sc : Scope) (p : Bases) (s : State) (f : Machine w) (area 
       let o = area.frame_holds in
       (region_seen sc p b.memory (types_of sc.env.locals) path t (variables_of s.frames) (p.frame_end - sc.frame + 3) l scene.local_values h, omega (arith, r, a, i, o))
 
-  found_in : (b : Contents) (g : Region) (path : List ℕ) (t : Ty) → Ready sc p s b → LeadsFrom sc.env.structs (types_in sc p g) path t → (g ≡ locals → sc.in_registers ≡ false) → Found b (record { region = g; path = path }) t
+  found_in : (b : Contents) (g : Region) (path : List ℕ) (t : Ty) → Ready sc p s b → LeadsFrom sc.env.structs (types_in sc p g) path t
+      → (g ≡ locals → sc.in_registers ≡ false) → Found b (record { region = g; path = path }) t
   found_in b globals path t h l o =
       let r = room_from sc.env.structs area.opened (types_of sc.env.globals) path t l in
       let a = area.globals_room in
@@ -57,7 +58,8 @@ module _ (w : World) (sc : Scope) (p : Bases) (s : State) (f : Machine w) (area 
       let r = by_form b path t l sc.in_registers (o refl) h.local_values in
       record { seen = r.0; inside = r.1 }
 
-  pub found : (b : Contents) (l : Location) (t : Ty) → Ready sc p s b → LeadsFrom sc.env.structs (types_in sc p l.region) l.path t → (l.region ≡ locals → sc.in_registers ≡ false) → Found b l t
+  pub found : (b : Contents) (l : Location) (t : Ty) → Ready sc p s b → LeadsFrom sc.env.structs (types_in sc p l.region) l.path t
+      → (l.region ≡ locals → sc.in_registers ≡ false) → Found b l t
   found b l t h g o = found_in b l.region l.path t h g o
 
   -- an instruction on a place, where it is known what it does at the place's address
@@ -68,7 +70,8 @@ module _ (w : World) (sc : Scope) (p : Bases) (s : State) (f : Machine w) (area 
     pub memory : core.memory ≡ b.memory
     pub run : Reaches w 3 (at_with n b k) (at_with to core k)
 
-  pub on_place : (i : ℕ → ℕ → Inst) (x : Spot) (d r v n : ℕ) (b : Contents) (k : Behind) → k.pending ≡ Idle → 8 ≤ r → r < 20 → d ≢ 0 → Source r x.base → CodeAt w n (on_spot i r x) →
+  pub on_place : (i : ℕ → ℕ → Inst) (x : Spot) (d r v n : ℕ) (b : Contents) (k : Behind) → k.pending ≡ Idle → 8 ≤ r → r < 20 → d ≢ 0
+      → Source r x.base → CodeAt w n (on_spot i r x) →
       ((q m : ℕ) (a : Contents) → w.code m ≡ Some (i q (low x.shift)) → a.memory ≡ b.memory → sum (reg a.regs q) (extended (low x.shift)) ≡ (reg b.regs x.base + x.shift) % 2 ^ 32 → Reaches w 1 (at_with m a k) (at_with (m + 1) (with_reg a d v) k)) →
       Done d r v (n + length x.code) (n + length (on_spot i r x)) b k
   on_place i x d r v n b k idle lo hi nz source code law = elim (cases_Bool (is_near x.shift)) [
@@ -99,7 +102,8 @@ module _ (w : World) (sc : Scope) (p : Bases) (s : State) (f : Machine w) (area 
   ]
 
   -- a place as value
-  pub loads : (local : Bool) (t : Ty) (x : Spot) (m d r n : ℕ) (c : Contents) (k : Behind) (e : Costed Location) → k.pending ≡ Idle → (Keeps 0 0 c c → (b : Contents) → Keeps 0 0 c b → Ready sc p s b) → is_scalar t ≡ true → 8 ≤ r → r < 20 → d ≢ 0 → Source r x.base →
+  pub loads : (local : Bool) (t : Ty) (x : Spot) (m d r n : ℕ) (c : Contents) (k : Behind) (e : Costed Location) → k.pending ≡ Idle
+      → (Keeps 0 0 c c → (b : Contents) → Keeps 0 0 c b → Ready sc p s b) → is_scalar t ≡ true → 8 ≤ r → r < 20 → d ≢ 0 → Source r x.base →
       CodeAt w n (load_code d r x) → Comes w sc m n (n + length x.code) c k (Leads sc p x.base x.shift r local t c) e → Comes w sc (m + 3) n (n + length (load_code d r x)) c k (Gives sc p d r d t c) (loaded s e)
   loads local t x m d r n c k e idle ready scalar lo hi nz source code h =
       binds w sc m 3 n (n + length x.code) (n + length (load_code d r x)) c k (Leads sc p x.base x.shift r local t c) (Gives sc p d r d t c) e _ h
@@ -116,7 +120,8 @@ module _ (w : World) (sc : Scope) (p : Bases) (s : State) (f : Machine w) (area 
       subst (λ o. Comes w sc 3 (n + length x.code) (n + length (load_code d r x)) b k (Gives sc p d r d t c) (at_no_cost (ok_or o stuck))) (sym g.seen.is) arrive)
 
   -- an address as value
-  pub addresses : (t : Ty) (x : Spot) (m d r n : ℕ) (c : Contents) (k : Behind) (e : Costed Location) → k.pending ≡ Idle → 8 ≤ r → r < 20 → d ≢ 0 → Source r x.base →
+  pub addresses : (t : Ty) (x : Spot) (m d r n : ℕ) (c : Contents) (k : Behind) (e : Costed Location) → k.pending ≡ Idle → 8 ≤ r → r < 20 → d ≢ 0
+      → Source r x.base →
       CodeAt w n (on_spot (λ y z. Addiu d y z) r x) → Comes w sc m n (n + length x.code) c k (Leads sc p x.base x.shift r false t c) e → Comes w sc (m + 3) n (n + length (on_spot (λ y z. Addiu d y z) r x)) c k (Gives sc p d r d (ty.pointer t) c) (e >>= λ l. at_no_cost (Ok (at l)))
   addresses t x m d r n c k e idle lo hi nz source code h =
       binds w sc m 3 n (n + length x.code) (n + length (on_spot (λ y z. Addiu d y z) r x)) c k (Leads sc p x.base x.shift r false t c) (Gives sc p d r d (ty.pointer t) c) e _ h
@@ -128,10 +133,12 @@ module _ (w : World) (sc : Scope) (p : Bases) (s : State) (f : Machine w) (area 
       (record { is = done.is; fits = q.away refl; keeps = keeps_on r d c b done.core (keeps_in r r d c b (omega arith) hi q.keeps) done.keeps }) done.run)
 
   -- variables
-  first_offset : (types : List Ty) (n : ℕ) (t : Ty) → slice_get types n ≡ Some t → words_to_part sc.env.structs types (n ∷ []) ≡ words_before sc.env.structs types n
+  first_offset : (types : List Ty) (n : ℕ) (t : Ty) → slice_get types n ≡ Some t
+      → words_to_part sc.env.structs types (n ∷ []) ≡ words_before sc.env.structs types n
   first_offset types n t e = omega arith
 
-  pub global_place : (x n r : ℕ) (t : Ty) (c : Contents) (k : Behind) → Ready sc p s c → slice_get (types_of sc.env.globals) x ≡ Some t → Comes w sc 0 n (n + 0) c k (Leads sc p 28 (4 * words_before sc.env.structs (types_of sc.env.globals) x % 2 ^ 32) r false t c) (at_no_cost (Ok (record { region = globals; path = x ∷ [] })))
+  pub global_place : (x n r : ℕ) (t : Ty) (c : Contents) (k : Behind) → Ready sc p s c → slice_get (types_of sc.env.globals) x ≡ Some t
+      → Comes w sc 0 n (n + 0) c k (Leads sc p 28 (4 * words_before sc.env.structs (types_of sc.env.globals) x % 2 ^ 32) r false t c) (at_no_cost (Ok (record { region = globals; path = x ∷ [] })))
   global_place x n r t c k ready e =
       let place = first_offset (types_of sc.env.globals) x t e in
       let room = room_from sc.env.structs area.opened (types_of sc.env.globals) (x ∷ []) t (t, e, refl) in
@@ -145,7 +152,9 @@ module _ (w : World) (sc : Scope) (p : Bases) (s : State) (f : Machine w) (area 
       not_locals : globals ≡ locals → ⊥
       not_locals q = absurd (cc)
 
-  pub local_place : (x n r : ℕ) (t : Ty) (c : Contents) (k : Behind) → Ready sc p s c → sc.in_registers ≡ false → slice_get (types_of sc.env.locals) x ≡ Some t → Comes w sc 0 n (n + 0) c k (Leads sc p 29 ((frame_back sc + (12 + 4 * words_before sc.env.structs (types_of sc.env.locals) x)) % 2 ^ 32) r true t c) (at_no_cost (Ok (record { region = locals; path = x ∷ [] })))
+  pub local_place : (x n r : ℕ) (t : Ty) (c : Contents) (k : Behind) → Ready sc p s c → sc.in_registers ≡ false
+      → slice_get (types_of sc.env.locals) x ≡ Some t
+      → Comes w sc 0 n (n + 0) c k (Leads sc p 29 ((frame_back sc + (12 + 4 * words_before sc.env.structs (types_of sc.env.locals) x)) % 2 ^ 32) r true t c) (at_no_cost (Ok (record { region = locals; path = x ∷ [] })))
   local_place x n r t c k ready form e =
       let place = first_offset (types_of sc.env.locals) x t e in
       let room = room_from sc.env.structs area.opened (types_of sc.env.locals) (x ∷ []) t (t, e, refl) in

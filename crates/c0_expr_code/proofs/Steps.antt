@@ -1,6 +1,6 @@
 -- Evaluations and code side by side.
 use Rattle.std.specs.Prelude.{Ok, Err}
-use Rattle.std.proofs.Common.{◌≡◌, ◌≢◌, inl, inr, ℕ, ◌+◌, ◌-◌, ◌*◌, ◌/◌, ◌%◌, ◌<◌, ◌≤◌, Bool, true, false, cond, nat_eq, Some, refl, sym, ap, ◌∙◌, subst, arith, eq-eqb, ne_eqb}
+use Rattle.std.proofs.Common.{◌≡◌, ◌≢◌, inl, inr, ℕ, ◌+◌, ◌-◌, ◌*◌, ◌<◌, ◌≤◌, Bool, true, false, cond, nat_eq, Some, refl, sym, ap, ◌∙◌, subst, arith, eq-eqb, ne_eqb}
 use Rattle.std.proofs.lemmas.Bool.{cases_eq, cond-true, cond-false}
 use Rattle.mips_table.specs.declared.inst.Inst.TheVariants.{J}
 use Rattle.mips_table.specs.declared.effect.Effect.TheVariants.{Set}
@@ -80,22 +80,26 @@ source_kept r _ a b le lt its h = like_read b.regs a.regs r (h.below r (λ e. ab
 source_kept r q a b le lt (far g) h = like_read b.regs a.regs q (h.above q (λ e. absurd (omega (arith, e, g))) g)
 
 module _ (w : World) (sc : Scope) where
-  pub more : {A : Type 0} (m n from to : ℕ) (c : Contents) (k : Behind) (Q : A → Contents → Type 0) (e : Costed A) → m ≤ n → Comes w sc m from to c k Q e → Comes w sc n from to c k Q e
+  pub more : {A : Type 0} (m n from to : ℕ) (c : Contents) (k : Behind) (Q : A → Contents → Type 0) (e : Costed A) → m ≤ n
+      → Comes w sc m from to c k Q e → Comes w sc n from to c k Q e
   more m n from to c k Q (costs u (Ok x)) le h = (h.0, h.1, later w (m + 16 * u) (n + 16 * u) _ _ (omega arith) h.2)
   more m n from to c k Q (costs u (Err (faulted f))) le h = (h.0, h.1, later w (m + 16 * u) (n + 16 * u) _ _ (omega arith) h.2)
   more m n from to c k Q (costs u (Err stuck)) le h = absurd h
 
-  pub paid : {A : Type 0} (u m from to : ℕ) (c : Contents) (k : Behind) (Q : A → Contents → Type 0) (e : Costed A) → Comes w sc (m + 16 * u) from to c k Q e → Comes w sc m from to c k Q (paying u e)
+  pub paid : {A : Type 0} (u m from to : ℕ) (c : Contents) (k : Behind) (Q : A → Contents → Type 0) (e : Costed A)
+      → Comes w sc (m + 16 * u) from to c k Q e → Comes w sc m from to c k Q (paying u e)
   paid u m from to c k Q (costs v (Ok x)) h = (h.0, h.1, later w (m + 16 * u + 16 * v) (m + 16 * (u + v)) _ _ (omega arith) h.2)
   paid u m from to c k Q (costs v (Err (faulted f))) h = (h.0, h.1, later w (m + 16 * u + 16 * v) (m + 16 * (u + v)) _ _ (omega arith) h.2)
   paid u m from to c k Q (costs v (Err stuck)) h = absurd h
 
   -- a node pays for its own steps by its unit
-  pub node : {A : Type 0} (m from to : ℕ) (c : Contents) (k : Behind) (Q : A → Contents → Type 0) (e : Costed A) → m ≤ 16 → Comes w sc m from to c k Q e → Comes w sc 0 from to c k Q (paying 1 e)
+  pub node : {A : Type 0} (m from to : ℕ) (c : Contents) (k : Behind) (Q : A → Contents → Type 0) (e : Costed A) → m ≤ 16
+      → Comes w sc m from to c k Q e → Comes w sc 0 from to c k Q (paying 1 e)
   node m from to c k Q e le h = paid 1 0 from to c k Q e (more m (0 + 16 * 1) from to c k Q e (omega arith) h)
 
   -- steps before an evaluation
-  pub after : {A : Type 0} (m n from mid to : ℕ) (a b : Contents) (k : Behind) (Q : A → Contents → Type 0) (e : Costed A) → Keeps 0 0 a b → Reaches w m (at_with from a k) (at_with mid b k) → Comes w sc n mid to b k Q e → Comes w sc (m + n) from to a k Q e
+  pub after : {A : Type 0} (m n from mid to : ℕ) (a b : Contents) (k : Behind) (Q : A → Contents → Type 0) (e : Costed A) → Keeps 0 0 a b
+      → Reaches w m (at_with from a k) (at_with mid b k) → Comes w sc n mid to b k Q e → Comes w sc (m + n) from to a k Q e
   after m n from mid to a b k Q (costs u (Ok x)) i run h = (h.0, h.1, later w (m + (n + 16 * u)) (m + n + 16 * u) _ _ (omega arith) (joined w m (n + 16 * u) _ _ _ run h.2))
   after m n from mid to a b k Q (costs u (Err (faulted f))) i run h = (h.0, keeps_on 0 0 a b h.0 i h.1, later w (m + (n + 16 * u)) (m + n + 16 * u) _ _ (omega arith) (joined w m (n + 16 * u) _ _ _ run h.2))
   after m n from mid to a b k Q (costs u (Err stuck)) i run h = absurd h
@@ -109,26 +113,32 @@ module _ (w : World) (sc : Scope) where
   binds m n from mid to c k Q R (costs u (Err stuck)) f h i g = absurd h
 
   -- what an evaluation comes to may be said in other words, and its end be named otherwise
-  pub says : {A : Type 0} (m from to : ℕ) (c : Contents) (k : Behind) (Q R : A → Contents → Type 0) (e : Costed A) → ((x : A) (b : Contents) → Q x b → R x b) → Comes w sc m from to c k Q e → Comes w sc m from to c k R e
+  pub says : {A : Type 0} (m from to : ℕ) (c : Contents) (k : Behind) (Q R : A → Contents → Type 0) (e : Costed A)
+      → ((x : A) (b : Contents) → Q x b → R x b) → Comes w sc m from to c k Q e → Comes w sc m from to c k R e
   says m from to c k Q R (costs u (Ok x)) i h = (h.0, i x h.0 h.1, h.2)
   says m from to c k Q R (costs u (Err (faulted f))) i h = h
   says m from to c k Q R (costs u (Err stuck)) i h = absurd h
 
   -- steps behind an evaluation
-  pub onward : {A : Type 0} (m n from mid to : ℕ) (c : Contents) (k : Behind) (Q R : A → Contents → Type 0) (e : Costed A) → Comes w sc m from mid c k Q e → ((x : A) (b : Contents) → Q x b → (a : Contents) × R x a × Reaches w n (at_with mid b k) (at_with to a k)) → Comes w sc (m + n) from to c k R e
+  pub onward : {A : Type 0} (m n from mid to : ℕ) (c : Contents) (k : Behind) (Q R : A → Contents → Type 0) (e : Costed A)
+      → Comes w sc m from mid c k Q e → ((x : A) (b : Contents) → Q x b → (a : Contents) × R x a × Reaches w n (at_with mid b k) (at_with to a k))
+      → Comes w sc (m + n) from to c k R e
   onward m n from mid to c k Q R (costs u (Ok x)) h g =
       let r = g x h.0 h.1 in
       (r.0, r.1, later w (m + 16 * u + n) (m + n + 16 * u) _ _ (omega arith) (joined w (m + 16 * u) n _ _ _ h.2 r.2))
   onward m n from mid to c k Q R (costs u (Err (faulted f))) h g = (h.0, h.1, later w (m + 16 * u) (m + n + 16 * u) _ _ (omega arith) h.2)
   onward m n from mid to c k Q R (costs u (Err stuck)) h g = absurd h
 
-  pub ends_at : {A : Type 0} (m from to to' : ℕ) (c : Contents) (k : Behind) (Q : A → Contents → Type 0) (e : Costed A) → to ≡ to' → Comes w sc m from to c k Q e → Comes w sc m from to' c k Q e
+  pub ends_at : {A : Type 0} (m from to to' : ℕ) (c : Contents) (k : Behind) (Q : A → Contents → Type 0) (e : Costed A) → to ≡ to'
+      → Comes w sc m from to c k Q e → Comes w sc m from to' c k Q e
   ends_at m from to to' c k Q e q h = subst (λ t. Comes w sc m from t c k Q e) q h
 
-  pub arrives : {A : Type 0} (m from to : ℕ) (c b : Contents) (k : Behind) (Q : A → Contents → Type 0) (x : A) → Q x b → Reaches w m (at_with from c k) (at_with to b k) → Comes w sc m from to c k Q (at_no_cost (Ok x))
+  pub arrives : {A : Type 0} (m from to : ℕ) (c b : Contents) (k : Behind) (Q : A → Contents → Type 0) (x : A) → Q x b
+      → Reaches w m (at_with from c k) (at_with to b k) → Comes w sc m from to c k Q (at_no_cost (Ok x))
   arrives m from to c b k Q x q run = (b, q, later w m (m + 16 * 0) _ _ (omega arith) run)
 
-  pub faults : {A : Type 0} (m from to : ℕ) (c b : Contents) (k : Behind) (Q : A → Contents → Type 0) (f : KernelFault) → Keeps 0 0 c b → Reaches w m (at_with from c k) (at_with (sc.exit f) b k) → Comes w sc m from to c k Q (at_no_cost (Err (faulted f)))
+  pub faults : {A : Type 0} (m from to : ℕ) (c b : Contents) (k : Behind) (Q : A → Contents → Type 0) (f : KernelFault) → Keeps 0 0 c b
+      → Reaches w m (at_with from c k) (at_with (sc.exit f) b k) → Comes w sc m from to c k Q (at_no_cost (Err (faulted f)))
   faults m from to c b k Q f q run = (b, q, later w m (m + 16 * 0) _ _ (omega arith) run)
 
 module _ (w : World) (f : Machine w) where

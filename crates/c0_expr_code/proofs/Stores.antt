@@ -20,7 +20,8 @@ replicate_words sc (suc n) t = let g = replicate_words sc n t in omega (arith, g
 module _ (sc : Scope) (p : Bases) (opened : (x : List ℕ) → words sc.env.structs (ty.named x) ≡ words_of_all sc.env.structs (types_of (fields_named sc.env.structs x))) (m m' : ℕ → ℕ) where
   mutual
     -- a value stands where its words are the same
-    pub held_same : (a : ℕ) (t : Ty) (v : Value) → ((x : ℕ) → a ≤ x → x < a + words sc.env.structs t → m' x ≡ m x) → Held sc p m a t v → Held sc p m' a t v
+    pub held_same : (a : ℕ) (t : Ty) (v : Value) → ((x : ℕ) → a ≤ x → x < a + words sc.env.structs t → m' x ≡ m x) → Held sc p m a t v
+        → Held sc p m' a t v
     held_same a (ty.named x) (group vs) e h = all_same a (types_of (fields_named sc.env.structs x)) vs (λ y le less. e y le (let o = opened x in omega (arith, o, less))) h
     held_same a (ty.array t n) (group vs) e h = all_same a (replicate n t) vs (λ y le less. e y le (let o = replicate_words sc n t in omega (arith, o, less))) h
     held_same a ty.int v e h = e a (omega arith) (omega arith) ∙ h
@@ -29,7 +30,8 @@ module _ (sc : Scope) (p : Bases) (opened : (x : List ℕ) → words sc.env.stru
     held_same a (ty.named x) _ e h = absurd h
     held_same a (ty.array t n) _ e h = absurd h
 
-    pub all_same : (a : ℕ) (ts : List Ty) (vs : Values) → ((x : ℕ) → a ≤ x → x < a + words_of_all sc.env.structs ts → m' x ≡ m x) → AllHeld sc p m a ts vs → AllHeld sc p m' a ts vs
+    pub all_same : (a : ℕ) (ts : List Ty) (vs : Values) → ((x : ℕ) → a ≤ x → x < a + words_of_all sc.env.structs ts → m' x ≡ m x)
+        → AllHeld sc p m a ts vs → AllHeld sc p m' a ts vs
     all_same a [] empty e h = tt
     all_same a (t ∷ ts) (part v vs) e h = (held_same a t v (λ x le less. e x le (omega arith)) h.0, all_same (a + words sc.env.structs t) ts vs (λ x le less. e x (omega arith) (omega arith)) h.1)
     all_same a [] (part v vs) e h = absurd h
@@ -41,7 +43,8 @@ module _ (sc : Scope) (p : Bases) (opened : (x : List ℕ) → words sc.env.stru
 
   all_put : (a : ℕ) (ts : List Ty) (vs : Values) (i : ℕ) (t : Ty) (f : Value → Value) → AllHeld sc p m a ts vs → slice_get ts i ≡ Some t
       → ((b : ℕ) (v : Value) → b ≡ a + words_before sc.env.structs ts i → Held sc p m b t v → Held sc p m' b t (f v))
-      → Others a (words_of_all sc.env.structs ts) (a + words_before sc.env.structs ts i) (words sc.env.structs t) → AllHeld sc p m' a ts (change_nth vs i f)
+      → Others a (words_of_all sc.env.structs ts) (a + words_before sc.env.structs ts i) (words sc.env.structs t)
+      → AllHeld sc p m' a ts (change_nth vs i f)
   all_put a [] vs i t f h e inner others = absurd (cc)
   all_put a (u ∷ ts) (part v vs) zero t f h e inner others =
       let q : u ≡ t = cc in
@@ -66,10 +69,12 @@ module _ (sc : Scope) (p : Bases) (opened : (x : List ℕ) → words sc.env.stru
   outside y b n c k le room (inl h) = inl (omega (arith, h, le))
   outside y b n c k le room (inr h) = inr (omega (arith, h, room))
 
-  room : (t : Ty) (path : List ℕ) (u : Ty) → PathLeads sc.env.structs t path u → words_to sc.env.structs t path + words sc.env.structs u ≤ words sc.env.structs t
+  room : (t : Ty) (path : List ℕ) (u : Ty) → PathLeads sc.env.structs t path u
+      → words_to sc.env.structs t path + words sc.env.structs u ≤ words sc.env.structs t
   room t path u h = Rattle.c0_expr_code.proofs.Offsets.room sc.env.structs opened t path u h
 
-  pub put_held : (a : ℕ) (t : Ty) (path : List ℕ) (u : Ty) (v x : Value) → PathLeads sc.env.structs t path u → Held sc p m a t v → Held sc p m' (a + words_to sc.env.structs t path) u x
+  pub put_held : (a : ℕ) (t : Ty) (path : List ℕ) (u : Ty) (v x : Value) → PathLeads sc.env.structs t path u → Held sc p m a t v
+      → Held sc p m' (a + words_to sc.env.structs t path) u x
       → Others a (words sc.env.structs t) (a + words_to sc.env.structs t path) (words sc.env.structs u) → Held sc p m' a t (put v path x)
   put_held a t [] u v x l h g others = let e : a + 0 ≡ a = omega arith in subst (λ z. Held sc p m' a z x) (sym l) (subst (λ b. Held sc p m' b u x) e g)
   put_held a (ty.named y) (i ∷ path) u (group vs) x l h g others =
@@ -100,7 +105,8 @@ module _ (sc : Scope) (p : Bases) (opened : (x : List ℕ) → words sc.env.stru
   put_held a ty.bool (i ∷ path) u _ x l h g others = absurd l
   put_held a (ty.pointer t) (i ∷ path) u _ x l h g others = absurd l
 
-  pub region_same : (a : ℕ) (ts : List Ty) (v : Value) → ((x : ℕ) → a ≤ x → x < a + words_of_all sc.env.structs ts → m' x ≡ m x) → RegionHeld sc p m a ts v → RegionHeld sc p m' a ts v
+  pub region_same : (a : ℕ) (ts : List Ty) (v : Value) → ((x : ℕ) → a ≤ x → x < a + words_of_all sc.env.structs ts → m' x ≡ m x)
+      → RegionHeld sc p m a ts v → RegionHeld sc p m' a ts v
   region_same a ts (group vs) e h = all_same a ts vs e h
   region_same a ts (int z) e h = absurd h
   region_same a ts (bool b) e h = absurd h
@@ -108,8 +114,10 @@ module _ (sc : Scope) (p : Bases) (opened : (x : List ℕ) → words sc.env.stru
   region_same a ts (at l) e h = absurd h
 
   -- the same of a region
-  pub put_region : (a : ℕ) (ts : List Ty) (path : List ℕ) (u : Ty) (v x : Value) → LeadsFrom sc.env.structs ts path u → RegionHeld sc p m a ts v → Held sc p m' (a + words_to_part sc.env.structs ts path) u x
-      → Others a (words_of_all sc.env.structs ts) (a + words_to_part sc.env.structs ts path) (words sc.env.structs u) → RegionHeld sc p m' a ts (put v path x)
+  pub put_region : (a : ℕ) (ts : List Ty) (path : List ℕ) (u : Ty) (v x : Value) → LeadsFrom sc.env.structs ts path u → RegionHeld sc p m a ts v
+      → Held sc p m' (a + words_to_part sc.env.structs ts path) u x
+      → Others a (words_of_all sc.env.structs ts) (a + words_to_part sc.env.structs ts path) (words sc.env.structs u)
+      → RegionHeld sc p m' a ts (put v path x)
   put_region a ts [] u v x l h g others = absurd l
   put_region a ts (i ∷ path) u (group vs) x l h g others =
       let c : words_to sc.env.structs (unwrap_or (slice_get ts i) ty.int) path ≡ words_to sc.env.structs l.0 path = ap (λ o. words_to sc.env.structs (unwrap_or o ty.int) path) l.1 in
@@ -135,7 +143,8 @@ module _ (sc : Scope) (p : Bases) (opened : (x : List ℕ) → words sc.env.stru
   scalar_held b (ty.array t n) x s e = absurd (cc)
 
   -- where one word alone changes, a scalar is put there
-  pub put_word : (a b : ℕ) (ts : List Ty) (path : List ℕ) (u : Ty) (v x : Value) → LeadsFrom sc.env.structs ts path u → is_scalar u ≡ true → b ≡ a + words_to_part sc.env.structs ts path → m' b ≡ word sc p x → ((y : ℕ) → y ≢ b → m' y ≡ m y)
+  pub put_word : (a b : ℕ) (ts : List Ty) (path : List ℕ) (u : Ty) (v x : Value) → LeadsFrom sc.env.structs ts path u → is_scalar u ≡ true
+      → b ≡ a + words_to_part sc.env.structs ts path → m' b ≡ word sc p x → ((y : ℕ) → y ≢ b → m' y ≡ m y)
       → RegionHeld sc p m a ts v → RegionHeld sc p m' a ts (put v path x)
   put_word a b ts path u v x l scalar is here others h =
       let one = one_word sc.env.structs u scalar in

@@ -4,7 +4,7 @@ use Rattle.mips_table.specs.declared.inst.Inst.{Inst}
 use Rattle.c0_tree.specs.declared.tree.UnaryOp.TheVariants.{Negate, Not}
 use Rattle.c0_tree.specs.declared.tree.BinaryOp.{BinaryOp}
 use Rattle.c0_tree.specs.declared.tree.BinaryOp.TheVariants.{Add, Sub, Mul, Div, Rem, Lt, Le, Gt, Ge, Eq, Ne, And, Or}
-use Rattle.c0_tree.specs.Tree.{CExpr, num, true_, false_, null, var, field, arrow, index, deref, address, unary, binary}
+use Rattle.c0_tree.specs.Tree.{CExpr, field, arrow, index, deref, address, unary, binary}
 use Rattle.c0_tree.specs.Size.{nodes}
 use Rattle.c0_expr_code.specs.Scope.{Scope}
 use Rattle.c0_expr_code.specs.Code.{is_near, Made, operand_code, operand_register, two_code, made}
@@ -17,7 +17,8 @@ module _ (sc : Scope) where
   FewTests None = Unit {0}
   FewTests (Some g) = (b : Bool) (far q : ℕ) → length (g b far q) ≤ 2
 
-  few_test : (z d : Bool) (c g : Bool → ℕ → ℕ → List Inst) → ((b : Bool) (far q : ℕ) → length (c b far q) ≤ 2) → ((b : Bool) (far q : ℕ) → length (g b far q) ≤ 2) → FewTests (cond z (Some c) (cond d (Some g) None))
+  few_test : (z d : Bool) (c g : Bool → ℕ → ℕ → List Inst) → ((b : Bool) (far q : ℕ) → length (c b far q) ≤ 2)
+      → ((b : Bool) (far q : ℕ) → length (g b far q) ≤ 2) → FewTests (cond z (Some c) (cond d (Some g) None))
   few_test true d c g h i = h
   few_test false true c g h i = i
   few_test false false c g h i = tt
@@ -62,13 +63,15 @@ module _ (sc : Scope) where
       let y = length-append (operand_code m r) (branch_code (not b) (operand_register m r) 0 far ∷ []) in
       omega (arith, x, y)
 
-  pub both_length : (decides b : Bool) (one two : Testing) (j k far r : ℕ) → ((b : Bool) (far r : ℕ) → length (one b far r) ≤ 15 * j) → ((b : Bool) (far r : ℕ) → length (two b far r) ≤ 15 * k) → length (both_code decides b one two far r) ≤ 15 * (j + k + 1)
+  pub both_length : (decides b : Bool) (one two : Testing) (j k far r : ℕ) → ((b : Bool) (far r : ℕ) → length (one b far r) ≤ 15 * j)
+      → ((b : Bool) (far r : ℕ) → length (two b far r) ≤ 15 * k) → length (both_code decides b one two far r) ≤ 15 * (j + k + 1)
   both_length true true one two j k far r h g = let a = h true ((far + length (two true far r)) % 2 ^ 16) r in let c = g true far r in let d = length-append (one true ((far + length (two true far r)) % 2 ^ 16) r) (two true far r) in omega (arith, a, c, d)
   both_length true false one two j k far r h g = let a = h true (length (two false far r) % 2 ^ 16) r in let c = g false far r in let d = length-append (one true (length (two false far r) % 2 ^ 16) r) (two false far r) in omega (arith, a, c, d)
   both_length false true one two j k far r h g = let a = h false (length (two true far r) % 2 ^ 16) r in let c = g true far r in let d = length-append (one false (length (two true far r) % 2 ^ 16) r) (two true far r) in omega (arith, a, c, d)
   both_length false false one two j k far r h g = let a = h false ((far + length (two false far r)) % 2 ^ 16) r in let c = g false far r in let d = length-append (one false ((far + length (two false far r)) % 2 ^ 16) r) (two false far r) in omega (arith, a, c, d)
 
-  compared_length : (o : BinaryOp) (ma mb : Made) (j k : ℕ) → Short ma j → Short mb k → (b : Bool) (far r : ℕ) → length (two_code (λ q t. compare_code o b far q t) ma mb r) ≤ 15 * (j + k + 1)
+  compared_length : (o : BinaryOp) (ma mb : Made) (j k : ℕ) → Short ma j → Short mb k → (b : Bool) (far r : ℕ)
+      → length (two_code (λ q t. compare_code o b far q t) ma mb r) ≤ 15 * (j + k + 1)
   compared_length o ma mb j k h g b far r =
       let x = operand_length ma j r h in
       let y = operand_length mb k (r + 1) g in
@@ -77,7 +80,8 @@ module _ (sc : Scope) where
       let v = length-append (operand_code mb (r + 1)) (compare_code o b far (operand_register ma r) (operand_register mb (r + 1))) in
       omega (arith, x, y, t, u, v)
 
-  with_length : (im : ImmediateTest) (o : BinaryOp) (ma mb : Made) (j k : ℕ) → FewTests im → Short ma j → Short mb k → (b : Bool) (far r : ℕ) → length (compare_test im o ma mb b far r) ≤ 15 * (j + k + 1)
+  with_length : (im : ImmediateTest) (o : BinaryOp) (ma mb : Made) (j k : ℕ) → FewTests im → Short ma j → Short mb k → (b : Bool) (far r : ℕ)
+      → length (compare_test im o ma mb b far r) ≤ 15 * (j + k + 1)
   with_length (Some g) o ma mb j k few h i b far r =
       let x = operand_length ma j r h in
       let y = few b far (operand_register ma r) in
@@ -85,7 +89,9 @@ module _ (sc : Scope) where
       omega (arith, x, y, z)
   with_length None o ma mb j k few h i b far r = compared_length o ma mb j k h i b far r
 
-  binary_length : (o : BinaryOp) (m ma mb : Made) (one two : Testing) (j k : ℕ) → Short m (j + k + 1) → Short ma j → Short mb k → ((b : Bool) (far r : ℕ) → length (one b far r) ≤ 15 * j) → ((b : Bool) (far r : ℕ) → length (two b far r) ≤ 15 * k) → (b : Bool) (far r : ℕ) → length (binary_test o m ma mb one two b far r) ≤ 15 * (j + k + 1)
+  binary_length : (o : BinaryOp) (m ma mb : Made) (one two : Testing) (j k : ℕ) → Short m (j + k + 1) → Short ma j → Short mb k
+      → ((b : Bool) (far r : ℕ) → length (one b far r) ≤ 15 * j) → ((b : Bool) (far r : ℕ) → length (two b far r) ≤ 15 * k) → (b : Bool) (far r : ℕ)
+      → length (binary_test o m ma mb one two b far r) ≤ 15 * (j + k + 1)
   binary_length And m ma mb one two j k s sa sb h g b far r = both_length false b one two j k far r h g
   binary_length Or m ma mb one two j k s sa sb h g b far r = both_length true b one two j k far r h g
   binary_length Lt m ma mb one two j k s sa sb h g b far r = with_length (immediate_test_of Lt mb.known) Lt ma mb j k (few_tests Lt mb.known) sa sb b far r
@@ -118,4 +124,3 @@ module _ (sc : Scope) where
   test_length (unary span Negate e) b far r = leaf_length (unary span Negate e) b far r
   test_length (binary span o a c) b far r = binary_length o (made sc (binary span o a c)) (made sc a) (made sc c) (test_code sc a) (test_code sc c) (nodes a) (nodes c) (short sc (binary span o a c)) (short sc a) (short sc c) (λ b far r. test_length a b far r) (λ b far r. test_length c b far r) b far r
   test_length e b far r = leaf_length e b far r
-

@@ -9,15 +9,15 @@ use Rattle.mips_table.specs.declared.inst.Inst.TheVariants.{Slt, Slti}
 use Rattle.mips_table.specs.Arith.{less, flag, extended, is_negative, is_positive}
 use Rattle.mips_table.specs.Device.{Idle}
 use Rattle.mips_table.specs.Code.{Contents, reg, with_reg, Behind, World, at_with, Reaches, CodeAt}
-use Rattle.c0_tree.specs.declared.tree.UnaryOp.TheVariants.{Negate, Not}
+use Rattle.c0_tree.specs.declared.tree.UnaryOp.TheVariants.{Not}
 use Rattle.c0_tree.specs.declared.tree.BinaryOp.{BinaryOp}
-use Rattle.c0_tree.specs.declared.tree.BinaryOp.TheVariants.{Add, Sub, Mul, Div, Rem, Lt, Le, Gt, Ge, Eq, Ne, And, Or}
-use Rattle.c0_tree.specs.Tree.{CExpr, true_, false_, null, var, field, arrow, index, deref, address, unary, binary}
+use Rattle.c0_tree.specs.declared.tree.BinaryOp.TheVariants.{Lt, Le, Gt, Ge, Eq, Ne, And, Or}
+use Rattle.c0_tree.specs.Tree.{CExpr, true_, false_, null, var, field, arrow, index, deref, binary}
 use Rattle.c0_tree.specs.Size.{need, binary_need, nodes}
 use Rattle.c0_meaning.specs.Ty.{Ty, is_scalar}
 use Rattle.c0_meaning.specs.Ty as ty
 use Rattle.c0_meaning.specs.Judgement.{IsOrder, lt, le, gt, ge, IsEquality, eq, ne, IsLogical, and, or}
-use Rattle.c0_meaning.specs.Numbered.{HasNumberedType, a_number, a_true, a_false, a_variable, a_field, a_target_field, an_element, a_target, an_address, a_negative, a_negation, arithmetic, order, logic, equality, null_left, null_right, IsNumberedGiven, a_value, a_null}
+use Rattle.c0_meaning.specs.Numbered.{HasNumberedType, a_number, a_true, a_false, a_variable, a_field, a_target_field, an_element, a_target, an_address, a_negative, a_negation, arithmetic, order, logic, equality, null_left, null_right, IsNumberedGiven, a_value}
 use Rattle.c0_meaning.specs.Value.{Value, int, bool, at, group}
 use Rattle.c0_meaning.specs.Value as value
 use Rattle.c0_meaning.specs.State.{State}
@@ -64,11 +64,14 @@ aims_at n e e' far to q h = subst (λ x. Aims n x far to) q h
 
 module _ (w : World) (sc : Scope) (p : Bases) (s : State) (f : Machine w) (area : Area w sc p) (scene : Scene sc p s) where
   -- a node pays for its test
-  pays : (m n : ℕ) (to : Bool → ℕ) (c : Contents) (k : Behind) (Q : Bool → Contents → Type 0) (e : Costed Value) → m ≤ 16 → Splits w sc m n to c k Q (truth e) → Splits w sc 0 n to c k Q (truth (paying 1 e))
+  pays : (m n : ℕ) (to : Bool → ℕ) (c : Contents) (k : Behind) (Q : Bool → Contents → Type 0) (e : Costed Value) → m ≤ 16
+      → Splits w sc m n to c k Q (truth e) → Splits w sc 0 n to c k Q (truth (paying 1 e))
   pays m n to c k Q e few h = subst (λ x. Splits w sc 0 n to c k Q x) (sym (truth_paying 1 e)) (split_paid w sc 1 0 n to c k Q (truth e) (split_more w sc m (0 + 16 * 1) n to c k Q (truth e) (omega arith) h))
 
   -- a test of a bool that is in a register
-  plain : (m : Made) (need : ℕ) (x : Costed Value) → OperandRuns w sc p s m need ty.bool x → (b : Bool) (far to r n : ℕ) (c : Contents) (k : Behind) → k.pending ≡ Idle → Ready sc p s c → CodeAt w n (plain_test m b far r) → 8 ≤ r → r < 20 → r + need ≤ 20 → Aims n (n + length (plain_test m b far r)) far to →
+  plain : (m : Made) (need : ℕ) (x : Costed Value) → OperandRuns w sc p s m need ty.bool x → (b : Bool) (far to r n : ℕ) (c : Contents) (k : Behind)
+      → k.pending ≡ Idle → Ready sc p s c → CodeAt w n (plain_test m b far r) → 8 ≤ r → r < 20 → r + need ≤ 20
+      → Aims n (n + length (plain_test m b far r)) far to →
       Splits w sc 1 n (ends b to (n + length (plain_test m b far r))) c k (λ y c'. Keeps r r c c') (truth x)
   plain m need x o b far to r n c k idle ready code lo hi room aims =
       let a = o r n c k idle ready (code_front w n (operand_code m r) (branch_code (not b) (operand_register m r) 0 far ∷ []) code) lo room in
@@ -77,7 +80,10 @@ module _ (w : World) (sc : Scope) (p : Bases) (s : State) (f : Machine w) (area 
       split_binds w sc 0 1 n (λ y. n + length (operand_code m r)) (ends b to (n + length (plain_test m b far r))) c k (Gives sc p (operand_register m r) r r ty.bool c) (λ y c'. Keeps r r c c') x _ (as_split w sc 0 n (n + length (operand_code m r)) c k (Gives sc p (operand_register m r) r r ty.bool c) x a.1)
       (λ v e g. keeps_low r r c e hi g.keeps) (by_value last.0 len)
     where
-      by_value : w.code (n + length (operand_code m r)) ≡ Some (branch_code (not b) (operand_register m r) 0 far) → n + length (operand_code m r) + 1 ≡ n + length (plain_test m b far r) → (v : Value) (e : Contents) → Gives sc p (operand_register m r) r r ty.bool c v e → Splits w sc 1 (n + length (operand_code m r)) (ends b to (n + length (plain_test m b far r))) e k (λ y c'. Keeps r r c c') (at_no_cost (bool_of v))
+      by_value : w.code (n + length (operand_code m r)) ≡ Some (branch_code (not b) (operand_register m r) 0 far)
+          → n + length (operand_code m r) + 1 ≡ n + length (plain_test m b far r) → (v : Value) (e : Contents)
+          → Gives sc p (operand_register m r) r r ty.bool c v e
+          → Splits w sc 1 (n + length (operand_code m r)) (ends b to (n + length (plain_test m b far r))) e k (λ y c'. Keeps r r c c') (at_no_cost (bool_of v))
       by_value there len (bool z) e g =
           let run = branches w f (not b) (operand_register m r) 0 far to n (n + length (operand_code m r)) e k idle there (omega arith) (aims_at n _ _ far to (sym len) aims) in
           let which : ends (not b) to (n + length (operand_code m r) + 1) (nat_eq (reg e.regs (operand_register m r)) 0) ≡ ends b to (n + length (plain_test m b far r)) z =
@@ -90,10 +96,15 @@ module _ (w : World) (sc : Scope) (p : Bases) (s : State) (f : Machine w) (area 
 
   -- what a comparison's own code does
   abbrev Compares : BinaryOp → Ty → Ty → Type 0
-  Compares o t u = (b : Bool) (far to r n' n : ℕ) (q g : ℕ) (x y : Value) (a : Contents) (k : Behind) → k.pending ≡ Idle → n' ≤ n → Fits sc.env.structs (layout sc p) t x → Fits sc.env.structs (layout sc p) u y → reg a.regs q ≡ word sc p x → reg a.regs g ≡ word sc p y → CodeAt w n (compare_code o b far q g) → Aims n' (n + length (compare_code o b far q g)) far to →
+  Compares o t u = (b : Bool) (far to r n' n : ℕ) (q g : ℕ) (x y : Value) (a : Contents) (k : Behind) → k.pending ≡ Idle → n' ≤ n
+      → Fits sc.env.structs (layout sc p) t x → Fits sc.env.structs (layout sc p) u y → reg a.regs q ≡ word sc p x → reg a.regs g ≡ word sc p y
+      → CodeAt w n (compare_code o b far q g) → Aims n' (n + length (compare_code o b far q g)) far to →
       Splits w sc 2 n (ends b to (n + length (compare_code o b far q g))) a k (λ z c'. Keeps r r a c') (truth (at_no_cost (on_binary o x y)))
 
-  compared : (o : BinaryOp) (ma mb : Made) (na nb : ℕ) (t u : Ty) (x y : Costed Value) → Compares o t u → OperandRuns w sc p s ma na t x → OperandRuns w sc p s mb nb u y → (b : Bool) (far to r n : ℕ) (c : Contents) (k : Behind) → k.pending ≡ Idle → Ready sc p s c → CodeAt w n (two_code (λ q t. compare_code o b far q t) ma mb r) → 8 ≤ r → r + na ≤ 20 → r + (nb + 1) ≤ 20 → 1 ≤ nb → Aims n (n + length (two_code (λ q t. compare_code o b far q t) ma mb r)) far to →
+  compared : (o : BinaryOp) (ma mb : Made) (na nb : ℕ) (t u : Ty) (x y : Costed Value) → Compares o t u → OperandRuns w sc p s ma na t x
+      → OperandRuns w sc p s mb nb u y → (b : Bool) (far to r n : ℕ) (c : Contents) (k : Behind) → k.pending ≡ Idle → Ready sc p s c
+      → CodeAt w n (two_code (λ q t. compare_code o b far q t) ma mb r) → 8 ≤ r → r + na ≤ 20 → r + (nb + 1) ≤ 20 → 1 ≤ nb
+      → Aims n (n + length (two_code (λ q t. compare_code o b far q t) ma mb r)) far to →
       Splits w sc 2 n (ends b to (n + length (two_code (λ q t. compare_code o b far q t) ma mb r))) c k (λ z c'. Keeps r r c c') (truth (x >>= λ v. y >>= λ w. at_no_cost (on_binary o v w)))
   compared o ma mb na nb t u x y own oa ob b far to r n c k idle ready code lo ha hb some aims =
       let last : List Inst = compare_code o b far (operand_register ma r) (operand_register mb (r + 1)) in
@@ -135,7 +146,9 @@ module _ (w : World) (sc : Scope) (p : Bases) (s : State) (f : Machine w) (area 
       twisted false to end false = refl
 
   -- order: the flag in register 1, and a branch where it is 1, or where it is 0
-  flagged : (b : Bool) (q g z far to r n' n : ℕ) (y : Bool) (a : Contents) (k : Behind) → k.pending ≡ Idle → n' ≤ n → w.code n ≡ Some (Slt 1 q g) → w.code (n + 1) ≡ Some (branch_code b 1 0 far) → flag (less (reg a.regs q) (reg a.regs g)) ≡ flag y → Aims n' (n + 2) far to → Reaches w 2 (at_with n a k) (at_with (ends b to (n + 2) (not y)) (with_reg a 1 (flag y)) k)
+  flagged : (b : Bool) (q g z far to r n' n : ℕ) (y : Bool) (a : Contents) (k : Behind) → k.pending ≡ Idle → n' ≤ n → w.code n ≡ Some (Slt 1 q g)
+      → w.code (n + 1) ≡ Some (branch_code b 1 0 far) → flag (less (reg a.regs q) (reg a.regs g)) ≡ flag y → Aims n' (n + 2) far to
+      → Reaches w 2 (at_with n a k) (at_with (ends b to (n + 2) (not y)) (with_reg a 1 (flag y)) k)
   flagged b q g z far to r n' n y a k idle before first second e aims =
       let one = said_step w f (Slt 1 q g) (Becomes (flag y)) n a k first refl idle e in
       let len : n + 1 + 1 ≡ n + 2 = omega arith in
@@ -175,7 +188,8 @@ module _ (w : World) (sc : Scope) (p : Bases) (s : State) (f : Machine w) (area 
 
   -- comparisons with a constant: the code goes by a bool of the value
   abbrev GoesBy : (Bool → ℕ → ℕ → List Inst) → (ℤ → Bool) → Type 0
-  GoesBy g by = (b : Bool) (far to r n' n q : ℕ) (x : ℤ) (a : Contents) (k : Behind) → k.pending ≡ Idle → n' ≤ n → FitsSigned w32 x → reg a.regs q ≡ word_of x → CodeAt w n (g b far q) → Aims n' (n + length (g b far q)) far to
+  GoesBy g by = (b : Bool) (far to r n' n q : ℕ) (x : ℤ) (a : Contents) (k : Behind) → k.pending ≡ Idle → n' ≤ n → FitsSigned w32 x
+      → reg a.regs q ≡ word_of x → CodeAt w n (g b far q) → Aims n' (n + length (g b far q)) far to
       → (c : Contents) × Keeps r r a c × Reaches w 2 (at_with n a k) (at_with (ends b to (n + length (g b far q)) (by x)) c k)
 
   by_negative : GoesBy (λ b far q. negative_branch b q far ∷ []) (λ x. int_lt x (pos 0))
@@ -190,7 +204,8 @@ module _ (w : World) (sc : Scope) (p : Bases) (s : State) (f : Machine w) (area 
       let run = positive_branches w f b q far to n' n a k idle there.0 before aims in
       (a, keeps_all r r a, later w 1 2 _ _ (omega arith) (subst (λ z. Reaches w 1 (at_with n a k) (at_with (ends b to (n + 1) z) a k)) which run))
 
-  by_below : (v : ℕ) (by : ℤ → Bool) → ((x : ℤ) → FitsSigned w32 x → less (word_of x) (extended (v % 2 ^ 16)) ≡ by x) → GoesBy (λ b far q. below_code v b far q) by
+  by_below : (v : ℕ) (by : ℤ → Bool) → ((x : ℤ) → FitsSigned w32 x → less (word_of x) (extended (v % 2 ^ 16)) ≡ by x)
+      → GoesBy (λ b far q. below_code v b far q) by
   by_below v by tells b far to r n' n q x a k idle before fx ex there aims =
       let e : flag (less (reg a.regs q) (extended (low v))) ≡ flag (by x) = ap flag (ap (λ y. less y (extended (low v))) ex ∙ tells x fx) in
       let one = said_step w f (Slti 1 q (low v)) (Becomes (flag (by x))) n a k there.0 refl idle e in
@@ -216,10 +231,12 @@ module _ (w : World) (sc : Scope) (p : Bases) (s : State) (f : Machine w) (area 
       (z.0, z.1, subst (λ y. Reaches w 2 (at_with n a k) (at_with (ends b to (n + length (g b far q)) y) z.0 k)) (e x) z.2)
 
   -- the four orders
-  zero_or_near : {A : Type 0} (k v : ℕ) (c g f : A) → cond (nat_eq k 0) (Some c) (cond (is_near v) (Some g) None) ≡ Some f → ((k ≡ 0) × (c ≡ f)) ⊎ ((extended (v % 2 ^ 16) ≡ v) × (g ≡ f))
+  zero_or_near : {A : Type 0} (k v : ℕ) (c g f : A) → cond (nat_eq k 0) (Some c) (cond (is_near v) (Some g) None) ≡ Some f
+      → ((k ≡ 0) × (c ≡ f)) ⊎ ((extended (v % 2 ^ 16) ≡ v) × (g ≡ f))
   zero_or_near k v c g f e = by_zero (nat_eq k 0) refl e
     where
-      by_zero : (b : Bool) → nat_eq k 0 ≡ b → cond b (Some c) (cond (is_near v) (Some g) None) ≡ Some f → ((k ≡ 0) × (c ≡ f)) ⊎ ((extended (v % 2 ^ 16) ≡ v) × (g ≡ f))
+      by_zero : (b : Bool) → nat_eq k 0 ≡ b → cond b (Some c) (cond (is_near v) (Some g) None) ≡ Some f
+          → ((k ≡ 0) × (c ≡ f)) ⊎ ((extended (v % 2 ^ 16) ≡ v) × (g ≡ f))
       by_zero true z e = inl (eqb-true k 0 z, cc)
       by_zero false z e = inr (near_some v g f e)
 
@@ -255,7 +272,10 @@ module _ (w : World) (sc : Scope) (p : Bases) (s : State) (f : Machine w) (area 
   ]
 
   -- a value in a register, and then such code
-  compared_with : (g : Bool → ℕ → ℕ → List Inst) (by : ℤ → Bool) (on : Value → Result Value Failure) (ma : Made) (na : ℕ) (x : Costed Value) → ((z : ℤ) → on (int z) ≡ Ok (bool (by z))) → GoesBy g by → OperandRuns w sc p s ma na ty.int x → (b : Bool) (far to r n : ℕ) (c : Contents) (k : Behind) → k.pending ≡ Idle → Ready sc p s c → CodeAt w n (one_code (λ q. g b far q) ma r) → 8 ≤ r → r < 20 → r + na ≤ 20 → Aims n (n + length (one_code (λ q. g b far q) ma r)) far to →
+  compared_with : (g : Bool → ℕ → ℕ → List Inst) (by : ℤ → Bool) (on : Value → Result Value Failure) (ma : Made) (na : ℕ) (x : Costed Value)
+      → ((z : ℤ) → on (int z) ≡ Ok (bool (by z))) → GoesBy g by → OperandRuns w sc p s ma na ty.int x
+      → (b : Bool) (far to r n : ℕ) (c : Contents) (k : Behind) → k.pending ≡ Idle → Ready sc p s c → CodeAt w n (one_code (λ q. g b far q) ma r)
+      → 8 ≤ r → r < 20 → r + na ≤ 20 → Aims n (n + length (one_code (λ q. g b far q) ma r)) far to →
       Splits w sc 2 n (ends b to (n + length (one_code (λ q. g b far q) ma r))) c k (λ y c'. Keeps r r c c') (truth (x >>= λ v. at_no_cost (on v)))
   compared_with g by on ma na x says own o b far to r n c k idle ready code lo hi room aims =
       let a = o r n c k idle ready (code_front w n (operand_code ma r) (g b far (operand_register ma r)) code) lo room in
@@ -265,7 +285,10 @@ module _ (w : World) (sc : Scope) (p : Bases) (s : State) (f : Machine w) (area 
       (split_binds w sc 0 2 n (λ y. n + length (operand_code ma r)) (ends b to (n + length (one_code (λ q. g b far q) ma r))) c k (Gives sc p (operand_register ma r) r r ty.int c) (λ y c'. Keeps r r c c') x _ (as_split w sc 0 n (n + length (operand_code ma r)) c k (Gives sc p (operand_register ma r) r r ty.int c) x a.1)
       (λ v e g. keeps_low r r c e hi g.keeps) (by_value last len))
     where
-      by_value : CodeAt w (n + length (operand_code ma r)) (g b far (operand_register ma r)) → n + length (operand_code ma r) + length (g b far (operand_register ma r)) ≡ n + length (one_code (λ q. g b far q) ma r) → (v : Value) (e : Contents) → Gives sc p (operand_register ma r) r r ty.int c v e → Splits w sc 2 (n + length (operand_code ma r)) (ends b to (n + length (one_code (λ q. g b far q) ma r))) e k (λ y c'. Keeps r r c c') (truth (at_no_cost (on v)))
+      by_value : CodeAt w (n + length (operand_code ma r)) (g b far (operand_register ma r))
+          → n + length (operand_code ma r) + length (g b far (operand_register ma r)) ≡ n + length (one_code (λ q. g b far q) ma r)
+          → (v : Value) (e : Contents) → Gives sc p (operand_register ma r) r r ty.int c v e
+          → Splits w sc 2 (n + length (operand_code ma r)) (ends b to (n + length (one_code (λ q. g b far q) ma r))) e k (λ y c'. Keeps r r c c') (truth (at_no_cost (on v)))
       by_value there len (int z) e h =
           let run = own b far to r n (n + length (operand_code ma r)) (operand_register ma r) z e k idle (omega arith) h.fits h.is there (aims_at n _ _ far to (sym len) aims) in
           subst (λ y. Splits w sc 2 (n + length (operand_code ma r)) (ends b to (n + length (one_code (λ q. g b far q) ma r))) e k (λ y c'. Keeps r r c c') (truth (at_no_cost y))) (sym (says z))
@@ -276,27 +299,33 @@ module _ (w : World) (sc : Scope) (p : Bases) (s : State) (f : Machine w) (area 
       by_value there len (group vs) e h = absurd h.fits
 
   -- a side whose value is known takes no steps
-  dearer_split : (own u v n : ℕ) (to : Bool → ℕ) (c : Contents) (k : Behind) (Q : Bool → Contents → Type 0) (y : Result Bool Failure) → u ≤ v → Splits w sc own n to c k Q (costs u y) → Splits w sc own n to c k Q (costs v y)
+  dearer_split : (own u v n : ℕ) (to : Bool → ℕ) (c : Contents) (k : Behind) (Q : Bool → Contents → Type 0) (y : Result Bool Failure) → u ≤ v
+      → Splits w sc own n to c k Q (costs u y) → Splits w sc own n to c k Q (costs v y)
   dearer_split own u v n to c k Q (Ok x) more h = (h.0, h.1, later w (own + 16 * u) (own + 16 * v) _ _ (omega arith) h.2)
   dearer_split own u v n to c k Q (Err (faulted g)) more h = (h.0, h.1, later w (own + 16 * u) (own + 16 * v) _ _ (omega arith) h.2)
   dearer_split own u v n to c k Q (Err stuck) more h = absurd h
 
-  extra_truth : (own u m n : ℕ) (to : Bool → ℕ) (c : Contents) (k : Behind) (Q : Bool → Contents → Type 0) (y : Result Value Failure) → Splits w sc own n to c k Q (truth (paying m (costs 0 y))) → Splits w sc own n to c k Q (truth (paying m (paying u (costs 0 y))))
+  extra_truth : (own u m n : ℕ) (to : Bool → ℕ) (c : Contents) (k : Behind) (Q : Bool → Contents → Type 0) (y : Result Value Failure)
+      → Splits w sc own n to c k Q (truth (paying m (costs 0 y))) → Splits w sc own n to c k Q (truth (paying m (paying u (costs 0 y))))
   extra_truth own u m n to c k Q (Ok v) h = dearer_split own (m + 0 + 0) (m + (u + 0) + 0) n to c k Q (bool_of v) (omega arith) h
   extra_truth own u m n to c k Q (Err (faulted g)) h = (h.0, h.1, later w (own + 16 * (m + 0)) (own + 16 * (m + (u + 0))) _ _ (omega arith) h.2)
   extra_truth own u m n to c k Q (Err stuck) h = absurd h
 
   known_right : (own u n : ℕ) (to : Bool → ℕ) (c : Contents) (k : Behind) (Q : Bool → Contents → Type 0) (x y : Costed Value) (v : Value) (on : Value → Value → Result Value Failure) → y ≡ costs u (Ok v)
-      → Splits w sc own n to c k Q (truth (x >>= λ a. at_no_cost (on a v))) → Splits w sc own n to c k Q (truth (x >>= λ a. y >>= λ b. at_no_cost (on a b)))
+      → Splits w sc own n to c k Q (truth (x >>= λ a. at_no_cost (on a v)))
+      → Splits w sc own n to c k Q (truth (x >>= λ a. y >>= λ b. at_no_cost (on a b)))
   known_right own u n to c k Q (costs m (Ok a)) y v on e h = subst (λ y. Splits w sc own n to c k Q (truth (paying m (y >>= λ b. at_no_cost (on a b))))) (sym e) (extra_truth own u m n to c k Q (on a v) h)
   known_right own u n to c k Q (costs m (Err a)) y v on e h = h
 
   -- two tests
   abbrev TestsAs : Testing → ℕ → Costed Bool → Type 0
-  TestsAs code need e = (b : Bool) (far to r n : ℕ) (c : Contents) (k : Behind) → k.pending ≡ Idle → Ready sc p s c → CodeAt w n (code b far r) → 8 ≤ r → r + need ≤ 20 → Aims n (n + length (code b far r)) far to → Splits w sc 1 n (ends b to (n + length (code b far r))) c k (λ y c'. Keeps r r c c') e
+  TestsAs code need e = (b : Bool) (far to r n : ℕ) (c : Contents) (k : Behind) → k.pending ≡ Idle → Ready sc p s c → CodeAt w n (code b far r)
+      → 8 ≤ r → r + need ≤ 20 → Aims n (n + length (code b far r)) far to
+      → Splits w sc 1 n (ends b to (n + length (code b far r))) c k (λ y c'. Keeps r r c c') e
 
   -- the first decides for the whole test's place: the first goes there, or on to the second
-  straight_two : (decides : Bool) (one two : Testing) (na nb : ℕ) (x y : Costed Bool) (rest : Bool → Costed Bool) → TestsAs one na x → TestsAs two nb y → rest decides ≡ at_no_cost (Ok decides) → rest (not decides) ≡ y →
+  straight_two : (decides : Bool) (one two : Testing) (na nb : ℕ) (x y : Costed Bool) (rest : Bool → Costed Bool) → TestsAs one na x
+      → TestsAs two nb y → rest decides ≡ at_no_cost (Ok decides) → rest (not decides) ≡ y →
       (far to r n : ℕ) (c : Contents) (k : Behind) → k.pending ≡ Idle → Ready sc p s c → 8 ≤ r → r < 20 → r + na ≤ 20 → r + nb ≤ 20 →
       CodeAt w n (one decides ((far + length (two decides far r)) % 2 ^ 16) r ++ two decides far r) → Aims n (n + length (one decides ((far + length (two decides far r)) % 2 ^ 16) r ++ two decides far r)) far to →
       Splits w sc 2 n (ends decides to (n + length (one decides ((far + length (two decides far r)) % 2 ^ 16) r ++ two decides far r))) c k (λ z c'. Keeps r r c c') (x >>= rest)
@@ -343,7 +372,8 @@ module _ (w : World) (sc : Scope) (p : Bases) (s : State) (f : Machine w) (area 
       at_end true to e = refl
       at_end false to e = refl
 
-      by_answer : (z : Bool) (b : Contents) → Keeps r r c b → (z ≡ decides) ⊎ (z ≡ not decides) → Splits w sc 1 (ends decides to n1 z) (ends decides to end) b k (λ z c'. Keeps r r c c') (rest z)
+      by_answer : (z : Bool) (b : Contents) → Keeps r r c b → (z ≡ decides) ⊎ (z ≡ not decides)
+          → Splits w sc 1 (ends decides to n1 z) (ends decides to end) b k (λ z c'. Keeps r r c c') (rest z)
       by_answer z b g (inl e) =
           subst (λ z. Splits w sc 1 (ends decides to n1 z) (ends decides to end) b k (λ z c'. Keeps r r c c') (rest z)) (sym e)
           (subst (λ o. Splits w sc 1 (ends decides to n1 decides) (ends decides to end) b k (λ z c'. Keeps r r c c') o) (sym stop)
@@ -357,8 +387,10 @@ module _ (w : World) (sc : Scope) (p : Bases) (s : State) (f : Machine w) (area 
           (t2 decides far to r n1 b k idle (ready_on sc p s c b (keeps_low r r c b hi g) ready) (code_back w n is js code) lo hb (aims_in n n1 (n1 + length js) far to (omega arith) (aims_at n end (n1 + length js) far to (sym len) aims)))))))
 
   -- the first decides against it: it goes over the second, or on to it
-  over_two : (decides : Bool) (one two : Testing) (na nb : ℕ) (x y : Costed Bool) (rest : Bool → Costed Bool) → TestsAs one na x → TestsAs two nb y → rest decides ≡ at_no_cost (Ok decides) → rest (not decides) ≡ y →
-      (far to r n : ℕ) (c : Contents) (k : Behind) → k.pending ≡ Idle → Ready sc p s c → 8 ≤ r → r < 20 → r + na ≤ 20 → r + nb ≤ 20 → length (one decides (length (two (not decides) far r) % 2 ^ 16) r ++ two (not decides) far r) ≤ 32768 →
+  over_two : (decides : Bool) (one two : Testing) (na nb : ℕ) (x y : Costed Bool) (rest : Bool → Costed Bool) → TestsAs one na x → TestsAs two nb y
+      → rest decides ≡ at_no_cost (Ok decides) → rest (not decides) ≡ y →
+      (far to r n : ℕ) (c : Contents) (k : Behind) → k.pending ≡ Idle → Ready sc p s c → 8 ≤ r → r < 20 → r + na ≤ 20 → r + nb ≤ 20
+      → length (one decides (length (two (not decides) far r) % 2 ^ 16) r ++ two (not decides) far r) ≤ 32768 →
       CodeAt w n (one decides (length (two (not decides) far r) % 2 ^ 16) r ++ two (not decides) far r) → Aims n (n + length (one decides (length (two (not decides) far r) % 2 ^ 16) r ++ two (not decides) far r)) far to →
       Splits w sc 2 n (ends (not decides) to (n + length (one decides (length (two (not decides) far r) % 2 ^ 16) r ++ two (not decides) far r))) c k (λ z c'. Keeps r r c c') (x >>= rest)
   over_two decides one two na nb x y rest t1 t2 stop go far to r n c k idle ready lo hi ha hb small code aims =
@@ -402,7 +434,8 @@ module _ (w : World) (sc : Scope) (p : Bases) (s : State) (f : Machine w) (area 
       at_end true e m = refl
       at_end false e m = refl
 
-      by_answer : (z : Bool) (b : Contents) → Keeps r r c b → (z ≡ decides) ⊎ (z ≡ not decides) → Splits w sc 1 (ends decides end n1 z) (ends (not decides) to end) b k (λ z c'. Keeps r r c c') (rest z)
+      by_answer : (z : Bool) (b : Contents) → Keeps r r c b → (z ≡ decides) ⊎ (z ≡ not decides)
+          → Splits w sc 1 (ends decides end n1 z) (ends (not decides) to end) b k (λ z c'. Keeps r r c c') (rest z)
       by_answer z b g (inl e) =
           subst (λ z. Splits w sc 1 (ends decides end n1 z) (ends (not decides) to end) b k (λ z c'. Keeps r r c c') (rest z)) (sym e)
           (subst (λ o. Splits w sc 1 (ends decides end n1 decides) (ends (not decides) to end) b k (λ z c'. Keeps r r c c') o) (sym stop)
@@ -416,7 +449,9 @@ module _ (w : World) (sc : Scope) (p : Bases) (s : State) (f : Machine w) (area 
           (t2 (not decides) far to r n1 b k idle (ready_on sc p s c b (keeps_low r r c b hi g) ready) (code_back w n is js code) lo hb (aims_in n n1 (n1 + length js) far to (omega arith) (aims_at n end (n1 + length js) far to (sym len) aims)))))))
 
   -- `!`
-  negated : (m n : ℕ) (to : Bool → ℕ) (c : Contents) (k : Behind) (Q : Contents → Type 0) (x : Costed Value) → Splits w sc m n to c k (λ y b. Q b) (truth x) → Splits w sc m n (λ z. to (not z)) c k (λ y b. Q b) (truth (x >>= λ v. at_no_cost (on_unary Not v)))
+  negated : (m n : ℕ) (to : Bool → ℕ) (c : Contents) (k : Behind) (Q : Contents → Type 0) (x : Costed Value)
+      → Splits w sc m n to c k (λ y b. Q b) (truth x)
+      → Splits w sc m n (λ z. to (not z)) c k (λ y b. Q b) (truth (x >>= λ v. at_no_cost (on_unary Not v)))
   negated m n to c k Q (costs u (Ok (bool true))) h = (h.0, h.1, later w (m + 16 * (u + 0)) (m + 16 * (u + 0 + 0)) _ _ (omega arith) h.2)
   negated m n to c k Q (costs u (Ok (bool false))) h = (h.0, h.1, later w (m + 16 * (u + 0)) (m + 16 * (u + 0 + 0)) _ _ (omega arith) h.2)
   negated m n to c k Q (costs u (Ok (int z))) h = absurd h
@@ -426,16 +461,20 @@ module _ (w : World) (sc : Scope) (p : Bases) (s : State) (f : Machine w) (area 
   negated m n to c k Q (costs u (Err (faulted g))) h = h
   negated m n to c k Q (costs u (Err stuck)) h = absurd h
 
-  leaf : (e : CExpr) (t : Ty) → HasNumberedType sc.env e t → t ≡ ty.bool → nodes e ≤ 2000 → TestsAs (plain_test (made sc e)) (need e) (truth (value_of e s))
+  leaf : (e : CExpr) (t : Ty) → HasNumberedType sc.env e t → t ≡ ty.bool → nodes e ≤ 2000
+      → TestsAs (plain_test (made sc e)) (need e) (truth (value_of e s))
   leaf e t h q few b far to r n c k idle ready code lo hi aims =
       let some = need_some e in
       plain (made sc e) (need e) (value_of e s) ((subst (Right w sc p s e) q (right w sc p s f area scene e t h few)).operand refl) b far to r n c k idle ready code lo (omega arith) hi aims
 
   -- a node's own steps are paid by its unit
-  node_test : (code : Testing) (need : ℕ) (x : Costed Value) → ((b : Bool) (far to r n : ℕ) (c : Contents) (k : Behind) → k.pending ≡ Idle → Ready sc p s c → CodeAt w n (code b far r) → 8 ≤ r → r + need ≤ 20 → Aims n (n + length (code b far r)) far to → Splits w sc 2 n (ends b to (n + length (code b far r))) c k (λ y c'. Keeps r r c c') (truth x)) → TestsAs code need (truth (paying 1 x))
+  node_test : (code : Testing) (need : ℕ) (x : Costed Value)
+      → ((b : Bool) (far to r n : ℕ) (c : Contents) (k : Behind) → k.pending ≡ Idle → Ready sc p s c → CodeAt w n (code b far r) → 8 ≤ r → r + need ≤ 20 → Aims n (n + length (code b far r)) far to → Splits w sc 2 n (ends b to (n + length (code b far r))) c k (λ y c'. Keeps r r c c') (truth x)) → TestsAs code need (truth (paying 1 x))
   node_test code need x h b far to r n c k idle ready there lo hi aims = split_more w sc 0 1 n (ends b to (n + length (code b far r))) c k (λ y c'. Keeps r r c c') (truth (paying 1 x)) (omega arith) (pays 2 n (ends b to (n + length (code b far r))) c k (λ y c'. Keeps r r c c') x (omega arith) (h b far to r n c k idle ready there lo hi aims))
 
-  equal_tests : (o : BinaryOp) → IsEquality o → (t : Ty) → is_scalar t ≡ true → (m ma mb : Made) (ta tb : Testing) (na nb : ℕ) (x y : Costed Value) → 1 ≤ nb → OperandRuns w sc p s ma na t x → OperandRuns w sc p s mb nb t y → TestsAs (binary_test o m ma mb ta tb) (binary_need o na nb) (truth (paying 1 (both o x y)))
+  equal_tests : (o : BinaryOp) → IsEquality o → (t : Ty) → is_scalar t ≡ true → (m ma mb : Made) (ta tb : Testing) (na nb : ℕ) (x y : Costed Value)
+      → 1 ≤ nb → OperandRuns w sc p s ma na t x → OperandRuns w sc p s mb nb t y
+      → TestsAs (binary_test o m ma mb ta tb) (binary_need o na nb) (truth (paying 1 (both o x y)))
   equal_tests _ eq t z m ma mb ta tb na nb x y some oa ob = node_test (binary_test Eq m ma mb ta tb) (max na (nb + 1)) _ (λ b far to r n c k idle ready code lo hi aims. compared Eq ma mb na nb t t x y (equal Eq eq t z) oa ob b far to r n c k idle ready code lo (omega arith) (omega arith) some aims)
   equal_tests _ ne t z m ma mb ta tb na nb x y some oa ob = node_test (binary_test Ne m ma mb ta tb) (max na (nb + 1)) _ (λ b far to r n c k idle ready code lo hi aims. compared Ne ma mb na nb t t x y (equal Ne ne t z) oa ob b far to r n c k idle ready code lo (omega arith) (omega arith) some aims)
 
@@ -448,11 +487,14 @@ module _ (w : World) (sc : Scope) (p : Bases) (s : State) (f : Machine w) (area 
     says : (z : ℤ) → on (int z) (int value) ≡ Ok (bool (by z))
     runs : GoesBy g by
 
-  knows_test : (o : BinaryOp) (m : Option ℕ) (y : Costed Value) (by : ℤ → ℤ → Bool) → ((k : ℕ) → m ≡ Some k → KnownAs sc p ty.int k y) → ((x z : ℤ) → on_binary o (int x) (int z) ≡ Ok (bool (by z x)))
-      → ((z : ℤ) → FitsSigned w32 z → (g : Bool → ℕ → ℕ → List Inst) → immediate_test o (word_of z) ≡ Some g → GoesBy g (by z)) → (g : Bool → ℕ → ℕ → List Inst) → immediate_test_of o m ≡ Some g → KnowsTest g y (on_binary o)
+  knows_test : (o : BinaryOp) (m : Option ℕ) (y : Costed Value) (by : ℤ → ℤ → Bool) → ((k : ℕ) → m ≡ Some k → KnownAs sc p ty.int k y)
+      → ((x z : ℤ) → on_binary o (int x) (int z) ≡ Ok (bool (by z x)))
+      → ((z : ℤ) → FitsSigned w32 z → (g : Bool → ℕ → ℕ → List Inst) → immediate_test o (word_of z) ≡ Some g → GoesBy g (by z))
+      → (g : Bool → ℕ → ℕ → List Inst) → immediate_test_of o m ≡ Some g → KnowsTest g y (on_binary o)
   knows_test o m y by known says law g e = by_known m known e
     where
-      by_value : (v : Value) (u : ℕ) → y ≡ costs u (Ok v) → Fits sc.env.structs (layout sc p) ty.int v → (k : ℕ) → word sc p v ≡ k → immediate_test o k ≡ Some g → KnowsTest g y (on_binary o)
+      by_value : (v : Value) (u : ℕ) → y ≡ costs u (Ok v) → Fits sc.env.structs (layout sc p) ty.int v → (k : ℕ) → word sc p v ≡ k
+          → immediate_test o k ≡ Some g → KnowsTest g y (on_binary o)
       by_value (int v) u is fits k word_is e = record { units = u; value = v; is = is; by = by v; says = λ z. says z v; runs = law v fits g (ap (immediate_test o) word_is ∙ e) }
       by_value (bool v) u is fits k word_is e = absurd fits
       by_value value.null u is fits k word_is e = absurd fits
@@ -463,7 +505,9 @@ module _ (w : World) (sc : Scope) (p : Bases) (s : State) (f : Machine w) (area 
       by_known None known e = absurd (cc)
       by_known (Some k) known e = let a = known k refl in by_value a.value a.units a.is a.fits k a.word_is e
 
-  compare_tests : (im : ImmediateTest) (o : BinaryOp) (ma mb : Made) (na nb : ℕ) (x y : Costed Value) → 1 ≤ na → 1 ≤ nb → Compares o ty.int ty.int → ((g : Bool → ℕ → ℕ → List Inst) → im ≡ Some g → KnowsTest g y (on_binary o)) → OperandRuns w sc p s ma na ty.int x → OperandRuns w sc p s mb nb ty.int y
+  compare_tests : (im : ImmediateTest) (o : BinaryOp) (ma mb : Made) (na nb : ℕ) (x y : Costed Value) → 1 ≤ na → 1 ≤ nb → Compares o ty.int ty.int
+      → ((g : Bool → ℕ → ℕ → List Inst) → im ≡ Some g → KnowsTest g y (on_binary o)) → OperandRuns w sc p s ma na ty.int x
+      → OperandRuns w sc p s mb nb ty.int y
       → TestsAs (compare_test im o ma mb) (max na (nb + 1)) (truth (paying 1 (x >>= λ v. y >>= λ u. at_no_cost (on_binary o v u))))
   compare_tests (Some g) o ma mb na nb x y more_than some own knows oa ob = node_test (compare_test (Some g) o ma mb) (max na (nb + 1)) _ (λ b far to r n c k idle ready code lo hi aims.
       let v = knows g refl in
@@ -471,16 +515,23 @@ module _ (w : World) (sc : Scope) (p : Bases) (s : State) (f : Machine w) (area 
       (compared_with g v.by (λ e. on_binary o e (int v.value)) ma na x v.says v.runs oa b far to r n c k idle ready code lo (omega arith) (omega arith) aims))
   compare_tests None o ma mb na nb x y more_than some own knows oa ob = node_test (compare_test None o ma mb) (max na (nb + 1)) _ (λ b far to r n c k idle ready code lo hi aims. compared o ma mb na nb ty.int ty.int x y own oa ob b far to r n c k idle ready code lo (omega arith) (omega arith) some aims)
 
-  order_tests : (o : BinaryOp) → IsOrder o → (m ma mb : Made) (ta tb : Testing) (na nb : ℕ) (x y : Costed Value) → 1 ≤ na → 1 ≤ nb → ((k : ℕ) → mb.known ≡ Some k → KnownAs sc p ty.int k y) → OperandRuns w sc p s ma na ty.int x → OperandRuns w sc p s mb nb ty.int y → TestsAs (binary_test o m ma mb ta tb) (binary_need o na nb) (truth (paying 1 (both o x y)))
+  order_tests : (o : BinaryOp) → IsOrder o → (m ma mb : Made) (ta tb : Testing) (na nb : ℕ) (x y : Costed Value) → 1 ≤ na → 1 ≤ nb
+      → ((k : ℕ) → mb.known ≡ Some k → KnownAs sc p ty.int k y) → OperandRuns w sc p s ma na ty.int x → OperandRuns w sc p s mb nb ty.int y
+      → TestsAs (binary_test o m ma mb ta tb) (binary_need o na nb) (truth (paying 1 (both o x y)))
   order_tests _ lt m ma mb ta tb na nb x y more_than some known oa ob = compare_tests (immediate_test_of Lt mb.known) Lt ma mb na nb x y more_than some (ordered Lt lt) (knows_test Lt mb.known y (λ z x. int_lt x z) known (λ x z. refl) by_lt) oa ob
   order_tests _ le m ma mb ta tb na nb x y more_than some known oa ob = compare_tests (immediate_test_of Le mb.known) Le ma mb na nb x y more_than some (ordered Le le) (knows_test Le mb.known y (λ z x. int_le x z) known (λ x z. refl) by_le) oa ob
   order_tests _ gt m ma mb ta tb na nb x y more_than some known oa ob = compare_tests (immediate_test_of Gt mb.known) Gt ma mb na nb x y more_than some (ordered Gt gt) (knows_test Gt mb.known y (λ z x. int_lt z x) known (λ x z. refl) by_gt) oa ob
   order_tests _ ge m ma mb ta tb na nb x y more_than some known oa ob = compare_tests (immediate_test_of Ge mb.known) Ge ma mb na nb x y more_than some (ordered Ge ge) (knows_test Ge mb.known y (λ z x. int_le z x) known (λ x z. refl) by_ge) oa ob
 
-  logic_tests : (o : BinaryOp) → IsLogical o → (m ma mb : Made) (ta tb : Testing) (na nb j k : ℕ) (x y : Costed Value) → 1 ≤ na → ((b : Bool) (far r : ℕ) → length (ta b far r) ≤ 15 * j) → ((b : Bool) (far r : ℕ) → length (tb b far r) ≤ 15 * k) → j + k + 1 ≤ 2000 → TestsAs ta na (truth x) → TestsAs tb nb (truth y) → TestsAs (binary_test o m ma mb ta tb) (binary_need o na nb) (truth (paying 1 (both o x y)))
+  logic_tests : (o : BinaryOp) → IsLogical o → (m ma mb : Made) (ta tb : Testing) (na nb j k : ℕ) (x y : Costed Value) → 1 ≤ na
+      → ((b : Bool) (far r : ℕ) → length (ta b far r) ≤ 15 * j) → ((b : Bool) (far r : ℕ) → length (tb b far r) ≤ 15 * k) → j + k + 1 ≤ 2000
+      → TestsAs ta na (truth x) → TestsAs tb nb (truth y)
+      → TestsAs (binary_test o m ma mb ta tb) (binary_need o na nb) (truth (paying 1 (both o x y)))
   logic_tests _ and m ma mb ta tb na nb j k x y some la lb few t1 t2 = node_test (binary_test And m ma mb ta tb) (max na nb) _ by_side
     where
-      by_side : (b : Bool) (far to r n : ℕ) (c : Contents) (d : Behind) → d.pending ≡ Idle → Ready sc p s c → CodeAt w n (both_code false b ta tb far r) → 8 ≤ r → r + max na nb ≤ 20 → Aims n (n + length (both_code false b ta tb far r)) far to → Splits w sc 2 n (ends b to (n + length (both_code false b ta tb far r))) c d (λ y c'. Keeps r r c c') (truth (truth x >>= λ b. if b then y else at_no_cost (Ok (bool false))))
+      by_side : (b : Bool) (far to r n : ℕ) (c : Contents) (d : Behind) → d.pending ≡ Idle → Ready sc p s c
+          → CodeAt w n (both_code false b ta tb far r) → 8 ≤ r → r + max na nb ≤ 20 → Aims n (n + length (both_code false b ta tb far r)) far to
+          → Splits w sc 2 n (ends b to (n + length (both_code false b ta tb far r))) c d (λ y c'. Keeps r r c c') (truth (truth x >>= λ b. if b then y else at_no_cost (Ok (bool false))))
       by_side true far to r n c d idle ready code lo hi aims =
           let size = both_length sc false true ta tb j k far r la lb in
           subst (λ e. Splits w sc 2 n (ends true to (n + length (both_code false true ta tb far r))) c d (λ y c'. Keeps r r c c') e) (sym (truth_binds (truth x) (λ b. if b then y else at_no_cost (Ok (bool false)))))
@@ -490,7 +541,9 @@ module _ (w : World) (sc : Scope) (p : Bases) (s : State) (f : Machine w) (area 
           (straight_two false ta tb na nb (truth x) (truth y) (λ b. truth (if b then y else at_no_cost (Ok (bool false)))) t1 t2 refl refl far to r n c d idle ready lo (omega arith) (omega arith) (omega arith) code aims)
   logic_tests _ or m ma mb ta tb na nb j k x y some la lb few t1 t2 = node_test (binary_test Or m ma mb ta tb) (max na nb) _ by_side
     where
-      by_side : (b : Bool) (far to r n : ℕ) (c : Contents) (d : Behind) → d.pending ≡ Idle → Ready sc p s c → CodeAt w n (both_code true b ta tb far r) → 8 ≤ r → r + max na nb ≤ 20 → Aims n (n + length (both_code true b ta tb far r)) far to → Splits w sc 2 n (ends b to (n + length (both_code true b ta tb far r))) c d (λ y c'. Keeps r r c c') (truth (truth x >>= λ b. if b then at_no_cost (Ok (bool true)) else y))
+      by_side : (b : Bool) (far to r n : ℕ) (c : Contents) (d : Behind) → d.pending ≡ Idle → Ready sc p s c
+          → CodeAt w n (both_code true b ta tb far r) → 8 ≤ r → r + max na nb ≤ 20 → Aims n (n + length (both_code true b ta tb far r)) far to
+          → Splits w sc 2 n (ends b to (n + length (both_code true b ta tb far r))) c d (λ y c'. Keeps r r c c') (truth (truth x >>= λ b. if b then at_no_cost (Ok (bool true)) else y))
       by_side false far to r n c d idle ready code lo hi aims =
           let size = both_length sc true false ta tb j k far r la lb in
           subst (λ e. Splits w sc 2 n (ends false to (n + length (both_code true false ta tb far r))) c d (λ y c'. Keeps r r c c') e) (sym (truth_binds (truth x) (λ b. if b then at_no_cost (Ok (bool true)) else y)))
@@ -499,7 +552,8 @@ module _ (w : World) (sc : Scope) (p : Bases) (s : State) (f : Machine w) (area 
           subst (λ e. Splits w sc 2 n (ends true to (n + length (both_code true true ta tb far r))) c d (λ y c'. Keeps r r c c') e) (sym (truth_binds (truth x) (λ b. if b then at_no_cost (Ok (bool true)) else y)))
           (straight_two true ta tb na nb (truth x) (truth y) (λ b. truth (if b then at_no_cost (Ok (bool true)) else y)) t1 t2 refl refl far to r n c d idle ready lo (omega arith) (omega arith) (omega arith) code aims)
 
-  operand_of : (e : CExpr) (t : Ty) → is_scalar t ≡ true → HasNumberedType sc.env e t → nodes e ≤ 2000 → OperandRuns w sc p s (made sc e) (need e) t (value_of e s)
+  operand_of : (e : CExpr) (t : Ty) → is_scalar t ≡ true → HasNumberedType sc.env e t → nodes e ≤ 2000
+      → OperandRuns w sc p s (made sc e) (need e) t (value_of e s)
   operand_of e t z h few = (right w sc p s f area scene e t h few).operand z
 
   -- THE THEOREM of tests

@@ -4,7 +4,7 @@ use Rattle.std.specs.Int.{w32}
 use Rattle.std.proofs.Common.{◌≡◌, ◌≢◌, ℕ, zero, suc, max, ◌+◌, ◌*◌, ◌%◌, ◌^◌, ◌<◌, ◌≤◌, Bool, true, false, cond, nat_eq, nat_lt, Option, Some, None, List, [], ◌∷◌, ◌++◌, length, refl, sym, ap, ◌∙◌, subst, arith, length-append}
 use Rattle.std.proofs.lemmas.Bool.{cond-true, ltb-true, eqb-true}
 use Rattle.mips_table.specs.declared.inst.Inst.{Inst}
-use Rattle.mips_table.specs.declared.inst.Inst.TheVariants.{Addiu, Addu, Subu, Xori, Beq, Bne, J, Mflo, Mfhi, Div as Divide}
+use Rattle.mips_table.specs.declared.inst.Inst.TheVariants.{Addiu, Subu, Xori, Beq, Bne, J, Mflo, Mfhi, Div as Divide}
 use Rattle.mips_table.specs.Device.{Idle}
 use Rattle.mips_table.specs.Code.{Contents, Behind, World, CodeAt}
 use Rattle.c0_tree.specs.declared.tree.Span.{Span}
@@ -13,7 +13,7 @@ use Rattle.c0_tree.specs.declared.tree.Kind.TheVariants.{Unresolved, Struct, Fie
 use Rattle.c0_tree.specs.declared.tree.UnaryOp.TheVariants.{Negate, Not}
 use Rattle.c0_tree.specs.declared.tree.BinaryOp.{BinaryOp}
 use Rattle.c0_tree.specs.declared.tree.BinaryOp.TheVariants.{Add, Sub, Mul, Div, Rem, Lt, Le, Gt, Ge, Eq, Ne, And, Or}
-use Rattle.c0_tree.specs.Tree.{CName, CExpr, num, true_, false_, null, var, field, arrow, index, deref, address, unary, binary}
+use Rattle.c0_tree.specs.Tree.{CName, CExpr, null, var, field, arrow, index, deref, address, unary, binary}
 use Rattle.c0_tree.specs.Size.{need, binary_need, nodes}
 use Rattle.c0_meaning.specs.Ty.{Ty, is_scalar}
 use Rattle.c0_meaning.specs.Ty as ty
@@ -66,24 +66,29 @@ need_some _ = omega arith
 module _ (w : World) (sc : Scope) (p : Bases) (s : State) (f : Machine w) (area : Area w sc p) (scene : Scene sc p s) where
   -- where only the free register matters
   abbrev SpotRuns : (ℕ → Spot) → ℕ → Bool → Ty → ℕ → Costed Location → Type 0
-  SpotRuns place need local t own e = (r n : ℕ) (c : Contents) (k : Behind) → k.pending ≡ Idle → Ready sc p s c → CodeAt w n (place r).code → 8 ≤ r → r + need ≤ 20 → Source r (place r).base × Comes w sc own n (n + length (place r).code) c k (Leads sc p (place r).base (place r).shift r local t c) e
+  SpotRuns place need local t own e = (r n : ℕ) (c : Contents) (k : Behind) → k.pending ≡ Idle → Ready sc p s c → CodeAt w n (place r).code → 8 ≤ r
+      → r + need ≤ 20 → Source r (place r).base × Comes w sc own n (n + length (place r).code) c k (Leads sc p (place r).base (place r).shift r local t c) e
 
   -- a node that is a place, by what its place's code does for its parts
-  pub placed : (place : ℕ → Spot) (need : ℕ) (is local : Bool) (t : Ty) (own : ℕ) (e : Costed Location) → 1 ≤ need → own ≤ 13 → SpotRuns place need local t own e → Claims w sc p s (at_place place) need is local t (paying 1 (loaded s e)) (paying 1 e)
+  pub placed : (place : ℕ → Spot) (need : ℕ) (is local : Bool) (t : Ty) (own : ℕ) (e : Costed Location) → 1 ≤ need → own ≤ 13
+      → SpotRuns place need local t own e → Claims w sc p s (at_place place) need is local t (paying 1 (loaded s e)) (paying 1 e)
   placed place need is local t own e some few runs = record {
     value = λ scalar d r n c k idle ready code lo hi nz no1. as_value scalar d r n c k idle ready code lo hi nz;
     operand = λ scalar r n c k idle ready code lo hi. (its, as_value scalar r r n c k idle ready code lo hi (λ z. absurd (omega (arith, z, lo))));
     place = λ q z r n c k idle ready code lo hi. let a = runs r n c k idle ready code lo hi in (a.0, node w sc own n (n + length (place r).code) c k (Leads sc p (place r).base (place r).shift r local t c) e (omega arith) a.1);
   }
     where
-      as_value : is_scalar t ≡ true → (d r n : ℕ) (c : Contents) (k : Behind) → k.pending ≡ Idle → Ready sc p s c → CodeAt w n (load_code d r (place r)) → 8 ≤ r → r + need ≤ 20 → d ≢ 0 → Comes w sc 0 n (n + length (load_code d r (place r))) c k (Gives sc p d r d t c) (paying 1 (loaded s e))
+      as_value : is_scalar t ≡ true → (d r n : ℕ) (c : Contents) (k : Behind) → k.pending ≡ Idle → Ready sc p s c
+          → CodeAt w n (load_code d r (place r)) → 8 ≤ r → r + need ≤ 20 → d ≢ 0
+          → Comes w sc 0 n (n + length (load_code d r (place r))) c k (Gives sc p d r d t c) (paying 1 (loaded s e))
       as_value scalar d r n c k idle ready code lo hi nz =
           let a = runs r n c k idle ready (code_front w n (place r).code _ code) lo hi in
           node w sc (own + 3) n (n + length (load_code d r (place r))) c k (Gives sc p d r d t c) (loaded s e) (omega arith)
           (loads w sc p s f area scene local t (place r) own d r n c k e idle (λ z b h. ready_on sc p s c b h ready) scalar lo (omega arith) nz a.0 code a.1)
 
   -- a node that is only a value
-  pub valued : (m : Made) (need : ℕ) (local : Bool) (t : Ty) (v : Costed Value) (l : Costed Location) → m.stands ≡ None → ValueRuns w sc p s m need t v → Claims w sc p s m need false local t v l
+  pub valued : (m : Made) (need : ℕ) (local : Bool) (t : Ty) (v : Costed Value) (l : Costed Location) → m.stands ≡ None
+      → ValueRuns w sc p s m need t v → Claims w sc p s m need false local t v l
   valued m need local t v l none h = record {
     value = λ scalar. h;
     operand = λ scalar r n c k idle ready code lo hi.
@@ -94,29 +99,35 @@ module _ (w : World) (sc : Scope) (p : Bases) (s : State) (f : Machine w) (area 
   }
 
   -- a constant, for one unit or more
-  dearer : (u d q r n to : ℕ) (t : Ty) (x : Value) (c : Contents) (k : Behind) → 1 ≤ u → Comes w sc 0 n to c k (Gives sc p q r d t c) (paying 1 (at_no_cost (Ok x))) → Comes w sc 0 n to c k (Gives sc p q r d t c) (costs u (Ok x))
+  dearer : (u d q r n to : ℕ) (t : Ty) (x : Value) (c : Contents) (k : Behind) → 1 ≤ u
+      → Comes w sc 0 n to c k (Gives sc p q r d t c) (paying 1 (at_no_cost (Ok x))) → Comes w sc 0 n to c k (Gives sc p q r d t c) (costs u (Ok x))
   dearer u d q r n to t x c k some h = (h.0, h.1, later w (0 + 16 * (1 + 0)) (0 + 16 * u) _ _ (omega arith) h.2)
 
-  constants_by : (b : Bool) (v u need : ℕ) (x : Value) (t : Ty) (literal : Option ℕ) (local : Bool) (l : Costed Location) → 1 ≤ u → nat_eq v 0 ≡ b → v ≡ word sc p x → Fits sc.env.structs (layout sc p) t x → OperandRuns w sc p s (record (constant v literal) { stands = cond b (Some 0) None }) need t (costs u (Ok x))
-  constants_by true v u need x t literal local l some z e fits r n c k idle ready code lo hi = (nought, dearer u r 0 r n (n + 0) t x c k some (nothing_gives w sc p s f area scene r n t x c k (sym (eqb-true v 0 z) ∙ e) fits))
-  constants_by false v u need x t literal local l some z e fits r n c k idle ready code lo hi = (its, dearer u r r r n _ t x c k some (constant_gives w sc p s f area scene r r n v t x c k idle (λ z. absurd (omega (arith, z, lo))) code e fits))
+  constants_by : (b : Bool) (v u need : ℕ) (x : Value) (t : Ty) (literal : Option ℕ) (local : Bool) (l : Costed Location) → v < 2 ^ 32 → 1 ≤ u
+      → nat_eq v 0 ≡ b → v ≡ word sc p x → Fits sc.env.structs (layout sc p) t x
+      → OperandRuns w sc p s (record (constant v literal) { stands = cond b (Some 0) None }) need t (costs u (Ok x))
+  constants_by true v u need x t literal local l small some z e fits r n c k idle ready code lo hi = (nought, dearer u r 0 r n (n + 0) t x c k some (nothing_gives w sc p s f area scene r n t x c k (sym (eqb-true v 0 z) ∙ e) fits))
+  constants_by false v u need x t literal local l small some z e fits r n c k idle ready code lo hi = (its, dearer u r r r n _ t x c k some (constant_gives w sc p s f area scene r r n v t x c k small idle (λ z. absurd (omega (arith, z, lo))) code e fits))
 
-  pub constants : (v u need : ℕ) (x : Value) (t : Ty) (literal : Option ℕ) (local : Bool) (l : Costed Location) → 1 ≤ u → v ≡ word sc p x → Fits sc.env.structs (layout sc p) t x → Claims w sc p s (constant v literal) need false local t (costs u (Ok x)) l
-  constants v u need x t literal local l some e fits = record {
-    value = λ scalar d r n c k idle ready code lo hi nz no1. dearer u d d r n _ t x c k some (constant_gives w sc p s f area scene d r n v t x c k idle nz code e fits);
-    operand = λ scalar. constants_by (nat_eq v 0) v u need x t literal local l some refl e fits;
+  pub constants : (v u need : ℕ) (x : Value) (t : Ty) (literal : Option ℕ) (local : Bool) (l : Costed Location) → v < 2 ^ 32 → 1 ≤ u
+      → v ≡ word sc p x → Fits sc.env.structs (layout sc p) t x → Claims w sc p s (constant v literal) need false local t (costs u (Ok x)) l
+  constants v u need x t literal local l small some e fits = record {
+    value = λ scalar d r n c k idle ready code lo hi nz no1. dearer u d d r n _ t x c k some (constant_gives w sc p s f area scene d r n v t x c k small idle nz code e fits);
+    operand = λ scalar. constants_by (nat_eq v 0) v u need x t literal local l small some refl e fits;
     place = λ q. absurd (cc);
   }
 
   -- `null` is given where any pointer is asked
   pub null_right_is : (span : Span) (t : Ty) → Right w sc p s (null span) (ty.pointer t)
-  null_right_is span t = constants 0 1 1 value.null (ty.pointer t) None false (place_of (null span) s) (omega arith) refl tt
+  null_right_is span t = constants 0 1 1 value.null (ty.pointer t) None false (place_of (null span) s) (omega arith) (omega arith) refl tt
 
   -- variables
-  global_variables : (x : ℕ) (t : Ty) → slice_get (types_of sc.env.globals) x ≡ Some t → Claims w sc p s (variable_made sc Global x) 1 true false t (paying 1 (loaded s (at_no_cost (variable_location Global x)))) (paying 1 (at_no_cost (variable_location Global x)))
+  global_variables : (x : ℕ) (t : Ty) → slice_get (types_of sc.env.globals) x ≡ Some t
+      → Claims w sc p s (variable_made sc Global x) 1 true false t (paying 1 (loaded s (at_no_cost (variable_location Global x)))) (paying 1 (at_no_cost (variable_location Global x)))
   global_variables x t h = placed (λ r. global_spot sc x) 1 true false t 0 (at_no_cost (variable_location Global x)) (omega arith) (omega arith) (λ r n c k idle ready code lo hi. (far (omega arith), global_place w sc p s f area scene x n r t c k ready h))
 
-  local_variables : (x : ℕ) (t : Ty) → slice_get (types_of sc.env.locals) x ≡ Some t → (b : Bool) → sc.in_registers ≡ b → Claims w sc p s (cond b (register_made (register_of x)) (at_place (λ r. local_spot sc x))) 1 true true t (paying 1 (loaded s (at_no_cost (variable_location Local x)))) (paying 1 (at_no_cost (variable_location Local x)))
+  local_variables : (x : ℕ) (t : Ty) → slice_get (types_of sc.env.locals) x ≡ Some t → (b : Bool) → sc.in_registers ≡ b
+      → Claims w sc p s (cond b (register_made (register_of x)) (at_place (λ r. local_spot sc x))) 1 true true t (paying 1 (loaded s (at_no_cost (variable_location Local x)))) (paying 1 (at_no_cost (variable_location Local x)))
   local_variables x t h false form = placed (λ r. local_spot sc x) 1 true true t 0 (at_no_cost (variable_location Local x)) (omega arith) (omega arith) (λ r n c k idle ready code lo hi. (far (omega arith), local_place w sc p s f area scene x n r t c k ready form h))
   local_variables x t h true form =
       let low = (area.scalars form x t h).1 in
@@ -127,7 +138,8 @@ module _ (w : World) (sc : Scope) (p : Bases) (s : State) (f : Machine w) (area 
         place = λ q none. absurd (cc);
       })
 
-  variables : (k : Kind) (n : ℕ) (d : Typed) → variable_at sc.env k n ≡ Some d → Claims w sc p s (variable_made sc k n) 1 true (is_in_frame k) d.ty (paying 1 (loaded s (at_no_cost (variable_location k n)))) (paying 1 (at_no_cost (variable_location k n)))
+  variables : (k : Kind) (n : ℕ) (d : Typed) → variable_at sc.env k n ≡ Some d
+      → Claims w sc p s (variable_made sc k n) 1 true (is_in_frame k) d.ty (paying 1 (loaded s (at_no_cost (variable_location k n)))) (paying 1 (at_no_cost (variable_location k n)))
   variables Global n d h = global_variables n d.ty (typed_there sc.env.globals n d h)
   variables Local n d h = local_variables n d.ty (typed_there sc.env.locals n d h) sc.in_registers refl
   variables Unresolved n d h = absurd (cc)
@@ -137,7 +149,8 @@ module _ (w : World) (sc : Scope) (p : Bases) (s : State) (f : Machine w) (area 
   variables Primitive n d h = absurd (cc)
 
   -- targets of pointers
-  target_runs : (m : Made) (need : ℕ) (t : Ty) (e : Costed Value) → OperandRuns w sc p s m need (ty.pointer t) e → 1 ≤ need → SpotRuns (λ r. target_spot sc m r) need false t 2 (pointed e)
+  target_runs : (m : Made) (need : ℕ) (t : Ty) (e : Costed Value) → OperandRuns w sc p s m need (ty.pointer t) e → 1 ≤ need
+      → SpotRuns (λ r. target_spot sc m r) need false t 2 (pointed e)
   target_runs m need t e o some r n c k idle ready code lo hi =
       let a = o r n c k idle ready (code_front w n (operand_code m r) _ code) lo hi in
       let tail = code_back w n (operand_code m r) _ code in
@@ -146,7 +159,9 @@ module _ (w : World) (sc : Scope) (p : Bases) (s : State) (f : Machine w) (area 
       (a.0, subst (λ to. Comes w sc 2 n to c k (Leads sc p (operand_register m r) 0 r false t c) (pointed e)) len run)
 
   -- fields
-  field_runs : (place : ℕ → Spot) (need own : ℕ) (local : Bool) (x : List ℕ) (g : CName) (t : Ty) (u : Option Ty) (e : Costed Location) → 1 ≤ need → u ≡ Some (ty.named x) → slice_get (types_of (fields_named sc.env.structs x)) g.number ≡ Some t → SpotRuns place need local (ty.named x) own e →
+  field_runs : (place : ℕ → Spot) (need own : ℕ) (local : Bool) (x : List ℕ) (g : CName) (t : Ty) (u : Option Ty) (e : Costed Location) → 1 ≤ need
+      → u ≡ Some (ty.named x) → slice_get (types_of (fields_named sc.env.structs x)) g.number ≡ Some t
+      → SpotRuns place need local (ty.named x) own e →
       SpotRuns (λ r. moved (4 * words_before sc.env.structs (fields_in sc.env.structs u) g.number) (place r)) need local t own (field_of g e)
   field_runs place need own local x g t u e some q h runs r n c k idle ready code lo hi =
       let a = runs r n c k idle ready code lo hi in
@@ -154,7 +169,8 @@ module _ (w : World) (sc : Scope) (p : Bases) (s : State) (f : Machine w) (area 
       (a.0, subst (λ v. Comes w sc own n (n + length (place r).code) c k (Leads sc p (place r).base (((place r).shift + 4 * words_before sc.env.structs (fields_in sc.env.structs v) g.number) % 2 ^ 32) r local t c) (field_of g e)) (sym q) b)
 
   -- elements
-  known_runs : (place : ℕ → Spot) (na nb : ℕ) (local : Bool) (len j : ℕ) (t : Ty) (e : Costed Location) (i : Costed Value) → i ≡ costs 1 (Ok (int (pos j))) → 1 ≤ na → nat_lt j len ≡ true → FitsSigned w32 (pos j) → SpotRuns place na local (ty.array t len) 0 e →
+  known_runs : (place : ℕ → Spot) (na nb : ℕ) (local : Bool) (len j : ℕ) (t : Ty) (e : Costed Location) (i : Costed Value)
+      → i ≡ costs 1 (Ok (int (pos j))) → 1 ≤ na → nat_lt j len ≡ true → FitsSigned w32 (pos j) → SpotRuns place na local (ty.array t len) 0 e →
       SpotRuns (λ r. moved (4 * (j * words sc.env.structs t)) (place r)) (max na (nb + 1)) local t 10 (indexed s e i)
   known_runs place na nb local len j t e i is some less fits runs r n c k idle ready code lo hi =
       let a = runs r n c k idle ready code lo (omega arith) in
@@ -173,7 +189,9 @@ module _ (w : World) (sc : Scope) (p : Bases) (s : State) (f : Machine w) (area 
             (by_value l b g ready_b there.seen.value there.seen.fits))))),
       )
     where
-      by_value : (l : Location) (b : Contents) → Leads sc p (place r).base (place r).shift r local (ty.array t len) c l b → Ready sc p s b → (y : Value) → Fits sc.env.structs (layout sc p) (ty.array t len) y → Comes w sc 0 (n + length (place r).code) (n + length (place r).code) b k (Leads sc p (place r).base (((place r).shift + 4 * (j * words sc.env.structs t)) % 2 ^ 32) r local t c) (at_no_cost (element_of l (Some y) (int (pos j))))
+      by_value : (l : Location) (b : Contents) → Leads sc p (place r).base (place r).shift r local (ty.array t len) c l b → Ready sc p s b
+          → (y : Value) → Fits sc.env.structs (layout sc p) (ty.array t len) y
+          → Comes w sc 0 (n + length (place r).code) (n + length (place r).code) b k (Leads sc p (place r).base (((place r).shift + 4 * (j * words sc.env.structs t)) % 2 ^ 32) r local t c) (at_no_cost (element_of l (Some y) (int (pos j))))
       by_value l b g ready_b (group vs) h =
           let path : PathLeads sc.env.structs (ty.array t len) (j ∷ []) t = (ltb-true j len less, refl) in
           let leads = leads_from_on sc.env.structs (types_in sc p l.region) l.path (ty.array t len) j t g.leads path in
@@ -188,23 +206,28 @@ module _ (w : World) (sc : Scope) (p : Bases) (s : State) (f : Machine w) (area 
       by_value l b g ready_b value.null h = absurd h
       by_value l b g ready_b (at z) h = absurd h
 
-  tested_runs : (place : ℕ → Spot) (m : Made) (na nb : ℕ) (local : Bool) (len : ℕ) (t : Ty) (e : Costed Location) (i : Costed Value) → 1 ≤ na → 1 ≤ nb → SpotRuns place na local (ty.array t len) 0 e → OperandRuns w sc p s m nb ty.int i →
+  tested_runs : (place : ℕ → Spot) (m : Made) (na nb : ℕ) (local : Bool) (len : ℕ) (t : Ty) (e : Costed Location) (i : Costed Value) → 1 ≤ na
+      → 1 ≤ nb → SpotRuns place na local (ty.array t len) 0 e → OperandRuns w sc p s m nb ty.int i →
       SpotRuns (λ r. tested_spot sc (words sc.env.structs t) len (place r) m r) (max na (nb + 1)) local t 10 (indexed s e i)
   tested_runs place m na nb local len t e i some more_than runs o r n c k idle ready code lo hi =
       let a = runs r n c k idle ready (code_front w n (place r).code _ code) lo (omega arith) in
       (its, indexes w sc p s f area scene len t local (place r) m r n c k e i idle lo (omega arith) ready a.0 code a.1 (λ b ready_b there. o (r + 1) (n + length (place r).code) b k idle ready_b there (omega arith) (omega arith)))
 
-  element_runs : (place : ℕ → Spot) (m : Made) (na nb : ℕ) (local : Bool) (len : ℕ) (t : Ty) (e : Costed Location) (i : Costed Value) → 1 ≤ na → 1 ≤ nb → SpotRuns place na local (ty.array t len) 0 e → OperandRuns w sc p s m nb ty.int i → (o : Option ℕ) → ((j : ℕ) → o ≡ Some j → (i ≡ costs 1 (Ok (int (pos j)))) × FitsSigned w32 (pos j)) →
+  element_runs : (place : ℕ → Spot) (m : Made) (na nb : ℕ) (local : Bool) (len : ℕ) (t : Ty) (e : Costed Location) (i : Costed Value) → 1 ≤ na
+      → 1 ≤ nb → SpotRuns place na local (ty.array t len) 0 e → OperandRuns w sc p s m nb ty.int i → (o : Option ℕ)
+      → ((j : ℕ) → o ≡ Some j → (i ≡ costs 1 (Ok (int (pos j)))) × FitsSigned w32 (pos j)) →
       SpotRuns (λ r. element_spot sc (words sc.env.structs t) len o (place r) m r) (max na (nb + 1)) local t 10 (indexed s e i)
   element_runs place m na nb local len t e i some more_than runs o None known = tested_runs place m na nb local len t e i some more_than runs o
   element_runs place m na nb local len t e i some more_than runs o (Some j) known = by_test (nat_lt j len) refl
     where
-      by_test : (b : Bool) → nat_lt j len ≡ b → SpotRuns (λ r. cond b (moved (4 * (j * words sc.env.structs t)) (place r)) (tested_spot sc (words sc.env.structs t) len (place r) m r)) (max na (nb + 1)) local t 10 (indexed s e i)
+      by_test : (b : Bool) → nat_lt j len ≡ b
+          → SpotRuns (λ r. cond b (moved (4 * (j * words sc.env.structs t)) (place r)) (tested_spot sc (words sc.env.structs t) len (place r) m r)) (max na (nb + 1)) local t 10 (indexed s e i)
       by_test true less = let q = known j refl in known_runs place na nb local len j t e i q.0 some less q.1 runs
       by_test false less = tested_runs place m na nb local len t e i some more_than runs o
 
   -- what doesn't stand in a register: all that isn't scalar, and what isn't local
-  in_memory : (b : Bool) (x : ℕ) (t : Ty) → sc.in_registers ≡ b → slice_get (types_of sc.env.locals) x ≡ Some t → is_scalar t ≡ false → (cond b (register_made (register_of x)) (at_place (λ r. local_spot sc x))).stands ≡ None
+  in_memory : (b : Bool) (x : ℕ) (t : Ty) → sc.in_registers ≡ b → slice_get (types_of sc.env.locals) x ≡ Some t → is_scalar t ≡ false
+      → (cond b (register_made (register_of x)) (at_place (λ r. local_spot sc x))).stands ≡ None
   in_memory false x t form h e = refl
   in_memory true x t form h e = let q : false ≡ true = sym e ∙ (area.scalars form x t h).0 in absurd (cc)
 
@@ -243,23 +266,27 @@ module _ (w : World) (sc : Scope) (p : Bases) (s : State) (f : Machine w) (area 
   stands_away _ pl z = absurd (cc)
 
   -- a side whose value is known takes no steps
-  extra : (u m n from to : ℕ) (c : Contents) (k : Behind) (Q : Value → Contents → Type 0) (e : Costed Value) → Comes w sc 0 from to c k Q (paying m (paying n e)) → Comes w sc 0 from to c k Q (paying m (paying n (paying u e)))
+  extra : (u m n from to : ℕ) (c : Contents) (k : Behind) (Q : Value → Contents → Type 0) (e : Costed Value)
+      → Comes w sc 0 from to c k Q (paying m (paying n e)) → Comes w sc 0 from to c k Q (paying m (paying n (paying u e)))
   extra u m n from to c k Q (costs v (Ok x)) h = (h.0, h.1, later w (0 + 16 * (m + (n + v))) (0 + 16 * (m + (n + (u + v)))) _ _ (omega arith) h.2)
   extra u m n from to c k Q (costs v (Err (faulted f))) h = (h.0, h.1, later w (0 + 16 * (m + (n + v))) (0 + 16 * (m + (n + (u + v)))) _ _ (omega arith) h.2)
   extra u m n from to c k Q (costs v (Err stuck)) h = absurd h
 
-  before_all : (u from to : ℕ) (c : Contents) (k : Behind) (Q : Value → Contents → Type 0) (e : Costed Value) → Comes w sc 0 from to c k Q (paying 1 e) → Comes w sc 0 from to c k Q (paying 1 (paying u e))
+  before_all : (u from to : ℕ) (c : Contents) (k : Behind) (Q : Value → Contents → Type 0) (e : Costed Value)
+      → Comes w sc 0 from to c k Q (paying 1 e) → Comes w sc 0 from to c k Q (paying 1 (paying u e))
   before_all u from to c k Q (costs v (Ok x)) h = (h.0, h.1, later w (0 + 16 * (1 + v)) (0 + 16 * (1 + (u + v))) _ _ (omega arith) h.2)
   before_all u from to c k Q (costs v (Err (faulted f))) h = (h.0, h.1, later w (0 + 16 * (1 + v)) (0 + 16 * (1 + (u + v))) _ _ (omega arith) h.2)
   before_all u from to c k Q (costs v (Err stuck)) h = absurd h
 
   known_right : (u from to : ℕ) (c : Contents) (k : Behind) (Q : Value → Contents → Type 0) (x y : Costed Value) (v : Value) (on : Value → Value → Result Value Failure) → y ≡ costs u (Ok v)
-      → Comes w sc 0 from to c k Q (paying 1 (x >>= λ a. at_no_cost (on a v))) → Comes w sc 0 from to c k Q (paying 1 (x >>= λ a. y >>= λ b. at_no_cost (on a b)))
+      → Comes w sc 0 from to c k Q (paying 1 (x >>= λ a. at_no_cost (on a v)))
+      → Comes w sc 0 from to c k Q (paying 1 (x >>= λ a. y >>= λ b. at_no_cost (on a b)))
   known_right u from to c k Q (costs m (Ok a)) y v on e h = subst (λ y. Comes w sc 0 from to c k Q (paying 1 (paying m (y >>= λ b. at_no_cost (on a b))))) (sym e) (extra u 1 m from to c k Q (at_no_cost (on a v)) h)
   known_right u from to c k Q (costs m (Err a)) y v on e h = h
 
   known_left : (u from to : ℕ) (c : Contents) (k : Behind) (Q : Value → Contents → Type 0) (x y : Costed Value) (v : Value) (on : Value → Value → Result Value Failure) → x ≡ costs u (Ok v)
-      → Comes w sc 0 from to c k Q (paying 1 (y >>= λ b. at_no_cost (on v b))) → Comes w sc 0 from to c k Q (paying 1 (x >>= λ a. y >>= λ b. at_no_cost (on a b)))
+      → Comes w sc 0 from to c k Q (paying 1 (y >>= λ b. at_no_cost (on v b)))
+      → Comes w sc 0 from to c k Q (paying 1 (x >>= λ a. y >>= λ b. at_no_cost (on a b)))
   known_left u from to c k Q x y v on e h = subst (λ x. Comes w sc 0 from to c k Q (paying 1 (x >>= λ a. y >>= λ b. at_no_cost (on a b)))) (sym e) (before_all u from to c k Q (y >>= λ b. at_no_cost (on v b)) h)
 
   -- an operator with a constant: which value that is, and what the code does with it
@@ -274,7 +301,8 @@ module _ (w : World) (sc : Scope) (p : Bases) (s : State) (f : Machine w) (area 
   known_some o (Some k) g e = (k, refl, e)
 
   -- with an int
-  knows_int : (o : BinaryOp) (z : Ty) (m : Option ℕ) (y : Costed Value) (on : Value → Value → Result Value Failure) → ((k : ℕ) → m ≡ Some k → KnownAs sc p ty.int k y)
+  knows_int : (o : BinaryOp) (z : Ty) (m : Option ℕ) (y : Costed Value) (on : Value → Value → Result Value Failure)
+      → ((k : ℕ) → m ≡ Some k → KnownAs sc p ty.int k y)
       → ((d r : ℕ) (v : ℤ) → d ≢ 0 → FitsSigned w32 v → (g : ℕ → ℕ → List Inst) → immediate o (word_of v) ≡ Some g → With w sc p s f area scene g d r ty.int z (λ x. on x (int v)))
       → (g : ℕ → ℕ → List Inst) → immediate_of o m ≡ Some g → Knows g ty.int z y on
   knows_int o z m y on known law g e =
@@ -282,7 +310,8 @@ module _ (w : World) (sc : Scope) (p : Bases) (s : State) (f : Machine w) (area 
       let a = known h.0 h.1 in
       by_value a.value a.units a.is a.fits h.0 a.word_is h.2
     where
-      by_value : (v : Value) (u : ℕ) → y ≡ costs u (Ok v) → Fits sc.env.structs (layout sc p) ty.int v → (k : ℕ) → word sc p v ≡ k → immediate o k ≡ Some g → Knows g ty.int z y on
+      by_value : (v : Value) (u : ℕ) → y ≡ costs u (Ok v) → Fits sc.env.structs (layout sc p) ty.int v → (k : ℕ) → word sc p v ≡ k
+          → immediate o k ≡ Some g → Knows g ty.int z y on
       by_value (int v) u is fits k word_is e = record { units = u; value = int v; is = is; runs = λ d r nz. law d r v nz fits g (ap (immediate o) word_is ∙ e) }
       by_value (bool v) u is fits k word_is e = absurd fits
       by_value value.null u is fits k word_is e = absurd fits
@@ -290,7 +319,8 @@ module _ (w : World) (sc : Scope) (p : Bases) (s : State) (f : Machine w) (area 
       by_value (group v) u is fits k word_is e = absurd fits
 
   -- with any scalar
-  knows_scalar : (o : BinaryOp) (t : Ty) (m : Option ℕ) (y : Costed Value) (on : Value → Value → Result Value Failure) → ((k : ℕ) → m ≡ Some k → KnownAs sc p t k y)
+  knows_scalar : (o : BinaryOp) (t : Ty) (m : Option ℕ) (y : Costed Value) (on : Value → Value → Result Value Failure)
+      → ((k : ℕ) → m ≡ Some k → KnownAs sc p t k y)
       → ((d r : ℕ) (v : Value) → d ≢ 0 → Fits sc.env.structs (layout sc p) t v → (g : ℕ → ℕ → List Inst) → immediate o (word sc p v) ≡ Some g → With w sc p s f area scene g d r t ty.bool (λ x. on x v))
       → (g : ℕ → ℕ → List Inst) → immediate_of o m ≡ Some g → Knows g t ty.bool y on
   knows_scalar o t m y on known law g e =
@@ -299,7 +329,8 @@ module _ (w : World) (sc : Scope) (p : Bases) (s : State) (f : Machine w) (area 
       record { units = a.units; value = a.value; is = a.is; runs = λ d r nz. law d r a.value nz a.fits g (ap (immediate o) a.word_is ∙ h.2) }
 
   -- an operator on two values, the right of which may be a constant
-  operators_right : (im : Immediate) (o : BinaryOp) (t z : Ty) (a b : Made) (na nb : ℕ) (local : Bool) (x y : Costed Value) (l : Costed Location) → is_scalar t ≡ true → 1 ≤ na → 1 ≤ nb → OperandRuns w sc p s a na t x → OperandRuns w sc p s b nb t y
+  operators_right : (im : Immediate) (o : BinaryOp) (t z : Ty) (a b : Made) (na nb : ℕ) (local : Bool) (x y : Costed Value) (l : Costed Location)
+      → is_scalar t ≡ true → 1 ≤ na → 1 ≤ nb → OperandRuns w sc p s a na t x → OperandRuns w sc p s b nb t y
       → ((d r : ℕ) → d ≢ 0 → Finishes w sc p s f area scene (λ q g. operator_code o d q g) d r t t z (on_binary o))
       → ((g : ℕ → ℕ → List Inst) → im ≡ Some g → Knows g t z y (on_binary o))
       → Claims w sc p s (operator_made im o a b) (max na (nb + 1)) false local z (paying 1 (x >>= λ v. y >>= λ u. at_no_cost (on_binary o v u))) l
@@ -310,8 +341,10 @@ module _ (w : World) (sc : Scope) (p : Bases) (s : State) (f : Machine w) (area 
   operators_right None o t z a b na nb local x y l scalar ha hb oa ob finish knows = valued (operator_made None o a b) (max na (nb + 1)) local z _ l refl (λ d r n c k idle ready code lo hi nz no1.
       twos w sc p s f area scene (λ v. Unit {0}) (λ q t. operator_code o d q t) a b na nb (on_binary o) t t z d r n c k x y idle lo (omega arith) (omega arith) hb ready code oa ob (any_answer y) (finish d r nz))
 
-  sums_right : (i j : Immediate) (a b : Made) (na nb : ℕ) (local : Bool) (x y : Costed Value) (l : Costed Location) → 1 ≤ na → 1 ≤ nb → OperandRuns w sc p s a na ty.int x → OperandRuns w sc p s b nb ty.int y
-      → ((g : ℕ → ℕ → List Inst) → i ≡ Some g → Knows g ty.int ty.int y (on_binary Add)) → ((g : ℕ → ℕ → List Inst) → j ≡ Some g → Knows g ty.int ty.int x (λ v u. on_binary Add u v))
+  sums_right : (i j : Immediate) (a b : Made) (na nb : ℕ) (local : Bool) (x y : Costed Value) (l : Costed Location) → 1 ≤ na → 1 ≤ nb
+      → OperandRuns w sc p s a na ty.int x → OperandRuns w sc p s b nb ty.int y
+      → ((g : ℕ → ℕ → List Inst) → i ≡ Some g → Knows g ty.int ty.int y (on_binary Add))
+      → ((g : ℕ → ℕ → List Inst) → j ≡ Some g → Knows g ty.int ty.int x (λ v u. on_binary Add u v))
       → Claims w sc p s (sum_made i j a b) (max na (nb + 1)) false local ty.int (paying 1 (x >>= λ v. y >>= λ u. at_no_cost (on_binary Add v u))) l
   sums_right (Some g) j a b na nb local x y l ha hb oa ob right left = valued (sum_made (Some g) j a b) (max na (nb + 1)) local ty.int _ l refl (λ d r n c k idle ready code lo hi nz no1.
       let v = right g refl in
@@ -330,7 +363,8 @@ module _ (w : World) (sc : Scope) (p : Bases) (s : State) (f : Machine w) (area 
   sure_number (Some zero) e = absurd (cc)
   sure_number None e = absurd (cc)
 
-  sure_answers : (m : Option ℕ) (y : Costed Value) → ((k : ℕ) → m ≡ Some k → KnownAs sc p ty.int k y) → (sure : Bool) → is_sure m ≡ sure → Answers (λ v. sure ≡ true → word sc p v ≢ 0) y
+  sure_answers : (m : Option ℕ) (y : Costed Value) → ((k : ℕ) → m ≡ Some k → KnownAs sc p ty.int k y) → (sure : Bool) → is_sure m ≡ sure
+      → Answers (λ v. sure ≡ true → word sc p v ≢ 0) y
   sure_answers m y known true e =
       let h = sure_number m e in
       let a = known (suc h.0) h.1 in
@@ -339,8 +373,10 @@ module _ (w : World) (sc : Scope) (p : Bases) (s : State) (f : Machine w) (area 
   sure_answers m (costs u (Ok v)) known false e = λ z. absurd (cc)
   sure_answers m (costs u (Err v)) known false e = tt
 
-  arithmetic_right : (o : BinaryOp) → IsArithmetic o → (a b : Made) (na nb : ℕ) (local : Bool) (x y : Costed Value) (l : Costed Location) → 1 ≤ na → 1 ≤ nb → OperandRuns w sc p s a na ty.int x → OperandRuns w sc p s b nb ty.int y
-      → ((k : ℕ) → a.known ≡ Some k → KnownAs sc p ty.int k x) → ((k : ℕ) → b.known ≡ Some k → KnownAs sc p ty.int k y) → Claims w sc p s (binary_made sc o a b) (binary_need o na nb) false local ty.int (paying 1 (both o x y)) l
+  arithmetic_right : (o : BinaryOp) → IsArithmetic o → (a b : Made) (na nb : ℕ) (local : Bool) (x y : Costed Value) (l : Costed Location) → 1 ≤ na
+      → 1 ≤ nb → OperandRuns w sc p s a na ty.int x → OperandRuns w sc p s b nb ty.int y
+      → ((k : ℕ) → a.known ≡ Some k → KnownAs sc p ty.int k x) → ((k : ℕ) → b.known ≡ Some k → KnownAs sc p ty.int k y)
+      → Claims w sc p s (binary_made sc o a b) (binary_need o na nb) false local ty.int (paying 1 (both o x y)) l
   arithmetic_right _ add a b na nb local x y l ha hb oa ob ka kb = sums_right (immediate_of Add b.known) (immediate_of Add a.known) a b na nb local x y l ha hb oa ob
       (knows_int Add ty.int b.known y (on_binary Add) kb (λ d r v nz fv g e. adds_with w sc p s f area scene d r v nz fv g e)) (knows_int Add ty.int a.known x (λ v u. on_binary Add u v) ka (λ d r v nz fv g e. adds_left w sc p s f area scene d r v nz fv g e))
   arithmetic_right _ sub a b na nb local x y l ha hb oa ob ka kb = operators_right (immediate_of Sub b.known) Sub ty.int ty.int a b na nb local x y l refl ha hb oa ob (λ d r nz. sums w sc p s f area scene Sub d r nz ring.sub)
@@ -353,8 +389,10 @@ module _ (w : World) (sc : Scope) (p : Bases) (s : State) (f : Machine w) (area 
       twos w sc p s f area scene (λ v. is_sure b.known ≡ true → word sc p v ≢ 0) (λ q t. divisor_code sc (is_sure b.known) t ++ (Divide q t ∷ Mfhi d ∷ [])) a b na nb (on_binary Rem) ty.int ty.int ty.int d r n c k x y idle lo (omega arith) (omega arith) hb ready code oa ob
       (sure_answers b.known y kb (is_sure b.known) refl) (remainders w sc p s f area scene d r nz (is_sure b.known)))
 
-  orders_right : (o : BinaryOp) → IsOrder o → (a b : Made) (na nb : ℕ) (local : Bool) (x y : Costed Value) (l : Costed Location) → 1 ≤ na → 1 ≤ nb → OperandRuns w sc p s a na ty.int x → OperandRuns w sc p s b nb ty.int y
-      → ((k : ℕ) → b.known ≡ Some k → KnownAs sc p ty.int k y) → Claims w sc p s (binary_made sc o a b) (binary_need o na nb) false local ty.bool (paying 1 (both o x y)) l
+  orders_right : (o : BinaryOp) → IsOrder o → (a b : Made) (na nb : ℕ) (local : Bool) (x y : Costed Value) (l : Costed Location) → 1 ≤ na → 1 ≤ nb
+      → OperandRuns w sc p s a na ty.int x → OperandRuns w sc p s b nb ty.int y
+      → ((k : ℕ) → b.known ≡ Some k → KnownAs sc p ty.int k y)
+      → Claims w sc p s (binary_made sc o a b) (binary_need o na nb) false local ty.bool (paying 1 (both o x y)) l
   orders_right _ lt a b na nb local x y l ha hb oa ob kb = operators_right (immediate_of Lt b.known) Lt ty.int ty.bool a b na nb local x y l refl ha hb oa ob (λ d r nz. orders w sc p s f area scene Lt d r nz lt)
       (knows_int Lt ty.bool b.known y (on_binary Lt) kb (λ d r v nz fv g e. below_with w sc p s f area scene d r v nz fv g e))
   orders_right _ le a b na nb local x y l ha hb oa ob kb = operators_right (immediate_of Le b.known) Le ty.int ty.bool a b na nb local x y l refl ha hb oa ob (λ d r nz. orders w sc p s f area scene Le d r nz le)
@@ -363,14 +401,19 @@ module _ (w : World) (sc : Scope) (p : Bases) (s : State) (f : Machine w) (area 
   orders_right _ ge a b na nb local x y l ha hb oa ob kb = operators_right (immediate_of Ge b.known) Ge ty.int ty.bool a b na nb local x y l refl ha hb oa ob (λ d r nz. orders w sc p s f area scene Ge d r nz ge)
       (knows_int Ge ty.bool b.known y (on_binary Ge) kb (λ d r v nz fv g e. at_least_with w sc p s f area scene d r v nz fv g e))
 
-  equals_right : (o : BinaryOp) → IsEquality o → (t : Ty) → is_scalar t ≡ true → (a b : Made) (na nb : ℕ) (local : Bool) (x y : Costed Value) (l : Costed Location) → 1 ≤ na → 1 ≤ nb → OperandRuns w sc p s a na t x → OperandRuns w sc p s b nb t y
-      → ((k : ℕ) → b.known ≡ Some k → KnownAs sc p t k y) → Claims w sc p s (binary_made sc o a b) (binary_need o na nb) false local ty.bool (paying 1 (both o x y)) l
+  equals_right : (o : BinaryOp) → IsEquality o → (t : Ty) → is_scalar t ≡ true
+      → (a b : Made) (na nb : ℕ) (local : Bool) (x y : Costed Value) (l : Costed Location) → 1 ≤ na → 1 ≤ nb → OperandRuns w sc p s a na t x
+      → OperandRuns w sc p s b nb t y
+      → ((k : ℕ) → b.known ≡ Some k → KnownAs sc p t k y)
+      → Claims w sc p s (binary_made sc o a b) (binary_need o na nb) false local ty.bool (paying 1 (both o x y)) l
   equals_right _ eq t z a b na nb local x y l ha hb oa ob kb = operators_right (immediate_of Eq b.known) Eq t ty.bool a b na nb local x y l z ha hb oa ob (λ d r nz. equals w sc p s f area scene Eq t d r z nz eq)
       (knows_scalar Eq t b.known y (on_binary Eq) kb (λ d r v nz fv g e. equals_with w sc p s f area scene d r t v nz z fv g e))
   equals_right _ ne t z a b na nb local x y l ha hb oa ob kb = operators_right (immediate_of Ne b.known) Ne t ty.bool a b na nb local x y l z ha hb oa ob (λ d r nz. equals w sc p s f area scene Ne t d r z nz ne)
       (knows_scalar Ne t b.known y (on_binary Ne) kb (λ d r v nz fv g e. differs_with w sc p s f area scene d r t v nz z fv g e))
 
-  logics_right : (o : BinaryOp) → IsLogical o → (a b : Made) (na nb : ℕ) (local : Bool) (x y : Costed Value) (l : Costed Location) → 1 ≤ na → 1 ≤ nb → ((r : ℕ) → length (b.value r r) < 32768) → ValueRuns w sc p s a na ty.bool x → ValueRuns w sc p s b nb ty.bool y → Claims w sc p s (binary_made sc o a b) (binary_need o na nb) false local ty.bool (paying 1 (both o x y)) l
+  logics_right : (o : BinaryOp) → IsLogical o → (a b : Made) (na nb : ℕ) (local : Bool) (x y : Costed Value) (l : Costed Location) → 1 ≤ na → 1 ≤ nb
+      → ((r : ℕ) → length (b.value r r) < 32768) → ValueRuns w sc p s a na ty.bool x → ValueRuns w sc p s b nb ty.bool y
+      → Claims w sc p s (binary_made sc o a b) (binary_need o na nb) false local ty.bool (paying 1 (both o x y)) l
   logics_right _ and a b na nb local x y l ha hb short va vb = valued (binary_made sc And a b) (max na nb) local ty.bool _ l refl (λ d r n c k idle ready code lo hi nz no1.
       logics w sc p s f area scene (λ z. Beq r 0 z) false a b na nb d r n c k x y (λ b. if b then y else at_no_cost (Ok (bool false))) idle lo (omega arith) (omega arith) hb nz no1 ready code (λ m there. let few : length (b.value r r) % 2 ^ 16 ≡ length (b.value r r) = let z = short r in omega (arith, z) in subst (λ v. Skip w sc p s f area scene (Beq r 0 v) false r (length (b.value r r)) m k) (sym few) (skips_and w sc p s f area scene r (length (b.value r r)) m k idle (short r) (subst (λ v. w.code m ≡ Some (Beq r 0 v)) few there))) refl refl va vb)
   logics_right _ or a b na nb local x y l ha hb short va vb = valued (binary_made sc Or a b) (max na nb) local ty.bool _ l refl (λ d r n c k idle ready code lo hi nz no1.
@@ -380,18 +423,20 @@ module _ (w : World) (sc : Scope) (p : Bases) (s : State) (f : Machine w) (area 
   short_code e r few = let a = value_length sc e r r in omega (arith, a, few)
 
   -- a value with its sign changed
-  negatives_right : (o : Option ℕ) (m : Made) (need : ℕ) (x : Costed Value) (l : Costed Location) → 1 ≤ need → OperandRuns w sc p s m need ty.int x → ((k : ℕ) → (negative_made o m).known ≡ Some k → KnownAs sc p ty.int k (paying 1 (x >>= λ v. at_no_cost (on_unary Negate v)))) → Claims w sc p s (negative_made o m) need false false ty.int (paying 1 (x >>= λ v. at_no_cost (on_unary Negate v))) l
+  negatives_right : (o : Option ℕ) (m : Made) (need : ℕ) (x : Costed Value) (l : Costed Location) → 1 ≤ need → OperandRuns w sc p s m need ty.int x
+      → ((k : ℕ) → (negative_made o m).known ≡ Some k → KnownAs sc p ty.int k (paying 1 (x >>= λ v. at_no_cost (on_unary Negate v))))
+      → Claims w sc p s (negative_made o m) need false false ty.int (paying 1 (x >>= λ v. at_no_cost (on_unary Negate v))) l
   negatives_right (Some n) m need x l some oa known =
       let a = known (Rattle.c0_expr_code.specs.Code.negated n) refl in
-      subst (λ y. Claims w sc p s (negative_made (Some n) m) need false false ty.int y l) (sym a.is) (constants (Rattle.c0_expr_code.specs.Code.negated n) a.units need a.value ty.int None false l a.some (sym a.word_is) a.fits)
+      subst (λ y. Claims w sc p s (negative_made (Some n) m) need false false ty.int y l) (sym a.is) (constants (Rattle.c0_expr_code.specs.Code.negated n) a.units need a.value ty.int None false l (omega arith) a.some (sym a.word_is) a.fits)
   negatives_right None m need x l some oa known = valued (negative_made None m) need false ty.int _ l refl (λ d r n c k idle ready code lo hi nz no1.
       ones w sc p s f area scene (λ q. Subu d 0 q ∷ []) m need (on_unary Negate) ty.int ty.int d r n c k x idle lo hi some ready code oa (negatives w sc p s f area scene d r nz))
 
   -- every typed expression
   pub right : (e : CExpr) (t : Ty) → HasNumberedType sc.env e t → nodes e ≤ 2000 → Right w sc p s e t
-  right _ _ (a_number {n = n} h) few = constants n 1 1 (int (pos n)) ty.int (Some n) false _ (omega arith) (sym (word_pos n (record { sfits = omega (arith, h) }))) (record { sfits = omega (arith, h) })
-  right _ _ a_true few = constants 1 1 1 (bool true) ty.bool None false _ (omega arith) refl tt
-  right _ _ a_false few = constants 0 1 1 (bool false) ty.bool None false _ (omega arith) refl tt
+  right _ _ (a_number {n = n} h) few = constants n 1 1 (int (pos n)) ty.int (Some n) false _ (omega (arith, h)) (omega arith) (sym (word_pos n (record { sfits = omega (arith, h) }))) (record { sfits = omega (arith, h) })
+  right _ _ a_true few = constants 1 1 1 (bool true) ty.bool None false _ (omega arith) (omega arith) refl tt
+  right _ _ a_false few = constants 0 1 1 (bool false) ty.bool None false _ (omega arith) (omega arith) refl tt
   right _ _ (a_variable {x = x} {d = d} h) few = variables x.kind x.number d h
   right _ _ (a_field {e = e} {f = g} {x = x} {d = d} pl h q) few =
       let part = right e (ty.named x) h (omega arith) in

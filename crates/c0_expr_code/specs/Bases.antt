@@ -1,5 +1,5 @@
 -- Where the values of C0 stand in the machine: where regions begin, the words of locations, and values as words.
-use Rattle.std.specs.Prelude.{◌≡◌, ℕ, ◌+◌, ◌*◌, ◌-◌, Bool, if◌then◌else◌, List, [], ◌∷◌, replicate}
+use Rattle.std.specs.Prelude.{◌≡◌, ℕ, ◌+◌, ◌*◌, ◌-◌, if◌then◌else◌, List, [], ◌∷◌, replicate}
 use Rattle.mips_table.specs.Arith.{flag}
 use Rattle.cvm_words.specs.Words.{word_of}
 use Rattle.c0_meaning.specs.Ty.{Ty}

@@ -3,7 +3,7 @@
 use Rattle.std.specs.Prelude.{ℕ, zero, suc, ◌+◌, ◌*◌, ◌-◌, ◌/◌, ◌%◌, ◌^◌, Bool, true, false, ◌==◌, nat_lt, if◌then◌else◌, List, [], ◌∷◌, ◌++◌, length, Option, Some, None, unwrap_or}
 use Rattle.mips_table.specs.Arith.{extended}
 use Rattle.mips_table.specs.declared.inst.Inst.{Inst}
-use Rattle.mips_table.specs.declared.inst.Inst.TheVariants.{Addu, Subu, Xor, Slt, Sltu, J, Beq, Bne, Addiu, Slti, Sltiu, Ori, Xori, Lui, Lw, Sll, Mult, Div as Divide, Mfhi, Mflo}
+use Rattle.mips_table.specs.declared.inst.Inst.TheVariants.{Addu, Subu, Xor, Slt, Sltu, J, Beq, Bne, Addiu, Slti, Sltiu, Ori, Xori, Lui, Lw, Sw, Sll, Mult, Div as Divide, Mfhi, Mflo}
 use Rattle.masm.specs.declared.registers.TheConstants.{SCRATCH, ARGUMENTS, GLOBALS, FRAME_END}
 use Rattle.c0_tree.specs.declared.tree.Kind.{Kind}
 use Rattle.c0_tree.specs.declared.tree.Kind.TheVariants.{Unresolved, Struct, Field, Global, Local, Function, Primitive}
@@ -72,7 +72,7 @@ is_near k = extended (low k) == k
 -- a constant word, into a register
 abbrev pub constant_code : ℕ → ℕ → List Inst
 constant_code d n =
-    if nat_lt n (2 ^ 16) then Ori d 0 n ∷ [] else if is_near n then Addiu d 0 (low n) ∷ [] else Lui d (n / 2 ^ 16) ∷ Ori d d (n % 2 ^ 16) ∷ []
+    if nat_lt n (2 ^ 16) then Ori d 0 n ∷ [] else if is_near n then Addiu d 0 (low n) ∷ [] else Lui d (n / 2 ^ 16 % 2 ^ 16) ∷ Ori d d (low n) ∷ []
 
 -- an instruction on a place, with a register for the address where the displacement is far
 abbrev pub on_spot : (ℕ → ℕ → Inst) → ℕ → Spot → List Inst
@@ -82,6 +82,10 @@ on_spot f r x =
 -- what stands at a place, into a register
 abbrev pub load_code : ℕ → ℕ → Spot → List Inst
 load_code d r x = on_spot (λ b k. Lw d b k) r x
+
+-- a register's word, to a place
+abbrev pub store_code : ℕ → ℕ → Spot → List Inst
+store_code q r x = on_spot (λ b k. Sw q b k) r x
 
 -- no code, where a value stands already
 abbrev pub or_code : Option ℕ → List Inst → List Inst
@@ -311,6 +315,10 @@ binary_made sc Or a b = only_value (λ d r. logic_code (λ k. Bne r 0 k) a b d r
 abbrev pub field_made : Scope → Option Ty → (ℕ → Spot) → ℕ → Made
 field_made sc t place n = at_place (λ r. moved (4 * words_before sc.env.structs (fields_in sc.env.structs t) n) (place r))
 
+-- an element of a place
+abbrev pub index_made : Scope → Option Ty → (ℕ → Spot) → Made → Made
+index_made sc t place m = at_place (λ r. element_spot sc (element_words sc.env.structs t) (length_in t) m.literal (place r) m r)
+
 -- every node
 abbrev pub made : Scope → CExpr → Made
 made sc (num p n) = constant n (Some n)
@@ -320,8 +328,7 @@ made sc (null p) = constant 0 None
 made sc (var x) = variable_made sc x.kind x.number
 made sc (field p e f) = field_made sc (type_at sc.env e) (made sc e).place f.number
 made sc (arrow p e f) = field_made sc (target (type_at sc.env e)) (λ r. target_spot sc (made sc e) r) f.number
-made sc (index p e i) =
-    at_place (λ r. element_spot sc (element_words sc.env.structs (type_at sc.env e)) (length_in (type_at sc.env e)) (made sc i).literal ((made sc e).place r) (made sc i) r)
+made sc (index p e i) = index_made sc (type_at sc.env e) (made sc e).place (made sc i)
 made sc (deref p e) = at_place (λ r. target_spot sc (made sc e) r)
 made sc (address p e) = only_value (λ d r. on_spot (λ b k. Addiu d b k) r ((made sc e).place r))
 made sc (unary p o e) = unary_made o (made sc e)

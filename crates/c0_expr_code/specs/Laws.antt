@@ -1,10 +1,15 @@
 -- The laws of the code of expressions.
-use Rattle.std.specs.Prelude.{◌≡◌, ◌≢◌, ℕ, ◌+◌, ◌-◌, ◌*◌, ◌<◌, ◌≤◌, Bool, true, false, List, [], ◌∷◌, ◌++◌, length, Some, slice_get}
-use Rattle.mips_table.specs.Code.{put, Contents, with_reg, World, Sound}
-use Rattle.masm.specs.declared.registers.TheConstants.{ARGUMENTS}
-use Rattle.c0_tree.specs.Tree.{CExpr}
-use Rattle.c0_tree.specs.Size.{nodes}
-use Rattle.c0_meaning.specs.Ty.{Ty, bool, named, is_scalar}
+use Rattle.std.specs.Prelude.{◌≡◌, ◌≢◌, ℕ, ◌+◌, ◌-◌, ◌*◌, ◌%◌, ◌^◌, ◌<◌, ◌≤◌, Bool, true, false, List, [], ◌∷◌, ◌++◌, length, None, Some, slice_get}
+use Rattle.mips_table.specs.Code.{put, Contents, reg, with_reg, Behind, World, Sound, at_with, Reaches, CodeAt}
+use Rattle.mips_table.specs.Device.{Idle}
+use Rattle.masm.specs.declared.registers.TheConstants.{SCRATCH, ARGUMENTS}
+use Rattle.c0_tree.specs.Primitives.{CPrimitive}
+use Rattle.c0_tree.specs.Tree.{CTy, CExpr, CFunction, CUnit}
+use Rattle.mips_table.specs.Encoding.{InRange}
+use Rattle.std.specs.List.{All}
+use Rattle.c0_tree.specs.Size.{need, nodes}
+use Rattle.c0_meaning.specs.Operators.{KernelFault}
+use Rattle.c0_meaning.specs.Ty.{Ty, bool, named, ty_of, is_scalar}
 use Rattle.c0_meaning.specs.Env.{Env, Shape}
 use Rattle.c0_meaning.specs.Words.{fields_named, words}
 use Rattle.c0_meaning.specs.Addresses.{words_to_part}
@@ -13,11 +18,16 @@ use Rattle.c0_meaning.specs.TypedState.{Layout, types_of, LeadsFrom, Fits, ArePa
 use Rattle.c0_meaning.specs.Evaluation.{value_of, place_of}
 use Rattle.c0_meaning.specs.Numbered.{HasNumberedType, IsNumberedGiven}
 use Rattle.c0_meaning.specs.State.{State, write}
-use Rattle.c0_expr_code.specs.Scope.{Scope}
-use Rattle.c0_expr_code.specs.Code.{operand_code, made, value_code, place_spot}
+use Rattle.c0_meaning.specs.Sound.{shapes}
+use Rattle.c0_meaning.specs.Typed.{IsDeclarable}
+use Rattle.c0_meaning.specs.Unit.{IsWellFormed}
+use Rattle.masm.specs.declared.registers.Places.{Places}
+use Rattle.masm.specs.Places.{ArePlaces}
+use Rattle.c0_expr_code.specs.Scope.{Scope, scope_of}
+use Rattle.c0_expr_code.specs.Code.{Spot, store_code, operand_code, operand_register, made, value_code, place_spot}
 use Rattle.c0_expr_code.specs.Test.{test_code}
 use Rattle.c0_expr_code.specs.Bases.{words_of_all, Bases, types_in, word_at, word, RegionHeld}
-use Rattle.c0_expr_code.specs.Relation.{layout, Scene, Ready, Keeps, Area, units_of, Right, TestRuns}
+use Rattle.c0_expr_code.specs.Relation.{layout, Scene, Ready, Keeps, Area, Source, units_of, Right, TestRuns}
 
 -- the code of every typed expression comes to what it means: as a value, as an operand, and as a place
 abbrev pub ExpressionsRun : Type 0
@@ -76,11 +86,14 @@ with_more layout more = record { globals = layout.globals; objects = layout.obje
 -- Where a scalar's word is stored at a location, in memory or in a register, the state that has the scalar there stands in the machine;
 -- and it is typed where the scalar fits.
 pub record StoresHold : Type 0 where
-  pub in_memory : (w : World) (sc : Scope) (p : Bases) (s : State) (c : Contents) → Area w sc p → AreSpread sc p → Ready sc p s c → (l : Location) (t : Ty) (x : Value) → LeadsFrom sc.env.structs (types_in sc p l.region) l.path t
+  pub in_memory : (w : World) (sc : Scope) (p : Bases) (s : State) (c : Contents) → Area w sc p → AreSpread sc p → Ready sc p s c
+      → (l : Location) (t : Ty) (x : Value) → LeadsFrom sc.env.structs (types_in sc p l.region) l.path t
       → (l.region ≡ locals → sc.in_registers ≡ false) → is_scalar t ≡ true → Ready sc p (write s l x) (with_word c (word_at sc p l) (word sc p x))
-  pub in_register : (w : World) (sc : Scope) (p : Bases) (s : State) (c : Contents) → Area w sc p → Ready sc p s c → (n : ℕ) (t : Ty) (x : Value) → sc.in_registers ≡ true → slice_get (types_of sc.env.locals) n ≡ Some t
+  pub in_register : (w : World) (sc : Scope) (p : Bases) (s : State) (c : Contents) → Area w sc p → Ready sc p s c → (n : ℕ) (t : Ty) (x : Value)
+      → sc.in_registers ≡ true → slice_get (types_of sc.env.locals) n ≡ Some t
       → Ready sc p (write s (record { region = locals; path = n ∷ [] }) x) (with_reg c (ARGUMENTS + n) (word sc p x))
-  pub typed : (sc : Scope) (p : Bases) (s : State) → Scene sc p s → (l : Location) (t : Ty) (x : Value) → LeadsFrom sc.env.structs (types_in sc p l.region) l.path t → Fits sc.env.structs (layout sc p) t x → Scene sc p (write s l x)
+  pub typed : (sc : Scope) (p : Bases) (s : State) → Scene sc p s → (l : Location) (t : Ty) (x : Value)
+      → LeadsFrom sc.env.structs (types_in sc p l.region) l.path t → Fits sc.env.structs (layout sc p) t x → Scene sc p (write s l x)
 
 -- a struct's words are those of its fields
 abbrev pub IsOpened : List Shape → Type 0
@@ -90,12 +103,79 @@ IsOpened structs = (x : List ℕ) → words structs (named x) ≡ words_of_all s
 -- alone changes, the region with the scalar there.
 pub record HeldStays : Type 0 where
   pub ready : (sc : Scope) (p : Bases) (s : State) (a b : Contents) → Keeps 0 0 a b → Ready sc p s a → Ready sc p s b
-  pub same : (sc : Scope) (p : Bases) → IsOpened sc.env.structs → (m other : ℕ → ℕ) (a : ℕ) (types : List Ty) (v : Value) → ((k : ℕ) → a ≤ k → k < a + words_of_all sc.env.structs types → other k ≡ m k) → RegionHeld sc p m a types v → RegionHeld sc p other a types v
-  pub written : (sc : Scope) (p : Bases) → IsOpened sc.env.structs → (m other : ℕ → ℕ) (a k : ℕ) (types : List Ty) (path : List ℕ) (t : Ty) (v x : Value) → LeadsFrom sc.env.structs types path t → is_scalar t ≡ true
-      → k ≡ a + words_to_part sc.env.structs types path → other k ≡ word sc p x → ((i : ℕ) → i ≢ k → other i ≡ m i) → RegionHeld sc p m a types v → RegionHeld sc p other a types (put_value v path x)
+  pub same : (sc : Scope) (p : Bases) → IsOpened sc.env.structs → (m other : ℕ → ℕ) (a : ℕ) (types : List Ty) (v : Value)
+      → ((k : ℕ) → a ≤ k → k < a + words_of_all sc.env.structs types → other k ≡ m k) → RegionHeld sc p m a types v → RegionHeld sc p other a types v
+  pub written : (sc : Scope) (p : Bases) → IsOpened sc.env.structs
+      → (m other : ℕ → ℕ) (a k : ℕ) (types : List Ty) (path : List ℕ) (t : Ty) (v x : Value) → LeadsFrom sc.env.structs types path t
+      → is_scalar t ≡ true
+      → k ≡ a + words_to_part sc.env.structs types path → other k ≡ word sc p x → ((i : ℕ) → i ≢ k → other i ≡ m i) → RegionHeld sc p m a types v
+      → RegionHeld sc p other a types (put_value v path x)
 
 -- typed values stay typed with a part changed, and with more objects
 pub record PartsFit : Type 0 where
-  pub changed : (structs : List Shape) (layout : Layout) (types : List Ty) (path : List ℕ) (t : Ty) (v x : Value) → LeadsFrom structs types path t → AreParts structs layout types v → Fits structs layout t x → AreParts structs layout types (put_value v path x)
-  pub more : (structs : List Shape) (layout : Layout) (objects : List Ty) (types : List Ty) (v : Value) → AreParts structs layout types v → AreParts structs (with_more layout objects) types v
-  pub more_of : (structs : List Shape) (layout : Layout) (objects : List Ty) (t : Ty) (v : Value) → Fits structs layout t v → Fits structs (with_more layout objects) t v
+  pub changed : (structs : List Shape) (layout : Layout) (types : List Ty) (path : List ℕ) (t : Ty) (v x : Value) → LeadsFrom structs types path t
+      → AreParts structs layout types v → Fits structs layout t x → AreParts structs layout types (put_value v path x)
+  pub more : (structs : List Shape) (layout : Layout) (objects : List Ty) (types : List Ty) (v : Value) → AreParts structs layout types v
+      → AreParts structs (with_more layout objects) types v
+  pub more_of : (structs : List Shape) (layout : Layout) (objects : List Ty) (t : Ty) (v : Value) → Fits structs layout t v
+      → Fits structs (with_more layout objects) t v
+
+-- a type is one that may be declared, and so are types
+abbrev pub IsDeclared : List Shape → Ty → Type 0
+IsDeclared structs t = (c : CTy) × (ty_of c ≡ t) × IsDeclarable structs c
+
+abbrev pub AreDeclared : List Shape → List Ty → Type 0
+AreDeclared structs types = (i : ℕ) (t : Ty) → slice_get types i ≡ Some t → IsDeclared structs t
+
+-- heap and frame lie in memory, the globals don't begin at word 0, and the frame is in the stack whole
+pub record HasRoom (w : World) (sc : Scope) (p : Bases) : Type 0 where
+  pub from : 0 < p.globals
+  pub heap : p.heap + words_of_all sc.env.structs p.objects ≤ w.words
+  pub frame : p.frame_end ≤ w.words
+  pub inside : sc.frame ≤ p.frame_end
+
+-- in a unit that is well formed all that the code of a function's expressions rests on holds
+abbrev pub AreasHold : Type 0
+AreasHold = (primitives : List CPrimitive) (u : CUnit) → IsWellFormed primitives u → (f : CFunction) (number : ℕ)
+    → slice_get u.functions number ≡ Some f → (places : Places) (w : World) (p : Bases)
+    → HasRoom w (scope_of u f places) p → AreSpread (scope_of u f places) p → AreDeclared (shapes u) p.objects → Area w (scope_of u f places) p
+
+-- The code that stores a register's word at a place, from behind the place's code: the word stands there, and the rest is kept, in at most three steps.
+abbrev pub StoresRun : World → Type 0
+StoresRun w = (x : Spot) (q r n a v : ℕ) (c : Contents) (k : Behind) → k.pending ≡ Idle → 8 ≤ r → r < 20 → Source r x.base → q ≢ r → q ≢ SCRATCH
+    → CodeAt w n (store_code q r x)
+    → (reg c.regs x.base + x.shift) % 2 ^ 32 ≡ 4 * a → a < w.words → w.kept a ≡ None → reg c.regs q ≡ v
+    → (c' : Contents) × Keeps r r (with_word c a v) c' × Reaches w 3 (at_with (n + length x.code) c k) (at_with (n + length (store_code q r x)) c' k)
+
+-- another scope of the same unit, and bases with the same beginnings of globals and heap, where there may be more objects
+pub record IsLater (sc : Scope) (p : Bases) (other : Scope) (q : Bases) : Type 0 where
+  pub structs : other.env.structs ≡ sc.env.structs
+  pub global_types : other.env.globals ≡ sc.env.globals
+  pub globals : q.globals ≡ p.globals
+  pub heap : q.heap ≡ p.heap
+  pub objects : (more : List Ty) × (q.objects ≡ p.objects ++ more)
+
+-- typed values stand as before there, and the words of scalars are the same: no value points to a variable
+pub record HeldElsewhere : Type 0 where
+  pub region : (sc : Scope) (p : Bases) (other : Scope) (q : Bases) → IsLater sc p other q → (m : ℕ → ℕ) (a : ℕ) (types : List Ty) (v : Value)
+      → AreParts sc.env.structs (layout sc p) types v → RegionHeld sc p m a types v → RegionHeld other q m a types v
+  pub scalar : (sc : Scope) (p : Bases) (other : Scope) (q : Bases) → IsLater sc p other q → (t : Ty) (v : Value)
+      → Fits sc.env.structs (layout sc p) t v → is_scalar t ≡ true → word other q v ≡ word sc p v
+
+-- each exit is a word that a jump reaches
+abbrev pub HasNearExits : Scope → Type 0
+HasNearExits sc = (f : KernelFault) → sc.exit f < 2 ^ 26
+
+-- a law: where the places are addresses that jumps reach, so are the exits of a function's scope
+abbrev pub ExitsAreNear : Type 0
+ExitsAreNear = (u : CUnit) (f : CFunction) (places : Places) → ArePlaces places → HasNearExits (scope_of u f places)
+
+-- Where the exits lie in the part that jumps reach, all code is in range, for every expression: of values, operands, places, stores and tests, with
+-- registers enough for the expression's need.
+pub record CodesInRange : Type 0 where
+  pub value : (sc : Scope) → HasNearExits sc → (e : CExpr) (d r : ℕ) → d < 32 → r + need e ≤ 32 → All InRange (value_code sc e d r)
+  pub operand : (sc : Scope) → HasNearExits sc → (e : CExpr) (r : ℕ) → r + need e ≤ 32 → All InRange (operand_code (made sc e) r)
+  pub register : (sc : Scope) → HasNearExits sc → (e : CExpr) (r : ℕ) → r + need e ≤ 32 → operand_register (made sc e) r < 32
+  pub place : (sc : Scope) → HasNearExits sc → (e : CExpr) (r : ℕ) → r + need e ≤ 32 → All InRange (place_spot sc e r).code
+  pub store : (sc : Scope) → HasNearExits sc → (e : CExpr) (q r : ℕ) → q < 32 → r + need e ≤ 32 → All InRange (store_code q r (place_spot sc e r))
+  pub test : (sc : Scope) → HasNearExits sc → (e : CExpr) (s : Bool) (far r : ℕ) → far < 2 ^ 16 → r + need e ≤ 32 → All InRange (test_code sc e s far r)

@@ -4,3 +4,5 @@ pub mod Test
 pub mod Bases
 pub mod Relation
 pub mod Laws
+pub mod Jumps
+pub mod Rows

@@ -57,7 +57,8 @@ pub record Area (w : World) (sc : Scope) (p : Bases) : Type 0 where
   pub frame_holds : 3 + words_of_all sc.env.structs (types_of sc.env.locals) ≤ sc.frame
   pub scalars : sc.in_registers ≡ true → (n : ℕ) (t : Ty) → slice_get (types_of sc.env.locals) n ≡ Some t → (is_scalar t ≡ true) × (n < 8)
   pub filled : (g : Region) (path : List ℕ) (t : Ty) → LeadsFrom sc.env.structs (types_in sc p g) path t → 1 ≤ words sc.env.structs t
-  pub apart : (t : Ty) (l m : Location) → PointsTo sc.env.structs (layout sc p) l.region l.path t → PointsTo sc.env.structs (layout sc p) m.region m.path t → word_at sc p l ≡ word_at sc p m → l ≡ m
+  pub apart : (t : Ty) (l m : Location) → PointsTo sc.env.structs (layout sc p) l.region l.path t
+      → PointsTo sc.env.structs (layout sc p) m.region m.path t → word_at sc p l ≡ word_at sc p m → l ≡ m
 
 -- the units that an evaluation took
 abbrev pub units_of : {A : Type 0} → Costed A → ℕ
@@ -66,7 +67,8 @@ units_of (costs k r) = k
 -- an evaluation's code goes from n to to with Q, or leaves by the exit of its fault; it takes so many steps and 16 for each unit, and is never stuck
 abbrev pub Comes : {A : Type 0} → World → Scope → (own n to : ℕ) → Contents → Behind → (A → Contents → Type 0) → Costed A → Type 0
 Comes w sc own n to c d Q (costs k (Ok x)) = (c' : Contents) × Q x c' × Reaches w (own + 16 * k) (at_with n c d) (at_with to c' d)
-Comes w sc own n to c d Q (costs k (Err (faulted f))) = (c' : Contents) × Keeps 0 0 c c' × Reaches w (own + 16 * k) (at_with n c d) (at_with (sc.exit f) c' d)
+Comes w sc own n to c d Q (costs k (Err (faulted f))) = (c' : Contents) × Keeps 0 0 c c'
+    × Reaches w (own + 16 * k) (at_with n c d) (at_with (sc.exit f) c' d)
 Comes w sc own n to c d Q (costs k (Err stuck)) = ⊥
 
 -- a value in a register
@@ -91,21 +93,25 @@ pub data Source (r : ℕ) : ℕ → Type 0 where
 
 -- A node as value, from any place and any state of the machine in which the state of C0 stands: into d, with free registers from r.
 abbrev pub ValueRuns : World → Scope → Bases → State → Made → ℕ → Ty → Costed Value → Type 0
-ValueRuns w sc p s m need t e = (d r n : ℕ) (c : Contents) (k : Behind) → k.pending ≡ Idle → Ready sc p s c → CodeAt w n (m.value d r) → 8 ≤ r → r + need ≤ 20 → d ≢ 0 → d ≢ 1
+ValueRuns w sc p s m need t e = (d r n : ℕ) (c : Contents) (k : Behind) → k.pending ≡ Idle → Ready sc p s c → CodeAt w n (m.value d r) → 8 ≤ r
+    → r + need ≤ 20 → d ≢ 0 → d ≢ 1
     → Comes w sc 0 n (n + length (m.value d r)) c k (Gives sc p d r d t c) e
 
 -- as an operand, where it stands then
 abbrev pub OperandRuns : World → Scope → Bases → State → Made → ℕ → Ty → Costed Value → Type 0
-OperandRuns w sc p s m need t e = (r n : ℕ) (c : Contents) (k : Behind) → k.pending ≡ Idle → Ready sc p s c → CodeAt w n (operand_code m r) → 8 ≤ r → r + need ≤ 20
+OperandRuns w sc p s m need t e = (r n : ℕ) (c : Contents) (k : Behind) → k.pending ≡ Idle → Ready sc p s c → CodeAt w n (operand_code m r) → 8 ≤ r
+    → r + need ≤ 20
     → Source r (operand_register m r) × Comes w sc 0 n (n + length (operand_code m r)) c k (Gives sc p (operand_register m r) r r t c) e
 
 -- as a place
 abbrev pub PlaceRuns : World → Scope → Bases → State → Made → ℕ → Bool → Ty → Costed Location → Type 0
-PlaceRuns w sc p s m need local t e = (r n : ℕ) (c : Contents) (k : Behind) → k.pending ≡ Idle → Ready sc p s c → CodeAt w n (m.place r).code → 8 ≤ r → r + need ≤ 20
+PlaceRuns w sc p s m need local t e = (r n : ℕ) (c : Contents) (k : Behind) → k.pending ≡ Idle → Ready sc p s c → CodeAt w n (m.place r).code → 8 ≤ r
+    → r + need ≤ 20
     → Source r (m.place r).base × Comes w sc 0 n (n + length (m.place r).code) c k (Leads sc p (m.place r).base (m.place r).shift r local t c) e
 
 -- all that is said of a node's code: as a value and as an operand, where its type is scalar; and as a place, unless it stands in a register
-pub record Claims (w : World) (sc : Scope) (p : Bases) (s : State) (m : Made) (need : ℕ) (placed local : Bool) (t : Ty) (v : Costed Value) (l : Costed Location) : Type 0 where
+pub record Claims (w : World) (sc : Scope) (p : Bases) (s : State) (m : Made) (need : ℕ) (placed local : Bool)
+    (t : Ty) (v : Costed Value) (l : Costed Location) : Type 0 where
   pub value : is_scalar t ≡ true → ValueRuns w sc p s m need t v
   pub operand : is_scalar t ≡ true → OperandRuns w sc p s m need t v
   pub place : placed ≡ true → m.stands ≡ None → PlaceRuns w sc p s m need local t l
@@ -117,7 +123,8 @@ Right w sc p s e t = Claims w sc p s (made sc e) (need e) (is_place e) (is_frame
 -- an evaluation's code goes to one place or another, by the answer, or leaves by the exit of its fault
 abbrev pub Splits : {A : Type 0} → World → Scope → (own n : ℕ) (to : A → ℕ) → Contents → Behind → (A → Contents → Type 0) → Costed A → Type 0
 Splits w sc own n to c d Q (costs k (Ok x)) = (c' : Contents) × Q x c' × Reaches w (own + 16 * k) (at_with n c d) (at_with (to x) c' d)
-Splits w sc own n to c d Q (costs k (Err (faulted f))) = (c' : Contents) × Keeps 0 0 c c' × Reaches w (own + 16 * k) (at_with n c d) (at_with (sc.exit f) c' d)
+Splits w sc own n to c d Q (costs k (Err (faulted f))) = (c' : Contents) × Keeps 0 0 c c'
+    × Reaches w (own + 16 * k) (at_with n c d) (at_with (sc.exit f) c' d)
 Splits w sc own n to c d Q (costs k (Err stuck)) = ⊥
 
 -- to the place where the answer is s, and else to the end
@@ -134,5 +141,6 @@ pub record Aims (n e far to : ℕ) : Type 0 where
 
 -- a test goes where its answer says, within 16 steps a unit, and one more
 abbrev pub TestRuns : World → Scope → Bases → State → CExpr → Type 0
-TestRuns w sc p s e = (b : Bool) (far to r n : ℕ) (c : Contents) (k : Behind) → k.pending ≡ Idle → Ready sc p s c → CodeAt w n (test_code sc e b far r) → 8 ≤ r → r + need e ≤ 20 → Aims n (n + length (test_code sc e b far r)) far to
+TestRuns w sc p s e = (b : Bool) (far to r n : ℕ) (c : Contents) (k : Behind) → k.pending ≡ Idle → Ready sc p s c
+    → CodeAt w n (test_code sc e b far r) → 8 ≤ r → r + need e ≤ 20 → Aims n (n + length (test_code sc e b far r)) far to
     → Splits w sc 1 n (ends b to (n + length (test_code sc e b far r))) c k (λ y c'. Keeps r r c c') (truth (value_of e s))

@@ -1,15 +1,15 @@
 -- What the code of a function's expressions depends on, beside the expressions.
-use Rattle.std.specs.Prelude.{ℕ, ◌/◌, Bool, true, false, not, ◌&&◌, nat_le, List, [], ◌∷◌, ◌++◌, length, map, slice_index}
+use Rattle.std.specs.Prelude.{ℕ, ◌/◌, Bool, true, false, ◌&&◌, nat_le, length, slice_index}
 use Rattle.std.specs.List.{list_all}
 use Rattle.c0_tree.specs.Tree.{CStmt, assign, call, new, choice, loop, CStmts, done, next, CBody, code, asm, CFunction, CUnit}
 use Rattle.masm.specs.declared.registers.Places.{Places}
-use Rattle.c0_meaning.specs.Ty.{Ty, is_scalar}
-use Rattle.c0_meaning.specs.Env.{Env, Shape}
+use Rattle.c0_meaning.specs.Ty.{is_scalar}
+use Rattle.c0_meaning.specs.Env.{Env}
 use Rattle.c0_meaning.specs.Limits.{frame}
 use Rattle.c0_meaning.specs.Operators.{KernelFault, NullUse, Bounds, DivZero, StackOut}
 use Rattle.c0_meaning.specs.Sound.{shapes}
 use Rattle.c0_meaning.specs.TypeAt.{env_in}
-use Rattle.c0_meaning.specs.TypedState.{types_of, variable_types}
+use Rattle.c0_meaning.specs.TypedState.{variable_types}
 
 -- What names stand for; whether the function keeps its variables in registers; the words of its frame; and where each fault leaves
 -- to, as a word number.

@@ -8,7 +8,7 @@ use Rattle.c0_tree.specs.declared.tree.UnaryOp.{UnaryOp}
 use Rattle.c0_tree.specs.declared.tree.UnaryOp.TheVariants.{Negate, Not}
 use Rattle.c0_tree.specs.declared.tree.BinaryOp.{BinaryOp}
 use Rattle.c0_tree.specs.declared.tree.BinaryOp.TheVariants.{Add, Sub, Mul, Div, Rem, Lt, Le, Gt, Ge, Eq, Ne, And, Or}
-use Rattle.c0_tree.specs.Tree.{CExpr, num, true_, false_, null, var, field, arrow, index, deref, address, unary, binary}
+use Rattle.c0_tree.specs.Tree.{CExpr, unary, binary}
 use Rattle.c0_expr_code.specs.Scope.{Scope}
 use Rattle.c0_expr_code.specs.Code.{low, is_near, Made, one_code, two_code, made}
 
@@ -58,9 +58,11 @@ abbrev pub immediate_test : BinaryOp → ℕ → ImmediateTest
 immediate_test Lt k = if k == 0 then Some (λ s far q. negative_branch s q far ∷ []) else when_near k (λ s far q. below_code k s far q)
 immediate_test Ge k = if k == 0 then Some (λ s far q. negative_branch (not s) q far ∷ []) else when_near k (λ s far q. below_code k (not s) far q)
 immediate_test Gt k =
-    if k == 0 then Some (λ s far q. positive_branch s q far ∷ []) else when_near ((k + 1) % 2 ^ 32) (λ s far q. below_code ((k + 1) % 2 ^ 32) (not s) far q)
+    if k == 0 then Some (λ s far q. positive_branch s q far ∷ [])
+    else when_near ((k + 1) % 2 ^ 32) (λ s far q. below_code ((k + 1) % 2 ^ 32) (not s) far q)
 immediate_test Le k =
-    if k == 0 then Some (λ s far q. positive_branch (not s) q far ∷ []) else when_near ((k + 1) % 2 ^ 32) (λ s far q. below_code ((k + 1) % 2 ^ 32) s far q)
+    if k == 0 then Some (λ s far q. positive_branch (not s) q far ∷ [])
+    else when_near ((k + 1) % 2 ^ 32) (λ s far q. below_code ((k + 1) % 2 ^ 32) s far q)
 immediate_test Eq k = None
 immediate_test Ne k = None
 immediate_test Add k = None

@@ -1,7 +1,13 @@
 //! The laws of the code of expressions. Each is the contract of a function that does nothing.
 
-ghost use Rattle.c0_expr_code.specs.Laws.{CodesAreShort, CostsAreFew, ExpressionsRun, GivenRun, HeldStays, NamesAreEnough, PartsFit, StoresHold, TestsRun};
+ghost use Rattle.c0_expr_code.specs.Laws.{AreasHold, CodesAreShort, CodesInRange, CostsAreFew, ExitsAreNear, ExpressionsRun, GivenRun};
+ghost use Rattle.c0_expr_code.specs.Laws.{HeldElsewhere, HeldStays, NamesAreEnough, PartsFit, StoresHold, StoresRun, TestsRun};
+ghost use Rattle.mips_table.specs.Code.{World, Sound};
+ghost use Rattle.c0_expr_code.specs.Jumps.{PatchesAim};
+ghost use Rattle.c0_expr_code.specs.Rows.{AreSpots, AreSums, AreTests};
 
+use c0_meaning::laws::{units_are_typed_or_faulty, words_are_those_of_the_parts};
+use c0_meaning::run_laws::{declared_types_have_words, parts_of_a_type_are_apart};
 use masm::laws::{jumps_lead, straight_code_runs};
 
 /// The code of a typed expression gives its value, or its place, or leaves by the exit of its fault.
@@ -49,4 +55,45 @@ pub fn held_stays()
 /// Typed values stay typed with a part changed, and with more objects.
 pub fn parts_fit()
     ensures { PartsFit }
+{}
+
+/// In a unit that is well formed all that the code of expressions rests on holds.
+pub fn areas_hold()
+    ensures { AreasHold }
+{
+    units_are_typed_or_faulty();
+    words_are_those_of_the_parts();
+    declared_types_have_words();
+    parts_of_a_type_are_apart();
+}
+
+/// A register's word is stored at a place.
+pub fn stores_run()
+    ensures { (w : World) → Sound w → StoresRun w }
+{
+    straight_code_runs();
+    jumps_lead();
+}
+
+/// Typed values stand as before where another function runs, and where there are more objects.
+pub fn held_elsewhere()
+    ensures { HeldElsewhere }
+{}
+
+/// The code of some expressions, word by word.
+pub fn worked_rows()
+    ensures sums { AreSums }
+    ensures places { AreSpots }
+    ensures tests { AreTests }
+{}
+
+/// The instructions of the code are in range, and the exits of a function's scope where jumps reach them.
+pub fn codes_are_in_range()
+    ensures codes { CodesInRange }
+    ensures exits { ExitsAreNear }
+{}
+
+/// A test's code whose branches have no distances yet is the test's code once it is patched.
+pub fn patches_aim()
+    ensures { PatchesAim }
 {}

@@ -1,13 +1,12 @@
 -- In a typed state an expression that is typed comes to a value of its type, or to a fault of the kernel; and a place to a location of
 -- its type.
-use Rattle.std.proofs.Common.{◌≡◌, inl, inr, ℕ, zero, suc, ◌+◌, ◌<◌, Bool, true, false, nat_lt, List, [], ◌∷◌, ◌++◌, map, Option, Some, None, refl, sym, ap, ◌∙◌, subst, arith}
+use Rattle.std.proofs.Common.{◌≡◌, ℕ, zero, suc, ◌<◌, Bool, true, false, nat_lt, List, [], ◌∷◌, ◌++◌, map, Option, Some, None, refl, sym, ap, ◌∙◌, subst, arith}
 use Rattle.std.specs.Prelude.{ℤ, pos, negsuc, FitsSigned, IsTrue, if◌then◌else◌, slice_get, Result, Ok, Err, ok_or, unsigned_abs, int_div}
 use Rattle.std.specs.List.{list_all}
 use Rattle.std.specs.Option.{option_or, option_map}
-use Rattle.std.specs.Str.{bytes_eq}
 use Rattle.std.specs.Int.{w32}
 use Rattle.std.proofs.lemmas.Int.{SFits-int_wrap}
-use Rattle.std.proofs.lemmas.Bool.{and_parts, cases_Bool, cond-true, cond-false, ltb-true, false≢true}
+use Rattle.std.proofs.lemmas.Bool.{and_parts, ltb-true, false≢true}
 use Rattle.c0_tree.specs.declared.tree.Span.{Span}
 use Rattle.c0_tree.specs.declared.tree.Kind.{Kind}
 use Rattle.c0_tree.specs.declared.tree.Kind.TheVariants.{Global, Local}
@@ -16,6 +15,7 @@ use Rattle.c0_tree.specs.declared.tree.BinaryOp.{BinaryOp}
 use Rattle.c0_tree.specs.declared.tree.BinaryOp.TheVariants.{Add, Sub, Mul, Div, Rem, Lt, Le, Gt, Ge, Eq, Ne}
 use Rattle.c0_tree.specs.Tree.{CName, CExpr, var, field, arrow}
 use Rattle.c0_tree.specs.Plain.{is_plain_expr}
+use Rattle.c0_meaning.proofs.Found.{found_there, got_mapped}
 use Rattle.c0_meaning.specs.Ty.{Ty}
 use Rattle.c0_meaning.specs.Ty as ty
 use Rattle.c0_meaning.specs.Env.{Env, Typed, Variable, variable_of, variable_named, field_named, first_named}
@@ -49,36 +49,6 @@ binds P Q (costs n (Ok x)) f h g = pays Q n (f x) (g x h)
 binds P Q (costs n (Err (faulted x))) f h g = tt
 binds P Q (costs n (Err stuck)) f h g = absurd h
 
--- what a search finds stands at its number
-record Placed {A : Type 0} (xs : List A) (k : ℕ) (found : ℕ × A) : Type 0 where
-  number : ℕ
-  sum : found.0 ≡ k + number
-  there : slice_get xs number ≡ Some found.1
-
-placed : {A : Type 0} (name : A → List ℕ) (text : List ℕ) (k : ℕ) (xs : List A) (found : ℕ × A) → first_named name text k xs ≡ Some found → Placed xs k found
-placed name text k [] found e = cc
-placed {A} name text k (x ∷ xs) found e =
-    elim (cases_Bool (bytes_eq (name x) text)) [
-      | inl q ↦
-          let v : ◌≡◌ {A = Option (ℕ × A)} (Some (k, x)) (Some found) = sym (cond-true (bytes_eq (name x) text) (Some (k, x)) (first_named name text (suc k) xs) q) ∙ e in
-          let w : ◌≡◌ {A = ℕ × A} (k, x) found = cc in
-          record { number = 0; sum = sym (ap (λ p. p.0) w) ∙ omega arith; there = ap (λ p. Some p.1) w }
-      | inr q ↦
-          let r = placed name text (suc k) xs found (sym (cond-false (bytes_eq (name x) text) (Some (k, x)) (first_named name text (suc k) xs) q) ∙ e) in
-          record { number = suc r.number; sum = omega (arith, r.sum); there = r.there }
-    ]
-
-pub found_there : {A : Type 0} (name : A → List ℕ) (text : List ℕ) (xs : List A) (found : ℕ × A) → first_named name text 0 xs ≡ Some found → slice_get xs found.0 ≡ Some found.1
-found_there name text xs found e =
-    let r = placed name text 0 xs found e in
-    let q : r.number ≡ found.0 = omega (arith, r.sum) in
-    subst (λ i. slice_get xs i ≡ Some found.1) q r.there
-
-pub get_mapped : {A B : Type 0} (f : A → B) (xs : List A) (i : ℕ) (x : A) → slice_get xs i ≡ Some x → slice_get (map f xs) i ≡ Some (f x)
-get_mapped f [] i x e = cc
-get_mapped f (y ∷ xs) zero x e = let q : y ≡ x = cc in ap (λ z. Some (f z)) q
-get_mapped f (y ∷ xs) (suc i) x e = get_mapped f xs i x e
-
 -- a variable is a local or a global, and its number is that of its type
 data IsStanding (env : Env) (v : Variable) : Type 0 where
   in_frame : v.kind ≡ Local → slice_get (types_of env.locals) v.number ≡ Some v.ty → IsStanding env v
@@ -88,16 +58,16 @@ standing_in : (env : Env) (v : Variable) (a b : Option (ℕ × Typed)) → ((fou
     → option_or (option_map (variable_of Local) a) (option_map (variable_of Global) b) ≡ Some v → IsStanding env v
 standing_in env v (Some found) b f g e =
     let q : variable_of Local found ≡ v = cc in
-    in_frame (sym (ap (λ w. w.kind) q)) (subst (λ w. slice_get (types_of env.locals) w.number ≡ Some w.ty) q (get_mapped (λ d. d.ty) env.locals found.0 found.1 (f found refl)))
+    in_frame (sym (ap (λ w. w.kind) q)) (subst (λ w. slice_get (types_of env.locals) w.number ≡ Some w.ty) q (got_mapped (λ d. d.ty) env.locals found.0 found.1 (f found refl)))
 standing_in env v None (Some found) f g e =
     let q : variable_of Global found ≡ v = cc in
-    in_globals (sym (ap (λ w. w.kind) q)) (subst (λ w. slice_get (types_of env.globals) w.number ≡ Some w.ty) q (get_mapped (λ d. d.ty) env.globals found.0 found.1 (g found refl)))
+    in_globals (sym (ap (λ w. w.kind) q)) (subst (λ w. slice_get (types_of env.globals) w.number ≡ Some w.ty) q (got_mapped (λ d. d.ty) env.globals found.0 found.1 (g found refl)))
 standing_in env v None None f g e = cc
 
 standing : (env : Env) (text : List ℕ) (v : Variable) → variable_named env text ≡ Some v → IsStanding env v
 standing env text v e =
     standing_in env v (first_named (λ v. v.text) text 0 env.locals) (first_named (λ v. v.text) text 0 env.globals)
-    (λ found q. found_there (λ v. v.text) text env.locals found q) (λ found q. found_there (λ v. v.text) text env.globals found q) e
+    (λ found q. found_there (λ v. v.text) env.locals text found.0 found.1 q) (λ found q. found_there (λ v. v.text) env.globals text found.0 found.1 q) e
 
 -- the number of a name that is resolved
 variable_is : (x : CName) (o : Option Variable) (v : Variable) → o ≡ Some v → numbered_variable x o ≡ x → (x.kind ≡ v.kind) × (x.number ≡ v.number)
@@ -176,7 +146,7 @@ module _ (env : Env) (layout : Layout) (s : State) (scene : Scene env layout s) 
   field_good : (local : Bool) (x : List ℕ) (f : CName) (found : ℕ × Typed) (o : Option (ℕ × Typed)) (e : Costed Location) → Good (IsAt env layout local (ty.named x)) e → field_named env x f.text ≡ Some found → o ≡ field_named env x f.text → numbered_field f o ≡ f → Good (IsAt env layout local found.1.ty) (field_of f e)
   field_good local x f found o e h q r n =
       let number = field_is f o found (r ∙ q) n in
-      let there = get_mapped (λ d. d.ty) (fields_named env.structs x) found.0 found.1 (found_there (λ d. d.text) f.text (fields_named env.structs x) found q) in
+      let there = got_mapped (λ d. d.ty) (fields_named env.structs x) found.0 found.1 (found_there (λ d. d.text) (fields_named env.structs x) f.text found.0 found.1 q) in
       binds (IsAt env layout local (ty.named x)) (IsAt env layout local found.1.ty) e _ h
       (λ l g. below_is env layout local (ty.named x) l f.number found.1.ty g (found.1.ty, subst (λ i. slice_get (types_of (fields_named env.structs x)) i ≡ Some found.1.ty) (sym number) there, refl))
 

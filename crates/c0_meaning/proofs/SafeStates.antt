@@ -32,7 +32,8 @@ use Rattle.c0_meaning.specs.Value.{Region, globals, heap, locals, Value, int, bo
 use Rattle.c0_meaning.specs.State.{Frame, write}
 use Rattle.c0_meaning.specs.TypedState.{Layout, types_of, Fits, AllFit, AreParts, PointsTo, variable_types, IsTypedFrame, layout_of, IsTypedWith}
 use Rattle.c0_meaning.proofs.Parts.{put_parts, parts_more, joined_fit}
-use Rattle.c0_meaning.proofs.SafeExpressions.{Scene, Stands, found_there}
+use Rattle.c0_meaning.proofs.Found.{found_there}
+use Rattle.c0_meaning.proofs.SafeExpressions.{Scene, Stands}
 
 -- a value of a type, at a place of which it is asked
 pub record RightValue (env : Env) (e : CExpr) (t : Ty) : Type 0 where
@@ -104,7 +105,7 @@ pub data Calls (primitives : List CPrimitive) (u : CUnit) (c : Callee) : Type 0 
 pub callee : (primitives : List CPrimitive) (u : CUnit) (ds : List CDecl) (text : List ℕ) (c : Callee) → callee_named (env_of primitives u ds) text ≡ Some c → Calls primitives u c
 callee primitives u ds text c e =
     chosen (first_named (λ s. s.text) text 0 (map primitive_signature primitives)) (first_named (λ s. s.text) text 0 (map signature_of u.functions))
-    (λ found q. found_there (λ s. s.text) text (map primitive_signature primitives) found q) (λ found q. found_there (λ s. s.text) text (map signature_of u.functions) found q) e
+    (λ found q. found_there (λ s. s.text) (map primitive_signature primitives) text found.0 found.1 q) (λ found q. found_there (λ s. s.text) (map signature_of u.functions) text found.0 found.1 q) e
   where
     chosen : (a b : Option (ℕ × Signature)) → ((found : ℕ × Signature) → a ≡ Some found → slice_get (map primitive_signature primitives) found.0 ≡ Some found.1) → ((found : ℕ × Signature) → b ≡ Some found → slice_get (map signature_of u.functions) found.0 ≡ Some found.1)
         → option_or (option_map (callee_of Primitive) a) (option_map (callee_of Function) b) ≡ Some c → Calls primitives u c

@@ -19,6 +19,7 @@
 pub mod checked;
 pub mod form;
 pub mod laws;
+pub mod limits;
 pub mod measured;
 pub mod need;
 pub mod nodes;

@@ -13,11 +13,9 @@ ghost use Rattle.c0_meaning.specs.Resolved.{IsResolved};
 ghost use Rattle.c0_meaning.specs.Sizes.{capped};
 ghost use Rattle.c0_meaning.specs.Sound.{shapes, IsSized, IsSizedFunction};
 
+use crate::limits::WORDS_CAP;
 use crate::measured::Measured;
 use c0_tree::{Body, CType, Decl, Function};
-
-// One more than a type may have.
-const WORDS_CAP: u32 = 1_048_577;
 
 /// The words of a type, up to 1,048,577: a scalar has 1, a struct those of its fields, an array its length times those of its element.
 pub fn words_of(ty: &CType, unit: &Measured<'_>) -> u32

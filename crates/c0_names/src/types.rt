@@ -16,13 +16,8 @@ ghost use Rattle.c0_names.specs.Structs as structs;
 
 use crate::met::{Fault, Mistake, meet_at, meet_if};
 use crate::names::Names;
+use c0_meaning::limits::{MAX_TYPE_WORDS, WORDS_CAP};
 use c0_tree::{CType, Kind, Name, Span};
-
-/// How many words a type has at most.
-pub const MAX_TYPE_WORDS: u32 = 1_048_576;
-
-/// One word more: more words than these aren't told apart.
-pub const WORDS_CAP: u32 = MAX_TYPE_WORDS + 1;
 
 // Gives a struct's name its number, or meets it as the name of no struct.
 fn number_struct(names: &Names, name: &mut Name, least: &mut Option<Fault>)

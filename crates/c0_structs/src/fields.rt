@@ -7,8 +7,9 @@ ghost use Rattle.c0_meaning.specs.Sizes as table;
 ghost use Rattle.c0_structs.specs.Parts as parts;
 ghost use Rattle.c0_tree.specs.View.{decl_view, type_view};
 
+use c0_meaning::limits::WORDS_CAP;
 use c0_names::names::Names;
-use c0_names::types::{WORDS_CAP, words_by};
+use c0_names::types::words_by;
 use c0_tree::{CType, Decl};
 use std::alloc::AllocError;
 

@@ -6,7 +6,8 @@ ghost use Rattle.c0_meaning.specs.Names.{unit_names, unit_name_faults};
 ghost use Rattle.c0_names.specs.Met.{met_view};
 ghost use Rattle.c0_names.specs.Names.{look, number_named};
 ghost use Rattle.c0_names.specs.Spaces.{twice_by};
-ghost use Rattle.c0_tree.specs.Primitives.{primitive_view};
+ghost use Rattle.c0_tree.specs.Primitives.{CPrimitive, primitive_view};
+ghost use Rattle.c0_tree.specs.Tree.{CDecl, CFunction};
 ghost use Rattle.c0_tree.specs.View.{decl_view, function_view};
 ghost use Rattle.c0_types.specs.SourceOrder.{comes_next};
 
@@ -25,43 +26,64 @@ pub struct UnitNames {
     pub primitives: Names,
 }
 
-// The numbers of globals by their names.
-fn number_globals(alloc: Global, globals: &[Decl]) -> Result<Names, AllocError>
-    requires { length globals.now < 2 ^ 32 }
-    ensures { IfOk result (λ n. (text : List ℕ) → look n text ≡ number_named (λ d. d.name.text) text 0 (map decl_view globals.now)) }
-{
-    let mut names = IndexMap::new(alloc);
-    let mut number = 0u32;
-    for global in globals {
-        set_name(alloc, &mut names, global.name.bytes.as_slice(), number)?;
-        number += 1;
-    }
-    Ok(names)
+/// What has a name, and what contracts see of it.
+pub trait Named {
+    ghost Seen: { Type 0 };
+
+    ghost seen: { Self → Seen };
+
+    ghost spelled: { Seen → List ℕ };
+
+    /// The bytes of the name.
+    fn text(&self) -> &[u8]
+        ensures { result.now ≡ spelled (seen self.now) };
 }
 
-// The numbers of functions by their names.
-fn number_functions(alloc: Global, functions: &[Function]) -> Result<Names, AllocError>
-    requires { length functions.now < 2 ^ 32 }
-    ensures { IfOk result (λ n. (text : List ℕ) → look n text ≡ number_named (λ f. f.name.text) text 0 (map function_view functions.now)) }
-{
-    let mut names = IndexMap::new(alloc);
-    let mut number = 0u32;
-    for function in functions {
-        set_name(alloc, &mut names, function.name.bytes.as_slice(), number)?;
-        number += 1;
+impl Named for Decl {
+    ghost Seen = { CDecl };
+
+    ghost seen = { decl_view };
+
+    ghost spelled = { λ d. d.name.text };
+
+    fn text(&self) -> &[u8] {
+        self.name.bytes.as_slice()
     }
-    Ok(names)
 }
 
-// The numbers of primitives by their names.
-fn number_primitives(alloc: Global, primitives: &[Primitive]) -> Result<Names, AllocError>
-    requires { length primitives.now < 2 ^ 32 }
-    ensures { IfOk result (λ n. (text : List ℕ) → look n text ≡ number_named (λ p. p.name) text 0 (map primitive_view primitives.now)) }
+impl Named for Function {
+    ghost Seen = { CFunction };
+
+    ghost seen = { function_view };
+
+    ghost spelled = { λ f. f.name.text };
+
+    fn text(&self) -> &[u8] {
+        self.name.bytes.as_slice()
+    }
+}
+
+impl Named for Primitive {
+    ghost Seen = { CPrimitive };
+
+    ghost seen = { primitive_view };
+
+    ghost spelled = { λ p. p.name };
+
+    fn text(&self) -> &[u8] {
+        self.name.as_bytes()
+    }
+}
+
+// The number of each name, in order.
+fn number_all<T: Named>(alloc: Global, list: &[T]) -> Result<Names, AllocError>
+    requires { length list.now < 2 ^ 32 }
+    ensures { IfOk result (λ n. (text : List ℕ) → look n text ≡ number_named T.spelled text 0 (map T.seen list.now)) }
 {
     let mut names = IndexMap::new(alloc);
     let mut number = 0u32;
-    for primitive in primitives {
-        set_name(alloc, &mut names, primitive.name.as_bytes(), number)?;
+    for named in list {
+        set_name(alloc, &mut names, named.text(), number)?;
         number += 1;
     }
     Ok(names)
@@ -122,11 +144,11 @@ pub fn name_unit(
     ensures met { OnOk result (met_view least.new ≡ kept_all (met_view least.old) (unit_name_faults (map primitive_view primitives.now) (map decl_view globals.now) (map function_view functions.now))) }
 {
     twice_by_test_is_twice();
-    let mut space = number_primitives(alloc, primitives)?;
+    let mut space = number_all(alloc, primitives)?;
     meet_twice(alloc, &mut space, globals, functions, least)?;
-    let globals = number_globals(alloc, globals)?;
-    let functions = number_functions(alloc, functions)?;
-    let primitives = number_primitives(alloc, primitives)?;
+    let globals = number_all(alloc, globals)?;
+    let functions = number_all(alloc, functions)?;
+    let primitives = number_all(alloc, primitives)?;
     Ok(UnitNames {
         globals,
         functions,

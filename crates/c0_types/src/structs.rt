@@ -18,10 +18,11 @@ ghost use Rattle.c0_tree.specs.View.{decl_view, struct_view};
 ghost use Rattle.c0_types.specs.NumberedStruct.{numbered_struct};
 
 use crate::decls::check_decls;
+use c0_meaning::limits::MAX_TYPE_WORDS;
 use c0_names::met::{Fault, Mistake, meet_if};
 use c0_names::names::Names;
 use c0_names::spaces::{declare, declare_all, twice_by_test_is_twice};
-use c0_names::types::{MAX_TYPE_WORDS, struct_words};
+use c0_names::types::struct_words;
 use c0_structs::sizes::struct_sizes;
 use c0_tree::{Decl, Kind, Name, StructDef};
 use indexmap::IndexMap;

@@ -13,14 +13,16 @@ use Rattle.cvm_primitives.proofs.Forms.{from_straight, from_then, from_later, st
 use Rattle.cvm_primitives.specs.Copy.{word_at, with_word}
 use Rattle.page_model.specs.Places.{Places, count_at, view}
 use Rattle.layer_map.specs.Map.{hand_at}
-use Rattle.cvm_primitives.specs.View.{Sited, page_steps, Held, PageBlock, Came, Located, UsersIn, WordGood, number, Quiet, Start, start, BehindStays}
+use Rattle.frame_table.specs.View.{Sited}
+use Rattle.page_fault.specs.Asked.{PageBlock}
+use Rattle.cvm_primitives.specs.View.{page_steps, Held, Came, Located, UsersIn, WordGood, number, Quiet, Start, start, BehindStays}
 use Rattle.cvm_primitives.specs.Code.{locate_code, load_code, store_code, vm_word_code, vm_put_code}
 use Rattle.cvm_primitives.proofs.Basics.{put_same, put_other, held_to}
 use Rattle.cvm_primitives.proofs.Moves.{locate_from}
 use Rattle.cvm_primitives.proofs.Bring.{brings}
 use Rattle.cvm_primitives.proofs.Asks.{product_below, asked_from}
 
-module _ (w : World) (f : RoutineLaws w) (p : Places) (b : ℕ) (si : Sited p w b) (page : PageBlock w p b) (v : Pages) (g : Start) where
+module _ (w : World) (f : RoutineLaws w) (p : Places) (b : ℕ) (si : Sited p w) (page : PageBlock w p b) (v : Pages) (g : Start) where
   -- the frame of a page that passes
   resident : (m : ℕ → ℕ) (s : ℕ → ℕ → ℕ) (q : ℕ) (store : Bool) → PagesStand p.layout v (view p m s) → q < p.layout.pages → v.live q ≡ true → Passes (view p m s) q store
       → IsFrame p.layout (m (p.tables + q) / 4096) × ((i : ℕ) → i < 1024 → m (1024 * (m (p.tables + q) / 4096) + i) ≡ v.word q i)
@@ -59,17 +61,17 @@ module _ (w : World) (f : RoutineLaws w) (p : Places) (b : ℕ) (si : Sited p w 
       let u0 = u.0 in let u1 = u.1 in
       f.stores p.layout v (with_word v z x) (z / 1024) (m (p.tables + z / 1024) / 4096) ((with_word v z x).word (z / 1024)) (view p m s) (view p m' s) st (omega arith) al n (pass.unprotected refl)
       (record { live = al; word = λ i li. refl; lives = λ q lq ne. refl; words = λ q lq ne i li. cond-false _ x (v.word q i) (ne_eqb _ _ (omega arith)) })
-        (record {
-          entries = λ q lq. others (p.tables + q) (omega arith);
-          counts = λ h uh. let h0 = uh.0 in let h1 = uh.1 in others (count_at p h) (omega arith);
-          words = λ i li. ⊎_elim
-      (λ e. ap m' (omega arith) ∙ here ∙ sym (cond-true _ x (v.word (z / 1024) i) (eq-eqb _ _ (omega arith))))
-      (λ ne. others _ (omega arith) ∙ res.1 i li ∙ sym (cond-false _ x (v.word (z / 1024) i) (ne_eqb _ _ (omega arith))))
-      (cases_eq i (z % 1024));
-          frames = λ h uh ne i li. others _ (omega arith);
-          sectors = λ q lq i li. refl;
-          hand = ap (λ h. p.layout.zeros + 1 + h) (others hand_at (omega arith));
-        })
+      (record {
+        entries = λ q lq. others (p.tables + q) (omega arith);
+        counts = λ h uh. let h0 = uh.0 in let h1 = uh.1 in others (count_at p h) (omega arith);
+        words = λ i li. ⊎_elim
+            (λ e. ap m' (omega arith) ∙ here ∙ sym (cond-true _ x (v.word (z / 1024) i) (eq-eqb _ _ (omega arith))))
+            (λ ne. others _ (omega arith) ∙ res.1 i li ∙ sym (cond-false _ x (v.word (z / 1024) i) (ne_eqb _ _ (omega arith))))
+            (cases_eq i (z % 1024));
+        frames = λ h uh ne i li. others _ (omega arith);
+        sectors = λ q lq i li. refl;
+        hand = ap (λ h. p.layout.zeros + 1 + h) (others hand_at (omega arith));
+      })
 
   pub store_from : (z x : ℕ) (c : Contents) (d : Behind) → Held p v g c d → c.regs 26 ≡ z → c.regs 22 ≡ x → x < 2 ^ 32 → z < 1024 * p.layout.pages → v.live (z / 1024) ≡ true → From w (store_code p page.code) (3 + (page.steps + (1 + 11 + 2))) c d (λ c' d'. Held p (with_word v z x) g c' d' × (c'.regs 2 ≡ 1))
   store_from z x c d h at ax sx lz al =
@@ -104,7 +106,9 @@ module _ (w : World) (f : RoutineLaws w) (p : Places) (b : ℕ) (si : Sited p w 
             low = λ y ly ne. others y (omega arith) ∙ h1.low y ly ne;
             special = k2.keeps.special ∙ h1.special;
             r28 = k2.keeps.r28 ∙ h1.r28;
-            r29 = k2.keeps.r29 ∙ h1.r29; r30 = k2.keeps.r30 ∙ h1.r30; r31 = k2.keeps.r31 ∙ h1.r31;
+            r29 = k2.keeps.r29 ∙ h1.r29;
+            r30 = k2.keeps.r30 ∙ h1.r30;
+            r31 = k2.keeps.r31 ∙ h1.r31;
             behind = subst (BehindStays p g) (sym (k2.disk)) h1.behind;
             idle = ap (λ d. d.pending) k2.disk ∙ h1.idle;
           }
@@ -118,7 +122,7 @@ number_good p users per size v c u a us good =
     let e : number per u a / 1024 ≡ (u - 1) * per + a / 4096 = omega arith in
     (omega arith, ap v.live e ∙ us.live u (a / 4096) g0 g1 (omega arith) ∙ lt-ltb (a / 4096) (size u) (omega arith))
 
-module _ (w : World) (f : RoutineLaws w) (p : Places) (b : ℕ) (si : Sited p w b) (page : PageBlock w p b) (users per : ℕ) (size : ℕ → ℕ) (v : Pages) (c : Contents) (d : Behind) (held : Held p v (start c d) c d) (us : UsersIn p users per size v c) (u a : ℕ) (ru : c.regs 20 ≡ u) (ra : c.regs 21 ≡ a) (su : u < 2 ^ 32) (sa : a < 2 ^ 32) where
+module _ (w : World) (f : RoutineLaws w) (p : Places) (b : ℕ) (si : Sited p w) (page : PageBlock w p b) (users per : ℕ) (size : ℕ → ℕ) (v : Pages) (c : Contents) (d : Behind) (held : Held p v (start c d) c d) (us : UsersIn p users per size v c) (u a : ℕ) (ru : c.regs 20 ≡ u) (ra : c.regs 21 ≡ a) (su : u < 2 ^ 32) (sa : a < 2 ^ 32) where
   quiet_held : (c1 : Contents) (d1 : Behind) → Quiet c d c1 d1 → Held p v (start c d) c1 d1
   quiet_held c1 d1 k = held_to p v (start c d) c d c1 d1 held k.memory k.special k.r28 k.r29 k.r30 k.r31 k.disk
 

@@ -11,7 +11,8 @@ use Rattle.masm.specs.Says.{Gives, Reads, Widens}
 use Rattle.masm.specs.Laws.{From}
 use Rattle.cvm_primitives.proofs.Forms.{from_straight, from_then, from_when, straight_then}
 use Rattle.page_model.specs.Places.{Places}
-use Rattle.cvm_primitives.specs.View.{Sited, UsersIn, WordGood, number, size_at, Quiet}
+use Rattle.frame_table.specs.View.{Sited}
+use Rattle.cvm_primitives.specs.View.{UsersIn, WordGood, number, size_at, Quiet}
 use Rattle.cvm_primitives.specs.Code.{base_code, word_test_code, word_code}
 use Rattle.cvm_primitives.proofs.Basics.{flag_of, put_other, small_is}
 
@@ -43,7 +44,7 @@ module _ (w : World) (f : RoutineLaws w) where
         ))
 
   -- the tests of vm_word and vm_put: the work is f.handled.passes where u and a are good, and else register 2 is what the bad answer is
-  module _ (p : Places) (b : ℕ) (si : Sited p w b) (users per : ℕ) (size : ℕ → ℕ) (v : Pages) where
+  module _ (p : Places) (b : ℕ) (si : Sited p w) (users per : ℕ) (size : ℕ → ℕ) (v : Pages) where
     pub asked_from : (bad m : ℕ) (work : List Inst) (Q : Contents → Behind → Type 0) (c : Contents) (d : Behind) (u a : ℕ) → d.pending ≡ Idle → UsersIn p users per size v c → c.regs 20 ≡ u → c.regs 21 ≡ a → u < 2 ^ 32 → a < 2 ^ 32 → length work ≤ 30000
         → (WordGood users size u a → (c1 : Contents) (d1 : Behind) → Quiet c d c1 d1 → c1.regs 26 ≡ number per u a → From w work m c1 d1 Q)
         → ((WordGood users size u a → ⊥) → (c1 : Contents) (d1 : Behind) → Quiet c d c1 d1 → c1.regs 2 ≡ sum 0 (extended bad) → Q c1 d1)

@@ -8,7 +8,8 @@ use Rattle.mips_table.specs.Arith.{extended, flag}
 use Rattle.mips_table.specs.Code.{put, Contents, Behind, World}
 use Rattle.page_model.specs.Places.{Places, count_at, view}
 use Rattle.layer_map.specs.Map.{hand_at}
-use Rattle.cvm_primitives.specs.View.{Sited, Held, Keeps, DropAsked, Start, BehindStays}
+use Rattle.frame_table.specs.View.{Sited}
+use Rattle.cvm_primitives.specs.View.{Held, Keeps, DropAsked, Start, BehindStays}
 use Rattle.cvm_primitives.specs.Routines.{RoutineLaws}
 
 pub const_is : (v : ℕ) → bit_or (v / 65536 * 2 ^ 16) (v % 65536) ≡ v
@@ -33,7 +34,7 @@ pub kept_on : (a b c : Contents) → Keeps a b → Keeps b c → Keeps a c
 kept_on a b c k l = record { r13 = l.r13 ∙ k.r13; r14 = l.r14 ∙ k.r14; r15 = l.r15 ∙ k.r15; r16 = l.r16 ∙ k.r16; r26 = l.r26 ∙ k.r26; r27 = l.r27 ∙ k.r27; r28 = l.r28 ∙ k.r28; r29 = l.r29 ∙ k.r29; r30 = l.r30 ∙ k.r30; r31 = l.r31 ∙ k.r31; special = l.special ∙ k.special }
 
 -- one entry is written, and counts
-pub edit_is : (p : Places) (w : World) (b : ℕ) → Sited p w b → (q e : ℕ) (m m' : ℕ → ℕ) (s : ℕ → ℕ → ℕ) → q < p.layout.pages → m' (p.tables + q) ≡ e
+pub edit_is : (p : Places) (w : World) (b : ℕ) → Sited p w → (q e : ℕ) (m m' : ℕ → ℕ) (s : ℕ → ℕ → ℕ) → q < p.layout.pages → m' (p.tables + q) ≡ e
     → ((x : ℕ) → x ≢ p.tables + q → (x < p.counts) ⊎ (p.counts + 8 * p.layout.frames ≤ x) → m' x ≡ m x)
     → ((f : ℕ) → IsUserFrame p.layout f → m' (count_at p f) + naming (m (p.tables + q)) f ≡ m (count_at p f) + naming e f)
     → Retargeted p.layout q e (view p m s) (view p m' s)
@@ -83,7 +84,9 @@ held_to p u g c d c' d' h m s r28 r29 r30 r31 e = record {
   low = λ x lx ne. ap (λ m. m x) m ∙ h.low x lx ne;
   special = s ∙ h.special;
   r28 = r28 ∙ h.r28;
-  r29 = r29 ∙ h.r29; r30 = r30 ∙ h.r30; r31 = r31 ∙ h.r31;
+  r29 = r29 ∙ h.r29;
+  r30 = r30 ∙ h.r30;
+  r31 = r31 ∙ h.r31;
   behind = subst (BehindStays p g) (sym (e)) h.behind;
   idle = ap (λ d. d.pending) e ∙ h.idle;
 }

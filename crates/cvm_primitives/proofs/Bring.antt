@@ -11,7 +11,9 @@ use Rattle.masm.specs.Says.{Gives}
 use Rattle.masm.specs.Laws.{From}
 use Rattle.cvm_primitives.proofs.Forms.{from_straight, from_then, from_later}
 use Rattle.page_model.specs.Places.{Places, view}
-use Rattle.cvm_primitives.specs.View.{Sited, Held, Keeps, PageBlock, Came, BothIn, FourOthers, Start}
+use Rattle.frame_table.specs.View.{Sited}
+use Rattle.page_fault.specs.Asked.{PageBlock}
+use Rattle.cvm_primitives.specs.View.{Held, Keeps, Came, BothIn, FourOthers, Start}
 use Rattle.cvm_primitives.specs.Code.{both_code}
 use Rattle.cvm_primitives.proofs.Basics.{flag_of}
 
@@ -31,7 +33,7 @@ both_pass w f l q r s b c d two lq lr u x y same other z = ⊎_elim
     ))
     (cases_eq q r)
 
-module _ (w : World) (f : RoutineLaws w) (p : Places) (b : ℕ) (si : Sited p w b) (page : PageBlock w p b) (g : Start) where
+module _ (w : World) (f : RoutineLaws w) (p : Places) (b : ℕ) (si : Sited p w) (page : PageBlock w p b) (g : Start) where
   pub brings : (u : Pages) (q : ℕ) (store : Bool) (c : Contents) (d : Behind) → Held p u g c d → c.regs 16 ≡ q → q < p.layout.pages → u.live q ≡ true → (store ≡ false → c.regs 15 ≡ 0) → (store ≡ true → c.regs 15 ≢ 0) → From w page.code page.steps c d (Came p u g q store c d)
   brings u q store c d h at lt live load save =
       from_later w f page.code page.steps page.steps c d _ _ (omega arith)
@@ -40,15 +42,17 @@ module _ (w : World) (f : RoutineLaws w) (p : Places) (b : ℕ) (si : Sited p w 
           stands = k.stands;
           small = k.small;
           low = λ x lx ne. k.low x lx ne ∙ h.low x lx ne;
-          special = k.special ∙ h.special;
+          special = k.besides.special ∙ h.special;
           r28 = k.regs 28 (inr (omega arith)) ∙ h.r28;
-          r29 = k.regs 29 (inr (omega arith)) ∙ h.r29; r30 = k.regs 30 (inr (omega arith)) ∙ h.r30; r31 = k.regs 31 (inr (omega arith)) ∙ h.r31;
-          behind = record { log = k.log ∙ h.behind.log; input = k.input ∙ h.behind.input; past = λ x i le. k.past x i le ∙ h.behind.past x i le };
-          idle = k.idle;
+          r29 = k.regs 29 (inr (omega arith)) ∙ h.r29;
+          r30 = k.regs 30 (inr (omega arith)) ∙ h.r30;
+          r31 = k.regs 31 (inr (omega arith)) ∙ h.r31;
+          behind = record { log = k.besides.log ∙ h.behind.log; input = k.besides.input ∙ h.behind.input; past = λ x i le. k.beyond x i le ∙ h.behind.past x i le };
+          idle = k.besides.idle;
         };
         brought = k.brought;
         stays = k.stays;
-        keeps = record { r13 = k.regs 13 (inl (omega arith, omega arith)); r14 = k.regs 14 (inl (omega arith, omega arith)); r15 = k.regs 15 (inl (omega arith, omega arith)); r16 = k.regs 16 (inl (omega arith, omega arith)); r26 = k.regs 26 (inr (omega arith)); r27 = k.regs 27 (inr (omega arith)); r28 = k.regs 28 (inr (omega arith)); r29 = k.regs 29 (inr (omega arith)); r30 = k.regs 30 (inr (omega arith)); r31 = k.regs 31 (inr (omega arith)); special = k.special };
+        keeps = record { r13 = k.regs 13 (inl (omega arith, omega arith)); r14 = k.regs 14 (inl (omega arith, omega arith)); r15 = k.regs 15 (inl (omega arith, omega arith)); r16 = k.regs 16 (inl (omega arith, omega arith)); r26 = k.regs 26 (inr (omega arith)); r27 = k.regs 27 (inr (omega arith)); r28 = k.regs 28 (inr (omega arith)); r29 = k.regs 29 (inr (omega arith)); r30 = k.regs 30 (inr (omega arith)); r31 = k.regs 31 (inr (omega arith)); special = k.besides.special };
       })
       (page.does u q store c d (record { page = at; inside = lt; live = live; stands = h.stands; small = h.small; idle = h.idle; load = load; save = save }))
 
@@ -60,7 +64,9 @@ module _ (w : World) (f : RoutineLaws w) (p : Places) (b : ℕ) (si : Sited p w 
     low = λ x lx ne. ap (λ m. m x) m ∙ h.low x lx ne;
     special = k.special ∙ h.special;
     r28 = k.r28 ∙ h.r28;
-    r29 = k.r29 ∙ h.r29; r30 = k.r30 ∙ h.r30; r31 = k.r31 ∙ h.r31;
+    r29 = k.r29 ∙ h.r29;
+    r30 = k.r30 ∙ h.r30;
+    r31 = k.r31 ∙ h.r31;
     behind = h.behind;
     idle = h.idle;
   }

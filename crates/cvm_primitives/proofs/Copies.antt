@@ -14,7 +14,9 @@ use Rattle.masm.specs.Laws.{From}
 use Rattle.cvm_primitives.proofs.Forms.{from_straight, from_then, from_when, from_later, straight_then, from_does}
 use Rattle.cvm_primitives.specs.Copy.{Apart, copied, pieces}
 use Rattle.page_model.specs.Places.{Places}
-use Rattle.cvm_primitives.specs.View.{Sited, page_steps, Held, Marks, CopyGood, PageBlock, UsersIn, RangeGood, CopyArgs, Tests, number, size_at, start}
+use Rattle.frame_table.specs.View.{Sited}
+use Rattle.page_fault.specs.Asked.{PageBlock}
+use Rattle.cvm_primitives.specs.View.{page_steps, Held, Marks, CopyGood, UsersIn, RangeGood, CopyArgs, Tests, number, size_at, start}
 use Rattle.cvm_primitives.specs.Code.{base_code, size_code, range_code, apart_code, copy_asked_code, copies_code, vm_copy_code}
 use Rattle.cvm_primitives.proofs.Basics.{flag_of, small_is, held_to}
 use Rattle.cvm_primitives.proofs.Piece.{copy_law, run_short}
@@ -30,7 +32,7 @@ tests_on c0 d0 c d c' d' k l = record { memory = l.memory ∙ k.memory; special 
 users_on : (p : Places) (users per : ℕ) (size : ℕ → ℕ) (v : Pages) (c c' : Contents) → c'.memory ≡ c.memory → UsersIn p users per size v c → UsersIn p users per size v c'
 users_on p users per size v c c' m us = record { few = us.few; most = us.most; shape = us.shape; sizes = λ u u0 u1. ap (λ m. m (size_at u)) m ∙ us.sizes u u0 u1; fit = us.fit; live = us.live }
 
-module _ (w : World) (f : RoutineLaws w) (p : Places) (b : ℕ) (si : Sited p w b) (users per : ℕ) (size : ℕ → ℕ) (v : Pages) where
+module _ (w : World) (f : RoutineLaws w) (p : Places) (b : ℕ) (si : Sited p w) (users per : ℕ) (size : ℕ → ℕ) (v : Pages) where
   pub range_from : (m : ℕ) (inside : List Inst) (Q : Contents → Behind → Type 0) (c : Contents) (d : Behind) (u a n : ℕ) → d.pending ≡ Idle → UsersIn p users per size v c → c.regs 20 ≡ u → c.regs 21 ≡ a → c.regs 14 ≡ n → u < 2 ^ 32 → a < 2 ^ 32 → n < 2 ^ 32 → length inside ≤ 20000
       → (RangeGood users size u a n → (c1 : Contents) (d1 : Behind) → Tests c d c1 d1 → c1.regs 10 ≡ number per u a → From w inside m c1 d1 Q)
       → ((RangeGood users size u a n → ⊥) → (c1 : Contents) (d1 : Behind) → Tests c d c1 d1 → Q c1 d1)
@@ -141,7 +143,7 @@ range_below p users per size v c u a n us g =
     let g0 = g.0 in let g1 = g.1 in let g3 = g.3 in let fit = us.fit u g0 g1 in let shape = us.shape in
     let bound = product_below (u - 1) users per (omega arith) in omega arith
 
-module _ (w : World) (f : RoutineLaws w) (p : Places) (b : ℕ) (si : Sited p w b) (page : PageBlock w p b) (users per : ℕ) (size : ℕ → ℕ) (v : Pages) (c : Contents) (d : Behind) (held : Held p v (start c d) c d) (us : UsersIn p users per size v c) (u a v' b' n : ℕ)
+module _ (w : World) (f : RoutineLaws w) (p : Places) (b : ℕ) (si : Sited p w) (page : PageBlock w p b) (users per : ℕ) (size : ℕ → ℕ) (v : Pages) (c : Contents) (d : Behind) (held : Held p v (start c d) c d) (us : UsersIn p users per size v c) (u a v' b' n : ℕ)
     (ru : c.regs 20 ≡ u) (ra : c.regs 21 ≡ a) (rv : c.regs 22 ≡ v') (rb : c.regs 23 ≡ b') (rn : c.regs 24 ≡ n) (su : u < 2 ^ 32) (sa : a < 2 ^ 32) (sv : v' < 2 ^ 32) (sb : b' < 2 ^ 32) (sn : n < 2 ^ 32) where
   inside_short : length (copies_code p page.code ++ (Addiu 2 0 1 ∷ [])) ≤ 10000
   inside_short = run_short w p b page

@@ -13,11 +13,13 @@ use Rattle.masm.specs.Blocks.{when_code}
 use Rattle.masm.specs.Laws.{From}
 use Rattle.cvm_primitives.proofs.Forms.{from_straight, from_then, from_when, from_later}
 use Rattle.page_model.specs.Places.{Places, count_at, view}
-use Rattle.cvm_primitives.specs.View.{Sited, Keeps, Found, DropAsked, DropDone}
-use Rattle.cvm_primitives.specs.Code.{find_code, user_code, count_code, less_code, drop_code}
+use Rattle.frame_table.specs.View.{Sited}
+use Rattle.cvm_primitives.specs.View.{Keeps, Found, DropAsked, DropDone}
+use Rattle.frame_table.specs.Code.{find_code, user_code, count_code, less_code}
+use Rattle.cvm_primitives.specs.Code.{drop_code}
 use Rattle.cvm_primitives.proofs.Basics.{const_is, put_same, put_other, kept_on, edit_is, counts_one, counts_none}
 
-module _ (w : World) (f : RoutineLaws w) (p : Places) (b : ℕ) (si : Sited p w b) where
+module _ (w : World) (f : RoutineLaws w) (p : Places) (b : ℕ) (si : Sited p w) where
   pub find_from : (q : ℕ) (c : Contents) (d : Behind) → c.regs 16 ≡ q → q < p.layout.pages → c.memory (p.tables + q) < 2 ^ 32 → d.pending ≡ Idle → From w (find_code p) 9 c d (Found p q c d)
   find_from q c d page lt small idle =
       let low = si.low in let first = si.first in let second = si.second in let third = si.third in let words = f.small in

@@ -21,6 +21,10 @@ user_or_zero l f h = ⊎_elim (λ e. inl e) (λ ne. let h0 = h.0 in inr (omega a
 from_here : (w : World) (c0 c c' : Contents) (d0 d d' : Behind) (n m to : ℕ) → (c ≡ c0) × (d ≡ d0) → Reaches w m (at_with n c0 d0) (at_with to c' d') → Reaches w m (at_with n c d) (at_with to c' d')
 from_here w c0 c c' d0 d d' n m to e run = subst (λ c. Reaches w m (at_with n c d) (at_with to c' d')) (sym e.0) (subst (λ d. Reaches w m (at_with n c0 d) (at_with to c' d')) (sym e.1) run)
 
+-- the same code by another name
+pub renamed : (w : World) (code : List Inst → List Inst) (a b : List Inst) (n : ℕ) (c : Contents) (d : Behind) (Q : Contents → Behind → Type 0) → a ≡ b → From w (code a) n c d Q → From w (code b) n c d Q
+renamed w code a b n c d Q e h = subst (λ a. From w (code a) n c d Q) e h
+
 module _ (w : World) (f : RoutineLaws w) where
   pub weaker : (is : List Inst) (n m : ℕ) (P P' Q Q' : Contents → Behind → Type 0) → n ≤ m → ((c : Contents) (d : Behind) → P' c d → P c d) → ((c : Contents) (d : Behind) → Q c d → Q' c d) → Does w is n P Q → Does w is m P' Q'
   weaker is n m P P' Q Q' le before after h = record {

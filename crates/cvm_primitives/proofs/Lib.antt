@@ -13,3 +13,4 @@ pub mod Access
 pub mod Copies
 pub mod Resize
 pub mod Users
+pub mod Emit

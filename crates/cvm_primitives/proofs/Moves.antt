@@ -9,7 +9,8 @@ use Rattle.masm.specs.Laws.{From}
 use Rattle.cvm_primitives.proofs.Forms.{loop_pays}
 use Rattle.cvm_primitives.proofs.Forms.{from_straight, from_later, from_does, does_from}
 use Rattle.page_model.specs.Places.{Places}
-use Rattle.cvm_primitives.specs.View.{Sited, Keeps, MoveAsked, Moved, Located}
+use Rattle.frame_table.specs.View.{Sited}
+use Rattle.cvm_primitives.specs.View.{Keeps, MoveAsked, Moved, Located}
 use Rattle.cvm_primitives.specs.Code.{copy_body, copy_code, locate_code}
 use Rattle.cvm_primitives.proofs.Basics.{const_is, put_same, put_other, all_kept, kept_on}
 
@@ -61,7 +62,7 @@ module _ (w : World) (f : RoutineLaws w) (a b n : ℕ) (c0 : Contents) (d0 : Beh
       (λ k c d l z. let count = l.count in let most = l.most in record { words = λ j lt. l.words j (omega arith); others = λ x o. l.others x (⊎_elim (λ h. inl h) (λ h. inr (omega arith)) o); keeps = l.keeps; disk = l.disk })
       0))
 
-module _ (w : World) (f : RoutineLaws w) (p : Places) (b : ℕ) (si : Sited p w b) where
+module _ (w : World) (f : RoutineLaws w) (p : Places) (b : ℕ) (si : Sited p w) where
   -- register x holds the word's number; i moves it to 8
   pub locate_from : (z : ℕ) (c : Contents) (d : Behind) → c.regs 8 ≡ z → z < 1024 * p.layout.pages → c.memory (p.tables + z / 1024) < 2 ^ 32 → d.pending ≡ Idle → From w (locate_code p) 11 c d (Located p z c d)
   locate_from z c d at lt small idle =

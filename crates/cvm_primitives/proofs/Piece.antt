@@ -14,7 +14,9 @@ use Rattle.masm.specs.Laws.{From}
 use Rattle.cvm_primitives.proofs.Forms.{from_straight, from_then, from_when, from_later, straight_then, does_from}
 use Rattle.cvm_primitives.specs.Copy.{copied, Apart, least, piece, pieces}
 use Rattle.page_model.specs.Places.{Places, view}
-use Rattle.cvm_primitives.specs.View.{Sited, page_steps, Held, Marks, CopyGood, PieceLaw, PageBlock, SharesFrame, FourOthers, Start}
+use Rattle.frame_table.specs.View.{Sited}
+use Rattle.page_fault.specs.Asked.{PageBlock}
+use Rattle.cvm_primitives.specs.View.{page_steps, Held, Marks, CopyGood, PieceLaw, SharesFrame, FourOthers, Start}
 use Rattle.cvm_primitives.specs.Code.{to_end_code, least_code, length_code, read_code, whole_code, words_code, piece_code, both_code, copy_code, locate_code}
 use Rattle.cvm_primitives.proofs.Basics.{flag_of, held_to}
 use Rattle.cvm_primitives.proofs.Pieces.{Fits, fits}
@@ -65,7 +67,7 @@ module _ (w : World) (f : RoutineLaws w) where
       (λ m. least_from (1024 - y % 1024) (least (1024 - x % 1024) n) (omega arith) c d (with_reg (with_reg (with_reg (with_reg c1 8 (y * 2 ^ 22 % 2 ^ 32)) 8 (y % 1024)) 9 1024) 8 (1024 - y % 1024)) d1 idle
       (record { value = k.value; r26 = k.r26; r27 = k.r27; r14 = k.r14; r28 = k.r28; r29 = k.r29; r30 = k.r30; r31 = k.r31; special = k.special; memory = k.memory; disk = k.disk }) refl)))
 
-module _ (w : World) (f : RoutineLaws w) (p : Places) (b : ℕ) (si : Sited p w b) (page : PageBlock w p b) (g : Start) where
+module _ (w : World) (f : RoutineLaws w) (p : Places) (b : ℕ) (si : Sited p w) (page : PageBlock w p b) (g : Start) where
   -- after the source's page was brought in
   record ReadIn (u : Pages) (x : ℕ) (c0 : Contents) (c : Contents) (d : Behind) : Type 0 where
     held : Held p u g c d
@@ -217,6 +219,6 @@ pub run_short : (w : World) (p : Places) (b : ℕ) (page : PageBlock w p b) → 
 run_short w p b page = let s = piece_short w p b page in let l = loop_length 28 (piece_code p page.code) (Addiu 2 0 1 ∷ []) in omega arith
 
 -- THE LOOP OF vm_copy, with the pieces' own code: within what its pieces and words are worth
-pub copy_law : (w : World) → RoutineLaws w → (p : Places) (b : ℕ) → Sited p w b → (page : PageBlock w p b) → (g : Start) (v : Pages) (x y n : ℕ) → CopyGood p.layout v x y n
+pub copy_law : (w : World) → RoutineLaws w → (p : Places) (b : ℕ) → Sited p w → (page : PageBlock w p b) → (g : Start) (v : Pages) (x y n : ℕ) → CopyGood p.layout v x y n
     → Does w (loop_code [] 14 (piece_code p page.code)) (3 * page_steps p.layout.pages b * pieces x y n + 600 * n + 1) (λ c d. Held p v g c d × Marks x y n c) (Held p (copied v x y n) g)
 copy_law w f p b si page g v x y n good = copies w f p b (piece_code p page.code) (let s = piece_short w p b page in omega arith) g (piece_law w f p b si page g) v x y n good

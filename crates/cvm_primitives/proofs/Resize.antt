@@ -15,8 +15,10 @@ use Rattle.cvm_primitives.proofs.Forms.{from_straight, from_then, from_when, fro
 use Rattle.cvm_primitives.specs.Copy.{cut, grown, resized}
 use Rattle.page_model.specs.Places.{Places, count_at, view}
 use Rattle.layer_map.specs.Map.{hand_at}
-use Rattle.cvm_primitives.specs.View.{Sited, page_steps, Held, DropDone, UsersIn, size_at, ResizeGood, Fresh, Start, start, BehindStays}
-use Rattle.cvm_primitives.specs.Code.{const_code, drop_code, cut_body, grow_body, cut_code, grow_code, base_code, size_code, vm_resize_code}
+use Rattle.frame_table.specs.View.{Sited}
+use Rattle.cvm_primitives.specs.View.{page_steps, Held, DropDone, UsersIn, size_at, ResizeGood, Fresh, Start, start, BehindStays}
+use Rattle.frame_table.specs.Code.{const_code}
+use Rattle.cvm_primitives.specs.Code.{drop_code, cut_body, grow_body, cut_code, grow_code, base_code, size_code, vm_resize_code}
 use Rattle.cvm_primitives.proofs.Basics.{const_is, small_is, put_same, put_other, flag_of, edit_is, counts_none, drop_asked, held_to}
 use Rattle.cvm_primitives.proofs.Drop.{drop_from}
 use Rattle.cvm_primitives.proofs.Asks.{product_below, Based, base_from}
@@ -60,7 +62,7 @@ no_cut l v q = record { live = λ x lx. ⊎_elim (λ lt. (before_is v q 0 x lt).
 no_growth : (l : Layout) (v : Pages) (q : ℕ) → Agree l v (grown v q 0)
 no_growth l v q = record { live = λ x lx. ⊎_elim (λ lt. (before_is v q 0 x lt).1) (λ le. (past_is v q 0 x (omega arith)).1) (cases_lt x q); word = λ x i lx li. ⊎_elim (λ lt. grown_word v q 0 x i (inl lt)) (λ le. grown_word v q 0 x i (inr (omega arith))) (cases_lt x q) }
 
-module _ (w : World) (f : RoutineLaws w) (p : Places) (b : ℕ) (si : Sited p w b) (g : Start) (v : Pages) (q n : ℕ) (below : q + n ≤ p.layout.pages) where
+module _ (w : World) (f : RoutineLaws w) (p : Places) (b : ℕ) (si : Sited p w) (g : Start) (v : Pages) (q n : ℕ) (below : q + n ≤ p.layout.pages) where
   -- k pages are cut off
   record Cutting (k : ℕ) (c0 : Contents) (c : Contents) (d : Behind) : Type 0 where
     held : Held p (cut v q k) g c d
@@ -85,7 +87,9 @@ module _ (w : World) (f : RoutineLaws w) (p : Places) (b : ℕ) (si : Sited p w 
             low = λ z lz ne. h.low z lz ∙ s.held.low z lz ne;
             special = h.keeps.special ∙ s.held.special;
             r28 = h.keeps.r28 ∙ s.held.r28;
-            r29 = h.keeps.r29 ∙ s.held.r29; r30 = h.keeps.r30 ∙ s.held.r30; r31 = h.keeps.r31 ∙ s.held.r31;
+            r29 = h.keeps.r29 ∙ s.held.r29;
+            r30 = h.keeps.r30 ∙ s.held.r30;
+            r31 = h.keeps.r31 ∙ s.held.r31;
             behind = subst (BehindStays p g) (sym (h.disk)) s.held.behind;
             idle = ap (λ d. d.pending) h.disk ∙ s.held.idle;
           };
@@ -156,7 +160,9 @@ module _ (w : World) (f : RoutineLaws w) (p : Places) (b : ℕ) (si : Sited p w 
               low = λ z lz ne. others z (omega arith) ∙ h.low z lz ne;
               special = h.special;
               r28 = h.r28;
-              r29 = h.r29; r30 = h.r30; r31 = h.r31;
+              r29 = h.r29;
+              r30 = h.r30;
+              r31 = h.r31;
               behind = h.behind;
               idle = h.idle;
             }
@@ -173,7 +179,7 @@ module _ (w : World) (f : RoutineLaws w) (p : Places) (b : ℕ) (si : Sited p w 
         (λ k c d s z. let left = s.left in let most = s.most in let e : k ≡ n = omega arith in (subst (λ k. Held p (grown v q k) g c d) e s.held, subst (λ k. Fresh p q k c) e s.names))
         0))
 
-module _ (w : World) (f : RoutineLaws w) (p : Places) (b : ℕ) (si : Sited p w b) where
+module _ (w : World) (f : RoutineLaws w) (p : Places) (b : ℕ) (si : Sited p w) where
   -- the last part: the pages from register 28 on become fresh, up to register 27
   grow_part : (g : Start) (v : Pages) (q n : ℕ) → q + n ≤ p.layout.pages → ((x : ℕ) → q ≤ x → x < q + n → v.live x ≡ false) → (c : Contents) (d : Behind) → Held p v g c d → c.regs 27 ≡ q + n → c.regs 13 ≡ q → From w (grow_code p) (7 + (5 * n + 1 + 1)) c d (λ c' d'. Held p (grown v q n) g c' d' × (c'.regs 2 ≡ 1) × Fresh p q n c')
   grow_part g v q n below dead c d h to from =
@@ -235,7 +241,9 @@ module _ (w : World) (f : RoutineLaws w) (p : Places) (b : ℕ) (si : Sited p w 
         low = λ z lz ne. refl;
         special = refl;
         r28 = refl;
-        r29 = refl; r30 = refl; r31 = refl;
+        r29 = refl;
+        r30 = refl;
+        r31 = refl;
         behind = record { log = h.behind.log; input = h.behind.input; past = h.behind.past };
         idle = h.idle;
       }

@@ -15,8 +15,10 @@ use Rattle.masm.specs.Laws.{From}
 use Rattle.cvm_primitives.proofs.Forms.{from_straight, from_then, from_when, from_later, straight_then}
 use Rattle.cvm_primitives.specs.Copy.{copied}
 use Rattle.page_model.specs.Places.{Places, count_at, view}
-use Rattle.cvm_primitives.specs.View.{Sited, Held, Keeps, DropDone, Found, SharesFrame, FourOthers, Start, BehindStays}
-use Rattle.cvm_primitives.specs.Code.{drop_code, find_code, user_code, more_code, room_code, share_code, whole_code}
+use Rattle.frame_table.specs.View.{Sited}
+use Rattle.cvm_primitives.specs.View.{Held, Keeps, DropDone, Found, SharesFrame, FourOthers, Start, BehindStays}
+use Rattle.frame_table.specs.Code.{find_code, user_code, more_code}
+use Rattle.cvm_primitives.specs.Code.{drop_code, room_code, share_code, whole_code}
 use Rattle.cvm_primitives.proofs.Basics.{const_is, put_same, put_other, flag_of, kept_on, edit_is, counts_none, drop_asked, held_to}
 use Rattle.cvm_primitives.proofs.Drop.{find_from, drop_from, bumps}
 use Rattle.cvm_primitives.proofs.Loop.{Agree, word_before, word_in, word_past}
@@ -32,7 +34,7 @@ counted_hits : (e e' : ℕ → ℕ) (f n : ℕ) → ((x : ℕ) → x < n → nam
 counted_hits e e' f zero h = refl
 counted_hits e e' f (suc n) h = ap₂ (λ u v. u + v) (counted_hits e e' f n (λ x lt. h x (omega arith))) (h n (omega arith))
 
-module _ (w : World) (f : RoutineLaws w) (p : Places) (b : ℕ) (si : Sited p w b) (g : Start) (u : Pages) (x y : ℕ) (wx : x % 1024 ≡ 0) (wy : y % 1024 ≡ 0) (ne : x / 1024 ≢ y / 1024) (lx : x < 1024 * p.layout.pages) (ly : y < 1024 * p.layout.pages) (ax : u.live (x / 1024) ≡ true) (ay : u.live (y / 1024) ≡ true) where
+module _ (w : World) (f : RoutineLaws w) (p : Places) (b : ℕ) (si : Sited p w) (g : Start) (u : Pages) (x y : ℕ) (wx : x % 1024 ≡ 0) (wy : y % 1024 ≡ 0) (ne : x / 1024 ≢ y / 1024) (lx : x < 1024 * p.layout.pages) (ly : y < 1024 * p.layout.pages) (ax : u.live (x / 1024) ≡ true) (ay : u.live (y / 1024) ≡ true) where
   -- a copy of the whole page, over whatever it held
   over : (s : ℕ → ℕ) → Agree p.layout (copied (paged u (y / 1024) s) x y 1024) (copied u x y 1024)
   over s = record {
@@ -68,7 +70,9 @@ module _ (w : World) (f : RoutineLaws w) (p : Places) (b : ℕ) (si : Sited p w 
         low = λ z lz nz. k.low z lz ∙ h.low z lz nz;
         special = k.keeps.special ∙ h.special;
         r28 = k.keeps.r28 ∙ h.r28;
-        r29 = k.keeps.r29 ∙ h.r29; r30 = k.keeps.r30 ∙ h.r30; r31 = k.keeps.r31 ∙ h.r31;
+        r29 = k.keeps.r29 ∙ h.r29;
+        r30 = k.keeps.r30 ∙ h.r30;
+        r31 = k.keeps.r31 ∙ h.r31;
         behind = subst (BehindStays p g) (sym (k.disk)) h.behind;
         idle = ap (λ d. d.pending) k.disk ∙ h.idle;
       }
@@ -166,7 +170,9 @@ module _ (w : World) (f : RoutineLaws w) (p : Places) (b : ℕ) (si : Sited p w 
               low = λ z lz nz. others z (omega arith) (omega arith) (inl (omega arith)) ∙ k.held.low z lz nz;
               special = keeps.special ∙ k.held.special;
               r28 = keeps.r28 ∙ k.held.r28;
-              r29 = keeps.r29 ∙ k.held.r29; r30 = keeps.r30 ∙ k.held.r30; r31 = keeps.r31 ∙ k.held.r31;
+              r29 = keeps.r29 ∙ k.held.r29;
+              r30 = keeps.r30 ∙ k.held.r30;
+              r31 = keeps.r31 ∙ k.held.r31;
               behind = subst (BehindStays p g) (sym (disk)) k.held.behind;
               idle = ap (λ d. d.pending) disk ∙ k.held.idle;
             },

@@ -13,14 +13,16 @@ use Rattle.cvm_primitives.proofs.Forms.{from_then, from_later, straight_then}
 use Rattle.cvm_primitives.specs.Copy.{copied, Apart}
 use Rattle.page_model.specs.Places.{Places, count_at, view}
 use Rattle.layer_map.specs.Map.{hand_at}
-use Rattle.cvm_primitives.specs.View.{Sited, Held, Keeps, PageBlock, BothIn, Located, Start, BehindStays}
+use Rattle.frame_table.specs.View.{Sited}
+use Rattle.page_fault.specs.Asked.{PageBlock}
+use Rattle.cvm_primitives.specs.View.{Held, Keeps, BothIn, Located, Start, BehindStays}
 use Rattle.cvm_primitives.specs.Code.{both_code, locate_code, words_code, copy_code}
 use Rattle.cvm_primitives.proofs.Basics.{kept_on}
 use Rattle.cvm_primitives.proofs.Loop.{word_before, word_in, word_past}
 use Rattle.cvm_primitives.proofs.Moves.{moves, locate_from}
 use Rattle.cvm_primitives.proofs.Bring.{both_from}
 
-module _ (w : World) (f : RoutineLaws w) (p : Places) (b : ℕ) (si : Sited p w b) (g : Start) (u : Pages) (x y l : ℕ) (apart : Apart x y l) (some : 0 < l) (source : x % 1024 + l ≤ 1024) (target : y % 1024 + l ≤ 1024) (lx : x < 1024 * p.layout.pages) (ly : y < 1024 * p.layout.pages) (ax : u.live (x / 1024) ≡ true) (ay : u.live (y / 1024) ≡ true) where
+module _ (w : World) (f : RoutineLaws w) (p : Places) (b : ℕ) (si : Sited p w) (g : Start) (u : Pages) (x y l : ℕ) (apart : Apart x y l) (some : 0 < l) (source : x % 1024 + l ≤ 1024) (target : y % 1024 + l ≤ 1024) (lx : x < 1024 * p.layout.pages) (ly : y < 1024 * p.layout.pages) (ax : u.live (x / 1024) ≡ true) (ay : u.live (y / 1024) ≡ true) where
   -- in the state m, with both pages in
   module _ (m : ℕ → ℕ) (s : ℕ → ℕ → ℕ) (st : PagesStand p.layout u (view p m s)) (px : Passes (view p m s) (x / 1024) false) (py : Passes (view p m s) (y / 1024) true) where
     nx : Names (m (p.tables + x / 1024)) (m (p.tables + x / 1024) / 4096)
@@ -72,17 +74,17 @@ module _ (w : World) (f : RoutineLaws w) (p : Places) (b : ℕ) (si : Sited p w 
           entries = λ q lq. others (p.tables + q) (inl (omega arith));
           counts = λ h uh. let h0 = uh.0 in let h1 = uh.1 in others (count_at p h) (inl (omega arith));
           words = λ i li. ⊎_elim
-        (λ lt. others _ (inl (omega arith)) ∙ from_y i li ∙ sym (word_before u x y l (y / 1024) i (omega arith)))
-        (λ le. ⊎_elim
-        (λ lt. let k : ℕ = i - y % 1024 in
-        let at : 1024 * (m (p.tables + y / 1024) / 4096) + i ≡ 1024 * (m (p.tables + y / 1024) / 4096) + y % 1024 + (i - y % 1024) = omega arith in
-        let at2 : 1024 * (m (p.tables + x / 1024) / 4096) + x % 1024 + (i - y % 1024) ≡ 1024 * (m (p.tables + x / 1024) / 4096) + (x % 1024 + (i - y % 1024)) = omega arith in
-        let q1 : x / 1024 ≡ (x + (1024 * (y / 1024) + i - y)) / 1024 = omega arith in
-        let i1 : x % 1024 + (i - y % 1024) ≡ (x + (1024 * (y / 1024) + i - y)) % 1024 = omega arith in
-        ap m' at ∙ words (i - y % 1024) (omega arith) ∙ ap m at2 ∙ from_x (x % 1024 + (i - y % 1024)) (omega arith) ∙ ap₂ u.word q1 i1 ∙ sym (word_in u x y l (y / 1024) i (omega arith) (omega arith)))
-        (λ ge. others _ (inr (omega arith)) ∙ from_y i li ∙ sym (word_past u x y l (y / 1024) i (omega arith)))
-        (cases_lt i (y % 1024 + l)))
-        (cases_lt i (y % 1024));
+              (λ lt. others _ (inl (omega arith)) ∙ from_y i li ∙ sym (word_before u x y l (y / 1024) i (omega arith)))
+              (λ le. ⊎_elim
+              (λ lt. let k : ℕ = i - y % 1024 in
+              let at : 1024 * (m (p.tables + y / 1024) / 4096) + i ≡ 1024 * (m (p.tables + y / 1024) / 4096) + y % 1024 + (i - y % 1024) = omega arith in
+              let at2 : 1024 * (m (p.tables + x / 1024) / 4096) + x % 1024 + (i - y % 1024) ≡ 1024 * (m (p.tables + x / 1024) / 4096) + (x % 1024 + (i - y % 1024)) = omega arith in
+              let q1 : x / 1024 ≡ (x + (1024 * (y / 1024) + i - y)) / 1024 = omega arith in
+              let i1 : x % 1024 + (i - y % 1024) ≡ (x + (1024 * (y / 1024) + i - y)) % 1024 = omega arith in
+              ap m' at ∙ words (i - y % 1024) (omega arith) ∙ ap m at2 ∙ from_x (x % 1024 + (i - y % 1024)) (omega arith) ∙ ap₂ u.word q1 i1 ∙ sym (word_in u x y l (y / 1024) i (omega arith) (omega arith)))
+              (λ ge. others _ (inr (omega arith)) ∙ from_y i li ∙ sym (word_past u x y l (y / 1024) i (omega arith)))
+              (cases_lt i (y % 1024 + l)))
+              (cases_lt i (y % 1024));
           frames = λ h uh ne i li. ⊎_elim (λ lt. others _ (inl (omega arith))) (λ le. others _ (inr (omega arith))) (cases_lt h (m (p.tables + y / 1024) / 4096));
           sectors = λ q lq i li. refl;
           hand = ap (λ h. p.layout.zeros + 1 + h) (others hand_at (inl (omega arith)));
@@ -136,7 +138,9 @@ module _ (w : World) (f : RoutineLaws w) (p : Places) (b : ℕ) (si : Sited p w 
               low = λ z lz ne. others z (inl (omega arith)) ∙ h.low z lz ne;
               special = k.special ∙ h.special;
               r28 = k.r28 ∙ h.r28;
-              r29 = k.r29 ∙ h.r29; r30 = k.r30 ∙ h.r30; r31 = k.r31 ∙ h.r31;
+              r29 = k.r29 ∙ h.r29;
+              r30 = k.r30 ∙ h.r30;
+              r31 = k.r31 ∙ h.r31;
               behind = subst (BehindStays p g) (sym (e)) h.behind;
               idle = ap (λ d. d.pending) e ∙ h.idle;
             };

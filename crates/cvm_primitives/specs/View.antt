@@ -1,5 +1,5 @@
 -- What the primitives take of the page-fault block, what they are entered with, and what their parts lead to.
-use Rattle.std.specs.Prelude.{◌≡◌, ◌≢◌, ℕ, ◌+◌, ◌-◌, ◌*◌, ◌/◌, ◌%◌, ◌^◌, ◌<◌, ◌≤◌, ◌⊎◌, Bool, true, false, nat_eq, nat_lt, if◌then◌else◌, List, length, None}
+use Rattle.std.specs.Prelude.{◌≡◌, ◌≢◌, ℕ, ◌+◌, ◌-◌, ◌*◌, ◌/◌, ◌%◌, ◌^◌, ◌<◌, ◌≤◌, ◌⊎◌, Bool, true, false, nat_eq, nat_lt, if◌then◌else◌, List, None}
 use Rattle.mips_table.specs.declared.inst.Inst.{Inst}
 use Rattle.mips_table.specs.Device.{Idle}
 use Rattle.mips_table.specs.Code.{Contents, Behind, World, Does}
@@ -9,51 +9,6 @@ use Rattle.page_model.specs.Edits.{Retargeted}
 use Rattle.page_model.specs.Faults.{Brought}
 use Rattle.page_model.specs.Places.{Places, count_at, view}
 use Rattle.cvm_primitives.specs.Copy.{copied, Apart, piece}
-
--- the parts stand in this order, inside memory, apart, and may be written; b is the longest busy time
-pub record Sited (p : Places) (w : World) (b : ℕ) : Type 0 where
-  pub low : 16384 ≤ p.tables
-  pub first : p.tables + p.layout.pages ≤ p.counts
-  pub second : p.counts + 8 * (p.layout.frames + 1) ≤ 1024 * p.layout.zeros
-  pub third : 1024 * (p.layout.zeros + p.layout.frames + 1) ≤ w.words
-  pub pages : p.layout.pages ≤ 65536
-  pub frames : 2 ≤ p.layout.frames
-  pub most : p.layout.frames ≤ 16384
-  pub free : (x : ℕ) → p.tables ≤ x → x < w.words → w.kept x ≡ None
-  pub busy : b ≤ 65535
-
--- page q is asked for, in register 16, to store where register 15 isn't 0
-pub record PageAsked (p : Places) (v : Pages) (q : ℕ) (store : Bool) (c : Contents) (d : Behind) : Type 0 where
-  pub page : c.regs 16 ≡ q
-  pub inside : q < p.layout.pages
-  pub live : v.live q ≡ true
-  pub stands : PagesStand p.layout v (view p c.memory d.sectors)
-  pub small : (x : ℕ) → x < p.layout.pages → c.memory (p.tables + x) < 2 ^ 32
-  pub idle : d.pending ≡ Idle
-  pub load : store ≡ false → c.regs 15 ≡ 0
-  pub save : store ≡ true → c.regs 15 ≢ 0
-
-pub record PageDone (p : Places) (v : Pages) (q : ℕ) (store : Bool) (c0 : Contents) (d0 : Behind) (c : Contents) (d : Behind) : Type 0 where
-  pub stands : PagesStand p.layout v (view p c.memory d.sectors)
-  pub brought : Brought p.layout q store (view p c0.memory d0.sectors) (view p c.memory d.sectors)
-  -- where the page passes already, its entry stays
-  pub stays : Passes (view p c0.memory d0.sectors) q store → c.memory (p.tables + q) ≡ c0.memory (p.tables + q)
-  pub low : (x : ℕ) → x < p.tables → x ≢ hand_at → c.memory x ≡ c0.memory x
-  pub small : (x : ℕ) → x < p.layout.pages → c.memory (p.tables + x) < 2 ^ 32
-  pub regs : (x : ℕ) → ((12 < x) × (x < 17)) ⊎ (25 < x) → c.regs x ≡ c0.regs x
-  pub special : c.special ≡ c0.special
-  pub idle : d.pending ≡ Idle
-  pub log : d.log ≡ d0.log
-  pub input : d.input ≡ d0.input
-  pub past : (q i : ℕ) → p.layout.pages ≤ q → d.sectors q i ≡ d0.sectors q i
-
--- THE PREMISE: a block that brings in a page
-pub record PageBlock (w : World) (p : Places) (b : ℕ) : Type 0 where
-  pub code : List Inst
-  pub short : length code ≤ 1000
-  pub steps : ℕ
-  pub within : steps ≤ 6 * p.layout.pages + 5 * b + 13600
-  pub does : (v : Pages) (q : ℕ) (store : Bool) (c0 : Contents) (d0 : Behind) → PageAsked p v q store c0 d0 → Does w code steps (λ c d. (c ≡ c0) × (d ≡ d0)) (PageDone p v q store c0 d0)
 
 -- the steps that one page is worth
 abbrev pub page_steps : ℕ → ℕ → ℕ

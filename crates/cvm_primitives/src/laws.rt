@@ -7,6 +7,7 @@ ghost use Rattle.cvm_primitives.specs.Laws.{VmWord, VmPut, VmCopy, VmResize};
 ghost use Rattle.cvm_primitives.specs.Users.{Lists, InLists, Same};
 
 use masm::laws::{a_condition_is_tested, a_loop_turns, runs_compose, straight_code_runs};
+use page_fault::the_block_is_a_page_block;
 use page_model::laws::{
     alikes_stand, cuts_stand, entries_are_counted, entries_show_their_pages, growth_stands,
     handled_pages_pass, stores_stand, whole_pages_stand,
@@ -35,6 +36,7 @@ pub fn a_word_is_read()
     ensures { VmWord }
 {
     routines_have_laws();
+    the_block_is_a_page_block();
 }
 
 /// A word of a user's memory is written.
@@ -42,6 +44,7 @@ pub fn a_word_is_put()
     ensures { VmPut }
 {
     routines_have_laws();
+    the_block_is_a_page_block();
 }
 
 /// Words of one memory are copied to another, or within one.
@@ -49,6 +52,7 @@ pub fn words_are_copied()
     ensures { VmCopy }
 {
     routines_have_laws();
+    the_block_is_a_page_block();
 }
 
 /// A memory is cut, or grows by zeros.

@@ -64,22 +64,12 @@ impl Map {
         self.params
     }
 
-    /// The number of users, 0 to 64.
+    /// The number of users.
     pub fn users(&self) -> u32
         ensures value { result ≡ self.now.users }
         ensures most { result ≤ 64 }
     {
-        let _in_range = &self.params;
         self.users
-    }
-
-    /// The most pages that a user may have, 1 to 1,024.
-    pub fn pages(&self) -> u32
-        ensures value { result ≡ self.now.params.pages }
-        ensures most { result ≤ 1024 }
-    {
-        let _in_range = &self.params;
-        self.params.pages
     }
 
     /// The first address of the kernel's code, in bytes, as all addresses here.

@@ -6,4 +6,3 @@ pub mod Load
 pub mod Place
 pub mod Fill
 pub mod Page
-pub mod Siting

@@ -12,7 +12,8 @@ use Rattle.masm.specs.Frames.{Besides}
 use Rattle.frame_table.specs.View.{Sited, Ported, names_hand}
 use Rattle.page_fault.specs.Code.{page_code}
 
--- page q, below its user's size, is asked for in register 16, to store where register 15 isn't 0; the machine shows v, entries are words, and no command is under way
+-- page q, below its user's size, is asked for in register 16, to store where register 15 isn't 0; the machine shows v, entries are words, and no
+-- command is under way
 pub record PageAsked (p : Places) (v : Pages) (q : ℕ) (store : Bool) (c : Contents) (d : Behind) : Type 0 where
   pub page : c.regs 16 ≡ q
   pub inside : q < p.layout.pages

@@ -158,7 +158,7 @@ module _ (w : World) (f : CodeLaws w) (users : List Flat) (c : Contents) (d : Be
 
     -- the user and the register are tested, and the register's word is found
     asked_from : (m : ℕ) (work : List Inst) → length work ≤ 1000 → (is_within 1 (length users) (signed (c.regs 20)) && is_within 1 32 (signed (c.regs 21)) ≡ true → nat_abs (signed (c.regs 20)) ≡ c.regs 20 → nat_abs (signed (c.regs 21)) ≡ c.regs 21 → IsOneOf users (c.regs 20) → 1 ≤ c.regs 21 → c.regs 21 ≤ 32
-            → (c1 : Contents) → Quiet c c1 → c1.regs 11 ≡ 4 * word_of (c.regs 20) (c.regs 21) → From w work m c1 d Q)
+        → (c1 : Contents) → Quiet c c1 → c1.regs 11 ≡ 4 * word_of (c.regs 20) (c.regs 21) → From w work m c1 d Q)
         → (is_within 1 (length users) (signed (c.regs 20)) && is_within 1 32 (signed (c.regs 21)) ≡ false → (c1 : Contents) → Quiet c c1 → c1.regs 2 ≡ sum 0 (extended bad) → Q c1 d)
         → From w (asked_code bad (length users) work) (3 + (2 + (6 + m + 1) + 1)) c d Q
     asked_from m work short does refuse =
@@ -272,17 +272,22 @@ module _ (w : World) (f : CodeLaws w) (users : List Flat) (c : Contents) (d : Be
   pub takes : (most : ℕ) → From w con_get_code 1 c d (Left users (prim most ConGet users (console_of d)) c d)
   takes most =
       straightly w f con_get_code (Takes (slice_index d.input 0) ∷ []) c d _ refl e.idle
-      (λ n. (((refl, e.system, refl), tt), told (granted users (console_of d) ConGet) _ _ (record { memory = refl; regs = λ r le. put_other c.regs 2 _ r (omega arith); hi = refl; lo = refl; special = refl })
-          (ap (λ z. z ∷ []) (as_word (slice_index d.input 0) (e.input 0))) refl refl refl refl refl refl))
+      (λ n. (
+        ((refl, e.system, refl), tt),
+        told (granted users (console_of d) ConGet) _ _ (record { memory = refl; regs = λ r le. put_other c.regs 2 _ r (omega arith); hi = refl; lo = refl; special = refl })
+            (ap (λ z. z ∷ []) (as_word (slice_index d.input 0) (e.input 0))) refl refl refl refl refl refl,
+      ))
 
   -- CON_PUT
   pub puts : (most : ℕ) → From w con_put_code 3 c d (Left users (prim most (put_call c) users (console_of d)) c d)
   puts most =
       let small = f.small in
       straightly w f con_put_code (put_says (length d.log) (c.regs 20)) c d _ refl e.idle
-      (λ n. (((refl, omega arith, e.system, (λ z. absurd (omega arith)), refl), (refl, ((refl, e.system, e.log, refl), tt))),
-          put_left (nat_le LOG_ROOM (length d.log)) (nat_lt (length d.log) LOG_ROOM) (cast_unsigned w32 (signed (c.regs 20))) (c.regs 20) (as_word (c.regs 20) (e.regs 20)) (full_is (length d.log) LOG_ROOM) _
-              (record { memory = refl; regs = λ r le. f.stays low r (is_low r le) con_put_code (put_says (length d.log) (c.regs 20)) n c refl refl; hi = refl; lo = refl; special = refl }) refl))
+      (λ n. (
+        ((refl, omega arith, e.system, (λ z. absurd (omega arith)), refl), (refl, ((refl, e.system, e.log, refl), tt))),
+        put_left (nat_le LOG_ROOM (length d.log)) (nat_lt (length d.log) LOG_ROOM) (cast_unsigned w32 (signed (c.regs 20))) (c.regs 20) (as_word (c.regs 20) (e.regs 20)) (full_is (length d.log) LOG_ROOM) _
+            (record { memory = refl; regs = λ r le. f.stays low r (is_low r le) con_put_code (put_says (length d.log) (c.regs 20)) n c refl refl; hi = refl; lo = refl; special = refl }) refl,
+      ))
     where
       full_is : (n m : ℕ) → not (nat_lt n m) ≡ nat_le m n
       full_is n m = ⊎_elim (λ lt. ap not (lt-ltb n m lt) ∙ sym (lt-leb m n lt)) (λ ge. ap not (le-ltb n m ge) ∙ sym (le-leb m n ge)) (cases_lt n m)

@@ -1,5 +1,5 @@
 // The code of the primitives that use no page.
-ghost use Rattle.std.specs.Prelude.{◌≡◌, ◌<◌, ◌≤◌, ◌++◌, map, length};
+ghost use Rattle.std.specs.Prelude.{◌≡◌, ◌<◌, ◌≤◌, ◌++◌, map as each, length};
 ghost use Rattle.mips_table.specs.Encoding.{encoding};
 ghost use Rattle.masm.specs.Blocks.{when_words};
 ghost use Rattle.register_primitives.specs.Code.{user_code, register_code, place_code, vm_get_code, vm_set_code, vm_size_code, con_put_code, con_get_code, con_left_code};
@@ -12,7 +12,7 @@ use mips_table::Inst;
 fn user_test(bad: u32, users: u32) -> Block<3>
     requires bad { bad < 65536 }
     requires users { users ≤ 64 }
-    ensures { result ≡ map encoding (user_code bad users) }
+    ensures { result ≡ each encoding (user_code bad users) }
 {
     let mut code = Block::<3>::new();
     code.push(Inst::Addiu {
@@ -35,7 +35,7 @@ fn user_test(bad: u32, users: u32) -> Block<3>
 
 // Register 9 isn't 0 where register 21 is the number of a register, or 32.
 fn register_test() -> Block<2>
-    ensures { result ≡ map encoding register_code }
+    ensures { result ≡ each encoding register_code }
 {
     let mut code = Block::<2>::new();
     code.push(Inst::Addiu {
@@ -53,7 +53,7 @@ fn register_test() -> Block<2>
 
 // Register 11 becomes the address of the word of the control block.
 fn place() -> Block<6>
-    ensures { result ≡ map encoding place_code }
+    ensures { result ≡ each encoding place_code }
 {
     let mut code = Block::<6>::new();
     code.push(Inst::Ori {
@@ -93,7 +93,7 @@ fn place() -> Block<6>
 fn asked(bad: u32, users: u32, work: &Block<2>) -> Block<15>
     requires bad { bad < 65536 }
     requires users { users ≤ 64 }
-    ensures { result ≡ map encoding (user_code bad users) ++ when_words 9 (map encoding register_code ++ when_words 9 (map encoding place_code ++ work.now)) }
+    ensures { result ≡ each encoding (user_code bad users) ++ when_words 9 (each encoding register_code ++ when_words 9 (each encoding place_code ++ work.now)) }
 {
     let _fits = work.len();
     let mut inner = Block::<8>::new();
@@ -109,8 +109,8 @@ fn asked(bad: u32, users: u32, work: &Block<2>) -> Block<15>
 }
 
 /// `vm_get`: the user stands in register 20, and the register, or 32 for the pc, in 21.
-pub fn vm_get(places: &Map) -> Block<15>
-    ensures { result ≡ map encoding (vm_get_code places.now.users) }
+pub fn vm_get(map: &Map) -> Block<15>
+    ensures { result ≡ each encoding (vm_get_code map.now.users) }
 {
     let mut work = Block::<2>::new();
     work.push(Inst::Lw {
@@ -118,12 +118,12 @@ pub fn vm_get(places: &Map) -> Block<15>
         rs: 11,
         imm: 0,
     });
-    asked(65535, places.users(), &work)
+    asked(65535, map.users(), &work)
 }
 
 /// `vm_set`: the user stands in register 20, the register, or 32 for the pc, in 21, and its new value in 22.
-pub fn vm_set(places: &Map) -> Block<15>
-    ensures { result ≡ map encoding (vm_set_code places.now.users) }
+pub fn vm_set(map: &Map) -> Block<15>
+    ensures { result ≡ each encoding (vm_set_code map.now.users) }
 {
     let mut work = Block::<2>::new();
     work.push(Inst::Sw {
@@ -136,12 +136,12 @@ pub fn vm_set(places: &Map) -> Block<15>
         rs: 0,
         imm: 1,
     });
-    asked(0, places.users(), &work)
+    asked(0, map.users(), &work)
 }
 
 /// `vm_size`: the user stands in register 20.
-pub fn vm_size(places: &Map) -> Block<8>
-    ensures { result ≡ map encoding (vm_size_code places.now.users) }
+pub fn vm_size(map: &Map) -> Block<8>
+    ensures { result ≡ each encoding (vm_size_code map.now.users) }
 {
     let mut work = Block::<4>::new();
     work.push(Inst::Ori {
@@ -165,14 +165,14 @@ pub fn vm_size(places: &Map) -> Block<8>
         imm: 0,
     });
     let mut code = Block::<8>::new();
-    code.then(&user_test(65535, places.users()));
+    code.then(&user_test(65535, map.users()));
     code.when(9, &work);
     code
 }
 
 /// `con_put`: the word stands in register 20.
 pub fn con_put() -> Block<3>
-    ensures { result ≡ map encoding con_put_code }
+    ensures { result ≡ each encoding con_put_code }
 {
     let mut code = Block::<3>::new();
     code.push(Inst::Lw {
@@ -195,7 +195,7 @@ pub fn con_put() -> Block<3>
 
 /// `con_get`.
 pub fn con_get() -> Block<1>
-    ensures { result ≡ map encoding con_get_code }
+    ensures { result ≡ each encoding con_get_code }
 {
     let mut code = Block::<1>::new();
     code.push(Inst::Lw {
@@ -208,7 +208,7 @@ pub fn con_get() -> Block<1>
 
 /// `con_left`.
 pub fn con_left() -> Block<1>
-    ensures { result ≡ map encoding con_left_code }
+    ensures { result ≡ each encoding con_left_code }
 {
     let mut code = Block::<1>::new();
     code.push(Inst::Lw {

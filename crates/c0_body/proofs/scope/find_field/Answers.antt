@@ -19,8 +19,8 @@ bounds-scope-place c =
     (number_within shape_view (λ s. s.text) c.args.owner.now _ c.args.scope.now.structs.now
     (sym (c.requires.structs c.args.owner.now) ∙ sym c.in-Some.ensures.value))
 
-pub find_declared-requires : goal.find_declared-requires
-find_declared-requires c = λ text.
+pub find-requires : goal.find-requires
+find-requires c = λ text.
     c.requires.fields.each c.in-Some.number.now c.index-scope-place.result c.index-scope-place-in-Some.result
     (number_within shape_view (λ s. s.text) c.args.owner.now _ c.args.scope.now.structs.now
     (sym (c.requires.structs c.args.owner.now) ∙ sym c.in-Some.ensures.value)) text
@@ -28,7 +28,7 @@ find_declared-requires c = λ text.
 
 pub returns-in-Some : goal.returns-in-Some
 returns-in-Some c =
-    c.find_declared.ensures.found
+    c.find.ensures.found
     ∙ (ap (λ l. first_named (λ v. v.text) c.args.text.now 0 (map typed_view l)) (c.as_slice.ensures.value ∙ ap (λ s. s.fields.items) (sym c.index-scope-place-in-Some.is))
     ∙ (ap (λ l. first_named (λ v. v.text) c.args.text.now 0 l) (sym (map-map typed_of decl_view c.index-scope-place-in-Some.result.fields.items))
     ∙ ap (λ o. first_named (λ v. v.text) c.args.text.now 0 (fields_of o))

@@ -1,6 +1,14 @@
--- By the laws that the body calls.
+-- By the laws that the body calls; the page-fault block is page_fault's.
+use Rattle.page_fault.specs.Code.{page_code}
+use Rattle.cvm_primitives.proofs.Forms.{renamed}
+use Rattle.cvm_primitives.specs.Code.{vm_copy_code}
 use Rattle.cvm_primitives.proofs.Copies.{vm_copy_good, vm_copy_bad}
 use Rattle.cvm_primitives.proofs.laws.words_are_copied.Goals as goal
 
 pub returns : goal.returns
-returns k = λ w p b users per size v c d e u a t s n ru ra rt rs rn su sa st ss sn. (λ g. vm_copy_good w (k.routines_have_laws.ensures w e.sound) p b e.sited e.page users per size v c d e.held e.sizes u a t s n ru ra rt rs rn su sa st ss sn g, λ g. vm_copy_bad w (k.routines_have_laws.ensures w e.sound) p b e.sited e.page users per size v c d e.held e.sizes u a t s n ru ra rt rs rn su sa st ss sn g)
+returns k = λ w p b users per size v c d e u a t s n ru ra rt rs rn su sa st ss sn.
+    let f = k.routines_have_laws.ensures w e.sound in
+    let block = k.the_block_is_a_page_block.ensures w e.sound p b e.sited e.ported in (
+      λ g. renamed w (vm_copy_code p users per) block.0.code (page_code p) _ c d _ block.1 (vm_copy_good w f p b e.sited block.0 users per size v c d e.held e.sizes u a t s n ru ra rt rs rn su sa st ss sn g),
+      λ g. renamed w (vm_copy_code p users per) block.0.code (page_code p) _ c d _ block.1 (vm_copy_bad w f p b e.sited block.0 users per size v c d e.held e.sizes u a t s n ru ra rt rs rn su sa st ss sn g),
+    )

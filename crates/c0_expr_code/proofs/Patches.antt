@@ -1,0 +1,252 @@
+-- Open code, patched, is the code of the test.
+use Rattle.std.specs.Prelude.{map, slice_index, slice_set}
+use Rattle.std.proofs.Common.{◌≡◌, ℕ, suc, ◌+◌, ◌-◌, ◌*◌, ◌/◌, ◌%◌, ◌^◌, ◌<◌, Bool, true, false, not, cond, nat_eq, Option, Some, None, List, [], ◌∷◌, ◌++◌, length, refl, sym, ap, ap₂, ◌∙◌, arith, length-append}
+use Rattle.mips_table.specs.declared.inst.Inst.{Inst}
+use Rattle.mips_table.specs.declared.inst.Inst.TheVariants.{Slt, Slti}
+use Rattle.mips_table.specs.Encoding.{encoding}
+use Rattle.c0_tree.specs.declared.tree.UnaryOp.TheVariants.{Negate, Not}
+use Rattle.c0_tree.specs.declared.tree.BinaryOp.{BinaryOp}
+use Rattle.c0_tree.specs.declared.tree.BinaryOp.TheVariants.{Add, Sub, Mul, Div, Rem, Lt, Le, Gt, Ge, Eq, Ne, And, Or}
+use Rattle.c0_tree.specs.Tree.{CExpr, unary, binary}
+use Rattle.c0_expr_code.specs.Scope.{Scope}
+use Rattle.c0_expr_code.specs.Code.{low, is_near, Made, operand_code, operand_register, made}
+use Rattle.c0_expr_code.specs.Test.{branch_code, negative_branch, positive_branch, below_code, compare_code, ImmediateTest, immediate_test, immediate_test_of, compare_test, both_code, plain_test, test_code}
+use Rattle.c0_expr_code.specs.Jumps.{Open, last_open, behind_open, joined_open, both_open, test_open, aimed_word, patched}
+
+-- lists
+assoc : {A : Type 0} (xs ys zs : List A) → (xs ++ ys) ++ zs ≡ xs ++ (ys ++ zs)
+assoc [] ys zs = refl
+assoc (x ∷ xs) ys zs = ap (λ l. x ∷ l) (assoc xs ys zs)
+
+map_append : {A B : Type 0} (f : A → B) (xs ys : List A) → map f (xs ++ ys) ≡ map f xs ++ map f ys
+map_append f [] ys = refl
+map_append f (x ∷ xs) ys = ap (λ l. f x ∷ l) (map_append f xs ys)
+
+map_length : {A B : Type 0} (f : A → B) (xs : List A) → length (map f xs) ≡ length xs
+map_length f [] = refl
+map_length f (x ∷ xs) = ap suc (map_length f xs)
+
+shifted : (a b : ℕ) (js : List ℕ) → map (λ j. a + j) (map (λ j. b + j) js) ≡ map (λ j. (a + b) + j) js
+shifted a b [] = refl
+shifted a b (j ∷ js) = let e : a + (b + j) ≡ a + b + j = omega arith in ap₂ (λ x l. x ∷ l) e (shifted a b js)
+
+patched_append : (to : ℕ) (js ks ws : List ℕ) → patched to (js ++ ks) ws ≡ patched to ks (patched to js ws)
+patched_append to [] ks ws = refl
+patched_append to (j ∷ js) ks ws = patched_append to js ks _
+
+set_there : (xs : List ℕ) (y : ℕ) (ys : List ℕ) (v : ℕ) → slice_set (xs ++ y ∷ ys) (length xs) v ≡ xs ++ v ∷ ys
+set_there [] y ys v = refl
+set_there (x ∷ xs) y ys v = ap (λ l. x ∷ l) (set_there xs y ys v)
+
+index_there : (xs : List ℕ) (y : ℕ) (ys : List ℕ) → slice_index (xs ++ y ∷ ys) (length xs) ≡ y
+index_there [] y ys = refl
+index_there (x ∷ xs) y ys = index_there xs y ys
+
+patch_one : (xs : List ℕ) (y : ℕ) (ys : List ℕ) (j to v : ℕ) → j ≡ length xs → aimed_word to j y ≡ v → slice_set (xs ++ y ∷ ys) j (aimed_word to j (slice_index (xs ++ y ∷ ys) j)) ≡ xs ++ v ∷ ys
+patch_one xs y ys j to v e is =
+    ap₂ (λ i u. slice_set (xs ++ y ∷ ys) i u) e (ap (aimed_word to j) (ap (slice_index (xs ++ y ∷ ys)) e ∙ index_there xs y ys) ∙ is) ∙ set_there xs y ys v
+
+-- code whose last instruction is a branch with the distance
+record EndsIn (f : ℕ → List Inst) : Type 0 where
+  before : List Inst
+  branch : ℕ → Inst
+  is : (far : ℕ) → f far ≡ before ++ (branch far ∷ [])
+  words : (far : ℕ) → far < 2 ^ 16 → encoding (branch far) ≡ encoding (branch 0) / 2 ^ 16 * 2 ^ 16 + far
+
+record AimsAt (x : Open) (f : ℕ → List Inst) : Type 0 where
+  same : (far : ℕ) → length (f far) ≡ length x.code
+  law : (far to : ℕ) (before after : List ℕ) → far < 2 ^ 16 → length before + length x.code < 2 ^ 63 → (length before + length x.code + far) % 2 ^ 16 ≡ to % 2 ^ 16
+      → patched to (map (λ j. length before + j) x.jumps) (before ++ (map encoding x.code ++ after)) ≡ before ++ (map encoding (f far) ++ after)
+
+words_of : (is : List Inst) (b : Inst) (before after : List ℕ) → before ++ (map encoding (is ++ (b ∷ [])) ++ after) ≡ (before ++ map encoding is) ++ (encoding b ∷ after)
+words_of is b before after =
+    ap (λ l. before ++ (l ++ after)) (map_append encoding is (b ∷ [])) ∙ ap (λ l. before ++ l) (assoc (map encoding is) (encoding b ∷ []) after) ∙ sym (assoc before (map encoding is) (encoding b ∷ after))
+
+lasts : (f : ℕ → List Inst) → EndsIn f → AimsAt (last_open (f 0)) f
+lasts f h = record { same = λ far. len far ∙ sym (len 0); law = law }
+  where
+    len : (far : ℕ) → length (f far) ≡ length h.before + 1
+    len far = ap length (h.is far) ∙ length-append h.before (h.branch far ∷ [])
+
+    law : (far to : ℕ) (before after : List ℕ) → far < 2 ^ 16 → length before + length (f 0) < 2 ^ 63 → (length before + length (f 0) + far) % 2 ^ 16 ≡ to % 2 ^ 16
+        → patched to ((length before + (length (f 0) - 1)) ∷ []) (before ++ (map encoding (f 0) ++ after)) ≡ before ++ (map encoding (f far) ++ after)
+    law far to before after short small aim =
+        let l0 = len 0 in
+        let front = before ++ map encoding h.before in
+        let there : length before + (length (f 0) - 1) ≡ length (before ++ map encoding h.before) = omega (arith, l0, length-append before (map encoding h.before), map_length encoding h.before) in
+        let start : before ++ (map encoding (f 0) ++ after) ≡ (before ++ map encoding h.before) ++ (encoding (h.branch 0) ∷ after) = ap (λ is. before ++ (map encoding is ++ after)) (h.is 0) ∙ words_of h.before (h.branch 0) before after in
+        let end : before ++ (map encoding (f far) ++ after) ≡ (before ++ map encoding h.before) ++ (encoding (h.branch far) ∷ after) = ap (λ is. before ++ (map encoding is ++ after)) (h.is far) ∙ words_of h.before (h.branch far) before after in
+        let value : aimed_word to (length before + (length (f 0) - 1)) (encoding (h.branch 0)) ≡ encoding (h.branch far) = (let d : (to + (2 ^ 64 - (length before + (length (f 0) - 1) + 1))) % 2 ^ 16 ≡ far = omega (arith, l0, short, small, aim) in ap (λ y. encoding (h.branch 0) / 2 ^ 16 * 2 ^ 16 + y) d) ∙ sym (h.words far short) in
+        ap (λ ws. patched to ((length before + (length (f 0) - 1)) ∷ []) ws) start
+        ∙ patch_one (before ++ map encoding h.before) (encoding (h.branch 0)) after (length before + (length (f 0) - 1)) to (encoding (h.branch far)) there value
+        ∙ sym end
+
+behinds : (is : List Inst) (x : Open) (f : ℕ → List Inst) → AimsAt x f → AimsAt (behind_open is x) (λ far. is ++ f far)
+behinds is x f h = record { same = same; law = law }
+  where
+    same : (far : ℕ) → length (is ++ f far) ≡ length (is ++ x.code)
+    same far = let a = h.same far in omega (arith, a, length-append is (f far), length-append is x.code)
+
+    law : (far to : ℕ) (before after : List ℕ) → far < 2 ^ 16 → length before + length (is ++ x.code) < 2 ^ 63 → (length before + length (is ++ x.code) + far) % 2 ^ 16 ≡ to % 2 ^ 16
+        → patched to (map (λ j. length before + j) (map (λ j. length is + j) x.jumps)) (before ++ (map encoding (is ++ x.code) ++ after)) ≡ before ++ (map encoding (is ++ f far) ++ after)
+    law far to before after short small aim =
+        let n = length-append is x.code in
+        let m : length (before ++ map encoding is) ≡ length before + length is = omega (arith, length-append before (map encoding is), map_length encoding is) in
+        let over : (ys : List Inst) → before ++ (map encoding (is ++ ys) ++ after) ≡ (before ++ map encoding is) ++ (map encoding ys ++ after) = λ ys.
+        ap (λ l. before ++ (l ++ after)) (map_append encoding is ys) ∙ ap (λ l. before ++ l) (assoc (map encoding is) (map encoding ys) after) ∙ sym (assoc before (map encoding is) (map encoding ys ++ after)) in
+        let js : map (λ j. length before + j) (map (λ j. length is + j) x.jumps) ≡ map (λ j. length (before ++ map encoding is) + j) x.jumps = shifted (length before) (length is) x.jumps ∙ ap (λ k. map (λ j. k + j) x.jumps) (sym m) in
+        ap₂ (λ j w. patched to j w) js (over x.code)
+        ∙ h.law far to (before ++ map encoding is) after short (omega (arith, n, m, small)) (let z : length (before ++ map encoding is) + length x.code + far ≡ length before + length (is ++ x.code) + far = omega (arith, n, m) in ap (λ y. y % 2 ^ 16) z ∙ aim)
+        ∙ sym (over (f far))
+
+joins : (x y : Open) (f g : ℕ → List Inst) → AimsAt x f → AimsAt y g → AimsAt (joined_open x y) (λ far. f ((far + length (g far)) % 2 ^ 16) ++ g far)
+joins x y f g h k = record { same = same; law = law }
+  where
+    same : (far : ℕ) → length (f ((far + length (g far)) % 2 ^ 16) ++ g far) ≡ length (x.code ++ y.code)
+    same far =
+        let a = h.same ((far + length (g far)) % 2 ^ 16) in
+        let b = k.same far in
+        omega (arith, a, b, length-append (f ((far + length (g far)) % 2 ^ 16)) (g far), length-append x.code y.code)
+
+    law : (far to : ℕ) (before after : List ℕ) → far < 2 ^ 16 → length before + length (x.code ++ y.code) < 2 ^ 63 → (length before + length (x.code ++ y.code) + far) % 2 ^ 16 ≡ to % 2 ^ 16
+        → patched to (map (λ j. length before + j) (x.jumps ++ map (λ j. length x.code + j) y.jumps)) (before ++ (map encoding (x.code ++ y.code) ++ after))
+        ≡ before ++ (map encoding (f ((far + length (g far)) % 2 ^ 16) ++ g far) ++ after)
+    law far to before after short small aim =
+        let n = length-append x.code y.code in
+        let b = k.same far in
+        let split : (is js : List Inst) → before ++ (map encoding (is ++ js) ++ after) ≡ before ++ (map encoding is ++ (map encoding js ++ after)) = λ is js.
+        ap (λ l. before ++ (l ++ after)) (map_append encoding is js) ∙ ap (λ l. before ++ l) (assoc (map encoding is) (map encoding js) after) in
+        let js : map (λ j. length before + j) (x.jumps ++ map (λ j. length x.code + j) y.jumps) ≡ map (λ j. length before + j) x.jumps ++ map (λ j. length before + j) (map (λ j. length x.code + j) y.jumps) = map_append (λ j. length before + j) x.jumps (map (λ j. length x.code + j) y.jumps) in
+        let near : (length before + length x.code + (far + length (g far)) % 2 ^ 16) % 2 ^ 16 ≡ to % 2 ^ 16 = omega (arith, n, b, aim) in
+        let rest = behinds x.code y g k in
+        let tail = behinds (f ((far + length (g far)) % 2 ^ 16)) y g k in
+        let ks : map (λ j. length before + j) (map (λ j. length x.code + j) y.jumps) ≡ map (λ j. length before + j) (map (λ j. length (f ((far + length (g far)) % 2 ^ 16)) + j) y.jumps) = ap (λ m. map (λ j. length before + j) (map (λ j. m + j) y.jumps)) (sym (h.same ((far + length (g far)) % 2 ^ 16))) in
+        let m = length-append (f ((far + length (g far)) % 2 ^ 16)) y.code in
+        let a = h.same ((far + length (g far)) % 2 ^ 16) in
+        let whole : length before + length (f ((far + length (g far)) % 2 ^ 16) ++ y.code) + far ≡ length before + length (x.code ++ y.code) + far = omega (arith, n, m, a) in
+        ap₂ (λ j w. patched to j w) js (split x.code y.code)
+        ∙ patched_append to (map (λ j. length before + j) x.jumps) (map (λ j. length before + j) (map (λ j. length x.code + j) y.jumps)) _
+        ∙ ap₂ (λ j w. patched to j w) ks (h.law ((far + length (g far)) % 2 ^ 16) to before (map encoding y.code ++ after) (omega arith) (omega (arith, n, small)) near ∙ sym (split (f ((far + length (g far)) % 2 ^ 16)) y.code))
+        ∙ tail.law far to before after short (omega (arith, n, m, a, small)) (ap (λ y. y % 2 ^ 16) whole ∙ aim)
+
+-- the branches
+branch_words : (s : Bool) (q t far : ℕ) → far < 2 ^ 16 → encoding (branch_code s q t far) ≡ encoding (branch_code s q t 0) / 2 ^ 16 * 2 ^ 16 + far
+branch_words true q t far h = omega (arith, h)
+branch_words false q t far h = omega (arith, h)
+
+negative_words : (s : Bool) (q far : ℕ) → far < 2 ^ 16 → encoding (negative_branch s q far) ≡ encoding (negative_branch s q 0) / 2 ^ 16 * 2 ^ 16 + far
+negative_words true q far h = omega (arith, h)
+negative_words false q far h = omega (arith, h)
+
+positive_words : (s : Bool) (q far : ℕ) → far < 2 ^ 16 → encoding (positive_branch s q far) ≡ encoding (positive_branch s q 0) / 2 ^ 16 * 2 ^ 16 + far
+positive_words true q far h = omega (arith, h)
+positive_words false q far h = omega (arith, h)
+
+after : (is : List Inst) (f : ℕ → List Inst) → EndsIn f → EndsIn (λ far. is ++ f far)
+after is f h = record { before = is ++ h.before; branch = h.branch; is = λ far. ap (λ js. is ++ js) (h.is far) ∙ sym (assoc is h.before (h.branch far ∷ [])); words = h.words }
+
+plain_ends : (m : Made) (s : Bool) (r : ℕ) → EndsIn (λ far. plain_test m s far r)
+plain_ends m s r = record { before = operand_code m r; branch = λ far. branch_code (not s) (operand_register m r) 0 far; is = λ far. refl; words = λ far h. branch_words (not s) (operand_register m r) 0 far h }
+
+one_branch : (b : ℕ → Inst) → ((far : ℕ) → far < 2 ^ 16 → encoding (b far) ≡ encoding (b 0) / 2 ^ 16 * 2 ^ 16 + far) → EndsIn (λ far. b far ∷ [])
+one_branch b h = record { before = []; branch = b; is = λ far. refl; words = h }
+
+two_branch : (i : Inst) (b : ℕ → Inst) → ((far : ℕ) → far < 2 ^ 16 → encoding (b far) ≡ encoding (b 0) / 2 ^ 16 * 2 ^ 16 + far) → EndsIn (λ far. i ∷ b far ∷ [])
+two_branch i b h = record { before = i ∷ []; branch = b; is = λ far. refl; words = h }
+
+-- the orders, and equality
+data IsCompared : BinaryOp → Type 0 where
+  lt : IsCompared Lt
+  le : IsCompared Le
+  gt : IsCompared Gt
+  ge : IsCompared Ge
+  eq : IsCompared Eq
+  ne : IsCompared Ne
+
+compare_ends : (o : BinaryOp) → IsCompared o → (s : Bool) (q t : ℕ) → EndsIn (λ far. compare_code o s far q t)
+compare_ends _ eq s q t = one_branch (λ far. branch_code s q t far) (λ far h. branch_words s q t far h)
+compare_ends _ ne s q t = one_branch (λ far. branch_code (not s) q t far) (λ far h. branch_words (not s) q t far h)
+compare_ends _ lt s q t = two_branch (Slt 1 q t) (λ far. branch_code (not s) 1 0 far) (λ far h. branch_words (not s) 1 0 far h)
+compare_ends _ gt s q t = two_branch (Slt 1 t q) (λ far. branch_code (not s) 1 0 far) (λ far h. branch_words (not s) 1 0 far h)
+compare_ends _ le s q t = two_branch (Slt 1 t q) (λ far. branch_code s 1 0 far) (λ far h. branch_words s 1 0 far h)
+compare_ends _ ge s q t = two_branch (Slt 1 q t) (λ far. branch_code s 1 0 far) (λ far h. branch_words s 1 0 far h)
+
+abbrev EndsTest : ImmediateTest → Type 0
+EndsTest None = Unit {0}
+EndsTest (Some g) = (s : Bool) (q : ℕ) → EndsIn (λ far. g s far q)
+
+by_tests : (b c : Bool) (f g : Bool → ℕ → ℕ → List Inst) → EndsTest (Some f) → EndsTest (Some g) → EndsTest (cond b (Some f) (cond c (Some g) None))
+by_tests true c f g h i = h
+by_tests false true f g h i = i
+by_tests false false f g h i = tt
+
+below_ends : (k : ℕ) → EndsTest (Some (λ s far q. below_code k s far q))
+below_ends k s q = two_branch (Slti 1 q (low k)) (λ far. branch_code (not s) 1 0 far) (λ far h. branch_words (not s) 1 0 far h)
+
+test_at : (o : BinaryOp) (k : ℕ) → EndsTest (immediate_test o k)
+test_at Lt k = by_tests (nat_eq k 0) (is_near k) _ _ (λ s q. one_branch (λ far. negative_branch s q far) (λ far h. negative_words s q far h)) (λ s q. below_ends k s q)
+test_at Ge k = by_tests (nat_eq k 0) (is_near k) _ _ (λ s q. one_branch (λ far. negative_branch (not s) q far) (λ far h. negative_words (not s) q far h)) (λ s q. below_ends k (not s) q)
+test_at Gt k = by_tests (nat_eq k 0) (is_near ((k + 1) % 2 ^ 32)) _ _ (λ s q. one_branch (λ far. positive_branch s q far) (λ far h. positive_words s q far h)) (λ s q. below_ends ((k + 1) % 2 ^ 32) (not s) q)
+test_at Le k = by_tests (nat_eq k 0) (is_near ((k + 1) % 2 ^ 32)) _ _ (λ s q. one_branch (λ far. positive_branch (not s) q far) (λ far h. positive_words (not s) q far h)) (λ s q. below_ends ((k + 1) % 2 ^ 32) s q)
+test_at Eq k = tt
+test_at Ne k = tt
+test_at Add k = tt
+test_at Sub k = tt
+test_at Mul k = tt
+test_at Div k = tt
+test_at Rem k = tt
+test_at And k = tt
+test_at Or k = tt
+
+test_of : (o : BinaryOp) (k : Option ℕ) → EndsTest (immediate_test_of o k)
+test_of o None = tt
+test_of o (Some k) = test_at o k
+
+compares : (im : ImmediateTest) (o : BinaryOp) (a b : Made) (s : Bool) (r : ℕ) → EndsTest im → IsCompared o → AimsAt (last_open (compare_test im o a b s 0 r)) (λ far. compare_test im o a b s far r)
+compares (Some g) o a b s r h i = lasts (λ far. compare_test (Some g) o a b s far r) (after (operand_code a r) (λ far. g s far (operand_register a r)) (h s (operand_register a r)))
+compares None o a b s r h i = lasts (λ far. compare_test None o a b s far r)
+    (after (operand_code a r) (λ far. operand_code b (r + 1) ++ compare_code o s far (operand_register a r) (operand_register b (r + 1)))
+    (after (operand_code b (r + 1)) (λ far. compare_code o s far (operand_register a r) (operand_register b (r + 1))) (compare_ends o i s (operand_register a r) (operand_register b (r + 1)))))
+
+plains : (m : Made) (s : Bool) (r : ℕ) → AimsAt (last_open (plain_test m s 0 r)) (λ far. plain_test m s far r)
+plains m s r = lasts (λ far. plain_test m s far r) (plain_ends m s r)
+
+-- code of a test that is passed over has a fixed distance
+over : (one : ℕ → List Inst) (y : Open) (g : ℕ → List Inst) → AimsAt y g → AimsAt (behind_open (one (length y.code % 2 ^ 16)) y) (λ far. one (length (g far) % 2 ^ 16) ++ g far)
+over one y g h =
+    let b = behinds (one (length y.code % 2 ^ 16)) y g h in
+    record {
+      same = λ far. ap (λ n. length (one (n % 2 ^ 16) ++ g far)) (h.same far) ∙ b.same far;
+      law = λ far to before after short small aim. b.law far to before after short small aim ∙ ap (λ n. before ++ (map encoding (one (n % 2 ^ 16) ++ g far) ++ after)) (sym (h.same far));
+    }
+
+module _ (sc : Scope) where
+  boths : (decides s : Bool) (a b : CExpr) (r : ℕ) → ((s : Bool) → AimsAt (test_open sc a s r) (λ far. test_code sc a s far r)) → ((s : Bool) → AimsAt (test_open sc b s r) (λ far. test_code sc b s far r))
+      → AimsAt (both_open decides s (test_code sc a) (test_open sc a) (test_open sc b) r) (λ far. both_code decides s (test_code sc a) (test_code sc b) far r)
+  boths true true a b r h k = joins (test_open sc a true r) (test_open sc b true r) (λ far. test_code sc a true far r) (λ far. test_code sc b true far r) (h true) (k true)
+  boths true false a b r h k = over (λ n. test_code sc a true n r) (test_open sc b false r) (λ far. test_code sc b false far r) (k false)
+  boths false true a b r h k = over (λ n. test_code sc a false n r) (test_open sc b true r) (λ far. test_code sc b true far r) (k true)
+  boths false false a b r h k = joins (test_open sc a false r) (test_open sc b false r) (λ far. test_code sc a false far r) (λ far. test_code sc b false far r) (h false) (k false)
+
+  aims : (e : CExpr) (s : Bool) (r : ℕ) → AimsAt (test_open sc e s r) (λ far. test_code sc e s far r)
+  aims (unary p Not e) s r = aims e (not s) r
+  aims (unary p Negate e) s r = plains (made sc (unary p Negate e)) s r
+  aims (binary p And a b) s r = boths false s a b r (λ s. aims a s r) (λ s. aims b s r)
+  aims (binary p Or a b) s r = boths true s a b r (λ s. aims a s r) (λ s. aims b s r)
+  aims (binary p Lt a b) s r = compares (immediate_test_of Lt (made sc b).known) Lt (made sc a) (made sc b) s r (test_of Lt (made sc b).known) lt
+  aims (binary p Le a b) s r = compares (immediate_test_of Le (made sc b).known) Le (made sc a) (made sc b) s r (test_of Le (made sc b).known) le
+  aims (binary p Gt a b) s r = compares (immediate_test_of Gt (made sc b).known) Gt (made sc a) (made sc b) s r (test_of Gt (made sc b).known) gt
+  aims (binary p Ge a b) s r = compares (immediate_test_of Ge (made sc b).known) Ge (made sc a) (made sc b) s r (test_of Ge (made sc b).known) ge
+  aims (binary p Eq a b) s r = compares None Eq (made sc a) (made sc b) s r tt eq
+  aims (binary p Ne a b) s r = compares None Ne (made sc a) (made sc b) s r tt ne
+  aims (binary p Add a b) s r = plains (made sc (binary p Add a b)) s r
+  aims (binary p Sub a b) s r = plains (made sc (binary p Sub a b)) s r
+  aims (binary p Mul a b) s r = plains (made sc (binary p Mul a b)) s r
+  aims (binary p Div a b) s r = plains (made sc (binary p Div a b)) s r
+  aims (binary p Rem a b) s r = plains (made sc (binary p Rem a b)) s r
+  aims e s r = plains (made sc e) s r
+
+  pub patches : (e : CExpr) (s : Bool) (r far to : ℕ) (before after : List ℕ) → far < 2 ^ 16 → length before + length (test_open sc e s r).code < 2 ^ 63
+      → (length before + length (test_open sc e s r).code + far) % 2 ^ 16 ≡ to % 2 ^ 16
+      → patched to (map (λ j. length before + j) (test_open sc e s r).jumps) (before ++ (map encoding (test_open sc e s r).code ++ after)) ≡ before ++ (map encoding (test_code sc e s far r) ++ after)
+  patches e s r far to before after short small aim = (aims e s r).law far to before after short small aim

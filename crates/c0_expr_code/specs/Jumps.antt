@@ -1,0 +1,83 @@
+-- A test's code before its place is known: its branches to the place have no distance yet, and are patched later.
+use Rattle.std.specs.Prelude.{◌≡◌, ℕ, ◌+◌, ◌-◌, ◌*◌, ◌/◌, ◌%◌, ◌^◌, ◌<◌, Bool, true, false, not, List, [], ◌∷◌, ◌++◌, length, map, slice_index, slice_set, None}
+use Rattle.mips_table.specs.declared.inst.Inst.{Inst}
+use Rattle.mips_table.specs.Encoding.{encoding}
+use Rattle.c0_tree.specs.declared.tree.UnaryOp.{UnaryOp}
+use Rattle.c0_tree.specs.declared.tree.UnaryOp.TheVariants.{Negate, Not}
+use Rattle.c0_tree.specs.declared.tree.BinaryOp.{BinaryOp}
+use Rattle.c0_tree.specs.declared.tree.BinaryOp.TheVariants.{Add, Sub, Mul, Div, Rem, Lt, Le, Gt, Ge, Eq, Ne, And, Or}
+use Rattle.c0_tree.specs.Tree.{CExpr, unary, binary}
+use Rattle.c0_expr_code.specs.Scope.{Scope}
+use Rattle.c0_expr_code.specs.Code.{Made, made}
+use Rattle.c0_expr_code.specs.Test.{immediate_test_of, Testing, compare_test, plain_test, test_code}
+
+-- code with distances 0, and where the branches to the place stand in it
+pub record Open : Type 0 where
+  pub code : List Inst
+  pub jumps : List ℕ
+
+-- a test's, by s and the free registers
+abbrev pub Opening : Type 0
+Opening = Bool → (r : ℕ) → Open
+
+-- code whose last instruction is the branch
+abbrev pub last_open : List Inst → Open
+last_open is = record { code = is; jumps = (length is - 1) ∷ [] }
+
+-- behind other code
+abbrev pub behind_open : List Inst → Open → Open
+behind_open is x = record { code = is ++ x.code; jumps = map (λ j. length is + j) x.jumps }
+
+-- both go to the place
+abbrev pub joined_open : Open → Open → Open
+joined_open x y = record { code = x.code ++ y.code; jumps = x.jumps ++ map (λ j. length x.code + j) y.jumps }
+
+-- both tests: where the first alone decides for s both go to the place, and else the first goes over the second
+abbrev pub both_open : (decides s : Bool) → Testing → Opening → Opening → (r : ℕ) → Open
+both_open true true one x y r = joined_open (x true r) (y true r)
+both_open true false one x y r = behind_open (one true (length (y false r).code % 2 ^ 16) r) (y false r)
+both_open false true one x y r = behind_open (one false (length (y true r).code % 2 ^ 16) r) (y true r)
+both_open false false one x y r = joined_open (x false r) (y false r)
+
+abbrev pub binary_open : BinaryOp → Made → Made → Made → Testing → Opening → Opening → Opening
+binary_open Add m ma mb one x y s r = last_open (plain_test m s 0 r)
+binary_open Sub m ma mb one x y s r = last_open (plain_test m s 0 r)
+binary_open Mul m ma mb one x y s r = last_open (plain_test m s 0 r)
+binary_open Div m ma mb one x y s r = last_open (plain_test m s 0 r)
+binary_open Rem m ma mb one x y s r = last_open (plain_test m s 0 r)
+binary_open And m ma mb one x y s r = both_open false s one x y r
+binary_open Or m ma mb one x y s r = both_open true s one x y r
+binary_open Lt m ma mb one x y s r = last_open (compare_test (immediate_test_of Lt mb.known) Lt ma mb s 0 r)
+binary_open Le m ma mb one x y s r = last_open (compare_test (immediate_test_of Le mb.known) Le ma mb s 0 r)
+binary_open Gt m ma mb one x y s r = last_open (compare_test (immediate_test_of Gt mb.known) Gt ma mb s 0 r)
+binary_open Ge m ma mb one x y s r = last_open (compare_test (immediate_test_of Ge mb.known) Ge ma mb s 0 r)
+binary_open Eq m ma mb one x y s r = last_open (compare_test None Eq ma mb s 0 r)
+binary_open Ne m ma mb one x y s r = last_open (compare_test None Ne ma mb s 0 r)
+
+abbrev pub unary_open : UnaryOp → Made → Opening → Opening
+unary_open Negate m x s r = last_open (plain_test m s 0 r)
+unary_open Not m x s r = x (not s) r
+
+-- every test
+abbrev pub test_open : Scope → CExpr → Opening
+test_open sc (unary p o e) s r = unary_open o (made sc (unary p o e)) (test_open sc e) s r
+test_open sc (binary p o a b) s r =
+    binary_open o (made sc (binary p o a b)) (made sc a) (made sc b) (test_code sc a) (test_open sc a) (test_open sc b) s r
+test_open sc e s r = last_open (plain_test (made sc e) s 0 r)
+
+-- the word of a branch at a place in the code, which is to lead to another place
+abbrev pub aimed_word : (to at word : ℕ) → ℕ
+aimed_word to at word = word / 2 ^ 16 * 2 ^ 16 + (to + (2 ^ 64 - (at + 1))) % 2 ^ 16
+
+-- words, of which the branches at these places are to lead to another place
+abbrev pub patched : (to : ℕ) → List ℕ → List ℕ → List ℕ
+patched to [] words = words
+patched to (j ∷ js) words = patched to js (slice_set words j (aimed_word to j (slice_index words j)))
+
+-- A law: a test's open code, patched where it stands between other words, is the test's code with the distance to the place.
+abbrev pub PatchesAim : Type 0
+PatchesAim = (sc : Scope) (e : CExpr) (s : Bool) (r far to : ℕ) (before after : List ℕ) → far < 2 ^ 16
+    → length before + length (test_open sc e s r).code < 2 ^ 63
+    → (length before + length (test_open sc e s r).code + far) % 2 ^ 16 ≡ to % 2 ^ 16
+    → patched to (map (λ j. length before + j) (test_open sc e s r).jumps) (before ++ (map encoding (test_open sc e s r).code ++ after))
+    ≡ before ++ (map encoding (test_code sc e s far r) ++ after)

@@ -1,0 +1,241 @@
+-- A function that has a frame is entered.
+use Rattle.std.specs.Prelude.{map, slice_get, IsTrue, Some, None, Ok, Err, ok_or, if◌then◌else◌, nat_lt}
+use Rattle.std.proofs.Common.{◌≡◌, ◌≢◌, inl, inr, ℕ, zero, suc, ◌+◌, ◌-◌, ◌*◌, ◌%◌, ◌^◌, ◌<◌, ◌≤◌, ◌⊎◌, Bool, true, false, Option, List, [], ◌∷◌, ◌++◌, length, refl, sym, ap, ◌∙◌, subst, arith, length-append}
+use Rattle.std.proofs.lemmas.Bool.{cases_Bool, cond-true, cond-false, ltb-true, ltb-false}
+use Rattle.mips_table.specs.declared.inst.Inst.{Inst}
+use Rattle.mips_table.specs.declared.inst.Inst.TheVariants.{Sltu, Beq, J}
+use Rattle.mips_table.specs.Code.{Contents, reg, Behind, Configuration as Machine, at_with, Reaches, RunLaws, CodeAt}
+use Rattle.masm.specs.Laws.{RunsCompose, JumpsLead, StraightRuns}
+use Rattle.c0_tree.specs.Size.{nodes, stmts_nodes}
+use Rattle.c0_tree.specs.Tree.{CExpr, CStmts, CBody, code, asm, CDecl, CFunction}
+use Rattle.c0_meaning.specs.Ty.{Ty, named, ty_of}
+use Rattle.c0_meaning.specs.Env.{Typed, Shape, typed_of}
+use Rattle.c0_meaning.specs.Limits.{frame, locals_of}
+use Rattle.c0_meaning.specs.Words.{words, all_words, fields_named}
+use Rattle.c0_meaning.specs.Sound.{shapes}
+use Rattle.c0_meaning.specs.Value.{Value, Values, empty, part, group, followed_by, zeros_of}
+use Rattle.c0_meaning.specs.State.{Frame, State, stack_words, pushed, with_variables}
+use Rattle.c0_meaning.specs.Operators.{StackOut, faulted, stuck}
+use Rattle.c0_meaning.specs.Evaluation.{at_no_cost}
+use Rattle.c0_meaning.specs.World.{Cost, units, plus, Configuration, with_state, ended}
+use Rattle.c0_meaning.specs.Running.{Target, Work, leave, push, Step, Go, Stop, then_go, enter, call_function}
+use Rattle.c0_meaning.specs.TypedState.{types_of, AllFit, Fits, layout_of, IsTypedWith}
+use Rattle.c0_expr_code.specs.Scope.{Scope}
+use Rattle.c0_expr_code.specs.Bases.{Bases, words_of_all, word, AllHeld, RegionHeld}
+use Rattle.c0_stmt_code.specs.Code.{MAX_STACK, large_code, end_code, body_code, register_entry, are_calling, calls_in, stack_test, save_code, params_code, locals_code, frame_entry, entry_code, exit_code, return_code, stmts_code, statements_function, function_code}
+use Rattle.c0_stmt_code.specs.Setup.{Setup, IsOurs}
+use Rattle.c0_stmt_code.specs.Ahead.{Activation, env_in, Block, Awaits, ReturnStands, Ahead}
+use Rattle.c0_stmt_code.specs.Standing.{text, scope, bases, end_of, unit_scope, AreIn, VariablesHeld, Waiting, Runs, UnderWay, Stands, StepIs}
+use Rattle.c0_stmt_code.proofs.Needs.{HeldStays, TypedStays, FunctionsAre, LengthsFit, AllScalar}
+use Rattle.c0_stmt_code.proofs.Ways.{Way, on, of, away, within}
+use Rattle.c0_stmt_code.proofs.Blocks.{front, back, block_of}
+use Rattle.c0_stmt_code.proofs.Held.{word_same, region}
+use Rattle.c0_stmt_code.proofs.State.{rest_of, state_of, standing_at}
+use Rattle.c0_stmt_code.proofs.Rooms.{frame_words, frame_on, words_by_types, waiting_same}
+use Rattle.c0_stmt_code.proofs.Variables.{zeros_zero, zeros_held, joined_held, scalars_words, args_held}
+use Rattle.c0_stmt_code.proofs.Frames.{Entered, Left, tested}
+use Rattle.c0_stmt_code.proofs.Entry.{Framed, FrameMade, frames}
+use Rattle.c0_stmt_code.proofs.Sim.{Path, arrives}
+
+module _ (runs : RunLaws) (compose : RunsCompose) (W E : Type 0) (Outer : W → Contents → Behind → Type 0) (Passes : Machine → Machine → Type 0) (z : Setup W E Outer Passes) (jumps : JumpsLead z.w) (straight : StraightRuns z.w)
+    (held : HeldStays (shapes z.p.unit)) (typing : TypedStays z.p.unit) (functions : FunctionsAre z.table z.p.unit) (opened : (x : List ℕ) → words (shapes z.p.unit) (named x) ≡ words_of_all (shapes z.p.unit) (types_of (fields_named (shapes z.p.unit) x))) where
+  -- arguments stand in registers as every function's words
+  are_in : (objects : List Ty) (frames : List Frame) (f : CFunction) (regs : ℕ → ℕ) (r : ℕ) (ts : List Ty) (vs : Values) → AllFit (shapes z.p.unit) (layout_of z.p.unit objects) ts vs → AreIn (unit_scope z.p.unit) (bases W E Outer Passes z objects []) regs r vs
+      → AreIn (scope W E Outer Passes z f) (bases W E Outer Passes z objects frames) regs r vs
+  are_in objects frames f regs r [] empty k h = tt
+  are_in objects frames f regs r (t ∷ ts) (part v vs) k h =
+      (h.0 ∙ sym (word_same (shapes z.p.unit) (map typed_of z.p.unit.globals) z.a.globals z.a.heap objects objects (λ path t h. refl) (rest_of (unit_scope z.p.unit)) (rest_of (scope W E Outer Passes z f)) (end_of W E Outer Passes z []) (end_of W E Outer Passes z frames) t v k.0), are_in objects frames f regs (suc r) ts vs k.1 h.1)
+  are_in objects frames f regs r [] (part v vs) k h = absurd k
+  are_in objects frames f regs r (t ∷ ts) empty k h = absurd k
+
+  module _ (objects : List Ty) (gv hv : Value) (hw : ℕ) (fs : List Frame) (world : W) (calls : List (List E)) (answer : Option Value) (c : Contents) (d : Behind) (acts : List Activation)
+      (st : Stands W E Outer Passes z objects (standing_at gv hv hw fs world calls answer) c d) (waits : Waiting W E Outer Passes z objects c.memory acts fs) (at_end : c.regs 29 ≡ 4 * end_of W E Outer Passes z fs)
+      (n to debt : ℕ) (f : CFunction) (is : slice_get z.p.unit.functions n ≡ Some f) (args : Values) (target : Target) (work : List Work) (return_at : c.regs 31 ≡ 4 * to)
+      (fits : AllFit (shapes z.p.unit) (layout_of z.p.unit objects) (types_of (map typed_of f.params)) args) (arguments : AreIn (unit_scope z.p.unit) (bases W E Outer Passes z objects []) c.regs 20 args)
+      (ahead : Awaits (text W E Outer Passes z) acts to debt (ty_of f.answer) target work (λ others at left. Ahead (text W E Outer Passes z) others at left work)) where
+    abbrev sc : Scope
+    sc = scope W E Outer Passes z f
+
+    abbrev here : Configuration W E
+    here = standing_at gv hv hw fs world calls answer
+
+    abbrev low : ℕ
+    low = end_of W E Outer Passes z fs
+
+    -- the data stand while what is changed lies in the frame that begins
+    stands_in : (h' : Configuration W E) (c' : Contents) → h'.state.global_values ≡ gv → IsTypedWith z.p.unit objects h'.state → (h'.state.heap_values ≡ hv) → (h'.state.heap_words ≡ hw) → (h'.world ≡ world) → stack_words z.p.unit h'.state.frames ≤ z.p.stack
+        → ((x : ℕ) → (x < low) ⊎ (z.a.stack + z.p.stack ≤ x) → c'.memory x ≡ c.memory x) → c'.special ≡ c.special → c'.regs 28 ≡ c.regs 28 → c'.regs 30 ≡ c.regs 30 → Stands W E Outer Passes z objects h' c' d
+    stands_in h' c' eg typed eh ew eo room same special r28 r30 =
+        let u = st.used in
+        let o = st.room in
+        let gf = z.globals_fit in
+        let hf = z.heap_fits in
+        let lo = z.low in
+        let wt = words_by_types (shapes z.p.unit) (map typed_of z.p.unit.globals) in
+        record {
+          typed = typed;
+          declared = st.declared;
+          used = st.used ∙ sym ew;
+          room = subst (λ y. y ≤ z.p.heap) (sym ew) st.room;
+          stack_room = room;
+          globals = subst (λ v. RegionHeld (unit_scope z.p.unit) (bases W E Outer Passes z objects []) c'.memory z.a.globals (types_of (map typed_of z.p.unit.globals)) v) (sym eg)
+              (held.same (unit_scope z.p.unit) (bases W E Outer Passes z objects []) c.memory c'.memory z.a.globals (types_of (map typed_of z.p.unit.globals)) gv refl (λ x le lt. same x (inl (omega (arith, lt, wt, gf, hf)))) st.globals);
+          heap = subst (λ v. RegionHeld (unit_scope z.p.unit) (bases W E Outer Passes z objects []) c'.memory z.a.heap objects v) (sym eh)
+              (held.same (unit_scope z.p.unit) (bases W E Outer Passes z objects []) c.memory c'.memory z.a.heap objects hv refl (λ x le lt. same x (inl (omega (arith, lt, u, o, hf)))) st.heap);
+          used_word = same 1026 (inl (omega (arith, lo, gf, hf))) ∙ st.used_word ∙ sym ew;
+          heap_size = same 1027 (inl (omega (arith, lo, gf, hf))) ∙ st.heap_size;
+          heap_first = same 1028 (inl (omega (arith, lo, gf, hf))) ∙ st.heap_first;
+          stack_first = same 1029 (inl (omega (arith, lo, gf, hf))) ∙ st.stack_first;
+          stack_size = same 1030 (inl (omega (arith, lo, gf, hf))) ∙ st.stack_size;
+          globals_at = r28 ∙ st.globals_at;
+          stack_end = r30 ∙ st.stack_end;
+          outer = subst (λ v. Outer v c' d) (sym eo) (z.outer_stays world c c' d (λ x no. elim (cases_Bool (nat_lt x low)) [
+            | inl e ↦ same x (inl (ltb-true x low e))
+            | inr e ↦ let ge = ltb-false x low e in elim (cases_Bool (nat_lt x (z.a.stack + z.p.stack))) [
+              | inl l ↦ let lt = ltb-true x (z.a.stack + z.p.stack) l in absurd (no (inl (omega (arith, ge, gf, hf), lt)))
+              | inr l ↦ same x (inr (let q = ltb-false x (z.a.stack + z.p.stack) l in omega (arith, q)))
+            ]
+          ]) special st.outer);
+          idle = st.idle;
+        }
+
+    -- types of parameters and locals, one behind the other
+    types_joined : (ds es : List CDecl) → types_of (map typed_of (ds ++ es)) ≡ types_of (map typed_of ds) ++ types_of (map typed_of es)
+    types_joined [] es = refl
+    types_joined (q ∷ ds) es = ap (λ ts. ty_of q.ty ∷ ts) (types_joined ds es)
+
+    types_length : (ds : List CDecl) → length (types_of (map typed_of ds)) ≡ length ds
+    types_length [] = refl
+    types_length (q ∷ ds) = let e = types_length ds in omega (arith, e)
+
+    -- the frame that begins
+    abbrev frame_of : List CDecl → Frame
+    frame_of locals = record { function = n; variables = group (followed_by args (zeros_of (shapes z.p.unit) (map typed_of locals))) }
+
+    size : (locals : List CDecl) (stmts : CStmts) (result : CExpr) → f.body ≡ code locals stmts result → 3 + length f.params + all_words (shapes z.p.unit) (map typed_of locals) ≡ sc.frame
+    size locals stmts result e =
+        let ls : locals_of f.body ≡ locals = ap locals_of e in
+        let l = ap (λ ds. all_words (shapes z.p.unit) (map typed_of ds)) ls in
+        let ps = words_by_types (shapes z.p.unit) (map typed_of f.params) in
+        let k = scalars_words sc (bases W E Outer Passes z objects fs) (layout_of z.p.unit objects) opened c.memory (types_of (map typed_of f.params)) (functions.scalars n f is) in
+        let t = types_length f.params in
+        omega (arith, l, ps, k, t)
+
+    variables_stand : (locals : List CDecl) (stmts : CStmts) (result : CExpr) (m : ℕ → ℕ) (regs : ℕ → ℕ) → f.body ≡ code locals stmts result → sc.in_registers ≡ false
+        → ((j : ℕ) → j < length f.params → m (low + 3 + j) ≡ c.regs (20 + j)) → ((x : ℕ) → low + 3 + length f.params ≤ x → x < low + sc.frame → m x ≡ 0) → VariablesHeld W E Outer Passes z objects regs m f (frame_of locals ∷ fs)
+    variables_stand locals stmts result m regs e form args_at zeros_at = by_form sc.in_registers form
+      where
+        by_form : (b : Bool) → b ≡ false → RegionHeld sc (bases W E Outer Passes z objects (frame_of locals ∷ fs)) (if b then regs else m) (if b then 20 else (end_of W E Outer Passes z (frame_of locals ∷ fs) - frame (shapes z.p.unit) f) + 3) (types_of sc.env.locals) (frame_of locals).variables
+        by_form true q = absurd (cc)
+        by_form false q =
+            let on = frame_on z.p.unit (frame_of locals) fs f is in
+            let sz = size locals stmts result e in
+            let at : ℕ = (end_of W E Outer Passes z (frame_of locals ∷ fs) - frame (shapes z.p.unit) f) + 3 in
+            let b : Bases = bases W E Outer Passes z objects (frame_of locals ∷ fs) in
+            let k = scalars_words sc (bases W E Outer Passes z objects fs) (layout_of z.p.unit objects) opened c.memory (types_of (map typed_of f.params)) (functions.scalars n f is) in
+            let t = types_length f.params in
+            let ls = words_by_types (shapes z.p.unit) (map typed_of locals) in
+            let first = args_held sc (bases W E Outer Passes z objects (frame_of locals ∷ fs)) (layout_of z.p.unit objects) opened m c.regs at 20 (types_of (map typed_of f.params)) args (functions.scalars n f is) fits
+                (are_in objects (frame_of locals ∷ fs) f c.regs 20 (types_of (map typed_of f.params)) args fits arguments) (λ j lt. ap m (omega (arith, on)) ∙ args_at j (omega (arith, lt, t))) in
+            let second = zeros_held sc (bases W E Outer Passes z objects (frame_of locals ∷ fs)) (layout_of z.p.unit objects) opened m (at + words_of_all (shapes z.p.unit) (types_of (map typed_of f.params))) (types_of (map typed_of locals)) (zeros_of (shapes z.p.unit) (map typed_of locals))
+                (typing.zeros objects n f locals stmts result is e) (zeros_zero (shapes z.p.unit) (map typed_of locals)) (λ x le lt. zeros_at x (omega (arith, le, on, k, t)) (omega (arith, lt, on, k, t, ls, sz))) in
+            let types : types_of (map typed_of f.params) ++ types_of (map typed_of locals) ≡ types_of sc.env.locals = sym (types_joined f.params (locals_of f.body) ∙ ap (λ ds. types_of (map typed_of f.params) ++ types_of (map typed_of ds)) (ap locals_of e)) in
+            subst (λ ts. AllHeld sc (bases W E Outer Passes z objects (frame_of locals ∷ fs)) m at ts (followed_by args (zeros_of (shapes z.p.unit) (map typed_of locals)))) types
+            (joined_held sc (bases W E Outer Passes z objects (frame_of locals ∷ fs)) (layout_of z.p.unit objects) opened m at (types_of (map typed_of f.params)) (types_of (map typed_of locals)) args (zeros_of (shapes z.p.unit) (map typed_of locals)) first second)
+
+    abbrev its_entry : List CDecl → CStmts → List Inst
+    its_entry locals stmts = save_code sc (are_calling stmts) ++ (params_code sc (length f.params) 0 ++ locals_code sc (all_words (shapes z.p.unit) (map typed_of locals)) (3 + length f.params))
+
+    abbrev its_body : CStmts → CExpr → List Inst
+    its_body stmts result = stmts_code sc (text W E Outer Passes z).links stmts ++ return_code sc (are_calling stmts) result
+
+    code_is : (locals : List CDecl) (stmts : CStmts) (result : CExpr) → f.body ≡ code locals stmts result → sc.in_registers ≡ false → function_code sc (text W E Outer Passes z).links f ≡ (stack_test sc 29 ++ its_entry locals stmts) ++ its_body stmts result
+    code_is locals stmts result e form =
+        ap (λ b. body_code sc (text W E Outer Passes z).links (length f.params) b) e
+        ∙ ap (λ is. is ++ its_body stmts result) (cond-false sc.in_registers (register_entry sc (length f.params) (length locals) (are_calling stmts)) (frame_entry sc (length f.params) (all_words (shapes z.p.unit) (map typed_of locals)) (are_calling stmts)) form)
+
+    test_some : 1 ≤ length (stack_test sc 29)
+    test_some = omega (arith, length-append (large_code sc) (end_code 29 (4 * sc.frame) ++ (Sltu 1 30 29 ∷ Beq 1 0 1 ∷ J (sc.exit StackOut) ∷ [])), length-append (end_code 29 (4 * sc.frame)) (Sltu 1 30 29 ∷ Beq 1 0 1 ∷ J (sc.exit StackOut) ∷ []))
+
+    pub enters : (l m j k : ℕ) (cost : Cost) (h0 : Configuration W E) (s0 : Machine) (locals : List CDecl) (stmts : CStmts) (result : CExpr) → f.body ≡ code locals stmts result → sc.in_registers ≡ false
+        → Path runs compose W E Outer Passes z jumps l m j s0 (at_with k c d) → CodeAt z.w k (function_code sc (text W E Outer Passes z).links f) → cost.own + 9 ≤ 2048 * (l + 1) → m ≤ 60 * cost.own + 20 → length calls ≡ ended h0 + j
+        → StepIs W E Outer Passes z debt h0 s0 (call_function z.p cost n args target work here)
+    enters l m j k cost h0 s0 locals stmts result e form path there low_paid high_paid en =
+        subst (λ o. StepIs W E Outer Passes z debt h0 s0 (then_go (plus cost (units 1)) here (at_no_cost (ok_or o stuck)) (λ cost g. if nat_lt z.p.stack (stack_words z.p.unit fs + frame (shapes z.p.unit) g) then Stop cost (faulted StackOut) here else enter z.p cost n g.body args target work here))) (sym is)
+        (elim (cases_Bool (nat_lt z.p.stack (stack_words z.p.unit fs + frame (shapes z.p.unit) f))) [
+          | inl over ↦ subst (λ t. StepIs W E Outer Passes z debt h0 s0 t) (sym (cond-true (nat_lt z.p.stack (stack_words z.p.unit fs + frame (shapes z.p.unit) f)) (Stop cost2 (faulted StackOut) here) (enter z.p cost2 n f.body args target work here) over)) (fails (ltb-true z.p.stack (stack_words z.p.unit fs + frame (shapes z.p.unit) f) over))
+          | inr fine ↦ subst (λ t. StepIs W E Outer Passes z debt h0 s0 t) (sym (cond-false (nat_lt z.p.stack (stack_words z.p.unit fs + frame (shapes z.p.unit) f)) (Stop cost2 (faulted StackOut) here) (enter z.p cost2 n f.body args target work here) fine))
+              (subst (λ b. StepIs W E Outer Passes z debt h0 s0 (enter z.p cost2 n b args target work here)) (sym e) (goes (ltb-false z.p.stack (stack_words z.p.unit fs + frame (shapes z.p.unit) f) fine)))
+        ])
+      where
+        cost2 : Cost
+        cost2 = plus (plus cost (units 1)) (units 0)
+
+        code_at : CodeAt z.w k ((stack_test sc 29 ++ its_entry locals stmts) ++ its_body stmts result)
+        code_at = subst (CodeAt z.w k) (code_is locals stmts result e form) there
+
+        test_at : CodeAt z.w k (stack_test sc 29)
+        test_at = front z.w k (stack_test sc 29) (its_entry locals stmts) (front z.w k (stack_test sc 29 ++ its_entry locals stmts) (its_body stmts result) code_at)
+
+        fails : z.p.stack < stack_words z.p.unit fs + frame (shapes z.p.unit) f → StepIs W E Outer Passes z debt h0 s0 (Stop cost2 (faulted StackOut) here)
+        fails over =
+            let sf = z.stack_fits in
+            let sm = z.stack_small in
+            let ws = z.sound.small in
+            let sr = st.stack_room in
+            let r = (tested compose z.w z.sound straight jumps sc low (z.a.stack + z.p.stack) 29 k c d st.idle (λ q. absurd (omega (arith, q))) (λ q. absurd (omega (arith, q))) at_end st.stack_end (omega (arith, sr)) (omega (arith, sf, ws)) (omega (arith, sm)) test_at).0 (omega (arith, over)) in
+            let way = on runs z.w Passes l m j 0 7 0 s0 (at_with k c d) (at_with (sc.exit StackOut) r.0 d) path (of runs z.w Passes 7 _ _ r.2) in
+            let le = way.high in
+            (at_with (sc.exit StackOut) r.0 d, record { own = way.own; passes = j + 0; high = omega (arith, le, high_paid); ended_so = omega (arith, en); run = way.run },
+              record { objects = objects; stands = stands_in here r.0 refl st.typed refl refl refl st.stack_room (λ x side. ap (λ m. m x) r.1.memory) r.1.special (r.1.others 28 (λ q. absurd (omega (arith, q))) (λ q. absurd (omega (arith, q)))) (r.1.others 30 (λ q. absurd (omega (arith, q))) (λ q. absurd (omega (arith, q)))); at = refl })
+
+        goes : stack_words z.p.unit fs + frame (shapes z.p.unit) f ≤ z.p.stack → StepIs W E Outer Passes z debt h0 s0 (Go (plus cost2 (units (all_words (shapes z.p.unit) (map typed_of locals)))) (push stmts (leave result target ∷ work)) (with_state here (pushed (frame_of locals) (state_of gv hv hw fs))))
+        goes fine =
+            let sf = z.stack_fits in
+            let sm = z.stack_small in
+            let ws = z.sound.small in
+            let sr = st.stack_room in
+            let gf = z.globals_fit in
+            let hf = z.heap_fits in
+            let sz = size locals stmts result e in
+            let few = functions.few n f is in
+            let on_frame = frame_on z.p.unit (frame_of locals) fs f is in
+            let t = (tested compose z.w z.sound straight jumps sc low (z.a.stack + z.p.stack) 29 k c d st.idle (λ q. absurd (omega (arith, q))) (λ q. absurd (omega (arith, q))) at_end st.stack_end (omega (arith, sr)) (omega (arith, sf, ws)) (omega (arith, sm)) test_at).1 (omega (arith, fine)) in
+            let c1 : Contents = t.0 in
+            let k1 : ℕ = k + length (stack_test sc 29) in
+            let entry_at = back z.w k (stack_test sc 29) (its_entry locals stmts) (front z.w k (stack_test sc 29 ++ its_entry locals stmts) (its_body stmts result) code_at) in
+            let fr = frames compose z.w z.sound straight jumps runs Passes sc (low + sc.frame) (omega arith) (omega (arith, fine, sf, ws)) (omega (arith, fine, sf)) (λ x ge lt. z.ours x (inl (omega (arith, ge, gf, hf), omega (arith, lt, fine)))) (are_calling stmts) (length f.params) (all_words (shapes z.p.unit) (map typed_of locals)) k1 t.0 d st.idle sz few (t.1.is (λ q. absurd (omega (arith, q)))) entry_at in
+            let c2 : Contents = fr.contents in
+            let base : low + sc.frame - sc.frame ≡ low = omega arith in
+            let kb : ℕ = k + length (stack_test sc 29 ++ its_entry locals stmts) in
+            let len : k1 + length (its_entry locals stmts) ≡ kb = omega (arith, length-append (stack_test sc 29) (its_entry locals stmts)) in
+            let body_at = back z.w k (stack_test sc 29 ++ its_entry locals stmts) (its_body stmts result) code_at in
+            let regs : (x : ℕ) → x ≢ 1 → x ≢ 2 → x ≢ 29 → fr.contents.regs x ≡ c.regs x = λ x n1 n2 n29. fr.made.regs x n1 n2 ∙ t.1.others x n1 n29 in
+            let memory : (x : ℕ) → (x < low) ⊎ (low + sc.frame ≤ x) → fr.contents.memory x ≡ c.memory x = λ x side. fr.made.others x (subst (λ y. (x < y) ⊎ (low + sc.frame ≤ x)) (sym base) side) ∙ ap (λ m. m x) t.1.memory in
+            let st2 = stands_in (with_state here (pushed (frame_of locals) (state_of gv hv hw fs))) fr.contents refl (typing.entered objects (state_of gv hv hw fs) n f locals stmts result args is e st.typed fits) refl refl refl (omega (arith, on_frame, fine))
+                (λ x side. elim side [ | inl lt ↦ memory x (inl lt) | inr ge ↦ memory x (inr (omega (arith, ge, fine))) ]) (fr.made.special ∙ t.1.special) (regs 28 (λ q. absurd (omega (arith, q))) (λ q. absurd (omega (arith, q))) (λ q. absurd (omega (arith, q)))) (regs 30 (λ q. absurd (omega (arith, q))) (λ q. absurd (omega (arith, q))) (λ q. absurd (omega (arith, q)))) in
+            let new : Activation = record { function = f; to = to } in
+            let runs_new : Runs W E Outer Passes z objects fr.contents (record { function = f; to = to }) (frame_of locals) fs = record {
+              is = is;
+              return_at = returns (are_calling stmts) (ap calls_in e) fr.contents (λ q. ap fr.contents.memory (sym base) ∙ fr.made.saved q ∙ t.1.others 31 (λ q. absurd (omega (arith, q))) (λ q. absurd (omega (arith, q))) ∙ return_at) (regs 31 (λ q. absurd (omega (arith, q))) (λ q. absurd (omega (arith, q))) (λ q. absurd (omega (arith, q))) ∙ return_at);
+              frame_at = fr.made.regs 29 (λ q. absurd (omega (arith, q))) (λ q. absurd (omega (arith, q))) ∙ t.1.is (λ q. absurd (omega (arith, q))) ∙ omega (arith, on_frame) ∙ sym (ap (λ b. 4 * (if b then low else end_of W E Outer Passes z (frame_of locals ∷ fs))) form);
+              variables = variables_stand locals stmts result fr.contents.memory fr.contents.regs e form (λ i lt. ap fr.contents.memory (omega arith) ∙ fr.made.arguments i lt ∙ t.1.others (20 + i) (λ q. absurd (omega (arith, q))) (λ q. absurd (omega (arith, q, lt, few))))
+                  (λ x ge lt. ap fr.contents.memory (omega (arith, ge)) ∙ fr.made.zeros (x - (low + 3 + length f.params)) (omega (arith, ge, lt, sz)));
+            } in
+            let waits2 = waiting_same W E Outer Passes z held objects c.memory fr.contents.memory acts fs (λ x le lt. memory x (inl lt)) waits in
+            let bodies = functions.typed n f locals stmts result is e in
+            let count = functions.nodes n f locals stmts result is e in
+            let calling : are_calling stmts ≡ calls_in f.body = sym (ap calls_in e) in
+            let result_at = back z.w kb (stmts_code sc (text W E Outer Passes z).links stmts) (return_code sc (are_calling stmts) result) body_at in
+            let block = block_of (text W E Outer Passes z) f (λ at left. Ahead (text W E Outer Passes z) (record { function = f; to = to } ∷ acts) at left (leave result target ∷ work)) stmts kb 0 (kb + length (stmts_code sc (text W E Outer Passes z).links stmts)) debt debt bodies.0 (omega (arith, count)) (λ q. let w : true ≡ false = sym q ∙ form in absurd (cc)) (λ q. ap calls_in e ∙ q)
+                (front z.w kb (stmts_code sc (text W E Outer Passes z).links stmts) (return_code sc (are_calling stmts) result) body_at) refl (omega arith)
+                (record { test = bodies.1; few = omega (arith, count); code = subst (λ b. CodeAt z.w (kb + length (stmts_code sc (text W E Outer Passes z).links stmts)) (return_code sc b result)) calling result_at }, ahead) in
+            let way1 = on runs z.w Passes l m j 1 7 0 s0 (at_with k c d) (at_with k1 t.0 d) path (away runs z.w Passes 7 (at_with k c d) (at_with k1 t.0 d) (λ q. let ts = test_some in absurd (omega (arith, q, ts))) t.2) in
+            let way2 = on runs z.w Passes (l + 1) (m + 7) (j + 0) fr.least (3 + 3 * length f.params + 3 * all_words (shapes z.p.unit) (map typed_of locals) + 3) 0 s0 (at_with k1 t.0 d) (at_with kb fr.contents d) way1 (subst (λ y. Way runs z.w Passes fr.least (3 + 3 * length f.params + 3 * all_words (shapes z.p.unit) (map typed_of locals) + 3) 0 (at_with k1 t.0 d) (at_with y fr.contents d)) len fr.way) in
+            let paid = fr.paid in
+            arrives runs compose W E Outer Passes z jumps (l + 1 + fr.least) (m + 7 + (3 + 3 * length f.params + 3 * all_words (shapes z.p.unit) (map typed_of locals) + 3)) (j + 0 + 0) debt debt (plus cost2 (units (all_words (shapes z.p.unit) (map typed_of locals)))) h0 (with_state here (pushed (frame_of locals) (state_of gv hv hw fs))) s0 kb fr.contents d objects
+            (record { function = f; to = to }) acts stmts (leave result target ∷ work) way2 (omega (arith, paid, low_paid)) (omega (arith, high_paid, few)) (omega (arith, en)) st2 (runs_new, waits2) block
+          where
+            returns : (b : Bool) → calls_in f.body ≡ b → (c2 : Contents) → (b ≡ true → c2.memory low ≡ 4 * to) → c2.regs 31 ≡ 4 * to → (if calls_in f.body then c2.memory low else c2.regs 31) ≡ 4 * to
+            returns true q c2 h g = ap (λ b. if b then c2.memory low else c2.regs 31) q ∙ h refl
+            returns false q c2 h g = ap (λ b. if b then c2.memory low else c2.regs 31) q ∙ g

@@ -1,0 +1,154 @@
+-- The begin of a function that has a frame, whole.
+use Rattle.std.specs.Prelude.{Some, None, if◌then◌else◌, nat_le}
+use Rattle.std.proofs.Common.{◌≡◌, ◌≢◌, inl, inr, ℕ, zero, suc, ◌+◌, ◌-◌, ◌*◌, ◌%◌, ◌^◌, ◌<◌, ◌≤◌, ◌⊎◌, Bool, true, false, List, [], ◌∷◌, ◌++◌, length, refl, sym, ap, ◌∙◌, subst, arith, length-append}
+use Rattle.std.proofs.lemmas.Bool.{cases_Bool, cond-true, cond-false, leb-true}
+use Rattle.mips_table.specs.declared.inst.Inst.{Inst}
+use Rattle.mips_table.specs.declared.inst.Inst.TheVariants.{Addiu, Bne, Sw}
+use Rattle.mips_table.specs.Device.{Idle}
+use Rattle.mips_table.specs.Code.{Contents, put, reg, with_reg, Behind, World, Sound, Configuration, at_with, Reaches, RunLaws, CodeAt}
+use Rattle.masm.specs.Says.{Gives}
+use Rattle.masm.specs.Laws.{RunsCompose, StraightRuns, JumpsLead}
+use Rattle.c0_expr_code.specs.Scope.{Scope}
+use Rattle.c0_expr_code.specs.Code.{Spot, low, frame_back, on_spot}
+use Rattle.c0_stmt_code.specs.Code.{MAX_STACK, frame_spot, stack_test, save_code, params_code, zeros_code, zeros_loop, locals_code, frame_entry}
+use Rattle.c0_stmt_code.proofs.Ways.{Way, none, on, of, away, within}
+use Rattle.c0_stmt_code.proofs.Blocks.{front, back}
+use Rattle.c0_stmt_code.proofs.Rooms.{put_same, put_other}
+use Rattle.c0_stmt_code.proofs.Spots.{other_reg, same_read, read_is, Near, on_place, Wrote}
+use Rattle.c0_stmt_code.proofs.Frames.{frame_address, Entered, Left, tested, Filled, to_frame, params_run, zeros_run, loop_run}
+
+module _ (compose : RunsCompose) (w : World) (sound : Sound w) (straight : StraightRuns w) (jumps : JumpsLead w) (runs : RunLaws) (P : Configuration → Configuration → Type 0) (sc : Scope) (e : ℕ) (inside : sc.frame ≤ e) (small : 4 * e < 2 ^ 32) (fits : e ≤ w.words) (free : (x : ℕ) → e - sc.frame ≤ x → x < e → w.kept x ≡ None) where
+  abbrev Cleared : (at count : ℕ) → Contents → Contents → Type 0
+  Cleared at count b c = Filled compose w sound straight jumps at count (λ j. 0) b c
+
+  -- the locals' words, one way or the other: more than eight take a turn each
+  pub record LocalsDone (at count k to : ℕ) (c : Contents) (d : Behind) : Type 0 where
+    pub contents : Contents
+    pub cleared : Cleared at count c contents
+    pub least : ℕ
+    pub paid : count ≤ 8 + least
+    pub way : Way runs w P least (3 * count + 3) 0 (at_with k c d) (at_with to contents d)
+
+  loop_begins : (i n k : ℕ) (c : Contents) (d : Behind) → d.pending ≡ Idle → i + suc n ≡ sc.frame → c.regs 29 ≡ 4 * e → CodeAt w k (zeros_loop sc i) → LocalsDone ((e - sc.frame) + i) (suc n) k (k + length (zeros_loop sc i)) c d
+  loop_begins i n k c d idle sum at code =
+      let spot = on_spot (λ y x. Addiu 2 y x) 2 (frame_spot sc i) in
+      let tail : List Inst = Sw 0 2 0 ∷ Addiu 2 2 4 ∷ Bne 2 29 65533 ∷ [] in
+      let first = on_place compose w straight (λ c'. (c'.regs 2 ≡ 4 * ((e - sc.frame) + i)) × (c'.memory ≡ c.memory) × (c'.special ≡ c.special) × ((x : ℕ) → x ≢ 1 → x ≢ 2 → c'.regs x ≡ c.regs x)) (λ y x. Addiu 2 y x) (frame_spot sc i) 2 k c d idle (λ z. absurd (omega (arith, z))) (λ z. absurd (omega (arith, z)))
+          (front w k (on_spot (λ y x. Addiu 2 y x) 2 (frame_spot sc i)) (Sw 0 2 0 ∷ Addiu 2 2 4 ∷ Bne 2 29 65533 ∷ []) code)
+          (λ y m a there near address. (with_reg a 2 (4 * ((e - sc.frame) + i)), (refl, near.memory, near.special, λ x ne me. other_reg a.regs 2 (4 * ((e - sc.frame) + i)) x me ∙ near.others x ne me),
+            straight.next (Addiu 2 y (low ((frame_back sc + 4 * i) % 2 ^ 32))) (Gives (4 * ((e - sc.frame) + i))) m a d there refl idle (address ∙ ap (λ v. (v + (frame_back sc + 4 * i) % 2 ^ 32) % 2 ^ 32) at ∙ frame_address sc e i inside small (omega (arith, sum))))) in
+      let c1 : Contents = first.0 in
+      let rest = loop_run compose w sound straight jumps sc e inside small fits free runs P n ((e - sc.frame) + i) (k + length (on_spot (λ y x. Addiu 2 y x) 2 (frame_spot sc i))) first.0 d idle (omega arith) (omega (arith, sum, inside)) first.1.0
+          (first.1.3 29 (λ z. absurd (omega (arith, z))) (λ z. absurd (omega (arith, z))) ∙ at) (back w k (on_spot (λ y x. Addiu 2 y x) 2 (frame_spot sc i)) (Sw 0 2 0 ∷ Addiu 2 2 4 ∷ Bne 2 29 65533 ∷ []) code) in
+      let len : k + length (on_spot (λ y x. Addiu 2 y x) 2 (frame_spot sc i)) + 3 ≡ k + length (zeros_loop sc i) = omega (arith, length-append (on_spot (λ y x. Addiu 2 y x) 2 (frame_spot sc i)) (Sw 0 2 0 ∷ Addiu 2 2 4 ∷ Bne 2 29 65533 ∷ [])) in
+      let here : k + 0 ≡ k = omega arith in
+      let go : Way runs w P 0 3 0 (at_with k c d) (at_with (k + length (on_spot (λ y x. Addiu 2 y x) 2 (frame_spot sc i))) first.0 d) = of runs w P 3 _ _ (subst (λ m. Reaches w 3 (at_with m c d) (at_with (k + length (on_spot (λ y x. Addiu 2 y x) 2 (frame_spot sc i))) first.0 d)) here first.2) in
+      record {
+        contents = rest.0;
+        cleared = record {
+          words = rest.1.words;
+          others = λ x side. rest.1.others x side ∙ ap (λ m. m x) first.1.1;
+          special = rest.1.special ∙ first.1.2;
+          regs = λ x ne me. rest.1.regs x ne me ∙ first.1.3 x ne me;
+        };
+        least = suc n;
+        paid = omega arith;
+        way = within runs w P (0 + suc n) (3 + 3 * suc n) (0 + 0) (suc n) (3 * suc n + 3) 0 (at_with k c d) (at_with (k + length (zeros_loop sc i)) rest.0 d) (omega arith) (omega arith) refl
+            (on runs w P 0 3 0 (suc n) (3 * suc n) 0 (at_with k c d) (at_with (k + length (on_spot (λ y x. Addiu 2 y x) 2 (frame_spot sc i))) first.0 d) (at_with (k + length (zeros_loop sc i)) rest.0 d) go (subst (λ m. Way runs w P (suc n) (3 * suc n) 0 (at_with (k + length (on_spot (λ y x. Addiu 2 y x) 2 (frame_spot sc i))) first.0 d) (at_with m rest.0 d)) len rest.2));
+      }
+
+  pub locals_run : (n i k : ℕ) (c : Contents) (d : Behind) → d.pending ≡ Idle → i + n ≡ sc.frame → c.regs 29 ≡ 4 * e → CodeAt w k (locals_code sc n i) → LocalsDone ((e - sc.frame) + i) n k (k + length (locals_code sc n i)) c d
+  locals_run n i k c d idle sum at code = elim (cases_Bool (nat_le n 8)) [
+    | inl few ↦
+        let same : locals_code sc n i ≡ zeros_code sc n i = cond-true (nat_le n 8) (zeros_code sc n i) (zeros_loop sc i) few in
+        let le = leb-true n 8 few in
+        let r = zeros_run compose w sound straight jumps sc e inside small fits free n i k c d idle (omega (arith, sum)) at (subst (CodeAt w k) same code) in
+        record {
+          contents = r.0; cleared = r.1; least = 0; paid = omega (arith, le);
+          way = within runs w P 0 (3 * n) 0 0 (3 * n + 3) 0 (at_with k c d) (at_with (k + length (locals_code sc n i)) r.0 d) (omega arith) (omega arith) refl (of runs w P (3 * n) _ _ (subst (λ is. Reaches w (3 * n) (at_with k c d) (at_with (k + length is) r.0 d)) (sym same) r.2));
+        }
+    | inr many ↦
+        let same : locals_code sc n i ≡ zeros_loop sc i = cond-false (nat_le n 8) (zeros_code sc n i) (zeros_loop sc i) many in
+        let r = by_loop n many sum (subst (CodeAt w k) same code) in
+        subst (λ is. LocalsDone ((e - sc.frame) + i) n k (k + length is) c d) (sym same) r
+  ]
+    where
+      by_loop : (n : ℕ) → nat_le n 8 ≡ false → i + n ≡ sc.frame → CodeAt w k (zeros_loop sc i) → LocalsDone ((e - sc.frame) + i) n k (k + length (zeros_loop sc i)) c d
+      by_loop zero many sum code = absurd (cc)
+      by_loop (suc n) many sum code = loop_begins i n k c d idle sum at code
+
+  -- the frame as it is made, behind the stack's test
+  pub record FrameMade (calling : Bool) (params locals : ℕ) (c c' : Contents) : Type 0 where
+    pub saved : calling ≡ true → c'.memory (e - sc.frame) ≡ c.regs 31
+    pub arguments : (j : ℕ) → j < params → c'.memory ((e - sc.frame) + 3 + j) ≡ c.regs (20 + j)
+    pub zeros : (j : ℕ) → j < locals → c'.memory ((e - sc.frame) + (3 + params) + j) ≡ 0
+    pub others : (x : ℕ) → (x < e - sc.frame) ⊎ (e ≤ x) → c'.memory x ≡ c.memory x
+    pub special : c'.special ≡ c.special
+    pub regs : (x : ℕ) → x ≢ 1 → x ≢ 2 → c'.regs x ≡ c.regs x
+
+  pub record Framed (calling : Bool) (params locals k to : ℕ) (c : Contents) (d : Behind) : Type 0 where
+    pub contents : Contents
+    pub made : FrameMade calling params locals c contents
+    pub least : ℕ
+    pub paid : locals ≤ 8 + least
+    pub way : Way runs w P least (3 + 3 * params + 3 * locals + 3) 0 (at_with k c d) (at_with to contents d)
+
+  -- the return address is saved, where that is asked
+  record Saved (calling : Bool) (k to : ℕ) (c : Contents) (d : Behind) : Type 0 where
+    contents : Contents
+    is : calling ≡ true → contents.memory (e - sc.frame) ≡ c.regs 31
+    others : (x : ℕ) → x ≢ e - sc.frame → contents.memory x ≡ c.memory x
+    special : contents.special ≡ c.special
+    regs : (x : ℕ) → x ≢ 1 → contents.regs x ≡ c.regs x
+    run : Reaches w 3 (at_with k c d) (at_with to contents d)
+
+  saves : (calling : Bool) (k : ℕ) (c : Contents) (d : Behind) → d.pending ≡ Idle → 0 < sc.frame → c.regs 29 ≡ 4 * e → CodeAt w k (save_code sc calling) → Saved calling k (k + length (save_code sc calling)) c d
+  saves false k c d idle some at code = record { contents = c; is = λ q. absurd (cc); others = λ x ne. refl; special = refl; regs = λ x ne. refl; run = subst (λ m. Reaches w 3 (at_with k c d) (at_with m c d)) (omega arith) (compose.later w 0 3 _ _ (omega arith) (compose.none w (at_with k c d))) }
+  saves true k c d idle some at code =
+      let r = to_frame compose w sound straight jumps sc e inside small fits free 31 0 k c d idle (λ z. absurd (omega (arith, z))) some at code in
+      let here : (e - sc.frame) + 0 ≡ e - sc.frame = omega arith in
+      record {
+        contents = r.0;
+        is = λ q. ap r.0.memory (sym here) ∙ ap (λ m. m ((e - sc.frame) + 0)) r.1.memory ∙ put_same c.memory ((e - sc.frame) + 0) (reg c.regs 31);
+        others = λ x ne. ap (λ m. m x) r.1.memory ∙ put_other c.memory ((e - sc.frame) + 0) (reg c.regs 31) x (λ q. ne (q ∙ here));
+        special = r.1.special;
+        regs = λ x ne. r.1.others x ne ne;
+        run = r.2;
+      }
+
+  pub frames : (calling : Bool) (params locals k : ℕ) (c : Contents) (d : Behind) → d.pending ≡ Idle → 3 + params + locals ≡ sc.frame → params ≤ 8 → c.regs 29 ≡ 4 * e
+      → CodeAt w k (save_code sc calling ++ (params_code sc params 0 ++ locals_code sc locals (3 + params))) → Framed calling params locals k (k + length (save_code sc calling ++ (params_code sc params 0 ++ locals_code sc locals (3 + params)))) c d
+  frames calling params locals k c d idle sum few at code =
+      let a = save_code sc calling in
+      let b = params_code sc params 0 in
+      let l = locals_code sc locals (3 + params) in
+      let one = saves calling k c d idle (omega (arith, sum)) at (front w k (save_code sc calling) (params_code sc params 0 ++ locals_code sc locals (3 + params)) code) in
+      let behind = back w k (save_code sc calling) (params_code sc params 0 ++ locals_code sc locals (3 + params)) code in
+      let k1 = k + length (save_code sc calling) in
+      let two = params_run compose w sound straight jumps sc e inside small fits free params 0 k1 one.contents d idle (omega (arith, sum)) (omega (arith, few)) (one.regs 29 (λ z. absurd (omega (arith, z))) ∙ at) (front w k1 (params_code sc params 0) (locals_code sc locals (3 + params)) behind) in
+      let k2 = k1 + length (params_code sc params 0) in
+      let three = locals_run locals (3 + params) k2 two.0 d idle sum (two.1.regs 29 (λ z. absurd (omega (arith, z))) (λ z. absurd (omega (arith, z))) ∙ one.regs 29 (λ z. absurd (omega (arith, z))) ∙ at) (back w k1 (params_code sc params 0) (locals_code sc locals (3 + params)) behind) in
+      let to : ℕ = k + length (save_code sc calling ++ (params_code sc params 0 ++ locals_code sc locals (3 + params))) in
+      let len : k2 + length (locals_code sc locals (3 + params)) ≡ to = omega (arith, length-append (save_code sc calling) (params_code sc params 0 ++ locals_code sc locals (3 + params)), length-append (params_code sc params 0) (locals_code sc locals (3 + params))) in
+      let way12 = on runs w P 0 3 0 0 (3 * params) 0 (at_with k c d) (at_with k1 one.contents d) (at_with k2 two.0 d) (of runs w P 3 _ _ one.run) (of runs w P (3 * params) _ _ two.2) in
+      let way = on runs w P (0 + 0) (3 + 3 * params) (0 + 0) three.least (3 * locals + 3) 0 (at_with k c d) (at_with k2 two.0 d) (at_with (k2 + length (locals_code sc locals (3 + params))) three.contents d) way12 three.way in
+      record {
+        contents = three.contents;
+        made = record {
+          saved = λ q. three.cleared.others (e - sc.frame) (inl (omega arith)) ∙ two.1.others (e - sc.frame) (inl (omega arith)) ∙ one.is q;
+          arguments = λ j lt.
+            let here : (e - sc.frame) + 3 + j ≡ (e - sc.frame) + 3 + 0 + j = omega arith in
+            three.cleared.others ((e - sc.frame) + 3 + j) (inl (omega (arith, lt))) ∙ ap two.0.memory here ∙ two.1.words j lt ∙ ap one.contents.regs (omega arith) ∙ one.regs (20 + j) (λ z. absurd (omega (arith, z)));
+          zeros = λ j lt. three.cleared.words j lt;
+          others = λ x side. elim side [
+            | inl lt ↦ three.cleared.others x (inl (omega (arith, lt))) ∙ two.1.others x (inl (omega (arith, lt))) ∙ one.others x (λ q. absurd (omega (arith, lt, q)))
+            | inr le ↦ three.cleared.others x (inr (omega (arith, le, sum, inside))) ∙ two.1.others x (inr (omega (arith, le, sum, inside))) ∙ one.others x (λ q. absurd (omega (arith, le, q, sum, inside)))
+          ];
+          special = three.cleared.special ∙ two.1.special ∙ one.special;
+          regs = λ x ne me. three.cleared.regs x ne me ∙ two.1.regs x ne me ∙ one.regs x ne;
+        };
+        least = three.least;
+        paid = three.paid;
+        way = within runs w P (0 + 0 + three.least) (3 + 3 * params + (3 * locals + 3)) (0 + 0 + 0) three.least (3 + 3 * params + 3 * locals + 3) 0 (at_with k c d) (at_with to three.contents d) (omega arith) (omega arith) refl
+            (subst (λ m. Way runs w P (0 + 0 + three.least) (3 + 3 * params + (3 * locals + 3)) (0 + 0 + 0) (at_with k c d) (at_with m three.contents d)) len way);
+      }

@@ -1,0 +1,212 @@
+-- Each step that is proved, put together.
+use Rattle.std.specs.Prelude.{map, slice_get, IsTrue, Some, None, if◌then◌else◌}
+use Rattle.std.proofs.Common.{◌≡◌, ◌≢◌, ℕ, zero, suc, ◌+◌, ◌*◌, ◌<◌, ◌≤◌, Bool, true, false, Option, List, [], ◌∷◌, ◌++◌, length, refl, sym, ap, ◌∙◌, subst, arith, length-append}
+use Rattle.mips_table.specs.declared.inst.Inst.TheVariants.{Jal}
+use Rattle.mips_table.specs.Code.{Contents, Behind, Configuration as Machine, at_with, RunLaws, CodeAt}
+use Rattle.masm.specs.Laws.{RunsCompose, JumpsLead, StraightRuns}
+use Rattle.c0_tree.specs.declared.tree.Kind.{Kind}
+use Rattle.c0_tree.specs.declared.tree.Kind.TheVariants.{Function}
+use Rattle.c0_tree.specs.declared.tree.Span.{Span}
+use Rattle.c0_tree.specs.Size.{nodes, args_nodes, stmts_nodes}
+use Rattle.c0_tree.specs.Tree.{CName, CExpr, CStmt, assign, call, new, choice, loop, CStmts, done, next, CBody, code, asm, CDecl, CFunction, CUnit}
+use Rattle.c0_meaning.specs.Ty.{Ty, named, ty_of}
+use Rattle.c0_meaning.specs.Env.{Env, Signature, typed_of, signature_of}
+use Rattle.c0_meaning.specs.Limits.{is_asm, locals_of}
+use Rattle.c0_meaning.specs.Words.{words, fields_named}
+use Rattle.c0_meaning.specs.Sound.{shapes}
+use Rattle.c0_meaning.specs.Value.{Value, Values}
+use Rattle.c0_meaning.specs.State.{Frame, State, stack_words}
+use Rattle.c0_meaning.specs.Numbered.{IsNumbered, an_assignment, a_call, an_object, a_choice, a_loop, IsNumberedLeft, AreNumberedGiven, none, more, callee_at}
+use Rattle.c0_meaning.specs.Evaluation.{values_of}
+use Rattle.c0_meaning.specs.World.{Cost, units, Configuration, ended}
+use Rattle.c0_meaning.specs.Running.{Target, into, outward, Work, act_on, finish, again, leave, begin, Step, then_go, call_with, call_function, act_statement, act}
+use Rattle.c0_meaning.specs.TypedState.{types_of, Fits, AllFit, layout_of}
+use Rattle.c0_expr_code.specs.Scope.{Scope, is_free_of_calls}
+use Rattle.c0_expr_code.specs.Bases.{words_of_all}
+use Rattle.c0_expr_code.specs.Relation.{Area}
+use Rattle.c0_expr_code.specs.Laws.{IsOpened, AreasHold}
+use Rattle.c0_expr_code.specs.Code.{made}
+use Rattle.c0_stmt_code.specs.Code.{calls_in, args_code, answer_code, call_code, callee_index, while_code, skip, stmt_code, stmts_code, function_code}
+use Rattle.c0_stmt_code.specs.Setup.{Setup}
+use Rattle.c0_stmt_code.specs.Ahead.{Activation, env_in, StatementStands, LoopStands, IsAnswered, Block, Awaits, Ahead}
+use Rattle.c0_stmt_code.specs.Standing.{AreDeclared, text, scope, bases, end_of, unit_scope, word_of_value, AreIn, Waiting, Runs, UnderWay, Stands, Simulated, StepIs, HasFrame, FrameAt, IsCoveredStatement, IsCoveredItem, IsCovered}
+use Rattle.c0_stmt_code.proofs.Needs.{HeldStays, TypedStays, FunctionsAre, LengthsFit, AllScalar}
+use Rattle.c0_stmt_code.proofs.Ways.{Way, none as no_way, away, within}
+use Rattle.c0_stmt_code.proofs.Blocks.{skipped}
+use Rattle.c0_stmt_code.proofs.Lengths.{stmts_length}
+use Rattle.c0_stmt_code.proofs.State.{state_of, standing_at, Exprs}
+use Rattle.c0_stmt_code.proofs.Statements.{assigns, chooses, turns}
+use Rattle.c0_stmt_code.proofs.Calls.{enters}
+use Rattle.c0_stmt_code.proofs.CallActs.{signature_from, calls_function}
+use Rattle.c0_stmt_code.proofs.Returns.{leaves, finishes}
+use Rattle.c0_stmt_code.proofs.Sim.{Path}
+
+-- a body that isn't an asm text
+pub record Statements_ (b : CBody) : Type 0 where
+  pub locals : List CDecl
+  pub stmts : CStmts
+  pub answer : CExpr
+  pub is : b ≡ code locals stmts answer
+
+pub has_statements : (b : CBody) → is_asm b ≡ false → Statements_ b
+has_statements (code ls ss e) h = record { locals = ls; stmts = ss; answer = e; is = refl }
+has_statements (asm t s ws) h = absurd (cc)
+
+types_of_params : (ds : List CDecl) → map (λ d. ty_of d.ty) ds ≡ types_of (map typed_of ds)
+types_of_params [] = refl
+types_of_params (d ∷ ds) = ap (λ ts. ty_of d.ty ∷ ts) (types_of_params ds)
+
+params_length : (ds : List CDecl) → length (types_of (map typed_of ds)) ≡ length ds
+params_length [] = refl
+params_length (d ∷ ds) = let e = params_length ds in omega (arith, e)
+
+given_length : (env : Env) (es : List CExpr) (ts : List Ty) → AreNumberedGiven env es ts → length es ≡ length ts
+given_length env [] [] none = refl
+given_length env (e ∷ es) (t ∷ ts) (more g gs) = let q = given_length env es ts gs in omega (arith, q)
+given_length env [] (t ∷ ts) h = elim h [ ]
+given_length env (e ∷ es) [] h = elim h [ ]
+
+module _ (runs : RunLaws) (compose : RunsCompose) (W E : Type 0) (Outer : W → Contents → Behind → Type 0) (Passes : Machine → Machine → Type 0) (z : Setup W E Outer Passes) (jumps : JumpsLead z.w) (straight : StraightRuns z.w)
+    (held : HeldStays (shapes z.p.unit)) (typing : TypedStays z.p.unit) (functions : FunctionsAre z.table z.p.unit) (exprs : Exprs W E Outer Passes z) (fit : (f : CFunction) → LengthsFit (scope W E Outer Passes z f))
+    (opened : (x : List ℕ) → words (shapes z.p.unit) (named x) ≡ words_of_all (shapes z.p.unit) (types_of (fields_named (shapes z.p.unit) x))) where
+  -- the first call
+  begins : (objects : List Ty) (gv hv : Value) (hw : ℕ) (fs : List Frame) (world : W) (calls : List (List E)) (answer : Option Value) (c : Contents) (d : Behind) (acts : List Activation)
+      → Stands W E Outer Passes z objects (standing_at gv hv hw fs world calls answer) c d → Waiting W E Outer Passes z objects c.memory acts fs → c.regs 29 ≡ 4 * end_of W E Outer Passes z fs
+      → (n to debt : ℕ) (f : CFunction) → slice_get z.p.unit.functions n ≡ Some f → HasFrame W E Outer Passes z f → (args : Values) (target : Target) (work : List Work) → c.regs 31 ≡ 4 * to
+      → AllFit (shapes z.p.unit) (layout_of z.p.unit objects) (types_of (map typed_of f.params)) args → AreIn (unit_scope z.p.unit) (bases W E Outer Passes z objects []) c.regs 20 args
+      → Awaits (text W E Outer Passes z) acts to debt (ty_of f.answer) target work (λ others at left. Ahead (text W E Outer Passes z) others at left work)
+      → (l m j : ℕ) (cost : Cost) (h0 : Configuration W E) (s0 : Machine) → Path runs compose W E Outer Passes z jumps l m j s0 (at_with ((text W E Outer Passes z).links.function n) c d) → cost.own + 9 ≤ 2048 * (l + 1) → m ≤ 60 * cost.own + 20 → length calls ≡ ended h0 + j
+      → StepIs W E Outer Passes z debt h0 s0 (call_function z.p cost n args target work (standing_at gv hv hw fs world calls answer))
+  begins objects gv hv hw fs world calls answer c d acts st waits at_end n to debt f is frame args target work return_at fits arguments ahead l m j cost h0 s0 path low high en =
+      let b = has_statements f.body frame.statements in
+      enters runs compose W E Outer Passes z jumps straight held typing functions opened objects gv hv hw fs world calls answer c d acts st waits at_end n to debt f is args target work return_at fits arguments ahead l m j ((text W E Outer Passes z).links.function n) cost h0 s0 b.locals b.stmts b.answer b.is frame.in_memory path (z.functions n f is) low high en
+
+  module _ (objects : List Ty) (gv hv : Value) (hw : ℕ) (g : Frame) (fs : List Frame) (world : W) (calls : List (List E)) (answer : Option Value) (c : Contents) (d : Behind) (a : Activation) (others : List Activation)
+      (st : Stands W E Outer Passes z objects (standing_at gv hv hw (g ∷ fs) world calls answer) c d) (r : Runs W E Outer Passes z objects c a g fs) (waits : Waiting W E Outer Passes z objects c.memory others fs)
+      (k debt : ℕ) where
+    abbrev sc : Scope
+    sc = scope W E Outer Passes z a.function
+
+    abbrev here : Configuration W E
+    here = standing_at gv hv hw (g ∷ fs) world calls answer
+
+    abbrev At : ℕ → CStmts → List Work → Type 0
+    At k rest work = Block (text W E Outer Passes z) a.function k debt rest (λ to left. Ahead (text W E Outer Passes z) (a ∷ others) to left work)
+
+    -- a statement
+    states : (t : CStmt) (rest : CStmts) (work : List Work) → IsCoveredStatement W E Outer Passes z a.function t → StatementStands (text W E Outer Passes z) a.function k t → At (k + length (stmt_code sc (text W E Outer Passes z).links t)) rest work
+        → StepIs W E Outer Passes z debt here (at_with k c d) (act_statement z.p t rest work here)
+    states (assign s p v) rest work covered stands block = by_rule stands.typed
+      where
+        by_rule : IsNumbered (env_in (text W E Outer Passes z) a.function) (assign s p v) → StepIs W E Outer Passes z debt here (at_with k c d) (act_statement z.p (assign s p v) rest work here)
+        by_rule (an_assignment {t = t} left given deep) = let few = stands.few in
+            assigns runs compose W E Outer Passes z jumps straight held typing exprs fit objects gv hv hw g fs world calls answer c d a others st r waits k debt rest work p v t left given deep (omega (arith, few)) covered stands.code block
+    states (choice s t x y) rest work covered stands block = by_rule stands.typed
+      where
+        by_rule : IsNumbered (env_in (text W E Outer Passes z) a.function) (choice s t x y) → StepIs W E Outer Passes z debt here (at_with k c d) (act_statement z.p (choice s t x y) rest work here)
+        by_rule (a_choice test tx ty) = let few = stands.few in
+            chooses runs compose W E Outer Passes z jumps straight held typing exprs fit objects gv hv hw g fs world calls answer c d a others st r waits k debt rest work t x y test tx ty (omega (arith, few)) stands.free stands.calls stands.code block
+    states (loop s t b) rest work covered stands block = by_rule stands.typed
+      where
+        by_rule : IsNumbered (env_in (text W E Outer Passes z) a.function) (loop s t b) → StepIs W E Outer Passes z debt here (at_with k c d) (act_statement z.p (loop s t b) rest work here)
+        by_rule (a_loop test tb) =
+            let few = stands.few in
+            let l = stmts_length sc (text W E Outer Passes z).links (fit a.function) b in
+            let go = away runs z.w Passes 1 (at_with k c d) (at_with (k + 1 + length (stmts_code sc (text W E Outer Passes z).links b)) c d) (λ q. absurd (omega (arith, q))) (skipped runs compose z.w Passes jumps k (length (stmts_code sc (text W E Outer Passes z).links b)) c d st.idle (omega (arith, l, few)) stands.code.0) in
+            turns runs compose W E Outer Passes z jumps straight held typing exprs fit objects gv hv hw g fs world calls answer c d a others st r waits k debt rest work k 1 2 (at_with k c d) t b
+            (record { test = test; body_typed = tb; few = omega (arith, few); free = stands.free; calls = stands.calls; code = stands.code }) block (omega arith) (omega arith) (omega arith) (within runs z.w Passes 1 1 0 0 1 0 _ _ (omega arith) (omega arith) refl go)
+    states (new s p t ts) rest work covered stands block = absurd covered
+    states (call s p cs callee args) rest work covered stands block = by_rule stands.typed
+      where
+        by_rule : IsNumbered (env_in (text W E Outer Passes z) a.function) (call s p cs callee args) → StepIs W E Outer Passes z debt here (at_with k c d) (act_statement z.p (call s p cs callee args) rest work here)
+        by_rule (a_call {c = signature} found left given deep) =
+            let is = subst (λ kd. callee_at (env_in (text W E Outer Passes z) a.function) kd callee.number ≡ Some signature) covered.0 found in
+            let q = signature_from z.p.unit.functions callee.number signature is in
+            let frame = covered.1 q.0 q.1 in
+            let few = stands.few in
+            let types : signature.params ≡ types_of (map typed_of q.0.params) = sym (ap (λ y. y.params) q.2) ∙ types_of_params q.0.params in
+            let given2 = subst (λ ts. AreNumberedGiven (env_in (text W E Outer Passes z) a.function) args ts) types given in
+            let left2 = subst (λ t. IsNumberedLeft (env_in (text W E Outer Passes z) a.function) p t) (sym (ap (λ y. y.answer) q.2)) left in
+            let many = functions.few callee.number q.0 q.1 in
+            let count = given_length (env_in (text W E Outer Passes z) a.function) args (types_of (map typed_of q.0.params)) given2 in
+            let size = params_length q.0.params in
+            let index : callee_index (text W E Outer Passes z).links callee.kind callee.number ≡ (text W E Outer Passes z).links.function callee.number = ap (λ kd. callee_index (text W E Outer Passes z).links kd callee.number) covered.0 in
+            subst (λ kd. StepIs W E Outer Passes z debt here (at_with k c d) (then_go (units 1) here (values_of args here.state) (λ cost vs. call_with z.p cost kd callee.number vs (into p rest) work here))) (sym covered.0)
+            (calls_function runs compose W E Outer Passes z jumps straight held typing functions exprs objects gv hv hw g fs world calls answer c d a others st r waits (in_frame sc.in_registers refl stands.free) (stands.calls refl) k debt callee.number q.0 args p rest work q.1
+            (λ c2 vs l m j cost st2 w2 at2 to ret fits are ahead path low high en. begins objects gv hv hw (g ∷ fs) world calls answer c2 d (a ∷ others) st2 w2 at2 callee.number to debt q.0 q.1 frame vs (into p rest) work ret fits are ahead l m j cost here (at_with k c d) path low high en)
+            given2 (omega (arith, count, size, many)) (omega (arith, size, many)) left2 deep (omega (arith, few))
+            (subst (λ i. CodeAt z.w k (args_code sc args 0 ++ (Jal i ∷ answer_code sc p))) index stands.code)
+            (subst (λ i. At (k + length (args_code sc args 0 ++ (Jal i ∷ answer_code sc p))) rest work) index block))
+          where
+            in_frame : (b : Bool) → sc.in_registers ≡ b → (sc.in_registers ≡ true → IsTrue (is_free_of_calls (call s p cs callee args))) → b ≡ false
+            in_frame true e free = absurd (let h = free e in cc)
+            in_frame false e free = refl
+
+    -- a work item of the function that runs
+    acts : (item : Work) (work : List Work) → IsCoveredItem W E Outer Passes z a.function item → Ahead (text W E Outer Passes z) (a ∷ others) k debt (item ∷ work) → StepIs W E Outer Passes z debt here (at_with k c d) (act z.p item work here)
+    acts (act_on t rest) work covered ahead = states t rest work covered ahead.0 ahead.1
+    acts (again t body rest) work covered ahead =
+        let path : Path runs compose W E Outer Passes z jumps 0 0 0 (at_with k c d) (at_with (ahead.0 + 1 + length (stmts_code sc (text W E Outer Passes z).links body)) c d) = subst (λ y. Way runs z.w Passes 0 0 0 (at_with k c d) (at_with y c d)) ahead.2 (no_way runs z.w Passes (at_with k c d)) in
+        turns runs compose W E Outer Passes z jumps straight held typing exprs fit objects gv hv hw g fs world calls answer c d a others st r waits k debt rest work ahead.0 0 1 (at_with k c d) t body ahead.1 ahead.3 (omega arith) (omega arith) (omega arith) path
+    acts (leave result target) work covered ahead = leaves runs compose W E Outer Passes z jumps straight held typing functions exprs fit objects gv hv hw g fs world calls answer c d a others st r waits k debt result target work covered ahead.0 ahead.1
+    acts (finish place v rest) work covered ahead = absurd ahead
+    acts (begin n args) work covered ahead = absurd ahead
+
+  by_parts : (frames : List Frame) (objects : List Ty) (gv hv : Value) (hw : ℕ) (world : W) (calls : List (List E)) (answer : Option Value) (c : Contents) (d : Behind) (acts_ : List Activation) (k debt : ℕ) (item : Work) (work : List Work) → IsCovered W E Outer Passes z frames item
+      → Stands W E Outer Passes z objects (standing_at gv hv hw frames world calls answer) c d → UnderWay W E Outer Passes z objects c acts_ frames → Ahead (text W E Outer Passes z) acts_ k debt (item ∷ work)
+      → StepIs W E Outer Passes z debt (standing_at gv hv hw frames world calls answer) (at_with k c d) (act z.p item work (standing_at gv hv hw frames world calls answer))
+  by_parts (g ∷ fs) objects gv hv hw world calls answer c d (a ∷ others) k debt item work covered st under ahead =
+      acts objects gv hv hw g fs world calls answer c d a others st under.0 under.1 k debt item work (covered a.function under.0.is) ahead
+  by_parts [] objects gv hv hw world calls answer c d [] k debt item work covered st under ahead = absurd under
+  by_parts [] objects gv hv hw world calls answer c d (a ∷ others) k debt item work covered st under ahead = absurd under
+  by_parts (g ∷ fs) objects gv hv hw world calls answer c d [] k debt item work covered st under ahead = absurd under
+
+  finish_parts : (frames : List Frame) (objects : List Ty) (gv hv : Value) (hw : ℕ) (world : W) (calls : List (List E)) (answer : Option Value) (c : Contents) (d : Behind) (acts_ : List Activation) (k debt : ℕ) (place : CExpr) (v : Value) (rest : CStmts) (work : List Work) (t : Ty) → IsCovered W E Outer Passes z frames (finish place v rest)
+      → Stands W E Outer Passes z objects (standing_at gv hv hw frames world calls answer) c d → UnderWay W E Outer Passes z objects c acts_ frames → Fits (shapes z.p.unit) (layout_of z.p.unit objects) t v → c.regs 2 ≡ word_of_value W E Outer Passes z objects v
+      → Awaits (text W E Outer Passes z) acts_ k debt t (into place rest) work (λ others to left. Ahead (text W E Outer Passes z) others to left work)
+      → StepIs W E Outer Passes z debt (standing_at gv hv hw frames world calls answer) (at_with k c d) (act z.p (finish place v rest) work (standing_at gv hv hw frames world calls answer))
+  finish_parts (g ∷ fs) objects gv hv hw world calls answer c d (a ∷ others) k debt place v rest work t covered st under fits is ahead =
+      finishes runs compose W E Outer Passes z jumps straight held typing functions exprs fit objects gv hv hw g fs world calls answer c d a others st under.0 under.1 k debt place v rest work t fits is (covered a.function under.0.is) ahead.0 ahead.1 ahead.2
+  finish_parts [] objects gv hv hw world calls answer c d [] k debt place v rest work t covered st under fits is ahead = absurd under
+  finish_parts [] objects gv hv hw world calls answer c d (a ∷ others) k debt place v rest work t covered st under fits is ahead = absurd under
+  finish_parts (g ∷ fs) objects gv hv hw world calls answer c d [] k debt place v rest work t covered st under fits is ahead = absurd under
+
+  begin_parts : (frames : List Frame) (objects : List Ty) (gv hv : Value) (hw : ℕ) (world : W) (calls : List (List E)) (answer : Option Value) (c : Contents) (d : Behind) (acts_ : List Activation) (k debt n to : ℕ) (args : Values) (work : List Work) (f : CFunction) → IsCovered W E Outer Passes z frames (begin n args)
+      → Stands W E Outer Passes z objects (standing_at gv hv hw frames world calls answer) c d → Waiting W E Outer Passes z objects c.memory acts_ frames → c.regs 29 ≡ 4 * end_of W E Outer Passes z frames → slice_get z.p.unit.functions n ≡ Some f → k ≡ (text W E Outer Passes z).links.function n → c.regs 31 ≡ 4 * to
+      → AllFit (shapes z.p.unit) (layout_of z.p.unit objects) (types_of (map typed_of f.params)) args → AreIn (unit_scope z.p.unit) (bases W E Outer Passes z objects []) c.regs 20 args → Awaits (text W E Outer Passes z) acts_ to debt (ty_of f.answer) outward work (λ others at left. Ahead (text W E Outer Passes z) others at left work)
+      → StepIs W E Outer Passes z debt (standing_at gv hv hw frames world calls answer) (at_with k c d) (act z.p (begin n args) work (standing_at gv hv hw frames world calls answer))
+  begin_parts [] objects gv hv hw world calls answer c d [] k debt n to args work f covered st waits at_end is at ret fits are ahead =
+      begins objects gv hv hw [] world calls answer c d [] st waits at_end n to debt f is (covered f is) args outward work ret fits are ahead 0 0 0 (units 0) (standing_at gv hv hw [] world calls answer) (at_with k c d)
+      (subst (λ y. Way runs z.w Passes 0 0 0 (at_with k c d) (at_with y c d)) at (no_way runs z.w Passes (at_with k c d))) (omega arith) (omega arith) (omega arith)
+  begin_parts (g ∷ fs) objects gv hv hw world calls answer c d [] k debt n to args work f covered st waits at_end is at ret fits are ahead = absurd waits
+  begin_parts frames objects gv hv hw world calls answer c d (a ∷ others) k debt n to args work f covered st waits at_end is at ret fits are ahead = absurd ahead
+
+  pub steps : (debt : ℕ) (item : Work) (work : List Work) (h : Configuration W E) (s : Machine) → IsCovered W E Outer Passes z h.state.frames item → Simulated W E Outer Passes z debt (item ∷ work) h s → StepIs W E Outer Passes z debt h s (act z.p item work h)
+  steps debt (act_on t rest) work h s covered sim = by_parts h.state.frames sim.objects h.state.global_values h.state.heap_values h.state.heap_words h.world h.calls h.answer s.contents s.behind sim.activations s.at debt (act_on t rest) work covered sim.stands sim.under_way sim.ahead
+  steps debt (again t body rest) work h s covered sim = by_parts h.state.frames sim.objects h.state.global_values h.state.heap_values h.state.heap_words h.world h.calls h.answer s.contents s.behind sim.activations s.at debt (again t body rest) work covered sim.stands sim.under_way sim.ahead
+  steps debt (leave result target) work h s covered sim = by_parts h.state.frames sim.objects h.state.global_values h.state.heap_values h.state.heap_words h.world h.calls h.answer s.contents s.behind sim.activations s.at debt (leave result target) work covered sim.stands sim.under_way sim.ahead
+  steps debt (finish place v rest) work h s covered sim = finish_parts h.state.frames sim.objects h.state.global_values h.state.heap_values h.state.heap_words h.world h.calls h.answer s.contents s.behind sim.activations s.at debt place v rest work sim.t covered sim.stands sim.under_way sim.fits sim.answer sim.ahead
+  steps debt (begin n args) work h s covered sim = begin_parts h.state.frames sim.objects h.state.global_values h.state.heap_values h.state.heap_words h.world h.calls h.answer s.contents s.behind sim.activations s.at debt n sim.to args work sim.function covered sim.stands sim.waiting sim.frame_at sim.is sim.at sim.return_at sim.fits sim.arguments sim.ahead
+
+-- where anything is left to do the unit has a function, and so what its expressions rest on holds
+module _ (areas : AreasHold) (W E : Type 0) (Outer : W → Contents → Behind → Type 0) (Passes : Machine → Machine → Type 0) (z : Setup W E Outer Passes) where
+  opened_by : (n : ℕ) (f : CFunction) → slice_get z.p.unit.functions n ≡ Some f → IsOpened (shapes z.p.unit)
+  opened_by n f is =
+      let sc = scope W E Outer Passes z f in
+      let words : ℕ = words_of_all (shapes z.p.unit) (types_of (map typed_of z.p.unit.globals)) in
+      (areas z.table z.p.unit z.well_formed f n is z.places (record z.w { words = 1 + words_of_all (shapes z.p.unit) (types_of (map typed_of z.p.unit.globals)) + sc.frame })
+      (record { globals = 1; heap = 1 + words_of_all (shapes z.p.unit) (types_of (map typed_of z.p.unit.globals)); frame_end = 1 + words_of_all (shapes z.p.unit) (types_of (map typed_of z.p.unit.globals)) + sc.frame; objects = [] })
+      (record { from = omega arith; heap = omega arith; frame = omega arith; inside = omega arith }) (record { heap_behind = omega arith; frame_behind = omega arith }) (λ i t e. absurd (cc))).opened
+
+  under_opened : (objects : List Ty) (c : Contents) (frames : List Frame) (acts_ : List Activation) → UnderWay W E Outer Passes z objects c acts_ frames → IsOpened (shapes z.p.unit)
+  under_opened objects c (g ∷ fs) (a ∷ others) under = opened_by g.function a.function under.0.is
+  under_opened objects c [] [] under = absurd under
+  under_opened objects c [] (a ∷ others) under = absurd under
+  under_opened objects c (g ∷ fs) [] under = absurd under
+
+  pub opened_of : (debt : ℕ) (item : Work) (work : List Work) (h : Configuration W E) (s : Machine) → Simulated W E Outer Passes z debt (item ∷ work) h s → IsOpened (shapes z.p.unit)
+  opened_of debt (act_on t rest) work h s sim = under_opened sim.objects s.contents h.state.frames sim.activations sim.under_way
+  opened_of debt (again t body rest) work h s sim = under_opened sim.objects s.contents h.state.frames sim.activations sim.under_way
+  opened_of debt (leave result target) work h s sim = under_opened sim.objects s.contents h.state.frames sim.activations sim.under_way
+  opened_of debt (finish place v rest) work h s sim = under_opened sim.objects s.contents h.state.frames sim.activations sim.under_way
+  opened_of debt (begin n args) work h s sim = opened_by n sim.function sim.is

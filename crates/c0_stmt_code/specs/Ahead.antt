@@ -1,0 +1,100 @@
+-- What is left to do, as code that stands ahead: where each work item's code is, and how control comes from one to the next.
+use Rattle.std.specs.Prelude.{◌≡◌, ℕ, zero, suc, ◌+◌, ◌*◌, ◌<◌, ◌≤◌, Bool, true, IsTrue, List, [], ◌∷◌, ◌++◌, length, Some}
+use Rattle.mips_table.specs.Code.{Contents, Behind, World, Configuration, CodeAt}
+use Rattle.c0_tree.specs.Primitives.{CPrimitive}
+use Rattle.c0_tree.specs.Size.{nodes, args_nodes, stmt_nodes, stmts_nodes}
+use Rattle.c0_tree.specs.Tree.{CExpr, CStmt, CStmts, done, next, CBody, CFunction, CUnit}
+use Rattle.c0_meaning.specs.Ty.{Ty, bool, ty_of}
+use Rattle.c0_meaning.specs.Env.{Env, env_of}
+use Rattle.c0_meaning.specs.Limits.{locals_of}
+use Rattle.c0_meaning.specs.Statement.{MAX_NEED, new_need}
+use Rattle.c0_meaning.specs.Numbered.{IsNumberedLeft, IsNumberedTest, IsNumbered, AreNumbered}
+use Rattle.c0_meaning.specs.Running.{Target, into, outward, Work, act_on, finish, again, leave, begin}
+use Rattle.c0_expr_code.specs.Scope.{Scope, is_free_of_calls, are_free_of_calls}
+use Rattle.c0_stmt_code.specs.Code.{Links, is_calling, are_calling, skip, answer_code, turn_code, while_code, stmt_code, stmts_code, return_code, calls_in}
+
+-- a function that is under way, and the word of the code to which it returns
+pub record Activation : Type 0 where
+  pub function : CFunction
+  pub to : ℕ
+
+-- the largest number of nodes of what stands in a function
+abbrev pub MAX_NODES : ℕ
+MAX_NODES = 2000
+
+-- What is the same for all functions of a unit: the world in which its code runs, the primitives, the unit, each function's scope, and where
+-- the first function returns to.
+pub record Text : Type 0 where
+  pub w : World
+  pub table : List CPrimitive
+  pub unit : CUnit
+  pub scope : CFunction → Scope
+  pub links : Links
+  pub back : ℕ
+
+-- the environment of a function's body
+abbrev pub env_in : Text → CFunction → Env
+env_in x f = env_of x.table x.unit (f.params ++ locals_of f.body)
+
+-- so many jumps lead from one word of the code to another: those over the other branches of `if`s whose first branch is at its end
+abbrev pub Skips : World → ℕ → ℕ → ℕ → Type 0
+Skips w zero k to = k ≡ to
+Skips w (suc n) k to = (over : ℕ) × (over < 32768) × (w.code k ≡ Some (skip over)) × Skips w n (k + 1 + over) to
+
+-- A statement of a function stands at a word. Functions whose variables stand in registers call nothing.
+pub record StatementStands (x : Text) (f : CFunction) (k : ℕ) (t : CStmt) : Type 0 where
+  pub typed : IsNumbered (env_in x f) t
+  pub few : stmt_nodes t ≤ MAX_NODES
+  pub free : (x.scope f).in_registers ≡ true → IsTrue (is_free_of_calls t)
+  pub calls : IsTrue (is_calling t) → calls_in f.body ≡ true
+  pub code : CodeAt x.w k (stmt_code (x.scope f) x.links t)
+
+-- Statements of a function stand at a word, each behind the one before it. Behind the last, jumps lead to where `next` holds. `debt` is how many
+-- jumps are ahead in all, those of `next` among them.
+abbrev pub Block : Text → CFunction → (at debt : ℕ) → CStmts → (next : ℕ → ℕ → Type 0) → Type 0
+Block x f k debt done follows = (n : ℕ) × (to : ℕ) × (left : ℕ) × (debt ≡ n + left) × Skips x.w n k to × follows to left
+Block x f k debt (next t rest) follows =
+    StatementStands x f k t × Block x f (k + length (stmt_code (x.scope f) x.links t)) debt rest follows
+
+-- a place that an answer of a type goes to, which is found with free registers from 8 on
+pub record IsAnswered (x : Text) (f : CFunction) (place : CExpr) (t : Ty) : Type 0 where
+  pub left : IsNumberedLeft (env_in x f) place t
+  pub shallow : new_need place ≤ MAX_NEED
+  pub few : nodes place ≤ MAX_NODES
+
+-- where an answer goes: to a place of the caller, whose code and statements behind it stand where the callee returns to; or out
+abbrev pub Awaits : Text → List Activation → (to debt : ℕ) → Ty → Target → List Work → (List Activation → ℕ → ℕ → Type 0) → Type 0
+Awaits x (a ∷ rest) to debt t (into place behind) work follows =
+    IsAnswered x a.function place t × CodeAt x.w to (answer_code (x.scope a.function) place)
+    × Block x a.function (to + length (answer_code (x.scope a.function) place)) debt behind (follows (a ∷ rest))
+Awaits x [] to debt t outward [] follows = to ≡ x.back
+Awaits x activations to debt t target work follows = ⊥
+
+-- a loop of a function stands at a word
+pub record LoopStands (x : Text) (f : CFunction) (k : ℕ) (t : CExpr) (body : CStmts) : Type 0 where
+  pub test : IsNumberedTest (env_in x f) t bool
+  pub body_typed : AreNumbered (env_in x f) body
+  pub few : nodes t + stmts_nodes body ≤ MAX_NODES
+  pub free : (x.scope f).in_registers ≡ true → IsTrue (are_free_of_calls body)
+  pub calls : IsTrue (are_calling body) → calls_in f.body ≡ true
+  pub code : CodeAt x.w k (while_code (x.scope f) t (stmts_code (x.scope f) x.links body))
+
+-- the code of a function's statements
+abbrev pub its_code : Text → CFunction → CStmts → ℕ
+its_code x f ss = length (stmts_code (x.scope f) x.links ss)
+
+-- a function's answer and its return stand at a word
+pub record ReturnStands (x : Text) (f : CFunction) (k : ℕ) (answer : CExpr) : Type 0 where
+  pub test : IsNumberedTest (env_in x f) answer (ty_of f.answer)
+  pub few : nodes answer ≤ MAX_NODES
+  pub code : CodeAt x.w k (return_code (x.scope f) (calls_in f.body) answer)
+
+-- what is left to do in these functions, the newest first, stands ahead of a word
+abbrev pub Ahead : Text → List Activation → (at debt : ℕ) → List Work → Type 0
+Ahead x (a ∷ rest) k debt (act_on t behind ∷ work) = Block x a.function k debt (next t behind) (λ to left. Ahead x (a ∷ rest) to left work)
+Ahead x (a ∷ rest) k debt (again t body behind ∷ work) =
+    (from : ℕ) × LoopStands x a.function from t body × (k ≡ from + 1 + its_code x a.function body)
+    × Block x a.function (from + length (while_code (x.scope a.function) t (stmts_code (x.scope a.function) x.links body))) debt behind (λ to left. Ahead x (a ∷ rest) to left work)
+Ahead x (a ∷ rest) k debt (leave answer target ∷ work) =
+    ReturnStands x a.function k answer × Awaits x rest a.to debt (ty_of a.function.answer) target work (λ others to left. Ahead x others to left work)
+Ahead x activations k debt work = ⊥

@@ -1,0 +1,232 @@
+-- The code of statements, of calls and of functions: one fold over the tree. It doesn't depend on where it stands, but for the calls' indices.
+use Rattle.std.specs.Prelude.{◌≡◌, ℕ, zero, suc, ◌+◌, ◌-◌, ◌*◌, ◌/◌, ◌%◌, ◌^◌, Bool, true, false, ◌||◌, nat_lt, nat_le, max, if◌then◌else◌, List, [], ◌∷◌, ◌++◌, length, map, slice_index, Option, Some, None}
+use Rattle.mips_table.specs.declared.inst.Inst.{Inst}
+use Rattle.mips_table.specs.declared.inst.Inst.TheVariants.{Addu, Sltu, J, Jal, Jr, Beq, Bne, Addiu, Lw, Sw}
+use Rattle.masm.specs.declared.registers.Places.{Places}
+use Rattle.masm.specs.declared.registers.TheConstants.{SCRATCH, ANSWER, EXPRESSIONS, FRAME_END, STACK_END, RETURN}
+use Rattle.c0_tree.specs.declared.tree.Kind.{Kind}
+use Rattle.c0_tree.specs.declared.tree.Kind.TheVariants.{Function, Primitive}
+use Rattle.c0_tree.specs.Tree.{CName, CTy, CExpr, CStmt, assign, call, new, choice, loop, CStmts, done, next, CBody, code, asm, CDecl, CFunction}
+use Rattle.c0_meaning.specs.Ty.{ty_of}
+use Rattle.c0_meaning.specs.Env.{typed_of}
+use Rattle.c0_meaning.specs.Words.{words, all_words}
+use Rattle.c0_meaning.specs.Operators.{StackOut}
+use Rattle.c0_expr_code.specs.Scope.{Scope}
+use Rattle.c0_expr_code.specs.Code.{Spot, Made, frame_back, register_of, constant_code, on_spot, operand_code, operand_register, made, value_code}
+use Rattle.c0_expr_code.specs.Test.{test_code}
+use Rattle.c0_asm_body.specs.Code.{asm_code}
+
+-- the jump indices of what calls name: the functions and the primitives by their numbers, and the routine that takes a new object
+pub record Links : Type 0 where
+  pub function : ℕ → ℕ
+  pub primitive : ℕ → ℕ
+  pub new_object : ℕ
+
+-- the index of what is called, by its kind and number
+abbrev pub callee_index : Links → Kind → ℕ → ℕ
+callee_index x Function n = x.function n
+callee_index x Primitive n = x.primitive n
+callee_index x _ n = 0
+
+-- a jump over so many words
+abbrev pub skip : ℕ → Inst
+skip n = Beq 0 0 (n % 2 ^ 16)
+
+-- the value of register q goes to a variable that stands in a register, or to a place, with the free registers from r
+abbrev pub stored_code : (q r : ℕ) → Option ℕ → (ℕ → Spot) → List Inst
+stored_code q r (Some x) place = Addu x q 0 ∷ []
+stored_code q r None place = on_spot (λ b k. Sw q b k) r (place r)
+
+-- an answer in register 2 goes to a place
+abbrev pub answer_code : Scope → CExpr → List Inst
+answer_code sc p = stored_code ANSWER EXPRESSIONS (made sc p).stands (made sc p).place
+
+-- a value goes to a variable that stands in a register, or first to a register and from there to a place
+abbrev pub assigned_code : Option ℕ → Made → Made → List Inst
+assigned_code (Some x) p v = v.value x EXPRESSIONS
+assigned_code None p v = operand_code v EXPRESSIONS ++ on_spot (λ b k. Sw (operand_register v EXPRESSIONS) b k) 9 (p.place 9)
+
+-- an assignment
+abbrev pub assign_code : Scope → CExpr → CExpr → List Inst
+assign_code sc p v = assigned_code (made sc p).stands (made sc p) (made sc v)
+
+-- arguments, of which the first has the number i, go to their registers
+abbrev pub args_code : Scope → List CExpr → (i : ℕ) → List Inst
+args_code sc [] i = []
+args_code sc (e ∷ es) i = value_code sc e (register_of i) EXPRESSIONS ++ args_code sc es (suc i)
+
+-- a call
+abbrev pub call_code : Scope → Links → Kind → ℕ → List CExpr → CExpr → List Inst
+call_code sc x kind n args p = args_code sc args 0 ++ (Jal (callee_index x kind n) ∷ answer_code sc p)
+
+-- `new` of a type of so many words
+abbrev pub new_code : Scope → Links → ℕ → CExpr → List Inst
+new_code sc x n p = constant_code ANSWER (n % 2 ^ 32) ++ (Jal x.new_object ∷ answer_code sc p)
+
+-- the other branch of an `if`, where there is one: the first jumps over it
+abbrev pub otherwise : CStmts → List Inst → List Inst
+otherwise done no_code = []
+otherwise (next s rest) no_code = skip (length no_code) ∷ no_code
+
+-- how far the other branch begins behind the first
+abbrev pub otherwise_at : CStmts → ℕ
+otherwise_at done = 0
+otherwise_at (next s rest) = 1
+
+-- an `if`, by the code of its branches
+abbrev pub choice_code : Scope → CExpr → CStmts → (yes_code no_code : List Inst) → List Inst
+choice_code sc t b yes_code no_code = test_code sc t false ((length yes_code + otherwise_at b) % 2 ^ 16) EXPRESSIONS ++ (yes_code ++ otherwise b no_code)
+
+-- The distance back from the end of a loop's test to its body, modulo 2 ^ 16. Where there is no body, the test goes back to the jump before it, which
+-- does nothing then: so each turn leads elsewhere.
+abbrev pub back : Scope → CExpr → List Inst → ℕ
+back sc t body = (2 ^ 16 - (max (length body) 1 + length (test_code sc t true 0 EXPRESSIONS)) % 2 ^ 16) % 2 ^ 16
+
+-- the test of a loop whose body is this code
+abbrev pub turn_code : Scope → CExpr → List Inst → List Inst
+turn_code sc t body = test_code sc t true (back sc t body) EXPRESSIONS
+
+-- a loop, by the code of its body: the test stands behind it
+abbrev pub while_code : Scope → CExpr → List Inst → List Inst
+while_code sc t body = skip (length body) ∷ (body ++ turn_code sc t body)
+
+-- a statement, and statements one after another
+abbrev mutual
+  pub stmt_code : Scope → Links → CStmt → List Inst
+  stmt_code sc x (assign s p v) = assign_code sc p v
+  stmt_code sc x (call s p cs f args) = call_code sc x f.kind f.number args p
+  stmt_code sc x (new s p t ts) = new_code sc x (words sc.env.structs (ty_of t)) p
+  stmt_code sc x (choice s t a b) = choice_code sc t b (stmts_code sc x a) (stmts_code sc x b)
+  stmt_code sc x (loop s t b) = while_code sc t (stmts_code sc x b)
+
+  pub stmts_code : Scope → Links → CStmts → List Inst
+  stmts_code sc x done = []
+  stmts_code sc x (next s rest) = stmt_code sc x s ++ stmts_code sc x rest
+
+-- whether a statement calls a function or a primitive, or makes an object, so that its code writes the return register; and of statements
+abbrev mutual
+  pub is_calling : CStmt → Bool
+  is_calling (assign s p v) = false
+  is_calling (call s p cs f args) = true
+  is_calling (new s p t ts) = true
+  is_calling (choice s t a b) = are_calling a || are_calling b
+  is_calling (loop s t b) = are_calling b
+
+  pub are_calling : CStmts → Bool
+  are_calling done = false
+  are_calling (next s rest) = is_calling s || are_calling rest
+
+-- the frame's word of a number: register 29 is the frame's end
+abbrev pub frame_spot : Scope → ℕ → Spot
+frame_spot sc i = record { code = []; base = FRAME_END; shift = (frame_back sc + 4 * i) % 2 ^ 32 }
+
+-- a register becomes register 29 and so many bytes, modulo 2 ^ 32
+abbrev pub end_code : (d bytes : ℕ) → List Inst
+end_code d bytes = on_spot (λ b k. Addiu d b k) d (record { code = []; base = FRAME_END; shift = bytes % 2 ^ 32 })
+
+-- the words of the largest stack
+abbrev pub MAX_STACK : ℕ
+MAX_STACK = 262144
+
+-- no stack has room for a frame that is larger than the largest
+abbrev pub large_code : Scope → List Inst
+large_code sc = if nat_lt MAX_STACK sc.frame then J (sc.exit StackOut) ∷ [] else []
+
+-- the test of the stack: register d becomes the new frame's end, which must not lie behind the stack's
+abbrev pub stack_test : Scope → ℕ → List Inst
+stack_test sc d = large_code sc ++ (end_code d (4 * sc.frame) ++ (Sltu SCRATCH STACK_END d ∷ Beq SCRATCH 0 1 ∷ J (sc.exit StackOut) ∷ []))
+
+-- the return address goes to the frame's first word, and comes back from it, where it is written in between
+abbrev pub save_code : Scope → Bool → List Inst
+save_code sc calling = if calling then on_spot (λ b k. Sw RETURN b k) SCRATCH (frame_spot sc 0) else []
+
+abbrev pub restore_code : Scope → Bool → List Inst
+restore_code sc calling = if calling then on_spot (λ b k. Lw RETURN b k) SCRATCH (frame_spot sc 0) else []
+
+-- so many arguments, of which the first has the number i, go from their registers to the frame, behind its three words
+abbrev pub params_code : Scope → (n i : ℕ) → List Inst
+params_code sc zero i = []
+params_code sc (suc n) i = on_spot (λ b k. Sw (register_of i) b k) SCRATCH (frame_spot sc (3 + i)) ++ params_code sc n (suc i)
+
+-- so many words of the frame from i on become 0, a store each
+abbrev pub zeros_code : Scope → (n i : ℕ) → List Inst
+zeros_code sc zero i = []
+zeros_code sc (suc n) i = on_spot (λ b k. Sw 0 b k) SCRATCH (frame_spot sc i) ++ zeros_code sc n (suc i)
+
+-- the frame's words from i to its end become 0, in a loop
+abbrev pub zeros_loop : Scope → ℕ → List Inst
+zeros_loop sc i = on_spot (λ b k. Addiu ANSWER b k) ANSWER (frame_spot sc i) ++ (Sw 0 ANSWER 0 ∷ Addiu ANSWER ANSWER 4 ∷ Bne ANSWER FRAME_END 65533 ∷ [])
+
+-- the locals' words, of which there are n, from i to the frame's end
+abbrev pub locals_code : Scope → (n i : ℕ) → List Inst
+locals_code sc n i = if nat_le n 8 then zeros_code sc n i else zeros_loop sc i
+
+-- so many registers of variables become 0, of which the first has the number i
+abbrev pub clear_code : (n i : ℕ) → List Inst
+clear_code zero i = []
+clear_code (suc n) i = Addu (register_of i) 0 0 ∷ clear_code n (suc i)
+
+-- the begin of a function that has a frame: the stack's test, the return address, the parameters and the locals
+abbrev pub frame_entry : Scope → (params : ℕ) → (locals : ℕ) → Bool → List Inst
+frame_entry sc params locals calling =
+    stack_test sc FRAME_END ++ (save_code sc calling ++ (params_code sc params 0 ++ locals_code sc locals (3 + params)))
+
+-- the return from it, whose answer is in register 2
+abbrev pub frame_return : Scope → Bool → List Inst
+frame_return sc calling = restore_code sc calling ++ (end_code FRAME_END (frame_back sc) ++ (Jr RETURN ∷ []))
+
+-- the begin of a function whose variables stand in registers: register 29 stays, and only `new` writes the return register
+abbrev pub register_entry : Scope → (params locals : ℕ) → Bool → List Inst
+register_entry sc params locals calling = stack_test sc SCRATCH ++ ((if calling then Sw RETURN FRAME_END 0 ∷ [] else []) ++ clear_code locals params)
+
+-- the return from it
+abbrev pub register_return : Bool → List Inst
+register_return calling = (if calling then Lw RETURN FRAME_END 0 ∷ [] else []) ++ (Jr RETURN ∷ [])
+
+-- the begin of a function with statements, and its return behind its answer's code
+abbrev pub entry_code : Scope → (params : ℕ) → List CDecl → Bool → List Inst
+entry_code sc params locals calling =
+    if sc.in_registers then register_entry sc params (length locals) calling
+    else frame_entry sc params (all_words sc.env.structs (map typed_of locals)) calling
+
+abbrev pub exit_code : Scope → Bool → List Inst
+exit_code sc calling = if sc.in_registers then register_return calling else frame_return sc calling
+
+-- the answer goes to register 2, and the function returns
+abbrev pub return_code : Scope → Bool → CExpr → List Inst
+return_code sc calling answer = value_code sc answer ANSWER EXPRESSIONS ++ exit_code sc calling
+
+-- a function that has statements
+abbrev pub statements_function : Scope → Links → (params : ℕ) → List CDecl → CStmts → CExpr → List Inst
+statements_function sc x params locals stmts answer =
+    entry_code sc params locals (are_calling stmts) ++ (stmts_code sc x stmts ++ return_code sc (are_calling stmts) answer)
+
+-- a function that has an asm body: it needs no frame, and the stack is tested all the same
+abbrev pub asm_function : Scope → (params : ℕ) → List ℕ → List Inst
+asm_function sc params words = stack_test sc SCRATCH ++ (asm_code params words ++ (Jr RETURN ∷ []))
+
+-- a body's code
+abbrev pub body_code : Scope → Links → ℕ → CBody → List Inst
+body_code sc x params (code locals stmts answer) = statements_function sc x params locals stmts answer
+body_code sc x params (asm text span words) = asm_function sc params words
+
+-- a function's code
+abbrev pub function_code : Scope → Links → CFunction → List Inst
+function_code sc x f = body_code sc x (length f.params) f.body
+
+-- whether the code of a function's body writes the return register
+abbrev pub calls_in : CBody → Bool
+calls_in (code locals stmts answer) = are_calling stmts
+calls_in (asm text span words) = false
+
+-- the indices of the addresses that a unit's code names
+abbrev pub links_of : Places → Links
+links_of p = record {
+  function = λ n. slice_index p.functions.items n / 4;
+  primitive = λ n. slice_index p.primitives.items n / 4;
+  new_object = p.new_object / 4;
+}
+
+-- temporary
+abbrev pub CodeIs : Type 0
+CodeIs = (sc : Scope) (x : Links) → stmts_code sc x done ≡ []

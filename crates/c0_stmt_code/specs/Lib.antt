@@ -1,0 +1,5 @@
+pub mod Ahead
+pub mod Code
+pub mod Journey
+pub mod Setup
+pub mod Standing

@@ -1,0 +1,231 @@
+-- How a configuration of C0 with what is left to do stands in the machine.
+use Rattle.std.specs.Prelude.{◌≡◌, ℕ, zero, suc, ◌+◌, ◌*◌, ◌<◌, ◌≤◌, Bool, true, false, if◌then◌else◌, List, [], ◌∷◌, ◌++◌, length, map, Some, None, slice_get}
+use Rattle.mips_table.specs.Device.{Idle}
+use Rattle.mips_table.specs.Code.{Contents, Behind, Configuration as Machine, CodeAt}
+use Rattle.c0_tree.specs.declared.tree.Kind.TheVariants.{Function}
+use Rattle.c0_tree.specs.Tree.{CTy, CExpr, CStmt, assign, call, new, choice, loop, CStmts, CFunction, CUnit}
+use Rattle.c0_meaning.specs.Limits.{is_asm}
+use Rattle.c0_expr_code.specs.Code.{made}
+use Rattle.c0_meaning.specs.Ty.{Ty, ty_of}
+use Rattle.c0_meaning.specs.Env.{Shape, typed_of, env_of}
+use Rattle.c0_meaning.specs.Typed.{IsDeclarable}
+use Rattle.c0_meaning.specs.Words.{words}
+use Rattle.c0_meaning.specs.Sound.{shapes}
+use Rattle.c0_meaning.specs.Value.{Value, Values, empty, part}
+use Rattle.c0_meaning.specs.State.{Frame, State, variables_of, stack_words}
+use Rattle.c0_meaning.specs.World.{Cost, Configuration}
+use Rattle.c0_meaning.specs.Operators.{KernelFault, faulted, stuck}
+use Rattle.c0_meaning.specs.Running.{Target, into, outward, Work, act_on, finish, again, leave, begin, Step, Go, Stop, act}
+use Rattle.c0_meaning.specs.Execution.{Outcome, Done, Failed, NotYet, run}
+use Rattle.c0_meaning.specs.TypedState.{types_of, Fits, AllFit, layout_of, IsTypedWith}
+use Rattle.c0_expr_code.specs.Scope.{Scope, scope_of, exit_of}
+use Rattle.c0_expr_code.specs.Bases.{Bases, words_of_all, locals_start, word, RegionHeld}
+use Rattle.c0_stmt_code.specs.Code.{links_of, calls_in}
+use Rattle.c0_stmt_code.specs.Setup.{Data, Setup}
+use Rattle.c0_stmt_code.specs.Journey.{Led, Stopped}
+use Rattle.c0_stmt_code.specs.Ahead.{Activation, Text, IsAnswered, Block, Awaits, Ahead}
+
+-- what holds for a unit in every function: values of globals and of the heap point to nothing else
+abbrev pub unit_scope : CUnit → Scope
+unit_scope u = record { env = env_of [] u []; in_registers = false; frame = 0; exit = λ f. 0 }
+
+-- the words of values, from register r on
+abbrev pub AreIn : Scope → Bases → (ℕ → ℕ) → ℕ → Values → Type 0
+AreIn sc b regs r empty = Unit {0}
+AreIn sc b regs r (part v vs) = (regs r ≡ word sc b v) × AreIn sc b regs (suc r) vs
+
+-- each of these types is one that may be declared
+abbrev pub AreDeclared : List Shape → List Ty → Type 0
+AreDeclared structs types = (i : ℕ) (t : Ty) → slice_get types i ≡ Some t → (c : CTy) × (ty_of c ≡ t) × IsDeclarable structs c
+
+module _ (W E : Type 0) (Outer : W → Contents → Behind → Type 0) (Passes : Machine → Machine → Type 0) (z : Setup W E Outer Passes) where
+  -- what is the same for all functions
+  abbrev pub text : Text
+  text = record { w = z.w; table = z.table; unit = z.p.unit; scope = λ f. scope_of z.p.unit f z.places; links = links_of z.places; back = z.a.back }
+
+  abbrev pub scope : CFunction → Scope
+  scope f = scope_of z.p.unit f z.places
+
+  -- the word behind the newest of these frames
+  abbrev pub end_of : List Frame → ℕ
+  end_of frames = z.a.stack + stack_words z.p.unit frames
+
+  -- where the regions begin for the newest of these frames
+  abbrev pub bases : List Ty → List Frame → Bases
+  bases objects frames = record { globals = z.a.globals; heap = z.a.heap; frame_end = end_of frames; objects = objects }
+
+  -- the variables of the newest of these frames stand in memory or in registers
+  abbrev pub VariablesHeld : List Ty → (regs memory : ℕ → ℕ) → CFunction → List Frame → Type 0
+  VariablesHeld objects regs memory f frames =
+      RegionHeld (scope f) (bases objects frames) (if (scope f).in_registers then regs else memory) (locals_start (scope f) (bases objects frames)) (types_of (scope f).env.locals) (variables_of frames)
+
+  -- a function that waits for an answer: its frame stands in memory, and begins with its return address
+  pub record Waits (objects : List Ty) (memory : ℕ → ℕ) (a : Activation) (g : Frame) (frames : List Frame) : Type 0 where
+    pub is : slice_get z.p.unit.functions g.function ≡ Some a.function
+    pub in_frame : (scope a.function).in_registers ≡ false
+    pub calls : calls_in a.function.body ≡ true
+    pub return_at : memory (end_of frames) ≡ 4 * a.to
+    pub variables : VariablesHeld objects memory memory a.function (g ∷ frames)
+
+  -- the functions that wait, the newest first
+  abbrev pub Waiting : List Ty → (ℕ → ℕ) → List Activation → List Frame → Type 0
+  Waiting objects memory [] [] = Unit {0}
+  Waiting objects memory (a ∷ rest) (g ∷ frames) = Waits objects memory a g frames × Waiting objects memory rest frames
+  Waiting objects memory activations frames = ⊥
+
+  -- The function that runs: its return address stands in register 31, or in its frame's first word where its code writes that register;
+  -- register 29 is its frame's end, or that of the frame below where its variables stand in registers.
+  pub record Runs (objects : List Ty) (c : Contents) (a : Activation) (g : Frame) (frames : List Frame) : Type 0 where
+    pub is : slice_get z.p.unit.functions g.function ≡ Some a.function
+    pub return_at : (if calls_in a.function.body then c.memory (end_of frames) else c.regs 31) ≡ 4 * a.to
+    pub frame_at : c.regs 29 ≡ 4 * (if (scope a.function).in_registers then end_of frames else end_of (g ∷ frames))
+    pub variables : VariablesHeld objects c.regs c.memory a.function (g ∷ frames)
+
+  -- the functions that are under way
+  abbrev pub UnderWay : List Ty → Contents → List Activation → List Frame → Type 0
+  UnderWay objects c (a ∷ rest) (g ∷ frames) = Runs objects c a g frames × Waiting objects c.memory rest frames
+  UnderWay objects c activations frames = ⊥
+
+  -- the globals and the heap stand in memory, typed, as far as it is used; so do the layer's variables that the unit knows; registers 28 and 30 are the
+  -- globals' address and the stack's end; and the rest of the machine stands for the world's value
+  pub record Stands (objects : List Ty) (h : Configuration W E) (c : Contents) (d : Behind) : Type 0 where
+    pub typed : IsTypedWith z.p.unit objects h.state
+    pub declared : AreDeclared (shapes z.p.unit) objects
+    pub used : words_of_all (shapes z.p.unit) objects ≡ h.state.heap_words
+    pub room : h.state.heap_words ≤ z.p.heap
+    pub stack_room : stack_words z.p.unit h.state.frames ≤ z.p.stack
+    pub globals : RegionHeld (unit_scope z.p.unit) (bases objects []) c.memory z.a.globals (types_of (map typed_of z.p.unit.globals)) h.state.global_values
+    pub heap : RegionHeld (unit_scope z.p.unit) (bases objects []) c.memory z.a.heap objects h.state.heap_values
+    pub used_word : c.memory 1026 ≡ h.state.heap_words
+    pub heap_size : c.memory 1027 ≡ z.p.heap
+    pub heap_first : c.memory 1028 ≡ 4 * z.a.heap
+    pub stack_first : c.memory 1029 ≡ 4 * z.a.stack
+    pub stack_size : c.memory 1030 ≡ z.p.stack
+    pub globals_at : c.regs 28 ≡ 4 * z.a.globals
+    pub stack_end : c.regs 30 ≡ 4 * (z.a.stack + z.p.stack)
+    pub outer : Outer h.world c d
+    pub idle : d.pending ≡ Idle
+
+  -- the word of a value
+  abbrev pub word_of_value : List Ty → Value → ℕ
+  word_of_value objects v = word (unit_scope z.p.unit) (bases objects []) v
+
+  -- what is left to do stands ahead
+  pub record Under (debt : ℕ) (work : List Work) (h : Configuration W E) (s : Machine) : Type 0 where
+    pub objects : List Ty
+    pub stands : Stands objects h s.contents s.behind
+    pub activations : List Activation
+    pub under_way : UnderWay objects s.contents activations h.state.frames
+    pub ahead : Ahead text activations s.at debt work
+
+  -- an answer stands in register 2, and its place is found next
+  pub record Answered (debt : ℕ) (target : Target) (v : Value) (work : List Work) (h : Configuration W E) (s : Machine) : Type 0 where
+    pub objects : List Ty
+    pub stands : Stands objects h s.contents s.behind
+    pub activations : List Activation
+    pub under_way : UnderWay objects s.contents activations h.state.frames
+    pub t : Ty
+    pub fits : Fits (shapes z.p.unit) (layout_of z.p.unit objects) t v
+    pub answer : s.contents.regs 2 ≡ word_of_value objects v
+    pub ahead : Awaits text activations s.at debt t target work (λ others to left. Ahead text others to left work)
+
+  -- a function is entered, with its arguments in registers and its return address in register 31
+  pub record Entered (debt n : ℕ) (args : Values) (target : Target) (work : List Work) (h : Configuration W E) (s : Machine) : Type 0 where
+    pub objects : List Ty
+    pub stands : Stands objects h s.contents s.behind
+    pub activations : List Activation
+    pub waiting : Waiting objects s.contents.memory activations h.state.frames
+    pub frame_at : s.contents.regs 29 ≡ 4 * end_of h.state.frames
+    pub function : CFunction
+    pub is : slice_get z.p.unit.functions n ≡ Some function
+    pub at : s.at ≡ text.links.function n
+    pub to : ℕ
+    pub return_at : s.contents.regs 31 ≡ 4 * to
+    pub fits : AllFit (shapes z.p.unit) (layout_of z.p.unit objects) (types_of (map typed_of function.params)) args
+    pub arguments : AreIn (unit_scope z.p.unit) (bases objects []) s.contents.regs 20 args
+    pub ahead : Awaits text activations to debt (ty_of function.answer) target work (λ others to left. Ahead text others to left work)
+
+  -- the first function has returned with its answer
+  pub record Ended (h : Configuration W E) (s : Machine) : Type 0 where
+    pub objects : List Ty
+    pub stands : Stands objects h s.contents s.behind
+    pub no_frames : h.state.frames ≡ []
+    pub at : s.at ≡ z.a.back
+    pub value : Value
+    pub is : h.answer ≡ Some value
+    pub answer : s.contents.regs 2 ≡ word_of_value objects value
+
+  -- what is left to do stands in the machine
+  abbrev pub Simulated : ℕ → List Work → Configuration W E → Machine → Type 0
+  Simulated debt [] h s = Ended h s
+  Simulated debt (act_on t rest ∷ work) h s = Under debt (act_on t rest ∷ work) h s
+  Simulated debt (finish place v rest ∷ work) h s = Answered debt (into place rest) v work h s
+  Simulated debt (again t body rest ∷ work) h s = Under debt (again t body rest ∷ work) h s
+  Simulated debt (leave answer target ∷ work) h s = Under debt (leave answer target ∷ work) h s
+  Simulated debt (begin n args ∷ work) h s = Entered debt n args outward work h s
+
+  -- a fault's exit is reached, and the data stand
+  pub record AtExit (f : KernelFault) (h : Configuration W E) (s : Machine) : Type 0 where
+    pub objects : List Ty
+    pub stands : Stands objects h s.contents s.behind
+    pub at : s.at ≡ exit_of z.places f
+
+  -- what a step of the meaning comes to in the machine
+  abbrev pub StepIs : (debt : ℕ) → Configuration W E → Machine → Step W E → Type 0
+  StepIs debt h s (Go cost work h') = (t : Machine) × (left : ℕ) × Led z.w Passes cost.own debt left h h' s t × Simulated left work h' t
+  StepIs debt h s (Stop cost (faulted f) h') = (t : Machine) × Stopped z.w Passes cost.own debt h h' s t × AtExit f h' t
+  StepIs debt h s (Stop cost stuck h') = ⊥
+
+  -- what a run comes to, from a configuration in which so many units were used, and so many jumps are ahead
+  abbrev pub RunIs : (debt : ℕ) → Cost → Configuration W E → Machine → Outcome W E → Type 0
+  RunIs debt used h s (Done cost h') = (t : Machine) × (units : ℕ) × (cost.own ≡ used.own + units) × (left : ℕ) × Led z.w Passes units debt left h h' s t × Ended h' t
+  RunIs debt used h s (Failed cost (faulted f) h') = (t : Machine) × (units : ℕ) × (cost.own ≡ used.own + units) × Stopped z.w Passes units debt h h' s t × AtExit f h' t
+  RunIs debt used h s (Failed cost stuck h') = ⊥
+  RunIs debt used h s (NotYet cost h') = (t : Machine) × (units : ℕ) × (cost.own ≡ used.own + units) × (left : ℕ) × (work : List Work) × Led z.w Passes units debt left h h' s t × Simulated left work h' t
+
+  -- a function that has statements, and a frame for its variables
+  pub record HasFrame (f : CFunction) : Type 0 where
+    pub in_memory : (scope f).in_registers ≡ false
+    pub statements : is_asm f.body ≡ false
+
+  -- the function of a number, if there is one, has a frame
+  abbrev pub FrameAt : ℕ → Type 0
+  FrameAt n = (f : CFunction) → slice_get z.p.unit.functions n ≡ Some f → HasFrame f
+
+  -- A statement of a function whose step is proved: an assignment to a place in memory, an `if`, a loop, or a call of a function that has a frame.
+  abbrev pub IsCoveredStatement : CFunction → CStmt → Type 0
+  IsCoveredStatement f (assign s p v) = (made (scope f) p).stands ≡ None
+  IsCoveredStatement f (call s p cs callee args) = (callee.kind ≡ Function) × FrameAt callee.number
+  IsCoveredStatement f (new s p t ts) = ⊥
+  IsCoveredStatement f (choice s t a b) = Unit {0}
+  IsCoveredStatement f (loop s t b) = Unit {0}
+
+  -- a work item of a function whose step is proved
+  abbrev pub IsCoveredItem : CFunction → Work → Type 0
+  IsCoveredItem f (act_on t rest) = IsCoveredStatement f t
+  IsCoveredItem f (finish place v rest) = (made (scope f) place).stands ≡ None
+  IsCoveredItem f (again t body rest) = Unit {0}
+  IsCoveredItem f (leave answer target) = (scope f).in_registers ≡ false
+  IsCoveredItem f (begin n args) = FrameAt n
+
+  -- of the function that runs, or of the one that is called first
+  abbrev pub IsCovered : List Frame → Work → Type 0
+  IsCovered [] (begin n args) = FrameAt n
+  IsCovered [] item = ⊥
+  IsCovered (g ∷ frames) item = (f : CFunction) → slice_get z.p.unit.functions g.function ≡ Some f → IsCoveredItem f item
+
+-- A law: where what is left to do stands in the machine, a step of C0's meaning is a run of the code, over any machine with primitives. It is stated of
+-- the steps that are proved.
+abbrev pub StepsRun : (W E : Type 0) (Outer : W → Contents → Behind → Type 0) (Passes : Machine → Machine → Type 0) → Type 0
+StepsRun W E Outer Passes = (z : Setup W E Outer Passes) (debt : ℕ) (item : Work) (work : List Work) (h : Configuration W E) (s : Machine)
+    → IsCovered W E Outer Passes z h.state.frames item → Simulated W E Outer Passes z debt (item ∷ work) h s → StepIs W E Outer Passes z debt h s (act z.p item work h)
+
+-- every step is so, whatever is left to do
+abbrev pub EachStepRuns : (W E : Type 0) (Outer : W → Contents → Behind → Type 0) (Passes : Machine → Machine → Type 0) → Setup W E Outer Passes → Type 0
+EachStepRuns W E Outer Passes z = (debt : ℕ) (item : Work) (work : List Work) (h : Configuration W E) (s : Machine) → Simulated W E Outer Passes z debt (item ∷ work) h s → StepIs W E Outer Passes z debt h s (act z.p item work h)
+
+-- A law: where every step is so, so is a run, within any number of units: it is done where the code returns to, it failed where the fault's exit is
+-- reached, and a run that isn't over stands where more of it stands ahead; and its units are so many steps, at most and at least.
+abbrev pub RunsAre : (W E : Type 0) (Outer : W → Contents → Behind → Type 0) (Passes : Machine → Machine → Type 0) → Type 0
+RunsAre W E Outer Passes = (z : Setup W E Outer Passes) → EachStepRuns W E Outer Passes z → (debt steps limit : ℕ) (used : Cost) (work : List Work) (h : Configuration W E) (s : Machine)
+    → Simulated W E Outer Passes z debt work h s → RunIs W E Outer Passes z debt used h s (run z.p steps limit used work h)

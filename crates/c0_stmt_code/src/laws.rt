@@ -1,0 +1,46 @@
+//! The laws of the code of statements: each function says one, and does nothing.
+
+ghost use Rattle.c0_stmt_code.specs.Standing.{RunsAre, StepsRun};
+ghost use Rattle.mips_table.specs.Code.{Contents, Behind, Configuration};
+
+use c0_expr_code::laws::{areas_hold, codes_are_short, expressions_run, held_stays, names_are_enough, parts_fit, tests_run};
+use c0_meaning::laws::{numbers_tell, units_are_typed_or_faulty};
+use masm::laws::{jumps_lead, runs_compose, straight_code_runs};
+use mips_table::runs::code_runs_join;
+
+/// The machine under a unit's code: what the rest of it stands for, and how primitives are passed.
+pub trait Outside {
+    ghost Standing: { Type 0 };
+
+    ghost Entry: { Type 0 };
+
+    ghost outer: { Standing → Contents → Behind → Type 0 };
+
+    ghost passes: { Configuration → Configuration → Type 0 };
+}
+
+/// A step of C0's meaning is a run of the code.
+pub fn steps_run<M: Outside>()
+    ensures { StepsRun M.Standing M.Entry M.outer M.passes }
+{
+    expressions_run();
+    tests_run();
+    names_are_enough();
+    areas_hold();
+    codes_are_short();
+    held_stays();
+    parts_fit();
+    numbers_tell();
+    units_are_typed_or_faulty();
+    runs_compose();
+    straight_code_runs();
+    jumps_lead();
+    code_runs_join();
+}
+
+/// A run of C0's meaning is a run of the code, where each of its steps is.
+pub fn runs_follow_steps<M: Outside>()
+    ensures { RunsAre M.Standing M.Entry M.outer M.passes }
+{
+    code_runs_join();
+}

@@ -1,0 +1,4 @@
+//! The code of statements, of calls and of functions, and that a run of it is what they mean.
+#![tactic(auto)]
+
+pub mod laws;

@@ -1,0 +1,258 @@
+// A machine over a disk in memory, with the block in its memory.
+ghost use Rattle.std.specs.Prelude.{◌≡◌, ◌<◌, ◌≤◌, length};
+
+use crate::driver::{BEGIN, FIRST, LAST, PAGE, STORE, driver};
+use cvm_outside::{DiskFault, MemSectors, Sectors};
+use cvm_text::{decimal_u64, hex8};
+use layer_map::{HAND, Map, Params};
+use mips_machine::{Event, Machine};
+use schedule_file::{Schedule, read};
+use std::alloc::{AllocError, Global};
+use std::marker::Model;
+
+/// How many words the memory has: 64 frames.
+const WORDS: u32 = 65536;
+
+/// The most steps of a run.
+const MOST: u32 = 1_000_000;
+
+/// A machine with 64 frames and a disk of 64 sectors, and where paging stands: the numbers of pages and frames, the first words of
+/// the page tables and of the frame table, and the number of the zero frame.
+#[derive(Drop)]
+pub struct Desk {
+    machine: Machine,
+    disk: MemSectors,
+    pages: u32,
+    frames: u32,
+    tables: u32,
+    counts: u32,
+    zeros: u32,
+}
+
+impl Model for Desk {
+    ghost use Rattle.std.specs.Prelude.{◌≡◌, ◌≤◌, length};
+    ghost use Rattle.mips_table.specs.Fits.{NamesSector};
+    ghost use Rattle.mips_machine.specs.Machine.{Held};
+
+    ghost Value = { Held };
+
+    ghost view = { λ d. d.machine };
+
+    ghost invariant = { λ d. (length d.machine.hardware.memory ≡ 65536) × (length d.disk.sectors ≡ 64) × NamesSector 64 d.machine.hardware.ports.pending × (d.pages ≤ 64) × (d.frames ≤ 40) × (d.tables ≤ 65536) × (d.counts ≤ 65536) × (d.zeros ≤ 65536) };
+}
+
+// Appends a name and a number.
+fn count(told: &mut String, name: &str, number: u32) -> Result<(), AllocError> {
+    told.push_str(name)?;
+    told.push_str(" ")?;
+    told.push_str(decimal_u64(u64::from(number)).as_str())
+}
+
+impl Desk {
+    /// A machine of such a system with this schedule, if there is memory, the numbers are in their ranges and the schedule is read.
+    pub fn new(
+        alloc: Global,
+        users: u32,
+        pages: u32,
+        frames: u32,
+        schedule: &[u8],
+    ) -> Option<Desk> {
+        if users > 4 || pages < 1 || pages > 16 || frames < 2 || frames > 40 {
+            return None;
+        }
+        let params = Params {
+            pages,
+            frames,
+            heap: 0,
+            stack: 64,
+        };
+        let map = Map::of(&params, users, 0, 0);
+        let mut desk = Desk::over(
+            alloc,
+            &map,
+            users * pages,
+            frames,
+            read(alloc, schedule).ok()?,
+        )
+        .ok()?;
+        desk.load(&map);
+        Some(desk)
+    }
+
+    fn over(
+        alloc: Global,
+        map: &Map,
+        pages: u32,
+        frames: u32,
+        schedule: Schedule,
+    ) -> Result<Desk, AllocError>
+        requires pages { pages ≤ 64 }
+        requires frames { frames ≤ 40 }
+    {
+        Ok(Desk {
+            machine: Machine::new(alloc, 64, schedule)?,
+            disk: MemSectors::new(alloc, 64, Vec::new(alloc))?,
+            pages,
+            frames,
+            tables: (map.page_tables() / 4).min(WORDS),
+            counts: (map.frame_table() / 4).min(WORDS),
+            zeros: (map.zero_frame() / 4096).min(WORDS),
+        })
+    }
+
+    // The block's words go to memory.
+    fn load(&mut self, map: &Map) {
+        let code = driver(map);
+        for (at, word) in code.words().iter().enumerate() {
+            self.set(at as u32, *word);
+        }
+    }
+
+    fn word(&self, at: u32) -> u32 {
+        if at < WORDS {
+            self.machine.word(4 * at)
+        } else {
+            0
+        }
+    }
+
+    fn set(&mut self, at: u32, word: u32) {
+        if at < WORDS {
+            self.machine.set_word(4 * at, word);
+        }
+    }
+
+    /// Sets the entry of a page.
+    pub fn set_entry(&mut self, page: u32, entry: u32) {
+        self.set(self.tables.wrapping_add(page), entry);
+    }
+
+    // The word of the count of a user frame, from 1.
+    fn count_at(&self, frame: u32) -> u32 {
+        self.counts
+            .wrapping_add(8u32.wrapping_mul(frame.wrapping_sub(1)))
+    }
+
+    /// Sets the count of a user frame, from 1.
+    pub fn set_count(&mut self, frame: u32, count: u32) {
+        self.set(self.count_at(frame), count);
+    }
+
+    /// Sets the hand to a user frame, from 0.
+    pub fn set_hand(&mut self, frame: u32) {
+        self.set(HAND / 4, frame);
+    }
+
+    /// Sets the words of a frame, of which 0 is the zero frame, to this one and those that follow it.
+    pub fn fill_frame(&mut self, frame: u32, word: u32) {
+        let first = 1024u32.wrapping_mul(self.zeros.wrapping_add(frame));
+        for i in 0..1024u32 {
+            self.set(first.wrapping_add(i), word.wrapping_add(i));
+        }
+    }
+
+    /// Sets the words of a page's sector to this one and those that follow it.
+    pub fn fill_sector(&mut self, page: u32, word: u32) {
+        let mut words = [0; 1024];
+        for (i, slot) in words.iter_mut().enumerate() {
+            *slot = word.wrapping_add(i as u32);
+        }
+        if page < 64 {
+            let _ = self.disk.write(page, &words);
+        }
+    }
+
+    /// Sets a word of a page, in its frame.
+    pub fn store(&mut self, page: u32, i: u32, word: u32) {
+        let frame = self.word(self.tables.wrapping_add(page)) / 4096;
+        self.set(1024u32.wrapping_mul(frame).wrapping_add(i), word);
+    }
+
+    fn step(&mut self) -> Result<Event, DiskFault> {
+        if self.machine.steps() < 1_000_000_000 {
+            self.machine.step(&mut self.disk)
+        } else {
+            Ok(Event::Ran)
+        }
+    }
+
+    // Runs until the pc is this one, and says after how many steps.
+    fn run_to(&mut self, pc: u32) -> u32 {
+        for steps in 0..MOST {
+            if self.machine.pc() == pc {
+                return steps;
+            }
+            let _ = self.step();
+        }
+        MOST
+    }
+
+    /// Asks for a page, to store where `store` isn't 0, and tells the steps and what stands then.
+    pub fn ask(&mut self, page: u32, store: u32, told: &mut String) -> Result<(), AllocError> {
+        self.set(PAGE, page);
+        self.set(STORE, store);
+        self.set(BEGIN, 1);
+        self.run_to(FIRST);
+        let steps = self.run_to(LAST);
+        count(told, " steps", steps)?;
+        told.push_str("\n")?;
+        self.tell(told)
+    }
+
+    // A number made of the words of a frame.
+    fn frame_number(&self, frame: u32) -> u32 {
+        let first = 1024u32.wrapping_mul(frame);
+        let mut number = 0u32;
+        for i in 0..1024u32 {
+            number = number
+                .wrapping_mul(31)
+                .wrapping_add(self.word(first.wrapping_add(i)));
+        }
+        number
+    }
+
+    // The same of a sector.
+    fn sector_number(&mut self, sector: u32) -> u32 {
+        let mut number = 0u32;
+        if sector < 64 && self.machine.view_sector(&mut self.disk, sector).is_ok() {
+            for i in 0..1024u32 {
+                number = number.wrapping_mul(31).wrapping_add(self.machine.viewed(i));
+            }
+        }
+        number
+    }
+
+    // The same of what a page shows.
+    fn shown_number(&mut self, page: u32) -> u32 {
+        let entry = self.word(self.tables.wrapping_add(page));
+        if entry / 2048 % 2 == 1 {
+            self.frame_number(entry / 4096)
+        } else {
+            self.sector_number(page)
+        }
+    }
+
+    /// Tells the hand, the entries, the counts and what the pages show.
+    pub fn tell(&mut self, told: &mut String) -> Result<(), AllocError> {
+        count(told, " hand", self.word(HAND / 4))?;
+        told.push_str(" entries")?;
+        for page in 0..self.pages {
+            told.push_str(" ")?;
+            told.push_str(hex8(self.word(self.tables.wrapping_add(page))).as_str())?;
+        }
+        told.push_str(" counts")?;
+        for frame in 0..self.frames {
+            count(told, "", self.word(self.count_at(frame.wrapping_add(1))))?;
+        }
+        self.tell_pages(told)
+    }
+
+    fn tell_pages(&mut self, told: &mut String) -> Result<(), AllocError> {
+        told.push_str("\n shown")?;
+        for page in 0..self.pages {
+            told.push_str(" ")?;
+            told.push_str(hex8(self.shown_number(page)).as_str())?;
+        }
+        Ok(())
+    }
+}

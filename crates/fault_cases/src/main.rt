@@ -1,0 +1,113 @@
+// Runs the page-fault block on the physical machine, as standard input says, a line at a time, and prints each line and what it has to tell:
+//
+//     system USERS PAGES FRAMES SCHEDULE   a new machine, with the map of so many users (1 to 4) of so many pages (1 to 16) and so many
+//                          user frames (2 to 40), no heap and 64 words of stack, and this schedule, in which `;` stands for LF
+//     entry PAGE WORD      the page's entry becomes this word
+//     count FRAME COUNT    the count of the user frame, from 1
+//     hand FRAME           the hand becomes this user frame, from 0
+//     frame FRAME WORD     word i of the frame becomes WORD + i; frame 0 is the zero frame
+//     sector PAGE WORD     word i of the page's sector becomes WORD + i
+//     ask PAGE STORE       the page is asked for, to store where STORE isn't 0: tells the steps from the block's first instruction to its end,
+//                          and what stands then
+//     store PAGE I WORD    word I of the page's frame becomes WORD
+//     tell                 tells what stands: the hand, the entries by page, the counts by frame, and what each page shows, as a number
+//                          made of its 1,024 words
+//
+// Other lines are only printed. Numbers are decimal, but entries are told in hexadecimal digits.
+#![tactic(auto)]
+
+mod desk;
+mod driver;
+
+use crate::desk::Desk;
+use std::alloc::{AllocError, Global};
+use std::io;
+
+// The number in the field with this number, from 0, of a line that is cut at spaces; 0 where there is none.
+fn number(line: &str, field: usize) -> u32 {
+    line.split(' ')
+        .nth(field)
+        .unwrap_or("")
+        .parse::<u32>()
+        .unwrap_or(0)
+}
+
+// The schedule that stands behind the fourth space of a line.
+fn schedule(alloc: Global, line: &str) -> Result<String, AllocError> {
+    let mut text = String::new(alloc);
+    for (index, field) in line.split(' ').enumerate() {
+        if index > 3 {
+            if index > 4 {
+                text.push_str(" ")?;
+            }
+            text.push_str(field)?;
+        }
+    }
+    let mut lines = String::new(alloc);
+    for part in text.split(';') {
+        if !lines.is_empty() {
+            lines.push_str("\n")?;
+        }
+        lines.push_str(part)?;
+    }
+    Ok(lines)
+}
+
+// The system that a line begins.
+fn begun(alloc: Global, line: &str) -> Option<Desk> {
+    if line.split(' ').next().unwrap_or("") != "system" {
+        return None;
+    }
+    let text = schedule(alloc, line).ok()?;
+    Desk::new(
+        alloc,
+        number(line, 1),
+        number(line, 2),
+        number(line, 3),
+        text.as_bytes(),
+    )
+}
+
+// Does what a line says, and appends what it has to tell.
+fn obey(desk: &mut Desk, line: &str, told: &mut String) -> Result<(), AllocError> {
+    let kind = line.split(' ').next().unwrap_or("");
+    let a = number(line, 1);
+    let b = number(line, 2);
+    if kind == "entry" {
+        desk.set_entry(a, b);
+    } else if kind == "count" {
+        desk.set_count(a, b);
+    } else if kind == "hand" {
+        desk.set_hand(a);
+    } else if kind == "frame" {
+        desk.fill_frame(a, b);
+    } else if kind == "sector" {
+        desk.fill_sector(a, b);
+    } else if kind == "store" {
+        desk.store(a, b, number(line, 3));
+    } else if kind == "ask" {
+        desk.ask(a, b, told)?;
+    } else if kind == "tell" {
+        desk.tell(told)?;
+    }
+    Ok(())
+}
+
+fn main(rt: HostRuntime) -> io::Result<()> {
+    let Some(mut desk) = Desk::new(rt.alloc(), 1, 1, 2, b"") else {
+        return println!(rt; "no machine");
+    };
+    for line in rt.lines(rt.alloc()) {
+        let line = line?;
+        if let Some(new) = begun(rt.alloc(), line.as_str()) {
+            desk = new;
+        }
+        let mut told = String::new(rt.alloc());
+        obey(&mut desk, line.as_str(), &mut told)?;
+        println!(rt; "{line}")?;
+        if !told.is_empty() {
+            println!(rt; "{told}")?;
+        }
+    }
+    Ok(())
+}
