@@ -11,6 +11,7 @@ pub mod Held
 pub mod Lengths
 pub mod Needs
 pub mod Places
+pub mod Primitives
 pub mod Returns
 pub mod Rooms
 pub mod Sim
