@@ -192,10 +192,11 @@ module _ (W E : Type 0) (Outer : W → Contents → Behind → Type 0) (Passes :
   abbrev pub FrameAt : ℕ → Type 0
   FrameAt n = (f : CFunction) → slice_get z.p.unit.functions n ≡ Some f → HasFrame f
 
-  -- A statement of a function whose step is proved: an assignment to a place in memory, an `if`, a loop, or a call of a function that has a frame.
+  -- A statement of a function whose step is proved: an assignment to a place in memory, an `if`, a loop, a call of a primitive, or one of a function
+  -- that has a frame.
   abbrev pub IsCoveredStatement : CFunction → CStmt → Type 0
   IsCoveredStatement f (assign s p v) = (made (scope f) p).stands ≡ None
-  IsCoveredStatement f (call s p cs callee args) = (callee.kind ≡ Function) × FrameAt callee.number
+  IsCoveredStatement f (call s p cs callee args) = callee.kind ≡ Function → FrameAt callee.number
   IsCoveredStatement f (new s p t ts) = ⊥
   IsCoveredStatement f (choice s t a b) = Unit {0}
   IsCoveredStatement f (loop s t b) = Unit {0}
