@@ -9,6 +9,7 @@ pub mod Given
 pub mod Given2
 pub mod Held
 pub mod Lengths
+pub mod Lights
 pub mod Needs
 pub mod Places
 pub mod Primitives
