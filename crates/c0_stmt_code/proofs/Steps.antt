@@ -31,18 +31,18 @@ use Rattle.c0_expr_code.specs.Code.{made}
 use Rattle.c0_stmt_code.specs.Code.{calls_in, args_code, answer_code, stored_code, call_code, callee_index, while_code, skip, stmt_code, stmts_code, function_code}
 use Rattle.c0_stmt_code.specs.Setup.{Setup}
 use Rattle.c0_stmt_code.specs.Ahead.{Activation, env_in, StatementStands, LoopStands, IsAnswered, Block, Awaits, Ahead}
-use Rattle.c0_stmt_code.specs.Standing.{AreDeclared, text, scope, bases, end_of, unit_scope, word_of_value, AreIn, Waiting, Runs, UnderWay, Stands, Simulated, StepIs, HasFrame, FrameAt, IsCoveredStatement, IsCoveredItem, IsCovered}
+use Rattle.c0_stmt_code.specs.Standing.{AreDeclared, text, scope, bases, end_of, unit_scope, word_of_value, AreIn, Waiting, Runs, UnderWay, Stands, Simulated, StepIs, IsCoveredStatement, IsCoveredItem, IsCovered}
 use Rattle.c0_stmt_code.proofs.Needs.{HeldStays, TypedStays, FunctionsAre, LengthsFit, AllScalar}
 use Rattle.c0_stmt_code.proofs.Ways.{Way, none as no_way, away, within}
 use Rattle.c0_stmt_code.proofs.Blocks.{skipped}
 use Rattle.c0_stmt_code.proofs.Lengths.{stmts_length}
 use Rattle.c0_stmt_code.proofs.State.{state_of, standing_at, Exprs}
 use Rattle.c0_stmt_code.proofs.Statements.{assigns, chooses, turns}
-use Rattle.c0_stmt_code.proofs.Calls.{enters}
+use Rattle.c0_stmt_code.proofs.Calls.{enters, enters_light}
 use Rattle.c0_stmt_code.proofs.CallActs.{signature_from, calls_function}
 use Rattle.c0_stmt_code.proofs.Primitives.{calls_primitive}
 use Rattle.c0_stmt_code.proofs.Spots.{spot_longer}
-use Rattle.c0_stmt_code.proofs.Returns.{leaves, finishes}
+use Rattle.c0_stmt_code.proofs.Returns.{leaves, leaves_light, finishes}
 use Rattle.c0_stmt_code.proofs.Sim.{Path}
 
 -- a body that isn't an asm text
@@ -92,14 +92,17 @@ module _ (runs : RunLaws) (compose : RunsCompose) (W E : Type 0) (Outer : W → 
   -- the first call
   begins : (objects : List Ty) (gv hv : Value) (hw : ℕ) (fs : List Frame) (world : W) (calls : List (List E)) (answer : Option Value) (c : Contents) (d : Behind) (acts : List Activation)
       → Stands W E Outer Passes z objects (standing_at gv hv hw fs world calls answer) c d → Waiting W E Outer Passes z objects c.memory acts fs → c.regs 29 ≡ 4 * end_of W E Outer Passes z fs
-      → (n to debt : ℕ) (f : CFunction) → slice_get z.p.unit.functions n ≡ Some f → HasFrame W E Outer Passes z f → (args : Values) (target : Target) (work : List Work) → c.regs 31 ≡ 4 * to
+      → (n to debt : ℕ) (f : CFunction) → slice_get z.p.unit.functions n ≡ Some f → is_asm f.body ≡ false → (args : Values) (target : Target) (work : List Work) → c.regs 31 ≡ 4 * to
       → AllFit (shapes z.p.unit) (layout_of z.p.unit objects) (types_of (map typed_of f.params)) args → AreIn (unit_scope z.p.unit) (bases W E Outer Passes z objects []) c.regs 20 args
       → Awaits (text W E Outer Passes z) acts to debt (ty_of f.answer) target work (λ others at left. Ahead (text W E Outer Passes z) others at left work)
       → (l m j : ℕ) (cost : Cost) (h0 : Configuration W E) (s0 : Machine) → Path runs compose W E Outer Passes z jumps l m j s0 (at_with ((text W E Outer Passes z).links.function n) c d) → cost.own + 9 ≤ 2048 * (l + 1) → m ≤ 60 * cost.own + 20 → length calls ≡ ended h0 + j
       → StepIs W E Outer Passes z debt h0 s0 (call_function z.p cost n args target work (standing_at gv hv hw fs world calls answer))
   begins objects gv hv hw fs world calls answer c d acts st waits at_end n to debt f is frame args target work return_at fits arguments ahead l m j cost h0 s0 path low high en =
-      let b = has_statements f.body frame.statements in
-      enters runs compose W E Outer Passes z jumps straight held typing functions opened objects gv hv hw fs world calls answer c d acts st waits at_end n to debt f is args target work return_at fits arguments ahead l m j ((text W E Outer Passes z).links.function n) cost h0 s0 b.locals b.stmts b.answer b.is frame.in_memory path (z.functions n f is) low high en
+      by_form (scope W E Outer Passes z f).in_registers refl (has_statements f.body frame)
+    where
+      by_form : (b : Bool) → (scope W E Outer Passes z f).in_registers ≡ b → Statements_ f.body → StepIs W E Outer Passes z debt h0 s0 (call_function z.p cost n args target work (standing_at gv hv hw fs world calls answer))
+      by_form false form b = enters runs compose W E Outer Passes z jumps straight held typing functions opened objects gv hv hw fs world calls answer c d acts st waits at_end n to debt f is args target work return_at fits arguments ahead l m j ((text W E Outer Passes z).links.function n) cost h0 s0 b.locals b.stmts b.answer b.is form path (z.functions n f is) low high en
+      by_form true form b = enters_light runs compose W E Outer Passes z jumps straight held typing functions opened objects gv hv hw fs world calls answer c d acts st waits at_end n to debt f is args target work return_at fits arguments ahead l m j ((text W E Outer Passes z).links.function n) cost h0 s0 b.locals b.stmts b.answer b.is form path (z.functions n f is) low high en
 
   module _ (objects : List Ty) (gv hv : Value) (hw : ℕ) (g : Frame) (fs : List Frame) (world : W) (calls : List (List E)) (answer : Option Value) (c : Contents) (d : Behind) (a : Activation) (others : List Activation)
       (st : Stands W E Outer Passes z objects (standing_at gv hv hw (g ∷ fs) world calls answer) c d) (r : Runs W E Outer Passes z objects c a g fs) (waits : Waiting W E Outer Passes z objects c.memory others fs)
@@ -191,7 +194,11 @@ module _ (runs : RunLaws) (compose : RunsCompose) (W E : Type 0) (Outer : W → 
     acts (again t body rest) work covered ahead =
         let path : Path runs compose W E Outer Passes z jumps 0 0 0 (at_with k c d) (at_with (ahead.0 + 1 + length (stmts_code sc (text W E Outer Passes z).links body)) c d) = subst (λ y. Way runs z.w Passes 0 0 0 (at_with k c d) (at_with y c d)) ahead.2 (no_way runs z.w Passes (at_with k c d)) in
         turns runs compose W E Outer Passes z jumps straight held typing exprs fit objects gv hv hw g fs world calls answer c d a others st r waits k debt rest work ahead.0 0 1 (at_with k c d) t body ahead.1 ahead.3 (omega arith) (omega arith) (omega arith) path
-    acts (leave result target) work covered ahead = leaves runs compose W E Outer Passes z jumps straight held typing functions exprs fit objects gv hv hw g fs world calls answer c d a others st r waits k debt result target work covered ahead.0 ahead.1
+    acts (leave result target) work covered ahead = by_form sc.in_registers refl
+      where
+        by_form : (b : Bool) → sc.in_registers ≡ b → StepIs W E Outer Passes z debt here (at_with k c d) (act z.p (leave result target) work here)
+        by_form false form = leaves runs compose W E Outer Passes z jumps straight held typing functions exprs fit objects gv hv hw g fs world calls answer c d a others st r waits k debt result target work form ahead.0 ahead.1
+        by_form true form = leaves_light runs compose W E Outer Passes z jumps straight held typing functions exprs fit objects gv hv hw g fs world calls answer c d a others st r waits k debt result target work form ahead.0 ahead.1
     acts (finish place v rest) work covered ahead = absurd ahead
     acts (begin n args) work covered ahead = absurd ahead
 
