@@ -1,14 +1,14 @@
 -- A function that has a frame is entered.
-use Rattle.std.specs.Prelude.{map, slice_get, IsTrue, Some, None, Ok, Err, ok_or, if◌then◌else◌, nat_lt}
+use Rattle.std.specs.Prelude.{map, slice_get, IsTrue, Some, None, Ok, Err, ok_or, if◌then◌else◌, nat_lt, nat_le, ◌&&◌}
 use Rattle.std.proofs.Common.{◌≡◌, ◌≢◌, inl, inr, ℕ, zero, suc, ◌+◌, ◌-◌, ◌*◌, ◌%◌, ◌^◌, ◌<◌, ◌≤◌, ◌⊎◌, Bool, true, false, Option, List, [], ◌∷◌, ◌++◌, length, refl, sym, ap, ◌∙◌, subst, arith, length-append}
-use Rattle.std.proofs.lemmas.Bool.{cases_Bool, cond-true, cond-false, ltb-true, ltb-false}
+use Rattle.std.proofs.lemmas.Bool.{cases_Bool, cond-true, cond-false, ltb-true, ltb-false, leb-true, and_parts}
 use Rattle.mips_table.specs.declared.inst.Inst.{Inst}
-use Rattle.mips_table.specs.declared.inst.Inst.TheVariants.{Sltu, Beq, J}
+use Rattle.mips_table.specs.declared.inst.Inst.TheVariants.{Sltu, Beq, J, Sw}
 use Rattle.mips_table.specs.Code.{Contents, reg, Behind, Configuration as Machine, at_with, Reaches, RunLaws, CodeAt}
 use Rattle.masm.specs.Laws.{RunsCompose, JumpsLead, StraightRuns}
 use Rattle.c0_tree.specs.Size.{nodes, stmts_nodes}
 use Rattle.c0_tree.specs.Tree.{CExpr, CStmts, CBody, code, asm, CDecl, CFunction}
-use Rattle.c0_meaning.specs.Ty.{Ty, named, ty_of}
+use Rattle.c0_meaning.specs.Ty.{Ty, named, ty_of, is_scalar}
 use Rattle.c0_meaning.specs.Env.{Typed, Shape, typed_of}
 use Rattle.c0_meaning.specs.Limits.{frame, locals_of}
 use Rattle.c0_meaning.specs.Words.{words, all_words, fields_named}
@@ -19,10 +19,12 @@ use Rattle.c0_meaning.specs.Operators.{StackOut, faulted, stuck}
 use Rattle.c0_meaning.specs.Evaluation.{at_no_cost}
 use Rattle.c0_meaning.specs.World.{Cost, units, plus, Configuration, with_state, ended}
 use Rattle.c0_meaning.specs.Running.{Target, Work, leave, push, Step, Go, Stop, then_go, enter, call_function}
-use Rattle.c0_meaning.specs.TypedState.{types_of, AllFit, Fits, layout_of, IsTypedWith}
-use Rattle.c0_expr_code.specs.Scope.{Scope}
+use Rattle.c0_meaning.specs.TypedState.{types_of, AllFit, Fits, layout_of, IsTypedWith, variable_types}
+use Rattle.c0_expr_code.specs.Scope.{Scope, is_leaf, are_free_of_calls}
+use Rattle.std.specs.List.{list_all}
+use Rattle.c0_stmt_code.proofs.Lights.{each_scalar, scalars_behind, clears, saves_light}
 use Rattle.c0_expr_code.specs.Bases.{Bases, words_of_all, word, AllHeld, RegionHeld}
-use Rattle.c0_stmt_code.specs.Code.{MAX_STACK, large_code, end_code, body_code, register_entry, are_calling, calls_in, stack_test, save_code, params_code, locals_code, frame_entry, entry_code, exit_code, return_code, stmts_code, statements_function, function_code}
+use Rattle.c0_stmt_code.specs.Code.{MAX_STACK, large_code, end_code, body_code, register_entry, clear_code, are_calling, calls_in, stack_test, save_code, params_code, locals_code, frame_entry, entry_code, exit_code, return_code, stmts_code, statements_function, function_code}
 use Rattle.c0_stmt_code.specs.Setup.{Setup, IsOurs}
 use Rattle.c0_stmt_code.specs.Ahead.{Activation, env_in, Block, Awaits, ReturnStands, Ahead}
 use Rattle.c0_stmt_code.specs.Standing.{text, scope, bases, end_of, unit_scope, AreIn, VariablesHeld, Waiting, Runs, UnderWay, Stands, StepIs}
@@ -239,3 +241,141 @@ module _ (runs : RunLaws) (compose : RunsCompose) (W E : Type 0) (Outer : W → 
             returns : (b : Bool) → calls_in f.body ≡ b → (c2 : Contents) → (b ≡ true → c2.memory low ≡ 4 * to) → c2.regs 31 ≡ 4 * to → (if calls_in f.body then c2.memory low else c2.regs 31) ≡ 4 * to
             returns true q c2 h g = ap (λ b. if b then c2.memory low else c2.regs 31) q ∙ h refl
             returns false q c2 h g = ap (λ b. if b then c2.memory low else c2.regs 31) q ∙ g
+
+    -- a function whose variables stand in registers
+    abbrev light_entry : List CDecl → CStmts → List Inst
+    light_entry locals stmts = (if are_calling stmts then Sw 31 29 0 ∷ [] else []) ++ clear_code (length locals) (length f.params)
+
+    light_code_is : (locals : List CDecl) (stmts : CStmts) (result : CExpr) → f.body ≡ code locals stmts result → sc.in_registers ≡ true → function_code sc (text W E Outer Passes z).links f ≡ (stack_test sc 1 ++ light_entry locals stmts) ++ its_body stmts result
+    light_code_is locals stmts result e form =
+        ap (λ b. body_code sc (text W E Outer Passes z).links (length f.params) b) e
+        ∙ ap (λ is. is ++ its_body stmts result) (cond-true sc.in_registers (register_entry sc (length f.params) (length locals) (are_calling stmts)) (frame_entry sc (length f.params) (all_words (shapes z.p.unit) (map typed_of locals)) (are_calling stmts)) form)
+
+    light_test_some : 1 ≤ length (stack_test sc 1)
+    light_test_some = omega (arith, length-append (large_code sc) (end_code 1 (4 * sc.frame) ++ (Sltu 1 30 1 ∷ Beq 1 0 1 ∷ J (sc.exit StackOut) ∷ [])), length-append (end_code 1 (4 * sc.frame)) (Sltu 1 30 1 ∷ Beq 1 0 1 ∷ J (sc.exit StackOut) ∷ []))
+
+    -- what is known of its variables
+    record IsLight (locals : List CDecl) (stmts : CStmts) : Type 0 where
+      free : IsTrue (are_free_of_calls stmts)
+      few : length f.params + length locals ≤ 8
+      scalars : AllScalar (types_of (map typed_of locals))
+
+    is_light : (locals : List CDecl) (stmts : CStmts) (result : CExpr) → f.body ≡ code locals stmts result → sc.in_registers ≡ true → IsLight locals stmts
+    is_light locals stmts result e form =
+        let one = and_parts (is_leaf f.body) (nat_le (length (variable_types f)) 8 && list_all is_scalar (variable_types f)) form in
+        let two = and_parts (nat_le (length (variable_types f)) 8) (list_all is_scalar (variable_types f)) one.1 in
+        let split : variable_types f ≡ types_of (map typed_of f.params) ++ types_of (map typed_of locals) = types_joined f.params (locals_of f.body) ∙ ap (λ ds. types_of (map typed_of f.params) ++ types_of (map typed_of ds)) (ap locals_of e) in
+        let count = leb-true (length (variable_types f)) 8 two.0 in
+        let l1 = types_length f.params in
+        let l2 = types_length locals in
+        let whole = ap length split ∙ length-append (types_of (map typed_of f.params)) (types_of (map typed_of locals)) in
+        record {
+          free = sym (ap is_leaf e) ∙ one.0;
+          few = omega (arith, count, l1, l2, whole);
+          scalars = scalars_behind (types_of (map typed_of f.params)) (types_of (map typed_of locals)) (subst AllScalar split (each_scalar (variable_types f) two.1));
+        }
+
+    light_variables : (locals : List CDecl) (stmts : CStmts) (result : CExpr) (regs m : ℕ → ℕ) → f.body ≡ code locals stmts result → sc.in_registers ≡ true → ((j : ℕ) → j < length f.params → regs (20 + j) ≡ c.regs (20 + j)) → ((x : ℕ) → 20 + length f.params ≤ x → x < 20 + length f.params + length locals → regs x ≡ 0)
+        → VariablesHeld W E Outer Passes z objects regs m f (frame_of locals ∷ fs)
+    light_variables locals stmts result regs m e form args_at zeros_at = by_form sc.in_registers form
+      where
+        by_form : (b : Bool) → b ≡ true → RegionHeld sc (bases W E Outer Passes z objects (frame_of locals ∷ fs)) (if b then regs else m) (if b then 20 else (end_of W E Outer Passes z (frame_of locals ∷ fs) - frame (shapes z.p.unit) f) + 3) (types_of sc.env.locals) (frame_of locals).variables
+        by_form false q = absurd (cc)
+        by_form true q =
+            let k = scalars_words sc (bases W E Outer Passes z objects fs) (layout_of z.p.unit objects) opened c.memory (types_of (map typed_of f.params)) (functions.scalars n f is) in
+            let k2 = scalars_words sc (bases W E Outer Passes z objects fs) (layout_of z.p.unit objects) opened c.memory (types_of (map typed_of locals)) (is_light locals stmts result e form).scalars in
+            let t = types_length f.params in
+            let t2 = types_length locals in
+            let first = args_held sc (bases W E Outer Passes z objects (frame_of locals ∷ fs)) (layout_of z.p.unit objects) opened regs c.regs 20 20 (types_of (map typed_of f.params)) args (functions.scalars n f is) fits
+                (are_in objects (frame_of locals ∷ fs) f c.regs 20 (types_of (map typed_of f.params)) args fits arguments) (λ j lt. args_at j (omega (arith, lt, t))) in
+            let second = zeros_held sc (bases W E Outer Passes z objects (frame_of locals ∷ fs)) (layout_of z.p.unit objects) opened regs (20 + words_of_all (shapes z.p.unit) (types_of (map typed_of f.params))) (types_of (map typed_of locals)) (zeros_of (shapes z.p.unit) (map typed_of locals))
+                (typing.zeros objects n f locals stmts result is e) (zeros_zero (shapes z.p.unit) (map typed_of locals)) (λ x le lt. zeros_at x (omega (arith, le, k, t)) (omega (arith, lt, k, t, k2, t2))) in
+            let types : types_of (map typed_of f.params) ++ types_of (map typed_of locals) ≡ types_of sc.env.locals = sym (types_joined f.params (locals_of f.body) ∙ ap (λ ds. types_of (map typed_of f.params) ++ types_of (map typed_of ds)) (ap locals_of e)) in
+            subst (λ ts. AllHeld sc (bases W E Outer Passes z objects (frame_of locals ∷ fs)) regs 20 ts (followed_by args (zeros_of (shapes z.p.unit) (map typed_of locals)))) types
+            (joined_held sc (bases W E Outer Passes z objects (frame_of locals ∷ fs)) (layout_of z.p.unit objects) opened regs 20 (types_of (map typed_of f.params)) (types_of (map typed_of locals)) args (zeros_of (shapes z.p.unit) (map typed_of locals)) first second)
+
+    pub enters_light : (l m j k : ℕ) (cost : Cost) (h0 : Configuration W E) (s0 : Machine) (locals : List CDecl) (stmts : CStmts) (result : CExpr) → f.body ≡ code locals stmts result → sc.in_registers ≡ true
+        → Path runs compose W E Outer Passes z jumps l m j s0 (at_with k c d) → CodeAt z.w k (function_code sc (text W E Outer Passes z).links f) → cost.own + 9 ≤ 2048 * (l + 1) → m ≤ 60 * cost.own + 20 → length calls ≡ ended h0 + j
+        → StepIs W E Outer Passes z debt h0 s0 (call_function z.p cost n args target work here)
+    enters_light l m j k cost h0 s0 locals stmts result e form path there low_paid high_paid en =
+        subst (λ o. StepIs W E Outer Passes z debt h0 s0 (then_go (plus cost (units 1)) here (at_no_cost (ok_or o stuck)) (λ cost g. if nat_lt z.p.stack (stack_words z.p.unit fs + frame (shapes z.p.unit) g) then Stop cost (faulted StackOut) here else enter z.p cost n g.body args target work here))) (sym is)
+        (elim (cases_Bool (nat_lt z.p.stack (stack_words z.p.unit fs + frame (shapes z.p.unit) f))) [
+          | inl over ↦ subst (λ t. StepIs W E Outer Passes z debt h0 s0 t) (sym (cond-true (nat_lt z.p.stack (stack_words z.p.unit fs + frame (shapes z.p.unit) f)) (Stop cost2 (faulted StackOut) here) (enter z.p cost2 n f.body args target work here) over)) (fails (ltb-true z.p.stack (stack_words z.p.unit fs + frame (shapes z.p.unit) f) over))
+          | inr fine ↦ subst (λ t. StepIs W E Outer Passes z debt h0 s0 t) (sym (cond-false (nat_lt z.p.stack (stack_words z.p.unit fs + frame (shapes z.p.unit) f)) (Stop cost2 (faulted StackOut) here) (enter z.p cost2 n f.body args target work here) fine))
+              (subst (λ b. StepIs W E Outer Passes z debt h0 s0 (enter z.p cost2 n b args target work here)) (sym e) (goes (ltb-false z.p.stack (stack_words z.p.unit fs + frame (shapes z.p.unit) f) fine)))
+        ])
+      where
+        cost2 : Cost
+        cost2 = plus (plus cost (units 1)) (units 0)
+
+        code_at : CodeAt z.w k ((stack_test sc 1 ++ light_entry locals stmts) ++ its_body stmts result)
+        code_at = subst (CodeAt z.w k) (light_code_is locals stmts result e form) there
+
+        test_at : CodeAt z.w k (stack_test sc 1)
+        test_at = front z.w k (stack_test sc 1) (light_entry locals stmts) (front z.w k (stack_test sc 1 ++ light_entry locals stmts) (its_body stmts result) code_at)
+
+        fails : z.p.stack < stack_words z.p.unit fs + frame (shapes z.p.unit) f → StepIs W E Outer Passes z debt h0 s0 (Stop cost2 (faulted StackOut) here)
+        fails over =
+            let sf = z.stack_fits in
+            let sm = z.stack_small in
+            let ws = z.sound.small in
+            let sr = st.stack_room in
+            let r = (tested compose z.w z.sound straight jumps sc low (z.a.stack + z.p.stack) 1 k c d st.idle (λ q. absurd (omega (arith, q))) (λ q. absurd (omega (arith, q))) at_end st.stack_end (omega (arith, sr)) (omega (arith, sf, ws)) (omega (arith, sm)) test_at).0 (omega (arith, over)) in
+            let way = on runs z.w Passes l m j 0 7 0 s0 (at_with k c d) (at_with (sc.exit StackOut) r.0 d) path (of runs z.w Passes 7 _ _ r.2) in
+            let le = way.high in
+            (at_with (sc.exit StackOut) r.0 d, record { own = way.own; passes = j + 0; high = omega (arith, le, high_paid); ended_so = omega (arith, en); run = way.run },
+              record { objects = objects; stands = stands_in here r.0 refl st.typed refl refl refl st.stack_room (λ x side. ap (λ m. m x) r.1.memory) r.1.special (r.1.others 28 (λ q. absurd (omega (arith, q))) (λ q. absurd (omega (arith, q)))) (r.1.others 30 (λ q. absurd (omega (arith, q))) (λ q. absurd (omega (arith, q)))); at = refl })
+
+        goes : stack_words z.p.unit fs + frame (shapes z.p.unit) f ≤ z.p.stack → StepIs W E Outer Passes z debt h0 s0 (Go (plus cost2 (units (all_words (shapes z.p.unit) (map typed_of locals)))) (push stmts (leave result target ∷ work)) (with_state here (pushed (frame_of locals) (state_of gv hv hw fs))))
+        goes fine =
+            let sf = z.stack_fits in
+            let sm = z.stack_small in
+            let ws = z.sound.small in
+            let sr = st.stack_room in
+            let gf = z.globals_fit in
+            let hf = z.heap_fits in
+            let light = is_light locals stmts result e form in
+            let few = light.few in
+            let k2 = scalars_words sc (bases W E Outer Passes z objects fs) (layout_of z.p.unit objects) opened c.memory (types_of (map typed_of locals)) light.scalars in
+            let t2 = types_length locals in
+            let w2 = words_by_types (shapes z.p.unit) (map typed_of locals) in
+            let fw = frame_words z.p.unit f in
+            let on_frame = frame_on z.p.unit (frame_of locals) fs f is in
+            let t = (tested compose z.w z.sound straight jumps sc low (z.a.stack + z.p.stack) 1 k c d st.idle (λ q. absurd (omega (arith, q))) (λ q. absurd (omega (arith, q))) at_end st.stack_end (omega (arith, sr)) (omega (arith, sf, ws)) (omega (arith, sm)) test_at).1 (omega (arith, fine)) in
+            let k1 : ℕ = k + length (stack_test sc 1) in
+            let entry_at = back z.w k (stack_test sc 1) (light_entry locals stmts) (front z.w k (stack_test sc 1 ++ light_entry locals stmts) (its_body stmts result) code_at) in
+            let save = saves_light compose z.w straight (are_calling stmts) low k1 t.0 d st.idle (t.1.others 29 (λ q. absurd (omega (arith, q))) (λ q. absurd (omega (arith, q))) ∙ at_end) (omega (arith, fine, sf, fw)) ws (z.ours low (inl (omega (arith, gf, hf), omega (arith, fine, fw)))) (front z.w k1 (if are_calling stmts then Sw 31 29 0 ∷ [] else []) (clear_code (length locals) (length f.params)) entry_at) in
+            let k15 : ℕ = k1 + length (if are_calling stmts then Sw 31 29 0 ∷ [] else []) in
+            let clear = clears compose z.w straight (length locals) (length f.params) k15 save.0 d st.idle few (back z.w k1 (if are_calling stmts then Sw 31 29 0 ∷ [] else []) (clear_code (length locals) (length f.params)) entry_at) in
+            let c2 : Contents = clear.0 in
+            let kb : ℕ = k + length (stack_test sc 1 ++ light_entry locals stmts) in
+            let len : k15 + length (clear_code (length locals) (length f.params)) ≡ kb = omega (arith, length-append (stack_test sc 1) (light_entry locals stmts), length-append (if are_calling stmts then Sw 31 29 0 ∷ [] else []) (clear_code (length locals) (length f.params))) in
+            let body_at = back z.w k (stack_test sc 1 ++ light_entry locals stmts) (its_body stmts result) code_at in
+            let regs : (x : ℕ) → x ≢ 1 → (x < 20 + length f.params) ⊎ (20 + length f.params + length locals ≤ x) → clear.0.regs x ≡ c.regs x = λ x n1 side. clear.1.others x side ∙ ap (λ r. r x) save.1.regs ∙ t.1.others x n1 n1 in
+            let high : (x : ℕ) → 28 ≤ x → clear.0.regs x ≡ c.regs x = λ x le. regs x (λ q. absurd (omega (arith, q, le))) (inr (omega (arith, le, few))) in
+            let memory : (x : ℕ) → x ≢ low → clear.0.memory x ≡ c.memory x = λ x ne. ap (λ m. m x) clear.1.memory ∙ save.1.others x ne ∙ ap (λ m. m x) t.1.memory in
+            let st2 = stands_in (with_state here (pushed (frame_of locals) (state_of gv hv hw fs))) clear.0 refl (typing.entered objects (state_of gv hv hw fs) n f locals stmts result args is e st.typed fits) refl refl refl (omega (arith, on_frame, fine))
+                (λ x side. elim side [ | inl lt ↦ memory x (λ q. absurd (omega (arith, q, lt))) | inr ge ↦ memory x (λ q. absurd (omega (arith, q, ge, fine, fw))) ]) (clear.1.special ∙ save.1.special ∙ t.1.special) (high 28 (omega arith)) (high 30 (omega arith)) in
+            let runs_new : Runs W E Outer Passes z objects clear.0 (record { function = f; to = to }) (frame_of locals) fs = record {
+              is = is;
+              return_at = light_returns (are_calling stmts) (ap calls_in e) clear.0 (λ q. ap (λ m. m low) clear.1.memory ∙ save.1.is q ∙ t.1.others 31 (λ q. absurd (omega (arith, q))) (λ q. absurd (omega (arith, q))) ∙ return_at) (high 31 (omega arith) ∙ return_at);
+              frame_at = high 29 (omega arith) ∙ at_end ∙ sym (ap (λ b. 4 * (if b then low else end_of W E Outer Passes z (frame_of locals ∷ fs))) form);
+              variables = light_variables locals stmts result clear.0.regs clear.0.memory e form (λ i lt. regs (20 + i) (λ q. absurd (omega (arith, q))) (inl (omega (arith, lt)))) (λ x ge lt. clear.1.zeros x ge lt);
+            } in
+            let waits2 = waiting_same W E Outer Passes z held objects c.memory clear.0.memory acts fs (λ x le lt. memory x (λ q. absurd (omega (arith, q, lt)))) waits in
+            let bodies = functions.typed n f locals stmts result is e in
+            let count = functions.nodes n f locals stmts result is e in
+            let calling : are_calling stmts ≡ calls_in f.body = sym (ap calls_in e) in
+            let result_at = back z.w kb (stmts_code sc (text W E Outer Passes z).links stmts) (return_code sc (are_calling stmts) result) body_at in
+            let block = block_of (text W E Outer Passes z) f (λ at left. Ahead (text W E Outer Passes z) (record { function = f; to = to } ∷ acts) at left (leave result target ∷ work)) stmts kb 0 (kb + length (stmts_code sc (text W E Outer Passes z).links stmts)) debt debt bodies.0 (omega (arith, count)) (λ q. light.free) (λ q. ap calls_in e ∙ q)
+                (front z.w kb (stmts_code sc (text W E Outer Passes z).links stmts) (return_code sc (are_calling stmts) result) body_at) refl (omega arith)
+                (record { test = bodies.1; few = omega (arith, count); code = subst (λ b. CodeAt z.w (kb + length (stmts_code sc (text W E Outer Passes z).links stmts)) (return_code sc b result)) calling result_at }, ahead) in
+            let way1 = on runs z.w Passes l m j 1 7 0 s0 (at_with k c d) (at_with k1 t.0 d) path (away runs z.w Passes 7 (at_with k c d) (at_with k1 t.0 d) (λ q. let ts = light_test_some in absurd (omega (arith, q, ts))) t.2) in
+            let way2 = on runs z.w Passes (l + 1) (m + 7) (j + 0) 0 1 0 s0 (at_with k1 t.0 d) (at_with k15 save.0 d) way1 (of runs z.w Passes 1 _ _ save.2) in
+            let way3 = on runs z.w Passes (l + 1 + 0) (m + 7 + 1) (j + 0 + 0) 0 (length locals) 0 s0 (at_with k15 save.0 d) (at_with kb clear.0 d) way2 (of runs z.w Passes (length locals) _ _ (subst (λ y. Reaches z.w (length locals) (at_with k15 save.0 d) (at_with y clear.0 d)) len clear.2)) in
+            arrives runs compose W E Outer Passes z jumps (l + 1 + 0 + 0) (m + 7 + 1 + length locals) (j + 0 + 0 + 0) debt debt (plus cost2 (units (all_words (shapes z.p.unit) (map typed_of locals)))) h0 (with_state here (pushed (frame_of locals) (state_of gv hv hw fs))) s0 kb clear.0 d objects
+            (record { function = f; to = to }) acts stmts (leave result target ∷ work) way3 (omega (arith, low_paid, few, k2, t2, w2)) (omega (arith, high_paid, few, k2, t2, w2)) (omega (arith, en)) st2 (runs_new, waits2) block
+          where
+            light_returns : (b : Bool) → calls_in f.body ≡ b → (c2 : Contents) → (b ≡ true → c2.memory low ≡ 4 * to) → c2.regs 31 ≡ 4 * to → (if calls_in f.body then c2.memory low else c2.regs 31) ≡ 4 * to
+            light_returns true q c2 h g = ap (λ b. if b then c2.memory low else c2.regs 31) q ∙ h refl
+            light_returns false q c2 h g = ap (λ b. if b then c2.memory low else c2.regs 31) q ∙ g

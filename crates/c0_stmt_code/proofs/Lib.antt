@@ -9,8 +9,10 @@ pub mod Given
 pub mod Given2
 pub mod Held
 pub mod Lengths
+pub mod Lights
 pub mod Needs
 pub mod Places
+pub mod Primitives
 pub mod Returns
 pub mod Rooms
 pub mod Sim

@@ -95,6 +95,24 @@ module _ (compose : RunsCompose) (w : World) (sound : Sound w) (straight : Strai
           others = λ x n1 n29 n31. two.1.others x n1 n29 ∙ one.1.others x n1 n31;
         }, compose.joined w 3 4 _ _ _ one.2 (compose.joined w 3 1 _ _ _ two.2 three))
 
+-- the way back of a function whose variables stand in registers
+module _ (compose : RunsCompose) (w : World) (sound : Sound w) (straight : StraightRuns w) (jumps : JumpsLead w) where
+  pub record Left31 (b c : Contents) : Type 0 where
+    pub memory : c.memory ≡ b.memory
+    pub special : c.special ≡ b.special
+    pub others : (x : ℕ) → x ≢ 31 → c.regs x ≡ b.regs x
+
+  pub returns_light : (calling : Bool) (low to k : ℕ) (c : Contents) (d : Behind) → d.pending ≡ Idle → c.regs 29 ≡ 4 * low → low < w.words → (if calling then c.memory low else c.regs 31) ≡ 4 * to → CodeAt w k (register_return calling)
+      → (c' : Contents) × Left31 c c' × Reaches w 2 (at_with k c d) (at_with to c' d)
+  returns_light false low to k c d idle at inside is code =
+      (c, record { memory = refl; special = refl; others = λ x ne. refl }, compose.later w 1 2 _ _ (omega arith) (led compose w sound straight jumps 31 k to c d idle (read_is c.regs 31 (λ q. absurd (omega (arith, q))) ∙ is) code.0))
+  returns_light true low to k c d idle at inside is code =
+      let small = sound.small in
+      let c1 : Contents = with_reg c 31 (4 * to) in
+      let one = straight.next (Lw 31 29 0) (Reads low (4 * to)) k c d code.0 refl idle (omega (arith, at, inside, small), inside, is) in
+      let two = led compose w sound straight jumps 31 (k + 1) to (with_reg c 31 (4 * to)) d idle (read_is (with_reg c 31 (4 * to)).regs 31 (λ q. absurd (omega (arith, q))) ∙ same_reg c.regs 31 (4 * to) (λ q. absurd (omega (arith, q)))) code.1.0 in
+      (with_reg c 31 (4 * to), record { memory = refl; special = refl; others = λ x ne. other_reg c.regs 31 (4 * to) x ne }, compose.joined w 1 1 _ _ _ one two)
+
 pub comes_splits : {A : Type 0} (w : World) (sc : Scope) (own n to : ℕ) (c : Contents) (d : Behind) (Q : A → Contents → Type 0) (e : Costed A) → Comes w sc own n to c d Q e → Splits w sc own n (λ x. to) c d Q e
 comes_splits w sc own n to c d Q (costs k (Ok x)) h = h
 comes_splits w sc own n to c d Q (costs k (Err (faulted f))) h = h
@@ -220,6 +238,50 @@ module _ (runs : RunLaws) (compose : RunsCompose) (W E : Type 0) (Outer : W → 
         (back_there.1.others 30 (λ q. absurd (omega (arith, q))) (λ q. absurd (omega (arith, q))) (λ q. absurd (omega (arith, q))) ∙ keeps.above 30 (λ q. absurd (omega (arith, q))) (omega arith))
         (back_there.1.frame_at ∙ ap (λ y. 4 * y) base) gives.fits
         (back_there.1.others 2 (λ q. absurd (omega (arith, q))) (λ q. absurd (omega (arith, q))) (λ q. absurd (omega (arith, q))) ∙ sym (read_is c1.regs 2 (λ q. absurd (omega (arith, q)))) ∙ gives.is ∙ canonical) ahead)
+    where
+      few_nodes : ReturnStands (text W E Outer Passes z) a.function k result → nodes result ≤ 2000
+      few_nodes h = h.few
+
+  -- a return from a function whose variables stand in registers
+  pub leaves_light : (result : CExpr) (target : Target) (work : List Work) → sc.in_registers ≡ true → ReturnStands (text W E Outer Passes z) a.function k result
+      → Awaits (text W E Outer Passes z) others a.to debt (ty_of a.function.answer) target work (λ acts at left. Ahead (text W E Outer Passes z) acts at left work)
+      → StepIs W E Outer Passes z debt here (at_with k c d) (then_go (units 0) here (value_of result here.state) (λ cost v. deliver cost target v work there))
+  leaves_light result target work form stands ahead =
+      let t : Ty = ty_of a.function.answer in
+      let ex = its_exprs runs compose W E Outer Passes z jumps straight held typing exprs objects gv hv hw g fs world calls answer c d a others st r waits in
+      let rd = its_ready runs compose W E Outer Passes z jumps straight held typing exprs objects gv hv hw g fs world calls answer c d a others st r waits in
+      let scalar = functions.answers g.function a.function r.is in
+      let value = value_code sc result 2 8 in
+      let exit = exit_code sc (calls_in a.function.body) in
+      let deep = stands.test.shallow in
+      let some = (fit a.function).value_some result 2 8 in
+      let run = ex.value result (ty_of a.function.answer) stands.test.value scalar stands.few 2 8 k c d st.idle rd (front z.w k (value_code sc result 2 8) (exit_code sc (calls_in a.function.body)) stands.code) (omega arith) (omega (arith, deep)) (λ q. absurd (omega (arith, q))) (λ q. absurd (omega (arith, q))) in
+      let k1 : ℕ = k + length (value_code sc result 2 8) in
+      let exit_is : exit_code sc (calls_in a.function.body) ≡ register_return (calls_in a.function.body) = cond-true sc.in_registers (register_return (calls_in a.function.body)) (frame_return sc (calls_in a.function.body)) form in
+      let exit_at = subst (CodeAt z.w k1) exit_is (back z.w k (value_code sc result 2 8) (exit_code sc (calls_in a.function.body)) stands.code) in
+      then_splits runs compose W E Outer Passes z jumps 0 0 0 0 debt 1 (nodes result) (units 0) here here (at_with k c d) a.function k (λ v. k1) c d objects (Gives sc (bases W E Outer Passes z objects (g ∷ fs)) 2 8 2 (ty_of a.function.answer) c) (value_of result here.state)
+      (λ cost v. deliver cost target v work there) (λ v q. absurd (omega (arith, q, some))) (none runs z.w Passes (at_with k c d)) (omega arith) (omega arith) st (value_within result here.state) (comes_splits z.w sc 0 k k1 c d _ (value_of result here.state) run)
+      (λ u v c1 least most gives path.
+        let fo = frame_on z.p.unit g fs a.function r.is in
+        let ws = frame_words z.p.unit a.function in
+        let o = st.stack_room in
+        let sf = z.stack_fits in
+        let small = z.sound.small in
+        let e : ℕ = end_of W E Outer Passes z (g ∷ fs) in
+        let keeps = gives.keeps in
+        let at29 : c1.regs 29 ≡ 4 * end_of W E Outer Passes z fs = keeps.above 29 (λ q. absurd (omega (arith, q))) (omega arith) ∙ r.frame_at ∙ ap (λ y. 4 * (if y then end_of W E Outer Passes z fs else end_of W E Outer Passes z (g ∷ fs))) form in
+        let address : (if calls_in a.function.body then c1.memory (end_of W E Outer Passes z fs) else c1.regs 31) ≡ 4 * a.to =
+            ap₂ (λ m y. if calls_in a.function.body then m else y) (ap (λ m. m (end_of W E Outer Passes z fs)) keeps.memory) (keeps.above 31 (λ q. absurd (omega (arith, q))) (omega arith)) ∙ r.return_at in
+        let back_there = returns_light compose z.w z.sound straight jumps (calls_in a.function.body) (end_of W E Outer Passes z fs) a.to k1 c1 d st.idle at29 (omega (arith, fo, ws, o, sf)) address exit_at in
+        let c2 : Contents = back_there.0 in
+        let way = on runs z.w Passes (0 + 1) (0 + (0 + 16 * u)) 0 0 2 0 (at_with k c d) (at_with k1 c1 d) (at_with a.to back_there.0 d) path (of runs z.w Passes 2 _ _ back_there.2) in
+        let canonical = word_same (shapes z.p.unit) (map typed_of z.p.unit.globals) z.a.globals z.a.heap objects objects (λ path t h. refl) (rest_of (unit_scope z.p.unit)) (rest_of sc) (end_of W E Outer Passes z []) (end_of W E Outer Passes z (g ∷ fs)) (ty_of a.function.answer) v gives.fits in
+        delivers (0 + 1 + 0) (0 + (0 + 16 * u) + 2) (0 + 0) (plus (units 0) (units u)) here (at_with k c d) target v work (ty_of a.function.answer) back_there.0 way (omega (arith, most, few_nodes stands)) (omega (arith, least)) (omega arith)
+        (back_there.1.memory ∙ keeps.memory) (back_there.1.special ∙ keeps.special)
+        (back_there.1.others 28 (λ q. absurd (omega (arith, q))) ∙ keeps.above 28 (λ q. absurd (omega (arith, q))) (omega arith))
+        (back_there.1.others 30 (λ q. absurd (omega (arith, q))) ∙ keeps.above 30 (λ q. absurd (omega (arith, q))) (omega arith))
+        (back_there.1.others 29 (λ q. absurd (omega (arith, q))) ∙ at29) gives.fits
+        (back_there.1.others 2 (λ q. absurd (omega (arith, q))) ∙ sym (read_is c1.regs 2 (λ q. absurd (omega (arith, q)))) ∙ gives.is ∙ canonical) ahead)
     where
       few_nodes : ReturnStands (text W E Outer Passes z) a.function k result → nodes result ≤ 2000
       few_nodes h = h.few

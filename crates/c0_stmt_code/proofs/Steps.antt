@@ -1,16 +1,18 @@
 -- Each step that is proved, put together.
 use Rattle.std.specs.Prelude.{map, slice_get, IsTrue, Some, None, if◌then◌else◌}
 use Rattle.std.proofs.Common.{◌≡◌, ◌≢◌, ℕ, zero, suc, ◌+◌, ◌*◌, ◌<◌, ◌≤◌, Bool, true, false, Option, List, [], ◌∷◌, ◌++◌, length, refl, sym, ap, ◌∙◌, subst, arith, length-append}
-use Rattle.mips_table.specs.declared.inst.Inst.TheVariants.{Jal}
+use Rattle.mips_table.specs.declared.inst.Inst.TheVariants.{Jal, Sw}
 use Rattle.mips_table.specs.Code.{Contents, Behind, Configuration as Machine, at_with, RunLaws, CodeAt}
 use Rattle.masm.specs.Laws.{RunsCompose, JumpsLead, StraightRuns}
 use Rattle.c0_tree.specs.declared.tree.Kind.{Kind}
-use Rattle.c0_tree.specs.declared.tree.Kind.TheVariants.{Function}
+use Rattle.c0_tree.specs.declared.tree.Kind.TheVariants.{Unresolved, Struct, Field, Global, Local, Function, Primitive}
 use Rattle.c0_tree.specs.declared.tree.Span.{Span}
+use Rattle.c0_tree.specs.declared.primitive.Scalar.{Scalar}
+use Rattle.c0_tree.specs.Primitives.{CPrimitive}
 use Rattle.c0_tree.specs.Size.{nodes, args_nodes, stmts_nodes}
 use Rattle.c0_tree.specs.Tree.{CName, CExpr, CStmt, assign, call, new, choice, loop, CStmts, done, next, CBody, code, asm, CDecl, CFunction, CUnit}
 use Rattle.c0_meaning.specs.Ty.{Ty, named, ty_of}
-use Rattle.c0_meaning.specs.Env.{Env, Signature, typed_of, signature_of}
+use Rattle.c0_meaning.specs.Env.{Env, Signature, typed_of, signature_of, primitive_signature, scalar_ty}
 use Rattle.c0_meaning.specs.Limits.{is_asm, locals_of}
 use Rattle.c0_meaning.specs.Words.{words, fields_named}
 use Rattle.c0_meaning.specs.Sound.{shapes}
@@ -26,19 +28,21 @@ use Rattle.c0_expr_code.specs.Bases.{words_of_all}
 use Rattle.c0_expr_code.specs.Relation.{Area}
 use Rattle.c0_expr_code.specs.Laws.{IsOpened, AreasHold}
 use Rattle.c0_expr_code.specs.Code.{made}
-use Rattle.c0_stmt_code.specs.Code.{calls_in, args_code, answer_code, call_code, callee_index, while_code, skip, stmt_code, stmts_code, function_code}
+use Rattle.c0_stmt_code.specs.Code.{calls_in, args_code, answer_code, stored_code, call_code, callee_index, while_code, skip, stmt_code, stmts_code, function_code}
 use Rattle.c0_stmt_code.specs.Setup.{Setup}
 use Rattle.c0_stmt_code.specs.Ahead.{Activation, env_in, StatementStands, LoopStands, IsAnswered, Block, Awaits, Ahead}
-use Rattle.c0_stmt_code.specs.Standing.{AreDeclared, text, scope, bases, end_of, unit_scope, word_of_value, AreIn, Waiting, Runs, UnderWay, Stands, Simulated, StepIs, HasFrame, FrameAt, IsCoveredStatement, IsCoveredItem, IsCovered}
+use Rattle.c0_stmt_code.specs.Standing.{AreDeclared, text, scope, bases, end_of, unit_scope, word_of_value, AreIn, Waiting, Runs, UnderWay, Stands, Simulated, StepIs, IsCoveredStatement, IsCoveredItem, IsCovered}
 use Rattle.c0_stmt_code.proofs.Needs.{HeldStays, TypedStays, FunctionsAre, LengthsFit, AllScalar}
 use Rattle.c0_stmt_code.proofs.Ways.{Way, none as no_way, away, within}
 use Rattle.c0_stmt_code.proofs.Blocks.{skipped}
 use Rattle.c0_stmt_code.proofs.Lengths.{stmts_length}
 use Rattle.c0_stmt_code.proofs.State.{state_of, standing_at, Exprs}
 use Rattle.c0_stmt_code.proofs.Statements.{assigns, chooses, turns}
-use Rattle.c0_stmt_code.proofs.Calls.{enters}
+use Rattle.c0_stmt_code.proofs.Calls.{enters, enters_light}
 use Rattle.c0_stmt_code.proofs.CallActs.{signature_from, calls_function}
-use Rattle.c0_stmt_code.proofs.Returns.{leaves, finishes}
+use Rattle.c0_stmt_code.proofs.Primitives.{calls_primitive}
+use Rattle.c0_stmt_code.proofs.Spots.{spot_longer}
+use Rattle.c0_stmt_code.proofs.Returns.{leaves, leaves_light, finishes}
 use Rattle.c0_stmt_code.proofs.Sim.{Path}
 
 -- a body that isn't an asm text
@@ -60,6 +64,22 @@ params_length : (ds : List CDecl) → length (types_of (map typed_of ds)) ≡ le
 params_length [] = refl
 params_length (d ∷ ds) = let e = params_length ds in omega (arith, e)
 
+scalars_length : (ts : List Scalar) → length (map scalar_ty ts) ≡ length ts
+scalars_length [] = refl
+scalars_length (t ∷ ts) = let e = scalars_length ts in omega (arith, e)
+
+primitive_from : (rows : List CPrimitive) (i : ℕ) (c : Signature) → slice_get (map primitive_signature rows) i ≡ Some c → (p : CPrimitive) × (slice_get rows i ≡ Some p) × (primitive_signature p ≡ c)
+primitive_from [] i c e = absurd (cc)
+primitive_from (p ∷ rows) zero c e = let q : primitive_signature p ≡ c = cc in (p, refl, q)
+primitive_from (p ∷ rows) (suc i) c e = primitive_from rows i c e
+
+answer_some : (sc : Scope) (p : CExpr) → 1 ≤ length (answer_code sc p)
+answer_some sc p = by_stands (made sc p).stands
+  where
+    by_stands : (o : Option ℕ) → 1 ≤ length (stored_code 2 8 o (made sc p).place)
+    by_stands (Some x) = omega arith
+    by_stands None = let n = spot_longer (λ b k. Sw 2 b k) 8 ((made sc p).place 8) in omega (arith, n)
+
 given_length : (env : Env) (es : List CExpr) (ts : List Ty) → AreNumberedGiven env es ts → length es ≡ length ts
 given_length env [] [] none = refl
 given_length env (e ∷ es) (t ∷ ts) (more g gs) = let q = given_length env es ts gs in omega (arith, q)
@@ -72,14 +92,17 @@ module _ (runs : RunLaws) (compose : RunsCompose) (W E : Type 0) (Outer : W → 
   -- the first call
   begins : (objects : List Ty) (gv hv : Value) (hw : ℕ) (fs : List Frame) (world : W) (calls : List (List E)) (answer : Option Value) (c : Contents) (d : Behind) (acts : List Activation)
       → Stands W E Outer Passes z objects (standing_at gv hv hw fs world calls answer) c d → Waiting W E Outer Passes z objects c.memory acts fs → c.regs 29 ≡ 4 * end_of W E Outer Passes z fs
-      → (n to debt : ℕ) (f : CFunction) → slice_get z.p.unit.functions n ≡ Some f → HasFrame W E Outer Passes z f → (args : Values) (target : Target) (work : List Work) → c.regs 31 ≡ 4 * to
+      → (n to debt : ℕ) (f : CFunction) → slice_get z.p.unit.functions n ≡ Some f → is_asm f.body ≡ false → (args : Values) (target : Target) (work : List Work) → c.regs 31 ≡ 4 * to
       → AllFit (shapes z.p.unit) (layout_of z.p.unit objects) (types_of (map typed_of f.params)) args → AreIn (unit_scope z.p.unit) (bases W E Outer Passes z objects []) c.regs 20 args
       → Awaits (text W E Outer Passes z) acts to debt (ty_of f.answer) target work (λ others at left. Ahead (text W E Outer Passes z) others at left work)
       → (l m j : ℕ) (cost : Cost) (h0 : Configuration W E) (s0 : Machine) → Path runs compose W E Outer Passes z jumps l m j s0 (at_with ((text W E Outer Passes z).links.function n) c d) → cost.own + 9 ≤ 2048 * (l + 1) → m ≤ 60 * cost.own + 20 → length calls ≡ ended h0 + j
       → StepIs W E Outer Passes z debt h0 s0 (call_function z.p cost n args target work (standing_at gv hv hw fs world calls answer))
   begins objects gv hv hw fs world calls answer c d acts st waits at_end n to debt f is frame args target work return_at fits arguments ahead l m j cost h0 s0 path low high en =
-      let b = has_statements f.body frame.statements in
-      enters runs compose W E Outer Passes z jumps straight held typing functions opened objects gv hv hw fs world calls answer c d acts st waits at_end n to debt f is args target work return_at fits arguments ahead l m j ((text W E Outer Passes z).links.function n) cost h0 s0 b.locals b.stmts b.answer b.is frame.in_memory path (z.functions n f is) low high en
+      by_form (scope W E Outer Passes z f).in_registers refl (has_statements f.body frame)
+    where
+      by_form : (b : Bool) → (scope W E Outer Passes z f).in_registers ≡ b → Statements_ f.body → StepIs W E Outer Passes z debt h0 s0 (call_function z.p cost n args target work (standing_at gv hv hw fs world calls answer))
+      by_form false form b = enters runs compose W E Outer Passes z jumps straight held typing functions opened objects gv hv hw fs world calls answer c d acts st waits at_end n to debt f is args target work return_at fits arguments ahead l m j ((text W E Outer Passes z).links.function n) cost h0 s0 b.locals b.stmts b.answer b.is form path (z.functions n f is) low high en
+      by_form true form b = enters_light runs compose W E Outer Passes z jumps straight held typing functions opened objects gv hv hw fs world calls answer c d acts st waits at_end n to debt f is args target work return_at fits arguments ahead l m j ((text W E Outer Passes z).links.function n) cost h0 s0 b.locals b.stmts b.answer b.is form path (z.functions n f is) low high en
 
   module _ (objects : List Ty) (gv hv : Value) (hw : ℕ) (g : Frame) (fs : List Frame) (world : W) (calls : List (List E)) (answer : Option Value) (c : Contents) (d : Behind) (a : Activation) (others : List Activation)
       (st : Stands W E Outer Passes z objects (standing_at gv hv hw (g ∷ fs) world calls answer) c d) (r : Runs W E Outer Passes z objects c a g fs) (waits : Waiting W E Outer Passes z objects c.memory others fs)
@@ -119,28 +142,51 @@ module _ (runs : RunLaws) (compose : RunsCompose) (W E : Type 0) (Outer : W → 
     states (call s p cs callee args) rest work covered stands block = by_rule stands.typed
       where
         by_rule : IsNumbered (env_in (text W E Outer Passes z) a.function) (call s p cs callee args) → StepIs W E Outer Passes z debt here (at_with k c d) (act_statement z.p (call s p cs callee args) rest work here)
-        by_rule (a_call {c = signature} found left given deep) =
-            let is = subst (λ kd. callee_at (env_in (text W E Outer Passes z) a.function) kd callee.number ≡ Some signature) covered.0 found in
-            let q = signature_from z.p.unit.functions callee.number signature is in
-            let frame = covered.1 q.0 q.1 in
-            let few = stands.few in
-            let types : signature.params ≡ types_of (map typed_of q.0.params) = sym (ap (λ y. y.params) q.2) ∙ types_of_params q.0.params in
-            let given2 = subst (λ ts. AreNumberedGiven (env_in (text W E Outer Passes z) a.function) args ts) types given in
-            let left2 = subst (λ t. IsNumberedLeft (env_in (text W E Outer Passes z) a.function) p t) (sym (ap (λ y. y.answer) q.2)) left in
-            let many = functions.few callee.number q.0 q.1 in
-            let count = given_length (env_in (text W E Outer Passes z) a.function) args (types_of (map typed_of q.0.params)) given2 in
-            let size = params_length q.0.params in
-            let index : callee_index (text W E Outer Passes z).links callee.kind callee.number ≡ (text W E Outer Passes z).links.function callee.number = ap (λ kd. callee_index (text W E Outer Passes z).links kd callee.number) covered.0 in
-            subst (λ kd. StepIs W E Outer Passes z debt here (at_with k c d) (then_go (units 1) here (values_of args here.state) (λ cost vs. call_with z.p cost kd callee.number vs (into p rest) work here))) (sym covered.0)
-            (calls_function runs compose W E Outer Passes z jumps straight held typing functions exprs objects gv hv hw g fs world calls answer c d a others st r waits (in_frame sc.in_registers refl stands.free) (stands.calls refl) k debt callee.number q.0 args p rest work q.1
-            (λ c2 vs l m j cost st2 w2 at2 to ret fits are ahead path low high en. begins objects gv hv hw (g ∷ fs) world calls answer c2 d (a ∷ others) st2 w2 at2 callee.number to debt q.0 q.1 frame vs (into p rest) work ret fits are ahead l m j cost here (at_with k c d) path low high en)
-            given2 (omega (arith, count, size, many)) (omega (arith, size, many)) left2 deep (omega (arith, few))
-            (subst (λ i. CodeAt z.w k (args_code sc args 0 ++ (Jal i ∷ answer_code sc p))) index stands.code)
-            (subst (λ i. At (k + length (args_code sc args 0 ++ (Jal i ∷ answer_code sc p))) rest work) index block))
+        by_rule (a_call {c = signature} found left given deep) = by_kind callee.kind refl
           where
             in_frame : (b : Bool) → sc.in_registers ≡ b → (sc.in_registers ≡ true → IsTrue (is_free_of_calls (call s p cs callee args))) → b ≡ false
             in_frame true e free = absurd (let h = free e in cc)
             in_frame false e free = refl
+
+            by_kind : (kd : Kind) → callee.kind ≡ kd → StepIs W E Outer Passes z debt here (at_with k c d) (act_statement z.p (call s p cs callee args) rest work here)
+            by_kind Function e =
+                let is = subst (λ kd. callee_at (env_in (text W E Outer Passes z) a.function) kd callee.number ≡ Some signature) e found in
+                let q = signature_from z.p.unit.functions callee.number signature is in
+                let frame = covered e q.0 q.1 in
+                let few = stands.few in
+                let types : signature.params ≡ types_of (map typed_of q.0.params) = sym (ap (λ y. y.params) q.2) ∙ types_of_params q.0.params in
+                let given2 = subst (λ ts. AreNumberedGiven (env_in (text W E Outer Passes z) a.function) args ts) types given in
+                let left2 = subst (λ t. IsNumberedLeft (env_in (text W E Outer Passes z) a.function) p t) (sym (ap (λ y. y.answer) q.2)) left in
+                let many = functions.few callee.number q.0 q.1 in
+                let count = given_length (env_in (text W E Outer Passes z) a.function) args (types_of (map typed_of q.0.params)) given2 in
+                let size = params_length q.0.params in
+                let index : callee_index (text W E Outer Passes z).links callee.kind callee.number ≡ (text W E Outer Passes z).links.function callee.number = ap (λ kd. callee_index (text W E Outer Passes z).links kd callee.number) e in
+                subst (λ kd. StepIs W E Outer Passes z debt here (at_with k c d) (then_go (units 1) here (values_of args here.state) (λ cost vs. call_with z.p cost kd callee.number vs (into p rest) work here))) (sym e)
+                (calls_function runs compose W E Outer Passes z jumps straight held typing functions exprs objects gv hv hw g fs world calls answer c d a others st r waits (in_frame sc.in_registers refl stands.free) (stands.calls refl) k debt callee.number q.0 args p rest work q.1
+                (λ c2 vs l m j cost st2 w2 at2 to ret fits are ahead path low high en. begins objects gv hv hw (g ∷ fs) world calls answer c2 d (a ∷ others) st2 w2 at2 callee.number to debt q.0 q.1 frame vs (into p rest) work ret fits are ahead l m j cost here (at_with k c d) path low high en)
+                given2 (omega (arith, count, size, many)) (omega (arith, size, many)) left2 deep (omega (arith, few))
+                (subst (λ i. CodeAt z.w k (args_code sc args 0 ++ (Jal i ∷ answer_code sc p))) index stands.code)
+                (subst (λ i. At (k + length (args_code sc args 0 ++ (Jal i ∷ answer_code sc p))) rest work) index block))
+            by_kind Primitive e =
+                let is = subst (λ kd. callee_at (env_in (text W E Outer Passes z) a.function) kd callee.number ≡ Some signature) e found in
+                let q = primitive_from z.table callee.number signature is in
+                let few = stands.few in
+                let given2 = subst (λ ts. AreNumberedGiven (env_in (text W E Outer Passes z) a.function) args ts) (sym (ap (λ y. y.params) q.2)) given in
+                let left2 = subst (λ t. IsNumberedLeft (env_in (text W E Outer Passes z) a.function) p t) (sym (ap (λ y. y.answer) q.2)) left in
+                let many = z.few_arguments callee.number q.0 q.1 in
+                let count = given_length (env_in (text W E Outer Passes z) a.function) args (map scalar_ty q.0.args) given2 in
+                let size = scalars_length q.0.args in
+                let index : callee_index (text W E Outer Passes z).links callee.kind callee.number ≡ (text W E Outer Passes z).links.primitive callee.number = ap (λ kd. callee_index (text W E Outer Passes z).links kd callee.number) e in
+                subst (λ kd. StepIs W E Outer Passes z debt here (at_with k c d) (then_go (units 1) here (values_of args here.state) (λ cost vs. call_with z.p cost kd callee.number vs (into p rest) work here))) (sym e)
+                (calls_primitive runs compose W E Outer Passes z jumps straight held typing exprs objects gv hv hw g fs world calls answer c d a others st r waits (in_frame sc.in_registers refl stands.free) (stands.calls refl) k debt callee.number q.0 args p rest work q.1
+                given2 (omega (arith, count, size, many)) left2 deep (omega (arith, few)) (answer_some sc p)
+                (subst (λ i. CodeAt z.w k (args_code sc args 0 ++ (Jal i ∷ answer_code sc p))) index stands.code)
+                (subst (λ i. At (k + length (args_code sc args 0 ++ (Jal i ∷ answer_code sc p))) rest work) index block))
+            by_kind Unresolved e = let is = subst (λ kd. callee_at (env_in (text W E Outer Passes z) a.function) kd callee.number ≡ Some signature) e found in absurd (cc)
+            by_kind Struct e = let is = subst (λ kd. callee_at (env_in (text W E Outer Passes z) a.function) kd callee.number ≡ Some signature) e found in absurd (cc)
+            by_kind Field e = let is = subst (λ kd. callee_at (env_in (text W E Outer Passes z) a.function) kd callee.number ≡ Some signature) e found in absurd (cc)
+            by_kind Global e = let is = subst (λ kd. callee_at (env_in (text W E Outer Passes z) a.function) kd callee.number ≡ Some signature) e found in absurd (cc)
+            by_kind Local e = let is = subst (λ kd. callee_at (env_in (text W E Outer Passes z) a.function) kd callee.number ≡ Some signature) e found in absurd (cc)
 
     -- a work item of the function that runs
     acts : (item : Work) (work : List Work) → IsCoveredItem W E Outer Passes z a.function item → Ahead (text W E Outer Passes z) (a ∷ others) k debt (item ∷ work) → StepIs W E Outer Passes z debt here (at_with k c d) (act z.p item work here)
@@ -148,7 +194,11 @@ module _ (runs : RunLaws) (compose : RunsCompose) (W E : Type 0) (Outer : W → 
     acts (again t body rest) work covered ahead =
         let path : Path runs compose W E Outer Passes z jumps 0 0 0 (at_with k c d) (at_with (ahead.0 + 1 + length (stmts_code sc (text W E Outer Passes z).links body)) c d) = subst (λ y. Way runs z.w Passes 0 0 0 (at_with k c d) (at_with y c d)) ahead.2 (no_way runs z.w Passes (at_with k c d)) in
         turns runs compose W E Outer Passes z jumps straight held typing exprs fit objects gv hv hw g fs world calls answer c d a others st r waits k debt rest work ahead.0 0 1 (at_with k c d) t body ahead.1 ahead.3 (omega arith) (omega arith) (omega arith) path
-    acts (leave result target) work covered ahead = leaves runs compose W E Outer Passes z jumps straight held typing functions exprs fit objects gv hv hw g fs world calls answer c d a others st r waits k debt result target work covered ahead.0 ahead.1
+    acts (leave result target) work covered ahead = by_form sc.in_registers refl
+      where
+        by_form : (b : Bool) → sc.in_registers ≡ b → StepIs W E Outer Passes z debt here (at_with k c d) (act z.p (leave result target) work here)
+        by_form false form = leaves runs compose W E Outer Passes z jumps straight held typing functions exprs fit objects gv hv hw g fs world calls answer c d a others st r waits k debt result target work form ahead.0 ahead.1
+        by_form true form = leaves_light runs compose W E Outer Passes z jumps straight held typing functions exprs fit objects gv hv hw g fs world calls answer c d a others st r waits k debt result target work form ahead.0 ahead.1
     acts (finish place v rest) work covered ahead = absurd ahead
     acts (begin n args) work covered ahead = absurd ahead
 

@@ -1,6 +1,7 @@
 -- What is fixed while a unit's code runs over a machine with primitives.
-use Rattle.std.specs.Prelude.{◌≡◌, ℕ, suc, ◌+◌, ◌*◌, ◌/◌, ◌<◌, ◌≤◌, ◌⊎◌, List, map, Some, None, slice_get}
+use Rattle.std.specs.Prelude.{◌≡◌, ◌≢◌, ℕ, suc, ◌+◌, ◌*◌, ◌/◌, ◌<◌, ◌≤◌, ◌⊎◌, List, length, map, Some, None, slice_get}
 use Rattle.mips_table.specs.declared.inst.Inst.{Inst}
+use Rattle.mips_table.specs.declared.inst.Inst.TheVariants.{Jal}
 use Rattle.mips_table.specs.Arith.{flag}
 use Rattle.mips_table.specs.Device.{Idle}
 use Rattle.mips_table.specs.Code.{Contents, Behind, World, Sound, Configuration, CodeAt}
@@ -98,6 +99,9 @@ pub record Setup (W E : Type 0) (Outer : W → Contents → Behind → Type 0) (
       AllFit (shapes p.unit) (layout_of p.unit objects) (types_of (map typed_of locals)) (zeros_of (shapes p.unit) (map typed_of locals))
   -- what isn't the unit's is the rest of the machine's
   pub outer_stays : (v : W) (c c' : Contents) (d : Behind) → ((k : ℕ) → (IsOurs a p.stack k → ⊥) → c'.memory k ≡ c.memory k) → c'.special ≡ c.special → Outer v c d → Outer v c' d
+  -- primitives have few arguments, and the code that calls one isn't the primitive itself
+  pub few_arguments : (n : ℕ) (row : CPrimitive) → slice_get table n ≡ Some row → length row.args ≤ 8
+  pub elsewhere : (n k : ℕ) → w.code k ≡ Some (Jal ((links_of places).primitive n)) → k ≢ (links_of places).primitive n
   -- a call of a primitive comes to what it means
   pub primitives : (n : ℕ) (row : CPrimitive) (vs : Values) (v : W) (to : ℕ) (s : Configuration) → slice_get table n ≡ Some row → Called w (links_of places) row n vs to s → Outer v s.contents s.behind →
       (t : Configuration) × Passes s t × Back p.unit a p.stack to s t × IsScalar row.answer (p.meaning n vs v).answer × (t.contents.regs 2 ≡ scalar_word (p.meaning n vs v).answer) × Outer (p.meaning n vs v).world t.contents t.behind

@@ -183,19 +183,15 @@ module _ (W E : Type 0) (Outer : W → Contents → Behind → Type 0) (Passes :
   RunIs debt used h s (Failed cost stuck h') = ⊥
   RunIs debt used h s (NotYet cost h') = (t : Machine) × (units : ℕ) × (cost.own ≡ used.own + units) × (left : ℕ) × (work : List Work) × Led z.w Passes units debt left h h' s t × Simulated left work h' t
 
-  -- a function that has statements, and a frame for its variables
-  pub record HasFrame (f : CFunction) : Type 0 where
-    pub in_memory : (scope f).in_registers ≡ false
-    pub statements : is_asm f.body ≡ false
+  -- the function of a number, if there is one, has statements, and no asm body
+  abbrev pub StatementsAt : ℕ → Type 0
+  StatementsAt n = (f : CFunction) → slice_get z.p.unit.functions n ≡ Some f → is_asm f.body ≡ false
 
-  -- the function of a number, if there is one, has a frame
-  abbrev pub FrameAt : ℕ → Type 0
-  FrameAt n = (f : CFunction) → slice_get z.p.unit.functions n ≡ Some f → HasFrame f
-
-  -- A statement of a function whose step is proved: an assignment to a place in memory, an `if`, a loop, or a call of a function that has a frame.
+  -- A statement of a function whose step is proved: an assignment to a place in memory, an `if`, a loop, a call of a primitive, or one of a function
+  -- that has statements.
   abbrev pub IsCoveredStatement : CFunction → CStmt → Type 0
   IsCoveredStatement f (assign s p v) = (made (scope f) p).stands ≡ None
-  IsCoveredStatement f (call s p cs callee args) = (callee.kind ≡ Function) × FrameAt callee.number
+  IsCoveredStatement f (call s p cs callee args) = callee.kind ≡ Function → StatementsAt callee.number
   IsCoveredStatement f (new s p t ts) = ⊥
   IsCoveredStatement f (choice s t a b) = Unit {0}
   IsCoveredStatement f (loop s t b) = Unit {0}
@@ -205,12 +201,12 @@ module _ (W E : Type 0) (Outer : W → Contents → Behind → Type 0) (Passes :
   IsCoveredItem f (act_on t rest) = IsCoveredStatement f t
   IsCoveredItem f (finish place v rest) = (made (scope f) place).stands ≡ None
   IsCoveredItem f (again t body rest) = Unit {0}
-  IsCoveredItem f (leave answer target) = (scope f).in_registers ≡ false
-  IsCoveredItem f (begin n args) = FrameAt n
+  IsCoveredItem f (leave answer target) = Unit {0}
+  IsCoveredItem f (begin n args) = StatementsAt n
 
   -- of the function that runs, or of the one that is called first
   abbrev pub IsCovered : List Frame → Work → Type 0
-  IsCovered [] (begin n args) = FrameAt n
+  IsCovered [] (begin n args) = StatementsAt n
   IsCovered [] item = ⊥
   IsCovered (g ∷ frames) item = (f : CFunction) → slice_get z.p.unit.functions g.function ≡ Some f → IsCoveredItem f item
 

@@ -9,7 +9,7 @@
 //! | [`number_user`] | the frame in register 21 | 8 becomes the user frame's number, from 1, and 0 for the zero frame; 9 changes |
 //! | [`read_count`] | a user frame's number, from 1, in register 8 | 9 becomes its count, and 8 the count's address |
 //! | [`lower_count`], [`raise_count`] | a user frame's number, from 1, in register 8 | its count falls or rises by one; 8 and 9 change |
-//! | [`evict`] | a block that writes frames to sectors | the frame at the hand goes to the sector of each page whose entry names it, and these entries become invalid; registers 1 to 12 and 17 to 25 change |
+//! | [`evict`] | a block that writes frames to sectors | the frame at the hand goes to the sectors of its pages, whose entries become invalid; 1 to 12 and 17 to 25 change |
 //! | [`move_hand`] | the hand in register 17 | the hand moves on; 8 and 17 change |
 #![tactic(auto)]
 

@@ -48,8 +48,8 @@ pub fn restore_registers() -> Block<31>
     loads(0, VARIABLES / 4 - 1, 31)
 }
 
-// Register 31 becomes the address of the current user's control block.
-fn find_block() -> Block<5>
+/// Code by which register 31 becomes the address of the current user's control block. Register 1 changes, too.
+pub fn find_block() -> Block<5>
     ensures { result ≡ map encoding block_code }
 {
     let mut code = Block::<5>::new();

@@ -16,7 +16,7 @@
 mod blocks;
 mod laws;
 
-pub use blocks::{keep_user, restore_registers, resume_user, save_registers};
+pub use blocks::{find_block, keep_user, restore_registers, resume_user, save_registers};
 pub use laws::{
     a_user_is_kept, a_user_is_restored, a_user_is_saved, registers_are_restored,
     registers_are_saved,

@@ -2,4 +2,5 @@ mod Basics
 mod Deciding
 mod Faults
 mod Entering
-mod Leaving
+mod Answered
+mod Handled

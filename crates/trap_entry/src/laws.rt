@@ -4,9 +4,7 @@ ghost use Rattle.trap_entry.specs.Laws.{HandlesFaults, EntersKernel, EntersFirst
 
 use masm::laws::{a_condition_is_tested, jumps_lead, runs_compose};
 use page_model::laws::alikes_stand;
-use pcb_layer::{
-    a_user_is_kept, a_user_is_restored, registers_are_restored, registers_are_saved,
-};
+use pcb_layer::{a_user_is_kept, a_user_is_restored, registers_are_restored, registers_are_saved};
 
 /// A handled fault comes to the eret with the page resident and private, and with the registers as they were.
 pub fn a_fault_is_handled()

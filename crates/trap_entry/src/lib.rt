@@ -4,9 +4,13 @@
 //! the kernel.
 #![tactic(auto)]
 
+mod handler;
 mod laws;
+mod leaving;
 
+pub use handler::handle_interrupts;
 pub use laws::{
     a_fault_is_handled, an_exit_comes, the_kernel_is_entered, the_kernel_is_entered_first,
     the_kernel_is_left_badly, the_kernel_is_left_for_a_user, the_kernel_is_left_for_good,
 };
+pub use leaving::{exit, leave};

@@ -61,7 +61,6 @@ module _ (w : World) (f : Sound w) (runs : RunsCompose) where
       four : (g : ℕ → ℕ) (a b j : ℕ) → j ≢ ESR → j ≢ PTO → j ≢ PTL → j ≢ EMODE → put (put (put (put g PTO a) PTL b) ESR 1) EMODE 1 j ≡ g j
       four g a b j e1 e5 e6 e8 = put_other (put (put (put g PTO a) PTL b) ESR 1) EMODE 1 j e8 ∙ put_other (put (put g PTO a) PTL b) ESR 1 j e1 ∙ put_other (put g PTO a) PTL b j e6 ∙ put_other g PTO a j e5
 
-
   -- a state passed on
   on : (c0 c c1 : Contents) (d0 d d1 : Behind) → Passed c0 d0 c d → Passed c d c1 d1 → Passed c0 d0 c1 d1
   on c0 c c1 d0 d d1 a b = record { regs = λ r n8 n9. b.regs r n8 n9 ∙ a.regs r n8 n9; memory = b.memory ∙ a.memory; special = b.special ∙ a.special; hi = b.hi ∙ a.hi; lo = b.lo ∙ a.lo; behind = b.behind ∙ a.behind }

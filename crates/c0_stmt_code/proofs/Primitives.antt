@@ -1,0 +1,189 @@
+-- A call of a primitive: the arguments, the jump, the pass, and the answer that waits for its place.
+use Rattle.std.specs.Prelude.{map, slice_get, IsTrue, Option, Some, None, if◌then◌else◌}
+use Rattle.std.proofs.Common.{◌≡◌, ◌≢◌, inl, inr, ℕ, zero, suc, ◌+◌, ◌-◌, ◌*◌, ◌<◌, ◌≤◌, ◌⊎◌, Bool, true, false, List, [], ◌∷◌, ◌++◌, length, refl, sym, ap, ◌∙◌, subst, arith, length-append}
+use Rattle.mips_table.specs.declared.inst.Inst.{Inst}
+use Rattle.mips_table.specs.declared.inst.Inst.TheVariants.{Jal}
+use Rattle.mips_table.specs.Code.{Contents, with_reg, Behind, World, Configuration as Machine, at_with, RunLaws, CodeAt}
+use Rattle.masm.specs.Laws.{RunsCompose, JumpsLead, StraightRuns}
+use Rattle.c0_tree.specs.declared.primitive.Scalar.{Scalar}
+use Rattle.c0_tree.specs.declared.primitive.Scalar.TheVariants as scalar
+use Rattle.c0_tree.specs.declared.tree.Kind.TheVariants.{Primitive}
+use Rattle.c0_tree.specs.Primitives.{CPrimitive}
+use Rattle.c0_tree.specs.Size.{nodes, args_nodes}
+use Rattle.c0_tree.specs.Tree.{CExpr, CStmts, CFunction}
+use Rattle.c0_meaning.specs.Ty.{Ty}
+use Rattle.c0_meaning.specs.Env.{Shape, typed_of, scalar_ty}
+use Rattle.c0_meaning.specs.Sound.{shapes}
+use Rattle.c0_meaning.specs.Limits.{frame}
+use Rattle.c0_meaning.specs.Value.{Value, int, bool, null, at, group, Values, empty, part}
+use Rattle.c0_meaning.specs.State.{Frame, State, stack_words}
+use Rattle.c0_meaning.specs.Statement.{MAX_NEED, call_need}
+use Rattle.c0_meaning.specs.Numbered.{IsNumberedLeft, AreNumberedGiven}
+use Rattle.c0_meaning.specs.Evaluation.{values_of}
+use Rattle.c0_meaning.specs.World.{Cost, units, plus, Configuration, after_call, call_cost}
+use Rattle.c0_meaning.specs.Running.{Target, into, Work, finish, Step, Go, then_go, call_with}
+use Rattle.c0_meaning.specs.TypedState.{Layout, types_of, Fits, AllFit, layout_of, IsTypedWith, IsScalar, AreScalars}
+use Rattle.c0_expr_code.specs.Scope.{Scope}
+use Rattle.c0_expr_code.specs.Bases.{Bases, words_of_all, word, RegionHeld}
+use Rattle.c0_expr_code.specs.Relation.{layout}
+use Rattle.c0_stmt_code.specs.Code.{calls_in, args_code, answer_code}
+use Rattle.c0_stmt_code.specs.Setup.{Setup, ArePassed, scalar_word, Called, Back, IsKept}
+use Rattle.c0_stmt_code.specs.Ahead.{Activation, env_in, IsAnswered, Block, Awaits, Ahead}
+use Rattle.c0_stmt_code.specs.Standing.{text, scope, bases, end_of, unit_scope, word_of_value, AreIn, Waiting, Runs, UnderWay, Stands, StepIs}
+use Rattle.c0_stmt_code.proofs.Needs.{HeldStays, TypedStays, FunctionsAre, LengthsFit, AllScalar}
+use Rattle.c0_stmt_code.proofs.Ways.{Way, none, on, of, away, pass}
+use Rattle.c0_stmt_code.proofs.Blocks.{front, back}
+use Rattle.c0_stmt_code.proofs.Costs.{values_within}
+use Rattle.c0_stmt_code.proofs.State.{state_of, standing_at, Exprs}
+use Rattle.c0_stmt_code.proofs.Spots.{other_reg, same_reg, spot_longer}
+use Rattle.c0_stmt_code.proofs.Rooms.{variables_same, waiting_same, frame_words, frame_on, words_by_types}
+use Rattle.c0_stmt_code.proofs.Places.{its_exprs, its_ready}
+use Rattle.c0_stmt_code.proofs.Args.{Soft, InRegisters, args_run}
+use Rattle.c0_stmt_code.proofs.CallActs.{stands_soft, then_soft, calls_to}
+
+-- ints and bools fit whatever there is beside them
+scalar_alone : (structs others : List Shape) (lay other : Layout) (t : Scalar) (v : Value) → Fits structs lay (scalar_ty t) v → Fits others other (scalar_ty t) v
+scalar_alone structs others lay other scalar.Int (int z) h = h
+scalar_alone structs others lay other scalar.Bool (bool b) h = tt
+scalar_alone structs others lay other scalar.Int (bool b) h = absurd h
+scalar_alone structs others lay other scalar.Int null h = absurd h
+scalar_alone structs others lay other scalar.Int (at l) h = absurd h
+scalar_alone structs others lay other scalar.Int (group vs) h = absurd h
+scalar_alone structs others lay other scalar.Bool (int z) h = absurd h
+scalar_alone structs others lay other scalar.Bool null h = absurd h
+scalar_alone structs others lay other scalar.Bool (at l) h = absurd h
+scalar_alone structs others lay other scalar.Bool (group vs) h = absurd h
+
+scalars_alone : (structs : List Shape) (lay : Layout) (ts : List Scalar) (vs : Values) → AllFit structs lay (map scalar_ty ts) vs → AreScalars ts vs
+scalars_alone structs lay [] empty h = tt
+scalars_alone structs lay (t ∷ ts) (part v vs) h = (scalar_alone structs [] lay (record { globals = []; objects = [] }) t v h.0, scalars_alone structs lay ts vs h.1)
+scalars_alone structs lay [] (part v vs) h = absurd h
+scalars_alone structs lay (t ∷ ts) empty h = absurd h
+
+word_alone : (sc : Scope) (b : Bases) (structs : List Shape) (lay : Layout) (t : Scalar) (v : Value) → Fits structs lay (scalar_ty t) v → word sc b v ≡ scalar_word v
+word_alone sc b structs lay scalar.Int (int z) h = refl
+word_alone sc b structs lay scalar.Bool (bool x) h = refl
+word_alone sc b structs lay scalar.Int (bool x) h = absurd h
+word_alone sc b structs lay scalar.Int null h = absurd h
+word_alone sc b structs lay scalar.Int (at l) h = absurd h
+word_alone sc b structs lay scalar.Int (group vs) h = absurd h
+word_alone sc b structs lay scalar.Bool (int z) h = absurd h
+word_alone sc b structs lay scalar.Bool null h = absurd h
+word_alone sc b structs lay scalar.Bool (at l) h = absurd h
+word_alone sc b structs lay scalar.Bool (group vs) h = absurd h
+
+passed : (sc : Scope) (b : Bases) (structs : List Shape) (lay : Layout) (m m' : ℕ → ℕ) (r : ℕ) (ts : List Scalar) (vs : Values) → AllFit structs lay (map scalar_ty ts) vs → r + length ts ≤ 28 → ((x : ℕ) → x < 28 → m' x ≡ m x) → AreIn sc b m r vs → ArePassed m' r vs
+passed sc b structs lay m m' r [] empty f le e h = tt
+passed sc b structs lay m m' r (t ∷ ts) (part v vs) f le e h = (e r (omega (arith, le)) ∙ h.0 ∙ word_alone sc b structs lay t v f.0, passed sc b structs lay m m' (suc r) ts vs f.1 (omega (arith, le)) e h.1)
+passed sc b structs lay m m' r [] (part v vs) f le e h = absurd f
+passed sc b structs lay m m' r (t ∷ ts) empty f le e h = absurd f
+
+all_scalar : (ts : List Scalar) → AllScalar (map scalar_ty ts)
+all_scalar [] = tt
+all_scalar (scalar.Int ∷ ts) = (refl, all_scalar ts)
+all_scalar (scalar.Bool ∷ ts) = (refl, all_scalar ts)
+
+-- code that isn't empty begins with an instruction
+first_of : (w : World) (k : ℕ) (is : List Inst) → 1 ≤ length is → CodeAt w k is → (i : Inst) × (w.code k ≡ Some i)
+first_of w k [] le h = absurd (omega (arith, le))
+first_of w k (i ∷ is) le h = (i, h.0)
+
+module _ (runs : RunLaws) (compose : RunsCompose) (W E : Type 0) (Outer : W → Contents → Behind → Type 0) (Passes : Machine → Machine → Type 0) (z : Setup W E Outer Passes) (jumps : JumpsLead z.w) (straight : StraightRuns z.w)
+    (held : HeldStays (shapes z.p.unit)) (typing : TypedStays z.p.unit) (exprs : Exprs W E Outer Passes z)
+    (objects : List Ty) (gv hv : Value) (hw : ℕ) (g : Frame) (fs : List Frame) (world : W) (calls : List (List E)) (answer : Option Value) (c : Contents) (d : Behind) (a : Activation) (others : List Activation)
+    (st : Stands W E Outer Passes z objects (standing_at gv hv hw (g ∷ fs) world calls answer) c d) (r : Runs W E Outer Passes z objects c a g fs) (waits : Waiting W E Outer Passes z objects c.memory others fs)
+    (form : (scope W E Outer Passes z a.function).in_registers ≡ false) (its_calls : calls_in a.function.body ≡ true) (k debt : ℕ) where
+  abbrev sc : Scope
+  sc = scope W E Outer Passes z a.function
+
+  abbrev here : Configuration W E
+  here = standing_at gv hv hw (g ∷ fs) world calls answer
+
+  -- all stands where the primitive returns
+  after : (h' : Configuration W E) (c2 : Contents) (to : ℕ) (index : ℕ) (t : Machine) → h'.state ≡ here.state → c2.memory ≡ c.memory → c2.regs 28 ≡ c.regs 28 → c2.regs 29 ≡ c.regs 29 → c2.regs 30 ≡ c.regs 30 → Back z.p.unit z.a z.p.stack to (at_with index c2 d) t → Outer h'.world t.contents t.behind
+      → Stands W E Outer Passes z objects h' t.contents t.behind × UnderWay W E Outer Passes z objects t.contents (a ∷ others) (g ∷ fs)
+  after h' c2 to index t same memory r28 r29 r30 b outer =
+      let used = ap (λ m. m 1026) memory ∙ st.used_word in
+      let fo = frame_on z.p.unit g fs a.function r.is in
+      let ws = frame_words z.p.unit a.function in
+      let sr = st.stack_room in
+      let wt = words_by_types (shapes z.p.unit) (map typed_of z.p.unit.globals) in
+      let su = st.used in
+      let stack_same : (x : ℕ) → z.a.stack ≤ x → x < end_of W E Outer Passes z (g ∷ fs) → t.contents.memory x ≡ c.memory x = λ x le lt. b.kept x (inr (inr (le, omega (arith, lt, sr)))) ∙ ap (λ m. m x) memory in
+      (record {
+        typed = subst (λ y. IsTypedWith z.p.unit objects y) (sym same) st.typed;
+        declared = st.declared;
+        used = st.used ∙ sym (ap (λ y. y.heap_words) same);
+        room = subst (λ y. y.heap_words ≤ z.p.heap) (sym same) st.room;
+        stack_room = subst (λ y. stack_words z.p.unit y.frames ≤ z.p.stack) (sym same) st.stack_room;
+        globals = subst (λ y. RegionHeld (unit_scope z.p.unit) (bases W E Outer Passes z objects []) t.contents.memory z.a.globals (types_of (map typed_of z.p.unit.globals)) y.global_values) (sym same)
+            (held.same (unit_scope z.p.unit) (bases W E Outer Passes z objects []) c.memory t.contents.memory z.a.globals (types_of (map typed_of z.p.unit.globals)) gv refl (λ x le lt. b.kept x (inl (le, omega (arith, lt, wt))) ∙ ap (λ m. m x) memory) st.globals);
+        heap = subst (λ y. RegionHeld (unit_scope z.p.unit) (bases W E Outer Passes z objects []) t.contents.memory z.a.heap objects y.heap_values) (sym same)
+            (held.same (unit_scope z.p.unit) (bases W E Outer Passes z objects []) c.memory t.contents.memory z.a.heap objects hv refl (λ x le lt. b.kept x (inr (inl (le, omega (arith, lt, used, su)))) ∙ ap (λ m. m x) memory) st.heap);
+        used_word = b.variables 1026 (omega arith) (omega arith) ∙ used ∙ sym (ap (λ y. y.heap_words) same);
+        heap_size = b.variables 1027 (omega arith) (omega arith) ∙ ap (λ m. m 1027) memory ∙ st.heap_size;
+        heap_first = b.variables 1028 (omega arith) (omega arith) ∙ ap (λ m. m 1028) memory ∙ st.heap_first;
+        stack_first = b.variables 1029 (omega arith) (omega arith) ∙ ap (λ m. m 1029) memory ∙ st.stack_first;
+        stack_size = b.variables 1030 (omega arith) (omega arith) ∙ ap (λ m. m 1030) memory ∙ st.stack_size;
+        globals_at = b.globals_at ∙ r28 ∙ st.globals_at;
+        stack_end = b.stack_end ∙ r30 ∙ st.stack_end;
+        outer = outer;
+        idle = b.idle;
+      }, (record {
+        is = r.is;
+        return_at = ap (λ y. if y then t.contents.memory (end_of W E Outer Passes z fs) else t.contents.regs 31) its_calls ∙ stack_same (end_of W E Outer Passes z fs) (omega arith) (omega (arith, fo, ws)) ∙ sym (ap (λ y. if y then c.memory (end_of W E Outer Passes z fs) else c.regs 31) its_calls) ∙ r.return_at;
+        frame_at = b.frame_end ∙ r29 ∙ r.frame_at;
+        variables = variables_same W E Outer Passes z held objects c.regs t.contents.regs c.memory t.contents.memory a.function g fs true form r.is (λ x le lt. stack_same x (omega (arith, le)) lt) r.variables;
+      }, waiting_same W E Outer Passes z held objects c.memory t.contents.memory others fs (λ x le lt. stack_same x le (omega (arith, lt, fo))) waits))
+
+  pub calls_primitive : (n : ℕ) (row : CPrimitive) (args : List CExpr) (p : CExpr) (rest : CStmts) (work : List Work) → slice_get z.table n ≡ Some row → AreNumberedGiven (env_in (text W E Outer Passes z) a.function) args (map scalar_ty row.args) → length args ≤ 8
+      → IsNumberedLeft (env_in (text W E Outer Passes z) a.function) p (scalar_ty row.answer) → call_need p args ≤ MAX_NEED → nodes p + args_nodes args + 1 ≤ 2000 → 1 ≤ length (answer_code sc p)
+      → CodeAt z.w k (args_code sc args 0 ++ (Jal ((text W E Outer Passes z).links.primitive n) ∷ answer_code sc p))
+      → Block (text W E Outer Passes z) a.function (k + length (args_code sc args 0 ++ (Jal ((text W E Outer Passes z).links.primitive n) ∷ answer_code sc p))) debt rest (λ to left. Ahead (text W E Outer Passes z) (a ∷ others) to left work)
+      → StepIs W E Outer Passes z debt here (at_with k c d) (then_go (units 1) here (values_of args here.state) (λ cost vs. call_with z.p cost Primitive n vs (into p rest) work here))
+  calls_primitive n row args p rest work is given count left deep few some code block =
+      let ex = its_exprs runs compose W E Outer Passes z jumps straight held typing exprs objects gv hv hw g fs world calls answer c d a others st r waits in
+      let rd = its_ready runs compose W E Outer Passes z jumps straight held typing exprs objects gv hv hw g fs world calls answer c d a others st r waits in
+      let index : ℕ = (text W E Outer Passes z).links.primitive n in
+      let k1 : ℕ = k + length (args_code sc args 0) in
+      let fa = z.few_arguments n row is in
+      let jal_at = back z.w k (args_code sc args 0) (Jal ((text W E Outer Passes z).links.primitive n) ∷ answer_code sc p) code in
+      let run = args_run compose z.w sc (env_in (text W E Outer Passes z) a.function) (bases W E Outer Passes z objects (g ∷ fs)) (state_of gv hv hw (g ∷ fs)) d ex form st.idle args (map scalar_ty row.args) 0 k c rd given (all_scalar row.args) (omega (arith, deep)) (omega (arith, few)) (omega (arith, count))
+          (front z.w k (args_code sc args 0) (Jal ((text W E Outer Passes z).links.primitive n) ∷ answer_code sc p) code) in
+      let len : k + length (args_code sc args 0 ++ (Jal ((text W E Outer Passes z).links.primitive n) ∷ answer_code sc p)) ≡ k1 + 1 + length (answer_code sc p) = omega (arith, length-append (args_code sc args 0) (Jal ((text W E Outer Passes z).links.primitive n) ∷ answer_code sc p)) in
+      let first = first_of z.w (k1 + 1) (answer_code sc p) some jal_at.1 in
+      then_soft runs compose W E Outer Passes z jumps 0 0 0 debt 0 (args_nodes args) (units 1) here here (at_with k c d) a.function k k1 c d objects (InRegisters compose z.w sc (bases W E Outer Passes z objects (g ∷ fs)) 0 (map scalar_ty row.args) c) (values_of args here.state) (λ cost vs. call_with z.p cost Primitive n vs (into p rest) work here)
+      (none runs z.w Passes (at_with k c d)) (omega arith) (omega arith) st (values_within args here.state) run
+      (λ u vs c1 least most q path.
+        let c2 : Contents = with_reg c1 31 (4 * (k1 + 1)) in
+        let soft = q.soft in
+        let keep : (x : ℕ) → 28 ≤ x → x < 31 → (with_reg c1 31 (4 * (k1 + 1))).regs x ≡ c.regs x = λ x le lt. other_reg c1.regs 31 (4 * (k1 + 1)) x (λ e. absurd (omega (arith, e, lt))) ∙ soft.high x le in
+        let st2 = stands_soft runs compose W E Outer Passes z jumps objects here c (with_reg c1 31 (4 * (k1 + 1))) d soft.memory soft.special (keep 28 (omega arith) (omega arith)) (keep 30 (omega arith) (omega arith)) st in
+        let called : Called z.w (text W E Outer Passes z).links row n vs (k1 + 1) (at_with index (with_reg c1 31 (4 * (k1 + 1))) d) = record {
+          at = refl;
+          scalars = scalars_alone (shapes z.p.unit) (layout_of z.p.unit objects) row.args vs q.fits;
+          arguments = passed sc (bases W E Outer Passes z objects (g ∷ fs)) (shapes z.p.unit) (layout_of z.p.unit objects) c1.regs (with_reg c1 31 (4 * (k1 + 1))).regs 20 row.args vs q.fits (omega (arith, fa)) (λ x lt. other_reg c1.regs 31 (4 * (k1 + 1)) x (λ e. absurd (omega (arith, e, lt)))) q.are;
+          return_at = same_reg c1.regs 31 (4 * (k1 + 1)) (λ e. absurd (omega (arith, e)));
+          code = first.0;
+          there = first.1;
+          idle = st.idle;
+        } in
+        let prim = z.primitives n row vs world (k1 + 1) (at_with index (with_reg c1 31 (4 * (k1 + 1))) d) is called st2.outer in
+        let t : Machine = prim.0 in
+        let b = prim.2 in
+        let way1 = on runs z.w Passes 0 (0 + 16 * u) 0 1 1 0 (at_with k c d) (at_with k1 c1 d) (at_with index (with_reg c1 31 (4 * (k1 + 1))) d) path (away runs z.w Passes 1 (at_with k1 c1 d) (at_with index (with_reg c1 31 (4 * (k1 + 1))) d) (z.elsewhere n k1 jal_at.0) (calls_to runs compose W E Outer Passes z jumps k1 index c1 d st.idle jal_at.0)) in
+        let way = on runs z.w Passes (0 + 1) (0 + 16 * u + 1) (0 + 0) 0 0 1 (at_with k c d) (at_with index (with_reg c1 31 (4 * (k1 + 1))) d) prim.0 way1 (pass runs z.w Passes (at_with index (with_reg c1 31 (4 * (k1 + 1))) d) prim.0 prim.1) in
+        let all = after (after_call here (z.p.meaning n vs world)) (with_reg c1 31 (4 * (k1 + 1))) (k1 + 1) index prim.0 refl soft.memory (keep 28 (omega arith) (omega arith)) (keep 29 (omega arith) (omega arith)) (keep 30 (omega arith) (omega arith)) b prim.5 in
+        let le = way.high in
+        let ge = way.low in
+        (prim.0, debt, record { own = way.own; passes = 0 + 0 + 1; high = omega (arith, le); low = omega (arith, ge, most, few); ended_so = length-append calls ((z.p.meaning n vs world).entries ∷ []); run = way.run }, record {
+          objects = objects;
+          stands = all.0;
+          activations = a ∷ others;
+          under_way = all.1;
+          t = scalar_ty row.answer;
+          fits = scalar_alone [] (shapes z.p.unit) (record { globals = []; objects = [] }) (layout_of z.p.unit objects) row.answer (z.p.meaning n vs world).answer prim.3;
+          answer = prim.4 ∙ sym (word_alone (unit_scope z.p.unit) (bases W E Outer Passes z objects []) [] (record { globals = []; objects = [] }) row.answer (z.p.meaning n vs world).answer prim.3);
+          ahead = subst (λ y. Awaits (text W E Outer Passes z) (a ∷ others) y debt (scalar_ty row.answer) (into p rest) work (λ acts to left. Ahead (text W E Outer Passes z) acts to left work)) (sym b.at)
+              (record { left = left; shallow = omega (arith, deep); few = omega (arith, few) }, jal_at.1, subst (λ y. Block (text W E Outer Passes z) a.function y debt rest (λ to left. Ahead (text W E Outer Passes z) (a ∷ others) to left work)) len block);
+        }))
