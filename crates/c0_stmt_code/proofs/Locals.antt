@@ -37,6 +37,7 @@ use Rattle.c0_stmt_code.specs.Ahead.{Activation, env_in, Block, Ahead}
 use Rattle.c0_stmt_code.specs.Standing.{text, scope, bases, end_of, VariablesHeld, Waiting, Runs, UnderWay, Stands, StepIs}
 use Rattle.c0_stmt_code.proofs.Needs.{HeldStays, TypedStays, LengthsFit, AllScalar}
 use Rattle.c0_stmt_code.proofs.Ways.{none}
+use Rattle.c0_stmt_code.proofs.Rooms.{put_same, put_other}
 use Rattle.c0_stmt_code.proofs.Costs.{value_within}
 use Rattle.c0_stmt_code.proofs.Spots.{same_reg, other_reg, read_is}
 use Rattle.c0_stmt_code.proofs.State.{state_of, standing_at, Exprs}
@@ -100,3 +101,84 @@ scalars_before structs (u ∷ ts) (suc n) t s e = let r = scalars_before structs
     one_word (ty.pointer t) s = refl
     one_word (ty.named x) s = absurd (cc)
     one_word (ty.array t n) s = absurd (cc)
+
+module _ (runs : RunLaws) (compose : RunsCompose) (W E : Type 0) (Outer : W → Contents → Behind → Type 0) (Passes : Machine → Machine → Type 0) (z : Setup W E Outer Passes) (jumps : JumpsLead z.w) (straight : StraightRuns z.w)
+    (held : HeldStays (shapes z.p.unit)) (typing : TypedStays z.p.unit) (exprs : Exprs W E Outer Passes z) (fit : (f : CFunction) → LengthsFit (scope W E Outer Passes z f))
+    (objects : List Ty) (gv hv : Value) (hw : ℕ) (g : Frame) (fs : List Frame) (world : W) (calls : List (List E)) (answer : Option Value) (c : Contents) (d : Behind) (a : Activation) (others : List Activation)
+    (st : Stands W E Outer Passes z objects (standing_at gv hv hw (g ∷ fs) world calls answer) c d) (r : Runs W E Outer Passes z objects c a g fs) (waits : Waiting W E Outer Passes z objects c.memory others fs)
+    (k debt : ℕ) (rest : CStmts) (work : List Work) where
+  abbrev sc : Scope
+  sc = scope W E Outer Passes z a.function
+
+  abbrev here : Configuration W E
+  here = standing_at gv hv hw (g ∷ fs) world calls answer
+
+  abbrev its : Bases
+  its = bases W E Outer Passes z objects (g ∷ fs)
+
+  -- the variables with one more of them stored
+  stored_there : (n x : ℕ) (t : Ty) (w : Value) (c1 : Contents) → sc.in_registers ≡ true → x ≡ 20 + n → n < 8 → slice_get (types_of sc.env.locals) n ≡ Some t → IsTrue (is_scalar t) → words_before (shapes z.p.unit) (types_of sc.env.locals) n ≡ n → c1.regs x ≡ word sc its w
+      → ((y : ℕ) → 20 ≤ y → y ≢ x → c1.regs y ≡ c.regs y) → VariablesHeld W E Outer Passes z objects c1.regs c1.memory a.function (record { function = g.function; variables = value.put g.variables (n ∷ []) w } ∷ fs)
+  stored_there n x t w c1 form at lt there scalar before here_is others_are = by_form sc.in_registers form r.variables
+    where
+      by_form : (b : Bool) → b ≡ true → RegionHeld sc its (if b then c.regs else c.memory) (if b then 20 else (end_of W E Outer Passes z (g ∷ fs) - frame (shapes z.p.unit) a.function) + 3) (types_of sc.env.locals) g.variables
+          → RegionHeld sc its (if b then c1.regs else c1.memory) (if b then 20 else (end_of W E Outer Passes z (g ∷ fs) - frame (shapes z.p.unit) a.function) + 3) (types_of sc.env.locals) (value.put g.variables (n ∷ []) w)
+      by_form false q h = absurd (cc)
+      by_form true q h =
+          let place : 20 + words_to_part (shapes z.p.unit) (types_of sc.env.locals) (n ∷ []) ≡ x = omega (arith, before, at) in
+          let m : ℕ → ℕ = put c.regs x (word sc its w) in
+          let one = held.stored sc its c.regs (put c.regs x (word sc its w)) 20 (types_of sc.env.locals) (n ∷ []) t g.variables w refl (t, there, refl) scalar h
+              (ap (put c.regs x (word sc its w)) place ∙ same_at x) (λ y ne. other_at x y (λ e. ne (e ∙ sym place))) in
+          held.same sc its (put c.regs x (word sc its w)) c1.regs 20 (types_of sc.env.locals) (value.put g.variables (n ∷ []) w) refl
+          (λ y le l. elim (cases_eq y x) [
+            | inl e ↦ ap c1.regs e ∙ here_is ∙ sym (ap (put c.regs x (word sc its w)) e ∙ same_at x)
+            | inr ne ↦ others_are y le ne ∙ sym (other_at x y ne)
+          ]) one
+        where
+          same_at : (x : ℕ) → put c.regs x (word sc its w) x ≡ word sc its w
+          same_at x = put_same c.regs x (word sc its w)
+
+          other_at : (x y : ℕ) → y ≢ x → put c.regs x (word sc its w) y ≡ c.regs y
+          other_at x y ne = put_other c.regs x (word sc its w) y ne
+
+  pub assigns_light : (p v : CExpr) (t : Ty) (x : ℕ) → IsVariable (env_in (text W E Outer Passes z) a.function) sc p x t → IsNumberedLeft (env_in (text W E Outer Passes z) a.function) p t → IsNumberedGiven (env_in (text W E Outer Passes z) a.function) v t → assign_need p v ≤ MAX_NEED
+      → nodes p + nodes v + 1 ≤ 2000 → (made sc p).stands ≡ Some x → CodeAt z.w k (assign_code sc p v) → Block (text W E Outer Passes z) a.function (k + length (assign_code sc p v)) debt rest (λ to left. Ahead (text W E Outer Passes z) (a ∷ others) to left work)
+      → StepIs W E Outer Passes z debt here (at_with k c d) (then_go (units 1) here (value_of v here.state) (λ cost w. store cost p w rest work here))
+  assigns_light p v t x y left given deep few stands code block =
+      let n : ℕ = y.name.number in
+      let all = each_scalar (variable_types a.function) (and_parts (nat_le (length (variable_types a.function)) 8) (list_all is_scalar (variable_types a.function)) (and_parts (is_leaf a.function.body) (nat_le (length (variable_types a.function)) 8 && list_all is_scalar (variable_types a.function)) y.form).1).1 in
+      let count = leb-true (length (variable_types a.function)) 8 (and_parts (nat_le (length (variable_types a.function)) 8) (list_all is_scalar (variable_types a.function)) (and_parts (is_leaf a.function.body) (nat_le (length (variable_types a.function)) 8 && list_all is_scalar (variable_types a.function)) y.form).1).0 in
+      let before = scalars_before (shapes z.p.unit) (variable_types a.function) y.name.number t all y.there in
+      let b0 = before.0 in
+      let b1 = before.1 in
+      let reg_is = y.register in
+      let at : x ≡ 20 + y.name.number = omega (arith, b1, count, reg_is) in
+      let ex = its_exprs runs compose W E Outer Passes z jumps straight held typing exprs objects gv hv hw g fs world calls answer c d a others st r waits in
+      let rd = its_ready runs compose W E Outer Passes z jumps straight held typing exprs objects gv hv hw g fs world calls answer c d a others st r waits in
+      let same : assign_code sc p v ≡ value_code sc v x 8 = ap (λ o. assigned_code o (made sc p) (made sc v)) stands in
+      let some = (fit a.function).value_some v x 8 in
+      let run = ex.value v t given left.scalar (omega (arith, few)) x 8 k c d st.idle rd (subst (CodeAt z.w k) same code) (omega arith) (omega (arith, deep)) (λ q. absurd (omega (arith, q, at))) (λ q. absurd (omega (arith, q, at))) in
+      let k1 : ℕ = k + length (value_code sc v x 8) in
+      let len : k + length (assign_code sc p v) ≡ k1 = ap (λ is. k + length is) same in
+      then_splits runs compose W E Outer Passes z jumps 0 0 0 0 debt 1 (nodes v) (units 1) here here (at_with k c d) a.function k (λ w. k1) c d objects (Gives sc its x 8 x t c) (value_of v here.state) (λ cost w. store cost p w rest work here)
+      (λ w q. absurd (omega (arith, q, some))) (none runs z.w Passes (at_with k c d)) (omega arith) (omega arith) st (value_within v here.state) (comes_splits z.w sc 0 k k1 c d (Gives sc its x 8 x t c) (value_of v here.state) run)
+      (λ u w c1 least most gives path.
+        let keeps = gives.keeps in
+        let high : (q : ℕ) → 28 ≤ q → c1.regs q ≡ c.regs q = λ q le. keeps.above q (λ e. absurd (omega (arith, e, le, at, b1, count))) (omega (arith, le)) in
+        let s1 = stands_soft runs compose W E Outer Passes z jumps objects here c c1 d keeps.memory keeps.special (high 28 (omega arith)) (high 30 (omega arith)) st in
+        let st2 : Stands W E Outer Passes z objects (with_state here (write here.state (record { region = locals; path = y.name.number ∷ [] }) w)) c1 d = record {
+          typed = typing.written objects (state_of gv hv hw (g ∷ fs)) g fs a.function (record { region = locals; path = y.name.number ∷ [] }) t w refl r.is st.typed (t, y.there, refl) gives.fits;
+          declared = st.declared; used = st.used; room = st.room; stack_room = st.stack_room;
+          globals = s1.globals; heap = s1.heap; used_word = s1.used_word; heap_size = s1.heap_size; heap_first = s1.heap_first; stack_first = s1.stack_first; stack_size = s1.stack_size;
+          globals_at = s1.globals_at; stack_end = s1.stack_end; outer = s1.outer; idle = st.idle;
+        } in
+        let under : UnderWay W E Outer Passes z objects c1 (a ∷ others) (write here.state (record { region = locals; path = y.name.number ∷ [] }) w).frames = (record {
+          is = r.is;
+          return_at = ap₂ (λ m q. if calls_in a.function.body then m else q) (ap (λ m. m (end_of W E Outer Passes z fs)) keeps.memory) (high 31 (omega arith)) ∙ r.return_at;
+          frame_at = high 29 (omega arith) ∙ r.frame_at;
+          variables = stored_there y.name.number x t w c1 y.form at (omega (arith, b1, count)) y.there left.scalar b0 (sym (read_is c1.regs x (λ q. absurd (omega (arith, q, at)))) ∙ gives.is) (λ q le ne. keeps.above q ne le);
+        }, subst (λ m. Waiting W E Outer Passes z objects m others fs) (sym keeps.memory) waits) in
+        let go = arrives runs compose W E Outer Passes z jumps (0 + 1) (0 + (0 + 16 * u)) 0 debt debt (plus (plus (units 1) (units u)) (units 1)) here (with_state here (write here.state (record { region = locals; path = y.name.number ∷ [] }) w)) (at_with k c d) k1 c1 d objects a others rest work path
+            (omega (arith, most, few)) (omega arith) (omega arith) st2 under (subst (λ q. Block (text W E Outer Passes z) a.function q debt rest (λ to left. Ahead (text W E Outer Passes z) (a ∷ others) to left work)) len block) in
+        subst (λ e. StepIs W E Outer Passes z debt here (at_with k c d) (store (plus (units 1) (units u)) e w rest work here)) (sym y.is)
+        (subst (λ kd. StepIs W E Outer Passes z debt here (at_with k c d) (then_go (plus (units 1) (units u)) here (paying 1 (at_no_cost (variable_location kd y.name.number))) (λ cost l. Go cost (push rest work) (with_state here (write here.state l w))))) (sym y.kind) go))
