@@ -38,6 +38,7 @@ use Rattle.c0_stmt_code.proofs.Blocks.{skipped}
 use Rattle.c0_stmt_code.proofs.Lengths.{stmts_length}
 use Rattle.c0_stmt_code.proofs.State.{state_of, standing_at, Exprs}
 use Rattle.c0_stmt_code.proofs.Statements.{assigns, chooses, turns}
+use Rattle.c0_stmt_code.proofs.Locals.{variable_is, assigns_light}
 use Rattle.c0_stmt_code.proofs.Calls.{enters, enters_light}
 use Rattle.c0_stmt_code.proofs.CallActs.{signature_from, calls_function}
 use Rattle.c0_stmt_code.proofs.Primitives.{calls_primitive}
@@ -122,8 +123,13 @@ module _ (runs : RunLaws) (compose : RunsCompose) (W E : Type 0) (Outer : W → 
     states (assign s p v) rest work covered stands block = by_rule stands.typed
       where
         by_rule : IsNumbered (env_in (text W E Outer Passes z) a.function) (assign s p v) → StepIs W E Outer Passes z debt here (at_with k c d) (act_statement z.p (assign s p v) rest work here)
-        by_rule (an_assignment {t = t} left given deep) = let few = stands.few in
-            assigns runs compose W E Outer Passes z jumps straight held typing exprs fit objects gv hv hw g fs world calls answer c d a others st r waits k debt rest work p v t left given deep (omega (arith, few)) covered stands.code block
+        by_rule (an_assignment {t = t} left given deep) = by_stands (made sc p).stands refl
+          where
+            by_stands : (o : Option ℕ) → (made sc p).stands ≡ o → StepIs W E Outer Passes z debt here (at_with k c d) (act_statement z.p (assign s p v) rest work here)
+            by_stands None e = let few = stands.few in
+                assigns runs compose W E Outer Passes z jumps straight held typing exprs fit objects gv hv hw g fs world calls answer c d a others st r waits k debt rest work p v t left given deep (omega (arith, few)) e stands.code block
+            by_stands (Some x) e = let few = stands.few in
+                assigns_light runs compose W E Outer Passes z jumps straight held typing exprs fit objects gv hv hw g fs world calls answer c d a others st r waits k debt rest work p v t x (variable_is (env_in (text W E Outer Passes z) a.function) sc x p t left.typed left.place e) left given deep (omega (arith, few)) e stands.code block
     states (choice s t x y) rest work covered stands block = by_rule stands.typed
       where
         by_rule : IsNumbered (env_in (text W E Outer Passes z) a.function) (choice s t x y) → StepIs W E Outer Passes z debt here (at_with k c d) (act_statement z.p (choice s t x y) rest work here)

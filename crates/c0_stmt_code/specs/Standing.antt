@@ -187,10 +187,10 @@ module _ (W E : Type 0) (Outer : W → Contents → Behind → Type 0) (Passes :
   abbrev pub StatementsAt : ℕ → Type 0
   StatementsAt n = (f : CFunction) → slice_get z.p.unit.functions n ≡ Some f → is_asm f.body ≡ false
 
-  -- A statement of a function whose step is proved: an assignment to a place in memory, an `if`, a loop, a call of a primitive, or one of a function
-  -- that has statements.
+  -- A statement of a function whose step is proved: an assignment, an `if`, a loop, a call of a primitive, or one of a function that has
+  -- statements.
   abbrev pub IsCoveredStatement : CFunction → CStmt → Type 0
-  IsCoveredStatement f (assign s p v) = (made (scope f) p).stands ≡ None
+  IsCoveredStatement f (assign s p v) = Unit {0}
   IsCoveredStatement f (call s p cs callee args) = callee.kind ≡ Function → StatementsAt callee.number
   IsCoveredStatement f (new s p t ts) = ⊥
   IsCoveredStatement f (choice s t a b) = Unit {0}
