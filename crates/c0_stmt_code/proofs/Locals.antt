@@ -1,13 +1,13 @@
 -- An assignment to a variable that stands in a register.
-use Rattle.std.specs.Prelude.{map, slice_get, IsTrue, Some, None, Option, if◌then◌else◌, nat_le, ◌&&◌}
+use Rattle.std.specs.Prelude.{slice_get, IsTrue, Some, Option, if◌then◌else◌, nat_le, ◌&&◌}
 use Rattle.std.specs.List.{list_all}
 use Rattle.std.proofs.lemmas.Bool.{and_parts, leb-true, cases_eq}
-use Rattle.std.proofs.Common.{◌≡◌, ◌≢◌, inl, inr, ℕ, zero, suc, ◌+◌, ◌-◌, ◌*◌, ◌%◌, ◌^◌, ◌<◌, ◌≤◌, Bool, true, false, List, [], ◌∷◌, ◌++◌, length, refl, sym, ap, ap₂, ◌∙◌, subst, arith}
-use Rattle.mips_table.specs.Code.{Contents, put, put_reg, reg, Behind, Configuration as Machine, at_with, RunLaws, CodeAt}
+use Rattle.std.proofs.Common.{◌≡◌, ◌≢◌, inl, inr, ℕ, zero, suc, ◌+◌, ◌-◌, ◌*◌, ◌<◌, ◌≤◌, Bool, true, false, List, [], ◌∷◌, length, refl, sym, ap, ap₂, ◌∙◌, subst, arith}
+use Rattle.mips_table.specs.Code.{Contents, put, Behind, Configuration as Machine, at_with, RunLaws, CodeAt}
 use Rattle.masm.specs.Laws.{RunsCompose, JumpsLead, StraightRuns}
 use Rattle.c0_tree.specs.declared.tree.Kind.{Kind}
 use Rattle.c0_tree.specs.declared.tree.Kind.TheVariants.{Unresolved, Struct, Field, Global, Local, Function, Primitive}
-use Rattle.c0_tree.specs.Size.{need, nodes}
+use Rattle.c0_tree.specs.Size.{nodes}
 use Rattle.c0_tree.specs.Tree.{CName, CExpr, num, true_, false_, null, var, field, arrow, index, deref, address, unary, binary, CStmts, CFunction}
 use Rattle.c0_meaning.specs.Ty.{Ty, is_scalar}
 use Rattle.c0_meaning.specs.Ty as ty
@@ -20,16 +20,16 @@ use Rattle.c0_meaning.specs.Limits.{frame}
 use Rattle.c0_meaning.specs.Expression.{is_place}
 use Rattle.c0_meaning.specs.Value.{locals, Location, Value}
 use Rattle.c0_meaning.specs.Value as value
-use Rattle.c0_meaning.specs.State.{Frame, State, write}
+use Rattle.c0_meaning.specs.State.{Frame, write}
 use Rattle.c0_meaning.specs.Statement.{MAX_NEED, assign_need}
 use Rattle.c0_meaning.specs.Numbered.{variable_at, HasNumberedType, a_variable, IsNumberedLeft, IsNumberedGiven}
 use Rattle.c0_meaning.specs.Evaluation.{at_no_cost, paying, variable_location, value_of}
-use Rattle.c0_meaning.specs.World.{Cost, units, plus, Configuration, with_state}
-use Rattle.c0_meaning.specs.Running.{Work, push, Step, Go, then_go, store}
-use Rattle.c0_meaning.specs.TypedState.{types_of, variable_types, Fits, layout_of}
+use Rattle.c0_meaning.specs.World.{units, plus, Configuration, with_state}
+use Rattle.c0_meaning.specs.Running.{Work, push, Go, then_go, store}
+use Rattle.c0_meaning.specs.TypedState.{types_of, variable_types}
 use Rattle.c0_expr_code.specs.Scope.{Scope, is_leaf}
 use Rattle.c0_expr_code.specs.Code.{register_of, variable_made, register_made, at_place, local_spot, made, value_code}
-use Rattle.c0_expr_code.specs.Bases.{Bases, word, words_of_all, RegionHeld}
+use Rattle.c0_expr_code.specs.Bases.{Bases, word, RegionHeld}
 use Rattle.c0_expr_code.specs.Relation.{Gives}
 use Rattle.c0_stmt_code.specs.Code.{calls_in, assign_code, assigned_code}
 use Rattle.c0_stmt_code.specs.Setup.{Setup}
@@ -39,13 +39,13 @@ use Rattle.c0_stmt_code.proofs.Needs.{HeldStays, TypedStays, LengthsFit, AllScal
 use Rattle.c0_stmt_code.proofs.Ways.{none}
 use Rattle.c0_stmt_code.proofs.Rooms.{put_same, put_other}
 use Rattle.c0_stmt_code.proofs.Costs.{value_within}
-use Rattle.c0_stmt_code.proofs.Spots.{same_reg, other_reg, read_is}
+use Rattle.c0_stmt_code.proofs.Spots.{read_is}
 use Rattle.c0_stmt_code.proofs.State.{state_of, standing_at, Exprs}
 use Rattle.c0_stmt_code.proofs.Places.{its_exprs, its_ready}
 use Rattle.c0_stmt_code.proofs.Lights.{each_scalar}
 use Rattle.c0_stmt_code.proofs.CallActs.{stands_soft}
 use Rattle.c0_stmt_code.proofs.Returns.{comes_splits}
-use Rattle.c0_stmt_code.proofs.Sim.{Path, arrives, then_splits}
+use Rattle.c0_stmt_code.proofs.Sim.{arrives, then_splits}
 
 -- a place that stands in a register is a local of a function that keeps its variables there
 pub record IsVariable (env : Env) (sc : Scope) (p : CExpr) (x : ℕ) (t : Ty) : Type 0 where
@@ -128,7 +128,7 @@ module _ (runs : RunLaws) (compose : RunsCompose) (W E : Type 0) (Outer : W → 
           let place : 20 + words_to_part (shapes z.p.unit) (types_of sc.env.locals) (n ∷ []) ≡ x = omega (arith, before, at) in
           let m : ℕ → ℕ = put c.regs x (word sc its w) in
           let one = held.stored sc its c.regs (put c.regs x (word sc its w)) 20 (types_of sc.env.locals) (n ∷ []) t g.variables w refl (t, there, refl) scalar h
-              (ap (put c.regs x (word sc its w)) place ∙ same_at x) (λ y ne. other_at x y (λ e. ne (e ∙ sym place))) in
+          (ap (put c.regs x (word sc its w)) place ∙ same_at x) (λ y ne. other_at x y (λ e. ne (e ∙ sym place))) in
           held.same sc its (put c.regs x (word sc its w)) c1.regs 20 (types_of sc.env.locals) (value.put g.variables (n ∷ []) w) refl
           (λ y le l. elim (cases_eq y x) [
             | inl e ↦ ap c1.regs e ∙ here_is ∙ sym (ap (put c.regs x (word sc its w)) e ∙ same_at x)
@@ -163,22 +163,37 @@ module _ (runs : RunLaws) (compose : RunsCompose) (W E : Type 0) (Outer : W → 
       then_splits runs compose W E Outer Passes z jumps 0 0 0 0 debt 1 (nodes v) (units 1) here here (at_with k c d) a.function k (λ w. k1) c d objects (Gives sc its x 8 x t c) (value_of v here.state) (λ cost w. store cost p w rest work here)
       (λ w q. absurd (omega (arith, q, some))) (none runs z.w Passes (at_with k c d)) (omega arith) (omega arith) st (value_within v here.state) (comes_splits z.w sc 0 k k1 c d (Gives sc its x 8 x t c) (value_of v here.state) run)
       (λ u w c1 least most gives path.
-        let keeps = gives.keeps in
-        let high : (q : ℕ) → 28 ≤ q → c1.regs q ≡ c.regs q = λ q le. keeps.above q (λ e. absurd (omega (arith, e, le, at, b1, count))) (omega (arith, le)) in
-        let s1 = stands_soft runs compose W E Outer Passes z jumps objects here c c1 d keeps.memory keeps.special (high 28 (omega arith)) (high 30 (omega arith)) st in
-        let st2 : Stands W E Outer Passes z objects (with_state here (write here.state (record { region = locals; path = y.name.number ∷ [] }) w)) c1 d = record {
-          typed = typing.written objects (state_of gv hv hw (g ∷ fs)) g fs a.function (record { region = locals; path = y.name.number ∷ [] }) t w refl r.is st.typed (t, y.there, refl) gives.fits;
-          declared = st.declared; used = st.used; room = st.room; stack_room = st.stack_room;
-          globals = s1.globals; heap = s1.heap; used_word = s1.used_word; heap_size = s1.heap_size; heap_first = s1.heap_first; stack_first = s1.stack_first; stack_size = s1.stack_size;
-          globals_at = s1.globals_at; stack_end = s1.stack_end; outer = s1.outer; idle = st.idle;
-        } in
-        let under : UnderWay W E Outer Passes z objects c1 (a ∷ others) (write here.state (record { region = locals; path = y.name.number ∷ [] }) w).frames = (record {
+      let keeps = gives.keeps in
+      let high : (q : ℕ) → 28 ≤ q → c1.regs q ≡ c.regs q = λ q le. keeps.above q (λ e. absurd (omega (arith, e, le, at, b1, count))) (omega (arith, le)) in
+      let s1 = stands_soft runs compose W E Outer Passes z jumps objects here c c1 d keeps.memory keeps.special (high 28 (omega arith)) (high 30 (omega arith)) st in
+      let st2 : Stands W E Outer Passes z objects (with_state here (write here.state (record { region = locals; path = y.name.number ∷ [] }) w)) c1 d = record {
+        typed = typing.written objects (state_of gv hv hw (g ∷ fs)) g fs a.function (record { region = locals; path = y.name.number ∷ [] }) t w refl r.is st.typed (t, y.there, refl) gives.fits;
+        declared = st.declared;
+        used = st.used;
+        room = st.room;
+        stack_room = st.stack_room;
+        globals = s1.globals;
+        heap = s1.heap;
+        used_word = s1.used_word;
+        heap_size = s1.heap_size;
+        heap_first = s1.heap_first;
+        stack_first = s1.stack_first;
+        stack_size = s1.stack_size;
+        globals_at = s1.globals_at;
+        stack_end = s1.stack_end;
+        outer = s1.outer;
+        idle = st.idle;
+      } in
+      let under : UnderWay W E Outer Passes z objects c1 (a ∷ others) (write here.state (record { region = locals; path = y.name.number ∷ [] }) w).frames = (
+        record {
           is = r.is;
           return_at = ap₂ (λ m q. if calls_in a.function.body then m else q) (ap (λ m. m (end_of W E Outer Passes z fs)) keeps.memory) (high 31 (omega arith)) ∙ r.return_at;
           frame_at = high 29 (omega arith) ∙ r.frame_at;
           variables = stored_there y.name.number x t w c1 y.form at (omega (arith, b1, count)) y.there left.scalar b0 (sym (read_is c1.regs x (λ q. absurd (omega (arith, q, at)))) ∙ gives.is) (λ q le ne. keeps.above q ne le);
-        }, subst (λ m. Waiting W E Outer Passes z objects m others fs) (sym keeps.memory) waits) in
-        let go = arrives runs compose W E Outer Passes z jumps (0 + 1) (0 + (0 + 16 * u)) 0 debt debt (plus (plus (units 1) (units u)) (units 1)) here (with_state here (write here.state (record { region = locals; path = y.name.number ∷ [] }) w)) (at_with k c d) k1 c1 d objects a others rest work path
-            (omega (arith, most, few)) (omega arith) (omega arith) st2 under (subst (λ q. Block (text W E Outer Passes z) a.function q debt rest (λ to left. Ahead (text W E Outer Passes z) (a ∷ others) to left work)) len block) in
-        subst (λ e. StepIs W E Outer Passes z debt here (at_with k c d) (store (plus (units 1) (units u)) e w rest work here)) (sym y.is)
-        (subst (λ kd. StepIs W E Outer Passes z debt here (at_with k c d) (then_go (plus (units 1) (units u)) here (paying 1 (at_no_cost (variable_location kd y.name.number))) (λ cost l. Go cost (push rest work) (with_state here (write here.state l w))))) (sym y.kind) go))
+        },
+        subst (λ m. Waiting W E Outer Passes z objects m others fs) (sym keeps.memory) waits,
+      ) in
+      let go = arrives runs compose W E Outer Passes z jumps (0 + 1) (0 + (0 + 16 * u)) 0 debt debt (plus (plus (units 1) (units u)) (units 1)) here (with_state here (write here.state (record { region = locals; path = y.name.number ∷ [] }) w)) (at_with k c d) k1 c1 d objects a others rest work path
+      (omega (arith, most, few)) (omega arith) (omega arith) st2 under (subst (λ q. Block (text W E Outer Passes z) a.function q debt rest (λ to left. Ahead (text W E Outer Passes z) (a ∷ others) to left work)) len block) in
+      subst (λ e. StepIs W E Outer Passes z debt here (at_with k c d) (store (plus (units 1) (units u)) e w rest work here)) (sym y.is)
+      (subst (λ kd. StepIs W E Outer Passes z debt here (at_with k c d) (then_go (plus (units 1) (units u)) here (paying 1 (at_no_cost (variable_location kd y.name.number))) (λ cost l. Go cost (push rest work) (with_state here (write here.state l w))))) (sym y.kind) go))

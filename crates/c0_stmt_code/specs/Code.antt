@@ -6,7 +6,7 @@ use Rattle.masm.specs.declared.registers.Places.{Places}
 use Rattle.masm.specs.declared.registers.TheConstants.{SCRATCH, ANSWER, EXPRESSIONS, FRAME_END, STACK_END, RETURN}
 use Rattle.c0_tree.specs.declared.tree.Kind.{Kind}
 use Rattle.c0_tree.specs.declared.tree.Kind.TheVariants.{Function, Primitive}
-use Rattle.c0_tree.specs.Tree.{CName, CTy, CExpr, CStmt, assign, call, new, choice, loop, CStmts, done, next, CBody, code, asm, CDecl, CFunction}
+use Rattle.c0_tree.specs.Tree.{CExpr, CStmt, assign, call, new, choice, loop, CStmts, done, next, CBody, code, asm, CDecl, CFunction}
 use Rattle.c0_meaning.specs.Ty.{ty_of}
 use Rattle.c0_meaning.specs.Env.{typed_of}
 use Rattle.c0_meaning.specs.Words.{words, all_words}

@@ -1,5 +1,5 @@
 -- What is fixed while a unit's code runs over a machine with primitives.
-use Rattle.std.specs.Prelude.{◌≡◌, ◌≢◌, ℕ, suc, ◌+◌, ◌*◌, ◌/◌, ◌<◌, ◌≤◌, ◌⊎◌, List, length, map, Some, None, slice_get}
+use Rattle.std.specs.Prelude.{◌≡◌, ◌≢◌, ℕ, suc, ◌+◌, ◌*◌, ◌<◌, ◌≤◌, ◌⊎◌, List, length, map, Some, None, slice_get}
 use Rattle.mips_table.specs.declared.inst.Inst.{Inst}
 use Rattle.mips_table.specs.declared.inst.Inst.TheVariants.{Jal}
 use Rattle.mips_table.specs.Arith.{flag}
@@ -8,7 +8,7 @@ use Rattle.mips_table.specs.Code.{Contents, Behind, World, Sound, Configuration,
 use Rattle.masm.specs.declared.registers.Places.{Places}
 use Rattle.cvm_words.specs.Words.{word_of}
 use Rattle.c0_tree.specs.Primitives.{CPrimitive}
-use Rattle.c0_tree.specs.Tree.{CDecl, CExpr, CStmts, CBody, code, CFunction, CUnit}
+use Rattle.c0_tree.specs.Tree.{CDecl, CExpr, CStmts, code, CFunction, CUnit}
 use Rattle.c0_meaning.specs.Ty.{Ty}
 use Rattle.c0_meaning.specs.Env.{typed_of}
 use Rattle.c0_meaning.specs.Words.{all_words}

@@ -1,18 +1,17 @@
 -- How a configuration of C0 with what is left to do stands in the machine.
-use Rattle.std.specs.Prelude.{◌≡◌, ℕ, zero, suc, ◌+◌, ◌*◌, ◌<◌, ◌≤◌, Bool, true, false, if◌then◌else◌, List, [], ◌∷◌, ◌++◌, length, map, Some, None, slice_get}
+use Rattle.std.specs.Prelude.{◌≡◌, ℕ, suc, ◌+◌, ◌*◌, ◌≤◌, true, false, if◌then◌else◌, List, [], ◌∷◌, map, Some, None, slice_get}
 use Rattle.mips_table.specs.Device.{Idle}
-use Rattle.mips_table.specs.Code.{Contents, Behind, Configuration as Machine, CodeAt}
+use Rattle.mips_table.specs.Code.{Contents, Behind, Configuration as Machine}
 use Rattle.c0_tree.specs.declared.tree.Kind.TheVariants.{Function}
-use Rattle.c0_tree.specs.Tree.{CTy, CExpr, CStmt, assign, call, new, choice, loop, CStmts, CFunction, CUnit}
+use Rattle.c0_tree.specs.Tree.{CTy, CStmt, assign, call, new, choice, loop, CFunction, CUnit}
 use Rattle.c0_meaning.specs.Limits.{is_asm}
 use Rattle.c0_expr_code.specs.Code.{made}
 use Rattle.c0_meaning.specs.Ty.{Ty, ty_of}
 use Rattle.c0_meaning.specs.Env.{Shape, typed_of, env_of}
 use Rattle.c0_meaning.specs.Typed.{IsDeclarable}
-use Rattle.c0_meaning.specs.Words.{words}
 use Rattle.c0_meaning.specs.Sound.{shapes}
 use Rattle.c0_meaning.specs.Value.{Value, Values, empty, part}
-use Rattle.c0_meaning.specs.State.{Frame, State, variables_of, stack_words}
+use Rattle.c0_meaning.specs.State.{Frame, variables_of, stack_words}
 use Rattle.c0_meaning.specs.World.{Cost, Configuration}
 use Rattle.c0_meaning.specs.Operators.{KernelFault, faulted, stuck}
 use Rattle.c0_meaning.specs.Running.{Target, into, outward, Work, act_on, finish, again, leave, begin, Step, Go, Stop, act}
@@ -21,9 +20,9 @@ use Rattle.c0_meaning.specs.TypedState.{types_of, Fits, AllFit, layout_of, IsTyp
 use Rattle.c0_expr_code.specs.Scope.{Scope, scope_of, exit_of}
 use Rattle.c0_expr_code.specs.Bases.{Bases, words_of_all, locals_start, word, RegionHeld}
 use Rattle.c0_stmt_code.specs.Code.{links_of, calls_in}
-use Rattle.c0_stmt_code.specs.Setup.{Data, Setup}
+use Rattle.c0_stmt_code.specs.Setup.{Setup}
 use Rattle.c0_stmt_code.specs.Journey.{Led, Stopped}
-use Rattle.c0_stmt_code.specs.Ahead.{Activation, Text, IsAnswered, Block, Awaits, Ahead}
+use Rattle.c0_stmt_code.specs.Ahead.{Activation, Text, Awaits, Ahead}
 
 -- what holds for a unit in every function: values of globals and of the heap point to nothing else
 abbrev pub unit_scope : CUnit → Scope
