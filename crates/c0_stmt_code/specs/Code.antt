@@ -226,7 +226,3 @@ links_of p = record {
   primitive = λ n. slice_index p.primitives.items n / 4;
   new_object = p.new_object / 4;
 }
-
--- temporary
-abbrev pub CodeIs : Type 0
-CodeIs = (sc : Scope) (x : Links) → stmts_code sc x done ≡ []

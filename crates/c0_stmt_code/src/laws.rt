@@ -1,5 +1,6 @@
 //! The laws of the code of statements: each function says one, and does nothing.
 
+ghost use Rattle.c0_stmt_code.specs.Rows.{AreCodes};
 ghost use Rattle.c0_stmt_code.specs.Standing.{RunsAre, StepsRun};
 ghost use Rattle.mips_table.specs.Code.{Contents, Behind, Configuration};
 
@@ -47,3 +48,8 @@ pub fn runs_follow_steps<M: Outside>()
 {
     code_runs_join();
 }
+
+/// The code of two small functions, instruction by instruction.
+pub fn worked_rows()
+    ensures { AreCodes }
+{}
