@@ -6,7 +6,7 @@ use Rattle.c0_tree.specs.declared.tree.Span.{Span}
 use Rattle.c0_tree.specs.declared.tree.Kind.{Kind}
 use Rattle.c0_tree.specs.declared.tree.Kind.TheVariants.{Local, Function}
 use Rattle.c0_tree.specs.declared.tree.BinaryOp.TheVariants.{Gt}
-use Rattle.c0_tree.specs.Tree.{CName, CTy, int, array, CExpr, num, var, binary, CStmt, assign, call, choice, CStmts, done, next, CDecl}
+use Rattle.c0_tree.specs.Tree.{CName, CTy, int, array, num, var, binary, assign, call, choice, done, next, CDecl}
 use Rattle.c0_meaning.specs.Env.{Typed, typed_of}
 use Rattle.c0_expr_code.specs.Scope.{Scope}
 use Rattle.c0_stmt_code.specs.Code.{Links, statements_function}
