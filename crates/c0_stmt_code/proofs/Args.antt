@@ -1,22 +1,22 @@
 -- Arguments: each value goes to its register, from left to right.
-use Rattle.std.specs.Prelude.{map, slice_get, IsTrue, Some, None, Result, Ok, Err, if◌then◌else◌}
-use Rattle.std.proofs.Common.{◌≡◌, ◌≢◌, ℕ, zero, suc, ◌+◌, ◌-◌, ◌*◌, ◌%◌, ◌^◌, ◌<◌, ◌≤◌, Bool, true, false, List, [], ◌∷◌, ◌++◌, length, refl, sym, ap, ◌∙◌, subst, arith, length-append}
+use Rattle.std.specs.Prelude.{Ok, Err, if◌then◌else◌}
+use Rattle.std.proofs.Common.{◌≡◌, ℕ, suc, ◌+◌, ◌-◌, ◌*◌, ◌<◌, ◌≤◌, Bool, true, false, List, [], ◌∷◌, length, refl, sym, ap, ◌∙◌, subst, arith, length-append}
 use Rattle.mips_table.specs.Device.{Idle}
-use Rattle.mips_table.specs.Code.{Contents, reg, Behind, World, at_with, Reaches, CodeAt}
+use Rattle.mips_table.specs.Code.{Contents, Behind, World, at_with, Reaches, CodeAt}
 use Rattle.masm.specs.Laws.{RunsCompose}
-use Rattle.c0_tree.specs.Size.{need, nodes, args_need, args_nodes}
+use Rattle.c0_tree.specs.Size.{args_need, args_nodes}
 use Rattle.c0_tree.specs.Tree.{CExpr}
-use Rattle.c0_meaning.specs.Env.{Env, Shape}
-use Rattle.c0_meaning.specs.Ty.{Ty, is_scalar}
-use Rattle.c0_meaning.specs.Value.{Value, Values, empty, part}
+use Rattle.c0_meaning.specs.Env.{Env}
+use Rattle.c0_meaning.specs.Ty.{Ty}
+use Rattle.c0_meaning.specs.Value.{Values, part}
 use Rattle.c0_meaning.specs.State.{State, variables_of}
-use Rattle.c0_meaning.specs.Numbered.{IsNumberedGiven, AreNumberedGiven, none, more}
+use Rattle.c0_meaning.specs.Numbered.{IsNumberedGiven, AreNumberedGiven, more}
 use Rattle.c0_meaning.specs.Operators.{faulted, stuck}
 use Rattle.c0_meaning.specs.Evaluation.{Costed, costs, at_no_cost, paying, ◌>>=◌, value_of, values_of}
 use Rattle.c0_meaning.specs.TypedState.{types_of, AllFit}
 use Rattle.c0_expr_code.specs.Scope.{Scope}
-use Rattle.c0_expr_code.specs.Code.{register_of, made, value_code}
-use Rattle.c0_expr_code.specs.Bases.{Bases, locals_start, word, RegionHeld}
+use Rattle.c0_expr_code.specs.Code.{register_of, value_code}
+use Rattle.c0_expr_code.specs.Bases.{Bases, RegionHeld}
 use Rattle.c0_expr_code.specs.Relation.{layout, Ready, Keeps, Comes, Gives}
 use Rattle.c0_stmt_code.specs.Code.{args_code}
 use Rattle.c0_stmt_code.specs.Standing.{AreIn}
@@ -91,15 +91,17 @@ module _ (compose : RunsCompose) (w : World) (sc : Scope) where
       soft_binds n mid (n + length (args_code sc (e ∷ es) i)) c d (Gives sc p (register_of i) 8 (register_of i) t c) (InRegisters p i (t ∷ ts) c) (value_of e s) (λ v. values_of es s >>= λ vs. at_no_cost (Ok (part v vs))) run
       (λ b k. record { memory = k.memory; special = k.special; high = λ x l. k.above x (λ q. absurd (omega (arith, q, l))) (omega (arith, l)) })
       (λ v b gives.
-        let soft : Soft c b = record { memory = gives.keeps.memory; special = gives.keeps.special; high = λ x l. gives.keeps.above x (λ q. absurd (omega (arith, q, l, first, room))) (omega (arith, l)) } in
-        let rest = args_run env p s d ex form idle es ts (suc i) mid b (ready_soft p s c b form soft ready) g.1 scalar.1 (omega (arith, deep)) (omega (arith, few)) (omega (arith, room)) (back w n (value_code sc e (register_of i) 8) (args_code sc es (suc i)) code) in
-        (soft, soft_maps mid (n + length (args_code sc (e ∷ es) i)) b d (InRegisters p (suc i) ts b) (InRegisters p i (t ∷ ts) c) (values_of es s) (λ vs. part v vs) (subst (λ y. SoftComes w sc mid y b d (InRegisters p (suc i) ts b) (values_of es s)) len rest)
-        (λ vs b2 h. record {
-          are = (h.before (20 + i) (omega arith) (omega arith) ∙ ap b.regs (sym first) ∙ sym (read_is b.regs (register_of i) (λ q. absurd (omega (arith, q, first)))) ∙ gives.is, subst (λ y. AreIn sc p b2.regs y vs) (omega arith) h.are);
-          fits = (gives.fits, h.fits);
-          soft = soft_on c b b2 soft h.soft;
-          before = λ x l m. h.before x l (omega (arith, m)) ∙ gives.keeps.above x (λ q. absurd (omega (arith, q, m, first))) (omega (arith, l));
-        })))
+      let soft : Soft c b = record { memory = gives.keeps.memory; special = gives.keeps.special; high = λ x l. gives.keeps.above x (λ q. absurd (omega (arith, q, l, first, room))) (omega (arith, l)) } in
+      let rest = args_run env p s d ex form idle es ts (suc i) mid b (ready_soft p s c b form soft ready) g.1 scalar.1 (omega (arith, deep)) (omega (arith, few)) (omega (arith, room)) (back w n (value_code sc e (register_of i) 8) (args_code sc es (suc i)) code) in (
+        soft,
+        soft_maps mid (n + length (args_code sc (e ∷ es) i)) b d (InRegisters p (suc i) ts b) (InRegisters p i (t ∷ ts) c) (values_of es s) (λ vs. part v vs) (subst (λ y. SoftComes w sc mid y b d (InRegisters p (suc i) ts b) (values_of es s)) len rest)
+            (λ vs b2 h. record {
+              are = (h.before (20 + i) (omega arith) (omega arith) ∙ ap b.regs (sym first) ∙ sym (read_is b.regs (register_of i) (λ q. absurd (omega (arith, q, first)))) ∙ gives.is, subst (λ y. AreIn sc p b2.regs y vs) (omega arith) h.are);
+              fits = (gives.fits, h.fits);
+              soft = soft_on c b b2 soft h.soft;
+              before = λ x l m. h.before x l (omega (arith, m)) ∙ gives.keeps.above x (λ q. absurd (omega (arith, q, m, first))) (omega (arith, l));
+            }),
+      ))
     where
       parts : AreNumberedGiven env (e ∷ es) (t ∷ ts) → IsNumberedGiven env e t × AreNumberedGiven env es ts
       parts (more a b) = (a, b)

@@ -1,14 +1,14 @@
 -- What is left to do as code ahead: pending jumps are taken, and blocks end where the next item stands.
-use Rattle.std.proofs.Common.{◌≡◌, ◌≢◌, ℕ, zero, suc, ◌+◌, ◌*◌, ◌%◌, ◌^◌, ◌<◌, ◌≤◌, ◌||◌, Bool, true, false, List, [], ◌∷◌, ◌++◌, length, Some, refl, sym, ap, ◌∙◌, subst, arith, eq-eqb, length-append}
+use Rattle.std.proofs.Common.{◌≡◌, ℕ, zero, suc, ◌+◌, ◌%◌, ◌^◌, ◌<◌, ◌≤◌, ◌||◌, Bool, true, false, List, [], ◌∷◌, ◌++◌, length, Some, refl, subst, arith, length-append}
 use Rattle.mips_table.specs.Code.{Contents, Behind, World, Configuration, at_with, settle, Reaches, RunLaws, CodeAt}
 use Rattle.mips_table.specs.Device.{Idle}
 use Rattle.mips_table.specs.declared.inst.Inst.{Inst}
 use Rattle.masm.specs.Laws.{RunsCompose, JumpsLead}
-use Rattle.c0_tree.specs.Size.{stmt_nodes, stmts_nodes}
+use Rattle.c0_tree.specs.Size.{stmts_nodes}
 use Rattle.c0_tree.specs.Tree.{CStmt, CStmts, done, next, CFunction}
 use Rattle.c0_meaning.specs.Env.{Env}
-use Rattle.c0_meaning.specs.Numbered.{IsNumbered, AreNumbered, no_statement, a_statement}
-use Rattle.c0_meaning.specs.Running.{Work, act_on, finish, again, leave, begin, push}
+use Rattle.c0_meaning.specs.Numbered.{IsNumbered, AreNumbered, a_statement}
+use Rattle.c0_meaning.specs.Running.{Work, push}
 use Rattle.std.specs.Prelude.{IsTrue}
 use Rattle.std.proofs.lemmas.Bool.{and_parts}
 use Rattle.c0_expr_code.specs.Scope.{is_free_of_calls, are_free_of_calls}
@@ -60,8 +60,7 @@ module _ (x : Text) (f : CFunction) (follows : ℕ → ℕ → Type 0) where
   block_of done k n to left debt typed few free calls code skips e h = (n, to, left, e, subst (λ y. Skips x.w n y to) (omega arith) skips, h)
   block_of (next t rest) k n to left debt typed few free calls code skips e h =
       let g = first_typed (env_in x f) t rest typed in
-      let le : k + length (stmt_code (x.scope f) x.links t ++ stmts_code (x.scope f) x.links rest) ≡ k + length (stmt_code (x.scope f) x.links t) + length (stmts_code (x.scope f) x.links rest) = omega (arith, length-append (stmt_code (x.scope f) x.links t) (stmts_code (x.scope f) x.links rest)) in
-      (
+      let le : k + length (stmt_code (x.scope f) x.links t ++ stmts_code (x.scope f) x.links rest) ≡ k + length (stmt_code (x.scope f) x.links t) + length (stmts_code (x.scope f) x.links rest) = omega (arith, length-append (stmt_code (x.scope f) x.links t) (stmts_code (x.scope f) x.links rest)) in (
         record { typed = g.0; few = omega (arith, few); free = λ e. (and_parts (is_free_of_calls t) (are_free_of_calls rest) (free e)).0; calls = λ e. calls (or_left (is_calling t) (are_calling rest) e); code = front x.w k (stmt_code (x.scope f) x.links t) (stmts_code (x.scope f) x.links rest) code },
         block_of rest (k + length (stmt_code (x.scope f) x.links t)) n to left debt g.1 (omega (arith, few)) (λ e. (and_parts (is_free_of_calls t) (are_free_of_calls rest) (free e)).1) (λ e. calls (or_right (is_calling t) (are_calling rest) e)) (back x.w k (stmt_code (x.scope f) x.links t) (stmts_code (x.scope f) x.links rest) code) (subst (λ y. Skips x.w n y to) le skips) e h,
       )

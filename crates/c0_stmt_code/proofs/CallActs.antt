@@ -1,21 +1,19 @@
 -- A call of a function or of a primitive: the arguments, and the jump.
-use Rattle.std.specs.Prelude.{map, slice_get, IsTrue, Option, Some, None, Ok, Err, if◌then◌else◌, option_map}
-use Rattle.std.proofs.Common.{◌≡◌, ◌≢◌, inl, inr, ℕ, zero, suc, ◌+◌, ◌-◌, ◌*◌, ◌%◌, ◌^◌, ◌<◌, ◌≤◌, ◌⊎◌, Bool, true, false, List, [], ◌∷◌, ◌++◌, length, refl, sym, ap, ap₂, ◌∙◌, subst, arith, length-append}
-use Rattle.mips_table.specs.declared.inst.Inst.{Inst}
+use Rattle.std.specs.Prelude.{map, slice_get, Option, Some, Ok, Err, if◌then◌else◌}
+use Rattle.std.proofs.Common.{◌≡◌, ℕ, zero, suc, ◌+◌, ◌*◌, ◌<◌, ◌≤◌, true, false, List, [], ◌∷◌, ◌++◌, length, refl, sym, ap, ◌∙◌, subst, arith, length-append}
 use Rattle.mips_table.specs.declared.inst.Inst.TheVariants.{Jal}
 use Rattle.mips_table.specs.declared.effect.Effect.TheVariants.{Set}
 use Rattle.mips_table.specs.Effect.{jump}
 use Rattle.mips_table.specs.Device.{Idle}
-use Rattle.mips_table.specs.Code.{Contents, reg, with_reg, Behind, World, Configuration as Machine, at_with, Reaches, RunLaws, CodeAt}
+use Rattle.mips_table.specs.Code.{Contents, with_reg, Behind, Configuration as Machine, at_with, Reaches, RunLaws, CodeAt}
 use Rattle.masm.specs.Laws.{RunsCompose, JumpsLead, StraightRuns}
-use Rattle.c0_tree.specs.Size.{need, nodes, args_need, args_nodes}
-use Rattle.c0_tree.specs.Tree.{CName, CExpr, CStmts, CFunction, CUnit}
+use Rattle.c0_tree.specs.Size.{nodes, args_nodes}
+use Rattle.c0_tree.specs.Tree.{CExpr, CStmts, CFunction}
 use Rattle.c0_meaning.specs.Ty.{Ty, ty_of}
-use Rattle.c0_meaning.specs.Env.{Env, Shape, Signature, typed_of, signature_of}
+use Rattle.c0_meaning.specs.Env.{Shape, Signature, typed_of, signature_of}
 use Rattle.c0_meaning.specs.Sound.{shapes}
-use Rattle.c0_meaning.specs.Limits.{frame}
 use Rattle.c0_meaning.specs.Value.{Value, Values, empty, part}
-use Rattle.c0_meaning.specs.State.{Frame, State}
+use Rattle.c0_meaning.specs.State.{Frame}
 use Rattle.c0_meaning.specs.Statement.{MAX_NEED, call_need}
 use Rattle.c0_meaning.specs.Numbered.{IsNumberedLeft, AreNumberedGiven}
 use Rattle.c0_meaning.specs.Operators.{faulted, stuck}
@@ -24,14 +22,14 @@ use Rattle.c0_meaning.specs.World.{Cost, units, plus, Configuration, ended}
 use Rattle.c0_meaning.specs.Running.{Target, into, Work, Step, then_go, call_function}
 use Rattle.c0_meaning.specs.TypedState.{Layout, types_of, AllFit, layout_of}
 use Rattle.c0_expr_code.specs.Scope.{Scope}
-use Rattle.c0_expr_code.specs.Bases.{Bases, word}
-use Rattle.c0_expr_code.specs.Relation.{Ready, Keeps, layout}
-use Rattle.c0_stmt_code.specs.Code.{calls_in, args_code, answer_code, call_code, callee_index, function_code}
+use Rattle.c0_expr_code.specs.Bases.{Bases}
+use Rattle.c0_expr_code.specs.Relation.{Keeps}
+use Rattle.c0_stmt_code.specs.Code.{calls_in, args_code, answer_code}
 use Rattle.c0_stmt_code.specs.Setup.{Setup}
-use Rattle.c0_stmt_code.specs.Ahead.{Activation, env_in, IsAnswered, Block, Awaits, Ahead}
-use Rattle.c0_stmt_code.specs.Standing.{text, scope, bases, end_of, unit_scope, AreIn, Waits, Waiting, Runs, UnderWay, Stands, StepIs}
-use Rattle.c0_stmt_code.proofs.Needs.{ExpressionsDo, HeldStays, TypedStays, FunctionsAre, LengthsFit, AllScalar}
-use Rattle.c0_stmt_code.proofs.Ways.{Way, none, on, of, within}
+use Rattle.c0_stmt_code.specs.Ahead.{Activation, env_in, Block, Awaits, Ahead}
+use Rattle.c0_stmt_code.specs.Standing.{text, scope, bases, end_of, unit_scope, AreIn, Waiting, Runs, Stands, StepIs}
+use Rattle.c0_stmt_code.proofs.Needs.{HeldStays, TypedStays, FunctionsAre}
+use Rattle.c0_stmt_code.proofs.Ways.{none, on, of, within}
 use Rattle.c0_stmt_code.proofs.Blocks.{front, back}
 use Rattle.c0_stmt_code.proofs.Costs.{Within, values_within}
 use Rattle.c0_stmt_code.proofs.Held.{word_same}
@@ -39,7 +37,7 @@ use Rattle.c0_stmt_code.proofs.State.{rest_of, state_of, standing_at, Exprs}
 use Rattle.c0_stmt_code.proofs.Spots.{other_reg, same_reg}
 use Rattle.c0_stmt_code.proofs.Rooms.{variables_same}
 use Rattle.c0_stmt_code.proofs.Places.{its_exprs, its_ready}
-use Rattle.c0_stmt_code.proofs.Args.{Soft, SoftComes, InRegisters, args_run}
+use Rattle.c0_stmt_code.proofs.Args.{SoftComes, InRegisters, args_run}
 use Rattle.c0_stmt_code.proofs.Sim.{Path, stands_on}
 
 -- words of registers that stay
@@ -62,9 +60,20 @@ module _ (runs : RunLaws) (compose : RunsCompose) (W E : Type 0) (Outer : W → 
       let k : Keeps 0 0 c (record c { memory = c'.memory; special = c'.special }) = record { memory = memory; special = special; below = λ x n m l. refl; above = λ x n l. refl } in
       let s = stands_on runs compose W E Outer Passes z jumps objects h c (record c { memory = c'.memory; special = c'.special }) d k st in
       record {
-        typed = st.typed; declared = st.declared; used = st.used; room = st.room; stack_room = st.stack_room;
-        globals = s.globals; heap = s.heap; used_word = s.used_word; heap_size = s.heap_size; heap_first = s.heap_first; stack_first = s.stack_first; stack_size = s.stack_size;
-        globals_at = r28 ∙ st.globals_at; stack_end = r30 ∙ st.stack_end;
+        typed = st.typed;
+        declared = st.declared;
+        used = st.used;
+        room = st.room;
+        stack_room = st.stack_room;
+        globals = s.globals;
+        heap = s.heap;
+        used_word = s.used_word;
+        heap_size = s.heap_size;
+        heap_first = s.heap_first;
+        stack_first = s.stack_first;
+        stack_size = s.stack_size;
+        globals_at = r28 ∙ st.globals_at;
+        stack_end = r30 ∙ st.stack_end;
         outer = z.outer_stays h.world c c' d (λ y o. ap (λ m. m y) memory) special st.outer;
         idle = st.idle;
       }
@@ -100,13 +109,16 @@ module _ (runs : RunLaws) (compose : RunsCompose) (W E : Type 0) (Outer : W → 
 
     -- the function that runs waits from now on
     now_waits : (c' : Contents) → c'.memory ≡ c.memory → Waiting W E Outer Passes z objects c'.memory (a ∷ others) (g ∷ fs)
-    now_waits c' memory = (record {
-      is = r.is;
-      in_frame = form;
-      calls = its_calls;
-      return_at = ap (λ m. m (end_of W E Outer Passes z fs)) memory ∙ sym (ap (λ b. if b then c.memory (end_of W E Outer Passes z fs) else c.regs 31) its_calls) ∙ r.return_at;
-      variables = variables_same W E Outer Passes z held objects c.regs c'.memory c.memory c'.memory a.function g fs true form r.is (λ x le lt. ap (λ m. m x) memory) r.variables;
-    }, subst (λ m. Waiting W E Outer Passes z objects m others fs) (sym memory) waits)
+    now_waits c' memory = (
+      record {
+        is = r.is;
+        in_frame = form;
+        calls = its_calls;
+        return_at = ap (λ m. m (end_of W E Outer Passes z fs)) memory ∙ sym (ap (λ b. if b then c.memory (end_of W E Outer Passes z fs) else c.regs 31) its_calls) ∙ r.return_at;
+        variables = variables_same W E Outer Passes z held objects c.regs c'.memory c.memory c'.memory a.function g fs true form r.is (λ x le lt. ap (λ m. m x) memory) r.variables;
+      },
+      subst (λ m. Waiting W E Outer Passes z objects m others fs) (sym memory) waits,
+    )
 
     -- what has to be known of how a function is entered
     abbrev Enters : ℕ → CFunction → Target → List Work → Type 0
@@ -137,21 +149,21 @@ module _ (runs : RunLaws) (compose : RunsCompose) (W E : Type 0) (Outer : W → 
         let k1 : ℕ = k + length (args_code sc args 0) in
         let jal_at = back z.w k (args_code sc args 0) (Jal ((text W E Outer Passes z).links.function n) ∷ answer_code sc p) code in
         let run = args_run compose z.w sc (env_in (text W E Outer Passes z) a.function) (bases W E Outer Passes z objects (g ∷ fs)) (state_of gv hv hw (g ∷ fs)) d ex form st.idle args (types_of (map typed_of f.params)) 0 k c rd given (functions.scalars n f is) (omega (arith, deep)) (omega (arith, few)) (omega (arith, count))
-            (front z.w k (args_code sc args 0) (Jal ((text W E Outer Passes z).links.function n) ∷ answer_code sc p) code) in
+        (front z.w k (args_code sc args 0) (Jal ((text W E Outer Passes z).links.function n) ∷ answer_code sc p) code) in
         let len : k + length (args_code sc args 0 ++ (Jal ((text W E Outer Passes z).links.function n) ∷ answer_code sc p)) ≡ k1 + 1 + length (answer_code sc p) = omega (arith, length-append (args_code sc args 0) (Jal ((text W E Outer Passes z).links.function n) ∷ answer_code sc p)) in
         then_soft 0 0 0 debt 0 (args_nodes args) (units 1) here here (at_with k c d) a.function k k1 c d objects (InRegisters compose z.w sc (bases W E Outer Passes z objects (g ∷ fs)) 0 (types_of (map typed_of f.params)) c) (values_of args here.state) (λ cost vs. call_function z.p cost n vs (into p rest) work here)
         (none runs z.w Passes (at_with k c d)) (omega arith) (omega arith) st (values_within args here.state) run
         (λ u vs c1 least most q path.
-          let c2 : Contents = with_reg c1 31 (4 * (k1 + 1)) in
-          let jump_there = calls_to k1 index c1 d st.idle jal_at.0 in
-          let way = on runs z.w Passes 0 (0 + 16 * u) 0 0 1 0 (at_with k c d) (at_with k1 c1 d) (at_with index (with_reg c1 31 (4 * (k1 + 1))) d) path (of runs z.w Passes 1 _ _ jump_there) in
-          let soft = q.soft in
-          enters (with_reg c1 31 (4 * (k1 + 1))) vs (0 + 0) (0 + 16 * u + 1) (0 + 0) (plus (units 1) (units u))
-          (stands_soft objects here c (with_reg c1 31 (4 * (k1 + 1))) d soft.memory soft.special (other_reg c1.regs 31 (4 * (k1 + 1)) 28 (λ q. absurd (omega (arith, q))) ∙ soft.high 28 (omega arith)) (other_reg c1.regs 31 (4 * (k1 + 1)) 30 (λ q. absurd (omega (arith, q))) ∙ soft.high 30 (omega arith)) st)
-          (now_waits (with_reg c1 31 (4 * (k1 + 1))) soft.memory)
-          (other_reg c1.regs 31 (4 * (k1 + 1)) 29 (λ q. absurd (omega (arith, q))) ∙ soft.high 29 (omega arith) ∙ r.frame_at ∙ ap (λ b. 4 * (if b then end_of W E Outer Passes z fs else end_of W E Outer Passes z (g ∷ fs))) form)
-          (k1 + 1) (same_reg c1.regs 31 (4 * (k1 + 1)) (λ q. absurd (omega (arith, q)))) q.fits
-          (are_moved (unit_scope z.p.unit) (bases W E Outer Passes z objects []) c1.regs (with_reg c1 31 (4 * (k1 + 1))).regs 20 (types_of (map typed_of f.params)) (shapes z.p.unit) (layout_of z.p.unit objects) vs q.fits (omega (arith, types)) (λ x lt. other_reg c1.regs 31 (4 * (k1 + 1)) x (λ q. absurd (omega (arith, q, lt))))
-            (are_out c1.regs 20 (types_of (map typed_of f.params)) vs q.fits q.are))
-          (record { left = left; shallow = omega (arith, deep); few = omega (arith, few) }, jal_at.1, subst (λ y. Block (text W E Outer Passes z) a.function y debt rest (λ to left. Ahead (text W E Outer Passes z) (a ∷ others) to left work)) len block)
-          way (omega (arith, most, few)) (omega arith) (omega arith))
+        let c2 : Contents = with_reg c1 31 (4 * (k1 + 1)) in
+        let jump_there = calls_to k1 index c1 d st.idle jal_at.0 in
+        let way = on runs z.w Passes 0 (0 + 16 * u) 0 0 1 0 (at_with k c d) (at_with k1 c1 d) (at_with index (with_reg c1 31 (4 * (k1 + 1))) d) path (of runs z.w Passes 1 _ _ jump_there) in
+        let soft = q.soft in
+        enters (with_reg c1 31 (4 * (k1 + 1))) vs (0 + 0) (0 + 16 * u + 1) (0 + 0) (plus (units 1) (units u))
+        (stands_soft objects here c (with_reg c1 31 (4 * (k1 + 1))) d soft.memory soft.special (other_reg c1.regs 31 (4 * (k1 + 1)) 28 (λ q. absurd (omega (arith, q))) ∙ soft.high 28 (omega arith)) (other_reg c1.regs 31 (4 * (k1 + 1)) 30 (λ q. absurd (omega (arith, q))) ∙ soft.high 30 (omega arith)) st)
+        (now_waits (with_reg c1 31 (4 * (k1 + 1))) soft.memory)
+        (other_reg c1.regs 31 (4 * (k1 + 1)) 29 (λ q. absurd (omega (arith, q))) ∙ soft.high 29 (omega arith) ∙ r.frame_at ∙ ap (λ b. 4 * (if b then end_of W E Outer Passes z fs else end_of W E Outer Passes z (g ∷ fs))) form)
+        (k1 + 1) (same_reg c1.regs 31 (4 * (k1 + 1)) (λ q. absurd (omega (arith, q)))) q.fits
+        (are_moved (unit_scope z.p.unit) (bases W E Outer Passes z objects []) c1.regs (with_reg c1 31 (4 * (k1 + 1))).regs 20 (types_of (map typed_of f.params)) (shapes z.p.unit) (layout_of z.p.unit objects) vs q.fits (omega (arith, types)) (λ x lt. other_reg c1.regs 31 (4 * (k1 + 1)) x (λ q. absurd (omega (arith, q, lt))))
+        (are_out c1.regs 20 (types_of (map typed_of f.params)) vs q.fits q.are))
+        (record { left = left; shallow = omega (arith, deep); few = omega (arith, few) }, jal_at.1, subst (λ y. Block (text W E Outer Passes z) a.function y debt rest (λ to left. Ahead (text W E Outer Passes z) (a ∷ others) to left work)) len block)
+        way (omega (arith, most, few)) (omega arith) (omega arith))

@@ -1,42 +1,41 @@
 -- A function that has a frame is entered.
-use Rattle.std.specs.Prelude.{map, slice_get, IsTrue, Some, None, Ok, Err, ok_or, if◌then◌else◌, nat_lt, nat_le, ◌&&◌}
-use Rattle.std.proofs.Common.{◌≡◌, ◌≢◌, inl, inr, ℕ, zero, suc, ◌+◌, ◌-◌, ◌*◌, ◌%◌, ◌^◌, ◌<◌, ◌≤◌, ◌⊎◌, Bool, true, false, Option, List, [], ◌∷◌, ◌++◌, length, refl, sym, ap, ◌∙◌, subst, arith, length-append}
+use Rattle.std.specs.Prelude.{map, slice_get, IsTrue, Some, ok_or, if◌then◌else◌, nat_lt, nat_le, ◌&&◌}
+use Rattle.std.proofs.Common.{◌≡◌, ◌≢◌, inl, inr, ℕ, suc, ◌+◌, ◌-◌, ◌*◌, ◌<◌, ◌≤◌, ◌⊎◌, Bool, true, false, Option, List, [], ◌∷◌, ◌++◌, length, refl, sym, ap, ◌∙◌, subst, arith, length-append}
 use Rattle.std.proofs.lemmas.Bool.{cases_Bool, cond-true, cond-false, ltb-true, ltb-false, leb-true, and_parts}
 use Rattle.mips_table.specs.declared.inst.Inst.{Inst}
 use Rattle.mips_table.specs.declared.inst.Inst.TheVariants.{Sltu, Beq, J, Sw}
-use Rattle.mips_table.specs.Code.{Contents, reg, Behind, Configuration as Machine, at_with, Reaches, RunLaws, CodeAt}
+use Rattle.mips_table.specs.Code.{Contents, Behind, Configuration as Machine, at_with, Reaches, RunLaws, CodeAt}
 use Rattle.masm.specs.Laws.{RunsCompose, JumpsLead, StraightRuns}
-use Rattle.c0_tree.specs.Size.{nodes, stmts_nodes}
-use Rattle.c0_tree.specs.Tree.{CExpr, CStmts, CBody, code, asm, CDecl, CFunction}
+use Rattle.c0_tree.specs.Tree.{CExpr, CStmts, code, CDecl, CFunction}
 use Rattle.c0_meaning.specs.Ty.{Ty, named, ty_of, is_scalar}
-use Rattle.c0_meaning.specs.Env.{Typed, Shape, typed_of}
+use Rattle.c0_meaning.specs.Env.{typed_of}
 use Rattle.c0_meaning.specs.Limits.{frame, locals_of}
 use Rattle.c0_meaning.specs.Words.{words, all_words, fields_named}
 use Rattle.c0_meaning.specs.Sound.{shapes}
 use Rattle.c0_meaning.specs.Value.{Value, Values, empty, part, group, followed_by, zeros_of}
-use Rattle.c0_meaning.specs.State.{Frame, State, stack_words, pushed, with_variables}
+use Rattle.c0_meaning.specs.State.{Frame, stack_words, pushed}
 use Rattle.c0_meaning.specs.Operators.{StackOut, faulted, stuck}
 use Rattle.c0_meaning.specs.Evaluation.{at_no_cost}
 use Rattle.c0_meaning.specs.World.{Cost, units, plus, Configuration, with_state, ended}
-use Rattle.c0_meaning.specs.Running.{Target, Work, leave, push, Step, Go, Stop, then_go, enter, call_function}
-use Rattle.c0_meaning.specs.TypedState.{types_of, AllFit, Fits, layout_of, IsTypedWith, variable_types}
+use Rattle.c0_meaning.specs.Running.{Target, Work, leave, push, Go, Stop, then_go, enter, call_function}
+use Rattle.c0_meaning.specs.TypedState.{types_of, AllFit, layout_of, IsTypedWith, variable_types}
 use Rattle.c0_expr_code.specs.Scope.{Scope, is_leaf, are_free_of_calls}
 use Rattle.std.specs.List.{list_all}
 use Rattle.c0_stmt_code.proofs.Lights.{each_scalar, scalars_behind, clears, saves_light}
-use Rattle.c0_expr_code.specs.Bases.{Bases, words_of_all, word, AllHeld, RegionHeld}
-use Rattle.c0_stmt_code.specs.Code.{MAX_STACK, large_code, end_code, body_code, register_entry, clear_code, are_calling, calls_in, stack_test, save_code, params_code, locals_code, frame_entry, entry_code, exit_code, return_code, stmts_code, statements_function, function_code}
-use Rattle.c0_stmt_code.specs.Setup.{Setup, IsOurs}
-use Rattle.c0_stmt_code.specs.Ahead.{Activation, env_in, Block, Awaits, ReturnStands, Ahead}
-use Rattle.c0_stmt_code.specs.Standing.{text, scope, bases, end_of, unit_scope, AreIn, VariablesHeld, Waiting, Runs, UnderWay, Stands, StepIs}
-use Rattle.c0_stmt_code.proofs.Needs.{HeldStays, TypedStays, FunctionsAre, LengthsFit, AllScalar}
-use Rattle.c0_stmt_code.proofs.Ways.{Way, on, of, away, within}
+use Rattle.c0_expr_code.specs.Bases.{Bases, words_of_all, AllHeld, RegionHeld}
+use Rattle.c0_stmt_code.specs.Code.{large_code, end_code, body_code, register_entry, clear_code, are_calling, calls_in, stack_test, save_code, params_code, locals_code, frame_entry, return_code, stmts_code, function_code}
+use Rattle.c0_stmt_code.specs.Setup.{Setup}
+use Rattle.c0_stmt_code.specs.Ahead.{Activation, Awaits, Ahead}
+use Rattle.c0_stmt_code.specs.Standing.{text, scope, bases, end_of, unit_scope, AreIn, VariablesHeld, Waiting, Runs, Stands, StepIs}
+use Rattle.c0_stmt_code.proofs.Needs.{HeldStays, TypedStays, FunctionsAre, AllScalar}
+use Rattle.c0_stmt_code.proofs.Ways.{Way, on, of, away}
 use Rattle.c0_stmt_code.proofs.Blocks.{front, back, block_of}
-use Rattle.c0_stmt_code.proofs.Held.{word_same, region}
+use Rattle.c0_stmt_code.proofs.Held.{word_same}
 use Rattle.c0_stmt_code.proofs.State.{rest_of, state_of, standing_at}
 use Rattle.c0_stmt_code.proofs.Rooms.{frame_words, frame_on, words_by_types, waiting_same}
 use Rattle.c0_stmt_code.proofs.Variables.{zeros_zero, zeros_held, joined_held, scalars_words, args_held}
-use Rattle.c0_stmt_code.proofs.Frames.{Entered, Left, tested}
-use Rattle.c0_stmt_code.proofs.Entry.{Framed, FrameMade, frames}
+use Rattle.c0_stmt_code.proofs.Frames.{tested}
+use Rattle.c0_stmt_code.proofs.Entry.{frames}
 use Rattle.c0_stmt_code.proofs.Sim.{Path, arrives}
 
 module _ (runs : RunLaws) (compose : RunsCompose) (W E : Type 0) (Outer : W → Contents → Behind → Type 0) (Passes : Machine → Machine → Type 0) (z : Setup W E Outer Passes) (jumps : JumpsLead z.w) (straight : StraightRuns z.w)
@@ -138,9 +137,9 @@ module _ (runs : RunLaws) (compose : RunsCompose) (W E : Type 0) (Outer : W → 
             let t = types_length f.params in
             let ls = words_by_types (shapes z.p.unit) (map typed_of locals) in
             let first = args_held sc (bases W E Outer Passes z objects (frame_of locals ∷ fs)) (layout_of z.p.unit objects) opened m c.regs at 20 (types_of (map typed_of f.params)) args (functions.scalars n f is) fits
-                (are_in objects (frame_of locals ∷ fs) f c.regs 20 (types_of (map typed_of f.params)) args fits arguments) (λ j lt. ap m (omega (arith, on)) ∙ args_at j (omega (arith, lt, t))) in
+            (are_in objects (frame_of locals ∷ fs) f c.regs 20 (types_of (map typed_of f.params)) args fits arguments) (λ j lt. ap m (omega (arith, on)) ∙ args_at j (omega (arith, lt, t))) in
             let second = zeros_held sc (bases W E Outer Passes z objects (frame_of locals ∷ fs)) (layout_of z.p.unit objects) opened m (at + words_of_all (shapes z.p.unit) (types_of (map typed_of f.params))) (types_of (map typed_of locals)) (zeros_of (shapes z.p.unit) (map typed_of locals))
-                (typing.zeros objects n f locals stmts result is e) (zeros_zero (shapes z.p.unit) (map typed_of locals)) (λ x le lt. zeros_at x (omega (arith, le, on, k, t)) (omega (arith, lt, on, k, t, ls, sz))) in
+            (typing.zeros objects n f locals stmts result is e) (zeros_zero (shapes z.p.unit) (map typed_of locals)) (λ x le lt. zeros_at x (omega (arith, le, on, k, t)) (omega (arith, lt, on, k, t, ls, sz))) in
             let types : types_of (map typed_of f.params) ++ types_of (map typed_of locals) ≡ types_of sc.env.locals = sym (types_joined f.params (locals_of f.body) ∙ ap (λ ds. types_of (map typed_of f.params) ++ types_of (map typed_of ds)) (ap locals_of e)) in
             subst (λ ts. AllHeld sc (bases W E Outer Passes z objects (frame_of locals ∷ fs)) m at ts (followed_by args (zeros_of (shapes z.p.unit) (map typed_of locals)))) types
             (joined_held sc (bases W E Outer Passes z objects (frame_of locals ∷ fs)) (layout_of z.p.unit objects) opened m at (types_of (map typed_of f.params)) (types_of (map typed_of locals)) args (zeros_of (shapes z.p.unit) (map typed_of locals)) first second)
@@ -187,9 +186,11 @@ module _ (runs : RunLaws) (compose : RunsCompose) (W E : Type 0) (Outer : W → 
             let sr = st.stack_room in
             let r = (tested compose z.w z.sound straight jumps sc low (z.a.stack + z.p.stack) 29 k c d st.idle (λ q. absurd (omega (arith, q))) (λ q. absurd (omega (arith, q))) at_end st.stack_end (omega (arith, sr)) (omega (arith, sf, ws)) (omega (arith, sm)) test_at).0 (omega (arith, over)) in
             let way = on runs z.w Passes l m j 0 7 0 s0 (at_with k c d) (at_with (sc.exit StackOut) r.0 d) path (of runs z.w Passes 7 _ _ r.2) in
-            let le = way.high in
-            (at_with (sc.exit StackOut) r.0 d, record { own = way.own; passes = j + 0; high = omega (arith, le, high_paid); ended_so = omega (arith, en); run = way.run },
-              record { objects = objects; stands = stands_in here r.0 refl st.typed refl refl refl st.stack_room (λ x side. ap (λ m. m x) r.1.memory) r.1.special (r.1.others 28 (λ q. absurd (omega (arith, q))) (λ q. absurd (omega (arith, q)))) (r.1.others 30 (λ q. absurd (omega (arith, q))) (λ q. absurd (omega (arith, q)))); at = refl })
+            let le = way.high in (
+              at_with (sc.exit StackOut) r.0 d,
+              record { own = way.own; passes = j + 0; high = omega (arith, le, high_paid); ended_so = omega (arith, en); run = way.run },
+              record { objects = objects; stands = stands_in here r.0 refl st.typed refl refl refl st.stack_room (λ x side. ap (λ m. m x) r.1.memory) r.1.special (r.1.others 28 (λ q. absurd (omega (arith, q))) (λ q. absurd (omega (arith, q)))) (r.1.others 30 (λ q. absurd (omega (arith, q))) (λ q. absurd (omega (arith, q)))); at = refl },
+            )
 
         goes : stack_words z.p.unit fs + frame (shapes z.p.unit) f ≤ z.p.stack → StepIs W E Outer Passes z debt h0 s0 (Go (plus cost2 (units (all_words (shapes z.p.unit) (map typed_of locals)))) (push stmts (leave result target ∷ work)) (with_state here (pushed (frame_of locals) (state_of gv hv hw fs))))
         goes fine =
@@ -215,7 +216,7 @@ module _ (runs : RunLaws) (compose : RunsCompose) (W E : Type 0) (Outer : W → 
             let regs : (x : ℕ) → x ≢ 1 → x ≢ 2 → x ≢ 29 → fr.contents.regs x ≡ c.regs x = λ x n1 n2 n29. fr.made.regs x n1 n2 ∙ t.1.others x n1 n29 in
             let memory : (x : ℕ) → (x < low) ⊎ (low + sc.frame ≤ x) → fr.contents.memory x ≡ c.memory x = λ x side. fr.made.others x (subst (λ y. (x < y) ⊎ (low + sc.frame ≤ x)) (sym base) side) ∙ ap (λ m. m x) t.1.memory in
             let st2 = stands_in (with_state here (pushed (frame_of locals) (state_of gv hv hw fs))) fr.contents refl (typing.entered objects (state_of gv hv hw fs) n f locals stmts result args is e st.typed fits) refl refl refl (omega (arith, on_frame, fine))
-                (λ x side. elim side [ | inl lt ↦ memory x (inl lt) | inr ge ↦ memory x (inr (omega (arith, ge, fine))) ]) (fr.made.special ∙ t.1.special) (regs 28 (λ q. absurd (omega (arith, q))) (λ q. absurd (omega (arith, q))) (λ q. absurd (omega (arith, q)))) (regs 30 (λ q. absurd (omega (arith, q))) (λ q. absurd (omega (arith, q))) (λ q. absurd (omega (arith, q)))) in
+            (λ x side. elim side [ inl lt ↦ memory x (inl lt) | inr ge ↦ memory x (inr (omega (arith, ge, fine))) ]) (fr.made.special ∙ t.1.special) (regs 28 (λ q. absurd (omega (arith, q))) (λ q. absurd (omega (arith, q))) (λ q. absurd (omega (arith, q)))) (regs 30 (λ q. absurd (omega (arith, q))) (λ q. absurd (omega (arith, q))) (λ q. absurd (omega (arith, q)))) in
             let new : Activation = record { function = f; to = to } in
             let runs_new : Runs W E Outer Passes z objects fr.contents (record { function = f; to = to }) (frame_of locals) fs = record {
               is = is;
@@ -230,8 +231,8 @@ module _ (runs : RunLaws) (compose : RunsCompose) (W E : Type 0) (Outer : W → 
             let calling : are_calling stmts ≡ calls_in f.body = sym (ap calls_in e) in
             let result_at = back z.w kb (stmts_code sc (text W E Outer Passes z).links stmts) (return_code sc (are_calling stmts) result) body_at in
             let block = block_of (text W E Outer Passes z) f (λ at left. Ahead (text W E Outer Passes z) (record { function = f; to = to } ∷ acts) at left (leave result target ∷ work)) stmts kb 0 (kb + length (stmts_code sc (text W E Outer Passes z).links stmts)) debt debt bodies.0 (omega (arith, count)) (λ q. let w : true ≡ false = sym q ∙ form in absurd (cc)) (λ q. ap calls_in e ∙ q)
-                (front z.w kb (stmts_code sc (text W E Outer Passes z).links stmts) (return_code sc (are_calling stmts) result) body_at) refl (omega arith)
-                (record { test = bodies.1; few = omega (arith, count); code = subst (λ b. CodeAt z.w (kb + length (stmts_code sc (text W E Outer Passes z).links stmts)) (return_code sc b result)) calling result_at }, ahead) in
+            (front z.w kb (stmts_code sc (text W E Outer Passes z).links stmts) (return_code sc (are_calling stmts) result) body_at) refl (omega arith)
+            (record { test = bodies.1; few = omega (arith, count); code = subst (λ b. CodeAt z.w (kb + length (stmts_code sc (text W E Outer Passes z).links stmts)) (return_code sc b result)) calling result_at }, ahead) in
             let way1 = on runs z.w Passes l m j 1 7 0 s0 (at_with k c d) (at_with k1 t.0 d) path (away runs z.w Passes 7 (at_with k c d) (at_with k1 t.0 d) (λ q. let ts = test_some in absurd (omega (arith, q, ts))) t.2) in
             let way2 = on runs z.w Passes (l + 1) (m + 7) (j + 0) fr.least (3 + 3 * length f.params + 3 * all_words (shapes z.p.unit) (map typed_of locals) + 3) 0 s0 (at_with k1 t.0 d) (at_with kb fr.contents d) way1 (subst (λ y. Way runs z.w Passes fr.least (3 + 3 * length f.params + 3 * all_words (shapes z.p.unit) (map typed_of locals) + 3) 0 (at_with k1 t.0 d) (at_with y fr.contents d)) len fr.way) in
             let paid = fr.paid in
@@ -287,9 +288,9 @@ module _ (runs : RunLaws) (compose : RunsCompose) (W E : Type 0) (Outer : W → 
             let t = types_length f.params in
             let t2 = types_length locals in
             let first = args_held sc (bases W E Outer Passes z objects (frame_of locals ∷ fs)) (layout_of z.p.unit objects) opened regs c.regs 20 20 (types_of (map typed_of f.params)) args (functions.scalars n f is) fits
-                (are_in objects (frame_of locals ∷ fs) f c.regs 20 (types_of (map typed_of f.params)) args fits arguments) (λ j lt. args_at j (omega (arith, lt, t))) in
+            (are_in objects (frame_of locals ∷ fs) f c.regs 20 (types_of (map typed_of f.params)) args fits arguments) (λ j lt. args_at j (omega (arith, lt, t))) in
             let second = zeros_held sc (bases W E Outer Passes z objects (frame_of locals ∷ fs)) (layout_of z.p.unit objects) opened regs (20 + words_of_all (shapes z.p.unit) (types_of (map typed_of f.params))) (types_of (map typed_of locals)) (zeros_of (shapes z.p.unit) (map typed_of locals))
-                (typing.zeros objects n f locals stmts result is e) (zeros_zero (shapes z.p.unit) (map typed_of locals)) (λ x le lt. zeros_at x (omega (arith, le, k, t)) (omega (arith, lt, k, t, k2, t2))) in
+            (typing.zeros objects n f locals stmts result is e) (zeros_zero (shapes z.p.unit) (map typed_of locals)) (λ x le lt. zeros_at x (omega (arith, le, k, t)) (omega (arith, lt, k, t, k2, t2))) in
             let types : types_of (map typed_of f.params) ++ types_of (map typed_of locals) ≡ types_of sc.env.locals = sym (types_joined f.params (locals_of f.body) ∙ ap (λ ds. types_of (map typed_of f.params) ++ types_of (map typed_of ds)) (ap locals_of e)) in
             subst (λ ts. AllHeld sc (bases W E Outer Passes z objects (frame_of locals ∷ fs)) regs 20 ts (followed_by args (zeros_of (shapes z.p.unit) (map typed_of locals)))) types
             (joined_held sc (bases W E Outer Passes z objects (frame_of locals ∷ fs)) (layout_of z.p.unit objects) opened regs 20 (types_of (map typed_of f.params)) (types_of (map typed_of locals)) args (zeros_of (shapes z.p.unit) (map typed_of locals)) first second)
@@ -322,9 +323,11 @@ module _ (runs : RunLaws) (compose : RunsCompose) (W E : Type 0) (Outer : W → 
             let sr = st.stack_room in
             let r = (tested compose z.w z.sound straight jumps sc low (z.a.stack + z.p.stack) 1 k c d st.idle (λ q. absurd (omega (arith, q))) (λ q. absurd (omega (arith, q))) at_end st.stack_end (omega (arith, sr)) (omega (arith, sf, ws)) (omega (arith, sm)) test_at).0 (omega (arith, over)) in
             let way = on runs z.w Passes l m j 0 7 0 s0 (at_with k c d) (at_with (sc.exit StackOut) r.0 d) path (of runs z.w Passes 7 _ _ r.2) in
-            let le = way.high in
-            (at_with (sc.exit StackOut) r.0 d, record { own = way.own; passes = j + 0; high = omega (arith, le, high_paid); ended_so = omega (arith, en); run = way.run },
-              record { objects = objects; stands = stands_in here r.0 refl st.typed refl refl refl st.stack_room (λ x side. ap (λ m. m x) r.1.memory) r.1.special (r.1.others 28 (λ q. absurd (omega (arith, q))) (λ q. absurd (omega (arith, q)))) (r.1.others 30 (λ q. absurd (omega (arith, q))) (λ q. absurd (omega (arith, q)))); at = refl })
+            let le = way.high in (
+              at_with (sc.exit StackOut) r.0 d,
+              record { own = way.own; passes = j + 0; high = omega (arith, le, high_paid); ended_so = omega (arith, en); run = way.run },
+              record { objects = objects; stands = stands_in here r.0 refl st.typed refl refl refl st.stack_room (λ x side. ap (λ m. m x) r.1.memory) r.1.special (r.1.others 28 (λ q. absurd (omega (arith, q))) (λ q. absurd (omega (arith, q)))) (r.1.others 30 (λ q. absurd (omega (arith, q))) (λ q. absurd (omega (arith, q)))); at = refl },
+            )
 
         goes : stack_words z.p.unit fs + frame (shapes z.p.unit) f ≤ z.p.stack → StepIs W E Outer Passes z debt h0 s0 (Go (plus cost2 (units (all_words (shapes z.p.unit) (map typed_of locals)))) (push stmts (leave result target ∷ work)) (with_state here (pushed (frame_of locals) (state_of gv hv hw fs))))
         goes fine =
@@ -355,7 +358,7 @@ module _ (runs : RunLaws) (compose : RunsCompose) (W E : Type 0) (Outer : W → 
             let high : (x : ℕ) → 28 ≤ x → clear.0.regs x ≡ c.regs x = λ x le. regs x (λ q. absurd (omega (arith, q, le))) (inr (omega (arith, le, few))) in
             let memory : (x : ℕ) → x ≢ low → clear.0.memory x ≡ c.memory x = λ x ne. ap (λ m. m x) clear.1.memory ∙ save.1.others x ne ∙ ap (λ m. m x) t.1.memory in
             let st2 = stands_in (with_state here (pushed (frame_of locals) (state_of gv hv hw fs))) clear.0 refl (typing.entered objects (state_of gv hv hw fs) n f locals stmts result args is e st.typed fits) refl refl refl (omega (arith, on_frame, fine))
-                (λ x side. elim side [ | inl lt ↦ memory x (λ q. absurd (omega (arith, q, lt))) | inr ge ↦ memory x (λ q. absurd (omega (arith, q, ge, fine, fw))) ]) (clear.1.special ∙ save.1.special ∙ t.1.special) (high 28 (omega arith)) (high 30 (omega arith)) in
+            (λ x side. elim side [ inl lt ↦ memory x (λ q. absurd (omega (arith, q, lt))) | inr ge ↦ memory x (λ q. absurd (omega (arith, q, ge, fine, fw))) ]) (clear.1.special ∙ save.1.special ∙ t.1.special) (high 28 (omega arith)) (high 30 (omega arith)) in
             let runs_new : Runs W E Outer Passes z objects clear.0 (record { function = f; to = to }) (frame_of locals) fs = record {
               is = is;
               return_at = light_returns (are_calling stmts) (ap calls_in e) clear.0 (λ q. ap (λ m. m low) clear.1.memory ∙ save.1.is q ∙ t.1.others 31 (λ q. absurd (omega (arith, q))) (λ q. absurd (omega (arith, q))) ∙ return_at) (high 31 (omega arith) ∙ return_at);
@@ -368,8 +371,8 @@ module _ (runs : RunLaws) (compose : RunsCompose) (W E : Type 0) (Outer : W → 
             let calling : are_calling stmts ≡ calls_in f.body = sym (ap calls_in e) in
             let result_at = back z.w kb (stmts_code sc (text W E Outer Passes z).links stmts) (return_code sc (are_calling stmts) result) body_at in
             let block = block_of (text W E Outer Passes z) f (λ at left. Ahead (text W E Outer Passes z) (record { function = f; to = to } ∷ acts) at left (leave result target ∷ work)) stmts kb 0 (kb + length (stmts_code sc (text W E Outer Passes z).links stmts)) debt debt bodies.0 (omega (arith, count)) (λ q. light.free) (λ q. ap calls_in e ∙ q)
-                (front z.w kb (stmts_code sc (text W E Outer Passes z).links stmts) (return_code sc (are_calling stmts) result) body_at) refl (omega arith)
-                (record { test = bodies.1; few = omega (arith, count); code = subst (λ b. CodeAt z.w (kb + length (stmts_code sc (text W E Outer Passes z).links stmts)) (return_code sc b result)) calling result_at }, ahead) in
+            (front z.w kb (stmts_code sc (text W E Outer Passes z).links stmts) (return_code sc (are_calling stmts) result) body_at) refl (omega arith)
+            (record { test = bodies.1; few = omega (arith, count); code = subst (λ b. CodeAt z.w (kb + length (stmts_code sc (text W E Outer Passes z).links stmts)) (return_code sc b result)) calling result_at }, ahead) in
             let way1 = on runs z.w Passes l m j 1 7 0 s0 (at_with k c d) (at_with k1 t.0 d) path (away runs z.w Passes 7 (at_with k c d) (at_with k1 t.0 d) (λ q. let ts = light_test_some in absurd (omega (arith, q, ts))) t.2) in
             let way2 = on runs z.w Passes (l + 1) (m + 7) (j + 0) 0 1 0 s0 (at_with k1 t.0 d) (at_with k15 save.0 d) way1 (of runs z.w Passes 1 _ _ save.2) in
             let way3 = on runs z.w Passes (l + 1 + 0) (m + 7 + 1) (j + 0 + 0) 0 (length locals) 0 s0 (at_with k15 save.0 d) (at_with kb clear.0 d) way2 (of runs z.w Passes (length locals) _ _ (subst (λ y. Reaches z.w (length locals) (at_with k15 save.0 d) (at_with y clear.0 d)) len clear.2)) in

@@ -1,21 +1,21 @@
 -- The begin of a function that has a frame, whole.
-use Rattle.std.specs.Prelude.{Some, None, if◌then◌else◌, nat_le}
+use Rattle.std.specs.Prelude.{None, nat_le}
 use Rattle.std.proofs.Common.{◌≡◌, ◌≢◌, inl, inr, ℕ, zero, suc, ◌+◌, ◌-◌, ◌*◌, ◌%◌, ◌^◌, ◌<◌, ◌≤◌, ◌⊎◌, Bool, true, false, List, [], ◌∷◌, ◌++◌, length, refl, sym, ap, ◌∙◌, subst, arith, length-append}
 use Rattle.std.proofs.lemmas.Bool.{cases_Bool, cond-true, cond-false, leb-true}
 use Rattle.mips_table.specs.declared.inst.Inst.{Inst}
 use Rattle.mips_table.specs.declared.inst.Inst.TheVariants.{Addiu, Bne, Sw}
 use Rattle.mips_table.specs.Device.{Idle}
-use Rattle.mips_table.specs.Code.{Contents, put, reg, with_reg, Behind, World, Sound, Configuration, at_with, Reaches, RunLaws, CodeAt}
+use Rattle.mips_table.specs.Code.{Contents, reg, with_reg, Behind, World, Sound, Configuration, at_with, Reaches, RunLaws, CodeAt}
 use Rattle.masm.specs.Says.{Gives}
 use Rattle.masm.specs.Laws.{RunsCompose, StraightRuns, JumpsLead}
 use Rattle.c0_expr_code.specs.Scope.{Scope}
-use Rattle.c0_expr_code.specs.Code.{Spot, low, frame_back, on_spot}
-use Rattle.c0_stmt_code.specs.Code.{MAX_STACK, frame_spot, stack_test, save_code, params_code, zeros_code, zeros_loop, locals_code, frame_entry}
-use Rattle.c0_stmt_code.proofs.Ways.{Way, none, on, of, away, within}
+use Rattle.c0_expr_code.specs.Code.{low, frame_back, on_spot}
+use Rattle.c0_stmt_code.specs.Code.{frame_spot, save_code, params_code, zeros_code, zeros_loop, locals_code}
+use Rattle.c0_stmt_code.proofs.Ways.{Way, on, of, within}
 use Rattle.c0_stmt_code.proofs.Blocks.{front, back}
 use Rattle.c0_stmt_code.proofs.Rooms.{put_same, put_other}
-use Rattle.c0_stmt_code.proofs.Spots.{other_reg, same_read, read_is, Near, on_place, Wrote}
-use Rattle.c0_stmt_code.proofs.Frames.{frame_address, Entered, Left, tested, Filled, to_frame, params_run, zeros_run, loop_run}
+use Rattle.c0_stmt_code.proofs.Spots.{other_reg, on_place}
+use Rattle.c0_stmt_code.proofs.Frames.{frame_address, Filled, to_frame, params_run, zeros_run, loop_run}
 
 module _ (compose : RunsCompose) (w : World) (sound : Sound w) (straight : StraightRuns w) (jumps : JumpsLead w) (runs : RunLaws) (P : Configuration → Configuration → Type 0) (sc : Scope) (e : ℕ) (inside : sc.frame ≤ e) (small : 4 * e < 2 ^ 32) (fits : e ≤ w.words) (free : (x : ℕ) → e - sc.frame ≤ x → x < e → w.kept x ≡ None) where
   abbrev Cleared : (at count : ℕ) → Contents → Contents → Type 0
@@ -34,12 +34,15 @@ module _ (compose : RunsCompose) (w : World) (sound : Sound w) (straight : Strai
       let spot = on_spot (λ y x. Addiu 2 y x) 2 (frame_spot sc i) in
       let tail : List Inst = Sw 0 2 0 ∷ Addiu 2 2 4 ∷ Bne 2 29 65533 ∷ [] in
       let first = on_place compose w straight (λ c'. (c'.regs 2 ≡ 4 * ((e - sc.frame) + i)) × (c'.memory ≡ c.memory) × (c'.special ≡ c.special) × ((x : ℕ) → x ≢ 1 → x ≢ 2 → c'.regs x ≡ c.regs x)) (λ y x. Addiu 2 y x) (frame_spot sc i) 2 k c d idle (λ z. absurd (omega (arith, z))) (λ z. absurd (omega (arith, z)))
-          (front w k (on_spot (λ y x. Addiu 2 y x) 2 (frame_spot sc i)) (Sw 0 2 0 ∷ Addiu 2 2 4 ∷ Bne 2 29 65533 ∷ []) code)
-          (λ y m a there near address. (with_reg a 2 (4 * ((e - sc.frame) + i)), (refl, near.memory, near.special, λ x ne me. other_reg a.regs 2 (4 * ((e - sc.frame) + i)) x me ∙ near.others x ne me),
-            straight.next (Addiu 2 y (low ((frame_back sc + 4 * i) % 2 ^ 32))) (Gives (4 * ((e - sc.frame) + i))) m a d there refl idle (address ∙ ap (λ v. (v + (frame_back sc + 4 * i) % 2 ^ 32) % 2 ^ 32) at ∙ frame_address sc e i inside small (omega (arith, sum))))) in
+      (front w k (on_spot (λ y x. Addiu 2 y x) 2 (frame_spot sc i)) (Sw 0 2 0 ∷ Addiu 2 2 4 ∷ Bne 2 29 65533 ∷ []) code)
+      (λ y m a there near address. (
+        with_reg a 2 (4 * ((e - sc.frame) + i)),
+        (refl, near.memory, near.special, λ x ne me. other_reg a.regs 2 (4 * ((e - sc.frame) + i)) x me ∙ near.others x ne me),
+        straight.next (Addiu 2 y (low ((frame_back sc + 4 * i) % 2 ^ 32))) (Gives (4 * ((e - sc.frame) + i))) m a d there refl idle (address ∙ ap (λ v. (v + (frame_back sc + 4 * i) % 2 ^ 32) % 2 ^ 32) at ∙ frame_address sc e i inside small (omega (arith, sum))),
+      )) in
       let c1 : Contents = first.0 in
       let rest = loop_run compose w sound straight jumps sc e inside small fits free runs P n ((e - sc.frame) + i) (k + length (on_spot (λ y x. Addiu 2 y x) 2 (frame_spot sc i))) first.0 d idle (omega arith) (omega (arith, sum, inside)) first.1.0
-          (first.1.3 29 (λ z. absurd (omega (arith, z))) (λ z. absurd (omega (arith, z))) ∙ at) (back w k (on_spot (λ y x. Addiu 2 y x) 2 (frame_spot sc i)) (Sw 0 2 0 ∷ Addiu 2 2 4 ∷ Bne 2 29 65533 ∷ []) code) in
+      (first.1.3 29 (λ z. absurd (omega (arith, z))) (λ z. absurd (omega (arith, z))) ∙ at) (back w k (on_spot (λ y x. Addiu 2 y x) 2 (frame_spot sc i)) (Sw 0 2 0 ∷ Addiu 2 2 4 ∷ Bne 2 29 65533 ∷ []) code) in
       let len : k + length (on_spot (λ y x. Addiu 2 y x) 2 (frame_spot sc i)) + 3 ≡ k + length (zeros_loop sc i) = omega (arith, length-append (on_spot (λ y x. Addiu 2 y x) 2 (frame_spot sc i)) (Sw 0 2 0 ∷ Addiu 2 2 4 ∷ Bne 2 29 65533 ∷ [])) in
       let here : k + 0 ≡ k = omega arith in
       let go : Way runs w P 0 3 0 (at_with k c d) (at_with (k + length (on_spot (λ y x. Addiu 2 y x) 2 (frame_spot sc i))) first.0 d) = of runs w P 3 _ _ (subst (λ m. Reaches w 3 (at_with m c d) (at_with (k + length (on_spot (λ y x. Addiu 2 y x) 2 (frame_spot sc i))) first.0 d)) here first.2) in
@@ -64,7 +67,10 @@ module _ (compose : RunsCompose) (w : World) (sound : Sound w) (straight : Strai
         let le = leb-true n 8 few in
         let r = zeros_run compose w sound straight jumps sc e inside small fits free n i k c d idle (omega (arith, sum)) at (subst (CodeAt w k) same code) in
         record {
-          contents = r.0; cleared = r.1; least = 0; paid = omega (arith, le);
+          contents = r.0;
+          cleared = r.1;
+          least = 0;
+          paid = omega (arith, le);
           way = within runs w P 0 (3 * n) 0 0 (3 * n + 3) 0 (at_with k c d) (at_with (k + length (locals_code sc n i)) r.0 d) (omega arith) (omega arith) refl (of runs w P (3 * n) _ _ (subst (λ is. Reaches w (3 * n) (at_with k c d) (at_with (k + length is) r.0 d)) (sym same) r.2));
         }
     | inr many ↦
@@ -137,8 +143,8 @@ module _ (compose : RunsCompose) (w : World) (sound : Sound w) (straight : Strai
         made = record {
           saved = λ q. three.cleared.others (e - sc.frame) (inl (omega arith)) ∙ two.1.others (e - sc.frame) (inl (omega arith)) ∙ one.is q;
           arguments = λ j lt.
-            let here : (e - sc.frame) + 3 + j ≡ (e - sc.frame) + 3 + 0 + j = omega arith in
-            three.cleared.others ((e - sc.frame) + 3 + j) (inl (omega (arith, lt))) ∙ ap two.0.memory here ∙ two.1.words j lt ∙ ap one.contents.regs (omega arith) ∙ one.regs (20 + j) (λ z. absurd (omega (arith, z)));
+              let here : (e - sc.frame) + 3 + j ≡ (e - sc.frame) + 3 + 0 + j = omega arith in
+              three.cleared.others ((e - sc.frame) + 3 + j) (inl (omega (arith, lt))) ∙ ap two.0.memory here ∙ two.1.words j lt ∙ ap one.contents.regs (omega arith) ∙ one.regs (20 + j) (λ z. absurd (omega (arith, z)));
           zeros = λ j lt. three.cleared.words j lt;
           others = λ x side. elim side [
             | inl lt ↦ three.cleared.others x (inl (omega (arith, lt))) ∙ two.1.others x (inl (omega (arith, lt))) ∙ one.others x (λ q. absurd (omega (arith, lt, q)))

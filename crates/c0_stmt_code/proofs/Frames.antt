@@ -1,23 +1,21 @@
 -- The begin of a function that has a frame: the stack's test, and the frame's words, one store or turn after another.
-use Rattle.std.specs.Prelude.{map, slice_get, Some, None, if◌then◌else◌, nat_lt, nat_le}
-use Rattle.std.proofs.Common.{◌≡◌, ◌≢◌, inl, inr, ℕ, zero, suc, ◌+◌, ◌-◌, ◌*◌, ◌/◌, ◌%◌, ◌^◌, ◌<◌, ◌≤◌, ◌⊎◌, Bool, true, false, not, nat_eq, List, [], ◌∷◌, ◌++◌, length, refl, sym, ap, ◌∙◌, subst, arith, eq-eqb, ne_eqb, lt-ltb, le-ltb, length-append}
+use Rattle.std.specs.Prelude.{Some, None, nat_lt}
+use Rattle.std.proofs.Common.{◌≡◌, ◌≢◌, inl, inr, ℕ, zero, suc, ◌+◌, ◌-◌, ◌*◌, ◌%◌, ◌^◌, ◌<◌, ◌≤◌, ◌⊎◌, true, false, not, nat_eq, [], ◌∷◌, ◌++◌, length, refl, sym, ap, ◌∙◌, subst, arith, eq-eqb, ne_eqb, lt-ltb, le-ltb, length-append}
 use Rattle.std.proofs.lemmas.Bool.{cases_Bool, cond-true, cond-false, ltb-true, ltb-false}
-use Rattle.mips_table.specs.declared.inst.Inst.{Inst}
-use Rattle.mips_table.specs.declared.inst.Inst.TheVariants.{Addu, Addiu, Sltu, Beq, Bne, J, Lw, Sw}
-use Rattle.mips_table.specs.Arith.{sum, extended, flag}
-use Rattle.mips_table.specs.Effect.{branch, jump}
+use Rattle.mips_table.specs.declared.inst.Inst.TheVariants.{Addiu, Sltu, Beq, Bne, J, Sw}
+use Rattle.mips_table.specs.Arith.{sum, flag}
 use Rattle.mips_table.specs.Device.{Idle}
-use Rattle.mips_table.specs.Code.{Contents, put, reg, with_reg, Behind, World, Sound, Configuration, at_with, settle, Reaches, RunLaws, CodeAt}
-use Rattle.masm.specs.Says.{Gives, Writes, Reads}
+use Rattle.mips_table.specs.Code.{Contents, put, reg, with_reg, Behind, World, Sound, Configuration, at_with, Reaches, RunLaws, CodeAt}
+use Rattle.masm.specs.Says.{Gives, Writes}
 use Rattle.masm.specs.Laws.{RunsCompose, StraightRuns, JumpsLead}
 use Rattle.c0_meaning.specs.Operators.{StackOut}
 use Rattle.c0_expr_code.specs.Scope.{Scope}
-use Rattle.c0_expr_code.specs.Code.{Spot, low, frame_back, register_of, on_spot}
-use Rattle.c0_stmt_code.specs.Code.{MAX_STACK, frame_spot, end_code, large_code, stack_test, params_code, zeros_code, zeros_loop}
-use Rattle.c0_stmt_code.proofs.Ways.{Way, none, on, of, away, within}
+use Rattle.c0_expr_code.specs.Code.{low, frame_back, register_of, on_spot}
+use Rattle.c0_stmt_code.specs.Code.{MAX_STACK, frame_spot, end_code, stack_test, params_code, zeros_code}
+use Rattle.c0_stmt_code.proofs.Ways.{Way, on, of, away, within}
 use Rattle.c0_stmt_code.proofs.Blocks.{front, back}
 use Rattle.c0_stmt_code.proofs.Rooms.{put_same, put_other}
-use Rattle.c0_stmt_code.proofs.Spots.{same_reg, other_reg, same_read, read_is, like_read, Near, on_place, Wrote, writes}
+use Rattle.c0_stmt_code.proofs.Spots.{other_reg, same_read, read_is, on_place, Wrote, writes}
 
 -- a word of the frame, by its address
 pub frame_address : (sc : Scope) (e i : ℕ) → sc.frame ≤ e → 4 * e < 2 ^ 32 → i ≤ sc.frame → (4 * e + (frame_back sc + 4 * i) % 2 ^ 32) % 2 ^ 32 ≡ 4 * ((e - sc.frame) + i)
@@ -41,12 +39,16 @@ module _ (compose : RunsCompose) (w : World) (sound : Sound w) (straight : Strai
   pub ends : (q bytes e k : ℕ) (c : Contents) (d : Behind) → d.pending ≡ Idle → q ≢ 0 → c.regs 29 ≡ 4 * e → CodeAt w k (end_code q bytes) → (c' : Contents) × Moved e bytes q c c' × Reaches w 3 (at_with k c d) (at_with (k + length (end_code q bytes)) c' d)
   ends q bytes e k c d idle qz at code =
       let r = on_place compose w straight (Moved e bytes q c) (λ y x. Addiu q y x) (record { code = []; base = 29; shift = bytes % 2 ^ 32 }) q k c d idle qz (λ z. absurd (omega (arith, z))) code
-          (λ y m a there near address. (with_reg a q ((4 * e + bytes % 2 ^ 32) % 2 ^ 32), record {
-            is = same_read a.regs q ((4 * e + bytes % 2 ^ 32) % 2 ^ 32) qz;
-            memory = near.memory;
-            special = near.special;
-            others = λ x ne me. other_reg a.regs q ((4 * e + bytes % 2 ^ 32) % 2 ^ 32) x me ∙ near.others x ne me;
-          }, straight.next (Addiu q y (low (bytes % 2 ^ 32))) (Gives ((4 * e + bytes % 2 ^ 32) % 2 ^ 32)) m a d there refl idle (address ∙ ap (λ v. (v + bytes % 2 ^ 32) % 2 ^ 32) at))) in
+      (λ y m a there near address. (
+        with_reg a q ((4 * e + bytes % 2 ^ 32) % 2 ^ 32),
+        record {
+          is = same_read a.regs q ((4 * e + bytes % 2 ^ 32) % 2 ^ 32) qz;
+          memory = near.memory;
+          special = near.special;
+          others = λ x ne me. other_reg a.regs q ((4 * e + bytes % 2 ^ 32) % 2 ^ 32) x me ∙ near.others x ne me;
+        },
+        straight.next (Addiu q y (low (bytes % 2 ^ 32))) (Gives ((4 * e + bytes % 2 ^ 32) % 2 ^ 32)) m a d there refl idle (address ∙ ap (λ v. (v + bytes % 2 ^ 32) % 2 ^ 32) at),
+      )) in
       (r.0, r.1, subst (λ m. Reaches w 3 (at_with m c d) (at_with (k + length (end_code q bytes)) r.0 d)) (omega arith) r.2)
 
   -- the stack's test: it leaves by the exit, or goes on with register q as the new frame's end
@@ -62,17 +64,17 @@ module _ (compose : RunsCompose) (w : World) (sound : Sound w) (straight : Strai
   compared sc e s q k c c1 d idle qz qs stack_end room small fits moved code =
       let value : reg c1.regs q ≡ 4 * (e + sc.frame) = let i = moved.is in omega (arith, i, room, small, fits) in (
         λ over.
-          let b : Contents = with_reg c1 1 1 in
-          let test : flag (nat_lt (reg c1.regs 30) (reg c1.regs q)) ≡ 1 = ap (λ v. flag v) (lt-ltb (reg c1.regs 30) (reg c1.regs q) (omega (arith, value, over, stack_end))) in
-          let one = straight.next (Sltu 1 30 q) (Gives 1) k c1 d code.0 refl idle test in
-          let two = compose.settled w 1 (k + 1 + 1) (at_with (k + 1) b d) b d idle (jumps.passed (Beq 1 0 1) (k + 1) 1 false b d code.1.0 refl refl) in
-          compose.joined w 1 2 _ _ _ one (compose.joined w 1 1 _ _ _ two (jumped (k + 1 + 1) (sc.exit StackOut) b d idle code.1.1.0)),
+            let b : Contents = with_reg c1 1 1 in
+            let test : flag (nat_lt (reg c1.regs 30) (reg c1.regs q)) ≡ 1 = ap (λ v. flag v) (lt-ltb (reg c1.regs 30) (reg c1.regs q) (omega (arith, value, over, stack_end))) in
+            let one = straight.next (Sltu 1 30 q) (Gives 1) k c1 d code.0 refl idle test in
+            let two = compose.settled w 1 (k + 1 + 1) (at_with (k + 1) b d) b d idle (jumps.passed (Beq 1 0 1) (k + 1) 1 false b d code.1.0 refl refl) in
+            compose.joined w 1 2 _ _ _ one (compose.joined w 1 1 _ _ _ two (jumped (k + 1 + 1) (sc.exit StackOut) b d idle code.1.1.0)),
         λ fine.
-          let b : Contents = with_reg c1 1 0 in
-          let test : flag (nat_lt (reg c1.regs 30) (reg c1.regs q)) ≡ 0 = ap (λ v. flag v) (le-ltb (reg c1.regs 30) (reg c1.regs q) (omega (arith, value, fine, stack_end))) in
-          let one = straight.next (Sltu 1 30 q) (Gives 0) k c1 d code.0 refl idle test in
-          let two = compose.settled w 1 (k + 1 + 1 + 1) (at_with (k + 1) b d) b d idle (jumps.taken (Beq 1 0 1) (k + 1) 1 true b d code.1.0 refl refl (omega arith)) in
-          compose.later w 2 3 _ _ (omega arith) (compose.joined w 1 1 _ _ _ one (subst (λ m. Reaches w 1 (at_with (k + 1) b d) (at_with m b d)) (omega arith) two)),
+            let b : Contents = with_reg c1 1 0 in
+            let test : flag (nat_lt (reg c1.regs 30) (reg c1.regs q)) ≡ 0 = ap (λ v. flag v) (le-ltb (reg c1.regs 30) (reg c1.regs q) (omega (arith, value, fine, stack_end))) in
+            let one = straight.next (Sltu 1 30 q) (Gives 0) k c1 d code.0 refl idle test in
+            let two = compose.settled w 1 (k + 1 + 1 + 1) (at_with (k + 1) b d) b d idle (jumps.taken (Beq 1 0 1) (k + 1) 1 true b d code.1.0 refl refl (omega arith)) in
+            compose.later w 2 3 _ _ (omega arith) (compose.joined w 1 1 _ _ _ one (subst (λ m. Reaches w 1 (at_with (k + 1) b d) (at_with m b d)) (omega arith) two)),
       )
 
   -- what a fault leaves
@@ -100,12 +102,16 @@ module _ (compose : RunsCompose) (w : World) (sound : Sound w) (straight : Strai
         let go = compared sc e s q (k + length (end_code q (4 * sc.frame))) c m.0 d idle qz qs keep room small (omega (arith, fits)) m.1 (back w k (end_code q (4 * sc.frame)) (Sltu 1 30 q ∷ Beq 1 0 1 ∷ J (sc.exit StackOut) ∷ []) there) in
         let len : k + length (end_code q (4 * sc.frame)) + 3 ≡ k + length (stack_test sc q) = omega (arith, ap length same, length-append (end_code q (4 * sc.frame)) (Sltu 1 30 q ∷ Beq 1 0 1 ∷ J (sc.exit StackOut) ∷ [])) in (
           λ over. (with_reg m.0 1 1, record { memory = m.1.memory; special = m.1.special; others = λ x ne me. other_reg m.0.regs 1 1 x ne ∙ m.1.others x ne me }, compose.later w 6 7 _ _ (omega arith) (compose.joined w 3 3 _ _ _ m.2 (go.0 over))),
-          λ fine. (with_reg m.0 1 0, record {
-            is = entered_is fine fits m.0 m.1;
-            memory = m.1.memory;
-            special = m.1.special;
-            others = λ x ne me. other_reg m.0.regs 1 0 x ne ∙ m.1.others x ne me;
-          }, compose.later w 6 7 _ _ (omega arith) (compose.joined w 3 3 _ _ _ m.2 (subst (λ n. Reaches w 3 (at_with (k + length (end_code q (4 * sc.frame))) m.0 d) (at_with n (with_reg m.0 1 0) d)) len (go.1 fine)))),
+          λ fine. (
+            with_reg m.0 1 0,
+            record {
+              is = entered_is fine fits m.0 m.1;
+              memory = m.1.memory;
+              special = m.1.special;
+              others = λ x ne me. other_reg m.0.regs 1 0 x ne ∙ m.1.others x ne me;
+            },
+            compose.later w 6 7 _ _ (omega arith) (compose.joined w 3 3 _ _ _ m.2 (subst (λ n. Reaches w 3 (at_with (k + length (end_code q (4 * sc.frame))) m.0 d) (at_with n (with_reg m.0 1 0) d)) len (go.1 fine))),
+          ),
         )
   ]
     where
@@ -146,7 +152,7 @@ module _ (compose : RunsCompose) (w : World) (sound : Sound w) (straight : Strai
         → (c' : Contents) × Wrote compose w straight 1 ((e - sc.frame) + i) (reg c.regs q) c c' × Reaches w 3 (at_with k c d) (at_with (k + length (on_spot (λ y x. Sw q y x) 1 (frame_spot sc i))) c' d)
     to_frame q i k c d idle qz lt at code =
         let r = writes compose w straight q (frame_spot sc i) 1 k ((e - sc.frame) + i) (reg c.regs q) c d idle (λ z. absurd (omega (arith, z))) (λ z. absurd (omega (arith, z))) qz qz code
-            (ap (λ v. (v + (frame_back sc + 4 * i) % 2 ^ 32) % 2 ^ 32) at ∙ frame_address sc e i inside small (omega (arith, lt))) (omega (arith, lt, inside, fits)) (free ((e - sc.frame) + i) (omega arith) (omega (arith, lt, inside))) refl in
+        (ap (λ v. (v + (frame_back sc + 4 * i) % 2 ^ 32) % 2 ^ 32) at ∙ frame_address sc e i inside small (omega (arith, lt))) (omega (arith, lt, inside, fits)) (free ((e - sc.frame) + i) (omega arith) (omega (arith, lt, inside))) refl in
         (r.0, r.1, subst (λ m. Reaches w 3 (at_with m c d) (at_with (k + length (on_spot (λ y x. Sw q y x) 1 (frame_spot sc i))) r.0 d)) (omega arith) r.2)
 
     -- the parameters go to the frame
@@ -162,10 +168,12 @@ module _ (compose : RunsCompose) (w : World) (sound : Sound w) (straight : Strai
         let len : k + length (on_spot (λ y x. Sw (register_of i) y x) 1 (frame_spot sc (3 + i))) + length (params_code sc n (suc i)) ≡ k + length (params_code sc (suc n) i) = omega (arith, length-append (on_spot (λ y x. Sw (register_of i) y x) 1 (frame_spot sc (3 + i))) (params_code sc n (suc i))) in
         let value : reg c.regs (register_of i) ≡ c.regs (20 + i + 0) = read_is c.regs (register_of i) (λ z. absurd (omega (arith, z, q))) ∙ ap c.regs (omega (arith, q)) in
         let place : (e - sc.frame) + 3 + suc i ≡ (e - sc.frame) + (3 + i) + 1 = omega arith in
-        let place0 : (e - sc.frame) + (3 + i) ≡ (e - sc.frame) + 3 + i = omega arith in
-        (rest.0, subst (λ m. Filled m (suc n) (λ j. c.regs (20 + i + j)) c rest.0) place0 (filled_on ((e - sc.frame) + (3 + i)) n (reg c.regs (register_of i)) (λ j. c.regs (20 + i + j)) c first.0 rest.0 first.1
-          (params_moved n i c first.0 rest.0 first.1 few (subst (λ m. Filled m n (λ j. first.0.regs (20 + suc i + j)) first.0 rest.0) place rest.1)) (sym value)),
-        compose.later w (3 + 3 * n) (3 * suc n) _ _ (omega arith) (compose.joined w 3 (3 * n) _ _ _ first.2 (subst (λ m. Reaches w (3 * n) (at_with (k + length (on_spot (λ y x. Sw (register_of i) y x) 1 (frame_spot sc (3 + i)))) first.0 d) (at_with m rest.0 d)) len rest.2)))
+        let place0 : (e - sc.frame) + (3 + i) ≡ (e - sc.frame) + 3 + i = omega arith in (
+          rest.0,
+          subst (λ m. Filled m (suc n) (λ j. c.regs (20 + i + j)) c rest.0) place0 (filled_on ((e - sc.frame) + (3 + i)) n (reg c.regs (register_of i)) (λ j. c.regs (20 + i + j)) c first.0 rest.0 first.1
+              (params_moved n i c first.0 rest.0 first.1 few (subst (λ m. Filled m n (λ j. first.0.regs (20 + suc i + j)) first.0 rest.0) place rest.1)) (sym value)),
+          compose.later w (3 + 3 * n) (3 * suc n) _ _ (omega arith) (compose.joined w 3 (3 * n) _ _ _ first.2 (subst (λ m. Reaches w (3 * n) (at_with (k + length (on_spot (λ y x. Sw (register_of i) y x) 1 (frame_spot sc (3 + i)))) first.0 d) (at_with m rest.0 d)) len rest.2)),
+        )
       where
         params_moved : (n i : ℕ) (c b r : Contents) → Wrote compose w straight 1 ((e - sc.frame) + (3 + i)) (reg c.regs (register_of i)) c b → i + suc n ≤ 8 → Filled ((e - sc.frame) + (3 + i) + 1) n (λ j. b.regs (20 + suc i + j)) b r → Filled ((e - sc.frame) + (3 + i) + 1) n (λ j. c.regs (20 + i + suc j)) b r
         params_moved n i c b r wrote few h = record {
@@ -184,9 +192,11 @@ module _ (compose : RunsCompose) (w : World) (sound : Sound w) (straight : Strai
         let kept : first.0.regs 29 ≡ 4 * e = first.1.others 29 (λ z. absurd (omega (arith, z))) (λ z. absurd (omega (arith, z))) ∙ at in
         let rest = zeros_run n (suc i) (k + length (on_spot (λ y x. Sw 0 y x) 1 (frame_spot sc i))) first.0 d idle (omega (arith, room)) kept (back w k (on_spot (λ y x. Sw 0 y x) 1 (frame_spot sc i)) (zeros_code sc n (suc i)) code) in
         let len : k + length (on_spot (λ y x. Sw 0 y x) 1 (frame_spot sc i)) + length (zeros_code sc n (suc i)) ≡ k + length (zeros_code sc (suc n) i) = omega (arith, length-append (on_spot (λ y x. Sw 0 y x) 1 (frame_spot sc i)) (zeros_code sc n (suc i))) in
-        let place : (e - sc.frame) + suc i ≡ (e - sc.frame) + i + 1 = omega arith in
-        (rest.0, filled_on ((e - sc.frame) + i) n 0 (λ j. 0) c first.0 rest.0 first.1 (subst (λ m. Filled m n (λ j. 0) first.0 rest.0) place rest.1) refl,
-        compose.later w (3 + 3 * n) (3 * suc n) _ _ (omega arith) (compose.joined w 3 (3 * n) _ _ _ first.2 (subst (λ m. Reaches w (3 * n) (at_with (k + length (on_spot (λ y x. Sw 0 y x) 1 (frame_spot sc i))) first.0 d) (at_with m rest.0 d)) len rest.2)))
+        let place : (e - sc.frame) + suc i ≡ (e - sc.frame) + i + 1 = omega arith in (
+          rest.0,
+          filled_on ((e - sc.frame) + i) n 0 (λ j. 0) c first.0 rest.0 first.1 (subst (λ m. Filled m n (λ j. 0) first.0 rest.0) place rest.1) refl,
+          compose.later w (3 + 3 * n) (3 * suc n) _ _ (omega arith) (compose.joined w 3 (3 * n) _ _ _ first.2 (subst (λ m. Reaches w (3 * n) (at_with (k + length (on_spot (λ y x. Sw 0 y x) 1 (frame_spot sc i))) first.0 d) (at_with m rest.0 d)) len rest.2)),
+        )
 
     -- the locals' words become 0, in a loop: a turn for each
     module _ (runs : RunLaws) (P : Configuration → Configuration → Type 0) where
@@ -214,7 +224,7 @@ module _ (compose : RunsCompose) (w : World) (sound : Sound w) (straight : Strai
           word_zero : (b : ℕ) (c : Contents) → Filled b 1 (λ j. 0) c (with_reg (record c { memory = put c.memory b 0 }) 2 (4 * (b + 1)))
           word_zero b c = record {
             words = λ j lt. let here : b + j ≡ b = omega (arith, lt) in ap (put c.memory b 0) here ∙ put_same c.memory b 0;
-            others = λ x side. put_other c.memory b 0 x (λ q. elim side [ | inl lt ↦ absurd (omega (arith, lt, q)) | inr le ↦ absurd (omega (arith, le, q)) ]);
+            others = λ x side. put_other c.memory b 0 x (λ q. elim side [ inl lt ↦ absurd (omega (arith, lt, q)) | inr le ↦ absurd (omega (arith, le, q)) ]);
             special = refl;
             regs = λ x ne me. other_reg c.regs 2 (4 * (b + 1)) x me;
           }
@@ -225,9 +235,12 @@ module _ (compose : RunsCompose) (w : World) (sound : Sound w) (straight : Strai
           let test : not (nat_eq (4 * (b + 1)) (c.regs 29)) ≡ true = ap not (ne_eqb (4 * (b + 1)) (c.regs 29) differ) in
           let back_there = compose.settled w 1 k (at_with (k + 2) c2 d) c2 d idle (jumps.taken_back (Bne 2 29 65533) (k + 2) k 3 (not (nat_eq (4 * (b + 1)) (c.regs 29))) c2 d (subst (λ m. w.code m ≡ Some (Bne 2 29 65533)) (omega arith) code.1.1.0) refl test (omega arith) (omega arith) (omega arith)) in
           let way = on runs w P 1 2 0 0 1 0 (at_with k c d) (at_with (k + 2) c2 d) (at_with k c2 d) first (of runs w P 1 (at_with (k + 2) c2 d) (at_with k c2 d) back_there) in
-          let rest = loop_run n (b + 1) k c2 d idle (omega (arith, from)) (omega (arith, sum)) refl end code in
-          (rest.0, words_on n b c rest.0 rest.1, within runs w P (1 + 0 + suc n) (2 + 1 + 3 * suc n) (0 + 0 + 0) (suc (suc n)) (3 * suc (suc n)) 0 (at_with k c d) (at_with (k + 3) rest.0 d) (omega arith) (omega arith) refl
-          (on runs w P (1 + 0) (2 + 1) (0 + 0) (suc n) (3 * suc n) 0 (at_with k c d) (at_with k c2 d) (at_with (k + 3) rest.0 d) way rest.2))
+          let rest = loop_run n (b + 1) k c2 d idle (omega (arith, from)) (omega (arith, sum)) refl end code in (
+            rest.0,
+            words_on n b c rest.0 rest.1,
+            within runs w P (1 + 0 + suc n) (2 + 1 + 3 * suc n) (0 + 0 + 0) (suc (suc n)) (3 * suc (suc n)) 0 (at_with k c d) (at_with (k + 3) rest.0 d) (omega arith) (omega arith) refl
+                (on runs w P (1 + 0) (2 + 1) (0 + 0) (suc n) (3 * suc n) 0 (at_with k c d) (at_with k c2 d) (at_with (k + 3) rest.0 d) way rest.2),
+          )
         where
           words_on : (n b : ℕ) (c r : Contents) → Filled (b + 1) (suc n) (λ j. 0) (with_reg (record c { memory = put c.memory b 0 }) 2 (4 * (b + 1))) r → Filled b (suc (suc n)) (λ j. 0) c r
           words_on n b c r h = record {

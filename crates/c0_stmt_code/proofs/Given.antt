@@ -1,35 +1,25 @@
 -- What the crates below say, as the proofs here take it.
-use Rattle.std.specs.Prelude.{map, slice_get, IsTrue, Some, None, unwrap_or, replicate}
+use Rattle.std.specs.Prelude.{map, slice_get, IsTrue, Some, unwrap_or}
 use Rattle.std.specs.List.{All}
 use Rattle.std.proofs.lemmas.List.Elements.{All-cons, All-head, All-tail}
 use Rattle.std.proofs.lemmas.List.{map-append}
-use Rattle.std.proofs.Common.{◌≡◌, ◌≢◌, ℕ, zero, suc, ◌+◌, ◌-◌, ◌*◌, ◌<◌, ◌≤◌, Bool, true, false, List, [], ◌∷◌, ◌++◌, length, refl, sym, ap, ◌∙◌, subst, arith}
-use Rattle.mips_table.specs.Code.{Contents, Behind, World, Configuration as Machine}
-use Rattle.c0_tree.specs.Primitives.{CPrimitive}
-use Rattle.c0_tree.specs.Tree.{CDecl, CExpr, CStmts, CBody, code, CFunction, CUnit}
+use Rattle.std.proofs.Common.{◌≡◌, ◌≢◌, ℕ, zero, suc, ◌+◌, ◌*◌, ◌<◌, ◌≤◌, List, [], ◌∷◌, ◌++◌, refl, sym, ap, ◌∙◌, subst, arith}
+use Rattle.c0_tree.specs.Tree.{CDecl, CExpr, CStmts, code, CFunction, CUnit}
 use Rattle.c0_meaning.specs.Ty.{Ty, ty_of, is_scalar}
 use Rattle.c0_meaning.specs.Ty as ty
-use Rattle.c0_meaning.specs.Env.{Env, Shape, Typed, typed_of, env_of}
-use Rattle.c0_meaning.specs.TypeAt as type_at_
-use Rattle.c0_meaning.specs.Limits.{frame, locals_of}
+use Rattle.c0_meaning.specs.Env.{Shape, typed_of}
+use Rattle.c0_meaning.specs.Limits.{locals_of}
 use Rattle.c0_meaning.specs.Words.{fields_named, words}
 use Rattle.c0_meaning.specs.Sizes.{words_before}
 use Rattle.c0_meaning.specs.Addresses.{type_at, words_to, words_to_part}
 use Rattle.c0_meaning.specs.Sound.{shapes}
 use Rattle.c0_meaning.specs.Value.{Region, globals, heap, locals, Location, Value, Values, empty, part, group, followed_by, zeros_of, put}
-use Rattle.c0_meaning.specs.State.{Frame, State, stack_words, variables_of, write, pushed}
-use Rattle.c0_meaning.specs.Numbered.{HasNumberedType, IsNumberedGiven, a_value, a_null, IsNumberedLeft}
-use Rattle.c0_meaning.specs.TypedState.{Layout, types_of, Leads, LeadsFrom, Fits, AllFit, AreParts, variable_types, IsTypedFrame, layout_of, IsTypedWith}
-use Rattle.c0_expr_code.specs.Scope.{Scope, scope_of}
+use Rattle.c0_meaning.specs.State.{Frame, State, write}
+use Rattle.c0_meaning.specs.TypedState.{types_of, Leads, LeadsFrom, Fits, AllFit, AreParts, variable_types, IsTypedFrame, layout_of, IsTypedWith}
+use Rattle.c0_expr_code.specs.Scope.{Scope}
 use Rattle.c0_expr_code.specs.Bases.{Bases, words_of_all, word, RegionHeld}
-use Rattle.c0_expr_code.specs.Relation.{Scene, Area}
 use Rattle.c0_expr_code.specs.Laws as below
-use Rattle.c0_stmt_code.specs.Setup.{Setup}
-use Rattle.c0_stmt_code.specs.Ahead.{Activation, env_in}
-use Rattle.c0_stmt_code.specs.Standing.{AreDeclared, text, scope, bases, end_of}
-use Rattle.c0_stmt_code.proofs.Needs.{ExpressionsDo, HeldStays, TypedStays, LengthsFit, types_for}
-use Rattle.c0_stmt_code.proofs.Rooms.{frame_words, frame_on, words_by_types}
-use Rattle.c0_stmt_code.proofs.State.{Exprs}
+use Rattle.c0_stmt_code.proofs.Needs.{HeldStays, TypedStays, LengthsFit, types_for}
 
 pub lengths_fit : below.CodesAreShort → (sc : Scope) → LengthsFit sc
 lengths_fit h sc = record { value = h.value sc; value_some = h.some sc; operand = h.operand sc; place = h.place sc; test = h.test sc; test_some = h.test_some sc; test_same = λ e s far r. h.same sc e s far 0 r }

@@ -1,32 +1,31 @@
 -- What the crates below say of expressions and of functions, as the proofs here take it.
-use Rattle.std.specs.Prelude.{map, slice_get, IsTrue, Some, None}
+use Rattle.std.specs.Prelude.{map, slice_get, IsTrue, Some}
 use Rattle.std.specs.List.{All}
 use Rattle.std.proofs.lemmas.List.Elements.{All-head, All-tail}
-use Rattle.std.proofs.Common.{◌≡◌, ◌≢◌, ℕ, zero, suc, ◌+◌, ◌-◌, ◌*◌, ◌<◌, ◌≤◌, Bool, true, false, List, [], ◌∷◌, ◌++◌, length, refl, sym, ap, ◌∙◌, subst, arith}
-use Rattle.mips_table.specs.Code.{Contents, Behind, World, Configuration as Machine}
-use Rattle.c0_tree.specs.Size.{nodes, stmts_nodes, body_nodes}
+use Rattle.std.proofs.Common.{◌≡◌, ℕ, zero, suc, ◌≤◌, Bool, true, false, List, [], ◌∷◌, ◌++◌, length, refl, sym, ap, ◌∙◌, subst, arith}
+use Rattle.mips_table.specs.Code.{Contents, Behind, Configuration as Machine}
+use Rattle.c0_tree.specs.Size.{body_nodes}
 use Rattle.c0_tree.specs.Primitives.{CPrimitive}
-use Rattle.c0_tree.specs.Tree.{CDecl, CExpr, CStmts, CBody, code, CFunction, CUnit}
+use Rattle.c0_tree.specs.Tree.{CDecl, CExpr, CFunction, CUnit}
 use Rattle.c0_meaning.specs.Ty.{Ty, ty_of, is_scalar, same_ty}
 use Rattle.c0_meaning.specs.Ty as ty
-use Rattle.c0_meaning.specs.Env.{Env, Shape, Typed, typed_of, env_of}
+use Rattle.c0_meaning.specs.Env.{Env, typed_of, env_of}
 use Rattle.c0_meaning.specs.DeclaredTypes.{may_pass}
-use Rattle.c0_meaning.specs.Limits.{frame, locals_of, is_asm, nodes_of, words_held, max_parameters}
+use Rattle.c0_meaning.specs.Limits.{locals_of, is_asm, words_held, max_parameters}
 use Rattle.c0_meaning.specs.Sound.{shapes}
 use Rattle.c0_meaning.specs.State.{Frame, State, stack_words, variables_of}
-use Rattle.c0_meaning.specs.Numbered.{HasNumberedType, IsNumberedGiven, a_value, a_null, IsNumberedBody, NumbersTell}
+use Rattle.c0_meaning.specs.Numbered.{IsNumberedGiven, a_value, a_null, IsNumberedBody, NumbersTell}
 use Rattle.c0_meaning.specs.Typed.{IsTypedUnit, IsTypedFunction, UnitsAreFaultless}
 use Rattle.c0_meaning.specs.Unit.{IsWellFormed}
 use Rattle.c0_meaning.specs.TypedState.{types_of, AreParts, variable_types, IsTypedFrame, layout_of, IsTypedWith}
-use Rattle.c0_expr_code.specs.Scope.{Scope}
-use Rattle.c0_expr_code.specs.Bases.{Bases, words_of_all}
+use Rattle.c0_expr_code.specs.Bases.{words_of_all}
 use Rattle.c0_expr_code.specs.Relation.{Scene, Area}
 use Rattle.c0_expr_code.specs.Laws as below
 use Rattle.c0_stmt_code.specs.Setup.{Setup}
 use Rattle.c0_stmt_code.specs.Ahead.{env_in}
-use Rattle.c0_stmt_code.specs.Standing.{AreDeclared, text, scope, bases, end_of}
-use Rattle.c0_stmt_code.proofs.Needs.{ExpressionsDo, FunctionsAre, AllScalar}
-use Rattle.c0_stmt_code.proofs.Rooms.{frame_words, frame_on, words_by_types}
+use Rattle.c0_stmt_code.specs.Standing.{AreDeclared, text, scope, bases}
+use Rattle.c0_stmt_code.proofs.Needs.{FunctionsAre, AllScalar}
+use Rattle.c0_stmt_code.proofs.Rooms.{frame_on, words_by_types}
 use Rattle.c0_stmt_code.proofs.State.{Exprs}
 
 at_number : {A : Type 0} (P : A → Type 0) (xs : List A) (i : ℕ) (x : A) → All P xs → slice_get xs i ≡ Some x → P x
@@ -109,7 +108,7 @@ module _ (numbers : NumbersTell) (faultless : UnitsAreFaultless) (table : List C
     few = λ n f is. few_params (is_asm f.body) (length f.params) (its_function n f is).signature.few;
     typed = λ n f ls stmts answer is e. subst (λ b. IsNumberedBody (env_of table u (f.params ++ locals_of f.body)) (ty_of f.answer) b) e (at_number (λ f. IsNumberedBody (env_of table u (f.params ++ locals_of f.body)) (ty_of f.answer) f.body) u.functions n f (numbers table u well) is);
     nodes = λ n f ls stmts answer is e.
-      let k = (its_function n f is).signature.nodes in
-      let q = ap (λ b. body_nodes (length (words_held b)) b) e in
-      omega (arith, k, q);
+        let k = (its_function n f is).signature.nodes in
+        let q = ap (λ b. body_nodes (length (words_held b)) b) e in
+        omega (arith, k, q);
   }

@@ -1,6 +1,6 @@
 -- How long the code of statements is: at most 16 words a node.
 use Rattle.std.specs.Prelude.{Option, Some, None, if◌then◌else◌, nat_lt}
-use Rattle.std.proofs.Common.{◌≡◌, inl, inr, ℕ, zero, suc, ◌+◌, ◌-◌, ◌*◌, ◌/◌, ◌%◌, ◌^◌, ◌<◌, ◌≤◌, Bool, true, false, List, [], ◌∷◌, ◌++◌, length, refl, sym, ap, ◌∙◌, subst, arith, length-append}
+use Rattle.std.proofs.Common.{inl, inr, ℕ, suc, ◌+◌, ◌*◌, ◌/◌, ◌%◌, ◌^◌, ◌≤◌, Bool, true, false, List, [], ◌∷◌, ◌++◌, length, ap, arith, length-append}
 use Rattle.std.proofs.lemmas.Bool.{cases_Bool, cond-true, cond-false}
 use Rattle.mips_table.specs.declared.inst.Inst.{Inst}
 use Rattle.mips_table.specs.declared.inst.Inst.TheVariants.{Lui, Addu, Sw, Ori, Addiu, Jal}
@@ -11,7 +11,7 @@ use Rattle.c0_meaning.specs.Words.{words}
 use Rattle.c0_expr_code.specs.Scope.{Scope}
 use Rattle.c0_expr_code.specs.Code.{Spot, is_near, low, high, on_spot, constant_code, operand_code, operand_register, made, value_code, register_of}
 use Rattle.c0_expr_code.specs.Test.{test_code}
-use Rattle.c0_stmt_code.specs.Code.{Links, skip, callee_index, answer_code, stored_code, assigned_code, assign_code, args_code, call_code, new_code, otherwise, otherwise_at, choice_code, back, turn_code, while_code, stmt_code, stmts_code}
+use Rattle.c0_stmt_code.specs.Code.{Links, callee_index, answer_code, stored_code, assigned_code, args_code, otherwise, otherwise_at, back, turn_code, stmt_code, stmts_code}
 use Rattle.c0_stmt_code.proofs.Needs.{LengthsFit}
 use Rattle.c0_stmt_code.proofs.Spots.{spot_longer}
 

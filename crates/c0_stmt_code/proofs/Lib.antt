@@ -10,6 +10,7 @@ pub mod Given2
 pub mod Held
 pub mod Lengths
 pub mod Lights
+pub mod Locals
 pub mod Needs
 pub mod Places
 pub mod Primitives

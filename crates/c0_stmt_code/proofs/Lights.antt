@@ -1,12 +1,11 @@
 -- The begin of a function whose variables stand in registers, on the machine.
-use Rattle.std.specs.Prelude.{Some, None, if◌then◌else◌, IsTrue}
+use Rattle.std.specs.Prelude.{None, if◌then◌else◌}
 use Rattle.std.specs.List.{list_all}
 use Rattle.std.proofs.lemmas.Bool.{and_parts, cases_eq}
-use Rattle.std.proofs.Common.{◌≡◌, ◌≢◌, inl, inr, ℕ, zero, suc, ◌+◌, ◌-◌, ◌*◌, ◌%◌, ◌^◌, ◌<◌, ◌≤◌, ◌⊎◌, Bool, true, false, List, [], ◌∷◌, ◌++◌, length, refl, sym, ap, ◌∙◌, subst, arith}
-use Rattle.mips_table.specs.declared.inst.Inst.{Inst}
+use Rattle.std.proofs.Common.{◌≡◌, ◌≢◌, inl, inr, ℕ, zero, suc, ◌+◌, ◌*◌, ◌^◌, ◌<◌, ◌≤◌, ◌⊎◌, Bool, true, false, List, [], ◌∷◌, ◌++◌, length, refl, sym, ap, ◌∙◌, subst, arith}
 use Rattle.mips_table.specs.declared.inst.Inst.TheVariants.{Addu, Sw}
 use Rattle.mips_table.specs.Device.{Idle}
-use Rattle.mips_table.specs.Code.{Contents, put, reg, with_reg, Behind, World, Sound, at_with, Reaches, CodeAt}
+use Rattle.mips_table.specs.Code.{Contents, put, with_reg, Behind, World, at_with, Reaches, CodeAt}
 use Rattle.masm.specs.Says.{Gives, Writes}
 use Rattle.masm.specs.Laws.{RunsCompose, StraightRuns}
 use Rattle.c0_meaning.specs.Ty.{Ty, is_scalar}
@@ -39,16 +38,19 @@ module _ (compose : RunsCompose) (w : World) (straight : StraightRuns w) where
       let c1 : Contents = with_reg c (register_of i) 0 in
       let one = straight.next (Addu (register_of i) 0 0) (Gives 0) k c d code.0 refl idle refl in
       let rest = clears n (suc i) (k + 1) (with_reg c (register_of i) 0) d idle (omega (arith, few)) code.1 in
-      let len : k + 1 + length (clear_code n (suc i)) ≡ k + length (clear_code (suc n) i) = omega arith in
-      (rest.0, record {
-        zeros = λ x le lt. at_number x (register_of i) q rest.0 rest.1 le lt;
-        others = λ x side. elim side [
-          | inl lt ↦ rest.1.others x (inl (omega (arith, lt))) ∙ other_reg c.regs (register_of i) 0 x (λ e. absurd (omega (arith, e, q, lt)))
-          | inr le ↦ rest.1.others x (inr (omega (arith, le))) ∙ other_reg c.regs (register_of i) 0 x (λ e. absurd (omega (arith, e, q, le)))
-        ];
-        memory = rest.1.memory;
-        special = rest.1.special;
-      }, compose.later w (1 + n) (suc n) _ _ (omega arith) (compose.joined w 1 n _ _ _ one (subst (λ m. Reaches w n (at_with (k + 1) (with_reg c (register_of i) 0) d) (at_with m rest.0 d)) len rest.2)))
+      let len : k + 1 + length (clear_code n (suc i)) ≡ k + length (clear_code (suc n) i) = omega arith in (
+        rest.0,
+        record {
+          zeros = λ x le lt. at_number x (register_of i) q rest.0 rest.1 le lt;
+          others = λ x side. elim side [
+            | inl lt ↦ rest.1.others x (inl (omega (arith, lt))) ∙ other_reg c.regs (register_of i) 0 x (λ e. absurd (omega (arith, e, q, lt)))
+            | inr le ↦ rest.1.others x (inr (omega (arith, le))) ∙ other_reg c.regs (register_of i) 0 x (λ e. absurd (omega (arith, e, q, le)))
+          ];
+          memory = rest.1.memory;
+          special = rest.1.special;
+        },
+        compose.later w (1 + n) (suc n) _ _ (omega arith) (compose.joined w 1 n _ _ _ one (subst (λ m. Reaches w n (at_with (k + 1) (with_reg c (register_of i) 0) d) (at_with m rest.0 d)) len rest.2)),
+      )
     where
       at_number : (x r : ℕ) → r ≡ 20 + i → (e : Contents) → Zeroed n (suc i) (with_reg c (register_of i) 0) e → 20 + i ≤ x → x < 20 + i + suc n → e.regs x ≡ 0
       at_number x r q e h le lt = elim (cases_eq x (20 + i)) [
@@ -69,6 +71,8 @@ module _ (compose : RunsCompose) (w : World) (straight : StraightRuns w) where
   pub saves_light : (calling : Bool) (low k : ℕ) (c : Contents) (d : Behind) → d.pending ≡ Idle → c.regs 29 ≡ 4 * low → low < w.words → w.words < 2 ^ 26 → w.kept low ≡ None → CodeAt w k (if calling then Sw 31 29 0 ∷ [] else [])
       → (c' : Contents) × Stored31 low calling c c' × Reaches w 1 (at_with k c d) (at_with (k + length (if calling then Sw 31 29 0 ∷ [] else [])) c' d)
   saves_light false low k c d idle at inside small kept code = (c, record { is = λ q. absurd (cc); others = λ x ne. refl; regs = refl; special = refl }, subst (λ m. Reaches w 1 (at_with k c d) (at_with m c d)) (omega arith) (compose.later w 0 1 _ _ (omega arith) (compose.none w (at_with k c d))))
-  saves_light true low k c d idle at inside small kept code =
-      (record c { memory = put c.memory low (c.regs 31) }, record { is = λ q. put_same c.memory low (c.regs 31); others = λ x ne. put_other c.memory low (c.regs 31) x ne; regs = refl; special = refl },
-        straight.next (Sw 31 29 0) (Writes low (c.regs 31)) k c d code.0 refl idle (omega (arith, at, inside, small), inside, kept, read_is c.regs 31 (λ q. absurd (omega (arith, q)))))
+  saves_light true low k c d idle at inside small kept code = (
+    record c { memory = put c.memory low (c.regs 31) },
+    record { is = λ q. put_same c.memory low (c.regs 31); others = λ x ne. put_other c.memory low (c.regs 31) x ne; regs = refl; special = refl },
+    straight.next (Sw 31 29 0) (Writes low (c.regs 31)) k c d code.0 refl idle (omega (arith, at, inside, small), inside, kept, read_is c.regs 31 (λ q. absurd (omega (arith, q)))),
+  )

@@ -3,10 +3,9 @@ use Rattle.std.proofs.Common.{◌≡◌, ◌≢◌, ℕ, ◌+◌, ◌*◌, ◌<�
 use Rattle.mips_table.specs.Code.{World}
 use Rattle.c0_tree.specs.Primitives.{CPrimitive}
 use Rattle.c0_tree.specs.Size.{need, nodes, stmts_nodes}
-use Rattle.c0_tree.specs.Tree.{CExpr, CStmts, CBody, code, CDecl, CFunction, CUnit}
+use Rattle.c0_tree.specs.Tree.{CExpr, CStmts, code, CDecl, CFunction, CUnit}
 use Rattle.c0_meaning.specs.Ty.{Ty, bool, is_scalar, ty_of}
 use Rattle.c0_meaning.specs.Limits.{locals_of}
-use Rattle.c0_meaning.specs.Expression.{is_place}
 use Rattle.c0_meaning.specs.Numbered.{is_frame_place, IsNumberedGiven, IsNumberedLeft, IsNumberedTest, AreNumbered}
 use Rattle.c0_meaning.specs.Env.{Env, Shape, typed_of, env_of}
 use Rattle.c0_meaning.specs.Value.{Region, globals, heap, locals, Location, Value, Values, group, followed_by, zeros_of, put}

@@ -1,35 +1,34 @@
 -- A value goes to a place that is found now: the end of an assignment, of a call and of `new`.
-use Rattle.std.specs.Prelude.{map, slice_get, IsTrue, Some, None, Ok, Err}
-use Rattle.std.proofs.Common.{◌≡◌, ◌≢◌, inl, inr, ℕ, zero, suc, ◌+◌, ◌*◌, ◌%◌, ◌^◌, ◌<◌, ◌≤◌, Bool, true, false, Option, List, [], ◌∷◌, ◌++◌, length, refl, sym, ap, ◌∙◌, subst, arith}
+use Rattle.std.specs.Prelude.{None}
+use Rattle.std.proofs.Common.{◌≡◌, ◌≢◌, inl, ℕ, ◌+◌, ◌*◌, ◌<◌, ◌≤◌, Option, List, ◌∷◌, length, refl, ap, ◌∙◌, arith}
 use Rattle.mips_table.specs.declared.inst.Inst.TheVariants.{Sw}
 use Rattle.mips_table.specs.Code.{Contents, reg, Behind, Configuration as Machine, at_with, RunLaws, CodeAt, put as put_word}
 use Rattle.masm.specs.Laws.{RunsCompose, JumpsLead, StraightRuns}
 use Rattle.c0_tree.specs.Size.{need, nodes}
 use Rattle.c0_tree.specs.Tree.{CExpr, CStmts, CFunction}
-use Rattle.c0_meaning.specs.Ty.{Ty, is_scalar}
+use Rattle.c0_meaning.specs.Ty.{Ty}
 use Rattle.c0_meaning.specs.Sound.{shapes}
-use Rattle.c0_meaning.specs.Value.{Region, globals, heap, locals, Location, Value}
+use Rattle.c0_meaning.specs.Value.{Region, globals, heap, locals, Value}
 use Rattle.c0_meaning.specs.State.{Frame, write}
 use Rattle.c0_meaning.specs.Numbered.{is_frame_place, IsNumberedLeft}
 use Rattle.c0_meaning.specs.Evaluation.{place_of}
 use Rattle.c0_meaning.specs.World.{Cost, units, plus, Configuration, with_state, ended}
-use Rattle.c0_meaning.specs.Running.{Work, push, Go, store}
+use Rattle.c0_meaning.specs.Running.{Work, store}
 use Rattle.c0_meaning.specs.TypedState.{LeadsFrom, Fits, layout_of}
 use Rattle.c0_expr_code.specs.Code.{Spot, on_spot, made}
 use Rattle.c0_expr_code.specs.Scope.{Scope}
 use Rattle.c0_expr_code.specs.Bases.{Bases, types_in, word_at, word}
-use Rattle.c0_expr_code.specs.Relation.{Ready, Keeps, Comes, Leads, Source, nought, its, far}
+use Rattle.c0_expr_code.specs.Relation.{Ready, Keeps, Leads, Source, nought, its, far}
 use Rattle.c0_stmt_code.specs.Setup.{Setup}
 use Rattle.c0_stmt_code.specs.Ahead.{Activation, env_in, Block, Ahead}
-use Rattle.c0_stmt_code.specs.Standing.{text, scope, bases, Waiting, Runs, UnderWay, Stands, StepIs}
+use Rattle.c0_stmt_code.specs.Standing.{text, scope, bases, Waiting, Runs, Stands, StepIs}
 use Rattle.c0_stmt_code.proofs.Needs.{ExpressionsDo, HeldStays, TypedStays, types_for}
-use Rattle.c0_stmt_code.proofs.Ways.{Way, on, of, away, within}
-use Rattle.c0_stmt_code.proofs.Blocks.{front}
+use Rattle.c0_stmt_code.proofs.Ways.{on, away}
 use Rattle.c0_stmt_code.proofs.Costs.{place_within}
-use Rattle.c0_stmt_code.proofs.Spots.{spot_front, spot_longer, Wrote, writes}
-use Rattle.c0_stmt_code.proofs.State.{state_of, standing_at, Exprs, ready, under_on}
-use Rattle.c0_stmt_code.proofs.Stores.{its_word, spot, stored}
-use Rattle.c0_stmt_code.proofs.Sim.{Path, stands_on, arrives, then_comes}
+use Rattle.c0_stmt_code.proofs.Spots.{spot_front, spot_longer, writes}
+use Rattle.c0_stmt_code.proofs.State.{state_of, standing_at, Exprs, ready}
+use Rattle.c0_stmt_code.proofs.Stores.{spot, stored}
+use Rattle.c0_stmt_code.proofs.Sim.{Path, arrives, then_comes}
 
 pub source_not_one : (r q : ℕ) → 8 ≤ r → Source r q → q ≢ 1
 source_not_one r _ le nought = λ e. absurd (omega (arith, e))
@@ -77,19 +76,19 @@ module _ (runs : RunLaws) (compose : RunsCompose) (W E : Type 0) (Outer : W → 
       then_comes runs compose W E Outer Passes z jumps 0 n j 0 debt 1 (nodes p) cost here h0 s a.function k (k + length x.code) c d objects (Leads sc (bases W E Outer Passes z objects (g ∷ fs)) x.base x.shift free (is_frame_place p) t c) (place_of p here.state) _ path
       (omega (arith, early)) en st (place_within p here.state) runs_p.1
       (λ u l c1 least most found path1.
-        let leads = leads_for z objects (g ∷ fs) a.function l.region l.path t found.leads in
-        let room = spot W E Outer Passes z held typing objects gv hv hw g fs world calls answer c d a others st r waits l.region l.path t leads left.scalar found.standing in
-        let at = word_at sc (bases W E Outer Passes z objects (g ∷ fs)) l in
-        let its = word sc (bases W E Outer Passes z objects (g ∷ fs)) v in
-        let from = room.from in
-        let to = room.to in
-        let stack = z.stack_fits in
-        let wrote = writes compose z.w straight q x free k at its c1 d st.idle (λ e. absurd (omega (arith, e, lo))) (source_not_one free x.base lo runs_p.0) qz qr code found.is (omega (arith, to, stack)) (z.ours at (inl (from, to))) (kept c1 found.keeps ∙ holds) in
-        let longer = spot_longer (λ y x. Sw q y x) free x in
-        let go = away runs z.w Passes 3 (at_with (k + length x.code) c1 d) (at_with (k + length (on_spot (λ y x. Sw q y x) free x)) wrote.0 d) (λ e. absurd (omega (arith, e, longer))) wrote.2 in
-        let way = on runs z.w Passes 0 (n + (0 + 16 * u)) j 1 3 0 s _ _ path1 go in
-        let done = stored W E Outer Passes z held typing objects gv hv hw g fs world calls answer c d a others st r waits wrote.0 t v (wrote.1.special ∙ found.keeps.special)
-            (λ y ge. wrote.1.others y (λ e. absurd (omega (arith, e, ge))) (λ e. absurd (omega (arith, e, ge, hi))) ∙ found.keeps.above y (λ e. absurd (omega (arith, e, ge, hi))) ge) left.scalar fits l.region l.path leads found.standing
-            (wrote.1.memory ∙ ap (λ m. put_word m at its) found.keeps.memory) in
-        arrives runs compose W E Outer Passes z jumps (0 + 1) (n + (0 + 16 * u) + 3) (j + 0) debt debt' (plus cost (units u)) h0 (with_state here (write here.state l v)) s (k + length (on_spot (λ y x. Sw q y x) free x)) wrote.0 d objects a others rest work way
-        (omega (arith, low, most)) (omega (arith, high, least)) (omega (arith, en)) done.0 done.1 block)
+      let leads = leads_for z objects (g ∷ fs) a.function l.region l.path t found.leads in
+      let room = spot W E Outer Passes z held typing objects gv hv hw g fs world calls answer c d a others st r waits l.region l.path t leads left.scalar found.standing in
+      let at = word_at sc (bases W E Outer Passes z objects (g ∷ fs)) l in
+      let its = word sc (bases W E Outer Passes z objects (g ∷ fs)) v in
+      let from = room.from in
+      let to = room.to in
+      let stack = z.stack_fits in
+      let wrote = writes compose z.w straight q x free k at its c1 d st.idle (λ e. absurd (omega (arith, e, lo))) (source_not_one free x.base lo runs_p.0) qz qr code found.is (omega (arith, to, stack)) (z.ours at (inl (from, to))) (kept c1 found.keeps ∙ holds) in
+      let longer = spot_longer (λ y x. Sw q y x) free x in
+      let go = away runs z.w Passes 3 (at_with (k + length x.code) c1 d) (at_with (k + length (on_spot (λ y x. Sw q y x) free x)) wrote.0 d) (λ e. absurd (omega (arith, e, longer))) wrote.2 in
+      let way = on runs z.w Passes 0 (n + (0 + 16 * u)) j 1 3 0 s _ _ path1 go in
+      let done = stored W E Outer Passes z held typing objects gv hv hw g fs world calls answer c d a others st r waits wrote.0 t v (wrote.1.special ∙ found.keeps.special)
+      (λ y ge. wrote.1.others y (λ e. absurd (omega (arith, e, ge))) (λ e. absurd (omega (arith, e, ge, hi))) ∙ found.keeps.above y (λ e. absurd (omega (arith, e, ge, hi))) ge) left.scalar fits l.region l.path leads found.standing
+      (wrote.1.memory ∙ ap (λ m. put_word m at its) found.keeps.memory) in
+      arrives runs compose W E Outer Passes z jumps (0 + 1) (n + (0 + 16 * u) + 3) (j + 0) debt debt' (plus cost (units u)) h0 (with_state here (write here.state l v)) s (k + length (on_spot (λ y x. Sw q y x) free x)) wrote.0 d objects a others rest work way
+      (omega (arith, low, most)) (omega (arith, high, least)) (omega (arith, en)) done.0 done.1 block)

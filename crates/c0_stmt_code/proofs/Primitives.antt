@@ -1,6 +1,6 @@
 -- A call of a primitive: the arguments, the jump, the pass, and the answer that waits for its place.
-use Rattle.std.specs.Prelude.{map, slice_get, IsTrue, Option, Some, None, if◌then◌else◌}
-use Rattle.std.proofs.Common.{◌≡◌, ◌≢◌, inl, inr, ℕ, zero, suc, ◌+◌, ◌-◌, ◌*◌, ◌<◌, ◌≤◌, ◌⊎◌, Bool, true, false, List, [], ◌∷◌, ◌++◌, length, refl, sym, ap, ◌∙◌, subst, arith, length-append}
+use Rattle.std.specs.Prelude.{map, slice_get, Option, Some, if◌then◌else◌}
+use Rattle.std.proofs.Common.{◌≡◌, inl, inr, ℕ, suc, ◌+◌, ◌*◌, ◌<◌, ◌≤◌, true, false, List, [], ◌∷◌, ◌++◌, length, refl, sym, ap, ◌∙◌, subst, arith, length-append}
 use Rattle.mips_table.specs.declared.inst.Inst.{Inst}
 use Rattle.mips_table.specs.declared.inst.Inst.TheVariants.{Jal}
 use Rattle.mips_table.specs.Code.{Contents, with_reg, Behind, World, Configuration as Machine, at_with, RunLaws, CodeAt}
@@ -10,35 +10,33 @@ use Rattle.c0_tree.specs.declared.primitive.Scalar.TheVariants as scalar
 use Rattle.c0_tree.specs.declared.tree.Kind.TheVariants.{Primitive}
 use Rattle.c0_tree.specs.Primitives.{CPrimitive}
 use Rattle.c0_tree.specs.Size.{nodes, args_nodes}
-use Rattle.c0_tree.specs.Tree.{CExpr, CStmts, CFunction}
+use Rattle.c0_tree.specs.Tree.{CExpr, CStmts}
 use Rattle.c0_meaning.specs.Ty.{Ty}
 use Rattle.c0_meaning.specs.Env.{Shape, typed_of, scalar_ty}
 use Rattle.c0_meaning.specs.Sound.{shapes}
-use Rattle.c0_meaning.specs.Limits.{frame}
 use Rattle.c0_meaning.specs.Value.{Value, int, bool, null, at, group, Values, empty, part}
-use Rattle.c0_meaning.specs.State.{Frame, State, stack_words}
+use Rattle.c0_meaning.specs.State.{Frame, stack_words}
 use Rattle.c0_meaning.specs.Statement.{MAX_NEED, call_need}
 use Rattle.c0_meaning.specs.Numbered.{IsNumberedLeft, AreNumberedGiven}
 use Rattle.c0_meaning.specs.Evaluation.{values_of}
-use Rattle.c0_meaning.specs.World.{Cost, units, plus, Configuration, after_call, call_cost}
-use Rattle.c0_meaning.specs.Running.{Target, into, Work, finish, Step, Go, then_go, call_with}
-use Rattle.c0_meaning.specs.TypedState.{Layout, types_of, Fits, AllFit, layout_of, IsTypedWith, IsScalar, AreScalars}
+use Rattle.c0_meaning.specs.World.{units, Configuration, after_call}
+use Rattle.c0_meaning.specs.Running.{into, Work, then_go, call_with}
+use Rattle.c0_meaning.specs.TypedState.{Layout, types_of, Fits, AllFit, layout_of, IsTypedWith, AreScalars}
 use Rattle.c0_expr_code.specs.Scope.{Scope}
-use Rattle.c0_expr_code.specs.Bases.{Bases, words_of_all, word, RegionHeld}
-use Rattle.c0_expr_code.specs.Relation.{layout}
+use Rattle.c0_expr_code.specs.Bases.{Bases, word, RegionHeld}
 use Rattle.c0_stmt_code.specs.Code.{calls_in, args_code, answer_code}
-use Rattle.c0_stmt_code.specs.Setup.{Setup, ArePassed, scalar_word, Called, Back, IsKept}
-use Rattle.c0_stmt_code.specs.Ahead.{Activation, env_in, IsAnswered, Block, Awaits, Ahead}
-use Rattle.c0_stmt_code.specs.Standing.{text, scope, bases, end_of, unit_scope, word_of_value, AreIn, Waiting, Runs, UnderWay, Stands, StepIs}
-use Rattle.c0_stmt_code.proofs.Needs.{HeldStays, TypedStays, FunctionsAre, LengthsFit, AllScalar}
-use Rattle.c0_stmt_code.proofs.Ways.{Way, none, on, of, away, pass}
+use Rattle.c0_stmt_code.specs.Setup.{Setup, ArePassed, scalar_word, Called, Back}
+use Rattle.c0_stmt_code.specs.Ahead.{Activation, env_in, Block, Awaits, Ahead}
+use Rattle.c0_stmt_code.specs.Standing.{text, scope, bases, end_of, unit_scope, AreIn, Waiting, Runs, UnderWay, Stands, StepIs}
+use Rattle.c0_stmt_code.proofs.Needs.{HeldStays, TypedStays, AllScalar}
+use Rattle.c0_stmt_code.proofs.Ways.{none, on, away, pass}
 use Rattle.c0_stmt_code.proofs.Blocks.{front, back}
 use Rattle.c0_stmt_code.proofs.Costs.{values_within}
 use Rattle.c0_stmt_code.proofs.State.{state_of, standing_at, Exprs}
-use Rattle.c0_stmt_code.proofs.Spots.{other_reg, same_reg, spot_longer}
+use Rattle.c0_stmt_code.proofs.Spots.{other_reg, same_reg}
 use Rattle.c0_stmt_code.proofs.Rooms.{variables_same, waiting_same, frame_words, frame_on, words_by_types}
 use Rattle.c0_stmt_code.proofs.Places.{its_exprs, its_ready}
-use Rattle.c0_stmt_code.proofs.Args.{Soft, InRegisters, args_run}
+use Rattle.c0_stmt_code.proofs.Args.{InRegisters, args_run}
 use Rattle.c0_stmt_code.proofs.CallActs.{stands_soft, then_soft, calls_to}
 
 -- ints and bools fit whatever there is beside them
@@ -109,32 +107,37 @@ module _ (runs : RunLaws) (compose : RunsCompose) (W E : Type 0) (Outer : W → 
       let sr = st.stack_room in
       let wt = words_by_types (shapes z.p.unit) (map typed_of z.p.unit.globals) in
       let su = st.used in
-      let stack_same : (x : ℕ) → z.a.stack ≤ x → x < end_of W E Outer Passes z (g ∷ fs) → t.contents.memory x ≡ c.memory x = λ x le lt. b.kept x (inr (inr (le, omega (arith, lt, sr)))) ∙ ap (λ m. m x) memory in
-      (record {
-        typed = subst (λ y. IsTypedWith z.p.unit objects y) (sym same) st.typed;
-        declared = st.declared;
-        used = st.used ∙ sym (ap (λ y. y.heap_words) same);
-        room = subst (λ y. y.heap_words ≤ z.p.heap) (sym same) st.room;
-        stack_room = subst (λ y. stack_words z.p.unit y.frames ≤ z.p.stack) (sym same) st.stack_room;
-        globals = subst (λ y. RegionHeld (unit_scope z.p.unit) (bases W E Outer Passes z objects []) t.contents.memory z.a.globals (types_of (map typed_of z.p.unit.globals)) y.global_values) (sym same)
-            (held.same (unit_scope z.p.unit) (bases W E Outer Passes z objects []) c.memory t.contents.memory z.a.globals (types_of (map typed_of z.p.unit.globals)) gv refl (λ x le lt. b.kept x (inl (le, omega (arith, lt, wt))) ∙ ap (λ m. m x) memory) st.globals);
-        heap = subst (λ y. RegionHeld (unit_scope z.p.unit) (bases W E Outer Passes z objects []) t.contents.memory z.a.heap objects y.heap_values) (sym same)
-            (held.same (unit_scope z.p.unit) (bases W E Outer Passes z objects []) c.memory t.contents.memory z.a.heap objects hv refl (λ x le lt. b.kept x (inr (inl (le, omega (arith, lt, used, su)))) ∙ ap (λ m. m x) memory) st.heap);
-        used_word = b.variables 1026 (omega arith) (omega arith) ∙ used ∙ sym (ap (λ y. y.heap_words) same);
-        heap_size = b.variables 1027 (omega arith) (omega arith) ∙ ap (λ m. m 1027) memory ∙ st.heap_size;
-        heap_first = b.variables 1028 (omega arith) (omega arith) ∙ ap (λ m. m 1028) memory ∙ st.heap_first;
-        stack_first = b.variables 1029 (omega arith) (omega arith) ∙ ap (λ m. m 1029) memory ∙ st.stack_first;
-        stack_size = b.variables 1030 (omega arith) (omega arith) ∙ ap (λ m. m 1030) memory ∙ st.stack_size;
-        globals_at = b.globals_at ∙ r28 ∙ st.globals_at;
-        stack_end = b.stack_end ∙ r30 ∙ st.stack_end;
-        outer = outer;
-        idle = b.idle;
-      }, (record {
-        is = r.is;
-        return_at = ap (λ y. if y then t.contents.memory (end_of W E Outer Passes z fs) else t.contents.regs 31) its_calls ∙ stack_same (end_of W E Outer Passes z fs) (omega arith) (omega (arith, fo, ws)) ∙ sym (ap (λ y. if y then c.memory (end_of W E Outer Passes z fs) else c.regs 31) its_calls) ∙ r.return_at;
-        frame_at = b.frame_end ∙ r29 ∙ r.frame_at;
-        variables = variables_same W E Outer Passes z held objects c.regs t.contents.regs c.memory t.contents.memory a.function g fs true form r.is (λ x le lt. stack_same x (omega (arith, le)) lt) r.variables;
-      }, waiting_same W E Outer Passes z held objects c.memory t.contents.memory others fs (λ x le lt. stack_same x le (omega (arith, lt, fo))) waits))
+      let stack_same : (x : ℕ) → z.a.stack ≤ x → x < end_of W E Outer Passes z (g ∷ fs) → t.contents.memory x ≡ c.memory x = λ x le lt. b.kept x (inr (inr (le, omega (arith, lt, sr)))) ∙ ap (λ m. m x) memory in (
+        record {
+          typed = subst (λ y. IsTypedWith z.p.unit objects y) (sym same) st.typed;
+          declared = st.declared;
+          used = st.used ∙ sym (ap (λ y. y.heap_words) same);
+          room = subst (λ y. y.heap_words ≤ z.p.heap) (sym same) st.room;
+          stack_room = subst (λ y. stack_words z.p.unit y.frames ≤ z.p.stack) (sym same) st.stack_room;
+          globals = subst (λ y. RegionHeld (unit_scope z.p.unit) (bases W E Outer Passes z objects []) t.contents.memory z.a.globals (types_of (map typed_of z.p.unit.globals)) y.global_values) (sym same)
+              (held.same (unit_scope z.p.unit) (bases W E Outer Passes z objects []) c.memory t.contents.memory z.a.globals (types_of (map typed_of z.p.unit.globals)) gv refl (λ x le lt. b.kept x (inl (le, omega (arith, lt, wt))) ∙ ap (λ m. m x) memory) st.globals);
+          heap = subst (λ y. RegionHeld (unit_scope z.p.unit) (bases W E Outer Passes z objects []) t.contents.memory z.a.heap objects y.heap_values) (sym same)
+              (held.same (unit_scope z.p.unit) (bases W E Outer Passes z objects []) c.memory t.contents.memory z.a.heap objects hv refl (λ x le lt. b.kept x (inr (inl (le, omega (arith, lt, used, su)))) ∙ ap (λ m. m x) memory) st.heap);
+          used_word = b.variables 1026 (omega arith) (omega arith) ∙ used ∙ sym (ap (λ y. y.heap_words) same);
+          heap_size = b.variables 1027 (omega arith) (omega arith) ∙ ap (λ m. m 1027) memory ∙ st.heap_size;
+          heap_first = b.variables 1028 (omega arith) (omega arith) ∙ ap (λ m. m 1028) memory ∙ st.heap_first;
+          stack_first = b.variables 1029 (omega arith) (omega arith) ∙ ap (λ m. m 1029) memory ∙ st.stack_first;
+          stack_size = b.variables 1030 (omega arith) (omega arith) ∙ ap (λ m. m 1030) memory ∙ st.stack_size;
+          globals_at = b.globals_at ∙ r28 ∙ st.globals_at;
+          stack_end = b.stack_end ∙ r30 ∙ st.stack_end;
+          outer = outer;
+          idle = b.idle;
+        },
+        (
+          record {
+            is = r.is;
+            return_at = ap (λ y. if y then t.contents.memory (end_of W E Outer Passes z fs) else t.contents.regs 31) its_calls ∙ stack_same (end_of W E Outer Passes z fs) (omega arith) (omega (arith, fo, ws)) ∙ sym (ap (λ y. if y then c.memory (end_of W E Outer Passes z fs) else c.regs 31) its_calls) ∙ r.return_at;
+            frame_at = b.frame_end ∙ r29 ∙ r.frame_at;
+            variables = variables_same W E Outer Passes z held objects c.regs t.contents.regs c.memory t.contents.memory a.function g fs true form r.is (λ x le lt. stack_same x (omega (arith, le)) lt) r.variables;
+          },
+          waiting_same W E Outer Passes z held objects c.memory t.contents.memory others fs (λ x le lt. stack_same x le (omega (arith, lt, fo))) waits,
+        ),
+      )
 
   pub calls_primitive : (n : ℕ) (row : CPrimitive) (args : List CExpr) (p : CExpr) (rest : CStmts) (work : List Work) → slice_get z.table n ≡ Some row → AreNumberedGiven (env_in (text W E Outer Passes z) a.function) args (map scalar_ty row.args) → length args ≤ 8
       → IsNumberedLeft (env_in (text W E Outer Passes z) a.function) p (scalar_ty row.answer) → call_need p args ≤ MAX_NEED → nodes p + args_nodes args + 1 ≤ 2000 → 1 ≤ length (answer_code sc p)
@@ -149,34 +152,37 @@ module _ (runs : RunLaws) (compose : RunsCompose) (W E : Type 0) (Outer : W → 
       let fa = z.few_arguments n row is in
       let jal_at = back z.w k (args_code sc args 0) (Jal ((text W E Outer Passes z).links.primitive n) ∷ answer_code sc p) code in
       let run = args_run compose z.w sc (env_in (text W E Outer Passes z) a.function) (bases W E Outer Passes z objects (g ∷ fs)) (state_of gv hv hw (g ∷ fs)) d ex form st.idle args (map scalar_ty row.args) 0 k c rd given (all_scalar row.args) (omega (arith, deep)) (omega (arith, few)) (omega (arith, count))
-          (front z.w k (args_code sc args 0) (Jal ((text W E Outer Passes z).links.primitive n) ∷ answer_code sc p) code) in
+      (front z.w k (args_code sc args 0) (Jal ((text W E Outer Passes z).links.primitive n) ∷ answer_code sc p) code) in
       let len : k + length (args_code sc args 0 ++ (Jal ((text W E Outer Passes z).links.primitive n) ∷ answer_code sc p)) ≡ k1 + 1 + length (answer_code sc p) = omega (arith, length-append (args_code sc args 0) (Jal ((text W E Outer Passes z).links.primitive n) ∷ answer_code sc p)) in
       let first = first_of z.w (k1 + 1) (answer_code sc p) some jal_at.1 in
       then_soft runs compose W E Outer Passes z jumps 0 0 0 debt 0 (args_nodes args) (units 1) here here (at_with k c d) a.function k k1 c d objects (InRegisters compose z.w sc (bases W E Outer Passes z objects (g ∷ fs)) 0 (map scalar_ty row.args) c) (values_of args here.state) (λ cost vs. call_with z.p cost Primitive n vs (into p rest) work here)
       (none runs z.w Passes (at_with k c d)) (omega arith) (omega arith) st (values_within args here.state) run
       (λ u vs c1 least most q path.
-        let c2 : Contents = with_reg c1 31 (4 * (k1 + 1)) in
-        let soft = q.soft in
-        let keep : (x : ℕ) → 28 ≤ x → x < 31 → (with_reg c1 31 (4 * (k1 + 1))).regs x ≡ c.regs x = λ x le lt. other_reg c1.regs 31 (4 * (k1 + 1)) x (λ e. absurd (omega (arith, e, lt))) ∙ soft.high x le in
-        let st2 = stands_soft runs compose W E Outer Passes z jumps objects here c (with_reg c1 31 (4 * (k1 + 1))) d soft.memory soft.special (keep 28 (omega arith) (omega arith)) (keep 30 (omega arith) (omega arith)) st in
-        let called : Called z.w (text W E Outer Passes z).links row n vs (k1 + 1) (at_with index (with_reg c1 31 (4 * (k1 + 1))) d) = record {
-          at = refl;
-          scalars = scalars_alone (shapes z.p.unit) (layout_of z.p.unit objects) row.args vs q.fits;
-          arguments = passed sc (bases W E Outer Passes z objects (g ∷ fs)) (shapes z.p.unit) (layout_of z.p.unit objects) c1.regs (with_reg c1 31 (4 * (k1 + 1))).regs 20 row.args vs q.fits (omega (arith, fa)) (λ x lt. other_reg c1.regs 31 (4 * (k1 + 1)) x (λ e. absurd (omega (arith, e, lt)))) q.are;
-          return_at = same_reg c1.regs 31 (4 * (k1 + 1)) (λ e. absurd (omega (arith, e)));
-          code = first.0;
-          there = first.1;
-          idle = st.idle;
-        } in
-        let prim = z.primitives n row vs world (k1 + 1) (at_with index (with_reg c1 31 (4 * (k1 + 1))) d) is called st2.outer in
-        let t : Machine = prim.0 in
-        let b = prim.2 in
-        let way1 = on runs z.w Passes 0 (0 + 16 * u) 0 1 1 0 (at_with k c d) (at_with k1 c1 d) (at_with index (with_reg c1 31 (4 * (k1 + 1))) d) path (away runs z.w Passes 1 (at_with k1 c1 d) (at_with index (with_reg c1 31 (4 * (k1 + 1))) d) (z.elsewhere n k1 jal_at.0) (calls_to runs compose W E Outer Passes z jumps k1 index c1 d st.idle jal_at.0)) in
-        let way = on runs z.w Passes (0 + 1) (0 + 16 * u + 1) (0 + 0) 0 0 1 (at_with k c d) (at_with index (with_reg c1 31 (4 * (k1 + 1))) d) prim.0 way1 (pass runs z.w Passes (at_with index (with_reg c1 31 (4 * (k1 + 1))) d) prim.0 prim.1) in
-        let all = after (after_call here (z.p.meaning n vs world)) (with_reg c1 31 (4 * (k1 + 1))) (k1 + 1) index prim.0 refl soft.memory (keep 28 (omega arith) (omega arith)) (keep 29 (omega arith) (omega arith)) (keep 30 (omega arith) (omega arith)) b prim.5 in
-        let le = way.high in
-        let ge = way.low in
-        (prim.0, debt, record { own = way.own; passes = 0 + 0 + 1; high = omega (arith, le); low = omega (arith, ge, most, few); ended_so = length-append calls ((z.p.meaning n vs world).entries ∷ []); run = way.run }, record {
+      let c2 : Contents = with_reg c1 31 (4 * (k1 + 1)) in
+      let soft = q.soft in
+      let keep : (x : ℕ) → 28 ≤ x → x < 31 → (with_reg c1 31 (4 * (k1 + 1))).regs x ≡ c.regs x = λ x le lt. other_reg c1.regs 31 (4 * (k1 + 1)) x (λ e. absurd (omega (arith, e, lt))) ∙ soft.high x le in
+      let st2 = stands_soft runs compose W E Outer Passes z jumps objects here c (with_reg c1 31 (4 * (k1 + 1))) d soft.memory soft.special (keep 28 (omega arith) (omega arith)) (keep 30 (omega arith) (omega arith)) st in
+      let called : Called z.w (text W E Outer Passes z).links row n vs (k1 + 1) (at_with index (with_reg c1 31 (4 * (k1 + 1))) d) = record {
+        at = refl;
+        scalars = scalars_alone (shapes z.p.unit) (layout_of z.p.unit objects) row.args vs q.fits;
+        arguments = passed sc (bases W E Outer Passes z objects (g ∷ fs)) (shapes z.p.unit) (layout_of z.p.unit objects) c1.regs (with_reg c1 31 (4 * (k1 + 1))).regs 20 row.args vs q.fits (omega (arith, fa)) (λ x lt. other_reg c1.regs 31 (4 * (k1 + 1)) x (λ e. absurd (omega (arith, e, lt)))) q.are;
+        return_at = same_reg c1.regs 31 (4 * (k1 + 1)) (λ e. absurd (omega (arith, e)));
+        code = first.0;
+        there = first.1;
+        idle = st.idle;
+      } in
+      let prim = z.primitives n row vs world (k1 + 1) (at_with index (with_reg c1 31 (4 * (k1 + 1))) d) is called st2.outer in
+      let t : Machine = prim.0 in
+      let b = prim.2 in
+      let way1 = on runs z.w Passes 0 (0 + 16 * u) 0 1 1 0 (at_with k c d) (at_with k1 c1 d) (at_with index (with_reg c1 31 (4 * (k1 + 1))) d) path (away runs z.w Passes 1 (at_with k1 c1 d) (at_with index (with_reg c1 31 (4 * (k1 + 1))) d) (z.elsewhere n k1 jal_at.0) (calls_to runs compose W E Outer Passes z jumps k1 index c1 d st.idle jal_at.0)) in
+      let way = on runs z.w Passes (0 + 1) (0 + 16 * u + 1) (0 + 0) 0 0 1 (at_with k c d) (at_with index (with_reg c1 31 (4 * (k1 + 1))) d) prim.0 way1 (pass runs z.w Passes (at_with index (with_reg c1 31 (4 * (k1 + 1))) d) prim.0 prim.1) in
+      let all = after (after_call here (z.p.meaning n vs world)) (with_reg c1 31 (4 * (k1 + 1))) (k1 + 1) index prim.0 refl soft.memory (keep 28 (omega arith) (omega arith)) (keep 29 (omega arith) (omega arith)) (keep 30 (omega arith) (omega arith)) b prim.5 in
+      let le = way.high in
+      let ge = way.low in (
+        prim.0,
+        debt,
+        record { own = way.own; passes = 0 + 0 + 1; high = omega (arith, le); low = omega (arith, ge, most, few); ended_so = length-append calls ((z.p.meaning n vs world).entries ∷ []); run = way.run },
+        record {
           objects = objects;
           stands = all.0;
           activations = a ∷ others;
@@ -186,4 +192,5 @@ module _ (runs : RunLaws) (compose : RunsCompose) (W E : Type 0) (Outer : W → 
           answer = prim.4 ∙ sym (word_alone (unit_scope z.p.unit) (bases W E Outer Passes z objects []) [] (record { globals = []; objects = [] }) row.answer (z.p.meaning n vs world).answer prim.3);
           ahead = subst (λ y. Awaits (text W E Outer Passes z) (a ∷ others) y debt (scalar_ty row.answer) (into p rest) work (λ acts to left. Ahead (text W E Outer Passes z) acts to left work)) (sym b.at)
               (record { left = left; shallow = omega (arith, deep); few = omega (arith, few) }, jal_at.1, subst (λ y. Block (text W E Outer Passes z) a.function y debt rest (λ to left. Ahead (text W E Outer Passes z) (a ∷ others) to left work)) len block);
-        }))
+        },
+      ))

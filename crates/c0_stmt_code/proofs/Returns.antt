@@ -1,46 +1,44 @@
 -- A function that has a frame returns, and an answer is stored.
-use Rattle.std.specs.Prelude.{map, slice_get, IsTrue, Some, None, Ok, Err, if◌then◌else◌}
-use Rattle.std.proofs.Common.{◌≡◌, ◌≢◌, inl, inr, ℕ, zero, suc, ◌+◌, ◌-◌, ◌*◌, ◌%◌, ◌^◌, ◌<◌, ◌≤◌, ◌⊎◌, Bool, true, false, Option, List, [], ◌∷◌, ◌++◌, length, refl, sym, ap, ap₂, ◌∙◌, subst, arith, length-append}
-use Rattle.std.proofs.lemmas.Bool.{cases_Bool, cond-true, cond-false}
+use Rattle.std.specs.Prelude.{map, Some, None, Ok, Err, if◌then◌else◌}
+use Rattle.std.proofs.Common.{◌≡◌, ◌≢◌, ℕ, ◌+◌, ◌-◌, ◌*◌, ◌%◌, ◌^◌, ◌<◌, ◌≤◌, Bool, true, false, Option, List, [], ◌∷◌, ◌++◌, length, refl, sym, ap, ap₂, ◌∙◌, subst, arith}
+use Rattle.std.proofs.lemmas.Bool.{cond-true, cond-false}
 use Rattle.mips_table.specs.declared.inst.Inst.{Inst}
-use Rattle.mips_table.specs.declared.inst.Inst.TheVariants.{Addiu, Lw, Sw, Jr}
+use Rattle.mips_table.specs.declared.inst.Inst.TheVariants.{Lw, Sw, Jr}
 use Rattle.mips_table.specs.declared.effect.Effect.TheVariants.{Set}
 use Rattle.mips_table.specs.Device.{Idle}
 use Rattle.mips_table.specs.Code.{Contents, reg, with_reg, Behind, World, Sound, Configuration as Machine, at_with, Reaches, RunLaws, CodeAt}
 use Rattle.masm.specs.Says.{Reads}
 use Rattle.masm.specs.Laws.{RunsCompose, JumpsLead, StraightRuns}
-use Rattle.c0_tree.specs.Size.{need, nodes}
+use Rattle.c0_tree.specs.Size.{nodes}
 use Rattle.c0_tree.specs.Tree.{CExpr, CStmts, CFunction}
-use Rattle.c0_meaning.specs.Ty.{Ty, is_scalar, ty_of}
-use Rattle.c0_meaning.specs.Env.{Typed, Shape, typed_of}
-use Rattle.c0_meaning.specs.Limits.{frame, locals_of}
+use Rattle.c0_meaning.specs.Ty.{Ty, ty_of}
+use Rattle.c0_meaning.specs.Env.{typed_of}
 use Rattle.c0_meaning.specs.Sound.{shapes}
 use Rattle.c0_meaning.specs.Value.{Value}
-use Rattle.c0_meaning.specs.State.{Frame, State, stack_words, popped}
+use Rattle.c0_meaning.specs.State.{Frame}
 use Rattle.c0_meaning.specs.Evaluation.{Costed, costs, value_of}
 use Rattle.c0_meaning.specs.Operators.{faulted, stuck}
-use Rattle.c0_meaning.specs.World.{Cost, units, plus, Configuration, with_state, ended}
-use Rattle.c0_meaning.specs.Running.{Target, into, outward, Work, finish, push, Step, Go, then_go, deliver, store}
-use Rattle.c0_meaning.specs.TypedState.{types_of, Fits, layout_of, IsTypedWith}
+use Rattle.c0_meaning.specs.World.{Cost, units, plus, Configuration, ended}
+use Rattle.c0_meaning.specs.Running.{Target, into, outward, Work, then_go, deliver, store}
+use Rattle.c0_meaning.specs.TypedState.{Fits, layout_of}
 use Rattle.c0_expr_code.specs.Scope.{Scope}
-use Rattle.c0_expr_code.specs.Code.{Spot, frame_back, on_spot, low, made, value_code}
-use Rattle.c0_expr_code.specs.Bases.{Bases, word}
-use Rattle.c0_expr_code.specs.Relation.{Ready, Keeps, Gives, Comes, Splits}
-use Rattle.c0_stmt_code.specs.Code.{calls_in, frame_spot, end_code, restore_code, frame_return, register_return, exit_code, return_code, answer_code, stored_code}
+use Rattle.c0_expr_code.specs.Code.{frame_back, on_spot, low, made, value_code}
+use Rattle.c0_expr_code.specs.Relation.{Keeps, Gives, Comes, Splits}
+use Rattle.c0_stmt_code.specs.Code.{calls_in, frame_spot, end_code, restore_code, frame_return, register_return, exit_code, answer_code, stored_code}
 use Rattle.c0_stmt_code.specs.Setup.{Setup}
 use Rattle.c0_stmt_code.specs.Journey.{Led}
-use Rattle.c0_stmt_code.specs.Ahead.{Activation, env_in, IsAnswered, Block, Awaits, ReturnStands, Ahead}
-use Rattle.c0_stmt_code.specs.Standing.{text, scope, bases, end_of, unit_scope, word_of_value, Waits, Waiting, Runs, UnderWay, Stands, Answered, Ended, Simulated, StepIs}
-use Rattle.c0_stmt_code.proofs.Needs.{ExpressionsDo, HeldStays, TypedStays, FunctionsAre, LengthsFit}
-use Rattle.c0_stmt_code.proofs.Ways.{Way, none, on, of, away, within}
+use Rattle.c0_stmt_code.specs.Ahead.{Activation, IsAnswered, Block, Awaits, ReturnStands, Ahead}
+use Rattle.c0_stmt_code.specs.Standing.{text, scope, bases, end_of, unit_scope, word_of_value, Waiting, Runs, UnderWay, Stands, StepIs}
+use Rattle.c0_stmt_code.proofs.Needs.{HeldStays, TypedStays, FunctionsAre, LengthsFit}
+use Rattle.c0_stmt_code.proofs.Ways.{none, on, of}
 use Rattle.c0_stmt_code.proofs.Blocks.{front, back}
 use Rattle.c0_stmt_code.proofs.Costs.{value_within}
 use Rattle.c0_stmt_code.proofs.Held.{word_same}
-use Rattle.c0_stmt_code.proofs.Places.{keeps_low, its_exprs, its_ready, store_in}
-use Rattle.c0_stmt_code.proofs.State.{rest_of, state_of, standing_at, Exprs, under_on}
-use Rattle.c0_stmt_code.proofs.Spots.{other_reg, same_reg, read_is, like_read, Near, on_place}
+use Rattle.c0_stmt_code.proofs.Places.{its_exprs, its_ready, store_in}
+use Rattle.c0_stmt_code.proofs.State.{rest_of, state_of, standing_at, Exprs}
+use Rattle.c0_stmt_code.proofs.Spots.{other_reg, same_reg, read_is, like_read, on_place}
 use Rattle.c0_stmt_code.proofs.Rooms.{frame_words, frame_on, variables_same}
-use Rattle.c0_stmt_code.proofs.Frames.{frame_address, Moved, ends}
+use Rattle.c0_stmt_code.proofs.Frames.{frame_address, ends}
 use Rattle.c0_stmt_code.proofs.Sim.{Path, stands_on, then_splits}
 
 -- the way back of a function that has a frame
@@ -67,13 +65,17 @@ module _ (compose : RunsCompose) (w : World) (sound : Sound w) (straight : Strai
     restores false to k c d idle at is code = (c, record { is = is; memory = refl; special = refl; others = λ x ne me. refl }, subst (λ m. Reaches w 3 (at_with k c d) (at_with m c d)) (omega arith) (compose.later w 0 3 _ _ (omega arith) (compose.none w (at_with k c d))))
     restores true to k c d idle at is code =
         let r = on_place compose w straight (Restored to c) (λ y x. Lw 31 y x) (frame_spot sc 0) 1 k c d idle (λ q. absurd (omega (arith, q))) (λ q. absurd (omega (arith, q))) code
-            (λ y m a there near address. (with_reg a 31 (4 * to), record {
-              is = same_reg a.regs 31 (4 * to) (λ q. absurd (omega (arith, q)));
-              memory = near.memory;
-              special = near.special;
-              others = λ x ne me. other_reg a.regs 31 (4 * to) x me ∙ near.others x ne ne;
-            }, straight.next (Lw 31 y (low ((frame_back sc + 4 * 0) % 2 ^ 32))) (Reads (e - sc.frame) (4 * to)) m a d there refl idle
-            (address ∙ ap (λ v. (v + (frame_back sc + 4 * 0) % 2 ^ 32) % 2 ^ 32) at ∙ frame_address sc e 0 inside small (omega arith) ∙ omega arith, omega (arith, inside, some, fits), ap (λ f. f (e - sc.frame)) near.memory ∙ is))) in
+        (λ y m a there near address. (
+          with_reg a 31 (4 * to),
+          record {
+            is = same_reg a.regs 31 (4 * to) (λ q. absurd (omega (arith, q)));
+            memory = near.memory;
+            special = near.special;
+            others = λ x ne me. other_reg a.regs 31 (4 * to) x me ∙ near.others x ne ne;
+          },
+          straight.next (Lw 31 y (low ((frame_back sc + 4 * 0) % 2 ^ 32))) (Reads (e - sc.frame) (4 * to)) m a d there refl idle
+              (address ∙ ap (λ v. (v + (frame_back sc + 4 * 0) % 2 ^ 32) % 2 ^ 32) at ∙ frame_address sc e 0 inside small (omega arith) ∙ omega arith, omega (arith, inside, some, fits), ap (λ f. f (e - sc.frame)) near.memory ∙ is),
+        )) in
         (r.0, r.1, subst (λ m. Reaches w 3 (at_with m c d) (at_with (k + length (restore_code sc true)) r.0 d)) (omega arith) r.2)
 
     pub returns : (calling : Bool) (to k : ℕ) (c : Contents) (d : Behind) → d.pending ≡ Idle → c.regs 29 ≡ 4 * e → (if calling then c.memory (e - sc.frame) else c.regs 31) ≡ 4 * to → CodeAt w k (frame_return sc calling)
@@ -87,13 +89,16 @@ module _ (compose : RunsCompose) (w : World) (sound : Sound w) (straight : Strai
         let back_at = back w k1 (end_code 29 (frame_back sc)) (Jr 31 ∷ []) behind in
         let address : reg two.0.regs 31 ≡ 4 * to = read_is two.0.regs 31 (λ q. absurd (omega (arith, q))) ∙ two.1.others 31 (λ q. absurd (omega (arith, q))) (λ q. absurd (omega (arith, q))) ∙ one.1.is in
         let three = led 31 (k1 + length (end_code 29 (frame_back sc))) to two.0 d idle address back_at.0 in
-        let value : two.0.regs 29 ≡ 4 * (e - sc.frame) = let i = two.1.is in sym (read_is two.0.regs 29 (λ q. absurd (omega (arith, q)))) ∙ i ∙ omega (arith, inside, small) in
-        (two.0, record {
-          frame_at = value;
-          memory = two.1.memory ∙ one.1.memory;
-          special = two.1.special ∙ one.1.special;
-          others = λ x n1 n29 n31. two.1.others x n1 n29 ∙ one.1.others x n1 n31;
-        }, compose.joined w 3 4 _ _ _ one.2 (compose.joined w 3 1 _ _ _ two.2 three))
+        let value : two.0.regs 29 ≡ 4 * (e - sc.frame) = let i = two.1.is in sym (read_is two.0.regs 29 (λ q. absurd (omega (arith, q)))) ∙ i ∙ omega (arith, inside, small) in (
+          two.0,
+          record {
+            frame_at = value;
+            memory = two.1.memory ∙ one.1.memory;
+            special = two.1.special ∙ one.1.special;
+            others = λ x n1 n29 n31. two.1.others x n1 n29 ∙ one.1.others x n1 n31;
+          },
+          compose.joined w 3 4 _ _ _ one.2 (compose.joined w 3 1 _ _ _ two.2 three),
+        )
 
 -- the way back of a function whose variables stand in registers
 module _ (compose : RunsCompose) (w : World) (sound : Sound w) (straight : StraightRuns w) (jumps : JumpsLead w) where
@@ -144,9 +149,19 @@ module _ (runs : RunLaws) (compose : RunsCompose) (W E : Type 0) (Outer : W → 
       let s = stands_on runs compose W E Outer Passes z jumps objects here c (record c { memory = c'.memory; special = c'.special }) d k st in
       record {
         typed = typing.popped objects (state_of gv hv hw (g ∷ fs)) g fs refl st.typed;
-        declared = st.declared; used = st.used; room = st.room; stack_room = omega (arith, on, o);
-        globals = s.globals; heap = s.heap; used_word = s.used_word; heap_size = s.heap_size; heap_first = s.heap_first; stack_first = s.stack_first; stack_size = s.stack_size;
-        globals_at = r28 ∙ st.globals_at; stack_end = r30 ∙ st.stack_end;
+        declared = st.declared;
+        used = st.used;
+        room = st.room;
+        stack_room = omega (arith, on, o);
+        globals = s.globals;
+        heap = s.heap;
+        used_word = s.used_word;
+        heap_size = s.heap_size;
+        heap_first = s.heap_first;
+        stack_first = s.stack_first;
+        stack_size = s.stack_size;
+        globals_at = r28 ∙ st.globals_at;
+        stack_end = r30 ∙ st.stack_end;
         outer = z.outer_stays world c c' d (λ y o. ap (λ m. m y) memory) special st.outer;
         idle = st.idle;
       }
@@ -154,12 +169,15 @@ module _ (runs : RunLaws) (compose : RunsCompose) (W E : Type 0) (Outer : W → 
   -- the caller goes on where it waited
   goes_on : (b : Activation) (more : List Activation) (q : Frame) (frames : List Frame) (c' : Contents) → c'.memory ≡ c.memory → c'.regs 29 ≡ 4 * end_of W E Outer Passes z (q ∷ frames) → Waiting W E Outer Passes z objects c.memory (b ∷ more) (q ∷ frames)
       → UnderWay W E Outer Passes z objects c' (b ∷ more) (q ∷ frames)
-  goes_on b more q frames c' memory at w = (record {
-    is = w.0.is;
-    return_at = ap (λ y. if y then c'.memory (end_of W E Outer Passes z frames) else c'.regs 31) w.0.calls ∙ ap (λ m. m (end_of W E Outer Passes z frames)) memory ∙ w.0.return_at;
-    frame_at = at ∙ sym (ap (λ y. 4 * (if y then end_of W E Outer Passes z frames else end_of W E Outer Passes z (q ∷ frames))) w.0.in_frame);
-    variables = variables_same W E Outer Passes z held objects c.memory c'.regs c.memory c'.memory b.function q frames true w.0.in_frame w.0.is (λ x le lt. ap (λ m. m x) memory) w.0.variables;
-  }, subst (λ m. Waiting W E Outer Passes z objects m more frames) (sym memory) w.1)
+  goes_on b more q frames c' memory at w = (
+    record {
+      is = w.0.is;
+      return_at = ap (λ y. if y then c'.memory (end_of W E Outer Passes z frames) else c'.regs 31) w.0.calls ∙ ap (λ m. m (end_of W E Outer Passes z frames)) memory ∙ w.0.return_at;
+      frame_at = at ∙ sym (ap (λ y. 4 * (if y then end_of W E Outer Passes z frames else end_of W E Outer Passes z (q ∷ frames))) w.0.in_frame);
+      variables = variables_same W E Outer Passes z held objects c.memory c'.regs c.memory c'.memory b.function q frames true w.0.in_frame w.0.is (λ x le lt. ap (λ m. m x) memory) w.0.variables;
+    },
+    subst (λ m. Waiting W E Outer Passes z objects m more frames) (sym memory) w.1,
+  )
 
   -- the answer is handed over
   delivers : (l m j : ℕ) (cost : Cost) (h0 : Configuration W E) (s0 : Machine) (target : Target) (v : Value) (work : List Work) (t : Ty) (c' : Contents) → Path runs compose W E Outer Passes z jumps l m j s0 (at_with a.to c' d) → cost.own ≤ 2048 * l → m ≤ 60 * cost.own → length calls ≡ ended h0 + j
@@ -172,25 +190,35 @@ module _ (runs : RunLaws) (compose : RunsCompose) (W E : Type 0) (Outer : W → 
 
       by_target : (acts : List Activation) (frames : List Frame) → Waiting W E Outer Passes z objects c.memory acts frames → (target : Target) (work : List Work) → Awaits (text W E Outer Passes z) acts a.to debt t target work (λ acts at left. Ahead (text W E Outer Passes z) acts at left work) → frames ≡ fs
           → StepIs W E Outer Passes z debt h0 s0 (deliver cost target v work there)
-      by_target (b ∷ more) (q ∷ frames) w (into place rest) work ah e = (at_with a.to c' d, debt, led_to there refl, record {
-        objects = objects;
-        stands = stands_below c' memory special r28 r30;
-        activations = b ∷ more;
-        under_way = subst (λ y. UnderWay W E Outer Passes z objects c' (b ∷ more) y) e (goes_on b more q frames c' memory (r29 ∙ ap (λ y. 4 * end_of W E Outer Passes z y) (sym e)) w);
-        t = t;
-        fits = fits;
-        answer = is;
-        ahead = ah;
-      })
-      by_target [] [] w outward [] ah e = (at_with a.to c' d, debt, led_to (record there { answer = Some v }) refl, record {
-        objects = objects;
-        stands = let s = stands_below c' memory special r28 r30 in record { typed = s.typed; declared = s.declared; used = s.used; room = s.room; stack_room = s.stack_room; globals = s.globals; heap = s.heap; used_word = s.used_word; heap_size = s.heap_size; heap_first = s.heap_first; stack_first = s.stack_first; stack_size = s.stack_size; globals_at = s.globals_at; stack_end = s.stack_end; outer = s.outer; idle = s.idle };
-        no_frames = sym e;
-        at = ah;
-        value = v;
-        is = refl;
-        answer = is;
-      })
+      by_target (b ∷ more) (q ∷ frames) w (into place rest) work ah e = (
+        at_with a.to c' d,
+        debt,
+        led_to there refl,
+        record {
+          objects = objects;
+          stands = stands_below c' memory special r28 r30;
+          activations = b ∷ more;
+          under_way = subst (λ y. UnderWay W E Outer Passes z objects c' (b ∷ more) y) e (goes_on b more q frames c' memory (r29 ∙ ap (λ y. 4 * end_of W E Outer Passes z y) (sym e)) w);
+          t = t;
+          fits = fits;
+          answer = is;
+          ahead = ah;
+        },
+      )
+      by_target [] [] w outward [] ah e = (
+        at_with a.to c' d,
+        debt,
+        led_to (record there { answer = Some v }) refl,
+        record {
+          objects = objects;
+          stands = let s = stands_below c' memory special r28 r30 in record { typed = s.typed; declared = s.declared; used = s.used; room = s.room; stack_room = s.stack_room; globals = s.globals; heap = s.heap; used_word = s.used_word; heap_size = s.heap_size; heap_first = s.heap_first; stack_first = s.stack_first; stack_size = s.stack_size; globals_at = s.globals_at; stack_end = s.stack_end; outer = s.outer; idle = s.idle };
+          no_frames = sym e;
+          at = ah;
+          value = v;
+          is = refl;
+          answer = is;
+        },
+      )
       by_target [] [] w outward (i ∷ work) ah e = absurd ah
       by_target [] [] w (into place rest) work ah e = absurd ah
       by_target (b ∷ more) (q ∷ frames) w outward work ah e = absurd ah
@@ -217,27 +245,27 @@ module _ (runs : RunLaws) (compose : RunsCompose) (W E : Type 0) (Outer : W → 
       then_splits runs compose W E Outer Passes z jumps 0 0 0 0 debt 1 (nodes result) (units 0) here here (at_with k c d) a.function k (λ v. k1) c d objects (Gives sc (bases W E Outer Passes z objects (g ∷ fs)) 2 8 2 (ty_of a.function.answer) c) (value_of result here.state)
       (λ cost v. deliver cost target v work there) (λ v q. absurd (omega (arith, q, some))) (none runs z.w Passes (at_with k c d)) (omega arith) (omega arith) st (value_within result here.state) (comes_splits z.w sc 0 k k1 c d _ (value_of result here.state) run)
       (λ u v c1 least most gives path.
-        let fo = frame_on z.p.unit g fs a.function r.is in
-        let ws = frame_words z.p.unit a.function in
-        let o = st.stack_room in
-        let sf = z.stack_fits in
-        let small = z.sound.small in
-        let e : ℕ = end_of W E Outer Passes z (g ∷ fs) in
-        let keeps = gives.keeps in
-        let base : end_of W E Outer Passes z (g ∷ fs) - sc.frame ≡ end_of W E Outer Passes z fs = omega (arith, fo) in
-        let at29 : c1.regs 29 ≡ 4 * end_of W E Outer Passes z (g ∷ fs) = keeps.above 29 (λ q. absurd (omega (arith, q))) (omega arith) ∙ r.frame_at ∙ ap (λ y. 4 * (if y then end_of W E Outer Passes z fs else end_of W E Outer Passes z (g ∷ fs))) form in
-        let address : (if calls_in a.function.body then c1.memory (end_of W E Outer Passes z (g ∷ fs) - sc.frame) else c1.regs 31) ≡ 4 * a.to =
-            ap₂ (λ m y. if calls_in a.function.body then m else y) (ap c1.memory base ∙ ap (λ m. m (end_of W E Outer Passes z fs)) keeps.memory) (keeps.above 31 (λ q. absurd (omega (arith, q))) (omega arith)) ∙ r.return_at in
-        let back_there = returns compose z.w z.sound straight jumps sc (end_of W E Outer Passes z (g ∷ fs)) (omega (arith, fo)) (omega (arith, ws)) (omega (arith, o, sf, small)) (omega (arith, o, sf)) (calls_in a.function.body) a.to k1 c1 d st.idle at29 address exit_at in
-        let c2 : Contents = back_there.0 in
-        let way = on runs z.w Passes (0 + 1) (0 + (0 + 16 * u)) 0 0 7 0 (at_with k c d) (at_with k1 c1 d) (at_with a.to back_there.0 d) path (of runs z.w Passes 7 _ _ back_there.2) in
-        let canonical = word_same (shapes z.p.unit) (map typed_of z.p.unit.globals) z.a.globals z.a.heap objects objects (λ path t h. refl) (rest_of (unit_scope z.p.unit)) (rest_of sc) (end_of W E Outer Passes z []) (end_of W E Outer Passes z (g ∷ fs)) (ty_of a.function.answer) v gives.fits in
-        delivers (0 + 1 + 0) (0 + (0 + 16 * u) + 7) (0 + 0) (plus (units 0) (units u)) here (at_with k c d) target v work (ty_of a.function.answer) back_there.0 way (omega (arith, most, few_nodes stands)) (omega (arith, least)) (omega arith)
-        (back_there.1.memory ∙ keeps.memory) (back_there.1.special ∙ keeps.special)
-        (back_there.1.others 28 (λ q. absurd (omega (arith, q))) (λ q. absurd (omega (arith, q))) (λ q. absurd (omega (arith, q))) ∙ keeps.above 28 (λ q. absurd (omega (arith, q))) (omega arith))
-        (back_there.1.others 30 (λ q. absurd (omega (arith, q))) (λ q. absurd (omega (arith, q))) (λ q. absurd (omega (arith, q))) ∙ keeps.above 30 (λ q. absurd (omega (arith, q))) (omega arith))
-        (back_there.1.frame_at ∙ ap (λ y. 4 * y) base) gives.fits
-        (back_there.1.others 2 (λ q. absurd (omega (arith, q))) (λ q. absurd (omega (arith, q))) (λ q. absurd (omega (arith, q))) ∙ sym (read_is c1.regs 2 (λ q. absurd (omega (arith, q)))) ∙ gives.is ∙ canonical) ahead)
+      let fo = frame_on z.p.unit g fs a.function r.is in
+      let ws = frame_words z.p.unit a.function in
+      let o = st.stack_room in
+      let sf = z.stack_fits in
+      let small = z.sound.small in
+      let e : ℕ = end_of W E Outer Passes z (g ∷ fs) in
+      let keeps = gives.keeps in
+      let base : end_of W E Outer Passes z (g ∷ fs) - sc.frame ≡ end_of W E Outer Passes z fs = omega (arith, fo) in
+      let at29 : c1.regs 29 ≡ 4 * end_of W E Outer Passes z (g ∷ fs) = keeps.above 29 (λ q. absurd (omega (arith, q))) (omega arith) ∙ r.frame_at ∙ ap (λ y. 4 * (if y then end_of W E Outer Passes z fs else end_of W E Outer Passes z (g ∷ fs))) form in
+      let address : (if calls_in a.function.body then c1.memory (end_of W E Outer Passes z (g ∷ fs) - sc.frame) else c1.regs 31) ≡ 4 * a.to =
+      ap₂ (λ m y. if calls_in a.function.body then m else y) (ap c1.memory base ∙ ap (λ m. m (end_of W E Outer Passes z fs)) keeps.memory) (keeps.above 31 (λ q. absurd (omega (arith, q))) (omega arith)) ∙ r.return_at in
+      let back_there = returns compose z.w z.sound straight jumps sc (end_of W E Outer Passes z (g ∷ fs)) (omega (arith, fo)) (omega (arith, ws)) (omega (arith, o, sf, small)) (omega (arith, o, sf)) (calls_in a.function.body) a.to k1 c1 d st.idle at29 address exit_at in
+      let c2 : Contents = back_there.0 in
+      let way = on runs z.w Passes (0 + 1) (0 + (0 + 16 * u)) 0 0 7 0 (at_with k c d) (at_with k1 c1 d) (at_with a.to back_there.0 d) path (of runs z.w Passes 7 _ _ back_there.2) in
+      let canonical = word_same (shapes z.p.unit) (map typed_of z.p.unit.globals) z.a.globals z.a.heap objects objects (λ path t h. refl) (rest_of (unit_scope z.p.unit)) (rest_of sc) (end_of W E Outer Passes z []) (end_of W E Outer Passes z (g ∷ fs)) (ty_of a.function.answer) v gives.fits in
+      delivers (0 + 1 + 0) (0 + (0 + 16 * u) + 7) (0 + 0) (plus (units 0) (units u)) here (at_with k c d) target v work (ty_of a.function.answer) back_there.0 way (omega (arith, most, few_nodes stands)) (omega (arith, least)) (omega arith)
+      (back_there.1.memory ∙ keeps.memory) (back_there.1.special ∙ keeps.special)
+      (back_there.1.others 28 (λ q. absurd (omega (arith, q))) (λ q. absurd (omega (arith, q))) (λ q. absurd (omega (arith, q))) ∙ keeps.above 28 (λ q. absurd (omega (arith, q))) (omega arith))
+      (back_there.1.others 30 (λ q. absurd (omega (arith, q))) (λ q. absurd (omega (arith, q))) (λ q. absurd (omega (arith, q))) ∙ keeps.above 30 (λ q. absurd (omega (arith, q))) (omega arith))
+      (back_there.1.frame_at ∙ ap (λ y. 4 * y) base) gives.fits
+      (back_there.1.others 2 (λ q. absurd (omega (arith, q))) (λ q. absurd (omega (arith, q))) (λ q. absurd (omega (arith, q))) ∙ sym (read_is c1.regs 2 (λ q. absurd (omega (arith, q)))) ∙ gives.is ∙ canonical) ahead)
     where
       few_nodes : ReturnStands (text W E Outer Passes z) a.function k result → nodes result ≤ 2000
       few_nodes h = h.few
@@ -262,26 +290,26 @@ module _ (runs : RunLaws) (compose : RunsCompose) (W E : Type 0) (Outer : W → 
       then_splits runs compose W E Outer Passes z jumps 0 0 0 0 debt 1 (nodes result) (units 0) here here (at_with k c d) a.function k (λ v. k1) c d objects (Gives sc (bases W E Outer Passes z objects (g ∷ fs)) 2 8 2 (ty_of a.function.answer) c) (value_of result here.state)
       (λ cost v. deliver cost target v work there) (λ v q. absurd (omega (arith, q, some))) (none runs z.w Passes (at_with k c d)) (omega arith) (omega arith) st (value_within result here.state) (comes_splits z.w sc 0 k k1 c d _ (value_of result here.state) run)
       (λ u v c1 least most gives path.
-        let fo = frame_on z.p.unit g fs a.function r.is in
-        let ws = frame_words z.p.unit a.function in
-        let o = st.stack_room in
-        let sf = z.stack_fits in
-        let small = z.sound.small in
-        let e : ℕ = end_of W E Outer Passes z (g ∷ fs) in
-        let keeps = gives.keeps in
-        let at29 : c1.regs 29 ≡ 4 * end_of W E Outer Passes z fs = keeps.above 29 (λ q. absurd (omega (arith, q))) (omega arith) ∙ r.frame_at ∙ ap (λ y. 4 * (if y then end_of W E Outer Passes z fs else end_of W E Outer Passes z (g ∷ fs))) form in
-        let address : (if calls_in a.function.body then c1.memory (end_of W E Outer Passes z fs) else c1.regs 31) ≡ 4 * a.to =
-            ap₂ (λ m y. if calls_in a.function.body then m else y) (ap (λ m. m (end_of W E Outer Passes z fs)) keeps.memory) (keeps.above 31 (λ q. absurd (omega (arith, q))) (omega arith)) ∙ r.return_at in
-        let back_there = returns_light compose z.w z.sound straight jumps (calls_in a.function.body) (end_of W E Outer Passes z fs) a.to k1 c1 d st.idle at29 (omega (arith, fo, ws, o, sf)) address exit_at in
-        let c2 : Contents = back_there.0 in
-        let way = on runs z.w Passes (0 + 1) (0 + (0 + 16 * u)) 0 0 2 0 (at_with k c d) (at_with k1 c1 d) (at_with a.to back_there.0 d) path (of runs z.w Passes 2 _ _ back_there.2) in
-        let canonical = word_same (shapes z.p.unit) (map typed_of z.p.unit.globals) z.a.globals z.a.heap objects objects (λ path t h. refl) (rest_of (unit_scope z.p.unit)) (rest_of sc) (end_of W E Outer Passes z []) (end_of W E Outer Passes z (g ∷ fs)) (ty_of a.function.answer) v gives.fits in
-        delivers (0 + 1 + 0) (0 + (0 + 16 * u) + 2) (0 + 0) (plus (units 0) (units u)) here (at_with k c d) target v work (ty_of a.function.answer) back_there.0 way (omega (arith, most, few_nodes stands)) (omega (arith, least)) (omega arith)
-        (back_there.1.memory ∙ keeps.memory) (back_there.1.special ∙ keeps.special)
-        (back_there.1.others 28 (λ q. absurd (omega (arith, q))) ∙ keeps.above 28 (λ q. absurd (omega (arith, q))) (omega arith))
-        (back_there.1.others 30 (λ q. absurd (omega (arith, q))) ∙ keeps.above 30 (λ q. absurd (omega (arith, q))) (omega arith))
-        (back_there.1.others 29 (λ q. absurd (omega (arith, q))) ∙ at29) gives.fits
-        (back_there.1.others 2 (λ q. absurd (omega (arith, q))) ∙ sym (read_is c1.regs 2 (λ q. absurd (omega (arith, q)))) ∙ gives.is ∙ canonical) ahead)
+      let fo = frame_on z.p.unit g fs a.function r.is in
+      let ws = frame_words z.p.unit a.function in
+      let o = st.stack_room in
+      let sf = z.stack_fits in
+      let small = z.sound.small in
+      let e : ℕ = end_of W E Outer Passes z (g ∷ fs) in
+      let keeps = gives.keeps in
+      let at29 : c1.regs 29 ≡ 4 * end_of W E Outer Passes z fs = keeps.above 29 (λ q. absurd (omega (arith, q))) (omega arith) ∙ r.frame_at ∙ ap (λ y. 4 * (if y then end_of W E Outer Passes z fs else end_of W E Outer Passes z (g ∷ fs))) form in
+      let address : (if calls_in a.function.body then c1.memory (end_of W E Outer Passes z fs) else c1.regs 31) ≡ 4 * a.to =
+      ap₂ (λ m y. if calls_in a.function.body then m else y) (ap (λ m. m (end_of W E Outer Passes z fs)) keeps.memory) (keeps.above 31 (λ q. absurd (omega (arith, q))) (omega arith)) ∙ r.return_at in
+      let back_there = returns_light compose z.w z.sound straight jumps (calls_in a.function.body) (end_of W E Outer Passes z fs) a.to k1 c1 d st.idle at29 (omega (arith, fo, ws, o, sf)) address exit_at in
+      let c2 : Contents = back_there.0 in
+      let way = on runs z.w Passes (0 + 1) (0 + (0 + 16 * u)) 0 0 2 0 (at_with k c d) (at_with k1 c1 d) (at_with a.to back_there.0 d) path (of runs z.w Passes 2 _ _ back_there.2) in
+      let canonical = word_same (shapes z.p.unit) (map typed_of z.p.unit.globals) z.a.globals z.a.heap objects objects (λ path t h. refl) (rest_of (unit_scope z.p.unit)) (rest_of sc) (end_of W E Outer Passes z []) (end_of W E Outer Passes z (g ∷ fs)) (ty_of a.function.answer) v gives.fits in
+      delivers (0 + 1 + 0) (0 + (0 + 16 * u) + 2) (0 + 0) (plus (units 0) (units u)) here (at_with k c d) target v work (ty_of a.function.answer) back_there.0 way (omega (arith, most, few_nodes stands)) (omega (arith, least)) (omega arith)
+      (back_there.1.memory ∙ keeps.memory) (back_there.1.special ∙ keeps.special)
+      (back_there.1.others 28 (λ q. absurd (omega (arith, q))) ∙ keeps.above 28 (λ q. absurd (omega (arith, q))) (omega arith))
+      (back_there.1.others 30 (λ q. absurd (omega (arith, q))) ∙ keeps.above 30 (λ q. absurd (omega (arith, q))) (omega arith))
+      (back_there.1.others 29 (λ q. absurd (omega (arith, q))) ∙ at29) gives.fits
+      (back_there.1.others 2 (λ q. absurd (omega (arith, q))) ∙ sym (read_is c1.regs 2 (λ q. absurd (omega (arith, q)))) ∙ gives.is ∙ canonical) ahead)
     where
       few_nodes : ReturnStands (text W E Outer Passes z) a.function k result → nodes result ≤ 2000
       few_nodes h = h.few

@@ -1,7 +1,7 @@
 -- Where words of globals, heap and frames lie, and what stays as it was while others change.
 use Rattle.std.specs.Prelude.{map, slice_get, Some, unwrap_or, if◌then◌else◌}
 use Rattle.std.specs.Option.{option_map}
-use Rattle.std.proofs.Common.{◌≡◌, ◌≢◌, ℕ, zero, suc, ◌+◌, ◌-◌, ◌*◌, ◌<◌, ◌≤◌, Bool, true, false, List, [], ◌∷◌, ◌++◌, refl, sym, ap, ap₂, ◌∙◌, subst, arith, eq-eqb, ne_eqb}
+use Rattle.std.proofs.Common.{◌≡◌, ◌≢◌, ℕ, ◌+◌, ◌-◌, ◌<◌, ◌≤◌, Bool, true, false, List, [], ◌∷◌, ◌++◌, refl, ap, ap₂, ◌∙◌, arith, eq-eqb, ne_eqb}
 use Rattle.std.proofs.lemmas.Bool.{cond-true, cond-false}
 use Rattle.mips_table.specs.Code.{Contents, Behind, Configuration as Machine, put}
 use Rattle.c0_tree.specs.Tree.{CDecl, CFunction, CUnit}
@@ -10,7 +10,7 @@ use Rattle.c0_meaning.specs.Env.{Typed, Shape, typed_of}
 use Rattle.c0_meaning.specs.Words.{all_words}
 use Rattle.c0_meaning.specs.Limits.{frame, locals_of}
 use Rattle.c0_meaning.specs.Sound.{shapes}
-use Rattle.c0_meaning.specs.State.{Frame, variables_of, stack_words}
+use Rattle.c0_meaning.specs.State.{Frame, stack_words}
 use Rattle.c0_meaning.specs.TypedState.{types_of}
 use Rattle.c0_expr_code.specs.Bases.{words_of_all, RegionHeld}
 use Rattle.c0_stmt_code.specs.Setup.{Setup}
@@ -62,14 +62,16 @@ module _ (W E : Type 0) (Outer : W → Contents → Behind → Type 0) (Passes :
   waiting_same objects m m' [] [] e h = tt
   waiting_same objects m m' (a ∷ acts) (g ∷ fs) e h =
       let on = frame_on z.p.unit g fs a.function h.0.is in
-      let ws = frame_words z.p.unit a.function in
-      (record {
-        is = h.0.is;
-        in_frame = h.0.in_frame;
-        calls = h.0.calls;
-        return_at = e (end_of W E Outer Passes z fs) (omega arith) (omega (arith, on, ws)) ∙ h.0.return_at;
-        variables = variables_same objects m m' m m' a.function g fs true h.0.in_frame h.0.is (λ x le lt. e x (omega (arith, le)) lt) h.0.variables;
-      }, waiting_same objects m m' acts fs (λ x le lt. e x le (omega (arith, on, lt))) h.1)
+      let ws = frame_words z.p.unit a.function in (
+        record {
+          is = h.0.is;
+          in_frame = h.0.in_frame;
+          calls = h.0.calls;
+          return_at = e (end_of W E Outer Passes z fs) (omega arith) (omega (arith, on, ws)) ∙ h.0.return_at;
+          variables = variables_same objects m m' m m' a.function g fs true h.0.in_frame h.0.is (λ x le lt. e x (omega (arith, le)) lt) h.0.variables;
+        },
+        waiting_same objects m m' acts fs (λ x le lt. e x le (omega (arith, on, lt))) h.1,
+      )
   waiting_same objects m m' [] (g ∷ fs) e h = absurd h
   waiting_same objects m m' (a ∷ acts) [] e h = absurd h
 

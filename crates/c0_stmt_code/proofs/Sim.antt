@@ -1,26 +1,24 @@
 -- A step of the meaning and the machine side by side: how a step's parts join, and where it arrives.
-use Rattle.std.specs.Prelude.{Ok, Err, map, if◌then◌else◌}
-use Rattle.std.proofs.Common.{◌≡◌, ◌≢◌, ℕ, zero, suc, ◌+◌, ◌*◌, ◌<◌, ◌≤◌, true, false, List, [], ◌∷◌, refl, sym, ap, ap₂, ◌∙◌, subst, arith}
+use Rattle.std.specs.Prelude.{Ok, Err, map}
+use Rattle.std.proofs.Common.{◌≡◌, ◌≢◌, ℕ, ◌+◌, ◌*◌, ◌≤◌, List, [], ◌∷◌, refl, sym, ap, ◌∙◌, subst, arith}
 use Rattle.mips_table.specs.Code.{Contents, Behind, Configuration as Machine, at_with, RunLaws}
 use Rattle.masm.specs.Laws.{RunsCompose, JumpsLead}
 use Rattle.c0_tree.specs.Tree.{CStmts, CFunction}
 use Rattle.c0_meaning.specs.Ty.{Ty}
 use Rattle.c0_meaning.specs.Env.{typed_of}
-use Rattle.c0_meaning.specs.State.{Frame, variables_of}
 use Rattle.c0_meaning.specs.Operators.{faulted, stuck}
 use Rattle.c0_meaning.specs.Evaluation.{Costed, costs}
 use Rattle.c0_meaning.specs.World.{Cost, units, plus, Configuration, ended}
-use Rattle.c0_meaning.specs.Running.{Work, act_on, finish, again, leave, begin, push, Step, Go, Stop, then_go}
+use Rattle.c0_meaning.specs.Running.{Work, act_on, finish, again, leave, begin, push, Step, Go, then_go}
 use Rattle.c0_meaning.specs.TypedState.{types_of}
 use Rattle.c0_expr_code.specs.Bases.{RegionHeld}
 use Rattle.c0_expr_code.specs.Relation.{Keeps, Comes, Splits}
 use Rattle.c0_stmt_code.specs.Setup.{Setup}
-use Rattle.c0_stmt_code.specs.Journey.{Led, Stopped}
 use Rattle.c0_stmt_code.specs.Ahead.{Activation, Block, Ahead}
-use Rattle.c0_stmt_code.specs.Standing.{text, scope, bases, unit_scope, Waiting, Runs, UnderWay, Stands, Simulated, AtExit, StepIs}
+use Rattle.c0_stmt_code.specs.Standing.{text, scope, bases, unit_scope, UnderWay, Stands, Simulated, StepIs}
 use Rattle.c0_stmt_code.proofs.Ways.{Way, on, of, away, within}
 use Rattle.c0_stmt_code.proofs.Costs.{Within}
-use Rattle.c0_stmt_code.proofs.Blocks.{taken, Follows, behind}
+use Rattle.c0_stmt_code.proofs.Blocks.{taken, behind}
 
 module _ (runs : RunLaws) (compose : RunsCompose) (W E : Type 0) (Outer : W → Contents → Behind → Type 0) (Passes : Machine → Machine → Type 0) (z : Setup W E Outer Passes) (jumps : JumpsLead z.w) where
   abbrev pub Path : (least most passes : ℕ) → Machine → Machine → Type 0

@@ -1,6 +1,6 @@
 -- An instruction on a place, near or far, and what instructions do to registers.
 use Rattle.std.specs.Prelude.{if◌then◌else◌}
-use Rattle.std.proofs.Common.{◌≡◌, ◌≢◌, inl, inr, ℕ, zero, suc, ◌+◌, ◌-◌, ◌*◌, ◌/◌, ◌%◌, ◌^◌, ◌<◌, ◌≤◌, Bool, true, false, nat_lt, nat_eq, Some, None, List, [], ◌∷◌, ◌++◌, length, refl, sym, ap, ◌∙◌, subst, arith, eq-eqb, ne_eqb, eqb-true, length-append}
+use Rattle.std.proofs.Common.{◌≡◌, ◌≢◌, inl, inr, ℕ, ◌+◌, ◌-◌, ◌*◌, ◌/◌, ◌%◌, ◌^◌, ◌<◌, nat_lt, nat_eq, Some, None, [], ◌∷◌, ◌++◌, length, refl, ap, ◌∙◌, subst, arith, eq-eqb, ne_eqb, eqb-true, length-append}
 use Rattle.std.proofs.lemmas.Bool.{cases_Bool, cases_eq, cond-true, cond-false, ltb-true, ltb-false}
 use Rattle.mips_table.specs.declared.inst.Inst.{Inst}
 use Rattle.mips_table.specs.declared.inst.Inst.TheVariants.{Lui, Addu, Sw}
@@ -91,5 +91,8 @@ module _ (compose : RunsCompose) (w : World) (straight : StraightRuns w) where
       → (c : Contents) × Wrote r a v b c × Reaches w 3 (at_with (n + length x.code) b k) (at_with (n + length (on_spot (λ y z. Sw q y z) r x)) c k)
   writes q x r n a v b k idle rz bz qz qr code is inside kept holds =
       on_place (Wrote r a v b) (λ y z. Sw q y z) x r n b k idle rz bz code
-      (λ y m e there near address. (record e { memory = put e.memory a v }, record { memory = ap (λ f. put f a v) near.memory; special = near.special; others = near.others },
-        straight.next (Sw q y (low x.shift)) (Writes a v) m e k there refl idle (address ∙ is, inside, kept, like_read e.regs b.regs q (near.others q qz qr) ∙ holds)))
+      (λ y m e there near address. (
+        record e { memory = put e.memory a v },
+        record { memory = ap (λ f. put f a v) near.memory; special = near.special; others = near.others },
+        straight.next (Sw q y (low x.shift)) (Writes a v) m e k there refl idle (address ∙ is, inside, kept, like_read e.regs b.regs q (near.others q qz qr) ∙ holds),
+      ))

@@ -1,23 +1,23 @@
 -- The functions under way, and the state in which the code of expressions runs.
 use Rattle.std.specs.Prelude.{map, slice_get, if◌then◌else◌, Option, Some}
-use Rattle.std.proofs.Common.{◌≡◌, ◌≢◌, ℕ, zero, suc, ◌+◌, ◌-◌, ◌*◌, ◌<◌, ◌≤◌, Bool, true, false, List, [], ◌∷◌, refl, sym, ap, ap₂, ◌∙◌, subst, arith}
+use Rattle.std.proofs.Common.{◌≡◌, ℕ, ◌+◌, ◌-◌, ◌*◌, ◌≤◌, Bool, true, false, List, [], ◌∷◌, refl, sym, ap, ap₂, ◌∙◌, subst, arith}
 use Rattle.mips_table.specs.Code.{Contents, Behind, Configuration as Machine}
 use Rattle.c0_tree.specs.Tree.{CFunction}
 use Rattle.c0_meaning.specs.Ty.{Ty}
-use Rattle.c0_meaning.specs.Env.{Typed, typed_of}
+use Rattle.c0_meaning.specs.Env.{typed_of}
 use Rattle.c0_meaning.specs.Sound.{shapes}
 use Rattle.c0_meaning.specs.Value.{Value}
-use Rattle.c0_meaning.specs.State.{Frame, State, variables_of, stack_words}
+use Rattle.c0_meaning.specs.State.{Frame, State, stack_words}
 use Rattle.c0_meaning.specs.World.{Configuration}
 use Rattle.c0_meaning.specs.Limits.{frame}
 use Rattle.c0_meaning.specs.TypedState.{types_of, IsTypedWith}
 use Rattle.c0_expr_code.specs.Scope.{Scope}
-use Rattle.c0_expr_code.specs.Bases.{Bases, words_of_all, RegionHeld}
+use Rattle.c0_expr_code.specs.Bases.{words_of_all, RegionHeld}
 use Rattle.c0_expr_code.specs.Relation.{Ready, Keeps}
 use Rattle.c0_stmt_code.specs.Code.{calls_in}
 use Rattle.c0_stmt_code.specs.Setup.{Setup}
 use Rattle.c0_stmt_code.specs.Ahead.{Activation, env_in}
-use Rattle.c0_stmt_code.specs.Standing.{AreDeclared, text, scope, bases, end_of, unit_scope, VariablesHeld, Waiting, Runs, UnderWay, Stands}
+use Rattle.c0_stmt_code.specs.Standing.{AreDeclared, text, scope, bases, end_of, unit_scope, Waiting, Runs, UnderWay, Stands}
 use Rattle.c0_stmt_code.proofs.Needs.{ExpressionsDo, HeldStays}
 use Rattle.c0_stmt_code.proofs.Held.{Rest, region}
 
@@ -56,12 +56,15 @@ module _ (W E : Type 0) (Outer : W → Contents → Behind → Type 0) (Passes :
   module _ (held : HeldStays (shapes z.p.unit)) where
     -- the functions under way stay so under code of expressions
     pub under_on : (objects : List Ty) (frames : List Frame) (c c' : Contents) (acts : List Activation) → Keeps 0 0 c c' → UnderWay W E Outer Passes z objects c acts frames → UnderWay W E Outer Passes z objects c' acts frames
-    under_on objects (g ∷ fs) c c' (a ∷ others) k h = (record {
-      is = h.0.is;
-      return_at = ap₂ (λ m r. if calls_in a.function.body then m else r) (ap (λ m. m (end_of W E Outer Passes z fs)) k.memory) (k.above 31 (omega arith) (omega arith)) ∙ h.0.return_at;
-      frame_at = k.above 29 (omega arith) (omega arith) ∙ h.0.frame_at;
-      variables = by_form (scope W E Outer Passes z a.function).in_registers h.0.variables;
-    }, subst (λ m. Waiting W E Outer Passes z objects m others fs) (sym k.memory) h.1)
+    under_on objects (g ∷ fs) c c' (a ∷ others) k h = (
+      record {
+        is = h.0.is;
+        return_at = ap₂ (λ m r. if calls_in a.function.body then m else r) (ap (λ m. m (end_of W E Outer Passes z fs)) k.memory) (k.above 31 (omega arith) (omega arith)) ∙ h.0.return_at;
+        frame_at = k.above 29 (omega arith) (omega arith) ∙ h.0.frame_at;
+        variables = by_form (scope W E Outer Passes z a.function).in_registers h.0.variables;
+      },
+      subst (λ m. Waiting W E Outer Passes z objects m others fs) (sym k.memory) h.1,
+    )
       where
         by_form : (b : Bool) → RegionHeld (scope W E Outer Passes z a.function) (bases W E Outer Passes z objects (g ∷ fs)) (if b then c.regs else c.memory) (if b then 20 else (end_of W E Outer Passes z (g ∷ fs) - frame (shapes z.p.unit) a.function) + 3) (types_of (scope W E Outer Passes z a.function).env.locals) g.variables
             → RegionHeld (scope W E Outer Passes z a.function) (bases W E Outer Passes z objects (g ∷ fs)) (if b then c'.regs else c'.memory) (if b then 20 else (end_of W E Outer Passes z (g ∷ fs) - frame (shapes z.p.unit) a.function) + 3) (types_of (scope W E Outer Passes z a.function).env.locals) g.variables

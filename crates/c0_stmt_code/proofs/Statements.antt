@@ -1,38 +1,37 @@
 -- Assignments, choices and loops.
-use Rattle.std.specs.Prelude.{map, slice_get, max, ◌&&◌, ◌||◌, IsTrue, Some, None, Ok, Err, if◌then◌else◌}
-use Rattle.std.proofs.Common.{◌≡◌, ◌≢◌, inl, inr, ℕ, zero, suc, ◌+◌, ◌-◌, ◌*◌, ◌%◌, ◌^◌, ◌<◌, ◌≤◌, Bool, true, false, Option, List, [], ◌∷◌, ◌++◌, length, refl, sym, ap, ◌∙◌, subst, arith, length-append}
+use Rattle.std.specs.Prelude.{max, ◌&&◌, ◌||◌, IsTrue, Some, None, if◌then◌else◌}
+use Rattle.std.proofs.Common.{◌≡◌, ◌≢◌, ℕ, suc, ◌+◌, ◌*◌, ◌%◌, ◌^◌, ◌<◌, ◌≤◌, Bool, true, false, Option, List, ◌∷◌, ◌++◌, length, refl, ap, subst, arith, length-append}
 use Rattle.mips_table.specs.declared.inst.Inst.{Inst}
 use Rattle.mips_table.specs.declared.inst.Inst.TheVariants.{Sw}
 use Rattle.mips_table.specs.Code.{Contents, reg, Behind, World, Configuration as Machine, at_with, RunLaws, CodeAt}
 use Rattle.masm.specs.Laws.{RunsCompose, JumpsLead, StraightRuns}
-use Rattle.c0_tree.specs.Size.{need, nodes, stmt_nodes, stmts_nodes}
-use Rattle.c0_tree.specs.declared.tree.Span.{Span}
-use Rattle.c0_tree.specs.Tree.{CExpr, CStmt, assign, call, new, choice, loop, CStmts, done, next, CFunction}
-use Rattle.c0_meaning.specs.Ty.{Ty, bool, is_scalar}
+use Rattle.c0_tree.specs.Size.{need, nodes, stmts_nodes}
+use Rattle.c0_tree.specs.Tree.{CExpr, CStmts, done, next, CFunction}
+use Rattle.c0_meaning.specs.Ty.{Ty, bool}
 use Rattle.c0_meaning.specs.Sound.{shapes}
 use Rattle.c0_meaning.specs.Value.{Value}
-use Rattle.c0_meaning.specs.State.{Frame, State}
+use Rattle.c0_meaning.specs.State.{Frame}
 use Rattle.c0_meaning.specs.Statement.{MAX_NEED, assign_need}
-use Rattle.c0_meaning.specs.Numbered.{IsNumbered, an_assignment, a_call, an_object, a_choice, a_loop, IsNumberedLeft, IsNumberedGiven, IsNumberedTest, AreNumbered}
+use Rattle.c0_meaning.specs.Numbered.{IsNumberedLeft, IsNumberedGiven, IsNumberedTest, AreNumbered}
 use Rattle.c0_meaning.specs.Evaluation.{truth, value_of}
-use Rattle.c0_meaning.specs.World.{Cost, units, plus, Configuration}
-use Rattle.c0_meaning.specs.Running.{Work, again, push, Step, Go, then_go, act_statement, test_loop, store}
+use Rattle.c0_meaning.specs.World.{units, plus, Configuration}
+use Rattle.c0_meaning.specs.Running.{Work, again, push, Go, then_go, test_loop, store}
 use Rattle.std.proofs.lemmas.Bool.{and_parts}
 use Rattle.c0_expr_code.specs.Scope.{Scope, are_free_of_calls}
-use Rattle.c0_expr_code.specs.Code.{Made, Spot, on_spot, made, operand_code, operand_register}
+use Rattle.c0_expr_code.specs.Code.{on_spot, made, operand_code, operand_register}
 use Rattle.c0_expr_code.specs.Bases.{Bases}
 use Rattle.c0_expr_code.specs.Test.{test_code}
-use Rattle.c0_expr_code.specs.Relation.{Ready, Keeps, Comes, Gives, Source, nought, its, far, Splits, ends, Aims}
+use Rattle.c0_expr_code.specs.Relation.{Ready, Keeps, Gives, Source, nought, its, far, ends}
 use Rattle.c0_stmt_code.specs.Code.{Links, are_calling, calls_in, skip, assigned_code, assign_code, otherwise, otherwise_at, choice_code, back, turn_code, while_code, stmt_code, stmts_code}
 use Rattle.c0_stmt_code.specs.Setup.{Setup}
 use Rattle.c0_stmt_code.specs.Ahead.{Activation, env_in, Skips, Block, LoopStands, Ahead}
-use Rattle.c0_stmt_code.specs.Standing.{text, scope, bases, Waiting, Runs, UnderWay, Stands, StepIs}
+use Rattle.c0_stmt_code.specs.Standing.{text, scope, bases, Waiting, Runs, Stands, StepIs}
 use Rattle.c0_stmt_code.proofs.Needs.{ExpressionsDo, HeldStays, TypedStays, LengthsFit}
-use Rattle.c0_stmt_code.proofs.Ways.{Way, none, on, of, away, within}
+use Rattle.c0_stmt_code.proofs.Ways.{none}
 use Rattle.c0_stmt_code.proofs.Blocks.{or_left, or_right, front, skipped, Follows, behind, block_of}
 use Rattle.c0_stmt_code.proofs.Blocks as blocks
 use Rattle.c0_stmt_code.proofs.Costs.{value_within, truth_within}
-use Rattle.c0_stmt_code.proofs.Lengths.{stmts_length, stmt_length, stmt_some}
+use Rattle.c0_stmt_code.proofs.Lengths.{stmts_length, stmt_some}
 use Rattle.c0_stmt_code.proofs.Places.{source_not_one, keeps_low, its_exprs, its_ready, store_in}
 use Rattle.c0_stmt_code.proofs.State.{state_of, standing_at, Exprs, under_on}
 use Rattle.c0_stmt_code.proofs.Spots.{like_read}
@@ -112,15 +111,15 @@ module _ (runs : RunLaws) (compose : RunsCompose) (W E : Type 0) (Outer : W → 
       then_comes runs compose W E Outer Passes z jumps 0 0 0 0 debt 1 (nodes v) (units 1) here here s a.function k (k + length (operand_code (made sc v) 8)) c d objects (Gives sc frame_bases (operand_register (made sc v) 8) 8 8 t c) (value_of v here.state) (λ cost x. store cost p x rest work here)
       (none runs z.w Passes s) (omega arith) (omega arith) st (value_within v here.state) run.1
       (λ u x c1 least most gives path1.
-        let keeps = keeps_low 8 c c1 (omega arith) gives.keeps in
-        let st1 = stands_on runs compose W E Outer Passes z jumps objects here c c1 d keeps st in
-        let under = under_on W E Outer Passes z held objects (g ∷ fs) c c1 (a ∷ others) keeps (r, waits) in
-        store_in runs compose W E Outer Passes z jumps straight held typing exprs objects gv hv hw g fs world calls answer c1 d a others st1 under.0 under.1
-        (0 + (0 + 16 * u)) 0 debt debt 9 (operand_register (made sc v) 8) (k + length (operand_code (made sc v) 8)) (plus (units 1) (units u)) here s p t x rest work path1
-        (omega arith) (omega arith) (omega (arith, most, few)) (omega (arith, few)) (omega arith) (omega arith) (omega (arith, np)) (omega arith)
-        (source_not_one 8 (operand_register (made sc v) 8) (omega arith) run.0) (source_apart 8 (operand_register (made sc v) 8) (omega arith) run.0)
-        (λ b kept. source_kept 8 (operand_register (made sc v) 8) c1 b (omega arith) (omega arith) run.0 kept) gives.is gives.fits left stands
-        (blocks.back z.w k (operand_code (made sc v) 8) (on_spot (λ y x. Sw (operand_register (made sc v) 8) y x) 9 ((made sc p).place 9)) there) (subst (λ y. Behind_it y debt) len block))
+      let keeps = keeps_low 8 c c1 (omega arith) gives.keeps in
+      let st1 = stands_on runs compose W E Outer Passes z jumps objects here c c1 d keeps st in
+      let under = under_on W E Outer Passes z held objects (g ∷ fs) c c1 (a ∷ others) keeps (r, waits) in
+      store_in runs compose W E Outer Passes z jumps straight held typing exprs objects gv hv hw g fs world calls answer c1 d a others st1 under.0 under.1
+      (0 + (0 + 16 * u)) 0 debt debt 9 (operand_register (made sc v) 8) (k + length (operand_code (made sc v) 8)) (plus (units 1) (units u)) here s p t x rest work path1
+      (omega arith) (omega arith) (omega (arith, most, few)) (omega (arith, few)) (omega arith) (omega arith) (omega (arith, np)) (omega arith)
+      (source_not_one 8 (operand_register (made sc v) 8) (omega arith) run.0) (source_apart 8 (operand_register (made sc v) 8) (omega arith) run.0)
+      (λ b kept. source_kept 8 (operand_register (made sc v) 8) c1 b (omega arith) (omega arith) run.0 kept) gives.is gives.fits left stands
+      (blocks.back z.w k (operand_code (made sc v) 8) (on_spot (λ y x. Sw (operand_register (made sc v) 8) y x) 9 ((made sc p).place 9)) there) (subst (λ y. Behind_it y debt) len block))
 
   -- an `if`
   abbrev yes_words : CStmts → ℕ
@@ -147,8 +146,8 @@ module _ (runs : RunLaws) (compose : RunsCompose) (W E : Type 0) (Outer : W → 
       let at : otherwise_at y ≤ 1 = at_most y in
       let small : yes_words x + otherwise_at y < 2 ^ 16 = omega (arith, l2, at, few) in
       let run = do_exprs.test t test.value (omega (arith, few)) false (far_of x y) (end + (yes_words x + otherwise_at y)) 8 k c d st.idle do_ready
-          (front z.w k (its_test t false (far_of x y)) (its_stmts x ++ otherwise y (its_stmts y)) code) (omega arith) (let n = test.shallow in omega (arith, n))
-          (record { same = omega (arith, small); short = omega (arith, small); ahead = omega (arith, l1, l2, at, few); behind = omega arith }) in
+      (front z.w k (its_test t false (far_of x y)) (its_stmts x ++ otherwise y (its_stmts y)) code) (omega arith) (let n = test.shallow in omega (arith, n))
+      (record { same = omega (arith, small); short = omega (arith, small); ahead = omega (arith, l1, l2, at, few); behind = omega arith }) in
       let after = blocks.back z.w k (its_test t false (far_of x y)) (its_stmts x ++ otherwise y (its_stmts y)) code in
       then_splits runs compose W E Outer Passes z jumps 0 0 0 1 debt 1 (nodes t) (units 1) here here s a.function k (ends false (end + (yes_words x + otherwise_at y)) end) c d objects (λ b c'. Keeps 8 8 c c') (truth (value_of t here.state))
       (λ cost b. Go cost (push (if b then x else y) (push rest work)) here) (apart_ends some) (none runs z.w Passes s) (omega arith) (omega arith) st (truth_within t here.state) run
@@ -178,10 +177,10 @@ module _ (runs : RunLaws) (compose : RunsCompose) (W E : Type 0) (Outer : W → 
           let owed = follows.owed in
           let l3 = stmts_length sc (text W E Outer Passes z).links (fit a.function) y in
           let len : k + length (choice_code sc t y (its_stmts x) (its_stmts y)) ≡ end + length (its_stmts x) + otherwise_at y + length (its_stmts y) =
-              let e = otherwise_length z.w sc (text W E Outer Passes z).links y in omega (arith, e, length-append (its_test t false (far_of x y)) (its_stmts x ++ otherwise y (its_stmts y)), length-append (its_stmts x) (otherwise y (its_stmts y))) in
+          let e = otherwise_length z.w sc (text W E Outer Passes z).links y in omega (arith, e, length-append (its_test t false (far_of x y)) (its_stmts x ++ otherwise y (its_stmts y)), length-append (its_stmts x) (otherwise y (its_stmts y))) in
           let over = otherwise_over z.w sc (text W E Outer Passes z).links y (end + length (its_stmts x)) follows.count follows.to (blocks.back z.w end (its_stmts x) (otherwise y (its_stmts y)) there) (omega (arith, l3, few)) (subst (λ m. Skips z.w follows.count m follows.to) len follows.skips) in
           let b = block_of (text W E Outer Passes z) a.function (λ to left. Ahead (text W E Outer Passes z) (a ∷ others) to left (push rest work)) x end (otherwise_at y + follows.count) follows.to follows.left (otherwise_at y + debt) tx (omega (arith, few)) (λ q. (and_parts (are_free_of_calls x) (are_free_of_calls y) (free q)).0) (λ q. its_calls (or_left (are_calling x) (are_calling y) q))
-              (front z.w end (its_stmts x) (otherwise y (its_stmts y)) there) over (omega (arith, owed)) follows.ahead in
+          (front z.w end (its_stmts x) (otherwise y (its_stmts y)) there) over (omega (arith, owed)) follows.ahead in
           arrives runs compose W E Outer Passes z jumps (0 + 1) (0 + (1 + 16 * u)) 0 debt (otherwise_at y + debt) (plus (units 1) (units u)) here here s end c1 d objects a others x (push rest work) path1 (omega (arith, most, few)) (omega (arith, at)) (omega arith) st1 under b
       branches false u c1 least most kept path1 there l1 l2 at =
           let end : ℕ = k + length (its_test t false (far_of x y)) in
@@ -189,11 +188,11 @@ module _ (runs : RunLaws) (compose : RunsCompose) (W E : Type 0) (Outer : W → 
           let st1 = stands_on runs compose W E Outer Passes z jumps objects here c c1 d keeps st in
           let under = under_on W E Outer Passes z held objects (g ∷ fs) c c1 (a ∷ others) keeps (r, waits) in
           let len : k + length (choice_code sc t y (its_stmts x) (its_stmts y)) ≡ end + (yes_words x + otherwise_at y) + length (its_stmts y) =
-              let e = otherwise_length z.w sc (text W E Outer Passes z).links y in omega (arith, e, length-append (its_test t false (far_of x y)) (its_stmts x ++ otherwise y (its_stmts y)), length-append (its_stmts x) (otherwise y (its_stmts y))) in
+          let e = otherwise_length z.w sc (text W E Outer Passes z).links y in omega (arith, e, length-append (its_test t false (far_of x y)) (its_stmts x ++ otherwise y (its_stmts y)), length-append (its_stmts x) (otherwise y (its_stmts y))) in
           let place : end + length (its_stmts x) + otherwise_at y ≡ end + (yes_words x + otherwise_at y) = omega arith in
           let b = block_of (text W E Outer Passes z) a.function (λ to left. Ahead (text W E Outer Passes z) (a ∷ others) to left (push rest work)) y (end + (yes_words x + otherwise_at y)) follows.count follows.to follows.left debt ty (omega (arith, few)) (λ q. (and_parts (are_free_of_calls x) (are_free_of_calls y) (free q)).1) (λ q. its_calls (or_right (are_calling x) (are_calling y) q))
-              (subst (λ m. CodeAt z.w m (its_stmts y)) place (otherwise_there z.w sc (text W E Outer Passes z).links y (end + length (its_stmts x)) (blocks.back z.w end (its_stmts x) (otherwise y (its_stmts y)) there)))
-              (subst (λ m. Skips z.w follows.count m follows.to) len follows.skips) follows.owed follows.ahead in
+          (subst (λ m. CodeAt z.w m (its_stmts y)) place (otherwise_there z.w sc (text W E Outer Passes z).links y (end + length (its_stmts x)) (blocks.back z.w end (its_stmts x) (otherwise y (its_stmts y)) there)))
+          (subst (λ m. Skips z.w follows.count m follows.to) len follows.skips) follows.owed follows.ahead in
           arrives runs compose W E Outer Passes z jumps (0 + 1) (0 + (1 + 16 * u)) 0 debt debt (plus (units 1) (units u)) here here s (end + (yes_words x + otherwise_at y)) c1 d objects a others y (push rest work) path1 (omega (arith, most, few)) (omega arith) (omega arith) st1 under b
 
   -- a turn of a loop, from its test on: `first` is 1 where the loop has just begun, by a jump to the test
@@ -219,7 +218,7 @@ module _ (runs : RunLaws) (compose : RunsCompose) (W E : Type 0) (Outer : W → 
       let there = blocks.back z.w (from + 1) (its_stmts x) (turn_code sc t (its_stmts x)) stands.code.1 in
       let body = body_words x in
       let run = do_exprs.test t stands.test.value (omega (arith, n)) true (back sc t (its_stmts x)) (body_at x from) 8 (turn_at t x from) c d st.idle do_ready there (omega arith) (let m = stands.test.shallow in omega (arith, m))
-          (record { same = omega (arith, same, body, l1, l2, n); short = omega arith; ahead = omega (arith, body); behind = omega (arith, body, l1, l2, n) }) in
+      (record { same = omega (arith, same, body, l1, l2, n); short = omega arith; ahead = omega (arith, body); behind = omega (arith, body, l1, l2, n) }) in
       then_splits runs compose W E Outer Passes z jumps 0 first 0 1 debt 1 (nodes t) (units extra) here here s0 a.function (turn_at t x from) (ends true (body_at x from) (turn_at t x from + length (turn_code sc t (its_stmts x)))) c d objects (λ b c'. Keeps 8 8 c c') (truth (value_of t here.state))
       (λ cost b. Go cost (if b then push x (again t x rest ∷ work) else push rest work) here) (apart_ends x) path (omega (arith, paid, le)) (omega arith) st (truth_within t here.state) run
       (λ u b c1 least most kept path1. branches b u c1 least most kept path1)
@@ -240,9 +239,12 @@ module _ (runs : RunLaws) (compose : RunsCompose) (W E : Type 0) (Outer : W → 
       entered : (y : CStmts) → y ≡ x → AreNumbered (env_in (text W E Outer Passes z) a.function) y → stmts_nodes y ≤ 2000 → (sc.in_registers ≡ true → IsTrue (are_free_of_calls y)) → (IsTrue (are_calling y) → calls_in a.function.body ≡ true) → z.w.code from ≡ Some (skip (length (its_stmts y))) → CodeAt z.w (from + 1) (its_stmts y)
           → (owed : ℕ) × (owed ≤ 1 + debt) × Block (text W E Outer Passes z) a.function (body_at y from) owed y (λ to left. Ahead (text W E Outer Passes z) (a ∷ others) to left (again t x rest ∷ work))
       entered done e typed few free its_calls jump code =
-          let there : from + 1 + 0 ≡ turn_at t x from = let q : length (its_stmts done) ≡ length (its_stmts x) = ap (λ y. length (its_stmts y)) e in omega (arith, q) in
-          (1 + debt, omega arith, block_of (text W E Outer Passes z) a.function (λ to left. Ahead (text W E Outer Passes z) (a ∷ others) to left (again t x rest ∷ work)) done from 1 (turn_at t x from) debt (1 + debt) typed few free its_calls tt
-          (0, omega arith, subst (λ m. z.w.code m ≡ Some (skip 0)) (omega arith) jump, omega (arith, there)) (omega arith) then_again)
+          let there : from + 1 + 0 ≡ turn_at t x from = let q : length (its_stmts done) ≡ length (its_stmts x) = ap (λ y. length (its_stmts y)) e in omega (arith, q) in (
+            1 + debt,
+            omega arith,
+            block_of (text W E Outer Passes z) a.function (λ to left. Ahead (text W E Outer Passes z) (a ∷ others) to left (again t x rest ∷ work)) done from 1 (turn_at t x from) debt (1 + debt) typed few free its_calls tt
+                (0, omega arith, subst (λ m. z.w.code m ≡ Some (skip 0)) (omega arith) jump, omega (arith, there)) (omega arith) then_again,
+          )
       entered (next q w) e typed few free its_calls jump code =
           let there : from + 1 + length (its_stmts (next q w)) ≡ turn_at t x from = ap (λ y. from + 1 + length (its_stmts y)) e in
           (debt, omega arith, block_of (text W E Outer Passes z) a.function (λ to left. Ahead (text W E Outer Passes z) (a ∷ others) to left (again t x rest ∷ work)) (next q w) (from + 1) 0 (turn_at t x from) debt debt typed few free its_calls code there (omega arith) then_again)

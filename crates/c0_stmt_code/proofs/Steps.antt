@@ -1,43 +1,41 @@
 -- Each step that is proved, put together.
-use Rattle.std.specs.Prelude.{map, slice_get, IsTrue, Some, None, if◌then◌else◌}
-use Rattle.std.proofs.Common.{◌≡◌, ◌≢◌, ℕ, zero, suc, ◌+◌, ◌*◌, ◌<◌, ◌≤◌, Bool, true, false, Option, List, [], ◌∷◌, ◌++◌, length, refl, sym, ap, ◌∙◌, subst, arith, length-append}
+use Rattle.std.specs.Prelude.{map, slice_get, IsTrue, Some, None}
+use Rattle.std.proofs.Common.{◌≡◌, ℕ, zero, suc, ◌+◌, ◌*◌, ◌≤◌, Bool, true, false, Option, List, [], ◌∷◌, ◌++◌, length, refl, sym, ap, ◌∙◌, subst, arith}
 use Rattle.mips_table.specs.declared.inst.Inst.TheVariants.{Jal, Sw}
 use Rattle.mips_table.specs.Code.{Contents, Behind, Configuration as Machine, at_with, RunLaws, CodeAt}
 use Rattle.masm.specs.Laws.{RunsCompose, JumpsLead, StraightRuns}
 use Rattle.c0_tree.specs.declared.tree.Kind.{Kind}
 use Rattle.c0_tree.specs.declared.tree.Kind.TheVariants.{Unresolved, Struct, Field, Global, Local, Function, Primitive}
-use Rattle.c0_tree.specs.declared.tree.Span.{Span}
 use Rattle.c0_tree.specs.declared.primitive.Scalar.{Scalar}
 use Rattle.c0_tree.specs.Primitives.{CPrimitive}
-use Rattle.c0_tree.specs.Size.{nodes, args_nodes, stmts_nodes}
-use Rattle.c0_tree.specs.Tree.{CName, CExpr, CStmt, assign, call, new, choice, loop, CStmts, done, next, CBody, code, asm, CDecl, CFunction, CUnit}
+use Rattle.c0_tree.specs.Tree.{CExpr, CStmt, assign, call, new, choice, loop, CStmts, CBody, code, asm, CDecl, CFunction}
 use Rattle.c0_meaning.specs.Ty.{Ty, named, ty_of}
-use Rattle.c0_meaning.specs.Env.{Env, Signature, typed_of, signature_of, primitive_signature, scalar_ty}
-use Rattle.c0_meaning.specs.Limits.{is_asm, locals_of}
+use Rattle.c0_meaning.specs.Env.{Env, Signature, typed_of, primitive_signature, scalar_ty}
+use Rattle.c0_meaning.specs.Limits.{is_asm}
 use Rattle.c0_meaning.specs.Words.{words, fields_named}
 use Rattle.c0_meaning.specs.Sound.{shapes}
 use Rattle.c0_meaning.specs.Value.{Value, Values}
-use Rattle.c0_meaning.specs.State.{Frame, State, stack_words}
-use Rattle.c0_meaning.specs.Numbered.{IsNumbered, an_assignment, a_call, an_object, a_choice, a_loop, IsNumberedLeft, AreNumberedGiven, none, more, callee_at}
+use Rattle.c0_meaning.specs.State.{Frame}
+use Rattle.c0_meaning.specs.Numbered.{IsNumbered, an_assignment, a_call, a_choice, a_loop, IsNumberedLeft, AreNumberedGiven, none, more, callee_at}
 use Rattle.c0_meaning.specs.Evaluation.{values_of}
 use Rattle.c0_meaning.specs.World.{Cost, units, Configuration, ended}
-use Rattle.c0_meaning.specs.Running.{Target, into, outward, Work, act_on, finish, again, leave, begin, Step, then_go, call_with, call_function, act_statement, act}
+use Rattle.c0_meaning.specs.Running.{Target, into, outward, Work, act_on, finish, again, leave, begin, then_go, call_with, call_function, act_statement, act}
 use Rattle.c0_meaning.specs.TypedState.{types_of, Fits, AllFit, layout_of}
 use Rattle.c0_expr_code.specs.Scope.{Scope, is_free_of_calls}
 use Rattle.c0_expr_code.specs.Bases.{words_of_all}
-use Rattle.c0_expr_code.specs.Relation.{Area}
 use Rattle.c0_expr_code.specs.Laws.{IsOpened, AreasHold}
 use Rattle.c0_expr_code.specs.Code.{made}
-use Rattle.c0_stmt_code.specs.Code.{calls_in, args_code, answer_code, stored_code, call_code, callee_index, while_code, skip, stmt_code, stmts_code, function_code}
+use Rattle.c0_stmt_code.specs.Code.{args_code, answer_code, stored_code, callee_index, stmt_code, stmts_code}
 use Rattle.c0_stmt_code.specs.Setup.{Setup}
-use Rattle.c0_stmt_code.specs.Ahead.{Activation, env_in, StatementStands, LoopStands, IsAnswered, Block, Awaits, Ahead}
-use Rattle.c0_stmt_code.specs.Standing.{AreDeclared, text, scope, bases, end_of, unit_scope, word_of_value, AreIn, Waiting, Runs, UnderWay, Stands, Simulated, StepIs, IsCoveredStatement, IsCoveredItem, IsCovered}
-use Rattle.c0_stmt_code.proofs.Needs.{HeldStays, TypedStays, FunctionsAre, LengthsFit, AllScalar}
+use Rattle.c0_stmt_code.specs.Ahead.{Activation, env_in, StatementStands, Block, Awaits, Ahead}
+use Rattle.c0_stmt_code.specs.Standing.{text, scope, bases, end_of, unit_scope, word_of_value, AreIn, Waiting, Runs, UnderWay, Stands, Simulated, StepIs, IsCoveredStatement, IsCoveredItem, IsCovered}
+use Rattle.c0_stmt_code.proofs.Needs.{HeldStays, TypedStays, FunctionsAre, LengthsFit}
 use Rattle.c0_stmt_code.proofs.Ways.{Way, none as no_way, away, within}
 use Rattle.c0_stmt_code.proofs.Blocks.{skipped}
 use Rattle.c0_stmt_code.proofs.Lengths.{stmts_length}
-use Rattle.c0_stmt_code.proofs.State.{state_of, standing_at, Exprs}
+use Rattle.c0_stmt_code.proofs.State.{standing_at, Exprs}
 use Rattle.c0_stmt_code.proofs.Statements.{assigns, chooses, turns}
+use Rattle.c0_stmt_code.proofs.Locals.{variable_is, assigns_light}
 use Rattle.c0_stmt_code.proofs.Calls.{enters, enters_light}
 use Rattle.c0_stmt_code.proofs.CallActs.{signature_from, calls_function}
 use Rattle.c0_stmt_code.proofs.Primitives.{calls_primitive}
@@ -46,13 +44,13 @@ use Rattle.c0_stmt_code.proofs.Returns.{leaves, leaves_light, finishes}
 use Rattle.c0_stmt_code.proofs.Sim.{Path}
 
 -- a body that isn't an asm text
-pub record Statements_ (b : CBody) : Type 0 where
+pub record HasCode (b : CBody) : Type 0 where
   pub locals : List CDecl
   pub stmts : CStmts
   pub answer : CExpr
   pub is : b ≡ code locals stmts answer
 
-pub has_statements : (b : CBody) → is_asm b ≡ false → Statements_ b
+pub has_statements : (b : CBody) → is_asm b ≡ false → HasCode b
 has_statements (code ls ss e) h = record { locals = ls; stmts = ss; answer = e; is = refl }
 has_statements (asm t s ws) h = absurd (cc)
 
@@ -100,7 +98,7 @@ module _ (runs : RunLaws) (compose : RunsCompose) (W E : Type 0) (Outer : W → 
   begins objects gv hv hw fs world calls answer c d acts st waits at_end n to debt f is frame args target work return_at fits arguments ahead l m j cost h0 s0 path low high en =
       by_form (scope W E Outer Passes z f).in_registers refl (has_statements f.body frame)
     where
-      by_form : (b : Bool) → (scope W E Outer Passes z f).in_registers ≡ b → Statements_ f.body → StepIs W E Outer Passes z debt h0 s0 (call_function z.p cost n args target work (standing_at gv hv hw fs world calls answer))
+      by_form : (b : Bool) → (scope W E Outer Passes z f).in_registers ≡ b → HasCode f.body → StepIs W E Outer Passes z debt h0 s0 (call_function z.p cost n args target work (standing_at gv hv hw fs world calls answer))
       by_form false form b = enters runs compose W E Outer Passes z jumps straight held typing functions opened objects gv hv hw fs world calls answer c d acts st waits at_end n to debt f is args target work return_at fits arguments ahead l m j ((text W E Outer Passes z).links.function n) cost h0 s0 b.locals b.stmts b.answer b.is form path (z.functions n f is) low high en
       by_form true form b = enters_light runs compose W E Outer Passes z jumps straight held typing functions opened objects gv hv hw fs world calls answer c d acts st waits at_end n to debt f is args target work return_at fits arguments ahead l m j ((text W E Outer Passes z).links.function n) cost h0 s0 b.locals b.stmts b.answer b.is form path (z.functions n f is) low high en
 
@@ -122,8 +120,13 @@ module _ (runs : RunLaws) (compose : RunsCompose) (W E : Type 0) (Outer : W → 
     states (assign s p v) rest work covered stands block = by_rule stands.typed
       where
         by_rule : IsNumbered (env_in (text W E Outer Passes z) a.function) (assign s p v) → StepIs W E Outer Passes z debt here (at_with k c d) (act_statement z.p (assign s p v) rest work here)
-        by_rule (an_assignment {t = t} left given deep) = let few = stands.few in
-            assigns runs compose W E Outer Passes z jumps straight held typing exprs fit objects gv hv hw g fs world calls answer c d a others st r waits k debt rest work p v t left given deep (omega (arith, few)) covered stands.code block
+        by_rule (an_assignment {t = t} left given deep) = by_stands (made sc p).stands refl
+          where
+            by_stands : (o : Option ℕ) → (made sc p).stands ≡ o → StepIs W E Outer Passes z debt here (at_with k c d) (act_statement z.p (assign s p v) rest work here)
+            by_stands None e = let few = stands.few in
+                assigns runs compose W E Outer Passes z jumps straight held typing exprs fit objects gv hv hw g fs world calls answer c d a others st r waits k debt rest work p v t left given deep (omega (arith, few)) e stands.code block
+            by_stands (Some x) e = let few = stands.few in
+                assigns_light runs compose W E Outer Passes z jumps straight held typing exprs fit objects gv hv hw g fs world calls answer c d a others st r waits k debt rest work p v t x (variable_is (env_in (text W E Outer Passes z) a.function) sc x p t left.typed left.place e) left given deep (omega (arith, few)) e stands.code block
     states (choice s t x y) rest work covered stands block = by_rule stands.typed
       where
         by_rule : IsNumbered (env_in (text W E Outer Passes z) a.function) (choice s t x y) → StepIs W E Outer Passes z debt here (at_with k c d) (act_statement z.p (choice s t x y) rest work here)
@@ -202,8 +205,8 @@ module _ (runs : RunLaws) (compose : RunsCompose) (W E : Type 0) (Outer : W → 
     acts (finish place v rest) work covered ahead = absurd ahead
     acts (begin n args) work covered ahead = absurd ahead
 
-  by_parts : (frames : List Frame) (objects : List Ty) (gv hv : Value) (hw : ℕ) (world : W) (calls : List (List E)) (answer : Option Value) (c : Contents) (d : Behind) (acts_ : List Activation) (k debt : ℕ) (item : Work) (work : List Work) → IsCovered W E Outer Passes z frames item
-      → Stands W E Outer Passes z objects (standing_at gv hv hw frames world calls answer) c d → UnderWay W E Outer Passes z objects c acts_ frames → Ahead (text W E Outer Passes z) acts_ k debt (item ∷ work)
+  by_parts : (frames : List Frame) (objects : List Ty) (gv hv : Value) (hw : ℕ) (world : W) (calls : List (List E)) (answer : Option Value) (c : Contents) (d : Behind) (under_way : List Activation) (k debt : ℕ) (item : Work) (work : List Work) → IsCovered W E Outer Passes z frames item
+      → Stands W E Outer Passes z objects (standing_at gv hv hw frames world calls answer) c d → UnderWay W E Outer Passes z objects c under_way frames → Ahead (text W E Outer Passes z) under_way k debt (item ∷ work)
       → StepIs W E Outer Passes z debt (standing_at gv hv hw frames world calls answer) (at_with k c d) (act z.p item work (standing_at gv hv hw frames world calls answer))
   by_parts (g ∷ fs) objects gv hv hw world calls answer c d (a ∷ others) k debt item work covered st under ahead =
       acts objects gv hv hw g fs world calls answer c d a others st under.0 under.1 k debt item work (covered a.function under.0.is) ahead
@@ -211,9 +214,9 @@ module _ (runs : RunLaws) (compose : RunsCompose) (W E : Type 0) (Outer : W → 
   by_parts [] objects gv hv hw world calls answer c d (a ∷ others) k debt item work covered st under ahead = absurd under
   by_parts (g ∷ fs) objects gv hv hw world calls answer c d [] k debt item work covered st under ahead = absurd under
 
-  finish_parts : (frames : List Frame) (objects : List Ty) (gv hv : Value) (hw : ℕ) (world : W) (calls : List (List E)) (answer : Option Value) (c : Contents) (d : Behind) (acts_ : List Activation) (k debt : ℕ) (place : CExpr) (v : Value) (rest : CStmts) (work : List Work) (t : Ty) → IsCovered W E Outer Passes z frames (finish place v rest)
-      → Stands W E Outer Passes z objects (standing_at gv hv hw frames world calls answer) c d → UnderWay W E Outer Passes z objects c acts_ frames → Fits (shapes z.p.unit) (layout_of z.p.unit objects) t v → c.regs 2 ≡ word_of_value W E Outer Passes z objects v
-      → Awaits (text W E Outer Passes z) acts_ k debt t (into place rest) work (λ others to left. Ahead (text W E Outer Passes z) others to left work)
+  finish_parts : (frames : List Frame) (objects : List Ty) (gv hv : Value) (hw : ℕ) (world : W) (calls : List (List E)) (answer : Option Value) (c : Contents) (d : Behind) (under_way : List Activation) (k debt : ℕ) (place : CExpr) (v : Value) (rest : CStmts) (work : List Work) (t : Ty) → IsCovered W E Outer Passes z frames (finish place v rest)
+      → Stands W E Outer Passes z objects (standing_at gv hv hw frames world calls answer) c d → UnderWay W E Outer Passes z objects c under_way frames → Fits (shapes z.p.unit) (layout_of z.p.unit objects) t v → c.regs 2 ≡ word_of_value W E Outer Passes z objects v
+      → Awaits (text W E Outer Passes z) under_way k debt t (into place rest) work (λ others to left. Ahead (text W E Outer Passes z) others to left work)
       → StepIs W E Outer Passes z debt (standing_at gv hv hw frames world calls answer) (at_with k c d) (act z.p (finish place v rest) work (standing_at gv hv hw frames world calls answer))
   finish_parts (g ∷ fs) objects gv hv hw world calls answer c d (a ∷ others) k debt place v rest work t covered st under fits is ahead =
       finishes runs compose W E Outer Passes z jumps straight held typing functions exprs fit objects gv hv hw g fs world calls answer c d a others st under.0 under.1 k debt place v rest work t fits is (covered a.function under.0.is) ahead.0 ahead.1 ahead.2
@@ -221,9 +224,9 @@ module _ (runs : RunLaws) (compose : RunsCompose) (W E : Type 0) (Outer : W → 
   finish_parts [] objects gv hv hw world calls answer c d (a ∷ others) k debt place v rest work t covered st under fits is ahead = absurd under
   finish_parts (g ∷ fs) objects gv hv hw world calls answer c d [] k debt place v rest work t covered st under fits is ahead = absurd under
 
-  begin_parts : (frames : List Frame) (objects : List Ty) (gv hv : Value) (hw : ℕ) (world : W) (calls : List (List E)) (answer : Option Value) (c : Contents) (d : Behind) (acts_ : List Activation) (k debt n to : ℕ) (args : Values) (work : List Work) (f : CFunction) → IsCovered W E Outer Passes z frames (begin n args)
-      → Stands W E Outer Passes z objects (standing_at gv hv hw frames world calls answer) c d → Waiting W E Outer Passes z objects c.memory acts_ frames → c.regs 29 ≡ 4 * end_of W E Outer Passes z frames → slice_get z.p.unit.functions n ≡ Some f → k ≡ (text W E Outer Passes z).links.function n → c.regs 31 ≡ 4 * to
-      → AllFit (shapes z.p.unit) (layout_of z.p.unit objects) (types_of (map typed_of f.params)) args → AreIn (unit_scope z.p.unit) (bases W E Outer Passes z objects []) c.regs 20 args → Awaits (text W E Outer Passes z) acts_ to debt (ty_of f.answer) outward work (λ others at left. Ahead (text W E Outer Passes z) others at left work)
+  begin_parts : (frames : List Frame) (objects : List Ty) (gv hv : Value) (hw : ℕ) (world : W) (calls : List (List E)) (answer : Option Value) (c : Contents) (d : Behind) (under_way : List Activation) (k debt n to : ℕ) (args : Values) (work : List Work) (f : CFunction) → IsCovered W E Outer Passes z frames (begin n args)
+      → Stands W E Outer Passes z objects (standing_at gv hv hw frames world calls answer) c d → Waiting W E Outer Passes z objects c.memory under_way frames → c.regs 29 ≡ 4 * end_of W E Outer Passes z frames → slice_get z.p.unit.functions n ≡ Some f → k ≡ (text W E Outer Passes z).links.function n → c.regs 31 ≡ 4 * to
+      → AllFit (shapes z.p.unit) (layout_of z.p.unit objects) (types_of (map typed_of f.params)) args → AreIn (unit_scope z.p.unit) (bases W E Outer Passes z objects []) c.regs 20 args → Awaits (text W E Outer Passes z) under_way to debt (ty_of f.answer) outward work (λ others at left. Ahead (text W E Outer Passes z) others at left work)
       → StepIs W E Outer Passes z debt (standing_at gv hv hw frames world calls answer) (at_with k c d) (act z.p (begin n args) work (standing_at gv hv hw frames world calls answer))
   begin_parts [] objects gv hv hw world calls answer c d [] k debt n to args work f covered st waits at_end is at ret fits are ahead =
       begins objects gv hv hw [] world calls answer c d [] st waits at_end n to debt f is (covered f is) args outward work ret fits are ahead 0 0 0 (units 0) (standing_at gv hv hw [] world calls answer) (at_with k c d)
@@ -248,7 +251,7 @@ module _ (areas : AreasHold) (W E : Type 0) (Outer : W → Contents → Behind �
       (record { globals = 1; heap = 1 + words_of_all (shapes z.p.unit) (types_of (map typed_of z.p.unit.globals)); frame_end = 1 + words_of_all (shapes z.p.unit) (types_of (map typed_of z.p.unit.globals)) + sc.frame; objects = [] })
       (record { from = omega arith; heap = omega arith; frame = omega arith; inside = omega arith }) (record { heap_behind = omega arith; frame_behind = omega arith }) (λ i t e. absurd (cc))).opened
 
-  under_opened : (objects : List Ty) (c : Contents) (frames : List Frame) (acts_ : List Activation) → UnderWay W E Outer Passes z objects c acts_ frames → IsOpened (shapes z.p.unit)
+  under_opened : (objects : List Ty) (c : Contents) (frames : List Frame) (under_way : List Activation) → UnderWay W E Outer Passes z objects c under_way frames → IsOpened (shapes z.p.unit)
   under_opened objects c (g ∷ fs) (a ∷ others) under = opened_by g.function a.function under.0.is
   under_opened objects c [] [] under = absurd under
   under_opened objects c [] (a ∷ others) under = absurd under

@@ -1,20 +1,20 @@
 -- A scalar is stored at a location: the state of C0 with it stands in the machine.
-use Rattle.std.specs.Prelude.{map, slice_get, IsTrue, Some, if◌then◌else◌}
-use Rattle.std.proofs.Common.{◌≡◌, ◌≢◌, ℕ, zero, suc, ◌+◌, ◌-◌, ◌*◌, ◌<◌, ◌≤◌, ◌⊎◌, inl, inr, Bool, true, false, Option, List, [], ◌∷◌, refl, sym, ap, ap₂, ◌∙◌, subst, arith, ⊎_elim}
+use Rattle.std.specs.Prelude.{map, IsTrue, if◌then◌else◌}
+use Rattle.std.proofs.Common.{◌≡◌, ◌≢◌, ℕ, ◌+◌, ◌-◌, ◌<◌, ◌≤◌, inl, Bool, true, false, Option, List, [], ◌∷◌, refl, ap, ap₂, ◌∙◌, arith}
 use Rattle.mips_table.specs.Code.{Contents, Behind, Configuration as Machine, put as put_word}
 use Rattle.c0_meaning.specs.Ty.{Ty, is_scalar}
 use Rattle.c0_meaning.specs.Env.{typed_of}
 use Rattle.c0_meaning.specs.Limits.{frame}
 use Rattle.c0_meaning.specs.Sound.{shapes}
 use Rattle.c0_meaning.specs.Addresses.{words_to_part}
-use Rattle.c0_meaning.specs.Value.{Region, globals, heap, locals, Location, Value, put}
+use Rattle.c0_meaning.specs.Value.{Region, globals, heap, locals, Value, put}
 use Rattle.c0_meaning.specs.State.{Frame, write}
 use Rattle.c0_meaning.specs.TypedState.{types_of, LeadsFrom, Fits, layout_of}
-use Rattle.c0_expr_code.specs.Bases.{words_of_all, word_at, word, RegionHeld}
+use Rattle.c0_expr_code.specs.Bases.{word_at, word, RegionHeld}
 use Rattle.c0_stmt_code.specs.Code.{calls_in}
-use Rattle.c0_stmt_code.specs.Setup.{Setup, global_words, IsOurs}
+use Rattle.c0_stmt_code.specs.Setup.{Setup}
 use Rattle.c0_stmt_code.specs.Ahead.{Activation}
-use Rattle.c0_stmt_code.specs.Standing.{scope, bases, end_of, unit_scope, VariablesHeld, Waiting, Runs, UnderWay, Stands}
+use Rattle.c0_stmt_code.specs.Standing.{scope, bases, end_of, unit_scope, Waiting, Runs, UnderWay, Stands}
 use Rattle.c0_stmt_code.proofs.Needs.{HeldStays, TypedStays, types_for}
 use Rattle.c0_stmt_code.proofs.Held.{word_same}
 use Rattle.c0_stmt_code.proofs.State.{rest_of, state_of, standing_at}
@@ -83,28 +83,30 @@ module _ (W E : Type 0) (Outer : W → Contents → Behind → Type 0) (Passes :
         let from = s.from in
         let to = s.to in
         let other : (k : ℕ) → k ≢ place globals path → c'.memory k ≡ c.memory k = λ k ne. ap (λ f. f k) m ∙ put_other c.memory (place globals path) (its_word v) k ne in
-        let here : c'.memory (place globals path) ≡ its_word v = ap (λ f. f (place globals path)) m ∙ put_same c.memory (place globals path) (its_word v) in
-        (record {
-          typed = typing.written objects (state_of gv hv hw (g ∷ fs)) g fs a.function (record { region = globals; path = path }) t v refl r.is st.typed l fits;
-          declared = st.declared;
-          used = st.used;
-          room = st.room;
-          stack_room = st.stack_room;
-          globals = held.stored (unit_scope z.p.unit) (bases W E Outer Passes z objects []) c.memory c'.memory z.a.globals (types_of (map typed_of z.p.unit.globals)) path t gv v refl l scalar st.globals (here ∙ canonical) other;
-          heap = held.same (unit_scope z.p.unit) (bases W E Outer Passes z objects []) c.memory c'.memory z.a.heap objects hv refl (λ x le lt. other x (λ e. absurd (omega (arith, e, le, i, w, gf)))) st.heap;
-          used_word = other 1026 (λ e. absurd (omega (arith, e, from, low))) ∙ st.used_word;
-          heap_size = other 1027 (λ e. absurd (omega (arith, e, from, low))) ∙ st.heap_size;
-          heap_first = other 1028 (λ e. absurd (omega (arith, e, from, low))) ∙ st.heap_first;
-          stack_first = other 1029 (λ e. absurd (omega (arith, e, from, low))) ∙ st.stack_first;
-          stack_size = other 1030 (λ e. absurd (omega (arith, e, from, low))) ∙ st.stack_size;
-          globals_at = above 28 (omega arith) ∙ st.globals_at;
-          stack_end = above 30 (omega arith) ∙ st.stack_end;
-          outer = z.outer_stays world c c' d (λ y no. other y (λ e. no (inl (omega (arith, e, from), omega (arith, e, to))))) special st.outer;
-          idle = st.idle;
-        }, (
-          runs_same W E Outer Passes z held objects c c' a g fs above (λ x le lt. other x (λ e. absurd (omega (arith, e, le, i, w, gf, hf)))) r,
-          waiting_same W E Outer Passes z held objects c.memory c'.memory others fs (λ x le lt. other x (λ e. absurd (omega (arith, e, le, i, w, gf, hf)))) waits,
-        ))
+        let here : c'.memory (place globals path) ≡ its_word v = ap (λ f. f (place globals path)) m ∙ put_same c.memory (place globals path) (its_word v) in (
+          record {
+            typed = typing.written objects (state_of gv hv hw (g ∷ fs)) g fs a.function (record { region = globals; path = path }) t v refl r.is st.typed l fits;
+            declared = st.declared;
+            used = st.used;
+            room = st.room;
+            stack_room = st.stack_room;
+            globals = held.stored (unit_scope z.p.unit) (bases W E Outer Passes z objects []) c.memory c'.memory z.a.globals (types_of (map typed_of z.p.unit.globals)) path t gv v refl l scalar st.globals (here ∙ canonical) other;
+            heap = held.same (unit_scope z.p.unit) (bases W E Outer Passes z objects []) c.memory c'.memory z.a.heap objects hv refl (λ x le lt. other x (λ e. absurd (omega (arith, e, le, i, w, gf)))) st.heap;
+            used_word = other 1026 (λ e. absurd (omega (arith, e, from, low))) ∙ st.used_word;
+            heap_size = other 1027 (λ e. absurd (omega (arith, e, from, low))) ∙ st.heap_size;
+            heap_first = other 1028 (λ e. absurd (omega (arith, e, from, low))) ∙ st.heap_first;
+            stack_first = other 1029 (λ e. absurd (omega (arith, e, from, low))) ∙ st.stack_first;
+            stack_size = other 1030 (λ e. absurd (omega (arith, e, from, low))) ∙ st.stack_size;
+            globals_at = above 28 (omega arith) ∙ st.globals_at;
+            stack_end = above 30 (omega arith) ∙ st.stack_end;
+            outer = z.outer_stays world c c' d (λ y no. other y (λ e. no (inl (omega (arith, e, from), omega (arith, e, to))))) special st.outer;
+            idle = st.idle;
+          },
+          (
+            runs_same W E Outer Passes z held objects c c' a g fs above (λ x le lt. other x (λ e. absurd (omega (arith, e, le, i, w, gf, hf)))) r,
+            waiting_same W E Outer Passes z held objects c.memory c'.memory others fs (λ x le lt. other x (λ e. absurd (omega (arith, e, le, i, w, gf, hf)))) waits,
+          ),
+        )
     stored heap path l form m =
         let i = held.inside objects path t l scalar in
         let w = words_by_types (shapes z.p.unit) (map typed_of z.p.unit.globals) in
@@ -117,28 +119,30 @@ module _ (W E : Type 0) (Outer : W → Contents → Behind → Type 0) (Passes :
         let from = s.from in
         let to = s.to in
         let other : (k : ℕ) → k ≢ place heap path → c'.memory k ≡ c.memory k = λ k ne. ap (λ f. f k) m ∙ put_other c.memory (place heap path) (its_word v) k ne in
-        let here : c'.memory (place heap path) ≡ its_word v = ap (λ f. f (place heap path)) m ∙ put_same c.memory (place heap path) (its_word v) in
-        (record {
-          typed = typing.written objects (state_of gv hv hw (g ∷ fs)) g fs a.function (record { region = heap; path = path }) t v refl r.is st.typed l fits;
-          declared = st.declared;
-          used = st.used;
-          room = st.room;
-          stack_room = st.stack_room;
-          globals = held.same (unit_scope z.p.unit) (bases W E Outer Passes z objects []) c.memory c'.memory z.a.globals (types_of (map typed_of z.p.unit.globals)) gv refl (λ x le lt. other x (λ e. absurd (omega (arith, e, lt, w, gf)))) st.globals;
-          heap = held.stored (unit_scope z.p.unit) (bases W E Outer Passes z objects []) c.memory c'.memory z.a.heap objects path t hv v refl l scalar st.heap (here ∙ canonical) other;
-          used_word = other 1026 (λ e. absurd (omega (arith, e, from, low))) ∙ st.used_word;
-          heap_size = other 1027 (λ e. absurd (omega (arith, e, from, low))) ∙ st.heap_size;
-          heap_first = other 1028 (λ e. absurd (omega (arith, e, from, low))) ∙ st.heap_first;
-          stack_first = other 1029 (λ e. absurd (omega (arith, e, from, low))) ∙ st.stack_first;
-          stack_size = other 1030 (λ e. absurd (omega (arith, e, from, low))) ∙ st.stack_size;
-          globals_at = above 28 (omega arith) ∙ st.globals_at;
-          stack_end = above 30 (omega arith) ∙ st.stack_end;
-          outer = z.outer_stays world c c' d (λ y no. other y (λ e. no (inl (omega (arith, e, from), omega (arith, e, to))))) special st.outer;
-          idle = st.idle;
-        }, (
-          runs_same W E Outer Passes z held objects c c' a g fs above (λ x le lt. other x (λ e. absurd (omega (arith, e, le, i, u, o, hf)))) r,
-          waiting_same W E Outer Passes z held objects c.memory c'.memory others fs (λ x le lt. other x (λ e. absurd (omega (arith, e, le, i, u, o, hf)))) waits,
-        ))
+        let here : c'.memory (place heap path) ≡ its_word v = ap (λ f. f (place heap path)) m ∙ put_same c.memory (place heap path) (its_word v) in (
+          record {
+            typed = typing.written objects (state_of gv hv hw (g ∷ fs)) g fs a.function (record { region = heap; path = path }) t v refl r.is st.typed l fits;
+            declared = st.declared;
+            used = st.used;
+            room = st.room;
+            stack_room = st.stack_room;
+            globals = held.same (unit_scope z.p.unit) (bases W E Outer Passes z objects []) c.memory c'.memory z.a.globals (types_of (map typed_of z.p.unit.globals)) gv refl (λ x le lt. other x (λ e. absurd (omega (arith, e, lt, w, gf)))) st.globals;
+            heap = held.stored (unit_scope z.p.unit) (bases W E Outer Passes z objects []) c.memory c'.memory z.a.heap objects path t hv v refl l scalar st.heap (here ∙ canonical) other;
+            used_word = other 1026 (λ e. absurd (omega (arith, e, from, low))) ∙ st.used_word;
+            heap_size = other 1027 (λ e. absurd (omega (arith, e, from, low))) ∙ st.heap_size;
+            heap_first = other 1028 (λ e. absurd (omega (arith, e, from, low))) ∙ st.heap_first;
+            stack_first = other 1029 (λ e. absurd (omega (arith, e, from, low))) ∙ st.stack_first;
+            stack_size = other 1030 (λ e. absurd (omega (arith, e, from, low))) ∙ st.stack_size;
+            globals_at = above 28 (omega arith) ∙ st.globals_at;
+            stack_end = above 30 (omega arith) ∙ st.stack_end;
+            outer = z.outer_stays world c c' d (λ y no. other y (λ e. no (inl (omega (arith, e, from), omega (arith, e, to))))) special st.outer;
+            idle = st.idle;
+          },
+          (
+            runs_same W E Outer Passes z held objects c c' a g fs above (λ x le lt. other x (λ e. absurd (omega (arith, e, le, i, u, o, hf)))) r,
+            waiting_same W E Outer Passes z held objects c.memory c'.memory others fs (λ x le lt. other x (λ e. absurd (omega (arith, e, le, i, u, o, hf)))) waits,
+          ),
+        )
     stored locals path l form m =
         let i = held.inside (types_of (scope W E Outer Passes z a.function).env.locals) path t l scalar in
         let at = local_at path (scope W E Outer Passes z a.function).in_registers (form refl) in
@@ -154,33 +158,35 @@ module _ (W E : Type 0) (Outer : W → Contents → Behind → Type 0) (Passes :
         let from = s.from in
         let to = s.to in
         let other : (k : ℕ) → k ≢ place locals path → c'.memory k ≡ c.memory k = λ k ne. ap (λ f. f k) m ∙ put_other c.memory (place locals path) (its_word v) k ne in
-        let here : c'.memory (place locals path) ≡ its_word v = ap (λ f. f (place locals path)) m ∙ put_same c.memory (place locals path) (its_word v) in
-        (record {
-          typed = typing.written objects (state_of gv hv hw (g ∷ fs)) g fs a.function (record { region = locals; path = path }) t v refl r.is st.typed l fits;
-          declared = st.declared;
-          used = st.used;
-          room = st.room;
-          stack_room = st.stack_room;
-          globals = held.same (unit_scope z.p.unit) (bases W E Outer Passes z objects []) c.memory c'.memory z.a.globals (types_of (map typed_of z.p.unit.globals)) gv refl (λ x le lt. other x (λ e. absurd (omega (arith, e, lt, w, gf, hf, at)))) st.globals;
-          heap = held.same (unit_scope z.p.unit) (bases W E Outer Passes z objects []) c.memory c'.memory z.a.heap objects hv refl (λ x le lt. other x (λ e. absurd (omega (arith, e, lt, u, o, hf, at)))) st.heap;
-          used_word = other 1026 (λ e. absurd (omega (arith, e, from, low))) ∙ st.used_word;
-          heap_size = other 1027 (λ e. absurd (omega (arith, e, from, low))) ∙ st.heap_size;
-          heap_first = other 1028 (λ e. absurd (omega (arith, e, from, low))) ∙ st.heap_first;
-          stack_first = other 1029 (λ e. absurd (omega (arith, e, from, low))) ∙ st.stack_first;
-          stack_size = other 1030 (λ e. absurd (omega (arith, e, from, low))) ∙ st.stack_size;
-          globals_at = above 28 (omega arith) ∙ st.globals_at;
-          stack_end = above 30 (omega arith) ∙ st.stack_end;
-          outer = z.outer_stays world c c' d (λ y no. other y (λ e. no (inl (omega (arith, e, from), omega (arith, e, to))))) special st.outer;
-          idle = st.idle;
-        }, (
+        let here : c'.memory (place locals path) ≡ its_word v = ap (λ f. f (place locals path)) m ∙ put_same c.memory (place locals path) (its_word v) in (
           record {
-            is = r.is;
-            return_at = ap₂ (λ m r. if calls_in a.function.body then m else r) (other (end_of W E Outer Passes z fs) (λ e. absurd (omega (arith, e, at)))) (above 31 (omega arith)) ∙ r.return_at;
-            frame_at = above 29 (omega arith) ∙ r.frame_at;
-            variables = by_form (scope W E Outer Passes z a.function).in_registers (form refl) at here (λ y ne. other y ne) r.variables;
+            typed = typing.written objects (state_of gv hv hw (g ∷ fs)) g fs a.function (record { region = locals; path = path }) t v refl r.is st.typed l fits;
+            declared = st.declared;
+            used = st.used;
+            room = st.room;
+            stack_room = st.stack_room;
+            globals = held.same (unit_scope z.p.unit) (bases W E Outer Passes z objects []) c.memory c'.memory z.a.globals (types_of (map typed_of z.p.unit.globals)) gv refl (λ x le lt. other x (λ e. absurd (omega (arith, e, lt, w, gf, hf, at)))) st.globals;
+            heap = held.same (unit_scope z.p.unit) (bases W E Outer Passes z objects []) c.memory c'.memory z.a.heap objects hv refl (λ x le lt. other x (λ e. absurd (omega (arith, e, lt, u, o, hf, at)))) st.heap;
+            used_word = other 1026 (λ e. absurd (omega (arith, e, from, low))) ∙ st.used_word;
+            heap_size = other 1027 (λ e. absurd (omega (arith, e, from, low))) ∙ st.heap_size;
+            heap_first = other 1028 (λ e. absurd (omega (arith, e, from, low))) ∙ st.heap_first;
+            stack_first = other 1029 (λ e. absurd (omega (arith, e, from, low))) ∙ st.stack_first;
+            stack_size = other 1030 (λ e. absurd (omega (arith, e, from, low))) ∙ st.stack_size;
+            globals_at = above 28 (omega arith) ∙ st.globals_at;
+            stack_end = above 30 (omega arith) ∙ st.stack_end;
+            outer = z.outer_stays world c c' d (λ y no. other y (λ e. no (inl (omega (arith, e, from), omega (arith, e, to))))) special st.outer;
+            idle = st.idle;
           },
-          waiting_same W E Outer Passes z held objects c.memory c'.memory others fs (λ x le lt. other x (λ e. absurd (omega (arith, e, lt, at)))) waits,
-        ))
+          (
+            record {
+              is = r.is;
+              return_at = ap₂ (λ m r. if calls_in a.function.body then m else r) (other (end_of W E Outer Passes z fs) (λ e. absurd (omega (arith, e, at)))) (above 31 (omega arith)) ∙ r.return_at;
+              frame_at = above 29 (omega arith) ∙ r.frame_at;
+              variables = by_form (scope W E Outer Passes z a.function).in_registers (form refl) at here (λ y ne. other y ne) r.variables;
+            },
+            waiting_same W E Outer Passes z held objects c.memory c'.memory others fs (λ x le lt. other x (λ e. absurd (omega (arith, e, lt, at)))) waits,
+          ),
+        )
       where
         by_form : (b : Bool) → b ≡ false → (if b then 20 else (end_of W E Outer Passes z (g ∷ fs) - frame (shapes z.p.unit) a.function) + 3) ≡ end_of W E Outer Passes z fs + 3
             → c'.memory ((if b then 20 else (end_of W E Outer Passes z (g ∷ fs) - frame (shapes z.p.unit) a.function) + 3) + words_to_part (shapes z.p.unit) (types_of (scope W E Outer Passes z a.function).env.locals) path) ≡ its_word v

@@ -1,11 +1,11 @@
 -- The variables of a function that begins: its arguments, and locals that are 0.
-use Rattle.std.specs.Prelude.{map, slice_get, IsTrue, replicate, pos, if◌then◌else◌}
+use Rattle.std.specs.Prelude.{IsTrue, replicate, pos, if◌then◌else◌}
 use Rattle.std.proofs.Common.{◌≡◌, ℕ, zero, suc, ◌+◌, ◌*◌, ◌<◌, ◌≤◌, Bool, true, false, List, [], ◌∷◌, ◌++◌, length, refl, sym, ap, ◌∙◌, subst, arith}
 use Rattle.c0_meaning.specs.Ty.{Ty, is_scalar}
 use Rattle.c0_meaning.specs.Ty as ty
 use Rattle.c0_meaning.specs.Env.{Typed, Shape}
 use Rattle.c0_meaning.specs.Words.{fields_named, holds, words}
-use Rattle.c0_meaning.specs.Value.{Value, int, bool, null, at, group, Values, empty, part, followed_by, repeated, zero_with, zeros_with, zero_within, zero_of, zeros_of}
+use Rattle.c0_meaning.specs.Value.{Value, int, bool, null, at, group, Values, empty, part, followed_by, repeated, zero_with, zeros_with, zero_within, zeros_of}
 use Rattle.c0_meaning.specs.TypedState.{Layout, types_of, Fits, AllFit}
 use Rattle.c0_expr_code.specs.Scope.{Scope}
 use Rattle.c0_expr_code.specs.Bases.{Bases, words_of_all, word, Held, AllHeld}

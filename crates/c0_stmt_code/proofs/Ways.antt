@@ -1,5 +1,5 @@
 -- Stretches of a run: how steps and passes of primitives join, with bounds from below and from above.
-use Rattle.std.proofs.Common.{◌≡◌, ◌≢◌, ℕ, zero, suc, ◌+◌, ◌*◌, ◌≤◌, refl, sym, ap, ◌∙◌, subst, arith}
+use Rattle.std.proofs.Common.{◌≡◌, ◌≢◌, ℕ, zero, suc, ◌+◌, ◌≤◌, refl, ap, subst, arith}
 use Rattle.mips_table.specs.Code.{World, Configuration, Steps, Reaches, RunLaws}
 use Rattle.c0_stmt_code.specs.Journey.{Journey}
 

@@ -1,6 +1,6 @@
 -- Runs, step by step.
 use Rattle.std.specs.Prelude.{if◌then◌else◌, nat_lt}
-use Rattle.std.proofs.Common.{◌≡◌, ℕ, zero, suc, ◌+◌, ◌*◌, ◌≤◌, Bool, true, false, List, [], ◌∷◌, length, refl, sym, ap, ◌∙◌, subst, arith}
+use Rattle.std.proofs.Common.{◌≡◌, ℕ, zero, suc, ◌+◌, Bool, true, false, List, [], ◌∷◌, refl, arith}
 use Rattle.mips_table.specs.Code.{Contents, Behind, Configuration as Machine, RunLaws}
 use Rattle.c0_meaning.specs.World.{Cost, plus, total, Configuration}
 use Rattle.c0_meaning.specs.Operators.{faulted, stuck}
@@ -8,7 +8,7 @@ use Rattle.c0_meaning.specs.Running.{Work, Step, Go, Stop, act}
 use Rattle.c0_meaning.specs.Execution.{Outcome, Done, Failed, NotYet, then_run, run}
 use Rattle.c0_stmt_code.specs.Setup.{Setup}
 use Rattle.c0_stmt_code.specs.Journey.{Led, Stopped}
-use Rattle.c0_stmt_code.specs.Standing.{Simulated, AtExit, StepIs, RunIs, EachStepRuns}
+use Rattle.c0_stmt_code.specs.Standing.{Simulated, StepIs, RunIs, EachStepRuns}
 use Rattle.c0_stmt_code.proofs.Ways.{journey_on}
 
 module _ (laws : RunLaws) (W E : Type 0) (Outer : W → Contents → Behind → Type 0) (Passes : Machine → Machine → Type 0) (z : Setup W E Outer Passes) (each : EachStepRuns W E Outer Passes z) where

@@ -1,17 +1,17 @@
 -- What is left to do, as code that stands ahead: where each work item's code is, and how control comes from one to the next.
-use Rattle.std.specs.Prelude.{◌≡◌, ℕ, zero, suc, ◌+◌, ◌*◌, ◌<◌, ◌≤◌, Bool, true, IsTrue, List, [], ◌∷◌, ◌++◌, length, Some}
-use Rattle.mips_table.specs.Code.{Contents, Behind, World, Configuration, CodeAt}
+use Rattle.std.specs.Prelude.{◌≡◌, ℕ, zero, suc, ◌+◌, ◌<◌, ◌≤◌, true, IsTrue, List, [], ◌∷◌, ◌++◌, length, Some}
+use Rattle.mips_table.specs.Code.{World, CodeAt}
 use Rattle.c0_tree.specs.Primitives.{CPrimitive}
-use Rattle.c0_tree.specs.Size.{nodes, args_nodes, stmt_nodes, stmts_nodes}
-use Rattle.c0_tree.specs.Tree.{CExpr, CStmt, CStmts, done, next, CBody, CFunction, CUnit}
+use Rattle.c0_tree.specs.Size.{nodes, stmt_nodes, stmts_nodes}
+use Rattle.c0_tree.specs.Tree.{CExpr, CStmt, CStmts, done, next, CFunction, CUnit}
 use Rattle.c0_meaning.specs.Ty.{Ty, bool, ty_of}
 use Rattle.c0_meaning.specs.Env.{Env, env_of}
 use Rattle.c0_meaning.specs.Limits.{locals_of}
 use Rattle.c0_meaning.specs.Statement.{MAX_NEED, new_need}
 use Rattle.c0_meaning.specs.Numbered.{IsNumberedLeft, IsNumberedTest, IsNumbered, AreNumbered}
-use Rattle.c0_meaning.specs.Running.{Target, into, outward, Work, act_on, finish, again, leave, begin}
+use Rattle.c0_meaning.specs.Running.{Target, into, outward, Work, act_on, again, leave}
 use Rattle.c0_expr_code.specs.Scope.{Scope, is_free_of_calls, are_free_of_calls}
-use Rattle.c0_stmt_code.specs.Code.{Links, is_calling, are_calling, skip, answer_code, turn_code, while_code, stmt_code, stmts_code, return_code, calls_in}
+use Rattle.c0_stmt_code.specs.Code.{Links, is_calling, are_calling, skip, answer_code, while_code, stmt_code, stmts_code, return_code, calls_in}
 
 -- a function that is under way, and the word of the code to which it returns
 pub record Activation : Type 0 where

@@ -1,12 +1,12 @@
 -- The code of statements, of calls and of functions: one fold over the tree. It doesn't depend on where it stands, but for the calls' indices.
-use Rattle.std.specs.Prelude.{◌≡◌, ℕ, zero, suc, ◌+◌, ◌-◌, ◌*◌, ◌/◌, ◌%◌, ◌^◌, Bool, true, false, ◌||◌, nat_lt, nat_le, max, if◌then◌else◌, List, [], ◌∷◌, ◌++◌, length, map, slice_index, Option, Some, None}
+use Rattle.std.specs.Prelude.{ℕ, zero, suc, ◌+◌, ◌-◌, ◌*◌, ◌/◌, ◌%◌, ◌^◌, Bool, true, false, ◌||◌, nat_lt, nat_le, max, if◌then◌else◌, List, [], ◌∷◌, ◌++◌, length, map, slice_index, Option, Some, None}
 use Rattle.mips_table.specs.declared.inst.Inst.{Inst}
 use Rattle.mips_table.specs.declared.inst.Inst.TheVariants.{Addu, Sltu, J, Jal, Jr, Beq, Bne, Addiu, Lw, Sw}
 use Rattle.masm.specs.declared.registers.Places.{Places}
 use Rattle.masm.specs.declared.registers.TheConstants.{SCRATCH, ANSWER, EXPRESSIONS, FRAME_END, STACK_END, RETURN}
 use Rattle.c0_tree.specs.declared.tree.Kind.{Kind}
 use Rattle.c0_tree.specs.declared.tree.Kind.TheVariants.{Function, Primitive}
-use Rattle.c0_tree.specs.Tree.{CName, CTy, CExpr, CStmt, assign, call, new, choice, loop, CStmts, done, next, CBody, code, asm, CDecl, CFunction}
+use Rattle.c0_tree.specs.Tree.{CExpr, CStmt, assign, call, new, choice, loop, CStmts, done, next, CBody, code, asm, CDecl, CFunction}
 use Rattle.c0_meaning.specs.Ty.{ty_of}
 use Rattle.c0_meaning.specs.Env.{typed_of}
 use Rattle.c0_meaning.specs.Words.{words, all_words}
@@ -226,7 +226,3 @@ links_of p = record {
   primitive = λ n. slice_index p.primitives.items n / 4;
   new_object = p.new_object / 4;
 }
-
--- temporary
-abbrev pub CodeIs : Type 0
-CodeIs = (sc : Scope) (x : Links) → stmts_code sc x done ≡ []

@@ -1,7 +1,7 @@
 -- A run of a unit's code with the passes of primitives in it, and what a step of C0's meaning comes to in it.
-use Rattle.std.specs.Prelude.{◌≡◌, ℕ, zero, suc, ◌+◌, ◌*◌, ◌≤◌, List, length}
+use Rattle.std.specs.Prelude.{◌≡◌, ℕ, zero, suc, ◌+◌, ◌*◌, ◌≤◌}
 use Rattle.mips_table.specs.Code.{World, Configuration as Machine, Steps}
-use Rattle.c0_meaning.specs.World.{Cost, Configuration, ended}
+use Rattle.c0_meaning.specs.World.{Configuration, ended}
 
 -- so many steps of the unit's own code, with so many passes of primitives between them
 abbrev pub Journey : World → (Machine → Machine → Type 0) → (own passes : ℕ) → Machine → Machine → Type 0

@@ -1,5 +1,5 @@
 -- What is fixed while a unit's code runs over a machine with primitives.
-use Rattle.std.specs.Prelude.{◌≡◌, ◌≢◌, ℕ, suc, ◌+◌, ◌*◌, ◌/◌, ◌<◌, ◌≤◌, ◌⊎◌, List, length, map, Some, None, slice_get}
+use Rattle.std.specs.Prelude.{◌≡◌, ◌≢◌, ℕ, suc, ◌+◌, ◌*◌, ◌<◌, ◌≤◌, ◌⊎◌, List, length, map, Some, None, slice_get}
 use Rattle.mips_table.specs.declared.inst.Inst.{Inst}
 use Rattle.mips_table.specs.declared.inst.Inst.TheVariants.{Jal}
 use Rattle.mips_table.specs.Arith.{flag}
@@ -8,7 +8,7 @@ use Rattle.mips_table.specs.Code.{Contents, Behind, World, Sound, Configuration,
 use Rattle.masm.specs.declared.registers.Places.{Places}
 use Rattle.cvm_words.specs.Words.{word_of}
 use Rattle.c0_tree.specs.Primitives.{CPrimitive}
-use Rattle.c0_tree.specs.Tree.{CDecl, CExpr, CStmts, CBody, code, CFunction, CUnit}
+use Rattle.c0_tree.specs.Tree.{CDecl, CExpr, CStmts, code, CFunction, CUnit}
 use Rattle.c0_meaning.specs.Ty.{Ty}
 use Rattle.c0_meaning.specs.Env.{typed_of}
 use Rattle.c0_meaning.specs.Words.{all_words}
@@ -92,16 +92,21 @@ pub record Setup (W E : Type 0) (Outer : W → Contents → Behind → Type 0) (
   pub ours : (k : ℕ) → IsOurs a p.stack k → w.kept k ≡ None
   pub globals_at : places.globals ≡ 4 * a.globals
   -- the code of each function and of the routine `new` stands at its place
-  pub functions : (n : ℕ) (f : CFunction) → slice_get p.unit.functions n ≡ Some f → CodeAt w ((links_of places).function n) (function_code (scope_of p.unit f places) (links_of places) f)
+  pub functions : (n : ℕ) (f : CFunction) → slice_get p.unit.functions n ≡ Some f
+      → CodeAt w ((links_of places).function n) (function_code (scope_of p.unit f places) (links_of places) f)
   pub new_object : CodeAt w (links_of places).new_object runtime.new_code
   -- locals at their start have their types
-  pub zeros_fit : (objects : List Ty) (n : ℕ) (f : CFunction) (locals : List CDecl) (stmts : CStmts) (answer : CExpr) → slice_get p.unit.functions n ≡ Some f → f.body ≡ code locals stmts answer →
+  pub zeros_fit : (objects : List Ty) (n : ℕ) (f : CFunction) (locals : List CDecl) (stmts : CStmts) (answer : CExpr)
+      → slice_get p.unit.functions n ≡ Some f → f.body ≡ code locals stmts answer →
       AllFit (shapes p.unit) (layout_of p.unit objects) (types_of (map typed_of locals)) (zeros_of (shapes p.unit) (map typed_of locals))
   -- what isn't the unit's is the rest of the machine's
-  pub outer_stays : (v : W) (c c' : Contents) (d : Behind) → ((k : ℕ) → (IsOurs a p.stack k → ⊥) → c'.memory k ≡ c.memory k) → c'.special ≡ c.special → Outer v c d → Outer v c' d
+  pub outer_stays : (v : W) (c c' : Contents) (d : Behind) → ((k : ℕ) → (IsOurs a p.stack k → ⊥) → c'.memory k ≡ c.memory k)
+      → c'.special ≡ c.special → Outer v c d → Outer v c' d
   -- primitives have few arguments, and the code that calls one isn't the primitive itself
   pub few_arguments : (n : ℕ) (row : CPrimitive) → slice_get table n ≡ Some row → length row.args ≤ 8
   pub elsewhere : (n k : ℕ) → w.code k ≡ Some (Jal ((links_of places).primitive n)) → k ≢ (links_of places).primitive n
   -- a call of a primitive comes to what it means
-  pub primitives : (n : ℕ) (row : CPrimitive) (vs : Values) (v : W) (to : ℕ) (s : Configuration) → slice_get table n ≡ Some row → Called w (links_of places) row n vs to s → Outer v s.contents s.behind →
-      (t : Configuration) × Passes s t × Back p.unit a p.stack to s t × IsScalar row.answer (p.meaning n vs v).answer × (t.contents.regs 2 ≡ scalar_word (p.meaning n vs v).answer) × Outer (p.meaning n vs v).world t.contents t.behind
+  pub primitives : (n : ℕ) (row : CPrimitive) (vs : Values) (v : W) (to : ℕ) (s : Configuration) → slice_get table n ≡ Some row
+      → Called w (links_of places) row n vs to s → Outer v s.contents s.behind →
+      (t : Configuration) × Passes s t × Back p.unit a p.stack to s t × IsScalar row.answer (p.meaning n vs v).answer
+      × (t.contents.regs 2 ≡ scalar_word (p.meaning n vs v).answer) × Outer (p.meaning n vs v).world t.contents t.behind

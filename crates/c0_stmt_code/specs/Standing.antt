@@ -1,18 +1,17 @@
 -- How a configuration of C0 with what is left to do stands in the machine.
-use Rattle.std.specs.Prelude.{◌≡◌, ℕ, zero, suc, ◌+◌, ◌*◌, ◌<◌, ◌≤◌, Bool, true, false, if◌then◌else◌, List, [], ◌∷◌, ◌++◌, length, map, Some, None, slice_get}
+use Rattle.std.specs.Prelude.{◌≡◌, ℕ, suc, ◌+◌, ◌*◌, ◌≤◌, true, false, if◌then◌else◌, List, [], ◌∷◌, map, Some, None, slice_get}
 use Rattle.mips_table.specs.Device.{Idle}
-use Rattle.mips_table.specs.Code.{Contents, Behind, Configuration as Machine, CodeAt}
+use Rattle.mips_table.specs.Code.{Contents, Behind, Configuration as Machine}
 use Rattle.c0_tree.specs.declared.tree.Kind.TheVariants.{Function}
-use Rattle.c0_tree.specs.Tree.{CTy, CExpr, CStmt, assign, call, new, choice, loop, CStmts, CFunction, CUnit}
+use Rattle.c0_tree.specs.Tree.{CTy, CStmt, assign, call, new, choice, loop, CFunction, CUnit}
 use Rattle.c0_meaning.specs.Limits.{is_asm}
 use Rattle.c0_expr_code.specs.Code.{made}
 use Rattle.c0_meaning.specs.Ty.{Ty, ty_of}
 use Rattle.c0_meaning.specs.Env.{Shape, typed_of, env_of}
 use Rattle.c0_meaning.specs.Typed.{IsDeclarable}
-use Rattle.c0_meaning.specs.Words.{words}
 use Rattle.c0_meaning.specs.Sound.{shapes}
 use Rattle.c0_meaning.specs.Value.{Value, Values, empty, part}
-use Rattle.c0_meaning.specs.State.{Frame, State, variables_of, stack_words}
+use Rattle.c0_meaning.specs.State.{Frame, variables_of, stack_words}
 use Rattle.c0_meaning.specs.World.{Cost, Configuration}
 use Rattle.c0_meaning.specs.Operators.{KernelFault, faulted, stuck}
 use Rattle.c0_meaning.specs.Running.{Target, into, outward, Work, act_on, finish, again, leave, begin, Step, Go, Stop, act}
@@ -21,9 +20,9 @@ use Rattle.c0_meaning.specs.TypedState.{types_of, Fits, AllFit, layout_of, IsTyp
 use Rattle.c0_expr_code.specs.Scope.{Scope, scope_of, exit_of}
 use Rattle.c0_expr_code.specs.Bases.{Bases, words_of_all, locals_start, word, RegionHeld}
 use Rattle.c0_stmt_code.specs.Code.{links_of, calls_in}
-use Rattle.c0_stmt_code.specs.Setup.{Data, Setup}
+use Rattle.c0_stmt_code.specs.Setup.{Setup}
 use Rattle.c0_stmt_code.specs.Journey.{Led, Stopped}
-use Rattle.c0_stmt_code.specs.Ahead.{Activation, Text, IsAnswered, Block, Awaits, Ahead}
+use Rattle.c0_stmt_code.specs.Ahead.{Activation, Text, Awaits, Ahead}
 
 -- what holds for a unit in every function: values of globals and of the heap point to nothing else
 abbrev pub unit_scope : CUnit → Scope
@@ -86,7 +85,8 @@ module _ (W E : Type 0) (Outer : W → Contents → Behind → Type 0) (Passes :
   UnderWay objects c (a ∷ rest) (g ∷ frames) = Runs objects c a g frames × Waiting objects c.memory rest frames
   UnderWay objects c activations frames = ⊥
 
-  -- the globals and the heap stand in memory, typed, as far as it is used; so do the layer's variables that the unit knows; registers 28 and 30 are the
+  -- the globals and the heap stand in memory, typed, as far as it is used; so do the layer's variables that the unit knows; registers 28 and 30 are
+  -- the
   -- globals' address and the stack's end; and the rest of the machine stands for the world's value
   pub record Stands (objects : List Ty) (h : Configuration W E) (c : Contents) (d : Behind) : Type 0 where
     pub typed : IsTypedWith z.p.unit objects h.state
@@ -178,19 +178,22 @@ module _ (W E : Type 0) (Outer : W → Contents → Behind → Type 0) (Passes :
 
   -- what a run comes to, from a configuration in which so many units were used, and so many jumps are ahead
   abbrev pub RunIs : (debt : ℕ) → Cost → Configuration W E → Machine → Outcome W E → Type 0
-  RunIs debt used h s (Done cost h') = (t : Machine) × (units : ℕ) × (cost.own ≡ used.own + units) × (left : ℕ) × Led z.w Passes units debt left h h' s t × Ended h' t
-  RunIs debt used h s (Failed cost (faulted f) h') = (t : Machine) × (units : ℕ) × (cost.own ≡ used.own + units) × Stopped z.w Passes units debt h h' s t × AtExit f h' t
+  RunIs debt used h s (Done cost h') = (t : Machine) × (units : ℕ) × (cost.own ≡ used.own + units) × (left : ℕ)
+      × Led z.w Passes units debt left h h' s t × Ended h' t
+  RunIs debt used h s (Failed cost (faulted f) h') = (t : Machine) × (units : ℕ) × (cost.own ≡ used.own + units)
+      × Stopped z.w Passes units debt h h' s t × AtExit f h' t
   RunIs debt used h s (Failed cost stuck h') = ⊥
-  RunIs debt used h s (NotYet cost h') = (t : Machine) × (units : ℕ) × (cost.own ≡ used.own + units) × (left : ℕ) × (work : List Work) × Led z.w Passes units debt left h h' s t × Simulated left work h' t
+  RunIs debt used h s (NotYet cost h') = (t : Machine) × (units : ℕ) × (cost.own ≡ used.own + units) × (left : ℕ) × (work : List Work)
+      × Led z.w Passes units debt left h h' s t × Simulated left work h' t
 
   -- the function of a number, if there is one, has statements, and no asm body
   abbrev pub StatementsAt : ℕ → Type 0
   StatementsAt n = (f : CFunction) → slice_get z.p.unit.functions n ≡ Some f → is_asm f.body ≡ false
 
-  -- A statement of a function whose step is proved: an assignment to a place in memory, an `if`, a loop, a call of a primitive, or one of a function
-  -- that has statements.
+  -- A statement of a function whose step is proved: an assignment, an `if`, a loop, a call of a primitive, or one of a function that has
+  -- statements.
   abbrev pub IsCoveredStatement : CFunction → CStmt → Type 0
-  IsCoveredStatement f (assign s p v) = (made (scope f) p).stands ≡ None
+  IsCoveredStatement f (assign s p v) = Unit {0}
   IsCoveredStatement f (call s p cs callee args) = callee.kind ≡ Function → StatementsAt callee.number
   IsCoveredStatement f (new s p t ts) = ⊥
   IsCoveredStatement f (choice s t a b) = Unit {0}
@@ -210,18 +213,23 @@ module _ (W E : Type 0) (Outer : W → Contents → Behind → Type 0) (Passes :
   IsCovered [] item = ⊥
   IsCovered (g ∷ frames) item = (f : CFunction) → slice_get z.p.unit.functions g.function ≡ Some f → IsCoveredItem f item
 
--- A law: where what is left to do stands in the machine, a step of C0's meaning is a run of the code, over any machine with primitives. It is stated of
+-- A law: where what is left to do stands in the machine, a step of C0's meaning is a run of the code, over any machine with primitives. It is stated
+-- of
 -- the steps that are proved.
 abbrev pub StepsRun : (W E : Type 0) (Outer : W → Contents → Behind → Type 0) (Passes : Machine → Machine → Type 0) → Type 0
 StepsRun W E Outer Passes = (z : Setup W E Outer Passes) (debt : ℕ) (item : Work) (work : List Work) (h : Configuration W E) (s : Machine)
-    → IsCovered W E Outer Passes z h.state.frames item → Simulated W E Outer Passes z debt (item ∷ work) h s → StepIs W E Outer Passes z debt h s (act z.p item work h)
+    → IsCovered W E Outer Passes z h.state.frames item → Simulated W E Outer Passes z debt (item ∷ work) h s
+    → StepIs W E Outer Passes z debt h s (act z.p item work h)
 
 -- every step is so, whatever is left to do
-abbrev pub EachStepRuns : (W E : Type 0) (Outer : W → Contents → Behind → Type 0) (Passes : Machine → Machine → Type 0) → Setup W E Outer Passes → Type 0
-EachStepRuns W E Outer Passes z = (debt : ℕ) (item : Work) (work : List Work) (h : Configuration W E) (s : Machine) → Simulated W E Outer Passes z debt (item ∷ work) h s → StepIs W E Outer Passes z debt h s (act z.p item work h)
+abbrev pub EachStepRuns : (W E : Type 0) (Outer : W → Contents → Behind → Type 0) (Passes : Machine → Machine → Type 0) → Setup W E Outer Passes
+    → Type 0
+EachStepRuns W E Outer Passes z = (debt : ℕ) (item : Work) (work : List Work) (h : Configuration W E) (s : Machine)
+    → Simulated W E Outer Passes z debt (item ∷ work) h s → StepIs W E Outer Passes z debt h s (act z.p item work h)
 
 -- A law: where every step is so, so is a run, within any number of units: it is done where the code returns to, it failed where the fault's exit is
 -- reached, and a run that isn't over stands where more of it stands ahead; and its units are so many steps, at most and at least.
 abbrev pub RunsAre : (W E : Type 0) (Outer : W → Contents → Behind → Type 0) (Passes : Machine → Machine → Type 0) → Type 0
-RunsAre W E Outer Passes = (z : Setup W E Outer Passes) → EachStepRuns W E Outer Passes z → (debt steps limit : ℕ) (used : Cost) (work : List Work) (h : Configuration W E) (s : Machine)
+RunsAre W E Outer Passes = (z : Setup W E Outer Passes) → EachStepRuns W E Outer Passes z
+    → (debt steps limit : ℕ) (used : Cost) (work : List Work) (h : Configuration W E) (s : Machine)
     → Simulated W E Outer Passes z debt work h s → RunIs W E Outer Passes z debt used h s (run z.p steps limit used work h)

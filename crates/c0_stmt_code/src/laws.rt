@@ -1,9 +1,13 @@
 //! The laws of the code of statements: each function says one, and does nothing.
 
+ghost use Rattle.c0_stmt_code.specs.Rows.{AreCodes};
 ghost use Rattle.c0_stmt_code.specs.Standing.{RunsAre, StepsRun};
 ghost use Rattle.mips_table.specs.Code.{Contents, Behind, Configuration};
 
-use c0_expr_code::laws::{areas_hold, codes_are_short, expressions_run, held_stays, names_are_enough, parts_fit, tests_run};
+use c0_expr_code::laws::{
+    areas_hold, codes_are_short, expressions_run, held_stays, names_are_enough, parts_fit,
+    tests_run,
+};
 use c0_meaning::laws::{numbers_tell, units_are_typed_or_faulty};
 use masm::laws::{jumps_lead, runs_compose, straight_code_runs};
 use mips_table::runs::code_runs_join;
@@ -44,3 +48,8 @@ pub fn runs_follow_steps<M: Outside>()
 {
     code_runs_join();
 }
+
+/// The code of two small functions, instruction by instruction.
+pub fn worked_rows()
+    ensures { AreCodes }
+{}

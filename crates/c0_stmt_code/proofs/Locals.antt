@@ -1,0 +1,199 @@
+-- An assignment to a variable that stands in a register.
+use Rattle.std.specs.Prelude.{slice_get, IsTrue, Some, Option, if◌then◌else◌, nat_le, ◌&&◌}
+use Rattle.std.specs.List.{list_all}
+use Rattle.std.proofs.lemmas.Bool.{and_parts, leb-true, cases_eq}
+use Rattle.std.proofs.Common.{◌≡◌, ◌≢◌, inl, inr, ℕ, zero, suc, ◌+◌, ◌-◌, ◌*◌, ◌<◌, ◌≤◌, Bool, true, false, List, [], ◌∷◌, length, refl, sym, ap, ap₂, ◌∙◌, subst, arith}
+use Rattle.mips_table.specs.Code.{Contents, put, Behind, Configuration as Machine, at_with, RunLaws, CodeAt}
+use Rattle.masm.specs.Laws.{RunsCompose, JumpsLead, StraightRuns}
+use Rattle.c0_tree.specs.declared.tree.Kind.{Kind}
+use Rattle.c0_tree.specs.declared.tree.Kind.TheVariants.{Unresolved, Struct, Field, Global, Local, Function, Primitive}
+use Rattle.c0_tree.specs.Size.{nodes}
+use Rattle.c0_tree.specs.Tree.{CName, CExpr, num, true_, false_, null, var, field, arrow, index, deref, address, unary, binary, CStmts, CFunction}
+use Rattle.c0_meaning.specs.Ty.{Ty, is_scalar}
+use Rattle.c0_meaning.specs.Ty as ty
+use Rattle.c0_meaning.specs.Env.{Env, Shape, Typed}
+use Rattle.c0_meaning.specs.Words.{words}
+use Rattle.c0_meaning.specs.Sizes.{words_before}
+use Rattle.c0_meaning.specs.Addresses.{words_to_part}
+use Rattle.c0_meaning.specs.Sound.{shapes}
+use Rattle.c0_meaning.specs.Limits.{frame}
+use Rattle.c0_meaning.specs.Expression.{is_place}
+use Rattle.c0_meaning.specs.Value.{locals, Location, Value}
+use Rattle.c0_meaning.specs.Value as value
+use Rattle.c0_meaning.specs.State.{Frame, write}
+use Rattle.c0_meaning.specs.Statement.{MAX_NEED, assign_need}
+use Rattle.c0_meaning.specs.Numbered.{variable_at, HasNumberedType, a_variable, IsNumberedLeft, IsNumberedGiven}
+use Rattle.c0_meaning.specs.Evaluation.{at_no_cost, paying, variable_location, value_of}
+use Rattle.c0_meaning.specs.World.{units, plus, Configuration, with_state}
+use Rattle.c0_meaning.specs.Running.{Work, push, Go, then_go, store}
+use Rattle.c0_meaning.specs.TypedState.{types_of, variable_types}
+use Rattle.c0_expr_code.specs.Scope.{Scope, is_leaf}
+use Rattle.c0_expr_code.specs.Code.{register_of, variable_made, register_made, at_place, local_spot, made, value_code}
+use Rattle.c0_expr_code.specs.Bases.{Bases, word, RegionHeld}
+use Rattle.c0_expr_code.specs.Relation.{Gives}
+use Rattle.c0_stmt_code.specs.Code.{calls_in, assign_code, assigned_code}
+use Rattle.c0_stmt_code.specs.Setup.{Setup}
+use Rattle.c0_stmt_code.specs.Ahead.{Activation, env_in, Block, Ahead}
+use Rattle.c0_stmt_code.specs.Standing.{text, scope, bases, end_of, VariablesHeld, Waiting, Runs, UnderWay, Stands, StepIs}
+use Rattle.c0_stmt_code.proofs.Needs.{HeldStays, TypedStays, LengthsFit, AllScalar}
+use Rattle.c0_stmt_code.proofs.Ways.{none}
+use Rattle.c0_stmt_code.proofs.Rooms.{put_same, put_other}
+use Rattle.c0_stmt_code.proofs.Costs.{value_within}
+use Rattle.c0_stmt_code.proofs.Spots.{read_is}
+use Rattle.c0_stmt_code.proofs.State.{state_of, standing_at, Exprs}
+use Rattle.c0_stmt_code.proofs.Places.{its_exprs, its_ready}
+use Rattle.c0_stmt_code.proofs.Lights.{each_scalar}
+use Rattle.c0_stmt_code.proofs.CallActs.{stands_soft}
+use Rattle.c0_stmt_code.proofs.Returns.{comes_splits}
+use Rattle.c0_stmt_code.proofs.Sim.{arrives, then_splits}
+
+-- a place that stands in a register is a local of a function that keeps its variables there
+pub record IsVariable (env : Env) (sc : Scope) (p : CExpr) (x : ℕ) (t : Ty) : Type 0 where
+  pub name : CName
+  pub is : p ≡ var name
+  pub kind : name.kind ≡ Local
+  pub form : sc.in_registers ≡ true
+  pub register : register_of name.number ≡ x
+  pub there : slice_get (types_of env.locals) name.number ≡ Some t
+
+typed_at : (ds : List Typed) (n : ℕ) (d : Typed) → slice_get ds n ≡ Some d → slice_get (types_of ds) n ≡ Some d.ty
+typed_at [] n d e = absurd (cc)
+typed_at (q ∷ ds) zero d e = let h : q ≡ d = cc in ap (λ y. Some y.ty) h
+typed_at (q ∷ ds) (suc n) d e = typed_at ds n d e
+
+module _ (env : Env) (sc : Scope) (x : ℕ) where
+  by_kind : (y : CName) (kd : Kind) (d : Typed) → y.kind ≡ kd → variable_at env kd y.number ≡ Some d → (variable_made sc kd y.number).stands ≡ Some x → IsVariable env sc (var y) x d.ty
+  by_kind y Local d e at h = by_form sc.in_registers refl h
+    where
+      by_form : (b : Bool) → sc.in_registers ≡ b → (if b then register_made (register_of y.number) else at_place (λ r. local_spot sc y.number)).stands ≡ Some x → IsVariable env sc (var y) x d.ty
+      by_form true f h = let q : register_of y.number ≡ x = cc in record { name = y; is = refl; kind = e; form = f; register = q; there = typed_at env.locals y.number d at }
+      by_form false f h = absurd (cc)
+  by_kind y Unresolved d e at h = absurd (cc)
+  by_kind y Struct d e at h = absurd (cc)
+  by_kind y Field d e at h = absurd (cc)
+  by_kind y Global d e at h = absurd (cc)
+  by_kind y Function d e at h = absurd (cc)
+  by_kind y Primitive d e at h = absurd (cc)
+
+  pub variable_is : (p : CExpr) (t : Ty) → HasNumberedType env p t → IsTrue (is_place p) → (made sc p).stands ≡ Some x → IsVariable env sc p x t
+  variable_is (var y) _ (a_variable {d = d} at) place h = by_kind y y.kind d refl at h
+  variable_is (field s e f) t typed place h = absurd (cc)
+  variable_is (arrow s e f) t typed place h = absurd (cc)
+  variable_is (index s e i) t typed place h = absurd (cc)
+  variable_is (deref s e) t typed place h = absurd (cc)
+  variable_is (num s n) t typed place h = absurd (let q : false ≡ true = place in cc)
+  variable_is (true_ s) t typed place h = absurd (let q : false ≡ true = place in cc)
+  variable_is (false_ s) t typed place h = absurd (let q : false ≡ true = place in cc)
+  variable_is (null s) t typed place h = absurd (let q : false ≡ true = place in cc)
+  variable_is (address s e) t typed place h = absurd (let q : false ≡ true = place in cc)
+  variable_is (unary s o e) t typed place h = absurd (let q : false ≡ true = place in cc)
+  variable_is (binary s o a b) t typed place h = absurd (let q : false ≡ true = place in cc)
+
+-- scalars one behind the other
+scalars_before : (structs : List Shape) (ts : List Ty) (n : ℕ) (t : Ty) → AllScalar ts → slice_get ts n ≡ Some t → (words_before structs ts n ≡ n) × (n < length ts)
+scalars_before structs [] n t s e = absurd (cc)
+scalars_before structs (u ∷ ts) zero t s e = (refl, omega arith)
+scalars_before structs (u ∷ ts) (suc n) t s e = let r = scalars_before structs ts n t s.1 e in let a = r.0 in let b = r.1 in let w = one_word u s.0 in (omega (arith, a, w), omega (arith, b))
+  where
+    one_word : (t : Ty) → IsTrue (is_scalar t) → words structs t ≡ 1
+    one_word ty.int s = refl
+    one_word ty.bool s = refl
+    one_word (ty.pointer t) s = refl
+    one_word (ty.named x) s = absurd (cc)
+    one_word (ty.array t n) s = absurd (cc)
+
+module _ (runs : RunLaws) (compose : RunsCompose) (W E : Type 0) (Outer : W → Contents → Behind → Type 0) (Passes : Machine → Machine → Type 0) (z : Setup W E Outer Passes) (jumps : JumpsLead z.w) (straight : StraightRuns z.w)
+    (held : HeldStays (shapes z.p.unit)) (typing : TypedStays z.p.unit) (exprs : Exprs W E Outer Passes z) (fit : (f : CFunction) → LengthsFit (scope W E Outer Passes z f))
+    (objects : List Ty) (gv hv : Value) (hw : ℕ) (g : Frame) (fs : List Frame) (world : W) (calls : List (List E)) (answer : Option Value) (c : Contents) (d : Behind) (a : Activation) (others : List Activation)
+    (st : Stands W E Outer Passes z objects (standing_at gv hv hw (g ∷ fs) world calls answer) c d) (r : Runs W E Outer Passes z objects c a g fs) (waits : Waiting W E Outer Passes z objects c.memory others fs)
+    (k debt : ℕ) (rest : CStmts) (work : List Work) where
+  abbrev sc : Scope
+  sc = scope W E Outer Passes z a.function
+
+  abbrev here : Configuration W E
+  here = standing_at gv hv hw (g ∷ fs) world calls answer
+
+  abbrev its : Bases
+  its = bases W E Outer Passes z objects (g ∷ fs)
+
+  -- the variables with one more of them stored
+  stored_there : (n x : ℕ) (t : Ty) (w : Value) (c1 : Contents) → sc.in_registers ≡ true → x ≡ 20 + n → n < 8 → slice_get (types_of sc.env.locals) n ≡ Some t → IsTrue (is_scalar t) → words_before (shapes z.p.unit) (types_of sc.env.locals) n ≡ n → c1.regs x ≡ word sc its w
+      → ((y : ℕ) → 20 ≤ y → y ≢ x → c1.regs y ≡ c.regs y) → VariablesHeld W E Outer Passes z objects c1.regs c1.memory a.function (record { function = g.function; variables = value.put g.variables (n ∷ []) w } ∷ fs)
+  stored_there n x t w c1 form at lt there scalar before here_is others_are = by_form sc.in_registers form r.variables
+    where
+      by_form : (b : Bool) → b ≡ true → RegionHeld sc its (if b then c.regs else c.memory) (if b then 20 else (end_of W E Outer Passes z (g ∷ fs) - frame (shapes z.p.unit) a.function) + 3) (types_of sc.env.locals) g.variables
+          → RegionHeld sc its (if b then c1.regs else c1.memory) (if b then 20 else (end_of W E Outer Passes z (g ∷ fs) - frame (shapes z.p.unit) a.function) + 3) (types_of sc.env.locals) (value.put g.variables (n ∷ []) w)
+      by_form false q h = absurd (cc)
+      by_form true q h =
+          let place : 20 + words_to_part (shapes z.p.unit) (types_of sc.env.locals) (n ∷ []) ≡ x = omega (arith, before, at) in
+          let m : ℕ → ℕ = put c.regs x (word sc its w) in
+          let one = held.stored sc its c.regs (put c.regs x (word sc its w)) 20 (types_of sc.env.locals) (n ∷ []) t g.variables w refl (t, there, refl) scalar h
+          (ap (put c.regs x (word sc its w)) place ∙ same_at x) (λ y ne. other_at x y (λ e. ne (e ∙ sym place))) in
+          held.same sc its (put c.regs x (word sc its w)) c1.regs 20 (types_of sc.env.locals) (value.put g.variables (n ∷ []) w) refl
+          (λ y le l. elim (cases_eq y x) [
+            | inl e ↦ ap c1.regs e ∙ here_is ∙ sym (ap (put c.regs x (word sc its w)) e ∙ same_at x)
+            | inr ne ↦ others_are y le ne ∙ sym (other_at x y ne)
+          ]) one
+        where
+          same_at : (x : ℕ) → put c.regs x (word sc its w) x ≡ word sc its w
+          same_at x = put_same c.regs x (word sc its w)
+
+          other_at : (x y : ℕ) → y ≢ x → put c.regs x (word sc its w) y ≡ c.regs y
+          other_at x y ne = put_other c.regs x (word sc its w) y ne
+
+  pub assigns_light : (p v : CExpr) (t : Ty) (x : ℕ) → IsVariable (env_in (text W E Outer Passes z) a.function) sc p x t → IsNumberedLeft (env_in (text W E Outer Passes z) a.function) p t → IsNumberedGiven (env_in (text W E Outer Passes z) a.function) v t → assign_need p v ≤ MAX_NEED
+      → nodes p + nodes v + 1 ≤ 2000 → (made sc p).stands ≡ Some x → CodeAt z.w k (assign_code sc p v) → Block (text W E Outer Passes z) a.function (k + length (assign_code sc p v)) debt rest (λ to left. Ahead (text W E Outer Passes z) (a ∷ others) to left work)
+      → StepIs W E Outer Passes z debt here (at_with k c d) (then_go (units 1) here (value_of v here.state) (λ cost w. store cost p w rest work here))
+  assigns_light p v t x y left given deep few stands code block =
+      let n : ℕ = y.name.number in
+      let all = each_scalar (variable_types a.function) (and_parts (nat_le (length (variable_types a.function)) 8) (list_all is_scalar (variable_types a.function)) (and_parts (is_leaf a.function.body) (nat_le (length (variable_types a.function)) 8 && list_all is_scalar (variable_types a.function)) y.form).1).1 in
+      let count = leb-true (length (variable_types a.function)) 8 (and_parts (nat_le (length (variable_types a.function)) 8) (list_all is_scalar (variable_types a.function)) (and_parts (is_leaf a.function.body) (nat_le (length (variable_types a.function)) 8 && list_all is_scalar (variable_types a.function)) y.form).1).0 in
+      let before = scalars_before (shapes z.p.unit) (variable_types a.function) y.name.number t all y.there in
+      let b0 = before.0 in
+      let b1 = before.1 in
+      let reg_is = y.register in
+      let at : x ≡ 20 + y.name.number = omega (arith, b1, count, reg_is) in
+      let ex = its_exprs runs compose W E Outer Passes z jumps straight held typing exprs objects gv hv hw g fs world calls answer c d a others st r waits in
+      let rd = its_ready runs compose W E Outer Passes z jumps straight held typing exprs objects gv hv hw g fs world calls answer c d a others st r waits in
+      let same : assign_code sc p v ≡ value_code sc v x 8 = ap (λ o. assigned_code o (made sc p) (made sc v)) stands in
+      let some = (fit a.function).value_some v x 8 in
+      let run = ex.value v t given left.scalar (omega (arith, few)) x 8 k c d st.idle rd (subst (CodeAt z.w k) same code) (omega arith) (omega (arith, deep)) (λ q. absurd (omega (arith, q, at))) (λ q. absurd (omega (arith, q, at))) in
+      let k1 : ℕ = k + length (value_code sc v x 8) in
+      let len : k + length (assign_code sc p v) ≡ k1 = ap (λ is. k + length is) same in
+      then_splits runs compose W E Outer Passes z jumps 0 0 0 0 debt 1 (nodes v) (units 1) here here (at_with k c d) a.function k (λ w. k1) c d objects (Gives sc its x 8 x t c) (value_of v here.state) (λ cost w. store cost p w rest work here)
+      (λ w q. absurd (omega (arith, q, some))) (none runs z.w Passes (at_with k c d)) (omega arith) (omega arith) st (value_within v here.state) (comes_splits z.w sc 0 k k1 c d (Gives sc its x 8 x t c) (value_of v here.state) run)
+      (λ u w c1 least most gives path.
+      let keeps = gives.keeps in
+      let high : (q : ℕ) → 28 ≤ q → c1.regs q ≡ c.regs q = λ q le. keeps.above q (λ e. absurd (omega (arith, e, le, at, b1, count))) (omega (arith, le)) in
+      let s1 = stands_soft runs compose W E Outer Passes z jumps objects here c c1 d keeps.memory keeps.special (high 28 (omega arith)) (high 30 (omega arith)) st in
+      let st2 : Stands W E Outer Passes z objects (with_state here (write here.state (record { region = locals; path = y.name.number ∷ [] }) w)) c1 d = record {
+        typed = typing.written objects (state_of gv hv hw (g ∷ fs)) g fs a.function (record { region = locals; path = y.name.number ∷ [] }) t w refl r.is st.typed (t, y.there, refl) gives.fits;
+        declared = st.declared;
+        used = st.used;
+        room = st.room;
+        stack_room = st.stack_room;
+        globals = s1.globals;
+        heap = s1.heap;
+        used_word = s1.used_word;
+        heap_size = s1.heap_size;
+        heap_first = s1.heap_first;
+        stack_first = s1.stack_first;
+        stack_size = s1.stack_size;
+        globals_at = s1.globals_at;
+        stack_end = s1.stack_end;
+        outer = s1.outer;
+        idle = st.idle;
+      } in
+      let under : UnderWay W E Outer Passes z objects c1 (a ∷ others) (write here.state (record { region = locals; path = y.name.number ∷ [] }) w).frames = (
+        record {
+          is = r.is;
+          return_at = ap₂ (λ m q. if calls_in a.function.body then m else q) (ap (λ m. m (end_of W E Outer Passes z fs)) keeps.memory) (high 31 (omega arith)) ∙ r.return_at;
+          frame_at = high 29 (omega arith) ∙ r.frame_at;
+          variables = stored_there y.name.number x t w c1 y.form at (omega (arith, b1, count)) y.there left.scalar b0 (sym (read_is c1.regs x (λ q. absurd (omega (arith, q, at)))) ∙ gives.is) (λ q le ne. keeps.above q ne le);
+        },
+        subst (λ m. Waiting W E Outer Passes z objects m others fs) (sym keeps.memory) waits,
+      ) in
+      let go = arrives runs compose W E Outer Passes z jumps (0 + 1) (0 + (0 + 16 * u)) 0 debt debt (plus (plus (units 1) (units u)) (units 1)) here (with_state here (write here.state (record { region = locals; path = y.name.number ∷ [] }) w)) (at_with k c d) k1 c1 d objects a others rest work path
+      (omega (arith, most, few)) (omega arith) (omega arith) st2 under (subst (λ q. Block (text W E Outer Passes z) a.function q debt rest (λ to left. Ahead (text W E Outer Passes z) (a ∷ others) to left work)) len block) in
+      subst (λ e. StepIs W E Outer Passes z debt here (at_with k c d) (store (plus (units 1) (units u)) e w rest work here)) (sym y.is)
+      (subst (λ kd. StepIs W E Outer Passes z debt here (at_with k c d) (then_go (plus (units 1) (units u)) here (paying 1 (at_no_cost (variable_location kd y.name.number))) (λ cost l. Go cost (push rest work) (with_state here (write here.state l w))))) (sym y.kind) go))
