@@ -2,7 +2,8 @@
 ghost use Rattle.std.specs.Prelude.{◌≡◌, ◌<◌, ◌≤◌, ◌+◌, ◌*◌, ◌∷◌, [], map as each, length, ◌++◌};
 ghost use Rattle.mips_table.specs.Encoding.{encoding};
 ghost use Rattle.page_model.specs.Places.{places_of};
-ghost use Rattle.cvm_primitives.specs.Code.{user_test_code, word_number_code, word_words, word_test_code, load_code, store_code, word_code, vm_word_code, vm_put_code, base_code};
+ghost use Rattle.cvm_primitives.specs.Code.{user_test_code, word_number_code, word_words, word_test_code, load_code};
+ghost use Rattle.cvm_primitives.specs.Code.{store_code, word_code, vm_word_code, vm_put_code, base_code};
 ghost use Rattle.page_fault.specs.Code.{page_code};
 ghost use Rattle.masm.specs.Blocks.{when_words};
 

@@ -2,7 +2,8 @@
 ghost use Rattle.std.specs.Prelude.{◌≡◌, ◌<◌, ◌≤◌, ◌+◌, ◌*◌, ◌∷◌, [], map as each, length, ◌++◌};
 ghost use Rattle.mips_table.specs.Encoding.{encoding};
 ghost use Rattle.page_model.specs.Places.{places_of};
-ghost use Rattle.cvm_primitives.specs.Code.{protect_code, copy_code, least_code, to_end_code, length_code, room_code, share_code, whole_code, both_code, paste_code, words_code, read_code, advance_code, choose_code, piece_end_code, piece_rest_code, piece_read_code, piece_code};
+ghost use Rattle.cvm_primitives.specs.Code.{protect_code, copy_code, least_code, to_end_code, length_code, room_code, share_code, whole_code, both_code};
+ghost use Rattle.cvm_primitives.specs.Code.{paste_code, words_code, read_code, advance_code, choose_code, piece_end_code, piece_rest_code, piece_read_code, piece_code};
 ghost use Rattle.page_fault.specs.Code.{page_code};
 
 use crate::parts::{drop_page, locate};

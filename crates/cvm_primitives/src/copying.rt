@@ -2,7 +2,8 @@
 ghost use Rattle.std.specs.Prelude.{◌≡◌, ◌<◌, ◌≤◌, ◌+◌, ◌*◌, ◌∷◌, [], map as each, length, ◌++◌};
 ghost use Rattle.mips_table.specs.Encoding.{encoding};
 ghost use Rattle.page_model.specs.Places.{places_of};
-ghost use Rattle.cvm_primitives.specs.Code.{range_words, first_test_code, second_test_code, third_test_code, fourth_test_code, range_number_code, order_code, apart_code, pieces_code, next_range_code, second_range_code, begin_code, vm_copy_code};
+ghost use Rattle.cvm_primitives.specs.Code.{range_words, first_test_code, second_test_code, third_test_code, fourth_test_code, range_number_code, order_code};
+ghost use Rattle.cvm_primitives.specs.Code.{apart_code, pieces_code, next_range_code, second_range_code, begin_code, vm_copy_code};
 ghost use Rattle.page_fault.specs.Code.{page_code};
 ghost use Rattle.masm.specs.Blocks.{when_words, when_code};
 

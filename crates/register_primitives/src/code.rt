@@ -1,7 +1,8 @@
 // The code of the primitives that use no page.
 ghost use Rattle.std.specs.Prelude.{◌≡◌, ◌<◌, ◌≤◌, ◌++◌, map as each, length};
 ghost use Rattle.mips_table.specs.Encoding.{encoding};
-ghost use Rattle.register_primitives.specs.Code.{user_code, register_code, place_code, asked_words, vm_get_code, vm_set_code, vm_size_code, con_put_code, con_get_code, con_left_code};
+ghost use Rattle.register_primitives.specs.Code.{user_code, register_code, place_code, asked_words, vm_get_code};
+ghost use Rattle.register_primitives.specs.Code.{vm_set_code, vm_size_code, con_put_code, con_get_code, con_left_code};
 
 use layer_map::Map;
 use masm::Block;
