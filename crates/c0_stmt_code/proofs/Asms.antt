@@ -36,7 +36,7 @@ use Rattle.c0_stmt_code.specs.Setup.{Setup}
 use Rattle.c0_stmt_code.specs.Journey.{Led}
 use Rattle.c0_stmt_code.specs.Ahead.{Activation, Block, Awaits, Ahead}
 use Rattle.c0_stmt_code.specs.Standing.{text, scope, bases, end_of, unit_scope, word_of_value, AreIn, Waiting, UnderWay, Stands, StepIs}
-use Rattle.c0_stmt_code.proofs.Needs.{HeldStays}
+use Rattle.c0_stmt_code.proofs.Needs.{HeldStays, AreInts}
 use Rattle.c0_stmt_code.proofs.Ways.{Way, on, of, away}
 use Rattle.c0_stmt_code.proofs.Blocks.{front, back}
 use Rattle.c0_stmt_code.proofs.State.{standing_at, state_of}
@@ -53,11 +53,6 @@ int_of_fits n = by_test (nat_lt n (2 ^ 31)) refl
     by_test : (b : Bool) → nat_lt n (2 ^ 31) ≡ b → FitsSigned w32 (int_of n)
     by_test true e = rw e (record { sfits = let h = ltb-true n (2 ^ 31) e in omega (arith, h) })
     by_test false e = rw e (record { sfits = let h = ltb-false n (2 ^ 31) e in omega (arith, h) })
-
--- each of these types is int
-abbrev pub AreInts : List Ty → Type 0
-AreInts [] = Unit {0}
-AreInts (t ∷ ts) = (t ≡ ty.int) × AreInts ts
 
 module _ (runs : RunLaws) (compose : RunsCompose) (W E : Type 0) (Outer : W → Contents → Behind → Type 0) (Passes : Machine → Machine → Type 0) (z : Setup W E Outer Passes) (jumps : JumpsLead z.w) (straight : StraightRuns z.w)
     (held : HeldStays (shapes z.p.unit)) (asm_runs : AsmRuns z.w) where
@@ -108,30 +103,43 @@ module _ (runs : RunLaws) (compose : RunsCompose) (W E : Type 0) (Outer : W → 
 
         by_target : (acts : List Activation) (frames : List Frame) → Waiting W E Outer Passes z objects c.memory acts frames → (target : Target) (work : List Work) → Awaits (text W E Outer Passes z) acts to debt (ty_of f.answer) target work (λ acts at left. Ahead (text W E Outer Passes z) acts at left work) → frames ≡ fs
             → StepIs W E Outer Passes z debt h0 s0 (deliver cost target v work here)
-        by_target (b ∷ more) (q ∷ frames) w (into place rest) work ah e = (at_with to c' d, debt, led_to here refl, record {
-          objects = objects;
-          stands = st2;
-          activations = b ∷ more;
-          under_way = subst (λ y. UnderWay W E Outer Passes z objects c' (b ∷ more) y) e (record {
-            is = w.0.is;
-            return_at = ap (λ y. if y then c'.memory (end_of W E Outer Passes z frames) else c'.regs 31) w.0.calls ∙ ap (λ m. m (end_of W E Outer Passes z frames)) memory ∙ w.0.return_at;
-            frame_at = high 29 (omega arith) ∙ at_end ∙ ap (λ y. 4 * end_of W E Outer Passes z y) (sym e) ∙ sym (ap (λ y. 4 * (if y then end_of W E Outer Passes z frames else end_of W E Outer Passes z (q ∷ frames))) w.0.in_frame);
-            variables = variables_same W E Outer Passes z held objects c.memory c'.regs c.memory c'.memory b.function q frames true w.0.in_frame w.0.is (λ x le lt. ap (λ m. m x) memory) w.0.variables;
-          }, subst (λ m. Waiting W E Outer Passes z objects m more frames) (sym memory) w.1);
-          t = t;
-          fits = fits;
-          answer = is2;
-          ahead = subst (λ y. Awaits (text W E Outer Passes z) (b ∷ more) to debt y (into place rest) work (λ acts at left. Ahead (text W E Outer Passes z) acts at left work)) types ah;
-        })
-        by_target [] [] w outward [] ah e = (at_with to c' d, debt, led_to (record here { answer = Some v }) refl, record {
-          objects = objects;
-          stands = record { typed = st2.typed; declared = st2.declared; used = st2.used; room = st2.room; stack_room = st2.stack_room; globals = st2.globals; heap = st2.heap; used_word = st2.used_word; heap_size = st2.heap_size; heap_first = st2.heap_first; stack_first = st2.stack_first; stack_size = st2.stack_size; globals_at = st2.globals_at; stack_end = st2.stack_end; outer = st2.outer; idle = st2.idle };
-          no_frames = sym e;
-          at = ah;
-          value = v;
-          is = refl;
-          answer = is2;
-        })
+        by_target (b ∷ more) (q ∷ frames) w (into place rest) work ah e = (
+          at_with to c' d,
+          debt,
+          led_to here refl,
+          record {
+            objects = objects;
+            stands = st2;
+            activations = b ∷ more;
+            under_way = subst (λ y. UnderWay W E Outer Passes z objects c' (b ∷ more) y) e (
+              record {
+                is = w.0.is;
+                return_at = ap (λ y. if y then c'.memory (end_of W E Outer Passes z frames) else c'.regs 31) w.0.calls ∙ ap (λ m. m (end_of W E Outer Passes z frames)) memory ∙ w.0.return_at;
+                frame_at = high 29 (omega arith) ∙ at_end ∙ ap (λ y. 4 * end_of W E Outer Passes z y) (sym e) ∙ sym (ap (λ y. 4 * (if y then end_of W E Outer Passes z frames else end_of W E Outer Passes z (q ∷ frames))) w.0.in_frame);
+                variables = variables_same W E Outer Passes z held objects c.memory c'.regs c.memory c'.memory b.function q frames true w.0.in_frame w.0.is (λ x le lt. ap (λ m. m x) memory) w.0.variables;
+              },
+              subst (λ m. Waiting W E Outer Passes z objects m more frames) (sym memory) w.1,
+            );
+            t = t;
+            fits = fits;
+            answer = is2;
+            ahead = subst (λ y. Awaits (text W E Outer Passes z) (b ∷ more) to debt y (into place rest) work (λ acts at left. Ahead (text W E Outer Passes z) acts at left work)) types ah;
+          },
+        )
+        by_target [] [] w outward [] ah e = (
+          at_with to c' d,
+          debt,
+          led_to (record here { answer = Some v }) refl,
+          record {
+            objects = objects;
+            stands = record { typed = st2.typed; declared = st2.declared; used = st2.used; room = st2.room; stack_room = st2.stack_room; globals = st2.globals; heap = st2.heap; used_word = st2.used_word; heap_size = st2.heap_size; heap_first = st2.heap_first; stack_first = st2.stack_first; stack_size = st2.stack_size; globals_at = st2.globals_at; stack_end = st2.stack_end; outer = st2.outer; idle = st2.idle };
+            no_frames = sym e;
+            at = ah;
+            value = v;
+            is = refl;
+            answer = is2;
+          },
+        )
         by_target [] [] w outward (i ∷ work) ah e = absurd ah
         by_target [] [] w (into place rest) work ah e = absurd ah
         by_target (b ∷ more) (q ∷ frames) w outward work ah e = absurd ah
@@ -170,9 +178,11 @@ module _ (runs : RunLaws) (compose : RunsCompose) (W E : Type 0) (Outer : W → 
             let sr = st.stack_room in
             let r = (tested compose z.w z.sound straight jumps sc low (z.a.stack + z.p.stack) 1 k c d st.idle (λ q. absurd (omega (arith, q))) (λ q. absurd (omega (arith, q))) at_end st.stack_end (omega (arith, sr)) (omega (arith, sf, ws)) (omega (arith, sm)) test_at).0 (omega (arith, over)) in
             let way = on runs z.w Passes l m j 0 7 0 s0 (at_with k c d) (at_with (sc.exit StackOut) r.0 d) path (of runs z.w Passes 7 _ _ r.2) in
-            let le = way.high in
-            (at_with (sc.exit StackOut) r.0 d, record { own = way.own; passes = j + 0; high = omega (arith, le, high_paid); ended_so = omega (arith, en); run = way.run },
-              record { objects = objects; stands = stands_soft runs compose W E Outer Passes z jumps objects here c r.0 d r.1.memory r.1.special (r.1.others 28 (λ q. absurd (omega (arith, q))) (λ q. absurd (omega (arith, q)))) (r.1.others 30 (λ q. absurd (omega (arith, q))) (λ q. absurd (omega (arith, q)))) st; at = refl })
+            let le = way.high in (
+              at_with (sc.exit StackOut) r.0 d,
+              record { own = way.own; passes = j + 0; high = omega (arith, le, high_paid); ended_so = omega (arith, en); run = way.run },
+              record { objects = objects; stands = stands_soft runs compose W E Outer Passes z jumps objects here c r.0 d r.1.memory r.1.special (r.1.others 28 (λ q. absurd (omega (arith, q))) (λ q. absurd (omega (arith, q)))) (r.1.others 30 (λ q. absurd (omega (arith, q))) (λ q. absurd (omega (arith, q)))) st; at = refl },
+            )
 
         goes : stack_words z.p.unit fs + frame (shapes z.p.unit) f ≤ z.p.stack → StepIs W E Outer Passes z debt h0 s0 (deliver (plus cost2 (units (length words))) target (int (asm_result words args)) work here)
         goes fine =
