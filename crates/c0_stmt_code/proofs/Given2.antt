@@ -11,6 +11,7 @@ use Rattle.c0_meaning.specs.Ty.{Ty, ty_of, is_scalar, same_ty}
 use Rattle.c0_meaning.specs.Ty as ty
 use Rattle.c0_meaning.specs.Env.{Env, typed_of, env_of}
 use Rattle.c0_meaning.specs.DeclaredTypes.{may_pass}
+use Rattle.c0_meaning.specs.Asm.{are_allowed_words}
 use Rattle.c0_meaning.specs.Limits.{locals_of, is_asm, words_held, max_parameters}
 use Rattle.c0_meaning.specs.Sound.{shapes}
 use Rattle.c0_meaning.specs.State.{Frame, State, stack_words, variables_of}
@@ -24,7 +25,7 @@ use Rattle.c0_expr_code.specs.Laws as below
 use Rattle.c0_stmt_code.specs.Setup.{Setup}
 use Rattle.c0_stmt_code.specs.Ahead.{env_in}
 use Rattle.c0_stmt_code.specs.Standing.{AreDeclared, text, scope, bases}
-use Rattle.c0_stmt_code.proofs.Needs.{FunctionsAre, AllScalar}
+use Rattle.c0_stmt_code.proofs.Needs.{AreInts, FunctionsAre, AllScalar}
 use Rattle.c0_stmt_code.proofs.Rooms.{frame_on, words_by_types}
 use Rattle.c0_stmt_code.proofs.State.{Exprs}
 
@@ -101,6 +102,17 @@ module _ (numbers : NumbersTell) (faultless : UnitsAreFaultless) (table : List C
   few_params true n h = omega (arith, h)
   few_params false n h = h
 
+  int_is : (t : Ty) → IsTrue (same_ty t ty.int) → t ≡ ty.int
+  int_is ty.int h = refl
+  int_is ty.bool h = absurd (cc)
+  int_is (ty.pointer t) h = absurd (cc)
+  int_is (ty.named x) h = absurd (cc)
+  int_is (ty.array t n) h = absurd (cc)
+
+  ints_passed : (ds : List CDecl) → All (λ d. IsTrue (may_pass true (ty_of d.ty))) ds → AreInts (types_of (map typed_of ds))
+  ints_passed [] h = tt
+  ints_passed (d ∷ ds) h = (int_is (ty_of d.ty) (All-head (λ d. IsTrue (may_pass true (ty_of d.ty))) d ds h), ints_passed ds (All-tail (λ d. IsTrue (may_pass true (ty_of d.ty))) d ds h))
+
   pub functions_are : FunctionsAre table u
   functions_are = record {
     scalars = λ n f is. all_passed (is_asm f.body) f.params (its_function n f is).signature.params_pass;
@@ -111,4 +123,11 @@ module _ (numbers : NumbersTell) (faultless : UnitsAreFaultless) (table : List C
         let k = (its_function n f is).signature.nodes in
         let q = ap (λ b. body_nodes (length (words_held b)) b) e in
         omega (arith, k, q);
+    asms = λ n f bytes span words is e.
+        let g = (its_function n f is).signature in (
+          ints_passed f.params (subst (λ b. All (λ d. IsTrue (may_pass (is_asm b) (ty_of d.ty))) f.params) e g.params_pass),
+          subst (λ b. length f.params ≤ max_parameters (is_asm b)) e g.few,
+          int_is (ty_of f.answer) (subst (λ b. IsTrue (may_pass (is_asm b) (ty_of f.answer))) e g.answer_passes),
+          subst (λ b. IsTrue (are_allowed_words (words_held b))) e (at_number (λ f. IsTrue (are_allowed_words (words_held f.body))) u.functions n f well.allowed is),
+        );
   }

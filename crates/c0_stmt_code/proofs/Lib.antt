@@ -1,4 +1,5 @@
 pub mod Args
+pub mod Asms
 pub mod Blocks
 pub mod CallActs
 pub mod Calls

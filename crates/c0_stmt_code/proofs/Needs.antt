@@ -3,8 +3,11 @@ use Rattle.std.proofs.Common.{◌≡◌, ◌≢◌, ℕ, ◌+◌, ◌*◌, ◌<�
 use Rattle.mips_table.specs.Code.{World}
 use Rattle.c0_tree.specs.Primitives.{CPrimitive}
 use Rattle.c0_tree.specs.Size.{need, nodes, stmts_nodes}
-use Rattle.c0_tree.specs.Tree.{CExpr, CStmts, code, CDecl, CFunction, CUnit}
+use Rattle.c0_tree.specs.Tree.{asm, CExpr, CStmts, code, CDecl, CFunction, CUnit}
 use Rattle.c0_meaning.specs.Ty.{Ty, bool, is_scalar, ty_of}
+use Rattle.c0_meaning.specs.Ty as ty
+use Rattle.c0_meaning.specs.Asm.{are_allowed_words}
+use Rattle.c0_tree.specs.declared.tree.Span.{Span}
 use Rattle.c0_meaning.specs.Limits.{locals_of}
 use Rattle.c0_meaning.specs.Numbered.{is_frame_place, IsNumberedGiven, IsNumberedLeft, IsNumberedTest, AreNumbered}
 use Rattle.c0_meaning.specs.Env.{Env, Shape, typed_of, env_of}
@@ -66,6 +69,11 @@ abbrev pub AllScalar : List Ty → Type 0
 AllScalar [] = Unit {0}
 AllScalar (t ∷ ts) = IsTrue (is_scalar t) × AllScalar ts
 
+-- each of these types is int
+abbrev pub AreInts : List Ty → Type 0
+AreInts [] = Unit {0}
+AreInts (t ∷ ts) = (t ≡ ty.int) × AreInts ts
+
 -- what is known of the functions of a unit
 pub record FunctionsAre (table : List CPrimitive) (u : CUnit) : Type 0 where
   pub scalars : (n : ℕ) (f : CFunction) → slice_get u.functions n ≡ Some f → AllScalar (types_of (map typed_of f.params))
@@ -74,3 +82,4 @@ pub record FunctionsAre (table : List CPrimitive) (u : CUnit) : Type 0 where
   pub typed : (n : ℕ) (f : CFunction) (locals : List CDecl) (stmts : CStmts) (answer : CExpr) → slice_get u.functions n ≡ Some f → f.body ≡ code locals stmts answer
       → AreNumbered (env_of table u (f.params ++ locals_of f.body)) stmts × IsNumberedTest (env_of table u (f.params ++ locals_of f.body)) answer (ty_of f.answer)
   pub nodes : (n : ℕ) (f : CFunction) (locals : List CDecl) (stmts : CStmts) (answer : CExpr) → slice_get u.functions n ≡ Some f → f.body ≡ code locals stmts answer → stmts_nodes stmts + nodes answer ≤ 2000
+  pub asms : (n : ℕ) (f : CFunction) (bytes : List ℕ) (span : Span) (words : List ℕ) → slice_get u.functions n ≡ Some f → f.body ≡ asm bytes span words → AreInts (types_of (map typed_of f.params)) × (length f.params ≤ 4) × (ty_of f.answer ≡ ty.int) × IsTrue (are_allowed_words words)

@@ -36,6 +36,8 @@ use Rattle.c0_stmt_code.proofs.Lengths.{stmts_length}
 use Rattle.c0_stmt_code.proofs.State.{standing_at, Exprs}
 use Rattle.c0_stmt_code.proofs.Statements.{assigns, chooses, turns}
 use Rattle.c0_stmt_code.proofs.Locals.{variable_is, assigns_light}
+use Rattle.c0_asm_body.specs.Laws.{AsmRuns}
+use Rattle.c0_stmt_code.proofs.Asms.{enters_asm}
 use Rattle.c0_stmt_code.proofs.Calls.{enters, enters_light}
 use Rattle.c0_stmt_code.proofs.CallActs.{signature_from, calls_function}
 use Rattle.c0_stmt_code.proofs.Primitives.{calls_primitive}
@@ -86,21 +88,29 @@ given_length env (e ∷ es) [] h = elim h [ ]
 
 module _ (runs : RunLaws) (compose : RunsCompose) (W E : Type 0) (Outer : W → Contents → Behind → Type 0) (Passes : Machine → Machine → Type 0) (z : Setup W E Outer Passes) (jumps : JumpsLead z.w) (straight : StraightRuns z.w)
     (held : HeldStays (shapes z.p.unit)) (typing : TypedStays z.p.unit) (functions : FunctionsAre z.table z.p.unit) (exprs : Exprs W E Outer Passes z) (fit : (f : CFunction) → LengthsFit (scope W E Outer Passes z f))
-    (opened : (x : List ℕ) → words (shapes z.p.unit) (named x) ≡ words_of_all (shapes z.p.unit) (types_of (fields_named (shapes z.p.unit) x))) where
+    (asm_runs : AsmRuns z.w) (opened : (x : List ℕ) → words (shapes z.p.unit) (named x) ≡ words_of_all (shapes z.p.unit) (types_of (fields_named (shapes z.p.unit) x))) where
   -- the first call
   begins : (objects : List Ty) (gv hv : Value) (hw : ℕ) (fs : List Frame) (world : W) (calls : List (List E)) (answer : Option Value) (c : Contents) (d : Behind) (acts : List Activation)
       → Stands W E Outer Passes z objects (standing_at gv hv hw fs world calls answer) c d → Waiting W E Outer Passes z objects c.memory acts fs → c.regs 29 ≡ 4 * end_of W E Outer Passes z fs
-      → (n to debt : ℕ) (f : CFunction) → slice_get z.p.unit.functions n ≡ Some f → is_asm f.body ≡ false → (args : Values) (target : Target) (work : List Work) → c.regs 31 ≡ 4 * to
+      → (n to debt : ℕ) (f : CFunction) → slice_get z.p.unit.functions n ≡ Some f → (args : Values) (target : Target) (work : List Work) → c.regs 31 ≡ 4 * to
       → AllFit (shapes z.p.unit) (layout_of z.p.unit objects) (types_of (map typed_of f.params)) args → AreIn (unit_scope z.p.unit) (bases W E Outer Passes z objects []) c.regs 20 args
       → Awaits (text W E Outer Passes z) acts to debt (ty_of f.answer) target work (λ others at left. Ahead (text W E Outer Passes z) others at left work)
       → (l m j : ℕ) (cost : Cost) (h0 : Configuration W E) (s0 : Machine) → Path runs compose W E Outer Passes z jumps l m j s0 (at_with ((text W E Outer Passes z).links.function n) c d) → cost.own + 9 ≤ 2048 * (l + 1) → m ≤ 60 * cost.own + 20 → length calls ≡ ended h0 + j
       → StepIs W E Outer Passes z debt h0 s0 (call_function z.p cost n args target work (standing_at gv hv hw fs world calls answer))
-  begins objects gv hv hw fs world calls answer c d acts st waits at_end n to debt f is frame args target work return_at fits arguments ahead l m j cost h0 s0 path low high en =
-      by_form (scope W E Outer Passes z f).in_registers refl (has_statements f.body frame)
+  begins objects gv hv hw fs world calls answer c d acts st waits at_end n to debt f is args target work return_at fits arguments ahead l m j cost h0 s0 path low high en =
+      by_body f.body refl
     where
       by_form : (b : Bool) → (scope W E Outer Passes z f).in_registers ≡ b → HasCode f.body → StepIs W E Outer Passes z debt h0 s0 (call_function z.p cost n args target work (standing_at gv hv hw fs world calls answer))
       by_form false form b = enters runs compose W E Outer Passes z jumps straight held typing functions opened objects gv hv hw fs world calls answer c d acts st waits at_end n to debt f is args target work return_at fits arguments ahead l m j ((text W E Outer Passes z).links.function n) cost h0 s0 b.locals b.stmts b.answer b.is form path (z.functions n f is) low high en
       by_form true form b = enters_light runs compose W E Outer Passes z jumps straight held typing functions opened objects gv hv hw fs world calls answer c d acts st waits at_end n to debt f is args target work return_at fits arguments ahead l m j ((text W E Outer Passes z).links.function n) cost h0 s0 b.locals b.stmts b.answer b.is form path (z.functions n f is) low high en
+
+      by_body : (b : CBody) → f.body ≡ b → StepIs W E Outer Passes z debt h0 s0 (call_function z.p cost n args target work (standing_at gv hv hw fs world calls answer))
+      by_body (code ls ss result) e = by_form (scope W E Outer Passes z f).in_registers refl (record { locals = ls; stmts = ss; answer = result; is = e })
+      by_body (asm bytes span ws) e =
+          let q = functions.asms n f bytes span ws is e in
+          let l4 = q.1 in
+          let size = params_length f.params in
+          enters_asm runs compose W E Outer Passes z jumps straight held asm_runs objects gv hv hw fs world calls answer c d acts st waits at_end n to debt f is args target work return_at fits arguments ahead l m j ((text W E Outer Passes z).links.function n) cost h0 s0 bytes span ws e q.0 (omega (arith, l4, size)) size q.2 q.3 path (z.functions n f is) low high en
 
   module _ (objects : List Ty) (gv hv : Value) (hw : ℕ) (g : Frame) (fs : List Frame) (world : W) (calls : List (List E)) (answer : Option Value) (c : Contents) (d : Behind) (a : Activation) (others : List Activation)
       (st : Stands W E Outer Passes z objects (standing_at gv hv hw (g ∷ fs) world calls answer) c d) (r : Runs W E Outer Passes z objects c a g fs) (waits : Waiting W E Outer Passes z objects c.memory others fs)
@@ -155,7 +165,6 @@ module _ (runs : RunLaws) (compose : RunsCompose) (W E : Type 0) (Outer : W → 
             by_kind Function e =
                 let is = subst (λ kd. callee_at (env_in (text W E Outer Passes z) a.function) kd callee.number ≡ Some signature) e found in
                 let q = signature_from z.p.unit.functions callee.number signature is in
-                let frame = covered e q.0 q.1 in
                 let few = stands.few in
                 let types : signature.params ≡ types_of (map typed_of q.0.params) = sym (ap (λ y. y.params) q.2) ∙ types_of_params q.0.params in
                 let given2 = subst (λ ts. AreNumberedGiven (env_in (text W E Outer Passes z) a.function) args ts) types given in
@@ -166,7 +175,7 @@ module _ (runs : RunLaws) (compose : RunsCompose) (W E : Type 0) (Outer : W → 
                 let index : callee_index (text W E Outer Passes z).links callee.kind callee.number ≡ (text W E Outer Passes z).links.function callee.number = ap (λ kd. callee_index (text W E Outer Passes z).links kd callee.number) e in
                 subst (λ kd. StepIs W E Outer Passes z debt here (at_with k c d) (then_go (units 1) here (values_of args here.state) (λ cost vs. call_with z.p cost kd callee.number vs (into p rest) work here))) (sym e)
                 (calls_function runs compose W E Outer Passes z jumps straight held typing functions exprs objects gv hv hw g fs world calls answer c d a others st r waits (in_frame sc.in_registers refl stands.free) (stands.calls refl) k debt callee.number q.0 args p rest work q.1
-                (λ c2 vs l m j cost st2 w2 at2 to ret fits are ahead path low high en. begins objects gv hv hw (g ∷ fs) world calls answer c2 d (a ∷ others) st2 w2 at2 callee.number to debt q.0 q.1 frame vs (into p rest) work ret fits are ahead l m j cost here (at_with k c d) path low high en)
+                (λ c2 vs l m j cost st2 w2 at2 to ret fits are ahead path low high en. begins objects gv hv hw (g ∷ fs) world calls answer c2 d (a ∷ others) st2 w2 at2 callee.number to debt q.0 q.1 vs (into p rest) work ret fits are ahead l m j cost here (at_with k c d) path low high en)
                 given2 (omega (arith, count, size, many)) (omega (arith, size, many)) left2 deep (omega (arith, few))
                 (subst (λ i. CodeAt z.w k (args_code sc args 0 ++ (Jal i ∷ answer_code sc p))) index stands.code)
                 (subst (λ i. At (k + length (args_code sc args 0 ++ (Jal i ∷ answer_code sc p))) rest work) index block))
@@ -229,7 +238,7 @@ module _ (runs : RunLaws) (compose : RunsCompose) (W E : Type 0) (Outer : W → 
       → AllFit (shapes z.p.unit) (layout_of z.p.unit objects) (types_of (map typed_of f.params)) args → AreIn (unit_scope z.p.unit) (bases W E Outer Passes z objects []) c.regs 20 args → Awaits (text W E Outer Passes z) under_way to debt (ty_of f.answer) outward work (λ others at left. Ahead (text W E Outer Passes z) others at left work)
       → StepIs W E Outer Passes z debt (standing_at gv hv hw frames world calls answer) (at_with k c d) (act z.p (begin n args) work (standing_at gv hv hw frames world calls answer))
   begin_parts [] objects gv hv hw world calls answer c d [] k debt n to args work f covered st waits at_end is at ret fits are ahead =
-      begins objects gv hv hw [] world calls answer c d [] st waits at_end n to debt f is (covered f is) args outward work ret fits are ahead 0 0 0 (units 0) (standing_at gv hv hw [] world calls answer) (at_with k c d)
+      begins objects gv hv hw [] world calls answer c d [] st waits at_end n to debt f is args outward work ret fits are ahead 0 0 0 (units 0) (standing_at gv hv hw [] world calls answer) (at_with k c d)
       (subst (λ y. Way runs z.w Passes 0 0 0 (at_with k c d) (at_with y c d)) at (no_way runs z.w Passes (at_with k c d))) (omega arith) (omega arith) (omega arith)
   begin_parts (g ∷ fs) objects gv hv hw world calls answer c d [] k debt n to args work f covered st waits at_end is at ret fits are ahead = absurd waits
   begin_parts frames objects gv hv hw world calls answer c d (a ∷ others) k debt n to args work f covered st waits at_end is at ret fits are ahead = absurd ahead

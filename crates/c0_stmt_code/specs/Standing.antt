@@ -186,15 +186,10 @@ module _ (W E : Type 0) (Outer : W → Contents → Behind → Type 0) (Passes :
   RunIs debt used h s (NotYet cost h') = (t : Machine) × (units : ℕ) × (cost.own ≡ used.own + units) × (left : ℕ) × (work : List Work)
       × Led z.w Passes units debt left h h' s t × Simulated left work h' t
 
-  -- the function of a number, if there is one, has statements, and no asm body
-  abbrev pub StatementsAt : ℕ → Type 0
-  StatementsAt n = (f : CFunction) → slice_get z.p.unit.functions n ≡ Some f → is_asm f.body ≡ false
-
-  -- A statement of a function whose step is proved: an assignment, an `if`, a loop, a call of a primitive, or one of a function that has
-  -- statements.
+  -- A statement of a function whose step is proved: all but `new`.
   abbrev pub IsCoveredStatement : CFunction → CStmt → Type 0
   IsCoveredStatement f (assign s p v) = Unit {0}
-  IsCoveredStatement f (call s p cs callee args) = callee.kind ≡ Function → StatementsAt callee.number
+  IsCoveredStatement f (call s p cs callee args) = Unit {0}
   IsCoveredStatement f (new s p t ts) = ⊥
   IsCoveredStatement f (choice s t a b) = Unit {0}
   IsCoveredStatement f (loop s t b) = Unit {0}
@@ -205,11 +200,11 @@ module _ (W E : Type 0) (Outer : W → Contents → Behind → Type 0) (Passes :
   IsCoveredItem f (finish place v rest) = (made (scope f) place).stands ≡ None
   IsCoveredItem f (again t body rest) = Unit {0}
   IsCoveredItem f (leave answer target) = Unit {0}
-  IsCoveredItem f (begin n args) = StatementsAt n
+  IsCoveredItem f (begin n args) = Unit {0}
 
   -- of the function that runs, or of the one that is called first
   abbrev pub IsCovered : List Frame → Work → Type 0
-  IsCovered [] (begin n args) = StatementsAt n
+  IsCovered [] (begin n args) = Unit {0}
   IsCovered [] item = ⊥
   IsCovered (g ∷ frames) item = (f : CFunction) → slice_get z.p.unit.functions g.function ≡ Some f → IsCoveredItem f item
 

@@ -4,6 +4,7 @@ ghost use Rattle.c0_stmt_code.specs.Rows.{AreCodes};
 ghost use Rattle.c0_stmt_code.specs.Standing.{RunsAre, StepsRun};
 ghost use Rattle.mips_table.specs.Code.{Contents, Behind, Configuration};
 
+use c0_asm_body::laws::asm_bodies_run;
 use c0_expr_code::laws::{
     areas_hold, codes_are_short, expressions_run, held_stays, names_are_enough, parts_fit,
     tests_run,
@@ -40,6 +41,7 @@ pub fn steps_run<M: Outside>()
     straight_code_runs();
     jumps_lead();
     code_runs_join();
+    asm_bodies_run();
 }
 
 /// A run of C0's meaning is a run of the code, where each of its steps is.

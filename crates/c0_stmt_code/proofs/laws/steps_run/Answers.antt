@@ -12,4 +12,4 @@ returns g c = λ z debt item work h s covered sim.
     steps c.code_runs_join.ensures c.runs_compose.ensures g.M.Outside.Standing g.M.Outside.Entry g.M.Outside.outer g.M.Outside.passes z (c.jumps_lead.ensures z.w z.sound) (c.straight_code_runs.ensures z.w z.sound)
     (held_stays (shapes z.p.unit) opened c.held_stays.ensures) (typed_stays z.p.unit c.parts_fit.ensures z.zeros_fit) (functions_are c.numbers_tell.ensures c.units_are_typed_or_faulty.ensures z.table z.p.unit z.well_formed)
     (exprs c.expressions_run.ensures.typed c.expressions_run.ensures.given c.tests_run.ensures c.names_are_enough.ensures c.areas_hold.ensures g.M.Outside.Standing g.M.Outside.Entry g.M.Outside.outer g.M.Outside.passes z)
-    (λ f. lengths_fit c.codes_are_short.ensures (scope g.M.Outside.Standing g.M.Outside.Entry g.M.Outside.outer g.M.Outside.passes z f)) opened debt item work h s covered sim
+    (λ f. lengths_fit c.codes_are_short.ensures (scope g.M.Outside.Standing g.M.Outside.Entry g.M.Outside.outer g.M.Outside.passes z f)) (c.asm_bodies_run.ensures z.w z.sound) opened debt item work h s covered sim
