@@ -29,3 +29,9 @@ mod Elsewhere
 mod InRange
 mod Patches
 mod Exits
+mod Emitted
+mod Patched
+mod Scopes
+mod Shifts
+mod Structs
+mod TypedNumbers

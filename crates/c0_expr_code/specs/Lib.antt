@@ -6,3 +6,7 @@ pub mod Relation
 pub mod Laws
 pub mod Jumps
 pub mod Rows
+pub mod Emit
+pub mod Known
+pub mod Scene
+pub mod Patch

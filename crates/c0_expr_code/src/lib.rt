@@ -1,4 +1,31 @@
 //! The code of C0's expressions, and that it comes to what they mean.
 #![tactic(auto)]
 
+mod bytes;
+mod constant;
+mod element;
+mod known;
 pub mod laws;
+mod layout;
+mod leaf;
+mod node;
+pub mod numbers;
+mod operator;
+mod patching;
+mod scene;
+mod scene_of;
+mod spot;
+mod variable;
+mod word;
+
+pub use constant::emit_constant;
+pub use known::{known_of, stands_in};
+pub use layout::Layout;
+pub use leaf::keeps_registers;
+pub use node::{emit_operand, emit_spot, emit_value};
+pub use patching::patch;
+pub use scene::Scene;
+pub use scene_of::begun_scene;
+pub use spot::{Access, Spot, emit_access};
+pub use variable::frame_shift;
+pub use word::emit;

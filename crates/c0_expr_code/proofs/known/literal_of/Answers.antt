@@ -1,0 +1,6 @@
+use Rattle.std.proofs.Common.{◌∙◌}
+use Rattle.c0_expr_code.proofs.Emitted.{literal_is}
+use Rattle.c0_expr_code.proofs.known.literal_of.Goals as goal
+
+pub returns : goal.returns
+returns c = λ sc. c.literal.ensures ∙ literal_is sc _

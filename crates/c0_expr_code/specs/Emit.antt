@@ -1,0 +1,105 @@
+-- What the emitters say of the code that they append.
+use Rattle.std.specs.Prelude.{◌≡◌, ℕ, ◌*◌, ◌%◌, ◌^◌, Bool, true, false, ◌==◌, if◌then◌else◌, List, [], ◌∷◌, ◌++◌, ◌+◌, length, nat_lt, Option, Some, None}
+use Rattle.mips_table.specs.declared.inst.Inst.{Inst}
+use Rattle.mips_table.specs.declared.inst.Inst.TheVariants.{Lw, Sw, Addiu, Lui, Addu, Sltiu, Sltu, Xori, Mflo, Mfhi, Div, Beq, Bne, J, Sll, Mult}
+use Rattle.c0_expr_code.specs.declared.spot.Spot.{Spot as Near}
+use Rattle.c0_expr_code.specs.declared.spot.Access.{Access}
+use Rattle.c0_expr_code.specs.declared.spot.Access.TheVariants.{Load, Store, Address}
+use Rattle.masm.specs.declared.registers.TheConstants.{SCRATCH}
+use Rattle.c0_expr_code.specs.declared.element.Elements.{Elements}
+use Rattle.c0_tree.specs.Tree.{CExpr}
+use Rattle.c0_meaning.specs.Operators.{Bounds}
+use Rattle.c0_meaning.specs.TypeAt.{type_at}
+use Rattle.c0_expr_code.specs.Scope.{Scope}
+use Rattle.c0_expr_code.specs.Code.{Spot, Made, made, low, high, shift_within, POWERS, Immediate, load_code, element_spot, element_words, length_in, two_code, divisor_code, operand_code, operand_register, bound_code, constant_code}
+
+-- the instruction that does with a place what is asked: it loads from there to a register, stores the register there, or puts its address
+-- into the register
+abbrev pub access_inst : Access → (register base displacement : ℕ) → Inst
+access_inst Load d b k = Lw d b k
+access_inst Store d b k = Sw d b k
+access_inst Address d b k = Addiu d b k
+
+-- a place whose code stands already
+abbrev pub spot_at : Near → Spot
+spot_at x = record { code = []; base = x.base; shift = x.shift }
+
+-- the access to a place that is too far for an immediate
+abbrev pub far_code : (ℕ → ℕ → Inst) → ℕ → Spot → List Inst
+far_code f r x = Lui SCRATCH (high x.shift) ∷ Addu r x.base SCRATCH ∷ f r (low x.shift) ∷ []
+
+-- what is known of elements of so many words, for the code that multiplies by them
+abbrev pub HasWords : Elements → ℕ → Type 0
+HasWords x w = (x.shift ≡ shift_within POWERS w) × (x.bytes ≡ 4 * w % 2 ^ 32)
+
+-- the code of an operator with a constant, where there is such code
+abbrev pub code_with : Immediate → (d q : ℕ) → List Inst
+code_with (Some f) d q = f d q
+code_with None d q = []
+
+-- whether there is such code
+abbrev pub is_immediate : Immediate → Bool
+is_immediate (Some f) = true
+is_immediate None = false
+
+-- the instruction that tells whether a register is 0, or whether it isn't
+abbrev pub zero_test : Bool → (d q : ℕ) → Inst
+zero_test true d q = Sltiu d q 1
+zero_test false d q = Sltu d 0 q
+
+-- whether a register is a constant, or whether it isn't
+abbrev pub equality_code : Bool → (k d q : ℕ) → List Inst
+equality_code b k d q = if k == 0 then zero_test b d q ∷ [] else Xori d q k ∷ zero_test b d d ∷ []
+
+-- the instruction that takes the quotient, or else the remainder
+abbrev pub taken_inst : Bool → ℕ → Inst
+taken_inst true d = Mflo d
+taken_inst false d = Mfhi d
+
+-- a place whose code stands already is another place
+abbrev pub IsSpot : Near → Spot → Type 0
+IsSpot x y = (x.base ≡ y.base) × (x.shift ≡ y.shift)
+
+-- a variable as value: it stands in a register, or is loaded
+abbrev pub held_code : Option ℕ → Spot → (d r : ℕ) → List Inst
+held_code (Some q) x d r = Addu d q 0 ∷ []
+held_code None x d r = load_code d r x
+
+-- the place of an element
+abbrev pub index_spot : Scope → CExpr → CExpr → ℕ → Spot
+index_spot sc e i r =
+    element_spot sc (element_words sc.env.structs (type_at sc.env e)) (length_in (type_at sc.env e)) (made sc i).literal ((made sc e).place r) (made sc i) r
+
+-- the quotient, or else the remainder, of two operands
+abbrev pub quotient_code : Scope → (is_quotient is_sure : Bool) → Made → Made → (d r : ℕ) → List Inst
+quotient_code sc b sure m n d r = two_code (λ q t. divisor_code sc sure t ++ (Div q t ∷ taken_inst b d ∷ [])) m n r
+
+-- the branch over the right side of `||`, or else of `&&`
+abbrev pub logic_skip : Bool → (r k : ℕ) → Inst
+logic_skip true r k = Bne r 0 k
+logic_skip false r k = Beq r 0 k
+
+-- a number below a bound
+abbrev pub below_of : Option ℕ → ℕ → Option ℕ
+below_of None n = None
+below_of (Some c) n = if nat_lt c n then Some c else None
+
+-- the word in a register times the bytes of an element, into the scratch register
+abbrev pub scaled_at : Option ℕ → (bytes q : ℕ) → List Inst
+scaled_at (Some by) bytes q = Sll SCRATCH q by ∷ []
+scaled_at None bytes q = constant_code SCRATCH bytes ++ (Mult q SCRATCH ∷ Mflo SCRATCH ∷ [])
+
+abbrev pub scaled_by : Elements → ℕ → List Inst
+scaled_by x q = scaled_at x.shift x.bytes q
+
+-- the test of an index, and the address of its element
+abbrev pub element_by : Scope → Elements → (q b r : ℕ) → List Inst
+element_by sc x q b r = bound_code q x.count ++ (Bne SCRATCH 0 1 ∷ J (sc.exit Bounds) ∷ (scaled_by x q ++ (Addu r b SCRATCH ∷ [])))
+
+-- the code of an element whose index is tested, behind the code of its array's place
+abbrev pub tested_code : Scope → Elements → (base : ℕ) → Made → ℕ → List Inst
+tested_code sc x base m r = operand_code m (r + 1) ++ element_by sc x (operand_register m (r + 1)) base r
+
+-- the branch over the right side of `||`, or else of `&&`, and that side's code
+abbrev pub right_code : Bool → ℕ → List Inst → List Inst
+right_code b r code = logic_skip b r (length code % 2 ^ 16) ∷ code

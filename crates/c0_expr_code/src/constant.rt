@@ -1,0 +1,60 @@
+// Constants.
+
+ghost use Rattle.std.specs.Prelude.{◌≡◌, ◌/◌, ◌%◌, ◌^◌, ◌<◌, ◌++◌, ◌∷◌, [], map, OnOk};
+ghost use Rattle.mips_table.specs.declared.inst.Inst.TheVariants.{Lui, Ori};
+ghost use Rattle.mips_table.specs.Encoding.{encoding};
+ghost use Rattle.c0_expr_code.specs.Code.{constant_code};
+
+use crate::word::{emit, is_near, low};
+use mips_table::Inst;
+use std::alloc::AllocError;
+
+/// Appends the code that brings a word into a register.
+pub fn emit_constant(code: &mut Vec<u32>, target: u32, word: u32) -> Result<(), AllocError>
+    requires { target < 32 }
+    ensures { OnOk result (code.new.items ≡ code.old.items ++ map encoding (constant_code target word)) }
+{
+    if word < 0x1_0000 {
+        emit(
+            code,
+            Inst::Ori {
+                rt: target,
+                rs: 0,
+                imm: word,
+            },
+        )
+    } else if is_near(word) {
+        emit(
+            code,
+            Inst::Addiu {
+                rt: target,
+                rs: 0,
+                imm: low(word),
+            },
+        )
+    } else {
+        emit_halves(code, target, word)
+    }
+}
+
+// The two halves of a word.
+fn emit_halves(code: &mut Vec<u32>, target: u32, word: u32) -> Result<(), AllocError>
+    requires { target < 32 }
+    ensures { OnOk result (code.new.items ≡ code.old.items ++ map encoding (Lui target (word / 2 ^ 16) ∷ Ori target target (word % 2 ^ 16) ∷ [])) }
+{
+    emit(
+        code,
+        Inst::Lui {
+            rt: target,
+            imm: word / 0x1_0000,
+        },
+    )?;
+    emit(
+        code,
+        Inst::Ori {
+            rt: target,
+            rs: target,
+            imm: low(word),
+        },
+    )
+}

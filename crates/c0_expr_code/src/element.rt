@@ -1,0 +1,145 @@
+// Elements of arrays.
+
+ghost use Rattle.std.specs.Prelude.{◌≡◌, ◌*◌, ◌/◌, ◌%◌, ◌^◌, ◌<◌, ◌++◌, ◌∷◌, [], map, IfSome, OnOk};
+ghost use Rattle.mips_table.specs.declared.inst.Inst.TheVariants.{Bne, J};
+ghost use Rattle.mips_table.specs.Encoding.{encoding};
+ghost use Rattle.c0_expr_code.specs.Scene.{scope_in};
+ghost use Rattle.c0_expr_code.specs.Code.{bound_code, shift_within, POWERS};
+ghost use Rattle.c0_expr_code.specs.Emit.{element_by, scaled_by};
+
+use crate::constant::emit_constant;
+use crate::scene::Scene;
+use crate::word::emit;
+use masm::registers::SCRATCH;
+use mips_table::Inst;
+use std::alloc::AllocError;
+
+/// An array's elements.
+#[derive(Clone, Copy, Debug)]
+pub struct Elements {
+    /// How many there are.
+    pub count: u32,
+    /// The shift that multiplies by the bytes of one, where there is one.
+    pub shift: Option<u32>,
+    /// The bytes of one, modulo 2^32.
+    pub bytes: u32,
+}
+
+/// The shift that multiplies by the bytes of so many words, where the words are a power of two up to 1,024.
+pub fn shift_of(words: u32) -> Option<u32>
+    ensures value { result ≡ shift_within POWERS words }
+    ensures small { IfSome result (λ by. by < 32) }
+{
+    match words {
+        1 => Some(2),
+        2 => Some(3),
+        4 => Some(4),
+        8 => Some(5),
+        16 => Some(6),
+        32 => Some(7),
+        64 => Some(8),
+        128 => Some(9),
+        256 => Some(10),
+        512 => Some(11),
+        1024 => Some(12),
+        _ => None,
+    }
+}
+
+// Whether an index is below a length, into the scratch register.
+fn emit_bound(code: &mut Vec<u32>, index: u32, count: u32) -> Result<(), AllocError>
+    requires { index < 32 }
+    ensures { OnOk result (code.new.items ≡ code.old.items ++ map encoding (bound_code index count)) }
+{
+    if count < 0x8000 {
+        return emit(
+            code,
+            Inst::Sltiu {
+                rt: SCRATCH,
+                rs: index,
+                imm: count,
+            },
+        );
+    }
+    emit_constant(code, SCRATCH, count)?;
+    emit(
+        code,
+        Inst::Sltu {
+            rd: SCRATCH,
+            rs: index,
+            rt: SCRATCH,
+        },
+    )
+}
+
+// The bytes before the element of an index, into the scratch register.
+fn emit_scaled(code: &mut Vec<u32>, index: u32, elements: Elements) -> Result<(), AllocError>
+    requires index { index < 32 }
+    requires shift { IfSome elements.shift (λ by. by < 32) }
+    ensures { OnOk result (code.new.items ≡ code.old.items ++ map encoding (scaled_by elements index)) }
+{
+    if let Some(by) = elements.shift {
+        return emit(
+            code,
+            Inst::Sll {
+                rd: SCRATCH,
+                rt: index,
+                sa: by,
+            },
+        );
+    }
+    emit_constant(code, SCRATCH, elements.bytes)?;
+    emit(
+        code,
+        Inst::Mult {
+            rs: index,
+            rt: SCRATCH,
+        },
+    )?;
+    emit(code, Inst::Mflo { rd: SCRATCH })
+}
+
+/// Appends a jump to an exit, and a branch over it where a register isn't 0.
+pub fn emit_guard(code: &mut Vec<u32>, register: u32, exit: u32) -> Result<(), AllocError>
+    requires register { register < 32 }
+    requires exit { exit < 2 ^ 28 }
+    ensures { OnOk result (code.new.items ≡ code.old.items ++ map encoding (Bne register 0 1 ∷ J (exit / 4) ∷ [])) }
+{
+    emit(
+        code,
+        Inst::Bne {
+            rs: register,
+            rt: 0,
+            imm: 1,
+        },
+    )?;
+    emit(code, Inst::J { index: exit / 4 })
+}
+
+/// Appends the test of an index, and the sum of a base and the bytes before its element, into a register.
+pub fn emit_element(
+    code: &mut Vec<u32>,
+    scene: &Scene<'_>,
+    target: u32,
+    base: u32,
+    index: u32,
+    elements: Elements,
+) -> Result<(), AllocError>
+    requires target { target < 32 }
+    requires base { base < 32 }
+    requires index { index < 32 }
+    requires shift { IfSome elements.shift (λ by. by < 32) }
+    ensures { OnOk result (code.new.items ≡ code.old.items ++ map encoding (element_by (scope_in scene.now) elements index base target)) }
+{
+    emit_bound(code, index, elements.count)?;
+    emit_guard(code, SCRATCH, scene.faults[1])?;
+    emit_scaled(code, index, elements)?;
+    emit(
+        code,
+        Inst::Addu {
+            rd: target,
+            rs: base,
+            rt: SCRATCH,
+        },
+    )
+}

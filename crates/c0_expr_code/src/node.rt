@@ -1,0 +1,556 @@
+// Expressions.
+
+ghost use Rattle.std.specs.Prelude.{◌≡◌, ◌+◌, ◌≤◌, ◌<◌, ◌++◌, map, true, IfOk, IfSome, OnOk};
+ghost use Rattle.mips_table.specs.Encoding.{InRange, encoding};
+ghost use Rattle.c0_tree.specs.Size.{need, binary_need};
+ghost use Rattle.c0_tree.specs.View.{expr_view};
+ghost use Rattle.c0_meaning.specs.Form.{found_view};
+ghost use Rattle.c0_meaning.specs.Sound.{shapes};
+ghost use Rattle.c0_meaning.specs.TypeAt as types;
+ghost use Rattle.c0_tree.specs.declared.tree.BinaryOp.TheVariants.{Add};
+ghost use Rattle.c0_expr_code.specs.Code as spec;
+ghost use Rattle.c0_expr_code.specs.Code.{binary_made, immediate, immediate_of, logic_code, made, negative_made, on_spot, one_code, operand_code};
+ghost use Rattle.c0_expr_code.specs.Code.{operand_register, operator_code, operator_made, sum_made, target_spot, to_code, two_code, unary_made, value_code};
+ghost use Rattle.c0_expr_code.specs.Emit.{IsSpot, access_inst, code_with, held_code, index_spot, is_immediate, logic_skip, quotient_code, right_code, tested_code};
+ghost use Rattle.c0_expr_code.specs.Scene.{HasNumbers, scope_in, unit_in};
+
+use crate::constant::emit_constant;
+use crate::element::{Elements, emit_element, emit_guard};
+use crate::known::{constant_below, known_of, literal_of, stands_in};
+use crate::operator::{emit_division, emit_operator, emit_with_constant, takes_constant};
+use crate::patching::patch;
+use crate::scene::Scene;
+use crate::spot::{Access, Spot, emit_access};
+use crate::variable::{elements_of, field_bytes, target_of, variable_spot};
+use crate::word::emit;
+use c0_meaning::form::Found;
+use c0_meaning::type_at::type_at;
+use c0_tree::{BinaryOp, Expr, UnaryOp};
+use mips_table::Inst;
+use std::alloc::AllocError;
+
+// The type of an expression.
+fn type_of<'a>(scene: &Scene<'a>, expr: &Expr) -> Found<'a>
+    ensures gives { found_view result ≡ types.type_at (scope_in scene.now).env (expr_view expr.now) }
+    ensures resolved { types.IsFoundResolved (shapes (unit_in scene.now)) result }
+{
+    type_at(scene.layout.unit, scene.function, expr)
+}
+
+/// Appends the code of an operand, with free registers from `free` on, and answers the register where it stands.
+#[cycle(node)]
+pub fn emit_operand(
+    scene: &Scene<'_>,
+    expr: &Expr,
+    free: u32,
+    code: &mut Vec<u32>,
+) -> Result<u32, AllocError>
+    requires room { free + need (expr_view expr.now) ≤ 20 }
+    requires numbers { HasNumbers (scope_in scene.now).env (expr_view expr.now) }
+    ensures code { OnOk result (code.new.items ≡ code.old.items ++ map encoding (operand_code (made (scope_in scene.now) (expr_view expr.now)) free)) }
+    ensures register { IfOk result (λ q. q ≡ operand_register (made (scope_in scene.now) (expr_view expr.now)) free) }
+    ensures small { IfOk result (λ q. q < 32) }
+{
+    if let Some(register) = stands_in(scene, expr) {
+        return Ok(register);
+    }
+    emit_value(scene, expr, free, free, code)?;
+    Ok(free)
+}
+
+/// Appends the code of a place, with free registers from `free` on, and answers where the place is then; no code and no place where the
+/// expression is none.
+#[cycle(node)]
+pub fn emit_spot(
+    scene: &Scene<'_>,
+    expr: &Expr,
+    free: u32,
+    code: &mut Vec<u32>,
+) -> Result<Spot, AllocError>
+    requires room { free + need (expr_view expr.now) ≤ 20 }
+    requires numbers { HasNumbers (scope_in scene.now).env (expr_view expr.now) }
+    ensures code { OnOk result (code.new.items ≡ code.old.items ++ map encoding ((made (scope_in scene.now) (expr_view expr.now)).place free).code) }
+    ensures place { IfOk result (λ x. IsSpot x ((made (scope_in scene.now) (expr_view expr.now)).place free)) }
+    ensures small { IfOk result (λ x. x.base < 32) }
+{
+    match expr {
+        Expr::Var(name) => Ok(variable_spot(scene, name.kind, name.number)),
+        Expr::Field(_, part, name) => {
+            let spot = emit_spot(scene, part, free, code)?;
+            Ok(spot.moved(field_bytes(scene, type_of(scene, part), name.number)))
+        }
+        Expr::Arrow(_, part, name) => {
+            let spot = emit_target(scene, part, free, code)?;
+            let found = target_of(type_of(scene, part));
+            Ok(spot.moved(field_bytes(scene, found, name.number)))
+        }
+        Expr::Index(_, part, index) => emit_index(scene, part, index, free, code),
+        Expr::Deref(_, part) => emit_target(scene, part, free, code),
+        Expr::Num(_, _) => Ok(Spot { base: 0, shift: 0 }),
+        Expr::True(_) => Ok(Spot { base: 0, shift: 0 }),
+        Expr::False(_) => Ok(Spot { base: 0, shift: 0 }),
+        Expr::Null(_) => Ok(Spot { base: 0, shift: 0 }),
+        Expr::AddressOf(_, _) => Ok(Spot { base: 0, shift: 0 }),
+        Expr::Unary(_, _, _) => Ok(Spot { base: 0, shift: 0 }),
+        Expr::Binary(_, _, _, _) => Ok(Spot { base: 0, shift: 0 }),
+    }
+}
+
+// Appends the code of what a pointer points to.
+#[cycle(node)]
+fn emit_target(
+    scene: &Scene<'_>,
+    part: &Expr,
+    free: u32,
+    code: &mut Vec<u32>,
+) -> Result<Spot, AllocError>
+    requires room { free + need (expr_view part.now) ≤ 20 }
+    requires numbers { HasNumbers (scope_in scene.now).env (expr_view part.now) }
+    ensures code { OnOk result (code.new.items ≡ code.old.items ++ map encoding (target_spot (scope_in scene.now) (made (scope_in scene.now) (expr_view part.now)) free).code) }
+    ensures place { IfOk result (λ x. IsSpot x (target_spot (scope_in scene.now) (made (scope_in scene.now) (expr_view part.now)) free)) }
+    ensures small { IfOk result (λ x. x.base < 32) }
+{
+    let base = emit_operand(scene, part, free, code)?;
+    emit_guard(code, base, scene.faults[0])?;
+    Ok(Spot { base, shift: 0 })
+}
+
+// Appends the code of the place of an element.
+#[cycle(node)]
+fn emit_index(
+    scene: &Scene<'_>,
+    part: &Expr,
+    index: &Expr,
+    free: u32,
+    code: &mut Vec<u32>,
+) -> Result<Spot, AllocError>
+    requires first { free + need (expr_view part.now) ≤ 20 }
+    requires second { free + 1 + need (expr_view index.now) ≤ 20 }
+    requires part { HasNumbers (scope_in scene.now).env (expr_view part.now) }
+    requires index { HasNumbers (scope_in scene.now).env (expr_view index.now) }
+    ensures code { OnOk result (code.new.items ≡ code.old.items ++ map encoding (index_spot (scope_in scene.now) (expr_view part.now) (expr_view index.now) free).code) }
+    ensures place { IfOk result (λ x. IsSpot x (index_spot (scope_in scene.now) (expr_view part.now) (expr_view index.now) free)) }
+    ensures small { IfOk result (λ x. x.base < 32) }
+{
+    let spot = emit_spot(scene, part, free, code)?;
+    let elements = elements_of(scene, type_of(scene, part));
+    match constant_below(index, elements.count) {
+        Some(number) => Ok(spot.moved(elements.bytes.wrapping_mul(number))),
+        None => emit_tested(scene, spot, elements, index, free, code),
+    }
+}
+
+// Appends the code of an element whose index is tested, behind the code of its array's place.
+#[cycle(node)]
+fn emit_tested(
+    scene: &Scene<'_>,
+    spot: Spot,
+    elements: Elements,
+    index: &Expr,
+    free: u32,
+    code: &mut Vec<u32>,
+) -> Result<Spot, AllocError>
+    requires room { free + 1 + need (expr_view index.now) ≤ 20 }
+    requires numbers { HasNumbers (scope_in scene.now).env (expr_view index.now) }
+    requires base { spot.base < 32 }
+    requires shift { IfSome elements.shift (λ by. by < 32) }
+    ensures code { OnOk result (code.new.items ≡ code.old.items ++ map encoding (tested_code (scope_in scene.now) elements spot.base (made (scope_in scene.now) (expr_view index.now)) free)) }
+    ensures base { IfOk result (λ x. x.base ≡ free) }
+    ensures shift { IfOk result (λ x. x.shift ≡ spot.shift) }
+{
+    let register = emit_operand(scene, index, free + 1, code)?;
+    emit_element(code, scene, free, spot.base, register, elements)?;
+    Ok(Spot {
+        base: free,
+        shift: spot.shift,
+    })
+}
+
+/// Appends the code of a value, into register `target`, with free registers from `free` on.
+#[cycle(node)]
+pub fn emit_value(
+    scene: &Scene<'_>,
+    expr: &Expr,
+    target: u32,
+    free: u32,
+    code: &mut Vec<u32>,
+) -> Result<(), AllocError>
+    requires room { free + need (expr_view expr.now) ≤ 20 }
+    requires target { target < 32 }
+    requires numbers { HasNumbers (scope_in scene.now).env (expr_view expr.now) }
+    ensures { OnOk result (code.new.items ≡ code.old.items ++ map encoding (value_code (scope_in scene.now) (expr_view expr.now) target free)) }
+{
+    match expr {
+        Expr::Num(_, number) => emit_constant(code, target, *number),
+        Expr::True(_) => emit_constant(code, target, 1),
+        Expr::False(_) => emit_constant(code, target, 0),
+        Expr::Null(_) => emit_constant(code, target, 0),
+        Expr::Var(_) => emit_variable(scene, expr, target, free, code),
+        Expr::Field(_, _, _) => emit_held(scene, expr, Access::Load, target, free, code),
+        Expr::Arrow(_, _, _) => emit_held(scene, expr, Access::Load, target, free, code),
+        Expr::Index(_, _, _) => emit_held(scene, expr, Access::Load, target, free, code),
+        Expr::Deref(_, _) => emit_held(scene, expr, Access::Load, target, free, code),
+        Expr::AddressOf(_, part) => emit_held(scene, part, Access::Address, target, free, code),
+        Expr::Unary(_, op, part) => emit_unary(scene, *op, part, target, free, code),
+        Expr::Binary(_, op, left, right) => {
+            emit_binary(scene, *op, left, right, target, free, code)
+        }
+    }
+}
+
+// Appends the code of a place, and then an access to it.
+#[cycle(node)]
+fn emit_held(
+    scene: &Scene<'_>,
+    expr: &Expr,
+    access: Access,
+    target: u32,
+    free: u32,
+    code: &mut Vec<u32>,
+) -> Result<(), AllocError>
+    requires room { free + need (expr_view expr.now) ≤ 20 }
+    requires target { target < 32 }
+    requires numbers { HasNumbers (scope_in scene.now).env (expr_view expr.now) }
+    ensures { OnOk result (code.new.items ≡ code.old.items ++ map encoding (on_spot (access_inst access target) free ((made (scope_in scene.now) (expr_view expr.now)).place free))) }
+{
+    let spot = emit_spot(scene, expr, free, code)?;
+    emit_access(code, access, target, free, spot)
+}
+
+// Appends the code of a variable as value.
+#[cycle(node)]
+fn emit_variable(
+    scene: &Scene<'_>,
+    expr: &Expr,
+    target: u32,
+    free: u32,
+    code: &mut Vec<u32>,
+) -> Result<(), AllocError>
+    requires room { free + need (expr_view expr.now) ≤ 20 }
+    requires target { target < 32 }
+    requires numbers { HasNumbers (scope_in scene.now).env (expr_view expr.now) }
+    ensures { OnOk result (code.new.items ≡ code.old.items ++ map encoding (held_code (made (scope_in scene.now) (expr_view expr.now)).stands ((made (scope_in scene.now) (expr_view expr.now)).place free) target free)) }
+{
+    if let Some(source) = stands_in(scene, expr) {
+        return emit(
+            code,
+            Inst::Addu {
+                rd: target,
+                rs: source,
+                rt: 0,
+            },
+        );
+    }
+    emit_held(scene, expr, Access::Load, target, free, code)
+}
+
+// Appends the code of an operator before its operand.
+#[cycle(node)]
+fn emit_unary(
+    scene: &Scene<'_>,
+    op: UnaryOp,
+    part: &Expr,
+    target: u32,
+    free: u32,
+    code: &mut Vec<u32>,
+) -> Result<(), AllocError>
+    requires room { free + need (expr_view part.now) ≤ 20 }
+    requires target { target < 32 }
+    requires numbers { HasNumbers (scope_in scene.now).env (expr_view part.now) }
+    ensures { OnOk result (code.new.items ≡ code.old.items ++ map encoding ((unary_made op (made (scope_in scene.now) (expr_view part.now))).value target free)) }
+{
+    match op {
+        UnaryOp::Negate => emit_negative(scene, part, target, free, code),
+        UnaryOp::Not => {
+            let source = emit_operand(scene, part, free, code)?;
+            emit(
+                code,
+                Inst::Xori {
+                    rt: target,
+                    rs: source,
+                    imm: 1,
+                },
+            )
+        }
+    }
+}
+
+// Appends the code of `-`: of a written number it is a constant.
+#[cycle(node)]
+fn emit_negative(
+    scene: &Scene<'_>,
+    part: &Expr,
+    target: u32,
+    free: u32,
+    code: &mut Vec<u32>,
+) -> Result<(), AllocError>
+    requires room { free + need (expr_view part.now) ≤ 20 }
+    requires target { target < 32 }
+    requires numbers { HasNumbers (scope_in scene.now).env (expr_view part.now) }
+    ensures { OnOk result (code.new.items ≡ code.old.items ++ map encoding ((negative_made (made (scope_in scene.now) (expr_view part.now)).literal (made (scope_in scene.now) (expr_view part.now))).value target free)) }
+{
+    if let Some(number) = literal_of(part) {
+        return emit_constant(code, target, number.wrapping_neg());
+    }
+    let source = emit_operand(scene, part, free, code)?;
+    emit(
+        code,
+        Inst::Subu {
+            rd: target,
+            rs: 0,
+            rt: source,
+        },
+    )
+}
+
+// Appends the code of an operator between its operands.
+#[cycle(node)]
+fn emit_binary(
+    scene: &Scene<'_>,
+    op: BinaryOp,
+    left: &Expr,
+    right: &Expr,
+    target: u32,
+    free: u32,
+    code: &mut Vec<u32>,
+) -> Result<(), AllocError>
+    requires room { free + binary_need op (need (expr_view left.now)) (need (expr_view right.now)) ≤ 20 }
+    requires target { target < 32 }
+    requires left { HasNumbers (scope_in scene.now).env (expr_view left.now) }
+    requires right { HasNumbers (scope_in scene.now).env (expr_view right.now) }
+    ensures { OnOk result (code.new.items ≡ code.old.items ++ map encoding ((binary_made (scope_in scene.now) op (made (scope_in scene.now) (expr_view left.now)) (made (scope_in scene.now) (expr_view right.now))).value target free)) }
+{
+    match op {
+        BinaryOp::Add => emit_addition(scene, left, right, target, free, code),
+        BinaryOp::Div => emit_quotient(scene, true, left, right, target, free, code),
+        BinaryOp::Rem => emit_quotient(scene, false, left, right, target, free, code),
+        BinaryOp::And => emit_logic(scene, false, left, right, target, free, code),
+        BinaryOp::Or => emit_logic(scene, true, left, right, target, free, code),
+        BinaryOp::Sub => emit_plain(scene, op, left, right, target, free, code),
+        BinaryOp::Mul => emit_plain(scene, op, left, right, target, free, code),
+        BinaryOp::Lt => emit_plain(scene, op, left, right, target, free, code),
+        BinaryOp::Le => emit_plain(scene, op, left, right, target, free, code),
+        BinaryOp::Gt => emit_plain(scene, op, left, right, target, free, code),
+        BinaryOp::Ge => emit_plain(scene, op, left, right, target, free, code),
+        BinaryOp::Eq => emit_plain(scene, op, left, right, target, free, code),
+        BinaryOp::Ne => emit_plain(scene, op, left, right, target, free, code),
+    }
+}
+
+// Appends the code of an operand, and of an operator between it and a constant.
+#[cycle(node)]
+fn emit_constant_side(
+    scene: &Scene<'_>,
+    op: BinaryOp,
+    side: &Expr,
+    word: u32,
+    target: u32,
+    free: u32,
+    code: &mut Vec<u32>,
+) -> Result<(), AllocError>
+    requires room { free + need (expr_view side.now) ≤ 20 }
+    requires target { target < 32 }
+    requires numbers { HasNumbers (scope_in scene.now).env (expr_view side.now) }
+    requires takes { is_immediate (immediate op word) ≡ true }
+    ensures { OnOk result (code.new.items ≡ code.old.items ++ map encoding (one_code (λ q. code_with (immediate op word) target q) (made (scope_in scene.now) (expr_view side.now)) free)) }
+{
+    let source = emit_operand(scene, side, free, code)?;
+    emit_with_constant(code, op, target, source, word)
+}
+
+// Appends the code of both operands, and of an operator between them.
+#[cycle(node)]
+fn emit_both_sides(
+    scene: &Scene<'_>,
+    op: BinaryOp,
+    left: &Expr,
+    right: &Expr,
+    target: u32,
+    free: u32,
+    code: &mut Vec<u32>,
+) -> Result<(), AllocError>
+    requires first { free + need (expr_view left.now) ≤ 20 }
+    requires second { free + 1 + need (expr_view right.now) ≤ 20 }
+    requires target { target < 32 }
+    requires left { HasNumbers (scope_in scene.now).env (expr_view left.now) }
+    requires right { HasNumbers (scope_in scene.now).env (expr_view right.now) }
+    ensures { OnOk result (code.new.items ≡ code.old.items ++ map encoding (two_code (λ q t. operator_code op target q t) (made (scope_in scene.now) (expr_view left.now)) (made (scope_in scene.now) (expr_view right.now)) free)) }
+{
+    let first = emit_operand(scene, left, free, code)?;
+    let second = emit_operand(scene, right, free + 1, code)?;
+    emit_operator(code, op, target, first, second)
+}
+
+// Appends the code of an operator whose right side may be a constant.
+#[cycle(node)]
+fn emit_plain(
+    scene: &Scene<'_>,
+    op: BinaryOp,
+    left: &Expr,
+    right: &Expr,
+    target: u32,
+    free: u32,
+    code: &mut Vec<u32>,
+) -> Result<(), AllocError>
+    requires first { free + need (expr_view left.now) ≤ 20 }
+    requires second { free + 1 + need (expr_view right.now) ≤ 20 }
+    requires target { target < 32 }
+    requires left { HasNumbers (scope_in scene.now).env (expr_view left.now) }
+    requires right { HasNumbers (scope_in scene.now).env (expr_view right.now) }
+    ensures { OnOk result (code.new.items ≡ code.old.items ++ map encoding ((operator_made (immediate_of op (made (scope_in scene.now) (expr_view right.now)).known) op (made (scope_in scene.now) (expr_view left.now)) (made (scope_in scene.now) (expr_view right.now))).value target free)) }
+{
+    if let Some(word) = known_of(right) {
+        if takes_constant(op, word) {
+            return emit_constant_side(scene, op, left, word, target, free, code);
+        }
+    }
+    emit_both_sides(scene, op, left, right, target, free, code)
+}
+
+// Appends the code of a sum, of which either side may be a constant.
+#[cycle(node)]
+fn emit_addition(
+    scene: &Scene<'_>,
+    left: &Expr,
+    right: &Expr,
+    target: u32,
+    free: u32,
+    code: &mut Vec<u32>,
+) -> Result<(), AllocError>
+    requires first { free + need (expr_view left.now) ≤ 20 }
+    requires second { free + 1 + need (expr_view right.now) ≤ 20 }
+    requires target { target < 32 }
+    requires left { HasNumbers (scope_in scene.now).env (expr_view left.now) }
+    requires right { HasNumbers (scope_in scene.now).env (expr_view right.now) }
+    ensures { OnOk result (code.new.items ≡ code.old.items ++ map encoding ((sum_made (immediate_of Add (made (scope_in scene.now) (expr_view right.now)).known) (immediate_of Add (made (scope_in scene.now) (expr_view left.now)).known) (made (scope_in scene.now) (expr_view left.now)) (made (scope_in scene.now) (expr_view right.now))).value target free)) }
+{
+    if let Some(word) = known_of(right) {
+        if takes_constant(BinaryOp::Add, word) {
+            return emit_constant_side(scene, BinaryOp::Add, left, word, target, free, code);
+        }
+    }
+    if let Some(word) = known_of(left) {
+        if takes_constant(BinaryOp::Add, word) {
+            return emit_constant_side(scene, BinaryOp::Add, right, word, target, free, code);
+        }
+    }
+    emit_both_sides(scene, BinaryOp::Add, left, right, target, free, code)
+}
+
+// Whether a known word is other than 0.
+fn is_sure(known: Option<u32>) -> bool
+    ensures { result ≡ spec.is_sure known }
+{
+    match known {
+        Some(word) => word != 0,
+        None => false,
+    }
+}
+
+// Appends the code of `/`, or else of `%`.
+#[cycle(node)]
+fn emit_quotient(
+    scene: &Scene<'_>,
+    is_quotient: bool,
+    left: &Expr,
+    right: &Expr,
+    target: u32,
+    free: u32,
+    code: &mut Vec<u32>,
+) -> Result<(), AllocError>
+    requires first { free + need (expr_view left.now) ≤ 20 }
+    requires second { free + 1 + need (expr_view right.now) ≤ 20 }
+    requires target { target < 32 }
+    requires left { HasNumbers (scope_in scene.now).env (expr_view left.now) }
+    requires right { HasNumbers (scope_in scene.now).env (expr_view right.now) }
+    ensures { OnOk result (code.new.items ≡ code.old.items ++ map encoding (quotient_code (scope_in scene.now) is_quotient (spec.is_sure (made (scope_in scene.now) (expr_view right.now)).known) (made (scope_in scene.now) (expr_view left.now)) (made (scope_in scene.now) (expr_view right.now)) target free)) }
+{
+    let first = emit_operand(scene, left, free, code)?;
+    let second = emit_operand(scene, right, free + 1, code)?;
+    let sure = is_sure(known_of(right));
+    emit_division(code, scene, is_quotient, sure, target, first, second)
+}
+
+// The branch over the right side of `||`, or else of `&&`, which leads nowhere yet.
+fn skip(is_or: bool, register: u32) -> Inst
+    requires { register < 32 }
+    ensures value { result ≡ logic_skip is_or register 0 }
+    ensures range { InRange result }
+{
+    if is_or {
+        Inst::Bne {
+            rs: register,
+            rt: 0,
+            imm: 0,
+        }
+    } else {
+        Inst::Beq {
+            rs: register,
+            rt: 0,
+            imm: 0,
+        }
+    }
+}
+
+// Appends a copy of a register, unless it is that register.
+fn emit_to(code: &mut Vec<u32>, target: u32, source: u32) -> Result<(), AllocError>
+    requires target { target < 32 }
+    requires source { source < 32 }
+    ensures { OnOk result (code.new.items ≡ code.old.items ++ map encoding (to_code target source)) }
+{
+    if target == source {
+        return Ok(());
+    }
+    emit(
+        code,
+        Inst::Addu {
+            rd: target,
+            rs: source,
+            rt: 0,
+        },
+    )
+}
+
+// Appends the branch over the right side of `||`, or else of `&&`, and that side; the branch gets its distance when the side is there.
+#[cycle(node)]
+fn emit_right(
+    scene: &Scene<'_>,
+    is_or: bool,
+    right: &Expr,
+    free: u32,
+    code: &mut Vec<u32>,
+) -> Result<(), AllocError>
+    requires room { free + need (expr_view right.now) ≤ 20 }
+    requires numbers { HasNumbers (scope_in scene.now).env (expr_view right.now) }
+    ensures { OnOk result (code.new.items ≡ code.old.items ++ map encoding (right_code is_or free (value_code (scope_in scene.now) (expr_view right.now) free free))) }
+{
+    let at = code.len();
+    emit(code, skip(is_or, free))?;
+    emit_value(scene, right, free, free, code)?;
+    let end = code.len();
+    patch(code, at, end);
+    Ok(())
+}
+
+// Appends the code of `||`, or else of `&&`.
+#[cycle(node)]
+fn emit_logic(
+    scene: &Scene<'_>,
+    is_or: bool,
+    left: &Expr,
+    right: &Expr,
+    target: u32,
+    free: u32,
+    code: &mut Vec<u32>,
+) -> Result<(), AllocError>
+    requires first { free + need (expr_view left.now) ≤ 20 }
+    requires second { free + need (expr_view right.now) ≤ 20 }
+    requires target { target < 32 }
+    requires left { HasNumbers (scope_in scene.now).env (expr_view left.now) }
+    requires right { HasNumbers (scope_in scene.now).env (expr_view right.now) }
+    ensures { OnOk result (code.new.items ≡ code.old.items ++ map encoding (logic_code (λ k. logic_skip is_or free k) (made (scope_in scene.now) (expr_view left.now)) (made (scope_in scene.now) (expr_view right.now)) target free)) }
+{
+    emit_value(scene, left, free, free, code)?;
+    emit_right(scene, is_or, right, free, code)?;
+    emit_to(code, target, free)
+}

@@ -1,0 +1,65 @@
+// What the code of a function is made for.
+
+ghost use Rattle.std.specs.Prelude.{◌≡◌, ◌<◌, ◌+◌, ◌*◌, ◌%◌, ◌^◌, Some, length, map, slice_get, slice_index, IfOk};
+ghost use Rattle.c0_tree.specs.Tree.{CFunction};
+ghost use Rattle.c0_tree.specs.View.{unit_view};
+ghost use Rattle.masm.specs.Places.{ArePlaces};
+ghost use Rattle.c0_meaning.specs.Limits.{frame as frame_of};
+ghost use Rattle.c0_meaning.specs.Offsets.{offsets};
+ghost use Rattle.c0_meaning.specs.Sound.{shapes};
+ghost use Rattle.c0_meaning.specs.TypedState.{variable_types};
+ghost use Rattle.c0_expr_code.specs.Scope as spec;
+
+use crate::layout::Layout;
+use crate::leaf::keeps_registers;
+use crate::word::wrapped;
+use c0_meaning::{frame_words, variable_offsets};
+use masm::registers::Places;
+use std::alloc::{AllocError, Global};
+
+/// A function, and where its variables stand.
+#[derive(Drop)]
+pub struct Scene<'a> {
+    /// The unit's layout.
+    pub layout: &'a Layout<'a>,
+    /// The function's number.
+    pub function: u32,
+    /// The words before each variable.
+    pub variables: Vec<u64>,
+    /// The words of its frame.
+    pub frame: u64,
+    /// Whether its variables stand in registers.
+    pub in_registers: bool,
+    /// The addresses of the exits of faults, in the order of their power words.
+    pub faults: [u32; 4],
+    ghost there: { function < length (unit_view layout.now.unit.now).functions },
+    ghost variables_are: { (f : CFunction) → slice_get (unit_view layout.now.unit.now).functions function ≡ Some f → variables.items ≡ offsets (shapes (unit_view layout.now.unit.now)) (variable_types f) },
+    ghost exits: { (slice_index faults 0 < 2 ^ 28) × (slice_index faults 1 < 2 ^ 28) × (slice_index faults 2 < 2 ^ 28) × (slice_index faults 3 < 2 ^ 28) },
+}
+
+impl<'a> Scene<'a> {
+    /// The scene of the function of a number.
+    pub fn new(
+        alloc: Global,
+        layout: &'a Layout<'a>,
+        function: u32,
+        places: &Places,
+    ) -> Result<Scene<'a>, AllocError>
+        requires function { function < length (unit_view layout.now.unit.now).functions }
+        requires places { ArePlaces places.now }
+        ensures layout { IfOk result (λ x. x.layout.now ≡ layout.now) }
+        ensures function { IfOk result (λ x. x.function ≡ function) }
+        ensures faults { IfOk result (λ x. x.faults ≡ places.now.faults) }
+        ensures frame { (f : CFunction) → slice_get (unit_view layout.now.unit.now).functions function ≡ Some f → IfOk result (λ x. x.frame ≡ frame_of (shapes (unit_view layout.now.unit.now)) f) }
+        ensures registers { (f : CFunction) → slice_get (unit_view layout.now.unit.now).functions function ≡ Some f → IfOk result (λ x. x.in_registers ≡ spec.keeps_registers f) }
+    {
+        Ok(Scene {
+            layout,
+            function,
+            variables: variable_offsets(alloc, layout.unit, function)?,
+            frame: frame_words(layout.unit, function),
+            in_registers: keeps_registers(&layout.unit.unit().functions[function as usize]),
+            faults: places.faults,
+        })
+    }
+}

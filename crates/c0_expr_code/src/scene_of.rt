@@ -1,0 +1,27 @@
+// The scene of a function.
+
+ghost use Rattle.std.specs.Prelude.{◌≡◌, ◌<◌, Some, length, slice_get, IfOk};
+ghost use Rattle.c0_tree.specs.Tree.{CFunction};
+ghost use Rattle.c0_tree.specs.View.{unit_view};
+ghost use Rattle.masm.specs.Places.{ArePlaces};
+ghost use Rattle.c0_expr_code.specs.Scene.{scope_in};
+ghost use Rattle.c0_expr_code.specs.Scope.{scope_of};
+
+use crate::layout::Layout;
+use crate::scene::Scene;
+use masm::registers::Places;
+use std::alloc::{AllocError, Global};
+
+/// The scene of the function of a number, whose scope is that of the function.
+pub fn begun_scene<'a>(
+    alloc: Global,
+    layout: &'a Layout<'a>,
+    function: u32,
+    places: &Places,
+) -> Result<Scene<'a>, AllocError>
+    requires function { function < length (unit_view layout.now.unit.now).functions }
+    requires places { ArePlaces places.now }
+    ensures { (f : CFunction) → slice_get (unit_view layout.now.unit.now).functions function ≡ Some f → IfOk result (λ x. scope_in x ≡ scope_of (unit_view layout.now.unit.now) f places.now) }
+{
+    Scene::new(alloc, layout, function, places)
+}

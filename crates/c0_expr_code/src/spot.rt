@@ -1,0 +1,134 @@
+// Places: a register and bytes from it on.
+
+ghost use Rattle.std.specs.Prelude.{◌≡◌, ◌+◌, ◌%◌, ◌^◌, ◌<◌, ◌++◌, map, OnOk};
+ghost use Rattle.mips_table.specs.Encoding.{InRange, encoding};
+ghost use Rattle.c0_expr_code.specs.Code.{high, on_spot};
+ghost use Rattle.c0_expr_code.specs.Emit.{access_inst, far_code, spot_at};
+
+use crate::word::{emit, is_near, low};
+use masm::registers::SCRATCH;
+use mips_table::Inst;
+use std::alloc::AllocError;
+
+/// A place: its address is that in the register `base`, and `shift` bytes, modulo 2^32.
+#[derive(Clone, Copy, Debug)]
+pub struct Spot {
+    /// The register.
+    pub base: u32,
+    /// The bytes.
+    pub shift: u32,
+}
+
+/// What is done with a place.
+#[derive(Clone, Copy, Debug)]
+pub enum Access {
+    /// Its word goes to a register.
+    Load,
+    /// A register's word goes there.
+    Store,
+    /// Its address goes to a register.
+    Address,
+}
+
+impl Spot {
+    /// The place so many bytes behind, modulo 2^32.
+    pub fn moved(self, bytes: u32) -> Spot
+        ensures base { result.base ≡ self.base }
+        ensures shift { result.shift ≡ (self.shift + bytes) % 2 ^ 32 }
+    {
+        Spot {
+            base: self.base,
+            shift: self.shift.wrapping_add(bytes),
+        }
+    }
+}
+
+// The instruction of an access.
+fn access_of(access: Access, register: u32, base: u32, imm: u32) -> Inst
+    requires register { register < 32 }
+    requires base { base < 32 }
+    requires imm { imm < 2 ^ 16 }
+    ensures value { result ≡ access_inst access register base imm }
+    ensures range { InRange result }
+{
+    match access {
+        Access::Load => Inst::Lw {
+            rt: register,
+            rs: base,
+            imm,
+        },
+        Access::Store => Inst::Sw {
+            rt: register,
+            rs: base,
+            imm,
+        },
+        Access::Address => Inst::Addiu {
+            rt: register,
+            rs: base,
+            imm,
+        },
+    }
+}
+
+// The upper half of a word, to which the lower half is added with its sign.
+fn upper(word: u32) -> u32
+    ensures value { result ≡ high word }
+    ensures small { result < 2 ^ 16 }
+{
+    word.wrapping_add(0x8000) / 0x1_0000
+}
+
+// Appends the access to a place that is too far for an immediate.
+fn emit_far(
+    code: &mut Vec<u32>,
+    access: Access,
+    register: u32,
+    free: u32,
+    spot: Spot,
+) -> Result<(), AllocError>
+    requires register { register < 32 }
+    requires free { free < 32 }
+    requires base { spot.base < 32 }
+    ensures { OnOk result (code.new.items ≡ code.old.items ++ map encoding (far_code (access_inst access register) free (spot_at spot))) }
+{
+    emit(
+        code,
+        Inst::Lui {
+            rt: SCRATCH,
+            imm: upper(spot.shift),
+        },
+    )?;
+    emit(
+        code,
+        Inst::Addu {
+            rd: free,
+            rs: spot.base,
+            rt: SCRATCH,
+        },
+    )?;
+    emit(code, access_of(access, register, free, low(spot.shift)))
+}
+
+/// Appends the code that loads the word of a place into a register, stores the register there, or puts the place's address into the
+/// register; where the place is too far for an immediate, `free` holds its address.
+pub fn emit_access(
+    code: &mut Vec<u32>,
+    access: Access,
+    register: u32,
+    free: u32,
+    spot: Spot,
+) -> Result<(), AllocError>
+    requires register { register < 32 }
+    requires free { free < 32 }
+    requires base { spot.base < 32 }
+    ensures { OnOk result (code.new.items ≡ code.old.items ++ map encoding (on_spot (access_inst access register) free (spot_at spot))) }
+{
+    if is_near(spot.shift) {
+        emit(
+            code,
+            access_of(access, register, spot.base, low(spot.shift)),
+        )
+    } else {
+        emit_far(code, access, register, free, spot)
+    }
+}
