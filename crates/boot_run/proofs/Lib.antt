@@ -6,3 +6,5 @@ pub mod Dispatching
 pub mod Turning
 pub mod Whole
 pub mod Machines
+pub mod Events
+pub mod Opening

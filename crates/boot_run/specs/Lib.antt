@@ -3,3 +3,4 @@ pub mod TurnEnds
 pub mod Headline
 pub mod Samples
 pub mod Rows
+pub mod Completes

@@ -8,6 +8,7 @@ ghost use Rattle.c0_meaning.specs.TypedState.{IsTypedState};
 ghost use Rattle.boot_run.specs.Headline.{MachinesRun};
 
 mod answers;
+pub mod completion;
 mod rows;
 
 pub use answers::{RunFault, Turn, View};
