@@ -8,3 +8,4 @@ pub mod Whole
 pub mod Machines
 pub mod Events
 pub mod Opening
+pub mod Joining
