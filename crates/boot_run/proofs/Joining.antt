@@ -96,9 +96,9 @@ unfinished x y old Typed g k t n c b le st r pr = ⊎_elim
     (λ j l h. a.between j l (omega (arith, far)), λ j h. a.on j (omega (arith, far))))
     (λ (w : Stuck x y old k t n c).
     let on : (machine x y old n).off ≡ None = ⊎_elim
-        (λ (lt : w.beginning.start < n). (w.inside n lt (omega arith)).on)
-        (λ (ge : n ≤ w.beginning.start). on_back x (loaded y old) n w.beginning.start ge w.beginning.on)
-        (cases_lt w.beginning.start n) in
+    (λ (lt : w.beginning.start < n). (w.inside n lt (omega arith)).on)
+    (λ (ge : n ≤ w.beginning.start). on_back x (loaded y old) n w.beginning.start ge w.beginning.on)
+    (cases_lt w.beginning.start n) in
     (w.between, λ j h. on_back x (loaded y old) j n h on))
     (turn_ahead x y old Typed g k t n c st r (forward x y old Typed g st.cvm.units k c st.cvm.is).1.typed)
   where

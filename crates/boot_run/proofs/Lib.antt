@@ -9,3 +9,4 @@ pub mod Machines
 pub mod Events
 pub mod Opening
 pub mod Joining
+pub mod Advancing

@@ -4,3 +4,4 @@ pub mod Headline
 pub mod Samples
 pub mod Rows
 pub mod Completes
+pub mod Advances

@@ -6,9 +6,13 @@ ghost use Rattle.mips_table.specs.Fits.{NamesSector};
 ghost use Rattle.mips_table.specs.Machine.{State, step, run, MODE, PTL, EDATA};
 ghost use Rattle.mips_table.specs.Turns.{begins, rests};
 ghost use Rattle.mips_machine.specs.Steps.{outside_of};
+ghost use Rattle.c0_tree.specs.Tree.{CUnit};
+ghost use Rattle.c0_meaning.specs.TypedState.{IsTypedState};
+ghost use Rattle.boot_run.specs.Advances.{Advances};
 ghost use Rattle.boot_run.specs.Completes.{seen, begun_by, note, noted, shown, is_at_rest, CompleteEnds};
 
 use crate::answers::RunFault;
+use crate::machines_run;
 use cvm_outside::{DiskFault, Sectors};
 use layer_map::CURRENT;
 use mips_machine::{Cause, Event, Machine};
@@ -132,4 +136,30 @@ pub fn complete<D: Sectors>(
         }
     }
     Err(RunFault::StepLimit)
+}
+
+/// Runs one turn of the machine of a boot, a step from the budget each.
+///
+/// # Errors
+///
+/// `StepLimit`, where the budget is spent before the turn is complete; `Disk`, where the disk failed.
+pub fn advance<D: Sectors>(
+    machine: &mut Machine,
+    budget: &mut u64,
+    disk: &mut D,
+) -> Result<Begun, RunFault>
+    requires steps { machine.old.time + budget.old < 2 ^ 64 }
+    requires sector { NamesSector (D.size disk.old) machine.old.hardware.ports.pending }
+    requires room { 1024 < length machine.old.hardware.memory }
+    ensures ends { (u : CUnit) → Advances (IsTypedState u) (outside_of machine.old.rows (D.size disk.old)) (seen (D.sectors disk.old) machine.old) (seen (D.sectors disk.new) machine.new) budget.old budget.new result }
+    ensures rows { machine.new.rows ≡ machine.old.rows }
+    ensures memory { length machine.new.hardware.memory ≡ length machine.old.hardware.memory }
+    ensures sector { NamesSector (D.size disk.new) machine.new.hardware.ports.pending }
+    ensures size { D.size disk.new ≡ D.size disk.old }
+    ensures disk { result ≡ Err RunFault.Disk → Rose (D.faults disk.old) (D.faults disk.new) }
+    ensures same { result ≢ Err RunFault.Disk → D.faults disk.new ≡ D.faults disk.old }
+    ensures no_sink { result ≢ Err RunFault.Sink }
+{
+    machines_run();
+    complete(machine, budget, disk)
 }
