@@ -8,7 +8,7 @@ use Rattle.layer_contract.specs.Follows.{loaded, machine}
 use Rattle.boot_run.specs.TurnEnds.{Stood, Ahead}
 use Rattle.boot_run.specs.Completes.{note, Progress, CompleteOk, CompleteErr, CompleteEnds}
 use Rattle.boot_run.specs.Headline.{Machines, MachinesRun}
-use Rattle.boot_run.specs.Advances.{Advanced, Goes, Stops, AdvanceEnds, Advances}
+use Rattle.boot_run.specs.Advances.{Advanced, Goes, Stops, AdvanceEnds, AdvancesTyped}
 use Rattle.boot_run.specs.declared.completion.Begun.{Begun}
 use Rattle.boot_run.specs.declared.answers.RunFault.{RunFault}
 use Rattle.boot_run.specs.declared.answers.RunFault.TheVariants.{StepLimit, Disk, Sink}
@@ -40,6 +40,6 @@ by_result x y old m k t c st r now budget left (Ok b) ne d = went x y old m k t 
 by_result x y old m k t c st r now budget left (Err f) ne d = stopped x y old m k t c st r now budget left f (λ e. ne (ap (λ f. Err f) e)) d
 
 pub advances : (Typed : C0 → Type 0) → MachinesRun Typed → (x : Outside) (before now : Option State) (budget left : ℕ) (result : Result Begun RunFault) → (result ≡ Err Sink → ⊥) →
-    ((s : State) (t : ℕ) → before ≡ Some (run x s t) → CompleteEnds x now budget left s t result) → Advances Typed x before now budget left result
+    ((s : State) (t : ℕ) → before ≡ Some (run x s t) → CompleteEnds x now budget left s t result) → AdvancesTyped Typed x before now budget left result
 advances Typed m x before now budget left result ne ends = λ lines busy y old image sizes made_for boots laws replays k t c st r is.
     by_result x y old (m lines busy x y old image sizes made_for boots laws replays) k t c st r now budget left result ne (ends (loaded y old) t is)

@@ -3,14 +3,18 @@ use Rattle.std.specs.Prelude.{◌≡◌, ℕ, suc, ◌+◌, ◌≤◌, Option, S
 use Rattle.mips_table.specs.Device.{Outside}
 use Rattle.mips_table.specs.Machine.{State}
 use Rattle.mips_table.specs.Turns.{complete}
+use Rattle.mips_machine.specs.Machine.{Held}
+use Rattle.mips_machine.specs.Steps.{outside_of}
 use Rattle.layer_map.specs.Map.{Map}
+use Rattle.c0_tree.specs.Tree.{CUnit}
+use Rattle.c0_meaning.specs.TypedState.{IsTypedState}
 use Rattle.c0_meaning.specs.State.{State as C0}
 use Rattle.cvm_model.specs.Cvm.{System, Running, Cvm}
 use Rattle.cvm_model.specs.Journal.{KernelReplays}
 use Rattle.layer_contract.specs.Layer.{Laws}
 use Rattle.layer_contract.specs.Follows.{site_of, loaded, machine}
 use Rattle.boot_run.specs.TurnEnds.{Stood, Ahead}
-use Rattle.boot_run.specs.Completes.{note}
+use Rattle.boot_run.specs.Completes.{seen, note}
 use Rattle.boot_run.specs.Headline.{Boots}
 use Rattle.boot_run.specs.declared.completion.Begun.{Begun}
 use Rattle.boot_run.specs.declared.answers.RunFault.{RunFault}
@@ -51,8 +55,13 @@ Stops x y old k t now budget left Sink = ⊥
 abbrev pub AdvanceEnds : Outside → System → List (List ℕ) → (k t : ℕ) → Cvm → Option State → (budget left : ℕ) → Result Begun RunFault → Type 0
 AdvanceEnds x y old k t c now budget left result = MatchResult result (Advanced x y old k t c now budget left) (Stops x y old k t now budget left)
 
--- ONE TURN of the machine, for every boot whose run stands there and goes on
-abbrev pub Advances : (C0 → Type 0) → Outside → (before now : Option State) → (budget left : ℕ) → Result Begun RunFault → Type 0
-Advances Typed x before now budget left result = (lines busy : ℕ → ℕ) (y : System) (old : List (List ℕ)) (image sizes : List ℕ) (made_for : Map) →
+-- one turn of the machine, for every boot whose run stands there and goes on
+abbrev pub AdvancesTyped : (C0 → Type 0) → Outside → (before now : Option State) → (budget left : ℕ) → Result Begun RunFault → Type 0
+AdvancesTyped Typed x before now budget left result = (lines busy : ℕ → ℕ) (y : System) (old : List (List ℕ)) (image sizes : List ℕ) (made_for : Map) →
     Boots Typed lines busy x y old image sizes made_for → Laws (site_of y.boot) sizes → KernelReplays y.boot.meaning → (k t : ℕ) (c : Cvm) → Stood x y old k t c →
     c.status ≡ Running → before ≡ Some (machine x y old t) → AdvanceEnds x y old k t c now budget left result
+
+-- ONE TURN, over a disk of so many sectors, whatever unit the kernel is
+abbrev pub Advances : (count : ℕ) → (old new : Held) → (told retold : Option (List (List ℕ))) → (budget left : ℕ) → Result Begun RunFault → Type 0
+Advances count old new told retold budget left result =
+    (u : CUnit) → AdvancesTyped (IsTypedState u) (outside_of old.rows count) (seen told old) (seen retold new) budget left result

@@ -1,11 +1,12 @@
 -- What a loop that steps a machine to the end of a turn has done.
-use Rattle.std.specs.Prelude.{◌≡◌, ℕ, suc, ◌+◌, ◌/◌, ◌<◌, ◌≤◌, ◌==◌, ◌&&◌, ◌||◌, not, nat_lt, is_some, Option, Some, None, Bool, true, false, List, [], slice_index, Result, MatchResult, ⊤}
+use Rattle.std.specs.Prelude.{◌≡◌, ℕ, suc, ◌+◌, ◌/◌, ◌<◌, ◌≤◌, ◌==◌, ◌&&◌, ◌||◌, not, nat_lt, is_some, IfSome, Option, Some, None, Bool, true, false, List, [], slice_index, Result, MatchResult, ⊤}
 use Rattle.std.specs.Option.{option_map}
 use Rattle.mips_table.specs.declared.cause.Cause.TheVariants.{FetchFault, DataFault}
 use Rattle.mips_table.specs.Device.{Outside}
-use Rattle.mips_table.specs.Machine.{State, MODE, ECA, EDATA, run}
+use Rattle.mips_table.specs.Machine.{State, MODE, ECA, EDATA, step, run}
 use Rattle.mips_table.specs.Turns.{begins, rests}
 use Rattle.mips_machine.specs.Machine.{Held, state_of}
+use Rattle.mips_machine.specs.Steps.{outside_of}
 use Rattle.mips_machine.specs.declared.event.Event.{Event}
 use Rattle.mips_machine.specs.declared.event.Event.TheVariants.{Ran, Taken, Power, Off}
 use Rattle.boot_run.specs.declared.completion.Begun.{Begun}
@@ -15,6 +16,14 @@ use Rattle.boot_run.specs.declared.answers.RunFault.TheVariants.{StepLimit, Disk
 -- the state of a machine with the sectors of its disk, where they are told
 abbrev pub seen : Option (List (List ℕ)) → Held → Option State
 seen told held = option_map (state_of held) told
+
+-- over a disk of so many sectors the machine made one step
+abbrev pub StepRan : (count : ℕ) → (old new : Held) → (told retold : Option (List (List ℕ))) → Type 0
+StepRan count old new told retold = seen retold new ≡ option_map (step (outside_of old.rows count)) (seen told old)
+
+-- the answer is whether that step begins a turn
+abbrev pub StepBegan : (count : ℕ) → Held → Option (List (List ℕ)) → Bool → Type 0
+StepBegan count old told answer = IfSome (seen told old) (λ s. answer ≡ begins (outside_of old.rows count) s)
 
 -- whether a step began a turn, by what the machine shows before and after it and by what the step was
 abbrev pub begun_by : (reset in_user : Bool) (pages edata : ℕ) → Event → Bool
@@ -79,3 +88,8 @@ CompleteErr x new before after s t Sink = ⊤
 -- how the loop ends
 abbrev pub CompleteEnds : Outside → Option State → ℕ → ℕ → State → ℕ → Result Begun RunFault → Type 0
 CompleteEnds x new before after s t result = MatchResult result (CompleteOk x new before after s t) (CompleteErr x new before after s t)
+
+-- THE LOOP, over a disk of so many sectors: from any step of any run in which the machine stands
+abbrev pub Completes : (count : ℕ) → (old new : Held) → (told retold : Option (List (List ℕ))) → (before after : ℕ) → Result Begun RunFault → Type 0
+Completes count old new told retold before after result = (s : State) (t : ℕ) → seen told old ≡ Some (run (outside_of old.rows count) s t) →
+    CompleteEnds (outside_of old.rows count) (seen retold new) before after s t result

@@ -1,15 +1,9 @@
 // The machine runs until its next turn is complete.
-ghost use Rattle.std.specs.Prelude.{◌≡◌, ◌≢◌, ℕ, ◌+◌, ◌-◌, ◌/◌, ◌<◌, ◌≤◌, ◌^◌, ◌==◌, length, slice_index, Option, OnOk, OnErr, IfSome, MatchResult, Some, None, Err, ⊤};
-ghost use Rattle.std.specs.Option.{option_map};
+ghost use Rattle.std.specs.Prelude.{◌≡◌, ◌≢◌, ◌+◌, ◌-◌, ◌<◌, ◌≤◌, ◌^◌, length, IfOk, OnOk, Err};
 ghost use Rattle.cvm_outside.specs.Causes.{Counts, Rose};
 ghost use Rattle.mips_table.specs.Fits.{NamesSector};
-ghost use Rattle.mips_table.specs.Machine.{State, step, run, MODE, PTL, EDATA};
-ghost use Rattle.mips_table.specs.Turns.{begins, rests};
-ghost use Rattle.mips_machine.specs.Steps.{outside_of};
-ghost use Rattle.c0_tree.specs.Tree.{CUnit};
-ghost use Rattle.c0_meaning.specs.TypedState.{IsTypedState};
 ghost use Rattle.boot_run.specs.Advances.{Advances};
-ghost use Rattle.boot_run.specs.Completes.{seen, begun_by, note, noted, shown, is_at_rest, CompleteEnds};
+ghost use Rattle.boot_run.specs.Completes.{begun_by, noted, shown, is_at_rest, StepRan, StepBegan, Completes};
 
 use crate::answers::RunFault;
 use crate::machines_run;
@@ -62,8 +56,8 @@ fn has_begun(reset: bool, in_user: bool, pages: u32, event: Event, edata: u32) -
 fn step_once<D: Sectors>(machine: &mut Machine, disk: &mut D) -> Result<bool, DiskFault>
     requires steps { machine.old.time < 2 ^ 64 - 1 }
     requires sector { NamesSector (D.size disk.old) machine.old.hardware.ports.pending }
-    ensures ran { OnOk result (seen (D.sectors disk.new) machine.new ≡ option_map (step (outside_of machine.old.rows (D.size disk.old))) (seen (D.sectors disk.old) machine.old)) }
-    ensures began { MatchResult result (λ b. IfSome (seen (D.sectors disk.old) machine.old) (λ s. b ≡ begins (outside_of machine.old.rows (D.size disk.old)) s)) (λ _. ⊤) }
+    ensures ran { OnOk result (StepRan (D.size disk.old) machine.old machine.new (D.sectors disk.old) (D.sectors disk.new)) }
+    ensures began { IfOk result (λ began. StepBegan (D.size disk.old) machine.old (D.sectors disk.old) began) }
     ensures time { OnOk result (machine.new.time ≤ machine.old.time + 1) }
     ensures rows { machine.new.rows ≡ machine.old.rows }
     ensures memory { length machine.new.hardware.memory ≡ length machine.old.hardware.memory }
@@ -115,7 +109,7 @@ pub fn complete<D: Sectors>(
     requires steps { machine.old.time + budget.old < 2 ^ 64 }
     requires sector { NamesSector (D.size disk.old) machine.old.hardware.ports.pending }
     requires room { 1024 < length machine.old.hardware.memory }
-    ensures ends { (s : State) (t : ℕ) → seen (D.sectors disk.old) machine.old ≡ Some (run (outside_of machine.old.rows (D.size disk.old)) s t) → CompleteEnds (outside_of machine.old.rows (D.size disk.old)) (seen (D.sectors disk.new) machine.new) budget.old budget.new s t result }
+    ensures ends { Completes (D.size disk.old) machine.old machine.new (D.sectors disk.old) (D.sectors disk.new) budget.old budget.new result }
     ensures rows { machine.new.rows ≡ machine.old.rows }
     ensures memory { length machine.new.hardware.memory ≡ length machine.old.hardware.memory }
     ensures sector { NamesSector (D.size disk.new) machine.new.hardware.ports.pending }
@@ -151,7 +145,7 @@ pub fn advance<D: Sectors>(
     requires steps { machine.old.time + budget.old < 2 ^ 64 }
     requires sector { NamesSector (D.size disk.old) machine.old.hardware.ports.pending }
     requires room { 1024 < length machine.old.hardware.memory }
-    ensures ends { (u : CUnit) → Advances (IsTypedState u) (outside_of machine.old.rows (D.size disk.old)) (seen (D.sectors disk.old) machine.old) (seen (D.sectors disk.new) machine.new) budget.old budget.new result }
+    ensures ends { Advances (D.size disk.old) machine.old machine.new (D.sectors disk.old) (D.sectors disk.new) budget.old budget.new result }
     ensures rows { machine.new.rows ≡ machine.old.rows }
     ensures memory { length machine.new.hardware.memory ≡ length machine.old.hardware.memory }
     ensures sector { NamesSector (D.size disk.new) machine.new.hardware.ports.pending }
