@@ -9,6 +9,7 @@ ghost use Rattle.boot_run.specs.Headline.{MachinesRun};
 
 mod answers;
 pub mod completion;
+pub mod row_text;
 mod rows;
 
 pub use answers::{RunFault, Turn, View};
