@@ -6,3 +6,7 @@ pub mod Dispatching
 pub mod Turning
 pub mod Whole
 pub mod Machines
+pub mod Events
+pub mod Opening
+pub mod Joining
+pub mod Advancing

@@ -17,7 +17,7 @@ use Rattle.boot_run.proofs.Counting.{turn_same, completes, faults_grow, faults_s
 use Rattle.boot_run.proofs.Units.{one_cvm, turn_more_units}
 use Rattle.boot_run.proofs.Turning.{Given, Beginning, Onward, Stuck, turn_ahead}
 
-on_back : (x : Outside) (s : State) (j t : ℕ) → j ≤ t → (run x s t).off ≡ None → (run x s j).off ≡ None
+pub on_back : (x : Outside) (s : State) (j t : ℕ) → j ≤ t → (run x s t).off ≡ None → (run x s j).off ≡ None
 on_back x s j zero le on = let e : j ≡ 0 = omega arith in subst (λ i. (run x s i).off ≡ None) (sym e) on
 on_back x s j (suc t) le on = ⊎_elim
     (λ (lt : j < suc t). on_back x s j t (omega arith) (was_on x (run x s t) on))
@@ -84,7 +84,7 @@ module _ (x : Outside) (y : System) (old : List (List ℕ)) (Typed : C0 → Type
       by Halted e r = (0, r)
       by (Faulted f) e r = (power_of f, r)
 
-  onward_on : (k t : ℕ) (c : Cvm) → (a : Onward x y old Typed k t c) → (j : ℕ) → j < a.end → (run x s j).off ≡ None
+  pub onward_on : (k t : ℕ) (c : Cvm) → (a : Onward x y old Typed k t c) → (j : ℕ) → j < a.end → (run x s j).off ≡ None
   onward_on k t c a j h = ⊎_elim (λ (lt : a.beginning.start < j). (a.inside j lt h).on) (λ (ge : j ≤ a.beginning.start). on_back x s j a.beginning.start ge a.beginning.on) (cases_lt a.beginning.start j)
 
   -- where the CVM run is defined, the machine comes there

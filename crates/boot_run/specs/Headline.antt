@@ -1,5 +1,5 @@
 -- What is to be proved of a boot and of a trace, over these definitions.
-use Rattle.std.specs.Prelude.{◌≡◌, ℕ, suc, ◌+◌, ◌*◌, ◌<◌, ◌≤◌, ◌⊎◌, true, false, if◌then◌else◌, Option, Some, IsSome, List, [], ◌∷◌, ◌++◌, length}
+use Rattle.std.specs.Prelude.{◌≡◌, ℕ, suc, ◌+◌, ◌*◌, ◌<◌, ◌≤◌, ◌⊎◌, true, false, if◌then◌else◌, Option, Some, None, IsSome, List, [], ◌∷◌, ◌++◌, length}
 use Rattle.cvm_outside.specs.Causes.{Rose}
 use Rattle.mips_table.specs.Device.{Outside, HasEightLines, LinesEnd, sector_of}
 use Rattle.mips_table.specs.Turns.{begins}
@@ -16,6 +16,8 @@ use Rattle.mips_table.specs.Turns.{complete, lines_of, is_end, IsEnd, end_within
 use Rattle.layer_contract.specs.Layer.{BusyWithin, Laws}
 use Rattle.layer_contract.specs.Follows.{site_of, machine, loaded, SystemFits, Follows}
 use Rattle.boot_run.specs.Trace.{Shown}
+use Rattle.boot_run.specs.Completes.{Progress, Completed}
+use Rattle.boot_run.specs.declared.completion.Begun.{Begun}
 use Rattle.boot_run.specs.declared.answers.View.{View}
 use Rattle.boot_run.specs.declared.answers.View.TheVariants.{Boot, Trace}
 use Rattle.boot_run.specs.TurnEnds.{Stood, Ahead, Printed, PrintedBroken, Rows, Whole, Prefix, first_of}
@@ -149,12 +151,24 @@ TwoFaults x y old = (k a b : ℕ) → complete x (loaded y old) a ≡ k → comp
 abbrev pub IsDefined : Outside → System → List (List ℕ) → Type 0
 IsDefined x y old = (t : ℕ) → (c : Cvm) × IsCvm y (lines_of x (loaded y old)) (complete x (loaded y old) t) c
 
+-- where the machine came through a turn, that is turn k
+abbrev pub TurnFound : Outside → System → List (List ℕ) → Type 0
+TurnFound x y old = (k t u : ℕ) (c : Cvm) (b : Begun) → Stood x y old k t c → c.status ≡ Running → (d : Completed x (loaded y old) t u b) →
+    (a : Ahead x y old k t c) × (a.start ≡ d.opened.start) × (a.end ≡ u)
+
+-- where it hasn't yet by step n, turn k isn't complete up to there, and the machine is on
+abbrev pub TurnGoesOn : Outside → System → List (List ℕ) → Type 0
+TurnGoesOn x y old = (k t n : ℕ) (c : Cvm) (b : Option Begun) → t ≤ n → Stood x y old k t c → c.status ≡ Running → Progress x (loaded y old) t n b →
+    ((j : ℕ) → t ≤ j → j ≤ n → complete x (loaded y old) j ≡ k) × ((j : ℕ) → j ≤ n → (machine x y old j).off ≡ None)
+
 -- what holds of each boot under the premises, whatever is printed
 pub record Machines (x : Outside) (y : System) (old : List (List ℕ)) : Type 0 where
   pub goes_on : GoesOn x y old
   pub defined : IsDefined x y old
   pub two_faults : TwoFaults x y old
   pub ahead : (k t : ℕ) (c d : Cvm) → Stood x y old k t c → c.status ≡ Running → IsCvm y (lines_of x (loaded y old)) (suc k) d → Ahead x y old k t c
+  pub found : TurnFound x y old
+  pub unfound : TurnGoesOn x y old
   pub replays : (u turns steps : ℕ) → 1 ≤ u → u ≤ length y.boot.users → TraceReplays x y old u turns steps
 
 abbrev pub MachinesRun : (C0 → Type 0) → Type 0

@@ -3,3 +3,5 @@ pub mod TurnEnds
 pub mod Headline
 pub mod Samples
 pub mod Rows
+pub mod Completes
+pub mod Advances

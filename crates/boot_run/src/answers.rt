@@ -1,6 +1,10 @@
 // What is printed of a run, and what its calls answer.
 
+ghost use Rattle.std.specs.Prelude.{◌≡◌};
+ghost use Rattle.boot_run.specs.declared.answers.RunFault.TheVariants.{Disk as AtDisk, Sink as AtSink};
+
 use cvm_model::Row;
+use cvm_outside::{DiskFault, SinkFault};
 
 /// What is printed of a run.
 #[derive(Clone, Copy, Debug, PartialEq, Eq)]
@@ -31,4 +35,20 @@ pub enum RunFault {
     Disk,
     /// The sink failed.
     Sink,
+}
+
+impl From<DiskFault> for RunFault {
+    ghost from_gives = { λ _ e. e ≡ AtDisk };
+
+    fn from(_: DiskFault) -> Self {
+        RunFault::Disk
+    }
+}
+
+impl From<SinkFault> for RunFault {
+    ghost from_gives = { λ _ e. e ≡ AtSink };
+
+    fn from(_: SinkFault) -> Self {
+        RunFault::Sink
+    }
 }

@@ -8,6 +8,8 @@ ghost use Rattle.c0_meaning.specs.TypedState.{IsTypedState};
 ghost use Rattle.boot_run.specs.Headline.{MachinesRun};
 
 mod answers;
+pub mod completion;
+pub mod row_text;
 mod rows;
 
 pub use answers::{RunFault, Turn, View};

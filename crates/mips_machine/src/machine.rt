@@ -95,6 +95,20 @@ impl Machine {
         Ok(event)
     }
 
+    /// The power word, once the machine is off.
+    pub fn off(&self) -> Option<u32>
+        ensures { result ≡ self.now.hardware.off }
+    {
+        self.hardware.off()
+    }
+
+    /// Whether the reset is latched, which the next step takes.
+    pub fn is_reset(&self) -> bool
+        ensures { result ≡ self.now.hardware.reset }
+    {
+        self.hardware.reset
+    }
+
     /// The word of memory at an address in bytes, which is a multiple of 4 inside memory.
     pub fn word(&self, address: u32) -> u32
         requires aligned { address % 4 ≡ 0 }
