@@ -22,7 +22,7 @@ use Rattle.boot_run.proofs.Stepping.{off_rests}
 use Rattle.boot_run.proofs.Counting.{completes}
 use Rattle.boot_run.proofs.Units.{one_cvm}
 use Rattle.boot_run.proofs.Turning.{Given}
-use Rattle.boot_run.proofs.Joining.{finished, unfinished}
+use Rattle.boot_run.proofs.Joining.{finished, unfinished, shown}
 use Rattle.boot_run.proofs.Whole.{goes_on, two_faults, ahead, defined}
 
 -- sizes of users at the start
@@ -116,5 +116,6 @@ machines_run resets users counts isolated Typed lines busy x y old image sizes m
       ahead = ahead x y old Typed g;
       found = finished x y old Typed g;
       unfound = unfinished x y old Typed g;
+      shows = shown x y old Typed g;
       replays = trace_replays counts isolated x y old Typed g replays;
     }
