@@ -1,5 +1,5 @@
 -- What a step does to the mask, the time and the turns.
-use Rattle.std.proofs.Common.{◌≡◌, ℕ, zero, suc, ◌+◌, ◌/◌, ◌&&◌, ◌||◌, Option, Some, None, Bool, true, false, not, cond, slice_index, slice_set, List, refl, sym, ap, ap₂, ◌∙◌, subst, arith, eqb-true}
+use Rattle.std.proofs.Common.{◌≡◌, ℕ, zero, suc, ◌+◌, ◌/◌, ◌&&◌, ◌||◌, Option, Some, None, Bool, true, false, not, cond, slice_index, slice_set, refl, sym, ap, ap₂, ◌∙◌, subst, arith}
 use Rattle.std.specs.Prelude.{◌==◌, nat_lt, is_some, bit_or, length, drop, ◌++◌, ◌∷◌, []}
 use Rattle.std.proofs.lemmas.Bool.{cond_both, cond-true, cond-false}
 use Rattle.mips_table.specs.declared.cause.Cause.{Cause}
@@ -11,7 +11,7 @@ use Rattle.mips_table.specs.declared.effect.Effect.TheVariants.{Set, Wide, Load,
 use Rattle.mips_table.specs.Device.{Outside, POWER, port_write}
 use Rattle.mips_table.specs.Decoding.{decoding}
 use Rattle.mips_table.specs.Processor.{Cpu, Access, Move, Ran, Loaded, Stored, Trapped, Privileged, is_aligned, accessed, performed, effect_on, executed, move}
-use Rattle.mips_table.specs.Machine.{State, SR, MODE, LOG, INPUT, LOG_ROOM, Coming, Interrupt, Done, in_system, located, after_read, after_read_at, port_written, written, written_at, access, privileged, moved, fetch, fetched, coming, cleared, taken, number_of, interrupted, come_to, latched, ended, if_on, step, run}
+use Rattle.mips_table.specs.Machine.{State, SR, LOG, INPUT, LOG_ROOM, Coming, Interrupt, Done, in_system, located, after_read, after_read_at, port_written, written_at, access, privileged, moved, fetch, fetched, coming, taken, number_of, interrupted, come_to, latched, ended, if_on, step, run}
 use Rattle.mips_table.specs.Turns.{is_on, in_user, is_handled, handled, begins, rests}
 use Rattle.layer_contract.specs.Layer.{Inside}
 

@@ -1,5 +1,5 @@
 -- One turn of the run, from where the machine stands.
-use Rattle.std.proofs.Common.{◌*◌, ◌≡◌, ◌≢◌, ◌⊎◌, inl, inr, ℕ, zero, suc, ◌+◌, ◌-◌, ◌<◌, ◌≤◌, Bool, true, false, not, cond, Option, None, Some, List, refl, sym, ap, ap₂, ◌∙◌, subst, ⊎_elim, arith, eqb-true, ltb-true, ltb-false, ◌^◌}
+use Rattle.std.proofs.Common.{◌*◌, ◌≡◌, ◌⊎◌, inl, inr, ℕ, zero, suc, ◌+◌, ◌-◌, ◌<◌, ◌≤◌, Bool, true, false, not, Option, None, Some, List, refl, sym, ap, ◌∙◌, subst, ⊎_elim, arith, eqb-true, ltb-true, ltb-false, ◌^◌}
 use Rattle.std.specs.Prelude.{◌==◌, ◌&&◌, nat_lt, replicate, bit_or, ℤ, pos, length, slice_index, FitsSigned}
 use Rattle.std.specs.Int.{w32}
 use Rattle.std.specs.Int.Bits.{or_zero_r}
@@ -11,25 +11,25 @@ use Rattle.mips_table.specs.Arith.{signed}
 use Rattle.mips_table.specs.Device.{Outside, LinesEnd}
 use Rattle.mips_table.specs.Processor.{Cpu}
 use Rattle.mips_table.specs.Flat.{Flat, VStep, Next as Goes, Trap, vstep}
-use Rattle.mips_table.specs.Machine.{State, Coming, Interrupt, coming, latched, number_of, MODE, ECA, EDATA, run, step}
-use Rattle.mips_table.specs.Turns.{begins, handled, rests, is_on, in_user, turn_of, complete, gathered, lines_of, faults_before, is_handled}
+use Rattle.mips_table.specs.Machine.{State, Interrupt, coming, latched, number_of, MODE, ECA, EDATA, run, step}
+use Rattle.mips_table.specs.Turns.{begins, handled, rests, is_on, in_user, turn_of, complete, lines_of, faults_before, is_handled}
 use Rattle.c0_meaning.specs.State.{State as C0}
-use Rattle.layer_map.specs.Map.{Map, MapInRange, layer_words}
-use Rattle.cvm_model.specs.Kernel.{Core, Meaning, MeaningLaws, Outcome, End, Answers, Faults, NotYet}
-use Rattle.cvm_model.specs.Primitives.{user_of, with_user, no_flat}
+use Rattle.layer_map.specs.Map.{MapInRange, layer_words}
+use Rattle.cvm_model.specs.Kernel.{Core, MeaningLaws, End, Answers, Faults, NotYet}
+use Rattle.cvm_model.specs.Primitives.{user_of, no_flat}
 use Rattle.cvm_model.specs.declared.row.Next.{Next}
 use Rattle.cvm_model.specs.declared.row.Next.TheVariants.{User, Halt, Fault}
 use Rattle.cvm_model.specs.TypedKernel.{StaysTyped}
-use Rattle.cvm_model.specs.Cvm.{System, map_of, Status, Running, Halted, Faulted, Cvm, Begin, Steps, Traps, Interrupts, user_step, begin, next_of, status_of, core_of, page_steps, reset_steps, enter_steps, leave_steps, run_steps, turn_steps, dispatch_steps, dispatch_of, dispatched, after_dispatch, begun, turn_by, turn, cvm, IsCvm, first_cvm, first_core}
+use Rattle.cvm_model.specs.Cvm.{System, map_of, Running, Cvm, Begin, Steps, Traps, Interrupts, user_step, begin, next_of, core_of, page_steps, reset_steps, enter_steps, leave_steps, run_steps, turn_steps, dispatch_of, dispatched, after_dispatch, begun, turn_by, turn, cvm, IsCvm, first_cvm}
 use Rattle.cvm_model.specs.Stands.{Site, Stands, runs_user, CoreFits}
-use Rattle.layer_contract.specs.Layer.{Inside, Comes, IsAt, IsEntry, DispatchCalled, BusyWithin, Rests, Rested, Back, Settles, with_epc, Laws}
-use Rattle.layer_contract.specs.Follows.{site_of, loaded, machine, SystemFits, Follows, FirstCall, BeginsAs}
+use Rattle.layer_contract.specs.Layer.{Inside, Comes, IsEntry, DispatchCalled, BusyWithin, Rests, Back, Settles, with_epc}
+use Rattle.layer_contract.specs.Follows.{site_of, loaded, machine, FirstCall, BeginsAs}
 use Rattle.layer_contract.specs.Users.{UserStepsLinked}
 use Rattle.boot_run.specs.Completes.{note, ShownAs}
-use Rattle.boot_run.specs.TurnEnds.{RestsAfter, Stood}
-use Rattle.boot_run.proofs.Stepping.{both_left, both_right, on_of, inside_rests, inside_begins, inside_handled, user_rests, user_begins, reset_begins, reset_mask, none_pending, external_mask, time_is, was_on, taken_special}
-use Rattle.boot_run.proofs.Counting.{turn_same, turn_more, still, completes_at}
-use Rattle.boot_run.proofs.Stretches.{later, Passed, through, times, Settled, settled}
+use Rattle.boot_run.specs.TurnEnds.{Stood}
+use Rattle.boot_run.proofs.Stepping.{both_left, both_right, on_of, inside_rests, user_rests, user_begins, reset_begins, reset_mask, none_pending, external_mask, taken_special}
+use Rattle.boot_run.proofs.Counting.{turn_more, still, completes_at}
+use Rattle.boot_run.proofs.Stretches.{Passed, times, Settled, settled}
 use Rattle.boot_run.proofs.Units.{one_cvm, cvm_more, cvm_next}
 use Rattle.boot_run.proofs.Dispatching.{mask_begins, none_yet, Closed, Known, Came, dispatches}
 

@@ -8,7 +8,7 @@ use Rattle.mips_table.specs.Turns.{begins, rests}
 use Rattle.mips_machine.specs.Machine.{Held, state_of}
 use Rattle.mips_machine.specs.Steps.{outside_of}
 use Rattle.mips_machine.specs.declared.event.Event.{Event}
-use Rattle.mips_machine.specs.declared.event.Event.TheVariants.{Ran, Taken, Power, Off}
+use Rattle.mips_machine.specs.declared.event.Event.TheVariants.{Taken, Off}
 use Rattle.cvm_model.specs.Cvm.{Begin, Steps, Traps, Interrupts}
 use Rattle.boot_run.specs.declared.completion.Begun.{Begun}
 use Rattle.boot_run.specs.declared.answers.RunFault.{RunFault}
