@@ -21,6 +21,7 @@ use Rattle.boot_run.proofs.Stepping.{off_rests}
 use Rattle.boot_run.proofs.Counting.{completes}
 use Rattle.boot_run.proofs.Units.{one_cvm}
 use Rattle.boot_run.proofs.Turning.{Given}
+use Rattle.boot_run.proofs.Growing.{rows_grow}
 use Rattle.boot_run.proofs.Joining.{finished, unfinished, shown}
 use Rattle.boot_run.proofs.Whole.{goes_on, two_faults, ahead, defined}
 
@@ -116,5 +117,6 @@ machines_run resets users counts isolated Typed lines busy x y old image sizes m
       found = finished x y old Typed g;
       unfound = unfinished x y old Typed g;
       shows = shown x y old Typed g;
+      rows = rows_grow x y old Typed g;
       replays = trace_replays counts isolated x y old Typed g replays;
     }
