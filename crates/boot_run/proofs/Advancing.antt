@@ -1,11 +1,11 @@
 -- The loop to the end of a turn, on the machine of a boot.
-use Rattle.std.proofs.Common.{◌≡◌, ◌≢◌, ℕ, suc, ◌+◌, ◌≤◌, Option, Some, None, Result, Ok, Err, List, refl, sym, ap, ◌∙◌, subst, arith}
+use Rattle.std.proofs.Common.{◌≡◌, ℕ, suc, ◌+◌, ◌≤◌, Option, Some, Result, Ok, Err, List, refl, sym, ap, subst, arith}
 use Rattle.mips_table.specs.Device.{Outside}
 use Rattle.mips_table.specs.Machine.{State, run}
 use Rattle.c0_meaning.specs.State.{State as C0}
 use Rattle.cvm_model.specs.Cvm.{System, Running, Cvm}
 use Rattle.layer_contract.specs.Follows.{loaded, machine}
-use Rattle.boot_run.specs.TurnEnds.{Stood, Ahead}
+use Rattle.boot_run.specs.TurnEnds.{Stood}
 use Rattle.boot_run.specs.Completes.{note, Progress, CompleteOk, CompleteErr, CompleteEnds}
 use Rattle.boot_run.specs.Headline.{Machines, MachinesRun}
 use Rattle.boot_run.specs.Advances.{Advanced, Goes, Stops, AdvanceEnds, AdvancesTyped}

@@ -1,27 +1,24 @@
 -- A dispatch: from the step that begins it to the moment at which the turn is complete.
-use Rattle.std.proofs.Common.{◌*◌, ◌≡◌, ◌≢◌, ℕ, zero, suc, ◌+◌, ◌-◌, ◌<◌, ◌≤◌, Bool, true, false, None, Some, List, refl, sym, ap, ap₂, ◌∙◌, subst, ⊎_elim, arith}
-use Rattle.std.specs.Prelude.{bit_or, ℤ, pos, length, slice_index, FitsSigned}
-use Rattle.std.specs.Int.{w32}
+use Rattle.std.proofs.Common.{◌*◌, ◌≡◌, ◌≢◌, ℕ, suc, ◌+◌, ◌-◌, ◌<◌, ◌≤◌, Bool, true, false, None, refl, sym, ap, ap₂, ◌∙◌, subst, ⊎_elim, arith}
+use Rattle.std.specs.Prelude.{bit_or, ℤ, slice_index}
 use Rattle.std.proofs.lemmas.Bool.{cases_lt}
 use Rattle.mips_table.specs.Arith.{signed}
 use Rattle.mips_table.specs.Device.{Outside, LinesEnd}
 use Rattle.mips_table.specs.Machine.{State, latched, run}
 use Rattle.mips_table.specs.Turns.{begins, rests, is_on, in_user, turn_of, complete, gathered, lines_of}
 use Rattle.c0_meaning.specs.State.{State as C0}
-use Rattle.layer_map.specs.Map.{Map}
 use Rattle.layer_contract.specs.declared.registers.TheConstants.{ANSWER}
-use Rattle.layer_contract.specs.declared.entry.Entry.TheVariants.{Dispatch, Fault as Exit, Leave}
-use Rattle.cvm_model.specs.Kernel.{Core, Meaning, MeaningLaws, Outcome, End, Answers, Faults, NotYet, power_of}
+use Rattle.layer_contract.specs.declared.entry.Entry.TheVariants.{Fault as Exit, Leave}
+use Rattle.cvm_model.specs.Kernel.{Core, Meaning, Outcome, End, Answers, Faults, NotYet, power_of}
 use Rattle.cvm_model.specs.declared.kernel_fault.KernelFault.{KernelFault}
 use Rattle.cvm_model.specs.declared.kernel_fault.KernelFault.TheVariants.{BadUser}
 use Rattle.cvm_model.specs.declared.row.Next.{Next}
 use Rattle.cvm_model.specs.declared.row.Next.TheVariants.{Fault}
-use Rattle.cvm_model.specs.Cvm.{Status, Running, Halted, Faulted, next_of, status_of, core_of, leave_steps, run_steps}
+use Rattle.cvm_model.specs.Cvm.{Status, Running, Halted, Faulted, next_of, status_of, leave_steps, run_steps}
 use Rattle.cvm_model.specs.Stands.{Site}
-use Rattle.layer_contract.specs.Layer.{Inside, Comes, IsAt, IsEntry, DispatchCalled, BusyWithin, Rests, Rested, Laws}
-use Rattle.layer_contract.specs.Calls.{KernelCalled}
+use Rattle.layer_contract.specs.Layer.{Inside, Comes, IsAt, IsEntry, DispatchCalled, BusyWithin, Rests, Rested}
 use Rattle.layer_contract.specs.Follows.{IsKernelDoor, EndsAs, KernelRuns}
-use Rattle.boot_run.proofs.Stepping.{both_right, inside_rests, user_rests, off_rests, time_is, is_on_of}
+use Rattle.boot_run.proofs.Stepping.{both_right, inside_rests, user_rests, off_rests, time_is}
 use Rattle.boot_run.proofs.Counting.{or_associates, turn_more, turn_grows, gathers, gathered_none, lines_settled, still, completes_at}
 use Rattle.boot_run.proofs.Stretches.{later, Arrives, absolute, joins, Passed, through}
 

@@ -1,18 +1,17 @@
 -- What a step was says whether it began a turn.
-use Rattle.std.proofs.Common.{◌≡◌, ℕ, suc, ◌+◌, ◌≤◌, ◌/◌, ◌&&◌, ◌||◌, not, Bool, true, false, Option, Some, None, List, [], refl, sym, ap, ◌∙◌, subst, arith, slice_index}
-use Rattle.std.specs.Prelude.{IfSome, is_some, nat_lt, ◌==◌}
+use Rattle.std.proofs.Common.{◌≡◌, ℕ, ◌+◌, ◌≤◌, ◌&&◌, ◌||◌, not, Bool, true, false, Option, Some, None, List, [], refl, sym, ap, ◌∙◌, subst, arith, slice_index}
+use Rattle.std.specs.Prelude.{IfSome, is_some, ◌==◌}
 use Rattle.std.specs.Option.{option_map}
-use Rattle.mips_table.specs.declared.cause.Cause.{Cause}
 use Rattle.mips_table.specs.declared.cause.Cause.TheVariants as causes
 use Rattle.mips_table.specs.Device.{Outside}
 use Rattle.mips_table.specs.Machine.{State, MODE, PTL, EDATA, Coming, Interrupt, Done, coming, latched, come_to, ended, if_on, step}
-use Rattle.mips_table.specs.Turns.{in_user, is_on, is_handled, handled, begins}
+use Rattle.mips_table.specs.Turns.{in_user, is_handled, handled, begins}
 use Rattle.mips_machine.specs.declared.event.Event.{Event}
 use Rattle.mips_machine.specs.Hardware.{told_as, event_by}
 use Rattle.mips_machine.specs.Machine.{Held, state_of}
 use Rattle.mips_machine.specs.Steps.{outside_of, event_if, event_of, after_step, Steps}
 use Rattle.boot_run.specs.Completes.{seen, begun_by}
-use Rattle.boot_run.proofs.Stepping.{coming_held, Same, Held as Kept}
+use Rattle.boot_run.proofs.Stepping.{coming_held, Held as Kept}
 
 fault_begins : (r u h : Bool) → r || (u && not (u && h)) ≡ r || (u && not h)
 fault_begins r true h = refl

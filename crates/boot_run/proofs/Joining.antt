@@ -1,21 +1,22 @@
 -- The turn that the loop has gone through is the next one.
-use Rattle.std.proofs.Common.{◌≡◌, ◌⊎◌, ℕ, suc, ◌<◌, ◌≤◌, Bool, true, false, Option, Some, None, List, refl, sym, ap, ◌∙◌, subst, ⊎_elim, arith}
+use Rattle.std.proofs.Common.{◌≡◌, ◌⊎◌, ℕ, suc, ◌<◌, ◌≤◌, Bool, true, false, Option, Some, None, List, subst, ⊎_elim, arith}
+use Rattle.std.specs.Prelude.{bit_or}
 use Rattle.std.proofs.lemmas.Bool.{cases_lt, cases_order}
 use Rattle.mips_table.specs.Device.{Outside}
 use Rattle.mips_table.specs.Machine.{State, run}
-use Rattle.mips_table.specs.Turns.{begins, rests, is_on, in_user, turn_of, complete}
+use Rattle.mips_table.specs.Turns.{begins, rests, is_on, in_user, turn_of, complete, lines_of}
 use Rattle.c0_meaning.specs.State.{State as C0}
 use Rattle.cvm_model.specs.Kernel.{power_of}
-use Rattle.cvm_model.specs.Cvm.{System, Status, Running, Halted, Faulted, Cvm}
+use Rattle.cvm_model.specs.Cvm.{System, Status, Running, Halted, Faulted, Cvm, begin}
 use Rattle.layer_contract.specs.Layer.{Rests}
 use Rattle.layer_contract.specs.Follows.{loaded, machine}
 use Rattle.boot_run.specs.declared.completion.Begun.{Begun}
 use Rattle.boot_run.specs.TurnEnds.{Stood, Ahead}
-use Rattle.boot_run.specs.Completes.{Progress, Completed}
-use Rattle.boot_run.specs.Headline.{TurnFound, TurnGoesOn}
+use Rattle.boot_run.specs.Completes.{note, ShownAs, Progress, Completed}
+use Rattle.boot_run.specs.Headline.{TurnFound, TurnGoesOn, TurnShows}
 use Rattle.boot_run.proofs.Stepping.{both_right, user_rests, off_rests}
 use Rattle.boot_run.proofs.Counting.{turn_more, turn_grows, completes_at}
-use Rattle.boot_run.proofs.Turning.{Given, Onward, Stuck, turn_ahead}
+use Rattle.boot_run.proofs.Turning.{Given, Onward, Stuck, begin_turn, turn_ahead}
 use Rattle.boot_run.proofs.Whole.{on_back, onward_on, forward}
 
 true_false : (b : Bool) → b ≡ true → b ≡ false → ⊥
@@ -113,3 +114,10 @@ unfinished x y old Typed g k t n c b le st r pr = ⊎_elim
         (λ (lt : a.end < n). true_false _ rested (o.busy a.end (omega (arith, d, to)) lt))
         (λ (eq : n ≤ a.end). let d2 : n ≡ a.end = omega arith in true_false _ rested (subst (λ i. rests (run x (loaded y old) i) ≡ false) d2 pr.1))
         (cases_lt a.end n)
+
+-- what is shown once the turn has begun
+pub shown : (x : Outside) (y : System) (old : List (List ℕ)) (Typed : C0 → Type 0) → Given x y old Typed → TurnShows x y old
+shown x y old Typed g k t c st r a =
+    let b = begin_turn x y old Typed g k t c st r in
+    let e : b.start ≡ a.start = same_start x (loaded y old) t b.start a.start b.from a.from b.none a.none b.begin_here a.begin in
+    subst (λ i. ShownAs (begin k c.core (bit_or c.pending (lines_of x (loaded y old) k))) (note (machine x y old (suc i)))) e b.shows

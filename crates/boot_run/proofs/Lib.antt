@@ -10,3 +10,4 @@ pub mod Events
 pub mod Opening
 pub mod Joining
 pub mod Advancing
+pub mod Growing

@@ -1,28 +1,28 @@
 -- What holds of every boot: the machine goes on within its bound, at most two faults come before a turn, and a trace replays.
-use Rattle.std.proofs.Common.{◌≡◌, ◌≢◌, ◌⊎◌, inl, inr, ℕ, zero, suc, ◌+◌, ◌-◌, ◌<◌, ◌≤◌, Bool, true, false, not, cond, Option, Some, None, List, [], ◌∷◌, ◌++◌, map, refl, sym, ap, ap₂, ◌∙◌, subst, ⊎_elim, arith, eqb-true, le-ltb, append-nil}
+use Rattle.std.proofs.Common.{◌≡◌, ◌⊎◌, inl, inr, ℕ, zero, suc, ◌≤◌, Bool, true, false, not, Option, Some, None, List, [], ◌∷◌, ◌++◌, map, refl, sym, ap, ◌∙◌, subst, ⊎_elim, arith, le-ltb, append-nil}
 use Rattle.std.specs.Prelude.{◌==◌, ◌||◌, is_some, nat_lt, length}
-use Rattle.std.proofs.lemmas.Bool.{cond-false, cases_lt}
+use Rattle.std.proofs.lemmas.Bool.{cond-false}
 use Rattle.mips_table.specs.Device.{Outside}
 use Rattle.mips_table.specs.Machine.{State, run}
-use Rattle.mips_table.specs.Turns.{rests, is_on, turn_of, complete, lines_of, is_end, end_within, IsEnd, TurnLaws}
+use Rattle.mips_table.specs.Turns.{rests, is_on, turn_of, complete, lines_of, IsEnd, TurnLaws}
 use Rattle.c0_meaning.specs.State.{State as C0}
 use Rattle.layer_map.specs.Map.{Map, layer_words}
 use Rattle.cvm_model.specs.Primitives.{user_of, pages_of}
-use Rattle.cvm_model.specs.Kernel.{JournalEntry}
 use Rattle.cvm_model.specs.TypedKernel.{StaysTyped}
-use Rattle.cvm_model.specs.Cvm.{System, Cvm, cvm, IsCvm, first_core, first_flat, map_of}
+use Rattle.cvm_model.specs.Cvm.{System, Cvm, first_core, first_flat}
 use Rattle.cvm_model.specs.Journal.{journal, replay, KernelReplays, Isolated}
 use Rattle.layer_contract.specs.Layer.{Laws}
 use Rattle.layer_contract.specs.Follows.{site_of, loaded, machine, LoadedResets}
 use Rattle.layer_contract.specs.Users.{UserStepsLinked}
-use Rattle.boot_run.specs.Trace.{Shown, entries_so_far}
+use Rattle.boot_run.specs.Trace.{entries_so_far}
 use Rattle.boot_run.specs.TurnEnds.{first_of}
-use Rattle.boot_run.specs.Headline.{Boots, end_of, TraceReplays, Machines, MachinesRun}
+use Rattle.boot_run.specs.Headline.{Boots, end_of, TraceReplays, MachinesRun}
 use Rattle.boot_run.proofs.Stepping.{off_rests}
 use Rattle.boot_run.proofs.Counting.{completes}
 use Rattle.boot_run.proofs.Units.{one_cvm}
 use Rattle.boot_run.proofs.Turning.{Given}
-use Rattle.boot_run.proofs.Joining.{finished, unfinished}
+use Rattle.boot_run.proofs.Growing.{rows_grow}
+use Rattle.boot_run.proofs.Joining.{finished, unfinished, shown}
 use Rattle.boot_run.proofs.Whole.{goes_on, two_faults, ahead, defined}
 
 -- sizes of users at the start
@@ -116,5 +116,7 @@ machines_run resets users counts isolated Typed lines busy x y old image sizes m
       ahead = ahead x y old Typed g;
       found = finished x y old Typed g;
       unfound = unfinished x y old Typed g;
+      shows = shown x y old Typed g;
+      rows = rows_grow x y old Typed g;
       replays = trace_replays counts isolated x y old Typed g replays;
     }

@@ -1,5 +1,5 @@
 -- What a step does to the mask, the time and the turns.
-use Rattle.std.proofs.Common.{◌≡◌, ℕ, zero, suc, ◌+◌, ◌/◌, ◌&&◌, ◌||◌, Option, Some, None, Bool, true, false, not, cond, slice_index, slice_set, List, refl, sym, ap, ap₂, ◌∙◌, subst, arith, eqb-true}
+use Rattle.std.proofs.Common.{◌≡◌, ℕ, zero, suc, ◌+◌, ◌/◌, ◌&&◌, ◌||◌, Option, Some, None, Bool, true, false, not, cond, slice_index, slice_set, refl, sym, ap, ap₂, ◌∙◌, subst, arith}
 use Rattle.std.specs.Prelude.{◌==◌, nat_lt, is_some, bit_or, length, drop, ◌++◌, ◌∷◌, []}
 use Rattle.std.proofs.lemmas.Bool.{cond_both, cond-true, cond-false}
 use Rattle.mips_table.specs.declared.cause.Cause.{Cause}
@@ -11,7 +11,7 @@ use Rattle.mips_table.specs.declared.effect.Effect.TheVariants.{Set, Wide, Load,
 use Rattle.mips_table.specs.Device.{Outside, POWER, port_write}
 use Rattle.mips_table.specs.Decoding.{decoding}
 use Rattle.mips_table.specs.Processor.{Cpu, Access, Move, Ran, Loaded, Stored, Trapped, Privileged, is_aligned, accessed, performed, effect_on, executed, move}
-use Rattle.mips_table.specs.Machine.{State, SR, MODE, LOG, INPUT, LOG_ROOM, Coming, Interrupt, Done, in_system, located, after_read, after_read_at, port_written, written, written_at, access, privileged, moved, fetch, fetched, coming, cleared, interrupted, come_to, latched, ended, if_on, step, run}
+use Rattle.mips_table.specs.Machine.{State, SR, LOG, INPUT, LOG_ROOM, Coming, Interrupt, Done, in_system, located, after_read, after_read_at, port_written, written_at, access, privileged, moved, fetch, fetched, coming, taken, number_of, interrupted, come_to, latched, ended, if_on, step, run}
 use Rattle.mips_table.specs.Turns.{is_on, in_user, is_handled, handled, begins, rests}
 use Rattle.layer_contract.specs.Layer.{Inside}
 
@@ -299,3 +299,8 @@ was_on x s e = from s.off refl
 pub time_is : (x : Outside) (s : State) → s.time ≡ 0 → (t : ℕ) → (run x s t).off ≡ None → (run x s t).time ≡ t
 time_is x s z zero on = z
 time_is x s z (suc t) on = let o = was_on x (run x s t) on in on_time x (run x s t) o ∙ ap (λ n. n + 1) (time_is x s z t o) ∙ omega arith
+
+-- the special registers once an interrupt is taken
+pub taken_special : (x : Outside) (s before : State) (why : Cause) (edata epc : ℕ) → s.off ≡ None → coming x (latched x s) ≡ Interrupt before why edata epc →
+    (step x s).special ≡ taken before.special (number_of why) edata epc
+taken_special x s before why edata epc on e = ap (λ (t : State). t.special) (on_is x s on) ∙ ap (λ o. (ended (come_to o)).special) e

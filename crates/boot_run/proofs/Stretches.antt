@@ -1,10 +1,10 @@
 -- Stretches of a run in which no turn begins: inside the kernel, and handled faults.
-use Rattle.std.proofs.Common.{◌≡◌, ℕ, zero, suc, ◌+◌, ◌-◌, ◌*◌, ◌<◌, ◌≤◌, Bool, true, false, not, None, refl, sym, ap, ap₂, ◌∙◌, subst, ⊎_elim, arith}
+use Rattle.std.proofs.Common.{◌≡◌, ℕ, zero, suc, ◌+◌, ◌-◌, ◌<◌, ◌≤◌, Bool, true, false, not, None, refl, sym, ap, ap₂, ◌∙◌, subst, ⊎_elim, arith}
 use Rattle.std.specs.Prelude.{bit_or}
 use Rattle.std.proofs.lemmas.Bool.{cases_lt}
 use Rattle.mips_table.specs.Device.{Outside}
-use Rattle.mips_table.specs.Machine.{State, Coming, coming, latched, run, step}
-use Rattle.mips_table.specs.Turns.{begins, rests, handled, in_user, is_on, turn_of, complete, gathered, faults_before}
+use Rattle.mips_table.specs.Machine.{State, coming, latched, run, step}
+use Rattle.mips_table.specs.Turns.{begins, handled, in_user, is_on, turn_of, complete, gathered, faults_before}
 use Rattle.cvm_model.specs.Kernel.{Core}
 use Rattle.cvm_model.specs.Stands.{Site}
 use Rattle.layer_contract.specs.declared.entry.Entry.{Entry}

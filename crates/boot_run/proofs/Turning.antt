@@ -1,34 +1,35 @@
 -- One turn of the run, from where the machine stands.
-use Rattle.std.proofs.Common.{◌*◌, ◌≡◌, ◌≢◌, ◌⊎◌, inl, inr, ℕ, zero, suc, ◌+◌, ◌-◌, ◌<◌, ◌≤◌, Bool, true, false, not, cond, Option, None, Some, List, refl, sym, ap, ap₂, ◌∙◌, subst, ⊎_elim, arith, eqb-true, ltb-true, ltb-false, ◌^◌}
+use Rattle.std.proofs.Common.{◌*◌, ◌≡◌, ◌⊎◌, inl, inr, ℕ, zero, suc, ◌+◌, ◌-◌, ◌<◌, ◌≤◌, Bool, true, false, not, Option, None, Some, List, refl, sym, ap, ◌∙◌, subst, ⊎_elim, arith, eqb-true, ltb-true, ltb-false, ◌^◌}
 use Rattle.std.specs.Prelude.{◌==◌, ◌&&◌, nat_lt, replicate, bit_or, ℤ, pos, length, slice_index, FitsSigned}
 use Rattle.std.specs.Int.{w32}
 use Rattle.std.specs.Int.Bits.{or_zero_r}
 use Rattle.std.proofs.lemmas.List.{set-get_or}
-use Rattle.std.proofs.lemmas.Bool.{cond_both, cond-false, cases_lt}
+use Rattle.std.proofs.lemmas.Bool.{cond_both, cond-true, cond-false, cases_lt}
 use Rattle.mips_table.specs.declared.cause.Cause.{Cause}
 use Rattle.mips_table.specs.declared.cause.Cause.TheVariants as causes
 use Rattle.mips_table.specs.Arith.{signed}
 use Rattle.mips_table.specs.Device.{Outside, LinesEnd}
 use Rattle.mips_table.specs.Processor.{Cpu}
 use Rattle.mips_table.specs.Flat.{Flat, VStep, Next as Goes, Trap, vstep}
-use Rattle.mips_table.specs.Machine.{State, Coming, Interrupt, coming, latched, number_of, MODE, run, step}
-use Rattle.mips_table.specs.Turns.{begins, handled, rests, is_on, in_user, turn_of, complete, gathered, lines_of, faults_before, is_handled}
+use Rattle.mips_table.specs.Machine.{State, Interrupt, coming, latched, number_of, MODE, ECA, EDATA, run, step}
+use Rattle.mips_table.specs.Turns.{begins, handled, rests, is_on, in_user, turn_of, complete, lines_of, faults_before, is_handled}
 use Rattle.c0_meaning.specs.State.{State as C0}
-use Rattle.layer_map.specs.Map.{Map, MapInRange, layer_words}
-use Rattle.cvm_model.specs.Kernel.{Core, Meaning, MeaningLaws, Outcome, End, Answers, Faults, NotYet}
-use Rattle.cvm_model.specs.Primitives.{user_of, with_user, no_flat}
+use Rattle.layer_map.specs.Map.{MapInRange, layer_words}
+use Rattle.cvm_model.specs.Kernel.{Core, MeaningLaws, End, Answers, Faults, NotYet}
+use Rattle.cvm_model.specs.Primitives.{user_of, no_flat}
 use Rattle.cvm_model.specs.declared.row.Next.{Next}
 use Rattle.cvm_model.specs.declared.row.Next.TheVariants.{User, Halt, Fault}
 use Rattle.cvm_model.specs.TypedKernel.{StaysTyped}
-use Rattle.cvm_model.specs.Cvm.{System, map_of, Status, Running, Halted, Faulted, Cvm, Begin, Steps, Traps, Interrupts, user_step, begin, next_of, status_of, core_of, page_steps, reset_steps, enter_steps, leave_steps, run_steps, turn_steps, dispatch_steps, dispatch_of, dispatched, after_dispatch, begun, turn_by, turn, cvm, IsCvm, first_cvm, first_core}
+use Rattle.cvm_model.specs.Cvm.{System, map_of, Running, Cvm, Begin, Steps, Traps, Interrupts, user_step, begin, next_of, core_of, page_steps, reset_steps, enter_steps, leave_steps, run_steps, turn_steps, dispatch_of, dispatched, after_dispatch, begun, turn_by, turn, cvm, IsCvm, first_cvm}
 use Rattle.cvm_model.specs.Stands.{Site, Stands, runs_user, CoreFits}
-use Rattle.layer_contract.specs.Layer.{Inside, Comes, IsAt, IsEntry, DispatchCalled, BusyWithin, Rests, Rested, Back, Settles, with_epc, Laws}
-use Rattle.layer_contract.specs.Follows.{site_of, loaded, machine, SystemFits, Follows, FirstCall, BeginsAs}
+use Rattle.layer_contract.specs.Layer.{Inside, Comes, IsEntry, DispatchCalled, BusyWithin, Rests, Back, Settles, with_epc}
+use Rattle.layer_contract.specs.Follows.{site_of, loaded, machine, FirstCall, BeginsAs}
 use Rattle.layer_contract.specs.Users.{UserStepsLinked}
-use Rattle.boot_run.specs.TurnEnds.{RestsAfter, Stood}
-use Rattle.boot_run.proofs.Stepping.{both_left, both_right, on_of, inside_rests, inside_begins, inside_handled, user_rests, user_begins, reset_begins, reset_mask, none_pending, external_mask, time_is, was_on}
-use Rattle.boot_run.proofs.Counting.{turn_same, turn_more, still, completes_at}
-use Rattle.boot_run.proofs.Stretches.{later, Passed, through, times, Settled, settled}
+use Rattle.boot_run.specs.Completes.{note, ShownAs}
+use Rattle.boot_run.specs.TurnEnds.{Stood}
+use Rattle.boot_run.proofs.Stepping.{both_left, both_right, on_of, inside_rests, user_rests, user_begins, reset_begins, reset_mask, none_pending, external_mask, taken_special}
+use Rattle.boot_run.proofs.Counting.{turn_more, still, completes_at}
+use Rattle.boot_run.proofs.Stretches.{Passed, times, Settled, settled}
 use Rattle.boot_run.proofs.Units.{one_cvm, cvm_more, cvm_next}
 use Rattle.boot_run.proofs.Dispatching.{mask_begins, none_yet, Closed, Known, Came, dispatches}
 
@@ -67,6 +68,7 @@ pub record Beginning (x : Outside) (y : System) (old : List (List ℕ)) (k t : �
   pub begin_here : begins x (machine x y old start) ≡ true
   pub calm : handled x (machine x y old start) ≡ false
   pub turn : turn_of x (loaded y old) start ≡ k
+  pub shows : ShownAs (begin k c.core (bit_or c.pending (lines_of x (loaded y old) k))) (note (machine x y old (suc start)))
   pub comes : BegunAs x y (machine x y old (suc start)) enter (begin k c.core (bit_or c.pending (lines_of x (loaded y old) k)))
 
 -- the turn is complete at `end`
@@ -144,6 +146,21 @@ from_user x y s c k m on back calm same enters (Interrupts cause edata at pendin
       subst (λ n. n < 9) (sym one) (omega arith),
     )
 
+-- what that step shows
+step_shows : (x : Outside) (y : System) (s : State) (c : Core) (b : Begin) → s.off ≡ None → BeginsAs x (site_of y.boot) s c b → ShownAs b (note (step x s))
+step_shows x y s c (Steps after) on r = ap not (both_right (is_on (step x s)) (in_user (step x s)) r.1)
+step_shows x y s c (Traps cause edata at) on (before, why, epc, comes, number, is) =
+    let sp = taken_special x s before why edata epc on comes in
+    (ap (λ p. not (slice_index p MODE == 1)) sp, ap (λ p. slice_index p ECA) sp ∙ number, ap (λ p. slice_index p EDATA) sp)
+step_shows x y s c (Interrupts cause edata at pending) on (comes, one, is, none) =
+    let sp = taken_special x s (latched x s) causes.External edata s.cpu.pc on comes in
+    (ap (λ p. not (slice_index p MODE == 1)) sp, ap (λ p. slice_index p ECA) sp ∙ sym one, ap (λ p. slice_index p EDATA) sp)
+
+reset_shows : (x : Outside) (s : State) (c : Core) (lines : ℕ) → s.off ≡ None → s.reset ≡ true → ShownAs (Interrupts 0 0 c lines) (note (step x s))
+reset_shows x s c lines on r =
+    let sp = taken_special x s (latched x s) causes.Reset 0 s.cpu.pc on (cond-true s.reset (Interrupt (latched x s) causes.Reset 0 s.cpu.pc) _ r) in
+    (ap (λ p. not (slice_index p MODE == 1)) sp, ap (λ p. slice_index p ECA) sp, ap (λ p. slice_index p EDATA) sp)
+
 both_no : (b : Bool) → (b && false) ≡ false
 both_no true = refl
 both_no false = refl
@@ -213,6 +230,7 @@ module _ (x : Outside) (y : System) (old : List (List ℕ)) (Typed : C0 → Type
     begin_here = reset_begins x s refl refl;
     calm = new_calm x s refl;
     turn = refl;
+    shows = reset_shows x s (first_cvm y).core (bit_or (first_cvm y).pending (lines 0)) refl refl;
     comes = (g.first, reset_mask x s refl refl ∙ mask_begins x s g.lines refl 0 0 0 (record { turn = refl; mask = refl }) refl (reset_begins x s refl refl), omega arith);
   })
 
@@ -245,13 +263,15 @@ module _ (x : Outside) (y : System) (old : List (List ℕ)) (Typed : C0 → Type
             begin_here = begin_here;
             calm = r.calm;
             turn = r.way.turn;
+            shows = step_shows x y (run x s u) c.core (begin (suc k) c.core (bit_or c.pending (lines (suc k)))) on
+                (subst (λ m. BeginsAs x site (run x s u) c.core (begin (suc k) c.core m)) mask follows);
             comes = from_user x y (run x s u) c.core k (bit_or c.pending (lines (suc k))) on r.back r.calm mask
                 (λ before cause edata epc e. g.enters (run x s u) before c.core cause edata epc r.back e r.calm)
                 (begin (suc k) c.core (bit_or c.pending (lines (suc k)))) refl
                 (subst (λ m. BeginsAs x site (run x s u) c.core (begin (suc k) c.core m)) mask follows);
           }
 
-  begin_turn : (k t : ℕ) (c : Cvm) → Stood x y old k t c → c.status ≡ Running → Beginning x y old k t c
+  pub begin_turn : (k t : ℕ) (c : Cvm) → Stood x y old k t c → c.status ≡ Running → Beginning x y old k t c
   begin_turn zero t c st running = subst (λ i. Beginning x y old 0 i c) (sym st.rests) (begin_first c (first_is c st.cvm))
   begin_turn (suc k) t c st running = begin_user k t c st running
 

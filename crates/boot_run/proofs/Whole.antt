@@ -1,16 +1,16 @@
 -- The whole run, both ways: where the CVM run is defined the machine comes there, and the machine is never anywhere else.
-use Rattle.std.proofs.Common.{◌≡◌, ◌≢◌, ◌⊎◌, inl, inr, ℕ, zero, suc, ◌+◌, ◌-◌, ◌*◌, ◌<◌, ◌≤◌, Bool, true, false, not, cond, Option, Some, None, List, refl, sym, ap, ap₂, ◌∙◌, subst, ⊎_elim, arith, eq-eqb, ne_eqb, eqb-true}
-use Rattle.std.specs.Prelude.{◌==◌, ◌||◌, is_some, nat_lt, length}
+use Rattle.std.proofs.Common.{◌≡◌, ◌≢◌, ◌⊎◌, inl, inr, ℕ, zero, suc, ◌+◌, ◌-◌, ◌<◌, ◌≤◌, Bool, true, false, not, Option, Some, None, List, refl, sym, ap, ap₂, ◌∙◌, subst, ⊎_elim, arith, eq-eqb, ne_eqb}
+use Rattle.std.specs.Prelude.{◌==◌, ◌||◌, is_some}
 use Rattle.std.proofs.lemmas.Bool.{cases_lt}
 use Rattle.mips_table.specs.Device.{Outside}
-use Rattle.mips_table.specs.Machine.{State, run, step}
-use Rattle.mips_table.specs.Turns.{begins, rests, handled, is_on, turn_of, complete, lines_of, is_end, end_within, IsEnd, faults_before, TurnLaws}
+use Rattle.mips_table.specs.Machine.{State, run}
+use Rattle.mips_table.specs.Turns.{begins, is_on, turn_of, complete, lines_of, is_end, IsEnd, faults_before, TurnLaws}
 use Rattle.c0_meaning.specs.State.{State as C0}
 use Rattle.cvm_model.specs.Kernel.{power_of}
-use Rattle.cvm_model.specs.Cvm.{System, Status, Running, Halted, Faulted, Cvm, turn_by, turn, cvm, IsCvm, first_cvm, reset_steps, map_of}
+use Rattle.cvm_model.specs.Cvm.{System, Status, Running, Halted, Faulted, Cvm, turn_by, turn, cvm, IsCvm, first_cvm}
 use Rattle.layer_contract.specs.Layer.{Inside, Rests}
-use Rattle.layer_contract.specs.Follows.{loaded, machine}
-use Rattle.boot_run.specs.TurnEnds.{RestsAfter, Stood, Ahead}
+use Rattle.layer_contract.specs.Follows.{loaded}
+use Rattle.boot_run.specs.TurnEnds.{Stood, Ahead}
 use Rattle.boot_run.specs.Headline.{GoesOn, TwoFaults}
 use Rattle.boot_run.proofs.Stepping.{was_on, off_stays, off_rests, off_begins, off_handled, inside_handled}
 use Rattle.boot_run.proofs.Counting.{turn_same, completes, faults_grow, faults_stay}

@@ -8,7 +8,8 @@ use Rattle.mips_table.specs.Turns.{begins, rests}
 use Rattle.mips_machine.specs.Machine.{Held, state_of}
 use Rattle.mips_machine.specs.Steps.{outside_of}
 use Rattle.mips_machine.specs.declared.event.Event.{Event}
-use Rattle.mips_machine.specs.declared.event.Event.TheVariants.{Ran, Taken, Power, Off}
+use Rattle.mips_machine.specs.declared.event.Event.TheVariants.{Taken, Off}
+use Rattle.cvm_model.specs.Cvm.{Begin, Steps, Traps, Interrupts}
 use Rattle.boot_run.specs.declared.completion.Begun.{Begun}
 use Rattle.boot_run.specs.declared.answers.RunFault.{RunFault}
 use Rattle.boot_run.specs.declared.answers.RunFault.TheVariants.{StepLimit, Disk, Sink}
@@ -93,3 +94,9 @@ CompleteEnds x new before after s t result = MatchResult result (CompleteOk x ne
 abbrev pub Completes : (count : ℕ) → (old new : Held) → (told retold : Option (List (List ℕ))) → (before after : ℕ) → Result Begun RunFault → Type 0
 Completes count old new told retold before after result = (s : State) (t : ℕ) → seen told old ≡ Some (run (outside_of old.rows count) s t) →
     CompleteEnds (outside_of old.rows count) (seen retold new) before after s t result
+
+-- what the machine shows once a turn has begun: a user's step, or the cause of its dispatch and what that concerns
+abbrev pub ShownAs : Begin → Begun → Type 0
+ShownAs (Steps after) b = b.dispatched ≡ false
+ShownAs (Traps cause edata at) b = (b.dispatched ≡ true) × (b.cause ≡ cause) × (b.edata ≡ edata)
+ShownAs (Interrupts cause edata at pending) b = (b.dispatched ≡ true) × (b.cause ≡ cause) × (b.edata ≡ edata)

@@ -1,5 +1,5 @@
 -- What is to be proved of a boot and of a trace, over these definitions.
-use Rattle.std.specs.Prelude.{◌≡◌, ℕ, suc, ◌+◌, ◌*◌, ◌<◌, ◌≤◌, ◌⊎◌, true, false, if◌then◌else◌, Option, Some, None, IsSome, List, [], ◌∷◌, ◌++◌, length}
+use Rattle.std.specs.Prelude.{◌≡◌, ℕ, suc, ◌+◌, ◌*◌, ◌<◌, ◌≤◌, ◌⊎◌, true, false, if◌then◌else◌, bit_or, Option, Some, None, IsSome, List, [], ◌∷◌, ◌++◌, length}
 use Rattle.cvm_outside.specs.Causes.{Rose}
 use Rattle.mips_table.specs.Device.{Outside, HasEightLines, LinesEnd, sector_of}
 use Rattle.mips_table.specs.Turns.{begins}
@@ -8,7 +8,8 @@ use Rattle.layer_map.specs.Map.{Map}
 use Rattle.c0_meaning.specs.State.{State as C0}
 use Rattle.cvm_model.specs.Kernel.{JournalEntry}
 use Rattle.cvm_model.specs.Primitives.{user_of}
-use Rattle.cvm_model.specs.Cvm.{System, Status, Running, Faulted, Cvm, IsCvm}
+use Rattle.cvm_model.specs.Cvm.{System, Status, Running, Faulted, Cvm, IsCvm, Begin, Steps, Traps, Interrupts, status_of, begin}
+use Rattle.cvm_model.specs.declared.row.Next.{Next}
 use Rattle.cvm_model.specs.declared.row.Row.{Row}
 use Rattle.cvm_model.specs.Journal.{replay, KernelReplays}
 use Rattle.cvm_model.specs.Text.{rows_text}
@@ -16,7 +17,7 @@ use Rattle.mips_table.specs.Turns.{complete, lines_of, is_end, IsEnd, end_within
 use Rattle.layer_contract.specs.Layer.{BusyWithin, Laws}
 use Rattle.layer_contract.specs.Follows.{site_of, machine, loaded, SystemFits, Follows}
 use Rattle.boot_run.specs.Trace.{Shown}
-use Rattle.boot_run.specs.Completes.{Progress, Completed}
+use Rattle.boot_run.specs.Completes.{note, ShownAs, Progress, Completed}
 use Rattle.boot_run.specs.declared.completion.Begun.{Begun}
 use Rattle.boot_run.specs.declared.answers.View.{View}
 use Rattle.boot_run.specs.declared.answers.View.TheVariants.{Boot, Trace}
@@ -161,6 +162,28 @@ abbrev pub TurnGoesOn : Outside → System → List (List ℕ) → Type 0
 TurnGoesOn x y old = (k t n : ℕ) (c : Cvm) (b : Option Begun) → t ≤ n → Stood x y old k t c → c.status ≡ Running → Progress x (loaded y old) t n b →
     ((j : ℕ) → t ≤ j → j ≤ n → complete x (loaded y old) j ≡ k) × ((j : ℕ) → j ≤ n → (machine x y old j).off ≡ None)
 
+-- what the machine shows after the first step of turn k is what that turn begins with
+abbrev pub TurnShows : Outside → System → List (List ℕ) → Type 0
+TurnShows x y old = (k t : ℕ) (c : Cvm) → Stood x y old k t c → c.status ≡ Running → (a : Ahead x y old k t c) →
+    ShownAs (begin k c.core (bit_or c.pending (lines_of x (loaded y old) k))) (note (machine x y old (suc a.start)))
+
+-- a dispatch adds its row, and the status is by who is next
+pub record RowAdded (k cause edata user : ℕ) (c after : Cvm) : Type 0 where
+  pub next : Next
+  pub rows : after.rows ≡ c.rows ++ (record { turn = k; cause = cause; edata = edata; user = user; next = next }) ∷ []
+  pub status : after.status ≡ status_of next
+
+-- by what the turn begins with; a user's step adds none
+abbrev pub RowsGrow : ℕ → Cvm → Cvm → Begin → Type 0
+RowsGrow k c after (Steps at) = after.rows ≡ c.rows
+RowsGrow k c after (Traps cause edata at) = RowAdded k cause edata at.current c after
+RowsGrow k c after (Interrupts cause edata at pending) = RowAdded k cause edata at.current c after
+
+-- the rows of turn k
+abbrev pub TurnRows : Outside → System → List (List ℕ) → Type 0
+TurnRows x y old = (k : ℕ) (c after : Cvm) → IsCvm y (lines_of x (loaded y old)) k c → c.status ≡ Running → IsCvm y (lines_of x (loaded y old)) (suc k) after →
+    RowsGrow k c after (begin k c.core (bit_or c.pending (lines_of x (loaded y old) k)))
+
 -- what holds of each boot under the premises, whatever is printed
 pub record Machines (x : Outside) (y : System) (old : List (List ℕ)) : Type 0 where
   pub goes_on : GoesOn x y old
@@ -169,6 +192,8 @@ pub record Machines (x : Outside) (y : System) (old : List (List ℕ)) : Type 0 
   pub ahead : (k t : ℕ) (c d : Cvm) → Stood x y old k t c → c.status ≡ Running → IsCvm y (lines_of x (loaded y old)) (suc k) d → Ahead x y old k t c
   pub found : TurnFound x y old
   pub unfound : TurnGoesOn x y old
+  pub shows : TurnShows x y old
+  pub rows : TurnRows x y old
   pub replays : (u turns steps : ℕ) → 1 ≤ u → u ≤ length y.boot.users → TraceReplays x y old u turns steps
 
 abbrev pub MachinesRun : (C0 → Type 0) → Type 0

@@ -1,4 +1,4 @@
-use Rattle.std.proofs.Common.{ℕ, suc, ◌≡◌, None, sym, ap₂, ◌∙◌, subst, arith}
+use Rattle.std.proofs.Common.{suc, ◌≡◌, None, sym, ap₂, ◌∙◌, subst, arith}
 use Rattle.mips_machine.specs.Steps.{outside_of}
 use Rattle.boot_run.specs.Completes.{Open, Progress}
 use Rattle.boot_run.proofs.Opening.{one_step, Opened, seen_rests}

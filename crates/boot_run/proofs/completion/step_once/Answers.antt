@@ -1,4 +1,3 @@
-use Rattle.std.proofs.Common.{ℕ}
 use Rattle.boot_run.proofs.Events.{event_told, steps_seen, steps_time}
 use Rattle.boot_run.proofs.completion.step_once.Goals as goal
 
