@@ -1,13 +1,6 @@
-// A library with one function.
+//! The layer's code as the machine runs it: each law of the layer is met by the words of its image.
 #![tactic(auto)]
 
-ghost use Rattle.std.specs.Prelude.{◌≡◌};
-ghost use Rattle.layer_runs.specs.Echo.{echo_of};
+mod laws;
 
-// The `ensures` clause is the contract: what `echo` returns is `echo_of` of its argument, a definition
-// in `specs/Echo.antt`, which a caller's clause can cite too.
-pub fn echo(x: usize) -> usize
-    ensures { result ≡ echo_of x }
-{
-    x
-}
+pub use laws::blocks_run;
