@@ -1,6 +1,6 @@
 // The laws of values, states and runs: each function says one, and does nothing.
 
-ghost use Rattle.c0_meaning.specs.RunLaws.{CallsAnswer, CallsAreSafe, CallsExtend, DispatchesAnswer, DispatchesAreSafe, EndsAtItsCost, FirstIsTyped, FramesFit, FunctionsAreChained, HasDispatch, LookAtTheirs, MoreUnits, PrimitivesAlone, ProgramsAreSafe, ProgramsEnd, StaysWithin, StepsAreEnough, TypesHaveWords, ZeroHasWords};
+ghost use Rattle.c0_meaning.specs.RunLaws.{CallsAnswer, CallsAreSafe, CallsExtend, DispatchesAnswer, DispatchesAreSafe, EndsAtItsCost, FirstIsTyped, FramesFit, FunctionsAreChained, HasDispatch, LocalsStartTyped, LookAtTheirs, MoreUnits, PrimitivesAlone, ProgramsAreSafe, ProgramsEnd, StaysWithin, StepsAreEnough, TypesHaveWords, ZeroHasWords};
 ghost use Rattle.c0_meaning.specs.Addresses.{PartsAreApart};
 ghost use Rattle.c0_meaning.specs.KernelRows.{AreChecked, ArePartsRight, AreProgramsRight, AreRunsRight, AreSystemsRight, IsOrderRight, SevensFit};
 
@@ -75,6 +75,11 @@ pub fn kernels_have_a_dispatch()
 /// Before the first call the state is typed.
 pub fn first_states_are_typed()
     ensures { FirstIsTyped }
+{}
+
+/// Locals at their start have their types.
+pub fn locals_start_typed()
+    ensures { LocalsStartTyped }
 {}
 
 /// From a typed state a unit that is well formed is never stuck, and its state stays typed.
