@@ -2,3 +2,4 @@ pub mod Flat
 pub mod HeldState
 pub mod Bounds
 pub mod Seen
+pub mod Standing
