@@ -3,3 +3,5 @@ pub mod HeldState
 pub mod Bounds
 pub mod Seen
 pub mod Standing
+pub mod Instructions
+pub mod Site
