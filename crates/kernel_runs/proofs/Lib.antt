@@ -5,3 +5,4 @@ pub mod Seen
 pub mod Standing
 pub mod Instructions
 pub mod Site
+pub mod Reached
