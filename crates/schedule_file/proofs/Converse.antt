@@ -9,7 +9,8 @@ use Rattle.std.proofs.lemmas.Slice.Eq.{bytes_eq-Decides}
 use Rattle.cvm_text.specs.Number.{number_at, IsSpelledAt}
 use Rattle.schedule_file.specs.declared.row.Row.{Row}
 use Rattle.schedule_file.specs.declared.row.Row.TheVariants.{Line, Busy, Input}
-use Rattle.schedule_file.specs.Text.{number_of, row_of_words, row_of_pair, row_in_words, row_of}
+use Rattle.cvm_text.specs.Lines.{number_of}
+use Rattle.schedule_file.specs.Text.{row_of_words, row_of_pair, row_in_words, row_of}
 use Rattle.schedule_file.specs.Spelling.{spelling, HasNumbers, IsSpelled}
 use Rattle.schedule_file.proofs.Words.{words}
 

@@ -2,7 +2,7 @@
 use Rattle.std.proofs.Common.{◌≡◌, ◌<◌, ◌==◌, Bool, false, true, List, [], ℕ, ◌∷◌, length, cond, sym, ap, ◌∙◌, refl, arith}
 use Rattle.std.specs.List.{slice_split, onto_first}
 use Rattle.std.proofs.lemmas.Bool.Decides.{nat_tests}
-use Rattle.schedule_file.specs.Text.{without_empty_end, lines_of}
+use Rattle.cvm_text.specs.Lines.{without_empty_end, lines_of}
 
 -- a text has a first part, which may be empty
 pub first_part : (p : ℕ → Bool) (xs : List ℕ) → (part : List ℕ) × (parts : List (List ℕ)) × (slice_split p xs ≡ part ∷ parts)

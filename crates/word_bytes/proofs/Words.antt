@@ -1,14 +1,13 @@
 -- A word and its four bytes: the number of the bytes of a word is the word, and four bytes are those of their number. Then the
 -- same of words one after another.
-use Rattle.std.proofs.Common.{◌≡◌, ℕ, zero, suc, ◌+◌, ◌*◌, ◌^◌, ◌<◌, ◌≤◌, List, [], ◌∷◌, ◌++◌, length, get_or, take, drop, refl, sym, ap, ◌∙◌, inl, inr, arith}
+use Rattle.std.proofs.Common.{◌≡◌, ℕ, zero, suc, ◌+◌, ◌*◌, ◌/◌, ◌%◌, ◌^◌, ◌<◌, ◌≤◌, List, [], ◌∷◌, ◌++◌, length, get_or, take, drop, refl, sym, ap, ◌∙◌, inl, inr, arith}
 use Rattle.std.specs.List.{flat_map, AllByRecursion}
 use Rattle.std.proofs.lemmas.Bool.{cases_lt}
 use Rattle.std.proofs.lemmas.List.{take-append-drop, length-append, length-take, get_or-drop, get_or-take, get_or_past}
 use Rattle.std.proofs.lemmas.Nat.{le_bytes_4}
 use Rattle.byteorder.specs.Endian.{little_number, IsRead}
 use Rattle.byteorder.specs.Numbers.{little_number-reads_back}
-use Rattle.boot_image.specs.Format.{word}
-use Rattle.boot_image.specs.Reading.{words_of}
+use Rattle.word_bytes.specs.Words.{word, words_of}
 
 -- a list of bytes
 abbrev pub IsBytes : List ℕ → Type 0
@@ -117,3 +116,9 @@ read_words (w ∷ words) (a ∷ b ∷ c ∷ d ∷ bytes) even is =
     let others : IsRead little_number 4 bytes words = λ k lt. is (suc k) (omega arith) ∙ ap (λ (n : ℕ). little_number 4 (drop n (a ∷ b ∷ c ∷ d ∷ bytes))) (four_more k) in
     let rest : words ≡ words_of bytes = read_words words bytes (omega arith) others in
     cc
+
+-- the words of bytes have these bytes
+pub words_spelled : (bytes words : List ℕ) → IsBytes bytes → length bytes % 4 ≡ 0 → words ≡ words_of bytes → flat_map word words ≡ bytes
+words_spelled bytes words fits even is =
+    let m = made (length bytes / 4) bytes fits (omega arith) in
+    ap (λ (w : List ℕ). flat_map word w) (is ∙ ap words_of m.is ∙ words_of-words m.words m.small) ∙ sym m.is
