@@ -4,3 +4,4 @@ pub mod Digits
 pub mod FirstLine
 pub mod HexDigits
 pub mod Spelling
+pub mod Whole

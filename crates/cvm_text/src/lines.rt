@@ -1,6 +1,6 @@
 // Texts line by line.
 
-ghost use Rattle.std.specs.Prelude.{◌≡◌, ◌<◌, ◌∷◌, length};
+ghost use Rattle.std.specs.Prelude.{◌≡◌, ◌<◌, ◌^◌, ◌∷◌, ℕ, List, length, Some, decimal};
 ghost use Rattle.cvm_text.specs.Lines.{lines_of, number_of};
 
 use crate::cutting::cut;
@@ -27,3 +27,9 @@ pub fn whole_number(word: &[u8]) -> Option<u64>
     let (value, end) = read_decimal(word, 0)?;
     if end == word.len() { Some(value) } else { None }
 }
+
+/// A law: each number below 2^64 is spelled by its text as a whole word, and by no other word.
+pub fn whole_numbers_are_spelled()
+    ensures read { (n : ℕ) → n < 2 ^ 64 → number_of (decimal n) ≡ Some n }
+    ensures spelled { (word : List ℕ) (n : ℕ) → number_of word ≡ Some n → (n < 2 ^ 64) × (word ≡ decimal n) }
+{}

@@ -6,7 +6,7 @@ ghost use Rattle.schedule_file.specs.Spelling.{spelling, HasNumbers, IsSpelled};
 ghost use Rattle.schedule_file.specs.declared.row.Row.{Row};
 
 use crate::lines::Lines;
-use cvm_text::{cut, read_numbers_are_spelled, spelled_numbers_are_read, whole_number};
+use cvm_text::{cut, whole_number, whole_numbers_are_spelled};
 
 /// Lines that are raised at a step.
 #[derive(Clone, Copy, Debug, PartialEq, Eq)]
@@ -86,7 +86,7 @@ pub fn row_in(line: &[u8]) -> Option<Row>
 pub fn spelled_rows_are_read()
     ensures { (row : Row) → HasNumbers row → row_of (spelling row) ≡ Some row }
 {
-    spelled_numbers_are_read();
+    whole_numbers_are_spelled();
 }
 
 /// A law: a line that is read is the spelling of its row, whose numbers are
@@ -94,5 +94,5 @@ pub fn spelled_rows_are_read()
 pub fn read_rows_are_spelled()
     ensures { (line : List ℕ) (row : Row) → row_of line ≡ Some row → IsSpelled line row }
 {
-    read_numbers_are_spelled();
+    whole_numbers_are_spelled();
 }

@@ -1,7 +1,6 @@
 -- Which text has parameters, and which fault another one has.
-use Rattle.std.specs.Prelude.{ℕ, ◌≡◌, ◌<◌, ◌≤◌, ◌^◌, ◌==◌, ◌||◌, ◌++◌, nat_lt, List, [], ◌∷◌, Option, Some, None, Result, Ok, Err, codes, decimal, if◌then◌else◌}
+use Rattle.std.specs.Prelude.{ℕ, ◌≡◌, ◌≤◌, ◌⊎◌, ◌||◌, ◌++◌, nat_lt, List, [], ◌∷◌, length, take, drop, Option, Some, None, Result, Ok, Err, codes, decimal, if◌then◌else◌}
 use Rattle.std.specs.Str.{bytes_eq}
-use Rattle.std.specs.List.{slice_split}
 use Rattle.cvm_text.specs.Lines.{lines_of, number_of}
 use Rattle.layer_map.specs.declared.params.Params.{Params}
 use Rattle.system_files.specs.declared.fault.FileFault.{FileFault}
@@ -19,24 +18,19 @@ abbrev pub Comes : {X Y : Type 0} → (X → Y) → Result X FileFault → Resul
 Comes view (Ok x) read = read ≡ Ok (view x)
 Comes view (Err e) read = read ≡ Err e
 
--- the number behind a name, in a line of these words
-abbrev pub number_in_words : List ℕ → List (List ℕ) → Option ℕ
-number_in_words name (word ∷ number ∷ []) = if bytes_eq word name then number_of number else None
-number_in_words name other = None
-
--- the number behind a name and one space
-unfoldable pub number_in : (name line : List ℕ) → Option ℕ
-number_in name line = number_in_words name (slice_split (λ c. c == 32) line)
+-- the number behind the beginning of a line
+unfoldable pub number_in : (beginning line : List ℕ) → Option ℕ
+number_in beginning line = if bytes_eq (take (length beginning) line) beginning then number_of (drop (length beginning) line) else None
 
 -- a number of the line with this number, and what follows it
 abbrev pub counted : ℕ → List (List ℕ) → Option ℕ → Result (ℕ × List (List ℕ)) FileFault
 counted line rest (Some n) = Ok (n, rest)
 counted line rest None = Err (BadParams line)
 
--- the number of the next line, which is to begin with a name, and what follows it
-abbrev pub next_number : (line : ℕ) → (name : List ℕ) → List (List ℕ) → Result (ℕ × List (List ℕ)) FileFault
-next_number line name [] = Err (BadParams line)
-next_number line name (text ∷ rest) = counted line rest (number_in name text)
+-- the number of the next line, which is to begin so, and what follows it
+abbrev pub next_number : (line : ℕ) → (beginning : List ℕ) → List (List ℕ) → Result (ℕ × List (List ℕ)) FileFault
+next_number line beginning [] = Err (BadParams line)
+next_number line beginning (text ∷ rest) = counted line rest (number_in beginning text)
 
 -- numbers behind which no line follows
 abbrev pub at_the_end : List (List ℕ) → Numbers → Result Numbers FileFault
@@ -46,10 +40,10 @@ at_the_end (text ∷ rest) numbers = Err (BadParams 5)
 -- the numbers of the four lines
 unfoldable pub numbers_of : List (List ℕ) → Result Numbers FileFault
 numbers_of lines = do
-  pages ← next_number 1 (codes "pages") lines
-  frames ← next_number 2 (codes "frames") pages.1
-  heap ← next_number 3 (codes "heap") frames.1
-  stack ← next_number 4 (codes "stack") heap.1
+  pages ← next_number 1 (codes "pages ") lines
+  frames ← next_number 2 (codes "frames ") pages.1
+  heap ← next_number 3 (codes "heap ") frames.1
+  stack ← next_number 4 (codes "stack ") heap.1
   at_the_end stack.1 (record { pages = pages.0; frames = frames.0; heap = heap.0; stack = stack.0 })
 
 -- a number in its range
@@ -69,11 +63,11 @@ params_in n = do
 abbrev pub params_of : List ℕ → Result Params FileFault
 params_of text = numbers_of (lines_of text) >>= params_in
 
--- the four lines of parameters
-abbrev pub spelling : Params → List ℕ
-spelling p =
-    codes "pages " ++ decimal p.pages ++ codes "\nframes " ++ decimal p.frames ++ codes "\nheap " ++ decimal p.heap ++ codes "\nstack "
-    ++ decimal p.stack
+-- the four lines of parameters, with this behind the last
+abbrev pub spelling : Params → (last : List ℕ) → List ℕ
+spelling p last =
+    codes "pages " ++ (decimal p.pages ++ 10 ∷ (codes "frames " ++ (decimal p.frames ++ 10 ∷ (
+    codes "heap " ++ (decimal p.heap ++ 10 ∷ (codes "stack " ++ (decimal p.stack ++ last)))))))
 
 -- parameters in their ranges
 pub record AreInRange (p : Params) : Type 0 where
@@ -86,6 +80,5 @@ pub record AreInRange (p : Params) : Type 0 where
   pub most_stack : p.stack ≤ 262144
 
 -- a text spells parameters, with an LF at its end or none
-pub data Spells (text : List ℕ) (p : Params) : Type 0 where
-  ended : text ≡ spelling p ++ 10 ∷ [] → Spells text p
-  open_ended : text ≡ spelling p → Spells text p
+abbrev pub Spells : List ℕ → Params → Type 0
+Spells text p = (text ≡ spelling p []) ⊎ (text ≡ spelling p (10 ∷ []))

@@ -1,13 +1,13 @@
 // The parameters of a system.
 
-ghost use Rattle.std.specs.Prelude.{◌≡◌, ◌≤◌, ◌<◌, List, ℕ, length, Ok, IfOk, IfSome, Option, Some, None};
+ghost use Rattle.std.specs.Prelude.{◌≡◌, ◌≤◌, ◌∷◌, [], List, ℕ, length, Ok, IfOk, IfSome, Option, Some, None};
 ghost use Rattle.cvm_text.specs.Lines.{lines_of};
 ghost use Rattle.layer_map.specs.declared.params.Params.{Params};
 ghost use Rattle.system_files.specs.Params as spec;
 ghost use Rattle.system_files.specs.Params.{AreInRange, Comes, Spells, at_the_end, next_number as next_in, number_in, numbers_of, params_in, ranged};
 
 use crate::fault::FileFault;
-use cvm_text::{cut, first_line, read_numbers_are_spelled, spelled_numbers_are_read, whole_number};
+use cvm_text::{first_line, whole_number, whole_numbers_are_spelled};
 use layer_map::Params;
 
 // The numbers of the four lines.
@@ -28,7 +28,7 @@ pub fn params_of(bytes: &[u8]) -> Result<Params, FileFault>
     ensures is { Comes (λ p. p) result (spec.params_of bytes.now) }
     ensures range { IfOk result (λ p. AreInRange p) }
 {
-    let numbers = numbers(bytes)?;
+    let numbers = read_lines(bytes)?;
     in_range(numbers)
 }
 
@@ -37,32 +37,38 @@ pub fn parameters_are_their_spellings()
     ensures spelled { (text : List ℕ) (p : Params) → spec.params_of text ≡ Ok p → Spells text p × AreInRange p }
     ensures read { (text : List ℕ) (p : Params) → Spells text p → AreInRange p → spec.params_of text ≡ Ok p }
 {
-    read_numbers_are_spelled();
-    spelled_numbers_are_read();
+    whole_numbers_are_spelled();
 }
 
-// The number behind a name and one space.
+// The number behind the beginning of a line.
 #[tactic(auto, unfolding(crate::specs::Params::number_in))]
-fn number_behind(name: &[u8], line: &[u8]) -> Option<u64>
-    ensures { result ≡ number_in name.now line.now }
+fn number_behind(beginning: &[u8], line: &[u8]) -> Option<u64>
+    ensures { result ≡ number_in beginning.now line.now }
 {
-    let (word, rest) = cut(line, b' ');
-    let (number, rest) = cut(rest?, b' ');
-    if rest.is_some() || word != name {
+    if line.len() < beginning.len() {
         return None;
     }
-    whole_number(number)
+    let (first, number) = line.split_at(beginning.len());
+    if first == beginning {
+        whole_number(number)
+    } else {
+        None
+    }
 }
 
-// The number of the next line, which is to begin with a name, and the text after it.
-fn next_number<'a>(which: u32, name: &[u8], text: &'a [u8]) -> Result<(u64, &'a [u8]), FileFault>
-    ensures { Comes (λ x. (x.0, lines_of x.1.now)) result (next_in which name.now (lines_of text.now)) }
+// The number of the next line, which is to begin so, and the text after it.
+fn next_number<'a>(
+    which: u32,
+    beginning: &[u8],
+    text: &'a [u8],
+) -> Result<(u64, &'a [u8]), FileFault>
+    ensures { Comes (λ x. (x.0, lines_of x.1.now)) result (next_in which beginning.now (lines_of text.now)) }
 {
     if text.is_empty() {
         return Err(FileFault::BadParams { line: which });
     }
     let (line, rest) = first_line(text);
-    match number_behind(name, line) {
+    match number_behind(beginning, line) {
         Some(number) => Ok((number, rest)),
         None => Err(FileFault::BadParams { line: which }),
     }
@@ -81,13 +87,13 @@ fn ended(text: &[u8], numbers: Numbers) -> Result<Numbers, FileFault>
 
 // The numbers of the four lines of a text.
 #[tactic(auto, unfolding(crate::specs::Params::numbers_of))]
-fn numbers(text: &[u8]) -> Result<Numbers, FileFault>
+fn read_lines(text: &[u8]) -> Result<Numbers, FileFault>
     ensures { Comes (λ x. x) result (numbers_of (lines_of text.now)) }
 {
-    let (pages, rest) = next_number(1, b"pages".as_slice(), text)?;
-    let (frames, rest) = next_number(2, b"frames".as_slice(), rest)?;
-    let (heap, rest) = next_number(3, b"heap".as_slice(), rest)?;
-    let (stack, rest) = next_number(4, b"stack".as_slice(), rest)?;
+    let (pages, rest) = next_number(1, b"pages ".as_slice(), text)?;
+    let (frames, rest) = next_number(2, b"frames ".as_slice(), rest)?;
+    let (heap, rest) = next_number(3, b"heap ".as_slice(), rest)?;
+    let (stack, rest) = next_number(4, b"stack ".as_slice(), rest)?;
     let numbers = Numbers {
         pages,
         frames,

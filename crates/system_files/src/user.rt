@@ -1,17 +1,18 @@
 // The words of a user.
 
-ghost use Rattle.std.specs.Prelude.{◌≡◌, ◌≢◌, ◌%◌, length, flat_map, IfOk, IfErr};
-ghost use Rattle.std.specs.Int.{to_le_bytes, w32};
-ghost use Rattle.system_files.specs.User.{IsTorn};
+ghost use Rattle.std.specs.Prelude.{◌≡◌, length, IfOk, IfErr};
+ghost use Rattle.std.specs.List.{flat_map};
+ghost use Rattle.word_bytes.specs.Words.{word};
+ghost use Rattle.system_files.specs.User.{IsUserFault};
 
 use crate::fault::FileFault;
-use byteorder::{ByteOrder, LittleEndian};
 use std::alloc::Global;
+use word_bytes::read_words;
 
-/// The words that the file of a user holds; users are counted from 1.
+/// The words that a user's file holds; users are counted from 1. A length that is no multiple of 4 bytes comes before want of memory.
 pub fn user_words(alloc: Global, user: u64, bytes: &[u8]) -> Result<Vec<u32>, FileFault>
-    ensures spelled { IfOk result (λ words. flat_map (to_le_bytes w32) words.items ≡ bytes.now) }
-    ensures torn { IfErr result (λ fault. IsTorn user (length bytes.now) fault) }
+    ensures words { IfOk result (λ v. flat_map word v.items ≡ bytes.now) }
+    ensures fault { IfErr result (λ e. IsUserFault user (length bytes.now) e) }
 {
     if bytes.len() % 4 != 0 {
         return Err(FileFault::UserTorn {
@@ -19,9 +20,5 @@ pub fn user_words(alloc: Global, user: u64, bytes: &[u8]) -> Result<Vec<u32>, Fi
             bytes: bytes.len() as u64,
         });
     }
-    let mut words = Vec::with_capacity_in(bytes.len() / 4, alloc)?;
-    for chunk in bytes.chunks_exact(4) {
-        words.push(LittleEndian::read_u32(chunk))?;
-    }
-    Ok(words)
+    Ok(read_words(alloc, bytes)?)
 }
