@@ -93,5 +93,5 @@ module _ (runs : RunLaws) (compose : RunsCompose) (W E : Type 0) (Outer : W → 
       let canonical = word_same (shapes z.p.unit) (map typed_of z.p.unit.globals) z.a.globals z.a.heap objects objects (λ path t h. refl) (rest_of (unit_scope z.p.unit)) (rest_of sc) (end_of W E Outer Passes z []) (end_of W E Outer Passes z (g ∷ fs)) t v fits in
       let len : k + length (answer_code sc place) ≡ k + 1 = ap (λ is. k + length is) same in
       stores_light runs compose W E Outer Passes z jumps straight held typing exprs fit objects gv hv hw g fs world calls answer c d a others st r waits k debt rest work place t x v 1 1 (k + 1) (units 0) (at_with k c d) (with_reg c x (c.regs 2)) y answered.left.scalar fits
-      (record { is = same_reg c.regs x (c.regs 2) nz ∙ is ∙ sym canonical; others = λ q le ne. other_reg c.regs x (c.regs 2) q ne; memory = refl; special = refl })
+      (record { is = same_reg c.regs x (c.regs 2) nz ∙ is ∙ sym canonical; above = λ q le ne. other_reg c.regs x (c.regs 2) q ne; memory = refl; special = refl })
       go (omega arith) (omega arith) (subst (λ m. Block (text W E Outer Passes z) a.function m debt rest (λ to left. Ahead (text W E Outer Passes z) (a ∷ others) to left work)) len block)

@@ -209,10 +209,10 @@ module _ (W E : Type 0) (Outer : W → Contents → Behind → Type 0) (Passes :
       where
         -- what isn't the unit's lies beside the new object
         beside : (x : ℕ) → (((z.a.globals ≤ x) × (x < z.a.stack + z.p.stack)) ⊎ (x ≡ 1026) → ⊥) → (x < z.a.heap + hw) ⊎ (z.a.heap + hw + size ≤ x)
-        beside x no = elim (cases_Bool (nat_lt x (z.a.heap + hw))) [
+        beside x away = elim (cases_Bool (nat_lt x (z.a.heap + hw))) [
           | inl e ↦ inl (ltb-true x (z.a.heap + hw) e)
           | inr e ↦ let ge = ltb-false x (z.a.heap + hw) e in elim (cases_Bool (nat_lt x (z.a.heap + hw + size))) [
-            | inl l ↦ let lt = ltb-true x (z.a.heap + hw + size) l in let gf = z.globals_fit in let hf = z.heap_fits in absurd (no (inl (omega (arith, ge, gf), omega (arith, lt, room, hf))))
+            | inl l ↦ let lt = ltb-true x (z.a.heap + hw + size) l in let gf = z.globals_fit in let hf = z.heap_fits in absurd (away (inl (omega (arith, ge, gf), omega (arith, lt, room, hf))))
             | inr l ↦ inr (ltb-false x (z.a.heap + hw + size) l)
           ]
         ]

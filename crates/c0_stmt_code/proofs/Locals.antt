@@ -161,7 +161,7 @@ module _ (runs : RunLaws) (compose : RunsCompose) (W E : Type 0) (Outer : W → 
   -- a value has come to the register of its variable, and all else is as it was
   pub record Moved (x : ℕ) (w : Value) (c1 : Contents) : Type 0 where
     pub is : c1.regs x ≡ word sc its w
-    pub others : (q : ℕ) → 20 ≤ q → q ≢ x → c1.regs q ≡ c.regs q
+    pub above : (q : ℕ) → 20 ≤ q → q ≢ x → c1.regs q ≡ c.regs q
     pub memory : c1.memory ≡ c.memory
     pub special : c1.special ≡ c.special
 
@@ -172,7 +172,7 @@ module _ (runs : RunLaws) (compose : RunsCompose) (W E : Type 0) (Outer : W → 
       let place = its_place p t x y in
       let at = place.at in
       let few = place.few in
-      let high_regs : (q : ℕ) → 28 ≤ q → c1.regs q ≡ c.regs q = λ q le. moved.others q (omega (arith, le)) (λ e. absurd (omega (arith, e, le, at, few))) in
+      let high_regs : (q : ℕ) → 28 ≤ q → c1.regs q ≡ c.regs q = λ q le. moved.above q (omega (arith, le)) (λ e. absurd (omega (arith, e, le, at, few))) in
       let s1 = stands_soft runs compose W E Outer Passes z jumps objects here c c1 d moved.memory moved.special (high_regs 28 (omega arith)) (high_regs 30 (omega arith)) st in
       let st2 : Stands W E Outer Passes z objects (with_state here (write here.state (record { region = locals; path = y.name.number ∷ [] }) w)) c1 d = record {
         typed = typing.written objects (state_of gv hv hw (g ∷ fs)) g fs a.function (record { region = locals; path = y.name.number ∷ [] }) t w refl r.is st.typed (t, y.there, refl) fits;
@@ -197,7 +197,7 @@ module _ (runs : RunLaws) (compose : RunsCompose) (W E : Type 0) (Outer : W → 
           is = r.is;
           return_at = ap₂ (λ m q. if calls_in a.function.body then m else q) (ap (λ m. m (end_of W E Outer Passes z fs)) moved.memory) (high_regs 31 (omega arith)) ∙ r.return_at;
           frame_at = high_regs 29 (omega arith) ∙ r.frame_at;
-          variables = stored_there y.name.number x t w c1 y.form at few y.there scalar place.before moved.is moved.others;
+          variables = stored_there y.name.number x t w c1 y.form at few y.there scalar place.before moved.is moved.above;
         },
         subst (λ m. Waiting W E Outer Passes z objects m others fs) (sym moved.memory) waits,
       ) in
@@ -222,5 +222,5 @@ module _ (runs : RunLaws) (compose : RunsCompose) (W E : Type 0) (Outer : W → 
       (λ u w c1 least most gives path.
       let keeps = gives.keeps in
       stores_light p t x w (0 + 1) (0 + (0 + 16 * u)) k1 (plus (units 1) (units u)) (at_with k c d) c1 y left.scalar gives.fits
-      (record { is = sym (read_is c1.regs x (λ q. absurd (omega (arith, q, at)))) ∙ gives.is; others = λ q le ne. keeps.above q ne le; memory = keeps.memory; special = keeps.special })
+      (record { is = sym (read_is c1.regs x (λ q. absurd (omega (arith, q, at)))) ∙ gives.is; above = λ q le ne. keeps.above q ne le; memory = keeps.memory; special = keeps.special })
       path (omega (arith, most, few)) (omega arith) (subst (λ q. Block (text W E Outer Passes z) a.function q debt rest (λ to left. Ahead (text W E Outer Passes z) (a ∷ others) to left work)) len block))
