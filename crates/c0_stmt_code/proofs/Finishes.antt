@@ -1,6 +1,6 @@
 -- An answer goes to a variable that stands in a register.
 use Rattle.std.specs.Prelude.{map, Some, Option}
-use Rattle.std.proofs.Common.{◌≡◌, ◌≢◌, ℕ, ◌+◌, ◌*◌, ◌%◌, ◌^◌, ◌<◌, ◌≤◌, true, false, List, [], ◌∷◌, length, refl, sym, ap, ◌∙◌, subst, arith}
+use Rattle.std.proofs.Common.{◌≡◌, ◌≢◌, ℕ, ◌+◌, ◌*◌, ◌^◌, ◌<◌, true, false, List, [], ◌∷◌, length, refl, sym, ap, ◌∙◌, subst, arith}
 use Rattle.std.proofs.lemmas.Int.{ints}
 use Rattle.mips_table.specs.declared.inst.Inst.TheVariants.{Addu}
 use Rattle.mips_table.specs.Arith.{sum}
@@ -20,7 +20,7 @@ use Rattle.c0_meaning.specs.Running.{Work, store}
 use Rattle.c0_meaning.specs.TypedState.{types_of, PointsTo, Fits, layout_of}
 use Rattle.c0_expr_code.specs.Scope.{Scope}
 use Rattle.c0_expr_code.specs.Code.{made}
-use Rattle.c0_expr_code.specs.Bases.{Bases, words_of_all, word_at}
+use Rattle.c0_expr_code.specs.Bases.{words_of_all, word_at}
 use Rattle.c0_stmt_code.specs.Code.{answer_code, stored_code}
 use Rattle.c0_stmt_code.specs.Setup.{Setup}
 use Rattle.c0_stmt_code.specs.Ahead.{Activation, env_in, IsAnswered, Block, Ahead}
@@ -28,9 +28,9 @@ use Rattle.c0_stmt_code.specs.Standing.{text, scope, bases, end_of, unit_scope, 
 use Rattle.c0_stmt_code.proofs.Needs.{HeldStays, TypedStays, LengthsFit}
 use Rattle.c0_stmt_code.proofs.Given.{room_from}
 use Rattle.c0_stmt_code.proofs.Held.{word_same}
-use Rattle.c0_stmt_code.proofs.Ways.{none, on, away}
+use Rattle.c0_stmt_code.proofs.Ways.{away}
 use Rattle.c0_stmt_code.proofs.Rooms.{words_by_types}
-use Rattle.c0_stmt_code.proofs.Spots.{same_reg, other_reg, read_is}
+use Rattle.c0_stmt_code.proofs.Spots.{same_reg, other_reg}
 use Rattle.c0_stmt_code.proofs.State.{rest_of, standing_at, Exprs}
 use Rattle.c0_stmt_code.proofs.Locals.{IsVariable, its_place, stores_light}
 

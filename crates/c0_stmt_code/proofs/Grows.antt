@@ -1,9 +1,9 @@
 -- The heap with an object more: where its words lie, and that what stood before stands as it did.
-use Rattle.std.specs.Prelude.{map, slice_get, unwrap_or, Some, IsTrue, if◌then◌else◌, nat_lt, nat_le, ◌&&◌}
+use Rattle.std.specs.Prelude.{map, slice_get, unwrap_or, Some, if◌then◌else◌, nat_lt, nat_le, ◌&&◌}
 use Rattle.std.specs.List.{All, list_all}
 use Rattle.std.proofs.lemmas.List.Elements.{All-head, All-tail}
 use Rattle.std.proofs.lemmas.Bool.{cases_Bool, and_parts, leb-true, ltb-true, ltb-false}
-use Rattle.std.proofs.Common.{◌≡◌, ◌≢◌, inl, inr, ℕ, zero, suc, ◌+◌, ◌-◌, ◌*◌, ◌<◌, ◌≤◌, ◌⊎◌, Bool, true, false, Option, List, [], ◌∷◌, ◌++◌, length, refl, sym, ap, ap₂, ◌∙◌, subst, arith}
+use Rattle.std.proofs.Common.{◌≡◌, ◌≢◌, inl, inr, ℕ, zero, suc, ◌+◌, ◌-◌, ◌<◌, ◌≤◌, ◌⊎◌, Bool, true, false, Option, List, [], ◌∷◌, ◌++◌, length, refl, sym, ap, ap₂, ◌∙◌, subst, arith}
 use Rattle.mips_table.specs.Code.{Contents, Behind, Configuration as Machine}
 use Rattle.c0_tree.specs.Tree.{CTy, CFunction}
 use Rattle.c0_meaning.specs.Ty.{Ty, ty_of, named, is_scalar}
@@ -12,23 +12,22 @@ use Rattle.c0_meaning.specs.Env.{Shape, typed_of}
 use Rattle.c0_meaning.specs.Limits.{frame}
 use Rattle.c0_meaning.specs.Words.{fields_named, words}
 use Rattle.c0_meaning.specs.Sizes.{words_before}
-use Rattle.c0_meaning.specs.Addresses.{type_at, words_to, words_to_part}
+use Rattle.c0_meaning.specs.Addresses.{words_to, words_to_part}
 use Rattle.c0_meaning.specs.Sound.{shapes}
 use Rattle.c0_meaning.specs.Typed.{IsDeclarable}
-use Rattle.c0_meaning.specs.Value.{heap, Location, Value, int, bool, null, at, group, Values, empty, part, count, parts, with_part, followed_by, zero_of}
-use Rattle.c0_meaning.specs.State.{Frame, with_object}
-use Rattle.c0_meaning.specs.World.{Configuration, with_state}
+use Rattle.c0_meaning.specs.Value.{Value, int, bool, null, at, group, Values, empty, part, count, parts, with_part, zero_of}
+use Rattle.c0_meaning.specs.State.{Frame}
 use Rattle.c0_meaning.specs.TypedState.{Layout, types_of, LeadsFrom, AllFit, AreParts, variable_types, IsTypedFrame, layout_of}
-use Rattle.c0_expr_code.specs.Scope.{Scope, is_leaf}
-use Rattle.c0_expr_code.specs.Bases.{Bases, words_of_all, RegionHeld}
+use Rattle.c0_expr_code.specs.Scope.{is_leaf}
+use Rattle.c0_expr_code.specs.Bases.{words_of_all, RegionHeld}
 use Rattle.c0_stmt_code.specs.Code.{calls_in}
 use Rattle.c0_stmt_code.specs.Setup.{Setup}
 use Rattle.c0_stmt_code.specs.Ahead.{Activation}
 use Rattle.c0_stmt_code.specs.Standing.{scope, bases, end_of, unit_scope, VariablesHeld, Waiting, Runs, UnderWay, Stands}
 use Rattle.c0_stmt_code.proofs.Needs.{HeldStays, TypedStays}
 use Rattle.c0_stmt_code.proofs.Held.{region}
-use Rattle.c0_stmt_code.proofs.State.{rest_of, state_of, standing_at}
-use Rattle.c0_stmt_code.proofs.Rooms.{frame_words, frame_on, words_by_types, waiting_same}
+use Rattle.c0_stmt_code.proofs.State.{rest_of, standing_at}
+use Rattle.c0_stmt_code.proofs.Rooms.{frame_on, words_by_types, waiting_same}
 use Rattle.c0_stmt_code.proofs.Variables.{zero_zero, zeros_held, joined_held, scalars_words}
 use Rattle.c0_stmt_code.proofs.Lights.{each_scalar}
 

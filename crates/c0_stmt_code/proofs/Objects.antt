@@ -1,5 +1,5 @@
 -- The statement `new`: the words of the type are loaded, the routine is called, and its answer waits for its place.
-use Rattle.std.specs.Prelude.{map, slice_get, Option, Some, pos, nat_lt, if◌then◌else◌}
+use Rattle.std.specs.Prelude.{slice_get, Option, nat_lt}
 use Rattle.std.proofs.Common.{◌≡◌, ◌≢◌, inl, inr, ℕ, ◌+◌, ◌*◌, ◌%◌, ◌^◌, ◌<◌, ◌≤◌, ◌⊎◌, true, List, [], ◌∷◌, ◌++◌, length, refl, sym, ap, ◌∙◌, subst, arith, length-append}
 use Rattle.std.proofs.lemmas.Bool.{cases_Bool, cond-true, cond-false, ltb-true, ltb-false}
 use Rattle.std.proofs.lemmas.Int.{ints}
@@ -12,27 +12,25 @@ use Rattle.c0_tree.specs.Size.{nodes}
 use Rattle.c0_tree.specs.Tree.{num, CTy, CExpr, CStmts}
 use Rattle.c0_meaning.specs.Ty.{Ty, ty_of, named}
 use Rattle.c0_meaning.specs.Ty as ty
-use Rattle.c0_meaning.specs.Env.{typed_of}
 use Rattle.c0_meaning.specs.Words.{words, fields_named}
 use Rattle.c0_meaning.specs.Sizes.{words_before}
 use Rattle.c0_meaning.specs.Sound.{shapes}
 use Rattle.c0_meaning.specs.Typed.{IsDeclarable}
 use Rattle.c0_meaning.specs.Value.{heap, Value, null, at, parts, with_part, zero_of}
-use Rattle.c0_meaning.specs.State.{Frame, with_object}
+use Rattle.c0_meaning.specs.State.{Frame}
 use Rattle.c0_meaning.specs.Statement.{MAX_NEED, new_need}
 use Rattle.c0_meaning.specs.Numbered.{a_number, a_value, IsNumberedLeft}
-use Rattle.c0_meaning.specs.World.{units, Configuration, with_state}
+use Rattle.c0_meaning.specs.World.{units, Configuration}
 use Rattle.c0_meaning.specs.Running.{into, Work, finish, Step, Go, allocate}
 use Rattle.c0_meaning.specs.TypedState.{types_of, Fits, layout_of}
 use Rattle.c0_expr_code.specs.Scope.{Scope}
 use Rattle.c0_expr_code.specs.Code.{constant_code}
 use Rattle.c0_expr_code.specs.Bases.{words_of_all}
-use Rattle.c0_runtime.specs.Laws.{IsCalled, HeapIs, IsAsked, IsRefused, IsMade, NewRuns}
+use Rattle.c0_runtime.specs.Laws.{IsCalled, HeapIs, IsAsked, NewRuns}
 use Rattle.c0_stmt_code.specs.Code.{calls_in, new_code, answer_code}
 use Rattle.c0_stmt_code.specs.Setup.{Setup}
-use Rattle.c0_stmt_code.specs.Journey.{Led}
 use Rattle.c0_stmt_code.specs.Ahead.{Activation, env_in, Block, Awaits, Ahead}
-use Rattle.c0_stmt_code.specs.Standing.{text, scope, bases, end_of, unit_scope, word_of_value, Waiting, Runs, UnderWay, Stands, StepIs}
+use Rattle.c0_stmt_code.specs.Standing.{text, scope, word_of_value, Waiting, Runs, Stands, StepIs}
 use Rattle.c0_stmt_code.proofs.Needs.{HeldStays, TypedStays}
 use Rattle.c0_stmt_code.proofs.Ways.{Way, on, of, away}
 use Rattle.c0_stmt_code.proofs.Blocks.{front, back}
