@@ -8,16 +8,14 @@ use Rattle.mips_table.specs.Code.{Contents, Behind, World, Sound, Configuration,
 use Rattle.masm.specs.declared.registers.Places.{Places}
 use Rattle.cvm_words.specs.Words.{word_of}
 use Rattle.c0_tree.specs.Primitives.{CPrimitive}
-use Rattle.c0_tree.specs.Tree.{CTy, CFunction, CUnit}
-use Rattle.c0_meaning.specs.Ty.{Ty, ty_of}
+use Rattle.c0_tree.specs.Tree.{CFunction, CUnit}
 use Rattle.c0_meaning.specs.Env.{typed_of}
 use Rattle.c0_meaning.specs.Words.{all_words}
 use Rattle.c0_meaning.specs.Sound.{shapes}
 use Rattle.c0_meaning.specs.Unit.{IsWellFormed}
-use Rattle.c0_meaning.specs.Typed.{IsDeclarable}
-use Rattle.c0_meaning.specs.Value.{Value, int, bool, Values, empty, part, zero_of}
+use Rattle.c0_meaning.specs.Value.{Value, int, bool, Values, empty, part}
 use Rattle.c0_meaning.specs.World.{Setting}
-use Rattle.c0_meaning.specs.TypedState.{Fits, layout_of, IsScalar, AreScalars}
+use Rattle.c0_meaning.specs.TypedState.{IsScalar, AreScalars}
 use Rattle.c0_runtime.specs.Code as runtime
 use Rattle.c0_expr_code.specs.Scope.{scope_of}
 use Rattle.c0_stmt_code.specs.Code.{Links, links_of, MAX_STACK, function_code}
@@ -96,9 +94,6 @@ pub record Setup (W E : Type 0) (Outer : W → Contents → Behind → Type 0) (
   pub functions : (n : ℕ) (f : CFunction) → slice_get p.unit.functions n ≡ Some f
       → CodeAt w ((links_of places).function n) (function_code (scope_of p.unit f places) (links_of places) f)
   pub new_object : CodeAt w (links_of places).new_object runtime.new_code
-  -- a variable or an object at its start has its type
-  pub zero_fits : (objects : List Ty) (t : CTy) → IsDeclarable (shapes p.unit) t
-      → Fits (shapes p.unit) (layout_of p.unit objects) (ty_of t) (zero_of (shapes p.unit) (ty_of t))
   -- what isn't the unit's is the rest of the machine's
   pub outer_stays : (v : W) (c c' : Contents) (d : Behind) → ((k : ℕ) → (IsOurs a p.stack k → ⊥) → c'.memory k ≡ c.memory k)
       → c'.special ≡ c.special → Outer v c d → Outer v c' d
