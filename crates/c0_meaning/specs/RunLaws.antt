@@ -19,7 +19,7 @@ use Rattle.c0_meaning.specs.Execution.{Outcome, Done, Failed, NotYet, run, run_w
 use Rattle.c0_meaning.specs.State.{State, first_state, stack_words}
 use Rattle.c0_meaning.specs.PrimitiveCalls.{PrimitiveCall, AreMadeBy}
 use Rattle.c0_meaning.specs.CallChain.{AreChained, running}
-use Rattle.c0_meaning.specs.TypedState.{types_of, AllFit, layout_of, IsTypedWith, IsTypedState, AnswersFit, IsSafe, Answers}
+use Rattle.c0_meaning.specs.TypedState.{Layout, types_of, Fits, AllFit, layout_of, IsTypedWith, IsTypedState, AnswersFit, IsSafe, Answers}
 use Rattle.std.specs.Int.{w32}
 use Rattle.c0_meaning.specs.UserProgram.{Ending, done, failed, not_yet, user_primitives, is_main, prog}
 use Rattle.c0_meaning.specs.Operators.{stuck}
@@ -115,6 +115,11 @@ ProgramsEnd = (u : CUnit) (answers : List ℤ) (m n : ℕ) → m ≤ n → HasEn
 -- a law: in a unit that is well formed a type that may be declared has a word, so that its objects stand at addresses of their own
 abbrev pub TypesHaveWords : Type 0
 TypesHaveWords = (primitives : List CPrimitive) (u : CUnit) → IsWellFormed primitives u → (t : CTy) → IsDeclarable (shapes u) t → 1 ≤ words (shapes u) (ty_of t)
+
+-- a law: in a unit that is well formed a variable or object of a type that may be declared starts with a value of it
+abbrev pub ZerosFit : Type 0
+ZerosFit = (primitives : List CPrimitive) (u : CUnit) → IsWellFormed primitives u → (layout : Layout) (t : CTy) → IsDeclarable (shapes u) t
+    → Fits (shapes u) layout (ty_of t) (zero_of (shapes u) (ty_of t))
 
 -- a law: a checked kernel has a `dispatch`
 abbrev pub HasDispatch : Type 0

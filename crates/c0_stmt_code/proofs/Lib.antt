@@ -5,14 +5,17 @@ pub mod CallActs
 pub mod Calls
 pub mod Costs
 pub mod Entry
+pub mod Finishes
 pub mod Frames
 pub mod Given
 pub mod Given2
+pub mod Grows
 pub mod Held
 pub mod Lengths
 pub mod Lights
 pub mod Locals
 pub mod Needs
+pub mod Objects
 pub mod Places
 pub mod Primitives
 pub mod Returns

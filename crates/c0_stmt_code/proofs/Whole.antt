@@ -8,10 +8,10 @@ use Rattle.c0_meaning.specs.Running.{Work, Step, Go, Stop, act}
 use Rattle.c0_meaning.specs.Execution.{Outcome, Done, Failed, NotYet, then_run, run}
 use Rattle.c0_stmt_code.specs.Setup.{Setup}
 use Rattle.c0_stmt_code.specs.Journey.{Led, Stopped}
-use Rattle.c0_stmt_code.specs.Standing.{Simulated, StepIs, RunIs, EachStepRuns}
+use Rattle.c0_stmt_code.specs.Standing.{Simulated, StepIs, RunIs, StepsRun}
 use Rattle.c0_stmt_code.proofs.Ways.{journey_on}
 
-module _ (laws : RunLaws) (W E : Type 0) (Outer : W → Contents → Behind → Type 0) (Passes : Machine → Machine → Type 0) (z : Setup W E Outer Passes) (each : EachStepRuns W E Outer Passes z) where
+module _ (laws : RunLaws) (W E : Type 0) (Outer : W → Contents → Behind → Type 0) (Passes : Machine → Machine → Type 0) (z : Setup W E Outer Passes) (each : StepsRun W E Outer Passes) where
   led_on : (u v debt mid left : ℕ) (h h1 h2 : Configuration W E) (s t t2 : Machine) → Led z.w Passes u debt mid h h1 s t → Led z.w Passes v mid left h1 h2 t t2 → Led z.w Passes (u + v) debt left h h2 s t2
   led_on u v debt mid left h h1 h2 s t t2 a b =
       let ah = a.high in let bh = b.high in let al = a.low in let bl = b.low in let ae = a.ended_so in let be = b.ended_so in
@@ -35,7 +35,7 @@ module _ (laws : RunLaws) (W E : Type 0) (Outer : W → Contents → Behind → 
   pub whole : (debt steps limit : ℕ) (used : Cost) (work : List Work) (h : Configuration W E) (s : Machine) → Simulated W E Outer Passes z debt work h s → RunIs W E Outer Passes z debt used h s (run z.p steps limit used work h)
   whole debt zero limit used work h s sim = (s, 0, omega arith, debt, work, led_none debt h s, sim)
   whole debt (suc steps) limit used [] h s sim = (s, 0, omega arith, debt, led_none debt h s, sim)
-  whole debt (suc steps) limit used (item ∷ work) h s sim = by_step (act z.p item work h) (each debt item work h s sim) (λ d u w c t q. whole d steps limit u w c t q)
+  whole debt (suc steps) limit used (item ∷ work) h s sim = by_step (act z.p item work h) (each z debt item work h s sim) (λ d u w c t q. whole d steps limit u w c t q)
     where
       by_step : (t : Step W E) → StepIs W E Outer Passes z debt h s t → ((d : ℕ) (u : Cost) (w : List Work) (c : Configuration W E) (t : Machine) → Simulated W E Outer Passes z d w c t → RunIs W E Outer Passes z d u c t (run z.p steps limit u w c)) → RunIs W E Outer Passes z debt used h s (then_run t limit used h (run z.p steps limit))
       by_step (Go cost w d) r rest = by_test (nat_lt limit (total (plus used cost)))
