@@ -67,15 +67,15 @@ some_equality sc o a b s r h =
 count : (old new : List ℕ) (is : List Inst) → new ≡ old ++ map encoding is → length new ≡ length old + length is
 count old new is e = ap length e ∙ length-append old (map encoding is) ∙ ap (λ n. length old + n) (map_length encoding is)
 
-pub not_none : (old new : List ℕ) (is : List Inst) → 0 < length is → new ≡ old ++ map encoding is → 0 < length new
-not_none old new is h e = let n = count old new is e in omega (arith, n, h)
+pub not_none : (old new seen : List ℕ) (is : List Inst) → 0 < length is → new ≡ old ++ map encoding is → seen ≡ new → 0 < length seen
+not_none old new seen is h e v = let n = ap length v ∙ count old new is e in omega (arith, n, h)
 
 -- the last word is noted
-pub last : {A E : Type 0} (r : Result A E) (old new marked marks : List ℕ) (is : List Inst) → 0 < length is → new ≡ old ++ map encoding is → OnOk r (marks ≡ marked ++ (length new - 1) ∷ [])
-    → OnOk r (IsOpened old new marked marks (last_open is))
-last r old new marked marks is h e =
-    let n = count old new is e in
-    let p : length new - 1 ≡ length old + (length is - 1) = omega (arith, n, h) in
+pub last : {A E : Type 0} (r : Result A E) (old new seen marked marks : List ℕ) (is : List Inst) → 0 < length is → new ≡ old ++ map encoding is → seen ≡ new
+    → OnOk r (marks ≡ marked ++ (length seen - 1) ∷ []) → OnOk r (IsOpened old new marked marks (last_open is))
+last r old new seen marked marks is h e v =
+    let n = ap length v ∙ count old new is e in
+    let p : length seen - 1 ≡ length old + (length is - 1) = omega (arith, n, h) in
     on_ok r _ _ (λ w. record { words = e; places = w ∙ ap (λ k. marked ++ k ∷ []) p })
 
 -- two stand side by side
@@ -88,35 +88,37 @@ joined old mid new marked marks all x y h k = record {
       k.places ∙ ap₂ (λ l m. l ++ m) h.places there ∙ assoc marked _ _ ∙ ap (λ l. marked ++ l) (sym (map_append (λ j. length old + j) x.jumps (map (λ j. length x.code + j) y.jumps)));
 }
 
--- which of both it is
-pub same_sides : (sc : Scope) (d s : Bool) (a b : CExpr) (r : ℕ) → d ≡ s → either_open sc a b s r ≡ logic_open sc d a b s r
-same_sides sc true true a b r h = refl
-same_sides sc false false a b r h = refl
-same_sides sc true false a b r h = cc
-same_sides sc false true a b r h = cc
+-- where the second of two stands, the result being that of both
+pub then : {A E : Type 0} (r : Result A E) (old mid new marked marks all : List ℕ) (x y : Open) → IsOpened old mid marked marks x → OnOk r (IsOpened mid new marks all y)
+    → OnOk r (IsOpened old new marked all (joined_open x y))
+then r old mid new marked marks all x y h = on_ok r _ _ (λ k. joined old mid new marked marks all x y h k)
 
--- the first test's branches stand in the code
-module _ (sc : Scope) (a b : CExpr) (s : Bool) (r : ℕ) (old mid new marked marks over : List ℕ)
-  (first : IsOpened old mid [] over (test_open sc a (not s) r)) (second : IsOpened mid new marked marks (test_open sc b s r)) where
-  pub there : All (λ j. j < length new) over
+module _ (sc : Scope) (a b : CExpr) (s : Bool) (r : ℕ) (old mid new none over marked marks seen : List ℕ) (at_first : none ≡ [])
+  (first : IsOpened old mid none over (test_open sc a (not s) r)) (second : IsOpened mid new marked marks (test_open sc b s r)) (same : seen ≡ over) where
+  -- the first test's branches
+  aside : seen ≡ map (λ j. length old + j) (test_open sc a (not s) r).jumps
+  aside = same ∙ first.places ∙ ap (λ l. l ++ map (λ j. length old + j) (test_open sc a (not s) r).jumps) at_first
+
+  -- stand in the code
+  pub there : All (λ j. j < length new) seen
   there =
       let n = count old mid (test_open sc a (not s) r).code first.words in
       let m = count mid new (test_open sc b s r).code second.words in
-      subst (All (λ j. j < length new)) (sym first.places) (within sc a (not s) r (length old) (length new) (omega (arith, n, m)))
+      subst (All (λ j. j < length new)) (sym aside) (within sc a (not s) r (length old) (length new) (omega (arith, n, m)))
 
-  -- and are patched
-  pub over_it : (final : List ℕ) → length new < 2 ^ 64 → final ≡ patched (length new) over new → IsOpened old final marked marks (over_open sc a b s r)
-  over_it final short p =
+  -- and, patched, they go over the second test
+  pub over_it : (final : List ℕ) (end : ℕ) → end ≡ length new → end < 2 ^ 64 → final ≡ patched end seen new → IsOpened old final marked marks (over_open sc a b s r)
+  over_it final end e short p =
       let x = test_open sc a (not s) r in
       let y = test_open sc b s r in
       let far = length y.code % 2 ^ 16 in
       let n = count old mid x.code first.words in
       let m = count mid new y.code second.words in
       let whole : new ≡ old ++ (map encoding x.code ++ map encoding y.code) = second.words ∙ ap (λ l. l ++ map encoding y.code) first.words ∙ assoc old (map encoding x.code) (map encoding y.code) in
-      let aim = patches sc a (not s) r far (length new) old (map encoding y.code) (omega arith) (omega (arith, n, m, short)) (omega (arith, n, m)) in
+      let aim = patches sc a (not s) r far end old (map encoding y.code) (omega arith) (omega (arith, n, m, e, short)) (omega (arith, n, m, e)) in
       let many = (aims sc a (not s) r).same far in
       record {
-        words = p ∙ ap₂ (λ js ws. patched (length new) js ws) first.places whole ∙ aim ∙ ap (λ l. old ++ l) (sym (map_append encoding (test_code sc a (not s) far r) y.code));
+        words = p ∙ ap₂ (λ js ws. patched end js ws) aside whole ∙ aim ∙ ap (λ l. old ++ l) (sym (map_append encoding (test_code sc a (not s) far r) y.code));
         places =
             let k : length mid ≡ length old + length (test_code sc a (not s) far r) = n ∙ ap (λ i. length old + i) (sym many) in
             second.places ∙ ap (λ l. marked ++ l) (ap (λ i. map (λ j. i + j) y.jumps) k ∙ sym (shifted (length old) (length (test_code sc a (not s) far r)) y.jumps));

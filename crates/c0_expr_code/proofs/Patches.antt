@@ -67,11 +67,11 @@ words_of is b before after =
 lasts : (f : ℕ → List Inst) → EndsIn f → AimsAt (last_open (f 0)) f
 lasts f h = record { same = λ far. len far ∙ sym (len 0); within = within; law = law }
   where
-    within : (at n : ℕ) → at + length (f 0) ≤ n → All (λ j. j < n) ((at + (length (f 0) - 1)) ∷ [])
-    within at n w = let l0 = len 0 in All-cons (λ j. j < n) (at + (length (f 0) - 1)) [] (omega (arith, l0, w)) (All-nil (λ j. j < n))
-
     len : (far : ℕ) → length (f far) ≡ length h.before + 1
     len far = ap length (h.is far) ∙ length-append h.before (h.branch far ∷ [])
+
+    within : (at n : ℕ) → at + length (f 0) ≤ n → All (λ j. j < n) ((at + (length (f 0) - 1)) ∷ [])
+    within at n w = let l0 = len 0 in All-cons (λ j. j < n) (at + (length (f 0) - 1)) [] (omega (arith, l0, w)) (All-nil (λ j. j < n))
 
     law : (far to : ℕ) (before after : List ℕ) → far < 2 ^ 16 → length before + length (f 0) < 2 ^ 64 → (length before + length (f 0) + far) % 2 ^ 16 ≡ to % 2 ^ 16
         → patched to ((length before + (length (f 0) - 1)) ∷ []) (before ++ (map encoding (f 0) ++ after)) ≡ before ++ (map encoding (f far) ++ after)
