@@ -1,17 +1,17 @@
 -- Open code is put together: a last branch, tests side by side, and a test that goes over another.
 use Rattle.std.specs.Prelude.{map, All, OnOk, Result, Ok, Err}
-use Rattle.std.proofs.Common.{◌≡◌, ℕ, suc, ◌+◌, ◌-◌, ◌%◌, ◌^◌, ◌<◌, ◌≤◌, Bool, true, false, not, Option, Some, None, List, [], ◌∷◌, ◌++◌, length, refl, sym, ap, ap₂, ◌∙◌, arith, length-append, subst}
+use Rattle.std.proofs.Common.{◌≡◌, ℕ, ◌+◌, ◌-◌, ◌%◌, ◌^◌, ◌<◌, Bool, true, not, None, List, [], ◌∷◌, ◌++◌, length, sym, ap, ap₂, ◌∙◌, arith, length-append, subst}
 use Rattle.mips_table.specs.declared.inst.Inst.{Inst}
 use Rattle.mips_table.specs.Encoding.{encoding}
 use Rattle.c0_tree.specs.declared.tree.BinaryOp.{BinaryOp}
 use Rattle.c0_tree.specs.declared.tree.BinaryOp.TheVariants.{Add, Sub, Mul, Div, Rem, Lt, Le, Gt, Ge, Eq, Ne, And, Or}
 use Rattle.c0_tree.specs.Tree.{CExpr}
 use Rattle.c0_expr_code.specs.Scope.{Scope}
-use Rattle.c0_expr_code.specs.Code.{Made, made}
+use Rattle.c0_expr_code.specs.Code.{made}
 use Rattle.c0_expr_code.specs.Test.{immediate_test_of, compare_test, plain_test, test_code}
-use Rattle.c0_expr_code.specs.Jumps.{Open, last_open, joined_open, behind_open, both_open, test_open, patched}
-use Rattle.c0_expr_code.specs.Opened.{IsOpened, is_order, is_equality, bool_code, order_code, equality_test, either_open, over_open, logic_open}
-use Rattle.c0_expr_code.proofs.Patches.{assoc, map_append, map_length, shifted, EndsIn, AimsAt, aims, patches, within, plain_ends, IsCompared, lt, le, gt, ge, eq, ne, compared, test_of}
+use Rattle.c0_expr_code.specs.Jumps.{Open, last_open, joined_open, test_open, patched}
+use Rattle.c0_expr_code.specs.Opened.{IsOpened, is_order, is_equality, bool_code, order_code, equality_code, over_open}
+use Rattle.c0_expr_code.proofs.Patches.{assoc, map_append, map_length, shifted, EndsIn, aims, patches, within, plain_ends, IsCompared, lt, le, gt, ge, eq, ne, compared, test_of}
 
 on_ok : {A E : Type 0} (r : Result A E) (P Q : Type 0) → (P → Q) → OnOk r P → OnOk r Q
 on_ok (Ok a) P Q f h = f h
@@ -59,7 +59,7 @@ some_order sc o a b s r h =
     some (λ far. compare_test (immediate_test_of o (made sc b).known) o (made sc a) (made sc b) s far r)
     (compared (immediate_test_of o (made sc b).known) o (made sc a) (made sc b) s r (test_of o (made sc b).known) (order_of o h))
 
-pub some_equality : (sc : Scope) (o : BinaryOp) (a b : CExpr) (s : Bool) (r : ℕ) → is_equality o ≡ true → 0 < length (equality_test sc o a b s r)
+pub some_equality : (sc : Scope) (o : BinaryOp) (a b : CExpr) (s : Bool) (r : ℕ) → is_equality o ≡ true → 0 < length (equality_code sc o a b s r)
 some_equality sc o a b s r h =
     some (λ far. compare_test None o (made sc a) (made sc b) s far r) (compared None o (made sc a) (made sc b) s r tt (equality_of o h))
 
@@ -94,7 +94,7 @@ pub then : {A E : Type 0} (r : Result A E) (old mid new marked marks all : List 
 then r old mid new marked marks all x y h = on_ok r _ _ (λ k. joined old mid new marked marks all x y h k)
 
 module _ (sc : Scope) (a b : CExpr) (s : Bool) (r : ℕ) (old mid new none over marked marks seen : List ℕ) (at_first : none ≡ [])
-  (first : IsOpened old mid none over (test_open sc a (not s) r)) (second : IsOpened mid new marked marks (test_open sc b s r)) (same : seen ≡ over) where
+    (first : IsOpened old mid none over (test_open sc a (not s) r)) (second : IsOpened mid new marked marks (test_open sc b s r)) (same : seen ≡ over) where
   -- the first test's branches
   aside : seen ≡ map (λ j. length old + j) (test_open sc a (not s) r).jumps
   aside = same ∙ first.places ∙ ap (λ l. l ++ map (λ j. length old + j) (test_open sc a (not s) r).jumps) at_first

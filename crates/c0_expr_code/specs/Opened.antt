@@ -6,8 +6,8 @@ use Rattle.c0_tree.specs.declared.tree.BinaryOp.{BinaryOp}
 use Rattle.c0_tree.specs.declared.tree.BinaryOp.TheVariants.{Add, Sub, Mul, Div, Rem, Lt, Le, Gt, Ge, Eq, Ne, And, Or}
 use Rattle.c0_tree.specs.Tree.{CExpr}
 use Rattle.c0_expr_code.specs.Scope.{Scope}
-use Rattle.c0_expr_code.specs.Code.{made}
-use Rattle.c0_expr_code.specs.Test.{ImmediateTest, immediate_test_of, compare_test, plain_test, test_code, negative_branch, positive_branch, below_code}
+use Rattle.c0_expr_code.specs.Code.{made, one_code}
+use Rattle.c0_expr_code.specs.Test.{ImmediateTest, immediate_test, immediate_test_of, compare_test, plain_test, test_code, negative_branch, positive_branch, below_code}
 use Rattle.c0_expr_code.specs.Jumps.{Open, last_open, behind_open, joined_open, both_open, binary_open, test_open}
 
 -- open code stands behind other words, and its branches' places behind other places
@@ -69,13 +69,27 @@ is_equality Or = false
 abbrev pub bool_code : Scope → CExpr → Bool → ℕ → List Inst
 bool_code sc e s r = plain_test (made sc e) s 0 r
 
+-- the code of the test of a side against a constant
+abbrev pub side_code : Scope → BinaryOp → (k : ℕ) → CExpr → Bool → ℕ → List Inst
+side_code sc o k e s r = one_code (λ q. test_with (immediate_test o k) s 0 q) (made sc e) r
+
 -- the code of a comparison by an order, whose right side may be a constant
 abbrev pub order_code : Scope → BinaryOp → CExpr → CExpr → Bool → ℕ → List Inst
 order_code sc o a b s r = compare_test (immediate_test_of o (made sc b).known) o (made sc a) (made sc b) s 0 r
 
 -- the code of a comparison for equality
-abbrev pub equality_test : Scope → BinaryOp → CExpr → CExpr → Bool → ℕ → List Inst
-equality_test sc o a b s r = compare_test None o (made sc a) (made sc b) s 0 r
+abbrev pub equality_code : Scope → BinaryOp → CExpr → CExpr → Bool → ℕ → List Inst
+equality_code sc o a b s r = compare_test None o (made sc a) (made sc b) s 0 r
+
+-- the code of a test whose last instruction is its branch, of these three
+abbrev pub bool_open : Scope → CExpr → Bool → ℕ → Open
+bool_open sc e s r = last_open (bool_code sc e s r)
+
+abbrev pub order_open : Scope → BinaryOp → CExpr → CExpr → Bool → ℕ → Open
+order_open sc o a b s r = last_open (order_code sc o a b s r)
+
+abbrev pub equality_open : Scope → BinaryOp → CExpr → CExpr → Bool → ℕ → Open
+equality_open sc o a b s r = last_open (equality_code sc o a b s r)
 
 -- both tests go to the place where they are s
 abbrev pub either_open : Scope → CExpr → CExpr → Bool → ℕ → Open

@@ -6,10 +6,9 @@ ghost use Rattle.mips_table.specs.Encoding.{InRange, encoding};
 ghost use Rattle.masm.specs.declared.registers.TheConstants.{SCRATCH as R1};
 ghost use Rattle.c0_tree.specs.Size.{need, binary_need};
 ghost use Rattle.c0_tree.specs.View.{expr_view};
-ghost use Rattle.c0_expr_code.specs.Code.{made, one_code, two_code};
-ghost use Rattle.c0_expr_code.specs.Jumps.{last_open, test_open};
-ghost use Rattle.c0_expr_code.specs.Opened.{IsOpened, bool_code, either_open, equality_test, higher_code, is_equality, is_order, is_test_immediate, logic_open, lower_code};
-ghost use Rattle.c0_expr_code.specs.Opened.{operation_open, order_code, over_open, test_with};
+ghost use Rattle.c0_expr_code.specs.Jumps.{test_open};
+ghost use Rattle.c0_expr_code.specs.Opened.{IsOpened, bool_code, bool_open, either_open, equality_code, equality_open, higher_code, is_equality, is_order};
+ghost use Rattle.c0_expr_code.specs.Opened.{is_test_immediate, logic_open, lower_code, operation_open, order_code, order_open, over_open, side_code, test_with};
 ghost use Rattle.c0_expr_code.specs.Scene.{HasNumbers, scope_in};
 ghost use Rattle.c0_expr_code.specs.Test.{below_code, branch_code, compare_code, immediate_test, negative_branch, positive_branch};
 
@@ -85,7 +84,12 @@ fn branch_positive(is_above: bool, register: u32) -> Inst
 }
 
 // Appends whether one register is below another, and the branch to where it isn't, or where it is.
-fn emit_less_test(code: &mut Vec<u32>, is_not: bool, left: u32, right: u32) -> Result<(), AllocError>
+fn emit_less_test(
+    code: &mut Vec<u32>,
+    is_not: bool,
+    left: u32,
+    right: u32,
+) -> Result<(), AllocError>
     requires left { left < 32 }
     requires right { right < 32 }
     ensures { OnOk result (code.new.items ≡ code.old.items ++ map encoding (Slt R1 left right ∷ branch_code is_not R1 0 0 ∷ [])) }
@@ -124,7 +128,12 @@ fn emit_comparison(
 }
 
 // Appends the test of whether a register is below a constant.
-fn emit_below_test(code: &mut Vec<u32>, wanted: bool, left: u32, word: u32) -> Result<(), AllocError>
+fn emit_below_test(
+    code: &mut Vec<u32>,
+    wanted: bool,
+    left: u32,
+    word: u32,
+) -> Result<(), AllocError>
     requires { left < 32 }
     ensures { OnOk result (code.new.items ≡ code.old.items ++ map encoding (below_code word wanted 0 left)) }
 {
@@ -242,7 +251,7 @@ fn emit_one_side(
     requires room { free + need (expr_view side.now) ≤ 20 }
     requires numbers { HasNumbers (scope_in scene.now).env (expr_view side.now) }
     requires takes { is_test_immediate (immediate_test op word) ≡ true }
-    ensures { OnOk result (code.new.items ≡ code.old.items ++ map encoding (one_code (λ q. test_with (immediate_test op word) wanted 0 q) (made (scope_in scene.now) (expr_view side.now)) free)) }
+    ensures { OnOk result (code.new.items ≡ code.old.items ++ map encoding (side_code (scope_in scene.now) op word (expr_view side.now) wanted free)) }
 {
     let register = emit_operand(scene, side, free, code)?;
     emit_constant_test(code, op, wanted, register, word)
@@ -262,7 +271,7 @@ fn emit_two_sides(
     requires second { free + 1 + need (expr_view right.now) ≤ 20 }
     requires left { HasNumbers (scope_in scene.now).env (expr_view left.now) }
     requires right { HasNumbers (scope_in scene.now).env (expr_view right.now) }
-    ensures { OnOk result (code.new.items ≡ code.old.items ++ map encoding (equality_test (scope_in scene.now) op (expr_view left.now) (expr_view right.now) wanted free)) }
+    ensures { OnOk result (code.new.items ≡ code.old.items ++ map encoding (equality_code (scope_in scene.now) op (expr_view left.now) (expr_view right.now) wanted free)) }
 {
     let first = emit_operand(scene, left, free, code)?;
     let second = emit_operand(scene, right, free + 1, code)?;
@@ -304,7 +313,7 @@ fn emit_bool(
 ) -> Result<(), AllocError>
     requires room { free + need (expr_view expr.now) ≤ 20 }
     requires numbers { HasNumbers (scope_in scene.now).env (expr_view expr.now) }
-    ensures { OnOk result (IsOpened code.old.items code.new.items jumps.old.items jumps.new.items (last_open (bool_code (scope_in scene.now) (expr_view expr.now) wanted free))) }
+    ensures { OnOk result (IsOpened code.old.items code.new.items jumps.old.items jumps.new.items (bool_open (scope_in scene.now) (expr_view expr.now) wanted free)) }
 {
     emit_bool_code(scene, expr, wanted, free, code)?;
     note_last(code, jumps)
@@ -326,7 +335,7 @@ fn emit_order_test(
     requires second { free + 1 + need (expr_view right.now) ≤ 20 }
     requires left { HasNumbers (scope_in scene.now).env (expr_view left.now) }
     requires right { HasNumbers (scope_in scene.now).env (expr_view right.now) }
-    ensures { OnOk result (IsOpened code.old.items code.new.items jumps.old.items jumps.new.items (last_open (order_code (scope_in scene.now) op (expr_view left.now) (expr_view right.now) wanted free))) }
+    ensures { OnOk result (IsOpened code.old.items code.new.items jumps.old.items jumps.new.items (order_open (scope_in scene.now) op (expr_view left.now) (expr_view right.now) wanted free)) }
 {
     emit_order(scene, op, left, right, wanted, free, code)?;
     note_last(code, jumps)
@@ -348,7 +357,7 @@ fn emit_equality_test(
     requires second { free + 1 + need (expr_view right.now) ≤ 20 }
     requires left { HasNumbers (scope_in scene.now).env (expr_view left.now) }
     requires right { HasNumbers (scope_in scene.now).env (expr_view right.now) }
-    ensures { OnOk result (IsOpened code.old.items code.new.items jumps.old.items jumps.new.items (last_open (equality_test (scope_in scene.now) op (expr_view left.now) (expr_view right.now) wanted free))) }
+    ensures { OnOk result (IsOpened code.old.items code.new.items jumps.old.items jumps.new.items (equality_open (scope_in scene.now) op (expr_view left.now) (expr_view right.now) wanted free)) }
 {
     emit_two_sides(scene, op, left, right, wanted, free, code)?;
     note_last(code, jumps)
@@ -386,7 +395,9 @@ pub fn emit_test(
             UnaryOp::Not => emit_test(alloc, scene, part, !wanted, free, code, jumps),
         },
         Expr::Binary(_, op, left, right) => {
-            emit_operation(alloc, scene, expr, *op, left, right, wanted, free, code, jumps)
+            emit_operation(
+                alloc, scene, expr, *op, left, right, wanted, free, code, jumps,
+            )
         }
     }
 }

@@ -1,5 +1,5 @@
 -- Two tests side by side, and one over the other.
-use Rattle.std.proofs.Common.{◌≡◌, not, length, arith}
+use Rattle.std.proofs.Common.{◌≡◌, length, arith}
 use Rattle.c0_tree.specs.View.{expr_view}
 use Rattle.c0_expr_code.specs.Jumps.{test_open}
 use Rattle.c0_expr_code.specs.Scene.{scope_in}
