@@ -1,6 +1,6 @@
 // How functions begin and return.
 
-ghost use Rattle.std.specs.Prelude.{◌≡◌, ◌+◌, ◌-◌, ◌*◌, ◌^◌, ◌<◌, ◌++◌, ◌∷◌, [], map, OnOk, if◌then◌else◌};
+ghost use Rattle.std.specs.Prelude.{◌≡◌, ◌+◌, ◌*◌, ◌%◌, ◌^◌, ◌<◌, ◌++◌, ◌∷◌, [], map, OnOk, if◌then◌else◌};
 ghost use Rattle.mips_table.specs.declared.inst.Inst.TheVariants.{Addiu, Beq, Bne, J, Sltu, Sw};
 ghost use Rattle.mips_table.specs.Encoding.{encoding};
 ghost use Rattle.c0_tree.specs.View.{decl_view};
@@ -148,8 +148,8 @@ fn emit_kept(
     Ok(())
 }
 
-// The register of the variable or argument so many behind another.
-fn register_behind(first: u32, i: u64) -> u32
+/// The register of the variable or argument so many behind another.
+pub fn register_behind(first: u32, i: u64) -> u32
     ensures value { result ≡ expressions.register_of (first + i) }
     ensures small { result < 32 }
 {
