@@ -162,7 +162,14 @@ fn emit_params(scene: &Scene<'_>, count: u32, code: &mut Vec<u32>) -> Result<(),
 {
     for i in 0..count {
         let register = register_behind(i, 0);
-        emit_word(scene, Access::Store, register, SCRATCH, 3 + u64::from(i), code)?;
+        emit_word(
+            scene,
+            Access::Store,
+            register,
+            SCRATCH,
+            3 + u64::from(i),
+            code,
+        )?;
     }
     Ok(())
 }
@@ -340,11 +347,7 @@ fn emit_register_return(calling: bool, code: &mut Vec<u32>) -> Result<(), AllocE
 }
 
 /// Appends the return from a function, whose answer is in register 2.
-pub fn emit_exit(
-    scene: &Scene<'_>,
-    calling: bool,
-    code: &mut Vec<u32>,
-) -> Result<(), AllocError>
+pub fn emit_exit(scene: &Scene<'_>, calling: bool, code: &mut Vec<u32>) -> Result<(), AllocError>
     ensures { OnOk result (code.new.items ≡ code.old.items ++ map encoding (exit_code (scope_in scene.now) calling)) }
 {
     if scene.in_registers {
