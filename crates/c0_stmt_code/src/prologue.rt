@@ -93,7 +93,7 @@ fn emit_large(scene: &Scene<'_>, code: &mut Vec<u32>) -> Result<(), AllocError>
 // Appends a jump to the exit of a want of stack, and a branch over it where a register is not behind the stack's end.
 fn emit_limit(scene: &Scene<'_>, end: u32, code: &mut Vec<u32>) -> Result<(), AllocError>
     requires { end < 32 }
-    ensures { OnOk result (code.new.items ≡ code.old.items ++ map encoding (Sltu 1 30 end ∷ Beq 1 0 1 ∷ J ((scope_in scene.now).exit StackOut) ∷ [])) }
+    ensures { OnOk result (code.new.items ≡ code.old.items ++ map encoding (Sltu SCRATCH STACK_END end ∷ Beq SCRATCH 0 1 ∷ J ((scope_in scene.now).exit StackOut) ∷ [])) }
 {
     emit(
         code,
@@ -140,7 +140,7 @@ fn emit_kept(
     calling: bool,
     code: &mut Vec<u32>,
 ) -> Result<(), AllocError>
-    ensures { OnOk result (code.new.items ≡ code.old.items ++ map encoding (if calling then on_spot (access_inst access 31) 1 (frame_spot (scope_in scene.now) 0) else [])) }
+    ensures { OnOk result (code.new.items ≡ code.old.items ++ map encoding (if calling then on_spot (access_inst access RETURN) SCRATCH (frame_spot (scope_in scene.now) 0) else [])) }
 {
     if calling {
         return emit_word(scene, access, RETURN, SCRATCH, 0, code);
@@ -198,9 +198,9 @@ fn emit_zeros_loop(scene: &Scene<'_>, first: u64, code: &mut Vec<u32>) -> Result
     emit_turns(code)
 }
 
-// Appends the turns of that loop.
+// Appends the turns of that loop, whose branch leads back to the store.
 fn emit_turns(code: &mut Vec<u32>) -> Result<(), AllocError>
-    ensures { OnOk result (code.new.items ≡ code.old.items ++ map encoding (Sw 0 2 0 ∷ Addiu 2 2 4 ∷ Bne 2 29 65533 ∷ [])) }
+    ensures { OnOk result (code.new.items ≡ code.old.items ++ map encoding (Sw 0 ANSWER 0 ∷ Addiu ANSWER ANSWER 4 ∷ Bne ANSWER FRAME_END 65533 ∷ [])) }
 {
     emit(
         code,
@@ -263,7 +263,7 @@ fn emit_clear(count: usize, first: u32, code: &mut Vec<u32>) -> Result<(), Alloc
 
 // Appends the access to the word behind the caller's frame, which keeps the return address where something is called.
 fn emit_kept_behind(access: Access, calling: bool, code: &mut Vec<u32>) -> Result<(), AllocError>
-    ensures { OnOk result (code.new.items ≡ code.old.items ++ map encoding (if calling then access_inst access 31 29 0 ∷ [] else [])) }
+    ensures { OnOk result (code.new.items ≡ code.old.items ++ map encoding (if calling then access_inst access RETURN FRAME_END 0 ∷ [] else [])) }
 {
     if calling {
         let spot = Spot {
