@@ -1,5 +1,6 @@
 pub mod Ahead
 pub mod Code
+pub mod EmitLeaf
 pub mod Journey
 pub mod Rows
 pub mod Setup
