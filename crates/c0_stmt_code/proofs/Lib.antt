@@ -29,4 +29,3 @@ pub mod Steps
 pub mod Stores
 pub mod Variables
 pub mod Ways
-pub mod Whole

@@ -260,7 +260,7 @@ answers_fit = record {
 
 -- without its frames a typed state is typed
 no_frames : (u : CUnit) (s : State) → IsTypedState u s → IsTypedState u (record s { frames = [] })
-no_frames u s t = (t.0, record { global_values = t.1.global_values; heap_values = t.1.heap_values; frames = All-nil (IsTypedFrame u (layout_of u t.0)) })
+no_frames u s t = (t.0, record { global_values = t.1.global_values; heap_values = t.1.heap_values; frames = All-nil (IsTypedFrame u (layout_of u t.0)) }, t.2)
 
 safe_typed : (u : CUnit) (c : Core) (o : c0_run.Outcome Machines Changes) → IsSafe are_small u o → IsTypedState u (outcome_of c o).after.c0
 safe_typed u c (c0_run.Done k d) h = no_frames u d.state h.0

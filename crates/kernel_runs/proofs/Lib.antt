@@ -1,0 +1,4 @@
+pub mod Flat
+pub mod HeldState
+pub mod Bounds
+pub mod Seen

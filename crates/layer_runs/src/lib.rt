@@ -1,0 +1,6 @@
+//! The layer's code as the machine runs it: each law of the layer is met by the words of its image.
+#![tactic(auto)]
+
+mod laws;
+
+pub use laws::blocks_run;
