@@ -1,5 +1,5 @@
 -- What the emitters ask of the functions whose code they append, and that the functions of a well formed unit meet it.
-use Rattle.std.specs.Prelude.{◌≡◌, ℕ, ◌+◌, ◌≤◌, List, length, IsTrue, Some, slice_get}
+use Rattle.std.specs.Prelude.{◌≡◌, ℕ, ◌≤◌, List, ◌∷◌, length, IsTrue, Some, slice_get}
 use Rattle.std.specs.List.{All}
 use Rattle.c0_tree.specs.Primitives.{CPrimitive}
 use Rattle.c0_tree.specs.Tree.{CExpr, CStmt, assign, call, new, choice, loop, CStmts, done, next, CBody, code, asm, CFunction, CUnit}
@@ -8,6 +8,8 @@ use Rattle.c0_meaning.specs.Env.{Env}
 use Rattle.c0_meaning.specs.Sound.{IsSized}
 use Rattle.c0_meaning.specs.TypeAt.{env_in}
 use Rattle.c0_meaning.specs.Unit.{IsWellFormed}
+use Rattle.mips_table.specs.declared.inst.Inst.{Inst}
+use Rattle.c0_stmt_code.specs.Code.{skip}
 use Rattle.c0_stmt_code.specs.EmitLeaf.{CanStand}
 
 -- The expressions of a statement can stand in the 12 registers of expressions: a place stands beside an assigned value. And so of statements.
@@ -37,3 +39,7 @@ pub record IsEmittableFunction (u : CUnit) (f : CFunction) : Type 0 where
 abbrev pub FunctionsAreEmittable : Type 0
 FunctionsAreEmittable = (primitives : List CPrimitive) (u : CUnit) → IsWellFormed primitives u
     → (n : ℕ) (f : CFunction) → slice_get u.functions n ≡ Some f → IsEmittableFunction u f
+
+-- a jump over code, and that code
+abbrev pub skipped_code : List Inst → List Inst
+skipped_code is = skip (length is) ∷ is

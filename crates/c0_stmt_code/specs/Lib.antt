@@ -6,3 +6,4 @@ pub mod Journey
 pub mod Rows
 pub mod Setup
 pub mod Standing
+pub mod Stub

@@ -4,3 +4,5 @@
 mod calling;
 mod emit_laws;
 pub mod laws;
+mod statement;
+mod stub;
