@@ -5,6 +5,7 @@ pub mod CallActs
 pub mod Calls
 pub mod Costs
 pub mod Emittable
+pub mod Emitting
 pub mod Entry
 pub mod Frames
 pub mod Given

@@ -1,0 +1,88 @@
+-- What is left of the emitters of statements: the arguments of a call, the other branch of an `if`, and the tests, which are patched.
+use Rattle.std.proofs.Common.{rules, ◌≡◌, ◌≤◌, ◌<◌, ◌+◌, ◌++◌, ℕ, true, false, List, length, map, sym, ap, ◌∙◌, subst, arith, OnOk}
+use Rattle.std.specs.Prelude.{All}
+use Rattle.std.proofs.lemmas.List.{length-append, length-map}
+use Rattle.c0_tree.specs.declared.tree.Stmt as rust
+use Rattle.c0_tree.specs.declared.tree.Stmt.TheFolds as folds
+use Rattle.mips_table.specs.Encoding.{encoding}
+use Rattle.c0_tree.specs.declared.tree.Expr.{Expr}
+use Rattle.c0_tree.specs.Tree.{call}
+use Rattle.c0_tree.specs.View.{expr_view, name_view, stmt_view, stmts_view}
+use Rattle.c0_expr_code.specs.Scene.{scope_in}
+use Rattle.c0_expr_code.specs.Jumps.{patched}
+use Rattle.c0_stmt_code.specs.Code.{links_of, stmts_code, otherwise, otherwise_at}
+use Rattle.c0_stmt_code.specs.Emit.{IsEmittable}
+use Rattle.c0_stmt_code.specs.EmitLeaf.{CanStand}
+use Rattle.c0_stmt_code.proofs.Emitting.{args_stand, otherwise_is, otherwise_none, otherwise_some, otherwise_long, from_none, two_longer, jumps_within, choice_words, while_words}
+use Rattle.c0_stmt_code.proofs.statement.+statement.Goals.{emit_if-then-is_empty, emit_if-else-is_empty}
+use Rattle.c0_stmt_code.proofs.statement.+statement.Goals as goal
+
+view_call : (s : _) (p : _) (cs : _) (f : _) (args : _) → stmt_view (rust.Call s p cs f args) ≡ call s (expr_view p) cs (name_view f) (map expr_view args.items)
+view_call s p cs f args = search (rules, folds.the_lemmas)
+
+pub emit_statement-emit_call-requires-clause-args : goal.emit_statement-emit_call-requires-clause-args
+emit_statement-emit_call-requires-clause-args t c =
+    let env = (scope_in c.args.scene.now).env in
+    let same = ap stmt_view c.in-Call.is ∙ view_call c.in-Call.span c.in-Call.place c.in-Call.call_span c.in-Call.function c.in-Call.args in
+    let h = subst (IsEmittable env) same c.requires.stmt in
+    let P : List Expr → Type 0 = λ l. All (λ x. CanStand env 12 (expr_view x)) l in
+    subst P (sym c.deref.ensures.value) (args_stand env 12 c.in-Call.args.items h.1)
+
+pub emit_otherwise-returns : goal.emit_otherwise-returns
+emit_otherwise-returns t c =
+    let is = stmts_code (scope_in c.args.scene.now) (links_of c.args.places.now) (stmts_view c.args.no.now) in
+    let e = otherwise_is c.args.no.now is (grind arith) in
+    subst (λ z. OnOk c.emit_skipped.result (c.emit_skipped.new.code.items ≡ c.args.code.now.items ++ map encoding z)) (sym e) c.emit_skipped.ensures
+
+pub emit_if-patch_all-requires-clause-jumps : goal.emit_if-patch_all-requires-clause-jumps
+emit_if-patch_all-requires-clause-jumps t c =
+    let sc = scope_in c.args.scene.now in
+    let e = expr_view c.args.test.now in
+    let opened = from_none _ _ _ _ _ c.new-jumps.ensures.items c.in_ok-emit_test.ensures in
+    let long = two_longer _ _ _ _ _ c.in_ok-emit_statements.ensures c.in_ok-emit_otherwise.ensures in
+    let P : List ℕ → Type 0 = λ l. All (λ j. j < length c.emit_otherwise.new.code.items) l in
+    subst P (sym c.deref.ensures.value) (jumps_within c.in_ok-jumps_are_within.ensures sc e false c.args.code.now.items c.emit_test.new.code.items c.emit_test.new.jumps.items c.emit_otherwise.new.code.items opened long)
+
+pub emit_if-patch_all-requires-clause-to : goal.emit_if-patch_all-requires-clause-to
+emit_if-patch_all-requires-clause-to t c =
+    let ss = stmts_view c.args.no.now in
+    let other = stmts_code (scope_in c.args.scene.now) (links_of c.args.places.now) ss in
+    let at : c.if-is_empty.to ≡ length c.emit_statements.new.code.items + otherwise_at ss = elim c.if-is_empty.branch [
+      | emit_if-then-is_empty w ↦
+          let empty : length c.args.no.now ≡ 0 = grind arith in
+          omega (arith, otherwise_none c.args.no.now empty, c.len-end.ensures, w.to-is)
+      | emit_if-else-is_empty w ↦
+          let some : 0 < length c.args.no.now = grind arith in
+          omega (arith, otherwise_some c.args.no.now some, c.len-end.ensures, w.to-is)
+    ] in
+    omega (arith, at, ap length c.in_ok-emit_otherwise.ensures, length-append c.emit_statements.new.code.items (map encoding (otherwise ss other)), length-map (otherwise ss other) encoding, otherwise_long ss other)
+
+pub emit_if-returns : goal.emit_if-returns
+emit_if-returns t c =
+    let sc = scope_in c.args.scene.now in
+    let x = links_of c.args.places.now in
+    let e = expr_view c.args.test.now in
+    let ss = stmts_view c.args.no.now in
+    let opened = from_none _ _ _ _ _ c.new-jumps.ensures.items c.in_ok-emit_test.ensures in
+    let at : c.if-is_empty.to ≡ length c.emit_statements.new.code.items + otherwise_at ss = elim c.if-is_empty.branch [
+      | emit_if-then-is_empty w ↦
+          let empty : length c.args.no.now ≡ 0 = grind arith in
+          omega (arith, otherwise_none c.args.no.now empty, c.len-end.ensures, w.to-is)
+      | emit_if-else-is_empty w ↦
+          let some : 0 < length c.args.no.now = grind arith in
+          omega (arith, otherwise_some c.args.no.now some, c.len-end.ensures, w.to-is)
+    ] in
+    choice_words c.in_ok-patches_aim.ensures sc e ss c.args.code.now.items c.emit_test.new.code.items c.emit_statements.new.code.items c.emit_otherwise.new.code.items c.patch_all.new.code.items c.emit_test.new.jumps.items
+    (stmts_code sc x (stmts_view c.args.yes.now)) (stmts_code sc x ss) c.if-is_empty.to opened c.in_ok-emit_statements.ensures c.in_ok-emit_otherwise.ensures (omega arith) at
+    (c.in_ok-patch_all.ensures ∙ ap (λ l. patched c.if-is_empty.to l c.emit_otherwise.new.code.items) c.deref.ensures.value)
+
+pub emit_while-patch_all-requires-clause-jumps : goal.emit_while-patch_all-requires-clause-jumps
+emit_while-patch_all-requires-clause-jumps t c =
+    let sc = scope_in c.args.scene.now in
+    let e = expr_view c.args.test.now in
+    let opened = from_none _ _ _ _ _ c.new-jumps.ensures.items c.in_ok-emit_test.ensures in
+    let P : List ℕ → Type 0 = λ l. All (λ j. j < length c.emit_test.new.code.items) l in
+    subst P (sym c.deref.ensures.value) (jumps_within c.in_ok-jumps_are_within.ensures sc e true c.emit_skipped.new.code.items c.emit_test.new.code.items c.emit_test.new.jumps.items c.emit_test.new.code.items opened (omega arith))
+
+pub emit_while-returns : goal.emit_while-returns
+emit_while-returns t c = ?
