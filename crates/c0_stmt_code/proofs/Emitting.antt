@@ -104,6 +104,10 @@ open_long aim sc e s old new js opened fits =
     let r = length-append old (test ++ []) in
     omega (arith, p, q, r, length-append new [], length-append test [], length-map (test_code sc e s 0 8) encoding)
 
+-- a jump over code is a word more
+pub skipped_long : (old new : List ℕ) (is : List Inst) → new ≡ old ++ map encoding (skipped_code is) → length new ≡ length old + (length is + 1)
+skipped_long old new is e = omega (arith, ap length e, length-append old (map encoding (skipped_code is)), length-map (skipped_code is) encoding)
+
 -- a loop
 pub while_words : PatchesAim → (sc : Scope) (e : CExpr) (old c1 c2 c3 js : List ℕ) (body : List Inst) (to : ℕ) → c1 ≡ old ++ map encoding (skipped_code body) → IsOpened c1 c2 [] js (test_open sc e true 8)
     → length c2 < 2 ^ 64 → to + max (length body) 1 ≡ length c1 → c3 ≡ patched to js c2 → c3 ≡ old ++ map encoding (while_code sc e body)

@@ -1,5 +1,5 @@
 -- What is left of the emitters of statements: the arguments of a call, the other branch of an `if`, and the tests, which are patched.
-use Rattle.std.proofs.Common.{rules, ◌≡◌, ◌≤◌, ◌<◌, ◌+◌, ◌++◌, ℕ, true, false, List, length, map, sym, ap, ◌∙◌, subst, arith, OnOk}
+use Rattle.std.proofs.Common.{rules, ◌≡◌, ◌≤◌, ◌<◌, ◌+◌, ◌++◌, ℕ, true, false, List, length, map, max, sym, ap, ◌∙◌, subst, arith, OnOk}
 use Rattle.std.specs.Prelude.{All}
 use Rattle.std.proofs.lemmas.List.{length-append, length-map}
 use Rattle.c0_tree.specs.declared.tree.Stmt as rust
@@ -13,8 +13,8 @@ use Rattle.c0_expr_code.specs.Jumps.{patched}
 use Rattle.c0_stmt_code.specs.Code.{links_of, stmts_code, otherwise, otherwise_at}
 use Rattle.c0_stmt_code.specs.Emit.{IsEmittable}
 use Rattle.c0_stmt_code.specs.EmitLeaf.{CanStand}
-use Rattle.c0_stmt_code.proofs.Emitting.{args_stand, otherwise_is, otherwise_none, otherwise_some, otherwise_long, from_none, two_longer, jumps_within, choice_words, while_words}
-use Rattle.c0_stmt_code.proofs.statement.+statement.Goals.{emit_if-then-is_empty, emit_if-else-is_empty}
+use Rattle.c0_stmt_code.proofs.Emitting.{args_stand, otherwise_is, otherwise_none, otherwise_some, otherwise_long, from_none, two_longer, jumps_within, choice_words, skipped_long, while_words}
+use Rattle.c0_stmt_code.proofs.statement.+statement.Goals.{emit_if-then-is_empty, emit_if-else-is_empty, emit_while-then-start-end, emit_while-else-start-end}
 use Rattle.c0_stmt_code.proofs.statement.+statement.Goals as goal
 
 view_call : (s : _) (p : _) (cs : _) (f : _) (args : _) → stmt_view (rust.Call s p cs f args) ≡ call s (expr_view p) cs (name_view f) (map expr_view args.items)
@@ -85,4 +85,16 @@ emit_while-patch_all-requires-clause-jumps t c =
     subst P (sym c.deref.ensures.value) (jumps_within c.in_ok-jumps_are_within.ensures sc e true c.emit_skipped.new.code.items c.emit_test.new.code.items c.emit_test.new.jumps.items c.emit_test.new.code.items opened (omega arith))
 
 pub emit_while-returns : goal.emit_while-returns
-emit_while-returns t c = ?
+emit_while-returns t c =
+    let sc = scope_in c.args.scene.now in
+    let e = expr_view c.args.test.now in
+    let body = stmts_code sc (links_of c.args.places.now) (stmts_view c.args.body.now) in
+    let opened = from_none _ _ _ _ _ c.new-jumps.ensures.items c.in_ok-emit_test.ensures in
+    let long : length c.emit_skipped.new.code.items ≡ length c.args.code.now.items + (length body + 1) = skipped_long c.args.code.now.items c.emit_skipped.new.code.items body c.in_ok-emit_skipped.ensures in
+    let at : c.if-start-end.to + max (length body) 1 ≡ length c.emit_skipped.new.code.items = elim c.if-start-end.branch [
+      | emit_while-then-start-end w ↦ omega (arith, long, c.len-start.ensures, c.len-end.ensures, w.to-is, w.if-start-end.true)
+      | emit_while-else-start-end w ↦ omega (arith, long, c.len-start.ensures, c.len-end.ensures, w.to-is, w.if-start-end.false)
+    ] in
+    while_words c.in_ok-patches_aim.ensures sc e c.args.code.now.items c.emit_skipped.new.code.items c.emit_test.new.code.items c.patch_all.new.code.items c.emit_test.new.jumps.items
+    body c.if-start-end.to c.in_ok-emit_skipped.ensures opened (omega arith) at
+    (c.in_ok-patch_all.ensures ∙ ap (λ l. patched c.if-start-end.to l c.emit_test.new.code.items) c.deref.ensures.value)
