@@ -14,6 +14,7 @@ pub mod Held
 pub mod Lengths
 pub mod Lights
 pub mod Locals
+pub mod Named
 pub mod Needs
 pub mod Places
 pub mod Primitives

@@ -3,6 +3,9 @@
 
 mod calling;
 mod emit_laws;
+mod function;
 pub mod laws;
 mod statement;
 mod stub;
+
+pub use function::emit_function;
