@@ -1,5 +1,5 @@
 -- What the emitters ask of the functions whose code they append, and that the functions of a well formed unit meet it.
-use Rattle.std.specs.Prelude.{◌≡◌, ℕ, ◌≤◌, List, ◌∷◌, length, IsTrue, Some, slice_get}
+use Rattle.std.specs.Prelude.{◌≡◌, ℕ, ◌≤◌, List, ◌∷◌, length, map, IsTrue, Some, slice_get}
 use Rattle.std.specs.List.{All}
 use Rattle.c0_tree.specs.Primitives.{CPrimitive}
 use Rattle.c0_tree.specs.Tree.{CExpr, CStmt, assign, call, new, choice, loop, CStmts, done, next, CBody, code, asm, CFunction, CUnit}
@@ -9,7 +9,16 @@ use Rattle.c0_meaning.specs.Sound.{IsSized}
 use Rattle.c0_meaning.specs.TypeAt.{env_in}
 use Rattle.c0_meaning.specs.Unit.{IsWellFormed}
 use Rattle.mips_table.specs.declared.inst.Inst.{Inst}
-use Rattle.c0_stmt_code.specs.Code.{skip}
+use Rattle.mips_table.specs.Encoding.{encoding}
+use Rattle.masm.specs.declared.registers.Places.{Places}
+use Rattle.c0_tree.specs.declared.tree.Code.{Code}
+use Rattle.c0_tree.specs.declared.tree.Expr.{Expr}
+use Rattle.c0_tree.specs.declared.tree.Stmt.{Stmt}
+use Rattle.c0_tree.specs.View.{decl_view, expr_view, stmts_view}
+use Rattle.c0_expr_code.specs.declared.scene.Scene.{Scene}
+use Rattle.c0_expr_code.specs.Scene.{scope_in}
+use Rattle.c0_expr_code.specs.Scope.{scope_of}
+use Rattle.c0_stmt_code.specs.Code.{skip, otherwise, choice_code, while_code, stmts_code, statements_function, function_code, links_of}
 use Rattle.c0_stmt_code.specs.EmitLeaf.{CanStand}
 
 -- The expressions of a statement can stand in the 12 registers of expressions: a place stands beside an assigned value. And so of statements.
@@ -43,3 +52,28 @@ FunctionsAreEmittable = (primitives : List CPrimitive) (u : CUnit) → IsWellFor
 -- a jump over code, and that code
 abbrev pub skipped_code : List Inst → List Inst
 skipped_code is = skip (length is) ∷ is
+
+-- the code of statements of a function's tree, where what they name has these places
+abbrev pub stmts_at : Scene → Places → List Stmt → List Inst
+stmts_at scene places ss = stmts_code (scope_in scene) (links_of places) (stmts_view ss)
+
+-- of the other branch of an `if`
+abbrev pub otherwise_in : Scene → Places → List Stmt → List Inst
+otherwise_in scene places ss = otherwise (stmts_view ss) (stmts_at scene places ss)
+
+-- of an `if`
+abbrev pub choice_in : Scene → Places → Expr → (yes no : List Stmt) → List Inst
+choice_in scene places t a b = choice_code (scope_in scene) (expr_view t) (stmts_view b) (stmts_at scene places a) (stmts_at scene places b)
+
+-- of a loop
+abbrev pub while_in : Scene → Places → Expr → List Stmt → List Inst
+while_in scene places t b = while_code (scope_in scene) (expr_view t) (stmts_at scene places b)
+
+-- of a function with statements that has so many parameters
+abbrev pub function_in : Scene → Places → ℕ → Code → List Inst
+function_in scene places params body =
+    statements_function (scope_in scene) (links_of places) params (map decl_view body.locals.items) (stmts_view body.stmts.items) (expr_view body.answer)
+
+-- the words of a function's code, where what it names has these places
+abbrev pub function_words : CUnit → Places → CFunction → List ℕ
+function_words u places f = map encoding (function_code (scope_of u f places) (links_of places) f)

@@ -8,9 +8,8 @@ ghost use Rattle.c0_tree.specs.View.{body_view, decl_view, expr_view, stmts_view
 ghost use Rattle.c0_meaning.specs.Asm.{are_allowed_words};
 ghost use Rattle.c0_meaning.specs.Limits.{locals_of};
 ghost use Rattle.c0_expr_code.specs.Scene.{scope_in};
-ghost use Rattle.c0_expr_code.specs.Scope.{scope_of};
-ghost use Rattle.c0_stmt_code.specs.Code.{asm_function, body_code, function_code, links_of, return_code, statements_function};
-ghost use Rattle.c0_stmt_code.specs.Emit.{AreEmittable, IsEmittableBody};
+ghost use Rattle.c0_stmt_code.specs.Code.{asm_function, body_code, links_of, return_code};
+ghost use Rattle.c0_stmt_code.specs.Emit.{AreEmittable, IsEmittableBody, function_in, function_words};
 ghost use Rattle.c0_stmt_code.specs.EmitLeaf.{CanStand, HasFrame};
 
 use crate::calling::are_calling;
@@ -51,7 +50,7 @@ fn emit_code(
     requires frame { HasFrame (scope_in scene.now) params (map decl_view body.now.locals.items) }
     requires stmts { AreEmittable (scope_in scene.now).env (stmts_view body.now.stmts.items) }
     requires answer { CanStand (scope_in scene.now).env 12 (expr_view body.now.answer) }
-    ensures { OnOk result (code.new.items ≡ code.old.items ++ map encoding (statements_function (scope_in scene.now) (links_of places.now) params (map decl_view body.now.locals.items) (stmts_view body.now.stmts.items) (expr_view body.now.answer))) }
+    ensures { OnOk result (code.new.items ≡ code.old.items ++ map encoding (function_in scene.now places.now params body.now)) }
 {
     let calling = are_calling(&body.stmts);
     emit_entry(scene, params, &body.locals, calling, code)?;
@@ -107,7 +106,7 @@ fn emit_whole(
 ) -> Result<(), AllocError>
     requires number { number < length (unit_view layout.now.unit.now).functions }
     requires places { ArePlaces places.now }
-    ensures { (f : CFunction) → slice_get (unit_view layout.now.unit.now).functions number ≡ Some f → OnOk result (code.new.items ≡ code.old.items ++ map encoding (function_code (scope_of (unit_view layout.now.unit.now) f places.now) (links_of places.now) f)) }
+    ensures { (f : CFunction) → slice_get (unit_view layout.now.unit.now).functions number ≡ Some f → OnOk result (code.new.items ≡ code.old.items ++ function_words (unit_view layout.now.unit.now) places.now f) }
 {
     functions_are_emittable();
     frames_are_those()?;
@@ -129,7 +128,7 @@ pub fn emit_function(
 ) -> Result<(), AllocError>
     requires number { number < length (unit_view layout.now.unit.now).functions }
     requires places { ArePlaces places.now }
-    ensures appended { (f : CFunction) → slice_get (unit_view layout.now.unit.now).functions number ≡ Some f → OnOk result (code.new.items ≡ code.old.items ++ map encoding (function_code (scope_of (unit_view layout.now.unit.now) f places.now) (links_of places.now) f)) }
+    ensures appended { (f : CFunction) → slice_get (unit_view layout.now.unit.now).functions number ≡ Some f → OnOk result (code.new.items ≡ code.old.items ++ function_words (unit_view layout.now.unit.now) places.now f) }
     ensures unchanged { OnErr result (code.new.items ≡ code.old.items) }
 {
     let mut own = Vec::new(alloc);

@@ -5,8 +5,8 @@ ghost use Rattle.mips_table.specs.Encoding.{encoding};
 ghost use Rattle.masm.specs.Places.{ArePlaces};
 ghost use Rattle.c0_tree.specs.View.{expr_view, stmt_view, stmts_view};
 ghost use Rattle.c0_expr_code.specs.Scene.{scope_in};
-ghost use Rattle.c0_stmt_code.specs.Code.{choice_code, links_of, otherwise, stmt_code, stmts_code, while_code};
-ghost use Rattle.c0_stmt_code.specs.Emit.{AreEmittable, IsEmittable, skipped_code};
+ghost use Rattle.c0_stmt_code.specs.Code.{links_of, stmt_code};
+ghost use Rattle.c0_stmt_code.specs.Emit.{AreEmittable, IsEmittable, choice_in, otherwise_in, skipped_code, stmts_at, while_in};
 ghost use Rattle.c0_stmt_code.specs.EmitLeaf.{CanStand};
 
 use crate::stub::{emit_assign, emit_call, emit_new, emit_test, jumps_are_within, patch_all, patches_aim};
@@ -54,7 +54,7 @@ pub fn emit_statements(
 ) -> Result<(), AllocError>
     requires places { ArePlaces places.now }
     requires stmts { AreEmittable (scope_in scene.now).env (stmts_view stmts.now) }
-    ensures { OnOk result (code.new.items ≡ code.old.items ++ map encoding (stmts_code (scope_in scene.now) (links_of places.now) (stmts_view stmts.now))) }
+    ensures { OnOk result (code.new.items ≡ code.old.items ++ map encoding (stmts_at scene.now places.now stmts.now)) }
 {
     for stmt in stmts {
         emit_statement(alloc, scene, places, stmt, code)?;
@@ -73,7 +73,7 @@ fn emit_skipped(
 ) -> Result<(), AllocError>
     requires places { ArePlaces places.now }
     requires stmts { AreEmittable (scope_in scene.now).env (stmts_view stmts.now) }
-    ensures { OnOk result (code.new.items ≡ code.old.items ++ map encoding (skipped_code (stmts_code (scope_in scene.now) (links_of places.now) (stmts_view stmts.now)))) }
+    ensures { OnOk result (code.new.items ≡ code.old.items ++ map encoding (skipped_code (stmts_at scene.now places.now stmts.now))) }
 {
     let at = code.len();
     emit(
@@ -101,7 +101,7 @@ fn emit_otherwise(
 ) -> Result<(), AllocError>
     requires places { ArePlaces places.now }
     requires no { AreEmittable (scope_in scene.now).env (stmts_view no.now) }
-    ensures { OnOk result (code.new.items ≡ code.old.items ++ map encoding (otherwise (stmts_view no.now) (stmts_code (scope_in scene.now) (links_of places.now) (stmts_view no.now)))) }
+    ensures { OnOk result (code.new.items ≡ code.old.items ++ map encoding (otherwise_in scene.now places.now no.now)) }
 {
     if no.is_empty() {
         return Ok(());
@@ -124,7 +124,7 @@ fn emit_if(
     requires test { CanStand (scope_in scene.now).env 12 (expr_view test.now) }
     requires yes { AreEmittable (scope_in scene.now).env (stmts_view yes.now) }
     requires no { AreEmittable (scope_in scene.now).env (stmts_view no.now) }
-    ensures { OnOk result (code.new.items ≡ code.old.items ++ map encoding (choice_code (scope_in scene.now) (expr_view test.now) (stmts_view no.now) (stmts_code (scope_in scene.now) (links_of places.now) (stmts_view yes.now)) (stmts_code (scope_in scene.now) (links_of places.now) (stmts_view no.now)))) }
+    ensures { OnOk result (code.new.items ≡ code.old.items ++ map encoding (choice_in scene.now places.now test.now yes.now no.now)) }
 {
     patches_aim()?;
     jumps_are_within()?;
@@ -151,7 +151,7 @@ fn emit_while(
     requires places { ArePlaces places.now }
     requires test { CanStand (scope_in scene.now).env 12 (expr_view test.now) }
     requires body { AreEmittable (scope_in scene.now).env (stmts_view body.now) }
-    ensures { OnOk result (code.new.items ≡ code.old.items ++ map encoding (while_code (scope_in scene.now) (expr_view test.now) (stmts_code (scope_in scene.now) (links_of places.now) (stmts_view body.now)))) }
+    ensures { OnOk result (code.new.items ≡ code.old.items ++ map encoding (while_in scene.now places.now test.now body.now)) }
 {
     patches_aim()?;
     jumps_are_within()?;
