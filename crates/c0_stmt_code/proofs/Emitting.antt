@@ -12,8 +12,8 @@ use Rattle.c0_tree.specs.View.{expr_view, stmts_view}
 use Rattle.c0_meaning.specs.Env.{Env}
 use Rattle.c0_expr_code.specs.Scope.{Scope}
 use Rattle.c0_expr_code.specs.Test.{test_code}
-use Rattle.c0_expr_code.specs.Jumps.{Open, test_open, patched, aimed_word}
-use Rattle.c0_stmt_code.specs.Stub.{IsOpened, JumpsAreWithin, PatchesAim}
+use Rattle.c0_expr_code.specs.Jumps.{JumpsAreWithin, Open, PatchesAim, test_open, patched}
+use Rattle.c0_expr_code.specs.Opened.{IsOpened}
 use Rattle.c0_stmt_code.specs.Code.{skip, otherwise, otherwise_at, choice_code, back, while_code}
 use Rattle.c0_stmt_code.specs.Emit.{skipped_code}
 use Rattle.c0_stmt_code.specs.EmitLeaf.{CanStand}

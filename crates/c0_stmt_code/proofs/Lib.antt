@@ -4,6 +4,7 @@ pub mod Blocks
 pub mod CallActs
 pub mod Calls
 pub mod Costs
+pub mod EmitLeaf
 pub mod Emittable
 pub mod Emitting
 pub mod Entry

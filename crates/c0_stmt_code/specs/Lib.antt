@@ -6,4 +6,3 @@ pub mod Journey
 pub mod Rows
 pub mod Setup
 pub mod Standing
-pub mod Stub

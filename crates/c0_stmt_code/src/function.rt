@@ -14,8 +14,8 @@ ghost use Rattle.c0_stmt_code.specs.EmitLeaf.{CanStand, HasFrame};
 
 use crate::calling::are_calling;
 use crate::emit_laws::functions_are_emittable;
+use crate::prologue::{emit_entry, emit_exit, emit_stack_test, frames_are_those};
 use crate::statement::emit_statements;
-use crate::stub::{emit_entry, emit_exit, emit_stack_test, frames_are_those};
 use c0_asm_body::{emit_arguments, emit_asm};
 use c0_expr_code::{Layout, Scene, begun_scene, emit, emit_value};
 use c0_tree::{AsmText, Body, Code, Expr};
@@ -109,7 +109,7 @@ fn emit_whole(
     ensures { (f : CFunction) → slice_get (unit_view layout.now.unit.now).functions number ≡ Some f → OnOk result (code.new.items ≡ code.old.items ++ function_words (unit_view layout.now.unit.now) places.now f) }
 {
     functions_are_emittable();
-    frames_are_those()?;
+    frames_are_those();
     let scene = begun_scene(alloc, &*layout, number, places)?;
     let function = &layout.unit.unit().functions[number as usize];
     let params = function.params.len() as u32;

@@ -9,8 +9,9 @@ ghost use Rattle.c0_stmt_code.specs.Code.{links_of, stmt_code};
 ghost use Rattle.c0_stmt_code.specs.Emit.{AreEmittable, IsEmittable, choice_in, otherwise_in, skipped_code, stmts_at, while_in};
 ghost use Rattle.c0_stmt_code.specs.EmitLeaf.{CanStand};
 
-use crate::stub::{emit_assign, emit_call, emit_new, emit_test, jumps_are_within, patch_all, patches_aim};
-use c0_expr_code::{Scene, emit, patch};
+use crate::acts::{emit_assign, emit_call, emit_new};
+use c0_expr_code::laws::{jumps_are_within, patches_aim};
+use c0_expr_code::{Scene, emit, emit_test, patch, patch_all};
 use c0_tree::{Expr, Stmt};
 use masm::registers::{EXPRESSIONS, Places};
 use mips_table::Inst;
@@ -126,15 +127,15 @@ fn emit_if(
     requires no { AreEmittable (scope_in scene.now).env (stmts_view no.now) }
     ensures { OnOk result (code.new.items ≡ code.old.items ++ map encoding (choice_in scene.now places.now test.now yes.now no.now)) }
 {
-    patches_aim()?;
-    jumps_are_within()?;
+    patches_aim();
+    jumps_are_within();
     let mut jumps = Vec::new(alloc);
     emit_test(alloc, scene, test, false, EXPRESSIONS, code, &mut jumps)?;
     emit_statements(alloc, scene, places, yes, code)?;
     let end = code.len();
     emit_otherwise(alloc, scene, places, no, code)?;
     let to = if no.is_empty() { end } else { end + 1 };
-    patch_all(code, &jumps, to)?;
+    patch_all(code, &jumps, to);
     Ok(())
 }
 
@@ -153,14 +154,14 @@ fn emit_while(
     requires body { AreEmittable (scope_in scene.now).env (stmts_view body.now) }
     ensures { OnOk result (code.new.items ≡ code.old.items ++ map encoding (while_in scene.now places.now test.now body.now)) }
 {
-    patches_aim()?;
-    jumps_are_within()?;
+    patches_aim();
+    jumps_are_within();
     let start = code.len();
     emit_skipped(alloc, scene, places, body, code)?;
     let end = code.len();
     let mut jumps = Vec::new(alloc);
     emit_test(alloc, scene, test, true, EXPRESSIONS, code, &mut jumps)?;
     let to = if start + 1 < end { start + 1 } else { start };
-    patch_all(code, &jumps, to)?;
+    patch_all(code, &jumps, to);
     Ok(())
 }

@@ -24,7 +24,7 @@ pub emit_body-requires-clause-frame : goal.emit_body-requires-clause-frame
 emit_body-requires-clause-frame c =
     let f = function_view c.index-function.result.now in
     let is = found c.args.layout.now.unit.now c.unit.result.now c.args.number c.index-function.result.now c.requires.number c.unit.ensures.same c.index-function.ensures in
-    let has = c.in_ok-frames_are_those.ensures c.unit.ensures.well_formed.0 (unit_view c.args.layout.now.unit.now) c.args.number f c.args.places.now c.unit.ensures.well_formed.1 is in
+    let has = c.frames_are_those.ensures c.unit.ensures.well_formed.0 (unit_view c.args.layout.now.unit.now) c.args.number f c.args.places.now c.unit.ensures.well_formed.1 is in
     let P : Scope → Type 0 = λ sc. HasFrame sc c.len-params.result (locals_of f.body) in
     let Q : ℕ → Type 0 = λ n. HasFrame (scope_of (unit_view c.args.layout.now.unit.now) f c.args.places.now) n (locals_of f.body) in
     subst P (sym (c.in_ok-scene.ensures f is)) (subst Q (sym (counted c.len-params.result c.index-function.result.now.params c.len-params.ensures)) has)

@@ -41,7 +41,7 @@ emit_if-patch_all-requires-clause-jumps t c =
     let opened = from_none _ _ _ _ _ c.new-jumps.ensures.items c.in_ok-emit_test.ensures in
     let long = two_longer _ _ _ _ _ c.in_ok-emit_statements.ensures c.in_ok-emit_otherwise.ensures in
     let P : List ℕ → Type 0 = λ l. All (λ j. j < length c.emit_otherwise.new.code.items) l in
-    subst P (sym c.deref.ensures.value) (jumps_within c.in_ok-jumps_are_within.ensures sc e false c.args.code.now.items c.emit_test.new.code.items c.emit_test.new.jumps.items c.emit_otherwise.new.code.items opened long)
+    subst P (sym c.deref.ensures.value) (jumps_within c.jumps_are_within.ensures sc e false c.args.code.now.items c.emit_test.new.code.items c.emit_test.new.jumps.items c.emit_otherwise.new.code.items opened long)
 
 pub emit_if-patch_all-requires-clause-to : goal.emit_if-patch_all-requires-clause-to
 emit_if-patch_all-requires-clause-to t c =
@@ -72,9 +72,9 @@ emit_if-returns t c =
           let some : 0 < length c.args.no.now = grind arith in
           omega (arith, otherwise_some c.args.no.now some, c.len-end.ensures, w.to-is)
     ] in
-    choice_words c.in_ok-patches_aim.ensures sc e ss c.args.code.now.items c.emit_test.new.code.items c.emit_statements.new.code.items c.emit_otherwise.new.code.items c.patch_all.new.code.items c.emit_test.new.jumps.items
+    choice_words c.patches_aim.ensures sc e ss c.args.code.now.items c.emit_test.new.code.items c.emit_statements.new.code.items c.emit_otherwise.new.code.items c.patch_all.new.code.items c.emit_test.new.jumps.items
     (stmts_code sc x (stmts_view c.args.yes.now)) (stmts_code sc x ss) c.if-is_empty.to opened c.in_ok-emit_statements.ensures c.in_ok-emit_otherwise.ensures (omega arith) at
-    (c.in_ok-patch_all.ensures ∙ ap (λ l. patched c.if-is_empty.to l c.emit_otherwise.new.code.items) c.deref.ensures.value)
+    (c.patch_all.ensures ∙ ap (λ l. patched c.if-is_empty.to l c.emit_otherwise.new.code.items) c.deref.ensures.value)
 
 pub emit_while-patch_all-requires-clause-jumps : goal.emit_while-patch_all-requires-clause-jumps
 emit_while-patch_all-requires-clause-jumps t c =
@@ -82,7 +82,7 @@ emit_while-patch_all-requires-clause-jumps t c =
     let e = expr_view c.args.test.now in
     let opened = from_none _ _ _ _ _ c.new-jumps.ensures.items c.in_ok-emit_test.ensures in
     let P : List ℕ → Type 0 = λ l. All (λ j. j < length c.emit_test.new.code.items) l in
-    subst P (sym c.deref.ensures.value) (jumps_within c.in_ok-jumps_are_within.ensures sc e true c.emit_skipped.new.code.items c.emit_test.new.code.items c.emit_test.new.jumps.items c.emit_test.new.code.items opened (omega arith))
+    subst P (sym c.deref.ensures.value) (jumps_within c.jumps_are_within.ensures sc e true c.emit_skipped.new.code.items c.emit_test.new.code.items c.emit_test.new.jumps.items c.emit_test.new.code.items opened (omega arith))
 
 pub emit_while-returns : goal.emit_while-returns
 emit_while-returns t c =
@@ -95,6 +95,6 @@ emit_while-returns t c =
       | emit_while-then-start-end w ↦ omega (arith, long, c.len-start.ensures, c.len-end.ensures, w.to-is, w.if-start-end.true)
       | emit_while-else-start-end w ↦ omega (arith, long, c.len-start.ensures, c.len-end.ensures, w.to-is, w.if-start-end.false)
     ] in
-    while_words c.in_ok-patches_aim.ensures sc e c.args.code.now.items c.emit_skipped.new.code.items c.emit_test.new.code.items c.patch_all.new.code.items c.emit_test.new.jumps.items
+    while_words c.patches_aim.ensures sc e c.args.code.now.items c.emit_skipped.new.code.items c.emit_test.new.code.items c.patch_all.new.code.items c.emit_test.new.jumps.items
     body c.if-start-end.to c.in_ok-emit_skipped.ensures opened (omega arith) at
-    (c.in_ok-patch_all.ensures ∙ ap (λ l. patched c.if-start-end.to l c.emit_test.new.code.items) c.deref.ensures.value)
+    (c.patch_all.ensures ∙ ap (λ l. patched c.if-start-end.to l c.emit_test.new.code.items) c.deref.ensures.value)
