@@ -1,20 +1,19 @@
 -- What is typed by numbers meets the demands of the emitters.
-use Rattle.std.proofs.Common.{◌≡◌, ℕ, zero, suc, ◌+◌, ◌≤◌, max, List, [], ◌∷◌, ◌++◌, length, refl, ap, ◌∙◌, subst, arith}
-use Rattle.std.specs.Prelude.{IsTrue, Some, slice_get}
+use Rattle.std.proofs.Common.{◌≡◌, ℕ, ◌≤◌, List, ◌++◌, length, refl, arith}
+use Rattle.std.specs.Prelude.{Some, slice_get}
 use Rattle.std.specs.List.{All}
 use Rattle.std.proofs.lemmas.List.Elements.{All-cons}
 use Rattle.c0_tree.specs.Primitives.{CPrimitive}
 use Rattle.c0_tree.specs.Size.{need, args_need}
-use Rattle.c0_tree.specs.Tree.{CTy, CExpr, CStmt, assign, call, new, choice, loop, CStmts, done, next, CBody, code, asm, CFunction, CUnit}
+use Rattle.c0_tree.specs.Tree.{CExpr, CStmt, CStmts, CBody, code, asm, CFunction, CUnit}
 use Rattle.c0_meaning.specs.Ty.{Ty, ty_of}
 use Rattle.c0_meaning.specs.Env.{Env, env_of}
 use Rattle.c0_meaning.specs.Limits.{locals_of}
-use Rattle.c0_meaning.specs.Numbered.{HasNumberedType, IsNumberedGiven, a_value, a_null, AreNumberedGiven, none, more, IsNumbered, an_assignment, a_call, an_object, a_choice, a_loop, AreNumbered, no_statement, a_statement, NumbersTell}
-use Rattle.c0_meaning.specs.Sound.{IsSized}
+use Rattle.c0_meaning.specs.Numbered.{IsNumberedGiven, a_value, a_null, AreNumberedGiven, none, more, IsNumbered, an_assignment, a_call, an_object, a_choice, a_loop, AreNumbered, no_statement, a_statement, NumbersTell}
 use Rattle.c0_meaning.specs.Typed.{UnitsAreFaultless}
 use Rattle.c0_meaning.specs.TypeAt.{env_in}
 use Rattle.c0_meaning.specs.Unit.{IsWellFormed}
-use Rattle.c0_expr_code.specs.Scene.{HasNumbers, NumbersAreThere}
+use Rattle.c0_expr_code.specs.Scene.{NumbersAreThere}
 use Rattle.c0_stmt_code.specs.EmitLeaf.{CanStand}
 use Rattle.c0_stmt_code.specs.Emit.{IsEmittable, AreEmittable, IsEmittableBody, IsEmittableFunction}
 use Rattle.c0_stmt_code.proofs.Needs.{FunctionsAre}

@@ -1,8 +1,7 @@
 -- The words of an `if` and of a loop, whose tests get their distances when the code behind them stands.
-use Rattle.std.proofs.Common.{◌≡◌, ℕ, zero, suc, ◌+◌, ◌-◌, ◌%◌, ◌^◌, ◌<◌, ◌≤◌, max, Bool, true, false, nat_lt, List, [], ◌∷◌, ◌++◌, length, map, get_or, refl, sym, ap, ◌∙◌, subst, arith}
+use Rattle.std.proofs.Common.{◌≡◌, ℕ, zero, suc, ◌+◌, ◌%◌, ◌^◌, ◌<◌, ◌≤◌, max, Bool, true, false, List, [], ◌∷◌, ◌++◌, length, map, refl, sym, ap, ◌∙◌, subst, arith}
 use Rattle.std.specs.Prelude.{All, slice_set}
 use Rattle.std.proofs.lemmas.List.{append_assoc, append-nil, length-append, length-map, map-append, get_or-map}
-use Rattle.std.proofs.lemmas.Bool.{cases_eq}
 use Rattle.mips_table.specs.declared.inst.Inst.{Inst}
 use Rattle.mips_table.specs.Encoding.{encoding}
 use Rattle.c0_tree.specs.declared.tree.Expr.{Expr}
@@ -14,7 +13,7 @@ use Rattle.c0_expr_code.specs.Scope.{Scope}
 use Rattle.c0_expr_code.specs.Test.{test_code}
 use Rattle.c0_expr_code.specs.Jumps.{JumpsAreWithin, Open, PatchesAim, test_open, patched}
 use Rattle.c0_expr_code.specs.Opened.{IsOpened}
-use Rattle.c0_stmt_code.specs.Code.{skip, otherwise, otherwise_at, choice_code, back, while_code}
+use Rattle.c0_stmt_code.specs.Code.{otherwise, otherwise_at, choice_code, back, while_code}
 use Rattle.c0_stmt_code.specs.Emit.{skipped_code}
 use Rattle.c0_stmt_code.specs.EmitLeaf.{CanStand}
 
@@ -29,17 +28,16 @@ pub otherwise_is : (ss : List Stmt) (is : List Inst) → 0 < length ss → other
 otherwise_is [] is h = absurd (omega arith)
 otherwise_is (s ∷ ss) is h = refl
 
-pub otherwise_none : (ss : List Stmt) → length ss ≡ 0 → otherwise_at (stmts_view ss) ≡ 0
-otherwise_none [] h = refl
-otherwise_none (s ∷ ss) h = absurd (omega arith)
-
 pub otherwise_some : (ss : List Stmt) → 0 < length ss → otherwise_at (stmts_view ss) ≡ 1
 otherwise_some [] h = absurd (omega arith)
 otherwise_some (s ∷ ss) h = refl
 
-pub otherwise_long : (ss : CStmts) (is : List Inst) → otherwise_at ss ≤ length (otherwise ss is)
+otherwise_long : (ss : CStmts) (is : List Inst) → otherwise_at ss ≤ length (otherwise ss is)
 otherwise_long done is = omega arith
 otherwise_long (next s rest) is = omega arith
+
+pub otherwise_fits : (old new : List ℕ) (ss : CStmts) (is : List Inst) → new ≡ old ++ map encoding (otherwise ss is) → length old + otherwise_at ss ≤ length new
+otherwise_fits old new ss is e = omega (arith, ap length e, length-append old (map encoding (otherwise ss is)), length-map (otherwise ss is) encoding, otherwise_long ss is)
 
 -- a list of places that was empty
 pub from_none : (old new marked marks : List ℕ) (x : Open) → marked ≡ [] → IsOpened old new marked marks x → IsOpened old new [] marks x
@@ -53,7 +51,7 @@ two_longer a b c x y e q = omega (arith, ap length e, ap length q, length-append
 pub jumps_within : JumpsAreWithin → (sc : Scope) (e : CExpr) (s : Bool) (old new js words : List ℕ) → IsOpened old new [] js (test_open sc e s 8) → length new ≤ length words → All (λ j. j < length words) js
 jumps_within within sc e s old new js words opened longer =
     let long : length old + length (test_open sc e s 8).code ≤ length words
-        = omega (arith, longer, ap length opened.words, length-append old (map encoding (test_open sc e s 8).code), length-map (test_open sc e s 8).code encoding) in
+    = omega (arith, longer, ap length opened.words, length-append old (map encoding (test_open sc e s 8).code), length-map (test_open sc e s 8).code encoding) in
     let P : List ℕ → Type 0 = λ l. All (λ j. j < length words) l in
     subst P (sym opened.places) (within sc e s 8 (length old) (length words) long)
 
@@ -62,7 +60,7 @@ aimed : PatchesAim → (sc : Scope) (e : CExpr) (s : Bool) (far to : ℕ) (old n
     → patched to js (new ++ after) ≡ old ++ (map encoding (test_code sc e s far 8) ++ after)
 aimed aim sc e s far to old new js after opened small fits same =
     let long : length new ≡ length old + length (test_open sc e s 8).code
-        = ap length opened.words ∙ length-append old (map encoding (test_open sc e s 8).code) ∙ ap (λ n. length old + n) (length-map (test_open sc e s 8).code encoding) in
+    = ap length opened.words ∙ length-append old (map encoding (test_open sc e s 8).code) ∙ ap (λ n. length old + n) (length-map (test_open sc e s 8).code encoding) in
     ap (λ l. patched to l (new ++ after)) opened.places
     ∙ ap (λ l. patched to (map (λ j. length old + j) (test_open sc e s 8).jumps) l) (ap (λ (l : List ℕ). l ++ after) opened.words ∙ append_assoc old (map encoding (test_open sc e s 8).code) after)
     ∙ aim sc e s 8 far to old after small (omega (arith, long, fits)) (subst (λ n. (n + far) % 2 ^ 16 ≡ to % 2 ^ 16) long same)
@@ -79,7 +77,7 @@ choice_words aim sc e ss old c1 c2 c3 c4 js first other to opened two three fits
     let l3 : length c3 ≡ length c1 + length after = ap length whole ∙ length-append c1 after in
     let same : (length c1 + far) % 2 ^ 16 ≡ to % 2 ^ 16 = omega (arith, l2, at) in
     let joined : map encoding (choice_code sc e ss first other) ≡ map encoding (test_code sc e false far 8) ++ after
-        = map-append encoding (test_code sc e false far 8) (first ++ otherwise ss other) ∙ ap (λ l. map encoding (test_code sc e false far 8) ++ l) (map-append encoding first (otherwise ss other)) in
+    = map-append encoding (test_code sc e false far 8) (first ++ otherwise ss other) ∙ ap (λ l. map encoding (test_code sc e false far 8) ++ l) (map-append encoding first (otherwise ss other)) in
     four ∙ ap (patched to js) whole
     ∙ aimed aim sc e false far to old c1 js after opened (omega arith) (omega (arith, fits, l3)) same
     ∙ ap (λ l. old ++ l) (sym joined)

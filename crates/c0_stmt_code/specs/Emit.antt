@@ -2,7 +2,7 @@
 use Rattle.std.specs.Prelude.{◌≡◌, ℕ, ◌≤◌, List, ◌∷◌, length, map, IsTrue, Some, slice_get}
 use Rattle.std.specs.List.{All}
 use Rattle.c0_tree.specs.Primitives.{CPrimitive}
-use Rattle.c0_tree.specs.Tree.{CExpr, CStmt, assign, call, new, choice, loop, CStmts, done, next, CBody, code, asm, CFunction, CUnit}
+use Rattle.c0_tree.specs.Tree.{CStmt, assign, call, new, choice, loop, CStmts, done, next, CBody, code, asm, CFunction, CUnit}
 use Rattle.c0_meaning.specs.Asm.{are_allowed_words}
 use Rattle.c0_meaning.specs.Env.{Env}
 use Rattle.c0_meaning.specs.Sound.{IsSized}

@@ -1,11 +1,11 @@
 // The code of statements.
 
-ghost use Rattle.std.specs.Prelude.{◌≡◌, ◌++◌, map, OnOk};
+ghost use Rattle.std.specs.Prelude.{◌≡◌, ◌+◌, ◌^◌, ◌<◌, ◌++◌, map, OnOk};
 ghost use Rattle.mips_table.specs.Encoding.{encoding};
 ghost use Rattle.masm.specs.Places.{ArePlaces};
 ghost use Rattle.c0_tree.specs.View.{expr_view, stmt_view, stmts_view};
 ghost use Rattle.c0_expr_code.specs.Scene.{scope_in};
-ghost use Rattle.c0_stmt_code.specs.Code.{links_of, stmt_code};
+ghost use Rattle.c0_stmt_code.specs.Code.{links_of, otherwise_at, stmt_code};
 ghost use Rattle.c0_stmt_code.specs.Emit.{AreEmittable, IsEmittable, choice_in, otherwise_in, skipped_code, stmts_at, while_in};
 ghost use Rattle.c0_stmt_code.specs.EmitLeaf.{CanStand};
 
@@ -37,7 +37,15 @@ fn emit_statement(
             function,
             args,
             ..
-        } => emit_call(scene, places, function.kind, function.number, args, place, code),
+        } => emit_call(
+            scene,
+            places,
+            function.kind,
+            function.number,
+            args,
+            place,
+            code,
+        ),
         Stmt::New { place, ty, .. } => emit_new(scene, places, ty, place, code),
         Stmt::If { test, yes, no, .. } => emit_if(alloc, scene, places, test, yes, no, code),
         Stmt::While { test, body, .. } => emit_while(alloc, scene, places, test, body, code),
@@ -110,6 +118,14 @@ fn emit_otherwise(
     emit_skipped(alloc, scene, places, no, code)
 }
 
+// Where the other branch of an `if` begins whose first branch ends at a word: behind the jump over it, where there is another branch.
+fn behind_jump(no: &[Stmt], end: usize) -> usize
+    requires { end + otherwise_at (stmts_view no.now) < 2 ^ 64 }
+    ensures { result ≡ end + otherwise_at (stmts_view no.now) }
+{
+    if no.is_empty() { end } else { end + 1 }
+}
+
 // Appends the code of an `if`: its test goes to the other branch, which begins behind the jump over it.
 #[cycle(statement)]
 fn emit_if(
@@ -134,7 +150,7 @@ fn emit_if(
     emit_statements(alloc, scene, places, yes, code)?;
     let end = code.len();
     emit_otherwise(alloc, scene, places, no, code)?;
-    let to = if no.is_empty() { end } else { end + 1 };
+    let to = behind_jump(no, end);
     patch_all(code, &jumps, to);
     Ok(())
 }

@@ -1,6 +1,5 @@
 -- The function is one of a well formed unit, and its scope that of the scene.
-use Rattle.std.proofs.Common.{◌≡◌, ◌++◌, ℕ, length, map, sym, ap, ◌∙◌, subst, arith, OnOk}
-use Rattle.std.specs.Prelude.{Some, slice_get}
+use Rattle.std.proofs.Common.{◌≡◌, ◌++◌, ℕ, map, sym, ◌∙◌, subst, arith, OnOk}
 use Rattle.mips_table.specs.Encoding.{encoding}
 use Rattle.c0_tree.specs.Tree.{CFunction}
 use Rattle.c0_tree.specs.View.{function_view, unit_view}

@@ -1,7 +1,6 @@
 -- What is left of the emitters of statements: the arguments of a call, the other branch of an `if`, and the tests, which are patched.
-use Rattle.std.proofs.Common.{rules, ◌≡◌, ◌≤◌, ◌<◌, ◌+◌, ◌++◌, ℕ, true, false, List, length, map, max, sym, ap, ◌∙◌, subst, arith, OnOk}
+use Rattle.std.proofs.Common.{rules, ◌≡◌, ◌<◌, ◌+◌, ◌++◌, ℕ, true, false, List, length, map, max, sym, ap, ◌∙◌, subst, arith, OnOk}
 use Rattle.std.specs.Prelude.{All}
-use Rattle.std.proofs.lemmas.List.{length-append, length-map}
 use Rattle.c0_tree.specs.declared.tree.Stmt as rust
 use Rattle.c0_tree.specs.declared.tree.Stmt.TheFolds as folds
 use Rattle.mips_table.specs.Encoding.{encoding}
@@ -10,11 +9,11 @@ use Rattle.c0_tree.specs.Tree.{call}
 use Rattle.c0_tree.specs.View.{expr_view, name_view, stmt_view, stmts_view}
 use Rattle.c0_expr_code.specs.Scene.{scope_in}
 use Rattle.c0_expr_code.specs.Jumps.{patched}
-use Rattle.c0_stmt_code.specs.Code.{links_of, stmts_code, otherwise, otherwise_at}
+use Rattle.c0_stmt_code.specs.Code.{links_of, stmts_code}
 use Rattle.c0_stmt_code.specs.Emit.{IsEmittable}
 use Rattle.c0_stmt_code.specs.EmitLeaf.{CanStand}
-use Rattle.c0_stmt_code.proofs.Emitting.{args_stand, otherwise_is, otherwise_none, otherwise_some, otherwise_long, from_none, two_longer, jumps_within, choice_words, skipped_long, while_words}
-use Rattle.c0_stmt_code.proofs.statement.+statement.Goals.{emit_if-then-is_empty, emit_if-else-is_empty, emit_while-then-start-end, emit_while-else-start-end}
+use Rattle.c0_stmt_code.proofs.Emitting.{args_stand, otherwise_is, otherwise_fits, from_none, two_longer, jumps_within, choice_words, skipped_long, while_words}
+use Rattle.c0_stmt_code.proofs.statement.+statement.Goals.{emit_while-then-start-end, emit_while-else-start-end}
 use Rattle.c0_stmt_code.proofs.statement.+statement.Goals as goal
 
 view_call : (s : _) (p : _) (cs : _) (f : _) (args : _) → stmt_view (rust.Call s p cs f args) ≡ call s (expr_view p) cs (name_view f) (map expr_view args.items)
@@ -43,38 +42,26 @@ emit_if-patch_all-requires-clause-jumps t c =
     let P : List ℕ → Type 0 = λ l. All (λ j. j < length c.emit_otherwise.new.code.items) l in
     subst P (sym c.deref.ensures.value) (jumps_within c.jumps_are_within.ensures sc e false c.args.code.now.items c.emit_test.new.code.items c.emit_test.new.jumps.items c.emit_otherwise.new.code.items opened long)
 
+pub emit_if-behind_jump-to-requires : goal.emit_if-behind_jump-to-requires
+emit_if-behind_jump-to-requires t c =
+    let other = stmts_code (scope_in c.args.scene.now) (links_of c.args.places.now) (stmts_view c.args.no.now) in
+    let long = otherwise_fits c.emit_statements.new.code.items c.emit_otherwise.new.code.items (stmts_view c.args.no.now) other c.in_ok-emit_otherwise.ensures in
+    omega (arith, long, c.len-end.ensures)
+
 pub emit_if-patch_all-requires-clause-to : goal.emit_if-patch_all-requires-clause-to
 emit_if-patch_all-requires-clause-to t c =
-    let ss = stmts_view c.args.no.now in
-    let other = stmts_code (scope_in c.args.scene.now) (links_of c.args.places.now) ss in
-    let at : c.if-is_empty.to ≡ length c.emit_statements.new.code.items + otherwise_at ss = elim c.if-is_empty.branch [
-      | emit_if-then-is_empty w ↦
-          let empty : length c.args.no.now ≡ 0 = grind arith in
-          omega (arith, otherwise_none c.args.no.now empty, c.len-end.ensures, w.to-is)
-      | emit_if-else-is_empty w ↦
-          let some : 0 < length c.args.no.now = grind arith in
-          omega (arith, otherwise_some c.args.no.now some, c.len-end.ensures, w.to-is)
-    ] in
-    omega (arith, at, ap length c.in_ok-emit_otherwise.ensures, length-append c.emit_statements.new.code.items (map encoding (otherwise ss other)), length-map (otherwise ss other) encoding, otherwise_long ss other)
+    let other = stmts_code (scope_in c.args.scene.now) (links_of c.args.places.now) (stmts_view c.args.no.now) in
+    let long = otherwise_fits c.emit_statements.new.code.items c.emit_otherwise.new.code.items (stmts_view c.args.no.now) other c.in_ok-emit_otherwise.ensures in
+    omega (arith, long, c.len-end.ensures, c.behind_jump-to.ensures)
 
 pub emit_if-returns : goal.emit_if-returns
 emit_if-returns t c =
     let sc = scope_in c.args.scene.now in
     let x = links_of c.args.places.now in
-    let e = expr_view c.args.test.now in
-    let ss = stmts_view c.args.no.now in
     let opened = from_none _ _ _ _ _ c.new-jumps.ensures.items c.in_ok-emit_test.ensures in
-    let at : c.if-is_empty.to ≡ length c.emit_statements.new.code.items + otherwise_at ss = elim c.if-is_empty.branch [
-      | emit_if-then-is_empty w ↦
-          let empty : length c.args.no.now ≡ 0 = grind arith in
-          omega (arith, otherwise_none c.args.no.now empty, c.len-end.ensures, w.to-is)
-      | emit_if-else-is_empty w ↦
-          let some : 0 < length c.args.no.now = grind arith in
-          omega (arith, otherwise_some c.args.no.now some, c.len-end.ensures, w.to-is)
-    ] in
-    choice_words c.patches_aim.ensures sc e ss c.args.code.now.items c.emit_test.new.code.items c.emit_statements.new.code.items c.emit_otherwise.new.code.items c.patch_all.new.code.items c.emit_test.new.jumps.items
-    (stmts_code sc x (stmts_view c.args.yes.now)) (stmts_code sc x ss) c.if-is_empty.to opened c.in_ok-emit_statements.ensures c.in_ok-emit_otherwise.ensures (omega arith) at
-    (c.patch_all.ensures ∙ ap (λ l. patched c.if-is_empty.to l c.emit_otherwise.new.code.items) c.deref.ensures.value)
+    choice_words c.patches_aim.ensures sc (expr_view c.args.test.now) (stmts_view c.args.no.now) c.args.code.now.items c.emit_test.new.code.items c.emit_statements.new.code.items c.emit_otherwise.new.code.items c.patch_all.new.code.items c.emit_test.new.jumps.items
+    (stmts_code sc x (stmts_view c.args.yes.now)) (stmts_code sc x (stmts_view c.args.no.now)) c.behind_jump-to.result opened c.in_ok-emit_statements.ensures c.in_ok-emit_otherwise.ensures (omega arith) (omega (arith, c.len-end.ensures, c.behind_jump-to.ensures))
+    (c.patch_all.ensures ∙ ap (λ l. patched c.behind_jump-to.result l c.emit_otherwise.new.code.items) c.deref.ensures.value)
 
 pub emit_while-patch_all-requires-clause-jumps : goal.emit_while-patch_all-requires-clause-jumps
 emit_while-patch_all-requires-clause-jumps t c =
