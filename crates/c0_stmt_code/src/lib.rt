@@ -2,5 +2,11 @@
 #![tactic(auto)]
 
 mod acts;
+mod calling;
+mod emit_laws;
+mod function;
 pub mod laws;
 mod prologue;
+mod statement;
+
+pub use function::emit_function;
