@@ -6,6 +6,7 @@ pub mod Calls
 pub mod Costs
 pub mod Entry
 pub mod Frames
+pub mod FunctionLengths
 pub mod Given
 pub mod Given2
 pub mod Held

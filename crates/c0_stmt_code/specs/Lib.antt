@@ -1,6 +1,7 @@
 pub mod Ahead
 pub mod Code
 pub mod Journey
+pub mod Lengths
 pub mod Rows
 pub mod Setup
 pub mod Standing

@@ -1,0 +1,1 @@
+-- Where the parts of a unit's code stand, and how long it is.
