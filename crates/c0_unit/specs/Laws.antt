@@ -13,7 +13,7 @@ use Rattle.c0_unit.specs.Code.{fault_exits, primitive_entries, routines_at, scop
 
 -- the places of code in which functions begin at these addresses, and the globals at this one
 pub record ArePlacedAt (p : Places) (starts : List ℕ) (globals : ℕ) : Type 0 where
-  pub globals : p.globals ≡ globals
+  pub globals_at : p.globals ≡ globals
   pub faults : p.faults ≡ fault_exits
   pub multiply : p.multiply ≡ 4 * (routines_at + MULTIPLY)
   pub divide : p.divide ≡ 4 * (routines_at + DIVIDE)
@@ -34,8 +34,8 @@ PlacesAgree = (u : CUnit) (p : Places) → ArePlacesOf u p → (f : CFunction) �
 pub record IsPart (part : List Inst) (at : ℕ) (whole : List Inst) : Type 0 where
   pub before : List Inst
   pub after : List Inst
-  pub whole : whole ≡ before ++ (part ++ after)
-  pub at : length before ≡ at
+  pub is : whole ≡ before ++ (part ++ after)
+  pub from : length before ≡ at
 
 -- The parts of a unit's code: the entry, the routine that takes a new object, and each function, where its address says.
 pub record HasParts (u : CUnit) : Type 0 where

@@ -280,10 +280,14 @@ impl Desk {
         out.push('\n')
     }
 
-    /// Tells the globals and the heap.
-    pub fn put_data(&self, out: &mut String) -> Result<(), AllocError> {
+    /// Tells the globals.
+    pub fn put_globals(&self, out: &mut String) -> Result<(), AllocError> {
         out.push_str("globals")?;
-        self.put_words(out, self.parts.globals, self.parts.global_words)?;
+        self.put_words(out, self.parts.globals, self.parts.global_words)
+    }
+
+    /// Tells the heap as far as it is used.
+    pub fn put_heap(&self, out: &mut String) -> Result<(), AllocError> {
         out.push_str("heap")?;
         self.put_words(out, self.parts.heap, self.word(HEAP_USED).min(WORDS))
     }

@@ -107,12 +107,14 @@ pub fn put_run(
     for field in name.split(' ') {
         if let Some((cause, data, user)) = arguments(field) {
             desk.ask(cause, data, user);
-            if !desk.dispatch(out)? {
+            let left = desk.dispatch(out)?;
+            desk.put_globals(out)?;
+            if !left {
                 break;
             }
         }
     }
-    desk.put_data(out)
+    desk.put_heap(out)
 }
 
 /// The words of a kernel, a line each, with their addresses.

@@ -3,8 +3,8 @@
 //
 //     == run HEAP STACK CAUSE/DATA/USER .. NAME
 //
-// gives the words of the heap and of the stack, and the arguments of each dispatch; its source is the kernel. What is printed: each
-// call of a primitive with its arguments, how each dispatch ends, the globals, and the heap as far as it is used. A pointer is printed as
+// gives the words of the heap and of the stack, and the arguments of each dispatch; its source is the kernel. What is printed of each
+// dispatch: its calls of primitives with their arguments, how it ends, and the globals; and at last the heap as far as it is used. A pointer is printed as
 // `g` or `h` and the number of its word among the globals or in the heap; of more than 64 words those other than 0 are printed with their
 // numbers. Stand-ins are called in place of the layer's primitives: a bool says whether the first argument is above 0, and an int is the
 // sum of the first two arguments and 100 times the primitive's number. They change every register that a primitive may change.
