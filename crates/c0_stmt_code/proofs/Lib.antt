@@ -4,6 +4,9 @@ pub mod Blocks
 pub mod CallActs
 pub mod Calls
 pub mod Costs
+pub mod EmitLeaf
+pub mod Emittable
+pub mod Emitting
 pub mod Entry
 pub mod Frames
 pub mod FunctionLengths
@@ -13,6 +16,7 @@ pub mod Held
 pub mod Lengths
 pub mod Lights
 pub mod Locals
+pub mod Named
 pub mod Needs
 pub mod Places
 pub mod Primitives
