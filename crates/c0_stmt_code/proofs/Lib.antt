@@ -10,6 +10,7 @@ pub mod Emitting
 pub mod Entry
 pub mod Finishes
 pub mod Frames
+pub mod FunctionLengths
 pub mod Given
 pub mod Given2
 pub mod Grows

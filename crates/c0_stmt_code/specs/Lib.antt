@@ -3,6 +3,7 @@ pub mod Code
 pub mod Emit
 pub mod EmitLeaf
 pub mod Journey
+pub mod Lengths
 pub mod Rows
 pub mod Setup
 pub mod Standing
