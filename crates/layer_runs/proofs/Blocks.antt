@@ -44,7 +44,7 @@ kept_by y k v e = by (nat_lt k (length y.linked)) (is_own y.map k) refl refl e
     by true true p q h = absurd (cc)
     by false b p q h = absurd (cc)
 
-module _ (simulates : MachineSimulates) (stands : (n : ℕ) (is : List Inst) → BlockStands n is) (x : Outside) (y : Site) (s : State) (n : ℕ) (is : List Inst) (at : Standing y n is) (c : Calm x y s) where
+module _ (stands : (n : ℕ) (is : List Inst) → BlockStands n is) (x : Outside) (y : Site) (s : State) (n : ℕ) (is : List Inst) (at : Standing y n is) (c : Calm x y s) where
   pub sound : Sound (block_world x y s n is)
   sound = record {
     small = c.small;
@@ -70,8 +70,8 @@ module _ (simulates : MachineSimulates) (stands : (n : ℕ) (is : List Inst) →
   inside_of : (t : State) → Quiet x t → Inside t
   inside_of t q = record { on = q.on; mode = q.mode; sr = q.sr; no_reset = q.no_reset }
 
-  pub makes : (t : Configuration) (steps : ℕ) → Steps (block_world x y s n is) steps (configuration_of s) t → Makes x y n is steps s t
-  makes t steps r =
+  pub makes : MachineSimulates → (t : Configuration) (steps : ℕ) → Steps (block_world x y s n is) steps (configuration_of s) t → Makes x y n is steps s t
+  makes simulates t steps r =
       let w : World = block_world x y s n is in
       let m : Simulates x w steps s = simulates x (block_program y (length s.memory) n is) s steps t sound c.quiet holds serves r in
       let last = m.along steps (omega arith) in
@@ -96,4 +96,4 @@ module _ (simulates : MachineSimulates) (stands : (n : ℕ) (is : List Inst) →
       }
 
 pub blocks_run : MachineSimulates → ((n : ℕ) (is : List Inst) → BlockStands n is) → BlocksRun
-blocks_run simulates stands x y s t n is steps at c r = makes simulates stands x y s n is at c t steps r
+blocks_run simulates stands x y s t n is steps at c r = makes stands x y s n is at c simulates t steps r

@@ -4,3 +4,6 @@ pub mod Ways
 pub mod Arrivals
 pub mod Ranges
 pub mod Placed
+pub mod Ends
+pub mod Exits
+pub mod Leaving

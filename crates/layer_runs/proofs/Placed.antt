@@ -11,8 +11,13 @@ use Rattle.mips_table.specs.declared.inst.Inst.{Inst}
 use Rattle.mips_table.specs.declared.inst.Inst.TheVariants.{J, Eret}
 use Rattle.mips_table.specs.Encoding.{InRange, encoding}
 use Rattle.layer_map.specs.Map.{Map, MapInRange, block_at}
+use Rattle.page_model.specs.Places.{places_of}
+use Rattle.page_fault.specs.Code.{page_code}
+use Rattle.trap_entry.specs.Code.{leave_code, exit_code}
+use Rattle.register_primitives.specs.Code.{vm_get_code, vm_set_code, vm_size_code, con_put_code, con_get_code, con_left_code}
+use Rattle.cvm_primitives.specs.Code.{vm_word_code, vm_put_code, vm_copy_code, vm_resize_code}
 use Rattle.cvm_model.specs.Stands.{Site, is_own}
-use Rattle.layer_runs.specs.Image.{interrupt_code, routines, joined, routine, routine_at, entries, filled, variables, blocks, second_code, layer_image, image_site, IsMade}
+use Rattle.layer_runs.specs.Image.{returning, interrupt_code, routines, joined, routine, routine_at, entries, filled, variables, blocks, second_code, layer_image, image_site, IsMade}
 use Rattle.layer_runs.specs.Runs.{Standing}
 use Rattle.layer_runs.proofs.Ranges.{fits_in, all_in, all_fit, handler_fits, routines_fit}
 
@@ -67,6 +72,28 @@ pub routines_count : (m : Map) → length (routines m) ≡ 15
 unfolding routines
 routines_count m = refl
 
+-- which routine is which
+pub record Listed (m : Map) : Type 0 where
+  pub get : routine m 0 ≡ returning (vm_get_code m.users)
+  pub set : routine m 1 ≡ returning (vm_set_code m.users)
+  pub size : routine m 2 ≡ returning (vm_size_code m.users)
+  pub resize : routine m 3 ≡ returning (vm_resize_code (places_of m) m.users m.params.pages)
+  pub word : routine m 4 ≡ returning (vm_word_code (places_of m) m.users m.params.pages (page_code (places_of m)))
+  pub put : routine m 5 ≡ returning (vm_put_code (places_of m) m.users m.params.pages (page_code (places_of m)))
+  pub copy : routine m 6 ≡ returning (vm_copy_code (places_of m) m.users m.params.pages (page_code (places_of m)))
+  pub con_put : routine m 7 ≡ returning con_put_code
+  pub con_get : routine m 8 ≡ returning con_get_code
+  pub con_left : routine m 9 ≡ returning con_left_code
+  pub null : routine m 10 ≡ exit_code 1
+  pub bounds : routine m 11 ≡ exit_code 2
+  pub zero_divisor : routine m 12 ≡ exit_code 3
+  pub stack : routine m 13 ≡ exit_code 4
+  pub leave : routine m 14 ≡ leave_code (places_of m) m.users m.params.pages
+
+pub listed : (m : Map) → Listed m
+unfolding routines
+listed m = record { get = refl; set = refl; size = refl; resize = refl; word = refl; put = refl; copy = refl; con_put = refl; con_get = refl; con_left = refl; null = refl; bounds = refl; zero_divisor = refl; stack = refl; leave = refl }
+
 pub routines_length : (m : Map) → length (joined (routines m)) ≤ 10225
 unfolding routines
 routines_length m = omega arith
@@ -115,7 +142,7 @@ module _ (m : Map) (sizes code : List ℕ) (made : IsMade m sizes code) where
   blocks_size = let users = made.users in let few = made.range.users in filled_length 4096 (blocks sizes) (omega (arith, blocks_length sizes))
 
   pub linked_length : length site.linked ≡ 16384 + m.code_words
-  linked_length = memory_length first_words (filled 1024 (variables m)) second_words (filled 4096 (blocks sizes)) code first_size variables_size second_size blocks_size ∙ ap (λ n. 16384 + n) made.code
+  linked_length = memory_length first_words (filled 1024 (variables m)) second_words (filled 4096 (blocks sizes)) code first_size variables_size second_size blocks_size ∙ ap (λ n. 16384 + n) made.whole
 
   -- an instruction of the second part
   second_word : (j : ℕ) → j < length (second_code m) → slice_index site.linked (2048 + j) ≡ encoding (get_or (second_code m) j Eret)
@@ -141,6 +168,10 @@ module _ (m : Map) (sizes code : List ℕ) (made : IsMade m sizes code) where
 
   routine_inst : (k i : ℕ) (d : Inst) → k < 15 → i < length (routine m k) → get_or (joined (routines m)) (before k + i) d ≡ get_or (routine m k) i d
   routine_inst k i d lt less = get_or-flat_map (λ is. is) (routines m) k i [] d (omega (arith, routines_count m)) less
+
+  -- it ends before the control blocks
+  pub routine_fits : (k : ℕ) → k < 15 → routine_at m k + length (routine m k) ≤ 12288
+  routine_fits k lt = let fits = before_fits k lt in let total = routines_length m in omega arith
 
   pub routine_stands : (k : ℕ) → k < 15 → Standing site (routine_at m k) (routine m k)
   routine_stands k lt =

@@ -94,4 +94,4 @@ image_site m sizes code = site_with m (layer_image m sizes) code
 pub record IsMade (m : Map) (sizes code : List ℕ) : Type 0 where
   pub range : MapInRange m
   pub users : length sizes ≡ m.users
-  pub code : length code ≡ m.code_words
+  pub whole : length code ≡ m.code_words

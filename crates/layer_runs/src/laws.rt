@@ -1,8 +1,13 @@
 // The laws of the layer's runs. Each is the contract of a function that does nothing.
+ghost use Rattle.layer_runs.specs.Laws.{ImageExits};
 ghost use Rattle.layer_runs.specs.Runs.{BlocksRun};
 
-use masm::laws::a_block_stands;
-use mips_table::runs::code_runs_on_the_machine;
+use masm::laws::{a_block_stands, jumps_lead, runs_compose};
+use mips_table::runs::{
+    code_runs_on_the_machine, runs_join, the_power_port_ends_a_run, words_stay_words,
+};
+use page_model::laws::alikes_stand;
+use trap_entry::an_exit_comes;
 
 /// The machine makes each run of a block of the layer's code, whatever lines are raised: its pc stays in the block up to the end of the run, the
 /// linked words stay, and so do the sectors past the users' pages.
@@ -11,4 +16,19 @@ pub fn blocks_run()
 {
     code_runs_on_the_machine();
     a_block_stands();
+}
+
+/// LEAVE at a fault: from the exit of a kernel's fault the machine is off with the fault's word, and stands for the same state.
+pub fn faults_exit()
+    ensures { ImageExits }
+{
+    runs_join();
+    blocks_run();
+    a_block_stands();
+    runs_compose();
+    jumps_lead();
+    words_stay_words();
+    alikes_stand();
+    the_power_port_ends_a_run();
+    an_exit_comes();
 }

@@ -3,4 +3,4 @@
 
 mod laws;
 
-pub use laws::blocks_run;
+pub use laws::{blocks_run, faults_exit};
