@@ -13,7 +13,7 @@ use Rattle.mips_table.specs.Borders.{EretLeaves, PowerEnds}
 use Rattle.masm.specs.Standing.{placed, BlockStands}
 use Rattle.cvm_model.specs.Stands.{Site}
 use Rattle.layer_contract.specs.declared.entry.Entry.{Entry}
-use Rattle.layer_contract.specs.Layer.{Inside, Comes, IsEntry}
+use Rattle.layer_contract.specs.Layer.{entry_address, Inside, Comes, IsEntry}
 use Rattle.layer_runs.specs.Runs.{Standing, Calm, block_program, Between}
 use Rattle.layer_runs.proofs.Shown.{words_of, behind}
 use Rattle.layer_runs.proofs.Blocks.{sound, holds}
@@ -40,7 +40,7 @@ inside_of x y s c = record { on = c.quiet.on; mode = c.quiet.mode; sr = c.quiet.
 pub single : (x : Outside) (y : Site) (a b : ℕ) (s : State) → IsApart a b → Calm x y s → 4 * a ≤ s.cpu.pc → s.cpu.pc < 4 * b → (step x s).device ≡ s.device → Between x y 1 s
 single x y a b s apart c low top same = record {
   inside = λ j lt. let z : 0 ≡ j = omega arith in subst (λ j. Inside (run x s j)) z (inside_of x y s c);
-  apart = λ j e lt is. let z : 0 ≡ j = omega arith in subst (λ j. (run x s j).cpu.pc ≢ _) z (no_entry a b s.cpu.pc apart low top e is);
+  apart = λ j e lt is. let z : 0 ≡ j = omega arith in subst (λ j. (run x s j).cpu.pc ≢ entry_address e) z (no_entry a b s.cpu.pc apart low top e is);
   sectors = elim [ zero ↦ λ le q past. refl | suc j ↦ λ le q past. let z : 0 ≡ j = omega arith in subst (λ j. sector_of (run x s (suc j)).device.sectors q ≡ sector_of s.device.sectors q) z (ap (λ (d : Device). sector_of d.sectors q) same) ];
 }
 

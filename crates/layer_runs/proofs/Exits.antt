@@ -15,10 +15,10 @@ use Rattle.cvm_model.specs.Kernel.{Core, power_of}
 use Rattle.cvm_model.specs.declared.kernel_fault.KernelFault.{KernelFault}
 use Rattle.cvm_model.specs.declared.kernel_fault.KernelFault.TheVariants.{NullUse, Bounds, DivZero, StackOut, BadUser}
 use Rattle.cvm_model.specs.declared.row.Next.TheVariants.{Fault}
-use Rattle.cvm_model.specs.Cvm.{Status, Running, Faulted}
+use Rattle.cvm_model.specs.Cvm.{Status, Running, Faulted, leave_steps}
 use Rattle.cvm_model.specs.Stands.{Site, Stands, runs_user}
 use Rattle.layer_contract.specs.declared.entry.Entry.TheVariants.{Fault as Exit}
-use Rattle.layer_contract.specs.Layer.{Inside, IsAt, Comes, IsEntry, Rested, Exits, leave_steps}
+use Rattle.layer_contract.specs.Layer.{Inside, IsAt, Comes, IsEntry, Rested, Exits}
 use Rattle.trap_entry.specs.Code.{exit_code}
 use Rattle.trap_entry.specs.Laws.{ComesTo, Passed, ExitsWith}
 use Rattle.layer_runs.specs.Image.{routines, routine, routine_at, image_site, IsMade}
@@ -69,7 +69,7 @@ module _ (m : Map) (sizes code : List ℕ) (made : IsMade m sizes code) where
         fits = k.quiet.fits;
         no_reset = k.quiet.no_reset;
         size = size;
-        data = λ j is. let lt : j < length s.memory = ⊎_elim (λ h. let h1 = h.1 in omega arith) (λ h. let h1 = h.1 in omega arith) is in
+        kernel = λ j is. let lt : j < length s.memory = ⊎_elim (λ h. let h1 = h.1 in omega arith) (λ h. let h1 = h.1 in omega arith) is in
             sym (word_is t j (omega arith)) ∙ ap (λ g. g j) same ∙ word_is s j lt;
         linked = k.stays;
       }
@@ -80,7 +80,7 @@ module _ (m : Map) (sizes code : List ℕ) (made : IsMade m sizes code) where
     pub enters : Enters x y (routine_at m k) s
     pub stands : Standing y (routine_at m k) is
     pub sound : Sound (block_world x y (run x s 1) (routine_at m k) is)
-    pub code : CodeAt (block_world x y (run x s 1) (routine_at m k) is) (routine_at m k) is
+    pub block : CodeAt (block_world x y (run x s 1) (routine_at m k) is) (routine_at m k) is
     pub low : 2063 ≤ routine_at m k
     pub high : routine_at m k + length is ≤ 12288
 
@@ -97,7 +97,7 @@ module _ (m : Map) (sizes code : List ℕ) (made : IsMade m sizes code) where
         enters = e;
         stands = there;
         sound = sound b.stands x y (run x s 1) n is there e.calm;
-        code = (b.stands n is).stands (block_world x y (run x s 1) n is);
+        block = (b.stands n is).stands (block_world x y (run x s 1) n is);
         low = omega arith;
         high = let f = routine_fits m sizes code made k lt in omega (arith, ap length same);
       }
@@ -131,7 +131,7 @@ module _ (m : Map) (sizes code : List ℕ) (made : IsMade m sizes code) where
               fits = l.fits;
               no_reset = l.no_reset ∙ f.no_reset;
               size = ap length l.memory ∙ f.size;
-              data = λ j is. ap (λ g. slice_index g j) l.memory ∙ f.data j is;
+              kernel = λ j is. ap (λ g. slice_index g j) l.memory ∙ f.kernel j is;
               linked = λ j lt own. ap (λ g. slice_index g j) l.memory ∙ f.linked j lt own;
             }) st.whole refl (subst (λ g. Shown y c g (behind t)) (sym w) (subst (Shown y c (words_of s)) (sym b) sh))
             (λ e. absurd (not e)) (λ run. absurd (true≢false (sym run ∙ none)));
@@ -169,7 +169,7 @@ module _ (m : Map) (sizes code : List ℕ) (made : IsMade m sizes code) where
           let v : ℕ = power_of f in
           let r : Routed (9 + v) (exit_code v) x s = routed z (9 + v) (exit_code v) x s c (omega arith) is at.stands at.inside (at.pc ∙ omega arith) in
           comes_off z ends (9 + v) (exit_code v) x s c at.stands at.inside r 1 (routine_at m (9 + v) + 1) 8 v (Rested x y (Fault f) c)
-          (exit (block_world x y (run x s 1) (routine_at m (9 + v)) (exit_code v)) r.sound v (routine_at m (9 + v)) (contents s) (behind s) (omega arith) r.code r.calm.idle) (omega arith)
+          (exit (block_world x y (run x s 1) (routine_at m (9 + v)) (exit_code v)) r.sound v (routine_at m (9 + v)) (contents s) (behind s) (omega arith) r.block r.calm.idle) (omega arith)
           (λ t off. record { rests = off.off; stands = off.stands (Faulted f) (λ q. absurd (cc)) })
 
       by : (f : KernelFault) → f ≢ BadUser → IsAt x y (Exit (power_of f)) c s → Comes x y IsEntry leave_steps s (Rested x y (Fault f) c)

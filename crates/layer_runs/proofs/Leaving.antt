@@ -26,11 +26,11 @@ use Rattle.cvm_model.specs.Primitives.{user_of, pages_of, register_of}
 use Rattle.cvm_model.specs.declared.kernel_fault.KernelFault.TheVariants.{BadUser}
 use Rattle.cvm_model.specs.declared.row.Next.{Next}
 use Rattle.cvm_model.specs.declared.row.Next.TheVariants.{User, Halt, Fault}
-use Rattle.cvm_model.specs.Cvm.{Status, Running, Halted, Faulted, next_of}
+use Rattle.cvm_model.specs.Cvm.{Status, Running, Halted, Faulted, next_of, leave_steps}
 use Rattle.cvm_model.specs.Paged.{pages_by}
 use Rattle.cvm_model.specs.Stands.{Site, IsUser, CoreFits, UserFits, Runs, Stands, runs_user}
 use Rattle.layer_contract.specs.declared.entry.Entry.TheVariants.{Leave}
-use Rattle.layer_contract.specs.Layer.{Inside, IsAt, Comes, IsEntry, Rested, Leaves, leave_steps}
+use Rattle.layer_contract.specs.Layer.{Inside, IsAt, Comes, IsEntry, Rested, Leaves}
 use Rattle.register_primitives.specs.Blocks.{BlocksHold}
 use Rattle.trap_entry.specs.Code.{go_code, leave_code}
 use Rattle.trap_entry.specs.Laws.{ComesTo, UserReady, MayGo, Passed, LeavesToUser, LeavesForGood, LeavesBadly}
@@ -145,7 +145,7 @@ module _ (m : Map) (sizes code : List ℕ) (made : IsMade m sizes code) where
                 fits = l.fits;
                 no_reset = l.no_reset ∙ k.quiet.no_reset;
                 size = ap length l.memory ∙ size;
-                data = λ j is. let lt : (1026 ≤ j) × (j < length s.memory) = ⊎_elim (λ h. let h0 = h.0 in let h1 = h.1 in (omega arith, omega arith)) (λ h. let h0 = h.0 in let h1 = h.1 in (omega arith, omega arith)) is in
+                kernel = λ j is. let lt : (1026 ≤ j) × (j < length s.memory) = ⊎_elim (λ h. let h0 = h.0 in let h1 = h.1 in (omega arith, omega arith)) (λ h. let h0 = h.0 in let h1 = h.1 in (omega arith, omega arith)) is in
                     let low = lt.0 in sym (memory j lt.1) ∙ at j (λ e. absurd (omega arith)) ∙ word_is s j lt.1;
                 linked = λ j lt own. ap (λ g. slice_index g j) l.memory ∙ k.stays j lt own;
               })
@@ -199,7 +199,7 @@ module _ (m : Map) (sizes code : List ℕ) (made : IsMade m sizes code) where
           free = free_own y current_at true refl;
         } in
         let g : ComesTo w 67 n (n + 6 + length (go_code (places_of m) m.params.pages)) Eret (contents s) (behind s) (UserReady (places_of m) m.params.pages u (contents s) (behind s)) =
-        law w r.sound (places_of m) m.users m.params.pages u n (contents s) (behind s) may r.code answer r.calm.idle in
+        law w r.sound (places_of m) m.users m.params.pages u n (contents s) (behind s) may r.block answer r.calm.idle in
         let e : Configuration = at_with (n + 6 + length (go_code (places_of m) m.params.pages)) g.contents g.behind in
         let idle : g.behind.pending ≡ Idle = ap (λ (d : Behind). d.pending) g.done.behind ∙ r.calm.idle in
         let a : Arrives x y 67 s1 e = arrives_in m sizes code made z 14 is x s r 67 e idle g.reaches in
@@ -226,13 +226,13 @@ module _ (m : Map) (sizes code : List ℕ) (made : IsMade m sizes code) where
       let regs = at.stands.fits.cpu.regs in
       ⊎_elim
       (λ e. subst (λ q. Comes x y IsEntry leave_steps s (Rested x y (next_of m.users (signed q)) c)) (sym e)
-      (let g = good w r.sound (places_of m) m.users m.params.pages n (contents s) (behind s) r.code e r.calm.idle in
+      (let g = good w r.sound (places_of m) m.users m.params.pages n (contents s) (behind s) r.block e r.calm.idle in
       comes_off m sizes code made z ends 14 is x s c at.stands at.inside r 2 (n + 2) 0 0 (Rested x y Halt c)
       (record { contents = g.contents; behind = g.behind; done = (g.done, g.done.regs 0 (λ e. absurd (omega arith)) (λ e. absurd (omega arith)) ∙ regs.none); reaches = g.reaches; stands = g.stands }) (omega arith)
       (λ t off. record { rests = off.off; stands = off.stands Halted (λ q. absurd (cc)) })))
       (λ ne. ⊎_elim
       (λ past. subst (λ q. Comes x y IsEntry leave_steps s (Rested x y q c)) (sym (bad_answer m.users v few small past))
-      (let g = bad w r.sound (places_of m) m.users m.params.pages n (contents s) (behind s) few r.code past small r.calm.idle in
+      (let g = bad w r.sound (places_of m) m.users m.params.pages n (contents s) (behind s) few r.block past small r.calm.idle in
       comes_off m sizes code made z ends 14 is x s c at.stands at.inside r 6 (n + 8 + length (go_code (places_of m) m.params.pages)) 8 5 (Rested x y (Fault BadUser) c) g (omega arith)
       (λ t off. record { rests = off.off; stands = off.stands (Faulted BadUser) (λ q. absurd (cc)) })))
       (λ within. subst (λ q. Comes x y IsEntry leave_steps s (Rested x y q c)) (sym (word_answer m.users v few small (omega arith) within))

@@ -17,7 +17,7 @@ use Rattle.trap_entry.specs.Code.{leave_code, exit_code}
 use Rattle.register_primitives.specs.Code.{vm_get_code, vm_set_code, vm_size_code, con_put_code, con_get_code, con_left_code}
 use Rattle.cvm_primitives.specs.Code.{vm_word_code, vm_put_code, vm_copy_code, vm_resize_code}
 use Rattle.cvm_model.specs.Stands.{Site, is_own}
-use Rattle.layer_runs.specs.Image.{returning, interrupt_code, routines, joined, routine, routine_at, entries, filled, variables, blocks, second_code, layer_image, image_site, IsMade}
+use Rattle.layer_runs.specs.Image.{returning, interrupt_code, routines, joined, routine, routine_at, entries, filled, variables, block_words, blocks, second_code, layer_image, image_site, IsMade}
 use Rattle.layer_runs.specs.Runs.{Standing}
 use Rattle.layer_runs.proofs.Ranges.{fits_in, all_in, all_fit, handler_fits, routines_fit}
 
@@ -100,7 +100,7 @@ routines_length m = omega arith
 
 blocks_length : (sizes : List ℕ) → length (blocks sizes) ≡ 64 * length sizes
 blocks_length [] = refl
-blocks_length (n ∷ sizes) = length-append _ (blocks sizes) ∙ ap (λ k. 64 + k) (blocks_length sizes) ∙ omega arith
+blocks_length (n ∷ sizes) = length-append (block_words n) (blocks sizes) ∙ ap (λ k. 64 + k) (blocks_length sizes) ∙ omega arith
 
 entries_length : (m : Map) → length (entries m) ≡ 15
 entries_length m = refl
@@ -130,13 +130,13 @@ module _ (m : Map) (sizes code : List ℕ) (made : IsMade m sizes code) where
   second_length = let r = routines_length m in omega (arith, length-append (entries m) (joined (routines m)), entries_length m)
 
   first_size : length first_words ≡ 1024
-  first_size = filled_length 1024 (map encoding (interrupt_code m)) (omega (arith, length-map encoding (interrupt_code m), handler_length m))
+  first_size = filled_length 1024 (map encoding (interrupt_code m)) (omega (arith, length-map (interrupt_code m) encoding, handler_length m))
 
   variables_size : length (filled 1024 (variables m)) ≡ 1024
   variables_size = filled_length 1024 (variables m) (omega arith)
 
   second_size : length second_words ≡ 10240
-  second_size = filled_length 10240 (map encoding (second_code m)) (omega (arith, length-map encoding (second_code m), second_length))
+  second_size = filled_length 10240 (map encoding (second_code m)) (omega (arith, length-map (second_code m) encoding, second_length))
 
   blocks_size : length (filled 4096 (blocks sizes)) ≡ 4096
   blocks_size = let users = made.users in let few = made.range.users in filled_length 4096 (blocks sizes) (omega (arith, blocks_length sizes))
@@ -147,15 +147,15 @@ module _ (m : Map) (sizes code : List ℕ) (made : IsMade m sizes code) where
   -- an instruction of the second part
   second_word : (j : ℕ) → j < length (second_code m) → slice_index site.linked (2048 + j) ≡ encoding (get_or (second_code m) j Eret)
   second_word j lt = in_third first_words (filled 1024 (variables m)) second_words (filled 4096 (blocks sizes)) code first_size variables_size second_size blocks_size j (omega (arith, second_length))
-      ∙ filled_word 10240 (map encoding (second_code m)) j (omega (arith, length-map encoding (second_code m))) ∙ word_at (second_code m) j lt
+      ∙ filled_word 10240 (map encoding (second_code m)) j (omega (arith, length-map (second_code m) encoding)) ∙ word_at (second_code m) j lt
 
   -- the handler stands at word 0
   pub handler_stands : Standing site 0 (interrupt_code m)
   handler_stands = record {
     range = all_in (interrupt_code m) (handler_fits m made.range);
     inside = omega (arith, linked_length, handler_length m);
-    linked = λ i lt. in_first first_words (filled 1024 (variables m)) second_words (filled 4096 (blocks sizes)) code first_size variables_size second_size blocks_size i (omega (arith, handler_length m))
-        ∙ filled_word 1024 (map encoding (interrupt_code m)) i (omega (arith, length-map encoding (interrupt_code m)));
+    linked = λ i lt. let z : 0 + i ≡ i = omega arith in ap (slice_index site.linked) z ∙ in_first first_words (filled 1024 (variables m)) second_words (filled 4096 (blocks sizes)) code first_size variables_size second_size blocks_size i (omega (arith, handler_length m))
+        ∙ filled_word 1024 (map encoding (interrupt_code m)) i (omega (arith, length-map (interrupt_code m) encoding));
     kept = λ k from to. not_own_low m k (omega (arith, handler_length m));
   }
 
@@ -201,8 +201,9 @@ module _ (m : Map) (sizes code : List ℕ) (made : IsMade m sizes code) where
         linked = λ i less.
             let z : 0 ≡ i = omega arith in
             let there : 2048 + k + 0 ≡ 2048 + k = omega arith in
+            let same : 0 + k ≡ k = omega arith in
             subst (λ i. slice_index site.linked (2048 + k + i) ≡ slice_index (encoding (J (routine_at m k)) ∷ []) i) z
             (ap (slice_index site.linked) there ∙ second_word k (omega (arith, length-append (entries m) (joined (routines m)), entries_length m))
-            ∙ ap encoding (get_or_append_left (entries m) (joined (routines m)) Eret k (omega (arith, entries_length m)) ∙ get_or-map-range_with_len (λ k. J (routine_at m k)) 0 15 k k Eret lt refl));
+            ∙ ap encoding (get_or_append_left (entries m) (joined (routines m)) Eret k (omega (arith, entries_length m)) ∙ get_or-map-range_with_len (λ k. J (routine_at m k)) 0 15 k k Eret lt same));
         kept = λ j from to. not_own_high m j (omega arith) (omega arith);
       }

@@ -102,8 +102,8 @@ pub record Fields (p : Places) (users per : ℕ) : Type 0 where
   pub fresh_high : nat_lt ((4096 * p.layout.zeros + 3072) / 65536) 65536 ≡ true
   pub fresh_low : nat_lt ((4096 * p.layout.zeros + 3072) % 65536) 65536 ≡ true
   pub frames : nat_lt p.layout.frames 65536 ≡ true
-  pub users : nat_lt users 65536 ≡ true
-  pub per : nat_lt per 65536 ≡ true
+  pub user_count : nat_lt users 65536 ≡ true
+  pub page_count : nat_lt per 65536 ≡ true
   pub more : nat_lt (per + 1) 65536 ≡ true
 
 pub fields_of : (m : Map) → MapInRange m → Fields (places_of m) m.users m.params.pages
@@ -125,8 +125,8 @@ fields_of m r =
       fresh_high = lt-ltb _ _ (omega arith);
       fresh_low = lt-ltb _ _ (omega arith);
       frames = lt-ltb _ _ (omega arith);
-      users = lt-ltb _ _ (omega arith);
-      per = lt-ltb _ _ (omega arith);
+      user_count = lt-ltb _ _ (omega arith);
+      page_count = lt-ltb _ _ (omega arith);
       more = lt-ltb _ _ (omega arith);
     }
 
@@ -137,4 +137,4 @@ handler_fits m r = let h : Fields (places_of m) m.users m.params.pages = fields_
 pub routines_fit : (m : Map) → MapInRange m → all_fit (joined (routines m)) ≡ true
 unfolding routines
 routines_fit m r = let h : Fields (places_of m) m.users m.params.pages = fields_of m r in
-    simp (h.tables_high, h.tables_low, h.end_high, h.end_low, h.counts_high, h.counts_low, h.zeros_high, h.zeros_low, h.first_high, h.first_low, h.fresh_high, h.fresh_low, h.frames, h.users, h.per, h.more)
+    simp (h.tables_high, h.tables_low, h.end_high, h.end_low, h.counts_high, h.counts_low, h.zeros_high, h.zeros_low, h.first_high, h.first_low, h.fresh_high, h.fresh_low, h.frames, h.user_count, h.page_count, h.more)

@@ -1,7 +1,7 @@
 -- "Stands for" by functions: what words and ports show of users, pages and console, taken from a state that stands and given back to one.
-use Rattle.std.proofs.Common.{◌≡◌, ◌≢◌, ℕ, zero, suc, ◌+◌, ◌-◌, ◌*◌, ◌/◌, ◌%◌, ◌^◌, ◌<◌, ◌≤◌, ◌⊎◌, Bool, true, false, ◌&&◌, nat_lt, List, [], ◌∷◌, length, take, drop, slice_index, All, refl, sym, ap, ◌∙◌, subst, inl, inr, arith, lt-ltb, ne_eqb, eqb-true, eqb-false}
+use Rattle.std.proofs.Common.{◌≡◌, ◌≢◌, ℕ, zero, suc, ◌+◌, ◌-◌, ◌*◌, ◌/◌, ◌%◌, ◌^◌, ◌<◌, ◌≤◌, ◌⊎◌, Bool, true, false, ◌&&◌, nat_lt, List, [], ◌∷◌, length, take, drop, slice_index, All, refl, sym, ap, ◌∙◌, subst, inl, inr, arith, lt-ltb, ne_eqb, eqb-true}
 use Rattle.std.specs.Prelude.{◌==◌, if◌then◌else◌}
-use Rattle.std.proofs.lemmas.Bool.{cond-true, cond-false}
+use Rattle.std.proofs.lemmas.Bool.{cond-true, cond-false, eqb-false}
 use Rattle.std.proofs.lemmas.List.{ext_get_or, get_or-take, get_or-drop, length-append, length-take-le, length-drop}
 use Rattle.mips_table.specs.Device.{Device, Idle, Outside, BUFFER, SECTOR, is_buffer, sector_of}
 use Rattle.mips_table.specs.Machine.{State}
@@ -84,8 +84,11 @@ block_reg memory b (suc r) from to =
     get_or-take 31 (drop (b + 1) memory) r 0 lt ∙ get_or-drop (b + 1) memory r 0 ∙ ap (slice_index memory) there
 block_reg memory b zero from to = absurd (omega arith)
 
-cpu_is : (a b : Cpu) → a.pc ≡ b.pc → a.regs ≡ b.regs → a.hi ≡ b.hi → a.lo ≡ b.lo → a ≡ b
-cpu_is a b p g h l = cc
+cpu_parts : (p q h i l m : ℕ) (f g : List ℕ) → p ≡ q → f ≡ g → h ≡ i → l ≡ m → (let a : Cpu = record { pc = p; regs = f; hi = h; lo = l } in let b : Cpu = record { pc = q; regs = g; hi = i; lo = m } in a ≡ b)
+cpu_parts p q h i l m f g a b c d = rw (a, b, c, d) refl
+
+pub cpu_is : (a b : Cpu) → a.pc ≡ b.pc → a.regs ≡ b.regs → a.hi ≡ b.hi → a.lo ≡ b.lo → a ≡ b
+cpu_is a b p g h l = cpu_parts a.pc b.pc a.hi b.hi a.lo b.lo a.regs b.regs p g h l
 
 -- a user fits
 pub user_fits : (m : Map) (c : Core) (u : ℕ) → CoreFits m c → IsUser c u → UserFits m.params.pages (user_of c.users u)
@@ -175,7 +178,7 @@ pub record Follows (x : Outside) (y : Site) (s t : State) : Type 0 where
   pub fits : Fits x t
   pub no_reset : t.reset ≡ false
   pub size : length t.memory ≡ length s.memory
-  pub data : (k : ℕ) → IsKernels y.map k → slice_index t.memory k ≡ slice_index s.memory k
+  pub kernel : (k : ℕ) → IsKernels y.map k → slice_index t.memory k ≡ slice_index s.memory k
   pub linked : (k : ℕ) → k < length y.linked → is_own y.map k ≡ false → slice_index t.memory k ≡ slice_index y.linked k
 
 -- a state that follows one that stands, with the same data of the kernel, stands where it shows its users, pages and console
@@ -198,12 +201,12 @@ stood alikes x y s t status after c c' range st f whole same sh current runs =
       small = omega arith;
       kernel = subst (DataStands y t.memory) (sym same) (record {
         globals = λ i lt. let n : length (flat (address_of m c.c0) c.c0.global_values) ≡ m.global_words = flat_length (address_of m c.c0) c.c0.global_values ∙ st.whole.globals in
-            f.data (globals_at m + i) (inr (omega arith, omega arith)) ∙ st.kernel.globals i lt;
+            f.kernel (globals_at m + i) (inr (omega arith, omega arith)) ∙ st.kernel.globals i lt;
         heap = λ i lt. let n : length (flat (address_of m c.c0) c.c0.heap_values) ≡ scalars c.c0.heap_values = flat_length (address_of m c.c0) c.c0.heap_values in
             let most : scalars c.c0.heap_values ≤ m.params.heap = st.whole.heap in
-            f.data (heap_at m + i) (inr (omega arith, omega arith)) ∙ st.kernel.heap i lt;
-        used = f.data heap_used_at (inl (omega arith, omega arith)) ∙ st.kernel.used;
-        places = λ k le lt. f.data k (inl (omega arith, lt)) ∙ st.kernel.places k le lt;
+            f.kernel (heap_at m + i) (inr (omega arith, omega arith)) ∙ st.kernel.heap i lt;
+        used = f.kernel heap_used_at (inl (omega arith, omega arith)) ∙ st.kernel.used;
+        places = λ k le lt. f.kernel k (inl (omega arith, lt)) ∙ st.kernel.places k le lt;
         linked = f.linked;
       });
       users = record {

@@ -13,7 +13,7 @@ use Rattle.layer_runs.specs.Runs.{Stretch, Between}
 abbrev pub IsApart : (a b : ℕ) → Type 0
 IsApart a b = (b ≤ 2048) ⊎ ((2063 ≤ a) × (b ≤ 16384))
 
-no_entry : (a b pc : ℕ) → IsApart a b → 4 * a ≤ pc → pc < 4 * b → (e : Entry) → IsEntry e → pc ≢ entry_address e
+pub no_entry : (a b pc : ℕ) → IsApart a b → 4 * a ≤ pc → pc < 4 * b → (e : Entry) → IsEntry e → pc ≢ entry_address e
 no_entry a b pc apart low top Dispatch is same = ⊎_elim (λ h. absurd (omega arith)) (λ h. let h0 = h.0 in let h1 = h.1 in absurd (omega arith)) apart
 no_entry a b pc apart low top (Primitive k) is same = ⊎_elim (λ h. absurd (omega arith)) (λ h. let h0 = h.0 in let h1 = h.1 in absurd (omega arith)) apart
 no_entry a b pc apart low top (Fault f) is same = let f0 = is.0 in let f1 = is.1 in ⊎_elim (λ h. absurd (omega arith)) (λ h. let h0 = h.0 in let h1 = h.1 in absurd (omega arith)) apart
