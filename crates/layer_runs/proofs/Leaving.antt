@@ -5,6 +5,7 @@ use Rattle.std.proofs.lemmas.Bool.{cond-true, cond-false, cases_lt, cases_eq}
 use Rattle.std.proofs.lemmas.List.{ext_get_or}
 use Rattle.std.proofs.lemmas.List.Elements.{All-get_or}
 use Rattle.std.proofs.lemmas.Int.{to_z_pos}
+use Rattle.std.proofs.Math.Nat.{mul-le-mul_left}
 use Rattle.std.proofs.Math.Facts.{to_z-neg}
 use Rattle.std.specs.Int.{w32}
 use Rattle.mips_table.specs.declared.inst.Inst.{Inst}
@@ -36,7 +37,7 @@ use Rattle.trap_entry.specs.Code.{go_code, leave_code}
 use Rattle.trap_entry.specs.Laws.{ComesTo, UserReady, MayGo, Passed, LeavesToUser, LeavesForGood, LeavesBadly}
 use Rattle.layer_runs.specs.Image.{routine_at, image_site, IsMade}
 use Rattle.layer_runs.specs.Runs.{Standing, Calm, kept_words, block_world}
-use Rattle.layer_runs.proofs.Shown.{Shown, IsKernels, Order, order_of, words_of, behind, word_is, user_fits, blocks_agree, pages_agree, Follows, shown, stood}
+use Rattle.layer_runs.proofs.Shown.{Shown, IsKernels, Order, order_of, words_of, behind, word_is, cpu_is, user_fits, blocks_agree, pages_agree, Follows, shown, stood}
 use Rattle.layer_runs.proofs.Placed.{listed}
 use Rattle.layer_runs.proofs.Arrivals.{Below, Arrives, contents}
 use Rattle.layer_runs.proofs.Ends.{Left, single, Gone, goes, left_words, left_behind, comes_by}
@@ -75,8 +76,8 @@ bad_answer users zero few small past = absurd (omega arith)
 -- a page's number
 few_pages : (u per : ℕ) → u ≤ 64 → per ≤ 1024 → (u - 1) * per ≤ 65536
 few_pages u per few most =
-    let a : (u - 1) * per ≤ 64 * per = grind (arith) in
-    omega arith
+    let h : u - 1 ≤ 64 = omega arith in
+    omega (arith, mul-le-mul_left per h)
 
 -- the special registers behind an eret
 left_other : (special : List ℕ) (k : ℕ) → k ≢ SR → k ≢ MODE → slice_index (left special) k ≡ slice_index special k
@@ -96,7 +97,7 @@ cpu_by a b fa fb p g h l =
     let na : length a.regs ≡ 32 = fa.regs.size in
     let nb : length b.regs ≡ 32 = fb.regs.size in
     let regs : a.regs ≡ b.regs = ext_get_or 0 a.regs b.regs (omega arith) (λ i lt. at i (omega arith)) in
-    cc
+    cpu_is a b p regs h l
   where
     at : (i : ℕ) → i < 32 → slice_index a.regs i ≡ slice_index b.regs i
     at zero lt = fa.regs.none ∙ sym fb.regs.none
@@ -219,7 +220,7 @@ module _ (m : Map) (sizes code : List ℕ) (made : IsMade m sizes code) where
       let v : ℕ = slice_index s.cpu.regs 2 in
       let few : m.users ≤ 64 = made.range.users in
       let users : length c.users ≡ m.users = at.stands.whole.users in
-      let small : v < 2 ^ 32 = All-get_or IsWord s.cpu.regs 2 0 at.stands.fits.cpu.regs.each (omega arith) in
+      let small : v < 2 ^ 32 = let size : length s.cpu.regs ≡ 32 = at.stands.fits.cpu.regs.size in All-get_or IsWord s.cpu.regs 2 0 (omega arith) at.stands.fits.cpu.regs.each in
       let r : Routed m sizes code made 14 is x s = routed m sizes code made z 14 is x s c (omega arith) (listed m).leave at.stands at.inside (at.pc ∙ refl) in
       let n : ℕ = routine_at m 14 in
       let w : World = block_world x y (run x s 1) n is in

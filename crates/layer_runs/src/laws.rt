@@ -1,13 +1,16 @@
 // The laws of the layer's runs. Each is the contract of a function that does nothing.
-ghost use Rattle.layer_runs.specs.Laws.{ImageExits};
+ghost use Rattle.layer_runs.specs.Laws.{ImageExits, ImageLeaves};
 ghost use Rattle.layer_runs.specs.Runs.{BlocksRun};
 
 use masm::laws::{a_block_stands, jumps_lead, runs_compose};
 use mips_table::runs::{
-    code_runs_on_the_machine, runs_join, the_power_port_ends_a_run, words_stay_words,
+    code_runs_on_the_machine, eret_leaves, runs_join, the_power_port_ends_a_run, words_stay_words,
 };
 use page_model::laws::alikes_stand;
-use trap_entry::an_exit_comes;
+use trap_entry::{
+    an_exit_comes, the_kernel_is_left_badly, the_kernel_is_left_for_a_user,
+    the_kernel_is_left_for_good,
+};
 
 /// The machine makes each run of a block of the layer's code, whatever lines are raised: its pc stays in the block up to the end of the run, the
 /// linked words stay, and so do the sectors past the users' pages.
@@ -31,4 +34,22 @@ pub fn faults_exit()
     alikes_stand();
     the_power_port_ends_a_run();
     an_exit_comes();
+}
+
+/// LEAVE: from an answer of `dispatch` the next user runs, or the machine is off with 0 or 5, and it stands for the state after that answer.
+pub fn the_kernel_is_left()
+    ensures { ImageLeaves }
+{
+    runs_join();
+    blocks_run();
+    a_block_stands();
+    runs_compose();
+    jumps_lead();
+    words_stay_words();
+    alikes_stand();
+    the_power_port_ends_a_run();
+    eret_leaves();
+    the_kernel_is_left_for_a_user();
+    the_kernel_is_left_for_good();
+    the_kernel_is_left_badly();
 }
