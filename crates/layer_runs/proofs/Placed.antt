@@ -98,7 +98,7 @@ pub routines_length : (m : Map) → length (joined (routines m)) ≤ 10225
 unfolding routines
 routines_length m = omega arith
 
-blocks_length : (sizes : List ℕ) → length (blocks sizes) ≡ 64 * length sizes
+pub blocks_length : (sizes : List ℕ) → length (blocks sizes) ≡ 64 * length sizes
 blocks_length [] = refl
 blocks_length (n ∷ sizes) = length-append (block_words n) (blocks sizes) ∙ ap (λ k. 64 + k) (blocks_length sizes) ∙ omega arith
 
@@ -120,25 +120,25 @@ module _ (m : Map) (sizes code : List ℕ) (made : IsMade m sizes code) where
   abbrev pub site : Site
   site = image_site m sizes code
 
-  abbrev first_words : List ℕ
+  abbrev pub first_words : List ℕ
   first_words = filled 1024 (map encoding (interrupt_code m))
 
-  abbrev second_words : List ℕ
+  abbrev pub second_words : List ℕ
   second_words = filled 10240 (map encoding (second_code m))
 
   second_length : length (second_code m) ≤ 10240
   second_length = let r = routines_length m in omega (arith, length-append (entries m) (joined (routines m)), entries_length m)
 
-  first_size : length first_words ≡ 1024
+  pub first_size : length first_words ≡ 1024
   first_size = filled_length 1024 (map encoding (interrupt_code m)) (omega (arith, length-map (interrupt_code m) encoding, handler_length m))
 
-  variables_size : length (filled 1024 (variables m)) ≡ 1024
+  pub variables_size : length (filled 1024 (variables m)) ≡ 1024
   variables_size = filled_length 1024 (variables m) (omega arith)
 
-  second_size : length second_words ≡ 10240
+  pub second_size : length second_words ≡ 10240
   second_size = filled_length 10240 (map encoding (second_code m)) (omega (arith, length-map (second_code m) encoding, second_length))
 
-  blocks_size : length (filled 4096 (blocks sizes)) ≡ 4096
+  pub blocks_size : length (filled 4096 (blocks sizes)) ≡ 4096
   blocks_size = let users = made.users in let few = made.range.users in filled_length 4096 (blocks sizes) (omega (arith, blocks_length sizes))
 
   pub linked_length : length site.linked ≡ 16384 + m.code_words

@@ -1,5 +1,5 @@
 // The laws of the layer's runs. Each is the contract of a function that does nothing.
-ghost use Rattle.layer_runs.specs.Laws.{ImageExits, ImageLeaves};
+ghost use Rattle.layer_runs.specs.Laws.{ImageEnters, ImageEntersFirst, ImageExits, ImageLeaves, ImageLinked};
 ghost use Rattle.layer_runs.specs.Runs.{BlocksRun};
 
 use masm::laws::{a_block_stands, jumps_lead, runs_compose};
@@ -53,3 +53,8 @@ pub fn the_kernel_is_left()
     the_kernel_is_left_for_good();
     the_kernel_is_left_badly();
 }
+
+/// The variables and the control blocks of an image are as they are to be at load.
+pub fn the_image_is_linked()
+    ensures { ImageLinked }
+{}
