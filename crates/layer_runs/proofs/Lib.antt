@@ -8,3 +8,4 @@ pub mod Ends
 pub mod Exits
 pub mod Leaving
 pub mod Linked
+pub mod Entering

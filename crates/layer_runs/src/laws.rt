@@ -6,9 +6,10 @@ use masm::laws::{a_block_stands, jumps_lead, runs_compose};
 use mips_table::runs::{
     code_runs_on_the_machine, eret_leaves, runs_join, the_power_port_ends_a_run, words_stay_words,
 };
+use layer_contract::the_reset_stands;
 use page_model::laws::alikes_stand;
 use trap_entry::{
-    an_exit_comes, the_kernel_is_left_badly, the_kernel_is_left_for_a_user,
+    an_exit_comes, the_kernel_is_entered_first, the_kernel_is_left_badly, the_kernel_is_left_for_a_user,
     the_kernel_is_left_for_good,
 };
 
@@ -58,3 +59,18 @@ pub fn the_kernel_is_left()
 pub fn the_image_is_linked()
     ensures { ImageLinked }
 {}
+
+/// ENTER, after the reset: the machine comes to `dispatch`, called with 0, 0, 0, and stands for the state at the start.
+pub fn the_kernel_begins()
+    ensures { ImageEntersFirst }
+{
+    runs_join();
+    blocks_run();
+    a_block_stands();
+    runs_compose();
+    jumps_lead();
+    words_stay_words();
+    alikes_stand();
+    the_reset_stands();
+    the_kernel_is_entered_first();
+}
