@@ -53,7 +53,7 @@ free_own y k true e = by (nat_lt k (length y.linked))
 free_own y k false e = absurd (cc)
 
 -- words as ints
-signed_pos : (x : ℕ) → x < 2 ^ 31 → signed x ≡ pos x
+pub signed_pos : (x : ℕ) → x < 2 ^ 31 → signed x ≡ pos x
 signed_pos x lt = to_z_pos w32 x lt
 
 signed_neg : (x : ℕ) → 2 ^ 31 ≤ x → x < 2 ^ 32 → signed x ≡ negsuc (2 ^ 32 - suc x)

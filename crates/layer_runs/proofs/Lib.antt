@@ -9,3 +9,5 @@ pub mod Exits
 pub mod Leaving
 pub mod Linked
 pub mod Entering
+pub mod Interrupting
+pub mod Keeping

@@ -77,7 +77,7 @@ pub order_of : (m : Map) → MapInRange m → Order m
 order_of m r = grind (arith, r, r.params)
 
 -- registers as the words behind the first of a control block have them
-block_reg : (memory : List ℕ) (b r : ℕ) → 1 ≤ r → r ≤ 31 → slice_index (0 ∷ take 31 (drop (b + 1) memory)) r ≡ slice_index memory (b + r)
+pub block_reg : (memory : List ℕ) (b r : ℕ) → 1 ≤ r → r ≤ 31 → slice_index (0 ∷ take 31 (drop (b + 1) memory)) r ≡ slice_index memory (b + r)
 block_reg memory b (suc r) from to =
     let lt : r < 31 = omega arith in
     let there : b + 1 + r ≡ b + suc r = omega arith in

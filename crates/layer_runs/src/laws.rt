@@ -4,12 +4,12 @@ ghost use Rattle.layer_runs.specs.Runs.{BlocksRun};
 
 use masm::laws::{a_block_stands, jumps_lead, runs_compose};
 use mips_table::runs::{
-    code_runs_on_the_machine, eret_leaves, runs_join, the_power_port_ends_a_run, words_stay_words,
+    an_interrupt_is_taken, code_runs_on_the_machine, eret_leaves, runs_join, the_power_port_ends_a_run, words_stay_words,
 };
-use layer_contract::the_reset_stands;
+use layer_contract::{the_reset_stands, users_are_interrupted};
 use page_model::laws::alikes_stand;
 use trap_entry::{
-    an_exit_comes, the_kernel_is_entered_first, the_kernel_is_left_badly, the_kernel_is_left_for_a_user,
+    an_exit_comes, the_kernel_is_entered, the_kernel_is_entered_first, the_kernel_is_left_badly, the_kernel_is_left_for_a_user,
     the_kernel_is_left_for_good,
 };
 
@@ -73,4 +73,21 @@ pub fn the_kernel_begins()
     alikes_stand();
     the_reset_stands();
     the_kernel_is_entered_first();
+}
+
+/// ENTER, from a user: every interrupt but a handled fault comes to `dispatch`, called with the cause, what it concerns, and the user, and the
+/// machine stands for the state with the user's pc at the place to go on from.
+pub fn the_kernel_is_called()
+    ensures { ImageEnters }
+{
+    runs_join();
+    blocks_run();
+    a_block_stands();
+    runs_compose();
+    jumps_lead();
+    words_stay_words();
+    alikes_stand();
+    an_interrupt_is_taken();
+    users_are_interrupted();
+    the_kernel_is_entered();
 }
