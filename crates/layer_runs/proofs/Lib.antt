@@ -11,3 +11,5 @@ pub mod Linked
 pub mod Entering
 pub mod Interrupting
 pub mod Keeping
+pub mod Fitting
+pub mod Calling

@@ -2,7 +2,7 @@
 use Rattle.std.specs.Prelude.{◌≡◌, ℕ, List, length}
 use Rattle.layer_map.specs.Map.{Map, MapInRange}
 use Rattle.cvm_model.specs.Stands.{Site}
-use Rattle.layer_contract.specs.Layer.{Linked, EntersFirst, Enters, Exits, Leaves}
+use Rattle.layer_contract.specs.Layer.{Linked, EntersFirst, Enters, Exits, Leaves, PrimitivesAnswer}
 use Rattle.layer_runs.specs.Image.{layer_image, image_site, IsMade}
 
 -- the exits of the kernel's faults
@@ -24,3 +24,7 @@ ImageEntersFirst = (m : Map) (sizes code : List ℕ) → IsMade m sizes code →
 -- from a user's interrupt to `dispatch`
 abbrev pub ImageEnters : Type 0
 ImageEnters = (m : Map) (sizes code : List ℕ) → IsMade m sizes code → Enters (image_site m sizes code)
+
+-- the primitives
+abbrev pub ImagePrimitives : Type 0
+ImagePrimitives = (m : Map) (sizes code : List ℕ) → IsMade m sizes code → PrimitivesAnswer (image_site m sizes code)

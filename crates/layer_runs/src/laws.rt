@@ -1,13 +1,16 @@
 // The laws of the layer's runs. Each is the contract of a function that does nothing.
-ghost use Rattle.layer_runs.specs.Laws.{ImageEnters, ImageEntersFirst, ImageExits, ImageLeaves, ImageLinked};
+ghost use Rattle.layer_runs.specs.Laws.{ImageEnters, ImageEntersFirst, ImageExits, ImageLeaves, ImageLinked, ImagePrimitives};
 ghost use Rattle.layer_runs.specs.Runs.{BlocksRun};
 
-use masm::laws::{a_block_stands, jumps_lead, runs_compose};
+use masm::laws::{a_block_stands, a_routine_returns, jumps_lead, runs_compose};
 use mips_table::runs::{
     an_interrupt_is_taken, code_runs_on_the_machine, eret_leaves, runs_join, the_power_port_ends_a_run, words_stay_words,
 };
+use cvm_primitives::laws::memory_answers;
 use layer_contract::{the_reset_stands, users_are_interrupted};
+use page_fault::maps_are_sited;
 use page_model::laws::alikes_stand;
+use register_primitives::laws::registers_answer;
 use trap_entry::{
     an_exit_comes, the_kernel_is_entered, the_kernel_is_entered_first, the_kernel_is_left_badly, the_kernel_is_left_for_a_user,
     the_kernel_is_left_for_good,
@@ -90,4 +93,21 @@ pub fn the_kernel_is_called()
     an_interrupt_is_taken();
     users_are_interrupted();
     the_kernel_is_entered();
+}
+
+/// PRIMITIVES: from its entry each primitive comes back with the answer and the effect of the abstract machine's.
+pub fn primitives_answer()
+    ensures { ImagePrimitives }
+{
+    runs_join();
+    blocks_run();
+    a_block_stands();
+    runs_compose();
+    jumps_lead();
+    words_stay_words();
+    alikes_stand();
+    a_routine_returns();
+    maps_are_sited();
+    registers_answer();
+    memory_answers();
 }
