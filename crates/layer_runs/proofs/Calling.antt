@@ -74,7 +74,7 @@ input_shrinks most call users o = cond_both (is_good most users call) (granted u
 pub word_read : (ws : List ℕ) (i : ℕ) → All IsWord ws → slice_index ws i < 2 ^ 32
 word_read ws i all = ⊎_elim (λ lt. All-get_or IsWord ws i 0 lt all) (λ le. let z : slice_index ws i ≡ 0 = get_or_past ws i 0 le in omega arith) (cases_lt i (length ws))
 
-as_word : (v : ℤ) (r : ℕ) → r < 2 ^ 32 → signed r ≡ v → cast_unsigned w32 v < 2 ^ 32
+pub as_word : (v : ℤ) (r : ℕ) → r < 2 ^ 32 → signed r ≡ v → cast_unsigned w32 v < 2 ^ 32
 as_word v r lt e = let is : cast_unsigned w32 v ≡ r = ap (cast_unsigned w32) (sym e) ∙ of_z-to_z w32 r lt in omega arith
 
 module _ (m : Map) (sizes code : List ℕ) (made : IsMade m sizes code) where
@@ -82,10 +82,10 @@ module _ (m : Map) (sizes code : List ℕ) (made : IsMade m sizes code) where
   y = image_site m sizes code
 
   -- words behind the linked ones aren't kept
-  free_past : (k : ℕ) → length y.linked ≤ k → kept_words y k ≡ None
+  pub free_past : (k : ℕ) → length y.linked ≤ k → kept_words y k ≡ None
   free_past k le = ap (λ b. if b && not (is_own m k) then Some (slice_index y.linked k) else None) (le-ltb k (length y.linked) le)
 
-  own_hand : kept_words y hand_at ≡ None
+  pub own_hand : kept_words y hand_at ≡ None
   own_hand = free_own y hand_at true refl
 
   -- THE RETURN: the machine is at the return address, and stands for what the call comes to

@@ -13,3 +13,4 @@ pub mod Interrupting
 pub mod Keeping
 pub mod Fitting
 pub mod Calling
+pub mod Primitives
