@@ -3,4 +3,7 @@
 
 mod laws;
 
-pub use laws::blocks_run;
+pub use laws::{
+    blocks_run, faults_exit, primitives_answer, the_image_is_linked, the_kernel_begins,
+    the_kernel_is_called, the_kernel_is_left,
+};
