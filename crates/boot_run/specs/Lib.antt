@@ -1,2 +1,4 @@
 pub mod Loading
 pub mod LoadEnds
+pub mod TurnCalls
+pub mod Shown

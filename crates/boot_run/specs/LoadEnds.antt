@@ -37,7 +37,8 @@ LoadFails b view count before now (SmallDisk need have) = SeesUser view (length 
 LoadFails b view count before now Memory = HasRoom b view count
 LoadFails b view count before now Disk = HasRoom b view count × Rose before now
 
--- what contracts see of a loaded run: what it was loaded with, the number of its disk's sectors, its machine, the turns that are complete, how it ended, and the kept fault
+-- what contracts see of a loaded run: what it was loaded with, the number of its disk's sectors, its machine,
+-- the turns that are complete, the current user, how the run ended, and the kept fault
 pub record Kept (L : Type 0) : Type 0 where
   pub layer : L
   pub boot : Booted
@@ -45,6 +46,7 @@ pub record Kept (L : Type 0) : Type 0 where
   pub count : ℕ
   pub machine : Held
   pub turns : ℕ
+  pub current : ℕ
   pub ended : Option Next
   pub fault : Option RunFault
 
@@ -57,6 +59,7 @@ pub record IsFresh {L : Type 0} (layer : L) (boot : Booted) (view : View) (rows 
   pub count_is : r.count ≡ count
   pub no_step : r.machine.time ≡ 0
   pub no_turn : r.turns ≡ 0
+  pub no_user : r.current ≡ 0
   pub goes_on : r.ended ≡ None
   pub no_fault : r.fault ≡ None
   pub has_room : HasRoom boot view count

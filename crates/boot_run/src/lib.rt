@@ -2,6 +2,7 @@
 #![tactic(auto)]
 
 mod load;
+mod next;
 mod pages;
 mod run;
 

@@ -9,7 +9,7 @@ use Rattle.mips_table.specs.Turns.{in_user, is_handled, handled, begins}
 use Rattle.mips_machine.specs.declared.event.Event.{Event}
 use Rattle.mips_machine.specs.Hardware.{told_as, event_by}
 use Rattle.mips_machine.specs.Machine.{Held, state_of}
-use Rattle.mips_machine.specs.Steps.{outside_of, event_if, event_of, after_step, Steps}
+use Rattle.mips_machine.specs.Steps.{outside_of, event_if, event_of, after_step, Steps, Fails}
 use Rattle.boot_turns.specs.Completes.{seen, begun_by}
 use Rattle.boot_turns.proofs.Stepping.{coming_held, Held as Kept}
 
@@ -65,6 +65,12 @@ pub steps_time : (count : ℕ) (old new : Held) (told retold : Option (List (Lis
 steps_time count old new told retold e h =
     let same : new.time ≡ (after_step count old h.sectors).time = ap (λ (s : State). s.time) h.state in
     let le = step_time (outside_of old.rows count) (state_of old h.sectors) in
+    omega (arith, same, le)
+
+pub fails_time : (count : ℕ) (old new : Held) (told retold : Option (List (List ℕ))) → Fails count old new told retold → new.time ≤ old.time + 1
+fails_time count old new told retold h =
+    let same : new.time ≡ (after_step count old []).time = ap (λ (s : State). s.time) (h.state []) in
+    let le = step_time (outside_of old.rows count) (state_of old []) in
     omega (arith, same, le)
 
 seen_with : (count : ℕ) (old new : Held) (told retold : Option (List (List ℕ))) (sectors : List (List ℕ)) → IfSome told (λ ss. sectors ≡ ss) →

@@ -58,7 +58,7 @@ fn step_once<D: Sectors>(machine: &mut Machine, disk: &mut D) -> Result<bool, Di
     requires sector { NamesSector (D.size disk.old) machine.old.hardware.ports.pending }
     ensures ran { OnOk result (StepRan (D.size disk.old) machine.old machine.new (D.sectors disk.old) (D.sectors disk.new)) }
     ensures began { IfOk result (λ began. StepBegan (D.size disk.old) machine.old (D.sectors disk.old) began) }
-    ensures time { OnOk result (machine.new.time ≤ machine.old.time + 1) }
+    ensures time { machine.new.time ≤ machine.old.time + 1 }
     ensures rows { machine.new.rows ≡ machine.old.rows }
     ensures memory { length machine.new.hardware.memory ≡ length machine.old.hardware.memory }
     ensures sector { NamesSector (D.size disk.new) machine.new.hardware.ports.pending }
@@ -117,6 +117,7 @@ pub fn complete<D: Sectors>(
     ensures disk { result ≡ Err RunFault.Disk → Rose (D.faults disk.old) (D.faults disk.new) }
     ensures same { result ≢ Err RunFault.Disk → D.faults disk.new ≡ D.faults disk.old }
     ensures no_sink { result ≢ Err RunFault.Sink }
+    ensures spent { machine.new.time + budget.new ≤ machine.old.time + budget.old }
 {
     let mut begun: Option<Begun> = None;
     while *budget > 0 {
@@ -153,6 +154,7 @@ pub fn advance<D: Sectors>(
     ensures disk { result ≡ Err RunFault.Disk → Rose (D.faults disk.old) (D.faults disk.new) }
     ensures same { result ≢ Err RunFault.Disk → D.faults disk.new ≡ D.faults disk.old }
     ensures no_sink { result ≢ Err RunFault.Sink }
+    ensures spent { machine.new.time + budget.new ≤ machine.old.time + budget.old }
 {
     machines_run();
     complete(machine, budget, disk)
