@@ -1,1 +1,2 @@
-mod PageLemmas
+pub mod PageLemmas
+pub mod Turned

@@ -18,7 +18,7 @@ use Rattle.layer_contract.specs.Layer.{Laws}
 use Rattle.layer_contract.specs.Follows.{site_of, machine, loaded}
 use Rattle.boot_turns.specs.Completes.{seen}
 use Rattle.boot_turns.specs.Headline.{Boots}
-use Rattle.boot_turns.specs.TurnEnds.{Stood, Ahead, Printed, Rows, Whole, TextAfter, TextBefore, Prefix}
+use Rattle.boot_turns.specs.TurnEnds.{Stood, Ahead, Printed, Rows, Whole, TextAfter, TextBefore, Prefix, PrintedBroken}
 use Rattle.boot_turns.specs.declared.answers.View.{View}
 use Rattle.boot_turns.specs.declared.answers.View.TheVariants.{Boot, Trace}
 use Rattle.boot_turns.specs.declared.answers.Turn.{Turn}
@@ -97,11 +97,6 @@ pub record Limited (x : Outside) (y : System) (old : List (List ℕ)) (v : View)
   pub shown : List ℕ
   pub printed : Printed x y old v (t + before.budget) shown
   pub text : after.text ≡ append_known base shown
-
--- what was printed where step number `at` failed: the text there; or one that holds it, of which the rows of that step may have begun
-abbrev pub PrintedBroken : Outside → System → List (List ℕ) → View → ℕ → List ℕ → Type 0
-PrintedBroken x y old Boot at text = Printed x y old Boot at text
-PrintedBroken x y old (Trace u) at text = (part : List ℕ) × (whole : List ℕ) × Printed x y old (Trace u) at part × Rows x y old (Trace u) (suc at) whole × Prefix part whole text
 
 -- the disk failed in step number `at` of turn k: that step is done, too
 pub record DiskFailed (x : Outside) (y : System) (old : List (List ℕ)) (v : View) (base : Option (List ℕ)) (k t : ℕ) (before after : Around) : Type 0 where

@@ -1,5 +1,5 @@
 -- The loop to the end of a turn, on the machine of a boot.
-use Rattle.std.proofs.Common.{◌≡◌, ℕ, suc, ◌+◌, ◌≤◌, Option, Some, Result, Ok, Err, List, refl, sym, ap, subst, arith}
+use Rattle.std.proofs.Common.{◌≡◌, ◌≢◌, ⊎_elim, None, ℕ, suc, ◌+◌, ◌≤◌, Option, Some, Result, Ok, Err, List, refl, sym, ap, subst, arith}
 use Rattle.mips_table.specs.Device.{Outside}
 use Rattle.mips_table.specs.Machine.{State, run}
 use Rattle.c0_meaning.specs.State.{State as C0}
@@ -30,7 +30,11 @@ goes x y old m k t u c b le st r p = let w = m.unfound k t u c b le st r p in re
 
 stopped : (x : Outside) (y : System) (old : List (List ℕ)) → Machines x y old → (k t : ℕ) (c : Cvm) → Stood x y old k t c → c.status ≡ Running → (now : Option State) (budget left : ℕ) (f : RunFault) →
     (f ≡ Sink → ⊥) → CompleteErr x now budget left (loaded y old) t f → Stops x y old k t now budget left f
-stopped x y old m k t c st r now budget left StepLimit ne d = record { spent = d.0; state = d.1; goes = goes x y old m k t (t + budget) c d.2.0 (omega arith) st r d.2.1 }
+stopped x y old m k t c st r now budget left StepLimit ne (u, le, spent, is, why, p) =
+    let g = goes x y old m k t u c p.0 le st r p.1 in
+    let none : left ≡ 0 = ⊎_elim (λ (e : left ≡ 0). e) (λ (off : (run x (loaded y old) u).off ≢ None). absurd (off (g.on u (omega arith)))) why in
+    let at : u ≡ t + budget = omega (arith, spent, none) in
+    record { spent = none; state = subst (λ i. now ≡ Some (machine x y old i)) at is; goes = subst (Goes x y old k t) at g }
 stopped x y old m k t c st r now budget left Disk ne d = record { at = d.0; from = d.1; spent = d.2; goes = goes x y old m k t d.0 c d.3.0 d.1 st r d.3.1 }
 stopped x y old m k t c st r now budget left Sink ne d = absurd (ne refl)
 

@@ -107,3 +107,15 @@ faults_stay x s t (suc u) le i = ⊎_elim
     (λ (lt : t < suc u). faults_same x s u (i u (omega arith) (omega arith)) ∙ faults_stay x s t u (omega arith) (λ j a b. i j a (omega arith)))
     (λ (ge : suc u ≤ t). let e : t ≡ suc u = omega arith in ap (faults_before x s) (sym e))
     (cases_lt t (suc u))
+
+-- no more turns than steps
+turn_small : (x : Outside) (s : State) (t : ℕ) → turn_of x s t ≤ t
+turn_small x s zero = omega arith
+turn_small x s (suc t) = let a = turn_small x s t in cond_both (begins x (run x s t)) (suc (turn_of x s t)) (turn_of x s t) (λ n. n ≤ suc t) (λ _. omega (arith, a)) (λ _. omega (arith, a))
+
+pub complete_small : (x : Outside) (s : State) (t : ℕ) → complete x s t ≤ t
+complete_small x s zero = omega arith
+complete_small x s (suc t) =
+    let a = complete_small x s t in
+    let b = turn_small x s (suc t) in
+    cond_both (rests (run x s (suc t))) (turn_of x s (suc t)) (complete x s t) (λ n. n ≤ suc t) (λ _. b) (λ _. omega (arith, a))

@@ -11,7 +11,7 @@ use Rattle.mips_machine.specs.Hardware.{told_as, event_by}
 use Rattle.mips_machine.specs.Machine.{Held, state_of}
 use Rattle.mips_machine.specs.Steps.{outside_of, event_if, event_of, after_step, Steps, Fails}
 use Rattle.boot_turns.specs.Completes.{seen, begun_by}
-use Rattle.boot_turns.proofs.Stepping.{coming_held, Held as Kept}
+use Rattle.boot_turns.proofs.Stepping.{on_time}
 
 fault_begins : (r u h : Bool) → r || (u && not (u && h)) ≡ r || (u && not h)
 fault_begins r true h = refl
@@ -47,31 +47,11 @@ pub event_begins : (x : Outside) (s : State) → begins x s ≡ begun_by s.reset
 unfolding begins handled step event_of
 event_begins x s = by_power x s s.off
 
-come_time : (s : State) (o : Coming) → Kept s o → (come_to o).time ≡ s.time
-come_time s (Interrupt before causes.Reset edata epc) k = k.time
-come_time s (Interrupt before causes.External edata epc) k = k.time
-come_time s (Interrupt before other edata epc) k = k.time
-come_time s (Done after) k = k.time
+pub steps_time : (count : ℕ) (old new : Held) (told retold : Option (List (List ℕ))) (e : Event) → Steps count old new told retold e → old.hardware.off ≡ None → new.time ≡ old.time + 1
+steps_time count old new told retold e h on = ap (λ (s : State). s.time) h.state ∙ on_time (outside_of old.rows count) (state_of old h.sectors) on
 
-power_time : (x : Outside) (s : State) (o : Option ℕ) → (if_on x s o).time ≤ s.time + 1
-power_time x s (Some word) = omega arith
-power_time x s None = let e = come_time (latched x s) (coming x (latched x s)) (coming_held x (latched x s)) in omega (arith, e)
-
-pub step_time : (x : Outside) (s : State) → (step x s).time ≤ s.time + 1
-unfolding step
-step_time x s = power_time x s s.off
-
-pub steps_time : (count : ℕ) (old new : Held) (told retold : Option (List (List ℕ))) (e : Event) → Steps count old new told retold e → new.time ≤ old.time + 1
-steps_time count old new told retold e h =
-    let same : new.time ≡ (after_step count old h.sectors).time = ap (λ (s : State). s.time) h.state in
-    let le = step_time (outside_of old.rows count) (state_of old h.sectors) in
-    omega (arith, same, le)
-
-pub fails_time : (count : ℕ) (old new : Held) (told retold : Option (List (List ℕ))) → Fails count old new told retold → new.time ≤ old.time + 1
-fails_time count old new told retold h =
-    let same : new.time ≡ (after_step count old []).time = ap (λ (s : State). s.time) (h.state []) in
-    let le = step_time (outside_of old.rows count) (state_of old []) in
-    omega (arith, same, le)
+pub fails_time : (count : ℕ) (old new : Held) (told retold : Option (List (List ℕ))) → Fails count old new told retold → old.hardware.off ≡ None → new.time ≡ old.time + 1
+fails_time count old new told retold h on = ap (λ (s : State). s.time) (h.state []) ∙ on_time (outside_of old.rows count) (state_of old []) on
 
 seen_with : (count : ℕ) (old new : Held) (told retold : Option (List (List ℕ))) (sectors : List (List ℕ)) → IfSome told (λ ss. sectors ≡ ss) →
     state_of new (after_step count old sectors).device.sectors ≡ after_step count old sectors → retold ≡ option_map (λ _. (after_step count old sectors).device.sectors) told →

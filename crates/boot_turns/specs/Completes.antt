@@ -1,5 +1,5 @@
 -- What a loop that steps a machine to the end of a turn has done.
-use Rattle.std.specs.Prelude.{◌≡◌, ℕ, suc, ◌+◌, ◌/◌, ◌<◌, ◌≤◌, ◌==◌, ◌&&◌, ◌||◌, not, nat_lt, is_some, IfSome, Option, Some, None, Bool, true, false, List, [], slice_index, Result, MatchResult, ⊤}
+use Rattle.std.specs.Prelude.{◌≡◌, ◌≢◌, ◌⊎◌, ℕ, suc, ◌+◌, ◌/◌, ◌<◌, ◌≤◌, ◌==◌, ◌&&◌, ◌||◌, not, nat_lt, is_some, IfSome, Option, Some, None, Bool, true, false, List, [], slice_index, Result, MatchResult, ⊤}
 use Rattle.std.specs.Option.{option_map}
 use Rattle.mips_table.specs.declared.cause.Cause.TheVariants.{FetchFault, DataFault}
 use Rattle.mips_table.specs.Device.{Outside}
@@ -82,7 +82,7 @@ CompleteOk x new before after s t b = (u : ℕ) × Completed x s t u b × (new �
 
 -- the budget was spent, or the disk failed in step number u
 abbrev pub CompleteErr : Outside → Option State → ℕ → ℕ → State → ℕ → RunFault → Type 0
-CompleteErr x new before after s t StepLimit = (after ≡ 0) × (new ≡ Some (run x s (t + before))) × ((b : Option Begun) × Progress x s t (t + before) b)
+CompleteErr x new before after s t StepLimit = (u : ℕ) × (t ≤ u) × (after + u ≡ before + t) × (new ≡ Some (run x s u)) × ((after ≡ 0) ⊎ ((run x s u).off ≢ None)) × ((b : Option Begun) × Progress x s t u b)
 CompleteErr x new before after s t Disk = (u : ℕ) × (t ≤ u) × (after + (u + 1) ≡ before + t) × ((b : Option Begun) × Progress x s t u b)
 CompleteErr x new before after s t Sink = ⊤
 

@@ -196,6 +196,8 @@ pub record Machines (x : Outside) (y : System) (old : List (List ℕ)) : Type 0 
   pub unfound : TurnGoesOn x y old
   pub shows : TurnShows x y old
   pub rows : TurnRows x y old
+  pub few : (t : ℕ) → complete x (loaded y old) t ≤ t
+  pub same : (k : ℕ) (c d : Cvm) → IsCvm y (lines_of x (loaded y old)) k c → IsCvm y (lines_of x (loaded y old)) k d → c ≡ d
   pub replays : (u turns steps : ℕ) → 1 ≤ u → u ≤ length y.boot.users → TraceReplays x y old u turns steps
 
 abbrev pub MachinesRun : (C0 → Type 0) → Type 0

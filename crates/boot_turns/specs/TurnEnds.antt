@@ -78,3 +78,8 @@ pub record Prefix (part whole text : List ℕ) : Type 0 where
   pub count : ℕ
   pub is : text ≡ take count whole
   pub holds : take (length part) text ≡ part
+
+-- what was printed where step number `at` failed: the text there; or one that holds it, of which the rows of that step may have begun
+abbrev pub PrintedBroken : Outside → System → List (List ℕ) → View → ℕ → List ℕ → Type 0
+PrintedBroken x y old Boot at text = Printed x y old Boot at text
+PrintedBroken x y old (Trace u) at text = (part : List ℕ) × (whole : List ℕ) × Printed x y old (Trace u) at part × Rows x y old (Trace u) (suc at) whole × Prefix part whole text

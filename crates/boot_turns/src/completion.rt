@@ -1,5 +1,5 @@
 // The machine runs until its next turn is complete.
-ghost use Rattle.std.specs.Prelude.{◌≡◌, ◌≢◌, ◌+◌, ◌-◌, ◌<◌, ◌≤◌, ◌^◌, length, IfOk, OnOk, Err};
+ghost use Rattle.std.specs.Prelude.{◌≡◌, ◌≢◌, ◌+◌, ◌-◌, ◌<◌, ◌≤◌, ◌^◌, length, IfOk, OnOk, Err, None};
 ghost use Rattle.cvm_outside.specs.Causes.{Counts, Rose};
 ghost use Rattle.mips_table.specs.Fits.{NamesSector};
 ghost use Rattle.boot_turns.specs.Advances.{Advances};
@@ -58,7 +58,7 @@ fn step_once<D: Sectors>(machine: &mut Machine, disk: &mut D) -> Result<bool, Di
     requires sector { NamesSector (D.size disk.old) machine.old.hardware.ports.pending }
     ensures ran { OnOk result (StepRan (D.size disk.old) machine.old machine.new (D.sectors disk.old) (D.sectors disk.new)) }
     ensures began { IfOk result (λ began. StepBegan (D.size disk.old) machine.old (D.sectors disk.old) began) }
-    ensures time { machine.new.time ≤ machine.old.time + 1 }
+    ensures time { machine.old.hardware.off ≡ None → machine.new.time ≡ machine.old.time + 1 }
     ensures rows { machine.new.rows ≡ machine.old.rows }
     ensures memory { length machine.new.hardware.memory ≡ length machine.old.hardware.memory }
     ensures sector { NamesSector (D.size disk.new) machine.new.hardware.ports.pending }
@@ -100,7 +100,7 @@ fn at_rest(machine: &Machine) -> bool
 ///
 /// # Errors
 ///
-/// `StepLimit`, where the budget is spent before; `Disk`, where the disk failed.
+/// `StepLimit`, where the budget is spent before, or the machine is off before a turn begins; `Disk`, where the disk failed.
 pub fn complete<D: Sectors>(
     machine: &mut Machine,
     budget: &mut u64,
@@ -117,10 +117,13 @@ pub fn complete<D: Sectors>(
     ensures disk { result ≡ Err RunFault.Disk → Rose (D.faults disk.old) (D.faults disk.new) }
     ensures same { result ≢ Err RunFault.Disk → D.faults disk.new ≡ D.faults disk.old }
     ensures no_sink { result ≢ Err RunFault.Sink }
-    ensures spent { machine.new.time + budget.new ≤ machine.old.time + budget.old }
+    ensures spent { machine.new.time + budget.new ≡ machine.old.time + budget.old }
 {
     let mut begun: Option<Begun> = None;
     while *budget > 0 {
+        if machine.off().is_some() {
+            return Err(RunFault::StepLimit);
+        }
         *budget -= 1;
         let began = step_once(machine, disk)?;
         begun = noted(machine, begun, began);
@@ -154,7 +157,7 @@ pub fn advance<D: Sectors>(
     ensures disk { result ≡ Err RunFault.Disk → Rose (D.faults disk.old) (D.faults disk.new) }
     ensures same { result ≢ Err RunFault.Disk → D.faults disk.new ≡ D.faults disk.old }
     ensures no_sink { result ≢ Err RunFault.Sink }
-    ensures spent { machine.new.time + budget.new ≤ machine.old.time + budget.old }
+    ensures spent { machine.new.time + budget.new ≡ machine.old.time + budget.old }
 {
     machines_run();
     complete(machine, budget, disk)

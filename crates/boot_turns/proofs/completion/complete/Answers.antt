@@ -1,8 +1,13 @@
-use Rattle.std.proofs.Common.{suc, ◌≡◌, None, sym, ap₂, ◌∙◌, subst, arith}
+use Rattle.std.specs.Prelude.{is_some}
+use Rattle.std.proofs.Common.{ℕ, Bool, true, false, Option, Some, suc, ◌≡◌, None, sym, ap₂, ◌∙◌, subst, arith}
 use Rattle.mips_machine.specs.Steps.{outside_of}
 use Rattle.boot_turns.specs.Completes.{Open, Progress}
 use Rattle.boot_turns.proofs.Opening.{one_step, Opened, seen_rests}
 use Rattle.boot_turns.proofs.completion.complete.Goals as goal
+
+off_none : (o r : Option ℕ) (b : Bool) → o ≡ r → b ≡ is_some o → b ≡ false → r ≡ None
+off_none None r b e f h = sym e
+off_none (Some w) r b e f h = absurd (let g : true ≡ false = sym f ∙ h in cc)
 
 pub returns-then-at_rest-clause-ends : goal.returns-then-at_rest-clause-ends
 returns-then-at_rest-clause-ends g c = λ s t h.
@@ -23,7 +28,7 @@ loop-budget-preserved-else-at_rest g c = record {
   sector = c.in_ok-began.ensures.sector;
   size = c.in_ok-began.ensures.size ∙ c.loop-budget.invariant.size;
   faults = c.in_ok-began.ensures.count.same ∙ c.loop-budget.invariant.faults;
-  time = let a = c.in_ok-began.ensures.time in let b = c.loop-budget.invariant.time in let p = c.loop-budget-test.true in omega (arith, a, b, p);
+  time = let a = c.in_ok-began.ensures.time (off_none c.off.result c.loop-budget.machine.hardware.off c.is_some.result c.off.ensures c.is_some.ensures c.if-is_some.false) in let b = c.loop-budget.invariant.time in let p = c.loop-budget-test.true in omega (arith, a, b, p);
   ran = λ s t h.
       let i = c.loop-budget.invariant.ran s t h in
       let x = outside_of c.args.machine.now.rows (g.D.Sectors.size c.args.disk.now) in
@@ -44,7 +49,7 @@ loop-budget-preserved g c = record {
   sector = c.in_ok-began.ensures.sector;
   size = c.in_ok-began.ensures.size ∙ c.loop-budget.invariant.size;
   faults = c.in_ok-began.ensures.count.same ∙ c.loop-budget.invariant.faults;
-  time = let a = c.in_ok-began.ensures.time in let b = c.loop-budget.invariant.time in let p = c.loop-budget-test.true in omega (arith, a, b, p);
+  time = let a = c.in_ok-began.ensures.time (off_none c.off.result c.loop-budget.machine.hardware.off c.is_some.result c.off.ensures c.is_some.ensures c.if-is_some.false) in let b = c.loop-budget.invariant.time in let p = c.loop-budget-test.true in omega (arith, a, b, p);
   ran = λ s t h.
       let i = c.loop-budget.invariant.ran s t h in
       let x = outside_of c.args.machine.now.rows (g.D.Sectors.size c.args.disk.now) in

@@ -13,7 +13,7 @@ invariant-loop-budget g l = record {
   sector : NamesSector (g.D.Sectors.size l.disk) l.machine.hardware.ports.pending;
   size : g.D.Sectors.size l.disk ≡ g.D.Sectors.size l.fn.disk;
   faults : g.D.Sectors.faults l.disk ≡ g.D.Sectors.faults l.fn.disk;
-  time : l.machine.time + l.budget ≤ l.fn.machine.time + l.fn.budget;
+  time : l.machine.time + l.budget ≡ l.fn.machine.time + l.fn.budget;
   ran : (s : State) (t : ℕ) → seen (g.D.Sectors.sectors l.fn.disk) l.fn.machine ≡ Some (run (outside_of l.fn.machine.rows (g.D.Sectors.size l.fn.disk)) s t) →
       (u : ℕ) × (t ≤ u) × (l.budget + u ≡ l.fn.budget + t) × (seen (g.D.Sectors.sectors l.disk) l.machine ≡ Some (run (outside_of l.fn.machine.rows (g.D.Sectors.size l.fn.disk)) s u))
       × Progress (outside_of l.fn.machine.rows (g.D.Sectors.size l.fn.disk)) s t u l.begun;
