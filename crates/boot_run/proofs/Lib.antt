@@ -1,2 +1,3 @@
 pub mod PageLemmas
+pub mod UserPages
 pub mod Turned

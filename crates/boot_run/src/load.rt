@@ -1,10 +1,10 @@
 // The machine of a boot, loaded.
-ghost use Rattle.std.specs.Prelude.{◌≡◌, ◌≢◌, ℕ, ◌*◌, ◌/◌, ◌<◌, ◌≤◌, List, length, map, IfOk, IfErr, OnOk, OnErr, Err, Ok};
+ghost use Rattle.std.specs.Prelude.{◌≡◌, ◌≢◌, ℕ, ◌*◌, ◌/◌, ◌^◌, ◌<◌, ◌≤◌, All, List, length, map, IfOk, IfErr, OnOk, OnErr, Err, Ok};
 ghost use Rattle.cvm_outside.specs.Causes.{Counts};
 ghost use Rattle.c0_tree.specs.Tree.{CUnit};
-ghost use Rattle.c0_tree.specs.View.{unit_view};
+ghost use Rattle.c0_tree.specs.View.{decl_view, unit_view};
 ghost use Rattle.c0_meaning.specs.Env.{typed_of};
-ghost use Rattle.c0_meaning.specs.Sound.{shapes};
+ghost use Rattle.c0_meaning.specs.Sound.{shapes, IsSized};
 ghost use Rattle.c0_meaning.specs.Words.{all_words};
 ghost use Rattle.layer_map.specs.Map.{MapInRange, memory_frames};
 ghost use Rattle.cvm_model.specs.Cvm.{map_of};
@@ -18,6 +18,7 @@ use boot_turns::View;
 use c0_meaning::laws::well_formed_units_are_sized;
 use c0_meaning::{Measured, words_of};
 use c0_structs::measured;
+use c0_tree::Decl;
 use layer_contract::Boot;
 use layer_map::{LAYER_WORDS, Map};
 use mips_machine::Machine;
@@ -71,16 +72,25 @@ pub(crate) fn check_view(view: View, users: u32) -> Result<(), LoadFault>
     }
 }
 
+/// The words of declarations.
+fn decls_words(decls: &[Decl], unit: &Measured<'_>) -> u64
+    requires decls { All (λ d. IsSized (shapes (unit_view unit.now)) d.ty) (map decl_view decls.now) }
+    requires few { length decls.now < 2 ^ 32 }
+    ensures { result ≡ all_words (shapes (unit_view unit.now)) (map typed_of (map decl_view decls.now)) }
+{
+    let mut words = 0;
+    for decl in decls {
+        words += u64::from(words_of(&decl.ty, unit));
+    }
+    words
+}
+
 /// The words of a unit's globals.
 fn global_words(unit: &Measured<'_>) -> u64
     ensures { result ≡ all_words (shapes (unit_view unit.now)) (map typed_of (unit_view unit.now).globals) }
 {
     well_formed_units_are_sized();
-    let mut words = 0;
-    for decl in &unit.unit().globals {
-        words += u64::from(words_of(&decl.ty, unit));
-    }
-    words
+    decls_words(&unit.unit().globals, unit)
 }
 
 /// The map of what is booted.

@@ -7,14 +7,22 @@ ghost use Rattle.boot_run.specs.Loading.{first_pages, with_page, written, with_w
 use cvm_outside::{DiskFault, Sectors};
 use mips_machine::Machine;
 
+/// The word of a number, or 0 past the end.
+fn word_at(words: &[u32], i: usize) -> u32
+    ensures { result ≡ slice_index words.now i }
+{
+    words.get(i).copied().unwrap_or(0)
+}
+
 /// The 1,024 words from a number on, with zeros past the end.
 fn page_words(words: &[u32], first: usize) -> [u32; 1024]
     requires { first < length words.now }
-    ensures { (i : ℕ) → i < 1024 → slice_index result i ≡ slice_index words.now (first + i) }
+    ensures long { length result ≡ 1024 }
+    ensures words { (i : ℕ) → i < 1024 → slice_index result i ≡ slice_index words.now (first + i) }
 {
     let mut page = [0; 1024];
     for i in 0..1024usize {
-        page[i] = words.get(first + i).copied().unwrap_or(0);
+        page[i] = word_at(words, first + i);
     }
     page
 }
