@@ -11,6 +11,7 @@ ghost use Rattle.cvm_model.specs.Cvm.{map_of};
 ghost use Rattle.layer_contract.specs.Boots.{boot_of};
 ghost use Rattle.mips_machine.specs.Machine.{started};
 ghost use Rattle.boot_run.specs.Loading.{with_words};
+ghost use Rattle.boot_run.specs.declared.load.LoadFault.TheVariants.{Memory as NoRoom};
 ghost use Rattle.boot_run.specs.LoadEnds.{pages_needed, SeesUser, HasRoom, LoadFails};
 
 use crate::pages::put_words;
@@ -49,7 +50,7 @@ pub enum LoadFault {
 }
 
 impl From<AllocError> for LoadFault {
-    ghost from_gives = { λ _ e. e ≡ LoadFault.Memory };
+    ghost from_gives = { λ _ e. e ≡ NoRoom };
 
     fn from(_: AllocError) -> Self {
         LoadFault::Memory

@@ -39,7 +39,12 @@ impl<L> Model for Run<L> {
     ghost use Rattle.std.specs.Prelude.{◌<◌, length, IsTrue};
     ghost use Rattle.boot_run.specs.LoadEnds.{Kept, names_sector};
 
+    ghost use Rattle.std.specs.Coded.{codes};
+    ghost use Rattle.layer_contract.specs.contracts.boot.Boot as booted;
+
     ghost Value = { Kept L };
+
+    ghost coded = { Prim.hlevel (codes, booted.the_row.coded) };
 
     ghost view = { λ r. record { layer = r.layer; boot = r.boot; view = r.view; count = r.count; machine = r.machine; turns = r.turns; current = r.current; ended = r.ended; fault = r.fault } };
 
