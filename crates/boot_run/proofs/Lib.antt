@@ -1,3 +1,4 @@
 pub mod PageLemmas
 pub mod UserPages
 pub mod Turned
+pub mod Loads
