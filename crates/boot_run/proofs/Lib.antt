@@ -2,3 +2,4 @@ pub mod PageLemmas
 pub mod UserPages
 pub mod Turned
 pub mod Loads
+pub mod Proceeding

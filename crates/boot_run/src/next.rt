@@ -1,6 +1,6 @@
 // Who is next, as the machine shows it at the end of a turn.
 ghost use Rattle.std.specs.Prelude.{◌≡◌, ◌<◌, length, slice_index};
-ghost use Rattle.boot_run.specs.Shown.{next_shown, end_of_next};
+ghost use Rattle.boot_run.specs.Shown.{fault_of_power, next_shown, end_of_next};
 
 use cvm_model::{KernelFault, Next};
 use layer_map::CURRENT;

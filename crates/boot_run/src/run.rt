@@ -11,7 +11,7 @@ use crate::pages::write_pages;
 use crate::next::{ended_by, seen_next};
 use boot_turns::completion::advance;
 use boot_turns::row_text::row_text;
-use boot_turns::{RunFault, Turn, View};
+use boot_turns::{RunFault, Turn, View, machines_run};
 use cvm_model::{Next, Row};
 use cvm_outside::{Sectors, Sink};
 use layer_contract::{Boot, Layer};
@@ -122,6 +122,7 @@ impl<L: Layer + Drop> Run<L> {
         ensures spent { self.new.machine.time + budget.new ≤ self.old.machine.time + budget.old }
         ensures never { result ≢ Ok Turn.Over }
     {
+        machines_run();
         let begun = advance(&mut self.machine, budget, disk)?;
         let next = seen_next(&self.machine);
         let turn = self.turns;
