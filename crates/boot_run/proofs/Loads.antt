@@ -1,14 +1,14 @@
 -- The machine that `load` makes is the loaded machine.
-use Rattle.std.proofs.Common.{◌≡◌, ℕ, ◌+◌, ◌*◌, ◌/◌, ◌-◌, ◌<◌, ◌≤◌, false, List, ◌++◌, map, drop, length, replicate, Option, None, Some, refl, sym, ap, ap₂, ◌∙◌, subst, arith}
+use Rattle.std.proofs.Common.{◌≡◌, ℕ, ◌*◌, ◌/◌, ◌-◌, ◌≤◌, false, List, ◌++◌, map, drop, length, replicate, Option, None, Some, refl, sym, ap, ap₂, ◌∙◌, subst, arith}
 use Rattle.std.specs.Prelude.{IfSome}
 use Rattle.std.specs.Option.{option_map}
 use Rattle.std.specs.List.{range_with_len}
 use Rattle.std.proofs.lemmas.List.{drop-replicate, length-map}
 use Rattle.std.proofs.Math.Nat.{le-div_iff_mul-le}
 use Rattle.schedule_file.specs.Rows.{Rows}
-use Rattle.layer_map.specs.Map.{MapInRange, memory_frames, memory_words}
+use Rattle.layer_map.specs.Map.{memory_frames, memory_words}
 use Rattle.mips_table.specs.Machine.{start}
-use Rattle.mips_machine.specs.Machine.{Held, started, state_of}
+use Rattle.mips_machine.specs.Machine.{Held, started}
 use Rattle.cvm_model.specs.Cvm.{map_of}
 use Rattle.layer_contract.specs.declared.boot.Boot.{Boot as Booted}
 use Rattle.layer_contract.specs.Boots.{boot_of}

@@ -1,6 +1,5 @@
 -- Pages written one after another: which sector holds what.
-use Rattle.std.proofs.Common.{◌≡◌, ◌≢◌, ℕ, zero, suc, ◌+◌, ◌*◌, ◌/◌, ◌%◌, ◌-◌, ◌<◌, ◌≤◌, ◌⊎◌, Bool, true, false, cond, List, [], ◌∷◌, ◌++◌, take, drop, map, length, get_or, set, replicate, Option, None, Some, refl, sym, ap, ◌∙◌, subst, ⊎_elim, arith, length-set, get_or-set_other, get_or-set_same}
-use Rattle.std.specs.Prelude.{slice_index, nat_lt}
+use Rattle.std.proofs.Common.{◌≡◌, ◌≢◌, ℕ, zero, suc, ◌+◌, ◌<◌, ◌≤◌, true, false, cond, List, [], ◌∷◌, ◌++◌, take, drop, map, length, get_or, set, Option, None, Some, refl, sym, ap, ◌∙◌, subst, ⊎_elim, arith, length-set, get_or-set_other, get_or-set_same}
 use Rattle.std.specs.Option.{option_map}
 use Rattle.std.specs.List.{range_with_len}
 use Rattle.std.proofs.lemmas.Bool.{cases_lt, cases_eq, cases_Bool, cond_both, cond-true, cond-false}
@@ -8,7 +7,7 @@ use Rattle.std.proofs.lemmas.List.FromFn.{fill_by_all}
 use Rattle.mips_table.specs.Device.{sector_of}
 use Rattle.page_model.specs.Paging.{Pages}
 use Rattle.mips_machine.specs.Machine.{Held}
-use Rattle.boot_run.specs.Loading.{first_pages, with_page, words_of_page, written, StaysFrom}
+use Rattle.boot_run.specs.Loading.{with_page, words_of_page, written, StaysFrom}
 
 pub length-with_page : (p : Pages) (ss : List (List ℕ)) (q : ℕ) → length (with_page p ss q) ≡ length ss
 length-with_page p ss q = cond_both (p.live q) (set ss q (words_of_page p q)) ss (λ xs. length xs ≡ length ss) (λ _. length-set ss q (words_of_page p q)) (λ _. refl)
@@ -38,7 +37,7 @@ page_at : (p : Pages) (n : ℕ) (ss : List (List ℕ)) (k : ℕ) → k < n → n
 page_at p zero ss k lt le = absurd (omega arith)
 page_at p (suc n) ss k lt le = ⊎_elim
     (λ (e : k ≡ n). subst (λ j. sector_of (with_page p (written p n ss) n) j ≡ page_or p ss j) (sym e)
-        (same_page p (written p n ss) n (let l = length-written p n ss in omega (arith, l, le)) ∙ ap (λ w. cond (p.live n) (words_of_page p n) w) (later_page p n ss n (omega arith))))
+    (same_page p (written p n ss) n (let l = length-written p n ss in omega (arith, l, le)) ∙ ap (λ w. cond (p.live n) (words_of_page p n) w) (later_page p n ss n (omega arith))))
     (λ (ne : k ≢ n). other_page p (written p n ss) n k ne ∙ page_at p n ss k (omega (arith, ne, lt)) (omega arith))
     (cases_eq k n)
 
@@ -46,9 +45,9 @@ page_at p (suc n) ss k lt le = ⊎_elim
 pub written_is : (p : Pages) (n : ℕ) (ss : List (List ℕ)) → n ≤ length ss → ((q : ℕ) → n ≤ q → p.live q ≡ false) → written p n ss ≡ map (page_or p ss) (range_with_len 0 (length ss))
 written_is p n ss le none = fill_by_all (page_or p ss) (written p n ss) (length ss) [] (length-written p n ss)
     (λ k lt. ⊎_elim
-        (λ (l : k < n). page_at p n ss k l le)
-        (λ (ge : n ≤ k). later_page p n ss k ge ∙ sym (cond-false (p.live k) _ _ (none k ge)))
-        (cases_lt k n))
+    (λ (l : k < n). page_at p n ss k l le)
+    (λ (ge : n ≤ k). later_page p n ss k ge ∙ sym (cond-false (p.live k) _ _ (none k ge)))
+    (cases_lt k n))
 
 -- one more word is put over the beginning of a list
 put_word : (ws mem : List ℕ) (i w : ℕ) → i < length ws → length ws ≤ length mem → w ≡ get_or ws i 0 → set (take i ws ++ drop i mem) i w ≡ take (suc i) ws ++ drop (suc i) mem

@@ -1,5 +1,5 @@
 -- A call that goes on with a run, by what the machine did in it.
-use Rattle.std.proofs.Common.{◌≡◌, ◌≢◌, ℕ, ◌+◌, ◌-◌, ◌^◌, ◌<◌, Bool, true, false, not, min, Option, Some, None, List, [], ◌∷◌, ◌++◌, Result, Ok, Err, refl, sym, ap, ◌∙◌, subst, append-nil}
+use Rattle.std.proofs.Common.{◌≡◌, ◌≢◌, ℕ, ◌+◌, ◌-◌, ◌^◌, ◌<◌, Bool, true, false, not, min, Option, Some, None, List, [], ◌∷◌, Result, Ok, Err, refl, sym, ap, ◌∙◌, subst, append-nil}
 use Rattle.std.specs.Prelude.{if◌then◌else◌}
 use Rattle.std.specs.Io.KnownBytes.{append_known}
 use Rattle.c0_tree.specs.Tree.{CUnit}
@@ -9,9 +9,9 @@ use Rattle.mips_machine.specs.Machine.{Held}
 use Rattle.mips_machine.specs.Steps.{outside_of}
 use Rattle.cvm_model.specs.declared.row.Next.{Next}
 use Rattle.cvm_model.specs.declared.row.Row.{Row}
-use Rattle.cvm_model.specs.Cvm.{Running}
+use Rattle.mips_table.specs.Device.{Outside}
+use Rattle.cvm_model.specs.Cvm.{System, Cvm}
 use Rattle.cvm_model.specs.Text.{row_text, rows_text}
-use Rattle.boot_turns.specs.Completes.{seen}
 use Rattle.boot_turns.specs.Headline.{MachinesRun}
 use Rattle.boot_turns.specs.Advances.{Advances}
 use Rattle.boot_turns.specs.declared.completion.Begun.{Begun}
@@ -20,10 +20,10 @@ use Rattle.boot_turns.specs.declared.answers.View.TheVariants.{Boot}
 use Rattle.boot_turns.specs.declared.answers.Turn.{Turn}
 use Rattle.boot_turns.specs.declared.answers.Turn.TheVariants.{Step, Dispatch, Over}
 use Rattle.boot_turns.specs.declared.answers.RunFault.{RunFault}
-use Rattle.boot_turns.specs.declared.answers.RunFault.TheVariants.{Sink}
+use Rattle.boot_turns.specs.declared.answers.RunFault.TheVariants.{StepLimit, Disk, Sink}
 use Rattle.boot_run.specs.LoadEnds.{Kept}
 use Rattle.boot_run.specs.Shown.{end_of_next}
-use Rattle.boot_run.specs.TurnCalls.{rows_of, Around, around, Ready, TurnEnds, TurnRuns}
+use Rattle.boot_run.specs.TurnCalls.{rows_of, Around, around, Ready, TurnFails, TurnEnds, TurnRuns}
 use Rattle.boot_run.proofs.Turned.{noted_rows, current_word, next_of_held, Wrote, failed, turned, broken}
 
 append_known-nil : (t : Option (List ℕ)) → append_known t [] ≡ t
@@ -60,9 +60,9 @@ module _ {L : Type 0} (r : Kept L) (count : ℕ) (told retold : Option (List (Li
   stopped f adv = λ u lines busy y old image sizes made_for base k t c boots laws replays ready running.
       subst (λ (v : View). TurnEnds (outside_of r.machine.rows count) y old v base k t c (around r told budget text) (around (record r { machine = held }) retold left text) (Err f)) (sym view)
       (failed (outside_of r.machine.rows count) y old (run u lines busy (outside_of r.machine.rows count) y old image sizes made_for boots laws replays) base k t c
-          (around r told budget text) (around (record r { machine = held }) retold left text)
-          (subst (λ (v : View). Ready (outside_of r.machine.rows count) y old v base k t c (around r told budget text)) view ready) running f
-          (adv u lines busy y old image sizes made_for boots laws replays k t c ready.stood running ready.state) spent refl refl)
+      (around r told budget text) (around (record r { machine = held }) retold left text)
+      (subst (λ (v : View). Ready (outside_of r.machine.rows count) y old v base k t c (around r told budget text)) view ready) running f
+      (adv u lines busy y old image sizes made_for boots laws replays k t c ready.stood running ready.state) spent refl refl)
 
   module _ (b : Begun) (adv : Advances count r.machine held told retold budget left (Ok b)) (small : r.machine.time + budget < 2 ^ 64) (turns word : ℕ) (ended : Option Next) (turns_are : turns ≡ min (r.turns + 1) (2 ^ 64 - 1))
       (word_is : word ≡ current_word held) (ended_is : ended ≡ end_of_next (next_of_held held)) (retext : Option (List ℕ)) where
@@ -78,9 +78,9 @@ module _ {L : Type 0} (r : Kept L) (count : ℕ) (told retold : Option (List (Li
     went answer rows proper user is = λ u lines busy y old image sizes made_for base k t c boots laws replays ready running.
         subst (λ (v : View). TurnEnds (outside_of r.machine.rows count) y old v base k t c (around r told budget text) (around new retold left retext) (Ok answer)) (sym view)
         (turned (outside_of r.machine.rows count) y old (run u lines busy (outside_of r.machine.rows count) y old image sizes made_for boots laws replays) base k t c
-            (around r told budget text) (around new retold left retext)
-            (subst (λ (v : View). Ready (outside_of r.machine.rows count) y old v base k t c (around r told budget text)) view ready) running retold held b refl
-            (adv u lines busy y old image sizes made_for boots laws replays k t c ready.stood running ready.state) wrote answer rows proper user is)
+        (around r told budget text) (around new retold left retext)
+        (subst (λ (v : View). Ready (outside_of r.machine.rows count) y old v base k t c (around r told budget text)) view ready) running retold held b refl
+        (adv u lines busy y old image sizes made_for boots laws replays k t c ready.stood running ready.state) wrote answer rows proper user is)
 
     -- and its row isn't printed whole
     pub cut : (answer : Turn) → rows_of answer ≡ noted_rows r.turns b r.current (next_of_held held) → AppendsPart text retext (rows_text (rows_of answer)) →
@@ -88,9 +88,9 @@ module _ {L : Type 0} (r : Kept L) (count : ℕ) (told retold : Option (List (Li
     cut answer rows is = λ u lines busy y old image sizes made_for base k t c boots laws replays ready running.
         subst (λ (v : View). TurnEnds (outside_of r.machine.rows count) y old v base k t c (around r told budget text) (around new retold left retext) (Err Sink)) (sym view)
         (broken (outside_of r.machine.rows count) y old (run u lines busy (outside_of r.machine.rows count) y old image sizes made_for boots laws replays) base k t c
-            (around r told budget text) (around new retold left retext)
-            (subst (λ (v : View). Ready (outside_of r.machine.rows count) y old v base k t c (around r told budget text)) view ready) running retold held b refl
-            (adv u lines busy y old image sizes made_for boots laws replays k t c ready.stood running ready.state) wrote answer rows is)
+        (around r told budget text) (around new retold left retext)
+        (subst (λ (v : View). Ready (outside_of r.machine.rows count) y old v base k t c (around r told budget text)) view ready) running retold held b refl
+        (adv u lines busy y old image sizes made_for boots laws replays k t c ready.stood running ready.state) wrote answer rows is)
 
   module _ (b : Begun) (adv : Advances count r.machine held told retold budget left (Ok b)) (small : r.machine.time + budget < 2 ^ 64) (turns word : ℕ) (ended : Option Next) (turns_are : turns ≡ min (r.turns + 1) (2 ^ 64 - 1))
       (word_is : word ≡ current_word held) (ended_is : ended ≡ end_of_next (next_of_held held)) where
@@ -157,3 +157,21 @@ is_false false e = refl
 pub is_true : (b : Bool) → not b ≡ false → b ≡ true
 is_true true e = refl
 is_true false e = sym e
+
+-- what a broken turn comes to doesn't hang on the kept fault
+faulted : (x : Outside) (y : System) (old : List (List ℕ)) (v : View) (base : Option (List ℕ)) (k t : ℕ) (c : Cvm) (before after : Around) (f : RunFault) (kept : Option RunFault) →
+    TurnFails x y old v base k t c before after f → TurnFails x y old v base k t c before (record after { fault = kept }) f
+faulted x y old v base k t c before after StepLimit kept w =
+    record { spent = w.spent; state = w.state; steps = w.steps; between = w.between; on = w.on; ended = w.ended; shown = w.shown; printed = w.printed; text = w.text }
+faulted x y old v base k t c before after Disk kept w =
+    record { at = w.at; from = w.from; steps = w.steps; budget = w.budget; between = w.between; ended = w.ended; shown = w.shown; printed = w.printed; text = w.text }
+faulted x y old v base k t c before after Sink kept w =
+    record { at = w.at; state = w.state; steps = w.steps; budget = w.budget; past = w.past; cvm = w.cvm; ended = w.ended; shown = w.shown; printed = w.printed; text = w.text }
+
+pub runs_faulted : {L : Type 0} (count : ℕ) (r : Kept L) (before after : Around) (f : RunFault) (kept : Option RunFault) → TurnRuns count r before after (Err f) → TurnRuns count r before (record after { fault = kept }) (Err f)
+runs_faulted count r before after f kept w = λ u lines busy y old image sizes made_for base k t c boots laws replays ready running.
+    faulted (outside_of r.machine.rows count) y old r.view base k t c before after f kept (w u lines busy y old image sizes made_for base k t c boots laws replays ready running)
+
+pub runs_after : {L : Type 0} (a b : Kept L) → a ≡ b → (count : ℕ) (r : Kept L) (before : Around) (told : Option (List (List ℕ))) (budget : ℕ) (text : Option (List ℕ)) (result : Result Turn RunFault) →
+    TurnRuns count r before (around b told budget text) result → TurnRuns count r before (around a told budget text) result
+runs_after a b e count r before told budget text result w = subst (λ (q : Kept _). TurnRuns count r before (around q told budget text) result) (sym e) w

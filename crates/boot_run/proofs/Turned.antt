@@ -1,5 +1,5 @@
 -- What a turn of a boot has done, from what the run of the machine says of it.
-use Rattle.std.proofs.Common.{◌≡◌, ◌≢◌, ℕ, zero, suc, ◌+◌, ◌*◌, ◌-◌, ◌^◌, ◌<◌, ◌≤◌, Bool, true, false, not, ◌&&◌, Option, Some, None, min, length, take, List, [], ◌∷◌, ◌++◌, refl, sym, ap, ◌∙◌, subst, arith, append-nil, append_assoc}
+use Rattle.std.proofs.Common.{◌≡◌, ◌≢◌, ℕ, zero, suc, ◌+◌, ◌-◌, ◌^◌, ◌<◌, ◌≤◌, Bool, true, false, not, ◌&&◌, Option, Some, None, min, length, take, List, [], ◌∷◌, ◌++◌, refl, sym, ap, ◌∙◌, subst, arith, append-nil, append_assoc}
 use Rattle.std.specs.Prelude.{◌==◌, if◌then◌else◌, is_some, bit_or, slice_index}
 use Rattle.std.specs.Io.KnownBytes.{append_known}
 use Rattle.std.proofs.Math.Seq.{take-append-add}
@@ -8,7 +8,7 @@ use Rattle.cvm_outside.specs.Told.{AppendsPart}
 use Rattle.mips_table.specs.Device.{Outside}
 use Rattle.mips_table.specs.Flat.{VStep, Next as Goes, Trap, vstep}
 use Rattle.mips_table.specs.Machine.{State}
-use Rattle.mips_table.specs.Turns.{is_on, in_user, complete, lines_of}
+use Rattle.mips_table.specs.Turns.{in_user, complete, lines_of}
 use Rattle.mips_machine.specs.Machine.{Held, state_of}
 use Rattle.cvm_model.specs.declared.kernel_fault.KernelFault.{KernelFault}
 use Rattle.cvm_model.specs.declared.kernel_fault.KernelFault.TheVariants as faults
@@ -17,7 +17,7 @@ use Rattle.cvm_model.specs.declared.row.Next.TheVariants.{User, Halt, Fault}
 use Rattle.cvm_model.specs.declared.row.Row.{Row}
 use Rattle.cvm_model.specs.Kernel.{Core, power_of}
 use Rattle.cvm_model.specs.Primitives.{user_of}
-use Rattle.cvm_model.specs.Text.{row_text, rows_text, boot_text, closing_text}
+use Rattle.cvm_model.specs.Text.{row_text, rows_text, closing_text}
 use Rattle.cvm_model.specs.Cvm.{System, Status, Running, Halted, Faulted, Cvm, IsCvm, Begin, Steps, Traps, Interrupts, user_step, begin, first_cvm, status_of}
 use Rattle.layer_contract.specs.Layer.{Rests}
 use Rattle.layer_contract.specs.Follows.{loaded, machine}
@@ -92,7 +92,7 @@ one_noted k user cause edata at c after b s w d ca ed us r cur a =
     let next : next_shown s.off w ≡ a.next = next_is a.next after.status s w a.status r (λ u e. cur (a.status ∙ ap status_of e) ∙ a.current u e) in
     let row = same_row k b.cause cause b.edata edata user at (next_shown s.off w) a.next ca ed us next in
     a.rows ∙ ap (λ l. c.rows ++ l) (ap (λ (q : Row). q ∷ []) (sym row)
-        ∙ sym (ap (λ (t : Bool). if t then (record { turn = k; cause = b.cause; edata = b.edata; user = user; next = next_shown s.off w }) ∷ [] else []) d))
+    ∙ sym (ap (λ (t : Bool). if t then (record { turn = k; cause = b.cause; edata = b.edata; user = user; next = next_shown s.off w }) ∷ [] else []) d))
 
 rows_noted : (k user : ℕ) (c after : Cvm) (begin : Begin) (b : Begun) (s : State) (w : ℕ) → user ≡ c.core.current → BeginsAt c.core begin → ShownAs begin b → RowsGrow k c after begin →
     Rests after.status s → (after.status ≡ Running → w ≡ after.core.current) → after.rows ≡ c.rows ++ noted_rows k b user (next_shown s.off w)

@@ -1,16 +1,13 @@
 -- The users' pages at the start: which numbers are pages, and what words they have.
-use Rattle.std.proofs.Common.{◌≡◌, ℕ, zero, suc, ◌+◌, ◌*◌, ◌/◌, ◌%◌, ◌-◌, ◌<◌, ◌≤◌, Bool, true, false, List, [], ◌∷◌, ◌++◌, map, length, get_or, set, replicate, Option, None, Some, refl, sym, ap, ◌∙◌, subst, arith, length-append, lt-ltb, le-ltb}
-use Rattle.std.specs.Prelude.{slice_index, nat_lt, Vec, Result, Ok, Err, OnOk, OnErr}
+use Rattle.std.proofs.Common.{◌≡◌, ℕ, zero, suc, ◌+◌, ◌*◌, ◌/◌, ◌%◌, ◌-◌, ◌<◌, ◌≤◌, true, false, List, [], ◌∷◌, ◌++◌, map, length, get_or, set, replicate, Option, None, Some, refl, sym, ap, ◌∙◌, arith, length-append, lt-ltb, le-ltb}
+use Rattle.std.specs.Prelude.{nat_lt, Result, Ok, Err, OnOk, OnErr}
 use Rattle.std.proofs.Math.Nat.{div-lt_iff_lt-mul}
 use Rattle.std.specs.Option.{option_map}
-use Rattle.std.specs.List.{range_with_len}
-use Rattle.std.proofs.lemmas.Grind.{common_steps}
 use Rattle.std.proofs.lemmas.Bool.{cond-true, cond-false}
 use Rattle.std.proofs.lemmas.List.{get_or-map, length-replicate, get_or_past, length-map}
 use Rattle.std.proofs.lemmas.List.FromFn.{fill_by_all}
 use Rattle.layer_map.specs.Map.{next_page}
 use Rattle.mips_table.specs.Flat.{Flat}
-use Rattle.page_model.specs.Paging.{Pages}
 use Rattle.cvm_model.specs.Primitives.{no_flat, user_of, pages_of}
 use Rattle.cvm_model.specs.Cvm.{first_flat}
 use Rattle.boot_run.specs.Loading.{first_pages, with_page, words_of_page}

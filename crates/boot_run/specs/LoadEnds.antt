@@ -12,7 +12,7 @@ use Rattle.boot_turns.specs.declared.answers.View.{View}
 use Rattle.boot_turns.specs.declared.answers.View.TheVariants.{Boot, Trace}
 use Rattle.boot_turns.specs.declared.answers.RunFault.{RunFault}
 use Rattle.boot_turns.specs.Completes.{seen}
-use Rattle.boot_run.specs.Loading.{system_of, StaysFrom}
+use Rattle.boot_run.specs.Loading.{system_of}
 use Rattle.boot_run.specs.declared.load.LoadFault.{LoadFault}
 use Rattle.boot_run.specs.declared.load.LoadFault.TheVariants.{NoSuchUser, SmallDisk, Memory, Disk}
 

@@ -1,5 +1,5 @@
 -- What the calls `turn`, `report` and `ended` of a loaded run come to, on the run of the machine.
-use Rattle.std.specs.Prelude.{◌≡◌, ◌≢◌, ℕ, zero, suc, ◌+◌, ◌<◌, ◌≤◌, ◌⊎◌, Option, Some, None, IsSome, List, [], ◌∷◌, ◌++◌, length, take, Result, Ok, Err, MatchResult}
+use Rattle.std.specs.Prelude.{◌≡◌, ◌≢◌, ℕ, suc, ◌+◌, ◌≤◌, ◌⊎◌, Option, Some, None, IsSome, List, [], ◌∷◌, ◌++◌, Result, MatchResult}
 use Rattle.std.specs.Io.KnownBytes.{append_known}
 use Rattle.mips_table.specs.Device.{Outside}
 use Rattle.mips_table.specs.Machine.{State}
@@ -18,7 +18,7 @@ use Rattle.layer_contract.specs.Layer.{Laws}
 use Rattle.layer_contract.specs.Follows.{site_of, machine, loaded}
 use Rattle.boot_turns.specs.Completes.{seen}
 use Rattle.boot_turns.specs.Headline.{Boots}
-use Rattle.boot_turns.specs.TurnEnds.{Stood, Ahead, Printed, Rows, Whole, TextAfter, TextBefore, Prefix, PrintedBroken}
+use Rattle.boot_turns.specs.TurnEnds.{Stood, Ahead, Printed, Rows, Whole, TextBefore, Prefix, PrintedBroken}
 use Rattle.boot_turns.specs.declared.answers.View.{View}
 use Rattle.boot_turns.specs.declared.answers.View.TheVariants.{Boot, Trace}
 use Rattle.boot_turns.specs.declared.answers.Turn.{Turn}

@@ -7,8 +7,8 @@ ghost use Rattle.boot_run.specs.LoadEnds.{pages_needed, IsFresh, StandsLoaded, L
 ghost use Rattle.boot_run.specs.TurnCalls.{around, IsOver, KeepsLoad, TurnRuns};
 
 use crate::load::{LoadFault, check_view, loaded_machine};
-use crate::pages::write_pages;
 use crate::next::{ended_by, seen_next};
+use crate::pages::write_pages;
 use boot_turns::completion::advance;
 use boot_turns::row_text::row_text;
 use boot_turns::{RunFault, Turn, View, machines_run};
@@ -38,7 +38,6 @@ pub struct Run<L> {
 impl<L> Model for Run<L> {
     ghost use Rattle.std.specs.Prelude.{◌<◌, length, IsTrue};
     ghost use Rattle.boot_run.specs.LoadEnds.{Kept, names_sector};
-
     ghost use Rattle.std.specs.Coded.{codes};
     ghost use Rattle.layer_contract.specs.contracts.boot.Boot as booted;
 

@@ -1,4 +1,4 @@
-use Rattle.std.proofs.Common.{◌≡◌, ℕ, ◌*◌, ◌/◌, ◌%◌, ◌+◌, ◌<◌, ◌≤◌, List, [], map, get_or, length, sym, ap, ◌∙◌, subst, Vec, Global}
+use Rattle.std.proofs.Common.{◌≡◌, ℕ, ◌*◌, ◌/◌, ◌%◌, ◌+◌, ◌<◌, ◌≤◌, [], map, get_or, length, sym, ap, ◌∙◌, subst, Vec, Global}
 use Rattle.boot_run.proofs.UserPages.{on_ok, its_list, page_written, page_left, user_there}
 use Rattle.boot_run.proofs.pages.write_page.Goals as goal
 
