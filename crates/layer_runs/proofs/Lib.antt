@@ -7,3 +7,4 @@ pub mod Placed
 pub mod Ends
 pub mod Exits
 pub mod Leaving
+pub mod Laying
