@@ -7,8 +7,11 @@ use Rattle.mips_table.specs.declared.inst.Inst.TheVariants.{J}
 use Rattle.mips_table.specs.Encoding.{encoding}
 use Rattle.layer_map.specs.Map.{Map}
 use Rattle.layer_runs.specs.declared.routines.Routines.{Routines}
-use Rattle.layer_runs.specs.Image.{joined, entries, entries_end, routines}
-use Rattle.layer_runs.specs.Laid.{jumps_from, Lays}
+use Rattle.page_model.specs.Places.{places_of}
+use Rattle.trap_entry.specs.Code.{leave_code, exit_code}
+use Rattle.register_primitives.specs.Code.{vm_get_code, vm_set_code, vm_size_code, con_put_code, con_get_code, con_left_code}
+use Rattle.layer_runs.specs.Image.{returning, joined, entries, entries_end, routines}
+use Rattle.layer_runs.specs.Laid.{jumps_from, Lays, memory_routines}
 
 joined-append : (xs ys : List (List Inst)) → joined (xs ++ ys) ≡ joined xs ++ joined ys
 joined-append [] ys = refl
@@ -50,3 +53,20 @@ all_words a b m w p = p.words ∙ ap (λ l. l ++ map encoding (joined (routines 
 pub on_ok : {T E : Type 0} (r : Result T E) (P Q : Type 0) → (P → Q) → OnOk r P → OnOk r Q
 on_ok (Ok x) P Q f p = f p
 on_ok (Err e) P Q f p = p
+
+-- the groups of routines, one behind the other, are all routines
+pub all_laid : (a b c d e f : Routines) (m : Map) → Lays a b (returning (vm_get_code m.users) ∷ returning (vm_set_code m.users) ∷ returning (vm_size_code m.users) ∷ [])
+    → Lays b c (memory_routines m) → Lays c d (returning con_put_code ∷ returning con_get_code ∷ returning con_left_code ∷ [])
+    → Lays d e (exit_code 1 ∷ exit_code 2 ∷ exit_code 3 ∷ exit_code 4 ∷ []) → Lays e f (leave_code (places_of m) m.users m.params.pages ∷ []) → Lays a f (routines m)
+unfolding routines
+all_laid a b c d e f m p q r s t =
+    lays_more a b f (returning (vm_get_code m.users) ∷ returning (vm_set_code m.users) ∷ returning (vm_size_code m.users) ∷ []) _ p
+    (lays_more b c f (memory_routines m) _ q
+    (lays_more c d f (returning con_put_code ∷ returning con_get_code ∷ returning con_left_code ∷ []) _ r
+    (lays_more d e f (exit_code 1 ∷ exit_code 2 ∷ exit_code 3 ∷ exit_code 4 ∷ []) (leave_code (places_of m) m.users m.params.pages ∷ []) s t)))
+
+-- four parts, appended one after the other
+pub four_parts : (u v w x y a b c d : List ℕ) → u ≡ [] → v ≡ u ++ a → w ≡ v ++ b → x ≡ w ++ c → y ≡ x ++ d → y ≡ a ++ (b ++ (c ++ d))
+four_parts u v w x y a b c d e p q r s =
+    s ∙ ap (λ l. l ++ d) (r ∙ ap (λ l. l ++ c) (q ∙ ap (λ l. l ++ b) (p ∙ ap (λ l. l ++ a) e)))
+    ∙ append_assoc (a ++ b) c d ∙ append_assoc a b (c ++ d)
