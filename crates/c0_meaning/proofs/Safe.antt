@@ -10,7 +10,7 @@ use Rattle.c0_tree.specs.Tree.{CDecl, CUnit}
 use Rattle.c0_meaning.specs.Ty.{Ty, ty_of, same_ty}
 use Rattle.c0_meaning.specs.Ty as ty
 use Rattle.c0_meaning.specs.Env.{Shape, typed_of}
-use Rattle.c0_meaning.specs.Limits.{are_three_ints, locals_of}
+use Rattle.c0_meaning.specs.Limits.{are_three_ints}
 use Rattle.c0_meaning.specs.Sound.{shapes}
 use Rattle.c0_meaning.proofs.Ty.{equal-same_ty}
 use Rattle.c0_meaning.proofs.Units.{units_are_faultless}
@@ -18,12 +18,10 @@ use Rattle.c0_meaning.specs.Value.{Value, Values, empty, part}
 use Rattle.c0_meaning.specs.Value as value
 use Rattle.c0_meaning.specs.TypedState.{Layout, types_of, Fits, AllFit, layout_of, IsScalar, IsSafe, Answers}
 use Rattle.c0_meaning.specs.Execution.{Outcome, Done, Failed, NotYet, call_first}
-use Rattle.c0_meaning.specs.RunLaws.{FirstIsTyped, LocalsStartTyped, CallsAreSafe, DispatchesAreSafe, CallsAnswer, AnswersAnInt, DispatchesAnswer}
+use Rattle.c0_meaning.specs.RunLaws.{FirstIsTyped, CallsAreSafe, DispatchesAreSafe, CallsAnswer, AnswersAnInt, DispatchesAnswer}
 use Rattle.c0_meaning.specs.KernelRows.{seven, sevens, SevensFit}
 use Rattle.c0_meaning.proofs.Dispatch.{has_dispatch}
 use Rattle.c0_meaning.proofs.Fields.{zeros_fit}
-use Rattle.c0_meaning.specs.Typed.{IsTypedUnit}
-use Rattle.c0_meaning.proofs.SafeStates.{right_function}
 use Rattle.c0_meaning.proofs.SafeRuns.{first_call_safe, first_call_answers}
 
 pub first_is_typed : FirstIsTyped
@@ -111,7 +109,3 @@ seven_answers n row args w e = subst (λ o. IsScalar row.answer (seven (unwrap_o
 pub sevens_fit : SevensFit
 sevens_fit = record { answer = λ n row args w e a r. seven_answers n row args w e; world = λ n row args w e a r. refl }
 
-pub locals_start_typed : LocalsStartTyped
-locals_start_typed primitives u well n f is layout =
-    let typed : IsTypedUnit primitives u = (units_are_faultless primitives u).1 well.typed in
-    zeros_fit u.structs typed.structs layout (locals_of f.body) (right_function primitives u n f well is).typed.signature.locals

@@ -5,13 +5,13 @@ use Rattle.c0_tree.specs.Primitives.{CPrimitive, kernel_primitives}
 use Rattle.std.specs.List.{list_any, list_all}
 use Rattle.c0_meaning.specs.Sound.{shapes}
 use Rattle.c0_meaning.specs.Typed.{IsDeclarable}
-use Rattle.c0_meaning.specs.Limits.{is_dispatch, locals_of}
+use Rattle.c0_meaning.specs.Limits.{is_dispatch}
 use Rattle.c0_meaning.specs.Unit.{IsChecked, IsWellFormed}
 use Rattle.c0_meaning.specs.Ty.{Ty, ty_of}
 use Rattle.c0_meaning.specs.Env.{Shape, typed_of}
 use Rattle.c0_meaning.specs.Words.{words}
 use Rattle.c0_meaning.specs.Asm.{may_use, are_allowed_words}
-use Rattle.c0_meaning.specs.Value.{Value, int, bool, null, at, group, Values, empty, part, zero_of, zeros_of}
+use Rattle.c0_meaning.specs.Value.{Value, int, bool, null, at, group, Values, empty, part, zero_of}
 use Rattle.c0_meaning.specs.AsmBody.{run_words}
 use Rattle.c0_meaning.specs.World.{Setting, Cost, units, total, Configuration}
 use Rattle.c0_meaning.specs.Running.{Work}
@@ -19,7 +19,7 @@ use Rattle.c0_meaning.specs.Execution.{Outcome, Done, Failed, NotYet, run, run_w
 use Rattle.c0_meaning.specs.State.{State, first_state, stack_words}
 use Rattle.c0_meaning.specs.PrimitiveCalls.{PrimitiveCall, AreMadeBy}
 use Rattle.c0_meaning.specs.CallChain.{AreChained, running}
-use Rattle.c0_meaning.specs.TypedState.{Layout, types_of, AllFit, layout_of, IsTypedWith, AreDeclared, IsTypedState, AnswersFit, IsSafe, Answers}
+use Rattle.c0_meaning.specs.TypedState.{Layout, types_of, Fits, AllFit, layout_of, IsTypedWith, AreDeclared, IsTypedState, AnswersFit, IsSafe, Answers}
 use Rattle.std.specs.Int.{w32}
 use Rattle.c0_meaning.specs.UserProgram.{Ending, done, failed, not_yet, user_primitives, is_main, prog}
 use Rattle.c0_meaning.specs.Operators.{stuck}
@@ -116,6 +116,11 @@ ProgramsEnd = (u : CUnit) (answers : List ℤ) (m n : ℕ) → m ≤ n → HasEn
 abbrev pub TypesHaveWords : Type 0
 TypesHaveWords = (primitives : List CPrimitive) (u : CUnit) → IsWellFormed primitives u → (t : CTy) → IsDeclarable (shapes u) t → 1 ≤ words (shapes u) (ty_of t)
 
+-- a law: in a unit that is well formed a variable or object of a type that may be declared starts with a value of it
+abbrev pub ZerosFit : Type 0
+ZerosFit = (primitives : List CPrimitive) (u : CUnit) → IsWellFormed primitives u → (layout : Layout) (t : CTy) → IsDeclarable (shapes u) t
+    → Fits (shapes u) layout (ty_of t) (zero_of (shapes u) (ty_of t))
+
 -- a law: a checked kernel has a `dispatch`
 abbrev pub HasDispatch : Type 0
 HasDispatch = (u : CUnit) → IsChecked u → (n : ℕ) × (f : CFunction) × (position is_dispatch u.functions ≡ Some n) × (slice_get u.functions n ≡ Some f) × (is_dispatch f ≡ true)
@@ -123,11 +128,6 @@ HasDispatch = (u : CUnit) → IsChecked u → (n : ℕ) × (f : CFunction) × (p
 -- a law: before the first call the state is typed
 abbrev pub FirstIsTyped : Type 0
 FirstIsTyped = (primitives : List CPrimitive) (u : CUnit) → IsWellFormed primitives u → IsTypedState u (first_state u)
-
--- a law: in a unit that is well formed the locals of a function have their types at their start
-abbrev pub LocalsStartTyped : Type 0
-LocalsStartTyped = (primitives : List CPrimitive) (u : CUnit) → IsWellFormed primitives u → (n : ℕ) (f : CFunction) → slice_get u.functions n ≡ Some f → (layout : Layout)
-    → AllFit (shapes u) layout (types_of (map typed_of (locals_of f.body))) (zeros_of (shapes u) (map typed_of (locals_of f.body)))
 
 -- A law: a call of a function of a unit that is well formed, with arguments of its parameters' types and from a typed state, is never
 -- stuck, and its state stays typed, where the primitives' answers fit.

@@ -8,15 +8,14 @@ use Rattle.mips_table.specs.Code.{Contents, Behind, World, Sound, Configuration,
 use Rattle.masm.specs.declared.registers.Places.{Places}
 use Rattle.cvm_words.specs.Words.{word_of}
 use Rattle.c0_tree.specs.Primitives.{CPrimitive}
-use Rattle.c0_tree.specs.Tree.{CDecl, CExpr, CStmts, code, CFunction, CUnit}
-use Rattle.c0_meaning.specs.Ty.{Ty}
+use Rattle.c0_tree.specs.Tree.{CFunction, CUnit}
 use Rattle.c0_meaning.specs.Env.{typed_of}
 use Rattle.c0_meaning.specs.Words.{all_words}
 use Rattle.c0_meaning.specs.Sound.{shapes}
 use Rattle.c0_meaning.specs.Unit.{IsWellFormed}
-use Rattle.c0_meaning.specs.Value.{Value, int, bool, Values, empty, part, zeros_of}
+use Rattle.c0_meaning.specs.Value.{Value, int, bool, Values, empty, part}
 use Rattle.c0_meaning.specs.World.{Setting}
-use Rattle.c0_meaning.specs.TypedState.{types_of, AllFit, layout_of, AreScalars}
+use Rattle.c0_meaning.specs.TypedState.{AreScalars}
 use Rattle.c0_runtime.specs.Code as runtime
 use Rattle.c0_expr_code.specs.Scope.{scope_of}
 use Rattle.c0_stmt_code.specs.Code.{Links, links_of, MAX_STACK, function_code}
@@ -94,10 +93,6 @@ pub record Setup (W E : Type 0) (Outer : W → Contents → Behind → Type 0) (
   pub functions : (n : ℕ) (f : CFunction) → slice_get p.unit.functions n ≡ Some f
       → CodeAt w ((links_of places).function n) (function_code (scope_of p.unit f places) (links_of places) f)
   pub new_object : CodeAt w (links_of places).new_object runtime.new_code
-  -- locals at their start have their types
-  pub zeros_fit : (objects : List Ty) (n : ℕ) (f : CFunction) (locals : List CDecl) (stmts : CStmts) (answer : CExpr)
-      → slice_get p.unit.functions n ≡ Some f → f.body ≡ code locals stmts answer →
-      AllFit (shapes p.unit) (layout_of p.unit objects) (types_of (map typed_of locals)) (zeros_of (shapes p.unit) (map typed_of locals))
   -- what isn't the unit's is the rest of the machine's
   pub outer_stays : (v : W) (c c' : Contents) (d : Behind) → ((k : ℕ) → (IsOurs a p.stack k → ⊥) → c'.memory k ≡ c.memory k)
       → c'.special ≡ c.special → Outer v c d → Outer v c' d

@@ -1,10 +1,9 @@
 -- How a configuration of C0 with what is left to do stands in the machine.
-use Rattle.std.specs.Prelude.{◌≡◌, ℕ, suc, ◌+◌, ◌*◌, ◌≤◌, ◌⊎◌, true, false, if◌then◌else◌, List, [], ◌∷◌, map, Some, None, slice_get}
+use Rattle.std.specs.Prelude.{◌≡◌, ℕ, suc, ◌+◌, ◌*◌, ◌≤◌, ◌⊎◌, true, false, if◌then◌else◌, List, [], ◌∷◌, map, Some, slice_get}
 use Rattle.mips_table.specs.Device.{Idle}
 use Rattle.mips_table.specs.Code.{Contents, Behind, Configuration as Machine, Steps}
 use Rattle.c0_tree.specs.Primitives.{CPrimitive}
-use Rattle.c0_tree.specs.Tree.{CTy, CStmt, assign, call, new, choice, loop, CFunction, CUnit}
-use Rattle.c0_expr_code.specs.Code.{made}
+use Rattle.c0_tree.specs.Tree.{CTy, CFunction, CUnit}
 use Rattle.c0_meaning.specs.Ty.{Ty, ty_of}
 use Rattle.c0_meaning.specs.Env.{Shape, typed_of, env_of}
 use Rattle.c0_meaning.specs.Typed.{IsDeclarable}
@@ -199,32 +198,7 @@ module _ (W E : Type 0) (Outer : W → Contents → Behind → Type 0) (Passes :
   StepIs debt h s (Stop cost (faulted f) h') = (t : Machine) × Stopped z.w Passes cost.own debt h h' s t × AtExit f h' t
   StepIs debt h s (Stop cost stuck h') = ⊥
 
-  -- A statement of a function whose step is proved: all but `new`.
-  abbrev pub IsCoveredStatement : CFunction → CStmt → Type 0
-  IsCoveredStatement f (assign s p v) = Unit {0}
-  IsCoveredStatement f (call s p cs callee args) = Unit {0}
-  IsCoveredStatement f (new s p t ts) = ⊥
-  IsCoveredStatement f (choice s t a b) = Unit {0}
-  IsCoveredStatement f (loop s t b) = Unit {0}
-
-  -- a work item of a function whose step is proved
-  abbrev pub IsCoveredItem : CFunction → Work → Type 0
-  IsCoveredItem f (act_on t rest) = IsCoveredStatement f t
-  IsCoveredItem f (finish place v rest) = (made (scope f) place).stands ≡ None
-  IsCoveredItem f (again t body rest) = Unit {0}
-  IsCoveredItem f (leave answer target) = Unit {0}
-  IsCoveredItem f (begin n args) = Unit {0}
-
-  -- of the function that runs, or of the one that is called first
-  abbrev pub IsCovered : List Frame → Work → Type 0
-  IsCovered [] (begin n args) = Unit {0}
-  IsCovered [] item = ⊥
-  IsCovered (g ∷ frames) item = (f : CFunction) → slice_get z.p.unit.functions g.function ≡ Some f → IsCoveredItem f item
-
--- A law: where what is left to do stands in the machine, a step of C0's meaning is a run of the code, over any machine with primitives. It is stated
--- of
--- the steps that are proved.
+-- A law: where what is left to do stands in the machine, a step of C0's meaning is a run of the code, over any machine with primitives.
 abbrev pub StepsRun : (W E : Type 0) (Outer : W → Contents → Behind → Type 0) (Passes : Machine → Machine → Type 0) → Type 0
 StepsRun W E Outer Passes = (z : Setup W E Outer Passes) (debt : ℕ) (item : Work) (work : List Work) (h : Configuration W E) (s : Machine)
-    → IsCovered W E Outer Passes z h.state.frames item → Simulated W E Outer Passes z debt (item ∷ work) h s
-    → StepIs W E Outer Passes z debt h s (act z.p item work h)
+    → Simulated W E Outer Passes z debt (item ∷ work) h s → StepIs W E Outer Passes z debt h s (act z.p item work h)

@@ -10,6 +10,8 @@ use c0_expr_code::laws::{
     tests_run,
 };
 use c0_meaning::laws::{numbers_tell, units_are_typed_or_faulty};
+use c0_meaning::run_laws::{declared_types_have_words, zeros_fit_their_types};
+use c0_runtime::laws::objects_are_made;
 use masm::laws::{jumps_lead, runs_compose, straight_code_runs};
 use mips_table::runs::code_runs_join;
 
@@ -42,6 +44,9 @@ pub fn steps_run<M: Outside>()
     jumps_lead();
     code_runs_join();
     asm_bodies_run();
+    declared_types_have_words();
+    zeros_fit_their_types();
+    objects_are_made();
 }
 
 /// The code of two small functions, instruction by instruction.

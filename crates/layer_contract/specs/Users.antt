@@ -1,5 +1,5 @@
 -- A user's step on the machine, for a state that runs a user.
-use Rattle.std.specs.Prelude.{◌≡◌, ℕ, suc, ◌+◌, ◌/◌, ◌<◌, ◌≤◌, ◌⊎◌, true, false, length, slice_index}
+use Rattle.std.specs.Prelude.{◌≡◌, ◌≢◌, ℕ, suc, ◌+◌, ◌/◌, ◌<◌, ◌≤◌, ◌⊎◌, true, false, length, slice_index}
 use Rattle.mips_table.specs.declared.cause.Cause.{Cause}
 use Rattle.mips_table.specs.Device.{Outside}
 use Rattle.mips_table.specs.Machine.{PTL, number_of}
@@ -45,6 +45,16 @@ pub record TakesFault (x : Outside) (s : State) : Type 0 where
 -- any step
 abbrev pub UserStepsOrFaults : Type 0
 UserStepsOrFaults = (x : Outside) (y : Site) (s : State) (c : Core) (k : ℕ) → Premises x y s c → TakesFault x s ⊎ StepFollows x y s c k
+
+-- an interrupt of a user is taken with nothing changed but the lines latched, since no fetch of a user takes input, and isn't the reset
+pub record IsTakenAt (x : Outside) (s before : State) (cause : Cause) : Type 0 where
+  pub state : before ≡ latched x s
+  pub later : number_of cause ≢ 0
+
+-- each is
+abbrev pub UsersAreInterrupted : Type 0
+UsersAreInterrupted = (x : Outside) (y : Site) (s : State) (c : Core) (before : State) (cause : Cause) (edata epc : ℕ) → Premises x y s c →
+    coming x (latched x s) ≡ Interrupt before cause edata epc → IsTakenAt x s before cause
 
 -- a step with no line pending, of a user whose machine takes no trap, that changes a word of memory
 pub record ChangesWord (x : Outside) (y : Site) (s : State) (c : Core) : Type 0 where

@@ -8,7 +8,7 @@ ghost use Rattle.mips_table.specs.Device.{Outside, HasEightLines};
 ghost use Rattle.cvm_model.specs.Cvm.{System};
 ghost use Rattle.layer_contract.specs.Layer.{ResetStands, UserStands};
 ghost use Rattle.layer_contract.specs.Follows.{FirstCall, LoadedResets, MadeFor, SystemFits};
-ghost use Rattle.layer_contract.specs.Users.{SomeStores, UserSteps, UserStepsLinked, UserStepsOrFaults};
+ghost use Rattle.layer_contract.specs.Users.{SomeStores, UserSteps, UserStepsLinked, UserStepsOrFaults, UsersAreInterrupted};
 ghost use Rattle.layer_contract.specs.Samples.{AStateStands, ASpreadStateStands};
 
 mod boot;
@@ -70,6 +70,13 @@ pub fn users_follow_linked()
 /// A law: any step of a user is one of these, or takes a handled fault.
 pub fn users_follow_or_fault()
     ensures { UserStepsOrFaults }
+{
+    words_stay_words();
+}
+
+/// A law: an interrupt of a user is taken with nothing changed but the lines latched, and isn't the reset.
+pub fn users_are_interrupted()
+    ensures { UsersAreInterrupted }
 {
     words_stay_words();
 }

@@ -1,5 +1,5 @@
 -- Each run of a block of the layer's code is made by the machine: the laws on runs of code, for the block alone.
-use Rattle.std.proofs.Common.{◌≡◌, ℕ, zero, suc, ◌+◌, ◌-◌, ◌*◌, ◌/◌, ◌<◌, ◌≤◌, Bool, true, false, not, ◌&&◌, nat_lt, Option, Some, None, List, [], ◌∷◌, length, map, slice_index, All, refl, sym, ap, ◌∙◌, subst, ⊎_elim, arith, lt-ltb, eq-eqb, ne_eqb}
+use Rattle.std.proofs.Common.{◌≡◌, ℕ, zero, suc, ◌+◌, ◌-◌, ◌*◌, ◌/◌, ◌<◌, ◌≤◌, Bool, true, false, not, ◌&&◌, nat_lt, Option, Some, None, List, [], ◌∷◌, length, map, slice_index, All, refl, sym, ap, ◌∙◌, subst, ⊎_elim, arith, lt-ltb, ltb-true, eq-eqb, ne_eqb}
 use Rattle.std.specs.Prelude.{◌==◌, if◌then◌else◌}
 use Rattle.std.proofs.lemmas.Bool.{cond-true, cond-false, cases_eq}
 use Rattle.mips_table.specs.declared.inst.Inst.{Inst}
@@ -7,7 +7,7 @@ use Rattle.mips_table.specs.Encoding.{encoding}
 use Rattle.mips_table.specs.Device.{Idle, Outside}
 use Rattle.mips_table.specs.Machine.{State, run}
 use Rattle.mips_table.specs.Fits.{NamesSector}
-use Rattle.mips_table.specs.Code.{Program, on_machine, World, Sound, Configuration, Reaches}
+use Rattle.mips_table.specs.Code.{Program, on_machine, World, Sound, Configuration, Steps}
 use Rattle.mips_table.specs.Simulation.{configuration_of, Quiet, Holds, Serves, Simulates, MachineSimulates}
 use Rattle.masm.specs.Standing.{placed, BlockStands}
 use Rattle.cvm_model.specs.Stands.{Site, is_own}
@@ -44,7 +44,7 @@ kept_by y k v e = by (nat_lt k (length y.linked)) (is_own y.map k) refl refl e
     by true true p q h = absurd (cc)
     by false b p q h = absurd (cc)
 
-module _ (simulates : MachineSimulates) (stands : (n : ℕ) (is : List Inst) → BlockStands n is) (x : Outside) (y : Site) (s : State) (n : ℕ) (is : List Inst) (at : Standing y n is) (c : Calm x y s) where
+module _ (stands : (n : ℕ) (is : List Inst) → BlockStands n is) (x : Outside) (y : Site) (s : State) (n : ℕ) (is : List Inst) (at : Standing y n is) (c : Calm x y s) where
   pub sound : Sound (block_world x y s n is)
   sound = record {
     small = c.small;
@@ -70,31 +70,30 @@ module _ (simulates : MachineSimulates) (stands : (n : ℕ) (is : List Inst) →
   inside_of : (t : State) → Quiet x t → Inside t
   inside_of t q = record { on = q.on; mode = q.mode; sr = q.sr; no_reset = q.no_reset }
 
-  pub makes : (t : Configuration) (most : ℕ) → Reaches (block_world x y s n is) most (configuration_of s) t → Makes x y n is most s t
-  makes t most r =
+  pub makes : MachineSimulates → (t : Configuration) (steps : ℕ) → Steps (block_world x y s n is) steps (configuration_of s) t → Makes x y n is steps s t
+  makes simulates t steps r =
       let w : World = block_world x y s n is in
-      let m : Simulates x w r.steps s = simulates x (block_program y (length s.memory) n is) s r.steps t sound c.quiet holds serves r.run in
-      let last = m.along r.steps (omega arith) in
+      let m : Simulates x w steps s = simulates x (block_program y (length s.memory) n is) s steps t sound c.quiet holds serves r in
+      let last = m.along steps (omega arith) in
+      let there : configuration_of (run x s steps) ≡ t = m.same steps (omega arith) ∙ r.1 in
       record {
-        steps = r.steps;
-        within = r.within;
         stretch = record {
           inside = λ j lt. inside_of (run x s j) (m.along j (omega arith)).quiet;
           from = λ j lt. let i = m.instructs j lt in let b : n ≤ (run x s j).cpu.pc / 4 = ((stands n is).inside _ i.inst i.code).0 in omega arith;
           to = λ j lt. let i = m.instructs j lt in let b : (run x s j).cpu.pc / 4 < n + length is = ((stands n is).inside _ i.inst i.code).1 in omega arith;
           sectors = λ j le q past. (m.along j le).sectors q past;
         };
-        there = m.same r.steps (omega arith) ∙ r.run.1;
+        there = there;
         calm = λ idle. record {
           quiet = last.quiet;
-          long = let z : length (run x s r.steps).memory ≡ length s.memory = last.holds.size in let long = c.long in omega arith;
-          small = let z : length (run x s r.steps).memory ≡ length s.memory = last.holds.size in let small = c.small in omega arith;
+          long = let z : length (run x s steps).memory ≡ length s.memory = last.holds.size in let long = c.long in omega arith;
+          small = let z : length (run x s steps).memory ≡ length s.memory = last.holds.size in let small = c.small in omega arith;
           stays = λ k lt own. last.holds.kept k (slice_index y.linked k) (kept_is y k lt own);
-          idle = ap (λ u. u.behind.pending) (m.same r.steps (omega arith) ∙ r.run.1) ∙ idle;
+          idle = ap (λ u. u.behind.pending) there ∙ idle;
           sectors = c.sectors;
         };
         size = last.holds.size;
       }
 
 pub blocks_run : MachineSimulates → ((n : ℕ) (is : List Inst) → BlockStands n is) → BlocksRun
-blocks_run simulates stands x y s t n is most at c r = makes simulates stands x y s n is at c t most r
+blocks_run simulates stands x y s t n is steps at c r = makes stands x y s n is at c simulates t steps r

@@ -1,1 +1,17 @@
 pub mod Blocks
+pub mod Shown
+pub mod Ways
+pub mod Arrivals
+pub mod Ranges
+pub mod Placed
+pub mod Ends
+pub mod Exits
+pub mod Leaving
+pub mod Linked
+pub mod Entering
+pub mod Interrupting
+pub mod Keeping
+pub mod Fitting
+pub mod Calling
+pub mod Primitives
+pub mod Laying

@@ -1,14 +1,16 @@
 -- The layer's words, as they stand in memory from word 0 on: the handler of interrupts, the layer's variables, the entries with the routines
 -- behind them, and the control blocks.
-use Rattle.std.specs.Prelude.{ℕ, ◌+◌, ◌-◌, ◌*◌, List, [], ◌∷◌, ◌++◌, length, map, take, replicate, slice_index_or}
+use Rattle.std.specs.Prelude.{◌≡◌, ℕ, ◌+◌, ◌-◌, ◌*◌, List, [], ◌∷◌, ◌++◌, length, map, take, replicate, slice_index_or, flat_map}
 use Rattle.std.specs.List.{range_with_len}
 use Rattle.mips_table.specs.declared.inst.Inst.{Inst}
 use Rattle.mips_table.specs.declared.inst.Inst.TheVariants.{J, Jr}
 use Rattle.mips_table.specs.Encoding.{encoding}
-use Rattle.layer_map.specs.Map.{Map, heap_at, stack_at}
+use Rattle.layer_map.specs.Map.{Map, MapInRange, heap_at, stack_at}
 use Rattle.page_model.specs.Places.{places_of}
 use Rattle.page_fault.specs.Code.{page_code}
 use Rattle.trap_entry.specs.Code.{handler_code, leave_code, exit_code}
+use Rattle.cvm_model.specs.Stands.{Site}
+use Rattle.layer_contract.specs.Layer.{site_with}
 use Rattle.register_primitives.specs.Code.{vm_get_code, vm_set_code, vm_size_code, con_put_code, con_get_code, con_left_code}
 use Rattle.cvm_primitives.specs.Code.{vm_word_code, vm_put_code, vm_copy_code, vm_resize_code}
 
@@ -36,8 +38,7 @@ routines m =
 
 -- lists of instructions one after the other
 abbrev pub joined : List (List Inst) → List Inst
-joined [] = []
-joined (is ∷ rest) = is ++ joined rest
+joined blocks = flat_map (λ is. is) blocks
 
 -- the code of routine k
 abbrev pub routine : Map → ℕ → List Inst
@@ -75,8 +76,22 @@ abbrev pub blocks : List ℕ → List ℕ
 blocks [] = []
 blocks (pages ∷ sizes) = block_words pages ++ blocks sizes
 
+-- the entries, and the routines behind them
+abbrev pub second_code : Map → List Inst
+second_code m = entries m ++ joined (routines m)
+
 -- THE IMAGE of a layer made for a map, and for users of these sizes in pages: code up to word 1024, variables up to 2048, entries and
 -- routines up to 12288, control blocks up to 16384
 abbrev pub layer_image : Map → List ℕ → List ℕ
 layer_image m sizes =
-    filled 1024 (map encoding (interrupt_code m)) ++ (filled 1024 (variables m) ++ (filled 10240 (map encoding (entries m ++ joined (routines m))) ++ filled 4096 (blocks sizes)))
+    filled 1024 (map encoding (interrupt_code m)) ++ (filled 1024 (variables m) ++ (filled 10240 (map encoding (second_code m)) ++ filled 4096 (blocks sizes)))
+
+-- the memory of a layer made for this map and these users, with a kernel's code behind it
+abbrev pub image_site : Map → (sizes code : List ℕ) → Site
+image_site m sizes code = site_with m (layer_image m sizes) code
+
+-- what is fixed of it: a map in range, a size for each user, and as much code as the map says
+pub record IsMade (m : Map) (sizes code : List ℕ) : Type 0 where
+  pub range : MapInRange m
+  pub users : length sizes ≡ m.users
+  pub whole : length code ≡ m.code_words

@@ -4,8 +4,9 @@ use Rattle.mips_table.specs.declared.inst.Inst.{Inst}
 use Rattle.mips_table.specs.Encoding.{InRange, encoding}
 use Rattle.mips_table.specs.Device.{Idle, Outside}
 use Rattle.mips_table.specs.Machine.{State, run}
-use Rattle.mips_table.specs.Code.{Program, on_machine, World, Configuration, Reaches}
+use Rattle.mips_table.specs.Code.{Program, on_machine, World, Configuration, Steps}
 use Rattle.mips_table.specs.Simulation.{configuration_of, Quiet}
+use Rattle.layer_map.specs.Map.{layer_words}
 use Rattle.masm.specs.Standing.{placed}
 use Rattle.cvm_model.specs.Stands.{Site, is_own}
 use Rattle.layer_contract.specs.declared.entry.Entry.{Entry}
@@ -46,10 +47,8 @@ pub record Stretch (x : Outside) (y : Site) (a b n : ℕ) (s : State) : Type 0 w
   pub to : (j : ℕ) → j < n → (run x s j).cpu.pc < 4 * b
   pub sectors : (j : ℕ) → j ≤ n → SectorsStay y.map s (run x s j)
 
--- the machine makes a run of the block: in so many steps at most it comes to t, and is as calm as before where no command is under way
-pub record Makes (x : Outside) (y : Site) (n : ℕ) (is : List Inst) (most : ℕ) (s : State) (t : Configuration) : Type 0 where
-  pub steps : ℕ
-  pub within : steps ≤ most
+-- the machine makes a run of the block: after so many steps it is at t, and as calm as before where no command is under way
+pub record Makes (x : Outside) (y : Site) (n : ℕ) (is : List Inst) (steps : ℕ) (s : State) (t : Configuration) : Type 0 where
   pub stretch : Stretch x y n (n + length is) steps s
   pub there : configuration_of (run x s steps) ≡ t
   pub calm : t.behind.pending ≡ Idle → Calm x y (run x s steps)
@@ -57,11 +56,12 @@ pub record Makes (x : Outside) (y : Site) (n : ℕ) (is : List Inst) (most : ℕ
 
 -- each run of a block is made so, whatever lines are raised
 abbrev pub BlocksRun : Type 0
-BlocksRun = (x : Outside) (y : Site) (s : State) (t : Configuration) (n : ℕ) (is : List Inst) (most : ℕ) → Standing y n is → Calm x y s →
-    Reaches (block_world x y s n is) most (configuration_of s) t → Makes x y n is most s t
+BlocksRun = (x : Outside) (y : Site) (s : State) (t : Configuration) (n : ℕ) (is : List Inst) (steps : ℕ) → Standing y n is → Calm x y s →
+    Steps (block_world x y s n is) steps (configuration_of s) t → Makes x y n is steps s t
 
--- for n steps the machine is inside, at no entry, and the sectors past the users' pages stay
+-- for n steps the machine is inside, at no entry and below the kernel's code, and the sectors past the users' pages stay
 pub record Between (x : Outside) (y : Site) (n : ℕ) (s : State) : Type 0 where
   pub inside : (j : ℕ) → j < n → Inside (run x s j)
+  pub below : (j : ℕ) → j < n → (run x s j).cpu.pc < 4 * layer_words
   pub apart : (j : ℕ) (e : Entry) → j < n → IsEntry e → (run x s j).cpu.pc ≢ entry_address e
   pub sectors : (j : ℕ) → j ≤ n → SectorsStay y.map s (run x s j)
