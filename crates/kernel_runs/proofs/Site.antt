@@ -13,12 +13,7 @@ use Rattle.page_model.specs.Places.{layout_of, places_of, view}
 use Rattle.c0_tree.specs.Primitives.{CPrimitive, kernel_primitives}
 use Rattle.c0_tree.specs.Tree.{CUnit}
 use Rattle.c0_meaning.specs.Env.{typed_of}
-use Rattle.c0_meaning.specs.Limits.{locals_of}
-use Rattle.c0_meaning.specs.RunLaws.{LocalsStartTyped}
 use Rattle.c0_meaning.specs.Sound.{shapes}
-use Rattle.c0_meaning.specs.TypedState as typed
-use Rattle.c0_meaning.specs.TypedState.{types_of, AllFit}
-use Rattle.c0_meaning.specs.Value.{zeros_of}
 use Rattle.c0_runtime.specs.Code as runtime
 use Rattle.c0_expr_code.specs.Scope.{scope_of}
 use Rattle.c0_stmt_code.specs.Code.{links_of, function_code}
@@ -48,7 +43,7 @@ unfolding HaveFew
 kernels_few = (omega arith, (omega arith, (omega arith, (omega arith, (omega arith, (omega arith, (omega arith, (omega arith, (omega arith, (omega arith, tt))))))))))
 
 module _ (x : Outside) (y : Site) (u : CUnit) (p : Places) (code : List Inst) (words : ℕ) (st : CodeStands u p y code) (b : Bounds y.map)
-    (big : memory_words y.map ≤ words) (small : words < 2 ^ 26) (start : LocalsStartTyped) (alikes : AlikesStand) (current : ℕ) where
+    (big : memory_words y.map ≤ words) (small : words < 2 ^ 26) (alikes : AlikesStand) (current : ℕ) where
   -- the code from behind its first instruction on
   abbrev pub world : World
   world = on_machine x (program (layer_words + 1) code words)
@@ -128,8 +123,6 @@ module _ (x : Outside) (y : Site) (u : CUnit) (p : Places) (code : List Inst) (w
         globals_at = st.globals;
         functions = λ n f is. stands_at x words code ((links_of p).function n) (function_code (scope_of u f p) (links_of p) f) (st.functions n f is);
         new_object = stands_at x words code (links_of p).new_object runtime.new_code st.new_object;
-        zeros_fit = λ objects n f locals stmts answer is e. subst (λ ds. AllFit (shapes u) (typed.layout_of u objects) (types_of (map typed_of ds)) (zeros_of (shapes u) (map typed_of ds))) (ap locals_of e)
-            (start kernel_primitives u st.checked.well_formed n f is (typed.layout_of u objects));
         outer_stays = stays;
         few_arguments = few_of kernel_primitives kernels_few;
         elsewhere = λ n k e q. let c = code_is (layer_words + 1) code k _ e in let le = c.0 in let lt = st.below n in absurd (omega (arith, le, lt, q));
