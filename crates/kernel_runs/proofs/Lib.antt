@@ -6,3 +6,4 @@ pub mod Standing
 pub mod Instructions
 pub mod Site
 pub mod Reached
+pub mod Words
