@@ -7,3 +7,4 @@ pub mod Instructions
 pub mod Site
 pub mod Reached
 pub mod Words
+pub mod Passing

@@ -7,7 +7,7 @@ use Rattle.mips_table.specs.Encoding.{encoding}
 use Rattle.mips_table.specs.Device.{Outside}
 use Rattle.mips_table.specs.Code.{Contents, Behind, World, Configuration as Machine, on_machine}
 use Rattle.masm.specs.declared.registers.Places.{Places}
-use Rattle.layer_map.specs.Map.{layer_words, hand_at, current_at, block_at, globals_at, heap_at, stack_at, tables_at, memory_words}
+use Rattle.layer_map.specs.Map.{Map, layer_words, hand_at, current_at, block_at, globals_at, heap_at, stack_at, tables_at, memory_words}
 use Rattle.page_model.specs.Laws.{AlikesStand}
 use Rattle.page_model.specs.Places.{layout_of, places_of, view}
 use Rattle.c0_tree.specs.Primitives.{CPrimitive, kernel_primitives}
@@ -42,6 +42,10 @@ kernels_few : HaveFew kernel_primitives
 unfolding HaveFew
 kernels_few = (omega arith, (omega arith, (omega arith, (omega arith, (omega arith, (omega arith, (omega arith, (omega arith, (omega arith, (omega arith, tt))))))))))
 
+-- where the unit's data stand on a map, and the word behind the entry's call
+abbrev pub regions_on : Map → Data
+regions_on m = record { globals = globals_at m; heap = heap_at m; stack = stack_at m; back = layer_words + 7 }
+
 module _ (x : Outside) (y : Site) (u : CUnit) (p : Places) (code : List Inst) (words : ℕ) (st : CodeStands u p y code) (b : Bounds y.map)
     (big : memory_words y.map ≤ words) (small : words < 2 ^ 26) (alikes : AlikesStand) (current : ℕ) where
   -- the code from behind its first instruction on
@@ -49,7 +53,7 @@ module _ (x : Outside) (y : Site) (u : CUnit) (p : Places) (code : List Inst) (w
   world = on_machine x (program (layer_words + 1) code words)
 
   abbrev pub regions : Data
-  regions = record { globals = globals_at y.map; heap = heap_at y.map; stack = stack_at y.map; back = layer_words + 7 }
+  regions = regions_on y.map
 
   -- words that aren't the unit's: below its globals, and from the page tables on
   not_low : (k : ℕ) → k < globals_at y.map → k ≢ 1026 → IsOurs regions y.map.params.stack k → ⊥
