@@ -8,3 +8,4 @@ pub mod Site
 pub mod Reached
 pub mod Words
 pub mod Passing
+pub mod Runs

@@ -28,18 +28,16 @@ use Rattle.kernel_runs.proofs.Bounds.{Bounds}
 use Rattle.kernel_runs.proofs.Instructions.{code_is, no_code, no_low_code, stands_at, sound}
 
 -- each row of a table has few arguments
-HaveFew : List CPrimitive → Type 0
+abbrev pub HaveFew : List CPrimitive → Type 0
 HaveFew [] = Unit {0}
 HaveFew (r ∷ rows) = (length r.args ≤ 8) × HaveFew rows
 
-few_of : (rows : List CPrimitive) → HaveFew rows → (n : ℕ) (row : CPrimitive) → slice_get rows n ≡ Some row → length row.args ≤ 8
-unfolding HaveFew
+pub few_of : (rows : List CPrimitive) → HaveFew rows → (n : ℕ) (row : CPrimitive) → slice_get rows n ≡ Some row → length row.args ≤ 8
 few_of [] h n row e = cc
 few_of (r ∷ rows) h zero row e = let q : r ≡ row = cc in subst (λ y. length y.args ≤ 8) q h.0
 few_of (r ∷ rows) h (suc n) row e = few_of rows h.1 n row e
 
-kernels_few : HaveFew kernel_primitives
-unfolding HaveFew
+pub kernels_few : HaveFew kernel_primitives
 kernels_few = (omega arith, (omega arith, (omega arith, (omega arith, (omega arith, (omega arith, (omega arith, (omega arith, (omega arith, (omega arith, tt))))))))))
 
 -- where the unit's data stand on a map, and the word behind the entry's call
@@ -69,7 +67,7 @@ module _ (x : Outside) (y : Site) (u : CUnit) (p : Places) (code : List Inst) (w
       let drops = length-drop layer_words y.linked in let is = ap length st.linked in let maps : length (map encoding code) ≡ length code = length-map code encoding in let long = st.long in
       omega (arith, drops, is, maps, long)
 
-  stays : (v : Machines) (c c' : Contents) (d : Behind) → ((k : ℕ) → (IsOurs regions y.map.params.stack k → ⊥) → c'.memory k ≡ c.memory k) → c'.special ≡ c.special → Outer y current v c d → Outer y current v c' d
+  pub stays : (v : Machines) (c c' : Contents) (d : Behind) → ((k : ℕ) → (IsOurs regions y.map.params.stack k → ⊥) → c'.memory k ≡ c.memory k) → c'.special ≡ c.special → Outer y current v c d → Outer y current v c' d
   stays v c c' d same special o =
       let code_room = b.code in let globals = b.globals in let heap = b.heap in let stack = b.stack in let tables = b.tables in let frame_table = b.frame_table in let zeros = b.zeros in
       let users : length v.users ≡ y.map.users = o.count in
@@ -103,7 +101,7 @@ module _ (x : Outside) (y : Site) (u : CUnit) (p : Places) (code : List Inst) (w
         input = o.input;
       }
 
-  pub setup : Setup Machines Changes (Outer y current) (λ s t. ⊥)
+  abbrev pub setup : Setup Machines Changes (Outer y current) (λ s t. ⊥)
   setup =
       let code_words = st.code_words in let global_words = st.global_words in
       let code_room = b.code in let globals = b.globals in let heap = b.heap in let stack = b.stack in let tables = b.tables in let frame_table = b.frame_table in let memory = b.memory in
