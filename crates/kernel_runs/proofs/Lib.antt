@@ -9,3 +9,4 @@ pub mod Reached
 pub mod Words
 pub mod Passing
 pub mod Runs
+pub mod Ends

@@ -41,7 +41,7 @@ MOST_UNITS = 4194305
 -- what is needed of the costs of a step, for a bound from below
 abbrev pub Fine : {W E : Type 0} → Configuration W E → Step W E → Type 0
 Fine h (Go cost work h') = (1 ≤ cost.own) × ((cost.primitive ≡ 0) ⊎ (length h'.calls ≡ suc (length h.calls)))
-Fine h (Stop cost f h') = total cost ≤ 8388608
+Fine h (Stop cost f h') = (1 ≤ cost.own) × (total cost ≤ 8388608)
 
 -- no primitive takes more units, over users of few pages
 abbrev pub FewUnits : Type 0
@@ -84,9 +84,9 @@ module _ (simulates : MachineSimulates) (joins : RunsJoin) (fitting : StaysFitti
 
   -- what a run comes to on the machine
   abbrev pub RunTo : (base limit : ℕ) → Outcome Machines Changes → Type 0
-  RunTo base limit (Done cost h) = (k : ℕ) × (s : Machine) × Here k s × Ended Machines Changes (Outer y current) (λ s t. ⊥) z h s × (debt : ℕ) × Progress base k debt cost
+  RunTo base limit (Done cost h) = (k : ℕ) × (s : Machine) × Here k s × Ended Machines Changes (Outer y current) (λ s t. ⊥) z h s × (debt : ℕ) × Progress base k debt cost × (1 ≤ cost.own)
   RunTo base limit (Failed cost (faulted f) h) = (k : ℕ) × (s : Machine) × Here k s × AtExit Machines Changes (Outer y current) (λ s t. ⊥) z f h s
-      × (own : ℕ) × (own ≤ 60 * cost.own) × (k ≤ base + own + run_steps y.map longest cost.primitive cost.pages)
+      × (own : ℕ) × (own ≤ 60 * cost.own) × (k ≤ base + own + run_steps y.map longest cost.primitive cost.pages) × (1 ≤ cost.own)
   RunTo base limit (Failed cost stuck h) = ⊥
   RunTo base limit (NotYet cost h) = (k : ℕ) × (s : Machine) × Here k s × (limit < 8388608 * (k + 1))
 
@@ -168,14 +168,23 @@ module _ (simulates : MachineSimulates) (joins : RunsJoin) (fitting : StaysFitti
     stepped k debt used cost h h' work s here pr (inl r) f = gone k debt used cost h h' work s here pr r f
     stepped k debt used cost h h' work s here pr (inr r) f = called k debt used cost h h' work s here pr r f
 
-    pub whole : (fuel limit : ℕ) (used : Cost) (work : List Work) (h : H) (s : Machine) (k debt : ℕ) → Here k s → Progress base k debt used → limit < fuel + total used → total used ≤ limit → Sim debt work h s → RunTo base limit (run z.p fuel limit used work h)
-    whole zero limit used work h s k debt here pr enough within sim = absurd (omega (arith, enough, within))
-    whole (suc fuel) limit used [] h s k debt here pr enough within sim = (k, s, here, sim, debt, pr)
-    whole (suc fuel) limit used (item ∷ work) h s k debt here pr enough within sim =
-        by_step (act z.p item work h) (each z debt item work h s sim) (fine debt item work h s sim) (λ u w d t j left here pr enough within sim. whole fuel limit u w d t j left here pr enough within sim)
+    -- a unit was used, unless anything is left to do
+    abbrev Begun : Cost → List Work → Type 0
+    Begun used [] = 1 ≤ used.own
+    Begun used (item ∷ work) = Unit {0}
+
+    begun_by : (used : Cost) (work : List Work) → 1 ≤ used.own → Begun used work
+    begun_by used [] some = some
+    begun_by used (item ∷ work) some = tt
+
+    pub whole : (fuel limit : ℕ) (used : Cost) (work : List Work) (h : H) (s : Machine) (k debt : ℕ) → Here k s → Progress base k debt used → limit < fuel + total used → total used ≤ limit → Begun used work → Sim debt work h s → RunTo base limit (run z.p fuel limit used work h)
+    whole zero limit used work h s k debt here pr enough within begun sim = absurd (omega (arith, enough, within))
+    whole (suc fuel) limit used [] h s k debt here pr enough within begun sim = (k, s, here, sim, debt, pr, begun)
+    whole (suc fuel) limit used (item ∷ work) h s k debt here pr enough within begun sim =
+        by_step (act z.p item work h) (each z debt item work h s sim) (fine debt item work h s sim) (λ u w d t j left here pr enough within some sim. whole fuel limit u w d t j left here pr enough within (begun_by u w some) sim)
       where
         by_step : (t : Step Machines Changes) → StepIs Machines Changes (Outer y current) (λ s t. ⊥) z debt h s t → Fine h t
-            → ((u : Cost) (w : List Work) (d : H) (t : Machine) (j left : ℕ) → Here j t → Progress base j left u → limit < fuel + total u → total u ≤ limit → Sim left w d t → RunTo base limit (run z.p fuel limit u w d))
+            → ((u : Cost) (w : List Work) (d : H) (t : Machine) (j left : ℕ) → Here j t → Progress base j left u → limit < fuel + total u → total u ≤ limit → 1 ≤ u.own → Sim left w d t → RunTo base limit (run z.p fuel limit u w d))
             → RunTo base limit (then_run t limit used h (run z.p fuel limit))
         by_step (Go cost w d) r f rest = by_test (nat_lt limit (total (plus used cost))) refl
           where
@@ -190,7 +199,7 @@ module _ (simulates : MachineSimulates) (joins : RunsJoin) (fitting : StaysFitti
             by_test false e =
                 let a = ltb-false limit (total (plus used cost)) e in
                 let some = f.0 in
-                rest (plus used cost) w d next.end next.at next.left next.here next.progress (omega (arith, enough, some)) a next.sim
+                rest (plus used cost) w d next.end next.at next.left next.here next.progress (omega (arith, enough, some)) a (omega (arith, some)) next.sim
         by_step (Stop cost (faulted x) d) r f rest = by_test (nat_lt limit (total (plus used cost))) refl
           where
             by_passes : (passes : ℕ) → Journey z.w (λ s t. ⊥) r.1.own passes s r.0 → Here (k + r.1.own) r.0
@@ -201,8 +210,9 @@ module _ (simulates : MachineSimulates) (joins : RunsJoin) (fitting : StaysFitti
             by_test true e =
                 let a = ltb-true limit (total (plus used cost)) e in
                 let l = pr.low in let c = pr.calls_low in let o = pr.own_steps in
-                (k, s, here, omega (arith, a, l, c, o, f))
+                let most = f.1 in
+                (k, s, here, omega (arith, a, l, c, o, most))
             by_test false e =
                 let ph = pr.high in let ps = pr.spent in let sh = r.1.high in
-                (k + r.1.own, r.0, by_passes r.1.passes r.1.run, r.2, pr.own + r.1.own, omega (arith, ph, sh), omega (arith, ps, steps_sum y.map longest used.primitive cost.primitive used.pages cost.pages))
+                (k + r.1.own, r.0, by_passes r.1.passes r.1.run, r.2, pr.own + r.1.own, omega (arith, ph, sh), omega (arith, ps, steps_sum y.map longest used.primitive cost.primitive used.pages cost.pages), (let some = f.0 in omega (arith, some)))
         by_step (Stop cost stuck d) r f rest = absurd r
