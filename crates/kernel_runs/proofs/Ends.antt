@@ -55,6 +55,9 @@ use Rattle.kernel_runs.proofs.Runs.{RunTo}
 pub way_upto : (x : Outside) (y : Site) (D : Entry → Type 0) (s : State) (k j : ℕ) → j ≤ k → Way x y D k s → Way x y D j s
 way_upto x y D s k j le w = record { inside = λ i lt. w.inside i (omega (arith, lt, le)); between = λ i e pos lt d. w.between i e pos (omega (arith, lt, le)) d; sectors = λ i less. w.sectors i (omega (arith, less, le)) }
 
+abbrev pub with_most : ℕ → Machines → Machines
+with_most m v = record { most = m; users = v.users; console = v.console }
+
 module _ (simulates : MachineSimulates) (joins : RunsJoin) (fitting : StaysFitting) (alikes : AlikesStand) (rows : RowsAreCalled)
     (x : Outside) (y : Site) (u : CUnit) (p : Places) (code : List Inst) (words longest : ℕ) (c : Core) (st : CodeStands u p y code) (g : Ground x y words longest) (user_ok : c.current ≤ y.map.users)
     (small : words < 2 ^ 26) (sound : Sound (on_machine x (program (layer_words + 1) code words))) (s0 : State)
@@ -91,10 +94,7 @@ module _ (simulates : MachineSimulates) (joins : RunsJoin) (fitting : StaysFitti
       outer = sd.outer
 
       same : ◌≡◌ {A = Machines} (record { most = y.map.params.pages; users = h.world.users; console = h.world.console }) h.world
-      same = ap (λ m. made m h.world) (sym outer.most)
-        where
-          abbrev made : ℕ → Machines → Machines
-          made m v = record { most = m; users = v.users; console = v.console }
+      same = ap (λ m. with_most m h.world) (sym outer.most)
 
       memory_is : (seen (run x s0 k)).memory ≡ s.contents.memory
       memory_is = ap (λ q. q.contents.memory) here.same
