@@ -10,3 +10,4 @@ pub mod Words
 pub mod Passing
 pub mod Runs
 pub mod Ends
+pub mod Begins

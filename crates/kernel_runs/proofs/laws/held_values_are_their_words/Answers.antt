@@ -2,6 +2,7 @@
 use Rattle.kernel_runs.proofs.HeldState.{held_is_flat}
 use Rattle.kernel_runs.proofs.Seen.{block_again}
 use Rattle.kernel_runs.proofs.Bounds.{bounds_of}
+use Rattle.kernel_runs.proofs.Begins.{begun}
 use Rattle.kernel_runs.proofs.Ends.{ends}
 use Rattle.kernel_runs.proofs.Runs.{RunTo}
 use Rattle.kernel_runs.proofs.Passing.{passes}
