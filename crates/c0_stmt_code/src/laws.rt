@@ -21,14 +21,17 @@ pub trait Outside {
 
     ghost Entry: { Type 0 };
 
-    ghost outer: { Standing → Contents → Behind → Type 0 };
+    /// What is fixed for a run.
+    ghost Fixed: { Type 0 };
+
+    ghost outer: { Fixed → Standing → Contents → Behind → Type 0 };
 
     ghost passes: { Configuration → Configuration → Type 0 };
 }
 
 /// A step of C0's meaning is a run of the code.
 pub fn steps_run<M: Outside>()
-    ensures { StepsRun M.Standing M.Entry M.outer M.passes }
+    ensures { (fixed : M.Fixed) → StepsRun M.Standing M.Entry (M.outer fixed) M.passes }
 {
     expressions_run();
     tests_run();
