@@ -33,3 +33,4 @@ pub mod Steps
 pub mod Stores
 pub mod Variables
 pub mod Ways
+pub mod StepCosts

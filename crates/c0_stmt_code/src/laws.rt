@@ -1,7 +1,7 @@
 //! The laws of the code of statements: each function says one, and does nothing.
 
 ghost use Rattle.c0_stmt_code.specs.Rows.{AreCodes};
-ghost use Rattle.c0_stmt_code.specs.Standing.{StepsRun};
+ghost use Rattle.c0_stmt_code.specs.Standing.{StepsCostSome, StepsRun};
 ghost use Rattle.mips_table.specs.Code.{Contents, Behind, Configuration};
 
 use c0_asm_body::laws::asm_bodies_run;
@@ -51,6 +51,11 @@ pub fn steps_run<M: Outside>()
     zeros_fit_their_types();
     objects_are_made();
 }
+
+/// Each step costs some units, and one that faults few.
+pub fn steps_cost_some<M: Outside>()
+    ensures { (fixed : M.Fixed) → StepsCostSome M.Standing M.Entry (M.outer fixed) M.passes }
+{}
 
 /// The code of two small functions, instruction by instruction.
 pub fn worked_rows()
