@@ -11,3 +11,5 @@ pub mod Passing
 pub mod Runs
 pub mod Ends
 pub mod Begins
+pub mod FewUnits
+pub mod KernelRun

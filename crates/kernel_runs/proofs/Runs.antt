@@ -22,7 +22,7 @@ use Rattle.mips_table.specs.Flat.{Flat}
 use Rattle.c0_stmt_code.specs.Code.{links_of}
 use Rattle.c0_stmt_code.specs.Setup.{Setup, Called}
 use Rattle.c0_stmt_code.specs.Journey.{Journey, Led, Stopped}
-use Rattle.c0_stmt_code.specs.Standing.{Simulated, Ended, AtExit, IsGone, IsCalling, StepIs, StepsRun}
+use Rattle.c0_stmt_code.specs.Standing.{CostsSome, Simulated, Ended, AtExit, IsGone, IsCalling, StepIs, StepsRun}
 use Rattle.cvm_model.specs.Kernel.{Console, Changes}
 use Rattle.cvm_model.specs.KernelMeaning.{Machines, kernel_primitive}
 use Rattle.cvm_model.specs.Cvm.{page_steps, run_steps}
@@ -37,11 +37,6 @@ use Rattle.kernel_runs.proofs.Passing.{Ground, Passed, passes}
 -- more units than a primitive takes
 abbrev pub MOST_UNITS : ℕ
 MOST_UNITS = 4194305
-
--- what is needed of the costs of a step, for a bound from below
-abbrev pub Fine : {W E : Type 0} → Configuration W E → Step W E → Type 0
-Fine h (Go cost work h') = (1 ≤ cost.own) × ((cost.primitive ≡ 0) ⊎ (length h'.calls ≡ suc (length h.calls)))
-Fine h (Stop cost f h') = (1 ≤ cost.own) × (total cost ≤ 8388608)
 
 -- no primitive takes more units, over users of few pages
 abbrev pub FewUnits : Type 0
@@ -98,7 +93,7 @@ module _ (simulates : MachineSimulates) (joins : RunsJoin) (fitting : StaysFitti
       subst (λ w. Passed simulates joins fitting alikes rows x y u p code words longest current st g user_ok sound s0 k s to n row vs w) same
       (passes simulates joins fitting alikes rows x y u p code words longest current st g user_ok sound s0 k s to n row vs v.users v.console here is called (subst (λ w. Outer y current w s.contents s.behind) (sym same) outer) room)
 
-  module _ (fine : (debt : ℕ) (item : Work) (work : List Work) (h : H) (s : Machine) → Sim debt (item ∷ work) h s → Fine h (act z.p item work h)) (few : FewUnits) (base : ℕ) where
+  module _ (fine : (debt : ℕ) (item : Work) (work : List Work) (h : H) (s : Machine) → Sim debt (item ∷ work) h s → CostsSome h (act z.p item work h)) (few : FewUnits) (base : ℕ) where
     -- where a step has led, with what it cost
     record Stepped (k : ℕ) (used cost : Cost) (work : List Work) (h' : H) : Type 0 where
       at : ℕ
@@ -110,7 +105,7 @@ module _ (simulates : MachineSimulates) (joins : RunsJoin) (fitting : StaysFitti
 
     -- after own steps
     gone : (k debt : ℕ) (used cost : Cost) (h h' : H) (work : List Work) (s : Machine) → Here k s → Progress base k debt used → IsGone Machines Changes (Outer y current) (λ s t. ⊥) z debt h s cost work h'
-        → Fine h (Go cost work h') → Stepped k used cost work h'
+        → CostsSome h (Go cost work h') → Stepped k used cost work h'
     gone k debt used cost h h' work s here pr r f = by_passes r.2.passes r.2.run r.2.ended_so
       where
         by_passes : (passes : ℕ) → Journey z.w (λ s t. ⊥) r.2.own passes s r.0 → ended h' ≡ ended h + passes → Stepped k used cost work h'
@@ -137,7 +132,7 @@ module _ (simulates : MachineSimulates) (joins : RunsJoin) (fitting : StaysFitti
 
     -- after a primitive
     called : (k debt : ℕ) (used cost : Cost) (h h' : H) (work : List Work) (s : Machine) → Here k s → Progress base k debt used → IsCalling Machines Changes (Outer y current) (λ s t. ⊥) z debt h s cost work h'
-        → Fine h (Go cost work h') → Stepped k used cost work h'
+        → CostsSome h (Go cost work h') → Stepped k used cost work h'
     called k debt used cost h h' work s here pr c f =
         let entry = goes_on simulates joins x y code words sound s0 k c.own s c.entry here c.run in
         let pd = passed (k + c.own) c.entry c.to c.number c.row c.args h.world entry c.is c.called c.outer c.room in
@@ -164,7 +159,7 @@ module _ (simulates : MachineSimulates) (joins : RunsJoin) (fitting : StaysFitti
         }
 
     stepped : (k debt : ℕ) (used cost : Cost) (h h' : H) (work : List Work) (s : Machine) → Here k s → Progress base k debt used
-        → IsGone Machines Changes (Outer y current) (λ s t. ⊥) z debt h s cost work h' ⊎ IsCalling Machines Changes (Outer y current) (λ s t. ⊥) z debt h s cost work h' → Fine h (Go cost work h') → Stepped k used cost work h'
+        → IsGone Machines Changes (Outer y current) (λ s t. ⊥) z debt h s cost work h' ⊎ IsCalling Machines Changes (Outer y current) (λ s t. ⊥) z debt h s cost work h' → CostsSome h (Go cost work h') → Stepped k used cost work h'
     stepped k debt used cost h h' work s here pr (inl r) f = gone k debt used cost h h' work s here pr r f
     stepped k debt used cost h h' work s here pr (inr r) f = called k debt used cost h h' work s here pr r f
 
@@ -183,7 +178,7 @@ module _ (simulates : MachineSimulates) (joins : RunsJoin) (fitting : StaysFitti
     whole (suc fuel) limit used (item ∷ work) h s k debt here pr enough within begun sim =
         by_step (act z.p item work h) (each z debt item work h s sim) (fine debt item work h s sim) (λ u w d t j left here pr enough within some sim. whole fuel limit u w d t j left here pr enough within (begun_by u w some) sim)
       where
-        by_step : (t : Step Machines Changes) → StepIs Machines Changes (Outer y current) (λ s t. ⊥) z debt h s t → Fine h t
+        by_step : (t : Step Machines Changes) → StepIs Machines Changes (Outer y current) (λ s t. ⊥) z debt h s t → CostsSome h t
             → ((u : Cost) (w : List Work) (d : H) (t : Machine) (j left : ℕ) → Here j t → Progress base j left u → limit < fuel + total u → total u ≤ limit → 1 ≤ u.own → Sim left w d t → RunTo base limit (run z.p fuel limit u w d))
             → RunTo base limit (then_run t limit used h (run z.p fuel limit))
         by_step (Go cost w d) r f rest = by_test (nat_lt limit (total (plus used cost))) refl
