@@ -39,7 +39,7 @@ use Rattle.kernel_runs.proofs.Reached.{RunsJoin}
 use Rattle.kernel_runs.proofs.Passing.{Ground}
 use Rattle.kernel_runs.proofs.Runs.{RunTo, Progress, whole}
 use Rattle.kernel_runs.proofs.Ends.{ends}
-use Rattle.kernel_runs.proofs.Begins.{signed_fits, code_at, started, args, Begun, begun}
+use Rattle.kernel_runs.proofs.Begins.{signed_fits, code_at, Begun, begun}
 use Rattle.kernel_runs.proofs.FewUnits.{few_units}
 
 -- in a unit with a function a struct's words are those of its fields
