@@ -1,32 +1,32 @@
 -- Where a dispatch begins: the entry's code leads to the function, with its arguments and its data as the meaning has them.
-use Rattle.std.specs.Prelude.{slice_index, slice_get, Some, None, All, ℤ, FitsSigned, IsTrue, unwrap_or, take, ◌&&◌, nat_lt}
+use Rattle.std.specs.Prelude.{slice_index, slice_get, Some, ℤ, FitsSigned, unwrap_or, take, nat_lt}
 use Rattle.std.specs.Int.{w32, cast_unsigned}
 use Rattle.std.proofs.lemmas.Int.{of_z-to_z}
 use Rattle.std.proofs.lemmas.Bool.{and_parts, ltb-false}
 use Rattle.std.proofs.lemmas.List.{get_or-take}
-use Rattle.std.proofs.Common.{◌≡◌, ◌≢◌, ◌⊎◌, inl, inr, ℕ, zero, suc, ◌+◌, ◌-◌, ◌*◌, ◌/◌, ◌%◌, ◌^◌, ◌<◌, ◌≤◌, Bool, true, false, List, [], ◌∷◌, ◌++◌, length, map, refl, sym, ap, ◌∙◌, subst, arith, ltb-true}
+use Rattle.std.proofs.Common.{◌≡◌, ℕ, ◌+◌, ◌*◌, ◌/◌, ◌^◌, ◌<◌, ◌≤◌, Bool, true, false, List, [], ◌∷◌, length, map, refl, sym, ap, ◌∙◌, subst, arith, ltb-true}
 use Rattle.mips_table.specs.declared.inst.Inst.{Inst}
 use Rattle.mips_table.specs.declared.inst.Inst.TheVariants.{Lui}
 use Rattle.mips_table.specs.Arith.{signed}
-use Rattle.mips_table.specs.Device.{Outside, sector_of}
+use Rattle.mips_table.specs.Device.{Outside}
 use Rattle.mips_table.specs.Fits.{NamesSector, StaysFitting}
-use Rattle.mips_table.specs.Code.{World, Contents, Behind, Configuration as Machine, at_with, on_machine, Sound, Steps, CodeAt}
+use Rattle.mips_table.specs.Code.{World, Contents, Configuration as Machine, at_with, on_machine, Sound, Steps, CodeAt}
 use Rattle.mips_table.specs.Machine.{State, run}
-use Rattle.mips_table.specs.Simulation.{configuration_of, Quiet, Holds, Serves, Simulates, MachineSimulates}
+use Rattle.mips_table.specs.Simulation.{configuration_of, Quiet, Holds, Serves, MachineSimulates}
 use Rattle.masm.specs.declared.registers.Places.{Places}
-use Rattle.layer_map.specs.Map.{Map, layer_words, heap_used_at, globals_at, heap_at, stack_at, memory_words}
+use Rattle.layer_map.specs.Map.{layer_words, globals_at, heap_at, stack_at}
 use Rattle.page_model.specs.Laws.{AlikesStand}
-use Rattle.c0_tree.specs.Tree.{CDecl, CFunction, CUnit}
+use Rattle.c0_tree.specs.Tree.{CDecl, CUnit}
 use Rattle.c0_meaning.specs.Ty.{Ty, ty_of, same_ty, TypesEqualAsWritten}
 use Rattle.c0_meaning.specs.Ty as ty
 use Rattle.c0_meaning.specs.Env.{Shape, typed_of}
-use Rattle.c0_meaning.specs.Limits.{are_three_ints, is_dispatch}
+use Rattle.c0_meaning.specs.Limits.{are_three_ints}
 use Rattle.c0_meaning.specs.Sound.{shapes}
 use Rattle.c0_meaning.specs.RunLaws.{HasDispatch}
 use Rattle.c0_meaning.specs.State.{Frame, State as C0}
 use Rattle.c0_meaning.specs.Value.{Values, int, empty, part}
 use Rattle.c0_meaning.specs.World.{Configuration, beginning}
-use Rattle.c0_meaning.specs.Running.{Work, begin}
+use Rattle.c0_meaning.specs.Running.{begin}
 use Rattle.c0_meaning.specs.TypedState.{Layout, types_of, AllFit, layout_of, IsTypedWith, IsTypedState}
 use Rattle.c0_runtime.specs.Code.{entry_code, behind_first}
 use Rattle.c0_runtime.specs.Laws.{IsEntered, StackIs, EntryRuns, with_half}
@@ -36,8 +36,7 @@ use Rattle.c0_stmt_code.specs.Code.{links_of}
 use Rattle.c0_stmt_code.specs.Setup.{Setup}
 use Rattle.c0_stmt_code.specs.Standing as code_run
 use Rattle.c0_stmt_code.specs.Standing.{bases, Simulated, StepsRun}
-use Rattle.layer_contract.specs.Layer.{Linked, DispatchCalled, Way}
-use Rattle.layer_contract.specs.Follows.{IsKernelDoor}
+use Rattle.layer_contract.specs.Layer.{Linked, DispatchCalled}
 use Rattle.cvm_model.specs.Kernel.{Core, Changes, flat}
 use Rattle.cvm_model.specs.KernelMeaning.{Machines, machines_of}
 use Rattle.cvm_model.specs.Cvm.{Running}

@@ -1,47 +1,46 @@
 -- Where a run has come to an end the machine stands for what the dispatch means.
-use Rattle.std.specs.Prelude.{slice_index, slice_get, Some, None, All, ℤ, pos}
+use Rattle.std.specs.Prelude.{Some, ℤ}
 use Rattle.std.specs.Prelude.{FitsSigned}
 use Rattle.std.proofs.lemmas.Bool.{cases_lt}
 use Rattle.std.specs.Int.{w32}
 use Rattle.std.proofs.lemmas.Int.{to_z-of_z}
-use Rattle.std.proofs.Common.{◌≡◌, ◌≢◌, ◌⊎◌, inl, inr, ℕ, zero, suc, ◌+◌, ◌-◌, ◌*◌, ◌/◌, ◌%◌, ◌^◌, ◌<◌, ◌≤◌, Bool, true, false, Option, List, [], ◌∷◌, ◌++◌, length, map, refl, sym, ap, ◌∙◌, subst, arith}
+use Rattle.std.proofs.Common.{◌≡◌, ◌⊎◌, inl, inr, ℕ, ◌+◌, ◌*◌, ◌/◌, ◌^◌, ◌<◌, ◌≤◌, List, [], length, refl, sym, ap, ◌∙◌, subst, arith}
 use Rattle.mips_table.specs.declared.inst.Inst.{Inst}
 use Rattle.mips_table.specs.Arith.{signed}
-use Rattle.mips_table.specs.Device.{Outside, sector_of}
+use Rattle.mips_table.specs.Device.{Outside}
 use Rattle.mips_table.specs.Fits.{StaysFitting}
-use Rattle.mips_table.specs.Code.{World, Configuration as Machine, at_with, on_machine, Sound, CodeAt}
+use Rattle.mips_table.specs.Code.{Configuration as Machine, at_with, on_machine, Sound, CodeAt}
 use Rattle.mips_table.specs.Machine.{State, run}
-use Rattle.mips_table.specs.Simulation.{configuration_of, MachineSimulates}
+use Rattle.mips_table.specs.Simulation.{MachineSimulates}
 use Rattle.masm.specs.declared.registers.Places.{Places}
-use Rattle.layer_map.specs.Map.{Map, layer_words, globals_at, heap_at, memory_words}
+use Rattle.layer_map.specs.Map.{layer_words, globals_at, heap_at}
 use Rattle.page_model.specs.Laws.{AlikesStand}
 use Rattle.c0_tree.specs.Tree.{CUnit}
 use Rattle.c0_meaning.specs.Ty.{Ty}
-use Rattle.c0_meaning.specs.Env.{typed_of}
 use Rattle.c0_meaning.specs.Sound.{shapes}
 use Rattle.c0_meaning.specs.Operators.{faulted, stuck}
-use Rattle.c0_meaning.specs.RunLaws.{scalars, AnswersAnInt}
+use Rattle.c0_meaning.specs.RunLaws.{AnswersAnInt}
 use Rattle.c0_meaning.specs.Value.{Value, int}
-use Rattle.c0_meaning.specs.World.{Cost, total, Configuration}
-use Rattle.c0_meaning.specs.TypedState.{types_of, IsTypedFrame, layout_of, IsTypedWith}
+use Rattle.c0_meaning.specs.World.{Cost, Configuration}
+use Rattle.c0_meaning.specs.TypedState.{IsTypedWith}
 use Rattle.c0_meaning.specs.Execution as c0_run
 use Rattle.c0_runtime.specs.Code.{behind_first}
 use Rattle.c0_runtime.specs.Laws.{EntryRuns}
 use Rattle.c0_expr_code.specs.Laws.{IsOpened}
-use Rattle.c0_expr_code.specs.Bases.{Bases, words_of_all, word}
+use Rattle.c0_expr_code.specs.Bases.{Bases, word}
 use Rattle.c0_stmt_code.specs.Code.{links_of}
 use Rattle.c0_stmt_code.specs.Setup.{Setup}
 use Rattle.c0_stmt_code.specs.Standing as code_run
 use Rattle.c0_stmt_code.specs.Standing.{bases, unit_scope, Ended, AtExit, StepsRun}
 use Rattle.layer_contract.specs.declared.entry.Entry.{Entry}
 use Rattle.layer_contract.specs.declared.entry.Entry.TheVariants.{Fault as Exit, Leave}
-use Rattle.layer_contract.specs.Layer.{entry_address, Inside, Way, Comes, IsAt}
+use Rattle.layer_contract.specs.Layer.{entry_address, Inside, Way, IsAt}
 use Rattle.layer_contract.specs.Follows.{IsKernelDoor, EndsAs}
-use Rattle.cvm_model.specs.Kernel.{Core, Changes, End, Answers, Faults, power_of, flat}
-use Rattle.cvm_model.specs.KernelMeaning.{Machines, machines_of, fault_of, answer_end, core_at, outcome_of}
-use Rattle.cvm_model.specs.Cvm.{Running, page_steps, run_steps}
+use Rattle.cvm_model.specs.Kernel.{Core, Changes, Answers, power_of, flat}
+use Rattle.cvm_model.specs.KernelMeaning.{Machines, fault_of, answer_end, core_at, outcome_of}
+use Rattle.cvm_model.specs.Cvm.{Running}
 use Rattle.cvm_model.specs.TypedKernel.{RowsAreCalled}
-use Rattle.cvm_model.specs.Stands.{Site, CoreFits, Stands, address_of}
+use Rattle.cvm_model.specs.Stands.{Site, Stands, address_of}
 use Rattle.kernel_runs.specs.Held.{HoldsAt, IsHeldFlat, HeldIsFlat}
 use Rattle.kernel_runs.specs.Outer.{Outer}
 use Rattle.kernel_runs.specs.Placed.{program, dispatch_number, CodeStands}

@@ -1,16 +1,15 @@
 -- A kernel's code as the code of a machine: what stands where, that it is sound, and that the machine holds its words.
-use Rattle.std.specs.Prelude.{slice_get, slice_index, option_map, nat_lt, nat_le, ◌&&◌, ◌||◌, if◌then◌else◌, drop}
+use Rattle.std.specs.Prelude.{slice_get, slice_index, option_map, nat_lt, nat_le, ◌&&◌, ◌||◌, drop}
 use Rattle.std.specs.List.{All}
-use Rattle.std.proofs.Common.{◌≡◌, ℕ, zero, suc, ◌+◌, ◌-◌, ◌*◌, ◌^◌, ◌<◌, ◌≤◌, inl, inr, Bool, true, false, List, [], ◌∷◌, ◌++◌, length, map, Option, Some, None, refl, sym, ap, ap₂, ◌∙◌, subst, arith, append_assoc, length-append, lt-ltb}
+use Rattle.std.proofs.Common.{◌≡◌, ℕ, zero, suc, ◌+◌, ◌-◌, ◌^◌, ◌<◌, ◌≤◌, inl, inr, Bool, true, false, List, [], ◌∷◌, ◌++◌, length, map, Option, Some, None, refl, sym, ap, ap₂, ◌∙◌, subst, arith, append_assoc, length-append, lt-ltb}
 use Rattle.std.proofs.lemmas.Bool.{cases_lt, cond-true, cond-false, le-ltb}
-use Rattle.std.proofs.lemmas.List.{get_or-drop, length-map}
+use Rattle.std.proofs.lemmas.List.{get_or-drop}
 use Rattle.std.proofs.lemmas.List.Elements.{All-head, All-tail}
 use Rattle.std.proofs.lemmas.Option.{slice_get_past}
 use Rattle.mips_table.specs.declared.inst.Inst.{Inst}
 use Rattle.mips_table.specs.Encoding.{InRange, encoding}
 use Rattle.mips_table.specs.Device.{Outside}
-use Rattle.mips_table.specs.Code.{World, on_machine, Sound, CodeAt}
-use Rattle.mips_table.specs.Simulation.{Holds}
+use Rattle.mips_table.specs.Code.{on_machine, Sound, CodeAt}
 use Rattle.layer_map.specs.Map.{Map, layer_words, block_at}
 use Rattle.cvm_model.specs.Stands.{is_own}
 use Rattle.kernel_runs.specs.Placed.{code_from, program, StandsAt}

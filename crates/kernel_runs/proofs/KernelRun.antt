@@ -1,12 +1,12 @@
 -- The run of a dispatch from its entry on, put together.
-use Rattle.std.specs.Prelude.{slice_get, Some, FitsSigned, take}
+use Rattle.std.specs.Prelude.{slice_get, Some, FitsSigned}
 use Rattle.std.specs.Int.{w32}
-use Rattle.std.proofs.Common.{◌≡◌, ℕ, zero, suc, ◌+◌, ◌*◌, ◌^◌, ◌<◌, ◌≤◌, List, [], ◌∷◌, length, map, refl, sym, ap, subst, arith}
+use Rattle.std.proofs.Common.{◌≡◌, ℕ, suc, ◌+◌, ◌^◌, ◌<◌, ◌≤◌, [], ◌∷◌, length, map, refl, subst, arith}
 use Rattle.mips_table.specs.Fits.{StaysFitting}
 use Rattle.mips_table.specs.Code.{World, on_machine, Sound}
 use Rattle.mips_table.specs.Simulation.{MachineSimulates}
 use Rattle.masm.specs.declared.registers.Places.{Places}
-use Rattle.layer_map.specs.Map.{layer_words, globals_at, memory_words}
+use Rattle.layer_map.specs.Map.{layer_words}
 use Rattle.page_model.specs.Laws.{AlikesStand}
 use Rattle.c0_tree.specs.Primitives.{kernel_primitives}
 use Rattle.c0_tree.specs.Tree.{CFunction, CUnit}
@@ -24,22 +24,20 @@ use Rattle.c0_expr_code.specs.Scope.{scope_of}
 use Rattle.c0_expr_code.specs.Laws.{IsOpened, AreasHold}
 use Rattle.c0_expr_code.specs.Bases.{words_of_all}
 use Rattle.c0_stmt_code.specs.Standing.{StepsCostSome, StepsRun}
-use Rattle.layer_contract.specs.Layer.{Linked, PrimitivesAnswer}
-use Rattle.layer_contract.specs.Follows.{KernelRuns}
 use Rattle.cvm_model.specs.Kernel.{Changes}
 use Rattle.cvm_model.specs.KernelMeaning.{Machines, setting_of, machines_of}
 use Rattle.cvm_model.specs.TypedKernel.{RowsAreCalled, UnitsAnswerInts}
 use Rattle.kernel_runs.specs.Held.{HeldIsFlat}
 use Rattle.kernel_runs.specs.Outer.{Outer}
-use Rattle.kernel_runs.specs.Placed.{program, dispatch_number, CodeStands}
+use Rattle.kernel_runs.specs.Placed.{program, dispatch_number}
 use Rattle.kernel_runs.specs.Runs.{Fixed, UnitsRunOverLayers}
-use Rattle.kernel_runs.proofs.Bounds.{Bounds, bounds_of}
+use Rattle.kernel_runs.proofs.Bounds.{bounds_of}
 use Rattle.kernel_runs.proofs.Instructions.{sound}
 use Rattle.kernel_runs.proofs.Reached.{RunsJoin}
 use Rattle.kernel_runs.proofs.Passing.{Ground}
-use Rattle.kernel_runs.proofs.Runs.{RunTo, Progress, whole}
+use Rattle.kernel_runs.proofs.Runs.{whole}
 use Rattle.kernel_runs.proofs.Ends.{ends}
-use Rattle.kernel_runs.proofs.Begins.{signed_fits, code_at, Begun, begun}
+use Rattle.kernel_runs.proofs.Begins.{signed_fits, code_at, begun}
 use Rattle.kernel_runs.proofs.FewUnits.{few_units}
 
 -- in a unit with a function a struct's words are those of its fields

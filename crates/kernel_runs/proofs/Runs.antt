@@ -1,11 +1,11 @@
 -- A run of C0's meaning beside the machine's, step by step: own steps by the code's law, and primitives by the layer's.
 use Rattle.std.specs.Prelude.{slice_get, Some, All, nat_lt, if◌then◌else◌}
-use Rattle.std.proofs.Common.{◌≡◌, ◌≢◌, ◌⊎◌, inl, inr, ℕ, zero, suc, ◌+◌, ◌-◌, ◌*◌, ◌/◌, ◌^◌, ◌<◌, ◌≤◌, Bool, true, false, List, [], ◌∷◌, length, refl, sym, ap, ◌∙◌, subst, arith, ltb-true}
+use Rattle.std.proofs.Common.{◌≡◌, ◌⊎◌, inl, inr, ℕ, zero, suc, ◌+◌, ◌*◌, ◌^◌, ◌<◌, ◌≤◌, Bool, true, false, List, [], ◌∷◌, refl, sym, ap, subst, arith, ltb-true}
 use Rattle.std.proofs.lemmas.Bool.{ltb-false}
 use Rattle.mips_table.specs.declared.inst.Inst.{Inst}
 use Rattle.mips_table.specs.Device.{Outside}
 use Rattle.mips_table.specs.Fits.{StaysFitting}
-use Rattle.mips_table.specs.Code.{World, Configuration as Machine, on_machine, Sound, Steps}
+use Rattle.mips_table.specs.Code.{Configuration as Machine, on_machine, Sound}
 use Rattle.mips_table.specs.Machine.{State}
 use Rattle.mips_table.specs.Simulation.{MachineSimulates}
 use Rattle.masm.specs.declared.registers.Places.{Places}
@@ -21,7 +21,7 @@ use Rattle.c0_tree.specs.Primitives.{CPrimitive, kernel_primitives}
 use Rattle.mips_table.specs.Flat.{Flat}
 use Rattle.c0_stmt_code.specs.Code.{links_of}
 use Rattle.c0_stmt_code.specs.Setup.{Setup, Called}
-use Rattle.c0_stmt_code.specs.Journey.{Journey, Led, Stopped}
+use Rattle.c0_stmt_code.specs.Journey.{Journey}
 use Rattle.c0_stmt_code.specs.Standing.{CostsSome, Simulated, Ended, AtExit, IsGone, IsCalling, StepIs, StepsRun}
 use Rattle.cvm_model.specs.Kernel.{Console, Changes}
 use Rattle.cvm_model.specs.KernelMeaning.{Machines, kernel_primitive}
