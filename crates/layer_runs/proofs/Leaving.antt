@@ -80,15 +80,15 @@ few_pages u per few most =
     omega (arith, mul-le-mul_left per h)
 
 -- the special registers behind an eret
-left_other : (special : List ℕ) (k : ℕ) → k ≢ SR → k ≢ MODE → slice_index (left special) k ≡ slice_index special k
+pub left_other : (special : List ℕ) (k : ℕ) → k ≢ SR → k ≢ MODE → slice_index (left special) k ≡ slice_index special k
 left_other special k ns nm =
     get_or-set_other (slice_set special SR (slice_index special ESR)) MODE k (slice_index special EMODE) 0 nm ∙ get_or-set_other special SR k (slice_index special ESR) 0 ns
 
-left_sr : (special : List ℕ) → length special ≡ 9 → slice_index (left special) SR ≡ slice_index special ESR
+pub left_sr : (special : List ℕ) → length special ≡ 9 → slice_index (left special) SR ≡ slice_index special ESR
 left_sr special size =
     get_or-set_other (slice_set special SR (slice_index special ESR)) MODE SR (slice_index special EMODE) 0 (λ e. absurd (omega arith)) ∙ get_or-set_same special SR (slice_index special ESR) 0 (omega arith)
 
-left_mode : (special : List ℕ) → length special ≡ 9 → slice_index (left special) MODE ≡ slice_index special EMODE
+pub left_mode : (special : List ℕ) → length special ≡ 9 → slice_index (left special) MODE ≡ slice_index special EMODE
 left_mode special size = get_or-set_same (slice_set special SR (slice_index special ESR)) MODE (slice_index special EMODE) 0 (omega (arith, length-set special SR (slice_index special ESR)))
 
 -- a processor whose registers are those of a control block is the user's

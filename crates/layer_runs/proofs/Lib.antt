@@ -14,3 +14,4 @@ pub mod Keeping
 pub mod Fitting
 pub mod Calling
 pub mod Primitives
+pub mod Settling
