@@ -200,3 +200,201 @@ module _ (m : Map) (sizes code : List ℕ) (made : IsMade m sizes code) where
         (subst (λ (d : Device). Alike (layout_of m) (view (places_of m) (words_of s2) (behind s2).sectors) (view (places_of m) (slice_index t.memory) (behind_of d t.log t.input).sectors)) (sym l.device)
         (words_alike m (words_of s2) (slice_index t.memory) (behind s2).sectors o (λ j why less. sym (word_is t j (omega arith)) ∙ ap (λ f. f j) words)))
         e.brought
+
+  -- ONE FAULT: it is brought to its end for the same state
+  pub record FaultHandled (x : Outside) (longest : ℕ) (s : State) (c : Core) (q : ℕ) : Type 0 where
+    pub steps : ℕ
+    pub within : steps ≤ page_steps m longest - 1
+    pub way : Way x y IsEntry steps (step x s)
+    pub back : Back x y c (run x (step x s) steps)
+    pub brought : BroughtIn (layout_of m) q true (paged_of m s) (paged_of m (run x (step x s) steps))
+
+  module _ (z : Handlers) (x : Outside) (longest : ℕ) (busy : BusyWithin x longest) (s : State) (c : Core) (back : Back x y c s) (a : AsksPage x y s c) where
+    abbrev base : ℕ
+    base = (c.current - 1) * m.params.pages
+
+    state : Stands x y s Running c
+    state = back.stands
+
+    runs_it : Runs m s c
+    runs_it = state.users.runs back.user
+
+    order : Order m
+    order = order_of m made.range
+
+    -- the page
+    page_fits : a.edata / 4096 < m.params.pages
+    page_fits =
+        let page = a.page in let ptl = runs_it.ptl in
+        let f : UserFits m.params.pages (user_of c.users c.current) = user_fits m c c.current state.whole runs_it.user in
+        let most = f.pages in omega arith
+
+    page_inside : base + a.edata / 4096 < m.users * m.params.pages
+    page_inside =
+        let some : 1 ≤ c.current = runs_it.user.0 in let one : c.current ≤ length c.users = runs_it.user.1 in
+        let users : length c.users ≡ m.users = state.whole.users in
+        page_below m.params.pages (a.edata / 4096) (c.current - 1) m.users page_fits (omega arith)
+
+    page_live : (pages_by m.params.pages c.users).live (base + a.edata / 4096) ≡ true
+    page_live =
+        let part = page_part m.params.pages (a.edata / 4096) (c.current - 1) page_fits in
+        let some : 1 ≤ c.current = runs_it.user.0 in
+        let again : c.current - 1 + 1 ≡ c.current = omega arith in
+        let page = a.page in let ptl = runs_it.ptl in
+        ap₂ (λ p u. nat_lt p (pages_of (user_of c.users u))) part.1 (ap (λ n. n + 1) part.0 ∙ again) ∙ lt-ltb (a.edata / 4096) (pages_of (user_of c.users c.current)) (omega arith)
+
+    first : Began x s (step x s) (number_of a.why) a.edata s.cpu.pc
+    first = began z.takes z.interrupts x y s (latched x s) c a.why a.edata s.cpu.pc (is_on_none s (user_on s back.user)) (premises m sizes code made x s c back) a.comes
+
+    calm : Calm x y (step x s)
+    calm = begins_calm m sizes code made x s (step x s) c (number_of a.why) a.edata s.cpu.pc state first
+
+    abbrev t0 : State
+    t0 = step x s
+
+    abbrev w : World
+    w = block_world x y (step x s) 0 (handler m sizes code made)
+
+    sound_w : Sound w
+    sound_w = sound z.tools.below.stands x y (step x s) 0 (handler m sizes code made) (handler_placed m sizes code made) calm
+
+    long : memory_words m ≤ w.words
+    long = let all = state.memory in let size : length (step x s).memory ≡ length s.memory = ap length first.memory in omega arith
+
+    sited : Sited (places_of m) w
+    sited =
+        let globals = order.globals in let heap = order.heap in let stack = order.stack in let tables = order.tables in
+        z.sited m w made.range long (λ q from to. free_past m sizes code made q (omega (arith, linked_length m sizes code made)))
+
+    ported : Ported (places_of m) w longest
+    ported =
+        let globals = order.globals in let heap = order.heap in let stack = order.stack in let tables = order.tables in let counts = order.counts in let zeros = order.zeros in let most = order.most in
+        record {
+          disk = record { system = refl; free = λ q from to. free_past m sizes code made q (omega (arith, linked_length m sizes code made)); busy = busy };
+          hand = own_hand m sizes code made;
+          sectors = omega arith;
+        }
+
+    asked : FaultAsked (places_of m) (pages_by m.params.pages c.users) base a.edata (contents (step x s)) (behind (step x s))
+    asked =
+        let globals = order.globals in let heap = order.heap in let stack = order.stack in let tables = order.tables in let counts = order.counts in let zeros = order.zeros in
+        let all = state.memory in
+        let size : length (step x s).memory ≡ length s.memory = ap length first.memory in
+        let nine : length (step x s).special ≡ 9 = first.quiet.fits.special.size in
+        record {
+          table = ap (λ sp. slice_index sp PTO) first.special ∙ runs_it.pto;
+          edata = ap (λ sp. slice_index sp EDATA) first.special;
+          word = subst IsWord (ap (λ sp. slice_index sp EDATA) first.special) (All-get_or IsWord (step x s).special EDATA 0 (omega arith) first.quiet.fits.special.each);
+          inside = page_inside;
+          live = page_live;
+          stands = subst (λ (d : Device). PagesStand (layout_of m) (pages_by m.params.pages c.users) (view (places_of m) (words_of (step x s)) (behind_of d (step x s).log (step x s).input).sectors)) (sym first.device)
+              (pages_agree z.tools.alikes m (pages_by m.params.pages c.users) (slice_index s.memory) (words_of (step x s)) (behind s).sectors order (λ j why less. word_is (step x s) j (omega arith) ∙ ap (λ w. slice_index w j) first.memory) state.pages);
+          small = λ q lt. let here = word_is (step x s) (tables_at m + q) (omega arith) in let v = word_read (step x s).memory (tables_at m + q) first.quiet.fits.memory in omega arith;
+          idle = calm.idle;
+        }
+
+    fault_is : IsHandled (slice_index (step x s).special ECA) a.edata (slice_index (step x s).special PTL)
+    fault_is = (
+        subst (λ n. (n ≡ 3) ⊎ (n ≡ 8)) (sym (ap (λ sp. slice_index sp ECA) first.special)) a.number,
+        subst (λ n. a.edata / 4096 < n) (sym (ap (λ sp. slice_index sp PTL) first.special)) a.page,
+    )
+
+    -- the handler's run to its eret
+    abbrev eret_at : ℕ
+    eret_at = fault_eret_at 0 (places_of m) (page_code (places_of m))
+
+    to_eret : ComesTo w (fault_steps (places_of m) longest + 85) 0 eret_at Eret (contents (step x s)) (behind (step x s)) (FaultDone (places_of m) (pages_by m.params.pages c.users) (base + a.edata / 4096) (contents (step x s)) (behind (step x s)))
+    to_eret =
+        let p : Places = places_of m in
+        let b = z.blocks w sound_w p longest sited ported in
+        let block : PageBlock w p longest = b.0 in
+        let free : MaySave w = λ q is. let low = is.0 in let top = is.1 in free_variable m sizes code made (saved_at q) (omega arith) (omega arith) in
+        let at : CodeAt w 0 (handler_code p block.code) = subst (λ is. CodeAt w 0 (handler_code p is)) (sym b.1) ((z.tools.below.stands 0 (handler m sizes code made)).stands w) in
+        let r = z.faults w sound_w p longest block (pages_by m.params.pages c.users) base a.edata 0 (contents (step x s)) (behind (step x s)) sited ported free at fault_is asked in
+        subst (λ n. ComesTo w (n + 85) 0 eret_at Eret (contents (step x s)) (behind (step x s)) (FaultDone p (pages_by m.params.pages c.users) (base + a.edata / 4096) (contents (step x s)) (behind (step x s)))) b.2
+        (subst (λ is. ComesTo w (block.steps + 85) 0 (fault_eret_at 0 p is) Eret (contents (step x s)) (behind (step x s)) (FaultDone p (pages_by m.params.pages c.users) (base + a.edata / 4096) (contents (step x s)) (behind (step x s)))) b.1 r)
+
+    pub fault_handled : FaultHandled x longest s c (page_at m c a.edata)
+    fault_handled =
+        let b : Below = z.tools.below in
+        let is : List Inst = handler m sizes code made in
+        let g = to_eret in
+        let u : Configuration = at_with eret_at g.contents g.behind in
+        let pc : (step x s).cpu.pc ≡ 4 * 0 = ap (λ (p : Cpu). p.pc) first.cpu in
+        let reaches : Reaches w (fault_steps (places_of m) longest + 85) (configuration_of (step x s)) u = subst (λ v. Reaches w (fault_steps (places_of m) longest + 85) v u) (sym (stands_at (step x s) 0 pc)) g.reaches in
+        let r : Arrives x y (fault_steps (places_of m) longest + 85) (step x s) u =
+        arrives b.blocks x y (step x s) u 0 is (fault_steps (places_of m) longest + 85) (handler_placed m sizes code made) (inl (omega (arith, handler_end m sizes code made))) calm g.done.besides.idle reaches in
+        let s2 : State = run x (step x s) r.steps in
+        let at2 : s2.cpu.pc / 4 ≡ eret_at = ap (λ (v : Configuration). v.at) r.there in
+        let aligned = r.calm.quiet.aligned in
+        let inside = (b.stands 0 is).inside eret_at Eret g.stands in
+        let from = inside.0 in let to = inside.1 in
+        let gone : Gone z.tools.words b.stands x y s2 0 is (handler_placed m sizes code made) r.calm (step x s2) = goes z.tools.words b.stands x y s2 0 is (handler_placed m sizes code made) r.calm z.erets (ap (placed 0 is) at2 ∙ g.stands) in
+        let done : FaultDone (places_of m) (pages_by m.params.pages c.users) (base + a.edata / 4096) (contents (step x s)) (behind (step x s)) (contents s2) (behind s2) =
+        subst (λ (v : Configuration). FaultDone (places_of m) (pages_by m.params.pages c.users) (base + a.edata / 4096) (contents (step x s)) (behind (step x s)) v.contents v.behind) (sym r.there) g.done in
+        let size : length s2.memory ≡ length s.memory = r.size ∙ ap length first.memory in
+        let there : run x (step x s) (r.steps + 1) ≡ step x s2 = b.sum x (step x s) r.steps 1 in
+        let last = single x y 0 (0 + length is) s2 (inl (omega (arith, handler_end m sizes code made))) r.calm (omega arith) (omega arith) gone.stays.device in
+        let within = r.within in
+        let q : ℕ = base + a.edata / 4096 in
+        record {
+          steps = r.steps + 1;
+          within = omega arith;
+          way = way b.sum x y (r.steps + 1) (step x s) (joins b.sum x y r.steps 1 (step x s) r.between last);
+          back = subst (Back x y c) (sym there) (goes_back z x s (step x s) s2 (step x s2) c (number_of a.why) a.edata q back first r.calm size done gone.off gone.special gone.cpu gone.stays);
+          brought = subst (λ v. BroughtIn (layout_of m) q true (paged_of m s) (paged_of m v)) (sym there)
+              (brought_in z x s (step x s) s2 (step x s2) c (number_of a.why) a.edata q back first r.calm size done gone.off gone.special gone.cpu gone.stays page_inside);
+        }
+
+  -- what the law says of the page, from that it passes for a store and a read
+  told : (s t : State) (c : Core) (before : State) (why : Cause) (edata epc : ℕ) → ((store : Bool) → Passes (paged_of m t) (page_at m c edata) store) → Brought y c s t (Interrupt before why edata epc)
+  told s t c before causes.DataFault edata epc h = h (is_store (decoding (read_at s (located s false s.cpu.pc))))
+  told s t c before causes.FetchFault edata epc h = h false
+  told s t c before causes.Reset edata epc h = tt
+  told s t c before causes.External edata epc h = tt
+  told s t c before causes.FetchAlign edata epc h = tt
+  told s t c before causes.Illegal edata epc h = tt
+  told s t c before causes.Overflow edata epc h = tt
+  told s t c before causes.Syscall edata epc h = tt
+  told s t c before causes.DataAlign edata epc h = tt
+
+  module _ (z : Handlers) (x : Outside) (longest : ℕ) (busy : BusyWithin x longest) (c : Core) where
+    abbrev pages_step : UserStep
+    pages_step = step_pages m c
+
+    -- one fault, and then what is left
+    one : (k : ℕ) (s : State) → Back x y c s → (a : AsksPage x y s c) → ((t : State) → Back x y c t → Handled (layout_of m) (page_at m c a.edata) a.store (paged_of m s) (paged_of m t) → Settles k x y (page_steps m longest - 1) c t)
+        → Comes x y IsEntry (page_steps m longest - 1) (step x s) (λ t. Back x y c t × Brought y c s t (coming x (latched x s)) × Settles k x y (page_steps m longest - 1) c t)
+    one k s back a rest =
+        let f : FaultHandled x longest s c (page_at m c a.edata) = fault_handled z x longest busy s c back a in
+        let t : State = run x (step x s) f.steps in
+        let h : Handled (layout_of m) (page_at m c a.edata) true (paged_of m s) (paged_of m t) = f.brought.handled in
+        let passes : (store : Bool) → Passes (paged_of m t) (page_at m c a.edata) store =
+        λ store. z.pass.passes (layout_of m) (page_at m c a.edata) store (paged_of m s) (paged_of m t) (z.pass.reads (layout_of m) (page_at m c a.edata) store (paged_of m s) (paged_of m t) h) in
+        record {
+          steps = f.steps;
+          within = f.within;
+          way = f.way;
+          there = (
+            f.back,
+            subst (Brought y c s t) (sym a.comes) (told s t c (latched x s) a.why a.edata s.cpu.pc passes),
+            rest t f.back (z.pass.reads (layout_of m) (page_at m c a.edata) a.store (paged_of m s) (paged_of m t) h),
+          );
+        }
+
+    ask : (s : State) → Back x y c s → handled x s ≡ true → AsksPage x y s c
+    ask s back h = z.ask x y s c (premises m sizes code made x s c back) h
+
+    no_more : (s : State) (b : Bool) → handled x s ≡ b → (handled x s ≡ true → ⊥) → handled x s ≡ false
+    no_more s true e h = absurd (h e)
+    no_more s false e h = e
+
+    settle : (k : ℕ) (s : State) → Back x y c s → AtMost k (layout_of m) pages_step (paged_of m s) → Settles k x y (page_steps m longest - 1) c s
+    settle zero s back most = no_more s (handled x s) refl (λ h. let a = ask s back h in most (page_at m c a.edata) a.store a.asks)
+    settle (suc k) s back most = λ h. let a = ask s back h in one k s back a (λ t b handled. settle k t b (most (page_at m c a.edata) a.store (paged_of m t) a.asks handled))
+
+  pub settles : Handlers → FaultsSettle y
+  settles z x longest s c busy back = λ h.
+      let a : AsksPage x y s c = ask z x longest busy c s back h in
+      let hand : IsUserFrame (layout_of m) (paged_of m s).hand = back.stands.pages.hand in
+      settle z x longest busy c 2 s back (z.two (layout_of m) (step_pages m c) (paged_of m s) made.range.params.two_frames a.code_page a.data_page hand) h
