@@ -1,7 +1,6 @@
 -- A handled fault goes back to the user at the same instruction, with the page brought in; and one step meets at most two.
-use Rattle.std.proofs.Common.{◌≡◌, ◌≢◌, ℕ, zero, suc, ◌+◌, ◌-◌, ◌*◌, ◌/◌, ◌%◌, ◌^◌, ◌<◌, ◌≤◌, ◌⊎◌, ◌&&◌, Bool, true, false, Some, None, nat_lt, List, [], ◌∷◌, length, take, drop, slice_index, refl, sym, ap, ap₂, ◌∙◌, subst, ⊎_elim, inl, inr, true≢false, arith, lt-ltb, eqb-true}
+use Rattle.std.proofs.Common.{◌≡◌, ◌≢◌, ℕ, zero, suc, ◌+◌, ◌-◌, ◌*◌, ◌/◌, ◌%◌, ◌<◌, ◌≤◌, ◌⊎◌, ◌&&◌, Bool, true, false, None, nat_lt, List, ◌∷◌, length, take, drop, slice_index, refl, sym, ap, ap₂, ◌∙◌, subst, ⊎_elim, inl, inr, arith, lt-ltb, eqb-true}
 use Rattle.std.specs.Prelude.{◌==◌}
-use Rattle.std.proofs.lemmas.Bool.{cases_lt, cases_eq}
 use Rattle.std.proofs.lemmas.List.{ext_get_or, get_or-take, get_or-drop, length-take-le, length-drop}
 use Rattle.std.proofs.lemmas.List.Elements.{All-get_or}
 use Rattle.mips_table.specs.declared.inst.Inst.{Inst}
@@ -10,37 +9,37 @@ use Rattle.mips_table.specs.declared.cause.Cause.{Cause}
 use Rattle.mips_table.specs.declared.cause.Cause.TheVariants as causes
 use Rattle.mips_table.specs.Decoding.{decoding}
 use Rattle.mips_table.specs.Processor.{Cpu}
-use Rattle.mips_table.specs.Device.{Device, Idle, Outside, BUFFER, COMMAND}
+use Rattle.mips_table.specs.Device.{Device, Outside}
 use Rattle.mips_table.specs.Machine.{SR, ESR, ECA, EPC, EDATA, PTO, PTL, MODE, EMODE, number_of, State, Interrupt, latched, coming, left, located, read_at, step, run}
 use Rattle.mips_table.specs.Turns.{handled}
-use Rattle.mips_table.specs.Fits.{IsWord, CpuFits}
-use Rattle.mips_table.specs.Code.{Contents, Behind, World, Sound, Configuration, at_with, CodeAt, Reaches}
-use Rattle.mips_table.specs.Simulation.{configuration_of, contents_of, behind_of}
+use Rattle.mips_table.specs.Fits.{IsWord}
+use Rattle.mips_table.specs.Code.{Behind, World, Sound, Configuration, at_with, CodeAt, Reaches}
+use Rattle.mips_table.specs.Simulation.{configuration_of, behind_of}
 use Rattle.mips_table.specs.Borders.{InterruptsAreTaken, EretLeaves}
 use Rattle.masm.specs.Standing.{placed}
-use Rattle.layer_map.specs.Map.{Map, layer_words, current_at, hand_at, block_at, tables_at, table_of, memory_words}
-use Rattle.page_model.specs.Paging.{Layout, IsUserFrame, Pages, Paged, PagesStand, Passes}
-use Rattle.page_model.specs.Faults.{Handled, Brought as BroughtIn, UserStep, Asks, AtMost}
+use Rattle.layer_map.specs.Map.{Map, current_at, hand_at, block_at, tables_at, memory_words}
+use Rattle.page_model.specs.Paging.{IsUserFrame, PagesStand, Passes}
+use Rattle.page_model.specs.Faults.{Handled, Brought as BroughtIn, UserStep, AtMost}
 use Rattle.page_model.specs.Places.{Places, layout_of, places_of, view}
 use Rattle.page_model.specs.Edits.{Alike}
-use Rattle.page_model.specs.Laws.{AlikesStand, HandledPass, TwoFaultsSuffice}
+use Rattle.page_model.specs.Laws.{HandledPass, TwoFaultsSuffice}
 use Rattle.frame_table.specs.View.{Sited, Ported}
 use Rattle.page_fault.specs.Code.{page_code}
 use Rattle.page_fault.specs.Asked.{PageBlock, IsPageBlock, MapsAreSited, fault_steps}
 use Rattle.pcb_layer.specs.Code.{saved_at}
-use Rattle.pcb_layer.specs.Laws.{IsRegister, MaySave}
+use Rattle.pcb_layer.specs.Laws.{MaySave}
 use Rattle.cvm_model.specs.Kernel.{Core}
 use Rattle.cvm_model.specs.Primitives.{user_of, pages_of}
 use Rattle.cvm_model.specs.Cvm.{Running, page_steps}
 use Rattle.cvm_model.specs.Paged.{paged_of, pages_by}
-use Rattle.cvm_model.specs.Stands.{Site, IsUser, CoreFits, UserFits, Runs, Stands, block_cpu, runs_user}
+use Rattle.cvm_model.specs.Stands.{Site, UserFits, Runs, Stands, block_cpu, runs_user}
 use Rattle.layer_contract.specs.Layer.{Back, Brought, BusyWithin, Comes, IsEntry, Way, page_at, is_store, Settles, FaultsSettle}
-use Rattle.layer_contract.specs.Users.{Premises, UsersAreInterrupted, step_pages, AsksPage, FaultsAsk}
-use Rattle.trap_entry.specs.Code.{handler_code, front_code, work_code}
+use Rattle.layer_contract.specs.Users.{UsersAreInterrupted, step_pages, AsksPage, FaultsAsk}
+use Rattle.trap_entry.specs.Code.{handler_code}
 use Rattle.trap_entry.specs.Laws.{ComesTo, IsHandled, IsUnsaved, FaultAsked, FaultDone, fault_eret_at, HandlesFaults}
 use Rattle.layer_runs.specs.Image.{image_site, IsMade}
-use Rattle.layer_runs.specs.Runs.{Standing, Calm, block_world}
-use Rattle.layer_runs.proofs.Shown.{IsKernels, Order, order_of, words_of, behind, word_is, cpu_is, user_fits, words_alike, pages_agree, Follows, InBlocks, ShownPages, stood_with}
+use Rattle.layer_runs.specs.Runs.{Calm, block_world}
+use Rattle.layer_runs.proofs.Shown.{Order, order_of, words_of, behind, word_is, cpu_is, user_fits, words_alike, pages_agree, stood_with}
 use Rattle.layer_runs.proofs.Blocks.{sound}
 use Rattle.layer_runs.proofs.Placed.{linked_length}
 use Rattle.layer_runs.proofs.Ways.{joins, way}

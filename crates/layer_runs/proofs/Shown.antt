@@ -1,18 +1,18 @@
 -- "Stands for" by functions: what words and ports show of users, pages and console, taken from a state that stands and given back to one.
-use Rattle.std.proofs.Common.{◌≡◌, ◌≢◌, ℕ, zero, suc, ◌+◌, ◌-◌, ◌*◌, ◌/◌, ◌%◌, ◌^◌, ◌<◌, ◌≤◌, ◌⊎◌, Bool, true, false, ◌&&◌, nat_lt, List, [], ◌∷◌, length, take, drop, slice_index, All, refl, sym, ap, ◌∙◌, subst, inl, inr, arith, lt-ltb, ne_eqb, eqb-true}
+use Rattle.std.proofs.Common.{◌≡◌, ◌≢◌, ℕ, zero, suc, ◌+◌, ◌-◌, ◌*◌, ◌/◌, ◌%◌, ◌<◌, ◌≤◌, ◌⊎◌, Bool, true, false, ◌&&◌, nat_lt, List, ◌∷◌, length, take, drop, slice_index, refl, sym, ap, ◌∙◌, subst, inl, inr, arith, lt-ltb, ne_eqb, eqb-true}
 use Rattle.std.specs.Prelude.{◌==◌, if◌then◌else◌}
 use Rattle.std.proofs.lemmas.Bool.{cond-true, cond-false, eqb-false}
 use Rattle.std.proofs.lemmas.List.{ext_get_or, get_or-take, get_or-drop, length-append, length-take-le, length-drop}
-use Rattle.mips_table.specs.Device.{Device, Idle, Outside, BUFFER, SECTOR, is_buffer, sector_of}
+use Rattle.mips_table.specs.Device.{Idle, Outside, BUFFER, SECTOR, is_buffer}
 use Rattle.mips_table.specs.Machine.{State}
 use Rattle.mips_table.specs.Processor.{Cpu}
 use Rattle.mips_table.specs.Flat.{Flat}
 use Rattle.mips_table.specs.Fits.{CpuFits, Fits}
 use Rattle.mips_table.specs.Code.{Behind}
 use Rattle.mips_table.specs.Simulation.{space, sectors_of, behind_of}
-use Rattle.layer_map.specs.Map.{Map, MapInRange, layer_words, current_at, hand_at, heap_used_at, stack_words_at, block_at, code_at, globals_at, heap_at, stack_at, tables_at, frame_table_at, zero_frame_at, memory_words}
-use Rattle.page_model.specs.Paging.{Layout, IsUserFrame, IsFrame, Pages, PagesStand}
-use Rattle.page_model.specs.Places.{Places, layout_of, places_of, view}
+use Rattle.layer_map.specs.Map.{Map, MapInRange, layer_words, current_at, hand_at, heap_used_at, stack_words_at, block_at, globals_at, heap_at, stack_at, tables_at, frame_table_at, zero_frame_at, memory_words}
+use Rattle.page_model.specs.Paging.{Pages, PagesStand}
+use Rattle.page_model.specs.Places.{layout_of, places_of, view}
 use Rattle.page_model.specs.Edits.{Alike}
 use Rattle.page_model.specs.Laws.{AlikesStand}
 use Rattle.c0_meaning.specs.Value.{Location, Value, int as an_int, bool as a_bool, null, at, group, Values, empty, part}
@@ -20,9 +20,9 @@ use Rattle.c0_meaning.specs.RunLaws.{scalars, all_scalars}
 use Rattle.cvm_model.specs.Kernel.{flat, flats, Core}
 use Rattle.cvm_model.specs.Primitives.{no_flat, user_of, pages_of, register_of}
 use Rattle.cvm_model.specs.Cvm.{Status, Running}
-use Rattle.cvm_model.specs.Paged.{paged_of, pages_by}
+use Rattle.cvm_model.specs.Paged.{pages_by}
 use Rattle.cvm_model.specs.Stands.{Site, IsUser, address_of, DataStands, CoreFits, UserFits, Runs, Stands, block_cpu, is_own, runs_user}
-use Rattle.register_primitives.specs.Blocks.{IsOneOf, BlocksHold, word_of}
+use Rattle.register_primitives.specs.Blocks.{BlocksHold, word_of}
 
 -- a value has as many words as it says
 mutual

@@ -1,7 +1,6 @@
 -- The laws of a layer, of the memory that a layer's image makes with any kernel's code behind it.
 use Rattle.std.specs.Prelude.{◌≡◌, ℕ, List, length}
 use Rattle.layer_map.specs.Map.{Map, MapInRange}
-use Rattle.cvm_model.specs.Stands.{Site}
 use Rattle.layer_contract.specs.Layer.{Linked, EntersFirst, Enters, Exits, Leaves, PrimitivesAnswer, FaultsSettle, Laws}
 use Rattle.layer_runs.specs.Image.{layer_image, image_site, IsMade}
 
