@@ -25,9 +25,6 @@ abbrev IsLater : Move → Type 0
 IsLater (Trapped cause edata epc) = number_of cause ≢ 0
 IsLater other = Unit {0}
 
-
-
-
 accessed_later : (may : Bool) (m r : Cause) (a pc : ℕ) (go : Move) → number_of m ≢ 0 → number_of r ≢ 0 → IsLater go → IsLater (accessed may m r a pc go)
 accessed_later may m r a pc go hm hr hg =
     cond_both (not (is_aligned a)) (Trapped m a pc) (if not may then Trapped r a pc else go) IsLater (λ _. hm) (λ _. cond_both (not may) (Trapped r a pc) go IsLater (λ _. hr) (λ _. hg))

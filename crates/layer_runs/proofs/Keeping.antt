@@ -182,7 +182,6 @@ module _ (m : Map) (sizes code : List ℕ) (made : IsMade m sizes code) where
             (λ k low top. same_word k (⊎_elim (λ less. inl (omega arith)) (λ le. inr (inl (omega arith))) (cases_lt u c.current)) (inr (omega arith)) (omega arith))
             (block_from s.memory u (user_of c.users u) (st.users.sizes u is) (st.users.blocks u is (ap (λ b. runs_user s && b) (ne_eqb u c.current ne) ∙ none (runs_user s)))))
 
-
     kept_stands : AlikesStand → Calm x y t2 → length t2.memory ≡ length s.memory → IsWord epc → Stands x y t2 Running (with_epc c epc)
     kept_stands alikes k size word =
         let f : Flat = kept_flat c epc in

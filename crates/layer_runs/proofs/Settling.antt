@@ -294,8 +294,8 @@ module _ (m : Map) (sizes code : List ℕ) (made : IsMade m sizes code) where
 
     fault_is : IsHandled (slice_index (step x s).special ECA) a.edata (slice_index (step x s).special PTL)
     fault_is = (
-        subst (λ n. (n ≡ 3) ⊎ (n ≡ 8)) (sym (ap (λ sp. slice_index sp ECA) first.special)) a.number,
-        subst (λ n. a.edata / 4096 < n) (sym (ap (λ sp. slice_index sp PTL) first.special)) a.page,
+      subst (λ n. (n ≡ 3) ⊎ (n ≡ 8)) (sym (ap (λ sp. slice_index sp ECA) first.special)) a.number,
+      subst (λ n. a.edata / 4096 < n) (sym (ap (λ sp. slice_index sp PTL) first.special)) a.page,
     )
 
     -- the handler's run to its eret
