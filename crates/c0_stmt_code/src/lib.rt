@@ -7,6 +7,7 @@ mod emit_laws;
 mod function;
 pub mod laws;
 mod prologue;
+pub mod sizes;
 mod statement;
 
 pub use function::emit_function;

@@ -106,24 +106,6 @@ has_parts fixed u = record {
   words = let l = functions_length fixed u (function_starts u) u.functions in omega (arith, l);
 }
 
--- parts that are appended one after another are a unit's words
-pub words_joined : (a b c : List Inst) (x y z : List ℕ) → x ≡ [] ++ map encoding a → y ≡ x ++ map encoding b → z ≡ y ++ map encoding c → z ≡ map encoding (a ++ (b ++ c))
-words_joined a b c x y z is then last =
-    last
-    ∙ (ap (λ (ws : List ℕ). ws ++ map encoding c) (then ∙ ap (λ (ws : List ℕ). ws ++ map encoding b) is)
-    ∙ (append_assoc (map encoding a) (map encoding b) (map encoding c)
-    ∙ (ap (λ (ws : List ℕ). map encoding a ++ ws) (sym (map-append encoding b c)) ∙ sym (map-append encoding a (b ++ c)))))
-
--- what was appended with a unit's places is its words
-pub words_are : (u : CUnit) (p : Places) → ArePlacesOf u p → (dispatch : ℕ) → dispatch ≡ slice_index p.functions.items (dispatch_number u) → (x y z : List ℕ)
-    → x ≡ [] ++ map encoding (entry_code p.globals dispatch) → y ≡ x ++ map encoding (runtime_code p) → z ≡ y ++ map encoding (functions_code u p.functions.items u.functions)
-    → z ≡ map encoding (unit_code u)
-words_are u p h dispatch d x y z is then last =
-    words_joined (entry_code (globals_start u) (dispatch_start u)) routines_code (functions_code u (function_starts u) u.functions) x y z
-    (is ∙ ap (λ (n : ℕ). [] ++ map encoding (entry_code n dispatch)) h.globals_at ∙ ap (λ (n : ℕ). [] ++ map encoding (entry_code (globals_start u) n)) (d ∙ ap (λ (ns : List ℕ). slice_index ns (dispatch_number u)) h.functions))
-    (then ∙ ap (λ (ns : List ℕ). x ++ map encoding (new_code ++ (multiply_code ++ (divide_code (slice_index ns 2) ++ remainder_code (slice_index ns 2))))) h.faults)
-    (last ∙ ap (λ (ns : List ℕ). y ++ map encoding (functions_code u ns u.functions)) h.functions)
-
 -- the places that the first emission gives are those of the unit
 pub are_places_of : (u : CUnit) (p : Places) (starts before after : List ℕ) (globals long : ℕ) → ArePlacedAt p starts globals → length before ≡ 39
     → starts ≡ starts_from (layer_words + length before) (words_of u u.functions) → long ≡ length before + sum (words_of u u.functions) → globals ≡ (layer_words + long + 1023) / 1024 * 4096 → ArePlacesOf u p
