@@ -25,9 +25,6 @@ abbrev IsLater : Move → Type 0
 IsLater (Trapped cause edata epc) = number_of cause ≢ 0
 IsLater other = Unit {0}
 
-
-
-
 accessed_later : (may : Bool) (m r : Cause) (a pc : ℕ) (go : Move) → number_of m ≢ 0 → number_of r ≢ 0 → IsLater go → IsLater (accessed may m r a pc go)
 accessed_later may m r a pc go hm hr hg =
     cond_both (not (is_aligned a)) (Trapped m a pc) (if not may then Trapped r a pc else go) IsLater (λ _. hm) (λ _. cond_both (not may) (Trapped r a pc) go IsLater (λ _. hr) (λ _. hg))
@@ -67,11 +64,11 @@ moved_in x t (Trapped cause edata epc) h = (refl, h)
 moved_in x t (Privileged word) h =
     cond_both (in_system t.special) (privileged t word (decoding word)) (Interrupt t causes.Illegal word t.cpu.pc) (TakenIn t) (λ _. privileged_in t word (decoding word)) (λ _. (refl, λ e. absurd (cc)))
 
-left : (a b : Bool) → (a && b) ≡ true → a ≡ true
+pub left : (a b : Bool) → (a && b) ≡ true → a ≡ true
 left true b e = refl
 left false b e = e
 
-right : (a b : Bool) → (a && b) ≡ true → b ≡ true
+pub right : (a b : Bool) → (a && b) ≡ true → b ≡ true
 right true b e = e
 right false b e = absurd (cc)
 
@@ -79,7 +76,7 @@ read_keeps : (s : State) (a : ℕ) → nat_lt (a / 4) (length s.memory) ≡ true
 read_keeps s a e = rw e refl
 
 -- a fetch of a user takes nothing
-fetches : (x : Outside) (y : Site) (s : State) (c : Core) → Known x y s c → fetched (latched x s) ≡ latched x s
+pub fetches : (x : Outside) (y : Site) (s : State) (c : Core) → Known x y s c → fetched (latched x s) ≡ latched x s
 fetches x y s c k = by (is_aligned s.cpu.pc) refl
   where
     at : (o : Option ℕ) → is_aligned s.cpu.pc ≡ true → located s false s.cpu.pc ≡ o → fetched (latched x s) ≡ after_read_at (latched x s) o
