@@ -14,4 +14,5 @@ pub mod Keeping
 pub mod Fitting
 pub mod Calling
 pub mod Primitives
+pub mod Laying
 pub mod Settling
