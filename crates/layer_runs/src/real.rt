@@ -35,11 +35,7 @@ impl RealLayer {
     /// # Errors
     ///
     /// Want of memory alone.
-    pub fn made_for(
-        alloc: Global,
-        map: &Map,
-        sizes: Vec<u32>,
-    ) -> Result<RealLayer, AllocError>
+    pub fn made_for(alloc: Global, map: &Map, sizes: Vec<u32>) -> Result<RealLayer, AllocError>
         requires { length sizes.items ≡ map.now.users }
         ensures { IfOk result (λ l. l ≡ record { map = map.now; sizes = sizes.items; words = layer_image map.now sizes.items }) }
     {

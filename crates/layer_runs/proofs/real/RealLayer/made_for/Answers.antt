@@ -1,5 +1,5 @@
 -- By what the words are.
-use Rattle.std.proofs.Common.{◌≡◌, ℕ, List, ap, ◌∙◌}
+use Rattle.std.proofs.Common.{ℕ, List, ap, ◌∙◌}
 use Rattle.layer_runs.specs.Image.{layer_image}
 use Rattle.layer_runs.specs.Real.{MadeLayer}
 use Rattle.layer_runs.proofs.real.RealLayer.made_for.Goals as goal
