@@ -20,6 +20,7 @@ pub mod Named
 pub mod Needs
 pub mod Places
 pub mod Primitives
+pub mod Ranging
 pub mod Returns
 pub mod Rooms
 pub mod Sim
