@@ -1,22 +1,19 @@
 -- Where the parts of a unit's code stand, and how long it is.
-use Rattle.std.specs.Prelude.{map, sum, slice_get, slice_index, Some}
-use Rattle.std.proofs.Common.{◌≡◌, ℕ, zero, suc, ◌+◌, ◌*◌, ◌/◌, ◌<◌, ◌≤◌, List, [], ◌∷◌, ◌++◌, length, refl, sym, ap, ◌∙◌, arith, length-append, append_assoc}
-use Rattle.std.proofs.lemmas.List.{map-append}
+use Rattle.std.specs.Prelude.{sum, slice_get, slice_index, Some}
+use Rattle.std.proofs.Common.{◌≡◌, ℕ, zero, suc, ◌+◌, ◌*◌, ◌/◌, ◌≤◌, List, [], ◌∷◌, ◌++◌, length, refl, sym, ap, ◌∙◌, arith, length-append, append_assoc}
 use Rattle.std.proofs.lemmas.List.Sums.{sum_by-cons}
 use Rattle.mips_table.specs.declared.inst.Inst.{Inst}
-use Rattle.mips_table.specs.Encoding.{encoding}
 use Rattle.masm.specs.declared.registers.Places.{Places}
 use Rattle.layer_map.specs.Map.{layer_words}
 use Rattle.c0_tree.specs.Tree.{CFunction, CUnit}
-use Rattle.c0_meaning.specs.Limits.{all_nodes, nodes_of, frame}
-use Rattle.c0_meaning.specs.Operators.{KernelFault}
+use Rattle.c0_meaning.specs.Limits.{all_nodes, frame}
 use Rattle.c0_meaning.specs.Sound.{shapes}
 use Rattle.c0_meaning.specs.TypeAt.{env_in}
-use Rattle.c0_runtime.specs.Code.{entry_code, new_code, multiply_code, divide_code, remainder_code, runtime_code}
+use Rattle.c0_runtime.specs.Code.{entry_code, multiply_code, divide_code, remainder_code}
 use Rattle.c0_expr_code.specs.Scope.{Scope, scope_of, keeps_registers, exit_number}
 use Rattle.c0_stmt_code.specs.Code.{Links, links_of, function_code}
 use Rattle.c0_stmt_code.specs.Lengths.{FunctionsAreShort, LengthsAreFixed}
-use Rattle.c0_unit.specs.Code.{fault_exits, primitive_entries, routines_at, functions_at, scope, links, functions_code, words_of, starts_from, function_starts, code_words, globals_start, dispatch_number, dispatch_start, routines_code, unit_code}
+use Rattle.c0_unit.specs.Code.{fault_exits, primitive_entries, functions_at, scope, links, functions_code, words_of, starts_from, function_starts, code_words, globals_start, dispatch_start, routines_code}
 use Rattle.c0_unit.specs.Laws.{ArePlacedAt, ArePlacesOf, IsPart, HasParts}
 
 pub sum-cons : (n : ℕ) (ns : List ℕ) → sum (n ∷ ns) ≡ n + sum ns
@@ -72,13 +69,16 @@ module _ (fixed : LengthsAreFixed) (u : CUnit) (starts : List ℕ) where
       let r = function_stands rest (k + length (function_code (scope u g) (links []) g)) n f e in
       let w = fixed (scope u g) (links starts) (links []) g in
       let p = r.2 in
-      let at = r.1 in
-      (length (function_code (scope u g) (links []) g) + r.0, omega (arith, at), record {
-        before = function_code (scope u g) (links starts) g ++ p.before;
-        after = p.after;
-        is = ap (λ (is : List Inst). function_code (scope u g) (links starts) g ++ is) p.is ∙ sym (append_assoc (function_code (scope u g) (links starts) g) p.before (function_code (scope u f) (links starts) f ++ p.after));
-        from = let fr = p.from in omega (arith, fr, w, length-append (function_code (scope u g) (links starts) g) p.before);
-      })
+      let at = r.1 in (
+        length (function_code (scope u g) (links []) g) + r.0,
+        omega (arith, at),
+        record {
+          before = function_code (scope u g) (links starts) g ++ p.before;
+          after = p.after;
+          is = ap (λ (is : List Inst). function_code (scope u g) (links starts) g ++ is) p.is ∙ sym (append_assoc (function_code (scope u g) (links starts) g) p.before (function_code (scope u f) (links starts) f ++ p.after));
+          from = let fr = p.from in omega (arith, fr, w, length-append (function_code (scope u g) (links starts) g) p.before);
+        },
+      )
 
 -- a part of what stands behind other code
 behind : (front part whole : List Inst) (at n : ℕ) → length front ≡ n → IsPart part at whole → IsPart part (n + at) (front ++ whole)

@@ -45,7 +45,10 @@ pub fn compile(alloc: Global, unit: &Checked) -> Result<Vec<u32>, AllocError>
     let sizes = measured(alloc, source)?;
     let layout = Layout::new(alloc, &sizes)?;
     let places = unit_places(alloc, &layout)?;
-    let dispatch = places.functions.get(dispatch_number(&source.functions)).copied();
+    let dispatch = places
+        .functions
+        .get(dispatch_number(&source.functions))
+        .copied();
     let mut code = Vec::new(alloc);
     emit_entry(alloc, places.globals, dispatch.unwrap_or(0), &mut code)?;
     emit_runtime(alloc, &places, &mut code)?;
