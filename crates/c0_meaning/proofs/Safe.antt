@@ -108,4 +108,3 @@ seven_answers n row args w e = subst (λ o. IsScalar row.answer (seven (unwrap_o
 
 pub sevens_fit : SevensFit
 sevens_fit = record { answer = λ n row args w e a r. seven_answers n row args w e; world = λ n row args w e a r. refl }
-

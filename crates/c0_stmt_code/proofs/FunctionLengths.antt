@@ -39,8 +39,16 @@ module _ (sc : Scope) (x y : Links) where
         let eb = stmts_same b in
         let o = otherwise_same b (stmts_code sc x b) (stmts_code sc y b) eb in
         let e = ap (λ n. length (test_code sc t false ((n + otherwise_at b) % 2 ^ 16) 8)) ea in
-        omega (arith, ea, o, e, length-append (test_code sc t false ((length (stmts_code sc x a) + otherwise_at b) % 2 ^ 16) 8) (stmts_code sc x a ++ otherwise b (stmts_code sc x b)), length-append (stmts_code sc x a) (otherwise b (stmts_code sc x b)),
-        length-append (test_code sc t false ((length (stmts_code sc y a) + otherwise_at b) % 2 ^ 16) 8) (stmts_code sc y a ++ otherwise b (stmts_code sc y b)), length-append (stmts_code sc y a) (otherwise b (stmts_code sc y b)))
+        omega (
+          arith,
+          ea,
+          o,
+          e,
+          length-append (test_code sc t false ((length (stmts_code sc x a) + otherwise_at b) % 2 ^ 16) 8) (stmts_code sc x a ++ otherwise b (stmts_code sc x b)),
+          length-append (stmts_code sc x a) (otherwise b (stmts_code sc x b)),
+          length-append (test_code sc t false ((length (stmts_code sc y a) + otherwise_at b) % 2 ^ 16) 8) (stmts_code sc y a ++ otherwise b (stmts_code sc y b)),
+          length-append (stmts_code sc y a) (otherwise b (stmts_code sc y b)),
+        )
     stmt_same (loop s t b) =
         let eb = stmts_same b in
         let e = ap (λ (n : ℕ). length (test_code sc t true ((2 ^ 16 - (max n 1 + length (test_code sc t true 0 8)) % 2 ^ 16) % 2 ^ 16) 8)) eb in
@@ -56,8 +64,14 @@ module _ (sc : Scope) (x y : Links) where
   body_same : (params : ℕ) (b : CBody) → length (code_of_body sc x params b) ≡ length (code_of_body sc y params b)
   body_same params (code locals stmts answer) =
       let e = stmts_same stmts in
-      omega (arith, e, length-append (entry_code sc params locals (are_calling stmts)) (stmts_code sc x stmts ++ return_code sc (are_calling stmts) answer), length-append (stmts_code sc x stmts) (return_code sc (are_calling stmts) answer),
-      length-append (entry_code sc params locals (are_calling stmts)) (stmts_code sc y stmts ++ return_code sc (are_calling stmts) answer), length-append (stmts_code sc y stmts) (return_code sc (are_calling stmts) answer))
+      omega (
+        arith,
+        e,
+        length-append (entry_code sc params locals (are_calling stmts)) (stmts_code sc x stmts ++ return_code sc (are_calling stmts) answer),
+        length-append (stmts_code sc x stmts) (return_code sc (are_calling stmts) answer),
+        length-append (entry_code sc params locals (are_calling stmts)) (stmts_code sc y stmts ++ return_code sc (are_calling stmts) answer),
+        length-append (stmts_code sc y stmts) (return_code sc (are_calling stmts) answer),
+      )
   body_same params (asm text span words) = refl
 
 -- the code of a function is as long wherever what it calls stands
@@ -125,8 +139,16 @@ module _ (sc : Scope) (x : Links) (fit : LengthsFit sc) where
       let s = save_length b in
       let p = params_length params 0 in
       let l = locals_length words (3 + params) in
-      omega (arith, t, s, p, l, length-append (stack_test sc 29) (save_code sc b ++ (params_code sc params 0 ++ locals_code sc words (3 + params))), length-append (save_code sc b) (params_code sc params 0 ++ locals_code sc words (3 + params)),
-      length-append (params_code sc params 0) (locals_code sc words (3 + params)))
+      omega (
+        arith,
+        t,
+        s,
+        p,
+        l,
+        length-append (stack_test sc 29) (save_code sc b ++ (params_code sc params 0 ++ locals_code sc words (3 + params))),
+        length-append (save_code sc b) (params_code sc params 0 ++ locals_code sc words (3 + params)),
+        length-append (params_code sc params 0) (locals_code sc words (3 + params)),
+      )
 
   register_entry_length : (params locals : ℕ) (b : Bool) → length (register_entry sc params locals b) ≤ 8 + locals
   register_entry_length params locals true =
@@ -171,8 +193,17 @@ module _ (sc : Scope) (x : Links) (fit : LengthsFit sc) where
       let v = fit.value answer 2 8 in
       let some = fit.value_some answer 2 8 in
       let r = exit_length (are_calling stmts) in
-      omega (arith, e, s, v, some, r, length-append (entry_code sc params locals (are_calling stmts)) (stmts_code sc x stmts ++ return_code sc (are_calling stmts) answer), length-append (stmts_code sc x stmts) (return_code sc (are_calling stmts) answer),
-      length-append (value_code sc answer 2 8) (exit_code sc (are_calling stmts)))
+      omega (
+        arith,
+        e,
+        s,
+        v,
+        some,
+        r,
+        length-append (entry_code sc params locals (are_calling stmts)) (stmts_code sc x stmts ++ return_code sc (are_calling stmts) answer),
+        length-append (stmts_code sc x stmts) (return_code sc (are_calling stmts) answer),
+        length-append (value_code sc answer 2 8) (exit_code sc (are_calling stmts)),
+      )
   body_length params (asm text span words) =
       let t = test_length 1 in
       let m = length-map words instruction_of in

@@ -1,6 +1,6 @@
 -- An interrupt of a user: the state in which it is taken is that of the step, and its cause isn't the reset.
 use Rattle.std.proofs.Common.{◌≡◌, ◌≢◌, ℕ, ◌/◌, ◌&&◌, Option, Some, None, Bool, true, false, not, nat_lt, length, slice_index, refl, sym, ap, ◌∙◌, subst, true≢false, lt-ltb, ltb-true, eqb-true}
-use Rattle.std.specs.Prelude.{◌==◌, if◌then◌else◌, is_some}
+use Rattle.std.specs.Prelude.{◌==◌, if◌then◌else◌}
 use Rattle.std.proofs.lemmas.Bool.{cond-true, cond-false, cond_both}
 use Rattle.mips_table.specs.declared.inst.Inst.{Inst}
 use Rattle.mips_table.specs.declared.inst.Inst.TheVariants.{Mfc0, Mtc0, Eret}
@@ -12,21 +12,17 @@ use Rattle.mips_table.specs.Decoding.{decoding}
 use Rattle.mips_table.specs.Device.{Outside}
 use Rattle.mips_table.specs.Machine.{SR, number_of, in_system}
 use Rattle.mips_table.specs.Processor.{Cpu, Access, Move, Ran, Loaded, Stored, Trapped, Privileged, is_aligned, accessed, performed, executed, effect_on, move}
-use Rattle.mips_table.specs.Machine.{State, Coming, Interrupt, Done, located, read_at, after_read_at, access, fetch, fetched, privileged, moved, latched, coming}
-use Rattle.mips_table.specs.Turns.{in_user}
+use Rattle.mips_table.specs.Machine.{State, Coming, Interrupt, Done, located, after_read_at, access, fetch, fetched, privileged, moved, latched, coming}
 use Rattle.cvm_model.specs.Kernel.{Core}
 use Rattle.cvm_model.specs.Stands.{Site}
-use Rattle.layer_contract.specs.Users.{Premises, IsTakenAt, UsersAreInterrupted}
-use Rattle.layer_contract.proofs.Places.{own, Place, Past, Faults, There, Known, place}
+use Rattle.layer_contract.specs.Users.{UsersAreInterrupted}
+use Rattle.layer_contract.proofs.Places.{Place, Past, Faults, There, Known, place}
 use Rattle.layer_contract.proofs.Frames.{word_is}
 
 -- a cause that isn't the reset
 abbrev IsLater : Move → Type 0
 IsLater (Trapped cause edata epc) = number_of cause ≢ 0
 IsLater other = Unit {0}
-
-
-
 
 accessed_later : (may : Bool) (m r : Cause) (a pc : ℕ) (go : Move) → number_of m ≢ 0 → number_of r ≢ 0 → IsLater go → IsLater (accessed may m r a pc go)
 accessed_later may m r a pc go hm hr hg =
@@ -67,11 +63,11 @@ moved_in x t (Trapped cause edata epc) h = (refl, h)
 moved_in x t (Privileged word) h =
     cond_both (in_system t.special) (privileged t word (decoding word)) (Interrupt t causes.Illegal word t.cpu.pc) (TakenIn t) (λ _. privileged_in t word (decoding word)) (λ _. (refl, λ e. absurd (cc)))
 
-left : (a b : Bool) → (a && b) ≡ true → a ≡ true
+pub left : (a b : Bool) → (a && b) ≡ true → a ≡ true
 left true b e = refl
 left false b e = e
 
-right : (a b : Bool) → (a && b) ≡ true → b ≡ true
+pub right : (a b : Bool) → (a && b) ≡ true → b ≡ true
 right true b e = e
 right false b e = absurd (cc)
 
@@ -79,7 +75,7 @@ read_keeps : (s : State) (a : ℕ) → nat_lt (a / 4) (length s.memory) ≡ true
 read_keeps s a e = rw e refl
 
 -- a fetch of a user takes nothing
-fetches : (x : Outside) (y : Site) (s : State) (c : Core) → Known x y s c → fetched (latched x s) ≡ latched x s
+pub fetches : (x : Outside) (y : Site) (s : State) (c : Core) → Known x y s c → fetched (latched x s) ≡ latched x s
 fetches x y s c k = by (is_aligned s.cpu.pc) refl
   where
     at : (o : Option ℕ) → is_aligned s.cpu.pc ≡ true → located s false s.cpu.pc ≡ o → fetched (latched x s) ≡ after_read_at (latched x s) o

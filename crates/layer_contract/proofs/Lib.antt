@@ -12,6 +12,7 @@ pub mod Steps
 pub mod Follow
 pub mod Turn
 pub mod Interrupted
+pub mod Asking
 pub mod Example
 pub mod Spread
 pub mod SpreadState

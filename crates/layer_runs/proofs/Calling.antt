@@ -1,8 +1,7 @@
 -- A call of a primitive, from its entry to its return.
-use Rattle.std.proofs.Common.{◌≡◌, ◌≢◌, ℕ, zero, suc, ◌+◌, ◌-◌, ◌*◌, ◌/◌, ◌%◌, ◌^◌, ◌<◌, ◌≤◌, ◌⊎◌, ℤ, pos, ◌&&◌, Bool, true, false, not, Some, None, nat_lt, get_or, List, [], ◌∷◌, ◌++◌, length, slice_index, All, refl, sym, ap, ap₂, ◌∙◌, subst, ⊎_elim, inl, inr, true≢false, arith, le-ltb}
-use Rattle.std.specs.Prelude.{if◌then◌else◌, nat_le, drop}
-use Rattle.std.proofs.lemmas.Bool.{cases_lt, cases_eq, cond_both}
-use Rattle.std.proofs.lemmas.Bool.Decides.{nat_tests}
+use Rattle.std.proofs.Common.{◌≡◌, ℕ, ◌+◌, ◌-◌, ◌*◌, ◌/◌, ◌^◌, ◌<◌, ◌≤◌, ℤ, ◌&&◌, true, not, Some, None, List, [], ◌∷◌, ◌++◌, length, slice_index, All, refl, sym, ap, ◌∙◌, subst, ⊎_elim, inr, true≢false, arith, le-ltb}
+use Rattle.std.specs.Prelude.{if◌then◌else◌, nat_le}
+use Rattle.std.proofs.lemmas.Bool.{cases_lt, cond_both}
 use Rattle.std.proofs.lemmas.List.{ext_get_or, get_or_past, length-drop}
 use Rattle.std.proofs.lemmas.List.Elements.{All-get_or, All-from_recursion}
 use Rattle.std.specs.Int.{cast_unsigned, w32}
@@ -10,42 +9,29 @@ use Rattle.std.proofs.lemmas.Int.{of_z-to_z}
 use Rattle.mips_table.specs.declared.inst.Inst.{Inst}
 use Rattle.mips_table.specs.declared.inst.Inst.TheVariants.{Jr}
 use Rattle.mips_table.specs.Arith.{signed}
-use Rattle.mips_table.specs.Processor.{Cpu}
 use Rattle.mips_table.specs.Flat.{Flat}
-use Rattle.mips_table.specs.Device.{Device, Idle, Outside, BUFFER, COMMAND}
-use Rattle.mips_table.specs.Machine.{LOG, LOG_ROOM, State, run}
-use Rattle.mips_table.specs.Fits.{IsWord, CpuFits}
-use Rattle.mips_table.specs.Code.{Contents, reg, Behind, World, Sound, Configuration, at_with, CodeAt, Reaches}
-use Rattle.mips_table.specs.Simulation.{configuration_of}
+use Rattle.mips_table.specs.Device.{Idle, Outside}
+use Rattle.mips_table.specs.Machine.{LOG_ROOM, State, run}
+use Rattle.mips_table.specs.Fits.{IsWord}
+use Rattle.mips_table.specs.Code.{Contents, Behind, World, Sound, Configuration, at_with, Reaches}
 use Rattle.masm.specs.Laws.{From, ReturnRuns}
-use Rattle.layer_map.specs.Map.{Map, MapInRange, layer_words, current_at, hand_at, block_at, code_at, stack_at, tables_at, memory_words}
+use Rattle.layer_map.specs.Map.{Map, layer_words, current_at, hand_at, memory_words}
 use Rattle.page_model.specs.Paging.{PagesStand}
-use Rattle.page_model.specs.Places.{Places, layout_of, places_of, view}
-use Rattle.page_model.specs.Laws.{AlikesStand}
-use Rattle.frame_table.specs.View.{Sited, Ported}
-use Rattle.page_fault.specs.Asked.{MapsAreSited}
-use Rattle.c0_meaning.specs.Value.{Value}
+use Rattle.page_model.specs.Places.{layout_of, places_of, view}
 use Rattle.cvm_model.specs.Kernel.{Console, flat, Core}
-use Rattle.cvm_model.specs.Primitives.{Call, VmGet, VmSet, VmSize, VmResize, VmWord, VmPut, VmCopy, ConPut, ConGet, ConLeft, Given, prim, is_good, granted, refused, unchanged, primitive_number, arguments_of, units_of, user_of, pages_of}
+use Rattle.cvm_model.specs.Primitives.{Call, ConPut, ConGet, Given, prim, is_good, granted, refused, unchanged, primitive_number, units_of}
 use Rattle.cvm_model.specs.Cvm.{Running, run_steps}
 use Rattle.cvm_model.specs.Paged.{pages_by}
-use Rattle.cvm_model.specs.Stands.{Site, IsUser, input_room, CoreFits, UserFits, Stands, is_own, runs_user}
-use Rattle.layer_contract.specs.declared.entry.Entry.TheVariants.{Primitive}
-use Rattle.layer_contract.specs.Layer.{Inside, IsAt, Comes, IsEntry, AreArguments, BusyWithin, InCode, PrimitiveCalled, given, Returned, ComesBack, PrimitivesAnswer}
-use Rattle.register_primitives.specs.Blocks.{IsOneOf, BlocksHold, console_of, Entered, Left}
-use Rattle.register_primitives.specs.Laws.{RegistersAnswer}
-use Rattle.cvm_primitives.specs.View.{page_steps, start, Held}
-use Rattle.cvm_primitives.specs.Calls.{CallEntered, CallLeft, call_steps, MemoryAnswers}
+use Rattle.cvm_model.specs.Stands.{Site, input_room, CoreFits, Stands, is_own}
+use Rattle.layer_contract.specs.Layer.{Inside, InCode, given, Returned, ComesBack}
+use Rattle.register_primitives.specs.Blocks.{BlocksHold}
 use Rattle.layer_runs.specs.Image.{returning, routine_at, image_site, IsMade}
-use Rattle.layer_runs.specs.Runs.{Standing, Calm, kept_words, block_world, Between}
-use Rattle.layer_runs.proofs.Shown.{Shown, IsKernels, Order, order_of, words_of, behind, word_is, user_fits, blocks_agree, pages_agree, Follows, shown, stood}
-use Rattle.layer_runs.proofs.Placed.{listed, linked_length}
+use Rattle.layer_runs.specs.Runs.{Calm, kept_words, block_world}
+use Rattle.layer_runs.proofs.Shown.{IsKernels, Order, order_of, behind, word_is, stood}
 use Rattle.layer_runs.proofs.Ways.{way_from}
-use Rattle.layer_runs.proofs.Arrivals.{Below, Arrives, Enters, contents}
-use Rattle.layer_runs.proofs.Exits.{Tools, not_user, Routed, routed, arrives_in}
+use Rattle.layer_runs.proofs.Arrivals.{Below, Arrives, contents}
+use Rattle.layer_runs.proofs.Exits.{Tools, not_user, Routed, arrives_in}
 use Rattle.layer_runs.proofs.Leaving.{free_own}
-use Rattle.layer_runs.proofs.Keeping.{free_block}
-use Rattle.layer_runs.proofs.Interrupting.{pages_same}
 use Rattle.layer_runs.proofs.Fitting.{HasWord, prim_fits}
 
 -- what a call leaves, of either kind of primitive

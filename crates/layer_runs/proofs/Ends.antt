@@ -1,5 +1,5 @@
 -- The steps that end a run of the layer's code: a store to the power port, and eret.
-use Rattle.std.proofs.Common.{◌≡◌, ◌≢◌, ℕ, zero, suc, ◌+◌, ◌*◌, ◌/◌, ◌%◌, ◌<◌, ◌≤◌, Some, List, length, slice_index, slice_set, refl, sym, ap, ap₂, ◌∙◌, subst, ⊎_elim, arith}
+use Rattle.std.proofs.Common.{◌≡◌, ◌≢◌, ℕ, zero, suc, ◌+◌, ◌*◌, ◌/◌, ◌<◌, ◌≤◌, Some, List, length, slice_index, refl, sym, ap, ap₂, ◌∙◌, subst, ⊎_elim, arith}
 use Rattle.mips_table.specs.declared.inst.Inst.{Inst}
 use Rattle.mips_table.specs.declared.inst.Inst.TheVariants.{Sw, Eret}
 use Rattle.mips_table.specs.Arith.{sum, extended}
@@ -8,17 +8,16 @@ use Rattle.mips_table.specs.Device.{Device, Idle, POWER, Outside, sector_of, set
 use Rattle.mips_table.specs.Machine.{EPC, State, left, latched, ended, step, run}
 use Rattle.mips_table.specs.Fits.{Fits, StaysFitting}
 use Rattle.mips_table.specs.Code.{Configuration}
-use Rattle.mips_table.specs.Simulation.{space, behind_of, Quiet}
+use Rattle.mips_table.specs.Simulation.{space, behind_of}
 use Rattle.mips_table.specs.Borders.{EretLeaves, PowerEnds}
 use Rattle.masm.specs.Standing.{placed, BlockStands}
 use Rattle.layer_map.specs.Map.{layer_words}
 use Rattle.cvm_model.specs.Stands.{Site}
-use Rattle.layer_contract.specs.declared.entry.Entry.{Entry}
 use Rattle.layer_contract.specs.Layer.{entry_address, Inside, Comes, IsEntry}
 use Rattle.layer_runs.specs.Runs.{Standing, Calm, block_program, Between}
 use Rattle.layer_runs.proofs.Shown.{words_of, behind}
 use Rattle.layer_runs.proofs.Blocks.{sound, holds}
-use Rattle.layer_runs.proofs.Ways.{IsApart, no_entry, joins, way, way_from}
+use Rattle.layer_runs.proofs.Ways.{IsApart, no_entry, joins, way_from}
 use Rattle.layer_runs.proofs.Arrivals.{Below, Arrives, Enters}
 
 -- what such a step leaves as it was

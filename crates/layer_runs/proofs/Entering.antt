@@ -1,31 +1,30 @@
 -- The way into the kernel: from the reset to `dispatch`.
-use Rattle.std.proofs.Common.{◌≡◌, ◌≢◌, ℕ, zero, suc, ◌+◌, ◌-◌, ◌*◌, ◌/◌, ◌%◌, ◌^◌, ◌<◌, ◌≤◌, ◌⊎◌, ℤ, pos, Bool, true, false, None, List, [], ◌∷◌, ◌++◌, length, map, take, replicate, slice_index, refl, sym, ap, ap₂, ◌∙◌, subst, ⊎_elim, inl, inr, true≢false, arith}
+use Rattle.std.proofs.Common.{◌≡◌, ℕ, ◌+◌, ◌*◌, ◌/◌, ◌%◌, ◌<◌, ◌≤◌, true, None, List, length, slice_index, refl, sym, ap, ◌∙◌, subst, ⊎_elim, inl, inr, true≢false, arith}
 use Rattle.std.proofs.lemmas.Bool.Decides.{nat_tests}
 use Rattle.mips_table.specs.declared.inst.Inst.{Inst}
 use Rattle.mips_table.specs.Arith.{signed}
 use Rattle.mips_table.specs.Processor.{Cpu}
-use Rattle.mips_table.specs.Device.{Idle, Outside}
+use Rattle.mips_table.specs.Device.{Outside}
 use Rattle.mips_table.specs.Machine.{ECA, EDATA, State, run}
-use Rattle.mips_table.specs.Code.{Contents, Behind, World, Sound, Configuration, at_with, CodeAt, Reaches}
+use Rattle.mips_table.specs.Code.{Behind, World, Sound, Configuration, at_with, Reaches}
 use Rattle.mips_table.specs.Simulation.{configuration_of}
-use Rattle.layer_map.specs.Map.{Map, layer_words, current_at, hand_at, block_at, tables_at, memory_words}
+use Rattle.layer_map.specs.Map.{Map, layer_words, current_at}
 use Rattle.page_model.specs.Paging.{PagesStand}
 use Rattle.page_model.specs.Places.{Places, layout_of, places_of, view}
 use Rattle.page_fault.specs.Code.{page_code}
 use Rattle.pcb_layer.specs.Code.{saved_at}
-use Rattle.pcb_layer.specs.Laws.{IsRegister, HasSaveArea, MaySave}
+use Rattle.pcb_layer.specs.Laws.{HasSaveArea, MaySave}
 use Rattle.cvm_model.specs.Kernel.{Core}
-use Rattle.cvm_model.specs.Primitives.{pages_of}
-use Rattle.cvm_model.specs.Cvm.{Running, reset_steps}
+use Rattle.cvm_model.specs.Cvm.{Running}
 use Rattle.cvm_model.specs.Paged.{pages_by}
-use Rattle.cvm_model.specs.Stands.{Site, is_own, CoreFits, Stands, runs_user}
+use Rattle.cvm_model.specs.Stands.{Site, is_own, Stands}
 use Rattle.layer_contract.specs.declared.entry.Entry.TheVariants.{Dispatch}
-use Rattle.layer_contract.specs.Layer.{Inside, IsAt, Comes, IsEntry, Linked, Starts, AfterReset, DispatchCalled, EntersFirst, ResetStands}
+use Rattle.layer_contract.specs.Layer.{Inside, IsAt, Linked, EntersFirst, ResetStands}
 use Rattle.trap_entry.specs.Code.{handler_code}
 use Rattle.trap_entry.specs.Laws.{IsUnsaved, ResetEntered, EntersFirst as RunsFirst}
-use Rattle.layer_runs.specs.Image.{interrupt_code, layer_image, image_site, IsMade}
+use Rattle.layer_runs.specs.Image.{interrupt_code, image_site, IsMade}
 use Rattle.layer_runs.specs.Runs.{Standing, Calm, kept_words, block_world}
-use Rattle.layer_runs.proofs.Shown.{Shown, IsKernels, Order, order_of, words_of, behind, word_is, blocks_agree, pages_agree, Follows, shown, stood}
+use Rattle.layer_runs.proofs.Shown.{Shown, Order, order_of, words_of, behind, word_is, blocks_agree, pages_agree, shown, stood}
 use Rattle.layer_runs.proofs.Blocks.{sound}
 use Rattle.layer_runs.proofs.Placed.{handler_length, handler_stands, linked_length}
 use Rattle.layer_runs.proofs.Ways.{way}

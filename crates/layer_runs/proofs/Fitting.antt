@@ -1,13 +1,12 @@
 -- What a primitive leaves of the users fits as they did.
-use Rattle.std.proofs.Common.{◌≡◌, ◌≢◌, ℕ, zero, suc, ◌+◌, ◌-◌, ◌*◌, ◌/◌, ◌%◌, ◌^◌, ◌<◌, ◌≤◌, ℤ, pos, negsuc, nat_abs, ◌&&◌, Bool, true, false, not, List, [], ◌∷◌, ◌++◌, length, take, drop, replicate, slice_index, slice_set, All, refl, sym, ap, ◌∙◌, subst, arith, length-set, get_or-set_other}
-use Rattle.std.specs.Prelude.{◌==◌, if◌then◌else◌, nat_le}
+use Rattle.std.proofs.Common.{◌≡◌, ℕ, ◌+◌, ◌-◌, ◌*◌, ◌/◌, ◌%◌, ◌≤◌, ℤ, pos, negsuc, nat_abs, ◌&&◌, Bool, true, false, not, List, ◌++◌, length, take, drop, replicate, slice_set, All, refl, ◌∙◌, arith, length-set, get_or-set_other}
+use Rattle.std.specs.Prelude.{◌==◌, nat_le}
 use Rattle.std.specs.Int.{cast_unsigned, w32}
 use Rattle.std.proofs.lemmas.Bool.{cond_both, and_parts, leb-true}
 use Rattle.std.proofs.lemmas.List.{length-append, length-take, length-drop, length-replicate}
 use Rattle.std.proofs.lemmas.List.Elements.{All-set, All-append, All-replicate, All-take, All-drop}
 use Rattle.mips_table.specs.Flat.{Flat}
-use Rattle.mips_table.specs.Processor.{Cpu}
-use Rattle.mips_table.specs.Fits.{IsWord, CpuFits, AreRegisters}
+use Rattle.mips_table.specs.Fits.{IsWord, CpuFits}
 use Rattle.cvm_model.specs.Kernel.{Console}
 use Rattle.cvm_model.specs.Primitives.{Call, VmGet, VmSet, VmSize, VmResize, VmWord, VmPut, VmCopy, ConPut, ConGet, ConLeft, Given, no_flat, user_of, with_user, pages_of, with_register, resized, with_word, with_words, is_within, is_place, overlap, is_good, granted, unchanged, refused, prim}
 use Rattle.cvm_model.specs.Stands.{UserFits}

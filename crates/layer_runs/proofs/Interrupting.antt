@@ -1,43 +1,24 @@
 -- The state in which the handler begins after an interrupt of a user, and that in which `dispatch` is called: the user stands in its control block.
-use Rattle.std.proofs.Common.{◌≡◌, ◌≢◌, ℕ, zero, suc, ◌+◌, ◌-◌, ◌*◌, ◌/◌, ◌%◌, ◌^◌, ◌<◌, ◌≤◌, ◌⊎◌, ℤ, pos, ◌&&◌, Bool, true, false, Some, None, nat_lt, get_or, List, [], ◌∷◌, length, slice_index, slice_set, All, refl, sym, ap, ap₂, ◌∙◌, subst, ⊎_elim, inl, inr, true≢false, arith, lt-ltb, ne_eqb, eqb-true, length-set, get_or-set_same, get_or-set_other}
-use Rattle.std.specs.Prelude.{◌==◌, if◌then◌else◌}
+use Rattle.std.proofs.Common.{◌≡◌, ◌≢◌, ℕ, ◌+◌, ◌-◌, ◌*◌, ◌/◌, ◌%◌, ◌≤◌, Bool, true, false, None, nat_lt, get_or, List, length, slice_index, slice_set, refl, sym, ap, ◌∙◌, ⊎_elim, arith, eqb-true, get_or-set_same, get_or-set_other}
+use Rattle.std.specs.Prelude.{◌==◌}
 use Rattle.std.proofs.lemmas.Bool.{cond-true, cond-false, cases_eq, eqb-false}
-use Rattle.std.proofs.lemmas.Bool.Decides.{nat_tests}
-use Rattle.std.proofs.lemmas.List.Elements.{All-get_or, All-set}
-use Rattle.mips_table.specs.declared.inst.Inst.{Inst}
 use Rattle.mips_table.specs.declared.cause.Cause.{Cause}
 use Rattle.mips_table.specs.declared.cause.Cause.TheVariants as causes
-use Rattle.mips_table.specs.Arith.{signed}
 use Rattle.mips_table.specs.Processor.{Cpu}
 use Rattle.mips_table.specs.Flat.{Flat}
-use Rattle.mips_table.specs.Device.{Device, Idle, Outside, settled, counted}
-use Rattle.mips_table.specs.Machine.{ECA, EPC, EDATA, PTO, PTL, SR, MODE, ESR, EMODE, number_of, State, Interrupt, latched, coming, cleared, interrupted, taken, ended, step, run}
-use Rattle.mips_table.specs.Turns.{is_on, in_user, is_handled, handled}
-use Rattle.mips_table.specs.Fits.{IsWord, CpuFits}
-use Rattle.mips_table.specs.Code.{Contents, Behind, World, Sound, Configuration, at_with, Reaches}
-use Rattle.mips_table.specs.Simulation.{configuration_of, Quiet}
+use Rattle.mips_table.specs.Device.{Outside, settled, counted}
+use Rattle.mips_table.specs.Machine.{number_of, State, Interrupt, latched, coming, cleared, interrupted, taken, ended, step}
+use Rattle.mips_table.specs.Simulation.{Quiet}
 use Rattle.mips_table.specs.Borders.{Taken, InterruptsAreTaken}
-use Rattle.layer_map.specs.Map.{Map, current_at, hand_at, block_at, tables_at, memory_words}
-use Rattle.page_model.specs.Paging.{Layout, Pages, Paged, PagesStand}
-use Rattle.page_model.specs.Places.{Places, layout_of, places_of, view}
-use Rattle.page_model.specs.Laws.{AlikesStand}
-use Rattle.pcb_layer.specs.Laws.{IsRegister, MaySave, MayKeep, IsCurrent, IsBeside}
-use Rattle.pcb_layer.specs.Code.{saved_at}
+use Rattle.layer_map.specs.Map.{block_at}
+use Rattle.page_model.specs.Paging.{Layout, Paged, PagesStand}
 use Rattle.cvm_model.specs.Kernel.{Core}
 use Rattle.cvm_model.specs.Primitives.{no_flat, user_of, with_user, pages_of, register_of}
-use Rattle.cvm_model.specs.Cvm.{Running}
 use Rattle.cvm_model.specs.Paged.{pages_by}
-use Rattle.cvm_model.specs.Stands.{Site, IsUser, CoreFits, UserFits, Runs, Stands, block_cpu, is_own, runs_user}
-use Rattle.layer_contract.specs.Layer.{Back, with_epc}
+use Rattle.cvm_model.specs.Stands.{Site, block_cpu}
 use Rattle.layer_contract.specs.Users.{Premises, IsTakenAt, UsersAreInterrupted}
 use Rattle.register_primitives.specs.Blocks.{IsOneOf, BlocksHold, word_of}
-use Rattle.trap_entry.specs.Laws.{IsHandled, IsUnsaved, UserEntered}
-use Rattle.layer_runs.specs.Image.{image_site, IsMade}
-use Rattle.layer_runs.specs.Runs.{Calm, kept_words}
-use Rattle.layer_runs.proofs.Shown.{Shown, IsKernels, Order, order_of, words_of, behind, word_is, block_reg, user_fits, blocks_agree, pages_agree, Follows, stood}
-use Rattle.layer_runs.proofs.Placed.{linked_length}
-use Rattle.layer_runs.proofs.Arrivals.{contents}
-use Rattle.layer_runs.proofs.Leaving.{free_own}
+use Rattle.layer_runs.proofs.Shown.{block_reg}
 
 -- user u's control block holds this machine's processor, and its size
 pub record BlockHolds (u : ℕ) (f : Flat) (words : ℕ → ℕ) : Type 0 where

@@ -1,5 +1,5 @@
 -- The way into the kernel from a user: the handler keeps the user in its control block, and comes to `dispatch`.
-use Rattle.std.proofs.Common.{◌≡◌, ◌≢◌, ℕ, zero, suc, ◌+◌, ◌-◌, ◌*◌, ◌/◌, ◌%◌, ◌^◌, ◌<◌, ◌≤◌, ◌⊎◌, ℤ, pos, ◌&&◌, Bool, true, false, Option, not, Some, None, nat_lt, List, [], ◌∷◌, length, slice_index, slice_set, All, refl, sym, ap, ap₂, ◌∙◌, subst, ⊎_elim, inl, inr, true≢false, arith, lt-ltb, ne_eqb, length-set}
+use Rattle.std.proofs.Common.{◌≡◌, ◌≢◌, ℕ, ◌+◌, ◌-◌, ◌*◌, ◌<◌, ◌≤◌, ◌&&◌, Bool, true, false, Option, not, Some, None, List, length, slice_index, refl, sym, ap, ap₂, ◌∙◌, subst, ⊎_elim, inl, inr, true≢false, arith, lt-ltb, ne_eqb, length-set}
 use Rattle.std.specs.Prelude.{is_some}
 use Rattle.std.proofs.lemmas.Bool.{cases_eq, cases_lt}
 use Rattle.std.proofs.lemmas.Bool.Decides.{nat_tests}
@@ -9,32 +9,31 @@ use Rattle.mips_table.specs.declared.cause.Cause.TheVariants as causes
 use Rattle.mips_table.specs.Arith.{signed}
 use Rattle.mips_table.specs.Processor.{Cpu}
 use Rattle.mips_table.specs.Flat.{Flat}
-use Rattle.mips_table.specs.Device.{Device, Idle, Outside}
+use Rattle.mips_table.specs.Device.{Device, Outside}
 use Rattle.mips_table.specs.Machine.{ECA, EPC, EDATA, PTL, number_of, State, Interrupt, latched, coming, step, run}
 use Rattle.mips_table.specs.Turns.{is_on, in_user, is_handled, handled}
-use Rattle.mips_table.specs.Fits.{IsWord, CpuFits}
-use Rattle.mips_table.specs.Code.{Contents, Behind, World, Sound, Configuration, at_with, Reaches}
-use Rattle.mips_table.specs.Simulation.{configuration_of, contents_of, behind_of}
+use Rattle.mips_table.specs.Fits.{IsWord}
+use Rattle.mips_table.specs.Code.{Behind, World, Sound, Configuration, at_with, Reaches}
+use Rattle.mips_table.specs.Simulation.{configuration_of, behind_of}
 use Rattle.mips_table.specs.Borders.{InterruptsAreTaken}
-use Rattle.layer_map.specs.Map.{Map, current_at, hand_at, block_at, tables_at, zero_frame_at, memory_words}
+use Rattle.layer_map.specs.Map.{Map, current_at, block_at, memory_words}
 use Rattle.page_model.specs.Paging.{PagesStand}
 use Rattle.page_model.specs.Places.{layout_of, places_of, view}
 use Rattle.page_fault.specs.Code.{page_code}
 use Rattle.page_model.specs.Laws.{AlikesStand}
-use Rattle.pcb_layer.specs.Laws.{IsRegister, MaySave, MayKeep, IsCurrent, IsBeside}
+use Rattle.pcb_layer.specs.Laws.{MaySave, MayKeep, IsCurrent, IsBeside}
 use Rattle.pcb_layer.specs.Code.{saved_at}
 use Rattle.cvm_model.specs.Kernel.{Core}
-use Rattle.cvm_model.specs.Primitives.{no_flat, user_of, with_user, pages_of}
-use Rattle.cvm_model.specs.Cvm.{Running, enter_steps}
+use Rattle.cvm_model.specs.Primitives.{user_of, with_user, pages_of}
+use Rattle.cvm_model.specs.Cvm.{Running}
 use Rattle.cvm_model.specs.Paged.{pages_by}
-use Rattle.cvm_model.specs.Stands.{Site, IsUser, CoreFits, UserFits, Runs, Stands, block_cpu, is_own, runs_user}
-use Rattle.layer_contract.specs.Layer.{Back, Comes, IsEntry, DispatchCalled, Enters, with_epc}
+use Rattle.cvm_model.specs.Stands.{Site, IsUser, UserFits, Runs, Stands, is_own, runs_user}
+use Rattle.layer_contract.specs.Layer.{Back, Enters, with_epc}
 use Rattle.layer_contract.specs.Users.{Premises, IsTakenAt, UsersAreInterrupted}
-use Rattle.register_primitives.specs.Blocks.{IsOneOf, BlocksHold}
 use Rattle.trap_entry.specs.Laws.{IsHandled, IsUnsaved, UserEntered, EntersKernel}
 use Rattle.layer_runs.specs.Image.{image_site, IsMade}
-use Rattle.layer_runs.specs.Runs.{Standing, Calm, kept_words, block_world}
-use Rattle.layer_runs.proofs.Shown.{Shown, IsKernels, Order, order_of, words_of, behind, word_is, user_fits, pages_agree, Follows, stood}
+use Rattle.layer_runs.specs.Runs.{Calm, kept_words, block_world}
+use Rattle.layer_runs.proofs.Shown.{Order, order_of, words_of, behind, word_is, user_fits, pages_agree, stood}
 use Rattle.layer_runs.proofs.Blocks.{sound}
 use Rattle.layer_runs.proofs.Placed.{linked_length}
 use Rattle.layer_runs.proofs.Ways.{way}
@@ -182,7 +181,6 @@ module _ (m : Map) (sizes code : List ℕ) (made : IsMade m sizes code) where
             (block_agrees u (user_of c.users u) (slice_index s.memory) (words_of t2)
             (λ k low top. same_word k (⊎_elim (λ less. inl (omega arith)) (λ le. inr (inl (omega arith))) (cases_lt u c.current)) (inr (omega arith)) (omega arith))
             (block_from s.memory u (user_of c.users u) (st.users.sizes u is) (st.users.blocks u is (ap (λ b. runs_user s && b) (ne_eqb u c.current ne) ∙ none (runs_user s)))))
-
 
     kept_stands : AlikesStand → Calm x y t2 → length t2.memory ≡ length s.memory → IsWord epc → Stands x y t2 Running (with_epc c epc)
     kept_stands alikes k size word =

@@ -15,3 +15,4 @@ pub mod Fitting
 pub mod Calling
 pub mod Primitives
 pub mod Laying
+pub mod Settling

@@ -1,11 +1,10 @@
 -- What a layer's image holds in the layer's variables and in the control blocks.
-use Rattle.std.proofs.Common.{◌≡◌, ◌≢◌, ℕ, zero, suc, ◌+◌, ◌-◌, ◌*◌, ◌<◌, ◌≤◌, List, [], ◌∷◌, ◌++◌, length, map, take, replicate, slice_index, refl, sym, ap, ◌∙◌, subst, ⊎_elim, arith}
-use Rattle.std.proofs.lemmas.Bool.{cases_lt, cases_eq}
-use Rattle.std.proofs.lemmas.List.{take_at, length-append, get_or_append_left, get_or-append_right, get_or-replicate}
-use Rattle.mips_table.specs.Encoding.{encoding}
-use Rattle.layer_map.specs.Map.{Map, MapInRange, layer_words, block_at, heap_at, stack_at}
-use Rattle.layer_contract.specs.Layer.{BlockLinked, Linked}
-use Rattle.layer_runs.specs.Image.{interrupt_code, filled, variables, block_words, blocks, second_code, layer_image, image_site, IsMade}
+use Rattle.std.proofs.Common.{◌≡◌, ◌≢◌, ℕ, zero, suc, ◌+◌, ◌-◌, ◌*◌, ◌<◌, List, [], ◌∷◌, ◌++◌, length, take, replicate, slice_index, refl, sym, ap, ◌∙◌, ⊎_elim, arith}
+use Rattle.std.proofs.lemmas.Bool.{cases_lt}
+use Rattle.std.proofs.lemmas.List.{take_at, get_or_append_left, get_or-append_right, get_or-replicate}
+use Rattle.layer_map.specs.Map.{Map, layer_words, block_at}
+use Rattle.layer_contract.specs.Layer.{Linked}
+use Rattle.layer_runs.specs.Image.{filled, variables, block_words, blocks, layer_image, IsMade}
 use Rattle.layer_runs.proofs.Placed.{parts_length, in_second, in_fourth, filled_word, first_words, second_words, first_size, variables_size, second_size, blocks_size, blocks_length}
 
 -- a control block's words

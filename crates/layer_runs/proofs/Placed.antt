@@ -1,7 +1,5 @@
 -- Where the parts of a layer's image stand in the linked words: handler, entries and routines.
-use Rattle.std.proofs.Common.{◌≡◌, ◌≢◌, ℕ, zero, suc, ◌+◌, ◌-◌, ◌*◌, ◌<◌, ◌≤◌, Bool, true, false, ◌&&◌, ◌||◌, nat_lt, List, [], ◌∷◌, ◌++◌, length, map, take, replicate, slice_index, get_or, All, refl, sym, ap, ◌∙◌, subst, arith, lt-ltb, le-ltb}
-use Rattle.std.specs.Prelude.{nat_le, slice_index_or, flat_map}
-use Rattle.std.specs.List.{range_with_len}
+use Rattle.std.proofs.Common.{◌≡◌, ℕ, ◌+◌, ◌-◌, ◌*◌, ◌<◌, ◌≤◌, false, List, [], ◌∷◌, ◌++◌, length, map, take, replicate, slice_index, get_or, refl, sym, ap, ◌∙◌, subst, arith}
 use Rattle.std.proofs.lemmas.List.{length-append, length-replicate, length-map, get_or_append_left, get_or-append_right, get_or-map}
 use Rattle.std.proofs.lemmas.List.Concat.{get_or-flat_map}
 use Rattle.std.proofs.lemmas.List.Folds.{length-flat_map-take}
@@ -10,16 +8,16 @@ use Rattle.std.proofs.lemmas.Bool.Decides.{nat_tests}
 use Rattle.mips_table.specs.declared.inst.Inst.{Inst}
 use Rattle.mips_table.specs.declared.inst.Inst.TheVariants.{J, Eret}
 use Rattle.mips_table.specs.Encoding.{InRange, encoding}
-use Rattle.layer_map.specs.Map.{Map, MapInRange, block_at}
+use Rattle.layer_map.specs.Map.{Map}
 use Rattle.page_model.specs.Places.{places_of}
 use Rattle.page_fault.specs.Code.{page_code}
 use Rattle.trap_entry.specs.Code.{leave_code, exit_code}
 use Rattle.register_primitives.specs.Code.{vm_get_code, vm_set_code, vm_size_code, con_put_code, con_get_code, con_left_code}
 use Rattle.cvm_primitives.specs.Code.{vm_word_code, vm_put_code, vm_copy_code, vm_resize_code}
 use Rattle.cvm_model.specs.Stands.{Site, is_own}
-use Rattle.layer_runs.specs.Image.{returning, interrupt_code, routines, joined, routine, routine_at, entries, filled, variables, block_words, blocks, second_code, layer_image, image_site, IsMade}
+use Rattle.layer_runs.specs.Image.{returning, interrupt_code, routines, joined, routine, routine_at, entries, filled, variables, block_words, blocks, second_code, image_site, IsMade}
 use Rattle.layer_runs.specs.Runs.{Standing}
-use Rattle.layer_runs.proofs.Ranges.{fits_in, all_in, all_fit, handler_fits, routines_fit}
+use Rattle.layer_runs.proofs.Ranges.{all_in, handler_fits, routines_fit}
 
 filled_length : (n : ℕ) (ws : List ℕ) → length ws ≤ n → length (filled n ws) ≡ n
 filled_length n ws le = length-append ws (replicate (n - length ws) 0) ∙ omega (arith, length-replicate {A = ℕ} (n - length ws) 0)

@@ -1,36 +1,32 @@
 -- The ten primitives: each is entered as its law asks, and what it leaves is what the return asks.
-use Rattle.std.proofs.Common.{◌≡◌, ◌≢◌, ℕ, zero, suc, ◌+◌, ◌-◌, ◌*◌, ◌/◌, ◌%◌, ◌^◌, ◌<◌, ◌≤◌, ◌⊎◌, ℤ, pos, Bool, true, false, Some, None, nat_lt, List, [], ◌∷◌, length, slice_index, All, refl, sym, ap, ap₂, ◌∙◌, subst, ⊎_elim, inl, inr, arith}
+use Rattle.std.proofs.Common.{◌≡◌, ℕ, ◌+◌, ◌*◌, ◌^◌, ◌<◌, ◌≤◌, ℤ, List, length, slice_index, refl, sym, ap, ap₂, ◌∙◌, subst, ⊎_elim, inl, inr, arith}
 use Rattle.mips_table.specs.declared.inst.Inst.{Inst}
-use Rattle.mips_table.specs.Arith.{signed}
 use Rattle.mips_table.specs.Flat.{Flat}
-use Rattle.mips_table.specs.Device.{Device, Idle, Outside, BUFFER, COMMAND}
+use Rattle.mips_table.specs.Device.{Outside}
 use Rattle.mips_table.specs.Machine.{LOG, State, run}
-use Rattle.mips_table.specs.Fits.{IsWord}
 use Rattle.mips_table.specs.Code.{Contents, Behind, World, Sound}
 use Rattle.masm.specs.Laws.{From, ReturnRuns}
-use Rattle.layer_map.specs.Map.{Map, layer_words, current_at, hand_at, block_at, tables_at, memory_words}
+use Rattle.layer_map.specs.Map.{Map, current_at, tables_at, memory_words}
 use Rattle.page_model.specs.Paging.{PagesStand}
 use Rattle.page_model.specs.Places.{layout_of, places_of, view}
-use Rattle.page_model.specs.Laws.{AlikesStand}
 use Rattle.page_fault.specs.Code.{page_code}
 use Rattle.page_fault.specs.Asked.{MapsAreSited}
 use Rattle.cvm_model.specs.Kernel.{Console, Core}
-use Rattle.cvm_model.specs.Primitives.{Call, VmGet, VmSet, VmSize, VmResize, VmWord, VmPut, VmCopy, ConPut, ConGet, ConLeft, Given, prim, primitive_number, arguments_of, units_of, user_of, pages_of}
+use Rattle.cvm_model.specs.Primitives.{Call, VmGet, VmSet, VmSize, VmResize, VmWord, VmPut, VmCopy, ConPut, ConGet, ConLeft, Given, prim, primitive_number, units_of, user_of}
 use Rattle.cvm_model.specs.Cvm.{Running, run_steps}
 use Rattle.cvm_model.specs.Paged.{pages_by}
 use Rattle.cvm_model.specs.Stands.{Site, UserFits, Stands}
 use Rattle.layer_contract.specs.Layer.{Inside, BusyWithin, InCode, PrimitiveCalled, given, ComesBack, PrimitivesAnswer}
-use Rattle.register_primitives.specs.Blocks.{IsOneOf, BlocksHold, console_of, Entered, Left}
+use Rattle.register_primitives.specs.Blocks.{IsOneOf, console_of, Entered, Left}
 use Rattle.register_primitives.specs.Code.{vm_get_code, vm_set_code, vm_size_code, con_put_code, con_get_code, con_left_code}
-use Rattle.register_primitives.specs.Laws.{RegistersAnswer, CallsAnswer, get_call, set_call, size_call, put_call}
-use Rattle.cvm_primitives.specs.View.{page_steps, start, Held}
+use Rattle.register_primitives.specs.Laws.{RegistersAnswer, get_call, set_call, size_call, put_call}
 use Rattle.cvm_primitives.specs.Code.{vm_word_code, vm_put_code, vm_copy_code, vm_resize_code}
-use Rattle.cvm_primitives.specs.Calls.{CallEntered, CallLeft, call_steps, MemoryAnswers, CallsAnswer as MemoryCalls, word_call, put_call as store_call, copy_call, resize_call}
+use Rattle.cvm_primitives.specs.Calls.{CallEntered, CallLeft, call_steps, MemoryAnswers, word_call, put_call as store_call, copy_call, resize_call}
 use Rattle.layer_runs.specs.Image.{returning, routine, routine_at, image_site, IsMade}
-use Rattle.layer_runs.specs.Runs.{Calm, kept_words, block_world}
-use Rattle.layer_runs.proofs.Shown.{Shown, IsKernels, Order, order_of, words_of, behind, word_is, user_fits, pages_agree, shown}
+use Rattle.layer_runs.specs.Runs.{block_world}
+use Rattle.layer_runs.proofs.Shown.{Shown, Order, order_of, words_of, behind, word_is, user_fits, pages_agree, shown}
 use Rattle.layer_runs.proofs.Placed.{Listed, listed, linked_length}
-use Rattle.layer_runs.proofs.Arrivals.{Below, contents}
+use Rattle.layer_runs.proofs.Arrivals.{contents}
 use Rattle.layer_runs.proofs.Exits.{Tools, not_user, Routed, routed}
 use Rattle.layer_runs.proofs.Keeping.{free_block}
 use Rattle.layer_runs.proofs.Interrupting.{pages_same}

@@ -1,8 +1,7 @@
 -- The laws of a layer, of the memory that a layer's image makes with any kernel's code behind it.
 use Rattle.std.specs.Prelude.{◌≡◌, ℕ, List, length}
 use Rattle.layer_map.specs.Map.{Map, MapInRange}
-use Rattle.cvm_model.specs.Stands.{Site}
-use Rattle.layer_contract.specs.Layer.{Linked, EntersFirst, Enters, Exits, Leaves, PrimitivesAnswer}
+use Rattle.layer_contract.specs.Layer.{Linked, EntersFirst, Enters, Exits, Leaves, PrimitivesAnswer, FaultsSettle, Laws}
 use Rattle.layer_runs.specs.Image.{layer_image, image_site, IsMade}
 
 -- the exits of the kernel's faults
@@ -28,3 +27,11 @@ ImageEnters = (m : Map) (sizes code : List ℕ) → IsMade m sizes code → Ente
 -- the primitives
 abbrev pub ImagePrimitives : Type 0
 ImagePrimitives = (m : Map) (sizes code : List ℕ) → IsMade m sizes code → PrimitivesAnswer (image_site m sizes code)
+
+-- the handled faults
+abbrev pub ImageSettles : Type 0
+ImageSettles = (m : Map) (sizes code : List ℕ) → IsMade m sizes code → FaultsSettle (image_site m sizes code)
+
+-- all of them
+abbrev pub ImageLaws : Type 0
+ImageLaws = (m : Map) (sizes code : List ℕ) → IsMade m sizes code → Laws (image_site m sizes code) sizes
