@@ -43,7 +43,8 @@ use Rattle.cvm_model.specs.TypedKernel.{RowsAreCalled}
 use Rattle.cvm_model.specs.Stands.{Site, Stands, address_of}
 use Rattle.kernel_runs.specs.Held.{HoldsAt, IsHeldFlat, HeldIsFlat}
 use Rattle.kernel_runs.specs.Outer.{Outer}
-use Rattle.kernel_runs.specs.Placed.{program, dispatch_number, CodeStands}
+use Rattle.kernel_runs.specs.Placed.{program, CodeStands}
+use Rattle.c0_unit.specs.Code.{dispatch_number}
 use Rattle.kernel_runs.proofs.Standing.{seen, behind, IsSeen, stands_of}
 use Rattle.kernel_runs.proofs.Reached.{RunsJoin, Reached, inside_of, goes_on}
 use Rattle.kernel_runs.proofs.Site.{setup}

@@ -29,7 +29,8 @@ use Rattle.cvm_model.specs.KernelMeaning.{Machines, setting_of, machines_of}
 use Rattle.cvm_model.specs.TypedKernel.{RowsAreCalled, UnitsAnswerInts}
 use Rattle.kernel_runs.specs.Held.{HeldIsFlat}
 use Rattle.kernel_runs.specs.Outer.{Outer}
-use Rattle.kernel_runs.specs.Placed.{program, dispatch_number}
+use Rattle.kernel_runs.specs.Placed.{program}
+use Rattle.c0_unit.specs.Code.{dispatch_number}
 use Rattle.kernel_runs.specs.Runs.{Fixed, UnitsRunOverLayers}
 use Rattle.kernel_runs.proofs.Bounds.{bounds_of}
 use Rattle.kernel_runs.proofs.Instructions.{sound}

@@ -13,3 +13,4 @@ pub mod Ends
 pub mod Begins
 pub mod FewUnits
 pub mod KernelRun
+pub mod Compiled

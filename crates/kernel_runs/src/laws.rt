@@ -4,12 +4,13 @@ ghost use Rattle.cvm_model.specs.Kernel.{Changes};
 ghost use Rattle.cvm_model.specs.KernelMeaning.{Machines};
 ghost use Rattle.kernel_runs.specs.Held.{HeldIsFlat};
 ghost use Rattle.kernel_runs.specs.Outer.{Outer};
-ghost use Rattle.kernel_runs.specs.Runs.{Fixed, UnitsRunOverLayers};
+ghost use Rattle.kernel_runs.specs.Runs.{CompiledUnitsRun, Fixed, UnitsRunOverLayers};
 
 use c0_expr_code::laws::areas_hold;
 use c0_meaning::laws::types_are_equal_as_written;
 use c0_meaning::run_laws::kernels_have_a_dispatch;
 use c0_runtime::laws::kernels_are_entered;
+use c0_unit::laws::{units_have_places, units_stand};
 use c0_stmt_code::laws::{steps_cost_some, steps_run, Outside};
 use cvm_model::{rows_are_called, units_stay_typed};
 use mips_table::runs::{code_runs_on_the_machine, runs_join, words_stay_words};
@@ -52,4 +53,13 @@ pub fn units_run_over_layers()
     runs_join();
     words_stay_words();
     alikes_stand();
+}
+
+/// So do the words that a checked unit is compiled to, behind the words of any layer.
+pub fn compiled_units_run()
+    ensures { CompiledUnitsRun }
+{
+    units_have_places();
+    units_stand();
+    units_run_over_layers();
 }
