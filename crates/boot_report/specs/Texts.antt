@@ -1,0 +1,40 @@
+-- The parts of a report, as they are printed one after another.
+use Rattle.std.specs.Prelude.{◌≡◌, ℕ, zero, suc, ◌+◌, ◌*◌, ◌<◌, ◌==◌, if◌then◌else◌, Option, Some, None, List, [], ◌++◌, codes, decimal, slice_index}
+use Rattle.cvm_text.specs.Hex.{hex8}
+use Rattle.mips_table.specs.Processor.{Cpu}
+use Rattle.mips_machine.specs.Machine.{Held}
+use Rattle.page_model.specs.Paging.{Paged, shown_word}
+use Rattle.cvm_model.specs.Text.{hex_row, nonzero_row}
+
+-- the texts of the numbers below n, in order
+unfoldable pub texts : (ℕ → List ℕ) → ℕ → List ℕ
+texts f zero = []
+texts f (suc n) = texts f n ++ f n
+
+-- the row of register r, and of the word of memory with number k, unless it is 0
+abbrev pub register_row : ℕ → ℕ → List ℕ
+register_row r word = nonzero_row (codes "reg " ++ decimal r) word
+
+abbrev pub memory_row : ℕ → ℕ → List ℕ
+memory_row k word = nonzero_row (codes "mem " ++ hex8 (4 * k)) word
+
+-- the rows of page p of a user, which has number q of all pages
+abbrev pub page_rows : Paged → ℕ → ℕ → List ℕ
+page_rows a q p = texts (λ i. memory_row (1024 * p + i) (shown_word a q i)) 1024
+
+-- the rows of so many pages of a user, the first of which has number q of all pages
+abbrev pub pages_rows : Paged → ℕ → ℕ → List ℕ
+pages_rows a q pages = texts (λ p. page_rows a (q + p) p) pages
+
+-- the rows of registers 1 to n
+abbrev pub register_rows : Cpu → ℕ → List ℕ
+register_rows cpu n = texts (λ i. register_row (i + 1) (slice_index cpu.regs (i + 1))) n
+
+-- a machine that is the same but for the words of the sector that was viewed
+abbrev pub SameButViewed : Held → Held → Type 0
+SameButViewed old new = new ≡ record old { hardware = record old.hardware { viewed = new.hardware.viewed } }
+
+-- a word of a page in a frame, or in the sector that was viewed
+abbrev pub page_word : Held → Option ℕ → ℕ → ℕ
+page_word held None i = slice_index held.hardware.viewed i
+page_word held (Some f) i = slice_index held.hardware.memory (1024 * f + i)

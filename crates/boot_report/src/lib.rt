@@ -1,0 +1,8 @@
+//! The report of a run, printed from the machine: rows of globals, of the console's log, and of users.
+#![tactic(auto)]
+
+mod fault;
+mod memory;
+mod rows;
+
+pub use fault::ReportFault;
