@@ -1,7 +1,6 @@
 -- Texts that are put one after another.
-use Rattle.std.proofs.Common.{◌≡◌, ℕ, zero, suc, ◌+◌, ◌*◌, ◌-◌, ◌<◌, ◌≤◌, Bool, true, false, List, [], ◌∷◌, ◌++◌, length, get_or, Option, Some, None, Result, Ok, Err, OnOk, OnErr, min, take, refl, sym, ap, ◌∙◌, subst, arith, append-nil, append_assoc, ⊎_elim}
+use Rattle.std.proofs.Common.{◌≡◌, ℕ, zero, suc, ◌+◌, ◌*◌, ◌-◌, ◌<◌, ◌≤◌, Bool, true, false, List, [], ◌∷◌, ◌++◌, length, get_or, Option, Some, None, Result, Ok, Err, OnOk, OnErr, min, take, refl, sym, ap, ◌∙◌, subst, arith, append-nil, append_assoc}
 use Rattle.std.specs.Io.KnownBytes.{append_known}
-use Rattle.std.proofs.lemmas.Bool.{cases_lt}
 use Rattle.cvm_outside.specs.Told.{AppendsPart}
 use Rattle.cvm_outside.proofs.Parts.{append_known-nil, puts-both, part-front, part-back}
 use Rattle.boot_report.specs.Texts.{texts}
@@ -56,3 +55,14 @@ put_none f old = sym (append_known-nil old) ∙ ap (append_known old) (sym (text
 
 pub no_ok : {T E : Type 0} (r : Result T E) (P : Type 0) (e : E) → r ≡ Err e → OnOk r P
 no_ok r P e h = subst (λ r. OnOk r P) (sym h) tt
+
+take_whole : (xs : List ℕ) → take (length xs) xs ≡ xs
+take_whole [] = refl
+take_whole (x ∷ xs) = ap (λ l. x ∷ l) (take_whole xs)
+
+-- nothing more is put after the first i
+pub stop_part : (f : ℕ → List ℕ) (i n : ℕ) (old mid : Option (List ℕ)) → i ≤ n → mid ≡ append_known old (texts f i) → AppendsPart old mid (texts f n)
+stop_part f i n old mid le h =
+    let d : i + (n - i) ≡ n = omega (arith, le) in
+    subst (AppendsPart old mid) (sym (texts-add f i (n - i)) ∙ ap (texts f) d)
+    (part-front old mid (texts f i) (texts (λ k. f (i + k)) (n - i)) (length (texts f i), h ∙ ap (append_known old) (sym (take_whole (texts f i)))))

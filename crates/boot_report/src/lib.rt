@@ -4,5 +4,6 @@
 mod fault;
 mod memory;
 mod rows;
+mod users;
 
 pub use fault::ReportFault;
