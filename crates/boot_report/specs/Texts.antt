@@ -1,5 +1,5 @@
 -- The parts of a report, as they are printed one after another.
-use Rattle.std.specs.Prelude.{◌≡◌, ℕ, zero, suc, ◌+◌, ◌-◌, ◌*◌, ◌/◌, ◌%◌, ◌<◌, ◌==◌, min, Bool, if◌then◌else◌, Option, Some, None, List, [], ◌++◌, codes, decimal, slice_index}
+use Rattle.std.specs.Prelude.{◌≡◌, ℕ, zero, suc, ◌+◌, ◌-◌, ◌*◌, ◌/◌, ◌%◌, ◌<◌, ◌==◌, min, Bool, if◌then◌else◌, Option, Some, None, List, [], ◌++◌, codes, decimal, slice_index, length}
 use Rattle.cvm_text.specs.Hex.{hex8}
 use Rattle.mips_table.specs.Processor.{Cpu}
 use Rattle.mips_table.specs.Machine.{State}
@@ -55,11 +55,14 @@ cpu_of held runs u = if runs then held.hardware.cpu else block_cpu held.hardware
 abbrev pub pages_in : Map → List ℕ → ℕ → ℕ
 pages_in m memory u = min (slice_index memory (block_at u + 32)) m.params.pages
 
+-- the first row of a user
+abbrev pub user_head : ℕ → ℕ → ℕ → List ℕ
+user_head u pages pc = hex_row (codes "user " ++ decimal u ++ codes " pages " ++ decimal pages ++ codes " pc") pc
+
 -- the rows of a user's processor and of its memory
 abbrev pub processor_rows : ℕ → ℕ → Cpu → List ℕ
 processor_rows u pages cpu =
-    hex_row (codes "user " ++ decimal u ++ codes " pages " ++ decimal pages ++ codes " pc") cpu.pc
-    ++ register_rows cpu 31 ++ nonzero_row (codes "hi") cpu.hi ++ nonzero_row (codes "lo") cpu.lo
+    user_head u pages cpu.pc ++ register_rows cpu 31 ++ nonzero_row (codes "hi") cpu.hi ++ nonzero_row (codes "lo") cpu.lo
 
 abbrev pub user_rows : Map → Paged → ℕ → ℕ → Cpu → List ℕ
 user_rows m a u pages cpu = processor_rows u pages cpu ++ pages_rows a ((u - 1) * m.params.pages) pages
@@ -68,3 +71,7 @@ user_rows m a u pages cpu = processor_rows u pages cpu ++ pages_rows a ((u - 1) 
 abbrev pub users_rows : Map → Held → Paged → (running : ℕ) → ℕ → List ℕ
 users_rows m held a running n =
     texts (λ i. user_rows m a (i + 1) (pages_in m held.hardware.memory (i + 1)) (cpu_of held (i + 1 == running) (i + 1))) n
+
+-- the rows of the words of the console's log
+abbrev pub log_rows : List ℕ → List ℕ
+log_rows log = texts (λ i. hex_row (codes "con") (slice_index log i)) (length log)

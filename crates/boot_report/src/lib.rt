@@ -7,3 +7,4 @@ mod rows;
 mod users;
 
 pub use fault::ReportFault;
+pub use users::{put_log, put_users};

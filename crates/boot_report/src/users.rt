@@ -6,13 +6,13 @@ ghost use Rattle.cvm_outside.specs.Told.{AppendsPart};
 ghost use Rattle.layer_map.specs.Map.{block_at, memory_words};
 ghost use Rattle.mips_machine.specs.Machine.{state_of};
 ghost use Rattle.cvm_model.specs.Paged.{paged_of};
-ghost use Rattle.boot_report.specs.Texts.{cpu_of, pages_in, register_rows, processor_rows, user_rows, users_rows, EntriesFit, SameButViewed};
+ghost use Rattle.boot_report.specs.Texts.{cpu_of, pages_in, register_rows, processor_rows, user_rows, users_rows, log_rows, EntriesFit, SameButViewed};
 
 use crate::fault::ReportFault;
 use crate::memory::put_memory;
-use crate::rows::{put_hi, put_lo, put_register, put_user};
+use crate::rows::{put_hi, put_lo, put_log_word, put_register, put_user};
 use cvm_outside::{Sectors, Sink, SinkFault};
-use layer_map::{BLOCK_HI, BLOCK_LO, BLOCK_PC, BLOCK_SIZE, Map, block_of};
+use layer_map::{BLOCK_SIZE, Map, block_of};
 use mips_machine::Machine;
 
 /// A word of a user's control block, by its number in the block.
@@ -119,5 +119,92 @@ fn put_processor<O: Sink>(
     put_registers(machine, runs, user, out)?;
     put_hi(hi_of(machine, runs, user), out)?;
     put_lo(lo_of(machine, runs, user), out)?;
+    Ok(())
+}
+
+/// Prints the rows of a user.
+///
+/// # Errors
+///
+/// A fault of the disk or of the sink.
+fn put_one<D: Sectors, O: Sink>(
+    machine: &mut Machine,
+    map: &Map,
+    runs: bool,
+    user: u32,
+    disk: &mut D,
+    out: &mut O,
+) -> Result<(), ReportFault>
+    requires user { 1 ≤ user }
+    requires most { user ≤ map.now.users }
+    requires few { map.now.users ≤ 64 }
+    requires memory { memory_words map.now ≤ length machine.old.hardware.memory }
+    requires layer { 16384 ≤ length machine.old.hardware.memory }
+    requires small { memory_words map.now ≤ 30000000 }
+    requires all { map.now.users * map.now.params.pages ≤ 65536 }
+    requires room { map.now.users * map.now.params.pages ≤ D.size disk.old }
+    ensures ok { (ss : List (List ℕ)) → D.sectors disk.old ≡ Some ss → EntriesFit map.now (state_of machine.old ss) → OnOk result (O.text out.new ≡ append_known (O.text out.old) (user_rows map.now (paged_of map.now (state_of machine.old ss)) user (pages_in map.now machine.old.hardware.memory user) (cpu_of machine.old runs user))) }
+    ensures err { (ss : List (List ℕ)) → D.sectors disk.old ≡ Some ss → EntriesFit map.now (state_of machine.old ss) → OnErr result (AppendsPart (O.text out.old) (O.text out.new) (user_rows map.now (paged_of map.now (state_of machine.old ss)) user (pages_in map.now machine.old.hardware.memory user) (cpu_of machine.old runs user))) }
+    ensures same { SameButViewed machine.old machine.new }
+    ensures sectors { D.sectors disk.new ≡ D.sectors disk.old }
+    ensures size { D.size disk.new ≡ D.size disk.old }
+    ensures disk { result ≡ Err ReportFault.Disk → Rose (D.faults disk.old) (D.faults disk.new) }
+    ensures disk_same { result ≢ Err ReportFault.Disk → D.faults disk.new ≡ D.faults disk.old }
+    ensures sink { result ≡ Err ReportFault.Sink → Rose (O.faults out.old) (O.faults out.new) }
+    ensures sink_same { result ≢ Err ReportFault.Sink → O.faults out.new ≡ O.faults out.old }
+{
+    let most = map.params().pages;
+    let pages = block_word(machine, user, BLOCK_SIZE).min(most);
+    put_processor(machine, runs, user, pages, out)?;
+    put_memory(machine, map, (user - 1) * most, pages, disk, out)
+}
+
+/// Prints the rows of all users, one of whom may run: its number, or 0.
+///
+/// # Errors
+///
+/// A fault of the disk or of the sink.
+pub fn put_users<D: Sectors, O: Sink>(
+    machine: &mut Machine,
+    map: &Map,
+    running: u32,
+    disk: &mut D,
+    out: &mut O,
+) -> Result<(), ReportFault>
+    requires few { map.now.users ≤ 64 }
+    requires memory { memory_words map.now ≤ length machine.old.hardware.memory }
+    requires layer { 16384 ≤ length machine.old.hardware.memory }
+    requires small { memory_words map.now ≤ 30000000 }
+    requires all { map.now.users * map.now.params.pages ≤ 65536 }
+    requires room { map.now.users * map.now.params.pages ≤ D.size disk.old }
+    ensures ok { (ss : List (List ℕ)) → D.sectors disk.old ≡ Some ss → EntriesFit map.now (state_of machine.old ss) → OnOk result (O.text out.new ≡ append_known (O.text out.old) (users_rows map.now machine.old (paged_of map.now (state_of machine.old ss)) running map.now.users)) }
+    ensures err { (ss : List (List ℕ)) → D.sectors disk.old ≡ Some ss → EntriesFit map.now (state_of machine.old ss) → OnErr result (AppendsPart (O.text out.old) (O.text out.new) (users_rows map.now machine.old (paged_of map.now (state_of machine.old ss)) running map.now.users)) }
+    ensures same { SameButViewed machine.old machine.new }
+    ensures sectors { D.sectors disk.new ≡ D.sectors disk.old }
+    ensures size { D.size disk.new ≡ D.size disk.old }
+    ensures disk { result ≡ Err ReportFault.Disk → Rose (D.faults disk.old) (D.faults disk.new) }
+    ensures disk_same { result ≢ Err ReportFault.Disk → D.faults disk.new ≡ D.faults disk.old }
+    ensures sink { result ≡ Err ReportFault.Sink → Rose (O.faults out.old) (O.faults out.new) }
+    ensures sink_same { result ≢ Err ReportFault.Sink → O.faults out.new ≡ O.faults out.old }
+{
+    for i in 0..map.users() {
+        put_one(machine, map, i + 1 == running, i + 1, disk, out)?;
+    }
+    Ok(())
+}
+
+/// Prints the words of the console's log.
+///
+/// # Errors
+///
+/// A fault of the sink.
+pub fn put_log<O: Sink>(log: &[u32], out: &mut O) -> Result<(), SinkFault>
+    ensures ok { OnOk result (O.text out.new ≡ append_known (O.text out.old) (log_rows log.now)) }
+    ensures err { OnErr result (AppendsPart (O.text out.old) (O.text out.new) (log_rows log.now)) }
+    ensures count { Counts (O.faults out.old) (O.faults out.new) result }
+{
+    for i in 0..log.len() {
+        put_log_word(log[i], out)?;
+    }
     Ok(())
 }
