@@ -1,3 +1,4 @@
 pub mod Texts
 pub mod MemoryLemmas
 pub mod UserLemmas
+pub mod Telling

@@ -1,5 +1,5 @@
 -- One page of a user's memory, put after the pages before it.
-use Rattle.std.proofs.Common.{◌≡◌, ℕ, ◌+◌, ◌*◌, ◌<◌, List, Option, Some, refl, sym, ap, ◌∙◌, subst}
+use Rattle.std.proofs.Common.{◌≡◌, ℕ, ◌+◌, ◌*◌, ◌<◌, Bool, List, Option, Some, refl, sym, ap, ◌∙◌, subst}
 use Rattle.std.specs.Io.KnownBytes.{append_known}
 use Rattle.cvm_outside.specs.Told.{AppendsPart}
 use Rattle.mips_table.specs.Machine.{State}
@@ -7,7 +7,7 @@ use Rattle.mips_machine.specs.Machine.{Held, state_of}
 use Rattle.layer_map.specs.Map.{Map}
 use Rattle.page_model.specs.Paging.{shown_word}
 use Rattle.cvm_model.specs.Paged.{paged_of}
-use Rattle.boot_report.specs.Texts.{texts, memory_row, page_word, page_rows, EntriesFit, SameButViewed}
+use Rattle.boot_report.specs.Texts.{texts, memory_row, page_word, page_rows, cpu_of, pages_in, user_rows, EntriesFit, SameButViewed}
 use Rattle.boot_report.proofs.Texts.{texts-same}
 
 -- what is viewed is no part of the state
@@ -25,3 +25,8 @@ page_is m first now ss o q p before same h =
 
 pub fits_before : (m : Map) (first before : Held) (ss : List (List ℕ)) → SameButViewed first before → EntriesFit m (state_of first ss) → EntriesFit m (state_of before ss)
 fits_before m first before ss same h = subst (EntriesFit m) (sym (same_state first before ss same)) h
+
+-- a user's rows are the same whatever was viewed
+pub same_user : (m : Map) (first before : Held) (ss : List (List ℕ)) (u : ℕ) (b : Bool) → SameButViewed first before →
+    user_rows m (paged_of m (state_of before ss)) u (pages_in m before.hardware.memory u) (cpu_of before b u) ≡ user_rows m (paged_of m (state_of first ss)) u (pages_in m first.hardware.memory u) (cpu_of first b u)
+same_user m first before ss u b same = ap (λ (h : Held). user_rows m (paged_of m (state_of h ss)) u (pages_in m h.hardware.memory u) (cpu_of h b u)) same

@@ -2,9 +2,11 @@
 #![tactic(auto)]
 
 mod fault;
+mod laws;
 mod memory;
 mod rows;
 mod users;
 
 pub use fault::ReportFault;
+pub use laws::the_rows_tell;
 pub use users::{put_log, put_users};
