@@ -2,3 +2,4 @@ pub mod Texts
 pub mod MemoryLemmas
 pub mod UserLemmas
 pub mod Telling
+pub mod GlobalRows

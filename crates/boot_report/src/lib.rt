@@ -2,11 +2,13 @@
 #![tactic(auto)]
 
 mod fault;
+mod globals;
 mod laws;
 mod memory;
 mod rows;
 mod users;
 
 pub use fault::ReportFault;
+pub use globals::put_global;
 pub use laws::the_rows_tell;
 pub use users::{put_log, put_users};
