@@ -85,7 +85,7 @@ pub record Known (x : Outside) (y : Site) (longest : ℕ) (Typed : C0 → Type 0
 abbrev pub Came : Outside → State → Site → ℕ → (k m t enter n : ℕ) → Outcome → End → Type 0
 Came x s y longest k m t enter n o (Answers a) = (u : ℕ) × Closed x s y o.after (next_of y.map.users a) k m (enter + (leave_steps + run_steps y.map longest o.units o.pages)) t u
 Came x s y longest k m t enter n o (Faults f) = (u : ℕ) × Closed x s y o.after (Fault f) k m (enter + (leave_steps + run_steps y.map longest o.units o.pages)) t u
-Came x s y longest k m t enter n o NotYet = (j : ℕ) → t ≤ j → 2048 * j ≤ n → Inside (run x s j)
+Came x s y longest k m t enter n o NotYet = (j : ℕ) → t ≤ j → 8388608 * j ≤ n → Inside (run x s j)
 
 pub dispatches : (x : Outside) (s : State) → s.time ≡ 0 → (y : Site) (longest : ℕ) (Typed : C0 → Type 0) (e : Meaning) → Known x y longest Typed e → (k m t enter n : ℕ) (cause edata user : ℤ) (c : Core) →
     0 < t → Inside (run x s t) → Typed c.c0 → Comes x y IsEntry enter (run x s t) (DispatchCalled x y c cause edata user) → Passed x s (suc k) m t → complete x s t ≡ k →

@@ -294,7 +294,7 @@ module _ (x : Outside) (y : System) (old : List (List ℕ)) (Typed : C0 → Type
   dispatched_on : (k t n : ℕ) (c : Cvm) (b : Beginning x y old k t c) (cause edata : ℕ) (at : Core) (pending : ℕ) → cause < 9 → Typed at.c0 → (machine x y old (suc b.start)).mask ≡ pending →
       Comes x site IsEntry b.enter (machine x y old (suc b.start)) (DispatchCalled x site at (pos cause) (signed edata) (pos at.current)) →
       cvm y lines n k ≡ Some c → ((o : Option Cvm) → after_dispatch y c k cause edata at.current pending (dispatch_of y n cause edata at) (dispatch_of y n cause edata at).end ≡ o → turn_by y n k (lines k) c Running ≡ o) → c.status ≡ Running →
-      (m : ℕ) → 2048 * m ≤ n → Onward x y old Typed k t c ⊎ Stuck x y old k t m c
+      (m : ℕ) → 8388608 * m ≤ n → Onward x y old Typed k t c ⊎ Stuck x y old k t m c
   dispatched_on k t n c b cause edata at pending small typed mask comes here turns running m enough =
       let inside : Inside (run x s (suc b.start)) = called_inside x site b.enter (run x s (suc b.start)) at (pos cause) (signed edata) (pos at.current) comes in
       let all : complete x s (suc b.start) ≡ k =
@@ -346,10 +346,10 @@ module _ (x : Outside) (y : System) (old : List (List ℕ)) (Typed : C0 → Type
       by b (begin k c.core (bit_or c.pending (lines k))) refl b.comes
     where
       n : ℕ
-      n = st.cvm.units + 2048 * m
+      n = st.cvm.units + 8388608 * m
 
       here : cvm y lines n k ≡ Some c
-      here = cvm_more y g.meaning lines st.cvm.units (2048 * m) k c st.cvm.is
+      here = cvm_more y g.meaning lines st.cvm.units (8388608 * m) k c st.cvm.is
 
       by : (b : Beginning x y old k t c) (a : Begin) → begin k c.core (bit_or c.pending (lines k)) ≡ a → BegunAs x y (machine x y old (suc b.start)) b.enter a → Onward x y old Typed k t c ⊎ Stuck x y old k t m c
       by b (Steps after) e got =

@@ -8,7 +8,7 @@ use Rattle.c0_runtime.specs.Code.{multiply_code, divide_code, remainder_code}
 
 -- 4,096 words of memory, with this code from word 2048 on
 abbrev pub world_of : List Inst → World
-world_of is = on_flat (record { code = placed 2048 is; kept = λ k. None; words = 4096 })
+world_of is = on_flat (record { code = placed 2048 is; kept = λ k. None; words = 4096; count = 0 })
 
 -- A heap of 8 words from word 3000 on, of which 5 are used, and a stack of 64 words from word 3100 on. All other words are 7.
 abbrev pub memory : ℕ → ℕ

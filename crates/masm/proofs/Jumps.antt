@@ -14,9 +14,9 @@ module _ (w : World) (f : Sound w) where
   pub led : (i : Inst) (k to r v : ℕ) (c : Contents) (d : Behind) → w.code k ≡ Some i → effect_at i k c ≡ Set r v (4 * to) → Reaches w 1 (at_with k c d) (settle to (with_reg c r v) d)
   unfolding act
   led i k to r v c d at e =
-      let may : EffectMay w i (Set r v (4 * to)) = omega arith in
+      let may : EffectMay w i c (Set r v (4 * to)) = omega arith in
       let there : 4 * to / 4 ≡ to = omega arith in
-      step_to w (at_with k c d) _ i at (subst (λ y. EffectMay w i y) (sym e) may)
+      step_to w (at_with k c d) _ i at (subst (λ y. EffectMay w i c y) (sym e) may)
       (ap (λ y. acted w i k c d y) e ∙ ap (λ m. settle m (with_reg c r v) d) there)
 
   forward : (k imm : ℕ) → k < w.words → imm < 32768 → (4 * k + 4 + 4 * extended imm) % 2 ^ 32 ≡ 4 * (k + 1 + imm)

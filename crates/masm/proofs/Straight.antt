@@ -77,6 +77,9 @@ disk_bounds x h = ⊎_elim
     (λ e. let q = eqb-true x SECTOR e in (omega arith, omega arith))
     (or_cases (is_buffer x) (nat_eq x SECTOR) h)
 
+no_command : (x : ℕ) → is_disk_word x ≡ true → x ≢ COMMAND
+no_command x h e = let b = disk_bounds x h in let high = b.1 in omega arith
+
 either : {A : Type 0} (b s : Bool) (x y : A) → (b || s) ≡ true → cond b x (cond s x y) ≡ x
 either true s x y h = refl
 either false s x y h = cond-true s x y h
@@ -116,7 +119,7 @@ module _ (w : World) (f : Sound w) where
       ∙ either (is_buffer x) (nat_eq x SECTOR) wrote (settle n c d) h.0
 
   -- the one step lemma, over the effect
-  acts : (i : Inst) (n : ℕ) (c : Contents) (d : Behind) (e : Effect) (h : Says) → n < w.words → On n e → Said w i c d e h → EffectMay w i e × (acted w i n c d e ≡ settle (n + 1) (said i c e h) (told d h))
+  acts : (i : Inst) (n : ℕ) (c : Contents) (d : Behind) (e : Effect) (h : Says) → n < w.words → On n e → Said w i c d e h → EffectMay w i c e × (acted w i n c d e ≡ settle (n + 1) (said i c e h) (told d h))
   acts i n c d (Set r u to) (Gives v) lt o s =
       let small = f.small in
       let at : to / 4 ≡ n + 1 = ap (λ t. t / 4) o ∙ omega arith in
@@ -136,7 +139,7 @@ module _ (w : World) (f : Sound w) where
   acts i n c d (Store a u) (Writes x v) lt o s =
       let small = f.small in let inside = s.1 in
       let at : a / 4 ≡ x = ap (λ t. t / 4) s.0 ∙ omega arith in (
-        (ap (λ t. t % 4) s.0 ∙ omega arith, (λ le. absurd (omega arith)), ap w.kept at ∙ s.2, λ e. absurd (omega arith)),
+        (ap (λ t. t % 4) s.0 ∙ omega arith, (λ le. absurd (omega arith)), ap w.kept at ∙ s.2, (λ e. absurd (omega arith)), λ e. absurd (omega arith)),
         ap₂ (λ y z. after_store w (n + 1) c d y z) at s.3 ∙ cond-true (nat_lt x w.words) (settle (n + 1) (record c { memory = put c.memory x v }) d) _ (lt-ltb x w.words s.1),
       )
   acts i n c d (Load r a) (ReadsDisk x v) lt o s =
@@ -148,7 +151,7 @@ module _ (w : World) (f : Sound w) where
   acts i n c d (Store a u) (WritesDisk x v) lt o s =
       let b = disk_bounds x s.1.0 in let low = b.0 in let high = b.1 in
       let at : a / 4 ≡ x = ap (λ t. t / 4) s.0 ∙ omega arith in (
-        (ap (λ t. t % 4) s.0 ∙ omega arith, (λ le. s.1.1), ap w.kept at ∙ s.2, λ e. absurd (omega arith)),
+        (ap (λ t. t % 4) s.0 ∙ omega arith, (λ le. s.1.1), ap w.kept at ∙ s.2, (λ e. absurd (omega arith)), λ e. absurd (no_command x s.1.0 (sym at ∙ e))),
         ap₂ (λ y z. after_store w (n + 1) c d y z) at s.3 ∙ disk_stores (n + 1) c d x v s.1,
       )
   acts i n c d (Load r a) (Hears x v) lt o s =
@@ -171,7 +174,7 @@ module _ (w : World) (f : Sound w) where
       let small = f.small in
       let at : a / 4 ≡ LOG = ap (λ t. t / 4) s.0 in
       let above : nat_lt LOG w.words ≡ false = le-ltb LOG w.words (omega arith) in (
-        (ap (λ t. t % 4) s.0, (λ le. s.1), ap w.kept at ∙ s.2, λ e. absurd (omega (arith, at, e))),
+        (ap (λ t. t % 4) s.0, (λ le. s.1), ap w.kept at ∙ s.2, (λ e. absurd (omega (arith, at, e))), λ e. absurd (omega (arith, at, e))),
         ap₂ (λ y z. after_store w (n + 1) c d y z) at s.3 ∙ cond-false (nat_lt LOG w.words) (settle (n + 1) (record c { memory = put c.memory LOG v }) d) _ above,
       )
   acts i n c d System Asks lt o s = (s, refl)
@@ -213,12 +216,12 @@ module _ (w : World) (f : Sound w) where
   straight_runs (i ∷ is) [] n c d at g idle s = absurd s
 
   -- the store of a command
-  commands : (i : Inst) (n v : ℕ) (c : Contents) (d : Behind) → w.code n ≡ Some i → effect_at i n c ≡ Store (4 * COMMAND) v → w.system ≡ true → w.kept COMMAND ≡ None → d.pending ≡ Idle → Reaches w 1 (at_with n c d) (settle (n + 1) c (commanded w d (c.memory SECTOR) v))
+  commands : (i : Inst) (n v : ℕ) (c : Contents) (d : Behind) → w.code n ≡ Some i → effect_at i n c ≡ Store (4 * COMMAND) v → w.system ≡ true → w.kept COMMAND ≡ None → d.pending ≡ Idle → c.memory SECTOR < w.count → Reaches w 1 (at_with n c d) (settle (n + 1) c (commanded w d (c.memory SECTOR) v))
   unfolding act
-  commands i n v c d at e system free idle =
+  commands i n v c d at e system free idle sector =
       let small = f.small in
-      let may : EffectMay w i (Store (4 * COMMAND) v) = (refl, (λ le. system), free, λ p. absurd (omega (arith, p))) in
-      step_to w (at_with n c d) _ i at (subst (λ y. EffectMay w i y) (sym e) may)
+      let may : EffectMay w i c (Store (4 * COMMAND) v) = (refl, (λ le. system), free, (λ p. absurd (omega (arith, p))), λ p. sector) in
+      step_to w (at_with n c d) _ i at (subst (λ y. EffectMay w i c y) (sym e) may)
       (ap (λ y. acted w i n c d y) e
       ∙ cond-false (nat_lt COMMAND w.words) (settle (n + 1) (record c { memory = put c.memory COMMAND v }) d) _ (le-ltb COMMAND w.words (omega arith))
       ∙ cond-false (is_busy d.pending) (settle (n + 1) c d) _ (not_busy d.pending idle))

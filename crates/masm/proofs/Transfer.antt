@@ -17,7 +17,7 @@ module _ (w : World) (runs : RunsCompose) (straight : StraightRuns w) (waits : W
   given i v m words c c1 d d1 end may leads er eh el es le ew ee = record {
     by = λ n c0 d0 code e.
         let start = ap (λ c. at_with n c d0) e.0 ∙ ap (λ d. at_with n c d) e.1 in
-        let first = subst (λ t. Reaches w 1 (at_with n c d) t) (leads (n + 1)) (straight.command i n v c d code.0 (may.stores n) may.system may.free may.idle) in
+        let first = subst (λ t. Reaches w 1 (at_with n c d) t) (leads (n + 1)) (straight.command i n v c d code.0 (may.stores n) may.system may.free may.idle may.sector) in
         let x = (waits may.system c1 d1).by (n + 1) c1 d1 code.1 (refl, refl) in
         let there : n + 1 + length wait_code ≡ n + length (i ∷ wait_code) = omega arith in
         let rest = subst (λ p. Reaches w (wait_steps d1.pending) (at_with (n + 1) c1 d1) (at_with p x.0 x.1)) there x.3 in

@@ -39,14 +39,14 @@ pub record RunsCompose : Type 0 where
 
 -- Straight code does what is said of its instructions: any one of them, also while a command is under way; one of them, or all of a
 -- list, while none is. A division by other than 0 is said by its remainder and quotient, and one by 0 leaves hi and lo. A store to the
--- command port gives the command.
+-- command port gives the command, for a sector that may be used.
 pub record StraightRuns (w : World) : Type 0 where
   pub one : (i : Inst) (h : Says) (n : ℕ) (c : Contents) (d : Behind) → w.code n ≡ Some i → goes_on i ≡ true → Said w i c d (effect_at i n c) h → Reaches w 1 (at_with n c d) (settle (n + 1) (said i c (effect_at i n c) h) (told d h))
   pub next : (i : Inst) (h : Says) (n : ℕ) (c : Contents) (d : Behind) → w.code n ≡ Some i → goes_on i ≡ true → d.pending ≡ Idle → Said w i c d (effect_at i n c) h → Reaches w 1 (at_with n c d) (at_with (n + 1) (said i c (effect_at i n c) h) (told d h))
   pub all : (is : List Inst) (hs : List Says) (n : ℕ) (c : Contents) (d : Behind) → CodeAt w n is → straight is ≡ true → d.pending ≡ Idle → AllSaid w n is hs c d → Reaches w (length is) (at_with n c d) (at_with (n + length is) (sayings n is hs c) (tellings hs d))
   pub division : (i : Inst) (c : Contents) (d : Behind) (a b pc hi lo : ℕ) → b ≢ 0 → Said w i c d (divided a b pc hi lo) (Widens (signed_remainder a b) (signed_quotient a b))
   pub by_zero : (i : Inst) (c : Contents) (d : Behind) (a b pc hi lo : ℕ) → b ≡ 0 → Said w i c d (divided a b pc hi lo) (Widens hi lo)
-  pub command : (i : Inst) (n v : ℕ) (c : Contents) (d : Behind) → w.code n ≡ Some i → effect_at i n c ≡ Store (4 * COMMAND) v → w.system ≡ true → w.kept COMMAND ≡ None → d.pending ≡ Idle → Reaches w 1 (at_with n c d) (settle (n + 1) c (commanded w d (c.memory SECTOR) v))
+  pub command : (i : Inst) (n v : ℕ) (c : Contents) (d : Behind) → w.code n ≡ Some i → effect_at i n c ≡ Store (4 * COMMAND) v → w.system ≡ true → w.kept COMMAND ≡ None → d.pending ≡ Idle → c.memory SECTOR < w.count → Reaches w 1 (at_with n c d) (settle (n + 1) c (commanded w d (c.memory SECTOR) v))
 
 -- Where branches and jumps lead. Each is named by its effect, which computes: a branch's with a test b, a jump's with an index, and
 -- a jump to a register's address with where it goes. All hold while a command is under way, too.

@@ -44,7 +44,7 @@ abbrev pub WaitRuns : World → Type 0
 WaitRuns w = w.system ≡ true → (c : Contents) (d : Behind) → From w wait_code (wait_steps d.pending) c d (λ c' d'. Waited (words_after d.pending c.memory d) c c' × (d' ≡ behind_after d.pending c.memory d))
 
 -- A command v may be given by this instruction, wherever it stands: it stores v to the command port, ports may be used, no command is under
--- way, and the sector is one of the disk's.
+-- way, and the sector may be used.
 pub record MayCommand (w : World) (i : Inst) (v : ℕ) (c : Contents) (d : Behind) : Type 0 where
   pub stores : (n : ℕ) → effect_at i n c ≡ Store (4 * COMMAND) v
   pub system : w.system ≡ true

@@ -11,7 +11,7 @@ use Rattle.mips_table.specs.Device.{Outside, HasEightLines, LinesEnd}
 use Rattle.mips_table.specs.Machine.{start, run}
 use Rattle.mips_table.specs.Fits.{IsWord, Fits}
 use Rattle.mips_table.specs.Code.{World, on_machine, on_flat, Sound, Configuration, act, code_run, MayRun}
-use Rattle.mips_table.specs.Simulation.{configuration_of, Quiet, Holds, Simulates, flat_configuration, FlatFits, SimulatesFlat}
+use Rattle.mips_table.specs.Simulation.{configuration_of, Quiet, Holds, Serves, Simulates, flat_configuration, FlatFits, SimulatesFlat}
 use Rattle.mips_table.specs.Premises.{storing, eight_words, program, machine, flat, OnMachine, OnFlat, raising}
 use Rattle.mips_table.proofs.Start.{zero_fits, start_fits}
 use Rattle.mips_table.proofs.Simulate.{follows}
@@ -67,14 +67,16 @@ on_machine_met x count eight =
       aligned = refl;
     } in
     let h : Holds w machine.memory = record { size = refl; kept = kept } in
+    let v : Serves x w machine.device = record { count = omega arith; named = tt } in
     let end : Configuration = code_run w (configuration_of machine) 2 in
-    let may : MayRun w 2 (configuration_of machine) = (refl, ((refl, (λ le. refl), refl, (omega arith)), tt)) in
-    let r : Simulates x w 2 machine = follows x program f 2 machine q h may in
+    let may : MayRun w 2 (configuration_of machine) = (refl, ((refl, (λ le. refl), refl, (omega arith), λ e. absurd (omega arith)), tt)) in
+    let r : Simulates x w 2 machine = follows x program f 2 machine q h v may in
     let size : length (run x machine 2).memory ≡ 8 = (r.along 2 (omega arith)).holds.size in
     record {
       sound = f;
       quiet = q;
       holds = h;
+      serves = v;
       end = end;
       steps = (may, refl);
       stored = sym (cond-true _ (slice_index (run x machine 2).memory 7) 0 (lt-ltb 7 (length (run x machine 2).memory) (omega arith))) ∙ ap (λ s. s.contents.memory 7) (r.same 2 (omega arith));
@@ -88,7 +90,7 @@ on_flat_met =
     let fits : FlatFits flat = record { cpu = zero_fits; aligned = refl; words = words } in
     let h : Holds w flat.words = record { size = refl; kept = kept } in
     let end : Configuration = code_run w (flat_configuration flat) 2 in
-    let may : MayRun w 2 (flat_configuration flat) = (refl, ((refl, (λ le. absurd (omega arith)), refl, (omega arith)), tt)) in
+    let may : MayRun w 2 (flat_configuration flat) = (refl, ((refl, (λ le. absurd (omega arith)), refl, (omega arith), λ e. absurd (omega arith)), tt)) in
     let r : SimulatesFlat w 2 flat = flat_follows program f 2 flat fits h may in
     record {
       sound = f;

@@ -19,6 +19,7 @@ use Rattle.mips_table.specs.Code.{put, Contents, reg, with_reg, Behind, World, P
 use Rattle.mips_table.specs.Simulation.{space, contents_of, behind_of, Quiet, Holds}
 use Rattle.mips_table.proofs.Round.{decoding-encoding}
 use Rattle.mips_table.proofs.Space.{set_put, write_put, reg_same, space_memory, space_buffer, space_sector}
+use Rattle.mips_table.proofs.Sectors.{KeepsSectors, written_keeps}
 use Rattle.mips_table.proofs.Settled.{by_port, by_command, same_port, input_left, input_of_state, input_behind, log_left, log_of_state, log_behind}
 
 -- what a run of code sees of the whole machine
@@ -45,6 +46,7 @@ module _ (x : Outside) (p : Program) (f : Sound (on_machine x p)) where
     pub holds : Holds w after.memory
     pub mask : after.mask ≡ s.mask
     pub time : after.time ≡ s.time
+    pub disk : KeepsSectors p.count s.device after.device
 
   pub to : (s : State) (c c' : Coming) (t t' : Configuration) → c' ≡ c → t' ≡ t → Good s t c → Good s t' c'
   to s c c' t t' e e' g = subst (λ u. Good s u c') (sym e') (subst (λ y. Good s t y) (sym e) g)
@@ -76,6 +78,7 @@ module _ (x : Outside) (p : Program) (f : Sound (on_machine x p)) where
     holds = h;
     mask = refl;
     time = refl;
+    disk = record { sectors = refl; named = λ h. h };
   }
 
   -- hi and lo are written
@@ -93,6 +96,7 @@ module _ (x : Outside) (p : Program) (f : Sound (on_machine x p)) where
     holds = h;
     mask = refl;
     time = refl;
+    disk = record { sectors = refl; named = λ h. h };
   }
 
   special_good : (s : State) (k v : ℕ) → Quiet x s → Holds w s.memory → s.cpu.pc / 4 < p.words → k ≤ 8 → k ≢ SR → k ≢ MODE
@@ -112,6 +116,7 @@ module _ (x : Outside) (p : Program) (f : Sound (on_machine x p)) where
         holds = h;
         mask = refl;
         time = refl;
+        disk = record { sectors = refl; named = λ h. h };
       }
 
   memory_good : (s : State) (k v : ℕ) → Quiet x s → Holds w s.memory → s.cpu.pc / 4 < p.words → k < p.words → p.kept k ≡ None
@@ -135,6 +140,7 @@ module _ (x : Outside) (p : Program) (f : Sound (on_machine x p)) where
         };
         mask = refl;
         time = refl;
+        disk = record { sectors = refl; named = λ h. h };
       }
 
   -- a word goes to the log
@@ -154,14 +160,15 @@ module _ (x : Outside) (p : Program) (f : Sound (on_machine x p)) where
         holds = h;
         mask = refl;
         time = refl;
+        disk = record { sectors = refl; named = λ h. h };
       }
 
   -- a word goes to the disk
-  disk_good : (s : State) (k v : ℕ) → Quiet x s → Holds w s.memory → s.cpu.pc / 4 < p.words → p.words ≤ k
+  disk_good : (s : State) (k v : ℕ) → Quiet x s → Holds w s.memory → s.cpu.pc / 4 < p.words → p.words ≤ k → p.count ≤ x.count → (k ≡ COMMAND → (contents s).memory SECTOR < p.count)
       → (let d : Behind = behind s in let n = s.cpu.pc / 4 + 1 in let c : Contents = contents s in let writes : Configuration = settle n (record c { memory = put c.memory k v }) d in
       Good s (if is_busy d.pending then settle n c d else if k == COMMAND then settle n c (commanded w d (c.memory SECTOR) v) else if is_buffer k then writes else if k == SECTOR then writes else settle n c d)
       (Done (record s { device = port_write x.busy x.count s.device k v; cpu = advanced s.cpu })))
-  disk_good s k v q h lt big =
+  disk_good s k v q h lt big few named =
       let a = advances s.cpu.pc q.aligned lt in
       let d : Device = s.device in
       let b : Behind = behind s in
@@ -173,8 +180,13 @@ module _ (x : Outside) (p : Program) (f : Sound (on_machine x p)) where
       let reading : Device = record d { pending = Reading (x.busy d.commands) d.sector; commands = d.commands + 1 } in
       let writing : Device = record d { pending = Writing (x.busy d.commands) d.sector; commands = d.commands + 1 } in
       let there : c.memory SECTOR ≡ d.sector = cond-false _ (slice_index s.memory SECTOR) d.sector (le-ltb SECTOR (length s.memory) (omega arith)) in
-      let begins : F (begun x.busy x.count d v) ≡ settle n c (commanded w b (c.memory SECTOR) v) =
-      by_command F (settle n c) s.log s.input (nat_lt d.sector x.count) (v == 1) (v == 2) d reading writing refl refl refl ∙ ap (λ y. settle n c (commanded w b y v)) (sym there) in
+      let reads : Behind = record b { pending = Reading (x.busy d.commands) d.sector; commands = d.commands + 1 } in
+      let writes' : Behind = record b { pending = Writing (x.busy d.commands) d.sector; commands = d.commands + 1 } in
+      let begins : k ≡ COMMAND → F (begun x.busy x.count d v) ≡ settle n c (commanded w b (c.memory SECTOR) v) = λ e.
+      let lt' : d.sector < p.count = subst (λ i. i < p.count) there (named e) in
+      by_command F (settle n c) s.log s.input (nat_lt d.sector x.count) (v == 1) (v == 2) d reading writing refl refl refl
+      ∙ ap (λ t. settle n c (if not t then b else if v == 1 then reads else if v == 2 then writes' else b)) (lt-ltb d.sector x.count (omega arith) ∙ sym (lt-ltb d.sector p.count lt'))
+      ∙ ap (λ y. settle n c (commanded w b y v)) (sym there) in
       let fills : is_buffer k ≡ true → F (record d { buffer = slice_set d.buffer (k - BUFFER) v }) ≡ writes = λ e.
       let parts = and_parts (not (nat_lt k BUFFER)) (nat_lt k SECTOR) e in
       ap (λ g. settle n (record c { memory = g }) b) (space_buffer s.memory d.buffer d.sector k v small q.fits.device.buffer.size (ltb-false k BUFFER (not-true _ parts.0)) (ltb-true k SECTOR parts.1)) in
@@ -184,7 +196,7 @@ module _ (x : Outside) (p : Program) (f : Sound (on_machine x p)) where
         after = record s { device = port_write x.busy x.count d k v; cpu = advanced s.cpu };
         is = refl;
         same = ap (λ m. settle m (contents (record s { device = port_write x.busy x.count d k v })) (behind_of (port_write x.busy x.count d k v) s.log s.input)) a.1
-            ∙ by_port F (is_busy d.pending) (k == COMMAND) (is_buffer k) (k == SECTOR) d (begun x.busy x.count d v) (record d { buffer = slice_set d.buffer (k - BUFFER) v }) (record d { sector = v }) _ writes begins fills names;
+            ∙ by_port F (is_busy d.pending) (k == COMMAND) (is_buffer k) (k == SECTOR) d (begun x.busy x.count d v) (record d { buffer = slice_set d.buffer (k - BUFFER) v }) (record d { sector = v }) _ writes (λ idle e. begins (eqb-true k COMMAND e)) fills names;
         on = q.on;
         no_reset = q.no_reset;
         sr = q.sr;
@@ -193,14 +205,15 @@ module _ (x : Outside) (p : Program) (f : Sound (on_machine x p)) where
         holds = h;
         mask = refl;
         time = refl;
+        disk = written_keeps p.count x.busy x.count d k v (λ e. subst (λ i. i < p.count) there (named (eqb-true k COMMAND e)));
       }
 
   -- a store outside memory that is not to the power port
-  port_good : (s : State) (k v : ℕ) → Quiet x s → Holds w s.memory → s.cpu.pc / 4 < p.words → p.words ≤ k → k ≢ POWER
+  port_good : (s : State) (k v : ℕ) → Quiet x s → Holds w s.memory → s.cpu.pc / 4 < p.words → p.words ≤ k → p.count ≤ x.count → k ≢ POWER → (k ≡ COMMAND → (contents s).memory SECTOR < p.count)
       → (let d : Behind = behind s in let n = s.cpu.pc / 4 + 1 in let c : Contents = contents s in let writes : Configuration = settle n (record c { memory = put c.memory k v }) d in
       Good s (if k == LOG then settle n c (logged d v) else if is_busy d.pending then settle n c d else if k == COMMAND then settle n c (commanded w d (c.memory SECTOR) v) else if is_buffer k then writes else if k == SECTOR then writes else settle n c d)
       (Done (record (port_written x s k v) { cpu = advanced s.cpu })))
-  port_good s k v q h lt big on =
+  port_good s k v q h lt big few on named =
       let d : Behind = behind s in
       let n : ℕ = s.cpu.pc / 4 + 1 in
       let c : Contents = contents s in
@@ -209,7 +222,7 @@ module _ (x : Outside) (p : Program) (f : Sound (on_machine x p)) where
       let logs : State = if nat_lt (length s.log) LOG_ROOM then record s { log = s.log ++ v ∷ [] } else s in
       let sends : State = record s { device = port_write x.busy x.count s.device k v } in
       let here : port_written x s k v ≡ (if k == LOG then logs else sends) = cond-false _ (record s { off = Some v }) (if k == LOG then logs else sends) (ne_eqb k POWER on) in
-      let all : Good s (if k == LOG then settle n c (logged d v) else disk) (Done (record (if k == LOG then logs else sends) { cpu = advanced s.cpu })) = by (k == LOG) disk sends (disk_good s k v q h lt big) in
+      let all : Good s (if k == LOG then settle n c (logged d v) else disk) (Done (record (if k == LOG then logs else sends) { cpu = advanced s.cpu })) = by (k == LOG) disk sends (disk_good s k v q h lt big few named) in
       to s _ (Done (record (port_written x s k v) { cpu = advanced s.cpu })) _ _ (ap (λ z. Done (record z { cpu = advanced s.cpu })) here) refl all
     where
       by : (b : Bool) (disk : Configuration) (sends : State) → Good s disk (Done (record sends { cpu = advanced s.cpu }))
@@ -223,9 +236,9 @@ module _ (x : Outside) (p : Program) (f : Sound (on_machine x p)) where
       by false disk sends g = g
 
   -- a store, to memory or to a port
-  store_good : (s : State) (k v : ℕ) → Quiet x s → Holds w s.memory → s.cpu.pc / 4 < p.words → p.kept k ≡ None → k ≢ POWER
+  store_good : (s : State) (k v : ℕ) → Quiet x s → Holds w s.memory → s.cpu.pc / 4 < p.words → p.kept k ≡ None → p.count ≤ x.count → k ≢ POWER → (k ≡ COMMAND → (contents s).memory SECTOR < p.count)
       → Good s (after_store w (s.cpu.pc / 4 + 1) (contents s) (behind s) k v) (Done (record (written x s k v) { cpu = advanced s.cpu }))
-  store_good s k v q h lt free on =
+  store_good s k v q h lt free few on named =
       let keeps : State = record s { memory = slice_set s.memory k v } in
       let n : ℕ = s.cpu.pc / 4 + 1 in
       let c : Contents = contents s in
@@ -240,7 +253,7 @@ module _ (x : Outside) (p : Program) (f : Sound (on_machine x p)) where
       (λ out. to s (Done (record (port_written x s k v) { cpu = advanced s.cpu })) _ port _
       (ap (λ z. Done (record z { cpu = advanced s.cpu })) (cond-false _ keeps (port_written x s k v) (le-ltb k (length s.memory) (omega (arith, h.size)))))
       (cond-false _ writes port (le-ltb k p.words out))
-      (port_good s k v q h lt out on))
+      (port_good s k v q h lt out few on named))
       (cases_lt k p.words)
 
   -- what a load gives
@@ -283,11 +296,11 @@ module _ (x : Outside) (p : Program) (f : Sound (on_machine x p)) where
   privileged_good s word other q h lt r m = absurd m
 
   -- an instruction, by its effect
-  pub effects : (s : State) (word : ℕ) (i : Inst) (e : Effect) → Quiet x s → Holds w s.memory → s.cpu.pc / 4 < p.words → decoding word ≡ Some i → InRange i → EffectFits e → EffectMay w i e
+  pub effects : (s : State) (word : ℕ) (i : Inst) (e : Effect) → Quiet x s → Holds w s.memory → p.count ≤ x.count → s.cpu.pc / 4 < p.words → decoding word ≡ Some i → InRange i → EffectFits e → EffectMay w i (contents s) e
       → Good s (acted w i (s.cpu.pc / 4) (contents s) (behind s) e) (moved x s (performed (access s) s.cpu word e))
-  effects s word i (Set r v pc) q h lt dec range b m = reg_good s r v pc (pc / 4) s.input q h b.0 m refl
-  effects s word i (Wide hi lo pc) q h lt dec range b m = wide_good s hi lo pc q h m
-  effects s word i (Load r address) q h lt dec range b m =
+  effects s word i (Set r v pc) q h few lt dec range b m = reg_good s r v pc (pc / 4) s.input q h b.0 m refl
+  effects s word i (Wide hi lo pc) q h few lt dec range b m = wide_good s hi lo pc q h m
+  effects s word i (Load r address) q h few lt dec range b m =
       let loads : Move = Loaded (advanced s.cpu) r address in
       to s (Done (record (after_read s (address / 4)) { cpu = with_loaded (advanced s.cpu) r (read s (address / 4)) })) _ _ _
       (ap (λ o. moved x s (accessed (is_some o) causes.DataAlign causes.DataFault address s.cpu.pc loads)) (plainly s false address q)
@@ -295,17 +308,17 @@ module _ (x : Outside) (p : Program) (f : Sound (on_machine x p)) where
       ∙ ap (λ o. Done (record (after_read_at s o) { cpu = with_loaded (advanced s.cpu) r (read_at s o) })) (plainly s false address q))
       refl
       (load_good s r (address / 4) q h lt b.0)
-  effects s word i (Store address v) q h lt dec range b m =
+  effects s word i (Store address v) q h few lt dec range b m =
       let stores : Move = Stored (advanced s.cpu) address v in
       to s (Done (record (written x s (address / 4) v) { cpu = advanced s.cpu })) _ _ _
       (ap (λ o. moved x s (accessed (is_some o) causes.DataAlign causes.DataFault address s.cpu.pc stores)) (plainly s true address q)
       ∙ ap (λ b. moved x s (if not b then Trapped causes.DataAlign address s.cpu.pc else stores)) (eq-eqb (address % 4) 0 m.0)
       ∙ ap (λ o. Done (record (written_at x s o v) { cpu = advanced s.cpu })) (plainly s true address q))
       refl
-      (store_good s (address / 4) v q h lt m.2 m.3)
-  effects s word i Overflow q h lt dec range b m = absurd m
-  effects s word i Call q h lt dec range b m = absurd m
-  effects s word i System q h lt dec range b m =
+      (store_good s (address / 4) v q h lt m.2 few m.3 m.4)
+  effects s word i Overflow q h few lt dec range b m = absurd m
+  effects s word i Call q h few lt dec range b m = absurd m
+  effects s word i System q h few lt dec range b m =
       to s _ _ _ _ (cond-true _ (privileged s word (decoding word)) (Interrupt s causes.Illegal word s.cpu.pc) (eq-eqb _ _ q.mode) ∙ ap (privileged s word) dec) refl (privileged_good s word i q h lt range m)
 
   -- the word of the code is fetched, and the fetch changes nothing

@@ -9,6 +9,7 @@ pub mod Space
 pub mod Joins
 pub mod TurnCounts
 pub mod Settled
+pub mod Sectors
 pub mod Instruction
 pub mod Simulate
 pub mod SimulateFlat

@@ -25,10 +25,10 @@ settles (Writing zero i) n c special m b s k t log input small size names =
 settles (Writing (suc j) i) n c special m b s k t log input small size names = refl
 
 -- what is seen of a device after a write to a port, by the tests of the write
-pub by_port : (F : Device → Configuration) (b1 b2 b3 b4 : Bool) (d begins fills names : Device) (starts writes : Configuration) → F begins ≡ starts → (b3 ≡ true → F fills ≡ writes) → (b4 ≡ true → F names ≡ writes)
+pub by_port : (F : Device → Configuration) (b1 b2 b3 b4 : Bool) (d begins fills names : Device) (starts writes : Configuration) → (b1 ≡ false → b2 ≡ true → F begins ≡ starts) → (b3 ≡ true → F fills ≡ writes) → (b4 ≡ true → F names ≡ writes)
     → F (if b1 then d else if b2 then begins else if b3 then fills else if b4 then names else d) ≡ (if b1 then F d else if b2 then starts else if b3 then writes else if b4 then writes else F d)
 by_port F true b2 b3 b4 d begins fills names starts writes e1 e2 e3 = refl
-by_port F false true b3 b4 d begins fills names starts writes e1 e2 e3 = e1
+by_port F false true b3 b4 d begins fills names starts writes e1 e2 e3 = e1 refl refl
 by_port F false false true b4 d begins fills names starts writes e1 e2 e3 = e2 refl
 by_port F false false false true d begins fills names starts writes e1 e2 e3 = e3 refl
 by_port F false false false false d begins fills names starts writes e1 e2 e3 = refl

@@ -122,7 +122,7 @@ module _ (p : Program) (f : Sound (on_flat p)) where
       ap (λ o. answered s (accessed o causes.DataAlign causes.DataFault address s.cpu.pc m)) (lt-ltb (address / 4) (length s.words) (omega (arith, h.size)))
       ∙ ap (λ o. answered s (if not o then Trapped causes.DataAlign address s.cpu.pc else m)) (eq-eqb (address % 4) 0 aligned)
 
-  effects : (s : Flat) (bits : ℕ) (i : Inst) (e : Effect) → FlatFits s → Holds w s.words → s.cpu.pc / 4 < p.words → EffectFits e → EffectMay w i e
+  effects : (s : Flat) (bits : ℕ) (i : Inst) (e : Effect) → FlatFits s → Holds w s.words → s.cpu.pc / 4 < p.words → EffectFits e → EffectMay w i (contents s) e
       → Good (answered s (performed (flat_access s.words) s.cpu bits e)) (acted w i (s.cpu.pc / 4) (contents s) nothing_behind e)
   effects s bits i (Set r v pc) q h lt b m = reg_good s r v pc (pc / 4) q h b.0 b.1 b.2 m refl
   effects s bits i (Wide hi lo pc) q h lt b m = wide_good s hi lo pc q h b.0 b.1 b.2 m
@@ -169,7 +169,7 @@ module _ (p : Program) (f : Sound (on_flat p)) where
       to (answered s (performed (flat_access s.words) s.cpu (encoding i) e)) _ (acted w i k (contents s) nothing_behind e) _
       (flat_step s i at q h)
       (ap (acted w i k (contents s) nothing_behind) same_effect)
-      (effects s (encoding i) i e q h (f.inside k i at) b (subst (EffectMay w i) same_effect may))
+      (effects s (encoding i) i e q h (f.inside k i at) b (subst (EffectMay w i (contents s)) same_effect may))
 
   record After (s s' : Flat) (t : Configuration) : Type 0 where
     same : flat_configuration s' ≡ t

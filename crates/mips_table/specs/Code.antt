@@ -48,7 +48,8 @@ pub record Behind : Type 0 where
   pub input : List ℕ
 
 -- What is fixed for a run: the instructions that may run, by word number; the words that no store may touch, with what
--- they hold; whether ports and special registers may be used; the number of words of memory, and of sectors; and the busy times.
+-- they hold; whether ports and special registers may be used; the number of words of memory, and of the sectors that may be used; and the
+-- busy times.
 pub record World : Type 0 where
   pub code : ℕ → Option Inst
   pub kept : ℕ → Option ℕ
@@ -57,15 +58,16 @@ pub record World : Type 0 where
   pub count : ℕ
   pub busy : ℕ → ℕ
 
--- code in a memory of so many words, with the words that stay as they were linked
+-- code in a memory of so many words, with the words that stay as they were linked, and with the number of sectors that it may use
 pub record Program : Type 0 where
   pub code : ℕ → Option Inst
   pub kept : ℕ → Option ℕ
   pub words : ℕ
+  pub count : ℕ
 
 -- a program on the physical machine
 abbrev pub on_machine : Outside → Program → World
-on_machine x p = record { code = p.code; kept = p.kept; system = true; words = p.words; count = x.count; busy = x.busy }
+on_machine x p = record { code = p.code; kept = p.kept; system = true; words = p.words; count = p.count; busy = x.busy }
 
 -- a program on the flat machine, which has no ports and no special registers
 abbrev pub on_flat : Program → World
@@ -173,15 +175,16 @@ PrivilegedMay w (Mfc0 rt special) = w.system ≡ true
 PrivilegedMay w (Mtc0 rt special) = (w.system ≡ true) × (special ≢ SR) × (special ≢ MODE)
 PrivilegedMay w other = ⊥
 
--- the effect is no trap, leaves the mode, sr and the kept words as they are, and doesn't end the run
-abbrev pub EffectMay : World → Inst → Effect → Type 0
-EffectMay w i (Set register value to) = to % 4 ≡ 0
-EffectMay w i (Wide hi lo to) = to % 4 ≡ 0
-EffectMay w i (Load register address) = (address % 4 ≡ 0) × (w.words ≤ address / 4 → w.system ≡ true)
-EffectMay w i (Store address value) = (address % 4 ≡ 0) × (w.words ≤ address / 4 → w.system ≡ true) × (w.kept (address / 4) ≡ None) × (address / 4 ≢ POWER)
-EffectMay w i Overflow = ⊥
-EffectMay w i Call = ⊥
-EffectMay w i System = PrivilegedMay w i
+-- the effect is no trap, leaves the mode, sr and the kept words as they are, and doesn't end the run; a command is for a sector that may
+-- be used
+abbrev pub EffectMay : World → Inst → Contents → Effect → Type 0
+EffectMay w i c (Set register value to) = to % 4 ≡ 0
+EffectMay w i c (Wide hi lo to) = to % 4 ≡ 0
+EffectMay w i c (Load register address) = (address % 4 ≡ 0) × (w.words ≤ address / 4 → w.system ≡ true)
+EffectMay w i c (Store address value) = (address % 4 ≡ 0) × (w.words ≤ address / 4 → w.system ≡ true) × (w.kept (address / 4) ≡ None) × (address / 4 ≢ POWER) × (address / 4 ≡ COMMAND → c.memory SECTOR < w.count)
+EffectMay w i c Overflow = ⊥
+EffectMay w i c Call = ⊥
+EffectMay w i c System = PrivilegedMay w i
 
 -- the effect of an instruction at a word number
 abbrev pub effect_at : Inst → ℕ → Contents → Effect
@@ -193,7 +196,7 @@ act w i s = acted w i s.at s.contents s.behind (effect_at i s.at s.contents)
 
 -- it may run
 abbrev pub May : World → Inst → Configuration → Type 0
-May w i s = EffectMay w i (effect_at i s.at s.contents)
+May w i s = EffectMay w i s.contents (effect_at i s.at s.contents)
 
 -- there is one, and it may run
 abbrev pub MayAt : World → Option Inst → Configuration → Type 0

@@ -7,7 +7,7 @@ use Rattle.mips_table.specs.Flat.{Flat}
 use Rattle.mips_table.specs.Device.{Outside}
 use Rattle.mips_table.specs.Machine.{State, zero_cpu, start, run}
 use Rattle.mips_table.specs.Code.{Program, on_machine, on_flat, Sound, Configuration, Steps}
-use Rattle.mips_table.specs.Simulation.{configuration_of, Quiet, Holds, flat_configuration, FlatFits, flat_run}
+use Rattle.mips_table.specs.Simulation.{configuration_of, Quiet, Holds, Serves, flat_configuration, FlatFits, flat_run}
 
 -- 5 is stored in word 7
 abbrev pub storing : List Inst
@@ -19,7 +19,7 @@ eight_words = encoding (Addiu 1 0 5) ∷ encoding (Sw 1 0 28) ∷ 0 ∷ 0 ∷ 0 
 
 -- the code stands at word 0, and is all that is kept
 abbrev pub program : Program
-program = record { code = slice_get storing; kept = slice_get (map encoding storing); words = 8 }
+program = record { code = slice_get storing; kept = slice_get (map encoding storing); words = 8; count = 0 }
 
 -- the physical machine that took its reset
 abbrev pub machine : State
@@ -34,6 +34,7 @@ pub record OnMachine (x : Outside) : Type 0 where
   pub sound : Sound (on_machine x program)
   pub quiet : Quiet x machine
   pub holds : Holds (on_machine x program) machine.memory
+  pub serves : Serves x (on_machine x program) machine.device
   pub end : Configuration
   pub steps : Steps (on_machine x program) 2 (configuration_of machine) end
   pub stored : slice_index (run x machine 2).memory 7 ≡ 5

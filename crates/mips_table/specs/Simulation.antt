@@ -5,7 +5,7 @@ use Rattle.mips_table.specs.Flat.{Flat, VStep, Next, Trap, vstep}
 use Rattle.mips_table.specs.Device.{Device, Idle, Outside, BUFFER, SECTOR, is_buffer, sector_of}
 use Rattle.mips_table.specs.Processor.{Cpu}
 use Rattle.mips_table.specs.Machine.{SR, MODE, State, Done, coming, latched, run}
-use Rattle.mips_table.specs.Fits.{IsWord, CpuFits, Fits}
+use Rattle.mips_table.specs.Fits.{IsWord, CpuFits, NamesSector, Fits}
 use Rattle.mips_table.specs.Code.{Contents, Behind, World, Program, on_machine, on_flat, Sound, Configuration, at_with, code_run, Steps}
 
 -- the words that can be read while no command is under way: of memory, of the buffer, and the sector register
@@ -46,15 +46,23 @@ pub record Holds (w : World) (memory : List ℕ) : Type 0 where
   pub size : length memory ≡ w.words
   pub kept : (k v : ℕ) → w.kept k ≡ Some v → slice_index memory k ≡ v
 
+-- the disk has the sectors that the code may use, and a command that is under way is for one of them
+pub record Serves (x : Outside) (w : World) (d : Device) : Type 0 where
+  pub count : w.count ≤ x.count
+  pub named : NamesSector w.count d.pending
+
 -- the mask after n steps from step t on: the lines of these steps are joined to it
 abbrev pub raised : Outside → ℕ → ℕ → ℕ → ℕ
 raised x zero t mask = mask
 raised x (suc n) t mask = bit_or (raised x n t mask) (x.lines (t + n))
 
--- the state after j steps of the run: quiet, with the kept words as they were; raised lines only join the mask
+-- the state after j steps of the run: quiet, with the kept words and the sectors that the code may not use as they were; raised lines
+-- only join the mask
 pub record Along (x : Outside) (w : World) (s : State) (j : ℕ) : Type 0 where
   pub quiet : Quiet x (run x s j)
   pub holds : Holds w (run x s j).memory
+  pub serves : Serves x w (run x s j).device
+  pub sectors : (q : ℕ) → w.count ≤ q → sector_of (run x s j).device.sectors q ≡ sector_of s.device.sectors q
   pub mask : (run x s j).mask ≡ raised x j s.time s.mask
   pub time : (run x s j).time ≡ s.time + j
 
@@ -74,7 +82,7 @@ pub record Simulates (x : Outside) (w : World) (n : ℕ) (s : State) : Type 0 wh
 -- the physical machine simulates each run of code
 abbrev pub MachineSimulates : Type 0
 MachineSimulates = (x : Outside) (p : Program) (s : State) (n : ℕ) (t : Configuration) → Sound (on_machine x p) → Quiet x s → Holds (on_machine x p) s.memory
-    → Steps (on_machine x p) n (configuration_of s) t → Simulates x (on_machine x p) n s
+    → Serves x (on_machine x p) s.device → Steps (on_machine x p) n (configuration_of s) t → Simulates x (on_machine x p) n s
 
 -- nothing is behind the ports of a machine that has none
 abbrev pub nothing_behind : Behind

@@ -3,4 +3,4 @@ use Rattle.mips_table.proofs.Simulate.{follows}
 use Rattle.mips_table.proofs.runs.code_runs_on_the_machine.Goals as goal
 
 pub returns : goal.returns
-returns c = λ x p s n t f q h steps. follows x p f n s q h steps.0
+returns c = λ x p s n t f q h v steps. follows x p f n s q h v steps.0
