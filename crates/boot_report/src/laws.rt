@@ -1,0 +1,8 @@
+// Laws, each the contract of a function that does nothing.
+ghost use Rattle.boot_report.specs.Told.{RowsTell};
+
+/// A law: where the machine stands for a state of the abstract machine, the rows of users and log are those of its text, and each valid
+/// entry of the page tables names a frame of the memory.
+pub fn the_rows_tell()
+    ensures { RowsTell }
+{}
