@@ -56,12 +56,7 @@ fn push_filled(text: &mut Vec<u8>, users: u32, base: u32, byte: u8) -> Result<()
 }
 
 // A pattern with numbers for its letters.
-fn filled_in(
-    alloc: Global,
-    users: u32,
-    base: u32,
-    pattern: &[u8],
-) -> Result<Vec<u8>, AllocError>
+fn filled_in(alloc: Global, users: u32, base: u32, pattern: &[u8]) -> Result<Vec<u8>, AllocError>
     ensures { IfOk result (λ v. v.items ≡ filled users base pattern.now) }
 {
     let mut text = Vec::new(alloc);

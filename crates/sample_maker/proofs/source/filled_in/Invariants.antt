@@ -1,4 +1,4 @@
-use Rattle.std.proofs.Common.{◌≡◌, ◌++◌, drop, take}
+use Rattle.std.proofs.Common.{◌≡◌, take}
 use Rattle.sample_maker.specs.Source.{filled}
 use Rattle.sample_maker.proofs.source.filled_in.Given as goal
 
