@@ -59,11 +59,10 @@ piece_at x first words code [] before after le e = tt
 piece_at x first words code (i ∷ is) before after le e =
     let place : layer_words + length before - layer_words ≡ length before = omega arith in
     let here : slice_get code (layer_words + length before - layer_words) ≡ Some i = ap (slice_get code) place ∙ ap (λ c. slice_get c (length before)) e ∙ get_seam before i (is ++ after) in
-    let next : layer_words + length (before ++ i ∷ []) ≡ layer_words + length before + 1 = omega (arith, length-append before (i ∷ [])) in
-    (
+    let next : layer_words + length (before ++ i ∷ []) ≡ layer_words + length before + 1 = omega (arith, length-append before (i ∷ [])) in (
       code_there first code (layer_words + length before) i le here,
       subst (λ k. CodeAt (on_machine x (program first code words)) k is) next
-      (piece_at x first words code is (before ++ i ∷ []) after (omega (arith, le, next)) (e ∙ sym (append_assoc before (i ∷ []) (is ++ after)))),
+          (piece_at x first words code is (before ++ i ∷ []) after (omega (arith, le, next)) (e ∙ sym (append_assoc before (i ∷ []) (is ++ after)))),
     )
 
 pub stands_at : (x : Outside) (words : ℕ) (code : List Inst) (k : ℕ) (piece : List Inst) → StandsAt code k piece → CodeAt (on_machine x (program (layer_words + 1) code words)) k piece

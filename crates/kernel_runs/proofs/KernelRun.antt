@@ -72,8 +72,8 @@ module _ (simulates : MachineSimulates) (joins : RunsJoin) (fitting : StaysFitti
       let bg = begun simulates joins fitting alikes rows x y u p code (length s.memory) longest c st g user_ok small snd snd_all s flats opened dispatch types entry entry_all sizes variables cause edata user called.typed called.called refl in
       let at = code_at simulates joins fitting alikes rows x y u p code (length s.memory) longest c st g user_ok small snd snd_all s flats opened dispatch types entry entry_all sizes variables cause edata user called.typed called.called refl in
       let to = whole simulates joins fitting alikes rows x y u p code (length s.memory) longest c.current st g user_ok small snd s (steps (record { site = y; current = c.current }))
-          (λ debt item work h t sim. costs (record { site = y; current = c.current }) _ debt item work h t sim) few_units bg.base (suc n) n (units 0) (begin (dispatch_number u) _ ∷ []) _ bg.end bg.base 0 bg.come
-          (record { own = 0; high = omega arith; low = omega arith; calls_low = omega arith; own_steps = omega arith; spent = omega arith }) (omega arith) (omega arith) tt bg.sim in
+      (λ debt item work h t sim. costs (record { site = y; current = c.current }) _ debt item work h t sim) few_units bg.base (suc n) n (units 0) (begin (dispatch_number u) _ ∷ []) _ bg.end bg.base 0 bg.come
+      (record { own = 0; high = omega arith; low = omega arith; calls_low = omega arith; own_steps = omega arith; spent = omega arith }) (omega arith) (omega arith) tt bg.sim in
       let a0 = called.called.arguments.0 in let a1 = called.called.arguments.1.0 in let a2 = called.called.arguments.1.1.0 in
       ends simulates joins fitting alikes rows x y u p code (length s.memory) longest c st g user_ok small snd s (steps (record { site = y; current = c.current })) flats opened entry at bg.base n bg.few
       (c0_run.dispatch (setting_of u y.map.params) n cause edata user c.c0 (machines_of y.map.params c)) to

@@ -110,7 +110,7 @@ module _ (simulates : MachineSimulates) (joins : RunsJoin) (fitting : StaysFitti
       where
         by_passes : (passes : ℕ) → Journey z.w (λ s t. ⊥) r.2.own passes s r.0 → ended h' ≡ ended h + passes → Stepped k used cost work h'
         by_passes zero run same =
-            let none : cost.primitive ≡ 0 = elim f.1 [ | inl e ↦ e | inr e ↦ absurd (omega (arith, e, same)) ] in
+            let none : cost.primitive ≡ 0 = elim f.1 [ inl e ↦ e | inr e ↦ absurd (omega (arith, e, same)) ] in
             let ph = pr.high in let pl = pr.low in let pc = pr.calls_low in let po = pr.own_steps in let ps = pr.spent in
             let lh = r.2.high in let ll = r.2.low in
             record {
