@@ -2,9 +2,7 @@
 use Rattle.std.specs.Prelude.{◌≡◌, ℕ, suc, ◌+◌, ◌*◌, ◌≤◌, true, false, if◌then◌else◌, List, [], ◌∷◌, map, Some, None, slice_get}
 use Rattle.mips_table.specs.Device.{Idle}
 use Rattle.mips_table.specs.Code.{Contents, Behind, Configuration as Machine}
-use Rattle.c0_tree.specs.declared.tree.Kind.TheVariants.{Function}
 use Rattle.c0_tree.specs.Tree.{CTy, CStmt, assign, call, new, choice, loop, CFunction, CUnit}
-use Rattle.c0_meaning.specs.Limits.{is_asm}
 use Rattle.c0_expr_code.specs.Code.{made}
 use Rattle.c0_meaning.specs.Ty.{Ty, ty_of}
 use Rattle.c0_meaning.specs.Env.{Shape, typed_of, env_of}
