@@ -33,3 +33,7 @@ abbrev pub GlobalsTell : Type 0
 GlobalsTell = (structs : List Shape) (layout : Layout) (t : Ty) (v : Value) (name : List ℕ) (address : Location → ℕ) → Fits structs layout t v →
     ((l : Location) (u : Ty) → PointsTo structs layout l.region l.path u → address l ≢ 0) →
     named_row name (value_end (Some t) (slice_index (flat address v) 0)) ≡ global_row name v
+
+-- the rows of the globals, each of which begins so many words behind the first: the default is never looked at
+abbrev pub globals_rows : Decl → List Decl → List ℕ → ℕ → List ℕ → List ℕ
+globals_rows d decls memory first offsets = texts (λ i. global_word_row (slice_index_or decls i d) (slice_index memory (first + slice_index offsets i))) (length decls)
