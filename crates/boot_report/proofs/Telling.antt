@@ -132,7 +132,7 @@ module _ (x : Outside) (y : Site) (held : Held) (ss : List (List ℕ)) (status :
         let e : i + 1 ≡ 1 + i = omega arith in
         ap₂ (λ n cpu. user_rows y.map (paged_of y.map (state_of held ss)) (i + 1) n cpu) pages_told cpu_told
         ∙ ap₂ (λ r m. user_head (i + 1) (pages_of (get_or c.users i no_flat)) (get_or c.users i no_flat).cpu.pc ++ r ++ nonzero_row (codes "hi") (get_or c.users i no_flat).cpu.hi ++ nonzero_row (codes "lo") (get_or c.users i no_flat).cpu.lo ++ m)
-            (registers_told (get_or c.users i no_flat).cpu.regs (get_or c.users i no_flat).cpu refl fits.cpu.regs.size) pages_are_told
+        (registers_told (get_or c.users i no_flat).cpu.regs (get_or c.users i no_flat).cpu refl fits.cpu.regs.size) pages_are_told
         ∙ ap (λ n. user_text n (get_or c.users i no_flat)) e
 
   users_told : users_rows y.map held (paged_of y.map (state_of held ss)) running y.map.users ≡ users_text 1 c.users

@@ -66,3 +66,9 @@ stop_part f i n old mid le h =
     let d : i + (n - i) ≡ n = omega (arith, le) in
     subst (AppendsPart old mid) (sym (texts-add f i (n - i)) ∙ ap (texts f) d)
     (part-front old mid (texts f i) (texts (λ k. f (i + k)) (n - i)) (length (texts f i), h ∙ ap (append_known old) (sym (take_whole (texts f i)))))
+
+-- an element of a list doesn't hang on the default
+pub same_default : {A : Type 0} (xs : List A) (i : ℕ) (a b : A) → i < length xs → get_or xs i a ≡ get_or xs i b
+same_default [] i a b lt = absurd (omega arith)
+same_default (x ∷ xs) zero a b lt = refl
+same_default (x ∷ xs) (suc i) a b lt = same_default xs i a b (omega arith)

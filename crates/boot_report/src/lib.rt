@@ -9,6 +9,6 @@ mod rows;
 mod users;
 
 pub use fault::ReportFault;
-pub use globals::put_global;
-pub use laws::the_rows_tell;
+pub use globals::{put_global, put_globals};
+pub use laws::{a_global_tells, the_rows_tell};
 pub use users::{put_log, put_users};
