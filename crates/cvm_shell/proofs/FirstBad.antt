@@ -73,7 +73,7 @@ one_break_of : (source : List ℕ) (f g : ReadFault) → Breaks source f → Bre
 one_break_of source f g (inl h) (inl k) = h.0 ∙ sym k.0
 one_break_of source f g (inl h) (inr k) = let long : 1048576 < length source = h.1 in let short : length source ≤ 1048576 = k.0 in absurd (omega arith)
 one_break_of source f g (inr h) (inl k) = let short : length source ≤ 1048576 = h.0 in let long : 1048576 < length source = k.1 in absurd (omega arith)
-one_break_of source f g (inr (short, t, one, e)) (inr (also, s, other, d)) = e ∙ ap fault_at (first_bad_once (tokens_of source) t s one other) ∙ sym d
+one_break_of source f g (inr (short, (t, one, e))) (inr (also, (s, other, d))) = e ∙ ap fault_at (first_bad_once (tokens_of source) t s one other) ∙ sym d
 
 -- a source has one fault of reading at most
 pub one_unread : (source : List ℕ) (f g : ReadFault) → f ≢ read.Memory → g ≢ read.Memory → FaultIs source f → FaultIs source g → f ≡ g
@@ -81,7 +81,7 @@ one_unread source f g named also is other = one_break_of source f g (breaks sour
 
 no_break : (source : List ℕ) (u : CUnit) (f : ReadFault) → length source ≤ 1048576 → Reads source u → Breaks source f → ⊥
 no_break source u f short reads (inl h) = let long : 1048576 < length source = h.1 in omega arith
-no_break source u f short (items, stop, derived, e) (inr (also, t, one, d)) = none_bad (tokens_of source) _ t derived one
+no_break source u f short (items, stop, derived, e) (inr (also, (t, one, d))) = none_bad (tokens_of source) _ t derived one
 
 -- one that is read has none
 pub never_unread : (source : List ℕ) (u : CUnit) (f : ReadFault) → length source ≤ 1048576 → Reads source u → f ≢ read.Memory → FaultIs source f → ⊥
@@ -90,7 +90,7 @@ never_unread source u f short reads named is = no_break source u f short reads (
 -- Faults of typing.
 
 -- the fault that is seen as this
-seen_as : ℕ → Span → ℕ → TypeFault
+abbrev seen_as : ℕ → Span → ℕ → TypeFault
 seen_as number span line =
     if number == 20 then UnknownName span else
     if number == 21 then NameTwice span else
@@ -108,12 +108,11 @@ seen_as number span line =
     if number == 33 then TooManyParameters span else
     if number == 34 then TypeTooLarge span else EmptyArray span
 
-back : Option Fault → TypeFault
+abbrev back : Option Fault → TypeFault
 back None = Memory
 back (Some f) = seen_as f.number f.span f.line
 
 back_again : (f : TypeFault) → back (type_fault_view f) ≡ f
-unfolding back, seen_as
 back_again (UnknownName s) = refl
 back_again (NameTwice s) = refl
 back_again (WrongType s) = refl
@@ -132,12 +131,8 @@ back_again (TypeTooLarge s) = refl
 back_again (EmptyArray s) = refl
 back_again Memory = refl
 
-memory_back : back None ≡ Memory
-unfolding back
-memory_back = refl
-
 is_seen : (f : TypeFault) → f ≢ Memory → type_fault_view f ≢ None
-is_seen f named e = named (sym (back_again f) ∙ ap back e ∙ memory_back)
+is_seen f named e = named (sym (back_again f) ∙ ap back e)
 
 least_of : (o : Option Fault) (u : CUnit) → o ≢ None → AnswersLeast o u → (x : Fault) × (o ≡ Some x) × IsLeast (source_faults u) x
 least_of None u some h = absurd (some refl)

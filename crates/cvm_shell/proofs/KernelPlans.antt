@@ -1,5 +1,5 @@
 -- What the source of a kernel comes to: it is refused for its first fault, or the object of its unit is put, and nothing else.
-use Rattle.std.proofs.Common.{◌≡◌, ◌≢◌, ◌⊎◌, inl, inr, ℕ, ◌<◌, ◌≤◌, List, [], length, refl, sym, ap, ◌∙◌, subst, Bool, true, false, ltb, ltb-true, ltb-false}
+use Rattle.std.proofs.Common.{◌≡◌, ◌≢◌, ◌⊎◌, inl, inr, ℕ, ◌<◌, ◌≤◌, List, [], length, refl, sym, ap, ◌∙◌, subst, Ok, Err, Bool, true, false, ltb, ltb-true, ltb-false}
 use Rattle.std.specs.Prelude.{Option, Result, ⊤}
 use Rattle.std.specs.Option.{IsSome}
 use Rattle.cvm_outside.specs.Told.{TOO_LONG, Tells}
@@ -71,6 +71,9 @@ plan_compiles law name source u short is each = record { comes = compiles u shor
 
 -- The answers of the front.
 
+abbrev err_of : (A : Type 0) → SourceFault → Result A SourceFault
+err_of A f = Err f
+
 -- a fault is want of memory, or it is one of the source, which is refused
 unread_stops : (f : ReadFault) → (f ≡ read.Memory) ⊎ ((f ≢ read.Memory) × (source_stop (Reading f) ≡ Stops.Refused (by.BadSource (Reading f))))
 unread_stops (read.BadByte at) = inr (λ e. cc, refl)
@@ -106,6 +109,13 @@ not_above n false e not = ltb-false 1048576 n e
 
 few_enough : (source : List ℕ) (f : TypeFault) → (1048576 < length source → Typing f ≡ Reading read.SourceTooLong) → length source ≤ 1048576
 few_enough source f long = not_above (length source) (ltb 1048576 (length source)) refl (λ h. let e = long h in absurd cc)
+
+-- the same, where the source has a unit
+pub few_for_unit : {A : Type 0} (source : List ℕ) (x : A) → (1048576 < length source → Ok x ≡ Err (Reading read.SourceTooLong)) → length source ≤ 1048576
+few_for_unit source x long = not_above (length source) (ltb 1048576 (length source)) refl (λ h. let e = long h in absurd cc)
+
+pub one_fault : {A : Type 0} (f g : SourceFault) → err_of A f ≡ err_of A g → f ≡ g
+one_fault f g e = cc
 
 -- a fault of a source is refused
 pub source_fault : LeastIsThere → (name source : List ℕ) (f : SourceFault) → (1048576 < length source → f ≡ Reading read.SourceTooLong) → IsFaultOf source f
