@@ -5,9 +5,12 @@ pub mod CallActs
 pub mod Calls
 pub mod Costs
 pub mod EmitLeaf
+pub mod Emittable
+pub mod Emitting
 pub mod Entry
 pub mod Finishes
 pub mod Frames
+pub mod FunctionLengths
 pub mod Given
 pub mod Given2
 pub mod Grows
@@ -15,6 +18,7 @@ pub mod Held
 pub mod Lengths
 pub mod Lights
 pub mod Locals
+pub mod Named
 pub mod Needs
 pub mod Objects
 pub mod Places
@@ -29,4 +33,3 @@ pub mod Steps
 pub mod Stores
 pub mod Variables
 pub mod Ways
-pub mod Whole

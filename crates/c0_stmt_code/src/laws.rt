@@ -1,7 +1,7 @@
 //! The laws of the code of statements: each function says one, and does nothing.
 
 ghost use Rattle.c0_stmt_code.specs.Rows.{AreCodes};
-ghost use Rattle.c0_stmt_code.specs.Standing.{RunsAre, StepsRun};
+ghost use Rattle.c0_stmt_code.specs.Standing.{StepsRun};
 ghost use Rattle.mips_table.specs.Code.{Contents, Behind, Configuration};
 
 use c0_asm_body::laws::asm_bodies_run;
@@ -47,14 +47,6 @@ pub fn steps_run<M: Outside>()
     declared_types_have_words();
     zeros_fit_their_types();
     objects_are_made();
-}
-
-/// A run of C0's meaning is a run of the code.
-pub fn runs_follow_steps<M: Outside>()
-    ensures { RunsAre M.Standing M.Entry M.outer M.passes }
-{
-    steps_run::<M>();
-    code_runs_join();
 }
 
 /// The code of two small functions, instruction by instruction.

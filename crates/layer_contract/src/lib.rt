@@ -8,7 +8,7 @@ ghost use Rattle.mips_table.specs.Device.{Outside, HasEightLines};
 ghost use Rattle.cvm_model.specs.Cvm.{System};
 ghost use Rattle.layer_contract.specs.Layer.{ResetStands, UserStands};
 ghost use Rattle.layer_contract.specs.Follows.{FirstCall, LoadedResets, MadeFor, SystemFits};
-ghost use Rattle.layer_contract.specs.Users.{SomeStores, UserSteps, UserStepsLinked, UserStepsOrFaults};
+ghost use Rattle.layer_contract.specs.Users.{FaultsAsk, SomeStores, UserSteps, UserStepsLinked, UserStepsOrFaults, UsersAreInterrupted};
 ghost use Rattle.layer_contract.specs.Samples.{AStateStands, ASpreadStateStands};
 
 mod boot;
@@ -73,6 +73,18 @@ pub fn users_follow_or_fault()
 {
     words_stay_words();
 }
+
+/// A law: an interrupt of a user is taken with nothing changed but the lines latched, and isn't the reset.
+pub fn users_are_interrupted()
+    ensures { UsersAreInterrupted }
+{
+    words_stay_words();
+}
+
+/// A law: a handled fault asks for a page that the user's step touches and that isn't to be had.
+pub fn faults_ask()
+    ensures { FaultsAsk }
+{}
 
 /// A law: there is a state that meets the premises, in which a user's step stores through its page table.
 pub fn a_user_stores()

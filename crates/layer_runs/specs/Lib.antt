@@ -1,0 +1,4 @@
+pub mod Image
+pub mod Runs
+pub mod Laws
+pub mod Laid
