@@ -187,6 +187,7 @@ module _ (runs : RunLaws) (compose : RunsCompose) (W E : Type 0) (Outer : W → 
         run = way1.run;
         called = called;
         outer = st2.outer;
+        room = let used = st2.used_word in let room = st.room in omega (arith, used, room);
         units = omega arith;
         pages = omega arith;
         after = refl;

@@ -171,7 +171,7 @@ module _ (W E : Type 0) (Outer : W → Contents → Behind → Type 0) (Passes :
   abbrev pub IsGone : (debt : ℕ) → Configuration W E → Machine → Cost → List Work → Configuration W E → Type 0
   IsGone debt h s cost work h' = (t : Machine) × (left : ℕ) × Led z.w Passes cost.own debt left h h' s t × Simulated left work h' t
 
-  -- A step calls a primitive: its own units have led the machine to the primitive's entry, with its arguments and the word to which it returns. And
+  -- A step calls a primitive: its own units have led the machine to the primitive's entry, with its arguments and the word to which it returns, and no more than the heap is used. And
   -- wherever it comes back, with its answer in register 2, while the rest of the machine stands for the world's value after it, the step is done.
   pub record IsCalling (debt : ℕ) (h : Configuration W E) (s : Machine) (cost : Cost) (work : List Work) (h' : Configuration W E) : Type 0 where
     pub number : ℕ
@@ -186,6 +186,7 @@ module _ (W E : Type 0) (Outer : W → Contents → Behind → Type 0) (Passes :
     pub run : Steps z.w own s entry
     pub called : Called z.w text.links row number args to entry
     pub outer : Outer h.world entry.contents entry.behind
+    pub room : entry.contents.memory 1026 ≤ z.p.heap
     pub units : cost.primitive ≡ (call_cost (z.p.meaning number args h.world)).primitive
     pub pages : cost.pages ≡ (z.p.meaning number args h.world).pages
     pub after : h' ≡ after_call h (z.p.meaning number args h.world)

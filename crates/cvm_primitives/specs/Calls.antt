@@ -12,7 +12,7 @@ use Rattle.page_model.specs.Places.{Places, view}
 use Rattle.frame_table.specs.View.{Sited, Ported}
 use Rattle.page_fault.specs.Code.{page_code}
 use Rattle.cvm_model.specs.Kernel.{flat}
-use Rattle.cvm_model.specs.Primitives.{Call, VmWord, VmPut, VmCopy, VmResize, Given, user_of, prim, units_of}
+use Rattle.cvm_model.specs.Primitives.{Call, VmWord, VmPut, VmCopy, VmResize, Given, user_of, prim}
 use Rattle.cvm_model.specs.Paged.{pages_by}
 use Rattle.cvm_model.specs.Stands.{UserFits}
 use Rattle.register_primitives.specs.Blocks.{IsOneOf, BlocksHold, console_of}

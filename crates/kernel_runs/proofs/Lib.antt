@@ -6,3 +6,6 @@ pub mod Standing
 pub mod Instructions
 pub mod Site
 pub mod Reached
+pub mod Words
+pub mod Passing
+pub mod Runs

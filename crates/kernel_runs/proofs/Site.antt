@@ -7,18 +7,13 @@ use Rattle.mips_table.specs.Encoding.{encoding}
 use Rattle.mips_table.specs.Device.{Outside}
 use Rattle.mips_table.specs.Code.{Contents, Behind, World, Configuration as Machine, on_machine}
 use Rattle.masm.specs.declared.registers.Places.{Places}
-use Rattle.layer_map.specs.Map.{layer_words, hand_at, current_at, block_at, globals_at, heap_at, stack_at, tables_at, memory_words}
+use Rattle.layer_map.specs.Map.{Map, layer_words, hand_at, current_at, block_at, globals_at, heap_at, stack_at, tables_at, memory_words}
 use Rattle.page_model.specs.Laws.{AlikesStand}
 use Rattle.page_model.specs.Places.{layout_of, places_of, view}
 use Rattle.c0_tree.specs.Primitives.{CPrimitive, kernel_primitives}
 use Rattle.c0_tree.specs.Tree.{CUnit}
 use Rattle.c0_meaning.specs.Env.{typed_of}
-use Rattle.c0_meaning.specs.Limits.{locals_of}
-use Rattle.c0_meaning.specs.RunLaws.{LocalsStartTyped}
 use Rattle.c0_meaning.specs.Sound.{shapes}
-use Rattle.c0_meaning.specs.TypedState as typed
-use Rattle.c0_meaning.specs.TypedState.{types_of, AllFit}
-use Rattle.c0_meaning.specs.Value.{zeros_of}
 use Rattle.c0_runtime.specs.Code as runtime
 use Rattle.c0_expr_code.specs.Scope.{scope_of}
 use Rattle.c0_stmt_code.specs.Code.{links_of, function_code}
@@ -33,28 +28,30 @@ use Rattle.kernel_runs.proofs.Bounds.{Bounds}
 use Rattle.kernel_runs.proofs.Instructions.{code_is, no_code, no_low_code, stands_at, sound}
 
 -- each row of a table has few arguments
-HaveFew : List CPrimitive → Type 0
+abbrev pub HaveFew : List CPrimitive → Type 0
 HaveFew [] = Unit {0}
 HaveFew (r ∷ rows) = (length r.args ≤ 8) × HaveFew rows
 
-few_of : (rows : List CPrimitive) → HaveFew rows → (n : ℕ) (row : CPrimitive) → slice_get rows n ≡ Some row → length row.args ≤ 8
-unfolding HaveFew
+pub few_of : (rows : List CPrimitive) → HaveFew rows → (n : ℕ) (row : CPrimitive) → slice_get rows n ≡ Some row → length row.args ≤ 8
 few_of [] h n row e = cc
 few_of (r ∷ rows) h zero row e = let q : r ≡ row = cc in subst (λ y. length y.args ≤ 8) q h.0
 few_of (r ∷ rows) h (suc n) row e = few_of rows h.1 n row e
 
-kernels_few : HaveFew kernel_primitives
-unfolding HaveFew
+pub kernels_few : HaveFew kernel_primitives
 kernels_few = (omega arith, (omega arith, (omega arith, (omega arith, (omega arith, (omega arith, (omega arith, (omega arith, (omega arith, (omega arith, tt))))))))))
 
+-- where the unit's data stand on a map, and the word behind the entry's call
+abbrev pub regions_on : Map → Data
+regions_on m = record { globals = globals_at m; heap = heap_at m; stack = stack_at m; back = layer_words + 7 }
+
 module _ (x : Outside) (y : Site) (u : CUnit) (p : Places) (code : List Inst) (words : ℕ) (st : CodeStands u p y code) (b : Bounds y.map)
-    (big : memory_words y.map ≤ words) (small : words < 2 ^ 26) (start : LocalsStartTyped) (alikes : AlikesStand) (current : ℕ) where
+    (big : memory_words y.map ≤ words) (small : words < 2 ^ 26) (alikes : AlikesStand) (current : ℕ) where
   -- the code from behind its first instruction on
   abbrev pub world : World
   world = on_machine x (program (layer_words + 1) code words)
 
   abbrev pub regions : Data
-  regions = record { globals = globals_at y.map; heap = heap_at y.map; stack = stack_at y.map; back = layer_words + 7 }
+  regions = regions_on y.map
 
   -- words that aren't the unit's: below its globals, and from the page tables on
   not_low : (k : ℕ) → k < globals_at y.map → k ≢ 1026 → IsOurs regions y.map.params.stack k → ⊥
@@ -70,7 +67,7 @@ module _ (x : Outside) (y : Site) (u : CUnit) (p : Places) (code : List Inst) (w
       let drops = length-drop layer_words y.linked in let is = ap length st.linked in let maps : length (map encoding code) ≡ length code = length-map code encoding in let long = st.long in
       omega (arith, drops, is, maps, long)
 
-  stays : (v : Machines) (c c' : Contents) (d : Behind) → ((k : ℕ) → (IsOurs regions y.map.params.stack k → ⊥) → c'.memory k ≡ c.memory k) → c'.special ≡ c.special → Outer y current v c d → Outer y current v c' d
+  pub stays : (v : Machines) (c c' : Contents) (d : Behind) → ((k : ℕ) → (IsOurs regions y.map.params.stack k → ⊥) → c'.memory k ≡ c.memory k) → c'.special ≡ c.special → Outer y current v c d → Outer y current v c' d
   stays v c c' d same special o =
       let code_room = b.code in let globals = b.globals in let heap = b.heap in let stack = b.stack in let tables = b.tables in let frame_table = b.frame_table in let zeros = b.zeros in
       let users : length v.users ≡ y.map.users = o.count in
@@ -104,7 +101,7 @@ module _ (x : Outside) (y : Site) (u : CUnit) (p : Places) (code : List Inst) (w
         input = o.input;
       }
 
-  pub setup : Setup Machines Changes (Outer y current) (λ s t. ⊥)
+  abbrev pub setup : Setup Machines Changes (Outer y current) (λ s t. ⊥)
   setup =
       let code_words = st.code_words in let global_words = st.global_words in
       let code_room = b.code in let globals = b.globals in let heap = b.heap in let stack = b.stack in let tables = b.tables in let frame_table = b.frame_table in let memory = b.memory in
@@ -128,8 +125,6 @@ module _ (x : Outside) (y : Site) (u : CUnit) (p : Places) (code : List Inst) (w
         globals_at = st.globals;
         functions = λ n f is. stands_at x words code ((links_of p).function n) (function_code (scope_of u f p) (links_of p) f) (st.functions n f is);
         new_object = stands_at x words code (links_of p).new_object runtime.new_code st.new_object;
-        zeros_fit = λ objects n f locals stmts answer is e. subst (λ ds. AllFit (shapes u) (typed.layout_of u objects) (types_of (map typed_of ds)) (zeros_of (shapes u) (map typed_of ds))) (ap locals_of e)
-            (start kernel_primitives u st.checked.well_formed n f is (typed.layout_of u objects));
         outer_stays = stays;
         few_arguments = few_of kernel_primitives kernels_few;
         elsewhere = λ n k e q. let c = code_is (layer_words + 1) code k _ e in let le = c.0 in let lt = st.below n in absurd (omega (arith, le, lt, q));

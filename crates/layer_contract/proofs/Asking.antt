@@ -1,5 +1,5 @@
 -- A handled fault of a user: which page it asks for, by the step's fetch, load or store.
-use Rattle.std.proofs.Common.{◌≡◌, ◌≢◌, ℕ, ◌+◌, ◌-◌, ◌*◌, ◌/◌, ◌<◌, ◌≤◌, ◌⊎◌, ◌&&◌, Option, Some, None, Bool, true, false, not, nat_lt, length, slice_index, refl, sym, ap, ap₂, ◌∙◌, subst, inl, inr, arith, true≢false, lt-ltb, le-ltb, ltb-true, eqb-true}
+use Rattle.std.proofs.Common.{◌≡◌, ℕ, ◌*◌, ◌/◌, ◌<◌, ◌≤◌, ◌⊎◌, ◌&&◌, Option, Some, None, Bool, true, false, not, nat_lt, length, slice_index, refl, sym, ap, ◌∙◌, subst, inl, inr, arith, true≢false, lt-ltb, ltb-true, eqb-true}
 use Rattle.std.specs.Prelude.{◌==◌, if◌then◌else◌, is_some}
 use Rattle.std.proofs.lemmas.Bool.{cond-true, cond-false, cond_both, ltb-false}
 use Rattle.mips_table.specs.declared.inst.Inst.{Inst}
@@ -12,8 +12,8 @@ use Rattle.mips_table.specs.Decoding.{decoding}
 use Rattle.mips_table.specs.Device.{Outside}
 use Rattle.mips_table.specs.Machine.{SR, PTL, number_of, in_system}
 use Rattle.mips_table.specs.Processor.{Cpu, Access, Move, Ran, Loaded, Stored, Trapped, Privileged, is_aligned, advanced, accessed, performed, executed, effect_on, move}
-use Rattle.mips_table.specs.Machine.{State, Coming, Interrupt, Done, located, read_at, access, fetch, fetched, privileged, moved, latched, coming}
-use Rattle.mips_table.specs.Turns.{is_on, in_user, is_handled, handled}
+use Rattle.mips_table.specs.Machine.{State, Coming, Interrupt, located, read_at, access, fetch, fetched, privileged, moved, latched, coming}
+use Rattle.mips_table.specs.Turns.{is_handled, handled}
 use Rattle.page_model.specs.Paging.{Passes}
 use Rattle.page_model.specs.Faults.{UserStep, Asks, ByFetch, ByData}
 use Rattle.cvm_model.specs.Kernel.{Core}
@@ -21,11 +21,10 @@ use Rattle.cvm_model.specs.Primitives.{user_of, pages_of}
 use Rattle.cvm_model.specs.Paged.{paged_of}
 use Rattle.cvm_model.specs.Stands.{Site}
 use Rattle.layer_contract.specs.Layer.{page_at}
-use Rattle.layer_contract.specs.Users.{Premises, code_alone, and_word, pages_of_effect, pages_of_inst, step_pages, AsksPage, FaultsAsk}
-use Rattle.layer_contract.proofs.Pages.{names_own}
+use Rattle.layer_contract.specs.Users.{code_alone, and_word, pages_of_effect, pages_of_inst, step_pages, FaultsAsk}
 use Rattle.layer_contract.proofs.Places.{own, Place, Past, Faults, There, Known, place, refused_page, user_fits, below, above, number_below}
 use Rattle.layer_contract.proofs.Frames.{word_is}
-use Rattle.layer_contract.proofs.Interrupted.{left, right, fetches}
+use Rattle.layer_contract.proofs.Interrupted.{right, fetches}
 
 -- a move that is a fault of a page below the size
 abbrev Faulted : ℕ → Move → Type 0

@@ -1,6 +1,6 @@
 -- An interrupt of a user: the state in which it is taken is that of the step, and its cause isn't the reset.
 use Rattle.std.proofs.Common.{◌≡◌, ◌≢◌, ℕ, ◌/◌, ◌&&◌, Option, Some, None, Bool, true, false, not, nat_lt, length, slice_index, refl, sym, ap, ◌∙◌, subst, true≢false, lt-ltb, ltb-true, eqb-true}
-use Rattle.std.specs.Prelude.{◌==◌, if◌then◌else◌, is_some}
+use Rattle.std.specs.Prelude.{◌==◌, if◌then◌else◌}
 use Rattle.std.proofs.lemmas.Bool.{cond-true, cond-false, cond_both}
 use Rattle.mips_table.specs.declared.inst.Inst.{Inst}
 use Rattle.mips_table.specs.declared.inst.Inst.TheVariants.{Mfc0, Mtc0, Eret}
@@ -12,12 +12,11 @@ use Rattle.mips_table.specs.Decoding.{decoding}
 use Rattle.mips_table.specs.Device.{Outside}
 use Rattle.mips_table.specs.Machine.{SR, number_of, in_system}
 use Rattle.mips_table.specs.Processor.{Cpu, Access, Move, Ran, Loaded, Stored, Trapped, Privileged, is_aligned, accessed, performed, executed, effect_on, move}
-use Rattle.mips_table.specs.Machine.{State, Coming, Interrupt, Done, located, read_at, after_read_at, access, fetch, fetched, privileged, moved, latched, coming}
-use Rattle.mips_table.specs.Turns.{in_user}
+use Rattle.mips_table.specs.Machine.{State, Coming, Interrupt, Done, located, after_read_at, access, fetch, fetched, privileged, moved, latched, coming}
 use Rattle.cvm_model.specs.Kernel.{Core}
 use Rattle.cvm_model.specs.Stands.{Site}
-use Rattle.layer_contract.specs.Users.{Premises, IsTakenAt, UsersAreInterrupted}
-use Rattle.layer_contract.proofs.Places.{own, Place, Past, Faults, There, Known, place}
+use Rattle.layer_contract.specs.Users.{UsersAreInterrupted}
+use Rattle.layer_contract.proofs.Places.{Place, Past, Faults, There, Known, place}
 use Rattle.layer_contract.proofs.Frames.{word_is}
 
 -- a cause that isn't the reset

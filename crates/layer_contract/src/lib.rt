@@ -51,7 +51,9 @@ pub fn a_spread_state_stands()
 /// A law: over a layer that was made for what is booted, the loaded machine calls `dispatch` for the start of the run.
 pub fn the_kernel_is_called<L: Layer>(layer: &L)
     ensures { (x : Outside) (y : System) (old : List (List ℕ)) → SystemFits x y old → MadeFor (L.image layer.now) (L.sizes layer.now) (L.map layer.now) y.boot → FirstCall x y old }
-{}
+{
+    layer.keeps_laws();
+}
 
 /// A law: a user's step that takes no handled fault is the flat machine's step, its trap, or the taking of the pending lines.
 pub fn users_follow()
