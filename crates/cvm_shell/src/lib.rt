@@ -28,7 +28,10 @@ pub mod status;
 pub use assembly::{user_image, words_have_four_bytes};
 pub use boot::{Stop, kernels_run_once};
 use boot::{plan, run_kernel};
-pub use command::{Boot, Command, CompileKernel, CompileUser, read_boot, read_command, read_compile_kernel, read_compile_user};
+pub use command::{
+    Boot, Command, CompileKernel, CompileUser, read_boot, read_command, read_compile_kernel,
+    read_compile_user,
+};
 use cvm_outside::{Sectors, Shelf, Sink};
 pub use image::{images_are_read, read_image};
 pub use object::kernel_object;
