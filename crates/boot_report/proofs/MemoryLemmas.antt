@@ -1,8 +1,5 @@
 -- One page of a user's memory, put after the pages before it.
-use Rattle.std.proofs.Common.{◌≡◌, ℕ, ◌+◌, ◌*◌, ◌<◌, Bool, List, Option, Some, refl, sym, ap, ◌∙◌, subst}
-use Rattle.std.specs.Io.KnownBytes.{append_known}
-use Rattle.cvm_outside.specs.Told.{AppendsPart}
-use Rattle.mips_table.specs.Machine.{State}
+use Rattle.std.proofs.Common.{◌≡◌, ℕ, ◌+◌, ◌*◌, ◌<◌, Bool, List, Option, sym, ap, ◌∙◌, subst}
 use Rattle.mips_machine.specs.Machine.{Held, state_of}
 use Rattle.layer_map.specs.Map.{Map}
 use Rattle.page_model.specs.Paging.{shown_word}

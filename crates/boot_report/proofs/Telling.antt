@@ -1,8 +1,7 @@
 -- The rows of the users, and of the log, are those of the abstract machine.
-use Rattle.std.proofs.Common.{◌≡◌, ◌≢◌, ℕ, zero, suc, ◌+◌, ◌-◌, ◌*◌, ◌/◌, ◌%◌, ◌<◌, ◌≤◌, ◌⊎◌, Bool, true, false, ◌&&◌, List, [], ◌∷◌, ◌++◌, length, get_or, drop, take, min, codes, decimal, refl, sym, ap, ap₂, ◌∙◌, subst, ⊎_elim, arith, get_or-drop, length-drop, eqb-true, ne_eqb, eq-eqb, lt-ltb}
-use Rattle.std.specs.Prelude.{◌==◌, if◌then◌else◌, nat_lt, nat_eq, slice_index}
-use Rattle.std.specs.List.{All}
-use Rattle.std.proofs.lemmas.Bool.{cases_eq, cases_Bool, cond-true, cond-false}
+use Rattle.std.proofs.Common.{◌≡◌, ◌≢◌, ℕ, zero, suc, ◌+◌, ◌-◌, ◌*◌, ◌/◌, ◌%◌, ◌<◌, ◌≤◌, Bool, true, false, ◌&&◌, List, [], ◌∷◌, ◌++◌, length, get_or, drop, codes, refl, sym, ap, ap₂, ◌∙◌, subst, ⊎_elim, arith, get_or-drop, length-drop, ne_eqb, eq-eqb, lt-ltb}
+use Rattle.std.specs.Prelude.{◌==◌, nat_lt, slice_index}
+use Rattle.std.proofs.lemmas.Bool.{cases_eq, cases_Bool}
 use Rattle.std.proofs.Math.Nat.{mul-le-mul_right, mul-add-mod_self_right, mod-eq_of_lt}
 use Rattle.std.proofs.lemmas.Nat.{div-mul-add}
 use Rattle.mips_table.specs.Device.{Outside}
@@ -10,17 +9,17 @@ use Rattle.mips_table.specs.Processor.{Cpu}
 use Rattle.mips_table.specs.Flat.{Flat}
 use Rattle.mips_table.specs.Machine.{State}
 use Rattle.mips_machine.specs.Machine.{Held, state_of}
-use Rattle.layer_map.specs.Map.{Map, MapInRange, block_at, memory_frames}
-use Rattle.page_model.specs.Paging.{Paged, PagesStand, IsFrame, shown_word}
+use Rattle.layer_map.specs.Map.{MapInRange, block_at}
+use Rattle.page_model.specs.Paging.{Paged, IsFrame, shown_word}
 use Rattle.page_model.specs.Places.{layout_of}
 use Rattle.cvm_model.specs.Kernel.{Core}
 use Rattle.cvm_model.specs.Primitives.{user_of, pages_of, no_flat}
 use Rattle.cvm_model.specs.Cvm.{Status}
 use Rattle.cvm_model.specs.Paged.{paged_of, pages_by}
-use Rattle.cvm_model.specs.Stands.{Site, Stands, UserFits, UsersStand, runs_user, block_cpu}
+use Rattle.cvm_model.specs.Stands.{Site, Stands, UserFits, runs_user}
 use Rattle.cvm_model.specs.Text.{hex_row, nonzero_row, regs_text, memory_text, user_text, users_text, log_text}
-use Rattle.boot_report.specs.Texts.{texts, register_row, memory_row, page_rows, pages_rows, register_rows, processor_rows, user_head, user_rows, users_rows, log_rows, cpu_of, pages_in, EntriesFit}
-use Rattle.boot_report.specs.Told.{IsRunning, RowsAreTold, RowsTell}
+use Rattle.boot_report.specs.Texts.{texts, register_row, memory_row, pages_rows, register_rows, user_head, user_rows, users_rows, log_rows, cpu_of, pages_in, EntriesFit}
+use Rattle.boot_report.specs.Told.{IsRunning, RowsTell}
 use Rattle.boot_report.proofs.Texts.{texts-none, texts-suc, texts-add, texts-same}
 
 -- a text that goes down a list from the front

@@ -1,5 +1,5 @@
 -- Registers in a control block, and four texts in a row.
-use Rattle.std.proofs.Common.{◌≡◌, ℕ, zero, suc, ◌+◌, ◌-◌, ◌*◌, ◌<◌, ◌≤◌, Bool, subst, List, ◌∷◌, ◌++◌, take, drop, get_or, Option, refl, sym, ap, ◌∙◌, arith, get_or-drop, get_or-take}
+use Rattle.std.proofs.Common.{◌≡◌, ℕ, zero, suc, ◌+◌, ◌-◌, ◌*◌, ◌<◌, ◌≤◌, Bool, subst, List, ◌∷◌, ◌++◌, take, drop, get_or, Option, sym, ap, ◌∙◌, arith, get_or-drop, get_or-take}
 use Rattle.std.specs.Io.KnownBytes.{append_known}
 use Rattle.layer_map.specs.Map.{Map}
 use Rattle.mips_machine.specs.Machine.{Held}

@@ -1,4 +1,4 @@
-use Rattle.std.proofs.Common.{◌≡◌, ◌+◌, ◌*◌, ◌/◌, ◌<◌, ℕ, length, get_or, refl, sym, ap, ap₂, ◌∙◌, subst₂, arith}
+use Rattle.std.proofs.Common.{◌≡◌, ◌+◌, ◌*◌, ◌/◌, ◌<◌, length, get_or, refl, ap, ap₂, ◌∙◌, subst₂, arith}
 use Rattle.std.specs.Prelude.{slice_index, slice_index_or}
 use Rattle.std.specs.Io.KnownBytes.{append_known}
 use Rattle.cvm_outside.specs.Told.{AppendsPart}
@@ -6,7 +6,7 @@ use Rattle.c0_tree.specs.declared.tree.Decl.{Decl}
 use Rattle.layer_map.specs.Map.{globals_at}
 use Rattle.boot_report.specs.Texts.{texts}
 use Rattle.boot_report.specs.Globals.{global_word_row}
-use Rattle.boot_report.proofs.Texts.{put_none, put_more, put_part, is_err, on_ok, same_default}
+use Rattle.boot_report.proofs.Texts.{put_none, put_more, put_part, is_err, same_default}
 use Rattle.boot_report.proofs.globals.put_globals.Goals as goal
 
 pub loop-i-init : goal.loop-i-init

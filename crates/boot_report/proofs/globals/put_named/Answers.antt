@@ -1,5 +1,3 @@
-use Rattle.std.proofs.Common.{◌≡◌, ◌≢◌, [], ◌∙◌, subst}
-use Rattle.cvm_outside.specs.Told.{AppendsPart}
 use Rattle.boot_report.proofs.Texts.{is_err}
 use Rattle.boot_report.proofs.GlobalRows.{head_part, name_part, end_part, not_empty}
 use Rattle.boot_report.proofs.globals.put_named.Goals as goal

@@ -1,11 +1,10 @@
-use Rattle.std.proofs.Common.{◌≡◌, ◌+◌, ◌*◌, ◌<◌, ◌≤◌, ℕ, List, Some, refl, sym, ap, ◌∙◌, subst, arith}
+use Rattle.std.proofs.Common.{◌+◌, ◌<◌, ◌≤◌, refl, ap, ◌∙◌, subst, arith}
 use Rattle.std.specs.Io.KnownBytes.{append_known}
-use Rattle.std.proofs.lemmas.Result.{err_from_is_err_and}
 use Rattle.cvm_outside.specs.Told.{AppendsPart}
 use Rattle.mips_machine.specs.Machine.{state_of}
 use Rattle.cvm_model.specs.Paged.{paged_of}
-use Rattle.boot_report.specs.Texts.{texts, memory_row, page_word, page_rows}
-use Rattle.boot_report.proofs.Texts.{put_none, put_more, put_part, stop_part, is_err, no_ok}
+use Rattle.boot_report.specs.Texts.{page_rows}
+use Rattle.boot_report.proofs.Texts.{put_none, put_more, put_part, stop_part, is_err}
 use Rattle.boot_report.proofs.MemoryLemmas.{page_is, fits_before, same_twice}
 use Rattle.boot_report.proofs.memory.put_memory.Goals as goal
 

@@ -1,8 +1,8 @@
-use Rattle.std.proofs.Common.{◌≡◌, ◌+◌, ◌*◌, ◌<◌, refl, ap, ◌∙◌, subst, arith}
+use Rattle.std.proofs.Common.{◌+◌, ◌*◌, ◌<◌, refl, ap, ◌∙◌, subst, arith}
 use Rattle.std.specs.Io.KnownBytes.{append_known}
 use Rattle.std.proofs.lemmas.Result.{err_from_is_err_and}
 use Rattle.cvm_outside.specs.Told.{AppendsPart}
-use Rattle.boot_report.specs.Texts.{texts, memory_row, page_word}
+use Rattle.boot_report.specs.Texts.{memory_row, page_word}
 use Rattle.boot_report.proofs.Texts.{put_none, put_more, put_part, is_err, no_ok}
 use Rattle.boot_report.proofs.memory.put_page.Goals as goal
 

@@ -1,4 +1,4 @@
-use Rattle.std.proofs.Common.{◌≡◌, [], sym, subst, ne_eqb}
+use Rattle.std.proofs.Common.{[], sym, subst, ne_eqb}
 use Rattle.std.specs.Prelude.{◌==◌}
 use Rattle.std.proofs.lemmas.Bool.{cond-false}
 use Rattle.cvm_outside.specs.Told.{AppendsPart}

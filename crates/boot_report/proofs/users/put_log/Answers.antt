@@ -1,6 +1,5 @@
-use Rattle.std.proofs.Common.{◌≡◌, ◌+◌, ◌<◌, length, codes, refl, ap, ◌∙◌, subst, arith}
+use Rattle.std.proofs.Common.{◌+◌, ◌<◌, length, codes, refl, ◌∙◌, arith}
 use Rattle.std.specs.Prelude.{slice_index}
-use Rattle.cvm_outside.specs.Told.{AppendsPart}
 use Rattle.cvm_model.specs.Text.{hex_row}
 use Rattle.boot_report.proofs.Texts.{put_none, put_more, put_part, is_err}
 use Rattle.boot_report.proofs.users.put_log.Goals as goal

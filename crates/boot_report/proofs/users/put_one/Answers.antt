@@ -1,4 +1,4 @@
-use Rattle.std.proofs.Common.{◌≡◌, ◌≤◌, ◌-◌, ◌+◌, ◌*◌, ◌∙◌, ap, min, arith}
+use Rattle.std.proofs.Common.{◌≡◌, ◌-◌, ◌+◌, ◌∙◌, ap, min, arith}
 use Rattle.std.specs.Prelude.{slice_index}
 use Rattle.std.proofs.Math.Nat.{mul-le-mul_left}
 use Rattle.layer_map.specs.declared.params.Params.{Params}

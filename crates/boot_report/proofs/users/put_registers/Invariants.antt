@@ -1,5 +1,4 @@
-use Rattle.std.proofs.Common.{◌≡◌, ◌+◌}
-use Rattle.std.specs.Prelude.{slice_index}
+use Rattle.std.proofs.Common.{◌≡◌}
 use Rattle.std.specs.Io.KnownBytes.{append_known}
 use Rattle.boot_report.specs.Texts.{register_rows, cpu_of}
 use Rattle.boot_report.proofs.users.put_registers.Given as goal
