@@ -3,6 +3,7 @@
 use crate::system::System;
 use crate::watch::Watch;
 use cvm_text::hex8;
+use cvm_words::int_of;
 use layer_map::{BLOCK_HI, BLOCK_LO, BLOCK_PC, BLOCK_SIZE, CURRENT, HEAP_USED, block_of};
 use std::alloc::AllocError;
 use std::fmt::Write;
@@ -33,7 +34,7 @@ impl System {
         } else if let Some(number) = number_in(word, self.map.heap(), heap_words) {
             write!(out, " h{number}")
         } else {
-            let value = word as i32;
+            let value = int_of(word);
             write!(out, " {value}")
         }
     }
