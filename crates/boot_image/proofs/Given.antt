@@ -4,7 +4,7 @@ use Rattle.boot_image.specs.declared.fault.ImageFault.{ImageFault}
 use Rattle.boot_image.specs.Parts.{Parts}
 use Rattle.boot_image.specs.Format.{spelling, IsInRange}
 use Rattle.boot_image.specs.Reading.{answer, Gives}
-use Rattle.boot_image.proofs.Words.{IsBytes}
+use Rattle.word_bytes.proofs.Words.{IsBytes}
 use Rattle.boot_image.proofs.Steps.{read_back}
 use Rattle.boot_image.proofs.Spelled.{answer_spelled}
 

@@ -1,4 +1,3 @@
-pub mod Words
 pub mod Loops
 pub mod Answers
 pub mod Steps

@@ -12,9 +12,10 @@ use Rattle.layer_map.specs.Map.{ParamsInRange}
 use Rattle.boot_image.specs.declared.fault.ImageFault.{ImageFault}
 use Rattle.boot_image.specs.declared.reading.Header.{Header}
 use Rattle.boot_image.specs.Parts.{Parts}
-use Rattle.boot_image.specs.Format.{word, spelling, bare_params, most_words, AreWords, IsBare, IsSystem, IsInRange}
-use Rattle.boot_image.specs.Reading.{◌>>=◌, mark_at, number_at, form_at, params_at, counts_at, bare_at, system_at, header_of, part_at, users_at, parts_of, words_of, users_of, answer}
-use Rattle.boot_image.proofs.Words.{length-word, number-word, length-words, words_of-words}
+use Rattle.word_bytes.specs.Words.{word, words_of}
+use Rattle.boot_image.specs.Format.{spelling, bare_params, most_words, AreWords, IsBare, IsSystem, IsInRange}
+use Rattle.boot_image.specs.Reading.{◌>>=◌, mark_at, number_at, form_at, params_at, counts_at, bare_at, system_at, header_of, part_at, users_at, parts_of, users_of, answer}
+use Rattle.word_bytes.proofs.Words.{length-word, number-word, length-words, words_of-words}
 use Rattle.boot_image.proofs.Answers.{answer_parts}
 use Rattle.boot_image.proofs.Loops.{counts_suc, part_whole, users_first, users_end}
 

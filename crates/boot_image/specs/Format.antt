@@ -1,14 +1,10 @@
 -- The one spelling of an image, and which images have one.
 use Rattle.std.specs.Prelude.{ℕ, ◌≡◌, ◌⊎◌, ◌*◌, ◌<◌, ◌≤◌, ◌^◌, All, List, [], ◌∷◌, ◌++◌, length, map, codes, min, nat_eq, if◌then◌else◌}
-use Rattle.std.specs.Int.{to_le_bytes, w32}
+use Rattle.word_bytes.specs.Words.{word}
 use Rattle.std.specs.List.{flat_map}
 use Rattle.layer_map.specs.Map.{ParamsInRange}
 use Rattle.layer_map.specs.declared.params.Params.{Params}
 use Rattle.boot_image.specs.Parts.{Parts}
-
--- the four bytes of a word, the lowest first
-unfoldable pub word : ℕ → List ℕ
-word n = to_le_bytes w32 n
 
 -- the parameters of an image that carries a source alone
 abbrev pub bare_params : Params

@@ -4,6 +4,7 @@ use Rattle.std.specs.Prelude.{ℕ, zero, suc, ◌≡◌, ◌+◌, ◌*◌, ◌||
 use Rattle.std.specs.Str.{bytes_eq}
 use Rattle.byteorder.specs.Endian.{little_number}
 use Rattle.layer_map.specs.declared.params.Params.{Params}
+use Rattle.word_bytes.specs.Words.{words_of}
 use Rattle.boot_image.specs.declared.fault.ImageFault.{ImageFault}
 use Rattle.boot_image.specs.declared.fault.ImageFault.TheVariants.{Magic, Truncated, Trailing, Parameter, Memory}
 use Rattle.boot_image.specs.declared.reading.Header.{Header}
@@ -96,11 +97,6 @@ parts_of header counts bytes = do
   source ← part_at header.parts_at header.source_length bytes
   words ← part_at (header.parts_at + header.source_length) (4 * header.word_count) source.1
   users_at (header.parts_at + header.source_length + 4 * header.word_count) counts words.1 >>= λ end. Ok (source.0, (words.0, words.1))
-
--- the words of which bytes are made, four bytes each
-unfoldable pub words_of : List ℕ → List ℕ
-words_of (a ∷ b ∷ c ∷ d ∷ bytes) = little_number 4 (a ∷ b ∷ c ∷ d ∷ []) ∷ words_of bytes
-words_of _ = []
 
 -- the words of each user
 unfoldable pub users_of : List ℕ → List ℕ → List (List ℕ)

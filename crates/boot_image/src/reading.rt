@@ -3,7 +3,8 @@
 ghost use Rattle.std.specs.Prelude.{◌≡◌, ◌+◌, ◌*◌, ◌≤◌, ◌<◌, ◌%◌, ◌↔◌, ℕ, [], ◌++◌, List, length, slice_index, map, Result, IfOk, Ok, Err};
 ghost use Rattle.boot_image.specs.Parts.{Parts};
 ghost use Rattle.boot_image.specs.Format.{IsInRange, spelling, most_words};
-ghost use Rattle.boot_image.specs.Reading.{Comes, Gives, mark_at, number_at, form_at, params_at, counts_at, bare_at, system_at, header_of, part_at, users_at, parts_of, words_of, users_of, answer};
+ghost use Rattle.word_bytes.specs.Words.{words_of};
+ghost use Rattle.boot_image.specs.Reading.{Comes, Gives, mark_at, number_at, form_at, params_at, counts_at, bare_at, system_at, header_of, part_at, users_at, parts_of, users_of, answer};
 
 use crate::fault::ImageFault;
 use crate::image::Image;
@@ -11,6 +12,7 @@ use arrayvec::ArrayVec;
 use byteorder::{ByteOrder, LittleEndian};
 use layer_map::Params;
 use std::alloc::{AllocError, Global};
+use word_bytes::read_words;
 
 // The fields of an image but the users' numbers of words, and the byte where its parts begin.
 #[derive(Clone, Copy)]
@@ -40,7 +42,7 @@ pub fn read(alloc: Global, bytes: &[u8]) -> Result<Image, ImageFault>
         params: header.params,
         form: header.form,
         source: Vec::from_slice(alloc, source)?,
-        words: words_in(alloc, words)?,
+        words: read_words(alloc, words)?,
         users: users_in(alloc, &counts, users)?,
     })
 }
@@ -244,16 +246,6 @@ fn users_are_whole(bytes: &[u8], at: u64, counts: &[u32]) -> Result<(), ImageFau
     }
 }
 
-// The words that these bytes are.
-fn words_in(alloc: Global, bytes: &[u8]) -> Result<Vec<u32>, AllocError>
-    requires { length bytes.now % 4 ≡ 0 }
-    ensures { IfOk result (λ v. v.items ≡ words_of bytes.now) }
-{
-    let mut words = vec![in alloc; 0; bytes.len() / 4]?;
-    LittleEndian::read_u32_into(bytes, &mut words);
-    Ok(words)
-}
-
 // The words of each user.
 fn users_in(alloc: Global, counts: &[u32], bytes: &[u8]) -> Result<Vec<Vec<u32>>, AllocError>
     requires { (at : ℕ) × (users_at at counts.now bytes.now ≡ Ok tt) }
@@ -263,7 +255,7 @@ fn users_in(alloc: Global, counts: &[u32], bytes: &[u8]) -> Result<Vec<Vec<u32>>
     let mut rest = bytes;
     for count in counts {
         let (words, others) = rest.split_at(4 * *count as usize);
-        users.push(words_in(alloc, words)?)?;
+        users.push(read_words(alloc, words)?)?;
         rest = others;
     }
     Ok(users)

@@ -2,12 +2,13 @@
 
 ghost use Rattle.std.specs.Prelude.{◌≡◌, ◌≤◌, ◌++◌, All, length, map, OnOk, IfOk, Ok};
 ghost use Rattle.std.specs.List.{flat_map};
-ghost use Rattle.boot_image.specs.Format.{word, spelling, fields, HasSpelling, IsInRange, AreWords};
+ghost use Rattle.word_bytes.specs.Words.{word};
+ghost use Rattle.boot_image.specs.Format.{spelling, fields, HasSpelling, IsInRange, AreWords};
 ghost use Rattle.boot_image.specs.Reading.{answer};
 
 use crate::image::Image;
-use byteorder::{ByteOrder, LittleEndian};
 use std::alloc::{AllocError, Global};
+use word_bytes::{push_word, push_words};
 
 /// Writes an image: its one spelling, which reads as that image.
 pub fn write(alloc: Global, image: &Image) -> Result<Vec<u8>, AllocError>
@@ -68,25 +69,4 @@ fn push_users(bytes: &mut Vec<u8>, users: &[Vec<u32>]) -> Result<(), AllocError>
         push_words(bytes, user)?;
     }
     Ok(())
-}
-
-// Writes words at the end.
-fn push_words(bytes: &mut Vec<u8>, words: &[u32]) -> Result<(), AllocError>
-    ensures written { OnOk result (bytes.new.items ≡ bytes.old.items ++ flat_map word words.now) }
-    ensures bits { AreWords words.now }
-{
-    for number in words {
-        push_word(bytes, *number)?;
-    }
-    Ok(())
-}
-
-// Writes a word at the end.
-#[tactic(auto, unfolding(crate::specs::Format::word))]
-fn push_word(bytes: &mut Vec<u8>, number: u32) -> Result<(), AllocError>
-    ensures { OnOk result (bytes.new.items ≡ bytes.old.items ++ word number) }
-{
-    let mut word = [0; 4];
-    LittleEndian::write_u32(&mut word, number);
-    bytes.extend_from_slice(&word)
 }

@@ -31,6 +31,7 @@ mod Patches
 mod Exits
 mod Emitted
 mod Patched
+mod Openings
 mod Scopes
 mod Shifts
 mod Structs

@@ -1,6 +1,7 @@
 -- Open code, patched, is the code of the test.
-use Rattle.std.specs.Prelude.{map, slice_index, slice_set}
-use Rattle.std.proofs.Common.{◌≡◌, ℕ, suc, ◌+◌, ◌-◌, ◌*◌, ◌/◌, ◌%◌, ◌^◌, ◌<◌, Bool, true, false, not, cond, nat_eq, Option, Some, None, List, [], ◌∷◌, ◌++◌, length, refl, sym, ap, ap₂, ◌∙◌, arith, length-append}
+use Rattle.std.specs.Prelude.{map, slice_index, slice_set, All}
+use Rattle.std.proofs.lemmas.List.Elements.{All-nil, All-cons, All-same, All-append}
+use Rattle.std.proofs.Common.{◌≡◌, ℕ, suc, ◌+◌, ◌-◌, ◌*◌, ◌/◌, ◌%◌, ◌^◌, ◌<◌, ◌≤◌, Bool, true, false, not, cond, nat_eq, Option, Some, None, List, [], ◌∷◌, ◌++◌, length, refl, sym, ap, ap₂, ◌∙◌, arith, length-append}
 use Rattle.mips_table.specs.declared.inst.Inst.{Inst}
 use Rattle.mips_table.specs.declared.inst.Inst.TheVariants.{Slt, Slti}
 use Rattle.mips_table.specs.Encoding.{encoding}
@@ -14,19 +15,19 @@ use Rattle.c0_expr_code.specs.Test.{branch_code, negative_branch, positive_branc
 use Rattle.c0_expr_code.specs.Jumps.{Open, last_open, behind_open, joined_open, both_open, test_open, aimed_word, patched}
 
 -- lists
-assoc : {A : Type 0} (xs ys zs : List A) → (xs ++ ys) ++ zs ≡ xs ++ (ys ++ zs)
+pub assoc : {A : Type 0} (xs ys zs : List A) → (xs ++ ys) ++ zs ≡ xs ++ (ys ++ zs)
 assoc [] ys zs = refl
 assoc (x ∷ xs) ys zs = ap (λ l. x ∷ l) (assoc xs ys zs)
 
-map_append : {A B : Type 0} (f : A → B) (xs ys : List A) → map f (xs ++ ys) ≡ map f xs ++ map f ys
+pub map_append : {A B : Type 0} (f : A → B) (xs ys : List A) → map f (xs ++ ys) ≡ map f xs ++ map f ys
 map_append f [] ys = refl
 map_append f (x ∷ xs) ys = ap (λ l. f x ∷ l) (map_append f xs ys)
 
-map_length : {A B : Type 0} (f : A → B) (xs : List A) → length (map f xs) ≡ length xs
+pub map_length : {A B : Type 0} (f : A → B) (xs : List A) → length (map f xs) ≡ length xs
 map_length f [] = refl
 map_length f (x ∷ xs) = ap suc (map_length f xs)
 
-shifted : (a b : ℕ) (js : List ℕ) → map (λ j. a + j) (map (λ j. b + j) js) ≡ map (λ j. (a + b) + j) js
+pub shifted : (a b : ℕ) (js : List ℕ) → map (λ j. a + j) (map (λ j. b + j) js) ≡ map (λ j. (a + b) + j) js
 shifted a b [] = refl
 shifted a b (j ∷ js) = let e : a + (b + j) ≡ a + b + j = omega arith in ap₂ (λ x l. x ∷ l) e (shifted a b js)
 
@@ -47,15 +48,16 @@ patch_one xs y ys j to v e is =
     ap₂ (λ i u. slice_set (xs ++ y ∷ ys) i u) e (ap (aimed_word to j) (ap (slice_index (xs ++ y ∷ ys)) e ∙ index_there xs y ys) ∙ is) ∙ set_there xs y ys v
 
 -- code whose last instruction is a branch with the distance
-record EndsIn (f : ℕ → List Inst) : Type 0 where
-  before : List Inst
-  branch : ℕ → Inst
-  is : (far : ℕ) → f far ≡ before ++ (branch far ∷ [])
-  words : (far : ℕ) → far < 2 ^ 16 → encoding (branch far) ≡ encoding (branch 0) / 2 ^ 16 * 2 ^ 16 + far
+pub record EndsIn (f : ℕ → List Inst) : Type 0 where
+  pub before : List Inst
+  pub branch : ℕ → Inst
+  pub is : (far : ℕ) → f far ≡ before ++ (branch far ∷ [])
+  pub words : (far : ℕ) → far < 2 ^ 16 → encoding (branch far) ≡ encoding (branch 0) / 2 ^ 16 * 2 ^ 16 + far
 
-record AimsAt (x : Open) (f : ℕ → List Inst) : Type 0 where
-  same : (far : ℕ) → length (f far) ≡ length x.code
-  law : (far to : ℕ) (before after : List ℕ) → far < 2 ^ 16 → length before + length x.code < 2 ^ 63 → (length before + length x.code + far) % 2 ^ 16 ≡ to % 2 ^ 16
+pub record AimsAt (x : Open) (f : ℕ → List Inst) : Type 0 where
+  pub same : (far : ℕ) → length (f far) ≡ length x.code
+  pub within : (at n : ℕ) → at + length x.code ≤ n → All (λ j. j < n) (map (λ j. at + j) x.jumps)
+  pub law : (far to : ℕ) (before after : List ℕ) → far < 2 ^ 16 → length before + length x.code < 2 ^ 64 → (length before + length x.code + far) % 2 ^ 16 ≡ to % 2 ^ 16
       → patched to (map (λ j. length before + j) x.jumps) (before ++ (map encoding x.code ++ after)) ≡ before ++ (map encoding (f far) ++ after)
 
 words_of : (is : List Inst) (b : Inst) (before after : List ℕ) → before ++ (map encoding (is ++ (b ∷ [])) ++ after) ≡ (before ++ map encoding is) ++ (encoding b ∷ after)
@@ -63,12 +65,15 @@ words_of is b before after =
     ap (λ l. before ++ (l ++ after)) (map_append encoding is (b ∷ [])) ∙ ap (λ l. before ++ l) (assoc (map encoding is) (encoding b ∷ []) after) ∙ sym (assoc before (map encoding is) (encoding b ∷ after))
 
 lasts : (f : ℕ → List Inst) → EndsIn f → AimsAt (last_open (f 0)) f
-lasts f h = record { same = λ far. len far ∙ sym (len 0); law = law }
+lasts f h = record { same = λ far. len far ∙ sym (len 0); within = within; law = law }
   where
     len : (far : ℕ) → length (f far) ≡ length h.before + 1
     len far = ap length (h.is far) ∙ length-append h.before (h.branch far ∷ [])
 
-    law : (far to : ℕ) (before after : List ℕ) → far < 2 ^ 16 → length before + length (f 0) < 2 ^ 63 → (length before + length (f 0) + far) % 2 ^ 16 ≡ to % 2 ^ 16
+    within : (at n : ℕ) → at + length (f 0) ≤ n → All (λ j. j < n) ((at + (length (f 0) - 1)) ∷ [])
+    within at n w = let l0 = len 0 in All-cons (λ j. j < n) (at + (length (f 0) - 1)) [] (omega (arith, l0, w)) (All-nil (λ j. j < n))
+
+    law : (far to : ℕ) (before after : List ℕ) → far < 2 ^ 16 → length before + length (f 0) < 2 ^ 64 → (length before + length (f 0) + far) % 2 ^ 16 ≡ to % 2 ^ 16
         → patched to ((length before + (length (f 0) - 1)) ∷ []) (before ++ (map encoding (f 0) ++ after)) ≡ before ++ (map encoding (f far) ++ after)
     law far to before after short small aim =
         let l0 = len 0 in
@@ -82,12 +87,17 @@ lasts f h = record { same = λ far. len far ∙ sym (len 0); law = law }
         ∙ sym end
 
 behinds : (is : List Inst) (x : Open) (f : ℕ → List Inst) → AimsAt x f → AimsAt (behind_open is x) (λ far. is ++ f far)
-behinds is x f h = record { same = same; law = law }
+behinds is x f h = record { same = same; within = within; law = law }
   where
+    within : (at n : ℕ) → at + length (is ++ x.code) ≤ n → All (λ j. j < n) (map (λ j. at + j) (map (λ j. length is + j) x.jumps))
+    within at n w =
+        let m = length-append is x.code in
+        All-same (λ j. j < n) _ _ (shifted at (length is) x.jumps) (h.within (at + length is) n (omega (arith, m, w)))
+
     same : (far : ℕ) → length (is ++ f far) ≡ length (is ++ x.code)
     same far = let a = h.same far in omega (arith, a, length-append is (f far), length-append is x.code)
 
-    law : (far to : ℕ) (before after : List ℕ) → far < 2 ^ 16 → length before + length (is ++ x.code) < 2 ^ 63 → (length before + length (is ++ x.code) + far) % 2 ^ 16 ≡ to % 2 ^ 16
+    law : (far to : ℕ) (before after : List ℕ) → far < 2 ^ 16 → length before + length (is ++ x.code) < 2 ^ 64 → (length before + length (is ++ x.code) + far) % 2 ^ 16 ≡ to % 2 ^ 16
         → patched to (map (λ j. length before + j) (map (λ j. length is + j) x.jumps)) (before ++ (map encoding (is ++ x.code) ++ after)) ≡ before ++ (map encoding (is ++ f far) ++ after)
     law far to before after short small aim =
         let n = length-append is x.code in
@@ -100,15 +110,21 @@ behinds is x f h = record { same = same; law = law }
         ∙ sym (over (f far))
 
 joins : (x y : Open) (f g : ℕ → List Inst) → AimsAt x f → AimsAt y g → AimsAt (joined_open x y) (λ far. f ((far + length (g far)) % 2 ^ 16) ++ g far)
-joins x y f g h k = record { same = same; law = law }
+joins x y f g h k = record { same = same; within = within; law = law }
   where
+    within : (at n : ℕ) → at + length (x.code ++ y.code) ≤ n → All (λ j. j < n) (map (λ j. at + j) (x.jumps ++ map (λ j. length x.code + j) y.jumps))
+    within at n w =
+        let m = length-append x.code y.code in
+        All-same (λ j. j < n) _ _ (map_append (λ j. at + j) x.jumps (map (λ j. length x.code + j) y.jumps))
+        (All-append (λ j. j < n) _ _ (h.within at n (omega (arith, m, w))) ((behinds x.code y g k).within at n w))
+
     same : (far : ℕ) → length (f ((far + length (g far)) % 2 ^ 16) ++ g far) ≡ length (x.code ++ y.code)
     same far =
         let a = h.same ((far + length (g far)) % 2 ^ 16) in
         let b = k.same far in
         omega (arith, a, b, length-append (f ((far + length (g far)) % 2 ^ 16)) (g far), length-append x.code y.code)
 
-    law : (far to : ℕ) (before after : List ℕ) → far < 2 ^ 16 → length before + length (x.code ++ y.code) < 2 ^ 63 → (length before + length (x.code ++ y.code) + far) % 2 ^ 16 ≡ to % 2 ^ 16
+    law : (far to : ℕ) (before after : List ℕ) → far < 2 ^ 16 → length before + length (x.code ++ y.code) < 2 ^ 64 → (length before + length (x.code ++ y.code) + far) % 2 ^ 16 ≡ to % 2 ^ 16
         → patched to (map (λ j. length before + j) (x.jumps ++ map (λ j. length x.code + j) y.jumps)) (before ++ (map encoding (x.code ++ y.code) ++ after))
         ≡ before ++ (map encoding (f ((far + length (g far)) % 2 ^ 16) ++ g far) ++ after)
     law far to before after short small aim =
@@ -145,7 +161,7 @@ positive_words false q far h = omega (arith, h)
 after : (is : List Inst) (f : ℕ → List Inst) → EndsIn f → EndsIn (λ far. is ++ f far)
 after is f h = record { before = is ++ h.before; branch = h.branch; is = λ far. ap (λ js. is ++ js) (h.is far) ∙ sym (assoc is h.before (h.branch far ∷ [])); words = h.words }
 
-plain_ends : (m : Made) (s : Bool) (r : ℕ) → EndsIn (λ far. plain_test m s far r)
+pub plain_ends : (m : Made) (s : Bool) (r : ℕ) → EndsIn (λ far. plain_test m s far r)
 plain_ends m s r = record { before = operand_code m r; branch = λ far. branch_code (not s) (operand_register m r) 0 far; is = λ far. refl; words = λ far h. branch_words (not s) (operand_register m r) 0 far h }
 
 one_branch : (b : ℕ → Inst) → ((far : ℕ) → far < 2 ^ 16 → encoding (b far) ≡ encoding (b 0) / 2 ^ 16 * 2 ^ 16 + far) → EndsIn (λ far. b far ∷ [])
@@ -155,7 +171,7 @@ two_branch : (i : Inst) (b : ℕ → Inst) → ((far : ℕ) → far < 2 ^ 16 →
 two_branch i b h = record { before = i ∷ []; branch = b; is = λ far. refl; words = h }
 
 -- the orders, and equality
-data IsCompared : BinaryOp → Type 0 where
+pub data IsCompared : BinaryOp → Type 0 where
   lt : IsCompared Lt
   le : IsCompared Le
   gt : IsCompared Gt
@@ -171,7 +187,7 @@ compare_ends _ gt s q t = two_branch (Slt 1 t q) (λ far. branch_code (not s) 1 
 compare_ends _ le s q t = two_branch (Slt 1 t q) (λ far. branch_code s 1 0 far) (λ far h. branch_words s 1 0 far h)
 compare_ends _ ge s q t = two_branch (Slt 1 q t) (λ far. branch_code s 1 0 far) (λ far h. branch_words s 1 0 far h)
 
-abbrev EndsTest : ImmediateTest → Type 0
+abbrev pub EndsTest : ImmediateTest → Type 0
 EndsTest None = Unit {0}
 EndsTest (Some g) = (s : Bool) (q : ℕ) → EndsIn (λ far. g s far q)
 
@@ -198,15 +214,18 @@ test_at Rem k = tt
 test_at And k = tt
 test_at Or k = tt
 
-test_of : (o : BinaryOp) (k : Option ℕ) → EndsTest (immediate_test_of o k)
+pub test_of : (o : BinaryOp) (k : Option ℕ) → EndsTest (immediate_test_of o k)
 test_of o None = tt
 test_of o (Some k) = test_at o k
 
+pub compared : (im : ImmediateTest) (o : BinaryOp) (a b : Made) (s : Bool) (r : ℕ) → EndsTest im → IsCompared o → EndsIn (λ far. compare_test im o a b s far r)
+compared (Some g) o a b s r h i = after (operand_code a r) (λ far. g s far (operand_register a r)) (h s (operand_register a r))
+compared None o a b s r h i =
+    after (operand_code a r) (λ far. operand_code b (r + 1) ++ compare_code o s far (operand_register a r) (operand_register b (r + 1)))
+    (after (operand_code b (r + 1)) (λ far. compare_code o s far (operand_register a r) (operand_register b (r + 1))) (compare_ends o i s (operand_register a r) (operand_register b (r + 1))))
+
 compares : (im : ImmediateTest) (o : BinaryOp) (a b : Made) (s : Bool) (r : ℕ) → EndsTest im → IsCompared o → AimsAt (last_open (compare_test im o a b s 0 r)) (λ far. compare_test im o a b s far r)
-compares (Some g) o a b s r h i = lasts (λ far. compare_test (Some g) o a b s far r) (after (operand_code a r) (λ far. g s far (operand_register a r)) (h s (operand_register a r)))
-compares None o a b s r h i = lasts (λ far. compare_test None o a b s far r)
-    (after (operand_code a r) (λ far. operand_code b (r + 1) ++ compare_code o s far (operand_register a r) (operand_register b (r + 1)))
-    (after (operand_code b (r + 1)) (λ far. compare_code o s far (operand_register a r) (operand_register b (r + 1))) (compare_ends o i s (operand_register a r) (operand_register b (r + 1)))))
+compares im o a b s r h i = lasts (λ far. compare_test im o a b s far r) (compared im o a b s r h i)
 
 plains : (m : Made) (s : Bool) (r : ℕ) → AimsAt (last_open (plain_test m s 0 r)) (λ far. plain_test m s far r)
 plains m s r = lasts (λ far. plain_test m s far r) (plain_ends m s r)
@@ -217,6 +236,7 @@ over one y g h =
     let b = behinds (one (length y.code % 2 ^ 16)) y g h in
     record {
       same = λ far. ap (λ n. length (one (n % 2 ^ 16) ++ g far)) (h.same far) ∙ b.same far;
+      within = b.within;
       law = λ far to before after short small aim. b.law far to before after short small aim ∙ ap (λ n. before ++ (map encoding (one (n % 2 ^ 16) ++ g far) ++ after)) (sym (h.same far));
     }
 
@@ -228,7 +248,7 @@ module _ (sc : Scope) where
   boths false true a b r h k = over (λ n. test_code sc a false n r) (test_open sc b true r) (λ far. test_code sc b true far r) (k true)
   boths false false a b r h k = joins (test_open sc a false r) (test_open sc b false r) (λ far. test_code sc a false far r) (λ far. test_code sc b false far r) (h false) (k false)
 
-  aims : (e : CExpr) (s : Bool) (r : ℕ) → AimsAt (test_open sc e s r) (λ far. test_code sc e s far r)
+  pub aims : (e : CExpr) (s : Bool) (r : ℕ) → AimsAt (test_open sc e s r) (λ far. test_code sc e s far r)
   aims (unary p Not e) s r = aims e (not s) r
   aims (unary p Negate e) s r = plains (made sc (unary p Negate e)) s r
   aims (binary p And a b) s r = boths false s a b r (λ s. aims a s r) (λ s. aims b s r)
@@ -246,7 +266,10 @@ module _ (sc : Scope) where
   aims (binary p Rem a b) s r = plains (made sc (binary p Rem a b)) s r
   aims e s r = plains (made sc e) s r
 
-  pub patches : (e : CExpr) (s : Bool) (r far to : ℕ) (before after : List ℕ) → far < 2 ^ 16 → length before + length (test_open sc e s r).code < 2 ^ 63
+  pub patches : (e : CExpr) (s : Bool) (r far to : ℕ) (before after : List ℕ) → far < 2 ^ 16 → length before + length (test_open sc e s r).code < 2 ^ 64
       → (length before + length (test_open sc e s r).code + far) % 2 ^ 16 ≡ to % 2 ^ 16
       → patched to (map (λ j. length before + j) (test_open sc e s r).jumps) (before ++ (map encoding (test_open sc e s r).code ++ after)) ≡ before ++ (map encoding (test_code sc e s far r) ++ after)
   patches e s r far to before after short small aim = (aims e s r).law far to before after short small aim
+
+  pub within : (e : CExpr) (s : Bool) (r at n : ℕ) → at + length (test_open sc e s r).code ≤ n → All (λ j. j < n) (map (λ j. at + j) (test_open sc e s r).jumps)
+  within e s r at n h = (aims e s r).within at n h

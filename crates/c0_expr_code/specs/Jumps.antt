@@ -1,5 +1,5 @@
 -- A test's code before its place is known: its branches to the place have no distance yet, and are patched later.
-use Rattle.std.specs.Prelude.{◌≡◌, ℕ, ◌+◌, ◌-◌, ◌*◌, ◌/◌, ◌%◌, ◌^◌, ◌<◌, Bool, true, false, not, List, [], ◌∷◌, ◌++◌, length, map, slice_index, slice_set, None}
+use Rattle.std.specs.Prelude.{◌≡◌, ℕ, ◌+◌, ◌-◌, ◌*◌, ◌/◌, ◌%◌, ◌^◌, ◌<◌, ◌≤◌, All, Bool, true, false, not, List, [], ◌∷◌, ◌++◌, length, map, slice_index, slice_set, None}
 use Rattle.mips_table.specs.declared.inst.Inst.{Inst}
 use Rattle.mips_table.specs.Encoding.{encoding}
 use Rattle.c0_tree.specs.declared.tree.UnaryOp.{UnaryOp}
@@ -77,7 +77,12 @@ patched to (j ∷ js) words = patched to js (slice_set words j (aimed_word to j 
 -- A law: a test's open code, patched where it stands between other words, is the test's code with the distance to the place.
 abbrev pub PatchesAim : Type 0
 PatchesAim = (sc : Scope) (e : CExpr) (s : Bool) (r far to : ℕ) (before after : List ℕ) → far < 2 ^ 16
-    → length before + length (test_open sc e s r).code < 2 ^ 63
+    → length before + length (test_open sc e s r).code < 2 ^ 64
     → (length before + length (test_open sc e s r).code + far) % 2 ^ 16 ≡ to % 2 ^ 16
     → patched to (map (λ j. length before + j) (test_open sc e s r).jumps) (before ++ (map encoding (test_open sc e s r).code ++ after))
     ≡ before ++ (map encoding (test_code sc e s far r) ++ after)
+
+-- A law: the branches of a test's open code stand in it.
+abbrev pub JumpsAreWithin : Type 0
+JumpsAreWithin = (sc : Scope) (e : CExpr) (s : Bool) (r at n : ℕ) → at + length (test_open sc e s r).code ≤ n
+    → All (λ j. j < n) (map (λ j. at + j) (test_open sc e s r).jumps)

@@ -10,3 +10,4 @@ pub mod Emit
 pub mod Known
 pub mod Scene
 pub mod Patch
+pub mod Opened

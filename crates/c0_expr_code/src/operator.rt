@@ -52,8 +52,8 @@ fn emit_sum(code: &mut Vec<u32>, target: u32, left: u32, word: u32) -> Result<()
     )
 }
 
-// Appends whether a register is below a constant.
-fn emit_below(code: &mut Vec<u32>, target: u32, left: u32, word: u32) -> Result<(), AllocError>
+/// Appends whether a register is below a constant.
+pub fn emit_below(code: &mut Vec<u32>, target: u32, left: u32, word: u32) -> Result<(), AllocError>
     requires target { target < 32 }
     requires left { left < 32 }
     ensures { OnOk result (code.new.items ≡ code.old.items ++ map encoding (Slti target left (lower word) ∷ [])) }
@@ -163,8 +163,8 @@ pub fn emit_with_constant(
     }
 }
 
-// Whether one register is below another.
-fn less(target: u32, left: u32, right: u32) -> Inst
+/// Whether one register is below another.
+pub fn less(target: u32, left: u32, right: u32) -> Inst
     requires target { target < 32 }
     requires left { left < 32 }
     requires right { right < 32 }

@@ -20,7 +20,7 @@ use Rattle.c0_meaning.proofs.Holding.{Among, holds_as_tested}
 use Rattle.c0_meaning.proofs.Opening.{rank, rank_below, rank_falls, fields_words}
 use Rattle.c0_meaning.specs.Value.{Value, group, empty, repeated, zero_with, zeros_with, zero_within, zero_of, zeros_of}
 use Rattle.c0_meaning.specs.TypedState.{Layout, types_of, Fits, AllFit}
-use Rattle.c0_meaning.specs.RunLaws.{TypesHaveWords}
+use Rattle.c0_meaning.specs.RunLaws.{TypesHaveWords, ZerosFit}
 use Rattle.c0_meaning.proofs.Units.{units_are_faultless}
 
 -- each struct has a field
@@ -180,3 +180,6 @@ types_have_words primitives u well t d =
     let typed = (units_are_faultless primitives u).1 well.typed in
     let filled = have_fields u.structs (plain_structs u well.plain) in
     type_words (shapes u) t d.full d.known (λ y made known. named_words u.structs typed.structs filled (suc (rank (shapes u) y)) y (omega arith) known)
+
+pub zeros_fit_types : ZerosFit
+zeros_fit_types primitives u well layout t d = let typed = (units_are_faultless primitives u).1 well.typed in zero_fits u.structs typed.structs layout t d.known

@@ -1,6 +1,6 @@
 // The laws of values, states and runs: each function says one, and does nothing.
 
-ghost use Rattle.c0_meaning.specs.RunLaws.{CallsAnswer, CallsAreSafe, CallsExtend, DispatchesAnswer, DispatchesAreSafe, EndsAtItsCost, FirstIsTyped, FramesFit, FunctionsAreChained, HasDispatch, LookAtTheirs, MoreUnits, PrimitivesAlone, ProgramsAreSafe, ProgramsEnd, StaysWithin, StepsAreEnough, TypesHaveWords, ZeroHasWords};
+ghost use Rattle.c0_meaning.specs.RunLaws.{CallsAnswer, CallsAreSafe, CallsExtend, DispatchesAnswer, DispatchesAreSafe, EndsAtItsCost, FirstIsTyped, FramesFit, FunctionsAreChained, HasDispatch, LookAtTheirs, MoreUnits, PrimitivesAlone, ProgramsAreSafe, ProgramsEnd, StaysWithin, StepsAreEnough, TypesHaveWords, ZeroHasWords, ZerosFit};
 ghost use Rattle.c0_meaning.specs.Addresses.{PartsAreApart};
 ghost use Rattle.c0_meaning.specs.KernelRows.{AreChecked, ArePartsRight, AreProgramsRight, AreRunsRight, AreSystemsRight, IsOrderRight, SevensFit};
 
@@ -19,6 +19,11 @@ pub fn parts_of_a_type_are_apart()
 /// A type that may be declared has a word.
 pub fn declared_types_have_words()
     ensures { TypesHaveWords }
+{}
+
+/// A variable or object starts with a value of its type.
+pub fn zeros_fit_their_types()
+    ensures { ZerosFit }
 {}
 
 /// The words of an asm body depend on no registers but those that they may use.

@@ -1,18 +1,15 @@
 -- A function that has an asm body is called: the stack's test, the body, and the return.
-use Rattle.std.specs.Prelude.{map, slice_get, IsTrue, Some, None, Option, ok_or, if◌then◌else◌, nat_lt, ℤ, pos, negsuc, FitsSigned}
-use Rattle.std.specs.List.{All}
+use Rattle.std.specs.Prelude.{map, slice_get, IsTrue, Some, Option, ok_or, if◌then◌else◌, nat_lt, ℤ, FitsSigned}
 use Rattle.std.specs.Int.{w32}
-use Rattle.std.proofs.lemmas.List.Elements.{All-head, All-tail}
 use Rattle.std.proofs.lemmas.Bool.{cases_Bool, cond-true, cond-false, ltb-true, ltb-false}
-use Rattle.std.proofs.Common.{◌≡◌, ◌≢◌, inl, inr, ℕ, zero, suc, ◌+◌, ◌-◌, ◌*◌, ◌%◌, ◌^◌, ◌<◌, ◌≤◌, ◌⊎◌, Bool, true, false, List, [], ◌∷◌, ◌++◌, length, refl, sym, ap, ◌∙◌, subst, arith, length-append}
+use Rattle.std.proofs.Common.{◌≡◌, inl, inr, ℕ, suc, ◌+◌, ◌*◌, ◌^◌, ◌<◌, ◌≤◌, Bool, true, false, List, [], ◌∷◌, ◌++◌, length, refl, sym, ap, ◌∙◌, subst, arith, length-append}
 use Rattle.std.proofs.lemmas.Int.{ints}
-use Rattle.mips_table.specs.declared.inst.Inst.{Inst}
 use Rattle.mips_table.specs.declared.inst.Inst.TheVariants.{Jr, Sltu, Beq, J}
-use Rattle.mips_table.specs.Code.{Contents, reg, Behind, Configuration as Machine, at_with, Reaches, RunLaws, CodeAt}
+use Rattle.mips_table.specs.Code.{Contents, Behind, Configuration as Machine, at_with, RunLaws, CodeAt}
 use Rattle.masm.specs.Laws.{RunsCompose, JumpsLead, StraightRuns}
 use Rattle.cvm_words.specs.Words.{int_of, word_of}
 use Rattle.c0_tree.specs.declared.tree.Span.{Span}
-use Rattle.c0_tree.specs.Tree.{CBody, code, asm, CDecl, CFunction}
+use Rattle.c0_tree.specs.Tree.{asm, CFunction}
 use Rattle.c0_meaning.specs.Ty.{Ty, ty_of}
 use Rattle.c0_meaning.specs.Ty as ty
 use Rattle.c0_meaning.specs.Asm.{are_allowed_words}
@@ -21,25 +18,24 @@ use Rattle.c0_meaning.specs.Limits.{frame}
 use Rattle.c0_meaning.specs.Env.{typed_of}
 use Rattle.c0_meaning.specs.Sound.{shapes}
 use Rattle.c0_meaning.specs.Value.{Value, int, bool, null, at, group, Values, empty, part, count}
-use Rattle.c0_meaning.specs.State.{Frame, State, stack_words}
+use Rattle.c0_meaning.specs.State.{Frame, stack_words}
 use Rattle.c0_meaning.specs.Operators.{StackOut, faulted, stuck}
 use Rattle.c0_meaning.specs.Evaluation.{at_no_cost}
 use Rattle.c0_meaning.specs.World.{Cost, units, plus, Configuration, ended}
-use Rattle.c0_meaning.specs.Running.{Target, into, outward, Work, Step, Go, Stop, then_go, enter, call_function, deliver}
+use Rattle.c0_meaning.specs.Running.{Target, into, outward, Work, Stop, then_go, enter, call_function, deliver}
 use Rattle.c0_meaning.specs.TypedState.{types_of, Fits, AllFit, layout_of}
 use Rattle.c0_expr_code.specs.Scope.{Scope}
-use Rattle.c0_expr_code.specs.Bases.{Bases, word}
 use Rattle.c0_asm_body.specs.Code.{asm_code}
-use Rattle.c0_asm_body.specs.Laws.{HoldInts, IsDone, AsmRuns}
-use Rattle.c0_stmt_code.specs.Code.{large_code, end_code, stack_test, body_code, function_code, calls_in}
+use Rattle.c0_asm_body.specs.Laws.{HoldInts, AsmRuns}
+use Rattle.c0_stmt_code.specs.Code.{large_code, end_code, stack_test, body_code, function_code}
 use Rattle.c0_stmt_code.specs.Setup.{Setup}
 use Rattle.c0_stmt_code.specs.Journey.{Led}
-use Rattle.c0_stmt_code.specs.Ahead.{Activation, Block, Awaits, Ahead}
+use Rattle.c0_stmt_code.specs.Ahead.{Activation, Awaits, Ahead}
 use Rattle.c0_stmt_code.specs.Standing.{text, scope, bases, end_of, unit_scope, word_of_value, AreIn, Waiting, UnderWay, Stands, StepIs}
 use Rattle.c0_stmt_code.proofs.Needs.{HeldStays, AreInts}
 use Rattle.c0_stmt_code.proofs.Ways.{Way, on, of, away}
 use Rattle.c0_stmt_code.proofs.Blocks.{front, back}
-use Rattle.c0_stmt_code.proofs.State.{standing_at, state_of}
+use Rattle.c0_stmt_code.proofs.State.{standing_at}
 use Rattle.c0_stmt_code.proofs.Spots.{read_is}
 use Rattle.c0_stmt_code.proofs.Rooms.{variables_same}
 use Rattle.c0_stmt_code.proofs.Frames.{tested}
@@ -103,7 +99,7 @@ module _ (runs : RunLaws) (compose : RunsCompose) (W E : Type 0) (Outer : W → 
 
         by_target : (acts : List Activation) (frames : List Frame) → Waiting W E Outer Passes z objects c.memory acts frames → (target : Target) (work : List Work) → Awaits (text W E Outer Passes z) acts to debt (ty_of f.answer) target work (λ acts at left. Ahead (text W E Outer Passes z) acts at left work) → frames ≡ fs
             → StepIs W E Outer Passes z debt h0 s0 (deliver cost target v work here)
-        by_target (b ∷ more) (q ∷ frames) w (into place rest) work ah e = (
+        by_target (b ∷ more) (q ∷ frames) w (into place rest) work ah e = inl (
           at_with to c' d,
           debt,
           led_to here refl,
@@ -126,7 +122,7 @@ module _ (runs : RunLaws) (compose : RunsCompose) (W E : Type 0) (Outer : W → 
             ahead = subst (λ y. Awaits (text W E Outer Passes z) (b ∷ more) to debt y (into place rest) work (λ acts at left. Ahead (text W E Outer Passes z) acts at left work)) types ah;
           },
         )
-        by_target [] [] w outward [] ah e = (
+        by_target [] [] w outward [] ah e = inl (
           at_with to c' d,
           debt,
           led_to (record here { answer = Some v }) refl,

@@ -1,19 +1,20 @@
 -- What the crates below say, as the proofs here take it.
-use Rattle.std.specs.Prelude.{map, slice_get, IsTrue, Some, unwrap_or}
+use Rattle.std.specs.Prelude.{map, slice_get, slice_index_or, IsTrue, Some, unwrap_or}
 use Rattle.std.specs.List.{All}
 use Rattle.std.proofs.lemmas.List.Elements.{All-cons, All-head, All-tail}
 use Rattle.std.proofs.lemmas.List.{map-append}
 use Rattle.std.proofs.Common.{◌≡◌, ◌≢◌, ℕ, zero, suc, ◌+◌, ◌*◌, ◌<◌, ◌≤◌, List, [], ◌∷◌, ◌++◌, refl, sym, ap, ◌∙◌, subst, arith}
-use Rattle.c0_tree.specs.Tree.{CDecl, CExpr, CStmts, code, CFunction, CUnit}
+use Rattle.c0_tree.specs.Tree.{CTy, CDecl, CExpr, CStmts, code, CFunction, CUnit}
 use Rattle.c0_meaning.specs.Ty.{Ty, ty_of, is_scalar}
 use Rattle.c0_meaning.specs.Ty as ty
 use Rattle.c0_meaning.specs.Env.{Shape, typed_of}
 use Rattle.c0_meaning.specs.Limits.{locals_of}
+use Rattle.c0_meaning.specs.Typed.{IsDeclarable}
 use Rattle.c0_meaning.specs.Words.{fields_named, words}
 use Rattle.c0_meaning.specs.Sizes.{words_before}
 use Rattle.c0_meaning.specs.Addresses.{type_at, words_to, words_to_part}
 use Rattle.c0_meaning.specs.Sound.{shapes}
-use Rattle.c0_meaning.specs.Value.{Region, globals, heap, locals, Location, Value, Values, empty, part, group, followed_by, zeros_of, put}
+use Rattle.c0_meaning.specs.Value.{Region, globals, heap, locals, Location, Value, int, bool, null, at, Values, empty, part, group, followed_by, with_part, zero_of, zeros_of, put}
 use Rattle.c0_meaning.specs.State.{Frame, State, write}
 use Rattle.c0_meaning.specs.TypedState.{types_of, Leads, LeadsFrom, Fits, AllFit, AreParts, variable_types, IsTypedFrame, layout_of, IsTypedWith}
 use Rattle.c0_expr_code.specs.Scope.{Scope}
@@ -52,7 +53,8 @@ module _ (structs : List Shape) (opened : below.IsOpened structs) where
   room ty.bool (i ∷ path) u l = absurd l
   room (ty.pointer t) (i ∷ path) u l = absurd l
 
-  room_from : (types : List Ty) (path : List ℕ) (u : Ty) → LeadsFrom structs types path u → words_to_part structs types path + words structs u ≤ words_of_all structs types
+  -- a part lies within its region
+  pub room_from : (types : List Ty) (path : List ℕ) (u : Ty) → LeadsFrom structs types path u → words_to_part structs types path + words structs u ≤ words_of_all structs types
   room_from types [] u l = absurd l
   room_from types (i ∷ path) u l =
       let r = room l.0 path u l.2 in
@@ -80,7 +82,16 @@ module _ (structs : List Shape) (opened : below.IsOpened structs) where
           h.written sc p (subst below.IsOpened (sym e) opened) m m' a (a + words_to_part structs types path) types path t v x (subst (λ q. LeadsFrom q types path t) (sym e) l) s (ap (λ q. a + words_to_part q types path) (sym e)) here others held
 
 -- typed states
-module _ (u : CUnit) (fit : below.PartsFit) (zeros_fit : (objects : List Ty) (n : ℕ) (f : CFunction) (ls : List CDecl) (stmts : CStmts) (answer : CExpr) → slice_get u.functions n ≡ Some f → f.body ≡ code ls stmts answer → AllFit (shapes u) (layout_of u objects) (types_of (map typed_of ls)) (zeros_of (shapes u) (map typed_of ls))) where
+module _ (u : CUnit) (fit : below.PartsFit) (zero_fits : (objects : List Ty) (t : CTy) → IsDeclarable (shapes u) t → Fits (shapes u) (layout_of u objects) (ty_of t) (zero_of (shapes u) (ty_of t)))
+    (declared : (n : ℕ) (f : CFunction) → slice_get u.functions n ≡ Some f → All (λ d. IsDeclarable (shapes u) d.ty) (locals_of f.body)) where
+  -- locals at their start have their types
+  zeros_all : (objects : List Ty) (ds : List CDecl) → All (λ d. IsDeclarable (shapes u) d.ty) ds → AllFit (shapes u) (layout_of u objects) (types_of (map typed_of ds)) (zeros_of (shapes u) (map typed_of ds))
+  zeros_all objects [] all = tt
+  zeros_all objects (d ∷ ds) all = (zero_fits objects d.ty (All-head (λ d. IsDeclarable (shapes u) d.ty) d ds all), zeros_all objects ds (All-tail (λ d. IsDeclarable (shapes u) d.ty) d ds all))
+
+  zeros_fit : (objects : List Ty) (n : ℕ) (f : CFunction) (ls : List CDecl) (stmts : CStmts) (answer : CExpr) → slice_get u.functions n ≡ Some f → f.body ≡ code ls stmts answer → AllFit (shapes u) (layout_of u objects) (types_of (map typed_of ls)) (zeros_of (shapes u) (map typed_of ls))
+  zeros_fit objects n f ls stmts answer is e = zeros_all objects ls (subst (λ b. All (λ d. IsDeclarable (shapes u) d.ty) (locals_of b)) e (declared n f is))
+
   same_function : (g : Frame) (f h : CFunction) → slice_get u.functions g.function ≡ Some f → slice_get u.functions g.function ≡ Some h → h ≡ f
   same_function g f h a b = let e = sym b ∙ a in some_same e
     where
@@ -109,11 +120,28 @@ module _ (u : CUnit) (fit : below.PartsFit) (zeros_fit : (objects : List Ty) (n 
   joined_fit objects [] us (part v vs) ws h g = absurd h
   joined_fit objects (t ∷ ts) us empty ws h g = absurd h
 
+  -- an object more
+  heap_grown : (objects : List Ty) (hv : Value) (t : Ty) (v : Value) → AreParts (shapes u) (layout_of u objects) objects hv → Fits (shapes u) (layout_of u (objects ++ t ∷ [])) t v → AreParts (shapes u) (layout_of u (objects ++ t ∷ [])) (objects ++ t ∷ []) (with_part hv v)
+  heap_grown objects (group vs) t v h k = joined_fit (objects ++ t ∷ []) objects (t ∷ []) vs (part v empty) (fit.more (shapes u) (layout_of u objects) (t ∷ []) objects (group vs) h) (k, tt)
+  heap_grown objects (int z) t v h k = absurd h
+  heap_grown objects (bool b) t v h k = absurd h
+  heap_grown objects null t v h k = absurd h
+  heap_grown objects (at l) t v h k = absurd h
+
+  frame_grown : (objects more : List Ty) (g : Frame) → IsTypedFrame u (layout_of u objects) g → IsTypedFrame u (layout_of u (objects ++ more)) g
+  frame_grown objects more g h = record { function = h.function; is = h.is; variables = fit.more (shapes u) (layout_of u objects) more (variable_types h.function) g.variables h.variables }
+
   pub typed_stays : TypedStays u
   typed_stays = record {
     written = λ objects s g fs f l t v e is typed leads k. by_frames objects s.frames s g fs f l t v e refl is typed leads k;
     popped = λ objects s g fs e typed. record { global_values = typed.global_values; heap_values = typed.heap_values; frames = All-tail (IsTypedFrame u (layout_of u objects)) g fs (subst (All (IsTypedFrame u (layout_of u objects))) e typed.frames) };
     zeros = zeros_fit;
+    zero = zero_fits;
+    grown = λ objects gv hv hw n frames t v typed k. record {
+      global_values = fit.more (shapes u) (layout_of u objects) (t ∷ []) (types_of (map typed_of u.globals)) gv typed.global_values;
+      heap_values = heap_grown objects hv t v typed.heap_values k;
+      frames = λ i g lt. frame_grown objects (t ∷ []) (slice_index_or frames i g) (typed.frames i g lt);
+    };
     entered = λ objects s n f ls stmts answer args is e typed fits. record {
       global_values = typed.global_values;
       heap_values = typed.heap_values;

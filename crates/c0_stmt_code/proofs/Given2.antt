@@ -16,7 +16,7 @@ use Rattle.c0_meaning.specs.Limits.{locals_of, is_asm, words_held, max_parameter
 use Rattle.c0_meaning.specs.Sound.{shapes}
 use Rattle.c0_meaning.specs.State.{Frame, State, stack_words, variables_of}
 use Rattle.c0_meaning.specs.Numbered.{IsNumberedGiven, a_value, a_null, IsNumberedBody, NumbersTell}
-use Rattle.c0_meaning.specs.Typed.{IsTypedUnit, IsTypedFunction, UnitsAreFaultless}
+use Rattle.c0_meaning.specs.Typed.{IsDeclarable, IsTypedUnit, IsTypedFunction, UnitsAreFaultless}
 use Rattle.c0_meaning.specs.Unit.{IsWellFormed}
 use Rattle.c0_meaning.specs.TypedState.{types_of, AreParts, variable_types, IsTypedFrame, layout_of, IsTypedWith}
 use Rattle.c0_expr_code.specs.Bases.{words_of_all}
@@ -85,6 +85,9 @@ module _ (numbers : NumbersTell) (faultless : UnitsAreFaultless) (table : List C
 
   its_function : (n : ℕ) (f : CFunction) → slice_get u.functions n ≡ Some f → IsTypedFunction table u f
   its_function n f is = at_number (IsTypedFunction table u) u.functions n f its_unit.functions is
+
+  pub locals_declared : (n : ℕ) (f : CFunction) → slice_get u.functions n ≡ Some f → All (λ d. IsDeclarable (shapes u) d.ty) (locals_of f.body)
+  locals_declared n f is = (its_function n f is).signature.locals
 
   passed : (b : Bool) (t : Ty) → IsTrue (may_pass b t) → IsTrue (is_scalar t)
   passed false t h = h

@@ -24,9 +24,9 @@ use Rattle.c0_meaning.specs.State.{Frame, write}
 use Rattle.c0_meaning.specs.Statement.{MAX_NEED, assign_need}
 use Rattle.c0_meaning.specs.Numbered.{variable_at, HasNumberedType, a_variable, IsNumberedLeft, IsNumberedGiven}
 use Rattle.c0_meaning.specs.Evaluation.{at_no_cost, paying, variable_location, value_of}
-use Rattle.c0_meaning.specs.World.{units, plus, Configuration, with_state}
+use Rattle.c0_meaning.specs.World.{Cost, units, plus, Configuration, with_state}
 use Rattle.c0_meaning.specs.Running.{Work, push, Go, then_go, store}
-use Rattle.c0_meaning.specs.TypedState.{types_of, variable_types}
+use Rattle.c0_meaning.specs.TypedState.{types_of, Fits, layout_of, variable_types}
 use Rattle.c0_expr_code.specs.Scope.{Scope, is_leaf}
 use Rattle.c0_expr_code.specs.Code.{register_of, variable_made, register_made, at_place, local_spot, made, value_code}
 use Rattle.c0_expr_code.specs.Bases.{Bases, word, RegionHeld}
@@ -45,7 +45,7 @@ use Rattle.c0_stmt_code.proofs.Places.{its_exprs, its_ready}
 use Rattle.c0_stmt_code.proofs.Lights.{each_scalar}
 use Rattle.c0_stmt_code.proofs.CallActs.{stands_soft}
 use Rattle.c0_stmt_code.proofs.Returns.{comes_splits}
-use Rattle.c0_stmt_code.proofs.Sim.{arrives, then_splits}
+use Rattle.c0_stmt_code.proofs.Sim.{Path, arrives, then_splits}
 
 -- a place that stands in a register is a local of a function that keeps its variables there
 pub record IsVariable (env : Env) (sc : Scope) (p : CExpr) (x : ℕ) (t : Ty) : Type 0 where
@@ -141,33 +141,41 @@ module _ (runs : RunLaws) (compose : RunsCompose) (W E : Type 0) (Outer : W → 
           other_at : (x y : ℕ) → y ≢ x → put c.regs x (word sc its w) y ≡ c.regs y
           other_at x y ne = put_other c.regs x (word sc its w) y ne
 
-  pub assigns_light : (p v : CExpr) (t : Ty) (x : ℕ) → IsVariable (env_in (text W E Outer Passes z) a.function) sc p x t → IsNumberedLeft (env_in (text W E Outer Passes z) a.function) p t → IsNumberedGiven (env_in (text W E Outer Passes z) a.function) v t → assign_need p v ≤ MAX_NEED
-      → nodes p + nodes v + 1 ≤ 2000 → (made sc p).stands ≡ Some x → CodeAt z.w k (assign_code sc p v) → Block (text W E Outer Passes z) a.function (k + length (assign_code sc p v)) debt rest (λ to left. Ahead (text W E Outer Passes z) (a ∷ others) to left work)
-      → StepIs W E Outer Passes z debt here (at_with k c d) (then_go (units 1) here (value_of v here.state) (λ cost w. store cost p w rest work here))
-  assigns_light p v t x y left given deep few stands code block =
-      let n : ℕ = y.name.number in
-      let all = each_scalar (variable_types a.function) (and_parts (nat_le (length (variable_types a.function)) 8) (list_all is_scalar (variable_types a.function)) (and_parts (is_leaf a.function.body) (nat_le (length (variable_types a.function)) 8 && list_all is_scalar (variable_types a.function)) y.form).1).1 in
-      let count = leb-true (length (variable_types a.function)) 8 (and_parts (nat_le (length (variable_types a.function)) 8) (list_all is_scalar (variable_types a.function)) (and_parts (is_leaf a.function.body) (nat_le (length (variable_types a.function)) 8 && list_all is_scalar (variable_types a.function)) y.form).1).0 in
-      let before = scalars_before (shapes z.p.unit) (variable_types a.function) y.name.number t all y.there in
-      let b0 = before.0 in
+  -- where a variable stands among the registers
+  pub record Place (n x : ℕ) : Type 0 where
+    pub at : x ≡ 20 + n
+    pub few : n < 8
+    pub before : words_before (shapes z.p.unit) (variable_types a.function) n ≡ n
+
+  pub its_place : (p : CExpr) (t : Ty) (x : ℕ) → (y : IsVariable (env_in (text W E Outer Passes z) a.function) sc p x t) → Place y.name.number x
+  its_place p t x y =
+      let types : List Ty = variable_types a.function in
+      let light = (and_parts (is_leaf a.function.body) (nat_le (length (variable_types a.function)) 8 && list_all is_scalar (variable_types a.function)) y.form).1 in
+      let parts = and_parts (nat_le (length (variable_types a.function)) 8) (list_all is_scalar (variable_types a.function)) light in
+      let count = leb-true (length (variable_types a.function)) 8 parts.0 in
+      let before = scalars_before (shapes z.p.unit) (variable_types a.function) y.name.number t (each_scalar (variable_types a.function) parts.1) y.there in
       let b1 = before.1 in
       let reg_is = y.register in
-      let at : x ≡ 20 + y.name.number = omega (arith, b1, count, reg_is) in
-      let ex = its_exprs runs compose W E Outer Passes z jumps straight held typing exprs objects gv hv hw g fs world calls answer c d a others st r waits in
-      let rd = its_ready runs compose W E Outer Passes z jumps straight held typing exprs objects gv hv hw g fs world calls answer c d a others st r waits in
-      let same : assign_code sc p v ≡ value_code sc v x 8 = ap (λ o. assigned_code o (made sc p) (made sc v)) stands in
-      let some = (fit a.function).value_some v x 8 in
-      let run = ex.value v t given left.scalar (omega (arith, few)) x 8 k c d st.idle rd (subst (CodeAt z.w k) same code) (omega arith) (omega (arith, deep)) (λ q. absurd (omega (arith, q, at))) (λ q. absurd (omega (arith, q, at))) in
-      let k1 : ℕ = k + length (value_code sc v x 8) in
-      let len : k + length (assign_code sc p v) ≡ k1 = ap (λ is. k + length is) same in
-      then_splits runs compose W E Outer Passes z jumps 0 0 0 0 debt 1 (nodes v) (units 1) here here (at_with k c d) a.function k (λ w. k1) c d objects (Gives sc its x 8 x t c) (value_of v here.state) (λ cost w. store cost p w rest work here)
-      (λ w q. absurd (omega (arith, q, some))) (none runs z.w Passes (at_with k c d)) (omega arith) (omega arith) st (value_within v here.state) (comes_splits z.w sc 0 k k1 c d (Gives sc its x 8 x t c) (value_of v here.state) run)
-      (λ u w c1 least most gives path.
-      let keeps = gives.keeps in
-      let high : (q : ℕ) → 28 ≤ q → c1.regs q ≡ c.regs q = λ q le. keeps.above q (λ e. absurd (omega (arith, e, le, at, b1, count))) (omega (arith, le)) in
-      let s1 = stands_soft runs compose W E Outer Passes z jumps objects here c c1 d keeps.memory keeps.special (high 28 (omega arith)) (high 30 (omega arith)) st in
+      record { at = omega (arith, b1, count, reg_is); few = omega (arith, b1, count); before = before.0 }
+
+  -- a value has come to the register of its variable, and all else is as it was
+  pub record Moved (x : ℕ) (w : Value) (c1 : Contents) : Type 0 where
+    pub is : c1.regs x ≡ word sc its w
+    pub above : (q : ℕ) → 20 ≤ q → q ≢ x → c1.regs q ≡ c.regs q
+    pub memory : c1.memory ≡ c.memory
+    pub special : c1.special ≡ c.special
+
+  pub stores_light : (p : CExpr) (t : Ty) (x : ℕ) (w : Value) (l n k1 : ℕ) (cost : Cost) (s : Machine) (c1 : Contents) → IsVariable (env_in (text W E Outer Passes z) a.function) sc p x t → IsTrue (is_scalar t) → Fits (shapes z.p.unit) (layout_of z.p.unit objects) t w → Moved x w c1
+      → Path runs compose W E Outer Passes z jumps l n 0 s (at_with k1 c1 d) → cost.own + 1 ≤ 2048 * l → n ≤ 60 * (cost.own + 1) → Block (text W E Outer Passes z) a.function k1 debt rest (λ to left. Ahead (text W E Outer Passes z) (a ∷ others) to left work)
+      → StepIs W E Outer Passes z debt here s (store cost p w rest work here)
+  stores_light p t x w l n k1 cost s c1 y scalar fits moved path low high block =
+      let place = its_place p t x y in
+      let at = place.at in
+      let few = place.few in
+      let high_regs : (q : ℕ) → 28 ≤ q → c1.regs q ≡ c.regs q = λ q le. moved.above q (omega (arith, le)) (λ e. absurd (omega (arith, e, le, at, few))) in
+      let s1 = stands_soft runs compose W E Outer Passes z jumps objects here c c1 d moved.memory moved.special (high_regs 28 (omega arith)) (high_regs 30 (omega arith)) st in
       let st2 : Stands W E Outer Passes z objects (with_state here (write here.state (record { region = locals; path = y.name.number ∷ [] }) w)) c1 d = record {
-        typed = typing.written objects (state_of gv hv hw (g ∷ fs)) g fs a.function (record { region = locals; path = y.name.number ∷ [] }) t w refl r.is st.typed (t, y.there, refl) gives.fits;
+        typed = typing.written objects (state_of gv hv hw (g ∷ fs)) g fs a.function (record { region = locals; path = y.name.number ∷ [] }) t w refl r.is st.typed (t, y.there, refl) fits;
         declared = st.declared;
         used = st.used;
         room = st.room;
@@ -187,13 +195,32 @@ module _ (runs : RunLaws) (compose : RunsCompose) (W E : Type 0) (Outer : W → 
       let under : UnderWay W E Outer Passes z objects c1 (a ∷ others) (write here.state (record { region = locals; path = y.name.number ∷ [] }) w).frames = (
         record {
           is = r.is;
-          return_at = ap₂ (λ m q. if calls_in a.function.body then m else q) (ap (λ m. m (end_of W E Outer Passes z fs)) keeps.memory) (high 31 (omega arith)) ∙ r.return_at;
-          frame_at = high 29 (omega arith) ∙ r.frame_at;
-          variables = stored_there y.name.number x t w c1 y.form at (omega (arith, b1, count)) y.there left.scalar b0 (sym (read_is c1.regs x (λ q. absurd (omega (arith, q, at)))) ∙ gives.is) (λ q le ne. keeps.above q ne le);
+          return_at = ap₂ (λ m q. if calls_in a.function.body then m else q) (ap (λ m. m (end_of W E Outer Passes z fs)) moved.memory) (high_regs 31 (omega arith)) ∙ r.return_at;
+          frame_at = high_regs 29 (omega arith) ∙ r.frame_at;
+          variables = stored_there y.name.number x t w c1 y.form at few y.there scalar place.before moved.is moved.above;
         },
-        subst (λ m. Waiting W E Outer Passes z objects m others fs) (sym keeps.memory) waits,
+        subst (λ m. Waiting W E Outer Passes z objects m others fs) (sym moved.memory) waits,
       ) in
-      let go = arrives runs compose W E Outer Passes z jumps (0 + 1) (0 + (0 + 16 * u)) 0 debt debt (plus (plus (units 1) (units u)) (units 1)) here (with_state here (write here.state (record { region = locals; path = y.name.number ∷ [] }) w)) (at_with k c d) k1 c1 d objects a others rest work path
-      (omega (arith, most, few)) (omega arith) (omega arith) st2 under (subst (λ q. Block (text W E Outer Passes z) a.function q debt rest (λ to left. Ahead (text W E Outer Passes z) (a ∷ others) to left work)) len block) in
-      subst (λ e. StepIs W E Outer Passes z debt here (at_with k c d) (store (plus (units 1) (units u)) e w rest work here)) (sym y.is)
-      (subst (λ kd. StepIs W E Outer Passes z debt here (at_with k c d) (then_go (plus (units 1) (units u)) here (paying 1 (at_no_cost (variable_location kd y.name.number))) (λ cost l. Go cost (push rest work) (with_state here (write here.state l w))))) (sym y.kind) go))
+      let go = arrives runs compose W E Outer Passes z jumps l n 0 debt debt (plus cost (units 1)) here (with_state here (write here.state (record { region = locals; path = y.name.number ∷ [] }) w)) s k1 c1 d objects a others rest work path (omega (arith, low)) (omega (arith, high)) (omega arith) st2 under block in
+      subst (λ e. StepIs W E Outer Passes z debt here s (store cost e w rest work here)) (sym y.is)
+      (subst (λ kd. StepIs W E Outer Passes z debt here s (then_go cost here (paying 1 (at_no_cost (variable_location kd y.name.number))) (λ cost l. Go cost (push rest work) (with_state here (write here.state l w))))) (sym y.kind) go)
+
+  pub assigns_light : (p v : CExpr) (t : Ty) (x : ℕ) → IsVariable (env_in (text W E Outer Passes z) a.function) sc p x t → IsNumberedLeft (env_in (text W E Outer Passes z) a.function) p t → IsNumberedGiven (env_in (text W E Outer Passes z) a.function) v t → assign_need p v ≤ MAX_NEED
+      → nodes p + nodes v + 1 ≤ 2000 → (made sc p).stands ≡ Some x → CodeAt z.w k (assign_code sc p v) → Block (text W E Outer Passes z) a.function (k + length (assign_code sc p v)) debt rest (λ to left. Ahead (text W E Outer Passes z) (a ∷ others) to left work)
+      → StepIs W E Outer Passes z debt here (at_with k c d) (then_go (units 1) here (value_of v here.state) (λ cost w. store cost p w rest work here))
+  assigns_light p v t x y left given deep few stands code block =
+      let at = (its_place p t x y).at in
+      let ex = its_exprs runs compose W E Outer Passes z jumps straight held typing exprs objects gv hv hw g fs world calls answer c d a others st r waits in
+      let rd = its_ready runs compose W E Outer Passes z jumps straight held typing exprs objects gv hv hw g fs world calls answer c d a others st r waits in
+      let same : assign_code sc p v ≡ value_code sc v x 8 = ap (λ o. assigned_code o (made sc p) (made sc v)) stands in
+      let some = (fit a.function).value_some v x 8 in
+      let run = ex.value v t given left.scalar (omega (arith, few)) x 8 k c d st.idle rd (subst (CodeAt z.w k) same code) (omega arith) (omega (arith, deep)) (λ q. absurd (omega (arith, q, at))) (λ q. absurd (omega (arith, q, at))) in
+      let k1 : ℕ = k + length (value_code sc v x 8) in
+      let len : k + length (assign_code sc p v) ≡ k1 = ap (λ is. k + length is) same in
+      then_splits runs compose W E Outer Passes z jumps 0 0 0 0 debt 1 (nodes v) (units 1) here here (at_with k c d) a.function k (λ w. k1) c d objects (Gives sc its x 8 x t c) (value_of v here.state) (λ cost w. store cost p w rest work here)
+      (λ w q. absurd (omega (arith, q, some))) (none runs z.w Passes (at_with k c d)) (omega arith) (omega arith) st (value_within v here.state) (comes_splits z.w sc 0 k k1 c d (Gives sc its x 8 x t c) (value_of v here.state) run)
+      (λ u w c1 least most gives path.
+      let keeps = gives.keeps in
+      stores_light p t x w (0 + 1) (0 + (0 + 16 * u)) k1 (plus (units 1) (units u)) (at_with k c d) c1 y left.scalar gives.fits
+      (record { is = sym (read_is c1.regs x (λ q. absurd (omega (arith, q, at)))) ∙ gives.is; above = λ q le ne. keeps.above q ne le; memory = keeps.memory; special = keeps.special })
+      path (omega (arith, most, few)) (omega arith) (subst (λ q. Block (text W E Outer Passes z) a.function q debt rest (λ to left. Ahead (text W E Outer Passes z) (a ∷ others) to left work)) len block))

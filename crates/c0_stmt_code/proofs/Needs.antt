@@ -3,15 +3,16 @@ use Rattle.std.proofs.Common.{◌≡◌, ◌≢◌, ℕ, ◌+◌, ◌*◌, ◌<�
 use Rattle.mips_table.specs.Code.{World}
 use Rattle.c0_tree.specs.Primitives.{CPrimitive}
 use Rattle.c0_tree.specs.Size.{need, nodes, stmts_nodes}
-use Rattle.c0_tree.specs.Tree.{asm, CExpr, CStmts, code, CDecl, CFunction, CUnit}
+use Rattle.c0_tree.specs.Tree.{asm, CTy, CExpr, CStmts, code, CDecl, CFunction, CUnit}
 use Rattle.c0_meaning.specs.Ty.{Ty, bool, is_scalar, ty_of}
 use Rattle.c0_meaning.specs.Ty as ty
 use Rattle.c0_meaning.specs.Asm.{are_allowed_words}
 use Rattle.c0_tree.specs.declared.tree.Span.{Span}
 use Rattle.c0_meaning.specs.Limits.{locals_of}
+use Rattle.c0_meaning.specs.Typed.{IsDeclarable}
 use Rattle.c0_meaning.specs.Numbered.{is_frame_place, IsNumberedGiven, IsNumberedLeft, IsNumberedTest, AreNumbered}
 use Rattle.c0_meaning.specs.Env.{Env, Shape, typed_of, env_of}
-use Rattle.c0_meaning.specs.Value.{Region, globals, heap, locals, Location, Value, Values, group, followed_by, zeros_of, put}
+use Rattle.c0_meaning.specs.Value.{Region, globals, heap, locals, Location, Value, Values, group, followed_by, with_part, zero_of, zeros_of, put}
 use Rattle.c0_meaning.specs.State.{Frame, State, write, pushed}
 use Rattle.c0_meaning.specs.Sound.{shapes}
 use Rattle.c0_meaning.specs.Addresses.{words_to_part}
@@ -44,7 +45,7 @@ types_for u objects f globals = types_of (map typed_of u.globals)
 types_for u objects f heap = objects
 types_for u objects f locals = variable_types f
 
--- a typed state stays typed where a value that fits is stored
+-- a typed state stays typed where a value that fits is stored, where frames come and go, and where the heap has an object more; values at their start fit
 pub record TypedStays (u : CUnit) : Type 0 where
   pub written : (objects : List Ty) (s : State) (g : Frame) (fs : List Frame) (f : CFunction) (l : Location) (t : Ty) (v : Value) → s.frames ≡ g ∷ fs → slice_get u.functions g.function ≡ Some f → IsTypedWith u objects s
       → LeadsFrom (shapes u) (types_for u objects f l.region) l.path t → Fits (shapes u) (layout_of u objects) t v → IsTypedWith u objects (write s l v)
@@ -53,6 +54,9 @@ pub record TypedStays (u : CUnit) : Type 0 where
       → AllFit (shapes u) (layout_of u objects) (types_of (map typed_of locals)) (zeros_of (shapes u) (map typed_of locals))
   pub entered : (objects : List Ty) (s : State) (n : ℕ) (f : CFunction) (locals : List CDecl) (stmts : CStmts) (answer : CExpr) (args : Values) → slice_get u.functions n ≡ Some f → f.body ≡ code locals stmts answer → IsTypedWith u objects s
       → AllFit (shapes u) (layout_of u objects) (types_of (map typed_of f.params)) args → IsTypedWith u objects (pushed (record { function = n; variables = group (followed_by args (zeros_of (shapes u) (map typed_of locals))) }) s)
+  pub zero : (objects : List Ty) (t : CTy) → IsDeclarable (shapes u) t → Fits (shapes u) (layout_of u objects) (ty_of t) (zero_of (shapes u) (ty_of t))
+  pub grown : (objects : List Ty) (gv hv : Value) (hw n : ℕ) (frames : List Frame) (t : Ty) (v : Value) → IsTypedWith u objects (record { global_values = gv; heap_values = hv; heap_words = hw; frames = frames }) → Fits (shapes u) (layout_of u (objects ++ t ∷ [])) t v
+      → IsTypedWith u (objects ++ t ∷ []) (record { global_values = gv; heap_values = with_part hv v; heap_words = hw + n; frames = frames })
 
 -- how long the code of expressions is
 pub record LengthsFit (sc : Scope) : Type 0 where

@@ -1,4 +1,4 @@
--- Each step that is proved, put together.
+-- Each step, by its own lemma.
 use Rattle.std.specs.Prelude.{map, slice_get, IsTrue, Some, None}
 use Rattle.std.proofs.Common.{◌≡◌, ℕ, zero, suc, ◌+◌, ◌*◌, ◌≤◌, Bool, true, false, Option, List, [], ◌∷◌, ◌++◌, length, refl, sym, ap, ◌∙◌, subst, arith}
 use Rattle.mips_table.specs.declared.inst.Inst.TheVariants.{Jal, Sw}
@@ -8,7 +8,7 @@ use Rattle.c0_tree.specs.declared.tree.Kind.{Kind}
 use Rattle.c0_tree.specs.declared.tree.Kind.TheVariants.{Unresolved, Struct, Field, Global, Local, Function, Primitive}
 use Rattle.c0_tree.specs.declared.primitive.Scalar.{Scalar}
 use Rattle.c0_tree.specs.Primitives.{CPrimitive}
-use Rattle.c0_tree.specs.Tree.{CExpr, CStmt, assign, call, new, choice, loop, CStmts, CBody, code, asm, CDecl, CFunction}
+use Rattle.c0_tree.specs.Tree.{CTy, CExpr, CStmt, assign, call, new, choice, loop, CStmts, CBody, code, asm, CDecl, CFunction}
 use Rattle.c0_meaning.specs.Ty.{Ty, named, ty_of}
 use Rattle.c0_meaning.specs.Env.{Env, Signature, typed_of, primitive_signature, scalar_ty}
 use Rattle.c0_meaning.specs.Limits.{is_asm}
@@ -16,7 +16,7 @@ use Rattle.c0_meaning.specs.Words.{words, fields_named}
 use Rattle.c0_meaning.specs.Sound.{shapes}
 use Rattle.c0_meaning.specs.Value.{Value, Values}
 use Rattle.c0_meaning.specs.State.{Frame}
-use Rattle.c0_meaning.specs.Numbered.{IsNumbered, an_assignment, a_call, a_choice, a_loop, IsNumberedLeft, AreNumberedGiven, none, more, callee_at}
+use Rattle.c0_meaning.specs.Numbered.{IsNumbered, an_assignment, an_object, a_call, a_choice, a_loop, IsNumberedLeft, AreNumberedGiven, none, more, callee_at}
 use Rattle.c0_meaning.specs.Evaluation.{values_of}
 use Rattle.c0_meaning.specs.World.{Cost, units, Configuration, ended}
 use Rattle.c0_meaning.specs.Running.{Target, into, outward, Work, act_on, finish, again, leave, begin, then_go, call_with, call_function, act_statement, act}
@@ -28,7 +28,7 @@ use Rattle.c0_expr_code.specs.Code.{made}
 use Rattle.c0_stmt_code.specs.Code.{args_code, answer_code, stored_code, callee_index, stmt_code, stmts_code}
 use Rattle.c0_stmt_code.specs.Setup.{Setup}
 use Rattle.c0_stmt_code.specs.Ahead.{Activation, env_in, StatementStands, Block, Awaits, Ahead}
-use Rattle.c0_stmt_code.specs.Standing.{text, scope, bases, end_of, unit_scope, word_of_value, AreIn, Waiting, Runs, UnderWay, Stands, Simulated, StepIs, IsCoveredStatement, IsCoveredItem, IsCovered}
+use Rattle.c0_stmt_code.specs.Standing.{text, scope, bases, end_of, unit_scope, word_of_value, AreIn, Waiting, Runs, UnderWay, Stands, Simulated, StepIs}
 use Rattle.c0_stmt_code.proofs.Needs.{HeldStays, TypedStays, FunctionsAre, LengthsFit}
 use Rattle.c0_stmt_code.proofs.Ways.{Way, none as no_way, away, within}
 use Rattle.c0_stmt_code.proofs.Blocks.{skipped}
@@ -36,6 +36,10 @@ use Rattle.c0_stmt_code.proofs.Lengths.{stmts_length}
 use Rattle.c0_stmt_code.proofs.State.{standing_at, Exprs}
 use Rattle.c0_stmt_code.proofs.Statements.{assigns, chooses, turns}
 use Rattle.c0_stmt_code.proofs.Locals.{variable_is, assigns_light}
+use Rattle.c0_stmt_code.proofs.Finishes.{finishes_light}
+use Rattle.c0_stmt_code.proofs.Objects.{makes_object}
+use Rattle.c0_runtime.specs.Laws.{NewRuns}
+use Rattle.c0_meaning.specs.Typed.{IsDeclarable}
 use Rattle.c0_asm_body.specs.Laws.{AsmRuns}
 use Rattle.c0_stmt_code.proofs.Asms.{enters_asm}
 use Rattle.c0_stmt_code.proofs.Calls.{enters, enters_light}
@@ -88,7 +92,8 @@ given_length env (e ∷ es) [] h = elim h [ ]
 
 module _ (runs : RunLaws) (compose : RunsCompose) (W E : Type 0) (Outer : W → Contents → Behind → Type 0) (Passes : Machine → Machine → Type 0) (z : Setup W E Outer Passes) (jumps : JumpsLead z.w) (straight : StraightRuns z.w)
     (held : HeldStays (shapes z.p.unit)) (typing : TypedStays z.p.unit) (functions : FunctionsAre z.table z.p.unit) (exprs : Exprs W E Outer Passes z) (fit : (f : CFunction) → LengthsFit (scope W E Outer Passes z f))
-    (asm_runs : AsmRuns z.w) (opened : (x : List ℕ) → words (shapes z.p.unit) (named x) ≡ words_of_all (shapes z.p.unit) (types_of (fields_named (shapes z.p.unit) x))) where
+    (asm_runs : AsmRuns z.w) (opened : (x : List ℕ) → words (shapes z.p.unit) (named x) ≡ words_of_all (shapes z.p.unit) (types_of (fields_named (shapes z.p.unit) x)))
+    (new_runs : NewRuns z.w) (some_words : (t : CTy) → IsDeclarable (shapes z.p.unit) t → 1 ≤ words (shapes z.p.unit) (ty_of t)) where
   -- the first call
   begins : (objects : List Ty) (gv hv : Value) (hw : ℕ) (fs : List Frame) (world : W) (calls : List (List E)) (answer : Option Value) (c : Contents) (d : Behind) (acts : List Activation)
       → Stands W E Outer Passes z objects (standing_at gv hv hw fs world calls answer) c d → Waiting W E Outer Passes z objects c.memory acts fs → c.regs 29 ≡ 4 * end_of W E Outer Passes z fs
@@ -125,9 +130,9 @@ module _ (runs : RunLaws) (compose : RunsCompose) (W E : Type 0) (Outer : W → 
     At k rest work = Block (text W E Outer Passes z) a.function k debt rest (λ to left. Ahead (text W E Outer Passes z) (a ∷ others) to left work)
 
     -- a statement
-    states : (t : CStmt) (rest : CStmts) (work : List Work) → IsCoveredStatement W E Outer Passes z a.function t → StatementStands (text W E Outer Passes z) a.function k t → At (k + length (stmt_code sc (text W E Outer Passes z).links t)) rest work
+    states : (t : CStmt) (rest : CStmts) (work : List Work) → StatementStands (text W E Outer Passes z) a.function k t → At (k + length (stmt_code sc (text W E Outer Passes z).links t)) rest work
         → StepIs W E Outer Passes z debt here (at_with k c d) (act_statement z.p t rest work here)
-    states (assign s p v) rest work covered stands block = by_rule stands.typed
+    states (assign s p v) rest work stands block = by_rule stands.typed
       where
         by_rule : IsNumbered (env_in (text W E Outer Passes z) a.function) (assign s p v) → StepIs W E Outer Passes z debt here (at_with k c d) (act_statement z.p (assign s p v) rest work here)
         by_rule (an_assignment {t = t} left given deep) = by_stands (made sc p).stands refl
@@ -137,12 +142,12 @@ module _ (runs : RunLaws) (compose : RunsCompose) (W E : Type 0) (Outer : W → 
                 assigns runs compose W E Outer Passes z jumps straight held typing exprs fit objects gv hv hw g fs world calls answer c d a others st r waits k debt rest work p v t left given deep (omega (arith, few)) e stands.code block
             by_stands (Some x) e = let few = stands.few in
                 assigns_light runs compose W E Outer Passes z jumps straight held typing exprs fit objects gv hv hw g fs world calls answer c d a others st r waits k debt rest work p v t x (variable_is (env_in (text W E Outer Passes z) a.function) sc x p t left.typed left.place e) left given deep (omega (arith, few)) e stands.code block
-    states (choice s t x y) rest work covered stands block = by_rule stands.typed
+    states (choice s t x y) rest work stands block = by_rule stands.typed
       where
         by_rule : IsNumbered (env_in (text W E Outer Passes z) a.function) (choice s t x y) → StepIs W E Outer Passes z debt here (at_with k c d) (act_statement z.p (choice s t x y) rest work here)
         by_rule (a_choice test tx ty) = let few = stands.few in
             chooses runs compose W E Outer Passes z jumps straight held typing exprs fit objects gv hv hw g fs world calls answer c d a others st r waits k debt rest work t x y test tx ty (omega (arith, few)) stands.free stands.calls stands.code block
-    states (loop s t b) rest work covered stands block = by_rule stands.typed
+    states (loop s t b) rest work stands block = by_rule stands.typed
       where
         by_rule : IsNumbered (env_in (text W E Outer Passes z) a.function) (loop s t b) → StepIs W E Outer Passes z debt here (at_with k c d) (act_statement z.p (loop s t b) rest work here)
         by_rule (a_loop test tb) =
@@ -151,8 +156,12 @@ module _ (runs : RunLaws) (compose : RunsCompose) (W E : Type 0) (Outer : W → 
             let go = away runs z.w Passes 1 (at_with k c d) (at_with (k + 1 + length (stmts_code sc (text W E Outer Passes z).links b)) c d) (λ q. absurd (omega (arith, q))) (skipped runs compose z.w Passes jumps k (length (stmts_code sc (text W E Outer Passes z).links b)) c d st.idle (omega (arith, l, few)) stands.code.0) in
             turns runs compose W E Outer Passes z jumps straight held typing exprs fit objects gv hv hw g fs world calls answer c d a others st r waits k debt rest work k 1 2 (at_with k c d) t b
             (record { test = test; body_typed = tb; few = omega (arith, few); free = stands.free; calls = stands.calls; code = stands.code }) block (omega arith) (omega arith) (omega arith) (within runs z.w Passes 1 1 0 0 1 0 _ _ (omega arith) (omega arith) refl go)
-    states (new s p t ts) rest work covered stands block = absurd covered
-    states (call s p cs callee args) rest work covered stands block = by_rule stands.typed
+    states (new s p t ts) rest work stands block = by_rule stands.typed
+      where
+        by_rule : IsNumbered (env_in (text W E Outer Passes z) a.function) (new s p t ts) → StepIs W E Outer Passes z debt here (at_with k c d) (act_statement z.p (new s p t ts) rest work here)
+        by_rule (an_object left declarable settled shallow) = let few = stands.few in
+            makes_object runs compose W E Outer Passes z jumps straight held typing exprs new_runs some_words opened objects gv hv hw g fs world calls answer c d a others st r waits (stands.calls refl) k debt t declarable s p rest work left shallow (omega (arith, few)) stands.code block
+    states (call s p cs callee args) rest work stands block = by_rule stands.typed
       where
         by_rule : IsNumbered (env_in (text W E Outer Passes z) a.function) (call s p cs callee args) → StepIs W E Outer Passes z debt here (at_with k c d) (act_statement z.p (call s p cs callee args) rest work here)
         by_rule (a_call {c = signature} found left given deep) = by_kind callee.kind refl
@@ -201,54 +210,59 @@ module _ (runs : RunLaws) (compose : RunsCompose) (W E : Type 0) (Outer : W → 
             by_kind Local e = let is = subst (λ kd. callee_at (env_in (text W E Outer Passes z) a.function) kd callee.number ≡ Some signature) e found in absurd (cc)
 
     -- a work item of the function that runs
-    acts : (item : Work) (work : List Work) → IsCoveredItem W E Outer Passes z a.function item → Ahead (text W E Outer Passes z) (a ∷ others) k debt (item ∷ work) → StepIs W E Outer Passes z debt here (at_with k c d) (act z.p item work here)
-    acts (act_on t rest) work covered ahead = states t rest work covered ahead.0 ahead.1
-    acts (again t body rest) work covered ahead =
+    acts : (item : Work) (work : List Work) → Ahead (text W E Outer Passes z) (a ∷ others) k debt (item ∷ work) → StepIs W E Outer Passes z debt here (at_with k c d) (act z.p item work here)
+    acts (act_on t rest) work ahead = states t rest work ahead.0 ahead.1
+    acts (again t body rest) work ahead =
         let path : Path runs compose W E Outer Passes z jumps 0 0 0 (at_with k c d) (at_with (ahead.0 + 1 + length (stmts_code sc (text W E Outer Passes z).links body)) c d) = subst (λ y. Way runs z.w Passes 0 0 0 (at_with k c d) (at_with y c d)) ahead.2 (no_way runs z.w Passes (at_with k c d)) in
         turns runs compose W E Outer Passes z jumps straight held typing exprs fit objects gv hv hw g fs world calls answer c d a others st r waits k debt rest work ahead.0 0 1 (at_with k c d) t body ahead.1 ahead.3 (omega arith) (omega arith) (omega arith) path
-    acts (leave result target) work covered ahead = by_form sc.in_registers refl
+    acts (leave result target) work ahead = by_form sc.in_registers refl
       where
         by_form : (b : Bool) → sc.in_registers ≡ b → StepIs W E Outer Passes z debt here (at_with k c d) (act z.p (leave result target) work here)
         by_form false form = leaves runs compose W E Outer Passes z jumps straight held typing functions exprs fit objects gv hv hw g fs world calls answer c d a others st r waits k debt result target work form ahead.0 ahead.1
         by_form true form = leaves_light runs compose W E Outer Passes z jumps straight held typing functions exprs fit objects gv hv hw g fs world calls answer c d a others st r waits k debt result target work form ahead.0 ahead.1
-    acts (finish place v rest) work covered ahead = absurd ahead
-    acts (begin n args) work covered ahead = absurd ahead
+    acts (finish place v rest) work ahead = absurd ahead
+    acts (begin n args) work ahead = absurd ahead
 
-  by_parts : (frames : List Frame) (objects : List Ty) (gv hv : Value) (hw : ℕ) (world : W) (calls : List (List E)) (answer : Option Value) (c : Contents) (d : Behind) (under_way : List Activation) (k debt : ℕ) (item : Work) (work : List Work) → IsCovered W E Outer Passes z frames item
+  by_parts : (frames : List Frame) (objects : List Ty) (gv hv : Value) (hw : ℕ) (world : W) (calls : List (List E)) (answer : Option Value) (c : Contents) (d : Behind) (under_way : List Activation) (k debt : ℕ) (item : Work) (work : List Work)
       → Stands W E Outer Passes z objects (standing_at gv hv hw frames world calls answer) c d → UnderWay W E Outer Passes z objects c under_way frames → Ahead (text W E Outer Passes z) under_way k debt (item ∷ work)
       → StepIs W E Outer Passes z debt (standing_at gv hv hw frames world calls answer) (at_with k c d) (act z.p item work (standing_at gv hv hw frames world calls answer))
-  by_parts (g ∷ fs) objects gv hv hw world calls answer c d (a ∷ others) k debt item work covered st under ahead =
-      acts objects gv hv hw g fs world calls answer c d a others st under.0 under.1 k debt item work (covered a.function under.0.is) ahead
-  by_parts [] objects gv hv hw world calls answer c d [] k debt item work covered st under ahead = absurd under
-  by_parts [] objects gv hv hw world calls answer c d (a ∷ others) k debt item work covered st under ahead = absurd under
-  by_parts (g ∷ fs) objects gv hv hw world calls answer c d [] k debt item work covered st under ahead = absurd under
+  by_parts (g ∷ fs) objects gv hv hw world calls answer c d (a ∷ others) k debt item work st under ahead =
+      acts objects gv hv hw g fs world calls answer c d a others st under.0 under.1 k debt item work ahead
+  by_parts [] objects gv hv hw world calls answer c d [] k debt item work st under ahead = absurd under
+  by_parts [] objects gv hv hw world calls answer c d (a ∷ others) k debt item work st under ahead = absurd under
+  by_parts (g ∷ fs) objects gv hv hw world calls answer c d [] k debt item work st under ahead = absurd under
 
-  finish_parts : (frames : List Frame) (objects : List Ty) (gv hv : Value) (hw : ℕ) (world : W) (calls : List (List E)) (answer : Option Value) (c : Contents) (d : Behind) (under_way : List Activation) (k debt : ℕ) (place : CExpr) (v : Value) (rest : CStmts) (work : List Work) (t : Ty) → IsCovered W E Outer Passes z frames (finish place v rest)
+  finish_parts : (frames : List Frame) (objects : List Ty) (gv hv : Value) (hw : ℕ) (world : W) (calls : List (List E)) (answer : Option Value) (c : Contents) (d : Behind) (under_way : List Activation) (k debt : ℕ) (place : CExpr) (v : Value) (rest : CStmts) (work : List Work) (t : Ty)
       → Stands W E Outer Passes z objects (standing_at gv hv hw frames world calls answer) c d → UnderWay W E Outer Passes z objects c under_way frames → Fits (shapes z.p.unit) (layout_of z.p.unit objects) t v → c.regs 2 ≡ word_of_value W E Outer Passes z objects v
       → Awaits (text W E Outer Passes z) under_way k debt t (into place rest) work (λ others to left. Ahead (text W E Outer Passes z) others to left work)
       → StepIs W E Outer Passes z debt (standing_at gv hv hw frames world calls answer) (at_with k c d) (act z.p (finish place v rest) work (standing_at gv hv hw frames world calls answer))
-  finish_parts (g ∷ fs) objects gv hv hw world calls answer c d (a ∷ others) k debt place v rest work t covered st under fits is ahead =
-      finishes runs compose W E Outer Passes z jumps straight held typing functions exprs fit objects gv hv hw g fs world calls answer c d a others st under.0 under.1 k debt place v rest work t fits is (covered a.function under.0.is) ahead.0 ahead.1 ahead.2
-  finish_parts [] objects gv hv hw world calls answer c d [] k debt place v rest work t covered st under fits is ahead = absurd under
-  finish_parts [] objects gv hv hw world calls answer c d (a ∷ others) k debt place v rest work t covered st under fits is ahead = absurd under
-  finish_parts (g ∷ fs) objects gv hv hw world calls answer c d [] k debt place v rest work t covered st under fits is ahead = absurd under
+  finish_parts (g ∷ fs) objects gv hv hw world calls answer c d (a ∷ others) k debt place v rest work t st under fits is ahead =
+      by_stands (made (scope W E Outer Passes z a.function) place).stands refl
+    where
+      by_stands : (o : Option ℕ) → (made (scope W E Outer Passes z a.function) place).stands ≡ o → StepIs W E Outer Passes z debt (standing_at gv hv hw (g ∷ fs) world calls answer) (at_with k c d) (act z.p (finish place v rest) work (standing_at gv hv hw (g ∷ fs) world calls answer))
+      by_stands None e = finishes runs compose W E Outer Passes z jumps straight held typing functions exprs fit objects gv hv hw g fs world calls answer c d a others st under.0 under.1 k debt place v rest work t fits is e ahead.0 ahead.1 ahead.2
+      by_stands (Some x) e = let left = ahead.0.left in
+          finishes_light runs compose W E Outer Passes z jumps straight held typing exprs fit opened objects gv hv hw g fs world calls answer c d a others st under.0 under.1 k debt rest work place v t x fits is (variable_is (env_in (text W E Outer Passes z) a.function) (scope W E Outer Passes z a.function) x place t left.typed left.place e) e ahead.0 ahead.1 ahead.2
+  finish_parts [] objects gv hv hw world calls answer c d [] k debt place v rest work t st under fits is ahead = absurd under
+  finish_parts [] objects gv hv hw world calls answer c d (a ∷ others) k debt place v rest work t st under fits is ahead = absurd under
+  finish_parts (g ∷ fs) objects gv hv hw world calls answer c d [] k debt place v rest work t st under fits is ahead = absurd under
 
-  begin_parts : (frames : List Frame) (objects : List Ty) (gv hv : Value) (hw : ℕ) (world : W) (calls : List (List E)) (answer : Option Value) (c : Contents) (d : Behind) (under_way : List Activation) (k debt n to : ℕ) (args : Values) (work : List Work) (f : CFunction) → IsCovered W E Outer Passes z frames (begin n args)
+  begin_parts : (frames : List Frame) (objects : List Ty) (gv hv : Value) (hw : ℕ) (world : W) (calls : List (List E)) (answer : Option Value) (c : Contents) (d : Behind) (under_way : List Activation) (k debt n to : ℕ) (args : Values) (work : List Work) (f : CFunction)
       → Stands W E Outer Passes z objects (standing_at gv hv hw frames world calls answer) c d → Waiting W E Outer Passes z objects c.memory under_way frames → c.regs 29 ≡ 4 * end_of W E Outer Passes z frames → slice_get z.p.unit.functions n ≡ Some f → k ≡ (text W E Outer Passes z).links.function n → c.regs 31 ≡ 4 * to
       → AllFit (shapes z.p.unit) (layout_of z.p.unit objects) (types_of (map typed_of f.params)) args → AreIn (unit_scope z.p.unit) (bases W E Outer Passes z objects []) c.regs 20 args → Awaits (text W E Outer Passes z) under_way to debt (ty_of f.answer) outward work (λ others at left. Ahead (text W E Outer Passes z) others at left work)
       → StepIs W E Outer Passes z debt (standing_at gv hv hw frames world calls answer) (at_with k c d) (act z.p (begin n args) work (standing_at gv hv hw frames world calls answer))
-  begin_parts [] objects gv hv hw world calls answer c d [] k debt n to args work f covered st waits at_end is at ret fits are ahead =
+  begin_parts [] objects gv hv hw world calls answer c d [] k debt n to args work f st waits at_end is at ret fits are ahead =
       begins objects gv hv hw [] world calls answer c d [] st waits at_end n to debt f is args outward work ret fits are ahead 0 0 0 (units 0) (standing_at gv hv hw [] world calls answer) (at_with k c d)
       (subst (λ y. Way runs z.w Passes 0 0 0 (at_with k c d) (at_with y c d)) at (no_way runs z.w Passes (at_with k c d))) (omega arith) (omega arith) (omega arith)
-  begin_parts (g ∷ fs) objects gv hv hw world calls answer c d [] k debt n to args work f covered st waits at_end is at ret fits are ahead = absurd waits
-  begin_parts frames objects gv hv hw world calls answer c d (a ∷ others) k debt n to args work f covered st waits at_end is at ret fits are ahead = absurd ahead
+  begin_parts (g ∷ fs) objects gv hv hw world calls answer c d [] k debt n to args work f st waits at_end is at ret fits are ahead = absurd waits
+  begin_parts frames objects gv hv hw world calls answer c d (a ∷ others) k debt n to args work f st waits at_end is at ret fits are ahead = absurd ahead
 
-  pub steps : (debt : ℕ) (item : Work) (work : List Work) (h : Configuration W E) (s : Machine) → IsCovered W E Outer Passes z h.state.frames item → Simulated W E Outer Passes z debt (item ∷ work) h s → StepIs W E Outer Passes z debt h s (act z.p item work h)
-  steps debt (act_on t rest) work h s covered sim = by_parts h.state.frames sim.objects h.state.global_values h.state.heap_values h.state.heap_words h.world h.calls h.answer s.contents s.behind sim.activations s.at debt (act_on t rest) work covered sim.stands sim.under_way sim.ahead
-  steps debt (again t body rest) work h s covered sim = by_parts h.state.frames sim.objects h.state.global_values h.state.heap_values h.state.heap_words h.world h.calls h.answer s.contents s.behind sim.activations s.at debt (again t body rest) work covered sim.stands sim.under_way sim.ahead
-  steps debt (leave result target) work h s covered sim = by_parts h.state.frames sim.objects h.state.global_values h.state.heap_values h.state.heap_words h.world h.calls h.answer s.contents s.behind sim.activations s.at debt (leave result target) work covered sim.stands sim.under_way sim.ahead
-  steps debt (finish place v rest) work h s covered sim = finish_parts h.state.frames sim.objects h.state.global_values h.state.heap_values h.state.heap_words h.world h.calls h.answer s.contents s.behind sim.activations s.at debt place v rest work sim.t covered sim.stands sim.under_way sim.fits sim.answer sim.ahead
-  steps debt (begin n args) work h s covered sim = begin_parts h.state.frames sim.objects h.state.global_values h.state.heap_values h.state.heap_words h.world h.calls h.answer s.contents s.behind sim.activations s.at debt n sim.to args work sim.function covered sim.stands sim.waiting sim.frame_at sim.is sim.at sim.return_at sim.fits sim.arguments sim.ahead
+  pub steps : (debt : ℕ) (item : Work) (work : List Work) (h : Configuration W E) (s : Machine) → Simulated W E Outer Passes z debt (item ∷ work) h s → StepIs W E Outer Passes z debt h s (act z.p item work h)
+  steps debt (act_on t rest) work h s sim = by_parts h.state.frames sim.objects h.state.global_values h.state.heap_values h.state.heap_words h.world h.calls h.answer s.contents s.behind sim.activations s.at debt (act_on t rest) work sim.stands sim.under_way sim.ahead
+  steps debt (again t body rest) work h s sim = by_parts h.state.frames sim.objects h.state.global_values h.state.heap_values h.state.heap_words h.world h.calls h.answer s.contents s.behind sim.activations s.at debt (again t body rest) work sim.stands sim.under_way sim.ahead
+  steps debt (leave result target) work h s sim = by_parts h.state.frames sim.objects h.state.global_values h.state.heap_values h.state.heap_words h.world h.calls h.answer s.contents s.behind sim.activations s.at debt (leave result target) work sim.stands sim.under_way sim.ahead
+  steps debt (finish place v rest) work h s sim = finish_parts h.state.frames sim.objects h.state.global_values h.state.heap_values h.state.heap_words h.world h.calls h.answer s.contents s.behind sim.activations s.at debt place v rest work sim.t sim.stands sim.under_way sim.fits sim.answer sim.ahead
+  steps debt (begin n args) work h s sim = begin_parts h.state.frames sim.objects h.state.global_values h.state.heap_values h.state.heap_words h.world h.calls h.answer s.contents s.behind sim.activations s.at debt n sim.to args work sim.function sim.stands sim.waiting sim.frame_at sim.is sim.at sim.return_at sim.fits sim.arguments sim.ahead
 
 -- where anything is left to do the unit has a function, and so what its expressions rest on holds
 module _ (areas : AreasHold) (W E : Type 0) (Outer : W → Contents → Behind → Type 0) (Passes : Machine → Machine → Type 0) (z : Setup W E Outer Passes) where

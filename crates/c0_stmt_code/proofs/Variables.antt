@@ -5,7 +5,7 @@ use Rattle.c0_meaning.specs.Ty.{Ty, is_scalar}
 use Rattle.c0_meaning.specs.Ty as ty
 use Rattle.c0_meaning.specs.Env.{Typed, Shape}
 use Rattle.c0_meaning.specs.Words.{fields_named, holds, words}
-use Rattle.c0_meaning.specs.Value.{Value, int, bool, null, at, group, Values, empty, part, followed_by, repeated, zero_with, zeros_with, zero_within, zeros_of}
+use Rattle.c0_meaning.specs.Value.{Value, int, bool, null, at, group, Values, empty, part, followed_by, repeated, zero_with, zeros_with, zero_within, zero_of, zeros_of}
 use Rattle.c0_meaning.specs.TypedState.{Layout, types_of, Fits, AllFit}
 use Rattle.c0_expr_code.specs.Scope.{Scope}
 use Rattle.c0_expr_code.specs.Bases.{Bases, words_of_all, word, Held, AllHeld}
@@ -48,6 +48,9 @@ module _ (structs : List Shape) where
       by_test : (b : Bool) → ((y : List ℕ) → IsZero (zero_within depth structs y)) → IsZero (if b then group empty else group (zeros_with (zero_within depth structs) (fields_named structs x)))
       by_test true h = tt
       by_test false h = withs_zero (zero_within depth structs) h (fields_named structs x)
+
+  pub zero_zero : (t : Ty) → IsZero (zero_of structs t)
+  zero_zero t = with_zero (zero_within (length structs) structs) (within_zero (length structs)) t
 
   pub zeros_zero : (ds : List Typed) → AreZero (zeros_of structs ds)
   zeros_zero ds = withs_zero (zero_within (length structs) structs) (within_zero (length structs)) ds

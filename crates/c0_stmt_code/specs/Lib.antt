@@ -1,6 +1,10 @@
 pub mod Ahead
 pub mod Code
+pub mod Emit
+pub mod EmitLeaf
 pub mod Journey
+pub mod Lengths
+pub mod Ranges
 pub mod Rows
 pub mod Setup
 pub mod Standing

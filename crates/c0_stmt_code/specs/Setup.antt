@@ -8,15 +8,14 @@ use Rattle.mips_table.specs.Code.{Contents, Behind, World, Sound, Configuration,
 use Rattle.masm.specs.declared.registers.Places.{Places}
 use Rattle.cvm_words.specs.Words.{word_of}
 use Rattle.c0_tree.specs.Primitives.{CPrimitive}
-use Rattle.c0_tree.specs.Tree.{CDecl, CExpr, CStmts, code, CFunction, CUnit}
-use Rattle.c0_meaning.specs.Ty.{Ty}
+use Rattle.c0_tree.specs.Tree.{CFunction, CUnit}
 use Rattle.c0_meaning.specs.Env.{typed_of}
 use Rattle.c0_meaning.specs.Words.{all_words}
 use Rattle.c0_meaning.specs.Sound.{shapes}
 use Rattle.c0_meaning.specs.Unit.{IsWellFormed}
-use Rattle.c0_meaning.specs.Value.{Value, int, bool, Values, empty, part, zeros_of}
+use Rattle.c0_meaning.specs.Value.{Value, int, bool, Values, empty, part}
 use Rattle.c0_meaning.specs.World.{Setting}
-use Rattle.c0_meaning.specs.TypedState.{types_of, AllFit, layout_of, IsScalar, AreScalars}
+use Rattle.c0_meaning.specs.TypedState.{AreScalars}
 use Rattle.c0_runtime.specs.Code as runtime
 use Rattle.c0_expr_code.specs.Scope.{scope_of}
 use Rattle.c0_stmt_code.specs.Code.{Links, links_of, MAX_STACK, function_code}
@@ -73,8 +72,7 @@ pub record Called (w : World) (x : Links) (row : CPrimitive) (n : ℕ) (vs : Val
   pub there : w.code to ≡ Some code
   pub idle : s.behind.pending ≡ Idle
 
--- What is fixed in a run of a unit's code. `Outer` says how the rest of the machine stands for the world's value, and `Passes` leads from the
--- entry of a primitive to its end.
+-- What is fixed in a run of a unit's code. `Outer` says how the rest of the machine stands for the world's value.
 pub record Setup (W E : Type 0) (Outer : W → Contents → Behind → Type 0) (Passes : Configuration → Configuration → Type 0) : Type 0 where
   pub w : World
   pub sound : Sound w
@@ -95,18 +93,9 @@ pub record Setup (W E : Type 0) (Outer : W → Contents → Behind → Type 0) (
   pub functions : (n : ℕ) (f : CFunction) → slice_get p.unit.functions n ≡ Some f
       → CodeAt w ((links_of places).function n) (function_code (scope_of p.unit f places) (links_of places) f)
   pub new_object : CodeAt w (links_of places).new_object runtime.new_code
-  -- locals at their start have their types
-  pub zeros_fit : (objects : List Ty) (n : ℕ) (f : CFunction) (locals : List CDecl) (stmts : CStmts) (answer : CExpr)
-      → slice_get p.unit.functions n ≡ Some f → f.body ≡ code locals stmts answer →
-      AllFit (shapes p.unit) (layout_of p.unit objects) (types_of (map typed_of locals)) (zeros_of (shapes p.unit) (map typed_of locals))
   -- what isn't the unit's is the rest of the machine's
   pub outer_stays : (v : W) (c c' : Contents) (d : Behind) → ((k : ℕ) → (IsOurs a p.stack k → ⊥) → c'.memory k ≡ c.memory k)
       → c'.special ≡ c.special → Outer v c d → Outer v c' d
   -- primitives have few arguments, and the code that calls one isn't the primitive itself
   pub few_arguments : (n : ℕ) (row : CPrimitive) → slice_get table n ≡ Some row → length row.args ≤ 8
   pub elsewhere : (n k : ℕ) → w.code k ≡ Some (Jal ((links_of places).primitive n)) → k ≢ (links_of places).primitive n
-  -- a call of a primitive comes to what it means
-  pub primitives : (n : ℕ) (row : CPrimitive) (vs : Values) (v : W) (to : ℕ) (s : Configuration) → slice_get table n ≡ Some row
-      → Called w (links_of places) row n vs to s → Outer v s.contents s.behind →
-      (t : Configuration) × Passes s t × Back p.unit a p.stack to s t × IsScalar row.answer (p.meaning n vs v).answer
-      × (t.contents.regs 2 ≡ scalar_word (p.meaning n vs v).answer) × Outer (p.meaning n vs v).world t.contents t.behind

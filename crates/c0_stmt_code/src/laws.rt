@@ -1,7 +1,7 @@
 //! The laws of the code of statements: each function says one, and does nothing.
 
 ghost use Rattle.c0_stmt_code.specs.Rows.{AreCodes};
-ghost use Rattle.c0_stmt_code.specs.Standing.{RunsAre, StepsRun};
+ghost use Rattle.c0_stmt_code.specs.Standing.{StepsRun};
 ghost use Rattle.mips_table.specs.Code.{Contents, Behind, Configuration};
 
 use c0_asm_body::laws::asm_bodies_run;
@@ -10,6 +10,8 @@ use c0_expr_code::laws::{
     tests_run,
 };
 use c0_meaning::laws::{numbers_tell, units_are_typed_or_faulty};
+use c0_meaning::run_laws::{declared_types_have_words, zeros_fit_their_types};
+use c0_runtime::laws::objects_are_made;
 use masm::laws::{jumps_lead, runs_compose, straight_code_runs};
 use mips_table::runs::code_runs_join;
 
@@ -42,13 +44,9 @@ pub fn steps_run<M: Outside>()
     jumps_lead();
     code_runs_join();
     asm_bodies_run();
-}
-
-/// A run of C0's meaning is a run of the code, where each of its steps is.
-pub fn runs_follow_steps<M: Outside>()
-    ensures { RunsAre M.Standing M.Entry M.outer M.passes }
-{
-    code_runs_join();
+    declared_types_have_words();
+    zeros_fit_their_types();
+    objects_are_made();
 }
 
 /// The code of two small functions, instruction by instruction.

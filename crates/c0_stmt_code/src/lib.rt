@@ -1,4 +1,13 @@
 //! The code of statements, of calls and of functions, and that a run of it is what they mean.
 #![tactic(auto)]
 
+mod acts;
+mod calling;
+mod emit_laws;
+mod function;
 pub mod laws;
+mod prologue;
+pub mod sizes;
+mod statement;
+
+pub use function::emit_function;

@@ -7,7 +7,7 @@
 #![tactic(auto)]
 
 ghost use Rattle.cvm_model.specs.KernelMeaning.{CallsAreTold, UnitsAreKernels, UnitsReplay};
-ghost use Rattle.cvm_model.specs.TypedKernel.{UnitsStayTyped, UnitsWantUnits};
+ghost use Rattle.cvm_model.specs.TypedKernel.{RowsAreCalled, UnitsStayTyped, UnitsWantUnits};
 ghost use Rattle.cvm_model.specs.Cvm.{UnitsDontMatter};
 ghost use Rattle.cvm_model.specs.Journal.{ReplayJoins, Isolated, PrimitivesReplay};
 
@@ -28,6 +28,11 @@ pub use rows::{journal_rows, map_rows, primitive_rows, system_rows, text_rows};
 /// A law: a call of a primitive is told by its number and its arguments.
 pub fn calls_are_told()
     ensures { CallsAreTold }
+{}
+
+/// A law: the arguments of a primitive's row make a call, whose answer has the row's type.
+pub fn rows_are_called()
+    ensures { RowsAreCalled }
 {}
 
 /// A law: a unit of C0 means what a kernel may mean.

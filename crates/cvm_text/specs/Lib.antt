@@ -1,3 +1,4 @@
 pub mod Blanks
 pub mod Hex
+pub mod Lines
 pub mod Number

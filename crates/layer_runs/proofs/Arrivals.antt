@@ -1,16 +1,16 @@
 -- Arrivals: runs of blocks one after the other, from an entry or from the beginning of the handler, as steps of the machine between entries.
-use Rattle.std.proofs.Common.{◌≡◌, ◌≢◌, ℕ, ◌+◌, ◌*◌, ◌/◌, ◌<◌, ◌≤◌, Some, List, [], ◌∷◌, length, refl, sym, ap, ap₂, ◌∙◌, subst, arith}
+use Rattle.std.proofs.Common.{◌≡◌, ◌≢◌, ℕ, ◌+◌, ◌*◌, ◌/◌, ◌≤◌, Some, List, [], ◌∷◌, length, refl, sym, ap, ◌∙◌, subst, arith}
 use Rattle.mips_table.specs.declared.inst.Inst.{Inst}
 use Rattle.mips_table.specs.declared.inst.Inst.TheVariants.{J}
-use Rattle.mips_table.specs.Device.{Device, Idle, Outside, sector_of, settled, counted}
-use Rattle.mips_table.specs.Machine.{State, latched, ended, step, run}
-use Rattle.mips_table.specs.Code.{Contents, Behind, World, Sound, Configuration, at_with, Steps, Reaches}
-use Rattle.mips_table.specs.Simulation.{configuration_of, contents_of, Quiet}
+use Rattle.mips_table.specs.Device.{Idle, Outside}
+use Rattle.mips_table.specs.Machine.{State, run}
+use Rattle.mips_table.specs.Code.{Contents, World, Sound, Configuration, at_with, Steps, Reaches}
+use Rattle.mips_table.specs.Simulation.{configuration_of, contents_of}
 use Rattle.masm.specs.Laws.{RunsCompose, JumpsLead}
-use Rattle.masm.specs.Standing.{placed, alone, BlockStands}
-use Rattle.cvm_model.specs.Stands.{Site, is_own}
-use Rattle.layer_contract.specs.Layer.{Inside, SectorsStay, Way}
-use Rattle.layer_runs.specs.Runs.{Standing, Calm, block_world, Stretch, Makes, BlocksRun, Between}
+use Rattle.masm.specs.Standing.{BlockStands}
+use Rattle.cvm_model.specs.Stands.{Site}
+use Rattle.layer_contract.specs.Layer.{Inside, SectorsStay}
+use Rattle.layer_runs.specs.Runs.{Standing, Calm, block_world, Makes, BlocksRun, Between}
 use Rattle.layer_runs.proofs.Shown.{words_of, behind}
 use Rattle.layer_runs.proofs.Ways.{IsApart, between_of, no_step, joins}
 

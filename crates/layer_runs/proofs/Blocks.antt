@@ -1,18 +1,18 @@
 -- Each run of a block of the layer's code is made by the machine: the laws on runs of code, for the block alone.
-use Rattle.std.proofs.Common.{◌≡◌, ℕ, zero, suc, ◌+◌, ◌-◌, ◌*◌, ◌/◌, ◌<◌, ◌≤◌, Bool, true, false, not, ◌&&◌, nat_lt, Option, Some, None, List, [], ◌∷◌, length, map, slice_index, All, refl, sym, ap, ◌∙◌, subst, ⊎_elim, arith, lt-ltb, ltb-true, eq-eqb, ne_eqb}
+use Rattle.std.proofs.Common.{◌≡◌, ℕ, suc, ◌+◌, ◌-◌, ◌*◌, ◌/◌, ◌<◌, ◌≤◌, Bool, true, false, not, ◌&&◌, nat_lt, Some, None, List, [], ◌∷◌, length, map, slice_index, refl, sym, ap, ◌∙◌, subst, ⊎_elim, arith, lt-ltb, ltb-true, eq-eqb, ne_eqb}
 use Rattle.std.specs.Prelude.{◌==◌, if◌then◌else◌}
 use Rattle.std.proofs.lemmas.Bool.{cond-true, cond-false, cases_eq}
 use Rattle.mips_table.specs.declared.inst.Inst.{Inst}
 use Rattle.mips_table.specs.Encoding.{encoding}
-use Rattle.mips_table.specs.Device.{Idle, Outside}
+use Rattle.mips_table.specs.Device.{Outside}
 use Rattle.mips_table.specs.Machine.{State, run}
 use Rattle.mips_table.specs.Fits.{NamesSector}
-use Rattle.mips_table.specs.Code.{Program, on_machine, World, Sound, Configuration, Steps}
+use Rattle.mips_table.specs.Code.{World, Sound, Configuration, Steps}
 use Rattle.mips_table.specs.Simulation.{configuration_of, Quiet, Holds, Serves, Simulates, MachineSimulates}
 use Rattle.masm.specs.Standing.{placed, BlockStands}
 use Rattle.cvm_model.specs.Stands.{Site, is_own}
 use Rattle.layer_contract.specs.Layer.{Inside}
-use Rattle.layer_runs.specs.Runs.{Standing, Calm, kept_words, block_program, block_world, Stretch, Makes, BlocksRun}
+use Rattle.layer_runs.specs.Runs.{Standing, Calm, kept_words, block_program, block_world, Makes, BlocksRun}
 
 -- the word of an instruction of a placed block
 word_of : (n : ℕ) (is : List Inst) (k : ℕ) (i : Inst) → placed n is k ≡ Some i → n ≤ k → slice_index (map encoding is) (k - n) ≡ encoding i

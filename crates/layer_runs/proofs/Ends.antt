@@ -1,5 +1,5 @@
 -- The steps that end a run of the layer's code: a store to the power port, and eret.
-use Rattle.std.proofs.Common.{◌≡◌, ◌≢◌, ℕ, zero, suc, ◌+◌, ◌*◌, ◌/◌, ◌%◌, ◌<◌, ◌≤◌, Some, List, length, slice_index, slice_set, refl, sym, ap, ap₂, ◌∙◌, subst, arith}
+use Rattle.std.proofs.Common.{◌≡◌, ◌≢◌, ℕ, zero, suc, ◌+◌, ◌*◌, ◌/◌, ◌<◌, ◌≤◌, Some, List, length, slice_index, refl, sym, ap, ap₂, ◌∙◌, subst, ⊎_elim, arith}
 use Rattle.mips_table.specs.declared.inst.Inst.{Inst}
 use Rattle.mips_table.specs.declared.inst.Inst.TheVariants.{Sw, Eret}
 use Rattle.mips_table.specs.Arith.{sum, extended}
@@ -8,16 +8,16 @@ use Rattle.mips_table.specs.Device.{Device, Idle, POWER, Outside, sector_of, set
 use Rattle.mips_table.specs.Machine.{EPC, State, left, latched, ended, step, run}
 use Rattle.mips_table.specs.Fits.{Fits, StaysFitting}
 use Rattle.mips_table.specs.Code.{Configuration}
-use Rattle.mips_table.specs.Simulation.{space, behind_of, Quiet}
+use Rattle.mips_table.specs.Simulation.{space, behind_of}
 use Rattle.mips_table.specs.Borders.{EretLeaves, PowerEnds}
 use Rattle.masm.specs.Standing.{placed, BlockStands}
+use Rattle.layer_map.specs.Map.{layer_words}
 use Rattle.cvm_model.specs.Stands.{Site}
-use Rattle.layer_contract.specs.declared.entry.Entry.{Entry}
 use Rattle.layer_contract.specs.Layer.{entry_address, Inside, Comes, IsEntry}
 use Rattle.layer_runs.specs.Runs.{Standing, Calm, block_program, Between}
 use Rattle.layer_runs.proofs.Shown.{words_of, behind}
 use Rattle.layer_runs.proofs.Blocks.{sound, holds}
-use Rattle.layer_runs.proofs.Ways.{IsApart, no_entry, joins, way, way_from}
+use Rattle.layer_runs.proofs.Ways.{IsApart, no_entry, joins, way_from}
 use Rattle.layer_runs.proofs.Arrivals.{Below, Arrives, Enters}
 
 -- what such a step leaves as it was
@@ -40,6 +40,7 @@ inside_of x y s c = record { on = c.quiet.on; mode = c.quiet.mode; sr = c.quiet.
 pub single : (x : Outside) (y : Site) (a b : ℕ) (s : State) → IsApart a b → Calm x y s → 4 * a ≤ s.cpu.pc → s.cpu.pc < 4 * b → (step x s).device ≡ s.device → Between x y 1 s
 single x y a b s apart c low top same = record {
   inside = λ j lt. let z : 0 ≡ j = omega arith in subst (λ j. Inside (run x s j)) z (inside_of x y s c);
+  below = λ j lt. let z : 0 ≡ j = omega arith in subst (λ j. (run x s j).cpu.pc < 4 * layer_words) z (⊎_elim (λ e. omega arith) (λ e. let e1 = e.1 in omega arith) apart);
   apart = λ j e lt is. let z : 0 ≡ j = omega arith in subst (λ j. (run x s j).cpu.pc ≢ entry_address e) z (no_entry a b s.cpu.pc apart low top e is);
   sectors = elim [ zero ↦ λ le q past. refl | suc j ↦ λ le q past. let z : 0 ≡ j = omega arith in subst (λ j. sector_of (run x s (suc j)).device.sectors q ≡ sector_of s.device.sectors q) z (ap (λ (d : Device). sector_of d.sectors q) same) ];
 }

@@ -1,15 +1,14 @@
 -- A routine from its entry on, and the exits of the kernel's faults: two instructions, and the machine is off with the fault's word.
-use Rattle.std.proofs.Common.{◌≡◌, ◌≢◌, ℕ, ◌+◌, ◌*◌, ◌/◌, ◌%◌, ◌<◌, ◌≤◌, true, false, Some, List, [], ◌∷◌, length, slice_index, refl, sym, ap, ap₂, ◌∙◌, subst, ⊎_elim, inr, true≢false, arith}
+use Rattle.std.proofs.Common.{◌≡◌, ◌≢◌, ℕ, ◌+◌, ◌*◌, ◌/◌, ◌%◌, ◌<◌, ◌≤◌, false, Some, List, [], ◌∷◌, length, slice_index, refl, sym, ap, ◌∙◌, subst, ⊎_elim, inr, true≢false, arith}
 use Rattle.mips_table.specs.declared.inst.Inst.{Inst}
 use Rattle.mips_table.specs.declared.inst.Inst.TheVariants.{J, Sw}
-use Rattle.mips_table.specs.Device.{Idle, POWER, Outside}
+use Rattle.mips_table.specs.Device.{Idle, Outside}
 use Rattle.mips_table.specs.Machine.{State, step, run}
 use Rattle.mips_table.specs.Fits.{StaysFitting}
-use Rattle.mips_table.specs.Code.{Contents, Behind, World, Sound, Configuration, at_with, CodeAt, Reaches}
-use Rattle.mips_table.specs.Simulation.{configuration_of}
+use Rattle.mips_table.specs.Code.{Behind, World, Sound, Configuration, at_with, CodeAt, Reaches}
 use Rattle.mips_table.specs.Borders.{PowerEnds}
 use Rattle.masm.specs.Standing.{placed}
-use Rattle.layer_map.specs.Map.{Map, MapInRange, current_at, memory_words}
+use Rattle.layer_map.specs.Map.{Map}
 use Rattle.page_model.specs.Laws.{AlikesStand}
 use Rattle.cvm_model.specs.Kernel.{Core, power_of}
 use Rattle.cvm_model.specs.declared.kernel_fault.KernelFault.{KernelFault}
@@ -21,12 +20,12 @@ use Rattle.layer_contract.specs.declared.entry.Entry.TheVariants.{Fault as Exit}
 use Rattle.layer_contract.specs.Layer.{Inside, IsAt, Comes, IsEntry, Rested, Exits}
 use Rattle.trap_entry.specs.Code.{exit_code}
 use Rattle.trap_entry.specs.Laws.{ComesTo, Passed, ExitsWith}
-use Rattle.layer_runs.specs.Image.{routines, routine, routine_at, image_site, IsMade}
+use Rattle.layer_runs.specs.Image.{routine, routine_at, image_site, IsMade}
 use Rattle.layer_runs.specs.Runs.{Standing, Calm, block_world}
-use Rattle.layer_runs.proofs.Shown.{Shown, IsKernels, Order, order_of, words_of, behind, word_is, Follows, shown, stood}
+use Rattle.layer_runs.proofs.Shown.{Shown, Order, order_of, words_of, behind, word_is, Follows, shown, stood}
 use Rattle.layer_runs.proofs.Blocks.{sound}
 use Rattle.layer_runs.proofs.Placed.{listed, linked_length, routine_fits, routine_stands, entry_stands}
-use Rattle.layer_runs.proofs.Arrivals.{Below, Arrives, Enters, contents, arrives, enters, stands_at}
+use Rattle.layer_runs.proofs.Arrivals.{Below, Arrives, Enters, contents, arrives, enters}
 use Rattle.layer_runs.proofs.Ends.{Left, single, Off, powers, left_words, left_behind, comes_by}
 
 -- what the proofs of the ends take from the crates below

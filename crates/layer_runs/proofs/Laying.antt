@@ -26,16 +26,16 @@ jumps-append n (is ∷ xs) ys =
 pub lays_more : (a b c : Routines) (xs ys : List (List Inst)) → Lays a b xs → Lays b c ys → Lays a c (xs ++ ys)
 lays_more a b c xs ys p q =
     let far : length b.words.items ≡ length a.words.items + length (joined xs) =
-        ap length p.words ∙ length-append a.words.items (map encoding (joined xs)) ∙ ap (λ k. length a.words.items + k) (length-map (joined xs) encoding) in
+    ap length p.words ∙ length-append a.words.items (map encoding (joined xs)) ∙ ap (λ k. length a.words.items + k) (length-map (joined xs) encoding) in
     let jumps : jumps_from (length a.words.items) (xs ++ ys) ≡ jumps_from (length a.words.items) xs ++ jumps_from (length b.words.items) ys =
-        jumps-append (length a.words.items) xs ys ∙ ap (λ k. jumps_from (length a.words.items) xs ++ jumps_from k ys) (sym far) in
+    jumps-append (length a.words.items) xs ys ∙ ap (λ k. jumps_from (length a.words.items) xs ++ jumps_from k ys) (sym far) in
     let x = map encoding (jumps_from (length a.words.items) xs) in
     let y = map encoding (jumps_from (length b.words.items) ys) in
     record {
       entries = q.entries ∙ ap (λ l. l ++ y) p.entries ∙ append_assoc a.entries.items x y
-        ∙ ap (λ l. a.entries.items ++ l) (sym (ap (map encoding) jumps ∙ map-append encoding (jumps_from (length a.words.items) xs) (jumps_from (length b.words.items) ys)));
+          ∙ ap (λ l. a.entries.items ++ l) (sym (ap (map encoding) jumps ∙ map-append encoding (jumps_from (length a.words.items) xs) (jumps_from (length b.words.items) ys)));
       words = q.words ∙ ap (λ l. l ++ map encoding (joined ys)) p.words ∙ append_assoc a.words.items (map encoding (joined xs)) (map encoding (joined ys))
-        ∙ ap (λ l. a.words.items ++ l) (sym (ap (map encoding) (joined-append xs ys) ∙ map-append encoding (joined xs) (joined ys)));
+          ∙ ap (λ l. a.words.items ++ l) (sym (ap (map encoding) (joined-append xs ys) ∙ map-append encoding (joined xs) (joined ys)));
     }
 
 -- the jumps to a layer's routines are its entries

@@ -1,5 +1,5 @@
 -- What follows an answer of `dispatch`: a user goes on, or the machine is off.
-use Rattle.std.proofs.Common.{◌≡◌, ◌≢◌, ℕ, zero, suc, ◌+◌, ◌-◌, ◌*◌, ◌/◌, ◌%◌, ◌^◌, ◌<◌, ◌≤◌, ℤ, pos, negsuc, Bool, true, false, not, ◌&&◌, nat_lt, Some, None, List, [], ◌∷◌, length, slice_index, slice_set, refl, sym, ap, ap₂, ◌∙◌, subst, ⊎_elim, inl, inr, true≢false, arith, lt-ltb, le-ltb, ne_eqb, length-set, get_or-set_same, get_or-set_other}
+use Rattle.std.proofs.Common.{◌≡◌, ◌≢◌, ℕ, zero, suc, ◌+◌, ◌-◌, ◌*◌, ◌/◌, ◌%◌, ◌^◌, ◌<◌, ◌≤◌, pos, negsuc, Bool, true, false, not, ◌&&◌, nat_lt, Some, None, List, length, slice_index, slice_set, refl, sym, ap, ◌∙◌, subst, ⊎_elim, inr, arith, lt-ltb, le-ltb, ne_eqb, length-set, get_or-set_same, get_or-set_other}
 use Rattle.std.specs.Prelude.{◌==◌, if◌then◌else◌}
 use Rattle.std.proofs.lemmas.Bool.{cond-true, cond-false, cases_lt, cases_eq}
 use Rattle.std.proofs.lemmas.List.{ext_get_or}
@@ -9,39 +9,36 @@ use Rattle.std.proofs.Math.Nat.{mul-le-mul_left}
 use Rattle.std.proofs.Math.Facts.{to_z-neg}
 use Rattle.std.specs.Int.{w32}
 use Rattle.mips_table.specs.declared.inst.Inst.{Inst}
-use Rattle.mips_table.specs.declared.inst.Inst.TheVariants.{Sw, Eret}
+use Rattle.mips_table.specs.declared.inst.Inst.TheVariants.{Eret}
 use Rattle.mips_table.specs.Arith.{signed}
 use Rattle.mips_table.specs.Processor.{Cpu}
 use Rattle.mips_table.specs.Device.{Idle, Outside}
 use Rattle.mips_table.specs.Machine.{SR, ESR, EPC, PTO, PTL, MODE, EMODE, State, left, step, run}
-use Rattle.mips_table.specs.Fits.{IsWord, CpuFits, Fits}
-use Rattle.mips_table.specs.Code.{Contents, Behind, World, Sound, Configuration, at_with, Reaches}
-use Rattle.mips_table.specs.Simulation.{configuration_of}
+use Rattle.mips_table.specs.Fits.{IsWord, CpuFits}
+use Rattle.mips_table.specs.Code.{Behind, World, Sound, Configuration, at_with}
 use Rattle.mips_table.specs.Borders.{EretLeaves, PowerEnds}
 use Rattle.masm.specs.Standing.{placed}
-use Rattle.layer_map.specs.Map.{Map, MapInRange, current_at, hand_at, block_at, tables_at, table_of, memory_words}
+use Rattle.layer_map.specs.Map.{Map, current_at, block_at}
 use Rattle.page_model.specs.Paging.{PagesStand}
 use Rattle.page_model.specs.Places.{layout_of, places_of, view}
-use Rattle.cvm_model.specs.Kernel.{Core, power_of}
-use Rattle.cvm_model.specs.Primitives.{user_of, pages_of, register_of}
+use Rattle.cvm_model.specs.Kernel.{Core}
+use Rattle.cvm_model.specs.Primitives.{user_of}
 use Rattle.cvm_model.specs.declared.kernel_fault.KernelFault.TheVariants.{BadUser}
-use Rattle.cvm_model.specs.declared.row.Next.{Next}
 use Rattle.cvm_model.specs.declared.row.Next.TheVariants.{User, Halt, Fault}
-use Rattle.cvm_model.specs.Cvm.{Status, Running, Halted, Faulted, next_of, leave_steps}
+use Rattle.cvm_model.specs.Cvm.{Running, Halted, Faulted, next_of, leave_steps}
 use Rattle.cvm_model.specs.Paged.{pages_by}
-use Rattle.cvm_model.specs.Stands.{Site, IsUser, CoreFits, UserFits, Runs, Stands, runs_user}
-use Rattle.layer_contract.specs.declared.entry.Entry.TheVariants.{Leave}
-use Rattle.layer_contract.specs.Layer.{Inside, IsAt, Comes, IsEntry, Rested, Leaves}
+use Rattle.cvm_model.specs.Stands.{Site, IsUser, UserFits, Stands, runs_user}
+use Rattle.layer_contract.specs.Layer.{Inside, Comes, IsEntry, Rested, Leaves}
 use Rattle.register_primitives.specs.Blocks.{BlocksHold}
 use Rattle.trap_entry.specs.Code.{go_code, leave_code}
-use Rattle.trap_entry.specs.Laws.{ComesTo, UserReady, MayGo, Passed, LeavesToUser, LeavesForGood, LeavesBadly}
+use Rattle.trap_entry.specs.Laws.{ComesTo, UserReady, MayGo, LeavesToUser, LeavesForGood, LeavesBadly}
 use Rattle.layer_runs.specs.Image.{routine_at, image_site, IsMade}
-use Rattle.layer_runs.specs.Runs.{Standing, Calm, kept_words, block_world}
-use Rattle.layer_runs.proofs.Shown.{Shown, IsKernels, Order, order_of, words_of, behind, word_is, cpu_is, user_fits, blocks_agree, pages_agree, Follows, shown, stood}
+use Rattle.layer_runs.specs.Runs.{Calm, block_world}
+use Rattle.layer_runs.proofs.Shown.{Shown, Order, order_of, words_of, behind, word_is, cpu_is, user_fits, blocks_agree, pages_agree, shown, stood}
 use Rattle.layer_runs.proofs.Placed.{listed}
 use Rattle.layer_runs.proofs.Arrivals.{Below, Arrives, contents}
 use Rattle.layer_runs.proofs.Ends.{Left, single, Gone, goes, left_words, left_behind, comes_by}
-use Rattle.layer_runs.proofs.Exits.{Tools, not_user, calm_of, Routed, routed, arrives_in, OffWith, comes_off}
+use Rattle.layer_runs.proofs.Exits.{Tools, not_user, Routed, routed, arrives_in, comes_off}
 
 -- a word that the layer may change isn't kept
 pub free_own : (y : Site) (k : ℕ) (b : Bool) → b ≡ true → (if nat_lt k (length y.linked) && not b then Some (slice_index y.linked k) else None) ≡ None
@@ -53,7 +50,7 @@ free_own y k true e = by (nat_lt k (length y.linked))
 free_own y k false e = absurd (cc)
 
 -- words as ints
-signed_pos : (x : ℕ) → x < 2 ^ 31 → signed x ≡ pos x
+pub signed_pos : (x : ℕ) → x < 2 ^ 31 → signed x ≡ pos x
 signed_pos x lt = to_z_pos w32 x lt
 
 signed_neg : (x : ℕ) → 2 ^ 31 ≤ x → x < 2 ^ 32 → signed x ≡ negsuc (2 ^ 32 - suc x)
@@ -80,15 +77,15 @@ few_pages u per few most =
     omega (arith, mul-le-mul_left per h)
 
 -- the special registers behind an eret
-left_other : (special : List ℕ) (k : ℕ) → k ≢ SR → k ≢ MODE → slice_index (left special) k ≡ slice_index special k
+pub left_other : (special : List ℕ) (k : ℕ) → k ≢ SR → k ≢ MODE → slice_index (left special) k ≡ slice_index special k
 left_other special k ns nm =
     get_or-set_other (slice_set special SR (slice_index special ESR)) MODE k (slice_index special EMODE) 0 nm ∙ get_or-set_other special SR k (slice_index special ESR) 0 ns
 
-left_sr : (special : List ℕ) → length special ≡ 9 → slice_index (left special) SR ≡ slice_index special ESR
+pub left_sr : (special : List ℕ) → length special ≡ 9 → slice_index (left special) SR ≡ slice_index special ESR
 left_sr special size =
     get_or-set_other (slice_set special SR (slice_index special ESR)) MODE SR (slice_index special EMODE) 0 (λ e. absurd (omega arith)) ∙ get_or-set_same special SR (slice_index special ESR) 0 (omega arith)
 
-left_mode : (special : List ℕ) → length special ≡ 9 → slice_index (left special) MODE ≡ slice_index special EMODE
+pub left_mode : (special : List ℕ) → length special ≡ 9 → slice_index (left special) MODE ≡ slice_index special EMODE
 left_mode special size = get_or-set_same (slice_set special SR (slice_index special ESR)) MODE (slice_index special EMODE) 0 (omega (arith, length-set special SR (slice_index special ESR)))
 
 -- a processor whose registers are those of a control block is the user's

@@ -7,4 +7,12 @@ pub mod Placed
 pub mod Ends
 pub mod Exits
 pub mod Leaving
+pub mod Linked
+pub mod Entering
+pub mod Interrupting
+pub mod Keeping
+pub mod Fitting
+pub mod Calling
+pub mod Primitives
 pub mod Laying
+pub mod Settling

@@ -1,7 +1,5 @@
 -- Where the parts of a layer's image stand in the linked words: handler, entries and routines.
-use Rattle.std.proofs.Common.{◌≡◌, ◌≢◌, ℕ, zero, suc, ◌+◌, ◌-◌, ◌*◌, ◌<◌, ◌≤◌, Bool, true, false, ◌&&◌, ◌||◌, nat_lt, List, [], ◌∷◌, ◌++◌, length, map, take, replicate, slice_index, get_or, All, refl, sym, ap, ◌∙◌, subst, arith, lt-ltb, le-ltb}
-use Rattle.std.specs.Prelude.{nat_le, slice_index_or, flat_map}
-use Rattle.std.specs.List.{range_with_len}
+use Rattle.std.proofs.Common.{◌≡◌, ℕ, ◌+◌, ◌-◌, ◌*◌, ◌<◌, ◌≤◌, false, List, [], ◌∷◌, ◌++◌, length, map, take, replicate, slice_index, get_or, refl, sym, ap, ◌∙◌, subst, arith}
 use Rattle.std.proofs.lemmas.List.{length-append, length-replicate, length-map, get_or_append_left, get_or-append_right, get_or-map}
 use Rattle.std.proofs.lemmas.List.Concat.{get_or-flat_map}
 use Rattle.std.proofs.lemmas.List.Folds.{length-flat_map-take}
@@ -10,16 +8,16 @@ use Rattle.std.proofs.lemmas.Bool.Decides.{nat_tests}
 use Rattle.mips_table.specs.declared.inst.Inst.{Inst}
 use Rattle.mips_table.specs.declared.inst.Inst.TheVariants.{J, Eret}
 use Rattle.mips_table.specs.Encoding.{InRange, encoding}
-use Rattle.layer_map.specs.Map.{Map, MapInRange, block_at}
+use Rattle.layer_map.specs.Map.{Map}
 use Rattle.page_model.specs.Places.{places_of}
 use Rattle.page_fault.specs.Code.{page_code}
 use Rattle.trap_entry.specs.Code.{leave_code, exit_code}
 use Rattle.register_primitives.specs.Code.{vm_get_code, vm_set_code, vm_size_code, con_put_code, con_get_code, con_left_code}
 use Rattle.cvm_primitives.specs.Code.{vm_word_code, vm_put_code, vm_copy_code, vm_resize_code}
 use Rattle.cvm_model.specs.Stands.{Site, is_own}
-use Rattle.layer_runs.specs.Image.{returning, interrupt_code, routines, joined, routine, routine_at, entries, filled, variables, block_words, blocks, second_code, layer_image, image_site, IsMade}
+use Rattle.layer_runs.specs.Image.{returning, interrupt_code, routines, joined, routine, routine_at, entries, filled, variables, block_words, blocks, second_code, image_site, IsMade}
 use Rattle.layer_runs.specs.Runs.{Standing}
-use Rattle.layer_runs.proofs.Ranges.{fits_in, all_in, all_fit, handler_fits, routines_fit}
+use Rattle.layer_runs.proofs.Ranges.{all_in, handler_fits, routines_fit}
 
 filled_length : (n : ℕ) (ws : List ℕ) → length ws ≤ n → length (filled n ws) ≡ n
 filled_length n ws le = length-append ws (replicate (n - length ws) 0) ∙ omega (arith, length-replicate {A = ℕ} (n - length ws) 0)
@@ -98,7 +96,7 @@ pub routines_length : (m : Map) → length (joined (routines m)) ≤ 10225
 unfolding routines
 routines_length m = omega arith
 
-blocks_length : (sizes : List ℕ) → length (blocks sizes) ≡ 64 * length sizes
+pub blocks_length : (sizes : List ℕ) → length (blocks sizes) ≡ 64 * length sizes
 blocks_length [] = refl
 blocks_length (n ∷ sizes) = length-append (block_words n) (blocks sizes) ∙ ap (λ k. 64 + k) (blocks_length sizes) ∙ omega arith
 
@@ -120,25 +118,25 @@ module _ (m : Map) (sizes code : List ℕ) (made : IsMade m sizes code) where
   abbrev pub site : Site
   site = image_site m sizes code
 
-  abbrev first_words : List ℕ
+  abbrev pub first_words : List ℕ
   first_words = filled 1024 (map encoding (interrupt_code m))
 
-  abbrev second_words : List ℕ
+  abbrev pub second_words : List ℕ
   second_words = filled 10240 (map encoding (second_code m))
 
   second_length : length (second_code m) ≤ 10240
   second_length = let r = routines_length m in omega (arith, length-append (entries m) (joined (routines m)), entries_length m)
 
-  first_size : length first_words ≡ 1024
+  pub first_size : length first_words ≡ 1024
   first_size = filled_length 1024 (map encoding (interrupt_code m)) (omega (arith, length-map (interrupt_code m) encoding, handler_length m))
 
-  variables_size : length (filled 1024 (variables m)) ≡ 1024
+  pub variables_size : length (filled 1024 (variables m)) ≡ 1024
   variables_size = filled_length 1024 (variables m) (omega arith)
 
-  second_size : length second_words ≡ 10240
+  pub second_size : length second_words ≡ 10240
   second_size = filled_length 10240 (map encoding (second_code m)) (omega (arith, length-map (second_code m) encoding, second_length))
 
-  blocks_size : length (filled 4096 (blocks sizes)) ≡ 4096
+  pub blocks_size : length (filled 4096 (blocks sizes)) ≡ 4096
   blocks_size = let users = made.users in let few = made.range.users in filled_length 4096 (blocks sizes) (omega (arith, blocks_length sizes))
 
   pub linked_length : length site.linked ≡ 16384 + m.code_words

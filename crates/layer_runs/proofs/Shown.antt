@@ -1,18 +1,18 @@
 -- "Stands for" by functions: what words and ports show of users, pages and console, taken from a state that stands and given back to one.
-use Rattle.std.proofs.Common.{◌≡◌, ◌≢◌, ℕ, zero, suc, ◌+◌, ◌-◌, ◌*◌, ◌/◌, ◌%◌, ◌^◌, ◌<◌, ◌≤◌, ◌⊎◌, Bool, true, false, ◌&&◌, nat_lt, List, [], ◌∷◌, length, take, drop, slice_index, All, refl, sym, ap, ◌∙◌, subst, inl, inr, arith, lt-ltb, ne_eqb, eqb-true}
+use Rattle.std.proofs.Common.{◌≡◌, ◌≢◌, ℕ, zero, suc, ◌+◌, ◌-◌, ◌*◌, ◌/◌, ◌%◌, ◌<◌, ◌≤◌, ◌⊎◌, Bool, true, false, ◌&&◌, nat_lt, List, ◌∷◌, length, take, drop, slice_index, refl, sym, ap, ◌∙◌, subst, inl, inr, arith, lt-ltb, ne_eqb, eqb-true}
 use Rattle.std.specs.Prelude.{◌==◌, if◌then◌else◌}
 use Rattle.std.proofs.lemmas.Bool.{cond-true, cond-false, eqb-false}
 use Rattle.std.proofs.lemmas.List.{ext_get_or, get_or-take, get_or-drop, length-append, length-take-le, length-drop}
-use Rattle.mips_table.specs.Device.{Device, Idle, Outside, BUFFER, SECTOR, is_buffer, sector_of}
+use Rattle.mips_table.specs.Device.{Idle, Outside, BUFFER, SECTOR, is_buffer}
 use Rattle.mips_table.specs.Machine.{State}
 use Rattle.mips_table.specs.Processor.{Cpu}
 use Rattle.mips_table.specs.Flat.{Flat}
 use Rattle.mips_table.specs.Fits.{CpuFits, Fits}
 use Rattle.mips_table.specs.Code.{Behind}
 use Rattle.mips_table.specs.Simulation.{space, sectors_of, behind_of}
-use Rattle.layer_map.specs.Map.{Map, MapInRange, layer_words, current_at, hand_at, heap_used_at, stack_words_at, block_at, code_at, globals_at, heap_at, stack_at, tables_at, frame_table_at, zero_frame_at, memory_words}
-use Rattle.page_model.specs.Paging.{Layout, IsUserFrame, IsFrame, Pages, PagesStand}
-use Rattle.page_model.specs.Places.{Places, layout_of, places_of, view}
+use Rattle.layer_map.specs.Map.{Map, MapInRange, layer_words, current_at, hand_at, heap_used_at, stack_words_at, block_at, globals_at, heap_at, stack_at, tables_at, frame_table_at, zero_frame_at, memory_words}
+use Rattle.page_model.specs.Paging.{Pages, PagesStand}
+use Rattle.page_model.specs.Places.{layout_of, places_of, view}
 use Rattle.page_model.specs.Edits.{Alike}
 use Rattle.page_model.specs.Laws.{AlikesStand}
 use Rattle.c0_meaning.specs.Value.{Location, Value, int as an_int, bool as a_bool, null, at, group, Values, empty, part}
@@ -20,9 +20,9 @@ use Rattle.c0_meaning.specs.RunLaws.{scalars, all_scalars}
 use Rattle.cvm_model.specs.Kernel.{flat, flats, Core}
 use Rattle.cvm_model.specs.Primitives.{no_flat, user_of, pages_of, register_of}
 use Rattle.cvm_model.specs.Cvm.{Status, Running}
-use Rattle.cvm_model.specs.Paged.{paged_of, pages_by}
+use Rattle.cvm_model.specs.Paged.{pages_by}
 use Rattle.cvm_model.specs.Stands.{Site, IsUser, address_of, DataStands, CoreFits, UserFits, Runs, Stands, block_cpu, is_own, runs_user}
-use Rattle.register_primitives.specs.Blocks.{IsOneOf, BlocksHold, word_of}
+use Rattle.register_primitives.specs.Blocks.{BlocksHold, word_of}
 
 -- a value has as many words as it says
 mutual
@@ -77,7 +77,7 @@ pub order_of : (m : Map) → MapInRange m → Order m
 order_of m r = grind (arith, r, r.params)
 
 -- registers as the words behind the first of a control block have them
-block_reg : (memory : List ℕ) (b r : ℕ) → 1 ≤ r → r ≤ 31 → slice_index (0 ∷ take 31 (drop (b + 1) memory)) r ≡ slice_index memory (b + r)
+pub block_reg : (memory : List ℕ) (b r : ℕ) → 1 ≤ r → r ≤ 31 → slice_index (0 ∷ take 31 (drop (b + 1) memory)) r ≡ slice_index memory (b + r)
 block_reg memory b (suc r) from to =
     let lt : r < 31 = omega arith in
     let there : b + 1 + r ≡ b + suc r = omega arith in
@@ -140,19 +140,21 @@ blocks_agree users g h few same b = record {
   lo = λ u is. let low = is.0 in let top = is.1 in same (block_at u + 34) (omega arith) (omega arith) ∙ b.lo u is;
 }
 
--- pages in words that agree from the page tables on, and at the hand
-pub pages_agree : AlikesStand → (m : Map) (v : Pages) (g h : ℕ → ℕ) (a : ℕ → ℕ → ℕ) → Order m → ((k : ℕ) → (k ≡ hand_at) ⊎ (tables_at m ≤ k) → k < memory_words m → h k ≡ g k)
-    → PagesStand (layout_of m) v (view (places_of m) g a) → PagesStand (layout_of m) v (view (places_of m) h a)
-pages_agree alikes m v g h a o same p =
+-- words that agree from the page tables on, and at the hand, show the same of paging
+pub words_alike : (m : Map) (g h : ℕ → ℕ) (a : ℕ → ℕ → ℕ) → Order m → ((k : ℕ) → (k ≡ hand_at) ⊎ (tables_at m ≤ k) → k < memory_words m → h k ≡ g k) → Alike (layout_of m) (view (places_of m) g a) (view (places_of m) h a)
+words_alike m g h a o same =
     let tables = o.tables in let counts = o.counts in let zeros = o.zeros in let whole = o.whole in
-    alikes.stands (layout_of m) v (view (places_of m) g a) (view (places_of m) h a) p
-    (record {
+    record {
       entries = λ q lt. same (tables_at m + q) (inr (omega arith)) (omega arith);
       counts = λ f is. let low = is.0 in let top = is.1 in same (frame_table_at m + 8 * (f - (zero_frame_at m / 1024 + 1))) (inr (omega arith)) (omega arith);
       frames = λ f is i lt. let low = is.0 in let top = is.1 in same (1024 * f + i) (inr (omega arith)) (omega arith);
       sectors = λ q lt i in_page. refl;
       hand = ap (λ n. zero_frame_at m / 1024 + 1 + n) (same hand_at (inl refl) (omega arith));
-    })
+    }
+
+pub pages_agree : AlikesStand → (m : Map) (v : Pages) (g h : ℕ → ℕ) (a : ℕ → ℕ → ℕ) → Order m → ((k : ℕ) → (k ≡ hand_at) ⊎ (tables_at m ≤ k) → k < memory_words m → h k ≡ g k)
+    → PagesStand (layout_of m) v (view (places_of m) g a) → PagesStand (layout_of m) v (view (places_of m) h a)
+pages_agree alikes m v g h a o same p = alikes.stands (layout_of m) v (view (places_of m) g a) (view (places_of m) h a) p (words_alike m g h a o same)
 
 -- what a state shows that stands and runs no user
 pub shown : AlikesStand → (x : Outside) (y : Site) (s : State) (status : Status) (c : Core) → MapInRange y.map → Stands x y s status c → runs_user s ≡ false → Shown y c (words_of s) (behind s)
@@ -181,10 +183,22 @@ pub record Follows (x : Outside) (y : Site) (s t : State) : Type 0 where
   pub kernel : (k : ℕ) → IsKernels y.map k → slice_index t.memory k ≡ slice_index s.memory k
   pub linked : (k : ℕ) → k < length y.linked → is_own y.map k ≡ false → slice_index t.memory k ≡ slice_index y.linked k
 
+-- the control blocks in memory: sizes, and all processors but that of a user that runs
+pub record InBlocks (t : State) (c : Core) : Type 0 where
+  pub sizes : (u : ℕ) → IsUser c u → slice_index t.memory (block_at u + 32) ≡ pages_of (user_of c.users u)
+  pub blocks : (u : ℕ) → IsUser c u → (runs_user t && u == c.current) ≡ false → block_cpu t.memory u ≡ (user_of c.users u).cpu
+
+-- pages and console, as words and ports show them
+pub record ShownPages (y : Site) (c : Core) (words : ℕ → ℕ) (d : Behind) : Type 0 where
+  pub pages : PagesStand (layout_of y.map) (pages_by y.map.params.pages c.users) (view (places_of y.map) words d.sectors)
+  pub log : d.log ≡ c.console.log
+  pub input : d.input ≡ c.console.input
+  pub idle : d.pending ≡ Idle
+
 -- a state that follows one that stands, with the same data of the kernel, stands where it shows its users, pages and console
-pub stood : AlikesStand → (x : Outside) (y : Site) (s t : State) (status after : Status) (c c' : Core) → MapInRange y.map → Stands x y s status c → Follows x y s t → CoreFits y.map c' → c'.c0 ≡ c.c0
-    → Shown y c' (words_of t) (behind t) → (after ≡ Running → slice_index t.memory current_at ≡ c'.current) → (runs_user t ≡ true → Runs y.map t c') → Stands x y t after c'
-stood alikes x y s t status after c c' range st f whole same sh current runs =
+pub stood_with : AlikesStand → (x : Outside) (y : Site) (s t : State) (status after : Status) (c c' : Core) → MapInRange y.map → Stands x y s status c → Follows x y s t → CoreFits y.map c' → c'.c0 ≡ c.c0
+    → ShownPages y c' (words_of t) (behind t) → InBlocks t c' → (after ≡ Running → slice_index t.memory current_at ≡ c'.current) → (runs_user t ≡ true → Runs y.map t c') → Stands x y t after c'
+stood_with alikes x y s t status after c c' range st f whole same sh blocks current runs =
     let m : Map = y.map in
     let o : Order m = order_of m range in
     let globals = o.globals in let heap = o.heap in let stack = o.stack in let tables = o.tables in let counts = o.counts in let zeros = o.zeros in
@@ -193,7 +207,6 @@ stood alikes x y s t status after c c' range st f whole same sh current runs =
     let size : length t.memory ≡ length s.memory = f.size in
     let few : m.users ≤ 64 = range.users in
     let users : length c'.users ≡ m.users = whole.users in
-    let blocks : BlocksHold c'.users (slice_index t.memory) = blocks_agree c'.users (words_of t) (slice_index t.memory) (omega arith) (λ k low top. sym (word_is t k (omega arith))) sh.blocks in
     record {
       fits = f.fits;
       whole = whole;
@@ -210,8 +223,8 @@ stood alikes x y s t status after c c' range st f whole same sh current runs =
         linked = f.linked;
       });
       users = record {
-        sizes = λ u is. blocks.sizes u is;
-        blocks = λ u is other. let low = is.0 in let top = is.1 in cpu_of_block m c' t.memory u whole blocks is (omega arith);
+        sizes = blocks.sizes;
+        blocks = blocks.blocks;
         runs = runs;
         current = current;
       };
@@ -222,3 +235,18 @@ stood alikes x y s t status after c c' range st f whole same sh current runs =
       log = sh.log;
       input = sh.input;
     }
+
+-- the same where no user runs
+pub stood : AlikesStand → (x : Outside) (y : Site) (s t : State) (status after : Status) (c c' : Core) → MapInRange y.map → Stands x y s status c → Follows x y s t → CoreFits y.map c' → c'.c0 ≡ c.c0
+    → Shown y c' (words_of t) (behind t) → (after ≡ Running → slice_index t.memory current_at ≡ c'.current) → (runs_user t ≡ true → Runs y.map t c') → Stands x y t after c'
+stood alikes x y s t status after c c' range st f whole same sh current runs =
+    let m : Map = y.map in
+    let o : Order m = order_of m range in
+    let globals = o.globals in let heap = o.heap in let stack = o.stack in let tables = o.tables in let counts = o.counts in let zeros = o.zeros in
+    let long : memory_words m ≤ length s.memory = st.memory in
+    let size : length t.memory ≡ length s.memory = f.size in
+    let few : m.users ≤ 64 = range.users in
+    let users : length c'.users ≡ m.users = whole.users in
+    let blocks : BlocksHold c'.users (slice_index t.memory) = blocks_agree c'.users (words_of t) (slice_index t.memory) (omega arith) (λ k low top. sym (word_is t k (omega arith))) sh.blocks in
+    stood_with alikes x y s t status after c c' range st f whole same (record { pages = sh.pages; log = sh.log; input = sh.input; idle = sh.idle })
+    (record { sizes = blocks.sizes; blocks = λ u is other. let low = is.0 in let top = is.1 in cpu_of_block m c' t.memory u whole blocks is (omega arith) }) current runs

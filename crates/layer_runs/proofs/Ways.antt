@@ -1,8 +1,9 @@
 -- Ways of the machine between entries: blocks of the layer's code hold no entry, stretches join, and a way begins at an entry or behind none.
-use Rattle.std.proofs.Common.{◌≡◌, ◌≢◌, ℕ, ◌+◌, ◌-◌, ◌*◌, ◌<◌, ◌≤◌, ◌⊎◌, length, refl, sym, ap, ◌∙◌, subst, ⊎_elim, arith}
+use Rattle.std.proofs.Common.{◌≡◌, ◌≢◌, ℕ, ◌+◌, ◌-◌, ◌*◌, ◌<◌, ◌≤◌, ◌⊎◌, sym, ap, ◌∙◌, subst, ⊎_elim, arith}
 use Rattle.std.proofs.lemmas.Bool.{cases_lt}
 use Rattle.mips_table.specs.Device.{Outside, sector_of}
 use Rattle.mips_table.specs.Machine.{State, run}
+use Rattle.layer_map.specs.Map.{layer_words}
 use Rattle.cvm_model.specs.Stands.{Site}
 use Rattle.layer_contract.specs.declared.entry.Entry.{Entry}
 use Rattle.layer_contract.specs.declared.entry.Entry.TheVariants.{Dispatch, Primitive, Fault, Leave}
@@ -22,6 +23,7 @@ no_entry a b pc apart low top Leave is same = ⊎_elim (λ h. absurd (omega arit
 pub between_of : (x : Outside) (y : Site) (a b n : ℕ) (s : State) → IsApart a b → Stretch x y a b n s → Between x y n s
 between_of x y a b n s apart h = record {
   inside = h.inside;
+  below = λ j lt. let top = h.to j lt in ⊎_elim (λ e. omega arith) (λ e. let e1 = e.1 in omega arith) apart;
   apart = λ j e lt is. no_entry a b (run x s j).cpu.pc apart (h.from j lt) (h.to j lt) e is;
   sectors = h.sectors;
 }
@@ -29,6 +31,7 @@ between_of x y a b n s apart h = record {
 pub no_step : (x : Outside) (y : Site) (s : State) → Between x y 0 s
 no_step x y s = record {
   inside = λ j lt. absurd (omega arith);
+  below = λ j lt. absurd (omega arith);
   apart = λ j e lt is. absurd (omega arith);
   sectors = λ j le q past. let z : j ≡ 0 = omega arith in ap (λ n. sector_of (run x s n).device.sectors q) z;
 }
@@ -41,6 +44,7 @@ module _ (sum : (x : Outside) (s : State) (m n : ℕ) → run x s (m + n) ≡ ru
   pub joins : (m n : ℕ) (s : State) → Between x y m s → Between x y n (run x s m) → Between x y (m + n) s
   joins m n s a b = record {
     inside = λ j lt. ⊎_elim (λ first. a.inside j first) (λ second. subst Inside (sym (later m j s second)) (b.inside (j - m) (omega arith))) (cases_lt j m);
+    below = λ j lt. ⊎_elim (λ first. a.below j first) (λ second. subst (λ (z : State). z.cpu.pc < 4 * layer_words) (sym (later m j s second)) (b.below (j - m) (omega arith))) (cases_lt j m);
     apart = λ j e lt is. ⊎_elim (λ first. a.apart j e first is) (λ second. subst (λ (z : State). z.cpu.pc ≢ entry_address e) (sym (later m j s second)) (b.apart (j - m) e (omega arith) is)) (cases_lt j m);
     sectors = λ j le q past. ⊎_elim (λ first. a.sectors j (omega arith) q past)
         (λ second. ap (λ (z : State). sector_of z.device.sectors q) (later m j s second) ∙ b.sectors (j - m) (omega arith) q past ∙ a.sectors m (omega arith) q past) (cases_lt j m);

@@ -2,3 +2,4 @@ pub mod Image
 pub mod Runs
 pub mod Laws
 pub mod Laid
+pub mod Real

@@ -6,6 +6,7 @@ use Rattle.mips_table.specs.Device.{Idle, Outside}
 use Rattle.mips_table.specs.Machine.{State, run}
 use Rattle.mips_table.specs.Code.{Program, on_machine, World, Configuration, Steps}
 use Rattle.mips_table.specs.Simulation.{configuration_of, Quiet}
+use Rattle.layer_map.specs.Map.{layer_words}
 use Rattle.masm.specs.Standing.{placed}
 use Rattle.cvm_model.specs.Stands.{Site, is_own}
 use Rattle.layer_contract.specs.declared.entry.Entry.{Entry}
@@ -58,8 +59,9 @@ abbrev pub BlocksRun : Type 0
 BlocksRun = (x : Outside) (y : Site) (s : State) (t : Configuration) (n : ℕ) (is : List Inst) (steps : ℕ) → Standing y n is → Calm x y s →
     Steps (block_world x y s n is) steps (configuration_of s) t → Makes x y n is steps s t
 
--- for n steps the machine is inside, at no entry, and the sectors past the users' pages stay
+-- for n steps the machine is inside, at no entry and below the kernel's code, and the sectors past the users' pages stay
 pub record Between (x : Outside) (y : Site) (n : ℕ) (s : State) : Type 0 where
   pub inside : (j : ℕ) → j < n → Inside (run x s j)
+  pub below : (j : ℕ) → j < n → (run x s j).cpu.pc < 4 * layer_words
   pub apart : (j : ℕ) (e : Entry) → j < n → IsEntry e → (run x s j).cpu.pc ≢ entry_address e
   pub sectors : (j : ℕ) → j ≤ n → SectorsStay y.map s (run x s j)

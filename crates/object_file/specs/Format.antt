@@ -1,12 +1,8 @@
 -- The one spelling of an object, and which objects have one.
 use Rattle.std.specs.Prelude.{ℕ, ◌<◌, ◌≤◌, ◌^◌, All, List, [], ◌∷◌, length, codes}
-use Rattle.std.specs.Int.{to_le_bytes, w32}
+use Rattle.word_bytes.specs.Words.{word}
 use Rattle.std.specs.List.{concat, flat_map}
 use Rattle.object_file.specs.Parts.{Parts}
-
--- the four bytes of a word, the lowest first
-unfoldable pub word : ℕ → List ℕ
-word n = to_le_bytes w32 n
 
 -- the four fields of an object and its two parts, in the order of the file
 abbrev pub pieces : Parts → List (List ℕ)

@@ -2,6 +2,7 @@
 use Rattle.std.specs.Prelude.{ℕ, ◌≡◌, ◌+◌, ◌*◌, ◌||◌, List, [], ◌∷◌, length, take, drop, codes, nat_lt, Result, Ok, Err, if◌then◌else◌}
 use Rattle.std.specs.Str.{bytes_eq}
 use Rattle.byteorder.specs.Endian.{little_number}
+use Rattle.word_bytes.specs.Words.{words_of}
 use Rattle.object_file.specs.declared.fault.ObjectFault.{ObjectFault}
 use Rattle.object_file.specs.declared.fault.ObjectFault.TheVariants.{Magic, Truncated, Trailing, Field}
 use Rattle.object_file.specs.Parts.{Parts}
@@ -37,11 +38,6 @@ parts_at n k bytes =
     if nat_lt (length (drop n bytes)) (4 * k) then Err (Truncated (16 + n)) else
     if nat_lt (4 * k) (length (drop n bytes)) then Err (Trailing (16 + n + 4 * k)) else
     Ok (take n bytes, drop n bytes)
-
--- the words of which bytes are made, four bytes each
-unfoldable pub words_of : List ℕ → List ℕ
-words_of (a ∷ b ∷ c ∷ d ∷ bytes) = little_number 4 (a ∷ b ∷ c ∷ d ∷ []) ∷ words_of bytes
-words_of _ = []
 
 -- what follows the four fields, and the numbers of bytes and of words
 unfoldable pub header_of : List ℕ → Result (List ℕ × List ℕ) ObjectFault

@@ -4,12 +4,14 @@ ghost use Rattle.std.specs.Prelude.{◌≡◌, ◌+◌, ◌*◌, ◌≤◌, ◌<
 ghost use Rattle.object_file.specs.declared.fault.ObjectFault.{ObjectFault};
 ghost use Rattle.object_file.specs.Parts.{Parts};
 ghost use Rattle.object_file.specs.Answer.{IsAnswer, Gives, UnlessMemory};
-ghost use Rattle.object_file.specs.Reading.{Comes, mark_at, number_at, parts_at, header_of, words_of, object_of};
+ghost use Rattle.word_bytes.specs.Words.{words_of};
+ghost use Rattle.object_file.specs.Reading.{Comes, mark_at, number_at, parts_at, header_of, object_of};
 
 use crate::fault::ObjectFault;
 use crate::object::{MOST_SOURCE, MOST_WORDS, Object};
 use byteorder::{ByteOrder, LittleEndian};
 use std::alloc::{AllocError, Global};
+use word_bytes::read_words;
 
 /// Reads an object: all of the bytes.
 ///
@@ -25,7 +27,7 @@ pub fn read(alloc: Global, bytes: &[u8]) -> Result<Object, ObjectFault>
     let (source, words) = parts(bytes)?;
     Ok(Object {
         source: Vec::from_slice(alloc, source)?,
-        words: words_in(alloc, words)?,
+        words: read_words(alloc, words)?,
     })
 }
 
@@ -109,14 +111,4 @@ fn split_parts(
         });
     }
     Ok((source, words))
-}
-
-// The words that these bytes are.
-fn words_in(alloc: Global, bytes: &[u8]) -> Result<Vec<u32>, AllocError>
-    requires { length bytes.now % 4 ≡ 0 }
-    ensures { IfOk result (λ v. v.items ≡ words_of bytes.now) }
-{
-    let mut words = vec![in alloc; 0; bytes.len() / 4]?;
-    LittleEndian::read_u32_into(bytes, &mut words);
-    Ok(words)
 }

@@ -2,12 +2,13 @@
 
 ghost use Rattle.std.specs.Prelude.{◌≡◌, ◌≤◌, ◌<◌, ◌^◌, ◌++◌, All, length, OnOk, IfOk, Ok};
 ghost use Rattle.std.specs.List.{flat_map};
-ghost use Rattle.object_file.specs.Format.{word, spelling};
+ghost use Rattle.word_bytes.specs.Words.{word};
+ghost use Rattle.object_file.specs.Format.{spelling};
 ghost use Rattle.object_file.specs.Answer.{IsAnswer};
 
 use crate::object::Object;
-use byteorder::{ByteOrder, LittleEndian};
 use std::alloc::{AllocError, Global};
+use word_bytes::{push_word, push_words};
 
 /// Writes an object: its one spelling, which reads as that object.
 ///
@@ -29,25 +30,4 @@ pub fn write(alloc: Global, object: &Object) -> Result<Vec<u8>, AllocError>
     bytes.extend_from_slice(&object.source)?;
     push_words(&mut bytes, &object.words)?;
     Ok(bytes)
-}
-
-// Writes words at the end.
-fn push_words(bytes: &mut Vec<u8>, words: &[u32]) -> Result<(), AllocError>
-    ensures written { OnOk result (bytes.new.items ≡ bytes.old.items ++ flat_map word words.now) }
-    ensures bits { All (λ w. w < 2 ^ 32) words.now }
-{
-    for number in words {
-        push_word(bytes, *number)?;
-    }
-    Ok(())
-}
-
-// Writes a word at the end.
-#[tactic(auto, unfolding(crate::specs::Format::word))]
-fn push_word(bytes: &mut Vec<u8>, number: u32) -> Result<(), AllocError>
-    ensures { OnOk result (bytes.new.items ≡ bytes.old.items ++ word number) }
-{
-    let mut word = [0; 4];
-    LittleEndian::write_u32(&mut word, number);
-    bytes.extend_from_slice(&word)
 }

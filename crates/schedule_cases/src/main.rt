@@ -101,17 +101,14 @@ fn show_schedule(shown: &mut String, schedule: &Schedule) -> Result<(), AllocErr
 
 // Shows why a text is no schedule: the refusal's number and its fields.
 fn show_fault(shown: &mut String, fault: ScheduleFault) -> Result<(), AllocError> {
-    shown.push_str(" refused")?;
-    match fault {
-        ScheduleFault::BadLine { line } => show(shown, " 70 ", line),
-        ScheduleFault::Order { line } => show(shown, " 71 ", line),
-        ScheduleFault::Range { line, value } => {
-            show(shown, " 72 ", line)?;
-            show(shown, " ", value)
-        }
-        ScheduleFault::Memory => shown.push_str(" 73"),
-        ScheduleFault::TooManyInputs { line } => show(shown, " 74 ", line),
+    show(shown, " refused ", u64::from(fault.number()))?;
+    if let Some(line) = fault.line() {
+        show(shown, " ", line)?;
     }
+    if let Some(value) = fault.value() {
+        show(shown, " ", value)?;
+    }
+    Ok(())
 }
 
 // What a text is read as.

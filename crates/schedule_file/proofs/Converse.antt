@@ -9,13 +9,14 @@ use Rattle.std.proofs.lemmas.Slice.Eq.{bytes_eq-Decides}
 use Rattle.cvm_text.specs.Number.{number_at, IsSpelledAt}
 use Rattle.schedule_file.specs.declared.row.Row.{Row}
 use Rattle.schedule_file.specs.declared.row.Row.TheVariants.{Line, Busy, Input}
-use Rattle.schedule_file.specs.Text.{number_of, row_of_words, row_of_pair, row_in_words, row_of}
+use Rattle.cvm_text.specs.Lines.{number_of}
+use Rattle.schedule_file.specs.Text.{row_of_words, row_of_pair, row_in_words, row_of}
 use Rattle.schedule_file.specs.Spelling.{spelling, HasNumbers, IsSpelled}
 use Rattle.schedule_file.proofs.Words.{words}
 
--- what `read_numbers_are_spelled` says
-abbrev NumbersAreSpelled : Type 0
-NumbersAreSpelled = (bytes : List ℕ) (at : ℕ) (read : ℕ × ℕ) → number_at bytes at ≡ Some read → IsSpelledAt bytes at read.0 read.1
+-- what `whole_numbers_are_spelled` says
+abbrev WholeNumbers : Type 0
+WholeNumbers = (word : List ℕ) (n : ℕ) → number_of word ≡ Some n → (n < 2 ^ 64) × (word ≡ decimal n)
 
 -- a step that gives something had something before it
 had : {X Y : Type 0} (f : X → Option Y) (o : Option X) (y : Y) → option_and_then f o ≡ Some y → (x : X) × (o ≡ Some x) × (f x ≡ Some y)
@@ -32,9 +33,6 @@ taken_alone : {X : Type 0} (b : Bool) (x y : X) → cond b (Some x) None ≡ Som
 taken_alone true x y e = (refl, cc)
 taken_alone false x y e = cc
 
-same_end : (m n : ℕ) → (m == n) ≡ true → m ≡ n
-same_end m n e = grind (arith, nat_tests)
-
 same_bytes : (kind name : List ℕ) → bytes_eq kind name ≡ true → kind ≡ name
 same_bytes kind name e = (bytes_eq-Decides kind name).0 e
 
@@ -47,18 +45,7 @@ kind_of kind x y row e =
       | inr other ↦ (let busy = taken_alone (bytes_eq kind (codes "busy")) y row other in inr (same_bytes kind (codes "busy") busy.0, busy.1))
     ]
 
-module _ (law : NumbersAreSpelled) where
-  -- the number of a whole word
-  whole : (word : List ℕ) (n : ℕ) → number_of word ≡ Some n → (n < 2 ^ 64) × (word ≡ decimal n)
-  whole word n e =
-      let read = had (λ (m : ℕ × ℕ). cond (m.1 == length word) (Some m.0) None) (number_at word 0) n e in
-      let value = taken_alone (read.0.1 == length word) read.0.0 n read.2 in
-      let spelled = law word 0 read.0 read.1 in
-      let rest : drop read.0.1 word ≡ [] = drop_all read.0.1 word (omega (arith, same_end _ _ value.0)) in (
-        omega (arith, spelled.small, value.1),
-        spelled.digits ∙ ap (λ r. decimal read.0.0 ++ r) rest ∙ append-nil (decimal read.0.0) ∙ ap decimal value.1,
-      )
-
+module _ (whole : WholeNumbers) where
   pair : (kind word : List ℕ) (row : Row) → row_of_pair kind word ≡ Some row → HasNumbers row × (kind ++ 32 ∷ word ≡ spelling row)
   unfolding row_of_pair
   pair kind word row e =

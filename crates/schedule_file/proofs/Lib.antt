@@ -1,5 +1,4 @@
 pub mod Converse
-pub mod FirstLine
 pub mod Reading
 pub mod Sought
 pub mod Spelled

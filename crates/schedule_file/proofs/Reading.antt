@@ -12,7 +12,7 @@ use Rattle.schedule_file.specs.declared.fault.ScheduleFault.{ScheduleFault}
 use Rattle.schedule_file.specs.declared.fault.ScheduleFault.TheVariants.{BadLine, Order, Range, TooManyInputs, Memory}
 use Rattle.schedule_file.specs.declared.row.BusyRow.{BusyRow}
 use Rattle.schedule_file.specs.Rows.{Rows, busy_of, longest}
-use Rattle.schedule_file.specs.Text.{lines_of}
+use Rattle.cvm_text.specs.Lines.{lines_of}
 use Rattle.schedule_file.specs.Schedule.{rows_of, with_line, no_rows, fault_of_line, first_fault, unless, schedule_of, IsFault, Gives}
 
 -- the lines before one, with it, and those after it

@@ -12,13 +12,14 @@ use Rattle.std.proofs.lemmas.Str.Parse.{IsNumeralModel, numerals_by_value}
 use Rattle.cvm_text.specs.Number.{number_at}
 use Rattle.schedule_file.specs.declared.row.Row.{Row}
 use Rattle.schedule_file.specs.declared.row.Row.TheVariants.{Line, Busy, Input}
-use Rattle.schedule_file.specs.Text.{number_of, row_of_words, row_of_pair, row_in_words, row_of}
+use Rattle.cvm_text.specs.Lines.{number_of}
+use Rattle.schedule_file.specs.Text.{row_of_words, row_of_pair, row_in_words, row_of}
 use Rattle.schedule_file.specs.Spelling.{spelling, HasNumbers}
 use Rattle.schedule_file.proofs.Words.{words}
 
--- what `spelled_numbers_are_read` says
-abbrev NumbersAreRead : Type 0
-NumbersAreRead = (bytes : List ℕ) (at n : ℕ) (rest : List ℕ) → n < 2 ^ 64 → drop at bytes ≡ decimal n ++ rest → prefix_len is_ascii_digit rest ≡ 0 → number_at bytes at ≡ Some (n, at + length (decimal n))
+-- what `whole_numbers_are_spelled` says
+abbrev WholeNumbers : Type 0
+WholeNumbers = (n : ℕ) → n < 2 ^ 64 → number_of (decimal n) ≡ Some n
 
 -- no digit is a space
 no_space : (digits : List ℕ) → list_all is_ascii_digit digits ≡ true → All (λ c. (c == 32) ≡ false) digits
@@ -48,12 +49,7 @@ three kind first second k f s =
 two : (kind word : List ℕ) → All (λ c. (c == 32) ≡ false) kind → All (λ c. (c == 32) ≡ false) word → words (kind ++ 32 ∷ word) ≡ kind ∷ word ∷ []
 two kind word k w = slice_split_at (λ c. c == 32) kind 32 word k refl ∙ ap (λ ws. kind ∷ ws) (slice_split_none (λ c. c == 32) word w)
 
-module _ (law : NumbersAreRead) where
-  number : (n : ℕ) → n < 2 ^ 64 → number_of (decimal n) ≡ Some n
-  number n small =
-      ap (λ found. option_and_then (λ (m : ℕ × ℕ). cond (m.1 == length (decimal n)) (Some m.0) None) found) (law (decimal n) 0 n [] small (sym (append-nil (decimal n))) refl)
-      ∙ ap (λ b. cond b (Some n) None) (eq-eqb (0 + length (decimal n)) (length (decimal n)) (zero-add (length (decimal n))))
-
+module _ (number : WholeNumbers) where
   row : (kind : List ℕ) (a b : ℕ) → a < 2 ^ 64 → b < 2 ^ 64
       → row_of_words kind (decimal a) (decimal b) ≡ cond (bytes_eq kind (codes "line")) (Some (Line a b)) (cond (bytes_eq kind (codes "busy")) (Some (Busy a b)) None)
   unfolding row_of_words

@@ -5,7 +5,7 @@ use Rattle.std.specs.Borrow.{Bor}
 use Rattle.std.specs.Prelude.{Option, Some, None, is_some, true, false}
 use Rattle.std.specs.Option.{option_map_or}
 use Rattle.schedule_file.specs.Text.{row_of, row_of_words, row_of_pair, row_in_words}
-use Rattle.schedule_file.proofs.FirstLine.{first_part}
+use Rattle.cvm_text.proofs.FirstLine.{first_part}
 
 -- a text cut at its spaces
 abbrev pub words : List ℕ → List (List ℕ)

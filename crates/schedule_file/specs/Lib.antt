@@ -1,3 +1,4 @@
+pub mod Fault
 pub mod Rows
 pub mod Schedule
 pub mod Spelling

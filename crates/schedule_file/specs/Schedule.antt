@@ -7,7 +7,8 @@ use Rattle.schedule_file.specs.declared.row.Row.TheVariants.{Line, Busy, Input}
 use Rattle.schedule_file.specs.declared.fault.ScheduleFault.{ScheduleFault}
 use Rattle.schedule_file.specs.declared.fault.ScheduleFault.TheVariants.{BadLine, Order, Range, TooManyInputs, Memory}
 use Rattle.schedule_file.specs.Rows.{Rows, with_row, longest}
-use Rattle.schedule_file.specs.Text.{lines_of, row_of}
+use Rattle.cvm_text.specs.Lines.{lines_of}
+use Rattle.schedule_file.specs.Text.{row_of}
 
 -- no row
 abbrev pub no_rows : Rows

@@ -1,5 +1,8 @@
 // The faults of a text.
 
+ghost use Rattle.std.specs.Prelude.{◌≡◌};
+ghost use Rattle.schedule_file.specs.Fault.{schedule_fault_line, schedule_fault_number, schedule_fault_value};
+
 use thiserror::Error;
 
 /// Why a text is no schedule. Lines are counted from 1.
@@ -22,4 +25,45 @@ pub enum ScheduleFault {
     /// Want of memory.
     #[error("out of memory")]
     Memory,
+}
+
+impl ScheduleFault {
+    /// The number that is printed for it: 70 to 72 and 74, or 73 for want of memory.
+    pub fn number(&self) -> u32
+        ensures { result ≡ schedule_fault_number self.now }
+    {
+        match self {
+            ScheduleFault::BadLine { .. } => 70,
+            ScheduleFault::Order { .. } => 71,
+            ScheduleFault::Range { .. } => 72,
+            ScheduleFault::Memory => 73,
+            ScheduleFault::TooManyInputs { .. } => 74,
+        }
+    }
+
+    /// The line that it names, if any.
+    pub fn line(&self) -> Option<u64>
+        ensures { result ≡ schedule_fault_line self.now }
+    {
+        match self {
+            ScheduleFault::BadLine { line } => Some(*line),
+            ScheduleFault::Order { line } => Some(*line),
+            ScheduleFault::Range { line, .. } => Some(*line),
+            ScheduleFault::TooManyInputs { line } => Some(*line),
+            ScheduleFault::Memory => None,
+        }
+    }
+
+    /// The number that is out of range, where that is the fault.
+    pub fn value(&self) -> Option<u64>
+        ensures { result ≡ schedule_fault_value self.now }
+    {
+        match self {
+            ScheduleFault::BadLine { .. } => None,
+            ScheduleFault::Order { .. } => None,
+            ScheduleFault::Range { value, .. } => Some(*value),
+            ScheduleFault::TooManyInputs { .. } => None,
+            ScheduleFault::Memory => None,
+        }
+    }
 }

@@ -1,12 +1,12 @@
 // Rows, and the row that a line of the text writes.
 
 ghost use Rattle.std.specs.Prelude.{◌≡◌, ℕ, List, Some};
-ghost use Rattle.schedule_file.specs.Text.{number_of as number_in, row_of, row_of_words as row_in_words, row_of_pair as row_in_pair};
+ghost use Rattle.schedule_file.specs.Text.{row_of, row_of_words as row_in_words, row_of_pair as row_in_pair};
 ghost use Rattle.schedule_file.specs.Spelling.{spelling, HasNumbers, IsSpelled};
 ghost use Rattle.schedule_file.specs.declared.row.Row.{Row};
 
 use crate::lines::Lines;
-use cvm_text::{cut, read_decimal, read_numbers_are_spelled, spelled_numbers_are_read};
+use cvm_text::{cut, whole_number, whole_numbers_are_spelled};
 
 /// Lines that are raised at a step.
 #[derive(Clone, Copy, Debug, PartialEq, Eq)]
@@ -37,21 +37,13 @@ pub enum Row {
     Input(u64),
 }
 
-// The number that a word spells.
-fn number_of(word: &[u8]) -> Option<u64>
-    ensures { result ≡ number_in word.now }
-{
-    let (value, end) = read_decimal(word, 0)?;
-    if end == word.len() { Some(value) } else { None }
-}
-
 // The row of a line with these three words.
 #[tactic(auto, unfolding(crate::specs::Text::row_of_words))]
 fn row_of_words(kind: &[u8], first: &[u8], second: &[u8]) -> Option<Row>
     ensures { result ≡ row_in_words kind.now first.now second.now }
 {
-    let first = number_of(first)?;
-    let second = number_of(second)?;
+    let first = whole_number(first)?;
+    let second = whole_number(second)?;
     if kind == b"line".as_slice() {
         Some(Row::Line(first, second))
     } else if kind == b"busy".as_slice() {
@@ -66,7 +58,7 @@ fn row_of_words(kind: &[u8], first: &[u8], second: &[u8]) -> Option<Row>
 fn row_of_pair(kind: &[u8], word: &[u8]) -> Option<Row>
     ensures { result ≡ row_in_pair kind.now word.now }
 {
-    let word = number_of(word)?;
+    let word = whole_number(word)?;
     if kind == b"input".as_slice() {
         Some(Row::Input(word))
     } else {
@@ -94,7 +86,7 @@ pub fn row_in(line: &[u8]) -> Option<Row>
 pub fn spelled_rows_are_read()
     ensures { (row : Row) → HasNumbers row → row_of (spelling row) ≡ Some row }
 {
-    spelled_numbers_are_read();
+    whole_numbers_are_spelled();
 }
 
 /// A law: a line that is read is the spelling of its row, whose numbers are
@@ -102,5 +94,5 @@ pub fn spelled_rows_are_read()
 pub fn read_rows_are_spelled()
     ensures { (line : List ℕ) (row : Row) → row_of line ≡ Some row → IsSpelled line row }
 {
-    read_numbers_are_spelled();
+    whole_numbers_are_spelled();
 }

@@ -1,7 +1,6 @@
 // A schedule's rows, and what they say.
 
 ghost use Rattle.std.specs.Prelude.{◌≡◌, ◌≤◌, ◌<◌, ◌+◌, ◌^◌, ◌∷◌, ℕ, None, length, IfErr, OnOk};
-ghost use Rattle.schedule_file.specs.Text.{lines_of};
 ghost use Rattle.schedule_file.specs.Rows.{Rows, lines_at as lines_in, busy_of as busy_in, longest as longest_in, last_step as last_step_in, IsNextAt, with_row};
 ghost use Rattle.schedule_file.specs.Schedule.{fault_of_row, fault_of_line, with_line, schedule_of, Gives, IsFault, Keeps};
 
@@ -9,7 +8,7 @@ use crate::fault::ScheduleFault;
 use crate::lines::Lines;
 use crate::row::{BusyRow, LineRow, Row, row_in};
 use bitflags::Flags;
-use cvm_text::cut;
+use cvm_text::first_line;
 use std::alloc::Global;
 use std::marker::Model;
 
@@ -210,19 +209,5 @@ impl Schedule {
         self.inputs
             .push(word as u32)
             .map_err(|_| ScheduleFault::Memory)
-    }
-}
-
-#[tactic(auto, using(crate::proofs::FirstLine::lines_cut, crate::proofs::FirstLine::lines_last))]
-// The first line of a text that has one, and the text after it.
-fn first_line(text: &[u8]) -> (&[u8], &[u8])
-    requires { 0 < length text.now }
-    ensures lines { lines_of text.now ≡ result.0.now ∷ lines_of result.1.now }
-    ensures shorter { length result.1.now < length text.now }
-{
-    let (line, rest) = cut(text, b'\n');
-    match rest {
-        Some(rest) => (line, rest),
-        None => (line, &[]),
     }
 }

@@ -24,9 +24,9 @@ returns-in_err-from_slice-clause-is c =
     let parts = ap (λ (l : List ℕ). parts_of c.in_ok-header.header l c.in_ok-header.rest.now) (sym c.deref.ensures.0) ∙ c.in_ok-source.ensures.is in
     rw (p.1, p.2) (gives_memory c.args.bytes.now _ (answer_parts c.args.bytes.now c.in_ok-header.header c.in_ok-header.counts.items c.in_ok-header.rest.now _ c.in_ok-header.ensures.is parts))
 
-pub returns-in_err-words_in-clause-is : goal.returns-in_err-words_in-clause-is
-returns-in_err-words_in-clause-is c =
-    let p = err_from_is_err_and c.from_residual-in_err-words_in.result c.from_residual-in_err-words_in.ensures.1 in
+pub returns-in_err-read_words-clause-is : goal.returns-in_err-read_words-clause-is
+returns-in_err-read_words-clause-is c =
+    let p = err_from_is_err_and c.from_residual-in_err-read_words.result c.from_residual-in_err-read_words.ensures.1 in
     let parts = ap (λ (l : List ℕ). parts_of c.in_ok-header.header l c.in_ok-header.rest.now) (sym c.deref.ensures.0) ∙ c.in_ok-source.ensures.is in
     rw (p.1, p.2) (gives_memory c.args.bytes.now _ (answer_parts c.args.bytes.now c.in_ok-header.header c.in_ok-header.counts.items c.in_ok-header.rest.now _ c.in_ok-header.ensures.is parts))
 
@@ -39,7 +39,7 @@ returns-in_err-users_in-clause-is c =
 pub returns-clause-is : goal.returns-clause-is
 returns-clause-is c =
     let parts = ap (λ (l : List ℕ). parts_of c.in_ok-header.header l c.in_ok-header.rest.now) (sym c.deref.ensures.0) ∙ c.in_ok-source.ensures.is in
-    rw (c.in_ok-from_slice.ensures.items, c.in_ok-words_in.ensures, c.in_ok-users_in.ensures, c.deref-2.ensures.0)
+    rw (c.in_ok-from_slice.ensures.items, c.in_ok-read_words.ensures.words, c.in_ok-users_in.ensures, c.deref-2.ensures.0)
     (gives_image c.args.bytes.now _ (answer_parts c.args.bytes.now c.in_ok-header.header c.in_ok-header.counts.items c.in_ok-header.rest.now _ c.in_ok-header.ensures.is parts))
 
 pub returns-in_err-header-clause-only : goal.returns-in_err-header-clause-only

@@ -1,6 +1,7 @@
 use Rattle.std.proofs.Common.{◌≡◌, ◌++◌, All, map, take}
 use Rattle.std.specs.List.{flat_map}
-use Rattle.boot_image.specs.Format.{word, AreWords}
+use Rattle.word_bytes.specs.Words.{word}
+use Rattle.boot_image.specs.Format.{AreWords}
 use Rattle.boot_image.proofs.writing.push_users.Given as goal
 
 abbrev pub invariant-loop-user : goal.invariant-loop-user

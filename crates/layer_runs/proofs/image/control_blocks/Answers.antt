@@ -1,4 +1,4 @@
-use Rattle.std.proofs.Common.{◌+◌, ◌∷◌, ◌++◌, length, drop, get_or, suc, sym, ap, ◌∙◌, append_assoc, drop-cons, add-one}
+use Rattle.std.proofs.Common.{◌+◌, ◌++◌, drop, get_or, sym, ap, ◌∙◌, append_assoc, drop-cons, add-one}
 use Rattle.layer_runs.specs.Image.{block_words, blocks}
 use Rattle.layer_runs.proofs.image.control_blocks.Goals as goal
 

@@ -19,15 +19,15 @@ returns-in_err-from_slice-clause-only c =
     let p = err_from_is_err_and c.from_residual-in_err-from_slice.result c.from_residual-in_err-from_slice.ensures.1 in
     rw (p.1, p.2) (memory_only c.args.bytes.now c.in_ok-source.source.now c.in_ok-source.words.now c.in_ok-source.ensures.header)
 
-pub returns-in_err-words_in-clause-only : goal.returns-in_err-words_in-clause-only
-returns-in_err-words_in-clause-only c =
-    let p = err_from_is_err_and c.from_residual-in_err-words_in.result c.from_residual-in_err-words_in.ensures.1 in
+pub returns-in_err-read_words-clause-only : goal.returns-in_err-read_words-clause-only
+returns-in_err-read_words-clause-only c =
+    let p = err_from_is_err_and c.from_residual-in_err-read_words.result c.from_residual-in_err-read_words.ensures.1 in
     rw (p.1, p.2) (memory_only c.args.bytes.now c.in_ok-source.source.now c.in_ok-source.words.now c.in_ok-source.ensures.header)
 
 pub returns-clause-answer : goal.returns-clause-answer
 returns-clause-answer c =
-    rw (c.in_ok-from_slice.ensures.items, c.in_ok-words_in.ensures) (object_so c.args.bytes.now (λ i. omega (arith, c.type_inv.bytes i)) c.in_ok-source.source.now c.in_ok-source.words.now c.in_ok-source.ensures.header)
+    rw (c.in_ok-from_slice.ensures.items, c.in_ok-read_words.ensures.words) (object_so c.args.bytes.now (λ i. omega (arith, c.type_inv.bytes i)) c.in_ok-source.source.now c.in_ok-source.words.now c.in_ok-source.ensures.header)
 
 pub returns-clause-only : goal.returns-clause-only
 returns-clause-only c =
-    rw (c.in_ok-from_slice.ensures.items, c.in_ok-words_in.ensures) (object_only c.args.bytes.now c.in_ok-source.source.now c.in_ok-source.words.now c.in_ok-source.ensures.header)
+    rw (c.in_ok-from_slice.ensures.items, c.in_ok-read_words.ensures.words) (object_only c.args.bytes.now c.in_ok-source.source.now c.in_ok-source.words.now c.in_ok-source.ensures.header)

@@ -3,4 +3,4 @@ use Rattle.schedule_file.proofs.Converse.{spelled_back}
 use Rattle.schedule_file.proofs.row.read_rows_are_spelled.Goals as goal
 
 pub returns : goal.returns
-returns c = spelled_back c.read_numbers_are_spelled.ensures
+returns c = spelled_back c.whole_numbers_are_spelled.ensures.spelled

@@ -3,4 +3,4 @@ use Rattle.schedule_file.proofs.Spelled.{read_back}
 use Rattle.schedule_file.proofs.row.spelled_rows_are_read.Goals as goal
 
 pub returns : goal.returns
-returns c = read_back c.spelled_numbers_are_read.ensures
+returns c = read_back c.whole_numbers_are_spelled.ensures.read

@@ -2,7 +2,7 @@
 use Rattle.std.proofs.Common.{◌+◌, take, sym, ap, ◌∙◌, arith}
 use Rattle.std.specs.Option.{option_or}
 use Rattle.std.proofs.lemmas.Result.{err_from_is_err_and}
-use Rattle.schedule_file.specs.Text.{lines_of}
+use Rattle.cvm_text.specs.Lines.{lines_of}
 use Rattle.schedule_file.specs.Schedule.{with_line, first_fault}
 use Rattle.schedule_file.proofs.Reading.{drop_one, rows_one, fault_one, gives_fault, all_read, zero_is}
 use Rattle.schedule_file.proofs.schedule.read.Goals as goal

@@ -1,6 +1,6 @@
 -- So many lines are read: the schedule has their rows, they have no fault, and the rest has the lines after them.
 use Rattle.std.proofs.Common.{◌≡◌, ◌≤◌, ◌+◌, [], length, take, drop}
-use Rattle.schedule_file.specs.Text.{lines_of}
+use Rattle.cvm_text.specs.Lines.{lines_of}
 use Rattle.schedule_file.specs.Schedule.{rows_of, first_fault}
 use Rattle.schedule_file.proofs.schedule.read.Given as goal
 

@@ -1,0 +1,109 @@
+-- What the emitters say of a test's code, whose branches lead nowhere yet.
+use Rattle.std.specs.Prelude.{◌≡◌, ℕ, ◌+◌, ◌%◌, ◌^◌, Bool, true, false, not, ◌==◌, if◌then◌else◌, List, [], ◌∷◌, ◌++◌, length, map, Some, None}
+use Rattle.mips_table.specs.declared.inst.Inst.{Inst}
+use Rattle.mips_table.specs.Encoding.{encoding}
+use Rattle.c0_tree.specs.declared.tree.BinaryOp.{BinaryOp}
+use Rattle.c0_tree.specs.declared.tree.BinaryOp.TheVariants.{Add, Sub, Mul, Div, Rem, Lt, Le, Gt, Ge, Eq, Ne, And, Or}
+use Rattle.c0_tree.specs.Tree.{CExpr}
+use Rattle.c0_expr_code.specs.Scope.{Scope}
+use Rattle.c0_expr_code.specs.Code.{made, one_code}
+use Rattle.c0_expr_code.specs.Test.{ImmediateTest, immediate_test, immediate_test_of, compare_test, plain_test, test_code, negative_branch, positive_branch, below_code}
+use Rattle.c0_expr_code.specs.Jumps.{Open, last_open, behind_open, joined_open, both_open, binary_open, test_open}
+
+-- open code stands behind other words, and its branches' places behind other places
+pub record IsOpened (old new marked marks : List ℕ) (x : Open) : Type 0 where
+  pub words : new ≡ old ++ map encoding x.code
+  pub places : marks ≡ marked ++ map (λ j. length old + j) x.jumps
+
+-- the test of a register against a constant, where there is one
+abbrev pub test_with : ImmediateTest → Bool → (far q : ℕ) → List Inst
+test_with (Some f) s far q = f s far q
+test_with None s far q = []
+
+-- whether there is one
+abbrev pub is_test_immediate : ImmediateTest → Bool
+is_test_immediate (Some f) = true
+is_test_immediate None = false
+
+-- the test of whether a register is below a constant, by its sign where that is 0
+abbrev pub lower_code : (k : ℕ) → Bool → (q : ℕ) → List Inst
+lower_code k s q = if k == 0 then negative_branch s q 0 ∷ [] else below_code k s 0 q
+
+-- the test of whether a register is above a constant
+abbrev pub higher_code : (k : ℕ) → Bool → (q : ℕ) → List Inst
+higher_code k s q = if k == 0 then positive_branch s q 0 ∷ [] else below_code ((k + 1) % 2 ^ 32) (not s) 0 q
+
+-- `<`, `<=`, `>` and `>=`
+abbrev pub is_order : BinaryOp → Bool
+is_order Add = false
+is_order Sub = false
+is_order Mul = false
+is_order Div = false
+is_order Rem = false
+is_order Lt = true
+is_order Le = true
+is_order Gt = true
+is_order Ge = true
+is_order Eq = false
+is_order Ne = false
+is_order And = false
+is_order Or = false
+
+-- `==` and `!=`
+abbrev pub is_equality : BinaryOp → Bool
+is_equality Add = false
+is_equality Sub = false
+is_equality Mul = false
+is_equality Div = false
+is_equality Rem = false
+is_equality Lt = false
+is_equality Le = false
+is_equality Gt = false
+is_equality Ge = false
+is_equality Eq = true
+is_equality Ne = true
+is_equality And = false
+is_equality Or = false
+
+-- the code of a bool's test
+abbrev pub bool_code : Scope → CExpr → Bool → ℕ → List Inst
+bool_code sc e s r = plain_test (made sc e) s 0 r
+
+-- the code of the test of a side against a constant
+abbrev pub side_code : Scope → BinaryOp → (k : ℕ) → CExpr → Bool → ℕ → List Inst
+side_code sc o k e s r = one_code (λ q. test_with (immediate_test o k) s 0 q) (made sc e) r
+
+-- the code of a comparison by an order, whose right side may be a constant
+abbrev pub order_code : Scope → BinaryOp → CExpr → CExpr → Bool → ℕ → List Inst
+order_code sc o a b s r = compare_test (immediate_test_of o (made sc b).known) o (made sc a) (made sc b) s 0 r
+
+-- the code of a comparison for equality
+abbrev pub equality_code : Scope → BinaryOp → CExpr → CExpr → Bool → ℕ → List Inst
+equality_code sc o a b s r = compare_test None o (made sc a) (made sc b) s 0 r
+
+-- the code of a test whose last instruction is its branch, of these three
+abbrev pub bool_open : Scope → CExpr → Bool → ℕ → Open
+bool_open sc e s r = last_open (bool_code sc e s r)
+
+abbrev pub order_open : Scope → BinaryOp → CExpr → CExpr → Bool → ℕ → Open
+order_open sc o a b s r = last_open (order_code sc o a b s r)
+
+abbrev pub equality_open : Scope → BinaryOp → CExpr → CExpr → Bool → ℕ → Open
+equality_open sc o a b s r = last_open (equality_code sc o a b s r)
+
+-- both tests go to the place where they are s
+abbrev pub either_open : Scope → CExpr → CExpr → Bool → ℕ → Open
+either_open sc a b s r = joined_open (test_open sc a s r) (test_open sc b s r)
+
+-- the first test goes over the second where it isn't s
+abbrev pub over_open : Scope → CExpr → CExpr → Bool → ℕ → Open
+over_open sc a b s r = behind_open (test_code sc a (not s) (length (test_open sc b s r).code % 2 ^ 16) r) (test_open sc b s r)
+
+-- `||` and `&&`: where the first test alone decides for s both go to the place, and else the first goes over the second
+abbrev pub logic_open : Scope → (decides : Bool) → CExpr → CExpr → Bool → ℕ → Open
+logic_open sc decides a b s r = both_open decides s (test_code sc a) (test_open sc a) (test_open sc b) r
+
+-- an operator between two operands, where the whole is an expression too
+abbrev pub operation_open : Scope → CExpr → BinaryOp → CExpr → CExpr → Bool → ℕ → Open
+operation_open sc e o a b s r =
+    binary_open o (made sc e) (made sc a) (made sc b) (test_code sc a) (test_open sc a) (test_open sc b) s r

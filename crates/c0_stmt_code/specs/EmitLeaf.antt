@@ -1,0 +1,26 @@
+-- What the emitters of a function's begin and of statements that hold no others ask of their callers.
+use Rattle.std.specs.Prelude.{◌≡◌, ℕ, ◌+◌, ◌≤◌, List, length, map, Some, slice_get}
+use Rattle.masm.specs.declared.registers.Places.{Places}
+use Rattle.c0_tree.specs.Primitives.{CPrimitive}
+use Rattle.c0_tree.specs.Size.{need}
+use Rattle.c0_tree.specs.Tree.{CDecl, CExpr, CFunction, CUnit}
+use Rattle.c0_meaning.specs.Env.{Env, typed_of}
+use Rattle.c0_meaning.specs.Limits.{locals_of}
+use Rattle.c0_meaning.specs.Unit.{IsWellFormed}
+use Rattle.c0_meaning.specs.Words.{all_words}
+use Rattle.c0_expr_code.specs.Scene.{HasNumbers}
+use Rattle.c0_expr_code.specs.Scope.{Scope, scope_of}
+
+-- an expression whose variables and fields there are, and that needs at most so many registers
+pub record CanStand (env : Env) (registers : ℕ) (e : CExpr) : Type 0 where
+  pub room : need e ≤ registers
+  pub numbers : HasNumbers env e
+
+-- a frame has three words of its own, one for each parameter, and those of the locals
+abbrev pub HasFrame : Scope → (params : ℕ) → List CDecl → Type 0
+HasFrame sc params locals = sc.frame ≡ all_words sc.env.structs (map typed_of locals) + 3 + params
+
+-- a law: the frame of each function of a well formed unit is so
+abbrev pub FramesAreThose : Type 0
+FramesAreThose = (primitives : List CPrimitive) (u : CUnit) (n : ℕ) (f : CFunction) (places : Places) → IsWellFormed primitives u
+    → slice_get u.functions n ≡ Some f → HasFrame (scope_of u f places) (length f.params) (locals_of f.body)

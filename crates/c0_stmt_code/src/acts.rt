@@ -1,0 +1,174 @@
+// Statements that hold no others: assignments, calls and `new`.
+
+ghost use Rattle.std.specs.Prelude.{◌≡◌, ◌+◌, ◌/◌, ◌%◌, ◌^◌, ◌<◌, ◌≤◌, ◌++◌, map, slice_index, OnOk};
+ghost use Rattle.std.specs.List.{All};
+ghost use Rattle.mips_table.specs.Encoding.{encoding};
+ghost use Rattle.masm.specs.Places.{ArePlaces, IsPlace};
+ghost use Rattle.c0_tree.specs.Size.{need};
+ghost use Rattle.c0_tree.specs.View.{expr_view, type_view};
+ghost use Rattle.c0_meaning.specs.Sound.{IsSized};
+ghost use Rattle.c0_meaning.specs.Ty.{ty_of};
+ghost use Rattle.c0_meaning.specs.Words.{words};
+ghost use Rattle.c0_expr_code.specs.Code.{made, on_spot};
+ghost use Rattle.c0_expr_code.specs.Emit.{access_inst};
+ghost use Rattle.c0_expr_code.specs.Scene.{HasNumbers, scope_in};
+ghost use Rattle.c0_expr_code.specs.declared.spot.Access.TheVariants.{Store};
+ghost use Rattle.c0_stmt_code.specs.Code.{answer_code, args_code, assign_code, call_code, callee_index, links_of, new_code};
+ghost use Rattle.c0_stmt_code.specs.EmitLeaf.{CanStand};
+
+use crate::prologue::register_behind;
+use c0_expr_code::{
+    Access, Scene, emit, emit_access, emit_constant, emit_operand, emit_spot, emit_value, stands_in,
+};
+use c0_meaning::words_of;
+use c0_tree::{CType, Expr, Kind};
+use masm::registers::{ANSWER, EXPRESSIONS, Places};
+use mips_table::Inst;
+use std::alloc::AllocError;
+
+// The jump index of the address of a number; 0 where there is none.
+fn index_at(addresses: &[u32], number: u32) -> u32
+    requires { All IsPlace addresses.now }
+    ensures value { result ≡ slice_index addresses.now number / 4 }
+    ensures small { result < 2 ^ 26 }
+{
+    addresses.get(number as usize).copied().unwrap_or(0) / 4
+}
+
+// The jump index of what is called; 0 where there is none.
+fn index_of(places: &Places, kind: Kind, number: u32) -> u32
+    requires { ArePlaces places.now }
+    ensures value { result ≡ callee_index (links_of places.now) kind number }
+    ensures small { result < 2 ^ 26 }
+{
+    match kind {
+        Kind::Unresolved => 0,
+        Kind::Struct => 0,
+        Kind::Field => 0,
+        Kind::Global => 0,
+        Kind::Local => 0,
+        Kind::Function => index_at(&places.functions, number),
+        Kind::Primitive => index_at(&places.primitives, number),
+    }
+}
+
+// Appends the code of a place, and a register's store there.
+fn emit_stored(
+    scene: &Scene<'_>,
+    register: u32,
+    free: u32,
+    place: &Expr,
+    code: &mut Vec<u32>,
+) -> Result<(), AllocError>
+    requires register { register < 32 }
+    requires room { free + need (expr_view place.now) ≤ 20 }
+    requires numbers { HasNumbers (scope_in scene.now).env (expr_view place.now) }
+    ensures { OnOk result (code.new.items ≡ code.old.items ++ map encoding (on_spot (access_inst Store register) free ((made (scope_in scene.now) (expr_view place.now)).place free))) }
+{
+    let spot = emit_spot(scene, place, free, code)?;
+    emit_access(code, Access::Store, register, free, spot)
+}
+
+// Appends the code that takes an answer to its place.
+fn emit_answer(scene: &Scene<'_>, place: &Expr, code: &mut Vec<u32>) -> Result<(), AllocError>
+    requires { CanStand (scope_in scene.now).env 12 (expr_view place.now) }
+    ensures { OnOk result (code.new.items ≡ code.old.items ++ map encoding (answer_code (scope_in scene.now) (expr_view place.now))) }
+{
+    if let Some(target) = stands_in(scene, place) {
+        return emit(
+            code,
+            Inst::Addu {
+                rd: target,
+                rs: ANSWER,
+                rt: 0,
+            },
+        );
+    }
+    emit_stored(scene, ANSWER, EXPRESSIONS, place, code)
+}
+
+/// Appends the code of an assignment.
+pub fn emit_assign(
+    scene: &Scene<'_>,
+    place: &Expr,
+    value: &Expr,
+    code: &mut Vec<u32>,
+) -> Result<(), AllocError>
+    requires value { CanStand (scope_in scene.now).env 12 (expr_view value.now) }
+    requires place { CanStand (scope_in scene.now).env 11 (expr_view place.now) }
+    ensures { OnOk result (code.new.items ≡ code.old.items ++ map encoding (assign_code (scope_in scene.now) (expr_view place.now) (expr_view value.now))) }
+{
+    if let Some(target) = stands_in(scene, place) {
+        return emit_value(scene, value, target, EXPRESSIONS, code);
+    }
+    let register = emit_operand(scene, value, EXPRESSIONS, code)?;
+    emit_stored(scene, register, EXPRESSIONS + 1, place, code)
+}
+
+// Appends the code that takes arguments to their registers.
+fn emit_args(scene: &Scene<'_>, args: &[Expr], code: &mut Vec<u32>) -> Result<(), AllocError>
+    requires { All (λ x. CanStand (scope_in scene.now).env 12 (expr_view x)) args.now }
+    ensures { OnOk result (code.new.items ≡ code.old.items ++ map encoding (args_code (scope_in scene.now) (map expr_view args.now) 0)) }
+{
+    for (i, arg) in args.iter().enumerate() {
+        let register = register_behind(0, i as u64);
+        emit_value(scene, arg, register, EXPRESSIONS, code)?;
+    }
+    Ok(())
+}
+
+/// Appends the code of a call of the function or primitive of a number, whose answer goes to a place.
+pub fn emit_call(
+    scene: &Scene<'_>,
+    places: &Places,
+    kind: Kind,
+    number: u32,
+    args: &[Expr],
+    place: &Expr,
+    code: &mut Vec<u32>,
+) -> Result<(), AllocError>
+    requires places { ArePlaces places.now }
+    requires args { All (λ x. CanStand (scope_in scene.now).env 12 (expr_view x)) args.now }
+    requires place { CanStand (scope_in scene.now).env 12 (expr_view place.now) }
+    ensures { OnOk result (code.new.items ≡ code.old.items ++ map encoding (call_code (scope_in scene.now) (links_of places.now) kind number (map expr_view args.now) (expr_view place.now))) }
+{
+    emit_args(scene, args, code)?;
+    emit(
+        code,
+        Inst::Jal {
+            index: index_of(places, kind, number),
+        },
+    )?;
+    emit_answer(scene, place, code)
+}
+
+// The words of a type, of which there are few.
+fn words_in(scene: &Scene<'_>, ty: &CType) -> u32
+    requires { IsSized (scope_in scene.now).env.structs (type_view ty.now) }
+    ensures { result ≡ words (scope_in scene.now).env.structs (ty_of (type_view ty.now)) % 2 ^ 32 }
+{
+    words_of(ty, scene.layout.unit)
+}
+
+/// Appends the code of `new`, whose object's address goes to a place.
+pub fn emit_new(
+    scene: &Scene<'_>,
+    places: &Places,
+    ty: &CType,
+    place: &Expr,
+    code: &mut Vec<u32>,
+) -> Result<(), AllocError>
+    requires places { ArePlaces places.now }
+    requires ty { IsSized (scope_in scene.now).env.structs (type_view ty.now) }
+    requires place { CanStand (scope_in scene.now).env 12 (expr_view place.now) }
+    ensures { OnOk result (code.new.items ≡ code.old.items ++ map encoding (new_code (scope_in scene.now) (links_of places.now) (words (scope_in scene.now).env.structs (ty_of (type_view ty.now))) (expr_view place.now))) }
+{
+    emit_constant(code, ANSWER, words_in(scene, ty))?;
+    emit(
+        code,
+        Inst::Jal {
+            index: places.new_object / 4,
+        },
+    )?;
+    emit_answer(scene, place, code)
+}

@@ -1,0 +1,357 @@
+// How functions begin and return.
+
+ghost use Rattle.std.specs.Prelude.{◌≡◌, ◌+◌, ◌*◌, ◌%◌, ◌^◌, ◌<◌, ◌++◌, ◌∷◌, [], map, OnOk, if◌then◌else◌};
+ghost use Rattle.mips_table.specs.declared.inst.Inst.TheVariants.{Addiu, Beq, Bne, J, Sltu, Sw};
+ghost use Rattle.mips_table.specs.Encoding.{encoding};
+ghost use Rattle.c0_tree.specs.View.{decl_view};
+ghost use Rattle.c0_meaning.specs.Env.{typed_of};
+ghost use Rattle.c0_meaning.specs.Operators.{StackOut};
+ghost use Rattle.c0_meaning.specs.Words.{all_words};
+ghost use Rattle.c0_expr_code.specs.Code as expressions;
+ghost use Rattle.c0_expr_code.specs.Code.{on_spot};
+ghost use Rattle.c0_expr_code.specs.Emit.{access_inst};
+ghost use Rattle.c0_expr_code.specs.Scene.{scope_in};
+ghost use Rattle.c0_stmt_code.specs.Code.{clear_code, end_code, entry_code, exit_code, frame_entry, frame_return, frame_spot, large_code, locals_code};
+ghost use Rattle.c0_stmt_code.specs.Code.{params_code, register_entry, register_return, stack_test, zeros_code, zeros_loop};
+ghost use Rattle.c0_stmt_code.specs.EmitLeaf.{FramesAreThose, HasFrame};
+
+use c0_expr_code::{Access, Scene, Spot, emit, emit_access, frame_shift};
+use c0_meaning::laws::{numbers_tell, units_are_typed_or_faulty};
+use c0_tree::Decl;
+use masm::registers::{ANSWER, ARGUMENTS, FRAME_END, RETURN, SCRATCH, STACK_END};
+use mips_table::Inst;
+use std::alloc::AllocError;
+
+// The words of the largest stack.
+const LARGEST_STACK: u64 = 262_144;
+
+// The words of a function's locals that are set to 0 by a store each; more are in a loop.
+const FEW_WORDS: u64 = 8;
+
+/// A law: a frame has three words of its own, one for each parameter, and those of the locals.
+pub fn frames_are_those()
+    ensures { FramesAreThose }
+{
+    numbers_tell();
+    units_are_typed_or_faulty();
+}
+
+// Appends the access to a word of the frame.
+fn emit_word(
+    scene: &Scene<'_>,
+    access: Access,
+    register: u32,
+    free: u32,
+    word: u64,
+    code: &mut Vec<u32>,
+) -> Result<(), AllocError>
+    requires register { register < 32 }
+    requires free { free < 32 }
+    ensures { OnOk result (code.new.items ≡ code.old.items ++ map encoding (on_spot (access_inst access register) free (frame_spot (scope_in scene.now) word))) }
+{
+    let spot = Spot {
+        base: FRAME_END,
+        shift: frame_shift(scene, word),
+    };
+    emit_access(code, access, register, free, spot)
+}
+
+// A number of words as bytes, modulo 2^32.
+fn bytes(words: u64) -> u32
+    ensures { result ≡ 4 * words % 2 ^ 32 }
+{
+    (words % 0x4000_0000) as u32 * 4
+}
+
+// Appends the code that brings the end of the next frame into a register.
+fn emit_end(scene: &Scene<'_>, target: u32, code: &mut Vec<u32>) -> Result<(), AllocError>
+    requires { target < 32 }
+    ensures { OnOk result (code.new.items ≡ code.old.items ++ map encoding (end_code target (4 * (scope_in scene.now).frame))) }
+{
+    let spot = Spot {
+        base: FRAME_END,
+        shift: bytes(scene.frame),
+    };
+    emit_access(code, Access::Address, target, target, spot)
+}
+
+// Appends a jump to the exit of a want of stack, where no stack has room for the frame.
+fn emit_large(scene: &Scene<'_>, code: &mut Vec<u32>) -> Result<(), AllocError>
+    ensures { OnOk result (code.new.items ≡ code.old.items ++ map encoding (large_code (scope_in scene.now))) }
+{
+    if LARGEST_STACK < scene.frame {
+        return emit(
+            code,
+            Inst::J {
+                index: scene.faults[3] / 4,
+            },
+        );
+    }
+    Ok(())
+}
+
+// Appends a jump to the exit of a want of stack, and a branch over it where a register is not behind the stack's end.
+fn emit_limit(scene: &Scene<'_>, end: u32, code: &mut Vec<u32>) -> Result<(), AllocError>
+    requires { end < 32 }
+    ensures { OnOk result (code.new.items ≡ code.old.items ++ map encoding (Sltu SCRATCH STACK_END end ∷ Beq SCRATCH 0 1 ∷ J ((scope_in scene.now).exit StackOut) ∷ [])) }
+{
+    emit(
+        code,
+        Inst::Sltu {
+            rd: SCRATCH,
+            rs: STACK_END,
+            rt: end,
+        },
+    )?;
+    emit(
+        code,
+        Inst::Beq {
+            rs: SCRATCH,
+            rt: 0,
+            imm: 1,
+        },
+    )?;
+    emit(
+        code,
+        Inst::J {
+            index: scene.faults[3] / 4,
+        },
+    )
+}
+
+/// Appends the test of the stack, which brings the end of the new frame into a register.
+pub fn emit_stack_test(
+    scene: &Scene<'_>,
+    register: u32,
+    code: &mut Vec<u32>,
+) -> Result<(), AllocError>
+    requires { register < 32 }
+    ensures { OnOk result (code.new.items ≡ code.old.items ++ map encoding (stack_test (scope_in scene.now) register)) }
+{
+    emit_large(scene, code)?;
+    emit_end(scene, register, code)?;
+    emit_limit(scene, register, code)
+}
+
+// Appends the access to the frame's first word, which keeps the return address where something is called.
+fn emit_kept(
+    scene: &Scene<'_>,
+    access: Access,
+    calling: bool,
+    code: &mut Vec<u32>,
+) -> Result<(), AllocError>
+    ensures { OnOk result (code.new.items ≡ code.old.items ++ map encoding (if calling then on_spot (access_inst access RETURN) SCRATCH (frame_spot (scope_in scene.now) 0) else [])) }
+{
+    if calling {
+        return emit_word(scene, access, RETURN, SCRATCH, 0, code);
+    }
+    Ok(())
+}
+
+/// The register of the variable or argument so many behind another.
+pub fn register_behind(first: u32, i: u64) -> u32
+    ensures value { result ≡ expressions.register_of (first + i) }
+    ensures small { result < 32 }
+{
+    (ARGUMENTS + first % 32 + (i % 32) as u32) % 32
+}
+
+// Appends the stores of the arguments to the frame.
+fn emit_params(scene: &Scene<'_>, count: u32, code: &mut Vec<u32>) -> Result<(), AllocError>
+    ensures { OnOk result (code.new.items ≡ code.old.items ++ map encoding (params_code (scope_in scene.now) count 0)) }
+{
+    for i in 0..count {
+        let register = register_behind(i, 0);
+        emit_word(
+            scene,
+            Access::Store,
+            register,
+            SCRATCH,
+            3 + u64::from(i),
+            code,
+        )?;
+    }
+    Ok(())
+}
+
+// Appends stores of 0 to words of the frame.
+fn emit_zeros(
+    scene: &Scene<'_>,
+    count: u64,
+    first: u64,
+    code: &mut Vec<u32>,
+) -> Result<(), AllocError>
+    requires { first + count < 2 ^ 64 }
+    ensures { OnOk result (code.new.items ≡ code.old.items ++ map encoding (zeros_code (scope_in scene.now) count first)) }
+{
+    for i in 0..count {
+        emit_word(scene, Access::Store, 0, SCRATCH, first + i, code)?;
+    }
+    Ok(())
+}
+
+// Appends a loop that stores 0 from a word of the frame to its end.
+fn emit_zeros_loop(scene: &Scene<'_>, first: u64, code: &mut Vec<u32>) -> Result<(), AllocError>
+    ensures { OnOk result (code.new.items ≡ code.old.items ++ map encoding (zeros_loop (scope_in scene.now) first)) }
+{
+    emit_word(scene, Access::Address, ANSWER, ANSWER, first, code)?;
+    emit_turns(code)
+}
+
+// Appends the turns of that loop, whose branch leads back to the store.
+fn emit_turns(code: &mut Vec<u32>) -> Result<(), AllocError>
+    ensures { OnOk result (code.new.items ≡ code.old.items ++ map encoding (Sw 0 ANSWER 0 ∷ Addiu ANSWER ANSWER 4 ∷ Bne ANSWER FRAME_END 65533 ∷ [])) }
+{
+    emit(
+        code,
+        Inst::Sw {
+            rt: 0,
+            rs: ANSWER,
+            imm: 0,
+        },
+    )?;
+    emit(
+        code,
+        Inst::Addiu {
+            rt: ANSWER,
+            rs: ANSWER,
+            imm: 4,
+        },
+    )?;
+    emit(
+        code,
+        Inst::Bne {
+            rs: ANSWER,
+            rt: FRAME_END,
+            imm: 65533,
+        },
+    )
+}
+
+// Appends the code that sets the words of locals to 0.
+fn emit_locals(
+    scene: &Scene<'_>,
+    count: u64,
+    first: u64,
+    code: &mut Vec<u32>,
+) -> Result<(), AllocError>
+    requires { first + count < 2 ^ 64 }
+    ensures { OnOk result (code.new.items ≡ code.old.items ++ map encoding (locals_code (scope_in scene.now) count first)) }
+{
+    if count <= FEW_WORDS {
+        return emit_zeros(scene, count, first, code);
+    }
+    emit_zeros_loop(scene, first, code)
+}
+
+// Appends the code that sets the registers of variables to 0.
+fn emit_clear(count: usize, first: u32, code: &mut Vec<u32>) -> Result<(), AllocError>
+    ensures { OnOk result (code.new.items ≡ code.old.items ++ map encoding (clear_code count first)) }
+{
+    for i in 0..count {
+        emit(
+            code,
+            Inst::Addu {
+                rd: register_behind(first, i as u64),
+                rs: 0,
+                rt: 0,
+            },
+        )?;
+    }
+    Ok(())
+}
+
+// Appends the access to the word behind the caller's frame, which keeps the return address where something is called.
+fn emit_kept_behind(access: Access, calling: bool, code: &mut Vec<u32>) -> Result<(), AllocError>
+    ensures { OnOk result (code.new.items ≡ code.old.items ++ map encoding (if calling then access_inst access RETURN FRAME_END 0 ∷ [] else [])) }
+{
+    if calling {
+        let spot = Spot {
+            base: FRAME_END,
+            shift: 0,
+        };
+        return emit_access(code, access, RETURN, SCRATCH, spot);
+    }
+    Ok(())
+}
+
+// Appends the begin of a function that has a frame.
+fn emit_frame_entry(
+    scene: &Scene<'_>,
+    params: u32,
+    words: u64,
+    calling: bool,
+    code: &mut Vec<u32>,
+) -> Result<(), AllocError>
+    requires { 3 + params + words < 2 ^ 64 }
+    ensures { OnOk result (code.new.items ≡ code.old.items ++ map encoding (frame_entry (scope_in scene.now) params words calling)) }
+{
+    emit_stack_test(scene, FRAME_END, code)?;
+    emit_kept(scene, Access::Store, calling, code)?;
+    emit_params(scene, params, code)?;
+    emit_locals(scene, words, 3 + u64::from(params), code)
+}
+
+// Appends the begin of a function whose variables stand in registers.
+fn emit_register_entry(
+    scene: &Scene<'_>,
+    params: u32,
+    locals: usize,
+    calling: bool,
+    code: &mut Vec<u32>,
+) -> Result<(), AllocError>
+    ensures { OnOk result (code.new.items ≡ code.old.items ++ map encoding (register_entry (scope_in scene.now) params locals calling)) }
+{
+    emit_stack_test(scene, SCRATCH, code)?;
+    emit_kept_behind(Access::Store, calling, code)?;
+    emit_clear(locals, params, code)
+}
+
+/// Appends the begin of a function that has statements; `calling` tells whether they change the return register.
+pub fn emit_entry(
+    scene: &Scene<'_>,
+    params: u32,
+    locals: &[Decl],
+    calling: bool,
+    code: &mut Vec<u32>,
+) -> Result<(), AllocError>
+    requires { HasFrame (scope_in scene.now) params (map decl_view locals.now) }
+    ensures { OnOk result (code.new.items ≡ code.old.items ++ map encoding (entry_code (scope_in scene.now) params (map decl_view locals.now) calling)) }
+{
+    if scene.in_registers {
+        return emit_register_entry(scene, params, locals.len(), calling, code);
+    }
+    let words = scene.frame - 3 - u64::from(params);
+    emit_frame_entry(scene, params, words, calling, code)
+}
+
+// Appends the return from a function that has a frame.
+fn emit_frame_return(
+    scene: &Scene<'_>,
+    calling: bool,
+    code: &mut Vec<u32>,
+) -> Result<(), AllocError>
+    ensures { OnOk result (code.new.items ≡ code.old.items ++ map encoding (frame_return (scope_in scene.now) calling)) }
+{
+    emit_kept(scene, Access::Load, calling, code)?;
+    emit_word(scene, Access::Address, FRAME_END, FRAME_END, 0, code)?;
+    emit(code, Inst::Jr { rs: RETURN })
+}
+
+// Appends the return from a function whose variables stand in registers.
+fn emit_register_return(calling: bool, code: &mut Vec<u32>) -> Result<(), AllocError>
+    ensures { OnOk result (code.new.items ≡ code.old.items ++ map encoding (register_return calling)) }
+{
+    emit_kept_behind(Access::Load, calling, code)?;
+    emit(code, Inst::Jr { rs: RETURN })
+}
+
+/// Appends the return from a function, whose answer is in register 2.
+pub fn emit_exit(scene: &Scene<'_>, calling: bool, code: &mut Vec<u32>) -> Result<(), AllocError>
+    ensures { OnOk result (code.new.items ≡ code.old.items ++ map encoding (exit_code (scope_in scene.now) calling)) }
+{
+    if scene.in_registers {
+        return emit_register_return(calling, code);
+    }
+    emit_frame_return(scene, calling, code)
+}
