@@ -1,5 +1,5 @@
 // A machine over a disk in memory.
-ghost use Rattle.std.specs.Prelude.{◌≡◌, ◌<◌, length};
+ghost use Rattle.std.specs.Prelude.{◌≤◌};
 
 use cvm_outside::{MemSectors, Sectors};
 use mips_machine::{Event, Machine};
