@@ -20,7 +20,11 @@ pub struct Plan {
 
 // The decimal number in a field of a text that is cut at spaces.
 fn number(text: &str, field: usize) -> u32 {
-    text.split(' ').nth(field).unwrap_or("").parse::<u32>().unwrap_or(0)
+    text.split(' ')
+        .nth(field)
+        .unwrap_or("")
+        .parse::<u32>()
+        .unwrap_or(0)
 }
 
 // Appends a line to a text.
