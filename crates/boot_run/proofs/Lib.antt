@@ -3,3 +3,4 @@ pub mod UserPages
 pub mod Turned
 pub mod Loads
 pub mod Proceeding
+pub mod Readiness

@@ -8,7 +8,7 @@ use Rattle.mips_machine.specs.Steps.{outside_of}
 use Rattle.layer_map.specs.Map.{Map}
 use Rattle.c0_tree.specs.Tree.{CUnit}
 use Rattle.c0_meaning.specs.TypedState.{IsTypedState}
-use Rattle.cvm_model.specs.Cvm.{System, Status, Running, Halted, Faulted, Cvm, IsCvm}
+use Rattle.cvm_model.specs.Cvm.{System, Status, Running, Halted, Faulted, Cvm, IsCvm, first_cvm}
 use Rattle.cvm_model.specs.Journal.{KernelReplays}
 use Rattle.cvm_model.specs.declared.row.Next.{Next}
 use Rattle.cvm_model.specs.declared.row.Next.TheVariants.{Halt, Fault}
@@ -157,3 +157,7 @@ pub record KeepsLoad {L : Type 0} (old new : Kept L) : Type 0 where
 -- a run that kept a fault, or has ended
 abbrev pub IsOver : {L : Type 0} → Kept L → Type 0
 IsOver r = IsSome r.fault ⊎ IsSome r.ended
+
+-- a loaded run is ready for its first turn, over a sink that has this text
+abbrev pub IsReady : {L : Type 0} → Outside → System → List (List ℕ) → Option (List ℕ) → Kept L → Option (List (List ℕ)) → ℕ → Type 0
+IsReady x y old text r retold budget = Ready x y old r.view text 0 0 (first_cvm y) (around r retold budget text)

@@ -1,10 +1,11 @@
 // A loaded run.
-ghost use Rattle.std.specs.Prelude.{◌≡◌, ◌≢◌, ℕ, ◌+◌, ◌<◌, ◌≤◌, ◌^◌, length, IfOk, IfErr, IfSome, IsSome, OnOk, OnErr, Err, Ok, Some, None};
+ghost use Rattle.std.specs.Prelude.{◌≡◌, ◌≢◌, List, Option, ℕ, ◌+◌, ◌<◌, ◌≤◌, ◌^◌, length, IfOk, IfErr, IfSome, IsSome, OnOk, OnErr, Err, Ok, Some, None};
 ghost use Rattle.cvm_outside.specs.Causes.{Counts, Rose};
 ghost use Rattle.layer_contract.specs.Boots.{BootFollows};
-ghost use Rattle.boot_run.specs.Loading.{StaysFrom};
+ghost use Rattle.mips_table.specs.Device.{Outside};
+ghost use Rattle.boot_run.specs.Loading.{system_of, StaysFrom};
 ghost use Rattle.boot_run.specs.LoadEnds.{pages_needed, IsFresh, StandsLoaded, LoadFails};
-ghost use Rattle.boot_run.specs.TurnCalls.{around, IsOver, KeepsLoad, TurnRuns};
+ghost use Rattle.boot_run.specs.TurnCalls.{around, IsOver, IsReady, KeepsLoad, TurnRuns};
 
 use crate::load::{LoadFault, check_view, loaded_machine};
 use crate::next::{ended_by, seen_next};
@@ -69,6 +70,7 @@ impl<L: Layer + Drop> Run<L> {
         requires { BootFollows (L.image layer) (L.sizes layer) (L.map layer) boot }
         ensures fresh { IfOk result (λ r. IsFresh layer boot view schedule (D.size disk.old) r) }
         ensures stands { IfOk result (λ r. StandsLoaded r (D.sectors disk.old) (D.sectors disk.new)) }
+        ensures ready { IfOk result (λ r. (x : Outside) (old : List (List ℕ)) (budget : ℕ) (text : Option (List ℕ)) → D.sectors disk.old ≡ Some old → IsReady x (system_of boot schedule) old text r (D.sectors disk.new) budget) }
         ensures fault { IfErr result (LoadFails boot view (D.size disk.old) (D.faults disk.old) (D.faults disk.new)) }
         ensures torn { OnErr result (StaysFrom (pages_needed boot) (D.sectors disk.old) (D.sectors disk.new)) }
         ensures still { result ≢ Err LoadFault.Disk → OnErr result (disk.new ≡ disk.old) }

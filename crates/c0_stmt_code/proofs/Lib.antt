@@ -34,3 +34,4 @@ pub mod Steps
 pub mod Stores
 pub mod Variables
 pub mod Ways
+pub mod StepCosts

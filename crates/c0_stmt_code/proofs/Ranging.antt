@@ -1,5 +1,5 @@
 -- The instructions of the code of functions are in range: part by part.
-use Rattle.std.specs.Prelude.{map, max, ◌-◌, if◌then◌else◌, nat_le, nat_lt, IsTrue, All, Option, Some, None, unwrap_or}
+use Rattle.std.specs.Prelude.{map, if◌then◌else◌, nat_le, nat_lt, IsTrue, All, Option, Some, None, unwrap_or}
 use Rattle.std.specs.List.{All as EachOf}
 use Rattle.std.proofs.Common.{◌≡◌, inl, inr, ℕ, zero, suc, ◌+◌, ◌*◌, ◌/◌, ◌%◌, ◌^◌, ◌<◌, ◌≤◌, Bool, true, false, List, [], ◌∷◌, ◌++◌, length, refl, ap, subst, sym, arith}
 use Rattle.std.proofs.lemmas.Bool.{cases_Bool, cond-true, cond-false, ltb-true}
@@ -10,7 +10,7 @@ use Rattle.mips_table.specs.Encoding.{InRange}
 use Rattle.c0_tree.specs.declared.tree.Kind.{Kind}
 use Rattle.c0_tree.specs.declared.tree.Kind.TheVariants.{Unresolved, Struct, Field, Global, Local, Function, Primitive}
 use Rattle.c0_tree.specs.Size.{need}
-use Rattle.c0_tree.specs.Tree.{CExpr, CStmt, assign, call, new, choice, loop, CStmts, done, next, CBody, code, asm, CDecl, CFunction}
+use Rattle.c0_tree.specs.Tree.{CExpr, CStmt, assign, call, new, choice, loop, CStmts, done, next, CBody, code, asm, CDecl}
 use Rattle.c0_meaning.specs.Ty.{ty_of}
 use Rattle.c0_meaning.specs.Env.{typed_of}
 use Rattle.c0_meaning.specs.Words.{words, all_words}
@@ -20,9 +20,9 @@ use Rattle.c0_asm_body.specs.Code.{argument_code, arguments_code, asm_code, body
 use Rattle.c0_asm_body.specs.Laws.{AreEncoded}
 use Rattle.c0_expr_code.specs.Laws.{CodesInRange, HasNearExits}
 use Rattle.c0_expr_code.specs.Scope.{Scope}
-use Rattle.c0_expr_code.specs.Code.{Spot, Made, is_near, low, high, frame_back, register_of, constant_code, on_spot, store_code, operand_code, operand_register, made, place_spot, value_code}
+use Rattle.c0_expr_code.specs.Code.{Spot, is_near, low, high, frame_back, register_of, constant_code, on_spot, store_code, operand_code, operand_register, made, value_code}
 use Rattle.c0_expr_code.specs.Test.{test_code}
-use Rattle.c0_stmt_code.specs.Code.{Links, callee_index, skip, stored_code, answer_code, assigned_code, assign_code, args_code, call_code, new_code, otherwise, otherwise_at, choice_code, back, turn_code, while_code, stmt_code, stmts_code, are_calling, frame_spot, end_code, large_code, stack_test, save_code, restore_code, params_code, zeros_code, zeros_loop, locals_code, clear_code, frame_entry, frame_return, register_entry, register_return, entry_code, exit_code, return_code, body_code as code_of_body}
+use Rattle.c0_stmt_code.specs.Code.{Links, callee_index, skip, stored_code, answer_code, assigned_code, args_code, otherwise, otherwise_at, back, turn_code, stmt_code, stmts_code, are_calling, frame_spot, end_code, large_code, stack_test, save_code, restore_code, params_code, zeros_code, zeros_loop, locals_code, clear_code, frame_entry, frame_return, register_entry, register_return, entry_code, exit_code, return_code, body_code as code_of_body}
 use Rattle.c0_stmt_code.specs.Emit.{IsEmittable, AreEmittable, IsEmittableBody}
 use Rattle.c0_stmt_code.specs.EmitLeaf.{CanStand}
 use Rattle.c0_stmt_code.specs.Ranges.{AreNear}

@@ -10,7 +10,7 @@ use Rattle.c0_meaning.specs.Typed.{IsDeclarable}
 use Rattle.c0_meaning.specs.Sound.{shapes}
 use Rattle.c0_meaning.specs.Value.{Value, Values, empty, part}
 use Rattle.c0_meaning.specs.State.{Frame, variables_of, stack_words}
-use Rattle.c0_meaning.specs.World.{Cost, Configuration, after_call, call_cost}
+use Rattle.c0_meaning.specs.World.{Cost, total, Configuration, ended, after_call, call_cost}
 use Rattle.c0_meaning.specs.Operators.{KernelFault, faulted, stuck}
 use Rattle.c0_meaning.specs.Running.{Target, into, outward, Work, act_on, finish, again, leave, begin, Step, Go, Stop, act}
 use Rattle.c0_meaning.specs.TypedState.{types_of, Fits, AllFit, layout_of, IsTypedWith, IsScalar}
@@ -198,6 +198,16 @@ module _ (W E : Type 0) (Outer : W → Contents → Behind → Type 0) (Passes :
   StepIs debt h s (Go cost work h') = IsGone debt h s cost work h' ⊎ IsCalling debt h s cost work h'
   StepIs debt h s (Stop cost (faulted f) h') = (t : Machine) × Stopped z.w Passes cost.own debt h h' s t × AtExit f h' t
   StepIs debt h s (Stop cost stuck h') = ⊥
+
+-- A step costs a unit of its own at least; it costs none of a primitive, unless a call of one has ended. One that faults costs few.
+abbrev pub CostsSome : {W E : Type 0} → Configuration W E → Step W E → Type 0
+CostsSome h (Go cost work h') = (1 ≤ cost.own) × ((cost.primitive ≡ 0) ⊎ (ended h' ≡ suc (ended h)))
+CostsSome h (Stop cost f h') = (1 ≤ cost.own) × (total cost ≤ 8388608)
+
+-- a law: so does each step, where what is left to do stands in the machine
+abbrev pub StepsCostSome : (W E : Type 0) (Outer : W → Contents → Behind → Type 0) (Passes : Machine → Machine → Type 0) → Type 0
+StepsCostSome W E Outer Passes = (z : Setup W E Outer Passes) (debt : ℕ) (item : Work) (work : List Work) (h : Configuration W E) (s : Machine)
+    → Simulated W E Outer Passes z debt (item ∷ work) h s → CostsSome h (act z.p item work h)
 
 -- A law: where what is left to do stands in the machine, a step of C0's meaning is a run of the code, over any machine with primitives.
 abbrev pub StepsRun : (W E : Type 0) (Outer : W → Contents → Behind → Type 0) (Passes : Machine → Machine → Type 0) → Type 0

@@ -1,15 +1,13 @@
 -- Where the parts of a checked unit's code stand by its places, and that its instructions are in range.
 use Rattle.std.specs.Prelude.{All, sum, slice_get, slice_index, Some}
-use Rattle.std.proofs.Common.{rules, Global, ◌≡◌, ℕ, zero, suc, ◌+◌, ◌*◌, ◌/◌, ◌%◌, ◌^◌, ◌<◌, ◌≤◌, List, [], ◌∷◌, ◌++◌, length, refl, sym, ap, subst, ◌∙◌, arith}
+use Rattle.std.proofs.Common.{rules, Global, ◌≡◌, ℕ, zero, suc, ◌+◌, ◌*◌, ◌/◌, ◌^◌, ◌<◌, ◌≤◌, List, [], ◌∷◌, ◌++◌, length, refl, sym, ap, ◌∙◌, arith}
 use Rattle.std.proofs.lemmas.List.{length-map}
 use Rattle.std.proofs.lemmas.List.Elements.{All-append, All-cons, All-head, All-nil, All-tail}
 use Rattle.std.specs.declared.vec.Vec.{Vec}
 use Rattle.mips_table.specs.declared.inst.Inst.{Inst}
-use Rattle.mips_table.specs.declared.inst.Inst.TheVariants.{Lui, Ori, Lw, Sll, Addu, Jal, J}
 use Rattle.mips_table.specs.Encoding.{InRange}
 use Rattle.masm.specs.declared.registers.Places.{Places}
 use Rattle.masm.specs.Places.{IsPlace, ArePlaces}
-use Rattle.layer_map.specs.Map.{layer_words}
 use Rattle.c0_tree.specs.declared.tree.Unit.{Unit as Source}
 use Rattle.c0_tree.specs.Primitives.{kernel_primitives}
 use Rattle.c0_tree.specs.Tree.{CFunction, CUnit}
@@ -18,16 +16,15 @@ use Rattle.c0_meaning.specs.Operators.{KernelFault, NullUse, Bounds, DivZero, St
 use Rattle.c0_meaning.specs.Typed.{UnitsAreFaultless}
 use Rattle.c0_meaning.specs.Unit.{IsChecked}
 use Rattle.c0_runtime.specs.declared.runtime.TheConstants.{NEW_OBJECT, MULTIPLY, DIVIDE, REMAINDER}
-use Rattle.c0_runtime.specs.Code.{entry_code, new_code, multiply_code, divide_code, remainder_code}
-use Rattle.c0_expr_code.specs.Laws.{HasNearExits}
-use Rattle.c0_expr_code.specs.Scope.{exit_number, exit_of, scope_of}
+use Rattle.c0_runtime.specs.Code.{entry_code, multiply_code, divide_code, remainder_code}
+use Rattle.c0_expr_code.specs.Scope.{exit_number, scope_of}
 use Rattle.c0_stmt_code.specs.Code.{links_of, function_code}
 use Rattle.c0_stmt_code.specs.Lengths.{FunctionsAreShort, LengthsAreFixed}
 use Rattle.c0_stmt_code.specs.Ranges.{AreNear, FunctionsAreInRange}
-use Rattle.c0_unit.specs.Code.{fault_exits, primitive_entries, routines_at, functions_at, scope, links, functions_code, words_of, starts_from, function_starts, code_words, globals_start, dispatch_number, dispatch_start, routines_code, unit_code}
+use Rattle.c0_unit.specs.Code.{fault_exits, primitive_entries, routines_at, functions_at, scope, links, functions_code, words_of, starts_from, function_starts, globals_start, dispatch_number, dispatch_start, routines_code, unit_code}
 use Rattle.c0_unit.specs.Laws.{ArePlacesOf, StandsIn, UnitStands}
 use Rattle.c0_unit.proofs.Emitted.{few_nodes, are_places}
-use Rattle.c0_unit.proofs.Units.{IsPart, behind, code_same, words_few, functions_length, function_stands}
+use Rattle.c0_unit.proofs.Units.{behind, code_same, words_few, functions_length, function_stands}
 
 place_at : (xs : List ℕ) (n : ℕ) → All IsPlace xs → IsPlace (slice_index xs n)
 place_at [] n h = (refl, omega arith)
@@ -133,11 +130,11 @@ module _ (faultless : UnitsAreFaultless) (short : FunctionsAreShort) (u : CUnit)
   unit_stands fixed ranged p h = record {
     rest = routines_code ++ functions_code u (function_starts u) u.functions;
     entry =
-      let d = (start_placed (dispatch_number u)).0 in
-      let by_four : dispatch_start u ≡ 4 * (dispatch_start u / 4) = omega (arith, d) in
-      let same = ap (λ (ns : List ℕ). 4 * (slice_index ns (dispatch_number u) / 4)) h.functions in
-      ap (λ (n : ℕ). entry_code n (dispatch_start u) ++ (routines_code ++ functions_code u (function_starts u) u.functions)) (sym h.globals_at)
-      ∙ ap (λ (n : ℕ). entry_code p.globals n ++ (routines_code ++ functions_code u (function_starts u) u.functions)) (by_four ∙ sym same);
+        let d = (start_placed (dispatch_number u)).0 in
+        let by_four : dispatch_start u ≡ 4 * (dispatch_start u / 4) = omega (arith, d) in
+        let same = ap (λ (ns : List ℕ). 4 * (slice_index ns (dispatch_number u) / 4)) h.functions in
+        ap (λ (n : ℕ). entry_code n (dispatch_start u) ++ (routines_code ++ functions_code u (function_starts u) u.functions)) (sym h.globals_at)
+        ∙ ap (λ (n : ℕ). entry_code p.globals n ++ (routines_code ++ functions_code u (function_starts u) u.functions)) (by_four ∙ sym same);
     new_object = record {
       before = entry_code (globals_start u) (dispatch_start u);
       after = (multiply_code ++ (divide_code (slice_index fault_exits 2) ++ remainder_code (slice_index fault_exits 2))) ++ functions_code u (function_starts u) u.functions;
@@ -151,9 +148,9 @@ module _ (faultless : UnitsAreFaultless) (short : FunctionsAreShort) (u : CUnit)
     exits = λ fault. ap (λ (ns : List ℕ). slice_index ns (exit_number fault) / 4) h.faults ∙ exit_at fault;
     primitives = λ n lt. ap (λ (ns : List ℕ). slice_index ns n / 4) h.primitives ∙ entry_at n lt;
     below = λ n.
-      let same = ap (λ (ns : List ℕ). slice_index ns n / 4) h.primitives in
-      let low = entries_low primitive_entries n entries in
-      omega (arith, same, low);
+        let same = ap (λ (ns : List ℕ). slice_index ns n / 4) h.primitives in
+        let low = entries_low primitive_entries n entries in
+        omega (arith, same, low);
   }
     where
       its_place : (n : ℕ) (f : CFunction) → slice_get u.functions n ≡ Some f → StandsIn u ((links_of p).function n) (function_code (scope_of u f p) (links_of p) f)
@@ -185,10 +182,10 @@ unfolding vec_of
 unit_places faultless short s checked =
     let u = unit_view s in
     let few : length (function_starts (unit_view s)) < 2 ^ 63 =
-        let l = starts_length functions_at (words_of (unit_view s) (unit_view s).functions) in
-        let m = length-map (unit_view s).functions (λ f. length (function_code (scope (unit_view s) f) (links []) f)) in
-        let n = length-map s.functions.items function_view in
-        omega (arith, l, m, n, s.functions.ok, s.functions.small) in
+    let l = starts_length functions_at (words_of (unit_view s) (unit_view s).functions) in
+    let m = length-map (unit_view s).functions (λ f. length (function_code (scope (unit_view s) f) (links []) f)) in
+    let n = length-map s.functions.items function_view in
+    omega (arith, l, m, n, s.functions.ok, s.functions.small) in
     let places : Places = record {
       globals = globals_start (unit_view s);
       faults = fault_exits;
@@ -198,18 +195,20 @@ unit_places faultless short s checked =
       new_object = 4 * (routines_at + NEW_OBJECT);
       functions = vec_of s.functions (function_starts (unit_view s)) few;
       primitives = vec_of s.functions primitive_entries (omega arith);
-    } in
-    (places, record { globals_at = refl; faults = refl; multiply = refl; divide = refl; remainder = refl; new_object = refl; functions = refl; primitives = refl },
-    record {
-      globals = globals_placed faultless short (unit_view s) checked;
-      faults = all_each IsPlace fault_exits exits_placed;
-      multiply = (refl, omega arith);
-      divide = (refl, omega arith);
-      remainder = (refl, omega arith);
-      new_object = (refl, omega arith);
-      functions = starts_placed faultless short (unit_view s) checked;
-      primitives = all_each IsPlace primitive_entries entries_placed;
-    })
+    } in (
+      places,
+      record { globals_at = refl; faults = refl; multiply = refl; divide = refl; remainder = refl; new_object = refl; functions = refl; primitives = refl },
+      record {
+        globals = globals_placed faultless short (unit_view s) checked;
+        faults = all_each IsPlace fault_exits exits_placed;
+        multiply = (refl, omega arith);
+        divide = (refl, omega arith);
+        remainder = (refl, omega arith);
+        new_object = (refl, omega arith);
+        functions = starts_placed faultless short (unit_view s) checked;
+        primitives = all_each IsPlace primitive_entries entries_placed;
+      },
+    )
   where
     exits_placed : Each IsPlace fault_exits
     exits_placed = search rules

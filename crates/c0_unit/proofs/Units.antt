@@ -9,11 +9,10 @@ use Rattle.c0_tree.specs.Tree.{CFunction, CUnit}
 use Rattle.c0_meaning.specs.Limits.{all_nodes, frame}
 use Rattle.c0_meaning.specs.Sound.{shapes}
 use Rattle.c0_meaning.specs.TypeAt.{env_in}
-use Rattle.c0_runtime.specs.Code.{entry_code, multiply_code, divide_code, remainder_code}
 use Rattle.c0_expr_code.specs.Scope.{Scope, scope_of, keeps_registers, exit_number}
 use Rattle.c0_stmt_code.specs.Code.{Links, links_of, function_code}
 use Rattle.c0_stmt_code.specs.Lengths.{FunctionsAreShort, LengthsAreFixed}
-use Rattle.c0_unit.specs.Code.{fault_exits, primitive_entries, functions_at, scope, links, functions_code, words_of, starts_from, function_starts, code_words, globals_start, dispatch_start, routines_code}
+use Rattle.c0_unit.specs.Code.{fault_exits, primitive_entries, scope, links, functions_code, words_of, starts_from, code_words, globals_start}
 use Rattle.c0_unit.specs.Laws.{ArePlacedAt, ArePlacesOf}
 
 -- code stands in other code, from this instruction of it on

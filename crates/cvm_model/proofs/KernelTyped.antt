@@ -24,7 +24,7 @@ use Rattle.cvm_model.specs.Kernel.{Core, Console, Changes, Answers, NotYet}
 use Rattle.cvm_model.specs.Primitives.{Call, VmGet, VmSet, VmSize, VmResize, VmWord, VmPut, VmCopy, ConPut, ConGet, ConLeft, Given, primitive_number, arguments_of, is_good, is_within, granted, refused, unchanged, prim, no_flat, user_of, pages_of, with_register, resized, with_word, with_words}
 use Rattle.cvm_model.specs.KernelMeaning.{Machines, ints_of, call_with, called_by, kernel_primitive, setting_of, machines_of, answer_end, outcome_of}
 use Rattle.cvm_model.specs.Stands.{CoreFits, UserFits, input_room}
-use Rattle.cvm_model.specs.TypedKernel.{RowsAreCalled, UnitsStayTyped, UnitsWantUnits}
+use Rattle.cvm_model.specs.TypedKernel.{RowsAreCalled, UnitsAnswerInts, UnitsStayTyped, UnitsWantUnits}
 use Rattle.cvm_model.proofs.PrimitiveReplays.{and_left, and_right, place_is}
 
 -- a machine of at most 1,024 pages, and machines with few input words
@@ -297,6 +297,10 @@ wanting u c (c0_run.Done k d) h a e = let is : answer_end d.answer ≡ Answers a
 wanting u c (c0_run.Failed k (faulted f) d) h a e = absurd (cc)
 wanting u c (c0_run.Failed k stuck d) h a e = absurd h
 wanting u c (c0_run.NotYet k d) h a e = (k, d, refl)
+
+pub units_answer_ints : DispatchesAnswer Machines Changes → UnitsAnswerInts
+units_answer_ints answer u m n c cause edata user checked range fits p q r typed =
+    answer are_small (setting_of u m.params) n cause edata user c.c0 (machines_of m.params c) checked answers_fit typed p q r (state_small m c range fits)
 
 pub units_want_units : DispatchesAreSafe Machines Changes → DispatchesAnswer Machines Changes → UnitsWantUnits
 units_want_units safe answer u m n c cause edata user checked range fits p q r typed e =

@@ -6,6 +6,7 @@ use Rattle.c0_meaning.specs.Value.{Values}
 use Rattle.c0_tree.specs.Tree.{CUnit}
 use Rattle.c0_meaning.specs.Unit.{IsChecked}
 use Rattle.c0_meaning.specs.TypedState.{AreScalars, IsScalar, IsTypedState}
+use Rattle.c0_meaning.specs.RunLaws.{AnswersAnInt}
 use Rattle.c0_meaning.specs.State.{State as C0}
 use Rattle.c0_meaning.specs.World.{Cost, Configuration}
 use Rattle.c0_meaning.specs.Execution as c0_run
@@ -31,6 +32,12 @@ UnitsWantUnits = (u : CUnit) (m : Map) (n : ℕ) (c : Core) (cause edata user : 
     FitsSigned w32 cause → FitsSigned w32 edata → FitsSigned w32 user → IsTypedState u c.c0 →
     ((kernel_meaning u m.params).dispatch n c cause edata user).end ≡ NotYet →
     (used : Cost) × (d : Configuration Machines Changes) × (c0_run.dispatch (setting_of u m.params) n cause edata user c.c0 (machines_of m.params c) ≡ c0_run.NotYet used d)
+
+-- where it is done it has answered an int
+abbrev pub UnitsAnswerInts : Type 0
+UnitsAnswerInts = (u : CUnit) (m : Map) (n : ℕ) (c : Core) (cause edata user : ℤ) → IsChecked u → ParamsInRange m.params → CoreFits m c →
+    FitsSigned w32 cause → FitsSigned w32 edata → FitsSigned w32 user → IsTypedState u c.c0 →
+    AnswersAnInt (c0_run.dispatch (setting_of u m.params) n cause edata user c.c0 (machines_of m.params c))
 
 -- the call of a row of the table of primitives with these arguments: its number is the row's, and its arguments are the ints
 pub record IsCallOf (n : ℕ) (args : Values) (call : Call) : Type 0 where

@@ -7,7 +7,7 @@
 #![tactic(auto)]
 
 ghost use Rattle.cvm_model.specs.KernelMeaning.{CallsAreTold, UnitsAreKernels, UnitsReplay};
-ghost use Rattle.cvm_model.specs.TypedKernel.{RowsAreCalled, UnitsStayTyped, UnitsWantUnits};
+ghost use Rattle.cvm_model.specs.TypedKernel.{RowsAreCalled, UnitsAnswerInts, UnitsStayTyped, UnitsWantUnits};
 ghost use Rattle.cvm_model.specs.Cvm.{UnitsDontMatter};
 ghost use Rattle.cvm_model.specs.Journal.{ReplayJoins, Isolated, PrimitivesReplay};
 
@@ -47,6 +47,7 @@ pub fn units_are_kernels()
 pub fn units_stay_typed()
     ensures typed { UnitsStayTyped }
     ensures units { UnitsWantUnits }
+    ensures ints { UnitsAnswerInts }
 {
     first_states_are_typed();
     calls_are_safe::<KernelWorld>();

@@ -1,5 +1,5 @@
 -- Where the parts of the map stand, as one record.
-use Rattle.std.proofs.Common.{◌≡◌, ℕ, ◌+◌, ◌*◌, ◌/◌, ◌≤◌, arith}
+use Rattle.std.proofs.Common.{◌≡◌, ◌+◌, ◌*◌, ◌/◌, ◌≤◌, arith}
 use Rattle.layer_map.specs.Map.{Map, MapInRange, layer_words, globals_at, heap_at, stack_at, tables_at, frame_table_at, zero_frame_at, memory_words}
 
 pub record Bounds (m : Map) : Type 0 where

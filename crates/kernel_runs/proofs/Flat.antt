@@ -1,21 +1,21 @@
 -- Held values and their words: how many there are, where parts begin among them, and that the one stands where the other does.
-use Rattle.std.specs.Prelude.{slice_get, replicate, unwrap_or, slice_index, ◌↔◌, if◌then◌else◌}
-use Rattle.std.proofs.Common.{◌≡◌, ℕ, zero, suc, ◌+◌, ◌-◌, ◌*◌, ◌<◌, ◌≤◌, Bool, true, false, List, [], ◌∷◌, ◌++◌, length, map, Option, Some, None, refl, sym, ap, ◌∙◌, subst, arith, length-append, inl, inr}
+use Rattle.std.specs.Prelude.{slice_get, replicate, unwrap_or, slice_index, ◌↔◌}
+use Rattle.std.proofs.Common.{◌≡◌, ℕ, zero, suc, ◌+◌, ◌-◌, ◌*◌, ◌<◌, List, [], ◌∷◌, ◌++◌, length, Some, refl, sym, ap, ◌∙◌, subst, arith, length-append, inl, inr}
 use Rattle.std.proofs.lemmas.Bool.{cases_lt}
 use Rattle.std.proofs.lemmas.List.{get_or_append_left, get_or-append-add}
 use Rattle.c0_meaning.specs.Ty.{Ty}
 use Rattle.c0_meaning.specs.Ty as ty
-use Rattle.c0_meaning.specs.Env.{Shape, Typed, typed_of}
-use Rattle.c0_meaning.specs.Words.{fields_named, words, all_words}
+use Rattle.c0_meaning.specs.Env.{Shape}
+use Rattle.c0_meaning.specs.Words.{fields_named, words}
 use Rattle.c0_meaning.specs.RunLaws.{scalars, all_scalars}
 use Rattle.c0_meaning.specs.Sizes as sizes
 use Rattle.c0_meaning.specs.Addresses.{type_at, words_to, words_to_part}
-use Rattle.c0_meaning.specs.Value.{Region, globals, heap, locals, Location, Value, int, bool, null, at, group, Values, empty, part}
+use Rattle.c0_meaning.specs.Value.{Location, Value, int, bool, null, at, group, Values, empty, part}
 use Rattle.c0_meaning.specs.TypedState.{Layout, types_of, Leads, LeadsFrom, PointsTo, Fits, AllFit, AreParts}
 use Rattle.c0_expr_code.specs.Scope.{Scope}
 use Rattle.c0_expr_code.specs.Laws.{IsOpened}
-use Rattle.c0_expr_code.specs.Bases.{Bases, words_of_all, word_at, word, Held, AllHeld, RegionHeld}
-use Rattle.cvm_model.specs.Kernel.{parts_of, part_at, words_before, offset, flat, flats}
+use Rattle.c0_expr_code.specs.Bases.{Bases, words_of_all, word_at, Held, AllHeld, RegionHeld}
+use Rattle.cvm_model.specs.Kernel.{part_at, words_before, offset, flat, flats}
 use Rattle.kernel_runs.specs.Held.{HoldsAt}
 
 -- a value has as many words as scalars

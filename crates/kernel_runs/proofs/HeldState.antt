@@ -1,6 +1,5 @@
 -- The data of a state, word by word: its regions are held where their words stand.
-use Rattle.std.specs.Prelude.{slice_get, ◌↔◌}
-use Rattle.std.proofs.Common.{◌≡◌, ℕ, ◌+◌, ◌*◌, ◌≤◌, List, [], ◌∷◌, map, Some, refl, sym, ap, ◌∙◌, subst, arith}
+use Rattle.std.proofs.Common.{◌≡◌, ℕ, ◌+◌, ◌*◌, List, [], ◌∷◌, map, refl, ap, ◌∙◌, arith}
 use Rattle.c0_tree.specs.Tree.{CUnit}
 use Rattle.c0_meaning.specs.Ty.{Ty}
 use Rattle.c0_meaning.specs.Env.{Typed, Shape, typed_of}
@@ -9,7 +8,6 @@ use Rattle.c0_meaning.specs.Sound.{shapes}
 use Rattle.c0_meaning.specs.State.{State as C0}
 use Rattle.c0_meaning.specs.Value.{Region, globals, heap, locals, Location}
 use Rattle.c0_meaning.specs.TypedState.{types_of, PointsTo, layout_of, IsTypedWith}
-use Rattle.c0_expr_code.specs.Scope.{Scope}
 use Rattle.c0_expr_code.specs.Laws.{IsOpened}
 use Rattle.c0_expr_code.specs.Bases.{Bases, words_of_all, word_at}
 use Rattle.c0_stmt_code.specs.Standing.{unit_scope}

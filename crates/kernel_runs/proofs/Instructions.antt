@@ -1,16 +1,15 @@
 -- A kernel's code as the code of a machine: what stands where, that it is sound, and that the machine holds its words.
-use Rattle.std.specs.Prelude.{slice_get, slice_index, option_map, nat_lt, nat_le, ◌&&◌, ◌||◌, if◌then◌else◌, drop}
+use Rattle.std.specs.Prelude.{slice_get, slice_index, option_map, nat_lt, nat_le, ◌&&◌, ◌||◌, drop}
 use Rattle.std.specs.List.{All}
-use Rattle.std.proofs.Common.{◌≡◌, ℕ, zero, suc, ◌+◌, ◌-◌, ◌*◌, ◌^◌, ◌<◌, ◌≤◌, inl, inr, Bool, true, false, List, [], ◌∷◌, ◌++◌, length, map, Option, Some, None, refl, sym, ap, ap₂, ◌∙◌, subst, arith, append_assoc, length-append, lt-ltb}
+use Rattle.std.proofs.Common.{◌≡◌, ℕ, zero, suc, ◌+◌, ◌-◌, ◌^◌, ◌<◌, ◌≤◌, inl, inr, Bool, true, false, List, [], ◌∷◌, ◌++◌, length, map, Option, Some, None, refl, sym, ap, ap₂, ◌∙◌, subst, arith, append_assoc, length-append, lt-ltb}
 use Rattle.std.proofs.lemmas.Bool.{cases_lt, cond-true, cond-false, le-ltb}
-use Rattle.std.proofs.lemmas.List.{get_or-drop, length-map}
+use Rattle.std.proofs.lemmas.List.{get_or-drop}
 use Rattle.std.proofs.lemmas.List.Elements.{All-head, All-tail}
 use Rattle.std.proofs.lemmas.Option.{slice_get_past}
 use Rattle.mips_table.specs.declared.inst.Inst.{Inst}
 use Rattle.mips_table.specs.Encoding.{InRange, encoding}
 use Rattle.mips_table.specs.Device.{Outside}
-use Rattle.mips_table.specs.Code.{World, on_machine, Sound, CodeAt}
-use Rattle.mips_table.specs.Simulation.{Holds}
+use Rattle.mips_table.specs.Code.{on_machine, Sound, CodeAt}
 use Rattle.layer_map.specs.Map.{Map, layer_words, block_at}
 use Rattle.cvm_model.specs.Stands.{is_own}
 use Rattle.kernel_runs.specs.Placed.{code_from, program, StandsAt}
@@ -60,11 +59,10 @@ piece_at x first words code [] before after le e = tt
 piece_at x first words code (i ∷ is) before after le e =
     let place : layer_words + length before - layer_words ≡ length before = omega arith in
     let here : slice_get code (layer_words + length before - layer_words) ≡ Some i = ap (slice_get code) place ∙ ap (λ c. slice_get c (length before)) e ∙ get_seam before i (is ++ after) in
-    let next : layer_words + length (before ++ i ∷ []) ≡ layer_words + length before + 1 = omega (arith, length-append before (i ∷ [])) in
-    (
+    let next : layer_words + length (before ++ i ∷ []) ≡ layer_words + length before + 1 = omega (arith, length-append before (i ∷ [])) in (
       code_there first code (layer_words + length before) i le here,
       subst (λ k. CodeAt (on_machine x (program first code words)) k is) next
-      (piece_at x first words code is (before ++ i ∷ []) after (omega (arith, le, next)) (e ∙ sym (append_assoc before (i ∷ []) (is ++ after)))),
+          (piece_at x first words code is (before ++ i ∷ []) after (omega (arith, le, next)) (e ∙ sym (append_assoc before (i ∷ []) (is ++ after)))),
     )
 
 pub stands_at : (x : Outside) (words : ℕ) (code : List Inst) (k : ℕ) (piece : List Inst) → StandsAt code k piece → CodeAt (on_machine x (program (layer_words + 1) code words)) k piece

@@ -9,3 +9,8 @@ pub mod Reached
 pub mod Words
 pub mod Passing
 pub mod Runs
+pub mod Ends
+pub mod Begins
+pub mod FewUnits
+pub mod KernelRun
+pub mod Compiled

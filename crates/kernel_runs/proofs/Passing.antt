@@ -1,37 +1,37 @@
 -- A call of a primitive, passed on the machine: by the layer's law, from the state that has the call's configuration.
-use Rattle.std.specs.Prelude.{slice_get, slice_index, Some, Ok, option_and_then, All, IsSome, None}
-use Rattle.std.proofs.Common.{◌≡◌, ◌≢◌, ◌⊎◌, inl, inr, ℕ, zero, suc, ◌+◌, ◌-◌, ◌*◌, ◌/◌, ◌%◌, ◌^◌, ◌<◌, ◌≤◌, Bool, true, false, List, [], ◌∷◌, ◌++◌, length, map, refl, sym, ap, ◌∙◌, subst, arith}
+use Rattle.std.specs.Prelude.{slice_get, slice_index, Some}
+use Rattle.std.proofs.Common.{◌≡◌, ◌⊎◌, inl, inr, ℕ, ◌+◌, ◌-◌, ◌*◌, ◌/◌, ◌^◌, ◌<◌, ◌≤◌, List, [], ◌∷◌, length, map, refl, sym, ap, ◌∙◌, subst, arith}
 use Rattle.std.proofs.lemmas.Bool.{cases_lt}
 use Rattle.std.proofs.lemmas.List.{length-drop, length-map}
 use Rattle.mips_table.specs.declared.inst.Inst.{Inst}
 use Rattle.mips_table.specs.Encoding.{encoding}
-use Rattle.mips_table.specs.Device.{Idle, Outside}
-use Rattle.mips_table.specs.Fits.{IsWord, NamesSector, Fits, StaysFitting}
-use Rattle.mips_table.specs.Code.{World, Contents, Behind, Configuration as Machine, on_machine, Sound}
+use Rattle.mips_table.specs.Device.{Outside}
+use Rattle.mips_table.specs.Fits.{NamesSector, StaysFitting}
+use Rattle.mips_table.specs.Code.{World, Configuration as Machine, on_machine, Sound}
 use Rattle.mips_table.specs.Machine.{State, run}
-use Rattle.mips_table.specs.Simulation.{configuration_of, Quiet, Holds, Serves, MachineSimulates}
+use Rattle.mips_table.specs.Simulation.{configuration_of, Quiet, MachineSimulates}
 use Rattle.masm.specs.declared.registers.Places.{Places}
-use Rattle.layer_map.specs.Map.{layer_words, heap_used_at, globals_at, heap_at, stack_at, memory_words}
+use Rattle.layer_map.specs.Map.{layer_words, globals_at, heap_at, memory_words}
 use Rattle.page_model.specs.Laws.{AlikesStand}
 use Rattle.c0_tree.specs.Primitives.{CPrimitive, kernel_primitives}
 use Rattle.c0_tree.specs.Tree.{CUnit}
 use Rattle.mips_table.specs.Flat.{Flat}
 use Rattle.c0_meaning.specs.State.{State as C0}
-use Rattle.c0_meaning.specs.Value.{Value, group, Values}
+use Rattle.c0_meaning.specs.Value.{group, Values}
 use Rattle.c0_meaning.specs.World.{call_cost}
-use Rattle.c0_meaning.specs.TypedState.{IsScalar, AreScalars}
+use Rattle.c0_meaning.specs.TypedState.{IsScalar}
 use Rattle.c0_stmt_code.specs.Code.{links_of}
-use Rattle.c0_stmt_code.specs.Setup.{scalar_word, IsKept, Back, Called, global_words}
+use Rattle.c0_stmt_code.specs.Setup.{scalar_word, IsKept, Back, Called}
 use Rattle.layer_contract.specs.declared.entry.Entry.{Entry}
 use Rattle.layer_contract.specs.declared.entry.Entry.TheVariants.{Dispatch, Primitive, Fault as Exit, Leave}
-use Rattle.layer_contract.specs.Layer.{IsEntry, Inside, Way, IsAt, BusyWithin, PrimitiveCalled, Returned, ComesBack, PrimitivesAnswer}
+use Rattle.layer_contract.specs.Layer.{IsEntry, BusyWithin, PrimitiveCalled, Returned, ComesBack, PrimitivesAnswer}
 use Rattle.layer_contract.specs.Follows.{IsKernelDoor}
-use Rattle.cvm_model.specs.Kernel.{Console, Core, flat}
-use Rattle.cvm_model.specs.KernelMeaning.{Machines, kernel_primitive, called_by, machines_of}
-use Rattle.cvm_model.specs.Primitives.{Call, Given, prim, primitive_number, units_of}
+use Rattle.cvm_model.specs.Kernel.{Console, Core}
+use Rattle.cvm_model.specs.KernelMeaning.{Machines, kernel_primitive, called_by}
+use Rattle.cvm_model.specs.Primitives.{Call, Given, prim}
 use Rattle.cvm_model.specs.Cvm.{run_steps}
 use Rattle.cvm_model.specs.TypedKernel.{IsCallOf, RowsAreCalled}
-use Rattle.cvm_model.specs.Stands.{Site, Stands, address_of}
+use Rattle.cvm_model.specs.Stands.{Site, address_of}
 use Rattle.kernel_runs.specs.Held.{HoldsAt}
 use Rattle.kernel_runs.specs.Outer.{Outer}
 use Rattle.kernel_runs.specs.Placed.{program, CodeStands}

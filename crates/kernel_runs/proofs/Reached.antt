@@ -1,16 +1,15 @@
 -- How far a run has come: so many steps of the machine lead to a configuration, by a way that meets no door of the kernel.
-use Rattle.std.proofs.Common.{◌≡◌, ◌≢◌, ◌⊎◌, List, ℕ, zero, suc, ◌+◌, ◌-◌, ◌*◌, ◌/◌, ◌%◌, ◌^◌, ◌<◌, ◌≤◌, inl, inr, false, None, refl, sym, ap, ◌∙◌, subst, arith}
-use Rattle.std.specs.Prelude.{Option, Some}
+use Rattle.std.proofs.Common.{◌≡◌, ◌≢◌, ◌⊎◌, List, ℕ, ◌+◌, ◌-◌, ◌/◌, ◌<◌, ◌≤◌, inl, inr, sym, ap, ◌∙◌, subst, arith}
 use Rattle.std.proofs.lemmas.Bool.{cases_lt}
-use Rattle.mips_table.specs.Device.{Idle, Outside, sector_of}
-use Rattle.mips_table.specs.Code.{World, Configuration as Machine, on_machine, Sound, code_run, Steps}
+use Rattle.mips_table.specs.Device.{Outside, sector_of}
+use Rattle.mips_table.specs.Code.{World, Configuration as Machine, on_machine, Sound, Steps}
 use Rattle.mips_table.specs.Machine.{State, run}
 use Rattle.mips_table.specs.Simulation.{configuration_of, Quiet, Holds, Serves, MachineSimulates}
 use Rattle.mips_table.specs.declared.inst.Inst.{Inst}
 use Rattle.layer_map.specs.Map.{layer_words}
 use Rattle.layer_contract.specs.declared.entry.Entry.{Entry}
 use Rattle.layer_contract.specs.declared.entry.Entry.TheVariants.{Dispatch, Primitive, Fault as Exit, Leave}
-use Rattle.layer_contract.specs.Layer.{entry_address, IsEntry, Inside, Way, SectorsStay}
+use Rattle.layer_contract.specs.Layer.{entry_address, Inside, Way, SectorsStay}
 use Rattle.layer_contract.specs.Follows.{IsKernelDoor}
 use Rattle.cvm_model.specs.Stands.{Site}
 use Rattle.kernel_runs.specs.Placed.{program}

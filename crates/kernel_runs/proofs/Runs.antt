@@ -1,11 +1,11 @@
 -- A run of C0's meaning beside the machine's, step by step: own steps by the code's law, and primitives by the layer's.
 use Rattle.std.specs.Prelude.{slice_get, Some, All, nat_lt, if◌then◌else◌}
-use Rattle.std.proofs.Common.{◌≡◌, ◌≢◌, ◌⊎◌, inl, inr, ℕ, zero, suc, ◌+◌, ◌-◌, ◌*◌, ◌/◌, ◌^◌, ◌<◌, ◌≤◌, Bool, true, false, List, [], ◌∷◌, length, refl, sym, ap, ◌∙◌, subst, arith, ltb-true}
+use Rattle.std.proofs.Common.{◌≡◌, ◌⊎◌, inl, inr, ℕ, zero, suc, ◌+◌, ◌*◌, ◌^◌, ◌<◌, ◌≤◌, Bool, true, false, List, [], ◌∷◌, refl, sym, ap, subst, arith, ltb-true}
 use Rattle.std.proofs.lemmas.Bool.{ltb-false}
 use Rattle.mips_table.specs.declared.inst.Inst.{Inst}
 use Rattle.mips_table.specs.Device.{Outside}
 use Rattle.mips_table.specs.Fits.{StaysFitting}
-use Rattle.mips_table.specs.Code.{World, Configuration as Machine, on_machine, Sound, Steps}
+use Rattle.mips_table.specs.Code.{Configuration as Machine, on_machine, Sound}
 use Rattle.mips_table.specs.Machine.{State}
 use Rattle.mips_table.specs.Simulation.{MachineSimulates}
 use Rattle.masm.specs.declared.registers.Places.{Places}
@@ -21,8 +21,8 @@ use Rattle.c0_tree.specs.Primitives.{CPrimitive, kernel_primitives}
 use Rattle.mips_table.specs.Flat.{Flat}
 use Rattle.c0_stmt_code.specs.Code.{links_of}
 use Rattle.c0_stmt_code.specs.Setup.{Setup, Called}
-use Rattle.c0_stmt_code.specs.Journey.{Journey, Led, Stopped}
-use Rattle.c0_stmt_code.specs.Standing.{Simulated, Ended, AtExit, IsGone, IsCalling, StepIs, StepsRun}
+use Rattle.c0_stmt_code.specs.Journey.{Journey}
+use Rattle.c0_stmt_code.specs.Standing.{CostsSome, Simulated, Ended, AtExit, IsGone, IsCalling, StepIs, StepsRun}
 use Rattle.cvm_model.specs.Kernel.{Console, Changes}
 use Rattle.cvm_model.specs.KernelMeaning.{Machines, kernel_primitive}
 use Rattle.cvm_model.specs.Cvm.{page_steps, run_steps}
@@ -37,11 +37,6 @@ use Rattle.kernel_runs.proofs.Passing.{Ground, Passed, passes}
 -- more units than a primitive takes
 abbrev pub MOST_UNITS : ℕ
 MOST_UNITS = 4194305
-
--- what is needed of the costs of a step, for a bound from below
-abbrev pub Fine : {W E : Type 0} → Configuration W E → Step W E → Type 0
-Fine h (Go cost work h') = (1 ≤ cost.own) × ((cost.primitive ≡ 0) ⊎ (length h'.calls ≡ suc (length h.calls)))
-Fine h (Stop cost f h') = total cost ≤ 8388608
 
 -- no primitive takes more units, over users of few pages
 abbrev pub FewUnits : Type 0
@@ -84,9 +79,9 @@ module _ (simulates : MachineSimulates) (joins : RunsJoin) (fitting : StaysFitti
 
   -- what a run comes to on the machine
   abbrev pub RunTo : (base limit : ℕ) → Outcome Machines Changes → Type 0
-  RunTo base limit (Done cost h) = (k : ℕ) × (s : Machine) × Here k s × Ended Machines Changes (Outer y current) (λ s t. ⊥) z h s × (debt : ℕ) × Progress base k debt cost
+  RunTo base limit (Done cost h) = (k : ℕ) × (s : Machine) × Here k s × Ended Machines Changes (Outer y current) (λ s t. ⊥) z h s × (debt : ℕ) × Progress base k debt cost × (1 ≤ cost.own)
   RunTo base limit (Failed cost (faulted f) h) = (k : ℕ) × (s : Machine) × Here k s × AtExit Machines Changes (Outer y current) (λ s t. ⊥) z f h s
-      × (own : ℕ) × (own ≤ 60 * cost.own) × (k ≤ base + own + run_steps y.map longest cost.primitive cost.pages)
+      × (own : ℕ) × (own ≤ 60 * cost.own) × (k ≤ base + own + run_steps y.map longest cost.primitive cost.pages) × (1 ≤ cost.own)
   RunTo base limit (Failed cost stuck h) = ⊥
   RunTo base limit (NotYet cost h) = (k : ℕ) × (s : Machine) × Here k s × (limit < 8388608 * (k + 1))
 
@@ -98,7 +93,7 @@ module _ (simulates : MachineSimulates) (joins : RunsJoin) (fitting : StaysFitti
       subst (λ w. Passed simulates joins fitting alikes rows x y u p code words longest current st g user_ok sound s0 k s to n row vs w) same
       (passes simulates joins fitting alikes rows x y u p code words longest current st g user_ok sound s0 k s to n row vs v.users v.console here is called (subst (λ w. Outer y current w s.contents s.behind) (sym same) outer) room)
 
-  module _ (fine : (debt : ℕ) (item : Work) (work : List Work) (h : H) (s : Machine) → Sim debt (item ∷ work) h s → Fine h (act z.p item work h)) (few : FewUnits) (base : ℕ) where
+  module _ (fine : (debt : ℕ) (item : Work) (work : List Work) (h : H) (s : Machine) → Sim debt (item ∷ work) h s → CostsSome h (act z.p item work h)) (few : FewUnits) (base : ℕ) where
     -- where a step has led, with what it cost
     record Stepped (k : ℕ) (used cost : Cost) (work : List Work) (h' : H) : Type 0 where
       at : ℕ
@@ -110,12 +105,12 @@ module _ (simulates : MachineSimulates) (joins : RunsJoin) (fitting : StaysFitti
 
     -- after own steps
     gone : (k debt : ℕ) (used cost : Cost) (h h' : H) (work : List Work) (s : Machine) → Here k s → Progress base k debt used → IsGone Machines Changes (Outer y current) (λ s t. ⊥) z debt h s cost work h'
-        → Fine h (Go cost work h') → Stepped k used cost work h'
+        → CostsSome h (Go cost work h') → Stepped k used cost work h'
     gone k debt used cost h h' work s here pr r f = by_passes r.2.passes r.2.run r.2.ended_so
       where
         by_passes : (passes : ℕ) → Journey z.w (λ s t. ⊥) r.2.own passes s r.0 → ended h' ≡ ended h + passes → Stepped k used cost work h'
         by_passes zero run same =
-            let none : cost.primitive ≡ 0 = elim f.1 [ | inl e ↦ e | inr e ↦ absurd (omega (arith, e, same)) ] in
+            let none : cost.primitive ≡ 0 = elim f.1 [ inl e ↦ e | inr e ↦ absurd (omega (arith, e, same)) ] in
             let ph = pr.high in let pl = pr.low in let pc = pr.calls_low in let po = pr.own_steps in let ps = pr.spent in
             let lh = r.2.high in let ll = r.2.low in
             record {
@@ -137,7 +132,7 @@ module _ (simulates : MachineSimulates) (joins : RunsJoin) (fitting : StaysFitti
 
     -- after a primitive
     called : (k debt : ℕ) (used cost : Cost) (h h' : H) (work : List Work) (s : Machine) → Here k s → Progress base k debt used → IsCalling Machines Changes (Outer y current) (λ s t. ⊥) z debt h s cost work h'
-        → Fine h (Go cost work h') → Stepped k used cost work h'
+        → CostsSome h (Go cost work h') → Stepped k used cost work h'
     called k debt used cost h h' work s here pr c f =
         let entry = goes_on simulates joins x y code words sound s0 k c.own s c.entry here c.run in
         let pd = passed (k + c.own) c.entry c.to c.number c.row c.args h.world entry c.is c.called c.outer c.room in
@@ -164,18 +159,27 @@ module _ (simulates : MachineSimulates) (joins : RunsJoin) (fitting : StaysFitti
         }
 
     stepped : (k debt : ℕ) (used cost : Cost) (h h' : H) (work : List Work) (s : Machine) → Here k s → Progress base k debt used
-        → IsGone Machines Changes (Outer y current) (λ s t. ⊥) z debt h s cost work h' ⊎ IsCalling Machines Changes (Outer y current) (λ s t. ⊥) z debt h s cost work h' → Fine h (Go cost work h') → Stepped k used cost work h'
+        → IsGone Machines Changes (Outer y current) (λ s t. ⊥) z debt h s cost work h' ⊎ IsCalling Machines Changes (Outer y current) (λ s t. ⊥) z debt h s cost work h' → CostsSome h (Go cost work h') → Stepped k used cost work h'
     stepped k debt used cost h h' work s here pr (inl r) f = gone k debt used cost h h' work s here pr r f
     stepped k debt used cost h h' work s here pr (inr r) f = called k debt used cost h h' work s here pr r f
 
-    pub whole : (fuel limit : ℕ) (used : Cost) (work : List Work) (h : H) (s : Machine) (k debt : ℕ) → Here k s → Progress base k debt used → limit < fuel + total used → total used ≤ limit → Sim debt work h s → RunTo base limit (run z.p fuel limit used work h)
-    whole zero limit used work h s k debt here pr enough within sim = absurd (omega (arith, enough, within))
-    whole (suc fuel) limit used [] h s k debt here pr enough within sim = (k, s, here, sim, debt, pr)
-    whole (suc fuel) limit used (item ∷ work) h s k debt here pr enough within sim =
-        by_step (act z.p item work h) (each z debt item work h s sim) (fine debt item work h s sim) (λ u w d t j left here pr enough within sim. whole fuel limit u w d t j left here pr enough within sim)
+    -- a unit was used, unless anything is left to do
+    abbrev Begun : Cost → List Work → Type 0
+    Begun used [] = 1 ≤ used.own
+    Begun used (item ∷ work) = Unit {0}
+
+    begun_by : (used : Cost) (work : List Work) → 1 ≤ used.own → Begun used work
+    begun_by used [] some = some
+    begun_by used (item ∷ work) some = tt
+
+    pub whole : (fuel limit : ℕ) (used : Cost) (work : List Work) (h : H) (s : Machine) (k debt : ℕ) → Here k s → Progress base k debt used → limit < fuel + total used → total used ≤ limit → Begun used work → Sim debt work h s → RunTo base limit (run z.p fuel limit used work h)
+    whole zero limit used work h s k debt here pr enough within begun sim = absurd (omega (arith, enough, within))
+    whole (suc fuel) limit used [] h s k debt here pr enough within begun sim = (k, s, here, sim, debt, pr, begun)
+    whole (suc fuel) limit used (item ∷ work) h s k debt here pr enough within begun sim =
+        by_step (act z.p item work h) (each z debt item work h s sim) (fine debt item work h s sim) (λ u w d t j left here pr enough within some sim. whole fuel limit u w d t j left here pr enough within (begun_by u w some) sim)
       where
-        by_step : (t : Step Machines Changes) → StepIs Machines Changes (Outer y current) (λ s t. ⊥) z debt h s t → Fine h t
-            → ((u : Cost) (w : List Work) (d : H) (t : Machine) (j left : ℕ) → Here j t → Progress base j left u → limit < fuel + total u → total u ≤ limit → Sim left w d t → RunTo base limit (run z.p fuel limit u w d))
+        by_step : (t : Step Machines Changes) → StepIs Machines Changes (Outer y current) (λ s t. ⊥) z debt h s t → CostsSome h t
+            → ((u : Cost) (w : List Work) (d : H) (t : Machine) (j left : ℕ) → Here j t → Progress base j left u → limit < fuel + total u → total u ≤ limit → 1 ≤ u.own → Sim left w d t → RunTo base limit (run z.p fuel limit u w d))
             → RunTo base limit (then_run t limit used h (run z.p fuel limit))
         by_step (Go cost w d) r f rest = by_test (nat_lt limit (total (plus used cost))) refl
           where
@@ -190,7 +194,7 @@ module _ (simulates : MachineSimulates) (joins : RunsJoin) (fitting : StaysFitti
             by_test false e =
                 let a = ltb-false limit (total (plus used cost)) e in
                 let some = f.0 in
-                rest (plus used cost) w d next.end next.at next.left next.here next.progress (omega (arith, enough, some)) a next.sim
+                rest (plus used cost) w d next.end next.at next.left next.here next.progress (omega (arith, enough, some)) a (omega (arith, some)) next.sim
         by_step (Stop cost (faulted x) d) r f rest = by_test (nat_lt limit (total (plus used cost))) refl
           where
             by_passes : (passes : ℕ) → Journey z.w (λ s t. ⊥) r.1.own passes s r.0 → Here (k + r.1.own) r.0
@@ -201,8 +205,9 @@ module _ (simulates : MachineSimulates) (joins : RunsJoin) (fitting : StaysFitti
             by_test true e =
                 let a = ltb-true limit (total (plus used cost)) e in
                 let l = pr.low in let c = pr.calls_low in let o = pr.own_steps in
-                (k, s, here, omega (arith, a, l, c, o, f))
+                let most = f.1 in
+                (k, s, here, omega (arith, a, l, c, o, most))
             by_test false e =
                 let ph = pr.high in let ps = pr.spent in let sh = r.1.high in
-                (k + r.1.own, r.0, by_passes r.1.passes r.1.run, r.2, pr.own + r.1.own, omega (arith, ph, sh), omega (arith, ps, steps_sum y.map longest used.primitive cost.primitive used.pages cost.pages))
+                (k + r.1.own, r.0, by_passes r.1.passes r.1.run, r.2, pr.own + r.1.own, omega (arith, ph, sh), omega (arith, ps, steps_sum y.map longest used.primitive cost.primitive used.pages cost.pages), (let some = f.0 in omega (arith, some)))
         by_step (Stop cost stuck d) r f rest = absurd r

@@ -1,14 +1,12 @@
 -- What is seen of a machine's words and users: of a state that stands, and back.
-use Rattle.std.specs.Prelude.{◌↔◌, slice_index, if◌then◌else◌, take, drop, All, nat_lt, ◌&&◌, ◌==◌}
-use Rattle.std.proofs.Common.{◌≡◌, ℕ, zero, suc, ◌+◌, ◌-◌, ◌*◌, ◌/◌, ◌<◌, ◌≤◌, ◌≢◌, ◌⊎◌, inl, inr, Bool, true, false, List, [], ◌∷◌, length, refl, sym, ap, ◌∙◌, subst, arith, lt-ltb}
-use Rattle.std.proofs.lemmas.Bool.{cases_lt, cond-true, cond-false}
+use Rattle.std.specs.Prelude.{slice_index, take, drop, nat_lt}
+use Rattle.std.proofs.Common.{◌≡◌, ℕ, zero, suc, ◌+◌, ◌<◌, ◌≤◌, List, ◌∷◌, length, refl, sym, ap, ◌∙◌, arith, lt-ltb}
+use Rattle.std.proofs.lemmas.Bool.{cond-true}
 use Rattle.std.proofs.lemmas.List.{get_or-take, get_or-drop, length-take-le, length-drop, ext_get_or}
-use Rattle.mips_table.specs.Code.{Contents, Behind}
 use Rattle.mips_table.specs.Processor.{Cpu}
 use Rattle.mips_table.specs.Fits.{CpuFits}
-use Rattle.mips_table.specs.Machine.{State}
-use Rattle.mips_table.specs.Simulation.{space, contents_of, sectors_of, behind_of}
-use Rattle.layer_map.specs.Map.{Map, block_at}
+use Rattle.mips_table.specs.Simulation.{space}
+use Rattle.layer_map.specs.Map.{block_at}
 use Rattle.cvm_model.specs.Stands.{block_cpu}
 use Rattle.kernel_runs.specs.Outer.{BlockIs}
 

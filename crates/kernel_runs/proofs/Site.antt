@@ -1,19 +1,17 @@
 -- What is fixed in the run of a unit's code on a site: the code's world, and that users and console stay where the unit writes its own words.
 use Rattle.std.specs.Prelude.{slice_get, option_map, map}
-use Rattle.std.proofs.Common.{◌≡◌, ℕ, zero, suc, ◌+◌, ◌-◌, ◌*◌, ◌/◌, ◌^◌, ◌<◌, ◌≤◌, ◌≢◌, inl, inr, Bool, true, false, List, [], ◌∷◌, length, Some, refl, sym, ap, ◌∙◌, subst, arith, true≢false}
+use Rattle.std.proofs.Common.{◌≡◌, ℕ, zero, suc, ◌+◌, ◌*◌, ◌^◌, ◌<◌, ◌≤◌, ◌≢◌, inl, inr, List, [], ◌∷◌, length, Some, refl, sym, ap, ◌∙◌, subst, arith, true≢false}
 use Rattle.std.proofs.lemmas.List.{length-drop, length-map}
 use Rattle.mips_table.specs.declared.inst.Inst.{Inst}
 use Rattle.mips_table.specs.Encoding.{encoding}
 use Rattle.mips_table.specs.Device.{Outside}
-use Rattle.mips_table.specs.Code.{Contents, Behind, World, Configuration as Machine, on_machine}
+use Rattle.mips_table.specs.Code.{Contents, Behind, World, on_machine}
 use Rattle.masm.specs.declared.registers.Places.{Places}
 use Rattle.layer_map.specs.Map.{Map, layer_words, hand_at, current_at, block_at, globals_at, heap_at, stack_at, tables_at, memory_words}
 use Rattle.page_model.specs.Laws.{AlikesStand}
 use Rattle.page_model.specs.Places.{layout_of, places_of, view}
 use Rattle.c0_tree.specs.Primitives.{CPrimitive, kernel_primitives}
 use Rattle.c0_tree.specs.Tree.{CUnit}
-use Rattle.c0_meaning.specs.Env.{typed_of}
-use Rattle.c0_meaning.specs.Sound.{shapes}
 use Rattle.c0_runtime.specs.Code as runtime
 use Rattle.c0_expr_code.specs.Scope.{scope_of}
 use Rattle.c0_stmt_code.specs.Code.{links_of, function_code}
@@ -23,7 +21,7 @@ use Rattle.cvm_model.specs.KernelMeaning.{Machines, setting_of}
 use Rattle.cvm_model.specs.Paged.{pages_by}
 use Rattle.cvm_model.specs.Stands.{Site, is_own}
 use Rattle.kernel_runs.specs.Placed.{program, CodeStands}
-use Rattle.kernel_runs.specs.Outer.{BlockIs, Outer}
+use Rattle.kernel_runs.specs.Outer.{Outer}
 use Rattle.kernel_runs.proofs.Bounds.{Bounds}
 use Rattle.kernel_runs.proofs.Instructions.{code_is, no_code, no_low_code, stands_at, sound}
 

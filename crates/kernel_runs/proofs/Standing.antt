@@ -1,23 +1,22 @@
 -- A state that stands is seen as users and console beside the kernel's data; and a state that is seen so stands.
-use Rattle.std.specs.Prelude.{slice_index, All, IsSome, None, ◌&&◌, ◌==◌}
-use Rattle.std.proofs.Common.{◌≡◌, ℕ, ◌+◌, ◌-◌, ◌*◌, ◌/◌, ◌<◌, ◌≤◌, Bool, true, false, List, length, refl, sym, ap, ap₂, ◌∙◌, subst, arith, true≢false}
+use Rattle.std.specs.Prelude.{slice_index, All, ◌&&◌, ◌==◌}
+use Rattle.std.proofs.Common.{◌≡◌, ℕ, ◌+◌, ◌-◌, ◌*◌, ◌<◌, ◌≤◌, Bool, true, false, length, refl, sym, ap, ◌∙◌, arith, true≢false}
 use Rattle.mips_table.specs.Device.{Idle, Outside}
 use Rattle.mips_table.specs.Code.{Contents, Behind}
 use Rattle.mips_table.specs.Machine.{State, MODE}
-use Rattle.mips_table.specs.Turns.{is_on, in_user}
+use Rattle.mips_table.specs.Turns.{is_on}
 use Rattle.mips_table.specs.Simulation.{space, contents_of, behind_of, Quiet}
-use Rattle.layer_map.specs.Map.{Map, MapInRange, layer_words, hand_at, current_at, heap_used_at, heap_words_at, stack_words_at, block_at, globals_at, heap_at, tables_at, frame_table_at, memory_words}
+use Rattle.layer_map.specs.Map.{layer_words, hand_at, current_at, heap_used_at, block_at, globals_at, heap_at, tables_at, memory_words}
 use Rattle.page_model.specs.Laws.{AlikesStand}
 use Rattle.page_model.specs.Edits.{Alike}
-use Rattle.page_model.specs.Paging.{Paged}
 use Rattle.page_model.specs.Places.{layout_of, places_of, view}
 use Rattle.c0_meaning.specs.RunLaws.{scalars}
 use Rattle.cvm_model.specs.Kernel.{flat, Core}
-use Rattle.cvm_model.specs.KernelMeaning.{Machines, machines_of}
-use Rattle.cvm_model.specs.Primitives.{user_of, pages_of}
+use Rattle.cvm_model.specs.KernelMeaning.{machines_of}
+use Rattle.cvm_model.specs.Primitives.{user_of}
 use Rattle.cvm_model.specs.Cvm.{Running}
 use Rattle.cvm_model.specs.Paged.{paged_of, pages_by}
-use Rattle.cvm_model.specs.Stands.{Site, UserFits, CoreFits, Stands, runs_user, address_of, is_own}
+use Rattle.cvm_model.specs.Stands.{Site, UserFits, CoreFits, Stands, runs_user, address_of}
 use Rattle.kernel_runs.specs.Held.{HoldsAt}
 use Rattle.kernel_runs.specs.Outer.{Outer}
 use Rattle.kernel_runs.proofs.Flat.{flat_scalars}

@@ -1,5 +1,5 @@
 -- A kernel's code in the linked words: where its entry, its functions and its routine stand.
-use Rattle.std.specs.Prelude.{◌≡◌, ℕ, ◌+◌, ◌-◌, ◌*◌, ◌<◌, ◌≤◌, nat_lt, if◌then◌else◌, List, ◌++◌, length, map, drop, Option, Some, None, slice_get, option_map, unwrap_or, position}
+use Rattle.std.specs.Prelude.{◌≡◌, ℕ, ◌+◌, ◌-◌, ◌*◌, ◌<◌, ◌≤◌, nat_lt, if◌then◌else◌, List, ◌++◌, length, map, drop, Option, Some, None, slice_get, option_map}
 use Rattle.std.specs.List.{All}
 use Rattle.mips_table.specs.declared.inst.Inst.{Inst}
 use Rattle.mips_table.specs.Encoding.{InRange, encoding}
@@ -9,13 +9,13 @@ use Rattle.layer_map.specs.Map.{MapInRange, layer_words, globals_at}
 use Rattle.c0_tree.specs.Tree.{CFunction, CUnit}
 use Rattle.c0_meaning.specs.Env.{typed_of}
 use Rattle.c0_meaning.specs.Words.{all_words}
-use Rattle.c0_meaning.specs.Limits.{is_dispatch}
 use Rattle.c0_meaning.specs.Operators.{KernelFault}
 use Rattle.c0_meaning.specs.Sound.{shapes}
 use Rattle.c0_meaning.specs.Unit.{IsChecked}
 use Rattle.c0_runtime.specs.Code as runtime
 use Rattle.c0_expr_code.specs.Scope.{scope_of, exit_of}
 use Rattle.c0_stmt_code.specs.Code.{links_of, function_code}
+use Rattle.c0_unit.specs.Code.{dispatch_number}
 use Rattle.cvm_model.specs.Kernel.{power_of}
 use Rattle.cvm_model.specs.KernelMeaning.{fault_of}
 use Rattle.cvm_model.specs.Stands.{Site}
@@ -31,10 +31,6 @@ program first code words = record { code = code_from first code; kept = λ k. op
 -- a piece of the code stands at a word, behind the code's first instruction
 abbrev pub StandsAt : List Inst → ℕ → List Inst → Type 0
 StandsAt code k piece = (before : List Inst) × (after : List Inst) × (code ≡ before ++ (piece ++ after)) × (k ≡ layer_words + length before) × (1 ≤ length before)
-
--- the function that a dispatch calls
-abbrev pub dispatch_number : CUnit → ℕ
-dispatch_number u = unwrap_or (position is_dispatch u.functions) 0
 
 -- The code of a checked unit stands behind a layer's words: its entry first, and the functions and the routine `new` at their places. The globals, the
 -- exits of faults and the primitives are where the map and every layer have them.
