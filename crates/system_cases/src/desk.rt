@@ -1,5 +1,5 @@
 // A machine over a disk in memory.
-ghost use Rattle.std.specs.Prelude.{◌≡◌, ◌<◌, length};
+ghost use Rattle.std.specs.Prelude.{◌≤◌};
 
 use cvm_outside::{MemSectors, Sectors};
 use mips_machine::{Event, Machine};
@@ -30,7 +30,12 @@ impl Model for Desk {
 
 impl Desk {
     /// A machine with so many frames of memory, at most 65,000, all 0, and a disk of so many sectors.
-    pub fn new(alloc: Global, frames: u32, sectors: u32, schedule: Schedule) -> Result<Desk, AllocError>
+    pub fn new(
+        alloc: Global,
+        frames: u32,
+        sectors: u32,
+        schedule: Schedule,
+    ) -> Result<Desk, AllocError>
         requires { frames ≤ 65000 }
     {
         Ok(Desk {

@@ -20,7 +20,27 @@ pub struct Plan {
 
 // The decimal number in a field of a text that is cut at spaces.
 fn number(text: &str, field: usize) -> u32 {
-    text.split(' ').nth(field).unwrap_or("").parse::<u32>().unwrap_or(0)
+    text.split(' ')
+        .nth(field)
+        .unwrap_or("")
+        .parse::<u32>()
+        .unwrap_or(0)
+}
+
+// Appends a line to a text.
+fn put_line(text: &mut Vec<u8>, line: &[u8]) -> Result<(), AllocError> {
+    text.extend_from_slice(line)?;
+    text.push(b'\n')?;
+    Ok(())
+}
+
+// Appends a line to the text of the last user, if there is one.
+fn put_user_line(users: &mut Vec<Vec<u8>>, line: &[u8]) -> Result<(), AllocError> {
+    if let Some(mut text) = users.pop() {
+        put_line(&mut text, line)?;
+        users.push(text)?;
+    }
+    Ok(())
 }
 
 // A line of a case's source: a new part, or a line of the last one.
@@ -32,16 +52,11 @@ fn add_line(alloc: Global, plan: &mut Plan, part: &mut u8, line: &[u8]) -> Resul
         }
         return Ok(());
     }
-    let text = match *part {
-        b'k' => Some(&mut plan.kernel),
-        b's' => Some(&mut plan.schedule),
-        _ => plan.users.last_mut(),
-    };
-    if let Some(text) = text {
-        text.extend_from_slice(line)?;
-        text.push(b'\n')?;
+    match *part {
+        b'k' => put_line(&mut plan.kernel, line),
+        b's' => put_line(&mut plan.schedule, line),
+        _ => put_user_line(&mut plan.users, line),
     }
-    Ok(())
 }
 
 /// The plan of a case. Its name gives the most pages of a user, the frames, the words of the heap and of the stack, and the turns; its

@@ -3,6 +3,7 @@
 use crate::system::System;
 use crate::watch::Watch;
 use cvm_text::hex8;
+use cvm_words::int_of;
 use layer_map::{BLOCK_HI, BLOCK_LO, BLOCK_PC, BLOCK_SIZE, CURRENT, HEAP_USED, block_of};
 use std::alloc::AllocError;
 use std::fmt::Write;
@@ -33,13 +34,19 @@ impl System {
         } else if let Some(number) = number_in(word, self.map.heap(), heap_words) {
             write!(out, " h{number}")
         } else {
-            let value = word as i32;
+            let value = int_of(word);
             write!(out, " {value}")
         }
     }
 
     // Words of the kernel's data.
-    fn put_values(&self, out: &mut String, name: &str, address: u32, words: u32) -> Result<(), AllocError> {
+    fn put_values(
+        &self,
+        out: &mut String,
+        name: &str,
+        address: u32,
+        words: u32,
+    ) -> Result<(), AllocError> {
         out.push_str(name)?;
         for k in 0..words {
             self.put_value(out, self.desk.word((address / 4).wrapping_add(k)))?;
@@ -49,7 +56,8 @@ impl System {
 
     // A word of a user's control block.
     fn block_word(&self, user: u32, word: u32) -> u32 {
-        self.desk.word((block_of(user.clamp(1, 64)) / 4).wrapping_add(word))
+        self.desk
+            .word((block_of(user.clamp(1, 64)) / 4).wrapping_add(word))
     }
 
     // Whether a user is the one that runs on the processor.
@@ -91,12 +99,15 @@ impl System {
 
     // The sum of a page, going on from a sum.
     fn page_sum(&mut self, number: u32, from: u32) -> u32 {
-        let entry = self.desk.word((self.map.page_tables() / 4).wrapping_add(number));
+        let entry = self
+            .desk
+            .word((self.map.page_tables() / 4).wrapping_add(number));
         let mut sum = from;
         self.desk.view(number);
         for k in 0..1024u32 {
             let word = if entry / 0x800 % 2 == 1 {
-                self.desk.word((entry / 4096).wrapping_mul(1024).wrapping_add(k))
+                self.desk
+                    .word((entry / 4096).wrapping_mul(1024).wrapping_add(k))
             } else {
                 self.desk.viewed(k)
             };
@@ -162,5 +173,8 @@ pub fn put_steps(out: &mut String, schedule: &[u8], watch: &Watch) -> Result<(),
     let leave = longest.leave;
     let fault = longest.fault;
     let primitive = longest.primitive;
-    writeln!(out, "\nturns {turns} steps enter {enter} leave {leave} fault {fault} primitive {primitive}")
+    writeln!(
+        out,
+        "\nturns {turns} steps enter {enter} leave {leave} fault {fault} primitive {primitive}"
+    )
 }

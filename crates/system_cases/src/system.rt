@@ -1,4 +1,5 @@
 // The system of a case: its kernel, users and parameters, linked and loaded.
+ghost use Rattle.std.specs.Prelude.{◌≤◌, IfOk};
 
 use crate::desk::Desk;
 use crate::plan::Plan;
@@ -44,7 +45,9 @@ fn type_words(ty: &CType, sizes: &Measured<'_>) -> u64 {
 }
 
 // The words of the globals.
-fn words_of_globals(alloc: Global, unit: &Checked) -> Result<u32, AllocError> {
+fn words_of_globals(alloc: Global, unit: &Checked) -> Result<u32, AllocError>
+    ensures { IfOk result (λ n. n ≤ 262144) }
+{
     let unit = unit.unit();
     let sizes = measured(alloc, unit)?;
     let mut words = 0u64;

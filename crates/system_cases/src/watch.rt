@@ -9,7 +9,9 @@ use std::fmt::Write;
 
 /// The address of the first primitive's entry, that of the first fault's exit behind them, and that at which the kernel is left.
 const ENTRIES: u32 = 0x2000;
+
 const EXITS: u32 = 0x2028;
+
 const LEAVE: u32 = 0x2038;
 
 /// The most steps of a run.
@@ -143,7 +145,13 @@ impl Watch {
     }
 
     /// Runs the machine until so many turns are complete, it is off, or too many steps are done.
-    pub fn run(&mut self, desk: &mut Desk, users: u32, turns: u64, out: &mut String) -> Result<(), AllocError> {
+    pub fn run(
+        &mut self,
+        desk: &mut Desk,
+        users: u32,
+        turns: u64,
+        out: &mut String,
+    ) -> Result<(), AllocError> {
         for _ in 0..MOST {
             if self.complete >= turns || desk.off().is_some() {
                 break;
