@@ -2,7 +2,11 @@ use Rattle.std.proofs.Common.{◌≤◌, arith}
 use Rattle.c0_tree.specs.Primitives.{kernel_primitives}
 use Rattle.c0_tree.specs.View.{unit_view}
 use Rattle.c0_meaning.specs.Limits.{all_nodes}
+use Rattle.kernel_linker.proofs.Joined.{joined}
 use Rattle.kernel_linker.proofs.object.make_object.Goals as goal
+
+pub returns-clause-object : goal.returns-clause-object
+returns-clause-object c = joined _ _ _ (unit_view c.args.unit.now) c.in_ok-source.ensures.items c.in_ok-words.ensures.words
 
 -- a checked unit has at most 100,000 nodes
 pub returns-clause-few : goal.returns-clause-few
