@@ -1,5 +1,5 @@
 -- A run that was loaded is ready for its first turn.
-use Rattle.std.proofs.Common.{◌≡◌, ℕ, List, [], Option, Some, None, refl, sym, ap, ◌∙◌, append-nil}
+use Rattle.std.proofs.Common.{◌≡◌, ℕ, List, [], Option, Some, None, refl, sym, ap, append-nil}
 use Rattle.std.specs.Io.KnownBytes.{append_known}
 use Rattle.mips_table.specs.Device.{Outside}
 use Rattle.cvm_model.specs.Cvm.{System, first_cvm}

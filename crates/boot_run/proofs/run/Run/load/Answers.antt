@@ -1,4 +1,4 @@
-use Rattle.std.proofs.Common.{Some, refl, ◌≡◌, ◌≤◌, ◌*◌, ◌∙◌, sym, ap, ℕ, List, Vec, Global, length, map, subst}
+use Rattle.std.proofs.Common.{Some, ◌≡◌, ◌≤◌, ◌*◌, ◌∙◌, sym, ap, ℕ, List, Vec, Global, length, map, subst}
 use Rattle.std.specs.Option.{option_map}
 use Rattle.layer_map.specs.Map.{Map}
 use Rattle.boot_run.specs.Loading.{first_pages, written, system_of}
