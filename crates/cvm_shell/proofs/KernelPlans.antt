@@ -12,9 +12,9 @@ use Rattle.c0_types.specs.Source.{checked_unit, source_faults}
 use Rattle.c0_types.specs.Answer.{FaultAnswers}
 use Rattle.c0_types.specs.declared.fault.TypeFault.{TypeFault}
 use Rattle.c0_types.specs.declared.fault.TypeFault.TheVariants as typing
-use Rattle.c0_front.specs.Front.{IsUnitOf, IsMistyped, IsFaultOf, IsFaultIn}
-use Rattle.c0_front.specs.declared.fault.SourceFault.{SourceFault}
-use Rattle.c0_front.specs.declared.fault.SourceFault.TheVariants.{Reading, Typing}
+use Rattle.c0_types.specs.Front.{IsUnitOf, IsMistyped, IsFaultOf, IsFaultIn}
+use Rattle.c0_types.specs.declared.source_fault.SourceFault.{SourceFault}
+use Rattle.c0_types.specs.declared.source_fault.SourceFault.TheVariants.{Reading, Typing}
 use Rattle.object_file.specs.Format.{spelling}
 use Rattle.kernel_linker.specs.Object.{object_of}
 use Rattle.cvm_shell.specs.declared.boot.Stop.{Stop}

@@ -13,8 +13,8 @@ use Rattle.c0_parser.specs.declared.fault.ReadFault.{ReadFault}
 use Rattle.c0_parser.specs.declared.fault.ReadFault.TheVariants as read
 use Rattle.c0_types.specs.declared.fault.TypeFault.{TypeFault}
 use Rattle.c0_types.specs.declared.fault.TypeFault.TheVariants as typing
-use Rattle.c0_front.specs.Front.{IsUnitOf, IsMistyped}
-use Rattle.c0_front.specs.declared.fault.SourceFault.TheVariants.{Reading as BadReading, Typing as BadTyping}
+use Rattle.c0_types.specs.Front.{IsUnitOf, IsMistyped}
+use Rattle.c0_types.specs.declared.source_fault.SourceFault.TheVariants.{Reading as BadReading, Typing as BadTyping}
 use Rattle.object_file.specs.Format.{spelling}
 use Rattle.kernel_linker.specs.Object.{object_of}
 use Rattle.cvm_shell.specs.Command.{Boot, CompileUser, CompileKernel, Command, boot, compile_user, compile_kernel, IsBoot, IsCompileUser, IsCompileKernel, IsCommand, IsNoCommand}

@@ -6,8 +6,8 @@ use Rattle.mips_asm.specs.declared.fault.AsmFault.{AsmFault}
 use Rattle.c0_tree.specs.declared.tree.Span.{Span}
 use Rattle.c0_parser.specs.Faults.{read_fault_number, read_fault_place}
 use Rattle.c0_types.specs.Answer.{type_fault_number, type_fault_span, type_fault_line}
-use Rattle.c0_front.specs.declared.fault.SourceFault.{SourceFault}
-use Rattle.c0_front.specs.declared.fault.SourceFault.TheVariants.{Reading, Typing}
+use Rattle.c0_types.specs.declared.source_fault.SourceFault.{SourceFault}
+use Rattle.c0_types.specs.declared.source_fault.SourceFault.TheVariants.{Reading, Typing}
 use Rattle.cvm_shell.specs.declared.status.Status.{Status}
 use Rattle.cvm_shell.specs.declared.status.Status.TheVariants.{Refused, Shelf}
 

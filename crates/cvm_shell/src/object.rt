@@ -1,7 +1,7 @@
 // The object of a kernel: its source, read, checked and compiled.
 ghost use Rattle.std.specs.Prelude.{◌≡◌, ◌≢◌, ◌≤◌, ◌↔◌, ⊤, ℕ, List, length, IfOk, IfErr, IsErrOf};
 ghost use Rattle.cvm_outside.specs.Told.{TOO_LONG};
-ghost use Rattle.c0_front.specs.Front.{IsUnitOf};
+ghost use Rattle.c0_types.specs.Front.{IsUnitOf};
 ghost use Rattle.c0_tree.specs.View.{unit_view};
 ghost use Rattle.kernel_linker.specs.Object.{object_of};
 ghost use Rattle.object_file.specs.Format.{spelling};
@@ -13,11 +13,10 @@ ghost use Rattle.cvm_shell.specs.Views.{kernel_view, IfPlan};
 use crate::boot::Stop;
 use crate::command::CompileKernel;
 use crate::refusal::Refusal;
-use c0_front::{SourceFault, read_unit};
 use c0_meaning::Checked;
 use c0_meaning::laws::least_fault_is_there;
 use c0_parser::ReadFault;
-use c0_types::TypeFault;
+use c0_types::{SourceFault, TypeFault, read_unit};
 use cvm_outside::Shelf;
 use kernel_linker::make_object;
 use object_file::write;

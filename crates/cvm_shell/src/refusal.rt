@@ -1,15 +1,14 @@
 // The refusals, with the row and the status of each.
 ghost use Rattle.std.specs.Prelude.{◌≡◌, ◌≢◌, ◌≤◌, ◌+◌, ◌++◌, length, codes, decimal};
-ghost use Rattle.c0_front.specs.declared.fault.SourceFault.TheVariants.{Reading, Typing};
+ghost use Rattle.c0_types.specs.declared.source_fault.SourceFault.TheVariants.{Reading, Typing};
 ghost use Rattle.cvm_shell.specs.Refusal.{refusal_text, refusal_status, field_text, signed_field_text, start_of, end_of, text_fault_row, source_fault_row};
 ghost use Rattle.cvm_shell.specs.Views.{refusal_view};
 
 use crate::status::Status;
 use arrayvec::ArrayString;
-use c0_front::SourceFault;
 use c0_parser::ReadFault;
 use c0_tree::Span;
-use c0_types::TypeFault;
+use c0_types::{SourceFault, TypeFault};
 use cvm_text::{decimal, decimal_u64};
 use mips_asm::AsmFault;
 

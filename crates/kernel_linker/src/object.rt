@@ -2,7 +2,7 @@
 
 ghost use Rattle.std.specs.Prelude.{◌≡◌, ◌≤◌, length, IfOk};
 ghost use Rattle.c0_tree.specs.View.{unit_view};
-ghost use Rattle.c0_front.specs.Front.{IsUnitOf};
+ghost use Rattle.c0_types.specs.Front.{IsUnitOf};
 ghost use Rattle.kernel_linker.specs.Object.{object_of};
 
 use c0_meaning::Checked;

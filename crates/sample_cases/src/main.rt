@@ -1,7 +1,7 @@
 // Prints the parts of some samples; and of samples with each number of users whether the source is typed and the schedule is one.
 #![tactic(auto)]
 
-use c0_front::read_unit;
+use c0_types::read_unit;
 use cvm_text::hex8;
 use sample_maker::{Sample, sample};
 use std::alloc::{AllocError, Global};

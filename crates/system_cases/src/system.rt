@@ -3,10 +3,10 @@ ghost use Rattle.std.specs.Prelude.{◌≤◌, IfOk};
 
 use crate::desk::Desk;
 use crate::plan::Plan;
-use c0_front::read_unit;
 use c0_meaning::{Checked, Measured};
 use c0_structs::measured;
 use c0_tree::CType;
+use c0_types::read_unit;
 use c0_unit::compile;
 use layer_map::{LAYER_WORDS, Map};
 use layer_runs::layer_words;

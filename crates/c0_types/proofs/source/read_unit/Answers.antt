@@ -3,7 +3,7 @@ use Rattle.std.proofs.Common.{◌≡◌, [], subst}
 use Rattle.c0_tree.specs.View.{unit_view}
 use Rattle.c0_types.specs.Source.{checked_unit, source_faults}
 use Rattle.c0_types.specs.Answer.{FaultAnswers}
-use Rattle.c0_front.proofs.source.read_unit.Goals as goal
+use Rattle.c0_types.proofs.source.read_unit.Goals as goal
 
 pub returns-in-Ok-check-clause-only : goal.returns-in-Ok-check-clause-only
 returns-in-Ok-check-clause-only c = λ u le r.

@@ -6,8 +6,8 @@ use Rattle.c0_parser.specs.declared.fault.ReadFault.TheVariants.{Memory}
 use Rattle.c0_types.specs.declared.fault.TypeFault.{TypeFault}
 use Rattle.c0_types.specs.Answer.{FaultAnswers}
 use Rattle.c0_types.specs.Source.{source_faults, checked_unit}
-use Rattle.c0_front.specs.declared.fault.SourceFault.{SourceFault}
-use Rattle.c0_front.specs.declared.fault.SourceFault.TheVariants.{Reading, Typing}
+use Rattle.c0_types.specs.declared.source_fault.SourceFault.{SourceFault}
+use Rattle.c0_types.specs.declared.source_fault.SourceFault.TheVariants.{Reading, Typing}
 
 -- a unit is the checked one of what a source reads as, in which no fault of typing stands
 pub record IsUnitOf (source : List ℕ) (checked : CUnit) : Type 0 where

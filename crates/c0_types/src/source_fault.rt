@@ -1,10 +1,10 @@
 // Why a source has no checked unit.
 
-ghost use Rattle.c0_front.specs.declared.fault.SourceFault.TheVariants.{Reading, Typing};
+ghost use Rattle.c0_types.specs.declared.source_fault.SourceFault.TheVariants.{Reading, Typing};
 ghost use Rattle.std.specs.Prelude.{◌≡◌};
 
+use crate::fault::TypeFault;
 use c0_parser::ReadFault;
-use c0_types::TypeFault;
 use thiserror::Error;
 
 /// Why a source has no checked unit: it has no tree, or its tree is not typed. Want of memory is one of the faults of either.

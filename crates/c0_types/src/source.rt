@@ -6,13 +6,13 @@ ghost use Rattle.c0_tree.specs.View.{unit_view};
 ghost use Rattle.c0_parser.specs.Faults.{Reads};
 ghost use Rattle.c0_parser.specs.declared.fault.ReadFault.TheVariants.{SourceTooLong};
 ghost use Rattle.c0_types.specs.Source.{checked_unit, source_faults};
-ghost use Rattle.c0_front.specs.Front.{IsUnitOf, IsFaultOf, IsFaultIn};
-ghost use Rattle.c0_front.specs.declared.fault.SourceFault.TheVariants.{Reading};
+ghost use Rattle.c0_types.specs.Front.{IsUnitOf, IsFaultOf, IsFaultIn};
+ghost use Rattle.c0_types.specs.declared.source_fault.SourceFault.TheVariants.{Reading};
 
-use crate::fault::SourceFault;
+use crate::source_fault::SourceFault;
+use crate::unit::check;
 use c0_meaning::Checked;
 use c0_parser::parse;
-use c0_types::check;
 use std::alloc::Global;
 
 /// The checked unit of a source: of the tree that the source reads as, with its asm texts read and its names resolved, where no fault of
