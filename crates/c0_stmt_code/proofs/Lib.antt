@@ -8,6 +8,7 @@ pub mod EmitLeaf
 pub mod Entry
 pub mod Finishes
 pub mod Frames
+pub mod FunctionLengths
 pub mod Given
 pub mod Given2
 pub mod Grows

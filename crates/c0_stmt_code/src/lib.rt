@@ -2,5 +2,9 @@
 #![tactic(auto)]
 
 mod acts;
+mod function;
 pub mod laws;
 mod prologue;
+pub mod sizes;
+
+pub use function::emit_function;

@@ -1,0 +1,183 @@
+-- How long the code of functions is: as long wherever what it calls stands, and at most 32 words a node.
+use Rattle.std.specs.Prelude.{map, max, ◌-◌, if◌then◌else◌, nat_le, nat_lt}
+use Rattle.std.proofs.Common.{◌≡◌, inl, inr, ℕ, zero, suc, ◌+◌, ◌*◌, ◌%◌, ◌^◌, ◌≤◌, Bool, true, false, List, [], ◌∷◌, ◌++◌, length, refl, ap, arith, length-append}
+use Rattle.std.proofs.lemmas.Bool.{cases_Bool, cond-true, cond-false, leb-true}
+use Rattle.std.proofs.lemmas.List.{length-map}
+use Rattle.mips_table.specs.declared.inst.Inst.{Inst}
+use Rattle.mips_table.specs.declared.inst.Inst.TheVariants.{Addiu, Addu, Beq, Bne, J, Jal, Jr, Lw, Sltu, Sw}
+use Rattle.c0_tree.specs.Size.{nodes, stmts_nodes}
+use Rattle.c0_tree.specs.Tree.{CExpr, CStmt, assign, call, new, choice, loop, CStmts, done, next, CBody, code, asm, CDecl, CFunction}
+use Rattle.c0_meaning.specs.Ty.{ty_of}
+use Rattle.c0_meaning.specs.Env.{typed_of}
+use Rattle.c0_meaning.specs.Words.{words, all_words}
+use Rattle.c0_meaning.specs.Operators.{StackOut}
+use Rattle.c0_meaning.specs.Limits.{nodes_of, words_held}
+use Rattle.c0_tree.specs.Size.{body_nodes}
+use Rattle.c0_asm_body.specs.Code.{asm_code, arguments_code, instruction_of}
+use Rattle.c0_expr_code.specs.Scope.{Scope}
+use Rattle.c0_expr_code.specs.Code.{frame_back, register_of, constant_code, on_spot, value_code}
+use Rattle.c0_expr_code.specs.Test.{test_code}
+use Rattle.c0_stmt_code.specs.Code.{Links, callee_index, answer_code, args_code, otherwise, otherwise_at, back, turn_code, stmt_code, stmts_code, are_calling, frame_spot, end_code, large_code, stack_test, save_code, restore_code, params_code, zeros_code, zeros_loop, locals_code, clear_code, frame_entry, frame_return, register_entry, register_return, entry_code, exit_code, return_code, statements_function, asm_function, body_code as code_of_body}
+use Rattle.c0_stmt_code.proofs.Needs.{LengthsFit}
+use Rattle.c0_stmt_code.proofs.Lengths.{spot_length, stmts_length}
+
+-- another branch is as long where its code is
+otherwise_same : (b : CStmts) (c d : List Inst) → length c ≡ length d → length (otherwise b c) ≡ length (otherwise b d)
+otherwise_same done c d e = refl
+otherwise_same (next s rest) c d e = omega (arith, e)
+
+module _ (sc : Scope) (x y : Links) where
+  mutual
+    stmt_same : (t : CStmt) → length (stmt_code sc x t) ≡ length (stmt_code sc y t)
+    stmt_same (assign s p v) = refl
+    stmt_same (call s p cs f args) =
+        omega (arith, length-append (args_code sc args 0) (Jal (callee_index x f.kind f.number) ∷ answer_code sc p), length-append (args_code sc args 0) (Jal (callee_index y f.kind f.number) ∷ answer_code sc p))
+    stmt_same (new s p t ts) =
+        omega (arith, length-append (constant_code 2 (words sc.env.structs (ty_of t) % 2 ^ 32)) (Jal x.new_object ∷ answer_code sc p), length-append (constant_code 2 (words sc.env.structs (ty_of t) % 2 ^ 32)) (Jal y.new_object ∷ answer_code sc p))
+    stmt_same (choice s t a b) =
+        let ea = stmts_same a in
+        let eb = stmts_same b in
+        let o = otherwise_same b (stmts_code sc x b) (stmts_code sc y b) eb in
+        let e = ap (λ n. length (test_code sc t false ((n + otherwise_at b) % 2 ^ 16) 8)) ea in
+        omega (arith, ea, o, e, length-append (test_code sc t false ((length (stmts_code sc x a) + otherwise_at b) % 2 ^ 16) 8) (stmts_code sc x a ++ otherwise b (stmts_code sc x b)), length-append (stmts_code sc x a) (otherwise b (stmts_code sc x b)),
+        length-append (test_code sc t false ((length (stmts_code sc y a) + otherwise_at b) % 2 ^ 16) 8) (stmts_code sc y a ++ otherwise b (stmts_code sc y b)), length-append (stmts_code sc y a) (otherwise b (stmts_code sc y b)))
+    stmt_same (loop s t b) =
+        let eb = stmts_same b in
+        let e = ap (λ (n : ℕ). length (test_code sc t true ((2 ^ 16 - (max n 1 + length (test_code sc t true 0 8)) % 2 ^ 16) % 2 ^ 16) 8)) eb in
+        omega (arith, eb, e, length-append (stmts_code sc x b) (turn_code sc t (stmts_code sc x b)), length-append (stmts_code sc y b) (turn_code sc t (stmts_code sc y b)))
+
+    stmts_same : (ss : CStmts) → length (stmts_code sc x ss) ≡ length (stmts_code sc y ss)
+    stmts_same done = refl
+    stmts_same (next s rest) =
+        let e = stmt_same s in
+        let r = stmts_same rest in
+        omega (arith, e, r, length-append (stmt_code sc x s) (stmts_code sc x rest), length-append (stmt_code sc y s) (stmts_code sc y rest))
+
+  body_same : (params : ℕ) (b : CBody) → length (code_of_body sc x params b) ≡ length (code_of_body sc y params b)
+  body_same params (code locals stmts answer) =
+      let e = stmts_same stmts in
+      omega (arith, e, length-append (entry_code sc params locals (are_calling stmts)) (stmts_code sc x stmts ++ return_code sc (are_calling stmts) answer), length-append (stmts_code sc x stmts) (return_code sc (are_calling stmts) answer),
+      length-append (entry_code sc params locals (are_calling stmts)) (stmts_code sc y stmts ++ return_code sc (are_calling stmts) answer), length-append (stmts_code sc y stmts) (return_code sc (are_calling stmts) answer))
+  body_same params (asm text span words) = refl
+
+-- the code of a function is as long wherever what it calls stands
+pub function_same : (sc : Scope) (x y : Links) (f : CFunction) → length (code_of_body sc x (length f.params) f.body) ≡ length (code_of_body sc y (length f.params) f.body)
+function_same sc x y f = body_same sc x y (length f.params) f.body
+
+module _ (sc : Scope) (x : Links) (fit : LengthsFit sc) where
+  -- code on a word of the frame
+  framed : (f : ℕ → ℕ → Inst) (r i : ℕ) → length (on_spot f r (frame_spot sc i)) ≤ 3
+  framed f r i = spot_length f r (frame_spot sc i)
+
+  end_length : (d n : ℕ) → length (end_code d n) ≤ 3
+  end_length d n = spot_length (λ b k. Addiu d b k) d (record { code = []; base = 29; shift = n % 2 ^ 32 })
+
+  large_length : (b : Bool) (k : ℕ) → length (if b then J k ∷ [] else []) ≤ 1
+  large_length true k = omega arith
+  large_length false k = omega arith
+
+  test_length : (d : ℕ) → length (stack_test sc d) ≤ 7
+  test_length d =
+      let l = large_length (nat_lt 262144 sc.frame) (sc.exit StackOut) in
+      let e = end_length d (4 * sc.frame) in
+      omega (arith, l, e, length-append (large_code sc) (end_code d (4 * sc.frame) ++ (Sltu 1 30 d ∷ Beq 1 0 1 ∷ J (sc.exit StackOut) ∷ [])), length-append (end_code d (4 * sc.frame)) (Sltu 1 30 d ∷ Beq 1 0 1 ∷ J (sc.exit StackOut) ∷ []))
+
+  save_length : (b : Bool) → length (save_code sc b) ≤ 3
+  save_length true = framed (λ b k. Sw 31 b k) 1 0
+  save_length false = omega arith
+
+  restore_length : (b : Bool) → length (restore_code sc b) ≤ 3
+  restore_length true = framed (λ b k. Lw 31 b k) 1 0
+  restore_length false = omega arith
+
+  params_length : (n i : ℕ) → length (params_code sc n i) ≤ 3 * n
+  params_length zero i = omega arith
+  params_length (suc n) i =
+      let a = framed (λ b k. Sw (register_of i) b k) 1 (3 + i) in
+      let r = params_length n (suc i) in
+      omega (arith, a, r, length-append (on_spot (λ b k. Sw (register_of i) b k) 1 (frame_spot sc (3 + i))) (params_code sc n (suc i)))
+
+  zeros_length : (n i : ℕ) → length (zeros_code sc n i) ≤ 3 * n
+  zeros_length zero i = omega arith
+  zeros_length (suc n) i =
+      let a = framed (λ b k. Sw 0 b k) 1 i in
+      let r = zeros_length n (suc i) in
+      omega (arith, a, r, length-append (on_spot (λ b k. Sw 0 b k) 1 (frame_spot sc i)) (zeros_code sc n (suc i)))
+
+  loop_length : (i : ℕ) → length (zeros_loop sc i) ≤ 6
+  loop_length i =
+      let a = framed (λ b k. Addiu 2 b k) 2 i in
+      omega (arith, a, length-append (on_spot (λ b k. Addiu 2 b k) 2 (frame_spot sc i)) (Sw 0 2 0 ∷ Addiu 2 2 4 ∷ Bne 2 29 65533 ∷ []))
+
+  locals_length : (n i : ℕ) → length (locals_code sc n i) ≤ 24
+  locals_length n i = elim (cases_Bool (nat_le n 8)) [
+    | inl e ↦ let same = ap (λ (is : List Inst). length is) (cond-true (nat_le n 8) (zeros_code sc n i) (zeros_loop sc i) e) in let z = zeros_length n i in let few : n ≤ 8 = leb-true n 8 e in omega (arith, same, z, few)
+    | inr e ↦ let same = ap (λ (is : List Inst). length is) (cond-false (nat_le n 8) (zeros_code sc n i) (zeros_loop sc i) e) in let z = loop_length i in omega (arith, same, z)
+  ]
+
+  clear_length : (n i : ℕ) → length (clear_code n i) ≡ n
+  clear_length zero i = refl
+  clear_length (suc n) i = let r = clear_length n (suc i) in omega (arith, r)
+
+  frame_entry_length : (params words : ℕ) (b : Bool) → length (frame_entry sc params words b) ≤ 34 + 3 * params
+  frame_entry_length params words b =
+      let t = test_length 29 in
+      let s = save_length b in
+      let p = params_length params 0 in
+      let l = locals_length words (3 + params) in
+      omega (arith, t, s, p, l, length-append (stack_test sc 29) (save_code sc b ++ (params_code sc params 0 ++ locals_code sc words (3 + params))), length-append (save_code sc b) (params_code sc params 0 ++ locals_code sc words (3 + params)),
+      length-append (params_code sc params 0) (locals_code sc words (3 + params)))
+
+  register_entry_length : (params locals : ℕ) (b : Bool) → length (register_entry sc params locals b) ≤ 8 + locals
+  register_entry_length params locals true =
+      let t = test_length 1 in
+      let c = clear_length locals params in
+      omega (arith, t, c, length-append (stack_test sc 1) ((Sw 31 29 0 ∷ []) ++ clear_code locals params), length-append (Sw 31 29 0 ∷ []) (clear_code locals params))
+  register_entry_length params locals false =
+      let t = test_length 1 in
+      let c = clear_length locals params in
+      omega (arith, t, c, length-append (stack_test sc 1) ([] ++ clear_code locals params))
+
+  entry_length : (params : ℕ) (locals : List CDecl) (b : Bool) → length (entry_code sc params locals b) ≤ 34 + 3 * params + length locals
+  entry_length params locals b =
+      by_form sc.in_registers
+    where
+      by_form : (c : Bool) → length (if c then register_entry sc params (length locals) b else frame_entry sc params (all_words sc.env.structs (map typed_of locals)) b) ≤ 34 + 3 * params + length locals
+      by_form true = let r = register_entry_length params (length locals) b in omega (arith, r)
+      by_form false = let r = frame_entry_length params (all_words sc.env.structs (map typed_of locals)) b in omega (arith, r)
+
+  register_return_length : (b : Bool) → length (register_return b) ≤ 2
+  register_return_length true = omega arith
+  register_return_length false = omega arith
+
+  frame_return_length : (b : Bool) → length (frame_return sc b) ≤ 7
+  frame_return_length b =
+      let r = restore_length b in
+      let e = end_length 29 (frame_back sc) in
+      omega (arith, r, e, length-append (restore_code sc b) (end_code 29 (frame_back sc) ++ (Jr 31 ∷ [])), length-append (end_code 29 (frame_back sc)) (Jr 31 ∷ []))
+
+  exit_length : (b : Bool) → length (exit_code sc b) ≤ 7
+  exit_length b =
+      by_form sc.in_registers
+    where
+      by_form : (c : Bool) → length (if c then register_return b else frame_return sc b) ≤ 7
+      by_form true = let r = register_return_length b in omega (arith, r)
+      by_form false = frame_return_length b
+
+  body_length : (params : ℕ) (b : CBody) → length (code_of_body sc x params b) ≤ 32 * (1 + params + body_nodes (length (words_held b)) b)
+  body_length params (code locals stmts answer) =
+      let e = entry_length params locals (are_calling stmts) in
+      let s = stmts_length sc x fit stmts in
+      let v = fit.value answer 2 8 in
+      let some = fit.value_some answer 2 8 in
+      let r = exit_length (are_calling stmts) in
+      omega (arith, e, s, v, some, r, length-append (entry_code sc params locals (are_calling stmts)) (stmts_code sc x stmts ++ return_code sc (are_calling stmts) answer), length-append (stmts_code sc x stmts) (return_code sc (are_calling stmts) answer),
+      length-append (value_code sc answer 2 8) (exit_code sc (are_calling stmts)))
+  body_length params (asm text span words) =
+      let t = test_length 1 in
+      let m = length-map words instruction_of in
+      omega (arith, t, m, length-append (stack_test sc 1) (asm_code params words ++ (Jr 31 ∷ [])), length-append (asm_code params words) (Jr 31 ∷ []), length-append (arguments_code params) (map instruction_of words))
+
+-- the code of a function has at most 32 words a node
+pub function_short : (sc : Scope) (x : Links) → LengthsFit sc → (f : CFunction) → length (code_of_body sc x (length f.params) f.body) ≤ 32 * nodes_of f
+function_short sc x fit f = body_length sc x fit (length f.params) f.body

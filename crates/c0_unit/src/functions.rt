@@ -1,0 +1,42 @@
+// The functions of a unit, one behind the other.
+
+ghost use Rattle.std.specs.Prelude.{◌≡◌, ◌+◌, ◌*◌, ◌≤◌, ◌++◌, length, map, IfOk, OnOk, List, ℕ};
+ghost use Rattle.mips_table.specs.Encoding.{encoding};
+ghost use Rattle.layer_map.specs.Map.{layer_words};
+ghost use Rattle.masm.specs.Places.{ArePlaces};
+ghost use Rattle.c0_tree.specs.View.{unit_view};
+ghost use Rattle.c0_unit.specs.Code.{functions_code, words_of, starts_from};
+ghost use Rattle.c0_unit.specs.Laws.{ArePlacedAt};
+
+use c0_expr_code::Layout;
+use c0_meaning::laws::units_are_typed_or_faulty;
+use c0_stmt_code::emit_function;
+use c0_stmt_code::sizes::{functions_are_short, lengths_are_fixed};
+use layer_map::LAYER_WORDS;
+use masm::registers::Places;
+use std::alloc::{AllocError, Global};
+use std::vec::Vec;
+
+/// Appends the code of all functions, which begins behind the layer's words and those of `code`, and answers the address of each.
+pub fn emit_functions(
+    alloc: Global,
+    layout: &Layout<'_>,
+    places: &Places,
+    code: &mut Vec<u32>,
+) -> Result<Vec<u32>, AllocError>
+    requires places { ArePlaces places.now }
+    requires placed { ArePlacedAt places.now places.now.functions.items places.now.globals }
+    requires room { length code.old.items ≤ 39 }
+    ensures appended { OnOk result (code.new.items ≡ code.old.items ++ map encoding (functions_code (unit_view layout.now.unit.now) places.now.functions.items (unit_view layout.now.unit.now).functions)) }
+    ensures starts { IfOk result (λ s. s.items ≡ starts_from (layer_words + length code.old.items) (words_of (unit_view layout.now.unit.now) (unit_view layout.now.unit.now).functions)) }
+{
+    units_are_typed_or_faulty();
+    functions_are_short();
+    lengths_are_fixed();
+    let mut starts = Vec::new(alloc);
+    for number in 0..layout.unit.unit().functions.len() as u32 {
+        starts.push(4 * (LAYER_WORDS + code.len() as u32))?;
+        emit_function(alloc, layout, places, number, code)?;
+    }
+    Ok(starts)
+}

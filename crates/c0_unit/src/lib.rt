@@ -1,0 +1,9 @@
+//! The code of a whole unit of C0: what `compile` answers for a kernel.
+#![tactic(auto)]
+
+mod functions;
+pub mod laws;
+mod placing;
+mod whole;
+
+pub use whole::compile;

@@ -1,0 +1,53 @@
+// Where the parts of a unit stand.
+
+ghost use Rattle.std.specs.Prelude.{◌≡◌, ◌+◌, ◌*◌, ◌≤◌, All, IfOk};
+ghost use Rattle.masm.specs.Places.{IsPlace, ArePlaces};
+ghost use Rattle.c0_unit.specs.Code.{fault_exits, primitive_entries, routines_at};
+ghost use Rattle.c0_unit.specs.Laws.{ArePlacedAt};
+
+use c0_runtime::entry::ENTRY_WORDS;
+use c0_runtime::runtime::{DIVIDE, MULTIPLY, NEW_OBJECT, REMAINDER};
+use layer_map::LAYER_WORDS;
+use masm::registers::Places;
+use std::alloc::{AllocError, Global};
+use std::vec::Vec;
+
+// Where faults leave the kernel.
+const EXITS: [u32; 4] = [0x2028, 0x202c, 0x2030, 0x2034];
+
+// Where the primitives are entered, by their numbers.
+const PRIMITIVES: [u32; 10] = [
+    0x2000, 0x2004, 0x2008, 0x200c, 0x2010, 0x2014, 0x2018, 0x201c, 0x2020, 0x2024,
+];
+
+// The address of a word of the routines.
+fn routine(word: u32) -> u32
+    requires { word ≤ 31 }
+    ensures { result ≡ 4 * (routines_at + word) }
+{
+    4 * (LAYER_WORDS + ENTRY_WORDS + word)
+}
+
+/// The places of code in which the functions begin at these addresses, and the globals at this one.
+pub fn placed_at(
+    alloc: Global,
+    functions: Vec<u32>,
+    globals: u32,
+) -> Result<Places, AllocError>
+    requires functions { All IsPlace functions.items }
+    requires globals { IsPlace globals }
+    ensures placed { IfOk result (λ p. ArePlacedAt p functions.items globals) }
+    ensures places { IfOk result ArePlaces }
+{
+    let primitives = Vec::from_slice(alloc, &PRIMITIVES)?;
+    Ok(Places {
+        globals,
+        faults: EXITS,
+        multiply: routine(MULTIPLY),
+        divide: routine(DIVIDE),
+        remainder: routine(REMAINDER),
+        new_object: routine(NEW_OBJECT),
+        functions,
+        primitives,
+    })
+}
