@@ -2,7 +2,9 @@
 #![tactic(auto)]
 
 mod fault;
+mod laws;
 mod source;
 
 pub use fault::SourceFault;
+pub use laws::sources_have_one_answer;
 pub use source::read_unit;
