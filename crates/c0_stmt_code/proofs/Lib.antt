@@ -5,6 +5,8 @@ pub mod CallActs
 pub mod Calls
 pub mod Costs
 pub mod EmitLeaf
+pub mod Emittable
+pub mod Emitting
 pub mod Entry
 pub mod Finishes
 pub mod Frames
@@ -16,6 +18,7 @@ pub mod Held
 pub mod Lengths
 pub mod Lights
 pub mod Locals
+pub mod Named
 pub mod Needs
 pub mod Objects
 pub mod Places

@@ -1,5 +1,6 @@
 pub mod Ahead
 pub mod Code
+pub mod Emit
 pub mod EmitLeaf
 pub mod Journey
 pub mod Lengths

@@ -1,23 +1,104 @@
-// The code of a function.
+// The code of functions.
 
-ghost use Rattle.std.specs.Prelude.{◌≡◌, ◌++◌, ◌<◌, Some, length, map, slice_get, OnOk, OnErr};
+ghost use Rattle.std.specs.Prelude.{◌≡◌, ◌≤◌, ◌<◌, ◌++◌, map, length, slice_get, Some, IsTrue, OnOk, OnErr};
 ghost use Rattle.mips_table.specs.Encoding.{encoding};
 ghost use Rattle.masm.specs.Places.{ArePlaces};
 ghost use Rattle.c0_tree.specs.Tree.{CFunction};
-ghost use Rattle.c0_tree.specs.View.{unit_view};
-ghost use Rattle.c0_expr_code.specs.Scope.{scope_of};
-ghost use Rattle.c0_stmt_code.specs.Code.{links_of, function_code};
+ghost use Rattle.c0_tree.specs.View.{body_view, decl_view, expr_view, stmts_view, unit_view};
+ghost use Rattle.c0_meaning.specs.Asm.{are_allowed_words};
+ghost use Rattle.c0_meaning.specs.Limits.{locals_of};
+ghost use Rattle.c0_expr_code.specs.Scene.{scope_in};
+ghost use Rattle.c0_stmt_code.specs.Code.{asm_function, body_code, links_of, return_code};
+ghost use Rattle.c0_stmt_code.specs.Emit.{AreEmittable, IsEmittableBody, function_in, function_words};
+ghost use Rattle.c0_stmt_code.specs.EmitLeaf.{CanStand, HasFrame};
 
-use c0_expr_code::Layout;
-use masm::registers::Places;
+use crate::calling::are_calling;
+use crate::emit_laws::functions_are_emittable;
+use crate::prologue::{emit_entry, emit_exit, emit_stack_test, frames_are_those};
+use crate::statement::emit_statements;
+use c0_asm_body::{emit_arguments, emit_asm};
+use c0_expr_code::{Layout, Scene, begun_scene, emit, emit_value};
+use c0_tree::{AsmText, Body, Code, Expr};
+use masm::registers::{ANSWER, EXPRESSIONS, Places, RETURN, SCRATCH};
+use mips_table::Inst;
 use std::alloc::{AllocError, Global};
-use std::vec::Vec;
 
-/// Appends the code of the function of a number.
-///
-/// Want of memory leaves `code` as it was.
-pub fn emit_function(
-    _alloc: Global,
+// Appends the code of the answer, which goes to register 2, and the return.
+fn emit_return(
+    scene: &Scene<'_>,
+    calling: bool,
+    answer: &Expr,
+    code: &mut Vec<u32>,
+) -> Result<(), AllocError>
+    requires { CanStand (scope_in scene.now).env 12 (expr_view answer.now) }
+    ensures { OnOk result (code.new.items ≡ code.old.items ++ map encoding (return_code (scope_in scene.now) calling (expr_view answer.now))) }
+{
+    emit_value(scene, answer, ANSWER, EXPRESSIONS, code)?;
+    emit_exit(scene, calling, code)
+}
+
+// Appends the code of a function with statements.
+fn emit_code(
+    alloc: Global,
+    scene: &Scene<'_>,
+    places: &Places,
+    params: u32,
+    body: &Code,
+    code: &mut Vec<u32>,
+) -> Result<(), AllocError>
+    requires places { ArePlaces places.now }
+    requires frame { HasFrame (scope_in scene.now) params (map decl_view body.now.locals.items) }
+    requires stmts { AreEmittable (scope_in scene.now).env (stmts_view body.now.stmts.items) }
+    requires answer { CanStand (scope_in scene.now).env 12 (expr_view body.now.answer) }
+    ensures { OnOk result (code.new.items ≡ code.old.items ++ map encoding (function_in scene.now places.now params body.now)) }
+{
+    let calling = are_calling(&body.stmts);
+    emit_entry(scene, params, &body.locals, calling, code)?;
+    emit_statements(alloc, scene, places, &body.stmts, code)?;
+    emit_return(scene, calling, &body.answer, code)
+}
+
+// Appends the code of a function with an asm body.
+fn emit_asm_function(
+    alloc: Global,
+    scene: &Scene<'_>,
+    params: u32,
+    text: &AsmText,
+    code: &mut Vec<u32>,
+) -> Result<(), AllocError>
+    requires few { params ≤ 4 }
+    requires allowed { IsTrue (are_allowed_words text.now.words.items) }
+    ensures { OnOk result (code.new.items ≡ code.old.items ++ map encoding (asm_function (scope_in scene.now) params text.now.words.items)) }
+{
+    emit_stack_test(scene, SCRATCH, code)?;
+    emit_arguments(alloc, params, code)?;
+    emit_asm(alloc, text, code)?;
+    emit(code, Inst::Jr { rs: RETURN })
+}
+
+// Appends the code of a function, by its body.
+fn emit_body(
+    alloc: Global,
+    scene: &Scene<'_>,
+    places: &Places,
+    params: u32,
+    body: &Body,
+    code: &mut Vec<u32>,
+) -> Result<(), AllocError>
+    requires places { ArePlaces places.now }
+    requires frame { HasFrame (scope_in scene.now) params (locals_of (body_view body.now)) }
+    requires body { IsEmittableBody (scope_in scene.now).env params (body_view body.now) }
+    ensures { OnOk result (code.new.items ≡ code.old.items ++ map encoding (body_code (scope_in scene.now) (links_of places.now) params (body_view body.now))) }
+{
+    match body {
+        Body::Code(stmts) => emit_code(alloc, scene, places, params, stmts, code),
+        Body::Asm(text) => emit_asm_function(alloc, scene, params, text, code),
+    }
+}
+
+// Appends the code of the function of a number; want of memory may leave a part of it.
+fn emit_whole(
+    alloc: Global,
     layout: &Layout<'_>,
     places: &Places,
     number: u32,
@@ -25,8 +106,32 @@ pub fn emit_function(
 ) -> Result<(), AllocError>
     requires number { number < length (unit_view layout.now.unit.now).functions }
     requires places { ArePlaces places.now }
-    ensures appended { (f : CFunction) → slice_get (unit_view layout.now.unit.now).functions number ≡ Some f → OnOk result (code.new.items ≡ code.old.items ++ map encoding (function_code (scope_of (unit_view layout.now.unit.now) f places.now) (links_of places.now) f)) }
+    ensures { (f : CFunction) → slice_get (unit_view layout.now.unit.now).functions number ≡ Some f → OnOk result (code.new.items ≡ code.old.items ++ function_words (unit_view layout.now.unit.now) places.now f) }
+{
+    functions_are_emittable();
+    frames_are_those();
+    let scene = begun_scene(alloc, &*layout, number, places)?;
+    let function = &layout.unit.unit().functions[number as usize];
+    let params = function.params.len() as u32;
+    emit_body(alloc, &scene, places, params, &function.body, code)
+}
+
+/// Appends the code of the function of a number, where the places of what it names are these.
+///
+/// Want of memory leaves `code` as it was.
+pub fn emit_function(
+    alloc: Global,
+    layout: &Layout<'_>,
+    places: &Places,
+    number: u32,
+    code: &mut Vec<u32>,
+) -> Result<(), AllocError>
+    requires number { number < length (unit_view layout.now.unit.now).functions }
+    requires places { ArePlaces places.now }
+    ensures appended { (f : CFunction) → slice_get (unit_view layout.now.unit.now).functions number ≡ Some f → OnOk result (code.new.items ≡ code.old.items ++ function_words (unit_view layout.now.unit.now) places.now f) }
     ensures unchanged { OnErr result (code.new.items ≡ code.old.items) }
 {
-    Err(AllocError)
+    let mut own = Vec::new(alloc);
+    emit_whole(alloc, layout, places, number, &mut own)?;
+    code.extend_from_slice(&own)
 }

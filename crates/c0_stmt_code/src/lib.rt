@@ -2,9 +2,12 @@
 #![tactic(auto)]
 
 mod acts;
+mod calling;
+mod emit_laws;
 mod function;
 pub mod laws;
 mod prologue;
 pub mod sizes;
+mod statement;
 
 pub use function::emit_function;

@@ -1,9 +1,12 @@
 -- One function more: the code and the addresses so far, of the first functions of a unit.
-use Rattle.std.specs.Prelude.{map, sum, slice_get, Some}
+use Rattle.std.specs.Prelude.{◌%◌, ◌^◌, All, map, sum, slice_get, Some}
 use Rattle.std.proofs.Common.{◌≡◌, ℕ, zero, suc, ◌+◌, ◌*◌, ◌<◌, ◌≤◌, List, [], ◌∷◌, ◌++◌, length, take, refl, sym, ap, ◌∙◌, subst, arith, length-append, append_assoc, append-nil}
+use Rattle.std.proofs.Math.Seq.{take-length}
 use Rattle.std.proofs.lemmas.List.{length-map, map-append}
+use Rattle.std.proofs.lemmas.List.Elements.{All-cons}
 use Rattle.mips_table.specs.declared.inst.Inst.{Inst}
 use Rattle.mips_table.specs.Encoding.{encoding}
+use Rattle.masm.specs.Places.{IsPlace}
 use Rattle.masm.specs.declared.registers.Places.{Places}
 use Rattle.c0_tree.specs.Tree.{CFunction, CUnit}
 use Rattle.c0_tree.specs.Primitives.{CPrimitive}
@@ -20,6 +23,13 @@ use Rattle.c0_unit.proofs.Units.{sum-cons, code_same, words_few, functions_lengt
 -- a unit that is well formed has few nodes
 pub few_nodes : UnitsAreFaultless → (table : List CPrimitive) (u : CUnit) → IsWellFormed table u → all_nodes u.functions ≤ 100000
 few_nodes faultless table u well = ((faultless table u).1 well.typed).nodes
+
+-- the addresses of parts are places, where the parts end early enough
+pub are_places : (ns : List ℕ) (at : ℕ) → at + sum ns < 2 ^ 26 → All IsPlace (starts_from at ns)
+are_places [] at lt = λ k d less. absurd (omega (arith, less))
+are_places (n ∷ ns) at lt =
+    let s = sum-cons n ns in
+    All-cons (λ a. IsPlace a) (4 * at) (starts_from (at + n) ns) (omega arith, omega (arith, lt)) (are_places ns (at + n) (omega (arith, s, lt)))
 
 some_at : (fs : List CFunction) (n : ℕ) → n < length fs → (f : CFunction) × (slice_get fs n ≡ Some f)
 some_at [] n lt = absurd (omega (arith, lt))
@@ -104,3 +114,19 @@ module _ (u : CUnit) where
       let s = words_few short u (take n u.functions) in
       let t = nodes_take u.functions n in
       omega (arith, few, nodes, long, all, s, t, length-append before (map encoding (functions_code u by (take n u.functions))), length-map (functions_code u by (take n u.functions)) encoding)
+
+  -- all functions: how long their code is, and that their addresses are places
+  all_taken : (n : ℕ) → n ≡ length u.functions → take n u.functions ≡ u.functions
+  all_taken n e = ap (λ (k : ℕ). take k u.functions) e ∙ take-length u.functions
+
+  pub code_long : LengthsAreFixed → (by : List ℕ) (n : ℕ) (before code : List ℕ) → n ≡ length u.functions → code ≡ before ++ map encoding (functions_code u by (take n u.functions))
+      → length code ≡ length before + sum (words_of u u.functions)
+  code_long fixed by n before code e is =
+      let long = ap (λ (ws : List ℕ). length ws) is in
+      let same = ap (λ (fs : List CFunction). length (functions_code u by fs)) (all_taken n e) in
+      let all = functions_length fixed u by u.functions in
+      omega (arith, long, all, same, length-append before (map encoding (functions_code u by (take n u.functions))), length-map (functions_code u by (take n u.functions)) encoding)
+
+  pub starts_placed : (n at : ℕ) (starts : List ℕ) → n ≡ length u.functions → starts ≡ starts_from at (words_of u (take n u.functions)) → at + sum (words_of u u.functions) < 2 ^ 26 → All IsPlace starts
+  starts_placed n at starts e is lt =
+      subst (λ (xs : List ℕ). All IsPlace xs) (sym (is ∙ ap (λ (fs : List CFunction). starts_from at (words_of u fs)) (all_taken n e))) (are_places (words_of u u.functions) at lt)

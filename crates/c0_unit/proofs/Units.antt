@@ -1,8 +1,10 @@
 -- Where the parts of a unit's code stand, and how long it is.
 use Rattle.std.specs.Prelude.{map, sum, slice_get, slice_index, Some}
 use Rattle.std.proofs.Common.{◌≡◌, ℕ, zero, suc, ◌+◌, ◌*◌, ◌/◌, ◌<◌, ◌≤◌, List, [], ◌∷◌, ◌++◌, length, refl, sym, ap, ◌∙◌, arith, length-append, append_assoc}
+use Rattle.std.proofs.lemmas.List.{map-append}
 use Rattle.std.proofs.lemmas.List.Sums.{sum_by-cons}
 use Rattle.mips_table.specs.declared.inst.Inst.{Inst}
+use Rattle.mips_table.specs.Encoding.{encoding}
 use Rattle.masm.specs.declared.registers.Places.{Places}
 use Rattle.layer_map.specs.Map.{layer_words}
 use Rattle.c0_tree.specs.Tree.{CFunction, CUnit}
@@ -10,11 +12,11 @@ use Rattle.c0_meaning.specs.Limits.{all_nodes, nodes_of, frame}
 use Rattle.c0_meaning.specs.Operators.{KernelFault}
 use Rattle.c0_meaning.specs.Sound.{shapes}
 use Rattle.c0_meaning.specs.TypeAt.{env_in}
-use Rattle.c0_runtime.specs.Code.{entry_code, new_code, multiply_code, divide_code, remainder_code}
+use Rattle.c0_runtime.specs.Code.{entry_code, new_code, multiply_code, divide_code, remainder_code, runtime_code}
 use Rattle.c0_expr_code.specs.Scope.{Scope, scope_of, keeps_registers, exit_number}
 use Rattle.c0_stmt_code.specs.Code.{Links, links_of, function_code}
 use Rattle.c0_stmt_code.specs.Lengths.{FunctionsAreShort, LengthsAreFixed}
-use Rattle.c0_unit.specs.Code.{fault_exits, primitive_entries, routines_at, functions_at, scope, links, functions_code, words_of, starts_from, function_starts, code_words, globals_start, dispatch_start, routines_code, unit_code}
+use Rattle.c0_unit.specs.Code.{fault_exits, primitive_entries, routines_at, functions_at, scope, links, functions_code, words_of, starts_from, function_starts, code_words, globals_start, dispatch_number, dispatch_start, routines_code, unit_code}
 use Rattle.c0_unit.specs.Laws.{ArePlacedAt, ArePlacesOf, IsPart, HasParts}
 
 pub sum-cons : (n : ℕ) (ns : List ℕ) → sum (n ∷ ns) ≡ n + sum ns
@@ -103,3 +105,20 @@ has_parts fixed u = record {
       (39 + r.0, omega (arith, at), behind (entry_code (globals_start u) (dispatch_start u) ++ routines_code) (function_code (scope u f) (links (function_starts u)) f) (functions_code u (function_starts u) u.functions) r.0 39 refl r.2);
   words = let l = functions_length fixed u (function_starts u) u.functions in omega (arith, l);
 }
+
+-- the places that the first emission gives are those of the unit
+pub are_places_of : (u : CUnit) (p : Places) (starts before after : List ℕ) (globals long : ℕ) → ArePlacedAt p starts globals → length before ≡ 39
+    → starts ≡ starts_from (layer_words + length before) (words_of u u.functions) → long ≡ length before + sum (words_of u u.functions) → globals ≡ (layer_words + long + 1023) / 1024 * 4096 → ArePlacesOf u p
+are_places_of u p starts before after globals long h e are is to = record {
+  globals_at = h.globals_at ∙ (to ∙ globals_same);
+  faults = h.faults;
+  multiply = h.multiply;
+  divide = h.divide;
+  remainder = h.remainder;
+  new_object = h.new_object;
+  functions = h.functions ∙ (are ∙ ap (λ (n : ℕ). starts_from (layer_words + n) (words_of u u.functions)) e);
+  primitives = h.primitives;
+}
+  where
+    globals_same : (layer_words + long + 1023) / 1024 * 4096 ≡ globals_start u
+    globals_same = let same : layer_words + long ≡ layer_words + code_words u = omega (arith, is, e) in ap (λ (n : ℕ). (n + 1023) / 1024 * 4096) same ∙ omega arith

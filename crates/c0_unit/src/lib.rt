@@ -1,6 +1,7 @@
 //! The code of a whole unit of C0: what `compile` answers for a kernel.
 #![tactic(auto)]
 
+mod dispatch;
 mod functions;
 pub mod laws;
 mod placing;

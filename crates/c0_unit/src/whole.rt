@@ -1,41 +1,26 @@
 // The words of a kernel.
 
-ghost use Rattle.std.specs.Prelude.{◌≡◌, ◌+◌, ◌*◌, ◌/◌, ◌≤◌, length, map, slice_index, IfOk};
-ghost use Rattle.mips_table.specs.Encoding.{encoding};
+ghost use Rattle.std.specs.Prelude.{◌≡◌, ◌+◌, ◌*◌, ◌≤◌, length, IfOk};
 ghost use Rattle.masm.specs.Places.{ArePlaces};
-ghost use Rattle.c0_tree.specs.View.{function_view, unit_view};
+ghost use Rattle.c0_tree.specs.View.{unit_view};
 ghost use Rattle.c0_meaning.specs.Limits.{all_nodes};
-ghost use Rattle.c0_meaning.specs.Unit.{IsChecked};
-ghost use Rattle.c0_unit.specs.Code.{dispatch_number as number_of_dispatch, unit_words};
+ghost use Rattle.c0_unit.specs.Code.{unit_words};
 ghost use Rattle.c0_unit.specs.Laws.{ArePlacesOf};
 
+use crate::dispatch::dispatch_number;
 use crate::functions::emit_functions;
 use crate::laws::{units_are_short, units_have_parts};
 use crate::placing::placed_at;
 use c0_expr_code::Layout;
 use c0_meaning::Checked;
-use c0_meaning::laws::units_are_typed_or_faulty;
 use c0_runtime::entry::ENTRY_WORDS;
 use c0_runtime::runtime::RUNTIME_WORDS;
 use c0_runtime::{emit_entry, emit_runtime};
 use c0_structs::measured;
-use c0_tree::Unit;
 use layer_map::LAYER_WORDS;
 use masm::registers::Places;
 use std::alloc::{AllocError, Global};
 use std::vec::Vec;
-
-// The number of `dispatch`: no other function has its name.
-fn dispatch_number(unit: &Unit) -> usize
-    requires { IsChecked (unit_view unit.now) }
-    ensures { result ≡ number_of_dispatch (unit_view unit.now) }
-{
-    units_are_typed_or_faulty();
-    unit.functions
-        .iter()
-        .position(|f| f.name.bytes.as_slice() == b"dispatch".as_slice())
-        .unwrap_or(0)
-}
 
 // The places of a unit: all functions are emitted once without places, as no code's length hangs on them.
 fn unit_places(alloc: Global, layout: &Layout<'_>) -> Result<Places, AllocError>
@@ -60,7 +45,7 @@ pub fn compile(alloc: Global, unit: &Checked) -> Result<Vec<u32>, AllocError>
     let sizes = measured(alloc, source)?;
     let layout = Layout::new(alloc, &sizes)?;
     let places = unit_places(alloc, &layout)?;
-    let dispatch = places.functions.get(dispatch_number(source)).copied();
+    let dispatch = places.functions.get(dispatch_number(&source.functions)).copied();
     let mut code = Vec::new(alloc);
     emit_entry(alloc, places.globals, dispatch.unwrap_or(0), &mut code)?;
     emit_runtime(alloc, &places, &mut code)?;

@@ -152,9 +152,11 @@ impl Desk {
             write!(out, "g{number}")
         } else if let Some(number) = Desk::number_in(word, parts.heap, parts.heap_words) {
             write!(out, "h{number}")
+        } else if word >= 0x8000_0000 {
+            let distance = 0u32.wrapping_sub(word);
+            write!(out, "-{distance}")
         } else {
-            let value = word as i32;
-            write!(out, "{value}")
+            write!(out, "{word}")
         }
     }
 

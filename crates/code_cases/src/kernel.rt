@@ -48,7 +48,10 @@ fn number(text: &str) -> u32 {
 
 // A decimal number with a sign.
 fn word(text: &str) -> u32 {
-    text.parse::<i32>().unwrap_or(0) as u32
+    match text.strip_prefix('-') {
+        Some(distance) => 0u32.wrapping_sub(number(distance)),
+        None => number(text),
+    }
 }
 
 // The three arguments that a field gives, if it gives three.
