@@ -1,0 +1,4 @@
+pub mod Comparing
+pub mod Declared
+pub mod LinkSteps
+pub mod AcceptSteps

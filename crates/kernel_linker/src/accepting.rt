@@ -4,7 +4,7 @@ ghost use Rattle.std.specs.Prelude.{◌≡◌, ◌+◌, ◌≤◌, All, length, 
 ghost use Rattle.boot_image.specs.Reading.{answer};
 ghost use Rattle.c0_tree.specs.View.{unit_view};
 ghost use Rattle.kernel_linker.specs.Linked.{map_for, sizes_of};
-ghost use Rattle.kernel_linker.specs.Accept.{Answers, system_of};
+ghost use Rattle.kernel_linker.specs.Accept.{Answers, stored, system_of};
 
 use crate::difference::compare;
 use crate::fault::AcceptFault;
@@ -24,11 +24,23 @@ pub struct Accepted<M> {
     pub layer: M,
 }
 
+// Looks whether an image's linked words, if it has any, are those that are made.
+fn check_words(image: &Image, made: &[u32]) -> Result<(), AcceptFault>
+    ensures { result ≡ stored image.now made.now }
+{
+    if image.form == 1 {
+        return Ok(());
+    }
+    compare(&image.words, made)?;
+    Ok(())
+}
+
 /// Accepts the bytes of an image.
 ///
 /// The fields are looked at in the order of the file; then the source is read and checked, and the linked words are compared with those that
 /// the image's own source, parameters and users are linked to. The first fault answers. An image of form 1 has no linked words and no users:
 /// they are made.
+#[tactic(none)]
 pub fn accept<M: LayerMaker>(alloc: Global, bytes: &[u8]) -> Result<Accepted<M>, AcceptFault>
     // The answer that is due for the image that the bytes are, or want of memory.
     ensures is { Answers M.made (λ a. system_of a.boot) (answer bytes.now) result }
@@ -41,9 +53,7 @@ pub fn accept<M: LayerMaker>(alloc: Global, bytes: &[u8]) -> Result<Accepted<M>,
     let unit = read_unit(alloc, &image.source)?;
     let code = compile(alloc, &unit)?;
     let joined = link_words::<M>(alloc, &unit, &code, &image.params, &image.users)?;
-    if image.form != 1 {
-        compare(&image.words, &joined.words)?;
-    }
+    check_words(&image, &joined.words)?;
     Ok(Accepted {
         boot: Boot {
             params: image.params,

@@ -1,7 +1,7 @@
 // The linked words of a system, and its layer.
 
 ghost use Rattle.std.specs.Prelude.{◌≡◌, ◌+◌, ◌*◌, ◌/◌, ◌≤◌, All, length, map, IfOk, OnOk};
-ghost use Rattle.layer_map.specs.Map.{ParamsInRange};
+ghost use Rattle.layer_map.specs.Map.{MapInRange, ParamsInRange};
 ghost use Rattle.boot_image.specs.Format.{most_words};
 ghost use Rattle.c0_tree.specs.View.{unit_view};
 ghost use Rattle.c0_unit.specs.Code.{unit_words};
@@ -46,7 +46,8 @@ fn map_of(
     requires most { length code.now ≤ 4177920 }
     requires params { ParamsInRange params.now }
     requires users { users ≤ 64 }
-    ensures { IfOk result (λ m. m ≡ map_for (unit_view unit.now) params.now users) }
+    ensures value { IfOk result (λ m. m ≡ map_for (unit_view unit.now) params.now users) }
+    ensures range { IfOk result MapInRange }
 {
     let sized = measured(alloc, unit.unit())?;
     let globals = global_words(&sized);

@@ -1,6 +1,6 @@
 // An object, parameters and users, linked to an image.
 
-ghost use Rattle.std.specs.Prelude.{◌≡◌, ◌+◌, ◌≤◌, ◌×◌, All, length, map, Result, Err, IfOk};
+ghost use Rattle.std.specs.Prelude.{◌≡◌, ◌+◌, ◌≤◌, List, ℕ, All, length, map, Result, Err, IfOk};
 ghost use Rattle.layer_map.specs.Map.{ParamsInRange};
 ghost use Rattle.boot_image.specs.Format.{HasSpelling, most_words};
 ghost use Rattle.c0_tree.specs.Tree.{CUnit};
@@ -15,7 +15,7 @@ use crate::difference::compare;
 use crate::fault::LinkFault;
 use crate::linked::link_words;
 use boot_image::Image;
-use c0_front::{read_unit, sources_have_one_answer};
+use c0_front::read_unit;
 use c0_unit::compile;
 use layer_contract::LayerMaker;
 use layer_map::Params;
@@ -25,7 +25,8 @@ use std::alloc::{AllocError, Global};
 // Looks whether there are at most 64 users.
 #[tactic(auto, unfolding(crate::specs::Link::counted))]
 fn count(users: &[Vec<u32>]) -> Result<(), LinkFault>
-    ensures { result ≡ counted (map (λ u. u.items) users.now) }
+    ensures is { result ≡ counted (map (λ u. u.items) users.now) }
+    ensures few { IfOk result (λ x. length users.now ≤ 64) }
 {
     if users.len() > 64 {
         return Err(LinkFault::UserCount {
@@ -38,7 +39,8 @@ fn count(users: &[Vec<u32>]) -> Result<(), LinkFault>
 // Looks whether no user has more than so many words.
 fn measure(users: &[Vec<u32>], most: usize) -> Result<(), LinkFault>
     requires { length users.now ≤ 64 }
-    ensures { result ≡ measured most 1 (map (λ u. u.items) users.now) }
+    ensures is { result ≡ measured most 1 (map (λ u. u.items) users.now) }
+    ensures short { IfOk result (λ x. All (λ u. length u ≤ most) (map (λ u. u.items) users.now)) }
 {
     let mut number = 1;
     for user in users {
@@ -89,7 +91,7 @@ fn fit(params: &Params, users: &[Vec<u32>]) -> Result<(), LinkFault>
     ensures short { IfOk result (λ x. All (λ u. length u ≤ most_words params.now.pages) (map (λ u. u.items) users.now)) }
 {
     count(users)?;
-    let most = (1024 * params.pages as usize).min(65536);
+    let most = 65536_usize.min(1024 * params.pages as usize);
     measure(users, most)?;
     ranges(params)
 }
@@ -109,12 +111,14 @@ fn copies(alloc: Global, users: &[Vec<u32>]) -> Result<Vec<Vec<u32>>, AllocError
 ///
 /// The users are counted and measured, and the parameters looked at; then the object's source is read and checked, and its words are compared
 /// with those that its source is compiled to. The first fault answers. Want of memory may come once users and parameters fit.
+#[tactic(none)]
 pub fn link<M: LayerMaker>(
     alloc: Global,
     object: &Object,
     params: &Params,
     users: &[Vec<u32>],
 ) -> Result<Image, LinkFault>
+    requires { (source : List ℕ) (a b : Result CUnit SourceFault) → IsAnswer source a → IsAnswer source b → a ≡ b }
     // The answer that is due by what the front comes to on the source, or want of memory.
     ensures is { (front : Result CUnit SourceFault) × Comes object.now.source front × GivesUnless Memory (λ i. i) result (link_answer M.made object.now params.now (map (λ u. u.items) users.now) front) }
     // By whatever answer the source has.
@@ -124,7 +128,6 @@ pub fn link<M: LayerMaker>(
     // The image can be written.
     ensures spelled { IfOk result HasSpelling }
 {
-    sources_have_one_answer();
     fit(params, users)?;
     let unit = read_unit(alloc, &object.source)?;
     let code = compile(alloc, &unit)?;
