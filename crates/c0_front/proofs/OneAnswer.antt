@@ -73,34 +73,45 @@ same_fault f g e = sym (back_view f) ∙ (ap back e ∙ back_view g)
 read_fault : (source : List ℕ) (f : ReadFault) → IsFirstFault source (Reading f) → reading.IsAnswer source (Err f)
 read_fault source f h = (λ e. h.read (ap Reading e), h.fault)
 
+-- there is one tree, one fault of reading, and not both
+one_tree : OneReading → (source : List ℕ) (t u : CUnit) → reading.IsAnswer source (Ok t) → reading.IsAnswer source (Ok u) → t ≡ u
+one_tree one source t u a b =
+    let left : Result CUnit ReadFault = Ok t in
+    let right : Result CUnit ReadFault = Ok u in
+    let e : left ≡ right = one source left right a b in cc
+
+one_reading : OneReading → (source : List ℕ) (f g : ReadFault) → reading.IsAnswer source (Err f) → reading.IsAnswer source (Err g) → f ≡ g
+one_reading one source f g a b =
+    let left : Result CUnit ReadFault = Err f in
+    let right : Result CUnit ReadFault = Err g in
+    let e : left ≡ right = one source left right a b in cc
+
+no_reading : OneReading → (source : List ℕ) (t : CUnit) (f : ReadFault) → reading.IsAnswer source (Ok t) → reading.IsAnswer source (Err f) → ⊥
+no_reading one source t f a b =
+    let left : Result CUnit ReadFault = Ok t in
+    let right : Result CUnit ReadFault = Err f in
+    let e : left ≡ right = one source left right a b in cc
+
 -- a unit and a fault
 not_both : OneReading → LeastIsThere → (source : List ℕ) (u : CUnit) (f : SourceFault) → IsUnitOf source u → IsFirstFault source f → ⊥
-not_both one least source u (Reading f) a b =
-    let e : Ok a.tree ≡ Err f = one source (Ok a.tree) (Err f) (a.short, a.reads) (read_fault source f b) in cc
+not_both one least source u (Reading f) a b = no_reading one source a.tree f (a.short, a.reads) (read_fault source f b)
 not_both one least source u (Typing f) a b =
-    let e : Ok {E = ReadFault} a.tree ≡ Ok b.fault.tree = one source (Ok a.tree) (Ok b.fault.tree) (a.short, a.reads) (b.fault.short, b.fault.reads) in
-    let same : a.tree ≡ b.fault.tree = cc in
+    let same : a.tree ≡ b.fault.tree = one_tree one source a.tree b.fault.tree (a.short, a.reads) (b.fault.short, b.fault.reads) in
     none_first least [] (type_fault_view f) b.fault.tree (seen_fault f b.typed) refl (ap source_faults (sym same) ∙ a.faultless) b.fault.answers
 
 -- two faults
 one_fault : OneReading → LeastIsThere → (source : List ℕ) (f g : SourceFault) → IsFirstFault source f → IsFirstFault source g → f ≡ g
-one_fault one least source (Reading f) (Reading g) a b =
-    let e : Err {A = CUnit} f ≡ Err g = one source (Err f) (Err g) (read_fault source f a) (read_fault source g b) in
-    let same : f ≡ g = cc in ap Reading same
-one_fault one least source (Reading f) (Typing g) a b =
-    let e : Err f ≡ Ok b.fault.tree = one source (Err f) (Ok b.fault.tree) (read_fault source f a) (b.fault.short, b.fault.reads) in cc
-one_fault one least source (Typing f) (Reading g) a b =
-    let e : Ok a.fault.tree ≡ Err g = one source (Ok a.fault.tree) (Err g) (a.fault.short, a.fault.reads) (read_fault source g b) in cc
+one_fault one least source (Reading f) (Reading g) a b = ap Reading (one_reading one source f g (read_fault source f a) (read_fault source g b))
+one_fault one least source (Reading f) (Typing g) a b = absurd (no_reading one source b.fault.tree f (b.fault.short, b.fault.reads) (read_fault source f a))
+one_fault one least source (Typing f) (Reading g) a b = absurd (no_reading one source a.fault.tree g (a.fault.short, a.fault.reads) (read_fault source g b))
 one_fault one least source (Typing f) (Typing g) a b =
-    let e : Ok {E = ReadFault} a.fault.tree ≡ Ok b.fault.tree = one source (Ok a.fault.tree) (Ok b.fault.tree) (a.fault.short, a.fault.reads) (b.fault.short, b.fault.reads) in
-    let same : b.fault.tree ≡ a.fault.tree = cc in
+    let same : b.fault.tree ≡ a.fault.tree = one_tree one source b.fault.tree a.fault.tree (b.fault.short, b.fault.reads) (a.fault.short, a.fault.reads) in
     ap Typing (same_fault f g (one_first least (type_fault_view f) (type_fault_view g) a.fault.tree (seen_fault f a.typed) (seen_fault g b.typed) a.fault.answers
     (subst (λ (t : CUnit). FaultAnswers t g) same b.fault.answers)))
 
 pub one_answer : OneReading → LeastIsThere → (source : List ℕ) (a b : Result CUnit SourceFault) → IsAnswer source a → IsAnswer source b → a ≡ b
 one_answer one least source (Ok u) (Ok w) a b =
-    let e : Ok {E = ReadFault} a.tree ≡ Ok b.tree = one source (Ok a.tree) (Ok b.tree) (a.short, a.reads) (b.short, b.reads) in
-    let same : a.tree ≡ b.tree = cc in
+    let same : a.tree ≡ b.tree = one_tree one source a.tree b.tree (a.short, a.reads) (b.short, b.reads) in
     ap Ok (a.resolved ∙ (ap checked_unit same ∙ sym b.resolved))
 one_answer one least source (Ok u) (Err f) a b = absurd (not_both one least source u f a b)
 one_answer one least source (Err f) (Ok u) a b = absurd (not_both one least source u f b a)
