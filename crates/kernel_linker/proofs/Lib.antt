@@ -2,3 +2,4 @@ pub mod Comparing
 pub mod Declared
 pub mod LinkSteps
 pub mod AcceptSteps
+pub mod LinkedAccepted

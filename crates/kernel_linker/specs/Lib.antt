@@ -5,3 +5,4 @@ pub mod Answers
 pub mod Link
 pub mod Accept
 pub mod Object
+pub mod Laws

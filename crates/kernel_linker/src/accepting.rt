@@ -8,10 +8,9 @@ ghost use Rattle.kernel_linker.specs.Accept.{Answers, stored, system_of};
 
 use crate::difference::compare;
 use crate::fault::AcceptFault;
-use crate::linked::link_words;
+use crate::linked::{compiled, link_words};
 use boot_image::{Image, read};
 use c0_front::read_unit;
-use c0_unit::compile;
 use layer_contract::{Boot, LayerMaker};
 use std::alloc::Global;
 
@@ -40,7 +39,6 @@ fn check_words(image: &Image, made: &[u32]) -> Result<(), AcceptFault>
 /// The fields are looked at in the order of the file; then the source is read and checked, and the linked words are compared with those that
 /// the image's own source, parameters and users are linked to. The first fault answers. An image of form 1 has no linked words and no users:
 /// they are made.
-#[tactic(none)]
 pub fn accept<M: LayerMaker>(alloc: Global, bytes: &[u8]) -> Result<Accepted<M>, AcceptFault>
     // The answer that is due for the image that the bytes are, or want of memory.
     ensures is { Answers M.made (λ a. system_of a.boot) (answer bytes.now) result }
@@ -51,7 +49,7 @@ pub fn accept<M: LayerMaker>(alloc: Global, bytes: &[u8]) -> Result<Accepted<M>,
 {
     let image = read(alloc, bytes)?;
     let unit = read_unit(alloc, &image.source)?;
-    let code = compile(alloc, &unit)?;
+    let code = compiled(alloc, &unit)?;
     let joined = link_words::<M>(alloc, &unit, &code, &image.params, &image.users)?;
     check_words(&image, &joined.words)?;
     Ok(Accepted {

@@ -5,6 +5,7 @@ mod accepting;
 mod difference;
 mod fault;
 mod globals;
+pub mod laws;
 mod linked;
 mod linking;
 mod object;

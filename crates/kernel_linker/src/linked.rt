@@ -9,6 +9,7 @@ ghost use Rattle.kernel_linker.specs.Linked.{linked, map_for, pages_for, sizes_o
 
 use crate::globals::global_words;
 use c0_meaning::Checked;
+use c0_meaning::laws::units_are_typed_or_faulty;
 use c0_structs::measured;
 use c0_unit::compile;
 use layer_contract::{Layer, LayerMaker};
@@ -20,6 +21,17 @@ use std::alloc::{AllocError, Global};
 pub struct Joined<M> {
     pub words: Vec<u32>,
     pub layer: M,
+}
+
+/// The code of a kernel's unit, as short as a map allows. The one error is want of memory.
+pub fn compiled(alloc: Global, unit: &Checked) -> Result<Vec<u32>, AllocError>
+    ensures words { IfOk result (λ v. v.items ≡ unit_words (unit_view unit.now)) }
+    ensures most { IfOk result (λ v. length v.items ≤ 4177920) }
+{
+    units_are_typed_or_faulty();
+    let _unit = unit.unit();
+    let code = compile(alloc, unit)?;
+    Ok(code)
 }
 
 // The sizes of users in pages.

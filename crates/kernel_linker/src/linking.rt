@@ -1,10 +1,9 @@
 // An object, parameters and users, linked to an image.
 
-ghost use Rattle.std.specs.Prelude.{◌≡◌, ◌+◌, ◌≤◌, List, ℕ, All, length, map, Result, Err, IfOk};
+ghost use Rattle.std.specs.Prelude.{◌≡◌, ◌+◌, ◌≤◌, All, length, map, Result, Err, IfOk};
 ghost use Rattle.layer_map.specs.Map.{ParamsInRange};
 ghost use Rattle.boot_image.specs.Format.{HasSpelling, most_words};
 ghost use Rattle.c0_tree.specs.Tree.{CUnit};
-ghost use Rattle.c0_front.specs.Front.{IsAnswer};
 ghost use Rattle.c0_front.specs.declared.fault.SourceFault.{SourceFault};
 ghost use Rattle.kernel_linker.specs.Answers.{Comes, GivesUnless};
 ghost use Rattle.kernel_linker.specs.Link.{counted, fitting, in_range, link_answer, measured, ranged};
@@ -13,10 +12,9 @@ ghost use Rattle.kernel_linker.specs.declared.fault.LinkFault.TheVariants.{Memor
 
 use crate::difference::compare;
 use crate::fault::LinkFault;
-use crate::linked::link_words;
+use crate::linked::{compiled, link_words};
 use boot_image::Image;
 use c0_front::read_unit;
-use c0_unit::compile;
 use layer_contract::LayerMaker;
 use layer_map::Params;
 use object_file::Object;
@@ -111,18 +109,14 @@ fn copies(alloc: Global, users: &[Vec<u32>]) -> Result<Vec<Vec<u32>>, AllocError
 ///
 /// The users are counted and measured, and the parameters looked at; then the object's source is read and checked, and its words are compared
 /// with those that its source is compiled to. The first fault answers. Want of memory may come once users and parameters fit.
-#[tactic(none)]
 pub fn link<M: LayerMaker>(
     alloc: Global,
     object: &Object,
     params: &Params,
     users: &[Vec<u32>],
 ) -> Result<Image, LinkFault>
-    requires { (source : List ℕ) (a b : Result CUnit SourceFault) → IsAnswer source a → IsAnswer source b → a ≡ b }
     // The answer that is due by what the front comes to on the source, or want of memory.
     ensures is { (front : Result CUnit SourceFault) × Comes object.now.source front × GivesUnless Memory (λ i. i) result (link_answer M.made object.now params.now (map (λ u. u.items) users.now) front) }
-    // By whatever answer the source has.
-    ensures only { (front : Result CUnit SourceFault) → IsAnswer object.now.source front → GivesUnless Memory (λ i. i) result (link_answer M.made object.now params.now (map (λ u. u.items) users.now) front) }
     // Users or parameters that don't fit are answered by their fault.
     ensures early { (f : LinkFault) → fitting params.now (map (λ u. u.items) users.now) ≡ Err f → result ≡ Err f }
     // The image can be written.
@@ -130,7 +124,7 @@ pub fn link<M: LayerMaker>(
 {
     fit(params, users)?;
     let unit = read_unit(alloc, &object.source)?;
-    let code = compile(alloc, &unit)?;
+    let code = compiled(alloc, &unit)?;
     compare(&object.words, &code)?;
     let joined = link_words::<M>(alloc, &unit, &code, params, users)?;
     Ok(Image {
