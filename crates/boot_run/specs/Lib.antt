@@ -1,7 +1,4 @@
-pub mod Trace
-pub mod TurnEnds
-pub mod Headline
-pub mod Samples
-pub mod Rows
-pub mod Completes
-pub mod Advances
+pub mod Loading
+pub mod LoadEnds
+pub mod TurnCalls
+pub mod Shown

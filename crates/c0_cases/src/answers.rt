@@ -4,11 +4,11 @@ use crate::faults::{put_read_fault, put_source_fault};
 use crate::tree_spans::unit_spans;
 use crate::tree_text::{put_bytes, put_unit, put_words};
 use c0_asm_text::read_asm;
-use c0_front::read_unit;
 use c0_meaning::{Checked, frame_words};
 use c0_parser::parse;
 use c0_structs::measured;
 use c0_tree::Unit;
+use c0_types::read_unit;
 use std::alloc::{AllocError, Global};
 use std::fmt::Write;
 

@@ -1,8 +1,7 @@
 // Faults as a line: the number of a refusal, and where it stands.
 
-use c0_front::SourceFault;
 use c0_parser::ReadFault;
-use c0_types::TypeFault;
+use c0_types::{SourceFault, TypeFault};
 use std::alloc::AllocError;
 use std::fmt::Write;
 

@@ -33,15 +33,16 @@ first_is_typed primitives u well =
         heap_values = tt;
         frames = λ k d h. absurd (omega (arith, h));
       },
+      λ i t e. absurd (cc),
     )
 
 pub calls_are_safe : (W E : Type 0) → CallsAreSafe W E
-calls_are_safe W E is_right primitives p objects n number f args s world well answers is typed fits right =
-    first_call_safe W E primitives p is_right well answers objects n number f args s world is typed fits right
+calls_are_safe W E is_right primitives p objects n number f args s world well answers is typed declared fits right =
+    first_call_safe W E primitives p is_right well answers objects n number f args s world is typed declared fits right
 
 pub calls_answer : (W E : Type 0) → CallsAnswer W E
-calls_answer W E is_right primitives p objects n number f args s world well answers is typed fits right =
-    first_call_answers W E primitives p is_right well answers objects n number f args s world is typed fits right
+calls_answer W E is_right primitives p objects n number f args s world well answers is typed declared fits right =
+    first_call_answers W E primitives p is_right well answers objects n number f args s world is typed declared fits right
 
 -- three ints for three parameters of type int
 three_ints : (structs : List Shape) (layout : Layout) (ds : List CDecl) (a b c : ℤ) → are_three_ints ds ≡ true → FitsSigned w32 a → FitsSigned w32 b → FitsSigned w32 c
@@ -66,7 +67,7 @@ dispatches_are_safe W E is_right p n cause edata user s world checked answers ty
     let c = and_parts _ _ d.4 in
     let k = and_parts (are_three_ints d.1.params) _ c.1 in
     subst (λ m. IsSafe is_right p.unit (call_first p n m (part (value.int cause) (part (value.int edata) (part (value.int user) empty))) s world)) (sym (ap (λ o. unwrap_or o 0) d.2))
-    (first_call_safe W E kernel_primitives p is_right checked.well_formed answers typed.0 n d.0 d.1 (part (value.int cause) (part (value.int edata) (part (value.int user) empty))) s world d.3 typed.1
+    (first_call_safe W E kernel_primitives p is_right checked.well_formed answers typed.0 n d.0 d.1 (part (value.int cause) (part (value.int edata) (part (value.int user) empty))) s world d.3 typed.1 typed.2
     (three_ints (shapes p.unit) (layout_of p.unit typed.0) d.1.params cause edata user k.0 f g h) right)
 
 -- a value of type int is an int
@@ -91,7 +92,7 @@ dispatches_answer W E is_right p n cause edata user s world checked answers type
     let args = part (value.int cause) (part (value.int edata) (part (value.int user) empty)) in
     subst (λ m. AnswersAnInt (call_first p n m args s world)) (sym (ap (λ o. unwrap_or o 0) d.2))
     (an_int p.unit (call_first p n d.0 args s world) (subst (λ t. Answers p.unit t (call_first p n d.0 args s world)) gives
-    (first_call_answers W E kernel_primitives p is_right checked.well_formed answers typed.0 n d.0 d.1 args s world d.3 typed.1
+    (first_call_answers W E kernel_primitives p is_right checked.well_formed answers typed.0 n d.0 d.1 args s world d.3 typed.1 typed.2
     (three_ints (shapes p.unit) (layout_of p.unit typed.0) d.1.params cause edata user k.0 f g h) right)))
 
 -- the answer of a row that is found

@@ -62,5 +62,5 @@ programs_are_safe u answers n well main ints =
     let typed = first_is_typed user_primitives u well in
     seen_safe u answers (call_first setting n (unwrap_or (position is_main u.functions) 0) empty (first_state u) answers)
     (subst (λ m. IsSafe (λ ws. list_all is_int ws) u (call_first setting n m empty (first_state u) answers)) (sym (ap (λ o. unwrap_or o 0) p.1))
-    (first_call_safe (List ℤ) ℤ user_primitives setting (λ ws. list_all is_int ws) well traps_fit typed.0 n p.0.number p.0.function empty (first_state u) answers p.0.there typed.1
+    (first_call_safe (List ℤ) ℤ user_primitives setting (λ ws. list_all is_int ws) well traps_fit typed.0 n p.0.number p.0.function empty (first_state u) answers p.0.there typed.1 typed.2
     (no_params (shapes u) (layout_of u typed.0) p.0.function.params none) ints))

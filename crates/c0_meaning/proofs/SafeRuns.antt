@@ -9,20 +9,19 @@ use Rattle.c0_tree.specs.Plain.{is_short, is_plain_expr, is_plain_stmt, is_plain
 use Rattle.c0_tree.specs.Tree.{CName, CTy, CExpr, CStmt, assign, call, new, choice, loop, CStmts, done, next, CBody, code, asm, CFunction, CUnit}
 use Rattle.c0_meaning.specs.Ty.{Ty, ty_of, same_ty}
 use Rattle.c0_meaning.specs.Ty as ty
-use Rattle.c0_meaning.specs.Env.{Env, Callee, callee_named, typed_of, scalar_ty}
-use Rattle.c0_meaning.specs.DeclaredTypes.{type_faults, unknown_structs, may_pass}
+use Rattle.c0_meaning.specs.Env.{Env, Shape, Callee, callee_named, typed_of, scalar_ty}
+use Rattle.c0_meaning.specs.DeclaredTypes.{type_faults, may_pass}
 use Rattle.c0_meaning.specs.Expression.{is_local, resolved}
 use Rattle.c0_meaning.specs.Limits.{locals_of, frame, is_asm}
 use Rattle.c0_meaning.specs.Resolved.{resolved_type}
 use Rattle.c0_meaning.specs.Rules.{AreGiven, IsTyped, an_assignment, a_call, an_object, a_choice, a_loop}
 use Rattle.c0_meaning.specs.Sound.{shapes}
 use Rattle.c0_meaning.specs.Statement.{numbered_callee, stmt_resolved, stmts_resolved}
-use Rattle.c0_meaning.specs.Typed.{IsTypedUnit, IsTypedBody, IsDeclarable, AreKnown}
+use Rattle.c0_meaning.specs.Typed.{IsTypedUnit, IsTypedBody, IsDeclarable}
 use Rattle.c0_meaning.specs.Unit.{IsWellFormed, resolved_body}
 use Rattle.c0_meaning.specs.Words.{words}
-use Rattle.c0_meaning.proofs.Faultless.{left_nil}
 use Rattle.c0_meaning.proofs.Ty.{equal-same_ty}
-use Rattle.c0_meaning.proofs.Units.{units_are_faultless}
+use Rattle.c0_meaning.proofs.Units.{none_type, units_are_faultless}
 use Rattle.c0_meaning.specs.Value.{Region, globals, heap, locals, Value, int, null, at, group, Values, followed_by, parts, with_part, zero_of, zeros_of}
 use Rattle.c0_meaning.specs.State.{Frame, State, write, stack_words}
 use Rattle.c0_meaning.specs.Operators.{StackOut, faulted, stuck}
@@ -31,12 +30,12 @@ use Rattle.c0_meaning.specs.AsmBody.{asm_result}
 use Rattle.c0_meaning.specs.World.{Setting, Cost, units, plus, total, Configuration, call_cost, after_call, beginning}
 use Rattle.c0_meaning.specs.Running.{Target, into, outward, Work, act_on, finish, again, leave, begin, Step, Go, Stop, push, then_go, store, deliver, enter, call_function, call_with, allocate, test_loop, act_statement, act}
 use Rattle.c0_meaning.specs.Execution.{Outcome, Failed, NotYet, then_run, run, call_first}
-use Rattle.c0_meaning.specs.TypedState.{Layout, types_of, Fits, AllFit, variable_types, IsTypedFrame, layout_of, IsTypedWith, AnswersFit, IsSafeAt, IsSafe, Answers}
+use Rattle.c0_meaning.specs.TypedState.{Layout, types_of, Fits, AllFit, variable_types, IsTypedFrame, layout_of, IsTypedWith, AreDeclared, AnswersFit, IsSafeAt, IsSafe, Answers}
 use Rattle.c0_meaning.proofs.Fields.{zero_fits, zeros_fit}
 use Rattle.c0_meaning.proofs.Parts.{fits_more, joined_fit}
 use Rattle.c0_meaning.proofs.Ranges.{int_of_fits}
 use Rattle.c0_meaning.proofs.SafeExpressions.{Good, Scene, IsAt, given_good, place_good, values_good, bool_good}
-use Rattle.c0_meaning.proofs.SafeStates.{RightValue, RightPlace, RightStatement, RightStatements, first_right, known, Calls, a_function, a_primitive, callee, callee_is, no_layout, scalar_everywhere, scalars_everywhere, right_function, variables_split, params_types, env_in, scene, written, objects_count, allocated}
+use Rattle.c0_meaning.proofs.SafeStates.{RightValue, RightPlace, RightStatement, RightStatements, first_right, Calls, a_function, a_primitive, callee, callee_is, no_layout, scalar_everywhere, scalars_everywhere, right_function, variables_split, params_types, env_in, scene, written, objects_count, allocated}
 
 -- work that is left to the function of the newest frame, above these frames: its statements and the values that they hold are typed, and
 -- the first function answers a type
@@ -85,6 +84,13 @@ goes_more first primitives u objects more (leave answer outward ∷ item ∷ wor
 goes_more first primitives u objects more (leave answer (into place rest) ∷ work) f [] h = absurd h.1
 goes_more first primitives u objects more (begin n args ∷ work) f fs h = absurd h
 
+-- and one type more
+declared_more : (structs : List Shape) (objects : List Ty) (t : CTy) → IsDeclarable structs t → AreDeclared structs objects → AreDeclared structs (objects ++ ty_of t ∷ [])
+declared_more structs [] t d a zero x e = let q : ty_of t ≡ x = cc in (t, q, d)
+declared_more structs [] t d a (suc i) x e = cc
+declared_more structs (y ∷ ys) t d a zero x e = a 0 x e
+declared_more structs (y ∷ ys) t d a (suc i) x e = declared_more structs ys t d (λ j z q. a (suc j) z q) i x e
+
 module _ (W E : Type 0) (primitives : List CPrimitive) (p : Setting W E) (is_right : W → Bool) (well : IsWellFormed primitives p.unit) (answers : AnswersFit is_right primitives p.meaning) (first : Ty) where
   -- where nothing is left to do, the first function has answered a value of its type
   abbrev Answered : List Ty → List Work → Option Value → Type 0
@@ -96,11 +102,15 @@ module _ (W E : Type 0) (primitives : List CPrimitive) (p : Setting W E) (is_rig
   unanswered objects [] f fs answer h = absurd h
   unanswered objects (item ∷ work) f fs answer h = tt
 
+  -- a typed state, whose objects have types that may be declared
+  abbrev Declared : List Ty → State → Type 0
+  Declared objects s = IsTypedWith p.unit objects s × AreDeclared (shapes p.unit) objects
+
   -- a typed state, and work that is ready for it
   record Stays (work : List Work) (c : Configuration W E) : Type 0 where
     objects : List Ty
     answered : Answered objects work c.answer
-    typed : IsTypedWith p.unit objects c.state
+    typed : Declared objects c.state
     ready : Ready first primitives p.unit (layout_of p.unit objects) work c.state.frames
     right : IsTrue (is_right c.world)
 
@@ -131,7 +141,7 @@ module _ (W E : Type 0) (primitives : List CPrimitive) (p : Setting W E) (is_rig
   WaitsFor objects t target work frames = Awaits first primitives p.unit (λ h gs. Goes first primitives p.unit (lay objects) work h gs) t target work frames
 
   delivered : (objects : List Ty) (gv hv : Value) (hw : ℕ) (frames : List Frame) (world : W) (calls : List (List E)) (answer : Option Value) (k : Cost) (t : Ty) (target : Target) (v : Value) (work : List Work)
-      → IsTypedWith p.unit objects (state_of gv hv hw frames) → IsTrue (is_right world) → Fits (shapes p.unit) (lay objects) t v → WaitsFor objects t target work frames
+      → Declared objects (state_of gv hv hw frames) → IsTrue (is_right world) → Fits (shapes p.unit) (lay objects) t v → WaitsFor objects t target work frames
       → SafeStep (deliver k target v work (standing_at gv hv hw frames world calls answer))
   delivered objects gv hv hw [] world calls answer k t outward v [] typed right fits h = record { objects = objects; answered = (v, refl, subst (λ s. Fits (shapes p.unit) (lay objects) s v) h fits); typed = typed; ready = tt; right = right }
   delivered objects gv hv hw (g ∷ fs) world calls answer k t (into place rest) v work typed right fits h =
@@ -144,7 +154,7 @@ module _ (W E : Type 0) (primitives : List CPrimitive) (p : Setting W E) (is_rig
   typed_unit = (units_are_faultless primitives p.unit).1 well.typed
 
   entered : (objects : List Ty) (gv hv : Value) (hw : ℕ) (frames : List Frame) (world : W) (calls : List (List E)) (answer : Option Value) (k : Cost) (n : ℕ) (h : CFunction) (args : Values) (target : Target) (work : List Work) (body : CBody) → h.body ≡ body
-      → IsTypedWith p.unit objects (state_of gv hv hw frames) → IsTrue (is_right world) → slice_get p.unit.functions n ≡ Some h → AllFit (shapes p.unit) (lay objects) (types_of (map typed_of h.params)) args → WaitsFor objects (ty_of h.answer) target work frames
+      → Declared objects (state_of gv hv hw frames) → IsTrue (is_right world) → slice_get p.unit.functions n ≡ Some h → AllFit (shapes p.unit) (lay objects) (types_of (map typed_of h.params)) args → WaitsFor objects (ty_of h.answer) target work frames
       → SafeStep (enter p k n body args target work (standing_at gv hv hw frames world calls answer))
   entered objects gv hv hw frames world calls answer k n h args target work (code ls stmts result) e typed right is fits waits =
       let r = right_function primitives p.unit n h well is in
@@ -164,11 +174,14 @@ module _ (W E : Type 0) (primitives : List CPrimitive) (p : Setting W E) (is_rig
       record {
         objects = objects;
         answered = unanswered objects (push stmts (leave result target ∷ work)) h frames answer goes;
-        typed = record {
-          global_values = typed.global_values;
-          heap_values = typed.heap_values;
-          frames = All-cons (IsTypedFrame p.unit (lay objects)) (record { function = n; variables = group (followed_by args (zeros_of (shapes p.unit) (map typed_of ls))) }) frames (record { function = h; is = is; variables = both }) typed.frames;
-        };
+        typed = (
+          record {
+            global_values = typed.0.global_values;
+            heap_values = typed.0.heap_values;
+            frames = All-cons (IsTypedFrame p.unit (lay objects)) (record { function = n; variables = group (followed_by args (zeros_of (shapes p.unit) (map typed_of ls))) }) frames (record { function = h; is = is; variables = both }) typed.0.frames;
+          },
+          typed.1,
+        );
         ready = (h, is, goes);
         right = right;
       }
@@ -184,18 +197,18 @@ module _ (W E : Type 0) (primitives : List CPrimitive) (p : Setting W E) (is_rig
       (subst (λ t. Fits (shapes p.unit) (lay objects) t (int (asm_result words args))) (sym (equal-same_ty (ty_of h.answer) ty.int passes)) (int_of_fits _)) waits
 
   called : (objects : List Ty) (gv hv : Value) (hw : ℕ) (frames : List Frame) (world : W) (calls : List (List E)) (answer : Option Value) (k : Cost) (n : ℕ) (h : CFunction) (args : Values) (target : Target) (work : List Work)
-      → IsTypedWith p.unit objects (state_of gv hv hw frames) → IsTrue (is_right world) → slice_get p.unit.functions n ≡ Some h → AllFit (shapes p.unit) (lay objects) (types_of (map typed_of h.params)) args → WaitsFor objects (ty_of h.answer) target work frames
+      → Declared objects (state_of gv hv hw frames) → IsTrue (is_right world) → slice_get p.unit.functions n ≡ Some h → AllFit (shapes p.unit) (lay objects) (types_of (map typed_of h.params)) args → WaitsFor objects (ty_of h.answer) target work frames
       → SafeStep (call_function p k n args target work (standing_at gv hv hw frames world calls answer))
   called objects gv hv hw frames world calls answer k n h args target work typed right is fits waits =
       goes_safe (λ x. x ≡ h) (plus k (units 1)) (standing_at gv hv hw frames world calls answer) (at_no_cost (ok_or (slice_get p.unit.functions n) stuck)) _
-      (subst (λ o. Good (λ x. x ≡ h) (at_no_cost (ok_or o stuck))) (sym is) refl) ((objects, typed), right)
+      (subst (λ o. Good (λ x. x ≡ h) (at_no_cost (ok_or o stuck))) (sym is) refl) ((objects, typed.0, typed.1), right)
       (λ j x q. subst (λ y. SafeStep (if nat_lt p.stack (stack_words p.unit frames + frame (shapes p.unit) y) then Stop j (faulted StackOut) (standing_at gv hv hw frames world calls answer) else enter p j n y.body args target work (standing_at gv hv hw frames world calls answer))) (sym q)
-      (either_safe (nat_lt p.stack (stack_words p.unit frames + frame (shapes p.unit) h)) _ _ ((objects, typed), right)
+      (either_safe (nat_lt p.stack (stack_words p.unit frames + frame (shapes p.unit) h)) _ _ ((objects, typed.0, typed.1), right)
       (entered objects gv hv hw frames world calls answer j n h args target work h.body refl typed right is fits waits)))
 
   -- the work of the function of the newest frame
   module _ (objects : List Ty) (gv hv : Value) (hw : ℕ) (g : Frame) (fs : List Frame) (world : W) (calls : List (List E)) (answer : Option Value) (f : CFunction)
-      (typed : IsTypedWith p.unit objects (state_of gv hv hw (g ∷ fs))) (right : IsTrue (is_right world)) (is : slice_get p.unit.functions g.function ≡ Some f) where
+      (typed : Declared objects (state_of gv hv hw (g ∷ fs))) (right : IsTrue (is_right world)) (is : slice_get p.unit.functions g.function ≡ Some f) where
     abbrev here : Configuration W E
     here = standing_at gv hv hw (g ∷ fs) world calls answer
 
@@ -203,10 +216,10 @@ module _ (W E : Type 0) (primitives : List CPrimitive) (p : Setting W E) (is_rig
     env = env_in primitives p.unit f
 
     abbrev its : Scene env (lay objects) (state_of gv hv hw (g ∷ fs))
-    its = scene primitives p.unit objects gv hv hw g fs f typed is
+    its = scene primitives p.unit objects gv hv hw g fs f typed.0 is
 
     safe_here : IsSafeAt is_right p.unit here
-    safe_here = ((objects, typed), right)
+    safe_here = ((objects, typed.0, typed.1), right)
 
     abbrev Left : List Work → Type 0
     Left work = Goes first primitives p.unit (lay objects) work f fs
@@ -223,7 +236,7 @@ module _ (W E : Type 0) (primitives : List CPrimitive) (p : Setting W E) (is_rig
         (λ j l at_l. record {
           objects = objects;
           answered = unanswered objects (push rest work) f fs answer (push_goes first primitives p.unit (lay objects) f fs rest work more left);
-          typed = written primitives p.unit objects gv hv hw g fs f l.region l.path t v typed is at_l.stands fits;
+          typed = (written primitives p.unit objects gv hv hw g fs f l.region l.path t v typed.0 is at_l.stands fits, typed.1);
           ready = written_ready l.region l.path v (push rest work) (push_goes first primitives p.unit (lay objects) f fs rest work more left);
           right = right;
         })
@@ -275,14 +288,14 @@ module _ (W E : Type 0) (primitives : List CPrimitive) (p : Setting W E) (is_rig
             (f, is, subst (RightPlace env place) result h, more, left))
 
     -- an object
-    made : (place : CExpr) (t : CTy) (rest : CStmts) (work : List Work) → RightPlace env place (ty.pointer (ty_of t)) → AreKnown (shapes p.unit) t → RightStatements env rest → Left work → SafeStep (allocate p (ty_of t) (into place rest) work here)
+    made : (place : CExpr) (t : CTy) (rest : CStmts) (work : List Work) → RightPlace env place (ty.pointer (ty_of t)) → IsDeclarable (shapes p.unit) t → RightStatements env rest → Left work → SafeStep (allocate p (ty_of t) (into place rest) work here)
     made place t rest work h there more left =
         either_safe (nat_lt p.heap (hw + words (shapes p.unit) (ty_of t))) _ _
         (delivered objects gv hv hw (g ∷ fs) world calls answer (units 1) (ty.pointer (ty_of t)) (into place rest) null work typed right tt (f, is, h, more, left))
         (delivered (objects ++ ty_of t ∷ []) gv (with_part hv (zero_of (shapes p.unit) (ty_of t))) (hw + words (shapes p.unit) (ty_of t)) (g ∷ fs) world calls answer (units (1 + words (shapes p.unit) (ty_of t))) (ty.pointer (ty_of t)) (into place rest)
         (at (record { region = heap; path = parts hv ∷ [] })) work
-        (allocated primitives p.unit objects gv hv hw (hw + words (shapes p.unit) (ty_of t)) (g ∷ fs) (ty_of t) (zero_of (shapes p.unit) (ty_of t)) typed (zero_fits p.unit.structs typed_unit.structs (lay (objects ++ ty_of t ∷ [])) t there)) right
-        (objects_count primitives p.unit objects hv (ty_of t) typed.heap_values)
+        (allocated primitives p.unit objects gv hv hw (hw + words (shapes p.unit) (ty_of t)) (g ∷ fs) (ty_of t) (zero_of (shapes p.unit) (ty_of t)) typed.0 (zero_fits p.unit.structs typed_unit.structs (lay (objects ++ ty_of t ∷ [])) t there.known), declared_more (shapes p.unit) objects t there typed.1) right
+        (objects_count primitives p.unit objects hv (ty_of t) typed.0.heap_values)
         (f, is, h, more, goes_more first primitives p.unit objects (ty_of t ∷ []) work f fs left))
 
     stated : (s : CStmt) (rest : CStmts) (work : List Work) → RightStatement env s → RightStatements env rest → Left work → SafeStep (act_statement p s rest work here)
@@ -309,7 +322,7 @@ module _ (W E : Type 0) (primitives : List CPrimitive) (p : Setting W E) (is_rig
         by_rule : IsTyped (type_faults env.structs) env (new span place t ty_span) → stmt_resolved (resolved_type env.structs) env (new span place t ty_span) ≡ new span place t ty_span → is_plain_stmt (new span place t ty_span) ≡ true → SafeStep (act_statement p (new span place t ty_span) rest work here)
         by_rule (an_object l declared need) q c =
             let r : resolved env place ≡ place = cc in
-            made place t rest work (record { left = l; settled = r; plain = c }) (known (shapes p.unit) t (left_nil (unknown_structs (shapes p.unit) t) _ declared)) more left
+            made place t rest work (record { left = l; settled = r; plain = c }) (none_type (shapes p.unit) t ty_span declared) more left
     stated (choice span test a b) rest work h more left = by_rule h.typed h.settled h.plain
       where
         chosen : (z : Bool) → Stays (push a (push rest work)) here → Stays (push b (push rest work)) here → Stays (push (if z then a else b) (push rest work)) here
@@ -345,11 +358,11 @@ module _ (W E : Type 0) (primitives : List CPrimitive) (p : Setting W E) (is_rig
     acts_here (leave result target) work h =
         goes_safe (Fits (shapes p.unit) (lay objects) (ty_of f.answer)) (units 0) here (value_of result here.state) _ (valued result (ty_of f.answer) h.0) safe_here
         (λ j v fits. delivered objects gv hv hw fs world calls answer j (ty_of f.answer) target v work
-        (record { global_values = typed.global_values; heap_values = typed.heap_values; frames = All-tail (IsTypedFrame p.unit (lay objects)) g fs typed.frames }) right fits h.1)
+        (record { global_values = typed.0.global_values; heap_values = typed.0.heap_values; frames = All-tail (IsTypedFrame p.unit (lay objects)) g fs typed.0.frames }, typed.1) right fits h.1)
     acts_here (begin n args) work h = absurd h
 
   acts_in : (objects : List Ty) (gv hv : Value) (hw : ℕ) (frames : List Frame) (world : W) (calls : List (List E)) (answer : Option Value) (item : Work) (work : List Work)
-      → IsTypedWith p.unit objects (state_of gv hv hw frames) → IsTrue (is_right world) → Ready first primitives p.unit (lay objects) (item ∷ work) frames → SafeStep (act p item work (standing_at gv hv hw frames world calls answer))
+      → Declared objects (state_of gv hv hw frames) → IsTrue (is_right world) → Ready first primitives p.unit (lay objects) (item ∷ work) frames → SafeStep (act p item work (standing_at gv hv hw frames world calls answer))
   acts_in objects gv hv hw (g ∷ fs) world calls answer item work typed right ready = acts_here objects gv hv hw g fs world calls answer ready.0 typed right ready.1 item work ready.2
   acts_in objects gv hv hw [] world calls answer (begin n args) [] typed right ready = called objects gv hv hw [] world calls answer (units 0) n ready.0 args outward [] typed right ready.1 ready.2 ready.3
   acts_in objects gv hv hw [] world calls answer (begin n args) (item ∷ work) typed right ready = absurd ready
@@ -362,7 +375,7 @@ module _ (W E : Type 0) (primitives : List CPrimitive) (p : Setting W E) (is_rig
   acts_safe item work c h = acts_in h.objects c.state.global_values c.state.heap_values c.state.heap_words c.state.frames c.world c.calls c.answer item work h.typed h.right h.ready
 
   stays_safe : (work : List Work) (c : Configuration W E) → Stays work c → IsSafeAt is_right p.unit c
-  stays_safe work c h = ((h.objects, h.typed), h.right)
+  stays_safe work c h = ((h.objects, h.typed.0, h.typed.1), h.right)
 
   -- so is the end of a run, with an answer of that type where it is done
   abbrev Ends : Outcome W E → Type 0
@@ -383,22 +396,22 @@ module _ (W E : Type 0) (primitives : List CPrimitive) (p : Setting W E) (is_rig
 
   runs_safe : (steps l : ℕ) (used : Cost) (work : List Work) (c : Configuration W E) → Stays work c → Ends (run p steps l used work c)
   runs_safe zero l used work c h = (stays_safe work c h, tt)
-  runs_safe (suc steps) l used [] c h = (stays_safe [] c h, (h.objects, h.typed, h.answered))
+  runs_safe (suc steps) l used [] c h = (stays_safe [] c h, (h.objects, h.typed.0, h.answered))
   runs_safe (suc steps) l used (item ∷ work) c h = runs_on (act p item work c) l used c (run p steps l) (stays_safe (item ∷ work) c h) (acts_safe item work c h) (λ k w d s. runs_safe steps l k w d s)
 
   no_frames : (layout : Layout) → All (IsTypedFrame p.unit layout) []
   no_frames layout k d h = absurd (omega (arith, h))
 
-  first_call_ends : (objects : List Ty) (n number : ℕ) (f : CFunction) (args : Values) (s : State) (world : W) → slice_get p.unit.functions number ≡ Some f → ty_of f.answer ≡ first → IsTypedWith p.unit objects s → AllFit (shapes p.unit) (lay objects) (types_of (map typed_of f.params)) args → IsTrue (is_right world) → Ends (call_first p n number args s world)
+  first_call_ends : (objects : List Ty) (n number : ℕ) (f : CFunction) (args : Values) (s : State) (world : W) → slice_get p.unit.functions number ≡ Some f → ty_of f.answer ≡ first → Declared objects s → AllFit (shapes p.unit) (lay objects) (types_of (map typed_of f.params)) args → IsTrue (is_right world) → Ends (call_first p n number args s world)
   first_call_ends objects n number f args s world is gives typed fits right =
       runs_safe (suc n) n (units 0) (begin number args ∷ []) (beginning (record s { frames = [] }) world)
-      (record { objects = objects; answered = tt; typed = record { global_values = typed.global_values; heap_values = typed.heap_values; frames = no_frames (lay objects) }; ready = (f, is, fits, gives); right = right })
+      (record { objects = objects; answered = tt; typed = (record { global_values = typed.0.global_values; heap_values = typed.0.heap_values; frames = no_frames (lay objects) }, typed.1); ready = (f, is, fits, gives); right = right })
 
 module _ (W E : Type 0) (primitives : List CPrimitive) (p : Setting W E) (is_right : W → Bool) (well : IsWellFormed primitives p.unit) (answers : AnswersFit is_right primitives p.meaning)
-    (objects : List Ty) (n number : ℕ) (f : CFunction) (args : Values) (s : State) (world : W) (is : slice_get p.unit.functions number ≡ Some f) (typed : IsTypedWith p.unit objects s)
+    (objects : List Ty) (n number : ℕ) (f : CFunction) (args : Values) (s : State) (world : W) (is : slice_get p.unit.functions number ≡ Some f) (typed : IsTypedWith p.unit objects s) (declared : AreDeclared (shapes p.unit) objects)
     (fits : AllFit (shapes p.unit) (layout_of p.unit objects) (types_of (map typed_of f.params)) args) (right : IsTrue (is_right world)) where
   pub first_call_safe : IsSafe is_right p.unit (call_first p n number args s world)
-  first_call_safe = (first_call_ends W E primitives p is_right well answers (ty_of f.answer) objects n number f args s world is refl typed fits right).0
+  first_call_safe = (first_call_ends W E primitives p is_right well answers (ty_of f.answer) objects n number f args s world is refl (typed, declared) fits right).0
 
   pub first_call_answers : Answers p.unit (ty_of f.answer) (call_first p n number args s world)
-  first_call_answers = (first_call_ends W E primitives p is_right well answers (ty_of f.answer) objects n number f args s world is refl typed fits right).1
+  first_call_answers = (first_call_ends W E primitives p is_right well answers (ty_of f.answer) objects n number f args s world is refl (typed, declared) fits right).1

@@ -19,7 +19,7 @@ use Rattle.c0_meaning.specs.Execution.{Outcome, Done, Failed, NotYet, run, run_w
 use Rattle.c0_meaning.specs.State.{State, first_state, stack_words}
 use Rattle.c0_meaning.specs.PrimitiveCalls.{PrimitiveCall, AreMadeBy}
 use Rattle.c0_meaning.specs.CallChain.{AreChained, running}
-use Rattle.c0_meaning.specs.TypedState.{Layout, types_of, Fits, AllFit, layout_of, IsTypedWith, IsTypedState, AnswersFit, IsSafe, Answers}
+use Rattle.c0_meaning.specs.TypedState.{Layout, types_of, Fits, AllFit, layout_of, IsTypedWith, AreDeclared, IsTypedState, AnswersFit, IsSafe, Answers}
 use Rattle.std.specs.Int.{w32}
 use Rattle.c0_meaning.specs.UserProgram.{Ending, done, failed, not_yet, user_primitives, is_main, prog}
 use Rattle.c0_meaning.specs.Operators.{stuck}
@@ -135,7 +135,7 @@ abbrev pub CallsAreSafe : (W E : Type 0) → Type 0
 CallsAreSafe W E =
     (is_right : W → Bool) (primitives : List CPrimitive) (p : Setting W E) (objects : List Ty) (n number : ℕ) (f : CFunction) (args : Values) (s : State) (world : W)
     → IsWellFormed primitives p.unit → AnswersFit is_right primitives p.meaning → slice_get p.unit.functions number ≡ Some f
-    → IsTypedWith p.unit objects s → AllFit (shapes p.unit) (layout_of p.unit objects) (types_of (map typed_of f.params)) args → IsTrue (is_right world)
+    → IsTypedWith p.unit objects s → AreDeclared (shapes p.unit) objects → AllFit (shapes p.unit) (layout_of p.unit objects) (types_of (map typed_of f.params)) args → IsTrue (is_right world)
     → IsSafe is_right p.unit (call_first p n number args s world)
 
 -- a law: so is a dispatch of a checked kernel with a cause, its data and a user that are ints
@@ -151,7 +151,7 @@ abbrev pub CallsAnswer : (W E : Type 0) → Type 0
 CallsAnswer W E =
     (is_right : W → Bool) (primitives : List CPrimitive) (p : Setting W E) (objects : List Ty) (n number : ℕ) (f : CFunction) (args : Values) (s : State) (world : W)
     → IsWellFormed primitives p.unit → AnswersFit is_right primitives p.meaning → slice_get p.unit.functions number ≡ Some f
-    → IsTypedWith p.unit objects s → AllFit (shapes p.unit) (layout_of p.unit objects) (types_of (map typed_of f.params)) args → IsTrue (is_right world)
+    → IsTypedWith p.unit objects s → AreDeclared (shapes p.unit) objects → AllFit (shapes p.unit) (layout_of p.unit objects) (types_of (map typed_of f.params)) args → IsTrue (is_right world)
     → Answers p.unit (ty_of f.answer) (call_first p n number args s world)
 
 -- a run that is done has answered an int

@@ -4,13 +4,14 @@ use Rattle.std.specs.List.{All}
 use Rattle.std.specs.Int.{w32}
 use Rattle.c0_tree.specs.declared.primitive.Scalar.{Scalar}
 use Rattle.c0_tree.specs.Primitives.{CPrimitive}
-use Rattle.c0_tree.specs.Tree.{CFunction, CUnit}
-use Rattle.c0_meaning.specs.Ty.{Ty}
+use Rattle.c0_tree.specs.Tree.{CTy, CFunction, CUnit}
+use Rattle.c0_meaning.specs.Ty.{Ty, ty_of}
 use Rattle.c0_meaning.specs.Ty as ty
 use Rattle.c0_meaning.specs.Env.{Typed, Shape, typed_of, scalar_ty}
 use Rattle.c0_meaning.specs.Words.{fields_named}
 use Rattle.c0_meaning.specs.Limits.{locals_of}
 use Rattle.c0_meaning.specs.Sound.{shapes}
+use Rattle.c0_meaning.specs.Typed.{IsDeclarable}
 use Rattle.c0_meaning.specs.Value.{Region, globals, heap, locals, Value, int, bool, null, at, group, Values, empty, part}
 use Rattle.c0_meaning.specs.State.{Frame, State}
 use Rattle.c0_meaning.specs.World.{Meaning, Configuration}
@@ -85,9 +86,13 @@ pub record IsTypedWith (u : CUnit) (objects : List Ty) (s : State) : Type 0 wher
   pub heap_values : AreParts (shapes u) (layout_of u objects) objects s.heap_values
   pub frames : All (IsTypedFrame u (layout_of u objects)) s.frames
 
--- a state is typed
+-- each of these types is one that may be declared
+abbrev pub AreDeclared : List Shape → List Ty → Type 0
+AreDeclared structs types = (i : ℕ) (t : Ty) → slice_get types i ≡ Some t → (c : CTy) × (ty_of c ≡ t) × IsDeclarable structs c
+
+-- a state is typed: its heap objects have types that may be declared
 abbrev pub IsTypedState : CUnit → State → Type 0
-IsTypedState u s = (objects : List Ty) × IsTypedWith u objects s
+IsTypedState u s = (objects : List Ty) × IsTypedWith u objects s × AreDeclared (shapes u) objects
 
 -- a value has a scalar type that isn't a pointer, and so have values
 abbrev pub IsScalar : Scalar → Value → Type 0

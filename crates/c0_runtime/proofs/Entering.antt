@@ -1,5 +1,5 @@
 -- The entry of a kernel.
-use Rattle.std.proofs.Common.{◌≡◌, ℕ, ◌+◌, ◌*◌, ◌/◌, ◌%◌, ◌^◌, ◌<◌, ◌≤◌, List, [], ◌∷◌, ◌++◌, refl, ◌∙◌, arith}
+use Rattle.std.proofs.Common.{◌≡◌, ℕ, ◌+◌, ◌*◌, ◌/◌, ◌%◌, ◌^◌, ◌<◌, ◌≤◌, List, [], ◌∷◌, ◌++◌, Some, refl, ◌∙◌, subst, arith}
 use Rattle.mips_table.specs.declared.inst.Inst.{Inst}
 use Rattle.mips_table.specs.declared.inst.Inst.TheVariants.{Lui, Ori, J, Jal}
 use Rattle.mips_table.specs.Effect.{next}
@@ -7,15 +7,15 @@ use Rattle.mips_table.specs.Device.{Idle}
 use Rattle.mips_table.specs.Code.{put, Contents, Behind, World, Sound, at_with, Reaches, CodeAt}
 use Rattle.masm.specs.Says.{Gives, Reads}
 use Rattle.masm.specs.Laws.{RunsCompose, StraightRuns, JumpsLead}
-use Rattle.c0_runtime.specs.Code.{load_ends_code, entry_code}
+use Rattle.c0_runtime.specs.Code.{load_ends_code, entry_code, behind_first}
 use Rattle.c0_runtime.specs.declared.entry.TheConstants.{LEAVE}
-use Rattle.c0_runtime.specs.Laws.{ComesBack, StackIs, IsEntered, EntryRuns}
+use Rattle.c0_runtime.specs.Laws.{ComesBack, StackIs, IsEntered, with_half, EntryRuns}
 use Rattle.c0_runtime.proofs.Steps.{rests, put_other}
 use Rattle.c0_runtime.proofs.Numbers.{halves}
 
--- the instructions before the call
+-- the instructions before the call, behind the first
 abbrev before : ℕ → List Inst
-before globals = Lui 28 (globals / 2 ^ 16) ∷ Ori 28 28 (globals % 2 ^ 16) ∷ load_ends_code
+before globals = Ori 28 28 (globals % 2 ^ 16) ∷ load_ends_code
 
 -- the contents after them
 abbrev ready : (globals first stack : ℕ) → Contents → Contents
@@ -29,28 +29,32 @@ below : (m : ℕ → ℕ) (a v r : ℕ) → 28 ≤ a → r < 28 → put m a v r 
 below m a v r le lt = put_other m a v r (λ e. absurd (omega (arith, e, le, lt)))
 
 module _ (w : World) (f : Sound w) (runs : RunsCompose) (straight : StraightRuns w) (jumps : JumpsLead w) where
-  enters : (n globals dispatch first stack : ℕ) (c : Contents) (d : Behind) → CodeAt w n (entry_code globals (4 * dispatch)) → d.pending ≡ Idle →
-      StackIs w first stack c → ComesBack w 7 n dispatch c d (IsEntered globals first stack (n + 7) c)
+  begins : (n globals dispatch : ℕ) (c : Contents) (d : Behind) → CodeAt w n (entry_code globals dispatch) → d.pending ≡ Idle → Reaches w 1
+      (at_with n c d) (at_with (n + 1) (with_half globals c) d)
+  begins n globals dispatch c d at idle = straight.next (Lui 28 (globals / 2 ^ 16)) (Gives (globals / 2 ^ 16 * 2 ^ 16)) n c d at.0 refl idle refl
+
+  enters : (n globals dispatch first stack : ℕ) (c : Contents) (d : Behind) → CodeAt w (n + 1) (behind_first globals (4 * dispatch)) → d.pending ≡ Idle →
+      StackIs w first stack c → ComesBack w 6 (n + 1) dispatch (with_half globals c) d (IsEntered globals first stack (n + 7) c)
   enters n globals dispatch first stack c d at idle h =
       let small = f.small in let variables = h.variables in let inside = h.inside in
       let last = Jal (4 * dispatch / 4) ∷ J (LEAVE / 4) ∷ [] in
       let c1 = ready globals first stack c in
-      let call = (runs.back w n (before globals) (Jal (4 * dispatch / 4) ∷ J (LEAVE / 4) ∷ []) at).0 in
+      let call = (runs.back w (n + 1) (before globals) (Jal (4 * dispatch / 4) ∷ J (LEAVE / 4) ∷ []) at).0 in
       let there : 4 * dispatch / 4 ≡ dispatch = omega arith in
-      let load = straight.all (before globals) (Gives (globals / 2 ^ 16 * 2 ^ 16) ∷ Gives globals ∷ Reads 1029 (4 * first) ∷ Reads 1030 stack ∷ Gives
-      (4 * stack) ∷ Gives (4 * (first + stack)) ∷ []) n c d
-      (runs.front w n (before globals) (Jal (4 * dispatch / 4) ∷ J (LEAVE / 4) ∷ []) at) refl idle
-      (refl, (halves globals, ((refl, omega arith, h.first_word), ((refl, omega arith, h.stack_word), (omega arith, (omega arith, tt)))))) in
-      let go = rests w runs _ (4 * dispatch / 4) dispatch (record c1 { regs = put c1.regs 31 (next (4 * (n + 6))) }) d idle there
-      (jumps.jumped (Jal (4 * dispatch / 4)) (n + 6) (4 * dispatch / 4) 31 (next (4 * (n + 6))) c1 d call refl) in (
-        record c1 { regs = put c1.regs 31 (next (4 * (n + 6))) },
+      let load = straight.all (before globals) (Gives globals ∷ Reads 1029 (4 * first) ∷ Reads 1030 stack ∷ Gives
+      (4 * stack) ∷ Gives (4 * (first + stack)) ∷ []) (n + 1) (with_half globals c) d
+      (runs.front w (n + 1) (before globals) (Jal (4 * dispatch / 4) ∷ J (LEAVE / 4) ∷ []) at) refl idle
+      (halves globals, ((refl, omega arith, h.first_word), ((refl, omega arith, h.stack_word), (omega arith, (omega arith, tt))))) in
+      let go = rests w runs _ (4 * dispatch / 4) dispatch (record c1 { regs = put c1.regs 31 (next (4 * (n + 1 + 5))) }) d idle there
+      (jumps.jumped (Jal (4 * dispatch / 4)) (n + 1 + 5) (4 * dispatch / 4) 31 (next (4 * (n + 1 + 5))) c1 d call refl) in (
+        record c1 { regs = put c1.regs 31 (next (4 * (n + 1 + 5))) },
         record {
           globals = refl;
           frame = refl;
           stack = refl;
-          back = jumps.after (Jal (4 * dispatch / 4)) (n + 6) call ∙ omega arith;
+          back = jumps.after (Jal (4 * dispatch / 4)) (n + 1 + 5) call ∙ omega arith;
           regs = λ r lt. below (put (put (put (put (put (put c.regs 28 (globals / 2 ^ 16 * 2 ^ 16)) 28 globals) 29 (4 * first)) 30 stack) 30
-              (4 * stack)) 30 (4 * (first + stack))) 31 (next (4 * (n + 6))) r (omega arith) lt
+              (4 * stack)) 30 (4 * (first + stack))) 31 (next (4 * (n + 1 + 5))) r (omega arith) lt
               ∙ below (put (put (put (put (put c.regs 28 (globals / 2 ^ 16 * 2 ^ 16)) 28 globals) 29 (4 * first)) 30 stack) 30 (4 * stack)) 30
               (4 * (first + stack)) r (omega arith) lt
               ∙ below (put (put (put (put c.regs 28 (globals / 2 ^ 16 * 2 ^ 16)) 28 globals) 29 (4 * first)) 30 stack) 30 (4 * stack) r
@@ -64,15 +68,15 @@ module _ (w : World) (f : Sound w) (runs : RunsCompose) (straight : StraightRuns
           lo = refl;
           special = refl;
         },
-        runs.joined w 6 1 _ _ _ load go,
+        runs.joined w 5 1 _ _ _ load go,
       )
 
-  leaves : (n globals dispatch : ℕ) (c : Contents) (d : Behind) → CodeAt w n (entry_code globals dispatch) → d.pending ≡ Idle → Reaches w 1
+  leaves : (n globals dispatch : ℕ) (c : Contents) (d : Behind) → CodeAt w (n + 1) (behind_first globals dispatch) → d.pending ≡ Idle → Reaches w 1
       (at_with (n + 7) c d) (at_with (LEAVE / 4) c d)
   leaves n globals dispatch c d at idle =
-      let out = (runs.back w n (Lui 28 (globals / 2 ^ 16) ∷ Ori 28 28 (globals % 2 ^ 16) ∷ (load_ends_code ++ Jal (dispatch / 4) ∷ []))
+      let out = (runs.back w (n + 1) (Ori 28 28 (globals % 2 ^ 16) ∷ (load_ends_code ++ Jal (dispatch / 4) ∷ []))
       (J (LEAVE / 4) ∷ []) at).0 in
-      rests w runs _ (LEAVE / 4) (LEAVE / 4) c d idle refl (jumps.jumped (J (LEAVE / 4)) (n + 7) (LEAVE / 4) 0 0 c d out refl)
+      rests w runs _ (LEAVE / 4) (LEAVE / 4) c d idle refl (jumps.jumped (J (LEAVE / 4)) (n + 7) (LEAVE / 4) 0 0 c d (subst (λ k. w.code k ≡ Some (J (LEAVE / 4))) (omega arith) out) refl)
 
   pub entry_runs : EntryRuns w
-  entry_runs = record { enters = enters; leaves = leaves }
+  entry_runs = record { first = begins; enters = enters; leaves = leaves }

@@ -15,10 +15,14 @@ load_ends_code =
     Addu 30 29 30 ∷
     []
 
+-- what stands behind the entry's first instruction
+abbrev pub behind_first : (globals dispatch : ℕ) → List Inst
+behind_first globals dispatch = Ori 28 28 (globals % 2 ^ 16) ∷ (load_ends_code ++ Jal (dispatch / 4) ∷ J (LEAVE / 4) ∷ [])
+
 -- The entry: the globals' address, the end of the first frame (none stands yet, so it is the stack's first address) and the stack's end
 -- go to their registers; the function at the address `dispatch` is called, and then the kernel is left.
 abbrev pub entry_code : (globals dispatch : ℕ) → List Inst
-entry_code globals dispatch = Lui 28 (globals / 2 ^ 16) ∷ Ori 28 28 (globals % 2 ^ 16) ∷ (load_ends_code ++ Jal (dispatch / 4) ∷ J (LEAVE / 4) ∷ [])
+entry_code globals dispatch = Lui 28 (globals / 2 ^ 16) ∷ behind_first globals dispatch
 
 -- The first part of the routine `new`: register 2 has the object's words. The words used, with these, go to register 5, and where they
 -- exceed the heap the code goes on at its last two instructions.

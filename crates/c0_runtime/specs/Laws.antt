@@ -2,7 +2,7 @@
 use Rattle.std.specs.Prelude.{◌≡◌, ◌≢◌, ℕ, ◌+◌, ◌*◌, ◌/◌, ◌^◌, ◌<◌, ◌≤◌, ◌⊎◌, List, Ok, Err, None}
 use Rattle.mips_table.specs.declared.inst.Inst.{Inst}
 use Rattle.mips_table.specs.Device.{Idle}
-use Rattle.mips_table.specs.Code.{Contents, Behind, World, at_with, Reaches, CodeAt}
+use Rattle.mips_table.specs.Code.{Contents, with_reg, Behind, World, at_with, Reaches, CodeAt}
 use Rattle.masm.specs.declared.registers.Places.{Places}
 use Rattle.masm.specs.declared.registers.TheConstants.{ANSWER, ARGUMENTS, GLOBALS, FRAME_END, STACK_END, RETURN}
 use Rattle.layer_map.specs.Map.{heap_used_at, heap_words_at, heap_first_at, stack_first_at, stack_words_at}
@@ -11,7 +11,7 @@ use Rattle.c0_tree.specs.declared.tree.BinaryOp.{BinaryOp}
 use Rattle.c0_tree.specs.declared.tree.BinaryOp.TheVariants.{Mul, Div, Rem}
 use Rattle.c0_meaning.specs.Value.{int}
 use Rattle.c0_meaning.specs.Operators.{DivZero, faulted, on_ints}
-use Rattle.c0_runtime.specs.Code.{entry_code, new_code, multiply_code, divide_code, remainder_code, zero_exit}
+use Rattle.c0_runtime.specs.Code.{entry_code, behind_first, new_code, multiply_code, divide_code, remainder_code, zero_exit}
 use Rattle.c0_runtime.specs.declared.entry.TheConstants.{LEAVE}
 use Rattle.c0_runtime.specs.declared.runtime.TheConstants.{NEW_OBJECT, MULTIPLY, DIVIDE, REMAINDER}
 
@@ -131,11 +131,18 @@ pub record IsEntered (variables first words from : ℕ) (c c' : Contents) : Type
   pub lo : c'.lo ≡ c.lo
   pub special : c'.special ≡ c.special
 
--- The entry comes to the function's first word within seven steps; from where that returns to, one step leads to the layer's entry that is left by.
+-- the contents with the upper half of the globals' address in its register
+abbrev pub with_half : ℕ → Contents → Contents
+with_half globals c = with_reg c GLOBALS (globals / 2 ^ 16 * 2 ^ 16)
+
+-- The entry's first instruction leads behind itself. From there on what stands behind it is enough: it comes to the function's first word within
+-- six steps; and from where that returns to, one step leads to the layer's entry that is left by.
 pub record EntryRuns (w : World) : Type 0 where
-  pub enters : (n globals dispatch first stack : ℕ) (c : Contents) (d : Behind) → CodeAt w n (entry_code globals (4 * dispatch)) → d.pending ≡ Idle →
-      StackIs w first stack c → ComesBack w 7 n dispatch c d (IsEntered globals first stack (n + 7) c)
-  pub leaves : (n globals dispatch : ℕ) (c : Contents) (d : Behind) → CodeAt w n (entry_code globals dispatch) → d.pending ≡ Idle → Reaches w 1
+  pub first : (n globals dispatch : ℕ) (c : Contents) (d : Behind) → CodeAt w n (entry_code globals dispatch) → d.pending ≡ Idle → Reaches w 1
+      (at_with n c d) (at_with (n + 1) (with_half globals c) d)
+  pub enters : (n globals dispatch first stack : ℕ) (c : Contents) (d : Behind) → CodeAt w (n + 1) (behind_first globals (4 * dispatch)) → d.pending ≡ Idle →
+      StackIs w first stack c → ComesBack w 6 (n + 1) dispatch (with_half globals c) d (IsEntered globals first stack (n + 7) c)
+  pub leaves : (n globals dispatch : ℕ) (c : Contents) (d : Behind) → CodeAt w (n + 1) (behind_first globals dispatch) → d.pending ≡ Idle → Reaches w 1
       (at_with (n + 7) c d) (at_with (LEAVE / 4) c d)
 
 -- each routine stands where its number says, in words from the first routine on

@@ -99,7 +99,7 @@ module _ (runs : RunLaws) (compose : RunsCompose) (W E : Type 0) (Outer : W → 
 
         by_target : (acts : List Activation) (frames : List Frame) → Waiting W E Outer Passes z objects c.memory acts frames → (target : Target) (work : List Work) → Awaits (text W E Outer Passes z) acts to debt (ty_of f.answer) target work (λ acts at left. Ahead (text W E Outer Passes z) acts at left work) → frames ≡ fs
             → StepIs W E Outer Passes z debt h0 s0 (deliver cost target v work here)
-        by_target (b ∷ more) (q ∷ frames) w (into place rest) work ah e = (
+        by_target (b ∷ more) (q ∷ frames) w (into place rest) work ah e = inl (
           at_with to c' d,
           debt,
           led_to here refl,
@@ -122,7 +122,7 @@ module _ (runs : RunLaws) (compose : RunsCompose) (W E : Type 0) (Outer : W → 
             ahead = subst (λ y. Awaits (text W E Outer Passes z) (b ∷ more) to debt y (into place rest) work (λ acts at left. Ahead (text W E Outer Passes z) acts at left work)) types ah;
           },
         )
-        by_target [] [] w outward [] ah e = (
+        by_target [] [] w outward [] ah e = inl (
           at_with to c' d,
           debt,
           led_to (record here { answer = Some v }) refl,

@@ -4,9 +4,8 @@ use Rattle.std.proofs.Common.{◌≡◌, inl, inr, ℕ, zero, suc, ◌+◌, ◌*
 use Rattle.std.proofs.lemmas.Bool.{cases_Bool, cond-true, cond-false, leb-true}
 use Rattle.std.proofs.lemmas.List.{length-map}
 use Rattle.mips_table.specs.declared.inst.Inst.{Inst}
-use Rattle.mips_table.specs.declared.inst.Inst.TheVariants.{Addiu, Addu, Beq, Bne, J, Jal, Jr, Lw, Sltu, Sw}
-use Rattle.c0_tree.specs.Size.{nodes, stmts_nodes}
-use Rattle.c0_tree.specs.Tree.{CExpr, CStmt, assign, call, new, choice, loop, CStmts, done, next, CBody, code, asm, CDecl, CFunction}
+use Rattle.mips_table.specs.declared.inst.Inst.TheVariants.{Addiu, Beq, Bne, J, Jal, Jr, Lw, Sltu, Sw}
+use Rattle.c0_tree.specs.Tree.{CStmt, assign, call, new, choice, loop, CStmts, done, next, CBody, code, asm, CDecl, CFunction}
 use Rattle.c0_meaning.specs.Ty.{ty_of}
 use Rattle.c0_meaning.specs.Env.{typed_of}
 use Rattle.c0_meaning.specs.Words.{words, all_words}
@@ -17,7 +16,7 @@ use Rattle.c0_asm_body.specs.Code.{asm_code, arguments_code, instruction_of}
 use Rattle.c0_expr_code.specs.Scope.{Scope}
 use Rattle.c0_expr_code.specs.Code.{frame_back, register_of, constant_code, on_spot, value_code}
 use Rattle.c0_expr_code.specs.Test.{test_code}
-use Rattle.c0_stmt_code.specs.Code.{Links, callee_index, answer_code, args_code, otherwise, otherwise_at, back, turn_code, stmt_code, stmts_code, are_calling, frame_spot, end_code, large_code, stack_test, save_code, restore_code, params_code, zeros_code, zeros_loop, locals_code, clear_code, frame_entry, frame_return, register_entry, register_return, entry_code, exit_code, return_code, statements_function, asm_function, body_code as code_of_body}
+use Rattle.c0_stmt_code.specs.Code.{Links, callee_index, answer_code, args_code, otherwise, otherwise_at, turn_code, stmt_code, stmts_code, are_calling, frame_spot, end_code, large_code, stack_test, save_code, restore_code, params_code, zeros_code, zeros_loop, locals_code, clear_code, frame_entry, frame_return, register_entry, register_return, entry_code, exit_code, return_code, body_code as code_of_body}
 use Rattle.c0_stmt_code.proofs.Needs.{LengthsFit}
 use Rattle.c0_stmt_code.proofs.Lengths.{spot_length, stmts_length}
 
@@ -39,8 +38,16 @@ module _ (sc : Scope) (x y : Links) where
         let eb = stmts_same b in
         let o = otherwise_same b (stmts_code sc x b) (stmts_code sc y b) eb in
         let e = ap (λ n. length (test_code sc t false ((n + otherwise_at b) % 2 ^ 16) 8)) ea in
-        omega (arith, ea, o, e, length-append (test_code sc t false ((length (stmts_code sc x a) + otherwise_at b) % 2 ^ 16) 8) (stmts_code sc x a ++ otherwise b (stmts_code sc x b)), length-append (stmts_code sc x a) (otherwise b (stmts_code sc x b)),
-        length-append (test_code sc t false ((length (stmts_code sc y a) + otherwise_at b) % 2 ^ 16) 8) (stmts_code sc y a ++ otherwise b (stmts_code sc y b)), length-append (stmts_code sc y a) (otherwise b (stmts_code sc y b)))
+        omega (
+          arith,
+          ea,
+          o,
+          e,
+          length-append (test_code sc t false ((length (stmts_code sc x a) + otherwise_at b) % 2 ^ 16) 8) (stmts_code sc x a ++ otherwise b (stmts_code sc x b)),
+          length-append (stmts_code sc x a) (otherwise b (stmts_code sc x b)),
+          length-append (test_code sc t false ((length (stmts_code sc y a) + otherwise_at b) % 2 ^ 16) 8) (stmts_code sc y a ++ otherwise b (stmts_code sc y b)),
+          length-append (stmts_code sc y a) (otherwise b (stmts_code sc y b)),
+        )
     stmt_same (loop s t b) =
         let eb = stmts_same b in
         let e = ap (λ (n : ℕ). length (test_code sc t true ((2 ^ 16 - (max n 1 + length (test_code sc t true 0 8)) % 2 ^ 16) % 2 ^ 16) 8)) eb in
@@ -56,8 +63,14 @@ module _ (sc : Scope) (x y : Links) where
   body_same : (params : ℕ) (b : CBody) → length (code_of_body sc x params b) ≡ length (code_of_body sc y params b)
   body_same params (code locals stmts answer) =
       let e = stmts_same stmts in
-      omega (arith, e, length-append (entry_code sc params locals (are_calling stmts)) (stmts_code sc x stmts ++ return_code sc (are_calling stmts) answer), length-append (stmts_code sc x stmts) (return_code sc (are_calling stmts) answer),
-      length-append (entry_code sc params locals (are_calling stmts)) (stmts_code sc y stmts ++ return_code sc (are_calling stmts) answer), length-append (stmts_code sc y stmts) (return_code sc (are_calling stmts) answer))
+      omega (
+        arith,
+        e,
+        length-append (entry_code sc params locals (are_calling stmts)) (stmts_code sc x stmts ++ return_code sc (are_calling stmts) answer),
+        length-append (stmts_code sc x stmts) (return_code sc (are_calling stmts) answer),
+        length-append (entry_code sc params locals (are_calling stmts)) (stmts_code sc y stmts ++ return_code sc (are_calling stmts) answer),
+        length-append (stmts_code sc y stmts) (return_code sc (are_calling stmts) answer),
+      )
   body_same params (asm text span words) = refl
 
 -- the code of a function is as long wherever what it calls stands
@@ -125,8 +138,16 @@ module _ (sc : Scope) (x : Links) (fit : LengthsFit sc) where
       let s = save_length b in
       let p = params_length params 0 in
       let l = locals_length words (3 + params) in
-      omega (arith, t, s, p, l, length-append (stack_test sc 29) (save_code sc b ++ (params_code sc params 0 ++ locals_code sc words (3 + params))), length-append (save_code sc b) (params_code sc params 0 ++ locals_code sc words (3 + params)),
-      length-append (params_code sc params 0) (locals_code sc words (3 + params)))
+      omega (
+        arith,
+        t,
+        s,
+        p,
+        l,
+        length-append (stack_test sc 29) (save_code sc b ++ (params_code sc params 0 ++ locals_code sc words (3 + params))),
+        length-append (save_code sc b) (params_code sc params 0 ++ locals_code sc words (3 + params)),
+        length-append (params_code sc params 0) (locals_code sc words (3 + params)),
+      )
 
   register_entry_length : (params locals : ℕ) (b : Bool) → length (register_entry sc params locals b) ≤ 8 + locals
   register_entry_length params locals true =
@@ -171,8 +192,17 @@ module _ (sc : Scope) (x : Links) (fit : LengthsFit sc) where
       let v = fit.value answer 2 8 in
       let some = fit.value_some answer 2 8 in
       let r = exit_length (are_calling stmts) in
-      omega (arith, e, s, v, some, r, length-append (entry_code sc params locals (are_calling stmts)) (stmts_code sc x stmts ++ return_code sc (are_calling stmts) answer), length-append (stmts_code sc x stmts) (return_code sc (are_calling stmts) answer),
-      length-append (value_code sc answer 2 8) (exit_code sc (are_calling stmts)))
+      omega (
+        arith,
+        e,
+        s,
+        v,
+        some,
+        r,
+        length-append (entry_code sc params locals (are_calling stmts)) (stmts_code sc x stmts ++ return_code sc (are_calling stmts) answer),
+        length-append (stmts_code sc x stmts) (return_code sc (are_calling stmts) answer),
+        length-append (value_code sc answer 2 8) (exit_code sc (are_calling stmts)),
+      )
   body_length params (asm text span words) =
       let t = test_length 1 in
       let m = length-map words instruction_of in

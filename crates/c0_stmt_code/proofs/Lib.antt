@@ -23,6 +23,7 @@ pub mod Needs
 pub mod Objects
 pub mod Places
 pub mod Primitives
+pub mod Ranging
 pub mod Returns
 pub mod Rooms
 pub mod Sim
@@ -33,4 +34,4 @@ pub mod Steps
 pub mod Stores
 pub mod Variables
 pub mod Ways
-pub mod Whole
+pub mod StepCosts

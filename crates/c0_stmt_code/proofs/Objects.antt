@@ -130,7 +130,7 @@ module _ (runs : RunLaws) (compose : RunsCompose) (W E : Type 0) (Outer : W → 
       let le = way.high in
       let ge = way.low in
       let memory = two.1.words ∙ one.1.memory in
-      let regs : (x : ℕ) → 20 ≤ x → x < 31 → two.0.regs x ≡ c.regs x = λ x l h. keeps.regs x (omega (arith, l)) ∙ one.1.regs x l h in (
+      let regs : (x : ℕ) → 20 ≤ x → x < 31 → two.0.regs x ≡ c.regs x = λ x l h. keeps.regs x (omega (arith, l)) ∙ one.1.regs x l h in inl (
         at_with (from + 1) two.0 d,
         debt,
         record { own = way.own; passes = 0; high = omega (arith, le); low = omega (arith, ge); ended_so = omega arith; run = way.run },
@@ -185,7 +185,7 @@ module _ (runs : RunLaws) (compose : RunsCompose) (W E : Type 0) (Outer : W → 
       let regs : (x : ℕ) → 20 ≤ x → x < 31 → two.0.regs x ≡ c.regs x = λ x l h. keeps.regs x (omega (arith, l)) ∙ one.1.regs x l h in
       let words_same : (x : ℕ) → x ≢ 1026 → (x < z.a.heap + hw) ⊎ (z.a.heap + hw + size ≤ x) → two.0.memory x ≡ c.memory x = λ x ne side. two.1.others x ne side ∙ ap (λ m. m x) one.1.memory in
       let st2 = stands_more W E Outer Passes z held typing opened objects t declarable gv hv hw (g ∷ fs) world calls answer c two.0 d st room two.1.zeros two.1.used_word words_same (keeps.special ∙ one.1.special) (regs 28 (omega arith) (omega arith)) (regs 30 (omega arith) (omega arith)) in
-      let under = under_kept W E Outer Passes z held typing opened objects c two.0 a others g fs its_calls regs (λ x l. words_same x (λ q. absurd (omega (arith, q, l, hf, gf, lo))) (inr (omega (arith, l, room, hf)))) r waits in (
+      let under = under_kept W E Outer Passes z held typing opened objects c two.0 a others g fs its_calls regs (λ x l. words_same x (λ q. absurd (omega (arith, q, l, hf, gf, lo))) (inr (omega (arith, l, room, hf)))) r waits in inl (
         at_with (from + 1) two.0 d,
         debt,
         record { own = way.own; passes = 0; high = omega (arith, le); low = omega (arith, ge, some); ended_so = omega arith; run = way.run },

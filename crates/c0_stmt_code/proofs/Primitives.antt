@@ -29,7 +29,7 @@ use Rattle.c0_stmt_code.specs.Setup.{Setup, ArePassed, scalar_word, Called, Back
 use Rattle.c0_stmt_code.specs.Ahead.{Activation, env_in, Block, Awaits, Ahead}
 use Rattle.c0_stmt_code.specs.Standing.{text, scope, bases, end_of, unit_scope, AreIn, Waiting, Runs, UnderWay, Stands, StepIs}
 use Rattle.c0_stmt_code.proofs.Needs.{HeldStays, TypedStays, AllScalar}
-use Rattle.c0_stmt_code.proofs.Ways.{none, on, away, pass}
+use Rattle.c0_stmt_code.proofs.Ways.{none, on, away}
 use Rattle.c0_stmt_code.proofs.Blocks.{front, back}
 use Rattle.c0_stmt_code.proofs.Costs.{values_within}
 use Rattle.c0_stmt_code.proofs.State.{state_of, standing_at, Exprs}
@@ -171,26 +171,37 @@ module _ (runs : RunLaws) (compose : RunsCompose) (W E : Type 0) (Outer : W → 
         there = first.1;
         idle = st.idle;
       } in
-      let prim = z.primitives n row vs world (k1 + 1) (at_with index (with_reg c1 31 (4 * (k1 + 1))) d) is called st2.outer in
-      let t : Machine = prim.0 in
-      let b = prim.2 in
       let way1 = on runs z.w Passes 0 (0 + 16 * u) 0 1 1 0 (at_with k c d) (at_with k1 c1 d) (at_with index (with_reg c1 31 (4 * (k1 + 1))) d) path (away runs z.w Passes 1 (at_with k1 c1 d) (at_with index (with_reg c1 31 (4 * (k1 + 1))) d) (z.elsewhere n k1 jal_at.0) (calls_to runs compose W E Outer Passes z jumps k1 index c1 d st.idle jal_at.0)) in
-      let way = on runs z.w Passes (0 + 1) (0 + 16 * u + 1) (0 + 0) 0 0 1 (at_with k c d) (at_with index (with_reg c1 31 (4 * (k1 + 1))) d) prim.0 way1 (pass runs z.w Passes (at_with index (with_reg c1 31 (4 * (k1 + 1))) d) prim.0 prim.1) in
-      let all = after (after_call here (z.p.meaning n vs world)) (with_reg c1 31 (4 * (k1 + 1))) (k1 + 1) index prim.0 refl soft.memory (keep 28 (omega arith) (omega arith)) (keep 29 (omega arith) (omega arith)) (keep 30 (omega arith) (omega arith)) b prim.5 in
-      let le = way.high in
-      let ge = way.low in (
-        prim.0,
-        debt,
-        record { own = way.own; passes = 0 + 0 + 1; high = omega (arith, le); low = omega (arith, ge, most, few); ended_so = length-append calls ((z.p.meaning n vs world).entries ∷ []); run = way.run },
-        record {
-          objects = objects;
-          stands = all.0;
-          activations = a ∷ others;
-          under_way = all.1;
-          t = scalar_ty row.answer;
-          fits = scalar_alone [] (shapes z.p.unit) (record { globals = []; objects = [] }) (layout_of z.p.unit objects) row.answer (z.p.meaning n vs world).answer prim.3;
-          answer = prim.4 ∙ sym (word_alone (unit_scope z.p.unit) (bases W E Outer Passes z objects []) [] (record { globals = []; objects = [] }) row.answer (z.p.meaning n vs world).answer prim.3);
-          ahead = subst (λ y. Awaits (text W E Outer Passes z) (a ∷ others) y debt (scalar_ty row.answer) (into p rest) work (λ acts to left. Ahead (text W E Outer Passes z) acts to left work)) (sym b.at)
-              (record { left = left; shallow = omega (arith, deep); few = omega (arith, few) }, jal_at.1, subst (λ y. Block (text W E Outer Passes z) a.function y debt rest (λ to left. Ahead (text W E Outer Passes z) (a ∷ others) to left work)) len block);
-        },
-      ))
+      let le = way1.high in
+      let ge = way1.low in
+      inr record {
+        number = n;
+        row = row;
+        args = vs;
+        to = k1 + 1;
+        own = way1.own;
+        entry = at_with index (with_reg c1 31 (4 * (k1 + 1))) d;
+        is = is;
+        high = omega (arith, le);
+        low = omega (arith, ge, most, few);
+        run = way1.run;
+        called = called;
+        outer = st2.outer;
+        room = let used = st2.used_word in let room = st.room in omega (arith, used, room);
+        units = omega arith;
+        pages = omega arith;
+        after = refl;
+        returns = λ t b scalar result outer.
+            let all = after (after_call here (z.p.meaning n vs world)) (with_reg c1 31 (4 * (k1 + 1))) (k1 + 1) index t refl soft.memory (keep 28 (omega arith) (omega arith)) (keep 29 (omega arith) (omega arith)) (keep 30 (omega arith) (omega arith)) b outer in
+            record {
+              objects = objects;
+              stands = all.0;
+              activations = a ∷ others;
+              under_way = all.1;
+              t = scalar_ty row.answer;
+              fits = scalar_alone [] (shapes z.p.unit) (record { globals = []; objects = [] }) (layout_of z.p.unit objects) row.answer (z.p.meaning n vs world).answer scalar;
+              answer = result ∙ sym (word_alone (unit_scope z.p.unit) (bases W E Outer Passes z objects []) [] (record { globals = []; objects = [] }) row.answer (z.p.meaning n vs world).answer scalar);
+              ahead = subst (λ y. Awaits (text W E Outer Passes z) (a ∷ others) y debt (scalar_ty row.answer) (into p rest) work (λ acts to left. Ahead (text W E Outer Passes z) acts to left work)) (sym b.at)
+                  (record { left = left; shallow = omega (arith, deep); few = omega (arith, few) }, jal_at.1, subst (λ y. Block (text W E Outer Passes z) a.function y debt rest (λ to left. Ahead (text W E Outer Passes z) (a ∷ others) to left work)) len block);
+            };
+      })

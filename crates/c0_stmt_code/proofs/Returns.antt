@@ -1,6 +1,6 @@
 -- A function that has a frame returns, and an answer is stored.
 use Rattle.std.specs.Prelude.{map, Some, None, Ok, Err, if◌then◌else◌}
-use Rattle.std.proofs.Common.{◌≡◌, ◌≢◌, ℕ, ◌+◌, ◌-◌, ◌*◌, ◌%◌, ◌^◌, ◌<◌, ◌≤◌, Bool, true, false, Option, List, [], ◌∷◌, ◌++◌, length, refl, sym, ap, ap₂, ◌∙◌, subst, arith}
+use Rattle.std.proofs.Common.{◌≡◌, ◌≢◌, ℕ, ◌+◌, ◌-◌, ◌*◌, ◌%◌, ◌^◌, ◌<◌, ◌≤◌, Bool, true, false, Option, List, [], ◌∷◌, ◌++◌, length, refl, sym, ap, ap₂, ◌∙◌, subst, arith, inl}
 use Rattle.std.proofs.lemmas.Bool.{cond-true, cond-false}
 use Rattle.mips_table.specs.declared.inst.Inst.{Inst}
 use Rattle.mips_table.specs.declared.inst.Inst.TheVariants.{Lw, Sw, Jr}
@@ -190,7 +190,7 @@ module _ (runs : RunLaws) (compose : RunsCompose) (W E : Type 0) (Outer : W → 
 
       by_target : (acts : List Activation) (frames : List Frame) → Waiting W E Outer Passes z objects c.memory acts frames → (target : Target) (work : List Work) → Awaits (text W E Outer Passes z) acts a.to debt t target work (λ acts at left. Ahead (text W E Outer Passes z) acts at left work) → frames ≡ fs
           → StepIs W E Outer Passes z debt h0 s0 (deliver cost target v work there)
-      by_target (b ∷ more) (q ∷ frames) w (into place rest) work ah e = (
+      by_target (b ∷ more) (q ∷ frames) w (into place rest) work ah e = inl (
         at_with a.to c' d,
         debt,
         led_to there refl,
@@ -205,7 +205,7 @@ module _ (runs : RunLaws) (compose : RunsCompose) (W E : Type 0) (Outer : W → 
           ahead = ah;
         },
       )
-      by_target [] [] w outward [] ah e = (
+      by_target [] [] w outward [] ah e = inl (
         at_with a.to c' d,
         debt,
         led_to (record there { answer = Some v }) refl,

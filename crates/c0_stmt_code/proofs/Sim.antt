@@ -1,6 +1,6 @@
 -- A step of the meaning and the machine side by side: how a step's parts join, and where it arrives.
 use Rattle.std.specs.Prelude.{Ok, Err, map}
-use Rattle.std.proofs.Common.{◌≡◌, ◌≢◌, ℕ, ◌+◌, ◌*◌, ◌≤◌, List, [], ◌∷◌, refl, sym, ap, ◌∙◌, subst, arith}
+use Rattle.std.proofs.Common.{◌≡◌, ◌≢◌, ℕ, ◌+◌, ◌*◌, ◌≤◌, List, [], ◌∷◌, refl, sym, ap, ◌∙◌, subst, arith, inl}
 use Rattle.mips_table.specs.Code.{Contents, Behind, Configuration as Machine, at_with, RunLaws}
 use Rattle.masm.specs.Laws.{RunsCompose, JumpsLead}
 use Rattle.c0_tree.specs.Tree.{CStmts, CFunction}
@@ -69,7 +69,7 @@ module _ (runs : RunLaws) (compose : RunsCompose) (W E : Type 0) (Outer : W → 
       let way = within runs z.w Passes (l + 0) (n + b.count) (j + 0) l (n + b.count) j s (at_with b.to c d) (omega arith) (omega arith) (omega arith) (on runs z.w Passes l n j 0 b.count 0 s (at_with k c d) (at_with b.to c d) path go) in
       let le = way.high in
       let ge = way.low in
-      (at_with b.to c d, b.left, record { own = way.own; passes = j; high = omega (arith, le, high, owed); low = omega (arith, ge, low); ended_so = en; run = way.run }, simulated b.left (push rest work) h' b.to c d objects a others st under b.ahead)
+      inl (at_with b.to c d, b.left, record { own = way.own; passes = j; high = omega (arith, le, high, owed); low = omega (arith, ge, low); ended_so = en; run = way.run }, simulated b.left (push rest work) h' b.to c d objects a others st under b.ahead)
 
   -- an evaluation on the way of a step: it leads on, or the step stops at its fault's exit
   pub then_comes : {A : Type 0} (l n j own debt lo hi : ℕ) (cost : Cost) (h h0 : Configuration W E) (s : Machine) (f : CFunction) (from to : ℕ) (c : Contents) (d : Behind) (objects : List Ty) (Q : A → Contents → Type 0) (e : Costed A) (go : Cost → A → Step W E)

@@ -4,6 +4,7 @@ pub mod Emit
 pub mod EmitLeaf
 pub mod Journey
 pub mod Lengths
+pub mod Ranges
 pub mod Rows
 pub mod Setup
 pub mod Standing

@@ -15,7 +15,7 @@ use Rattle.c0_meaning.specs.Sound.{shapes}
 use Rattle.c0_meaning.specs.Unit.{IsWellFormed}
 use Rattle.c0_meaning.specs.Value.{Value, int, bool, Values, empty, part}
 use Rattle.c0_meaning.specs.World.{Setting}
-use Rattle.c0_meaning.specs.TypedState.{IsScalar, AreScalars}
+use Rattle.c0_meaning.specs.TypedState.{AreScalars}
 use Rattle.c0_runtime.specs.Code as runtime
 use Rattle.c0_expr_code.specs.Scope.{scope_of}
 use Rattle.c0_stmt_code.specs.Code.{Links, links_of, MAX_STACK, function_code}
@@ -72,8 +72,7 @@ pub record Called (w : World) (x : Links) (row : CPrimitive) (n : ℕ) (vs : Val
   pub there : w.code to ≡ Some code
   pub idle : s.behind.pending ≡ Idle
 
--- What is fixed in a run of a unit's code. `Outer` says how the rest of the machine stands for the world's value, and `Passes` leads from the
--- entry of a primitive to its end.
+-- What is fixed in a run of a unit's code. `Outer` says how the rest of the machine stands for the world's value.
 pub record Setup (W E : Type 0) (Outer : W → Contents → Behind → Type 0) (Passes : Configuration → Configuration → Type 0) : Type 0 where
   pub w : World
   pub sound : Sound w
@@ -100,8 +99,3 @@ pub record Setup (W E : Type 0) (Outer : W → Contents → Behind → Type 0) (
   -- primitives have few arguments, and the code that calls one isn't the primitive itself
   pub few_arguments : (n : ℕ) (row : CPrimitive) → slice_get table n ≡ Some row → length row.args ≤ 8
   pub elsewhere : (n k : ℕ) → w.code k ≡ Some (Jal ((links_of places).primitive n)) → k ≢ (links_of places).primitive n
-  -- a call of a primitive comes to what it means
-  pub primitives : (n : ℕ) (row : CPrimitive) (vs : Values) (v : W) (to : ℕ) (s : Configuration) → slice_get table n ≡ Some row
-      → Called w (links_of places) row n vs to s → Outer v s.contents s.behind →
-      (t : Configuration) × Passes s t × Back p.unit a p.stack to s t × IsScalar row.answer (p.meaning n vs v).answer
-      × (t.contents.regs 2 ≡ scalar_word (p.meaning n vs v).answer) × Outer (p.meaning n vs v).world t.contents t.behind

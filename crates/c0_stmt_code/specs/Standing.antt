@@ -1,7 +1,8 @@
 -- How a configuration of C0 with what is left to do stands in the machine.
-use Rattle.std.specs.Prelude.{◌≡◌, ℕ, suc, ◌+◌, ◌*◌, ◌≤◌, true, false, if◌then◌else◌, List, [], ◌∷◌, map, Some, slice_get}
+use Rattle.std.specs.Prelude.{◌≡◌, ℕ, suc, ◌+◌, ◌*◌, ◌≤◌, ◌⊎◌, true, false, if◌then◌else◌, List, [], ◌∷◌, map, Some, slice_get}
 use Rattle.mips_table.specs.Device.{Idle}
-use Rattle.mips_table.specs.Code.{Contents, Behind, Configuration as Machine}
+use Rattle.mips_table.specs.Code.{Contents, Behind, Configuration as Machine, Steps}
+use Rattle.c0_tree.specs.Primitives.{CPrimitive}
 use Rattle.c0_tree.specs.Tree.{CTy, CFunction, CUnit}
 use Rattle.c0_meaning.specs.Ty.{Ty, ty_of}
 use Rattle.c0_meaning.specs.Env.{Shape, typed_of, env_of}
@@ -9,15 +10,14 @@ use Rattle.c0_meaning.specs.Typed.{IsDeclarable}
 use Rattle.c0_meaning.specs.Sound.{shapes}
 use Rattle.c0_meaning.specs.Value.{Value, Values, empty, part}
 use Rattle.c0_meaning.specs.State.{Frame, variables_of, stack_words}
-use Rattle.c0_meaning.specs.World.{Cost, Configuration}
+use Rattle.c0_meaning.specs.World.{Cost, total, Configuration, ended, after_call, call_cost}
 use Rattle.c0_meaning.specs.Operators.{KernelFault, faulted, stuck}
 use Rattle.c0_meaning.specs.Running.{Target, into, outward, Work, act_on, finish, again, leave, begin, Step, Go, Stop, act}
-use Rattle.c0_meaning.specs.Execution.{Outcome, Done, Failed, NotYet, run}
-use Rattle.c0_meaning.specs.TypedState.{types_of, Fits, AllFit, layout_of, IsTypedWith}
+use Rattle.c0_meaning.specs.TypedState.{types_of, Fits, AllFit, layout_of, IsTypedWith, IsScalar}
 use Rattle.c0_expr_code.specs.Scope.{Scope, scope_of, exit_of}
 use Rattle.c0_expr_code.specs.Bases.{Bases, words_of_all, locals_start, word, RegionHeld}
 use Rattle.c0_stmt_code.specs.Code.{links_of, calls_in}
-use Rattle.c0_stmt_code.specs.Setup.{Setup}
+use Rattle.c0_stmt_code.specs.Setup.{Setup, scalar_word, Back, Called}
 use Rattle.c0_stmt_code.specs.Journey.{Led, Stopped}
 use Rattle.c0_stmt_code.specs.Ahead.{Activation, Text, Awaits, Ahead}
 
@@ -167,29 +167,49 @@ module _ (W E : Type 0) (Outer : W → Contents → Behind → Type 0) (Passes :
     pub stands : Stands objects h s.contents s.behind
     pub at : s.at ≡ exit_of z.places f
 
+  -- a step is done: its own units have led the machine to where what is left to do stands
+  abbrev pub IsGone : (debt : ℕ) → Configuration W E → Machine → Cost → List Work → Configuration W E → Type 0
+  IsGone debt h s cost work h' = (t : Machine) × (left : ℕ) × Led z.w Passes cost.own debt left h h' s t × Simulated left work h' t
+
+  -- A step calls a primitive: its own units have led the machine to the primitive's entry, with its arguments and the word to which it returns, and no more than the heap is used. And
+  -- wherever it comes back, with its answer in register 2, while the rest of the machine stands for the world's value after it, the step is done.
+  pub record IsCalling (debt : ℕ) (h : Configuration W E) (s : Machine) (cost : Cost) (work : List Work) (h' : Configuration W E) : Type 0 where
+    pub number : ℕ
+    pub row : CPrimitive
+    pub args : Values
+    pub to : ℕ
+    pub own : ℕ
+    pub entry : Machine
+    pub is : slice_get z.table number ≡ Some row
+    pub high : own ≤ 60 * cost.own
+    pub low : cost.own ≤ 2048 * own
+    pub run : Steps z.w own s entry
+    pub called : Called z.w text.links row number args to entry
+    pub outer : Outer h.world entry.contents entry.behind
+    pub room : entry.contents.memory 1026 ≤ z.p.heap
+    pub units : cost.primitive ≡ (call_cost (z.p.meaning number args h.world)).primitive
+    pub pages : cost.pages ≡ (z.p.meaning number args h.world).pages
+    pub after : h' ≡ after_call h (z.p.meaning number args h.world)
+    pub returns : (t : Machine) → Back z.p.unit z.a z.p.stack to entry t → IsScalar row.answer (z.p.meaning number args h.world).answer
+        → t.contents.regs 2 ≡ scalar_word (z.p.meaning number args h.world).answer → Outer h'.world t.contents t.behind → Simulated debt work h' t
+
   -- what a step of the meaning comes to in the machine
   abbrev pub StepIs : (debt : ℕ) → Configuration W E → Machine → Step W E → Type 0
-  StepIs debt h s (Go cost work h') = (t : Machine) × (left : ℕ) × Led z.w Passes cost.own debt left h h' s t × Simulated left work h' t
+  StepIs debt h s (Go cost work h') = IsGone debt h s cost work h' ⊎ IsCalling debt h s cost work h'
   StepIs debt h s (Stop cost (faulted f) h') = (t : Machine) × Stopped z.w Passes cost.own debt h h' s t × AtExit f h' t
   StepIs debt h s (Stop cost stuck h') = ⊥
 
-  -- what a run comes to, from a configuration in which so many units were used, and so many jumps are ahead
-  abbrev pub RunIs : (debt : ℕ) → Cost → Configuration W E → Machine → Outcome W E → Type 0
-  RunIs debt used h s (Done cost h') = (t : Machine) × (units : ℕ) × (cost.own ≡ used.own + units) × (left : ℕ)
-      × Led z.w Passes units debt left h h' s t × Ended h' t
-  RunIs debt used h s (Failed cost (faulted f) h') = (t : Machine) × (units : ℕ) × (cost.own ≡ used.own + units)
-      × Stopped z.w Passes units debt h h' s t × AtExit f h' t
-  RunIs debt used h s (Failed cost stuck h') = ⊥
-  RunIs debt used h s (NotYet cost h') = (t : Machine) × (units : ℕ) × (cost.own ≡ used.own + units) × (left : ℕ) × (work : List Work)
-      × Led z.w Passes units debt left h h' s t × Simulated left work h' t
+-- A step costs a unit of its own at least; it costs none of a primitive, unless a call of one has ended. One that faults costs few.
+abbrev pub CostsSome : {W E : Type 0} → Configuration W E → Step W E → Type 0
+CostsSome h (Go cost work h') = (1 ≤ cost.own) × ((cost.primitive ≡ 0) ⊎ (ended h' ≡ suc (ended h)))
+CostsSome h (Stop cost f h') = (1 ≤ cost.own) × (total cost ≤ 8388608)
+
+-- a law: so does each step, where what is left to do stands in the machine
+abbrev pub StepsCostSome : (W E : Type 0) (Outer : W → Contents → Behind → Type 0) (Passes : Machine → Machine → Type 0) → Type 0
+StepsCostSome W E Outer Passes = (z : Setup W E Outer Passes) (debt : ℕ) (item : Work) (work : List Work) (h : Configuration W E) (s : Machine)
+    → Simulated W E Outer Passes z debt (item ∷ work) h s → CostsSome h (act z.p item work h)
 
 -- A law: where what is left to do stands in the machine, a step of C0's meaning is a run of the code, over any machine with primitives.
 abbrev pub StepsRun : (W E : Type 0) (Outer : W → Contents → Behind → Type 0) (Passes : Machine → Machine → Type 0) → Type 0
 StepsRun W E Outer Passes = (z : Setup W E Outer Passes) (debt : ℕ) (item : Work) (work : List Work) (h : Configuration W E) (s : Machine)
     → Simulated W E Outer Passes z debt (item ∷ work) h s → StepIs W E Outer Passes z debt h s (act z.p item work h)
-
--- A law: a run of C0's meaning, within any number of units, is a run of the code: it is done where the code returns to, it failed where the fault's
--- exit is reached, and a run that isn't over stands where more of it stands ahead; and its units are so many steps, at most and at least.
-abbrev pub RunsAre : (W E : Type 0) (Outer : W → Contents → Behind → Type 0) (Passes : Machine → Machine → Type 0) → Type 0
-RunsAre W E Outer Passes = (z : Setup W E Outer Passes) (debt steps limit : ℕ) (used : Cost) (work : List Work) (h : Configuration W E) (s : Machine)
-    → Simulated W E Outer Passes z debt work h s → RunIs W E Outer Passes z debt used h s (run z.p steps limit used work h)

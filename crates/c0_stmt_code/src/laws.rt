@@ -1,7 +1,7 @@
 //! The laws of the code of statements: each function says one, and does nothing.
 
 ghost use Rattle.c0_stmt_code.specs.Rows.{AreCodes};
-ghost use Rattle.c0_stmt_code.specs.Standing.{RunsAre, StepsRun};
+ghost use Rattle.c0_stmt_code.specs.Standing.{StepsCostSome, StepsRun};
 ghost use Rattle.mips_table.specs.Code.{Contents, Behind, Configuration};
 
 use c0_asm_body::laws::asm_bodies_run;
@@ -21,14 +21,17 @@ pub trait Outside {
 
     ghost Entry: { Type 0 };
 
-    ghost outer: { Standing → Contents → Behind → Type 0 };
+    /// What is fixed for a run.
+    ghost Fixed: { Type 0 };
+
+    ghost outer: { Fixed → Standing → Contents → Behind → Type 0 };
 
     ghost passes: { Configuration → Configuration → Type 0 };
 }
 
 /// A step of C0's meaning is a run of the code.
 pub fn steps_run<M: Outside>()
-    ensures { StepsRun M.Standing M.Entry M.outer M.passes }
+    ensures { (fixed : M.Fixed) → StepsRun M.Standing M.Entry (M.outer fixed) M.passes }
 {
     expressions_run();
     tests_run();
@@ -49,13 +52,10 @@ pub fn steps_run<M: Outside>()
     objects_are_made();
 }
 
-/// A run of C0's meaning is a run of the code.
-pub fn runs_follow_steps<M: Outside>()
-    ensures { RunsAre M.Standing M.Entry M.outer M.passes }
-{
-    steps_run::<M>();
-    code_runs_join();
-}
+/// Each step costs some units, and one that faults few.
+pub fn steps_cost_some<M: Outside>()
+    ensures { (fixed : M.Fixed) → StepsCostSome M.Standing M.Entry (M.outer fixed) M.passes }
+{}
 
 /// The code of two small functions, instruction by instruction.
 pub fn worked_rows()

@@ -5,3 +5,4 @@ pub mod Known
 pub mod SourceOrder
 pub mod NumberedStruct
 pub mod TypedSource
+pub mod Front

@@ -1,4 +1,4 @@
-//! The check of a C0 unit: the unit with its names resolved, or the fault that comes first.
+//! The check of a C0 unit: the unit with its names resolved, or the fault that comes first; and the front of C0, which reads a source and checks it.
 #![tactic(auto)]
 
 pub mod bodies;
@@ -6,9 +6,13 @@ pub mod decls;
 pub mod fault;
 pub mod headings;
 pub mod laws;
+mod source;
+mod source_fault;
 pub mod space;
 pub mod structs;
 pub mod unit;
 
 pub use fault::TypeFault;
+pub use source::read_unit;
+pub use source_fault::SourceFault;
 pub use unit::check;

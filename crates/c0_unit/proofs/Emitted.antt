@@ -1,5 +1,5 @@
 -- One function more: the code and the addresses so far, of the first functions of a unit.
-use Rattle.std.specs.Prelude.{◌%◌, ◌^◌, All, map, sum, slice_get, Some}
+use Rattle.std.specs.Prelude.{◌^◌, All, map, sum, slice_get, Some}
 use Rattle.std.proofs.Common.{◌≡◌, ℕ, zero, suc, ◌+◌, ◌*◌, ◌<◌, ◌≤◌, List, [], ◌∷◌, ◌++◌, length, take, refl, sym, ap, ◌∙◌, subst, arith, length-append, append_assoc, append-nil}
 use Rattle.std.proofs.Math.Seq.{take-length}
 use Rattle.std.proofs.lemmas.List.{length-map, map-append}
@@ -75,7 +75,7 @@ module _ (u : CUnit) where
       let so_far = functions_code u starts (take n u.functions) in
       let its = function_code (scope u found.0) (links starts) found.0 in
       let whole : functions_code u p.functions.items (take k u.functions) ≡ functions_code u p.functions.items (take n u.functions) ++ function_code (scope u found.0) (links p.functions.items) found.0 =
-          ap (λ (j : ℕ). functions_code u p.functions.items (take j u.functions)) next ∙ take_code p.functions.items u.functions n found.0 found.1 in
+      ap (λ (j : ℕ). functions_code u p.functions.items (take j u.functions)) next ∙ take_code p.functions.items u.functions n found.0 found.1 in
       more found.0 found.1
       ∙ (ap (λ (is : List Inst). old ++ map encoding is) (code_same u p p.functions.items globals h found.0)
       ∙ (ap (λ (ws : List ℕ). ws ++ map encoding its) was
@@ -94,11 +94,11 @@ module _ (u : CUnit) where
       let found = some_at u.functions n lt in
       let ns = words_of u (take n u.functions) in
       let whole : words_of u (take k u.functions) ≡ words_of u (take n u.functions) ++ length (function_code (scope u found.0) (links []) found.0) ∷ [] =
-          ap (λ (j : ℕ). words_of u (take j u.functions)) next ∙ take_words u.functions n found.0 found.1 in
+      ap (λ (j : ℕ). words_of u (take j u.functions)) next ∙ take_words u.functions n found.0 found.1 in
       let long = ap (λ (ws : List ℕ). length ws) was in
       let all = functions_length fixed u by (take n u.functions) in
       let where_ : at ≡ 4 * (base + length before + sum (words_of u (take n u.functions))) =
-          omega (arith, here, long, all, length-append before (map encoding (functions_code u by (take n u.functions))), length-map (functions_code u by (take n u.functions)) encoding) in
+      omega (arith, here, long, all, length-append before (map encoding (functions_code u by (take n u.functions))), length-map (functions_code u by (take n u.functions)) encoding) in
       then
       ∙ (ap (λ (ws : List ℕ). ws ++ at ∷ []) are
       ∙ (ap (λ (a : ℕ). starts_from (base + length before) ns ++ a ∷ []) where_

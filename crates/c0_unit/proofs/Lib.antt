@@ -1,3 +1,4 @@
 pub mod Emitted
 pub mod Positions
+pub mod Standing
 pub mod Units

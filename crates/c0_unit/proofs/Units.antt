@@ -1,23 +1,26 @@
 -- Where the parts of a unit's code stand, and how long it is.
-use Rattle.std.specs.Prelude.{map, sum, slice_get, slice_index, Some}
-use Rattle.std.proofs.Common.{◌≡◌, ℕ, zero, suc, ◌+◌, ◌*◌, ◌/◌, ◌<◌, ◌≤◌, List, [], ◌∷◌, ◌++◌, length, refl, sym, ap, ◌∙◌, arith, length-append, append_assoc}
-use Rattle.std.proofs.lemmas.List.{map-append}
+use Rattle.std.specs.Prelude.{sum, slice_get, slice_index, Some}
+use Rattle.std.proofs.Common.{◌≡◌, ℕ, zero, suc, ◌+◌, ◌*◌, ◌/◌, ◌≤◌, List, [], ◌∷◌, ◌++◌, length, refl, sym, ap, ◌∙◌, arith, length-append, append_assoc}
 use Rattle.std.proofs.lemmas.List.Sums.{sum_by-cons}
 use Rattle.mips_table.specs.declared.inst.Inst.{Inst}
-use Rattle.mips_table.specs.Encoding.{encoding}
 use Rattle.masm.specs.declared.registers.Places.{Places}
 use Rattle.layer_map.specs.Map.{layer_words}
 use Rattle.c0_tree.specs.Tree.{CFunction, CUnit}
-use Rattle.c0_meaning.specs.Limits.{all_nodes, nodes_of, frame}
-use Rattle.c0_meaning.specs.Operators.{KernelFault}
+use Rattle.c0_meaning.specs.Limits.{all_nodes, frame}
 use Rattle.c0_meaning.specs.Sound.{shapes}
 use Rattle.c0_meaning.specs.TypeAt.{env_in}
-use Rattle.c0_runtime.specs.Code.{entry_code, new_code, multiply_code, divide_code, remainder_code, runtime_code}
 use Rattle.c0_expr_code.specs.Scope.{Scope, scope_of, keeps_registers, exit_number}
 use Rattle.c0_stmt_code.specs.Code.{Links, links_of, function_code}
 use Rattle.c0_stmt_code.specs.Lengths.{FunctionsAreShort, LengthsAreFixed}
-use Rattle.c0_unit.specs.Code.{fault_exits, primitive_entries, routines_at, functions_at, scope, links, functions_code, words_of, starts_from, function_starts, code_words, globals_start, dispatch_number, dispatch_start, routines_code, unit_code}
-use Rattle.c0_unit.specs.Laws.{ArePlacedAt, ArePlacesOf, IsPart, HasParts}
+use Rattle.c0_unit.specs.Code.{fault_exits, primitive_entries, scope, links, functions_code, words_of, starts_from, code_words, globals_start}
+use Rattle.c0_unit.specs.Laws.{ArePlacedAt, ArePlacesOf}
+
+-- code stands in other code, from this instruction of it on
+pub record IsPart (part : List Inst) (at : ℕ) (whole : List Inst) : Type 0 where
+  pub before : List Inst
+  pub after : List Inst
+  pub is : whole ≡ before ++ (part ++ after)
+  pub from : length before ≡ at
 
 pub sum-cons : (n : ℕ) (ns : List ℕ) → sum (n ∷ ns) ≡ n + sum ns
 sum-cons n ns = sum_by-cons (λ x. x) n ns
@@ -68,42 +71,27 @@ module _ (fixed : LengthsAreFixed) (u : CUnit) (starts : List ℕ) where
       let same : g ≡ f = cc in
       (0, omega arith, record { before = []; after = functions_code u starts rest; is = ap (λ (h : CFunction). function_code (scope u h) (links starts) h ++ functions_code u starts rest) same; from = refl })
   function_stands (g ∷ rest) k (suc n) f e =
-      let m = length (function_code (scope u g) (links []) g) in
       let r = function_stands rest (k + length (function_code (scope u g) (links []) g)) n f e in
       let w = fixed (scope u g) (links starts) (links []) g in
       let p = r.2 in
-      let at = r.1 in
-      (length (function_code (scope u g) (links []) g) + r.0, omega (arith, at), record {
-        before = function_code (scope u g) (links starts) g ++ p.before;
-        after = p.after;
-        is = ap (λ (is : List Inst). function_code (scope u g) (links starts) g ++ is) p.is ∙ sym (append_assoc (function_code (scope u g) (links starts) g) p.before (function_code (scope u f) (links starts) f ++ p.after));
-        from = let fr = p.from in omega (arith, fr, w, length-append (function_code (scope u g) (links starts) g) p.before);
-      })
+      let at = r.1 in (
+        length (function_code (scope u g) (links []) g) + r.0,
+        omega (arith, at),
+        record {
+          before = function_code (scope u g) (links starts) g ++ p.before;
+          after = p.after;
+          is = ap (λ (is : List Inst). function_code (scope u g) (links starts) g ++ is) p.is ∙ sym (append_assoc (function_code (scope u g) (links starts) g) p.before (function_code (scope u f) (links starts) f ++ p.after));
+          from = let fr = p.from in omega (arith, fr, w, length-append (function_code (scope u g) (links starts) g) p.before);
+        },
+      )
 
 -- a part of what stands behind other code
-behind : (front part whole : List Inst) (at n : ℕ) → length front ≡ n → IsPart part at whole → IsPart part (n + at) (front ++ whole)
+pub behind : (front part whole : List Inst) (at n : ℕ) → length front ≡ n → IsPart part at whole → IsPart part (n + at) (front ++ whole)
 behind front part whole at n e p = record {
   before = front ++ p.before;
   after = p.after;
   is = ap (λ (is : List Inst). front ++ is) p.is ∙ sym (append_assoc front p.before (part ++ p.after));
   from = let f = p.from in omega (arith, e, f, length-append front p.before);
-}
-
--- the parts of a unit's code
-pub has_parts : LengthsAreFixed → (u : CUnit) → HasParts u
-has_parts fixed u = record {
-  entry = record { before = []; after = routines_code ++ functions_code u (function_starts u) u.functions; is = refl; from = refl };
-  new_object = record {
-    before = entry_code (globals_start u) (dispatch_start u);
-    after = (multiply_code ++ (divide_code (slice_index fault_exits 2) ++ remainder_code (slice_index fault_exits 2))) ++ functions_code u (function_starts u) u.functions;
-    is = refl;
-    from = refl;
-  };
-  functions = λ n f e.
-      let r = function_stands fixed u (function_starts u) u.functions functions_at n f e in
-      let at = r.1 in
-      (39 + r.0, omega (arith, at), behind (entry_code (globals_start u) (dispatch_start u) ++ routines_code) (function_code (scope u f) (links (function_starts u)) f) (functions_code u (function_starts u) u.functions) r.0 39 refl r.2);
-  words = let l = functions_length fixed u (function_starts u) u.functions in omega (arith, l);
 }
 
 -- the places that the first emission gives are those of the unit

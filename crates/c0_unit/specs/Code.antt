@@ -46,9 +46,17 @@ abbrev pub functions_code : CUnit → List ℕ → List CFunction → List Inst
 functions_code u starts [] = []
 functions_code u starts (f ∷ rest) = function_code (scope u f) (links starts) f ++ functions_code u starts rest
 
+-- the code of all functions of a unit
+abbrev pub all_functions : CUnit → List ℕ → List Inst
+all_functions u starts = functions_code u starts u.functions
+
 -- the words of functions: they don't depend on where functions begin
 abbrev pub words_of : CUnit → List CFunction → List ℕ
 words_of u functions = map (λ f. length (function_code (scope u f) (links []) f)) functions
+
+-- those of all functions of a unit
+abbrev pub lengths_of : CUnit → List ℕ
+lengths_of u = words_of u u.functions
 
 -- the addresses of parts of so many words, one behind the other from a word on
 abbrev pub starts_from : ℕ → List ℕ → List ℕ
@@ -57,11 +65,11 @@ starts_from at (n ∷ rest) = 4 * at ∷ starts_from (at + n) rest
 
 -- the address of each function, by its number
 abbrev pub function_starts : CUnit → List ℕ
-function_starts u = starts_from functions_at (words_of u u.functions)
+function_starts u = starts_from functions_at (lengths_of u)
 
 -- the words of a unit's code
 abbrev pub code_words : CUnit → ℕ
-code_words u = ENTRY_WORDS + RUNTIME_WORDS + sum (words_of u u.functions)
+code_words u = ENTRY_WORDS + RUNTIME_WORDS + sum (lengths_of u)
 
 -- the address of the globals: the page behind the code
 abbrev pub globals_start : CUnit → ℕ
@@ -80,7 +88,7 @@ routines_code = new_code ++ (multiply_code ++ (divide_code (slice_index fault_ex
 
 -- the code of a unit
 abbrev pub unit_code : CUnit → List Inst
-unit_code u = entry_code (globals_start u) (dispatch_start u) ++ (routines_code ++ functions_code u (function_starts u) u.functions)
+unit_code u = entry_code (globals_start u) (dispatch_start u) ++ (routines_code ++ all_functions u (function_starts u))
 
 -- the words of a unit
 abbrev pub unit_words : CUnit → List ℕ

@@ -1,15 +1,21 @@
 -- What is known of the code of a unit.
-use Rattle.std.specs.Prelude.{◌≡◌, ℕ, ◌+◌, ◌*◌, ◌≤◌, List, ◌++◌, length, Some, slice_get, slice_index}
+use Rattle.std.specs.Prelude.{◌≡◌, ℕ, ◌+◌, ◌*◌, ◌<◌, ◌≤◌, All, List, ◌++◌, length, Some, slice_get}
 use Rattle.mips_table.specs.declared.inst.Inst.{Inst}
+use Rattle.mips_table.specs.Encoding.{InRange}
 use Rattle.masm.specs.declared.registers.Places.{Places}
+use Rattle.masm.specs.Places.{ArePlaces}
 use Rattle.layer_map.specs.Map.{layer_words}
+use Rattle.c0_tree.specs.declared.tree.Unit.{Unit as Source}
 use Rattle.c0_tree.specs.Tree.{CFunction, CUnit}
+use Rattle.c0_tree.specs.View.{unit_view}
 use Rattle.c0_meaning.specs.Limits.{all_nodes}
+use Rattle.c0_meaning.specs.Operators.{KernelFault}
+use Rattle.c0_meaning.specs.Unit.{IsChecked}
 use Rattle.c0_runtime.specs.declared.runtime.TheConstants.{NEW_OBJECT, MULTIPLY, DIVIDE, REMAINDER}
 use Rattle.c0_runtime.specs.Code.{entry_code, new_code}
-use Rattle.c0_expr_code.specs.Scope.{scope_of}
+use Rattle.c0_expr_code.specs.Scope.{exit_number, exit_of, scope_of}
 use Rattle.c0_stmt_code.specs.Code.{links_of, function_code}
-use Rattle.c0_unit.specs.Code.{fault_exits, primitive_entries, routines_at, scope, links, function_starts, code_words, globals_start, dispatch_start, unit_code}
+use Rattle.c0_unit.specs.Code.{fault_exits, primitive_entries, routines_at, function_starts, code_words, globals_start, dispatch_number, unit_code}
 
 -- the places of code in which functions begin at these addresses, and the globals at this one
 pub record ArePlacedAt (p : Places) (starts : List ℕ) (globals : ℕ) : Type 0 where
@@ -26,28 +32,34 @@ pub record ArePlacedAt (p : Places) (starts : List ℕ) (globals : ℕ) : Type 0
 abbrev pub ArePlacesOf : CUnit → Places → Type 0
 ArePlacesOf u p = ArePlacedAt p (function_starts u) (globals_start u)
 
--- a law: with the places of a unit its functions have the code that they have in the unit's
-abbrev pub PlacesAgree : Type 0
-PlacesAgree = (u : CUnit) (p : Places) → ArePlacesOf u p → (f : CFunction) → function_code (scope_of u f p) (links_of p) f ≡ function_code (scope u f) (links (function_starts u)) f
-
--- code stands in other code, from this word of it on
-pub record IsPart (part : List Inst) (at : ℕ) (whole : List Inst) : Type 0 where
+-- code stands in a unit's code at a word of memory, behind the unit's first instruction
+pub record StandsIn (u : CUnit) (at : ℕ) (code : List Inst) : Type 0 where
   pub before : List Inst
   pub after : List Inst
-  pub is : whole ≡ before ++ (part ++ after)
-  pub from : length before ≡ at
+  pub is : unit_code u ≡ before ++ (code ++ after)
+  pub from : at ≡ layer_words + length before
+  pub behind : 1 ≤ length before
 
--- The parts of a unit's code: the entry, the routine that takes a new object, and each function, where its address says.
-pub record HasParts (u : CUnit) : Type 0 where
-  pub entry : IsPart (entry_code (globals_start u) (dispatch_start u)) 0 (unit_code u)
-  pub new_object : IsPart new_code 8 (unit_code u)
-  pub functions : (n : ℕ) (f : CFunction) → slice_get u.functions n ≡ Some f → (at : ℕ) × (slice_index (function_starts u) n ≡ 4 * (layer_words + at))
-      × IsPart (function_code (scope u f) (links (function_starts u)) f) at (unit_code u)
+-- Where the parts of a unit's code stand, by its places: the entry first, and the routine `new` and each function where calls go. All of its
+-- instructions are in range.
+pub record UnitStands (u : CUnit) (p : Places) : Type 0 where
+  pub rest : List Inst
+  pub entry : unit_code u ≡ entry_code p.globals (4 * (links_of p).function (dispatch_number u)) ++ rest
+  pub new_object : StandsIn u (links_of p).new_object new_code
+  pub functions : (n : ℕ) (f : CFunction) → slice_get u.functions n ≡ Some f → StandsIn u ((links_of p).function n) (function_code (scope_of u f p) (links_of p) f)
   pub words : length (unit_code u) ≡ code_words u
+  pub in_range : All InRange (unit_code u)
+  pub exits : (fault : KernelFault) → exit_of p fault ≡ 2058 + exit_number fault
+  pub primitives : (n : ℕ) → n < 10 → (links_of p).primitive n ≡ 2048 + n
+  pub below : (n : ℕ) → (links_of p).primitive n < layer_words
 
--- a law: each unit's code has its parts
-abbrev pub UnitsHaveParts : Type 0
-UnitsHaveParts = (u : CUnit) → HasParts u
+-- a law: the code of a checked unit stands so, by the unit's places
+abbrev pub UnitsStand : Type 0
+UnitsStand = (u : CUnit) → IsChecked u → (p : Places) → ArePlacesOf u p → UnitStands u p
+
+-- a law: each checked unit has its places
+abbrev pub UnitsHavePlaces : Type 0
+UnitsHavePlaces = (s : Source) → IsChecked (unit_view s) → (p : Places) × ArePlacesOf (unit_view s) p × ArePlaces p
 
 -- a law: a unit's code has at most 512 words, and 32 for each node
 abbrev pub UnitsAreShort : Type 0

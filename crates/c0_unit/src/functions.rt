@@ -5,7 +5,7 @@ ghost use Rattle.mips_table.specs.Encoding.{encoding};
 ghost use Rattle.layer_map.specs.Map.{layer_words};
 ghost use Rattle.masm.specs.Places.{IsPlace, ArePlaces};
 ghost use Rattle.c0_tree.specs.View.{unit_view};
-ghost use Rattle.c0_unit.specs.Code.{functions_code, words_of, starts_from};
+ghost use Rattle.c0_unit.specs.Code.{all_functions, lengths_of, starts_from};
 ghost use Rattle.c0_unit.specs.Laws.{ArePlacedAt};
 
 use c0_expr_code::Layout;
@@ -27,9 +27,9 @@ pub fn emit_functions(
     requires places { ArePlaces places.now }
     requires placed { ArePlacedAt places.now places.now.functions.items places.now.globals }
     requires room { length code.old.items ≤ 39 }
-    ensures appended { OnOk result (code.new.items ≡ code.old.items ++ map encoding (functions_code (unit_view layout.now.unit.now) places.now.functions.items (unit_view layout.now.unit.now).functions)) }
-    ensures starts { IfOk result (λ s. s.items ≡ starts_from (layer_words + length code.old.items) (words_of (unit_view layout.now.unit.now) (unit_view layout.now.unit.now).functions)) }
-    ensures length { OnOk result (length code.new.items ≡ length code.old.items + sum (words_of (unit_view layout.now.unit.now) (unit_view layout.now.unit.now).functions)) }
+    ensures appended { OnOk result (code.new.items ≡ code.old.items ++ map encoding (all_functions (unit_view layout.now.unit.now) places.now.functions.items)) }
+    ensures starts { IfOk result (λ s. s.items ≡ starts_from (layer_words + length code.old.items) (lengths_of (unit_view layout.now.unit.now))) }
+    ensures length { OnOk result (length code.new.items ≡ length code.old.items + sum (lengths_of (unit_view layout.now.unit.now))) }
     ensures few { OnOk result (length code.new.items ≤ 3300000) }
     ensures are_places { IfOk result (λ s. All IsPlace s.items) }
 {

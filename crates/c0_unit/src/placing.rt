@@ -29,11 +29,7 @@ fn routine(word: u32) -> u32
 }
 
 /// The places of code in which the functions begin at these addresses, and the globals at this one.
-pub fn placed_at(
-    alloc: Global,
-    functions: Vec<u32>,
-    globals: u32,
-) -> Result<Places, AllocError>
+pub fn placed_at(alloc: Global, functions: Vec<u32>, globals: u32) -> Result<Places, AllocError>
     requires functions { All IsPlace functions.items }
     requires globals { IsPlace globals }
     ensures placed { IfOk result (λ p. ArePlacedAt p functions.items globals) }

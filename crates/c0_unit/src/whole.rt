@@ -9,7 +9,7 @@ ghost use Rattle.c0_unit.specs.Laws.{ArePlacesOf};
 
 use crate::dispatch::dispatch_number;
 use crate::functions::emit_functions;
-use crate::laws::{units_are_short, units_have_parts};
+use crate::laws::units_are_short;
 use crate::placing::placed_at;
 use c0_expr_code::Layout;
 use c0_meaning::Checked;
@@ -40,12 +40,14 @@ pub fn compile(alloc: Global, unit: &Checked) -> Result<Vec<u32>, AllocError>
     ensures few { IfOk result (λ v. length v.items ≤ 512 + 32 * all_nodes (unit_view unit.now).functions) }
 {
     units_are_short();
-    units_have_parts();
     let source = unit.unit();
     let sizes = measured(alloc, source)?;
     let layout = Layout::new(alloc, &sizes)?;
     let places = unit_places(alloc, &layout)?;
-    let dispatch = places.functions.get(dispatch_number(&source.functions)).copied();
+    let dispatch = places
+        .functions
+        .get(dispatch_number(&source.functions))
+        .copied();
     let mut code = Vec::new(alloc);
     emit_entry(alloc, places.globals, dispatch.unwrap_or(0), &mut code)?;
     emit_runtime(alloc, &places, &mut code)?;

@@ -18,6 +18,7 @@ const MOST: u32 = 4_000_000;
 
 /// The address of the first fault's exit, behind the primitives, and that at which the kernel is left.
 const EXITS: u32 = 0x2028;
+
 const LEAVE: u32 = 0x2038;
 
 /// Parts of memory, each by its first address and its words.

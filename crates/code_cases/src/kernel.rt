@@ -1,10 +1,10 @@
 // A kernel that is compiled, and what its dispatches come to.
 
 use crate::desk::Desk;
-use c0_front::read_unit;
 use c0_meaning::{Checked, Measured};
 use c0_structs::measured;
 use c0_tree::CType;
+use c0_types::read_unit;
 use c0_unit::compile;
 use cvm_text::hex8;
 use layer_map::{Map, Params};
@@ -62,12 +62,7 @@ fn arguments(field: &str) -> Option<(u32, u32, u32)> {
 }
 
 // The machine for a kernel with a heap and a stack of so many words, if it isn't too large.
-fn desk(
-    alloc: Global,
-    unit: &Checked,
-    heap: u32,
-    stack: u32,
-) -> Result<Option<Desk>, AllocError> {
+fn desk(alloc: Global, unit: &Checked, heap: u32, stack: u32) -> Result<Option<Desk>, AllocError> {
     let code = compile(alloc, unit)?;
     let globals = global_words(alloc, unit)?;
     if code.len() > 100_000 || globals > 100_000 || heap > 50_000 || stack < 64 || stack > 50_000 {
@@ -83,13 +78,7 @@ fn desk(
     let Ok(schedule) = read(alloc, b"") else {
         return Ok(None);
     };
-    Ok(Some(Desk::new(
-        alloc,
-        &map,
-        &code,
-        globals as u32,
-        schedule,
-    )?))
+    Ok(Some(Desk::new(alloc, &map, &code, globals as u32, schedule)?))
 }
 
 /// Runs the dispatches that a case's name gives, and tells what they come to.

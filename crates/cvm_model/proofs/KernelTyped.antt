@@ -21,10 +21,10 @@ use Rattle.c0_meaning.specs.World.{Cost, Configuration}
 use Rattle.mips_table.specs.Flat.{Flat}
 use Rattle.layer_map.specs.Map.{Map, ParamsInRange}
 use Rattle.cvm_model.specs.Kernel.{Core, Console, Changes, Answers, NotYet}
-use Rattle.cvm_model.specs.Primitives.{Call, VmGet, VmSet, VmSize, VmResize, VmWord, VmPut, VmCopy, ConPut, ConGet, ConLeft, Given, is_good, is_within, granted, refused, unchanged, prim, no_flat, user_of, pages_of, with_register, resized, with_word, with_words}
+use Rattle.cvm_model.specs.Primitives.{Call, VmGet, VmSet, VmSize, VmResize, VmWord, VmPut, VmCopy, ConPut, ConGet, ConLeft, Given, primitive_number, arguments_of, is_good, is_within, granted, refused, unchanged, prim, no_flat, user_of, pages_of, with_register, resized, with_word, with_words}
 use Rattle.cvm_model.specs.KernelMeaning.{Machines, ints_of, call_with, called_by, kernel_primitive, setting_of, machines_of, answer_end, outcome_of}
 use Rattle.cvm_model.specs.Stands.{CoreFits, UserFits, input_room}
-use Rattle.cvm_model.specs.TypedKernel.{UnitsStayTyped, UnitsWantUnits}
+use Rattle.cvm_model.specs.TypedKernel.{RowsAreCalled, UnitsAnswerInts, UnitsStayTyped, UnitsWantUnits}
 use Rattle.cvm_model.proofs.PrimitiveReplays.{and_left, and_right, place_is}
 
 -- a machine of at most 1,024 pages, and machines with few input words
@@ -177,46 +177,48 @@ record Told (n : ℕ) (row : CPrimitive) (args : Values) : Type 0 where
   call : Call
   is : option_and_then (call_with n) (ints_of args) ≡ Some call
   scalar : scalar_of call ≡ row.answer
+  number : primitive_number call ≡ n
+  arguments : ints_of args ≡ Some (arguments_of call)
 
 row_told : (n k : ℕ) (row : CPrimitive) (args : Values) → AllFit [] nowhere (replicate k ty.int) args →
-    ((xs : List ℤ) → length xs ≡ k → (c : Call) × (call_with n xs ≡ Some c) × (scalar_of c ≡ row.answer)) → Told n row args
+    ((xs : List ℤ) → length xs ≡ k → (c : Call) × (call_with n xs ≡ Some c) × (scalar_of c ≡ row.answer) × (primitive_number c ≡ n) × (arguments_of c ≡ xs)) → Told n row args
 row_told n k row args h f =
     let r : Ints k args = ints k args h in
     let c = f r.list r.size in
-    record { call = c.0; is = ap (option_and_then (call_with n)) r.is ∙ c.1; scalar = c.2 }
+    record { call = c.0; is = ap (option_and_then (call_with n)) r.is ∙ c.1; scalar = c.2; number = c.3; arguments = r.is ∙ ap (λ xs. Some xs) (sym c.4) }
 
-no_ints : (n : ℕ) (s : Scalar) (c : Call) → call_with n [] ≡ Some c → scalar_of c ≡ s → (xs : List ℤ) → length xs ≡ 0 → (c : Call) × (call_with n xs ≡ Some c) × (scalar_of c ≡ s)
-no_ints n s c e t [] h = (c, e, t)
-no_ints n s c e t (a ∷ xs) h = absurd (omega (arith, h))
+no_ints : (n : ℕ) (s : Scalar) (c : Call) → call_with n [] ≡ Some c → scalar_of c ≡ s → primitive_number c ≡ n → arguments_of c ≡ [] → (xs : List ℤ) → length xs ≡ 0 → (c : Call) × (call_with n xs ≡ Some c) × (scalar_of c ≡ s) × (primitive_number c ≡ n) × (arguments_of c ≡ xs)
+no_ints n s c e t m r [] h = (c, e, t, m, r)
+no_ints n s c e t m r (a ∷ xs) h = absurd (omega (arith, h))
 
-one_int : (n : ℕ) (s : Scalar) (f : ℤ → Call) → ((a : ℤ) → call_with n (a ∷ []) ≡ Some (f a)) → ((a : ℤ) → scalar_of (f a) ≡ s) → (xs : List ℤ) → length xs ≡ 1 →
-    (c : Call) × (call_with n xs ≡ Some c) × (scalar_of c ≡ s)
-one_int n s f e t [] h = absurd (omega (arith, h))
-one_int n s f e t (a ∷ []) h = (f a, e a, t a)
-one_int n s f e t (a ∷ b ∷ xs) h = absurd (omega (arith, h))
+one_int : (n : ℕ) (s : Scalar) (f : ℤ → Call) → ((a : ℤ) → call_with n (a ∷ []) ≡ Some (f a)) → ((a : ℤ) → scalar_of (f a) ≡ s) → ((a : ℤ) → primitive_number (f a) ≡ n) → ((a : ℤ) → arguments_of (f a) ≡ a ∷ []) → (xs : List ℤ) → length xs ≡ 1 →
+    (c : Call) × (call_with n xs ≡ Some c) × (scalar_of c ≡ s) × (primitive_number c ≡ n) × (arguments_of c ≡ xs)
+one_int n s f e t m r [] h = absurd (omega (arith, h))
+one_int n s f e t m r (a ∷ []) h = (f a, e a, t a, m a, r a)
+one_int n s f e t m r (a ∷ b ∷ xs) h = absurd (omega (arith, h))
 
-two_ints : (n : ℕ) (s : Scalar) (f : ℤ → ℤ → Call) → ((a b : ℤ) → call_with n (a ∷ b ∷ []) ≡ Some (f a b)) → ((a b : ℤ) → scalar_of (f a b) ≡ s) → (xs : List ℤ) → length xs ≡ 2 →
-    (c : Call) × (call_with n xs ≡ Some c) × (scalar_of c ≡ s)
-two_ints n s f e t [] h = absurd (omega (arith, h))
-two_ints n s f e t (a ∷ []) h = absurd (omega (arith, h))
-two_ints n s f e t (a ∷ b ∷ []) h = (f a b, e a b, t a b)
-two_ints n s f e t (a ∷ b ∷ c ∷ xs) h = absurd (omega (arith, h))
+two_ints : (n : ℕ) (s : Scalar) (f : ℤ → ℤ → Call) → ((a b : ℤ) → call_with n (a ∷ b ∷ []) ≡ Some (f a b)) → ((a b : ℤ) → scalar_of (f a b) ≡ s) → ((a b : ℤ) → primitive_number (f a b) ≡ n) → ((a b : ℤ) → arguments_of (f a b) ≡ a ∷ b ∷ []) → (xs : List ℤ) → length xs ≡ 2 →
+    (c : Call) × (call_with n xs ≡ Some c) × (scalar_of c ≡ s) × (primitive_number c ≡ n) × (arguments_of c ≡ xs)
+two_ints n s f e t m r [] h = absurd (omega (arith, h))
+two_ints n s f e t m r (a ∷ []) h = absurd (omega (arith, h))
+two_ints n s f e t m r (a ∷ b ∷ []) h = (f a b, e a b, t a b, m a b, r a b)
+two_ints n s f e t m r (a ∷ b ∷ c ∷ xs) h = absurd (omega (arith, h))
 
-three_ints : (n : ℕ) (s : Scalar) (f : ℤ → ℤ → ℤ → Call) → ((a b c : ℤ) → call_with n (a ∷ b ∷ c ∷ []) ≡ Some (f a b c)) → ((a b c : ℤ) → scalar_of (f a b c) ≡ s) → (xs : List ℤ) → length xs ≡ 3 →
-    (c : Call) × (call_with n xs ≡ Some c) × (scalar_of c ≡ s)
-three_ints n s f e t [] h = absurd (omega (arith, h))
-three_ints n s f e t (a ∷ []) h = absurd (omega (arith, h))
-three_ints n s f e t (a ∷ b ∷ []) h = absurd (omega (arith, h))
-three_ints n s f e t (a ∷ b ∷ c ∷ []) h = (f a b c, e a b c, t a b c)
-three_ints n s f e t (a ∷ b ∷ c ∷ d ∷ xs) h = absurd (omega (arith, h))
+three_ints : (n : ℕ) (s : Scalar) (f : ℤ → ℤ → ℤ → Call) → ((a b c : ℤ) → call_with n (a ∷ b ∷ c ∷ []) ≡ Some (f a b c)) → ((a b c : ℤ) → scalar_of (f a b c) ≡ s) → ((a b c : ℤ) → primitive_number (f a b c) ≡ n) → ((a b c : ℤ) → arguments_of (f a b c) ≡ a ∷ b ∷ c ∷ []) → (xs : List ℤ) → length xs ≡ 3 →
+    (c : Call) × (call_with n xs ≡ Some c) × (scalar_of c ≡ s) × (primitive_number c ≡ n) × (arguments_of c ≡ xs)
+three_ints n s f e t m r [] h = absurd (omega (arith, h))
+three_ints n s f e t m r (a ∷ []) h = absurd (omega (arith, h))
+three_ints n s f e t m r (a ∷ b ∷ []) h = absurd (omega (arith, h))
+three_ints n s f e t m r (a ∷ b ∷ c ∷ []) h = (f a b c, e a b c, t a b c, m a b c, r a b c)
+three_ints n s f e t m r (a ∷ b ∷ c ∷ d ∷ xs) h = absurd (omega (arith, h))
 
-five_ints : (xs : List ℤ) → length xs ≡ 5 → (c : Call) × (call_with 6 xs ≡ Some c) × (scalar_of c ≡ Boolean)
+five_ints : (xs : List ℤ) → length xs ≡ 5 → (c : Call) × (call_with 6 xs ≡ Some c) × (scalar_of c ≡ Boolean) × (primitive_number c ≡ 6) × (arguments_of c ≡ xs)
 five_ints [] h = absurd (omega (arith, h))
 five_ints (a ∷ []) h = absurd (omega (arith, h))
 five_ints (a ∷ b ∷ []) h = absurd (omega (arith, h))
 five_ints (a ∷ b ∷ c ∷ []) h = absurd (omega (arith, h))
 five_ints (a ∷ b ∷ c ∷ d ∷ []) h = absurd (omega (arith, h))
-five_ints (a ∷ b ∷ c ∷ d ∷ e ∷ []) h = (VmCopy a b c d e, refl, refl)
+five_ints (a ∷ b ∷ c ∷ d ∷ e ∷ []) h = (VmCopy a b c d e, refl, refl, refl, refl)
 five_ints (a ∷ b ∷ c ∷ d ∷ e ∷ f ∷ xs) h = absurd (omega (arith, h))
 
 -- the row that is found
@@ -224,16 +226,16 @@ found : (a row : CPrimitive) (n : ℕ) (args : Values) → ◌≡◌ {A = Option
 found a row n args e h f = let q : a ≡ row = cc in subst (λ r. Told n r args) q (f (subst (λ r. AreScalars r.args args) (sym q) h))
 
 told : (n : ℕ) (row : CPrimitive) (args : Values) → slice_get kernel_primitives n ≡ Some row → AreScalars row.args args → Told n row args
-told zero row args e h = found _ row 0 args e h (λ h. row_told 0 2 _ args h (two_ints 0 Int VmGet (λ a b. refl) (λ a b. refl)))
-told (suc zero) row args e h = found _ row 1 args e h (λ h. row_told 1 3 _ args h (three_ints 1 Boolean VmSet (λ a b c. refl) (λ a b c. refl)))
-told (suc (suc zero)) row args e h = found _ row 2 args e h (λ h. row_told 2 1 _ args h (one_int 2 Int VmSize (λ a. refl) (λ a. refl)))
-told (suc (suc (suc zero))) row args e h = found _ row 3 args e h (λ h. row_told 3 2 _ args h (two_ints 3 Boolean VmResize (λ a b. refl) (λ a b. refl)))
-told (suc (suc (suc (suc zero)))) row args e h = found _ row 4 args e h (λ h. row_told 4 2 _ args h (two_ints 4 Int VmWord (λ a b. refl) (λ a b. refl)))
-told (suc (suc (suc (suc (suc zero))))) row args e h = found _ row 5 args e h (λ h. row_told 5 3 _ args h (three_ints 5 Boolean VmPut (λ a b c. refl) (λ a b c. refl)))
+told zero row args e h = found _ row 0 args e h (λ h. row_told 0 2 _ args h (two_ints 0 Int VmGet (λ a b. refl) (λ a b. refl) (λ a b. refl) (λ a b. refl)))
+told (suc zero) row args e h = found _ row 1 args e h (λ h. row_told 1 3 _ args h (three_ints 1 Boolean VmSet (λ a b c. refl) (λ a b c. refl) (λ a b c. refl) (λ a b c. refl)))
+told (suc (suc zero)) row args e h = found _ row 2 args e h (λ h. row_told 2 1 _ args h (one_int 2 Int VmSize (λ a. refl) (λ a. refl) (λ a. refl) (λ a. refl)))
+told (suc (suc (suc zero))) row args e h = found _ row 3 args e h (λ h. row_told 3 2 _ args h (two_ints 3 Boolean VmResize (λ a b. refl) (λ a b. refl) (λ a b. refl) (λ a b. refl)))
+told (suc (suc (suc (suc zero)))) row args e h = found _ row 4 args e h (λ h. row_told 4 2 _ args h (two_ints 4 Int VmWord (λ a b. refl) (λ a b. refl) (λ a b. refl) (λ a b. refl)))
+told (suc (suc (suc (suc (suc zero))))) row args e h = found _ row 5 args e h (λ h. row_told 5 3 _ args h (three_ints 5 Boolean VmPut (λ a b c. refl) (λ a b c. refl) (λ a b c. refl) (λ a b c. refl)))
 told (suc (suc (suc (suc (suc (suc zero)))))) row args e h = found _ row 6 args e h (λ h. row_told 6 5 _ args h five_ints)
-told (suc (suc (suc (suc (suc (suc (suc zero))))))) row args e h = found _ row 7 args e h (λ h. row_told 7 1 _ args h (one_int 7 Boolean ConPut (λ a. refl) (λ a. refl)))
-told (suc (suc (suc (suc (suc (suc (suc (suc zero)))))))) row args e h = found _ row 8 args e h (λ h. row_told 8 0 _ args h (no_ints 8 Int ConGet refl refl))
-told (suc (suc (suc (suc (suc (suc (suc (suc (suc zero))))))))) row args e h = found _ row 9 args e h (λ h. row_told 9 0 _ args h (no_ints 9 Int ConLeft refl refl))
+told (suc (suc (suc (suc (suc (suc (suc zero))))))) row args e h = found _ row 7 args e h (λ h. row_told 7 1 _ args h (one_int 7 Boolean ConPut (λ a. refl) (λ a. refl) (λ a. refl) (λ a. refl)))
+told (suc (suc (suc (suc (suc (suc (suc (suc zero)))))))) row args e h = found _ row 8 args e h (λ h. row_told 8 0 _ args h (no_ints 8 Int ConGet refl refl refl refl))
+told (suc (suc (suc (suc (suc (suc (suc (suc (suc zero))))))))) row args e h = found _ row 9 args e h (λ h. row_told 9 0 _ args h (no_ints 9 Int ConLeft refl refl refl refl))
 told (suc (suc (suc (suc (suc (suc (suc (suc (suc (suc n)))))))))) row args e h = absurd (cc)
 
 -- the parts of the test
@@ -260,7 +262,7 @@ answers_fit = record {
 
 -- without its frames a typed state is typed
 no_frames : (u : CUnit) (s : State) → IsTypedState u s → IsTypedState u (record s { frames = [] })
-no_frames u s t = (t.0, record { global_values = t.1.global_values; heap_values = t.1.heap_values; frames = All-nil (IsTypedFrame u (layout_of u t.0)) })
+no_frames u s t = (t.0, record { global_values = t.1.global_values; heap_values = t.1.heap_values; frames = All-nil (IsTypedFrame u (layout_of u t.0)) }, t.2)
 
 safe_typed : (u : CUnit) (c : Core) (o : c0_run.Outcome Machines Changes) → IsSafe are_small u o → IsTypedState u (outcome_of c o).after.c0
 safe_typed u c (c0_run.Done k d) h = no_frames u d.state h.0
@@ -296,8 +298,19 @@ wanting u c (c0_run.Failed k (faulted f) d) h a e = absurd (cc)
 wanting u c (c0_run.Failed k stuck d) h a e = absurd h
 wanting u c (c0_run.NotYet k d) h a e = (k, d, refl)
 
+pub units_answer_ints : DispatchesAnswer Machines Changes → UnitsAnswerInts
+units_answer_ints answer u m n c cause edata user checked range fits p q r typed =
+    answer are_small (setting_of u m.params) n cause edata user c.c0 (machines_of m.params c) checked answers_fit typed p q r (state_small m c range fits)
+
 pub units_want_units : DispatchesAreSafe Machines Changes → DispatchesAnswer Machines Changes → UnitsWantUnits
 units_want_units safe answer u m n c cause edata user checked range fits p q r typed e =
     wanting u c (c0_run.dispatch (setting_of u m.params) n cause edata user c.c0 (machines_of m.params c))
     (safe are_small (setting_of u m.params) n cause edata user c.c0 (machines_of m.params c) checked answers_fit typed p q r (state_small m c range fits))
     (answer are_small (setting_of u m.params) n cause edata user c.c0 (machines_of m.params c) checked answers_fit typed p q r (state_small m c range fits)) e
+
+pub rows_are_called : RowsAreCalled
+rows_are_called = record {
+  call = λ n row args e h. let t : Told n row args = told n row args e h in (t.call, record { is = t.is; number = t.number; arguments = t.arguments });
+  answer = λ n row args v e h most each input. answers_fit.answer n row args v e h
+      (ap₂ (λ a b. a && b) (ap₂ (λ a b. a && b) (le-leb v.most 1024 most) (le-leb (length v.console.input) input_room input)) (all_small v.most v.users most each));
+}

@@ -7,7 +7,7 @@
 #![tactic(auto)]
 
 ghost use Rattle.cvm_model.specs.KernelMeaning.{CallsAreTold, UnitsAreKernels, UnitsReplay};
-ghost use Rattle.cvm_model.specs.TypedKernel.{UnitsStayTyped, UnitsWantUnits};
+ghost use Rattle.cvm_model.specs.TypedKernel.{RowsAreCalled, UnitsAnswerInts, UnitsStayTyped, UnitsWantUnits};
 ghost use Rattle.cvm_model.specs.Cvm.{UnitsDontMatter};
 ghost use Rattle.cvm_model.specs.Journal.{ReplayJoins, Isolated, PrimitivesReplay};
 
@@ -30,6 +30,11 @@ pub fn calls_are_told()
     ensures { CallsAreTold }
 {}
 
+/// A law: the arguments of a primitive's row make a call, whose answer has the row's type.
+pub fn rows_are_called()
+    ensures { RowsAreCalled }
+{}
+
 /// A law: a unit of C0 means what a kernel may mean.
 pub fn units_are_kernels()
     ensures { UnitsAreKernels }
@@ -42,6 +47,7 @@ pub fn units_are_kernels()
 pub fn units_stay_typed()
     ensures typed { UnitsStayTyped }
     ensures units { UnitsWantUnits }
+    ensures ints { UnitsAnswerInts }
 {
     first_states_are_typed();
     calls_are_safe::<KernelWorld>();

@@ -142,7 +142,7 @@ module _ (w : World) (f : RoutineLaws w) (p : Places) (b : ℕ) (si : Sited p w)
       (λ good c1 d1 k at. let z = number_good p users per size v c u a us good in load_from w f p b si page v (start c d) (number per u a) c1 d1 (quiet_held c1 d1 k) at z.0 z.1)
       (λ bad c1 d1 k at. absurd (bad good)))
 
-  pub vm_word_bad : (WordGood users size u a → ⊥) → From w (vm_word_code p users per page.code) 600 c d (λ c' d'. Held p v (start c d) c' d' × (c'.regs 2 ≡ 2 ^ 32 - 1))
+  pub vm_word_bad : (WordGood users size u a → ⊥) → From w (vm_word_code p users per page.code) 598 c d (λ c' d'. Held p v (start c d) c' d' × (c'.regs 2 ≡ 2 ^ 32 - 1))
   vm_word_bad bad =
       from_later w f _ (3 + (8 + (3 + (3 + 0) + 1 + 1) + 1)) _ c d _ _ (omega arith) (λ c' d' k. k)
       (asked_from w f p b si users per size v 65535 0 (load_code p page.code) (λ c' d'. Held p v (start c d) c' d' × (c'.regs 2 ≡ 2 ^ 32 - 1)) c d u a held.idle us ru ra su sa load_short
@@ -158,7 +158,7 @@ module _ (w : World) (f : RoutineLaws w) (p : Places) (b : ℕ) (si : Sited p w)
       (λ good c1 d1 k at. let z = number_good p users per size v c u a us good in store_from w f p b si page v (start c d) (number per u a) x c1 d1 (quiet_held c1 d1 k) at (k.r22 ∙ rx) sx z.0 z.1)
       (λ bad c1 d1 k at. absurd (bad good)))
 
-  pub vm_put_bad : (WordGood users size u a → ⊥) → From w (vm_put_code p users per page.code) 600 c d (λ c' d'. Held p v (start c d) c' d' × (c'.regs 2 ≡ 0))
+  pub vm_put_bad : (WordGood users size u a → ⊥) → From w (vm_put_code p users per page.code) 598 c d (λ c' d'. Held p v (start c d) c' d' × (c'.regs 2 ≡ 0))
   vm_put_bad bad =
       from_later w f _ (3 + (8 + (3 + (3 + 0) + 1 + 1) + 1)) _ c d _ _ (omega arith) (λ c' d' k. k)
       (asked_from w f p b si users per size v 0 0 (store_code p page.code) (λ c' d'. Held p v (start c d) c' d' × (c'.regs 2 ≡ 0)) c d u a held.idle us ru ra su sa store_short

@@ -113,7 +113,7 @@ taken_length ws a n b l le lt =
     let d = length-drop a ws in
     let t = length-take-le n (drop a ws) (omega arith) in omega arith
 
-steps_enough : (x y n q : ℕ) → x ≡ y → 600 * (1 + n) + x ≤ 600 * (1 + n + q) + y
+steps_enough : (x y n q : ℕ) → x ≡ y → 598 + 600 * n + x ≤ 598 + 600 * (n + q) + y
 steps_enough x y n q e = omega arith
 
 -- five conditions
@@ -213,9 +213,9 @@ module _ (w : World) (f : Sound w) (r : RoutineLaws w) (p : Places) (b most : �
   granting : (code : List Inst) (call : Call) → is_good most users call ≡ true → From w code (call_steps p b (granted users (console_of d) call)) c d (CallLeft p most users (granted users (console_of d) call) c d) → Answers w code call p b most users c d
   granting code call good h = subst (λ g. From w code (call_steps p b g) c d (CallLeft p most users g c d)) (sym (cond-true (is_good most users call) (granted users (console_of d) call) (unchanged users (console_of d) (refused call) 0 0) good)) h
 
-  refusing : (code : List Inst) (call : Call) (v : ℕ) → is_good most users call ≡ false → flat (λ _. 0) (refused call) ≡ v ∷ [] → From w code 600 c d (λ c' d'. Held p (pages_by most users) (start c d) c' d' × (c'.regs 2 ≡ v)) → Answers w code call p b most users c d
+  refusing : (code : List Inst) (call : Call) (v : ℕ) → is_good most users call ≡ false → flat (λ _. 0) (refused call) ≡ v ∷ [] → From w code 598 c d (λ c' d'. Held p (pages_by most users) (start c d) c' d' × (c'.regs 2 ≡ v)) → Answers w code call p b most users c d
   refusing code call v bad a h = subst (λ g. From w code (call_steps p b g) c d (CallLeft p most users g c d)) (sym (cond-false (is_good most users call) (granted users (console_of d) call) (unchanged users (console_of d) (refused call) 0 0) bad))
-      (from_later w r code 600 _ c d _ _ (omega arith) (λ c1 d1 k. refused_left call c1 d1 k.0 (a ∙ ap (λ z. z ∷ []) (sym k.1))) h)
+      (from_later w r code 598 _ c d _ _ (omega arith) (λ c1 d1 k. refused_left call c1 d1 k.0 (a ∙ ap (λ z. z ∷ []) (sym k.1))) h)
 
   -- the user in a register is one, or not
   small_user : (u : ℕ) → IsOneOf users u → pages_of (user_of users u) ≤ 1024
@@ -325,7 +325,7 @@ module _ (w : World) (f : Sound w) (r : RoutineLaws w) (p : Places) (b most : �
       granting _ (resize_call c) (ap₂ (λ x y. x && y) u.2 a.2)
       (subst (λ u. From w (vm_resize_code p (length users) most) (call_steps p b (size_given u (nat_abs (signed (c.regs 21))))) c d (CallLeft p most users (size_given u (nat_abs (signed (c.regs 21)))) c d)) (sym u.3)
       (subst (λ n. From w (vm_resize_code p (length users) most) (call_steps p b (size_given (c.regs 20) n)) c d (CallLeft p most users (size_given (c.regs 20) n) c d)) (sym a.3)
-      (from_later w r _ (600 + page_steps p.layout.pages b * ((sizes_of (c.regs 20) - c.regs 21) + (c.regs 21 - sizes_of (c.regs 20)))) _ c d _ _ (omega arith) (λ c1 d1 h. size_left (c.regs 20) (c.regs 21) good c1 d1 h.0.0 h.0.1) (k.good good)))))
+      (from_later w r _ (598 + page_steps p.layout.pages b * ((sizes_of (c.regs 20) - c.regs 21) + (c.regs 21 - sizes_of (c.regs 20)))) _ c d _ _ (omega arith) (λ c1 d1 h. size_left (c.regs 20) (c.regs 21) good c1 d1 h.0.0 h.0.1) (k.good good)))))
       (λ a. refusing _ (resize_call c) 0 (ap₂ (λ x y. x && y) u.2 a.1) refl (k.bad (λ g. a.0 (omega arith) g.2)))
       (within_is 0 most (c.regs 21) (omega arith) (e.regs 21)))
       (λ u. refusing _ (resize_call c) 0 (ap (λ x. x && is_within 0 most (signed (c.regs 21))) u.1) refl (k.bad (λ g. u.0 g.0 g.1)))
@@ -358,7 +358,7 @@ module _ (w : World) (f : Sound w) (r : RoutineLaws w) (p : Places) (b most : �
       (blocks_changed users c.memory c1.memory t (with_words (user_of users t) s (take n (drop (a / 4) (words_of u)))) o refl (same (block_at t + 32) (omega arith) (omega arith) ∙ e.blocks.sizes t o ∙ sym pages) (λ z lo hi ne. same z lo hi) e.few e.blocks)
       refl (ap (λ z. z ∷ []) (sym r2))
 
-  copy_steps : (u a t s n : ℕ) → 600 * (1 + n) + page_steps p.layout.pages b * (3 * pieces (number most u a) (number most t s) n) ≤ call_steps p b (copy_given u a t s n)
+  copy_steps : (u a t s n : ℕ) → 598 + 600 * n + page_steps p.layout.pages b * (3 * pieces (number most u a) (number most t s) n) ≤ call_steps p b (copy_given u a t s n)
   copy_steps u a t s n =
       let e1 : page_steps p.layout.pages b * (3 * pieces (number most u a) (number most t s) n) ≡ page_steps p.layout.pages b * (3 * pieces_at a s n) = ap (λ z. page_steps p.layout.pages b * (3 * z)) (lists.pieces u a t s n ∙ sym (pieces_are a s n)) in
       steps_enough (page_steps p.layout.pages b * (3 * pieces (number most u a) (number most t s) n)) (page_steps p.layout.pages b * (3 * pieces_at a s n)) n (3 * pieces_at a s n) e1
@@ -418,7 +418,7 @@ module _ (w : World) (f : Sound w) (r : RoutineLaws w) (p : Places) (b most : �
       ⊎_elim
       (λ g. granting _ (copy_call c) (ap (λ n. is_good most users (MakeCopy (signed (c.regs 20)) (signed (c.regs 21)) (signed (c.regs 22)) (signed (c.regs 23)) n)) en ∙ g.1)
       (named (nat_abs (signed (c.regs 20))) (nat_abs (signed (c.regs 21))) (nat_abs (signed (c.regs 22))) (nat_abs (signed (c.regs 23))) (nat_abs (signed (c.regs 24))) g.2.0 g.2.1 g.2.2 g.2.3 (ap nat_abs en)
-      (from_later w r _ (600 * (1 + c.regs 24) + page_steps p.layout.pages b * (3 * pieces (number most (c.regs 20) (c.regs 21)) (number most (c.regs 22) (c.regs 23)) (c.regs 24))) _ c d _ _ (copy_steps (c.regs 20) (c.regs 21) (c.regs 22) (c.regs 23) (c.regs 24)) (λ c1 d1 h. copy_left (c.regs 20) (c.regs 21) (c.regs 22) (c.regs 23) (c.regs 24) g.0 c1 d1 h.0 h.1) (k.good g.0))))
+      (from_later w r _ (598 + 600 * c.regs 24 + page_steps p.layout.pages b * (3 * pieces (number most (c.regs 20) (c.regs 21)) (number most (c.regs 22) (c.regs 23)) (c.regs 24))) _ c d _ _ (copy_steps (c.regs 20) (c.regs 21) (c.regs 22) (c.regs 23) (c.regs 24)) (λ c1 d1 h. copy_left (c.regs 20) (c.regs 21) (c.regs 22) (c.regs 23) (c.regs 24) g.0 c1 d1 h.0 h.1) (k.good g.0))))
       (λ g. refusing _ (copy_call c) 0 (ap (λ n. is_good most users (MakeCopy (signed (c.regs 20)) (signed (c.regs 21)) (signed (c.regs 22)) (signed (c.regs 23)) n)) en ∙ g.1) refl (k.bad g.0))
       (decided (c.regs 20) (c.regs 21) (c.regs 22) (c.regs 23) (c.regs 24) (e.regs 20) (e.regs 21) (e.regs 22) (e.regs 23) lt))
       (λ ge. refusing _ (copy_call c) 0 (ap (λ n. is_good most users (MakeCopy (signed (c.regs 20)) (signed (c.regs 21)) (signed (c.regs 22)) (signed (c.regs 23)) n)) (signed_neg (c.regs 24) ge (e.regs 24))) refl

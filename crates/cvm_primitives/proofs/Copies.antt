@@ -150,7 +150,7 @@ module _ (w : World) (f : RoutineLaws w) (p : Places) (b : ℕ) (si : Sited p w)
   inside_short = run_short w p b page
 
   -- VM_COPY: true (1), with the words copied, within a unit for the call and for each word, and three pages for each piece
-  pub vm_copy_good : CopyArgs users size u a v' b' n → From w (vm_copy_code p users per page.code) (600 * (1 + n) + page_steps p.layout.pages b * (3 * pieces (number per u a) (number per v' b') n)) c d (λ c' d'. Held p (copied v (number per u a) (number per v' b') n) (start c d) c' d' × (c'.regs 2 ≡ 1))
+  pub vm_copy_good : CopyArgs users size u a v' b' n → From w (vm_copy_code p users per page.code) (598 + 600 * n + page_steps p.layout.pages b * (3 * pieces (number per u a) (number per v' b') n)) c d (λ c' d'. Held p (copied v (number per u a) (number per v' b') n) (start c d) c' d' × (c'.regs 2 ≡ 1))
   vm_copy_good good =
       let x : ℕ = number per u a in let y : ℕ = number per v' b' in
       from_later w f _ (2 + (24 + (3 + (24 + (7 + (3 * page_steps p.layout.pages b * pieces (number per u a) (number per v' b') n + 600 * n + 1 + 1 + 1)))))) _ c d _ _ (omega arith) (λ c' d' k. k)
@@ -164,7 +164,7 @@ module _ (w : World) (f : RoutineLaws w) (p : Places) (b : ℕ) (si : Sited p w)
       (λ nay c1 d1 m s r28 r29 r30 r31 r2 e. absurd (nay good)))
 
   -- or false (0), and nothing has changed, within a unit
-  pub vm_copy_bad : (CopyArgs users size u a v' b' n → ⊥) → From w (vm_copy_code p users per page.code) 600 c d (λ c' d'. Held p v (start c d) c' d' × (c'.regs 2 ≡ 0))
+  pub vm_copy_bad : (CopyArgs users size u a v' b' n → ⊥) → From w (vm_copy_code p users per page.code) 598 c d (λ c' d'. Held p v (start c d) c' d' × (c'.regs 2 ≡ 0))
   vm_copy_bad bad =
       from_later w f _ (2 + (24 + (3 + (24 + (7 + (0 + 1)))))) _ c d _ _ (omega arith) (λ c' d' k. k)
       (copy_asked_from w f p b si users per size v 0 (copies_code p page.code ++ (Addiu 2 0 1 ∷ [])) (λ c' d'. Held p v (start c d) c' d' × (c'.regs 2 ≡ 0)) c d u a v' b' n held.idle us ru ra rv rb rn su sa sv sb sn inside_short

@@ -287,18 +287,18 @@ module _ (w : World) (f : RoutineLaws w) (p : Places) (b : ℕ) (si : Sited p w)
         refuse (λ g. let g0 = g.0 in let g1 = g.1 in absurd (omega arith)) _ refl refl refl refl refl refl refl))
 
     -- VM_RESIZE: true (1), within a unit and a page for each page that comes or goes
-    pub vm_resize_good : ResizeGood users per u new → From w (vm_resize_code p users per) (600 + page_steps p.layout.pages b * ((size u - new) + (new - size u))) c d (λ c' d'. Held p (resized v ((u - 1) * per) (size u) new) (start (record c { memory = put c.memory (size_at u) new }) d) c' d' × (c'.regs 2 ≡ 1) × Fresh p ((u - 1) * per + size u) (new - size u) c')
+    pub vm_resize_good : ResizeGood users per u new → From w (vm_resize_code p users per) (598 + page_steps p.layout.pages b * ((size u - new) + (new - size u))) c d (λ c' d'. Held p (resized v ((u - 1) * per) (size u) new) (start (record c { memory = put c.memory (size_at u) new }) d) c' d' × (c'.regs 2 ≡ 1) × Fresh p ((u - 1) * per + size u) (new - size u) c')
     vm_resize_good good =
         from_later w f _ (5 + (5 + (3 + (3 + (27 * ((size u - new) + (new - size u)) + 20))) + 1 + 1)) _ c d _ _ (enough (page_steps p.layout.pages b) ((size u - new) + (new - size u)) (omega arith)) (λ c' d' k. k)
         (resize_from (27 * ((size u - new) + (new - size u)) + 20) _ (λ good. (omega arith, λ c1 d1 h r fr. (h, r, fr))) (λ nay c1 m s r28 r29 r30 r31 r2. absurd (nay good)))
       where
-        enough : (t n : ℕ) → 27 ≤ t → 5 + (5 + (3 + (3 + (27 * n + 20))) + 1 + 1) ≤ 600 + t * n
+        enough : (t n : ℕ) → 27 ≤ t → 5 + (5 + (3 + (3 + (27 * n + 20))) + 1 + 1) ≤ 598 + t * n
         enough t n le =
             let r : ℕ = t - 27 in
             let e : t * n ≡ (27 + (t - 27)) * n = ap (λ z. z * n) (omega arith) in
             omega arith
 
-    pub vm_resize_bad : (ResizeGood users per u new → ⊥) → From w (vm_resize_code p users per) 600 c d (λ c' d'. Held p v (start c d) c' d' × (c'.regs 2 ≡ 0))
+    pub vm_resize_bad : (ResizeGood users per u new → ⊥) → From w (vm_resize_code p users per) 598 c d (λ c' d'. Held p v (start c d) c' d' × (c'.regs 2 ≡ 0))
     vm_resize_bad bad =
         from_later w f _ (5 + (5 + (3 + (3 + 0)) + 1 + 1)) _ c d _ _ (omega arith) (λ c' d' k. k)
         (resize_from 0 _ (λ good. absurd (bad good)) (λ nay c1 m s r28 r29 r30 r31 r2. (held_to p v (start c d) c d c1 d held m s r28 r29 r30 r31 refl, r2)))

@@ -12,7 +12,7 @@ use Rattle.page_model.specs.Places.{Places, view}
 use Rattle.frame_table.specs.View.{Sited, Ported}
 use Rattle.page_fault.specs.Code.{page_code}
 use Rattle.cvm_model.specs.Kernel.{flat}
-use Rattle.cvm_model.specs.Primitives.{Call, VmWord, VmPut, VmCopy, VmResize, Given, user_of, prim, units_of}
+use Rattle.cvm_model.specs.Primitives.{Call, VmWord, VmPut, VmCopy, VmResize, Given, user_of, prim}
 use Rattle.cvm_model.specs.Paged.{pages_by}
 use Rattle.cvm_model.specs.Stands.{UserFits}
 use Rattle.register_primitives.specs.Blocks.{IsOneOf, BlocksHold, console_of}
@@ -49,9 +49,9 @@ pub record CallLeft (p : Places) (per : ℕ) (users : List Flat) (g : Given) (c0
   pub past : (q i : ℕ) → p.layout.pages ≤ q → d.sectors q i ≡ d0.sectors q i
   pub idle : d.pending ≡ Idle
 
--- what a call is worth: 600 steps a unit, and those of its pages
+-- what a call is worth: 600 steps for each word and page, those of its pages, and 600 for the call itself, less the jump of its entry and its return
 abbrev pub call_steps : Places → ℕ → Given → ℕ
-call_steps p b g = 600 * units_of g + page_steps p.layout.pages b * g.pages
+call_steps p b g = 598 + 600 * (g.words + g.pages) + page_steps p.layout.pages b * g.pages
 
 -- the calls, with their arguments as registers hold them
 abbrev pub word_call : Contents → Call

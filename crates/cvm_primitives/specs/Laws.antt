@@ -49,13 +49,13 @@ GoodSize users per c = ResizeGood users per (c.regs 20) (c.regs 21)
 abbrev pub word_steps : Places → ℕ → ℕ
 word_steps p b = 600 * 2 + page_steps p.layout.pages b
 
--- those of a copy: a unit for the call and for each word, and three pages for each piece
+-- those of a copy: a unit for the call, less two steps, one for each word, and three pages for each piece
 abbrev pub copy_steps : Places → (b per : ℕ) → Contents → ℕ
-copy_steps p b per c = 600 * (1 + c.regs 24) + page_steps p.layout.pages b * (3 * pieces (first_word per c) (second_word per c) (c.regs 24))
+copy_steps p b per c = 598 + 600 * c.regs 24 + page_steps p.layout.pages b * (3 * pieces (first_word per c) (second_word per c) (c.regs 24))
 
--- those of a resize: a unit, and a page for each page that comes or goes
+-- those of a resize: a unit, less two steps, and a page for each page that comes or goes
 abbrev pub resize_steps : Places → ℕ → (ℕ → ℕ) → Contents → ℕ
-resize_steps p b size c = 600 + page_steps p.layout.pages b * ((size (c.regs 20) - c.regs 21) + (c.regs 21 - size (c.regs 20)))
+resize_steps p b size c = 598 + page_steps p.layout.pages b * ((size (c.regs 20) - c.regs 21) + (c.regs 21 - size (c.regs 20)))
 
 -- the start with the new size in its word
 abbrev pub size_written : Contents → Behind → Start
@@ -73,27 +73,27 @@ GrowsFresh p per size c c' = Fresh p ((c.regs 20 - 1) * per + size (c.regs 20)) 
 pub record WordRead (w : World) (p : Places) (b users per : ℕ) (size : ℕ → ℕ) (v : Pages) (c : Contents) (d : Behind) : Type 0 where
   pub good : GoodWord users size c →
       From w (vm_word_code p users per (page_code p)) (word_steps p b) c d (Answered p v (start c d) (word_at v (first_word per c)))
-  pub bad : (GoodWord users size c → ⊥) → From w (vm_word_code p users per (page_code p)) 600 c d (Answered p v (start c d) (2 ^ 32 - 1))
+  pub bad : (GoodWord users size c → ⊥) → From w (vm_word_code p users per (page_code p)) 598 c d (Answered p v (start c d) (2 ^ 32 - 1))
 
 -- vm_put: true, with the word stored; or false
 pub record WordPut (w : World) (p : Places) (b users per : ℕ) (size : ℕ → ℕ) (v : Pages) (c : Contents) (d : Behind) : Type 0 where
   pub good : GoodWord users size c →
       From w (vm_put_code p users per (page_code p)) (word_steps p b) c d (Answered p (with_word v (first_word per c) (c.regs 22)) (start c d) 1)
-  pub bad : (GoodWord users size c → ⊥) → From w (vm_put_code p users per (page_code p)) 600 c d (Answered p v (start c d) 0)
+  pub bad : (GoodWord users size c → ⊥) → From w (vm_put_code p users per (page_code p)) 598 c d (Answered p v (start c d) 0)
 
 -- vm_copy: true, with the words copied; or false
 pub record WordsCopied (w : World) (p : Places) (b users per : ℕ) (size : ℕ → ℕ) (v : Pages) (c : Contents) (d : Behind) : Type 0 where
   pub good : GoodCopy users size c →
       From w (vm_copy_code p users per (page_code p)) (copy_steps p b per c) c d
       (Answered p (copied v (first_word per c) (second_word per c) (c.regs 24)) (start c d) 1)
-  pub bad : (GoodCopy users size c → ⊥) → From w (vm_copy_code p users per (page_code p)) 600 c d (Answered p v (start c d) 0)
+  pub bad : (GoodCopy users size c → ⊥) → From w (vm_copy_code p users per (page_code p)) 598 c d (Answered p v (start c d) 0)
 
 -- vm_resize: true, with the pages cut off or added, each of these as the zero frame, and the size written; or false
 pub record MemoryResized (w : World) (p : Places) (b users per : ℕ) (size : ℕ → ℕ) (v : Pages) (c : Contents) (d : Behind) : Type 0 where
   pub good : GoodSize users per c →
       From w (vm_resize_code p users per) (resize_steps p b size c) c d
       (λ c' d'. Answered p (pages_resized per size v c) (size_written c d) 1 c' d' × GrowsFresh p per size c c')
-  pub bad : (GoodSize users per c → ⊥) → From w (vm_resize_code p users per) 600 c d (Answered p v (start c d) 0)
+  pub bad : (GoodSize users per c → ⊥) → From w (vm_resize_code p users per) 598 c d (Answered p v (start c d) 0)
 
 -- each of the four, from wherever it is entered
 abbrev pub VmWord : Type 0

@@ -17,53 +17,49 @@ use Rattle.cvm_shell.specs.declared.boot.Stop.{Stop}
 use Rattle.cvm_shell.specs.declared.boot.Stop.TheVariants as Stops
 use Rattle.cvm_shell.specs.declared.refusal.Refusal.{Refusal as ByCode}
 use Rattle.cvm_shell.specs.declared.refusal.Refusal.TheVariants as by
-use Rattle.cvm_shell.specs.Command.{Boot, CompileUser, Command, boot, compile_user, IsBoot, IsCompileUser, IsCommand, IsNoCommand}
+use Rattle.cvm_shell.specs.Command.{Boot, Command, boot, compile_user, compile_kernel, IsBoot, IsCommand, IsNoCommand}
 use Rattle.cvm_shell.specs.Outside.{Files, Outside, SameSectors, Leaves}
 use Rattle.cvm_shell.specs.Refusal.{Refusal, too_long, refusal_text, refusal_status}
-use Rattle.cvm_shell.specs.Plan.{Plan, bad_words, refuses, puts, boots, BootPlan, UserPlan, whole, AfterReading, reads, runs, ComesTo, no_command, boot_plan, user_plan, AllTold, IsPlan}
+use Rattle.cvm_shell.specs.Plan.{Plan, bad_words, refuses, puts, boots, BootPlan, UserPlan, KernelPlan, whole, AfterReading, reads, runs, ComesTo, no_command, boot_plan, user_plan, kernel_plan, AllTold, IsPlan}
 use Rattle.cvm_shell.specs.Boot.{Ran, Boots, GoesOn, RunEnds}
 use Rattle.cvm_shell.specs.Outcome.{Says, said, broken, HasPut, Ends, Took, CommandEnds, done, undone, CausedBy}
-use Rattle.cvm_shell.specs.Stages.{KernelEnds, IsBootPlan, IsUserPlan}
+use Rattle.cvm_shell.specs.Stages.{KernelEnds, IsBootPlan, IsUserPlan, IsKernelPlan}
 use Rattle.cvm_shell.specs.Views.{refusal_view}
-use Rattle.cvm_shell.proofs.Spellings.{words_of_one, words_of_one_user, of_one_kind}
+use Rattle.cvm_shell.proofs.Spellings.{one_boot, one_command, boot_or_user, boot_or_kernel}
 
 -- What words and files come to is one plan, by the command.
 
-one_boot : (words : List (List ℕ)) (b c : Boot) → IsBoot words b → IsBoot words c → b ≡ c
-one_boot words b c is other = words_of_one words (codes "boot") b.image b.schedule _ _ b.turns b.steps is.spelled refl is.turns_fit refl is.steps_fit c other
+-- the files of a command come to a plan
+abbrev CommandPlan : (List ℕ → Option (List ℕ)) → Command → Plan → Type 0
+CommandPlan file (boot b) = BootPlan file b
+CommandPlan file (compile_user c) = UserPlan file c
+CommandPlan file (compile_kernel c) = KernelPlan file c
 
-one_user : (words : List (List ℕ)) (c d : CompileUser) → IsCompileUser words c → IsCompileUser words d → c ≡ d
-one_user words c d is other = let e : Some c ≡ Some d = words_of_one_user words (codes "compile") (codes "user") c.text c.image is.spelled d other in cc
+-- and to no other
+abbrev pub FilesPlan : (List ℕ → Option (List ℕ)) → Command → Plan → Type 0
+FilesPlan file (boot b) p = IsBootPlan file b p
+FilesPlan file (compile_user c) p = IsUserPlan file c p
+FilesPlan file (compile_kernel c) p = IsKernelPlan file c p
 
-only_boot : (words : List (List ℕ)) (file : List ℕ → Option (List ℕ)) (b : Boot) (p : Plan) → IsBoot words b → ((q : Plan) → BootPlan file b q → q ≡ p) → (q : Plan) → ComesTo words file q → q ≡ p
-only_boot words file b p is only q (no_command none) = absurd (none (boot b) is)
-only_boot words file b p is only q (boot_plan c r other got) = only r (let P : Boot → Type 0 = λ x. BootPlan file x r in subst P (sym (one_boot words b c is other)) got)
-only_boot words file b p is only q (user_plan c r other got) = absurd (of_one_kind words b c is other)
+only_here : (words : List (List ℕ)) (file : List ℕ → Option (List ℕ)) (c d : Command) (p q : Plan) → IsCommand words c → IsCommand words d → ((r : Plan) → CommandPlan file c r → r ≡ p) → CommandPlan file d q → q ≡ p
+only_here words file c d p q is other only got = only q (let P : Command → Type 0 = λ x. CommandPlan file x q in subst P (sym (one_command words c d is other)) got)
 
-only_user : (words : List (List ℕ)) (file : List ℕ → Option (List ℕ)) (c : CompileUser) (p : Plan) → IsCompileUser words c → ((q : Plan) → UserPlan file c q → q ≡ p) → (q : Plan) → ComesTo words file q → q ≡ p
-only_user words file c p is only q (no_command none) = absurd (none (compile_user c) is)
-only_user words file c p is only q (boot_plan b r other got) = absurd (of_one_kind words b c other is)
-only_user words file c p is only q (user_plan d r other got) = only r (let P : CompileUser → Type 0 = λ x. UserPlan file x r in subst P (sym (one_user words c d is other)) got)
+only_plan : (words : List (List ℕ)) (file : List ℕ → Option (List ℕ)) (c : Command) (p : Plan) → IsCommand words c → ((r : Plan) → CommandPlan file c r → r ≡ p) → (q : Plan) → ComesTo words file q → q ≡ p
+only_plan words file c p is only q (no_command none) = absurd (none c is)
+only_plan words file c p is only q (boot_plan b r other got) = only_here words file c (boot b) p r is other only got
+only_plan words file c p is only q (user_plan d r other got) = only_here words file c (compile_user d) p r is other only got
+only_plan words file c p is only q (kernel_plan d r other got) = only_here words file c (compile_kernel d) p r is other only got
 
 only_none : (words : List (List ℕ)) (file : List ℕ → Option (List ℕ)) → IsNoCommand words → (q : Plan) → ComesTo words file q → q ≡ bad_words
 only_none words file none q (no_command also) = refl
 only_none words file none q (boot_plan b r other got) = absurd (none (boot b) other)
 only_none words file none q (user_plan c r other got) = absurd (none (compile_user c) other)
-
-plan_of_boot : (words : List (List ℕ)) (file : List ℕ → Option (List ℕ)) (b : Boot) (p : Plan) → IsBoot words b → IsBootPlan file b p → IsPlan (AllTold words file) (ComesTo words file) p
-plan_of_boot words file b p is plan = record { comes = boot_plan b p is plan.comes; only = λ told q h. only_boot words file b p is (plan.only (told (boot b) is)) q h }
-
-plan_of_user : (words : List (List ℕ)) (file : List ℕ → Option (List ℕ)) (c : CompileUser) (p : Plan) → IsCompileUser words c → IsUserPlan file c p → IsPlan (AllTold words file) (ComesTo words file) p
-plan_of_user words file c p is plan = record { comes = user_plan c p is plan.comes; only = λ told q h. only_user words file c p is (plan.only (told (compile_user c) is)) q h }
-
--- the files of a command come to a plan
-abbrev pub FilesPlan : (List ℕ → Option (List ℕ)) → Command → Plan → Type 0
-FilesPlan file (boot b) p = IsBootPlan file b p
-FilesPlan file (compile_user c) p = IsUserPlan file c p
+only_none words file none q (kernel_plan c r other got) = absurd (none (compile_kernel c) other)
 
 plan_of : (words : List (List ℕ)) (file : List ℕ → Option (List ℕ)) (c : Command) (p : Plan) → IsCommand words c → FilesPlan file c p → IsPlan (AllTold words file) (ComesTo words file) p
-plan_of words file (boot b) p is plan = plan_of_boot words file b p is plan
-plan_of words file (compile_user c) p is plan = plan_of_user words file c p is plan
+plan_of words file (boot b) p is plan = record { comes = boot_plan b p is plan.comes; only = λ told q h. only_plan words file (boot b) p is (plan.only (told (boot b) is)) q h }
+plan_of words file (compile_user c) p is plan = record { comes = user_plan c p is plan.comes; only = λ told q h. only_plan words file (compile_user c) p is (plan.only (told (compile_user c) is)) q h }
+plan_of words file (compile_kernel c) p is plan = record { comes = kernel_plan c p is plan.comes; only = λ told q h. only_plan words file (compile_kernel c) p is (plan.only (told (compile_kernel c) is)) q h }
 
 -- How many bytes were taken.
 
@@ -97,6 +93,7 @@ memory_long s taken e long h = let d : Stops.Memory ≡ Stops.Refused by.TooLong
 -- a refusal is that of a file that is too long, or has the status of a refusal
 which : (r : ByCode) → (r ≡ by.TooLong) ⊎ ((refusal_view r ≢ too_long) × (refusal_status (refusal_view r) ≡ Refused))
 which (by.BadText fault) = inr (λ e. cc, refl)
+which (by.BadSource fault) = inr (λ e. cc, refl)
 which by.Magic = inr (λ e. cc, refl)
 which (by.Truncated at) = inr (λ e. cc, refl)
 which (by.Trailing at) = inr (λ e. cc, refl)
@@ -178,7 +175,7 @@ run_ends u turns steps Shelf old new same h = absurd h
 pub kernel_end : (words : List (List ℕ)) (b : Boot) (u : CUnit) (status : Status) (old new : Outside) → IsBoot words b → IsBootPlan old.shelf.file b (boots b u) → new.shelf.taken ≢ TOO_LONG → Unchanged old new
     → KernelEnds u b.turns b.steps status old.sink.text new.sink.text → CommandEnds words status old new
 kernel_end words b u status old new is plan few same ends =
-    done (boots b u) (plan_of_boot words old.shelf.file b (boots b u) is plan) (took_boots b u new.shelf.taken few) (run_ends u b.turns b.steps status old new same ends)
+    done (boots b u) (plan_of words old.shelf.file (boot b) (boots b u) is plan) (took_boots b u new.shelf.taken few) (run_ends u b.turns b.steps status old new same ends)
 
 -- a shelf before and after a put: first the files of another shelf, which are those at the start
 pub record Put (name put : List ℕ) (old mid new : Files) : Type 0 where
@@ -198,12 +195,12 @@ has_put name put bytes mid old new p e text disk f = record {
   disk = disk;
 }
 
--- a user's image was put
-pub put_end : (words : List (List ℕ)) (c : CompileUser) (put bytes : List ℕ) (mid : Files) (old new : Outside) → IsCompileUser words c → IsUserPlan old.shelf.file c (puts c.image bytes) → mid.taken ≢ TOO_LONG
-    → Put c.image put old.shelf mid new.shelf → put ≡ bytes → new.sink.text ≡ old.sink.text → SameSectors old.disk new.disk
-    → new.shelf.file c.image ≡ retold (mid.file c.image) put → CommandEnds words Done old new
-put_end words c put bytes mid old new is plan few p e text disk f =
-    done (puts c.image bytes) (plan_of_user words old.shelf.file c (puts c.image bytes) is plan) (took_puts c.image bytes new.shelf.taken (λ h. few (sym p.taken ∙ h))) (has_put c.image put bytes mid old new p e text disk f)
+-- what was made was put
+pub put_end : (words : List (List ℕ)) (c : Command) (name put bytes : List ℕ) (mid : Files) (old new : Outside) → IsCommand words c → FilesPlan old.shelf.file c (puts name bytes) → mid.taken ≢ TOO_LONG
+    → Put name put old.shelf mid new.shelf → put ≡ bytes → new.sink.text ≡ old.sink.text → SameSectors old.disk new.disk
+    → new.shelf.file name ≡ retold (mid.file name) put → CommandEnds words Done old new
+put_end words c name put bytes mid old new is plan few p e text disk f =
+    done (puts name bytes) (plan_of words old.shelf.file c (puts name bytes) is plan) (took_puts name bytes new.shelf.taken (λ h. few (sym p.taken ∙ h))) (has_put name put bytes mid old new p e text disk f)
 
 -- a file that is kept, and the others
 every_file : (name n : List ℕ) (b : Bool) (a c : Option (List ℕ)) → (b ≡ true → n ≡ name) → (b ≡ false → n ≢ name) → (n ≡ name → a ≡ c) → (n ≢ name → a ≡ c) → a ≡ c
@@ -223,11 +220,11 @@ broken_put name put bytes mid old new p e text disk (inl kept) =
 broken_put name put bytes mid old new p e text disk (inr (n, f)) =
     inr (n, has_put name (take n put) (take n bytes) mid old new (record { before = p.before; others = p.others; taken = p.taken }) (ap (take n) e) text disk f)
 
-pub put_broken : (words : List (List ℕ)) (c : CompileUser) (put bytes : List ℕ) (mid : Files) (old new : Outside) → IsCompileUser words c → IsUserPlan old.shelf.file c (puts c.image bytes) → mid.taken ≢ TOO_LONG
-    → Put c.image put old.shelf mid new.shelf → put ≡ bytes → new.sink.text ≡ old.sink.text → SameSectors old.disk new.disk
-    → (new.shelf.file c.image ≡ mid.file c.image) ⊎ ((n : ℕ) × (new.shelf.file c.image ≡ retold (mid.file c.image) (take n put))) → CommandEnds words Shelf old new
-put_broken words c put bytes mid old new is plan few p e text disk f =
-    done (puts c.image bytes) (plan_of_user words old.shelf.file c (puts c.image bytes) is plan) (took_puts c.image bytes new.shelf.taken (λ h. few (sym p.taken ∙ h))) (broken_put c.image put bytes mid old new p e text disk f)
+pub put_broken : (words : List (List ℕ)) (c : Command) (name put bytes : List ℕ) (mid : Files) (old new : Outside) → IsCommand words c → FilesPlan old.shelf.file c (puts name bytes) → mid.taken ≢ TOO_LONG
+    → Put name put old.shelf mid new.shelf → put ≡ bytes → new.sink.text ≡ old.sink.text → SameSectors old.disk new.disk
+    → (new.shelf.file name ≡ mid.file name) ⊎ ((n : ℕ) × (new.shelf.file name ≡ retold (mid.file name) (take n put))) → CommandEnds words Shelf old new
+put_broken words c name put bytes mid old new is plan few p e text disk f =
+    done (puts name bytes) (plan_of words old.shelf.file c (puts name bytes) is plan) (took_puts name bytes new.shelf.taken (λ h. few (sym p.taken ∙ h))) (broken_put name put bytes mid old new p e text disk f)
 
 -- The headline, from how a command ends and why.
 
@@ -241,7 +238,8 @@ all_told : (words : List (List ℕ)) (file : List ℕ → Option (List ℕ)) (b 
 all_told words file b image is told scheduled (boot other) also =
     let P : Boot → Type 0 = λ x. IsSome (file x.image) × IsSome (file x.schedule) in
     subst P (one_boot words b other is also) (is_told (file b.image) image told, is_told (file b.schedule) [] scheduled)
-all_told words file b image is told scheduled (compile_user c) also = absurd (of_one_kind words b c is also)
+all_told words file b image is told scheduled (compile_user c) also = absurd (boot_or_user words b c is also)
+all_told words file b image is told scheduled (compile_kernel c) also = absurd (boot_or_kernel words b c is also)
 
 -- the files come to the kernel
 comes_to_kernel : (file : List ℕ → Option (List ℕ)) (b : Boot) (image source : List ℕ) (u : CUnit) → file b.image ≡ Some image → file b.schedule ≡ Some [] → length image < TOO_LONG

@@ -1,11 +1,13 @@
 mod CvmRuns
 mod Endings
 mod Fields
+mod FirstBad
 mod Five
 mod Four
 mod FourBytes
 mod GlobalRows
 mod Globals
+mod KernelPlans
 mod KernelTurn
 mod OneTurn
 mod Plans

@@ -5,7 +5,7 @@ use Rattle.std.specs.List.{prefix_len}
 use Rattle.std.specs.Char.{is_ascii_digit}
 use Rattle.std.proofs.lemmas.Fmt.{decimal_injective}
 use Rattle.cvm_text.specs.Number.{number_at}
-use Rattle.cvm_shell.specs.Command.{Boot, CompileUser, IsBoot, IsCompileUser}
+use Rattle.cvm_shell.specs.Command.{Boot, CompileUser, CompileKernel, Command, boot, compile_user, compile_kernel, IsBoot, IsCompileUser, IsCompileKernel, IsCommand}
 
 -- that the numbers which are spelled are read, as the reader of numbers says it
 abbrev pub AreRead : Type 0
@@ -71,6 +71,46 @@ words_of_one_user words word kind text image e c is =
     let user_of : List ℕ → List ℕ → CompileUser = λ x y. record { text = x; image = y } in
     ap (λ x. Some (user_of x image)) t ∙ ap (λ x. Some (user_of c.text x)) i
 
--- no words are both
-pub of_one_kind : (words : List (List ℕ)) (b : Boot) (c : CompileUser) → IsBoot words b → IsCompileUser words c → ⊥
-of_one_kind words b c boot user = let e = sym boot.spelled ∙ user.spelled in cc
+-- these words are a compilation of a kernel
+pub words_of_kernel : (words : List (List ℕ)) (word kind source object : List ℕ) → words ≡ word ∷ kind ∷ source ∷ object ∷ [] → word ≡ codes "compile" → kind ≡ codes "kernel" → IsCompileKernel words (record { source = source; object = object })
+words_of_kernel words word kind source object e w k = record { spelled = cc }
+
+-- and of no other
+pub words_of_one_kernel : (words : List (List ℕ)) (word kind source object : List ℕ) → words ≡ word ∷ kind ∷ source ∷ object ∷ [] → (c : CompileKernel) → IsCompileKernel words c → Some (record { source = source; object = object }) ≡ Some c
+words_of_one_kernel words word kind source object e c is =
+    let spelled : word ∷ kind ∷ source ∷ object ∷ [] ≡ codes "compile" ∷ codes "kernel" ∷ c.source ∷ c.object ∷ [] = sym e ∙ is.spelled in
+    let s : source ≡ c.source = cc in
+    let o : object ≡ c.object = cc in
+    let kernel_of : List ℕ → List ℕ → CompileKernel = λ x y. record { source = x; object = y } in
+    ap (λ x. Some (kernel_of x object)) s ∙ ap (λ x. Some (kernel_of c.source x)) o
+
+-- no words are of two kinds
+pub boot_or_user : (words : List (List ℕ)) (b : Boot) (c : CompileUser) → IsBoot words b → IsCompileUser words c → ⊥
+boot_or_user words b c one other = let e = sym one.spelled ∙ other.spelled in cc
+
+pub boot_or_kernel : (words : List (List ℕ)) (b : Boot) (c : CompileKernel) → IsBoot words b → IsCompileKernel words c → ⊥
+boot_or_kernel words b c one other = let e = sym one.spelled ∙ other.spelled in cc
+
+user_or_kernel : (words : List (List ℕ)) (c : CompileUser) (d : CompileKernel) → IsCompileUser words c → IsCompileKernel words d → ⊥
+user_or_kernel words c d one other = let e = sym one.spelled ∙ other.spelled in cc
+
+-- the words of a command are those of one
+pub one_boot : (words : List (List ℕ)) (b c : Boot) → IsBoot words b → IsBoot words c → b ≡ c
+one_boot words b c is other = words_of_one words (codes "boot") b.image b.schedule _ _ b.turns b.steps is.spelled refl is.turns_fit refl is.steps_fit c other
+
+one_user : (words : List (List ℕ)) (c d : CompileUser) → IsCompileUser words c → IsCompileUser words d → c ≡ d
+one_user words c d is other = let e : Some c ≡ Some d = words_of_one_user words (codes "compile") (codes "user") c.text c.image is.spelled d other in cc
+
+one_kernel : (words : List (List ℕ)) (c d : CompileKernel) → IsCompileKernel words c → IsCompileKernel words d → c ≡ d
+one_kernel words c d is other = let e : Some c ≡ Some d = words_of_one_kernel words (codes "compile") (codes "kernel") c.source c.object is.spelled d other in cc
+
+pub one_command : (words : List (List ℕ)) (c d : Command) → IsCommand words c → IsCommand words d → c ≡ d
+one_command words (boot b) (boot c) is other = ap (λ (x : Boot). boot x) (one_boot words b c is other)
+one_command words (boot b) (compile_user c) is other = absurd (boot_or_user words b c is other)
+one_command words (boot b) (compile_kernel c) is other = absurd (boot_or_kernel words b c is other)
+one_command words (compile_user c) (boot b) is other = absurd (boot_or_user words b c other is)
+one_command words (compile_user c) (compile_user d) is other = ap (λ (x : CompileUser). compile_user x) (one_user words c d is other)
+one_command words (compile_user c) (compile_kernel d) is other = absurd (user_or_kernel words c d is other)
+one_command words (compile_kernel c) (boot b) is other = absurd (boot_or_kernel words b c other is)
+one_command words (compile_kernel c) (compile_user d) is other = absurd (user_or_kernel words d c other is)
+one_command words (compile_kernel c) (compile_kernel d) is other = ap (λ (x : CompileKernel). compile_kernel x) (one_kernel words c d is other)

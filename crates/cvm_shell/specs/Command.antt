@@ -15,10 +15,16 @@ pub record CompileUser : Type 0 where
   pub text : List ℕ
   pub image : List ℕ
 
--- a command, of either kind
+-- compile the source of a kernel, and put the object that it gives
+pub record CompileKernel : Type 0 where
+  pub source : List ℕ
+  pub object : List ℕ
+
+-- a command, of one of the kinds
 pub data Command : Type 0 where
   boot : Boot → Command
   compile_user : CompileUser → Command
+  compile_kernel : CompileKernel → Command
 
 -- the words as texts
 abbrev pub texts : List (String Global) → List (List ℕ)
@@ -35,10 +41,15 @@ pub record IsBoot (words : List (List ℕ)) (b : Boot) : Type 0 where
 pub record IsCompileUser (words : List (List ℕ)) (c : CompileUser) : Type 0 where
   pub spelled : words ≡ codes "compile" ∷ codes "user" ∷ c.text ∷ c.image ∷ []
 
+-- compile kernel SRC OBJ
+pub record IsCompileKernel (words : List (List ℕ)) (c : CompileKernel) : Type 0 where
+  pub spelled : words ≡ codes "compile" ∷ codes "kernel" ∷ c.source ∷ c.object ∷ []
+
 -- the words are this command
 abbrev pub IsCommand : List (List ℕ) → Command → Type 0
 IsCommand words (boot b) = IsBoot words b
 IsCommand words (compile_user c) = IsCompileUser words c
+IsCommand words (compile_kernel c) = IsCompileKernel words c
 
 -- no command has these words
 abbrev pub IsNoCommand : List (List ℕ) → Type 0

@@ -7,8 +7,18 @@ use Rattle.c0_tree.specs.FirstTree.{CUnit}
 use Rattle.first_source.specs.Reading.{Reads, Breaks}
 use Rattle.mips_asm.specs.Assembled.{assembled}
 use Rattle.mips_asm.specs.declared.fault.AsmFault.{AsmFault}
-use Rattle.cvm_shell.specs.Command.{Boot, CompileUser, Command, boot, compile_user, IsBoot, IsCompileUser, IsCommand, IsNoCommand}
-use Rattle.cvm_shell.specs.Refusal.{Refusal, bad_text, not_built, too_long}
+use Rattle.c0_tree.specs.Tree.{CUnit as Unit}
+use Rattle.c0_parser.specs.Faults.{FaultIs}
+use Rattle.c0_parser.specs.declared.fault.ReadFault.{ReadFault}
+use Rattle.c0_parser.specs.declared.fault.ReadFault.TheVariants as read
+use Rattle.c0_types.specs.declared.fault.TypeFault.{TypeFault}
+use Rattle.c0_types.specs.declared.fault.TypeFault.TheVariants as typing
+use Rattle.c0_types.specs.Front.{IsUnitOf, IsMistyped}
+use Rattle.c0_types.specs.declared.source_fault.SourceFault.TheVariants.{Reading as BadReading, Typing as BadTyping}
+use Rattle.object_file.specs.Format.{spelling}
+use Rattle.kernel_linker.specs.Object.{object_of}
+use Rattle.cvm_shell.specs.Command.{Boot, CompileUser, CompileKernel, Command, boot, compile_user, compile_kernel, IsBoot, IsCompileUser, IsCompileKernel, IsCommand, IsNoCommand}
+use Rattle.cvm_shell.specs.Refusal.{Refusal, bad_text, bad_source, not_built, too_long}
 use Rattle.cvm_shell.specs.Image.{Reading, gives, refuses as faulty, reading}
 
 -- what is to be done
@@ -62,16 +72,32 @@ pub data AfterText (name text : List ℕ) : Plan → Type 0 where
 abbrev pub UserPlan : (List ℕ → Option (List ℕ)) → CompileUser → Plan → Type 0
 UserPlan file c p = Got (file c.text) (AfterText c.image) p
 
+-- the most bytes that a kernel's source has
+abbrev pub MOST_SOURCE : ℕ
+MOST_SOURCE = 1048576
+
+-- AFTER THE SOURCE of a kernel it is read, its tree is checked, and its unit is compiled
+pub data AfterKernel (name source : List ℕ) : Plan → Type 0 where
+  unread : (f : ReadFault) → f ≢ read.Memory → FaultIs source f → AfterKernel name source (refuses (bad_source (BadReading f)))
+  mistyped : (f : TypeFault) → f ≢ typing.Memory → length source ≤ MOST_SOURCE → IsMistyped source f → AfterKernel name source (refuses (bad_source (BadTyping f)))
+  compiles : (u : Unit) → length source ≤ MOST_SOURCE → IsUnitOf source u → AfterKernel name source (puts name (spelling (object_of source u)))
+
+-- compile kernel SRC OBJ gets the source
+abbrev pub KernelPlan : (List ℕ → Option (List ℕ)) → CompileKernel → Plan → Type 0
+KernelPlan file c p = Got (file c.source) (AfterKernel c.object) p
+
 -- THE PLAN that words and files come to
 pub data ComesTo (words : List (List ℕ)) (file : List ℕ → Option (List ℕ)) : Plan → Type 0 where
   no_command : IsNoCommand words → ComesTo words file bad_words
   boot_plan : (b : Boot) (p : Plan) → IsBoot words b → BootPlan file b p → ComesTo words file p
   user_plan : (c : CompileUser) (p : Plan) → IsCompileUser words c → UserPlan file c p → ComesTo words file p
+  kernel_plan : (c : CompileKernel) (p : Plan) → IsCompileKernel words c → KernelPlan file c p → ComesTo words file p
 
 -- the files that a command gets are told
 abbrev pub GetsTold : (List ℕ → Option (List ℕ)) → Command → Type 0
 GetsTold file (boot b) = IsSome (file b.image) × IsSome (file b.schedule)
 GetsTold file (compile_user c) = IsSome (file c.text)
+GetsTold file (compile_kernel c) = IsSome (file c.source)
 
 abbrev pub AllTold : List (List ℕ) → (List ℕ → Option (List ℕ)) → Type 0
 AllTold words file = (c : Command) → IsCommand words c → GetsTold file c

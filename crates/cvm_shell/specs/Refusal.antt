@@ -1,14 +1,21 @@
 -- The refusals, with the row and the status of each.
-use Rattle.std.specs.Prelude.{ℕ, ℤ, List, [], ◌∷◌, ◌++◌, Option, Some, None, decimal, codes}
+use Rattle.std.specs.Prelude.{ℕ, ℤ, List, [], ◌∷◌, ◌++◌, Option, Some, None, option_map, decimal, codes}
 use Rattle.std.specs.Fmt.{signed_decimal}
 use Rattle.mips_asm.specs.Fault.{asm_fault_number, asm_fault_place, asm_fault_line, asm_fault_value}
 use Rattle.mips_asm.specs.declared.fault.AsmFault.{AsmFault}
+use Rattle.c0_tree.specs.declared.tree.Span.{Span}
+use Rattle.c0_parser.specs.Faults.{read_fault_number, read_fault_place}
+use Rattle.c0_types.specs.Answer.{type_fault_number, type_fault_span, type_fault_line}
+use Rattle.c0_types.specs.declared.source_fault.SourceFault.{SourceFault}
+use Rattle.c0_types.specs.declared.source_fault.SourceFault.TheVariants.{Reading, Typing}
 use Rattle.cvm_shell.specs.declared.status.Status.{Status}
 use Rattle.cvm_shell.specs.declared.status.Status.TheVariants.{Refused, Shelf}
 
 pub data Refusal : Type 0 where
   -- 1 to 7: a user's text has no words
   bad_text : (fault : AsmFault) → Refusal
+  -- 10 to 14, and 20 to 35: a kernel's source has no tree, or its tree is not typed
+  bad_source : (fault : SourceFault) → Refusal
   -- 50: the first four bytes are there, and aren't those of an image
   magic : Refusal
   -- 51: the field or part that begins at this byte isn't whole
@@ -37,9 +44,25 @@ text_fault_row f =
     codes "refused " ++ decimal (asm_fault_number f) ++ field_text (asm_fault_place f) ++ field_text (asm_fault_line f)
     ++ signed_field_text (asm_fault_value f) ++ codes "\n"
 
+-- where a span starts
+abbrev pub start_of : Option Span → Option ℕ
+start_of span = option_map (λ s. s.start) span
+
+-- where it ends
+abbrev pub end_of : Option Span → Option ℕ
+end_of span = option_map (λ s. s.end) span
+
+-- the row of a fault of a kernel's source: its number, and the byte that it names; or the span that it names, and the line
+abbrev pub source_fault_row : SourceFault → List ℕ
+source_fault_row (Reading f) = codes "refused " ++ decimal (read_fault_number f) ++ field_text (read_fault_place f) ++ codes "\n"
+source_fault_row (Typing f) =
+    codes "refused " ++ decimal (type_fault_number f) ++ field_text (start_of (type_fault_span f)) ++ field_text (end_of (type_fault_span f))
+    ++ field_text (type_fault_line f) ++ codes "\n"
+
 -- the row that is printed
 abbrev pub refusal_text : Refusal → List ℕ
 refusal_text (bad_text f) = text_fault_row f
+refusal_text (bad_source f) = source_fault_row f
 refusal_text magic = codes "refused 50\n"
 refusal_text (truncated at) = codes "refused 51 " ++ decimal at ++ codes "\n"
 refusal_text (trailing at) = codes "refused 52 " ++ decimal at ++ codes "\n"

@@ -13,6 +13,10 @@ use Rattle.cvm_outside.specs.declared.shelf.ShelfFault.TheVariants as fault
 use Rattle.c0_tree.specs.FirstTree.{CUnit}
 use Rattle.mips_asm.specs.declared.fault.AsmFault.{AsmFault}
 use Rattle.mips_asm.specs.declared.fault.AsmFault.TheVariants as text
+use Rattle.c0_parser.specs.declared.fault.ReadFault.TheVariants as read
+use Rattle.c0_types.specs.declared.fault.TypeFault.TheVariants as typing
+use Rattle.c0_types.specs.declared.source_fault.SourceFault.{SourceFault}
+use Rattle.c0_types.specs.declared.source_fault.SourceFault.TheVariants.{Reading, Typing}
 use Rattle.cvm_shell.specs.declared.boot.Stop.{Stop}
 use Rattle.cvm_shell.specs.declared.boot.Stop.TheVariants as stop
 use Rattle.cvm_shell.specs.declared.refusal.Refusal.TheVariants as refusal
@@ -21,8 +25,8 @@ use Rattle.cvm_shell.specs.declared.status.Status.TheVariants.{Done, StepLimit, 
 use Rattle.std.specs.Global.{Vec}
 use Rattle.c0_tree.specs.FirstView.{unit_view}
 use Rattle.c0_tree.specs.declared.tree.Unit.{Unit as Tree}
-use Rattle.cvm_shell.specs.Command.{Boot, CompileUser, Command, boot, compile_user, IsCommand}
-use Rattle.cvm_shell.specs.Plan.{Plan, puts, boots, BootPlan, UserPlan, GetsTold, IsPlan}
+use Rattle.cvm_shell.specs.Command.{Boot, CompileUser, CompileKernel, Command, boot, compile_user, compile_kernel, IsCommand}
+use Rattle.cvm_shell.specs.Plan.{Plan, puts, boots, BootPlan, UserPlan, KernelPlan, GetsTold, IsPlan}
 use Rattle.cvm_shell.specs.Outside.{Drive, Outside}
 use Rattle.cvm_shell.specs.Boot.{Ran, GoesOn}
 use Rattle.cvm_shell.specs.Outcome.{CommandEnds}
@@ -37,6 +41,12 @@ stop_of fault.Memory = stop.Memory
 abbrev pub text_stop : AsmFault → Stop
 text_stop text.Memory = stop.Memory
 text_stop f = stop.Refused (refusal.BadText f)
+
+-- what a fault of a kernel's source comes to
+abbrev pub source_stop : SourceFault → Stop
+source_stop (Reading read.Memory) = stop.Memory
+source_stop (Typing typing.Memory) = stop.Memory
+source_stop f = stop.Refused (refusal.BadSource f)
 
 -- what a stop says of the shelf's count of faults
 abbrev pub StopCount : ℕ → ℕ → Stop → Type 0
@@ -60,12 +70,15 @@ KernelEnds u turns steps other old new = ⊥
 abbrev pub EndsAs : {A : Type 0} → Command → (Drive → A → Outside) → Status → (old new : A) → Type 0
 EndsAs c see status old new = (words : List (List ℕ)) (disk : Drive) → IsCommand words c → CommandEnds words status (see disk old) (see disk new)
 
--- the plans of the two commands, by what their stages found
+-- the plans of the commands, by what their stages found
 abbrev pub booted : Boot → Tree → Plan
 booted b unit = boots b (unit_view unit)
 
 abbrev pub compiled : CompileUser → Vec ℕ → Plan
 compiled c image = puts c.image image.items
+
+abbrev pub linkable : CompileKernel → Vec ℕ → Plan
+linkable c object = puts c.object object.items
 
 -- what the files of a command come to
 abbrev pub IsBootPlan : (List ℕ → Option (List ℕ)) → Boot → Plan → Type 0
@@ -73,6 +86,9 @@ IsBootPlan file b p = IsPlan (GetsTold file (boot b)) (BootPlan file b) p
 
 abbrev pub IsUserPlan : (List ℕ → Option (List ℕ)) → CompileUser → Plan → Type 0
 IsUserPlan file c p = IsPlan (GetsTold file (compile_user c)) (UserPlan file c) p
+
+abbrev pub IsKernelPlan : (List ℕ → Option (List ℕ)) → CompileKernel → Plan → Type 0
+IsKernelPlan file c p = IsPlan (GetsTold file (compile_kernel c)) (KernelPlan file c) p
 
 -- the words of a kernel's globals stand in memory from an address on, with the values that its dispatch leaves
 abbrev pub HasGlobals : CUnit → List ℕ → ℕ → Type 0

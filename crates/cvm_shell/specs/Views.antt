@@ -8,10 +8,11 @@ use Rattle.cvm_shell.specs.Refusal as refusal
 use Rattle.cvm_shell.specs.Plan.{Plan, refuses}
 use Rattle.cvm_shell.specs.declared.command.Boot.{Boot}
 use Rattle.cvm_shell.specs.declared.command.CompileUser.{CompileUser}
+use Rattle.cvm_shell.specs.declared.command.CompileKernel.{CompileKernel}
 use Rattle.cvm_shell.specs.declared.command.Command.{Command}
 use Rattle.cvm_shell.specs.declared.command.Command.TheVariants as command_code
 use Rattle.cvm_shell.specs.declared.refusal.Refusal.{Refusal}
-use Rattle.cvm_shell.specs.declared.refusal.Refusal.TheVariants.{BadText, Magic, Truncated, Trailing, Parameter, NotBuilt, TooLong}
+use Rattle.cvm_shell.specs.declared.refusal.Refusal.TheVariants.{BadText, BadSource, Magic, Truncated, Trailing, Parameter, NotBuilt, TooLong}
 use Rattle.cvm_shell.specs.declared.boot.Stop.{Stop}
 use Rattle.cvm_shell.specs.declared.boot.Stop.TheVariants.{Refused, Shelf, Memory}
 
@@ -23,14 +24,20 @@ boot_view b = record { image = b.image.now; schedule = b.schedule.now; turns = b
 abbrev pub user_view : CompileUser → command.CompileUser
 user_view c = record { text = c.text.now; image = c.image.now }
 
+-- a compilation of a kernel, with its names as lists of bytes
+abbrev pub kernel_view : CompileKernel → command.CompileKernel
+kernel_view c = record { source = c.source.now; object = c.object.now }
+
 -- a command
 abbrev pub command_view : Command → command.Command
 command_view (command_code.Boot b) = command.boot (boot_view b)
 command_view (command_code.CompileUser c) = command.compile_user (user_view c)
+command_view (command_code.CompileKernel c) = command.compile_kernel (kernel_view c)
 
 -- a refusal
 abbrev pub refusal_view : Refusal → refusal.Refusal
 refusal_view (BadText fault) = refusal.bad_text fault
+refusal_view (BadSource fault) = refusal.bad_source fault
 refusal_view Magic = refusal.magic
 refusal_view (Truncated at) = refusal.truncated at
 refusal_view (Trailing at) = refusal.trailing at

@@ -23,7 +23,7 @@ use first_machine::Machine;
 use first_source::{SourceFault, breaks_once, read};
 use std::alloc::Global;
 
-/// Why no kernel is run, or no image of a user is put.
+/// Why no kernel is run, and no image of a user and no object of a kernel is put.
 #[derive(Clone, Copy, Debug, PartialEq, Eq)]
 pub enum Stop {
     /// A file has a named fault.

@@ -1,7 +1,7 @@
 // The words of a command.
 ghost use Rattle.std.specs.Prelude.{◌≡◌, ◌<◌, ◌≤◌, ◌^◌, ℕ, IfSome, IfNone, MatchOption, decimal, Some, option_map};
 ghost use Rattle.cvm_shell.specs.Command as command;
-ghost use Rattle.cvm_shell.specs.Views.{boot_view, user_view, command_view};
+ghost use Rattle.cvm_shell.specs.Views.{boot_view, user_view, kernel_view, command_view};
 
 use cvm_text::{read_decimal, spelled_numbers_are_read};
 
@@ -30,6 +30,15 @@ pub struct CompileUser<'a> {
     pub image: &'a str,
 }
 
+/// The command `compile kernel SRC OBJ`.
+#[derive(Clone, Copy, Drop)]
+pub struct CompileKernel<'a> {
+    /// The name of the source's file.
+    pub source: &'a str,
+    /// The name of the object's file.
+    pub object: &'a str,
+}
+
 /// A command.
 #[derive(Clone, Copy, Drop)]
 pub enum Command<'a> {
@@ -37,6 +46,8 @@ pub enum Command<'a> {
     Boot(Boot<'a>),
     /// Assembles the text of a user, and puts its image.
     CompileUser(CompileUser<'a>),
+    /// Compiles the source of a kernel, and puts its object.
+    CompileKernel(CompileKernel<'a>),
 }
 
 /// Reads the words of a command, None where they have no form of one.
@@ -48,8 +59,11 @@ pub fn read_command(words: &Vec<String>) -> Option<Command<'_>>
     if let Some(boot) = read_boot(words) {
         return Some(Command::Boot(boot));
     }
-    let user = read_compile_user(words)?;
-    Some(Command::CompileUser(user))
+    if let Some(user) = read_compile_user(words) {
+        return Some(Command::CompileUser(user));
+    }
+    let kernel = read_compile_kernel(words)?;
+    Some(Command::CompileKernel(kernel))
 }
 
 /// Reads the words of a boot, None where they have no form of one.
@@ -92,6 +106,27 @@ pub fn read_compile_user(words: &Vec<String>) -> Option<CompileUser<'_>>
     Some(CompileUser {
         text: text.as_str(),
         image: image.as_str(),
+    })
+}
+
+/// Reads the words of a compilation of a kernel, None where they aren't those of one.
+pub fn read_compile_kernel(words: &Vec<String>) -> Option<CompileKernel<'_>>
+    ensures found { IfSome result (λ c. command.IsCompileKernel (command.texts words.now.items) (kernel_view c)) }
+    ensures only { (c : command.CompileKernel) → command.IsCompileKernel (command.texts words.now.items) c → option_map kernel_view result ≡ Some c }
+    ensures none { IfNone result ((c : command.CompileKernel) → command.IsCompileKernel (command.texts words.now.items) c → ⊥) }
+{
+    let [word, kind, source, object] = words.as_slice() else {
+        return None;
+    };
+    if word.as_str() != "compile" {
+        return None;
+    }
+    if kind.as_str() != "kernel" {
+        return None;
+    }
+    Some(CompileKernel {
+        source: source.as_str(),
+        object: object.as_str(),
     })
 }
 

@@ -14,12 +14,13 @@ ghost use Rattle.cvm_shell.specs.Image.{reading, gives};
 ghost use Rattle.cvm_shell.specs.Outcome.{Outcome, Causes};
 ghost use Rattle.cvm_shell.specs.Outside.{Drive, seen, beside};
 ghost use Rattle.cvm_shell.specs.Stages.{EndsAs};
-ghost use Rattle.cvm_shell.specs.Views.{boot_view, user_view, stated_row, stated_status};
+ghost use Rattle.cvm_shell.specs.Views.{boot_view, user_view, kernel_view, stated_row, stated_status};
 
 pub mod assembly;
 pub mod boot;
 pub mod command;
 pub mod image;
+pub mod object;
 pub mod refusal;
 pub mod report;
 pub mod status;
@@ -27,19 +28,23 @@ pub mod status;
 pub use assembly::{user_image, words_have_four_bytes};
 pub use boot::{Stop, kernels_run_once};
 use boot::{plan, run_kernel};
-pub use command::{Boot, Command, CompileUser, read_boot, read_command, read_compile_user};
+pub use command::{
+    Boot, Command, CompileKernel, CompileUser, read_boot, read_command, read_compile_kernel,
+    read_compile_user,
+};
 use cvm_outside::{Sectors, Shelf, Sink};
 pub use image::{images_are_read, read_image};
+pub use object::kernel_object;
 pub use refusal::Refusal;
 pub use status::Status;
 use std::alloc::Global;
 
 /// Runs the command of these words over a shelf of files, a sink of text and a disk.
 ///
-/// The commands are `boot IMAGE SCHEDULE TURNS STEPS` and `compile user ASM IMG`. The status says how
+/// The commands are `boot IMAGE SCHEDULE TURNS STEPS`, `compile user ASM IMG` and `compile kernel SRC OBJ`. The status says how
 /// it ended; `Words`, `Refused`, and `Shelf` where a file is too long, print a row of their own, and a
 /// sink that fails is `Sink`, also in place of another status whose text it was to take. No file
-/// changes but the one that a `compile user` names to be put.
+/// changes but the one that a `compile user` or a `compile kernel` names to be put.
 pub fn run<S: Shelf, O: Sink, D: Sectors>(
     alloc: Global,
     words: &Vec<String>,
@@ -61,6 +66,7 @@ pub fn run<S: Shelf, O: Sink, D: Sectors>(
         None => say(out, b"bad words\n", Status::Words),
         Some(Command::Boot(boot)) => run_boot(alloc, &boot, shelf, out),
         Some(Command::CompileUser(names)) => compile_user(alloc, &names, shelf, out),
+        Some(Command::CompileKernel(names)) => compile_kernel(alloc, &names, shelf, out),
     }
 }
 
@@ -95,6 +101,28 @@ fn compile_user<S: Shelf, O: Sink>(
         Err(Stop::Memory) => return Status::Memory,
     };
     match shelf.put(names.image, &image) {
+        Ok(()) => Status::Done,
+        Err(_) => Status::Shelf,
+    }
+}
+
+// Puts the object of a kernel, whose source is got, read, checked and compiled.
+fn compile_kernel<S: Shelf, O: Sink>(
+    alloc: Global,
+    names: &CompileKernel,
+    shelf: &mut S,
+    out: &mut O,
+) -> Status
+    ensures ends { EndsAs (command.compile_kernel (kernel_view names.now)) (beside S.Shelf O.Sink) result (shelf.old, out.old) (shelf.new, out.new) }
+    ensures causes { (disk : Drive) → Causes (beside S.Shelf O.Sink disk) result (shelf.old, out.old) (shelf.new, out.new) }
+{
+    let object = match kernel_object(alloc, names, shelf) {
+        Ok(object) => object,
+        Err(Stop::Refused(refusal)) => return refuse(&refusal, out),
+        Err(Stop::Shelf) => return Status::Shelf,
+        Err(Stop::Memory) => return Status::Memory,
+    };
+    match shelf.put(names.object, &object) {
         Ok(()) => Status::Done,
         Err(_) => Status::Shelf,
     }

@@ -1,10 +1,14 @@
 // The refusals, with the row and the status of each.
 ghost use Rattle.std.specs.Prelude.{◌≡◌, ◌≢◌, ◌≤◌, ◌+◌, ◌++◌, length, codes, decimal};
-ghost use Rattle.cvm_shell.specs.Refusal.{refusal_text, refusal_status, field_text, signed_field_text, text_fault_row};
+ghost use Rattle.c0_types.specs.declared.source_fault.SourceFault.TheVariants.{Reading, Typing};
+ghost use Rattle.cvm_shell.specs.Refusal.{refusal_text, refusal_status, field_text, signed_field_text, start_of, end_of, text_fault_row, source_fault_row};
 ghost use Rattle.cvm_shell.specs.Views.{refusal_view};
 
 use crate::status::Status;
 use arrayvec::ArrayString;
+use c0_parser::ReadFault;
+use c0_tree::Span;
+use c0_types::{SourceFault, TypeFault};
 use cvm_text::{decimal, decimal_u64};
 use mips_asm::AsmFault;
 
@@ -14,6 +18,8 @@ use mips_asm::AsmFault;
 pub enum Refusal {
     /// A user's text has no words.
     BadText(AsmFault),
+    /// A kernel's source has no tree, or its tree is not typed.
+    BadSource(SourceFault),
     /// The first four bytes are there, and aren't those of an image.
     Magic,
     /// The field or part that begins at this byte isn't whole.
@@ -35,6 +41,7 @@ impl Refusal {
     {
         match self {
             Refusal::BadText(fault) => text_row(*fault),
+            Refusal::BadSource(fault) => source_row(*fault),
             Refusal::Magic => plain_row("refused 50\n"),
             Refusal::Truncated { at } => numbered_row("refused 51 ", *at),
             Refusal::Trailing { at } => numbered_row("refused 52 ", *at),
@@ -133,4 +140,53 @@ fn text_row(fault: AsmFault) -> ArrayString<96>
     put_signed_field(&mut row, fault.value());
     row.push_str("\n");
     row
+}
+
+// The row of a fault of a kernel's source.
+fn source_row(fault: SourceFault) -> ArrayString<96>
+    ensures { result.bytes ≡ source_fault_row fault }
+{
+    match fault {
+        SourceFault::Reading(fault) => reading_row(fault),
+        SourceFault::Typing(fault) => typing_row(fault),
+    }
+}
+
+// The row of a source that has no tree.
+fn reading_row(fault: ReadFault) -> ArrayString<96>
+    ensures { result.bytes ≡ source_fault_row (Reading fault) }
+{
+    let number = decimal_u64(u64::from(fault.number()));
+    let mut row = ArrayString::new();
+    row.push_str("refused ");
+    row.push_str(number.as_str());
+    put_field(&mut row, fault.at());
+    row.push_str("\n");
+    row
+}
+
+// The row of a source whose tree is not typed.
+fn typing_row(fault: TypeFault) -> ArrayString<96>
+    ensures { result.bytes ≡ source_fault_row (Typing fault) }
+{
+    let number = decimal_u64(u64::from(fault.number()));
+    let mut row = ArrayString::new();
+    row.push_str("refused ");
+    row.push_str(number.as_str());
+    put_span(&mut row, fault.span());
+    put_field(&mut row, fault.line());
+    row.push_str("\n");
+    row
+}
+
+// Appends the two ends of a span, if there is one.
+fn put_span(row: &mut ArrayString<96>, span: Option<Span>)
+    requires { length row.old.bytes ≤ 28 }
+    ensures bytes { row.new.bytes ≡ row.old.bytes ++ field_text (start_of span) ++ field_text (end_of span) }
+    ensures few { length row.new.bytes ≤ length row.old.bytes + 42 }
+{
+    if let Some(span) = span {
+        put_field(row, Some(u64::from(span.start)));
+        put_field(row, Some(u64::from(span.end)));
+    }
 }

@@ -1,6 +1,6 @@
-// Reads the bytes of files of cases as boot images, and prints the parameters, the source, the words and the users of each, and whether
-// writing it gives the same bytes again; or the refusal of docs/REFUSALS.md. `case_file` says how a case is written; the kind of each
-// is `image`.
+// Reads the bytes of files of cases, and prints what each holds, or the refusal of docs/REFUSALS.md. `case_file` says how a case is
+// written. Its kind is `image`, a boot image (its parameters, source, words and users, and whether writing it gives the same bytes
+// again), `params`, the parameters of a system, or `user`, the words of a user.
 #![tactic(auto)]
 
 use boot_image::{Image, ImageFault, read, write};
@@ -8,6 +8,7 @@ use case_file::{Case, cases};
 use std::alloc::{AllocError, Global};
 use std::fmt::Write;
 use std::{env, fs, io};
+use system_files::{FileFault, params_of, user_words};
 
 // The numbers of words of the users.
 fn put_users(out: &mut String, image: &Image) -> Result<(), AllocError> {
@@ -70,6 +71,44 @@ fn put_answer(alloc: Global, out: &mut String, bytes: &[u8]) -> Result<(), Alloc
     }
 }
 
+// Why a file has no parameters or no words.
+fn put_file_fault(out: &mut String, fault: FileFault) -> Result<(), AllocError> {
+    write!(out, "{}", fault.number())?;
+    for field in &fault.fields() {
+        write!(out, " {field}")?;
+    }
+    out.push('\n')
+}
+
+// What is printed of a text that is read as parameters.
+fn put_params(out: &mut String, text: &[u8]) -> Result<(), AllocError> {
+    match params_of(text) {
+        Ok(params) => {
+            writeln!(
+                out,
+                "pages {} frames {} heap {} stack {}",
+                params.pages, params.frames, params.heap, params.stack
+            )?;
+            Ok(())
+        }
+        Err(fault) => put_file_fault(out, fault),
+    }
+}
+
+// What is printed of the file of user 3.
+fn put_user(alloc: Global, out: &mut String, bytes: &[u8]) -> Result<(), AllocError> {
+    match user_words(alloc, 3, bytes) {
+        Ok(words) => {
+            write!(out, "words, {}:", words.len())?;
+            for word in &words {
+                write!(out, " {word:08x}")?;
+            }
+            out.push('\n')
+        }
+        Err(fault) => put_file_fault(out, fault),
+    }
+}
+
 // A case, and what is answered.
 fn put_case(alloc: Global, out: &mut String, case: &Case) -> Result<(), AllocError> {
     let kind = case.kind.as_str();
@@ -77,6 +116,8 @@ fn put_case(alloc: Global, out: &mut String, case: &Case) -> Result<(), AllocErr
     writeln!(out, "== {kind} {name}")?;
     match kind {
         "image" => put_answer(alloc, out, &case.source),
+        "params" => put_params(out, &case.source),
+        "user" => put_user(alloc, out, &case.source),
         _ => out.push_str("no such kind\n"),
     }
 }

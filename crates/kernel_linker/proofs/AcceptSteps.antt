@@ -9,9 +9,9 @@ use Rattle.boot_image.specs.Reading.{Gives}
 use Rattle.boot_image.specs.declared.fault.ImageFault.{ImageFault}
 use Rattle.c0_tree.specs.Tree.{CUnit}
 use Rattle.c0_parser.specs.declared.fault.ReadFault.TheVariants.{Memory as NoMemory}
-use Rattle.c0_front.specs.Front.{IsUnitOf, IsFaultOf}
-use Rattle.c0_front.specs.declared.fault.SourceFault.{SourceFault}
-use Rattle.c0_front.specs.declared.fault.SourceFault.TheVariants.{Reading}
+use Rattle.c0_types.specs.Front.{IsUnitOf, IsFaultOf}
+use Rattle.c0_types.specs.declared.source_fault.SourceFault.{SourceFault}
+use Rattle.c0_types.specs.declared.source_fault.SourceFault.TheVariants.{Reading}
 use Rattle.kernel_linker.specs.Linked.{linked, sizes_of}
 use Rattle.kernel_linker.specs.Fault.{accept_source_fault, accept_file_fault}
 use Rattle.kernel_linker.specs.Accept.{System, Answers, ◌>>=◌, stored, accept_answer}

@@ -3,3 +3,4 @@ pub mod Declared
 pub mod LinkSteps
 pub mod AcceptSteps
 pub mod LinkedAccepted
+mod Joined

@@ -6,14 +6,14 @@ use Rattle.layer_map.specs.declared.params.Params.{Params}
 use Rattle.layer_map.specs.Map.{Map, ParamsInRange}
 use Rattle.boot_image.specs.Format.{HasSpelling, most_words}
 use Rattle.c0_parser.specs.declared.fault.ReadFault.TheVariants.{Memory as NoMemory}
-use Rattle.c0_front.specs.Front.{IsUnitOf, IsFaultOf}
-use Rattle.c0_front.specs.declared.fault.SourceFault.TheVariants.{Reading}
+use Rattle.c0_types.specs.Front.{IsUnitOf, IsFaultOf}
+use Rattle.c0_types.specs.declared.source_fault.SourceFault.TheVariants.{Reading}
 use Rattle.kernel_linker.specs.Answers.{Comes, GivesUnless}
 use Rattle.boot_image.specs.Parts.{Parts as Image}
 use Rattle.object_file.specs.Parts.{Parts as Object}
 use Rattle.c0_tree.specs.Tree.{CUnit}
 use Rattle.c0_unit.specs.Code.{unit_words}
-use Rattle.c0_front.specs.declared.fault.SourceFault.{SourceFault}
+use Rattle.c0_types.specs.declared.source_fault.SourceFault.{SourceFault}
 use Rattle.kernel_linker.specs.Linked.{linked, sizes_of}
 use Rattle.kernel_linker.specs.Difference.{compared}
 use Rattle.kernel_linker.specs.declared.difference.Difference.{Difference}

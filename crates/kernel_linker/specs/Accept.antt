@@ -7,7 +7,7 @@ use Rattle.boot_image.specs.Parts.{Parts as Image}
 use Rattle.boot_image.specs.declared.fault.ImageFault.{ImageFault}
 use Rattle.c0_tree.specs.Tree.{CUnit}
 use Rattle.c0_tree.specs.View.{unit_view}
-use Rattle.c0_front.specs.declared.fault.SourceFault.{SourceFault}
+use Rattle.c0_types.specs.declared.source_fault.SourceFault.{SourceFault}
 use Rattle.layer_contract.specs.declared.boot.Boot.{Boot}
 use Rattle.kernel_linker.specs.Answers.{GivesUnless, Comes}
 use Rattle.kernel_linker.specs.Linked.{linked, sizes_of}

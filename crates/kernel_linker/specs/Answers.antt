@@ -1,8 +1,8 @@
 -- What a call's result says of the answer that is due: the answer itself, or want of memory.
 use Rattle.std.specs.Prelude.{◌≡◌, ◌⊎◌, ℕ, List, Result, Ok, Err}
 use Rattle.c0_tree.specs.Tree.{CUnit}
-use Rattle.c0_front.specs.Front.{IsUnitOf, IsFaultOf}
-use Rattle.c0_front.specs.declared.fault.SourceFault.{SourceFault}
+use Rattle.c0_types.specs.Front.{IsUnitOf, IsFaultOf}
+use Rattle.c0_types.specs.declared.source_fault.SourceFault.{SourceFault}
 
 -- a result, seen by view, is the answer, or it is this fault, which is want of memory
 abbrev pub GivesUnless : {X Y F : Type 0} → (memory : F) → (X → Y) → Result X F → Result Y F → Type 0

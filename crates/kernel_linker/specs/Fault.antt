@@ -7,8 +7,8 @@ use Rattle.c0_parser.specs.Faults.{read_fault_number, read_fault_place}
 use Rattle.c0_types.specs.declared.fault.TypeFault.{TypeFault}
 use Rattle.c0_types.specs.declared.fault.TypeFault.TheVariants.{Memory as NoMemoryToType}
 use Rattle.c0_types.specs.Answer.{type_fault_number, type_fault_span, type_fault_line}
-use Rattle.c0_front.specs.declared.fault.SourceFault.{SourceFault}
-use Rattle.c0_front.specs.declared.fault.SourceFault.TheVariants.{Reading, Typing}
+use Rattle.c0_types.specs.declared.source_fault.SourceFault.{SourceFault}
+use Rattle.c0_types.specs.declared.source_fault.SourceFault.TheVariants.{Reading, Typing}
 use Rattle.boot_image.specs.declared.fault.ImageFault.{ImageFault}
 use Rattle.boot_image.specs.declared.fault.ImageFault.TheVariants.{Memory as NoMemoryForImage}
 use Rattle.boot_image.specs.Fault.{image_fault_number, image_fault_place, image_fault_which, image_fault_value}

@@ -9,7 +9,7 @@ use Rattle.boot_image.specs.Parts.{Parts as Image}
 use Rattle.object_file.specs.Parts.{Parts as Object}
 use Rattle.c0_tree.specs.Tree.{CUnit}
 use Rattle.c0_unit.specs.Code.{unit_words}
-use Rattle.c0_front.specs.declared.fault.SourceFault.{SourceFault}
+use Rattle.c0_types.specs.declared.source_fault.SourceFault.{SourceFault}
 use Rattle.kernel_linker.specs.Linked.{linked, sizes_of}
 use Rattle.kernel_linker.specs.Difference.{compared}
 use Rattle.kernel_linker.specs.declared.difference.Difference.{Difference}

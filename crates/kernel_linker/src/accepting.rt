@@ -10,7 +10,7 @@ use crate::difference::compare;
 use crate::fault::AcceptFault;
 use crate::linked::{compiled, link_words};
 use boot_image::{Image, read};
-use c0_front::read_unit;
+use c0_types::read_unit;
 use layer_contract::{Boot, LayerMaker};
 use std::alloc::Global;
 

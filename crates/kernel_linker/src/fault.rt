@@ -10,10 +10,9 @@ ghost use Rattle.kernel_linker.specs.declared.fault.AcceptFault.TheVariants as a
 use crate::difference::Difference;
 use arrayvec::ArrayVec;
 use boot_image::ImageFault;
-use c0_front::SourceFault;
 use c0_parser::ReadFault;
 use c0_tree::Span;
-use c0_types::TypeFault;
+use c0_types::{SourceFault, TypeFault};
 use std::alloc::AllocError;
 use thiserror::Error;
 

@@ -4,7 +4,7 @@ ghost use Rattle.std.specs.Prelude.{◌≡◌, ◌+◌, ◌≤◌, All, length, 
 ghost use Rattle.layer_map.specs.Map.{ParamsInRange};
 ghost use Rattle.boot_image.specs.Format.{HasSpelling, most_words};
 ghost use Rattle.c0_tree.specs.Tree.{CUnit};
-ghost use Rattle.c0_front.specs.declared.fault.SourceFault.{SourceFault};
+ghost use Rattle.c0_types.specs.declared.source_fault.SourceFault.{SourceFault};
 ghost use Rattle.kernel_linker.specs.Answers.{Comes, GivesUnless};
 ghost use Rattle.kernel_linker.specs.Link.{counted, fitting, in_range, link_answer, measured, ranged};
 ghost use Rattle.kernel_linker.specs.declared.fault.LinkFault.{LinkFault};
@@ -14,7 +14,7 @@ use crate::difference::compare;
 use crate::fault::LinkFault;
 use crate::linked::{compiled, link_words};
 use boot_image::Image;
-use c0_front::read_unit;
+use c0_types::read_unit;
 use layer_contract::LayerMaker;
 use layer_map::Params;
 use object_file::Object;

@@ -2,7 +2,7 @@
 
 ghost use Rattle.std.specs.Prelude.{◌≡◌, ◌≤◌, length, IfOk};
 ghost use Rattle.c0_tree.specs.View.{unit_view};
-ghost use Rattle.c0_front.specs.Front.{IsUnitOf};
+ghost use Rattle.c0_types.specs.Front.{IsUnitOf};
 ghost use Rattle.kernel_linker.specs.Object.{object_of};
 
 use c0_meaning::Checked;
@@ -14,7 +14,6 @@ use std::vec::Vec;
 
 /// The object of a kernel, whose unit is the checked one of this source: the source, and the words that the unit is compiled to, of which an
 /// object file has room for at least as many. The one error is want of memory.
-#[tactic(auto, unfolding(crate::specs::Object::object_of))]
 pub fn make_object(alloc: Global, source: &[u8], unit: &Checked) -> Result<Object, AllocError>
     requires { IsUnitOf source.now (unit_view unit.now) }
     ensures object { IfOk result (λ o. o ≡ object_of source.now (unit_view unit.now)) }

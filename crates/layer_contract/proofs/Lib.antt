@@ -11,6 +11,8 @@ pub mod After
 pub mod Steps
 pub mod Follow
 pub mod Turn
+pub mod Interrupted
+pub mod Asking
 pub mod Example
 pub mod Spread
 pub mod SpreadState

@@ -1,11 +1,11 @@
 -- Where an address of the current user stands: past its memory, in a page that isn't to be had, or in a frame.
-use Rattle.std.proofs.Common.{◌≡◌, ℕ, ◌+◌, ◌-◌, ◌*◌, ◌/◌, ◌%◌, ◌^◌, ◌<◌, ◌≤◌, ◌&&◌, Some, None, Bool, true, false, nat_lt, List, length, slice_index, refl, ap, ◌∙◌, arith, lt-ltb, ltb-true, ne_eqb, eqb-true}
+use Rattle.std.proofs.Common.{◌≡◌, ℕ, ◌+◌, ◌-◌, ◌*◌, ◌/◌, ◌%◌, ◌^◌, ◌<◌, ◌≤◌, ◌&&◌, Some, None, Bool, true, false, nat_lt, List, length, slice_index, refl, ap, ◌∙◌, sym, arith, lt-ltb, ltb-true, ne_eqb, eq-eqb, eqb-true}
 use Rattle.std.proofs.lemmas.Bool.{le-ltb, ltb-false, eqb-false}
 use Rattle.mips_table.specs.Device.{Outside}
 use Rattle.mips_table.specs.Machine.{PTO, PTL, MODE, in_system, entry_address, is_valid, is_protected, translated}
 use Rattle.mips_table.specs.Machine.{State, located}
 use Rattle.layer_map.specs.Map.{Map, MapInRange, layer_words, code_at, globals_at, heap_at, stack_at, tables_at, frame_table_at, zero_frame_at, memory_words}
-use Rattle.page_model.specs.Paging.{Valid, Protected, Names}
+use Rattle.page_model.specs.Paging.{Valid, Protected, Names, Passes}
 use Rattle.layer_contract.proofs.Apart.{PartsApart}
 use Rattle.cvm_model.specs.Kernel.{Core}
 use Rattle.cvm_model.specs.Primitives.{no_flat, user_of, pages_of}
@@ -150,3 +150,20 @@ module _ (x : Outside) (y : Site) (s : State) (c : Core) (k : Known x y s c) whe
           let most : pages_of (user_of c.users c.current) ≤ y.map.params.pages = user_fits.pages in
           let inside : nat_lt (address / 4096) ptl ≡ true = lt-ltb _ _ (omega arith) in
           by_valid address e inside store (is_valid (entry address)) refl (found store address ∙ ap (translated address ptl store) (entry_is address (omega arith)))
+
+  -- a page of the user's memory that is refused isn't to be had, and one that is found is
+  pub refused_page : (store : Bool) (address : ℕ) → nat_lt (address / 4) (length (own c)) ≡ true → located s store address ≡ None → Passes (paged_of y.map s) (page_at y.map c address) store → ⊥
+  refused_page store address e is p =
+      let lt : address / 4096 < pages_of (user_of c.users c.current) = below address (ltb-true _ _ e) in
+      let size : ptl ≡ pages_of (user_of c.users c.current) = k.runs.ptl in
+      let most : pages_of (user_of c.users c.current) ≤ y.map.params.pages = user_fits.pages in
+      let inside : nat_lt (address / 4096) ptl ≡ true = lt-ltb _ _ (omega arith) in
+      let to : located s store address ≡ translated address ptl store (entry address) = found store address ∙ ap (translated address ptl store) (entry_is address (omega arith)) in
+      let free : (store && is_protected (entry address)) ≡ false = by store (is_protected (entry address)) refl p.unprotected in
+      let there : None ≡ Some (entry address / 4096 * 4096 + address % 4096) = sym is ∙ to ∙ translates address ptl store (entry address) inside (eq-eqb _ _ p.valid) free in
+      absurd (cc)
+    where
+      by : (store b : Bool) → is_protected (entry address) ≡ b → (store ≡ true → Protected (entry address) → ⊥) → (store && b) ≡ false
+      by false b e h = refl
+      by true false e h = refl
+      by true true e h = absurd (h refl (eqb-true _ _ e))

@@ -61,9 +61,10 @@ pub record SystemFits (x : Outside) (y : System) (old : List (List ℕ)) : Type 
 abbrev pub LoadedResets : Type 0
 LoadedResets = (x : Outside) (y : System) (old : List (List ℕ)) → SystemFits x y old → AfterReset x (site_of y.boot) (first_core y) (machine x y old 1)
 
--- a kernel that isn't over within n units still runs after so many steps: one for each 2,048 units
+-- A kernel that isn't over within n units still runs after so many steps: one for each 8,388,608 units. No primitive takes as many, and the call of one
+-- takes a step.
 abbrev pub units_per_step : ℕ
-units_per_step = 2048
+units_per_step = 8388608
 
 -- the entries that a dispatch comes to at its end alone: all but the primitives
 abbrev pub IsKernelDoor : Entry → Type 0

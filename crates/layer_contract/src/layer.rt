@@ -25,10 +25,10 @@ pub trait Layer {
         requires { IsEntry entry }
         ensures { result ≡ entry_address entry };
 
-    /// What its variables and control blocks hold at load, where its map is in range.
-    ghost linked: { (l : Self) → MapInRange (map l) → Linked (map l) (sizes l) (image l) };
-
-    /// The laws of entering and leaving the kernel, of each primitive, of each fault exit and of a handled fault, where its map is in
-    /// range: of a memory that holds these words and any kernel's code of the map's size.
-    ghost laws: { (l : Self) (code : List ℕ) → MapInRange (map l) → length code ≡ (map l).code_words → Laws (site_with (map l) (image l) code) (sizes l) };
+    /// A law of each layer, which does nothing: what its variables and control blocks hold at load, where its map is in range; and
+    /// the laws of entering and leaving the kernel, of each primitive, of each fault exit and of a handled fault, of a memory that holds
+    /// these words and any kernel's code of the map's size.
+    fn keeps_laws(&self)
+        ensures linked { MapInRange (map self.now) → Linked (map self.now) (sizes self.now) (image self.now) }
+        ensures laws { (code : List ℕ) → MapInRange (map self.now) → length code ≡ (map self.now).code_words → Laws (site_with (map self.now) (image self.now) code) (sizes self.now) };
 }

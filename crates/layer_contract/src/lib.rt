@@ -8,7 +8,7 @@ ghost use Rattle.mips_table.specs.Device.{Outside, HasEightLines};
 ghost use Rattle.cvm_model.specs.Cvm.{System};
 ghost use Rattle.layer_contract.specs.Layer.{ResetStands, UserStands};
 ghost use Rattle.layer_contract.specs.Follows.{FirstCall, LoadedResets, MadeFor, SystemFits};
-ghost use Rattle.layer_contract.specs.Users.{SomeStores, UserSteps, UserStepsLinked, UserStepsOrFaults};
+ghost use Rattle.layer_contract.specs.Users.{FaultsAsk, SomeStores, UserSteps, UserStepsLinked, UserStepsOrFaults, UsersAreInterrupted};
 ghost use Rattle.layer_contract.specs.Samples.{AStateStands, ASpreadStateStands};
 
 mod boot;
@@ -53,7 +53,9 @@ pub fn a_spread_state_stands()
 /// A law: over a layer that was made for what is booted, the loaded machine calls `dispatch` for the start of the run.
 pub fn the_kernel_is_called<L: Layer>(layer: &L)
     ensures { (x : Outside) (y : System) (old : List (List ℕ)) → SystemFits x y old → MadeFor (L.image layer.now) (L.sizes layer.now) (L.map layer.now) y.boot → FirstCall x y old }
-{}
+{
+    layer.keeps_laws();
+}
 
 /// A law: a user's step that takes no handled fault is the flat machine's step, its trap, or the taking of the pending lines.
 pub fn users_follow()
@@ -75,6 +77,18 @@ pub fn users_follow_or_fault()
 {
     words_stay_words();
 }
+
+/// A law: an interrupt of a user is taken with nothing changed but the lines latched, and isn't the reset.
+pub fn users_are_interrupted()
+    ensures { UsersAreInterrupted }
+{
+    words_stay_words();
+}
+
+/// A law: a handled fault asks for a page that the user's step touches and that isn't to be had.
+pub fn faults_ask()
+    ensures { FaultsAsk }
+{}
 
 /// A law: there is a state that meets the premises, in which a user's step stores through its page table.
 pub fn a_user_stores()

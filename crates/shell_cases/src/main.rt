@@ -5,12 +5,14 @@
 //   that object that fail, from 0; `room N`, how many bytes the sink has room for; `sectors N`, how many sectors the disk has;
 // - `file NAME` places a file with these bytes, and `zeros NAME` one with so many bytes 0. A put to it has room for as many;
 // - `run WORD ..` runs the command of these words;
-// - `show NAME` gets a file and prints its bytes, and `sector N` prints the words of a sector that aren't 0.
+// - `show NAME` gets a file and prints its bytes, `object NAME` reads it as an object and prints its source and how many words it has, and
+//   `sector N` prints the words of a sector that aren't 0.
 #![tactic(auto)]
 
 use case_file::{Case, cases};
 use cvm_outside::{MemSectors, MemShelf, MemSink, Sectors, Shelf};
 use cvm_shell::run;
+use object_file::read;
 use std::alloc::{AllocError, Global};
 use std::fmt::Write;
 use std::{env, fs, io, str};
@@ -143,6 +145,26 @@ fn show_file(
     out.push('\n')
 }
 
+/// Prints the source of an object, and how many words it has.
+fn show_object(
+    alloc: Global,
+    world: &mut World,
+    out: &mut String,
+    name: &str,
+) -> Result<(), AllocError> {
+    let Ok(bytes) = world.shelf.get(alloc, name) else {
+        return out.push_str("(not got)\n");
+    };
+    match read(alloc, &bytes) {
+        Ok(object) => {
+            out.push_str("source ")?;
+            put_bytes(out, &object.source)?;
+            writeln!(out, "\nwords {}", object.words.len())
+        }
+        Err(fault) => writeln!(out, "fault {}", fault.number()),
+    }
+}
+
 /// Prints the words of a sector that aren't 0.
 fn show_sector(world: &mut World, out: &mut String, number: &str) -> Result<(), AllocError> {
     let mut words = [0; 1024];
@@ -190,6 +212,7 @@ fn do_part(
         "case" => *world = world_of(alloc, &part.source)?,
         "run" => run_words(alloc, world, out, name)?,
         "show" => show_file(alloc, world, out, name)?,
+        "object" => show_object(alloc, world, out, name)?,
         "sector" => show_sector(world, out, name)?,
         _ => out.push_str("(no such kind)\n")?,
     }

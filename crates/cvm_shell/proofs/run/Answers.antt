@@ -4,7 +4,7 @@ use Rattle.cvm_shell.specs.Command.{IsCommand, boot, texts}
 use Rattle.cvm_shell.specs.Outside.{drive}
 use Rattle.cvm_shell.specs.Views.{command_view}
 use Rattle.cvm_shell.proofs.Endings.{bad_words_end, headline_end}
-use Rattle.cvm_shell.proofs.Spellings.{of_one_kind}
+use Rattle.cvm_shell.proofs.Spellings.{boot_or_user, boot_or_kernel}
 use Rattle.cvm_shell.proofs.run.Goals as goal
 
 pub returns-in-None-clause-ends : goal.returns-in-None-clause-ends
@@ -33,4 +33,14 @@ returns-in-Some-CompileUser-clause-ends g c =
 pub returns-in-Some-CompileUser-clause-headline : goal.returns-in-Some-CompileUser-clause-headline
 returns-in-Some-CompileUser-clause-headline g c = λ b image source u is.
     let P : Command → Type 0 = λ x. IsCommand (texts c.args.words.now.items) (command_view x) in
-    absurd (of_one_kind _ b _ is (subst P c.in-Some-CompileUser.field-0-is c.in-Some-CompileUser.ensures.found))
+    absurd (boot_or_user _ b _ is (subst P c.in-Some-CompileUser.field-0-is c.in-Some-CompileUser.ensures.found))
+
+pub returns-in-Some-CompileKernel-clause-ends : goal.returns-in-Some-CompileKernel-clause-ends
+returns-in-Some-CompileKernel-clause-ends g c =
+    let P : Command → Type 0 = λ x. IsCommand (texts c.args.words.now.items) (command_view x) in
+    c.compile_kernel.ensures.ends _ (drive g.D.Sectors c.args.disk.now) (subst P c.in-Some-CompileKernel.field-0-is c.in-Some-CompileKernel.ensures.found)
+
+pub returns-in-Some-CompileKernel-clause-headline : goal.returns-in-Some-CompileKernel-clause-headline
+returns-in-Some-CompileKernel-clause-headline g c = λ b image source u is.
+    let P : Command → Type 0 = λ x. IsCommand (texts c.args.words.now.items) (command_view x) in
+    absurd (boot_or_kernel _ b _ is (subst P c.in-Some-CompileKernel.field-0-is c.in-Some-CompileKernel.ensures.found))

@@ -1,6 +1,6 @@
 -- The place in the tree is that in its view.
 use Rattle.std.specs.Prelude.{unwrap_or}
-use Rattle.std.proofs.Common.{ℕ, sym, ap, ◌∙◌}
+use Rattle.std.proofs.Common.{sym, ap, ◌∙◌}
 use Rattle.c0_tree.specs.View.{function_view}
 use Rattle.c0_meaning.specs.Limits.{is_dispatch}
 use Rattle.c0_unit.proofs.Positions.{position-map}

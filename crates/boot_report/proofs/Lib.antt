@@ -1,0 +1,5 @@
+pub mod Texts
+pub mod MemoryLemmas
+pub mod UserLemmas
+pub mod Telling
+pub mod GlobalRows

@@ -1,0 +1,155 @@
+-- The rows of the users, and of the log, are those of the abstract machine.
+use Rattle.std.proofs.Common.{◌≡◌, ◌≢◌, ℕ, zero, suc, ◌+◌, ◌-◌, ◌*◌, ◌/◌, ◌%◌, ◌<◌, ◌≤◌, Bool, true, false, ◌&&◌, List, [], ◌∷◌, ◌++◌, length, get_or, drop, codes, refl, sym, ap, ap₂, ◌∙◌, subst, ⊎_elim, arith, get_or-drop, length-drop, ne_eqb, eq-eqb, lt-ltb}
+use Rattle.std.specs.Prelude.{◌==◌, nat_lt, slice_index}
+use Rattle.std.proofs.lemmas.Bool.{cases_eq, cases_Bool}
+use Rattle.std.proofs.Math.Nat.{mul-le-mul_right, mul-add-mod_self_right, mod-eq_of_lt}
+use Rattle.std.proofs.lemmas.Nat.{div-mul-add}
+use Rattle.mips_table.specs.Device.{Outside}
+use Rattle.mips_table.specs.Processor.{Cpu}
+use Rattle.mips_table.specs.Flat.{Flat}
+use Rattle.mips_table.specs.Machine.{State}
+use Rattle.mips_machine.specs.Machine.{Held, state_of}
+use Rattle.layer_map.specs.Map.{MapInRange, block_at}
+use Rattle.page_model.specs.Paging.{Paged, IsFrame, shown_word}
+use Rattle.page_model.specs.Places.{layout_of}
+use Rattle.cvm_model.specs.Kernel.{Core}
+use Rattle.cvm_model.specs.Primitives.{user_of, pages_of, no_flat}
+use Rattle.cvm_model.specs.Cvm.{Status}
+use Rattle.cvm_model.specs.Paged.{paged_of, pages_by}
+use Rattle.cvm_model.specs.Stands.{Site, Stands, UserFits, runs_user}
+use Rattle.cvm_model.specs.Text.{hex_row, nonzero_row, regs_text, memory_text, user_text, users_text, log_text}
+use Rattle.boot_report.specs.Texts.{texts, register_row, memory_row, pages_rows, register_rows, user_head, user_rows, users_rows, log_rows, cpu_of, pages_in, EntriesFit}
+use Rattle.boot_report.specs.Told.{IsRunning, RowsTell}
+use Rattle.boot_report.proofs.Texts.{texts-none, texts-suc, texts-add, texts-same}
+
+-- a text that goes down a list from the front
+module _ {A : Type 0} (d : A) (whole : ℕ → List A → List ℕ) (f : ℕ → A → List ℕ) (none : (k : ℕ) → whole k [] ≡ []) (more : (k : ℕ) (v : A) (vs : List A) → whole k (v ∷ vs) ≡ f k v ++ whole (k + 1) vs) where
+  pub from_front : (k : ℕ) (xs : List A) → whole k xs ≡ texts (λ i. f (k + i) (get_or xs i d)) (length xs)
+  from_front k [] = none k ∙ sym (texts-none (λ i. f (k + i) (get_or [] i d)))
+  from_front k (v ∷ vs) =
+      let g : ℕ → List ℕ = λ i. f (k + i) (get_or (v ∷ vs) i d) in
+      let first : texts (λ i. f (k + i) (get_or (v ∷ vs) i d)) 1 ≡ f k v = texts-suc (λ i. f (k + i) (get_or (v ∷ vs) i d)) 0 ∙ ap (λ l. l ++ f (k + 0) v) (texts-none (λ i. f (k + i) (get_or (v ∷ vs) i d))) ∙ (let e : k + 0 ≡ k = omega arith in ap (λ n. f n v) e) in
+      let rest : texts (λ i. f (k + 1 + i) (get_or vs i d)) (length vs) ≡ texts (λ i. f (k + (1 + i)) (get_or (v ∷ vs) (1 + i) d)) (length vs) =
+      texts-same _ _ (length vs) (λ i l. let e : k + 1 + i ≡ k + (1 + i) = omega arith in ap (λ n. f n (get_or vs i d)) e ∙ (let h : suc i ≡ 1 + i = omega arith in ap (λ n. f (k + (1 + i)) (get_or (v ∷ vs) n d)) h)) in
+      let all : 1 + length vs ≡ suc (length vs) = omega arith in
+      more k v vs ∙ ap (λ l. f k v ++ l) (from_front (k + 1) vs ∙ rest) ∙ ap (λ l. l ++ texts (λ i. f (k + (1 + i)) (get_or (v ∷ vs) (1 + i) d)) (length vs)) (sym first)
+      ∙ sym (texts-add (λ i. f (k + i) (get_or (v ∷ vs) i d)) 1 (length vs)) ∙ ap (texts (λ i. f (k + i) (get_or (v ∷ vs) i d))) all
+
+-- texts by pages of 1,024
+by_pages : (f : ℕ → List ℕ) (n : ℕ) → texts (λ p. texts (λ i. f (1024 * p + i)) 1024) n ≡ texts f (1024 * n)
+by_pages f zero = texts-none (λ p. texts (λ i. f (1024 * p + i)) 1024) ∙ sym (texts-none f)
+by_pages f (suc n) =
+    let e : 1024 * n + 1024 ≡ 1024 * suc n = omega arith in
+    texts-suc (λ p. texts (λ i. f (1024 * p + i)) 1024) n ∙ ap (λ l. l ++ texts (λ i. f (1024 * n + i)) 1024) (by_pages f n) ∙ sym (texts-add f (1024 * n) 1024) ∙ ap (texts f) e
+
+log_told : (log : List ℕ) → log_rows log ≡ log_text log
+log_told log = sym (from_front 0 (λ k xs. log_text xs) (λ k w. hex_row (codes "con") w) (λ k. refl) (λ k w rest. refl) 0 log)
+
+registers_told : (regs : List ℕ) (cpu : Cpu) → cpu.regs ≡ regs → length regs ≡ 32 → register_rows cpu 31 ≡ regs_text 1 (drop 1 regs)
+registers_told regs cpu e long =
+    let few : length (drop 1 regs) ≡ 31 = omega (arith, length-drop 1 regs, long) in
+    sym (from_front 0 regs_text register_row (λ k. refl) (λ k w rest. refl) 1 (drop 1 regs)
+    ∙ ap (texts (λ i. register_row (1 + i) (get_or (drop 1 regs) i 0))) few
+    ∙ texts-same _ _ 31 (λ i l. ap (register_row (1 + i)) (get_or-drop 1 regs i 0) ∙ (let h : 1 + i ≡ i + 1 = omega arith in ap (λ n. register_row n (get_or regs n 0)) h) ∙ ap (λ rs. register_row (i + 1) (get_or rs (i + 1) 0)) (sym e)))
+
+memory_told : (words : List ℕ) (a : Paged) (q n : ℕ) → length words ≡ 1024 * n → ((p i : ℕ) → p < n → i < 1024 → shown_word a (q + p) i ≡ get_or words (1024 * p + i) 0) → pages_rows a q n ≡ memory_text 0 words
+memory_told words a q n long h =
+    texts-same _ _ n (λ p lt. texts-same _ _ 1024 (λ i l. ap (memory_row (1024 * p + i)) (h p i lt l)))
+    ∙ by_pages (λ j. memory_row j (get_or words j 0)) n ∙ ap (texts (λ j. memory_row j (get_or words j 0))) (sym long)
+    ∙ sym (from_front 0 memory_text memory_row (λ k. refl) (λ k w rest. refl) 0 words ∙ texts-same _ _ (length words) (λ i l. let e : 0 + i ≡ i = omega arith in ap (λ n. memory_row n (get_or words i 0)) e))
+
+false_true : (b : Bool) → b ≡ false → b ≡ true → ⊥
+false_true b e f = cc
+
+module _ (x : Outside) (y : Site) (held : Held) (ss : List (List ℕ)) (status : Status) (c : Core) (running : ℕ) (range : MapInRange y.map) (st : Stands x y (state_of held ss) status c) (run : IsRunning held ss c running) where
+  abbrev s : State
+  s = state_of held ss
+
+  abbrev per : ℕ
+  per = y.map.params.pages
+
+  abbrev a : Paged
+  a = paged_of y.map s
+
+  -- the user of an index
+  module _ (i : ℕ) (lt : i < length c.users) where
+    abbrev f : Flat
+    f = get_or c.users i no_flat
+
+    its_flat : user_of c.users (i + 1) ≡ get_or c.users i no_flat
+    its_flat = let e : i + 1 - 1 ≡ i = omega arith in ap (λ n. get_or c.users n no_flat) e
+
+    fits : UserFits y.map.params.pages (get_or c.users i no_flat)
+    fits = st.whole.each i no_flat lt
+
+    pages_told : pages_in y.map held.hardware.memory (i + 1) ≡ pages_of (get_or c.users i no_flat)
+    pages_told =
+        let e : slice_index held.hardware.memory (block_at (i + 1) + 32) ≡ pages_of (get_or c.users i no_flat) = st.users.sizes (i + 1) (omega arith, omega arith) ∙ ap pages_of its_flat in
+        let le : pages_of (get_or c.users i no_flat) ≤ y.map.params.pages = fits.pages in
+        omega (arith, e, le)
+
+    in_block : i + 1 ≢ running → (runs_user (state_of held ss) && i + 1 == c.current) ≡ false
+    in_block ne = by (runs_user (state_of held ss)) refl
+      where
+        by : (b : Bool) → runs_user (state_of held ss) ≡ b → (b && i + 1 == c.current) ≡ false
+        by true e = let one = run.one e in ne_eqb (i + 1) c.current (λ h. ne (h ∙ sym one))
+        by false e = refl
+
+    it_runs : i + 1 ≡ running → runs_user (state_of held ss) ≡ true
+    it_runs h = ⊎_elim (λ (e : runs_user (state_of held ss) ≡ true). e) (λ (e : runs_user (state_of held ss) ≡ false). absurd (let z = run.none e in omega (arith, h, z))) (cases_Bool (runs_user (state_of held ss)))
+
+    cpu_told : cpu_of held (i + 1 == running) (i + 1) ≡ (get_or c.users i no_flat).cpu
+    cpu_told = ⊎_elim
+        (λ (h : i + 1 ≡ running).
+        let r = st.users.runs (it_runs h) in
+        let same : c.current ≡ i + 1 = sym (h ∙ run.one (it_runs h)) in
+        ap (λ b. cpu_of held b (i + 1)) (eq-eqb (i + 1) running h) ∙ r.cpu ∙ ap (λ n. (user_of c.users n).cpu) same ∙ ap (λ (g : Flat). g.cpu) its_flat)
+        (λ (ne : i + 1 ≢ running). ap (λ b. cpu_of held b (i + 1)) (ne_eqb (i + 1) running ne) ∙ st.users.blocks (i + 1) (omega arith, omega arith) (in_block ne) ∙ ap (λ (g : Flat). g.cpu) its_flat)
+        (cases_eq (i + 1) running)
+
+    page_told : (p j : ℕ) → p < pages_of (get_or c.users i no_flat) → j < 1024 → shown_word (paged_of y.map (state_of held ss)) (i * y.map.params.pages + p) j ≡ get_or (get_or c.users i no_flat).words (1024 * p + j) 0
+    page_told p j small l =
+        let le : pages_of (get_or c.users i no_flat) ≤ y.map.params.pages = fits.pages in
+        let under : p < y.map.params.pages = omega (arith, small, le) in
+        let quotient : (i * y.map.params.pages + p) / y.map.params.pages ≡ i = div-mul-add i y.map.params.pages p under in
+        let rest : (i * y.map.params.pages + p) % y.map.params.pages ≡ p = mul-add-mod_self_right i y.map.params.pages p ∙ mod-eq_of_lt under in
+        let user : user_of c.users ((i * y.map.params.pages + p) / y.map.params.pages + 1) ≡ get_or c.users i no_flat = ap (λ n. user_of c.users (n + 1)) quotient ∙ its_flat in
+        let rows = mul-le-mul_right {m = suc i} {n = length c.users} y.map.params.pages lt in
+        let count : length c.users ≡ y.map.users = st.whole.users in
+        let inside : i * y.map.params.pages + p < y.map.users * y.map.params.pages = subst (λ n. i * y.map.params.pages + p < n * y.map.params.pages) count (omega (arith, rows, under)) in
+        let live : (pages_by y.map.params.pages c.users).live (i * y.map.params.pages + p) ≡ true = ap₂ (λ n (g : Flat). nat_lt n (pages_of g)) rest user ∙ lt-ltb p (pages_of (get_or c.users i no_flat)) small in
+        st.pages.pages (i * y.map.params.pages + p) inside live j l ∙ ap₂ (λ n (g : Flat). get_or g.words (1024 * n + j) 0) rest user
+
+    pages_are_told : pages_rows (paged_of y.map (state_of held ss)) ((i + 1 - 1) * y.map.params.pages) (pages_of (get_or c.users i no_flat)) ≡ memory_text 0 (get_or c.users i no_flat).words
+    pages_are_told =
+        let e : i + 1 - 1 ≡ i = omega arith in
+        ap (λ n. pages_rows (paged_of y.map (state_of held ss)) (n * y.map.params.pages) (pages_of (get_or c.users i no_flat))) e
+        ∙ memory_told (get_or c.users i no_flat).words (paged_of y.map (state_of held ss)) (i * y.map.params.pages) (pages_of (get_or c.users i no_flat)) fits.whole page_told
+
+    user_told : user_rows y.map (paged_of y.map (state_of held ss)) (i + 1) (pages_in y.map held.hardware.memory (i + 1)) (cpu_of held (i + 1 == running) (i + 1)) ≡ user_text (1 + i) (get_or c.users i no_flat)
+    user_told =
+        let e : i + 1 ≡ 1 + i = omega arith in
+        ap₂ (λ n cpu. user_rows y.map (paged_of y.map (state_of held ss)) (i + 1) n cpu) pages_told cpu_told
+        ∙ ap₂ (λ r m. user_head (i + 1) (pages_of (get_or c.users i no_flat)) (get_or c.users i no_flat).cpu.pc ++ r ++ nonzero_row (codes "hi") (get_or c.users i no_flat).cpu.hi ++ nonzero_row (codes "lo") (get_or c.users i no_flat).cpu.lo ++ m)
+        (registers_told (get_or c.users i no_flat).cpu.regs (get_or c.users i no_flat).cpu refl fits.cpu.regs.size) pages_are_told
+        ∙ ap (λ n. user_text n (get_or c.users i no_flat)) e
+
+  users_told : users_rows y.map held (paged_of y.map (state_of held ss)) running y.map.users ≡ users_text 1 c.users
+  users_told =
+      let count : length c.users ≡ y.map.users = st.whole.users in
+      ap (users_rows y.map held (paged_of y.map (state_of held ss)) running) (sym count)
+      ∙ texts-same _ _ (length c.users) (λ i l. user_told i l)
+      ∙ sym (from_front no_flat users_text user_text (λ k. refl) (λ k g rest. refl) 1 c.users)
+
+  entries_told : EntriesFit y.map (state_of held ss)
+  entries_told q lt valid =
+      let n : IsFrame (layout_of y.map) ((paged_of y.map (state_of held ss)).entry q / 4096) = st.pages.named q ((paged_of y.map (state_of held ss)).entry q / 4096) lt (omega (arith, valid)) in
+      let most = n.1 in
+      omega (arith, most)
+
+pub rows_tell : RowsTell
+rows_tell x y held ss status c running range st run = record {
+  entries = entries_told x y held ss status c running range st run;
+  users = users_told x y held ss status c running range st run;
+  log = ap log_rows st.log ∙ log_told c.console.log;
+}

@@ -1,0 +1,44 @@
+use Rattle.std.proofs.Common.{◌≡◌, ◌+◌, ◌<◌, refl, ap, ◌∙◌, subst}
+use Rattle.std.specs.Prelude.{◌==◌}
+use Rattle.std.specs.Io.KnownBytes.{append_known}
+use Rattle.cvm_outside.specs.Told.{AppendsPart}
+use Rattle.mips_machine.specs.Machine.{state_of}
+use Rattle.cvm_model.specs.Paged.{paged_of}
+use Rattle.boot_report.specs.Texts.{user_rows, pages_in, cpu_of}
+use Rattle.boot_report.proofs.Texts.{put_none, put_more, put_part, is_err}
+use Rattle.boot_report.proofs.MemoryLemmas.{fits_before, same_twice, same_user}
+use Rattle.boot_report.proofs.users.put_users.Goals as goal
+
+pub loop-i-init : goal.loop-i-init
+loop-i-init g c = record {
+  same = refl;
+  sectors = refl;
+  size = refl;
+  disk_faults = refl;
+  faults = refl;
+  text = λ ss e f. put_none (λ i. user_rows c.args.map.now (paged_of c.args.map.now (state_of c.args.machine.now ss)) (i + 1) (pages_in c.args.map.now c.args.machine.now.hardware.memory (i + 1)) (cpu_of c.args.machine.now (i + 1 == c.args.running) (i + 1))) (g.O.Sink.text c.args.out.now);
+}
+
+pub returns-in_err-put_one-clause-err : goal.returns-in_err-put_one-clause-err
+returns-in_err-put_one-clause-err g c = λ ss e f.
+    let most : c.users-i-end.result ≡ c.args.map.now.users = c.users-i-end.ensures.value in
+    let lt : c.loop-i.i < c.args.map.now.users = subst (λ n. c.loop-i.i < n) most c.loop-i-test.true in
+    is_err c.from_residual.result
+    (put_part (λ i. user_rows c.args.map.now (paged_of c.args.map.now (state_of c.args.machine.now ss)) (i + 1) (pages_in c.args.map.now c.args.machine.now.hardware.memory (i + 1)) (cpu_of c.args.machine.now (i + 1 == c.args.running) (i + 1)))
+    c.loop-i.i c.args.map.now.users _ _ _ lt (c.loop-i.invariant.text ss e f)
+    (subst (AppendsPart (g.O.Sink.text c.loop-i.out) (g.O.Sink.text c.put_one.new.out)) (same_user c.args.map.now c.args.machine.now c.loop-i.machine ss (c.loop-i.i + 1) (c.loop-i.i + 1 == c.args.running) c.loop-i.invariant.same)
+    (c.in_err-put_one.ensures.err ss (c.loop-i.invariant.sectors ∙ e) (fits_before c.args.map.now c.args.machine.now c.loop-i.machine ss c.loop-i.invariant.same f))))
+
+pub loop-i-preserved : goal.loop-i-preserved
+loop-i-preserved g c = record {
+  same = same_twice c.args.machine.now c.loop-i.machine c.put_one.new.machine c.loop-i.invariant.same c.in_ok-put_one.ensures.same;
+  sectors = c.in_ok-put_one.ensures.sectors ∙ c.loop-i.invariant.sectors;
+  size = c.in_ok-put_one.ensures.size ∙ c.loop-i.invariant.size;
+  disk_faults = c.in_ok-put_one.ensures.disk_same (λ h. absurd (cc)) ∙ c.loop-i.invariant.disk_faults;
+  faults = c.in_ok-put_one.ensures.sink_same (λ h. absurd (cc)) ∙ c.loop-i.invariant.faults;
+  text = λ ss e f.
+      put_more (λ i. user_rows c.args.map.now (paged_of c.args.map.now (state_of c.args.machine.now ss)) (i + 1) (pages_in c.args.map.now c.args.machine.now.hardware.memory (i + 1)) (cpu_of c.args.machine.now (i + 1 == c.args.running) (i + 1)))
+      c.loop-i.i (c.loop-i.i + 1) _ _ _ refl (c.loop-i.invariant.text ss e f)
+      (c.in_ok-put_one.ensures.ok ss (c.loop-i.invariant.sectors ∙ e) (fits_before c.args.map.now c.args.machine.now c.loop-i.machine ss c.loop-i.invariant.same f)
+      ∙ ap (append_known (g.O.Sink.text c.loop-i.out)) (same_user c.args.map.now c.args.machine.now c.loop-i.machine ss (c.loop-i.i + 1) (c.loop-i.i + 1 == c.args.running) c.loop-i.invariant.same));
+}

@@ -1,0 +1,77 @@
+-- The parts of a report, as they are printed one after another.
+use Rattle.std.specs.Prelude.{◌≡◌, ℕ, zero, suc, ◌+◌, ◌-◌, ◌*◌, ◌/◌, ◌%◌, ◌<◌, ◌==◌, min, Bool, if◌then◌else◌, Option, Some, None, List, [], ◌++◌, codes, decimal, slice_index, length}
+use Rattle.cvm_text.specs.Hex.{hex8}
+use Rattle.mips_table.specs.Processor.{Cpu}
+use Rattle.mips_table.specs.Machine.{State}
+use Rattle.layer_map.specs.Map.{Map, block_at, memory_frames}
+use Rattle.cvm_model.specs.Paged.{paged_of}
+use Rattle.cvm_model.specs.Stands.{block_cpu}
+use Rattle.mips_machine.specs.Machine.{Held}
+use Rattle.page_model.specs.Paging.{Paged, shown_word}
+use Rattle.cvm_model.specs.Text.{hex_row, nonzero_row}
+
+-- the texts of the numbers below n, in order
+unfoldable pub texts : (ℕ → List ℕ) → ℕ → List ℕ
+texts f zero = []
+texts f (suc n) = texts f n ++ f n
+
+-- the row of register r, and of the word of memory with number k, unless it is 0
+abbrev pub register_row : ℕ → ℕ → List ℕ
+register_row r word = nonzero_row (codes "reg " ++ decimal r) word
+
+abbrev pub memory_row : ℕ → ℕ → List ℕ
+memory_row k word = nonzero_row (codes "mem " ++ hex8 (4 * k)) word
+
+-- the rows of page p of a user, which has number q of all pages
+abbrev pub page_rows : Paged → ℕ → ℕ → List ℕ
+page_rows a q p = texts (λ i. memory_row (1024 * p + i) (shown_word a q i)) 1024
+
+-- the rows of so many pages of a user, the first of which has number q of all pages
+abbrev pub pages_rows : Paged → ℕ → ℕ → List ℕ
+pages_rows a q pages = texts (λ p. page_rows a (q + p) p) pages
+
+-- the rows of registers 1 to n
+abbrev pub register_rows : Cpu → ℕ → List ℕ
+register_rows cpu n = texts (λ i. register_row (i + 1) (slice_index cpu.regs (i + 1))) n
+
+-- a machine that is the same but for the words of the sector that was viewed
+abbrev pub SameButViewed : Held → Held → Type 0
+SameButViewed old new = new ≡ record old { hardware = record old.hardware { viewed = new.hardware.viewed } }
+
+-- a word of a page in a frame, or in the sector that was viewed
+abbrev pub page_word : Held → Option ℕ → ℕ → ℕ
+page_word held None i = slice_index held.hardware.viewed i
+page_word held (Some f) i = slice_index held.hardware.memory (1024 * f + i)
+
+-- entries of page tables that are valid name frames of the memory
+abbrev pub EntriesFit : Map → State → Type 0
+EntriesFit m s = (q : ℕ) → q < m.users * m.params.pages → (paged_of m s).entry q / 2048 % 2 ≡ 1 → (paged_of m s).entry q / 4096 < memory_frames m
+
+-- a user's processor: that of the machine, if it runs the user, and else the control block's
+abbrev pub cpu_of : Held → Bool → ℕ → Cpu
+cpu_of held runs u = if runs then held.hardware.cpu else block_cpu held.hardware.memory u
+
+-- a user's size in pages, as its control block has it, up to the most
+abbrev pub pages_in : Map → List ℕ → ℕ → ℕ
+pages_in m memory u = min (slice_index memory (block_at u + 32)) m.params.pages
+
+-- the first row of a user
+abbrev pub user_head : ℕ → ℕ → ℕ → List ℕ
+user_head u pages pc = hex_row (codes "user " ++ decimal u ++ codes " pages " ++ decimal pages ++ codes " pc") pc
+
+-- the rows of a user's processor and of its memory
+abbrev pub processor_rows : ℕ → ℕ → Cpu → List ℕ
+processor_rows u pages cpu =
+    user_head u pages cpu.pc ++ register_rows cpu 31 ++ nonzero_row (codes "hi") cpu.hi ++ nonzero_row (codes "lo") cpu.lo
+
+abbrev pub user_rows : Map → Paged → ℕ → ℕ → Cpu → List ℕ
+user_rows m a u pages cpu = processor_rows u pages cpu ++ pages_rows a ((u - 1) * m.params.pages) pages
+
+-- the rows of users 1 to n, one of whom may run
+abbrev pub users_rows : Map → Held → Paged → (running : ℕ) → ℕ → List ℕ
+users_rows m held a running n =
+    texts (λ i. user_rows m a (i + 1) (pages_in m held.hardware.memory (i + 1)) (cpu_of held (i + 1 == running) (i + 1))) n
+
+-- the rows of the words of the console's log
+abbrev pub log_rows : List ℕ → List ℕ
+log_rows log = texts (λ i. hex_row (codes "con") (slice_index log i)) (length log)

@@ -1,0 +1,14 @@
+// Laws, each the contract of a function that does nothing.
+ghost use Rattle.boot_report.specs.Globals.{GlobalsTell};
+ghost use Rattle.boot_report.specs.Told.{RowsTell};
+
+/// A law: where the machine stands for a state of the abstract machine, the rows of users and log are those of its text, and each valid
+/// entry of the page tables names a frame of the memory.
+pub fn the_rows_tell()
+    ensures { RowsTell }
+{}
+
+/// A law: the row of a global by its first word is that of its value, where the value has the shape of its type.
+pub fn a_global_tells()
+    ensures { GlobalsTell }
+{}

@@ -1,0 +1,117 @@
+// The rows of a user's memory.
+ghost use Rattle.std.specs.Prelude.{◌≡◌, ◌≢◌, ℕ, ◌+◌, ◌*◌, ◌/◌, ◌%◌, ◌<◌, ◌≤◌, ◌^◌, List, length, Some, IfSome, IfOk, Err, OnOk, OnErr};
+ghost use Rattle.std.specs.Io.KnownBytes.{append_known};
+ghost use Rattle.cvm_outside.specs.Causes.{Counts, Rose};
+ghost use Rattle.cvm_outside.specs.Told.{AppendsPart};
+ghost use Rattle.layer_map.specs.Map.{memory_words, memory_frames};
+ghost use Rattle.mips_machine.specs.Machine.{state_of};
+ghost use Rattle.page_model.specs.Paging.{shown_word};
+ghost use Rattle.cvm_model.specs.Paged.{paged_of};
+ghost use Rattle.boot_report.specs.Texts.{texts, memory_row, page_word, pages_rows, EntriesFit, SameButViewed};
+
+use crate::fault::ReportFault;
+use crate::rows::put_word;
+use cvm_outside::{DiskFault, Sectors, Sink, SinkFault};
+use layer_map::Map;
+use mips_machine::Machine;
+
+/// A word of a page that is in this frame, or in the sector that was viewed.
+fn word_of_page(machine: &Machine, frame: Option<u32>, i: u32) -> u32
+    requires small { i < 1024 }
+    requires inside { IfSome frame (λ f. 1024 * f + 1024 ≤ length machine.now.hardware.memory) }
+    requires few { IfSome frame (λ f. f < 2 ^ 20) }
+    ensures { result ≡ page_word machine.now frame i }
+{
+    match frame {
+        Some(frame) => machine.word(4 * (1024 * frame + i)),
+        None => machine.viewed(i),
+    }
+}
+
+/// Prints the rows of a page that is in this frame, or in the sector that was viewed.
+fn put_page<O: Sink>(
+    machine: &Machine,
+    frame: Option<u32>,
+    page: u32,
+    out: &mut O,
+) -> Result<(), SinkFault>
+    requires page { page < 1024 }
+    requires inside { IfSome frame (λ f. 1024 * f + 1024 ≤ length machine.now.hardware.memory) }
+    requires few { IfSome frame (λ f. f < 2 ^ 20) }
+    ensures ok { OnOk result (O.text out.new ≡ append_known (O.text out.old) (texts (λ i. memory_row (1024 * page + i) (page_word machine.now frame i)) 1024)) }
+    ensures err { OnErr result (AppendsPart (O.text out.old) (O.text out.new) (texts (λ i. memory_row (1024 * page + i) (page_word machine.now frame i)) 1024)) }
+    ensures count { Counts (O.faults out.old) (O.faults out.new) result }
+{
+    for i in 0..1024u32 {
+        put_word(1024 * page + i, word_of_page(machine, frame, i), out)?;
+    }
+    Ok(())
+}
+
+/// Brings a page, by its number of all pages, where it can be read: gives its frame, or else has viewed its sector.
+///
+/// # Errors
+///
+/// A fault of the disk.
+fn find_page<D: Sectors>(
+    machine: &mut Machine,
+    map: &Map,
+    q: u32,
+    disk: &mut D,
+) -> Result<Option<u32>, DiskFault>
+    requires page { q < map.now.users * map.now.params.pages }
+    requires memory { memory_words map.now ≤ length machine.old.hardware.memory }
+    requires small { memory_words map.now ≤ 30000000 }
+    requires all { map.now.users * map.now.params.pages ≤ 65536 }
+    requires room { map.now.users * map.now.params.pages ≤ D.size disk.old }
+    ensures frame { IfOk result (λ o. IfSome o (λ f. f < memory_frames map.now)) }
+    ensures shown { (ss : List (List ℕ)) → D.sectors disk.old ≡ Some ss → EntriesFit map.now (state_of machine.old ss) → IfOk result (λ o. (i : ℕ) → i < 1024 → page_word machine.new o i ≡ shown_word (paged_of map.now (state_of machine.old ss)) q i) }
+    ensures same { SameButViewed machine.old machine.new }
+    ensures sectors { D.sectors disk.new ≡ D.sectors disk.old }
+    ensures size { D.size disk.new ≡ D.size disk.old }
+    ensures count { Counts (D.faults disk.old) (D.faults disk.new) result }
+{
+    let entry = machine.word(map.page_tables() + 4 * q);
+    let frame = entry / 4096;
+    if entry / 2048 % 2 == 1 && frame < map.memory_frames() {
+        return Ok(Some(frame));
+    }
+    machine.view_sector(disk, q)?;
+    Ok(None)
+}
+
+/// Prints the rows of so many pages of a user, the first of which has this number of all pages.
+///
+/// # Errors
+///
+/// A fault of the disk or of the sink.
+pub(crate) fn put_memory<D: Sectors, O: Sink>(
+    machine: &mut Machine,
+    map: &Map,
+    first: u32,
+    pages: u32,
+    disk: &mut D,
+    out: &mut O,
+) -> Result<(), ReportFault>
+    requires few { pages ≤ 1024 }
+    requires inside { first + pages ≤ map.now.users * map.now.params.pages }
+    requires memory { memory_words map.now ≤ length machine.old.hardware.memory }
+    requires small { memory_words map.now ≤ 30000000 }
+    requires all { map.now.users * map.now.params.pages ≤ 65536 }
+    requires room { map.now.users * map.now.params.pages ≤ D.size disk.old }
+    ensures ok { (ss : List (List ℕ)) → D.sectors disk.old ≡ Some ss → EntriesFit map.now (state_of machine.old ss) → OnOk result (O.text out.new ≡ append_known (O.text out.old) (pages_rows (paged_of map.now (state_of machine.old ss)) first pages)) }
+    ensures err { (ss : List (List ℕ)) → D.sectors disk.old ≡ Some ss → EntriesFit map.now (state_of machine.old ss) → OnErr result (AppendsPart (O.text out.old) (O.text out.new) (pages_rows (paged_of map.now (state_of machine.old ss)) first pages)) }
+    ensures same { SameButViewed machine.old machine.new }
+    ensures sectors { D.sectors disk.new ≡ D.sectors disk.old }
+    ensures size { D.size disk.new ≡ D.size disk.old }
+    ensures disk { result ≡ Err ReportFault.Disk → Rose (D.faults disk.old) (D.faults disk.new) }
+    ensures disk_same { result ≢ Err ReportFault.Disk → D.faults disk.new ≡ D.faults disk.old }
+    ensures sink { result ≡ Err ReportFault.Sink → Rose (O.faults out.old) (O.faults out.new) }
+    ensures sink_same { result ≢ Err ReportFault.Sink → O.faults out.new ≡ O.faults out.old }
+{
+    for p in 0..pages {
+        let frame = find_page(machine, map, first + p, disk)?;
+        put_page(machine, frame, p, out)?;
+    }
+    Ok(())
+}

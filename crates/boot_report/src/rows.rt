@@ -1,0 +1,159 @@
+// Single rows, which take no memory.
+ghost use Rattle.std.specs.Prelude.{◌≡◌, ◌++◌, ◌*◌, ◌<◌, ◌^◌, ◌==◌, if◌then◌else◌, [], codes, decimal, OnOk, OnErr};
+ghost use Rattle.std.specs.Io.KnownBytes.{append_known};
+ghost use Rattle.cvm_outside.specs.Causes.{Counts};
+ghost use Rattle.cvm_outside.specs.Told.{AppendsPart};
+ghost use Rattle.cvm_text.specs.Hex.{hex8 as hex8_of};
+ghost use Rattle.cvm_model.specs.Text.{hex_row, nonzero_row};
+ghost use Rattle.boot_report.specs.Texts.{register_row, memory_row};
+
+use arrayvec::ArrayString;
+use cvm_outside::{Sink, SinkFault};
+use cvm_text::{decimal_u64, hex8};
+
+/// The row of a word of the console's log.
+fn log_row(word: u32) -> ArrayString<16>
+    ensures { result.bytes ≡ hex_row (codes "con") word }
+{
+    let mut text = ArrayString::new();
+    text.push_str("con ");
+    text.push_str(hex8(word).as_str());
+    text.push('\n');
+    text
+}
+
+/// The row of a register.
+fn reg_row(register: u32, word: u32) -> ArrayString<40>
+    ensures { result.bytes ≡ hex_row (codes "reg " ++ decimal register) word }
+{
+    let mut text = ArrayString::new();
+    text.push_str("reg ");
+    text.push_str(decimal_u64(register as u64).as_str());
+    text.push_str(" ");
+    text.push_str(hex8(word).as_str());
+    text.push('\n');
+    text
+}
+
+/// The row of hi.
+fn hi_row(word: u32) -> ArrayString<16>
+    ensures { result.bytes ≡ hex_row (codes "hi") word }
+{
+    let mut text = ArrayString::new();
+    text.push_str("hi ");
+    text.push_str(hex8(word).as_str());
+    text.push('\n');
+    text
+}
+
+/// The row of lo.
+fn lo_row(word: u32) -> ArrayString<16>
+    ensures { result.bytes ≡ hex_row (codes "lo") word }
+{
+    let mut text = ArrayString::new();
+    text.push_str("lo ");
+    text.push_str(hex8(word).as_str());
+    text.push('\n');
+    text
+}
+
+/// The row of a word of memory, by its number.
+fn mem_row(number: u32, word: u32) -> ArrayString<32>
+    requires { number < 2 ^ 30 }
+    ensures { result.bytes ≡ hex_row (codes "mem " ++ hex8_of (4 * number)) word }
+{
+    let mut text = ArrayString::new();
+    text.push_str("mem ");
+    text.push_str(hex8(4 * number).as_str());
+    text.push_str(" ");
+    text.push_str(hex8(word).as_str());
+    text.push('\n');
+    text
+}
+
+/// The first row of a user.
+fn user_row(user: u32, pages: u32, pc: u32) -> ArrayString<80>
+    ensures { result.bytes ≡ hex_row (codes "user " ++ decimal user ++ codes " pages " ++ decimal pages ++ codes " pc") pc }
+{
+    let mut text = ArrayString::new();
+    text.push_str("user ");
+    text.push_str(decimal_u64(user as u64).as_str());
+    text.push_str(" pages ");
+    text.push_str(decimal_u64(pages as u64).as_str());
+    text.push_str(" pc ");
+    text.push_str(hex8(pc).as_str());
+    text.push('\n');
+    text
+}
+
+/// Prints the row of a word of the console's log.
+pub(crate) fn put_log_word<O: Sink>(word: u32, out: &mut O) -> Result<(), SinkFault>
+    ensures ok { OnOk result (O.text out.new ≡ append_known (O.text out.old) (hex_row (codes "con") word)) }
+    ensures err { OnErr result (AppendsPart (O.text out.old) (O.text out.new) (hex_row (codes "con") word)) }
+    ensures count { Counts (O.faults out.old) (O.faults out.new) result }
+{
+    out.put(log_row(word).as_str().as_bytes())
+}
+
+/// Prints the row of a word that isn't 0.
+fn put_nonzero<O: Sink>(word: u32, row: &[u8], out: &mut O) -> Result<(), SinkFault>
+    ensures ok { OnOk result (O.text out.new ≡ append_known (O.text out.old) (if word == 0 then [] else row.now)) }
+    ensures err { OnErr result (AppendsPart (O.text out.old) (O.text out.new) (if word == 0 then [] else row.now)) }
+    ensures count { Counts (O.faults out.old) (O.faults out.new) result }
+{
+    if word == 0 {
+        return Ok(());
+    }
+    out.put(row)
+}
+
+/// Prints the row of a register that isn't 0.
+pub(crate) fn put_register<O: Sink>(register: u32, word: u32, out: &mut O) -> Result<(), SinkFault>
+    ensures ok { OnOk result (O.text out.new ≡ append_known (O.text out.old) (register_row register word)) }
+    ensures err { OnErr result (AppendsPart (O.text out.old) (O.text out.new) (register_row register word)) }
+    ensures count { Counts (O.faults out.old) (O.faults out.new) result }
+{
+    put_nonzero(word, reg_row(register, word).as_str().as_bytes(), out)
+}
+
+/// Prints the row of hi, if it isn't 0.
+pub(crate) fn put_hi<O: Sink>(word: u32, out: &mut O) -> Result<(), SinkFault>
+    ensures ok { OnOk result (O.text out.new ≡ append_known (O.text out.old) (nonzero_row (codes "hi") word)) }
+    ensures err { OnErr result (AppendsPart (O.text out.old) (O.text out.new) (nonzero_row (codes "hi") word)) }
+    ensures count { Counts (O.faults out.old) (O.faults out.new) result }
+{
+    put_nonzero(word, hi_row(word).as_str().as_bytes(), out)
+}
+
+/// Prints the row of lo, if it isn't 0.
+pub(crate) fn put_lo<O: Sink>(word: u32, out: &mut O) -> Result<(), SinkFault>
+    ensures ok { OnOk result (O.text out.new ≡ append_known (O.text out.old) (nonzero_row (codes "lo") word)) }
+    ensures err { OnErr result (AppendsPart (O.text out.old) (O.text out.new) (nonzero_row (codes "lo") word)) }
+    ensures count { Counts (O.faults out.old) (O.faults out.new) result }
+{
+    put_nonzero(word, lo_row(word).as_str().as_bytes(), out)
+}
+
+/// Prints the row of a word of memory that isn't 0, by its number.
+pub(crate) fn put_word<O: Sink>(number: u32, word: u32, out: &mut O) -> Result<(), SinkFault>
+    requires { number < 2 ^ 30 }
+    ensures ok { OnOk result (O.text out.new ≡ append_known (O.text out.old) (memory_row number word)) }
+    ensures err { OnErr result (AppendsPart (O.text out.old) (O.text out.new) (memory_row number word)) }
+    ensures count { Counts (O.faults out.old) (O.faults out.new) result }
+{
+    put_nonzero(word, mem_row(number, word).as_str().as_bytes(), out)
+}
+
+/// Prints the first row of a user.
+pub(crate) fn put_user<O: Sink>(
+    user: u32,
+    pages: u32,
+    pc: u32,
+    out: &mut O,
+) -> Result<(), SinkFault>
+    ensures ok { OnOk result (O.text out.new ≡ append_known (O.text out.old) (hex_row (codes "user " ++ decimal user ++ codes " pages " ++ decimal pages ++ codes " pc") pc)) }
+    ensures err { OnErr result (AppendsPart (O.text out.old) (O.text out.new) (hex_row (codes "user " ++ decimal user ++ codes " pages " ++ decimal pages ++ codes " pc") pc)) }
+    ensures count { Counts (O.faults out.old) (O.faults out.new) result }
+{
+    out.put(user_row(user, pages, pc).as_str().as_bytes())
+}

@@ -1,0 +1,210 @@
+// The rows of the users.
+ghost use Rattle.std.specs.Prelude.{◌≡◌, ◌≢◌, ℕ, ◌+◌, ◌-◌, ◌*◌, ◌/◌, ◌<◌, ◌≤◌, ◌^◌, ◌==◌, List, length, min, slice_index, Some, Err, OnOk, OnErr};
+ghost use Rattle.std.specs.Io.KnownBytes.{append_known};
+ghost use Rattle.cvm_outside.specs.Causes.{Counts, Rose};
+ghost use Rattle.cvm_outside.specs.Told.{AppendsPart};
+ghost use Rattle.layer_map.specs.Map.{block_at, memory_words};
+ghost use Rattle.mips_machine.specs.Machine.{state_of};
+ghost use Rattle.cvm_model.specs.Paged.{paged_of};
+ghost use Rattle.boot_report.specs.Texts.{cpu_of, pages_in, register_rows, processor_rows, user_rows, users_rows, log_rows, EntriesFit, SameButViewed};
+
+use crate::fault::ReportFault;
+use crate::memory::put_memory;
+use crate::rows::{put_hi, put_lo, put_log_word, put_register, put_user};
+use cvm_outside::{Sectors, Sink, SinkFault};
+use layer_map::{BLOCK_SIZE, Map, block_of};
+use mips_machine::Machine;
+
+/// A word of a user's control block, by its number in the block.
+fn block_word(machine: &Machine, user: u32, number: u32) -> u32
+    requires user { 1 ≤ user }
+    requires most { user ≤ 64 }
+    requires number { number < 64 }
+    requires memory { 16384 ≤ length machine.now.hardware.memory }
+    ensures { result ≡ slice_index machine.now.hardware.memory (block_at user + number) }
+{
+    machine.word(block_of(user) + 4 * number)
+}
+
+/// A user's pc.
+fn pc_of(machine: &Machine, runs: bool, user: u32) -> u32
+    requires user { 1 ≤ user }
+    requires most { user ≤ 64 }
+    requires memory { 16384 ≤ length machine.now.hardware.memory }
+    ensures { result ≡ (cpu_of machine.now runs user).pc }
+{
+    if runs {
+        return machine.pc();
+    }
+    block_word(machine, user, 0)
+}
+
+/// A register of a user, from 1 to 31.
+fn register_of(machine: &Machine, runs: bool, user: u32, register: u32) -> u32
+    requires user { 1 ≤ user }
+    requires most { user ≤ 64 }
+    requires some { 1 ≤ register }
+    requires few { register ≤ 31 }
+    requires memory { 16384 ≤ length machine.now.hardware.memory }
+    ensures { result ≡ slice_index (cpu_of machine.now runs user).regs register }
+{
+    if runs {
+        return machine.reg(register);
+    }
+    block_word(machine, user, register)
+}
+
+/// A user's hi.
+fn hi_of(machine: &Machine, runs: bool, user: u32) -> u32
+    requires user { 1 ≤ user }
+    requires most { user ≤ 64 }
+    requires memory { 16384 ≤ length machine.now.hardware.memory }
+    ensures { result ≡ (cpu_of machine.now runs user).hi }
+{
+    if runs {
+        return machine.hi();
+    }
+    block_word(machine, user, 33)
+}
+
+/// A user's lo.
+fn lo_of(machine: &Machine, runs: bool, user: u32) -> u32
+    requires user { 1 ≤ user }
+    requires most { user ≤ 64 }
+    requires memory { 16384 ≤ length machine.now.hardware.memory }
+    ensures { result ≡ (cpu_of machine.now runs user).lo }
+{
+    if runs {
+        return machine.lo();
+    }
+    block_word(machine, user, 34)
+}
+
+/// Prints the rows of a user's registers.
+fn put_registers<O: Sink>(
+    machine: &Machine,
+    runs: bool,
+    user: u32,
+    out: &mut O,
+) -> Result<(), SinkFault>
+    requires user { 1 ≤ user }
+    requires most { user ≤ 64 }
+    requires memory { 16384 ≤ length machine.now.hardware.memory }
+    ensures ok { OnOk result (O.text out.new ≡ append_known (O.text out.old) (register_rows (cpu_of machine.now runs user) 31)) }
+    ensures err { OnErr result (AppendsPart (O.text out.old) (O.text out.new) (register_rows (cpu_of machine.now runs user) 31)) }
+    ensures count { Counts (O.faults out.old) (O.faults out.new) result }
+{
+    for i in 0..31u32 {
+        put_register(i + 1, register_of(machine, runs, user, i + 1), out)?;
+    }
+    Ok(())
+}
+
+/// Prints the rows of a user's processor.
+fn put_processor<O: Sink>(
+    machine: &Machine,
+    runs: bool,
+    user: u32,
+    pages: u32,
+    out: &mut O,
+) -> Result<(), SinkFault>
+    requires user { 1 ≤ user }
+    requires most { user ≤ 64 }
+    requires memory { 16384 ≤ length machine.now.hardware.memory }
+    ensures ok { OnOk result (O.text out.new ≡ append_known (O.text out.old) (processor_rows user pages (cpu_of machine.now runs user))) }
+    ensures err { OnErr result (AppendsPart (O.text out.old) (O.text out.new) (processor_rows user pages (cpu_of machine.now runs user))) }
+    ensures count { Counts (O.faults out.old) (O.faults out.new) result }
+{
+    put_user(user, pages, pc_of(machine, runs, user), out)?;
+    put_registers(machine, runs, user, out)?;
+    put_hi(hi_of(machine, runs, user), out)?;
+    put_lo(lo_of(machine, runs, user), out)?;
+    Ok(())
+}
+
+/// Prints the rows of a user.
+///
+/// # Errors
+///
+/// A fault of the disk or of the sink.
+fn put_one<D: Sectors, O: Sink>(
+    machine: &mut Machine,
+    map: &Map,
+    runs: bool,
+    user: u32,
+    disk: &mut D,
+    out: &mut O,
+) -> Result<(), ReportFault>
+    requires user { 1 ≤ user }
+    requires most { user ≤ map.now.users }
+    requires few { map.now.users ≤ 64 }
+    requires memory { memory_words map.now ≤ length machine.old.hardware.memory }
+    requires layer { 16384 ≤ length machine.old.hardware.memory }
+    requires small { memory_words map.now ≤ 30000000 }
+    requires all { map.now.users * map.now.params.pages ≤ 65536 }
+    requires room { map.now.users * map.now.params.pages ≤ D.size disk.old }
+    ensures ok { (ss : List (List ℕ)) → D.sectors disk.old ≡ Some ss → EntriesFit map.now (state_of machine.old ss) → OnOk result (O.text out.new ≡ append_known (O.text out.old) (user_rows map.now (paged_of map.now (state_of machine.old ss)) user (pages_in map.now machine.old.hardware.memory user) (cpu_of machine.old runs user))) }
+    ensures err { (ss : List (List ℕ)) → D.sectors disk.old ≡ Some ss → EntriesFit map.now (state_of machine.old ss) → OnErr result (AppendsPart (O.text out.old) (O.text out.new) (user_rows map.now (paged_of map.now (state_of machine.old ss)) user (pages_in map.now machine.old.hardware.memory user) (cpu_of machine.old runs user))) }
+    ensures same { SameButViewed machine.old machine.new }
+    ensures sectors { D.sectors disk.new ≡ D.sectors disk.old }
+    ensures size { D.size disk.new ≡ D.size disk.old }
+    ensures disk { result ≡ Err ReportFault.Disk → Rose (D.faults disk.old) (D.faults disk.new) }
+    ensures disk_same { result ≢ Err ReportFault.Disk → D.faults disk.new ≡ D.faults disk.old }
+    ensures sink { result ≡ Err ReportFault.Sink → Rose (O.faults out.old) (O.faults out.new) }
+    ensures sink_same { result ≢ Err ReportFault.Sink → O.faults out.new ≡ O.faults out.old }
+{
+    let most = map.params().pages;
+    let pages = block_word(machine, user, BLOCK_SIZE).min(most);
+    put_processor(machine, runs, user, pages, out)?;
+    put_memory(machine, map, (user - 1) * most, pages, disk, out)
+}
+
+/// Prints the rows of all users, one of whom may run: its number, or 0.
+///
+/// # Errors
+///
+/// A fault of the disk or of the sink.
+pub fn put_users<D: Sectors, O: Sink>(
+    machine: &mut Machine,
+    map: &Map,
+    running: u32,
+    disk: &mut D,
+    out: &mut O,
+) -> Result<(), ReportFault>
+    requires few { map.now.users ≤ 64 }
+    requires memory { memory_words map.now ≤ length machine.old.hardware.memory }
+    requires layer { 16384 ≤ length machine.old.hardware.memory }
+    requires small { memory_words map.now ≤ 30000000 }
+    requires all { map.now.users * map.now.params.pages ≤ 65536 }
+    requires room { map.now.users * map.now.params.pages ≤ D.size disk.old }
+    ensures ok { (ss : List (List ℕ)) → D.sectors disk.old ≡ Some ss → EntriesFit map.now (state_of machine.old ss) → OnOk result (O.text out.new ≡ append_known (O.text out.old) (users_rows map.now machine.old (paged_of map.now (state_of machine.old ss)) running map.now.users)) }
+    ensures err { (ss : List (List ℕ)) → D.sectors disk.old ≡ Some ss → EntriesFit map.now (state_of machine.old ss) → OnErr result (AppendsPart (O.text out.old) (O.text out.new) (users_rows map.now machine.old (paged_of map.now (state_of machine.old ss)) running map.now.users)) }
+    ensures same { SameButViewed machine.old machine.new }
+    ensures sectors { D.sectors disk.new ≡ D.sectors disk.old }
+    ensures size { D.size disk.new ≡ D.size disk.old }
+    ensures disk { result ≡ Err ReportFault.Disk → Rose (D.faults disk.old) (D.faults disk.new) }
+    ensures disk_same { result ≢ Err ReportFault.Disk → D.faults disk.new ≡ D.faults disk.old }
+    ensures sink { result ≡ Err ReportFault.Sink → Rose (O.faults out.old) (O.faults out.new) }
+    ensures sink_same { result ≢ Err ReportFault.Sink → O.faults out.new ≡ O.faults out.old }
+{
+    for i in 0..map.users() {
+        put_one(machine, map, i + 1 == running, i + 1, disk, out)?;
+    }
+    Ok(())
+}
+
+/// Prints the words of the console's log.
+///
+/// # Errors
+///
+/// A fault of the sink.
+pub fn put_log<O: Sink>(log: &[u32], out: &mut O) -> Result<(), SinkFault>
+    ensures ok { OnOk result (O.text out.new ≡ append_known (O.text out.old) (log_rows log.now)) }
+    ensures err { OnErr result (AppendsPart (O.text out.old) (O.text out.new) (log_rows log.now)) }
+    ensures count { Counts (O.faults out.old) (O.faults out.new) result }
+{
+    for i in 0..log.len() {
+        put_log_word(log[i], out)?;
+    }
+    Ok(())
+}

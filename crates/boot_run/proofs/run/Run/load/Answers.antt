@@ -1,0 +1,28 @@
+use Rattle.std.proofs.Common.{Some, ◌≡◌, ◌≤◌, ◌*◌, ◌∙◌, sym, ap, ℕ, List, Vec, Global, length, map, subst}
+use Rattle.std.specs.Option.{option_map}
+use Rattle.layer_map.specs.Map.{Map}
+use Rattle.boot_run.specs.Loading.{first_pages, written, system_of}
+use Rattle.schedule_file.specs.Rows.{Rows}
+use Rattle.mips_machine.specs.Machine.{Held}
+use Rattle.layer_contract.specs.Follows.{loaded}
+use Rattle.boot_turns.specs.Completes.{seen}
+use Rattle.boot_run.proofs.Readiness.{loaded_ready}
+use Rattle.boot_run.proofs.Loads.{stands_loaded}
+use Rattle.boot_run.proofs.run.Run.load.Goals as goal
+
+pub returns-in-Ok-clause-stands : goal.returns-in-Ok-clause-stands
+returns-in-Ok-clause-stands g c =
+    let some : 1 ≤ c.args.boot.params.pages = subst (λ (m : Map). 1 ≤ m.params.pages) c.requires.made.same_map c.requires.made.range.params.a_page in
+    let sectors = subst (λ (us : List (Vec ℕ Global)). g.D.Sectors.sectors c.write_pages.new.disk ≡ option_map (written (first_pages c.args.boot.params.pages (map (λ (w : Vec ℕ Global). w.items) us)) (length us * c.args.boot.params.pages)) (g.D.Sectors.sectors c.args.disk.now))
+    c.as_slice.ensures.value c.in-Ok.ensures.ok in
+    let few : c.len-users.result * c.args.boot.params.pages ≤ g.D.Sectors.size c.args.disk.now = subst (λ n. c.len-users.result * c.args.boot.params.pages ≤ n) c.count-have.ensures c.if-have-need.false in
+    stands_loaded c.args.boot c.args.schedule c.in_ok-machine.machine (g.D.Sectors.sectors c.args.disk.now) (g.D.Sectors.sectors c.write_pages.new.disk) (g.D.Sectors.size c.args.disk.now) some
+    c.in_ok-machine.ensures sectors (g.met.D.Sectors.sized c.args.disk.now) (subst (λ n. n * c.args.boot.params.pages ≤ g.D.Sectors.size c.args.disk.now) (c.len-users.ensures ∙ sym c.as_slice.ensures.len ∙ ap (λ (us : List (Vec ℕ Global)). length us) c.as_slice.ensures.value) few)
+
+pub returns-in-Ok-clause-ready : goal.returns-in-Ok-clause-ready
+returns-in-Ok-clause-ready g c = λ x old budget text e.
+    let rows : c.in_ok-machine.machine.rows ≡ c.args.schedule = ap (λ (m : Held). m.rows) c.in_ok-machine.ensures in
+    let stands = returns-in-Ok-clause-stands g c in
+    loaded_ready x (system_of c.args.boot c.args.schedule) old c.args.view budget text c.in_ok-machine.machine (g.D.Sectors.sectors c.write_pages.new.disk)
+    (subst (λ (r : Rows). seen (g.D.Sectors.sectors c.write_pages.new.disk) c.in_ok-machine.machine ≡ Some (loaded (system_of c.args.boot r) old)) rows (stands ∙ ap (option_map (loaded (system_of c.args.boot c.in_ok-machine.machine.rows))) e))
+    (ap (λ (m : Held). m.time) c.in_ok-machine.ensures)

@@ -1,0 +1,75 @@
+-- What contracts see of a loaded run, and how a call of `load` ends.
+use Rattle.std.specs.Prelude.{◌≡◌, ℕ, ◌*◌, ◌<◌, ◌≤◌, Bool, true, nat_lt, Option, None, List, length, ⊤}
+use Rattle.std.specs.Option.{option_map}
+use Rattle.cvm_outside.specs.Causes.{Rose}
+use Rattle.mips_table.specs.Device.{Pending, Idle, Reading, Writing}
+use Rattle.schedule_file.specs.Rows.{Rows}
+use Rattle.mips_machine.specs.Machine.{Held}
+use Rattle.cvm_model.specs.declared.row.Next.{Next}
+use Rattle.layer_contract.specs.declared.boot.Boot.{Boot as Booted}
+use Rattle.layer_contract.specs.Follows.{loaded}
+use Rattle.boot_turns.specs.declared.answers.View.{View}
+use Rattle.boot_turns.specs.declared.answers.View.TheVariants.{Boot, Trace}
+use Rattle.boot_turns.specs.declared.answers.RunFault.{RunFault}
+use Rattle.boot_turns.specs.Completes.{seen}
+use Rattle.boot_run.specs.Loading.{system_of}
+use Rattle.boot_run.specs.declared.load.LoadFault.{LoadFault}
+use Rattle.boot_run.specs.declared.load.LoadFault.TheVariants.{NoSuchUser, SmallDisk, Memory, Disk}
+
+-- the sectors that the users' pages take
+abbrev pub pages_needed : Booted → ℕ
+pages_needed b = length b.users.items * b.params.pages
+
+-- what is viewed is a boot, or a user that there is
+abbrev pub SeesUser : View → ℕ → Type 0
+SeesUser Boot users = ⊤
+SeesUser (Trace u) users = (1 ≤ u) × (u ≤ users)
+
+-- a run that can be loaded over a disk of so many sectors
+pub record HasRoom (b : Booted) (view : View) (count : ℕ) : Type 0 where
+  pub user : SeesUser view (length b.users.items)
+  pub room : pages_needed b ≤ count
+
+-- why a run is not loaded, over a disk of so many sectors whose count of faults was and is this
+abbrev pub LoadFails : Booted → View → (count before now : ℕ) → LoadFault → Type 0
+LoadFails b view count before now (NoSuchUser u users) = (view ≡ Trace u) × (users ≡ length b.users.items) × (SeesUser view users → ⊥)
+LoadFails b view count before now (SmallDisk need have) = SeesUser view (length b.users.items) × (need ≡ pages_needed b) × (have ≡ count) × (have < need)
+LoadFails b view count before now Memory = HasRoom b view count
+LoadFails b view count before now Disk = HasRoom b view count × Rose before now
+
+-- what contracts see of a loaded run: what it was loaded with, the number of its disk's sectors, its machine,
+-- the turns that are complete, the current user, how the run ended, and the kept fault
+pub record Kept (L : Type 0) : Type 0 where
+  pub layer : L
+  pub boot : Booted
+  pub view : View
+  pub count : ℕ
+  pub machine : Held
+  pub turns : ℕ
+  pub current : ℕ
+  pub ended : Option Next
+  pub fault : Option RunFault
+
+-- a run that was loaded with these, and made no step
+pub record IsFresh {L : Type 0} (layer : L) (boot : Booted) (view : View) (rows : Rows) (count : ℕ) (r : Kept L) : Type 0 where
+  pub layer_is : r.layer ≡ layer
+  pub boot_is : r.boot ≡ boot
+  pub view_is : r.view ≡ view
+  pub rows_are : r.machine.rows ≡ rows
+  pub count_is : r.count ≡ count
+  pub no_step : r.machine.time ≡ 0
+  pub no_turn : r.turns ≡ 0
+  pub no_user : r.current ≡ 0
+  pub goes_on : r.ended ≡ None
+  pub no_fault : r.fault ≡ None
+  pub has_room : HasRoom boot view count
+
+-- where its sectors are told, it stands as the machine that was loaded over the sectors as they were
+abbrev pub StandsLoaded : {L : Type 0} → Kept L → (told retold : Option (List (List ℕ))) → Type 0
+StandsLoaded r told retold = seen retold r.machine ≡ option_map (loaded (system_of r.boot r.machine.rows)) told
+
+-- whether a command that is under way names one of so many sectors
+abbrev pub names_sector : ℕ → Pending → Bool
+names_sector count Idle = true
+names_sector count (Reading left sector) = nat_lt sector count
+names_sector count (Writing left sector) = nat_lt sector count

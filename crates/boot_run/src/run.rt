@@ -1,0 +1,207 @@
+// A loaded run.
+ghost use Rattle.std.specs.Prelude.{◌≡◌, ◌≢◌, List, Option, ℕ, ◌+◌, ◌<◌, ◌≤◌, ◌^◌, length, IfOk, IfErr, IfSome, IsSome, OnOk, OnErr, Err, Ok, Some, None};
+ghost use Rattle.cvm_outside.specs.Causes.{Counts, Rose};
+ghost use Rattle.layer_contract.specs.Boots.{BootFollows};
+ghost use Rattle.mips_table.specs.Device.{Outside};
+ghost use Rattle.boot_run.specs.Loading.{system_of, StaysFrom};
+ghost use Rattle.boot_run.specs.LoadEnds.{pages_needed, IsFresh, StandsLoaded, LoadFails};
+ghost use Rattle.boot_run.specs.TurnCalls.{around, IsOver, IsReady, KeepsLoad, TurnRuns};
+
+use crate::load::{LoadFault, check_view, loaded_machine};
+use crate::next::{ended_by, seen_next};
+use crate::pages::write_pages;
+use boot_turns::completion::advance;
+use boot_turns::row_text::row_text;
+use boot_turns::{RunFault, Turn, View, machines_run};
+use cvm_model::{Next, Row};
+use cvm_outside::{Sectors, Sink};
+use layer_contract::{Boot, Layer};
+use layer_map::CURRENT;
+use mips_machine::Machine;
+use schedule_file::Schedule;
+use std::alloc::Global;
+use std::marker::Model;
+
+/// A loaded run over a layer. The disk is lent to each call.
+#[derive(Drop)]
+pub struct Run<L> {
+    layer: L,
+    boot: Boot,
+    view: View,
+    count: u32,
+    machine: Machine,
+    turns: u64,
+    current: u32,
+    ended: Option<Next>,
+    fault: Option<RunFault>,
+}
+
+impl<L> Model for Run<L> {
+    ghost use Rattle.std.specs.Prelude.{◌<◌, length, IsTrue};
+    ghost use Rattle.boot_run.specs.LoadEnds.{Kept, names_sector};
+    ghost use Rattle.std.specs.Coded.{codes};
+    ghost use Rattle.layer_contract.specs.contracts.boot.Boot as booted;
+
+    ghost Value = { Kept L };
+
+    ghost coded = { Prim.hlevel (codes, booted.the_row.coded) };
+
+    ghost view = { λ r. record { layer = r.layer; boot = r.boot; view = r.view; count = r.count; machine = r.machine; turns = r.turns; current = r.current; ended = r.ended; fault = r.fault } };
+
+    ghost invariant = { λ r. IsTrue (names_sector r.count r.machine.hardware.ports.pending) × (1024 < length r.machine.hardware.memory) };
+}
+
+impl<L: Layer + Drop> Run<L> {
+    /// Loads what is booted under a schedule: the linked words stand in memory from address 0 on, all other memory is 0, and each
+    /// user's pages are in their sectors. It takes all memory of the run before it writes to the disk.
+    ///
+    /// # Errors
+    ///
+    /// `NoSuchUser`, where the user of a trace is none of the users; else `SmallDisk`, where the disk has fewer sectors than the
+    /// users' pages take; else `Memory`, for want of memory; else `Disk`, only where the disk's count of faults rose.
+    pub fn load<D: Sectors>(
+        alloc: Global,
+        layer: L,
+        boot: Boot,
+        schedule: Schedule,
+        view: View,
+        disk: &mut D,
+    ) -> Result<Run<L>, LoadFault>
+        requires { BootFollows (L.image layer) (L.sizes layer) (L.map layer) boot }
+        ensures fresh { IfOk result (λ r. IsFresh layer boot view schedule (D.size disk.old) r) }
+        ensures stands { IfOk result (λ r. StandsLoaded r (D.sectors disk.old) (D.sectors disk.new)) }
+        ensures ready { IfOk result (λ r. (x : Outside) (old : List (List ℕ)) (budget : ℕ) (text : Option (List ℕ)) → D.sectors disk.old ≡ Some old → IsReady x (system_of boot schedule) old text r (D.sectors disk.new) budget) }
+        ensures fault { IfErr result (LoadFails boot view (D.size disk.old) (D.faults disk.old) (D.faults disk.new)) }
+        ensures torn { OnErr result (StaysFrom (pages_needed boot) (D.sectors disk.old) (D.sectors disk.new)) }
+        ensures still { result ≢ Err LoadFault.Disk → OnErr result (disk.new ≡ disk.old) }
+        ensures size { D.size disk.new ≡ D.size disk.old }
+        ensures same { result ≢ Err LoadFault.Disk → D.faults disk.new ≡ D.faults disk.old }
+    {
+        let users = boot.users.len() as u32;
+        check_view(view, users)?;
+        let need = users * boot.params.pages;
+        let have = disk.count();
+        if have < need {
+            return Err(LoadFault::SmallDisk { need, have });
+        }
+        let machine = loaded_machine(alloc, &boot, schedule)?;
+        match write_pages(boot.users.as_slice(), boot.params.pages, disk) {
+            Ok(()) => Ok(Run {
+                layer,
+                boot,
+                view,
+                count: have,
+                machine,
+                turns: 0,
+                current: 0,
+                ended: None,
+                fault: None,
+            }),
+            Err(_) => Err(LoadFault::Disk),
+        }
+    }
+
+    /// Runs the machine to the end of the next turn, and prints the row of its dispatch.
+    fn proceed<D: Sectors, O: Sink>(
+        &mut self,
+        budget: &mut u64,
+        disk: &mut D,
+        out: &mut O,
+    ) -> Result<Turn, RunFault>
+        requires disk { D.size disk.old ≡ self.old.count }
+        requires steps { self.old.machine.time + budget.old < 2 ^ 64 }
+        requires view { self.old.view ≡ View.Boot }
+        requires goes_on { self.old.ended ≡ None }
+        ensures kept { KeepsLoad self.old self.new }
+        ensures fault { self.new.fault ≡ self.old.fault }
+        ensures size { D.size disk.new ≡ D.size disk.old }
+        ensures ends { self.old.fault ≡ None → TurnRuns (D.size disk.old) self.old (around self.old (D.sectors disk.old) budget.old (O.text out.old)) (around self.new (D.sectors disk.new) budget.new (O.text out.new)) result }
+        ensures disk { result ≡ Err RunFault.Disk → Rose (D.faults disk.old) (D.faults disk.new) }
+        ensures disk_same { result ≢ Err RunFault.Disk → D.faults disk.new ≡ D.faults disk.old }
+        ensures sink { result ≡ Err RunFault.Sink → Rose (O.faults out.old) (O.faults out.new) }
+        ensures sink_same { result ≢ Err RunFault.Sink → O.faults out.new ≡ O.faults out.old }
+        ensures spent { self.new.machine.time + budget.new ≤ self.old.machine.time + budget.old }
+        ensures never { result ≢ Ok Turn.Over }
+    {
+        machines_run();
+        let begun = advance(&mut self.machine, budget, disk)?;
+        let next = seen_next(&self.machine);
+        let turn = self.turns;
+        let user = self.current;
+        self.turns = turn.saturating_add(1);
+        self.current = self.machine.word(CURRENT);
+        self.ended = ended_by(next);
+        if !begun.dispatched {
+            return Ok(Turn::Step(user));
+        }
+        let row = Row {
+            turn,
+            cause: begun.cause,
+            edata: begun.edata,
+            user,
+            next,
+        };
+        out.put(row_text(&row).as_str().as_bytes())?;
+        Ok(Turn::Dispatch(row))
+    }
+
+    /// Runs the machine, a step from the budget each, until the next turn is complete, and prints the row of its dispatch. A run that has
+    /// ended answers `Over`, and touches nothing.
+    ///
+    /// # Errors
+    ///
+    /// `StepLimit`, where the budget is spent and the turn isn't complete; `Disk` and `Sink`, only where the count of faults of that
+    /// object rose. After a fault each call answers it again, and touches nothing.
+    pub fn turn<D: Sectors, O: Sink>(
+        &mut self,
+        budget: &mut u64,
+        disk: &mut D,
+        out: &mut O,
+    ) -> Result<Turn, RunFault>
+        requires disk { D.size disk.old ≡ self.old.count }
+        requires steps { self.old.machine.time + budget.old < 2 ^ 64 }
+        requires view { self.old.view ≡ View.Boot }
+        ensures kept { KeepsLoad self.old self.new }
+        ensures size { D.size disk.new ≡ D.size disk.old }
+        ensures again { IfSome self.old.fault (λ f. result ≡ Err f) }
+        ensures over { self.old.fault ≡ None → IsSome self.old.ended → result ≡ Ok Turn.Over }
+        ensures only { result ≡ Ok Turn.Over → IsSome self.old.ended }
+        ensures still { IsOver self.old → (self.new ≡ self.old) × (budget.new ≡ budget.old) × (disk.new ≡ disk.old) × (out.new ≡ out.old) }
+        ensures keeps { IfErr result (λ f. self.new.fault ≡ Some f) }
+        ensures fine { OnOk result (self.new.fault ≡ None) }
+        ensures ends { self.old.fault ≡ None → self.old.ended ≡ None → TurnRuns (D.size disk.old) self.old (around self.old (D.sectors disk.old) budget.old (O.text out.old)) (around self.new (D.sectors disk.new) budget.new (O.text out.new)) result }
+        ensures disk { result ≡ Err RunFault.Disk → self.old.fault ≡ None → Rose (D.faults disk.old) (D.faults disk.new) }
+        ensures disk_same { result ≢ Err RunFault.Disk → D.faults disk.new ≡ D.faults disk.old }
+        ensures sink { result ≡ Err RunFault.Sink → self.old.fault ≡ None → Rose (O.faults out.old) (O.faults out.new) }
+        ensures sink_same { result ≢ Err RunFault.Sink → O.faults out.new ≡ O.faults out.old }
+        ensures spent { self.new.machine.time + budget.new ≤ self.old.machine.time + budget.old }
+    {
+        if let Some(fault) = self.fault {
+            return Err(fault);
+        }
+        if self.ended.is_some() {
+            return Ok(Turn::Over);
+        }
+        match self.proceed(budget, disk, out) {
+            Ok(turn) => Ok(turn),
+            Err(fault) => {
+                self.fault = Some(fault);
+                Err(fault)
+            }
+        }
+    }
+
+    /// How the run ended: `Halt`, or the kernel's fault.
+    pub fn ended(&self) -> Option<Next>
+        ensures { result ≡ self.now.ended }
+    {
+        self.ended
+    }
+
+    /// How many steps the machine made.
+    pub fn steps(&self) -> u64
+        ensures { result ≡ self.now.machine.time }
+    {
+        self.machine.steps()
+    }
+}

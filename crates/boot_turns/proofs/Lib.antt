@@ -1,0 +1,13 @@
+pub mod Stepping
+pub mod Counting
+pub mod Stretches
+pub mod Units
+pub mod Dispatching
+pub mod Turning
+pub mod Whole
+pub mod Machines
+pub mod Events
+pub mod Opening
+pub mod Joining
+pub mod Advancing
+pub mod Growing

@@ -1,0 +1,76 @@
+-- One more step of the loop to the end of a turn.
+use Rattle.std.proofs.Common.{◌≡◌, ℕ, suc, ◌<◌, ◌≤◌, ◌||◌, not, Bool, true, false, Option, Some, None, List, refl, sym, ap, ◌∙◌, subst, subst₂, ⊎_elim, arith}
+use Rattle.std.specs.Prelude.{IfSome, is_some}
+use Rattle.std.specs.Option.{option_map}
+use Rattle.std.proofs.lemmas.Bool.{cases_lt}
+use Rattle.mips_table.specs.Device.{Outside}
+use Rattle.mips_table.specs.Machine.{State, run, step}
+use Rattle.mips_table.specs.Turns.{begins, rests, in_user}
+use Rattle.mips_machine.specs.Machine.{Held, state_of}
+use Rattle.boot_turns.specs.Completes.{seen, note, shown, noted, is_at_rest, Open, Progress}
+use Rattle.boot_turns.specs.declared.completion.Begun.{Begun}
+
+same_state : (a b : State) → Some a ≡ Some b → a ≡ b
+same_state a b h = cc
+
+pub seen_note : (told : Option (List (List ℕ))) (held : Held) (v : State) → seen told held ≡ Some v → shown held ≡ note v
+seen_note None held v h = absurd (let f : ◌≡◌ {A = Option State} None (Some v) = h in cc)
+seen_note (Some ss) held v h = ap note (same_state (state_of held ss) v h)
+
+not_not : (u : Bool) (o : Option ℕ) → u || is_some o ≡ u || not (not (is_some o))
+not_not u None = refl
+not_not u (Some w) = refl
+
+held_rests : (held : Held) (ss : List (List ℕ)) → is_at_rest held ≡ rests (state_of held ss)
+unfolding rests
+held_rests held ss = not_not (in_user (state_of held ss)) held.hardware.off
+
+pub seen_rests : (told : Option (List (List ℕ))) (held : Held) (v : State) → seen told held ≡ Some v → is_at_rest held ≡ rests v
+seen_rests None held v h = absurd (let f : ◌≡◌ {A = Option State} None (Some v) = h in cc)
+seen_rests (Some ss) held v h = held_rests held ss ∙ ap rests (same_state (state_of held ss) v h)
+
+-- a turn may have begun, and the machine may rest now
+abbrev pub Opened : Outside → State → ℕ → ℕ → Option Begun → Type 0
+Opened x s t u None = Progress x s t u None
+Opened x s t u (Some b) = Open x s t u b
+
+pub opened_more : (x : Outside) (s : State) (t u : ℕ) (b : Option Begun) (began : Bool) (now : Begun) → t ≤ u → Progress x s t u b → began ≡ begins x (run x s u) → now ≡ note (run x s (suc u)) → Opened x s t (suc u) (noted b began now)
+opened_more x s t u (Some b) began now le p e n =
+    let o = p.0 in
+    record {
+      start = o.start;
+      from = o.from;
+      to = let h = o.to in omega (arith, h);
+      none = o.none;
+      begin = o.begin;
+      busy = λ j l h. ⊎_elim
+          (λ (lt : j < u). o.busy j l lt)
+          (λ (ge : u ≤ j). let d : u ≡ j = omega arith in subst (λ i. rests (run x s i) ≡ false) d p.1)
+          (cases_lt j u);
+      shows = o.shows;
+    }
+opened_more x s t u None true now le p e n = record {
+  start = u;
+  from = le;
+  to = omega arith;
+  none = p;
+  begin = sym e;
+  busy = λ j l h. absurd (omega arith);
+  shows = n;
+}
+opened_more x s t u None false now le p e n = λ j l h. ⊎_elim
+    (λ (lt : j < u). p j l lt)
+    (λ (ge : u ≤ j). let d : u ≡ j = omega arith in subst (λ i. begins x (run x s i) ≡ false) d (sym e))
+    (cases_lt j u)
+
+seen_more : (x : Outside) (a b : Option State) (v : State) → b ≡ option_map (step x) a → a ≡ Some v → b ≡ Some (step x v)
+seen_more x a b v h e = h ∙ ap (option_map (step x)) e
+
+pub one_step : (x y : Outside) (s : State) (t u : ℕ) (told retold : Option (List (List ℕ))) (old new : Held) (b out : Option Begun) (began : Bool) → y ≡ x → t ≤ u →
+    seen told old ≡ Some (run x s u) → Progress x s t u b → seen retold new ≡ option_map (step y) (seen told old) → IfSome (seen told old) (λ s. began ≡ begins y s) →
+    out ≡ noted b began (shown new) → (seen retold new ≡ Some (run x s (suc u))) × Opened x s t (suc u) out
+one_step x y s t u told retold old new b out began same le is p ran bg note_is =
+    let ran2 : seen retold new ≡ option_map (step x) (seen told old) = subst (λ y. seen retold new ≡ option_map (step y) (seen told old)) same ran in
+    let bg2 : IfSome (Some (run x s u)) (λ s. began ≡ begins x s) = subst₂ (λ y o. IfSome o (λ s. began ≡ begins y s)) same is bg in
+    let there : seen retold new ≡ Some (run x s (suc u)) = seen_more x _ _ _ ran2 is in
+    (there, subst (Opened x s t (suc u)) (sym note_is) (opened_more x s t u b began (shown new) le p bg2 (seen_note retold new _ there)))

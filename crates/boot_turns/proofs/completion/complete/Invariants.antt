@@ -1,0 +1,23 @@
+use Rattle.std.proofs.Common.{◌≡◌, ℕ, ◌+◌, ◌≤◌, ◌<◌, ◌^◌, Some}
+use Rattle.std.specs.Prelude.{length}
+use Rattle.mips_table.specs.Fits.{NamesSector}
+use Rattle.mips_table.specs.Machine.{State, run}
+use Rattle.mips_machine.specs.Steps.{outside_of}
+use Rattle.boot_turns.specs.Completes.{seen, Progress}
+use Rattle.boot_turns.proofs.completion.complete.Given as goal
+
+abbrev pub invariant-loop-budget : goal.invariant-loop-budget
+invariant-loop-budget g l = record {
+  rows : l.machine.rows ≡ l.fn.machine.rows;
+  memory : length l.machine.hardware.memory ≡ length l.fn.machine.hardware.memory;
+  sector : NamesSector (g.D.Sectors.size l.disk) l.machine.hardware.ports.pending;
+  size : g.D.Sectors.size l.disk ≡ g.D.Sectors.size l.fn.disk;
+  faults : g.D.Sectors.faults l.disk ≡ g.D.Sectors.faults l.fn.disk;
+  time : l.machine.time + l.budget ≡ l.fn.machine.time + l.fn.budget;
+  ran : (s : State) (t : ℕ) → seen (g.D.Sectors.sectors l.fn.disk) l.fn.machine ≡ Some (run (outside_of l.fn.machine.rows (g.D.Sectors.size l.fn.disk)) s t) →
+      (u : ℕ) × (t ≤ u) × (l.budget + u ≡ l.fn.budget + t) × (seen (g.D.Sectors.sectors l.disk) l.machine ≡ Some (run (outside_of l.fn.machine.rows (g.D.Sectors.size l.fn.disk)) s u))
+      × Progress (outside_of l.fn.machine.rows (g.D.Sectors.size l.fn.disk)) s t u l.begun;
+}
+
+abbrev pub decreases-loop-budget : goal.decreases-loop-budget
+decreases-loop-budget g l = l.budget

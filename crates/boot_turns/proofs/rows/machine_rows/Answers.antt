@@ -1,0 +1,13 @@
+-- Each row is computed.
+use Rattle.std.proofs.Common.{refl}
+use Rattle.mips_table.specs.Machine.{step}
+use Rattle.mips_table.specs.Turns.{begins, handled, rests}
+use Rattle.boot_turns.proofs.rows.machine_rows.Goals as goal
+
+pub returns-clause-turns : goal.returns-clause-turns
+unfolding step begins handled rests
+returns-clause-turns c = record { begun = refl; complete = refl; lines = refl; ends = refl; off = refl }
+
+pub returns-clause-input : goal.returns-clause-input
+unfolding step
+returns-clause-input c = record { loaded = refl; left = refl; logged = refl; ran = refl; taken = refl }

@@ -1,0 +1,67 @@
+-- What the run of one turn does to the machine of a boot.
+use Rattle.std.specs.Prelude.{◌≡◌, ℕ, suc, ◌+◌, ◌≤◌, Option, Some, None, List, Result, MatchResult}
+use Rattle.mips_table.specs.Device.{Outside}
+use Rattle.mips_table.specs.Machine.{State}
+use Rattle.mips_table.specs.Turns.{complete}
+use Rattle.mips_machine.specs.Machine.{Held}
+use Rattle.mips_machine.specs.Steps.{outside_of}
+use Rattle.layer_map.specs.Map.{Map}
+use Rattle.c0_tree.specs.Tree.{CUnit}
+use Rattle.c0_meaning.specs.TypedState.{IsTypedState}
+use Rattle.c0_meaning.specs.State.{State as C0}
+use Rattle.cvm_model.specs.Cvm.{System, Running, Cvm}
+use Rattle.cvm_model.specs.Journal.{KernelReplays}
+use Rattle.layer_contract.specs.Layer.{Laws}
+use Rattle.layer_contract.specs.Follows.{site_of, loaded, machine}
+use Rattle.boot_turns.specs.TurnEnds.{Stood, Ahead}
+use Rattle.boot_turns.specs.Completes.{seen, note}
+use Rattle.boot_turns.specs.Headline.{Boots}
+use Rattle.boot_turns.specs.declared.completion.Begun.{Begun}
+use Rattle.boot_turns.specs.declared.answers.RunFault.{RunFault}
+use Rattle.boot_turns.specs.declared.answers.RunFault.TheVariants.{StepLimit, Disk, Sink}
+
+-- turn k is complete: the machine stands at its end, its steps are taken from the budget, and what is noted is shown after its first step
+pub record Advanced (x : Outside) (y : System) (old : List (List ℕ)) (k t : ℕ) (c : Cvm) (now : Option State) (budget left : ℕ) (b : Begun) : Type 0 where
+  pub ahead : Ahead x y old k t c
+  pub state : now ≡ Some (machine x y old ahead.end)
+  pub spent : left + ahead.end ≡ budget + t
+  pub shows : b ≡ note (machine x y old (suc ahead.start))
+
+-- turn k isn't complete by step u, and the machine is on
+pub record Goes (x : Outside) (y : System) (old : List (List ℕ)) (k t u : ℕ) : Type 0 where
+  pub between : (j : ℕ) → t ≤ j → j ≤ u → complete x (loaded y old) j ≡ k
+  pub on : (j : ℕ) → j ≤ u → (machine x y old j).off ≡ None
+
+-- the disk failed in step number `at`
+pub record DiskStops (x : Outside) (y : System) (old : List (List ℕ)) (k t budget left : ℕ) : Type 0 where
+  pub at : ℕ
+  pub from : t ≤ at
+  pub spent : left + (at + 1) ≡ budget + t
+  pub goes : Goes x y old k t at
+
+-- the budget was spent
+pub record BudgetStops (x : Outside) (y : System) (old : List (List ℕ)) (k t : ℕ) (now : Option State) (budget left : ℕ) : Type 0 where
+  pub spent : left ≡ 0
+  pub state : now ≡ Some (machine x y old (t + budget))
+  pub goes : Goes x y old k t (t + budget)
+
+-- by the fault
+abbrev pub Stops : Outside → System → List (List ℕ) → (k t : ℕ) → Option State → (budget left : ℕ) → RunFault → Type 0
+Stops x y old k t now budget left StepLimit = BudgetStops x y old k t now budget left
+Stops x y old k t now budget left Disk = DiskStops x y old k t budget left
+Stops x y old k t now budget left Sink = ⊥
+
+-- how the run of turn k ends
+abbrev pub AdvanceEnds : Outside → System → List (List ℕ) → (k t : ℕ) → Cvm → Option State → (budget left : ℕ) → Result Begun RunFault → Type 0
+AdvanceEnds x y old k t c now budget left result = MatchResult result (Advanced x y old k t c now budget left) (Stops x y old k t now budget left)
+
+-- one turn of the machine, for every boot whose run stands there and goes on
+abbrev pub AdvancesTyped : (C0 → Type 0) → Outside → (before now : Option State) → (budget left : ℕ) → Result Begun RunFault → Type 0
+AdvancesTyped Typed x before now budget left result = (lines busy : ℕ → ℕ) (y : System) (old : List (List ℕ)) (image sizes : List ℕ) (made_for : Map) →
+    Boots Typed lines busy x y old image sizes made_for → Laws (site_of y.boot) sizes → KernelReplays y.boot.meaning → (k t : ℕ) (c : Cvm) → Stood x y old k t c →
+    c.status ≡ Running → before ≡ Some (machine x y old t) → AdvanceEnds x y old k t c now budget left result
+
+-- ONE TURN, over a disk of so many sectors, whatever unit the kernel is
+abbrev pub Advances : (count : ℕ) → (old new : Held) → (told retold : Option (List (List ℕ))) → (budget left : ℕ) → Result Begun RunFault → Type 0
+Advances count old new told retold budget left result =
+    (u : CUnit) → AdvancesTyped (IsTypedState u) (outside_of old.rows count) (seen told old) (seen retold new) budget left result

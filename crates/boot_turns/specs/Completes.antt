@@ -1,0 +1,102 @@
+-- What a loop that steps a machine to the end of a turn has done.
+use Rattle.std.specs.Prelude.{◌≡◌, ◌≢◌, ◌⊎◌, ℕ, suc, ◌+◌, ◌/◌, ◌<◌, ◌≤◌, ◌==◌, ◌&&◌, ◌||◌, not, nat_lt, is_some, IfSome, Option, Some, None, Bool, true, false, List, [], slice_index, Result, MatchResult, ⊤}
+use Rattle.std.specs.Option.{option_map}
+use Rattle.mips_table.specs.declared.cause.Cause.TheVariants.{FetchFault, DataFault}
+use Rattle.mips_table.specs.Device.{Outside}
+use Rattle.mips_table.specs.Machine.{State, MODE, ECA, EDATA, step, run}
+use Rattle.mips_table.specs.Turns.{begins, rests}
+use Rattle.mips_machine.specs.Machine.{Held, state_of}
+use Rattle.mips_machine.specs.Steps.{outside_of}
+use Rattle.mips_machine.specs.declared.event.Event.{Event}
+use Rattle.mips_machine.specs.declared.event.Event.TheVariants.{Taken, Off}
+use Rattle.cvm_model.specs.Cvm.{Begin, Steps, Traps, Interrupts}
+use Rattle.boot_turns.specs.declared.completion.Begun.{Begun}
+use Rattle.boot_turns.specs.declared.answers.RunFault.{RunFault}
+use Rattle.boot_turns.specs.declared.answers.RunFault.TheVariants.{StepLimit, Disk, Sink}
+
+-- the state of a machine with the sectors of its disk, where they are told
+abbrev pub seen : Option (List (List ℕ)) → Held → Option State
+seen told held = option_map (state_of held) told
+
+-- over a disk of so many sectors the machine made one step
+abbrev pub StepRan : (count : ℕ) → (old new : Held) → (told retold : Option (List (List ℕ))) → Type 0
+StepRan count old new told retold = seen retold new ≡ option_map (step (outside_of old.rows count)) (seen told old)
+
+-- the answer is whether that step begins a turn
+abbrev pub StepBegan : (count : ℕ) → Held → Option (List (List ℕ)) → Bool → Type 0
+StepBegan count old told answer = IfSome (seen told old) (λ s. answer ≡ begins (outside_of old.rows count) s)
+
+-- whether a step began a turn, by what the machine shows before and after it and by what the step was
+abbrev pub begun_by : (reset in_user : Bool) (pages edata : ℕ) → Event → Bool
+begun_by reset in_user pages edata (Off word) = false
+begun_by reset in_user pages edata (Taken FetchFault) = reset || (in_user && not (nat_lt (edata / 4096) pages))
+begun_by reset in_user pages edata (Taken DataFault) = reset || (in_user && not (nat_lt (edata / 4096) pages))
+begun_by reset in_user pages edata other = reset || in_user
+
+-- what a state shows after the step that begins a turn: the mode, the cause, what it concerns, and the current user's word
+abbrev pub note : State → Begun
+note s = record {
+  dispatched = not (slice_index s.special MODE == 1);
+  cause = slice_index s.special ECA;
+  edata = slice_index s.special EDATA;
+  user = slice_index s.memory 1024;
+}
+
+-- the same of a machine, whatever its disk's sectors are
+abbrev pub shown : Held → Begun
+shown held = note (state_of held [])
+
+-- what is noted first stays
+abbrev pub noted : Option Begun → Bool → Begun → Option Begun
+noted (Some b) began now = Some b
+noted None true now = Some now
+noted None false now = None
+
+-- whether a machine is in user mode or off
+abbrev pub is_at_rest : Held → Bool
+is_at_rest held = slice_index held.hardware.special MODE == 1 || is_some held.hardware.off
+
+-- from step t on a turn began at `start`, before u, and the machine hasn't come to rest since
+pub record Open (x : Outside) (s : State) (t u : ℕ) (b : Begun) : Type 0 where
+  pub start : ℕ
+  pub from : t ≤ start
+  pub to : start < u
+  pub none : (j : ℕ) → t ≤ j → j < start → begins x (run x s j) ≡ false
+  pub begin : begins x (run x s start) ≡ true
+  pub busy : (j : ℕ) → start < j → j < u → rests (run x s j) ≡ false
+  pub shows : b ≡ note (run x s (suc start))
+
+-- how far the next turn is at step u, from step t on: it hasn't begun, or it is open
+abbrev pub Progress : Outside → State → ℕ → ℕ → Option Begun → Type 0
+Progress x s t u None = (j : ℕ) → t ≤ j → j < u → begins x (run x s j) ≡ false
+Progress x s t u (Some b) = Open x s t u b × (rests (run x s u) ≡ false)
+
+-- the turn is complete at u
+pub record Completed (x : Outside) (s : State) (t u : ℕ) (b : Begun) : Type 0 where
+  pub opened : Open x s t u b
+  pub rest : rests (run x s u) ≡ true
+
+-- the turn was completed, and its steps are taken from the budget
+abbrev pub CompleteOk : Outside → Option State → ℕ → ℕ → State → ℕ → Begun → Type 0
+CompleteOk x new before after s t b = (u : ℕ) × Completed x s t u b × (new ≡ Some (run x s u)) × (after + u ≡ before + t)
+
+-- the budget was spent, or the disk failed in step number u
+abbrev pub CompleteErr : Outside → Option State → ℕ → ℕ → State → ℕ → RunFault → Type 0
+CompleteErr x new before after s t StepLimit = (u : ℕ) × (t ≤ u) × (after + u ≡ before + t) × (new ≡ Some (run x s u)) × ((after ≡ 0) ⊎ ((run x s u).off ≢ None)) × ((b : Option Begun) × Progress x s t u b)
+CompleteErr x new before after s t Disk = (u : ℕ) × (t ≤ u) × (after + (u + 1) ≡ before + t) × ((b : Option Begun) × Progress x s t u b)
+CompleteErr x new before after s t Sink = ⊤
+
+-- how the loop ends
+abbrev pub CompleteEnds : Outside → Option State → ℕ → ℕ → State → ℕ → Result Begun RunFault → Type 0
+CompleteEnds x new before after s t result = MatchResult result (CompleteOk x new before after s t) (CompleteErr x new before after s t)
+
+-- THE LOOP, over a disk of so many sectors: from any step of any run in which the machine stands
+abbrev pub Completes : (count : ℕ) → (old new : Held) → (told retold : Option (List (List ℕ))) → (before after : ℕ) → Result Begun RunFault → Type 0
+Completes count old new told retold before after result = (s : State) (t : ℕ) → seen told old ≡ Some (run (outside_of old.rows count) s t) →
+    CompleteEnds (outside_of old.rows count) (seen retold new) before after s t result
+
+-- what the machine shows once a turn has begun: a user's step, or the cause of its dispatch and what that concerns
+abbrev pub ShownAs : Begin → Begun → Type 0
+ShownAs (Steps after) b = b.dispatched ≡ false
+ShownAs (Traps cause edata at) b = (b.dispatched ≡ true) × (b.cause ≡ cause) × (b.edata ≡ edata)
+ShownAs (Interrupts cause edata at pending) b = (b.dispatched ≡ true) × (b.cause ≡ cause) × (b.edata ≡ edata)

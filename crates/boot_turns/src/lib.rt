@@ -1,0 +1,30 @@
+//! Loaded runs: what `turn` and `report` come to on the run of the machine.
+//!
+//! The definitions are in `specs/`. Each law and each worked row is the contract of a function that does nothing.
+#![tactic(auto)]
+
+ghost use Rattle.c0_tree.specs.Tree.{CUnit};
+ghost use Rattle.c0_meaning.specs.TypedState.{IsTypedState};
+ghost use Rattle.boot_turns.specs.Headline.{MachinesRun};
+
+mod answers;
+pub mod completion;
+pub mod row_text;
+mod rows;
+
+pub use answers::{RunFault, Turn, View};
+use cvm_model::users_are_isolated;
+use layer_contract::{the_loaded_machine_resets, users_follow_linked};
+use mips_table::runs::turns_are_counted;
+pub use rows::{a_line_at_each_step, machine_rows};
+
+/// A law: over a layer that meets its laws the machine goes on where the CVM run is defined, within its bound; the run is defined for
+/// the turns that are complete; at most two page faults are handled before a turn; and a trace replays.
+pub fn machines_run()
+    ensures { (u : CUnit) → MachinesRun (IsTypedState u) }
+{
+    the_loaded_machine_resets();
+    users_follow_linked();
+    turns_are_counted();
+    users_are_isolated();
+}

@@ -1,5 +1,0 @@
-use Rattle.c0_front.proofs.OneAnswer.{one_answer}
-use Rattle.c0_front.proofs.laws.sources_have_one_answer.Goals as goal
-
-pub returns : goal.returns
-returns c = one_answer c.sources_have_one_answer.ensures c.least_fault_is_there.ensures

@@ -1,0 +1,48 @@
+-- A compiled unit's code stands where its places say.
+use Rattle.std.proofs.Common.{◌≡◌, ℕ, ◌+◌, ◌*◌, List, refl, sym, ap, ◌∙◌}
+use Rattle.masm.specs.declared.registers.Places.{Places}
+use Rattle.layer_map.specs.Map.{layer_words, next_page}
+use Rattle.c0_tree.specs.Tree.{CUnit}
+use Rattle.c0_meaning.specs.Operators.{KernelFault, NullUse, Bounds, DivZero, StackOut}
+use Rattle.c0_meaning.specs.Unit.{IsChecked}
+use Rattle.c0_expr_code.specs.Scope.{exit_number}
+use Rattle.c0_unit.specs.Code.{unit_code}
+use Rattle.c0_unit.specs.Laws.{ArePlacesOf, StandsIn, UnitStands, UnitsStand, UnitsHavePlaces}
+use Rattle.cvm_model.specs.Kernel.{power_of}
+use Rattle.cvm_model.specs.KernelMeaning.{fault_of}
+use Rattle.cvm_model.specs.Stands.{Site}
+use Rattle.kernel_runs.specs.Placed.{StandsAt, CodeStands}
+use Rattle.kernel_runs.specs.Runs.{UnitsRunOverLayers, IsLinked, CompiledUnitsRun}
+
+same_exit : (f : KernelFault) → 2058 + exit_number f ≡ 2057 + power_of (fault_of f)
+same_exit NullUse = refl
+same_exit Bounds = refl
+same_exit DivZero = refl
+same_exit StackOut = refl
+
+as_piece : (u : CUnit) (k : ℕ) (piece : List _) → StandsIn u k piece → StandsAt (unit_code u) k piece
+as_piece u k piece s = (s.before, s.after, s.is, s.from, s.behind)
+
+code_stands : UnitsStand → (u : CUnit) (p : Places) (y : Site) → IsChecked u → ArePlacesOf u p → IsLinked u y → CodeStands u p y (unit_code u)
+code_stands stand u p y checked places l =
+    let s : UnitStands u p = stand u checked p places in
+    record {
+      checked = checked;
+      range = l.range;
+      code_words = l.code_words ∙ sym s.words;
+      global_words = l.global_words;
+      long = l.long;
+      linked = l.code;
+      in_range = s.in_range;
+      globals = places.globals_at ∙ ap (λ n. 4 * next_page (layer_words + n)) (sym l.code_words);
+      exits = λ f. s.exits f ∙ same_exit f;
+      primitives = s.primitives;
+      below = s.below;
+      rest = s.rest;
+      entry = s.entry;
+      functions = λ n f is. as_piece u _ _ (s.functions n f is);
+      new_object = as_piece u _ _ s.new_object;
+    }
+
+pub compiled : UnitsHavePlaces → UnitsStand → UnitsRunOverLayers → CompiledUnitsRun
+compiled have stand runs s y sizes checked l variables answers = let p = have s checked in runs _ p.0 y _ sizes (code_stands stand _ p.0 y checked p.1 l) variables answers

@@ -1,0 +1,16 @@
+pub mod Flat
+pub mod HeldState
+pub mod Bounds
+pub mod Seen
+pub mod Standing
+pub mod Instructions
+pub mod Site
+pub mod Reached
+pub mod Words
+pub mod Passing
+pub mod Runs
+pub mod Ends
+pub mod Begins
+pub mod FewUnits
+pub mod KernelRun
+pub mod Compiled

@@ -1,0 +1,4 @@
+pub mod Held
+pub mod Outer
+pub mod Placed
+pub mod Runs

@@ -1,0 +1,6 @@
+-- By where the user's pc stands.
+use Rattle.layer_contract.proofs.Interrupted.{users_are}
+use Rattle.layer_contract.proofs.users_are_interrupted.Goals as goal
+
+pub returns : goal.returns
+returns c = users_are

@@ -1,0 +1,5 @@
+pub mod Image
+pub mod Runs
+pub mod Laws
+pub mod Laid
+pub mod Real

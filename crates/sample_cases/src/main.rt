@@ -1,0 +1,92 @@
+// Prints the parts of some samples; and of samples with each number of users whether the source is typed and the schedule is one.
+#![tactic(auto)]
+
+use c0_types::read_unit;
+use cvm_text::hex8;
+use sample_maker::{Sample, sample};
+use std::alloc::{AllocError, Global};
+use std::fmt::Write;
+use std::io;
+
+// The samples that are shown whole.
+const SHOWN: [u32; 6] = [0, 1, 13, 999, 1000, 4_294_967_295];
+
+// The words of each user.
+fn put_users(out: &mut String, users: &[Vec<u32>]) -> Result<(), AllocError> {
+    writeln!(out, "users, {}", users.len())?;
+    for (index, words) in users.iter().enumerate() {
+        let number = index as u64 + 1;
+        write!(out, "user {number}, {} words:", words.len())?;
+        for word in words {
+            out.push(' ')?;
+            out.push_str(hex8(*word).as_str())?;
+        }
+        out.push('\n')?;
+    }
+    Ok(())
+}
+
+// A text, and its length.
+fn put_text(out: &mut String, name: &str, text: &[u8]) -> Result<(), AllocError> {
+    writeln!(out, "{name}, {} bytes", text.len())?;
+    for byte in text {
+        out.push(char::from(*byte))?;
+    }
+    Ok(())
+}
+
+// The parts of a sample.
+fn put_sample(out: &mut String, sample: &Sample) -> Result<(), AllocError> {
+    let params = &sample.params;
+    writeln!(
+        out,
+        "pages {} frames {} heap {} stack {}",
+        params.pages, params.frames, params.heap, params.stack
+    )?;
+    put_users(out, &sample.users)?;
+    put_text(out, "source", &sample.source)?;
+    put_text(out, "schedule", &sample.schedule)
+}
+
+// Whether the source is typed.
+fn put_typing(alloc: Global, out: &mut String, source: &[u8]) -> Result<(), AllocError> {
+    match read_unit(alloc, source) {
+        Ok(_) => out.push_str(", source typed"),
+        Err(fault) => write!(out, ", {fault}"),
+    }
+}
+
+// What the schedule says.
+fn put_schedule(alloc: Global, out: &mut String, text: &[u8]) -> Result<(), AllocError> {
+    match schedule_file::read(alloc, text) {
+        Ok(schedule) => {
+            let last = schedule.last_step();
+            let longest = schedule.longest();
+            write!(out, ", schedule read to step {last}, longest {longest}")
+        }
+        Err(fault) => write!(out, ", {fault}"),
+    }
+}
+
+// What is printed.
+fn shown(alloc: Global) -> Result<String, AllocError> {
+    let mut out = String::new(alloc);
+    for number in &SHOWN {
+        writeln!(out, "== sample {number}")?;
+        let parts = sample(alloc, *number)?;
+        put_sample(&mut out, &parts)?;
+    }
+    for number in 0..14u32 {
+        let parts = sample(alloc, number)?;
+        write!(out, "sample {number}: {} users", parts.users.len())?;
+        put_typing(alloc, &mut out, &parts.source)?;
+        put_schedule(alloc, &mut out, &parts.schedule)?;
+        out.push('\n')?;
+    }
+    Ok(out)
+}
+
+fn main(rt: HostRuntime) -> io::Result<()> {
+    let out = shown(rt.alloc())?;
+    rt.print(out)
+}

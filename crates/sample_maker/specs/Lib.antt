@@ -1,0 +1,4 @@
+pub mod Parts
+pub mod Program
+pub mod Sample
+pub mod Source
