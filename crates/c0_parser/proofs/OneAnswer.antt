@@ -33,17 +33,17 @@ apart (x ∷ xs) (y ∷ ys) p q t u e =
     let h : x ≡ y = cc in
     let rest : xs ++ t ∷ p ≡ ys ++ u ∷ q = cc in
     elim (apart xs ys p q t u rest) [
-        inl same ↦ inl same |
-        inr (inl (z, s)) ↦ inr (inl (z, cc)) |
-        inr (inr (z, s)) ↦ inr (inr (z, cc))
+      | inl same ↦ inl same
+      | inr (inl (z, s)) ↦ inr (inl (z, cc))
+      | inr (inr (z, s)) ↦ inr (inr (z, cc))
     ]
 
 -- there is one first bad token
 one_bad : (ts : List CToken) (t u : CToken) → IsFirstBad ts t → IsFirstBad ts u → t ≡ u
 one_bad ts t u a b = elim (apart a.before b.before a.after b.after t u (sym a.stands ∙ b.stands)) [
-    inl same ↦ same |
-    inr (inl (z, s)) ↦ absurd (a.bad (begins_too _ z (subst IsPrefix s b.good))) |
-    inr (inr (z, s)) ↦ absurd (b.bad (begins_too _ z (subst IsPrefix s a.good)))
+  | inl same ↦ same
+  | inr (inl (z, s)) ↦ absurd (a.bad (begins_too _ z (subst IsPrefix s b.good)))
+  | inr (inr (z, s)) ↦ absurd (b.bad (begins_too _ z (subst IsPrefix s a.good)))
 ]
 
 -- a fault by its first bad token
@@ -65,18 +65,18 @@ kinds source Memory m h = absurd (m refl)
 -- there is one fault
 one_fault : (source : List ℕ) (f g : ReadFault) → f ≢ Memory → g ≢ Memory → FaultIs source f → FaultIs source g → f ≡ g
 one_fault source f g m n a b = elim (kinds source f m a) [
-    inl x ↦ elim (kinds source g n b) [ inl y ↦ x.0 ∙ sym y.0 | inr y ↦ let l = y.short in let k = x.1 in absurd (omega arith) ] |
-    inr x ↦ elim (kinds source g n b) [
-        inl y ↦ let l = x.short in let k = y.1 in absurd (omega arith) |
-        inr y ↦ x.is ∙ (ap fault_at (one_bad (tokens_of source) x.token y.token x.first y.first) ∙ sym y.is)
-    ]
+  | inl x ↦ elim (kinds source g n b) [ inl y ↦ x.0 ∙ sym y.0 | inr y ↦ let l = y.short in let k = x.1 in absurd (omega arith) ]
+  | inr x ↦ elim (kinds source g n b) [
+    | inl y ↦ let l = x.short in let k = y.1 in absurd (omega arith)
+    | inr y ↦ x.is ∙ (ap fault_at (one_bad (tokens_of source) x.token y.token x.first y.first) ∙ sym y.is)
+  ]
 ]
 
 -- a source with a tree has no fault
 no_fault : (source : List ℕ) (u : CUnit) (f : ReadFault) → length source ≤ 1048576 → Reads source u → f ≢ Memory → FaultIs source f → ⊥
 no_fault source u f le r m h = elim (kinds source f m h) [
-    inl x ↦ let k = x.1 in absurd (omega arith) |
-    inr x ↦ not_both (tokens_of source) x.token _ r.2 x.first
+  | inl x ↦ let k = x.1 in absurd (omega arith)
+  | inr x ↦ not_both (tokens_of source) x.token _ r.2 x.first
 ]
 
 pub one_answer : (source : List ℕ) (a b : Result CUnit ReadFault) → IsAnswer source a → IsAnswer source b → a ≡ b

@@ -74,6 +74,6 @@ pub spelled_sizes : (i : Image) (p : Params) (users : List (List ℕ)) → HasSp
 spelled_sizes i p users h e k =
     subst (λ (q : Params). All (λ u. length u ≤ most_words q.pages) users) e
     (subst (λ (us : List (List ℕ)). All (λ u. length u ≤ most_words i.params.pages) us) k (elim (h.form) [
-        inl b ↦ λ n d below. let none : length i.users ≡ 0 = ap length b.users in absurd (omega arith) |
-        inr s ↦ s.sizes
+      | inl b ↦ λ n d below. let none : length i.users ≡ 0 = ap length b.users in absurd (omega arith)
+      | inr s ↦ s.sizes
     ]))

@@ -48,6 +48,6 @@ linked_accepted layer o p users front i h =
       read = s.1;
       source = ap (λ (j : Image). j.source) (sym s.2);
       accepted = subst (λ (j : Image). accept_answer layer j front ≡ Ok (record { params = p; unit = s.0; words = linked layer s.0 p (sizes_of users); users = users })) s.2
-        (subst (λ (r : Result CUnit SourceFault). accept_answer layer (image_of layer o p users s.0) r ≡ Ok (record { params = p; unit = s.0; words = linked layer s.0 p (sizes_of users); users = users })) (sym s.1)
-        (accepts layer o p users s.0));
+          (subst (λ (r : Result CUnit SourceFault). accept_answer layer (image_of layer o p users s.0) r ≡ Ok (record { params = p; unit = s.0; words = linked layer s.0 p (sizes_of users); users = users })) (sym s.1)
+          (accepts layer o p users s.0));
     }

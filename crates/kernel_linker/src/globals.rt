@@ -9,9 +9,7 @@ ghost use Rattle.c0_meaning.specs.DeclaredTypes.{MAX_TYPE_WORDS};
 ghost use Rattle.c0_meaning.specs.Sound.{shapes, IsSized};
 ghost use Rattle.kernel_linker.specs.Linked.{global_words as words_of_globals};
 
-use c0_meaning::laws::{
-    units_are_typed_or_faulty, well_formed_units_are_sized,
-};
+use c0_meaning::laws::{units_are_typed_or_faulty, well_formed_units_are_sized};
 use c0_meaning::{Measured, words_of};
 use c0_tree::Decl;
 
