@@ -19,3 +19,4 @@ pub mod StructFields
 pub mod PlainSources
 pub mod Shapes
 pub mod ItemsOf
+pub mod OneAnswer

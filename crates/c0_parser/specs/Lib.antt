@@ -11,3 +11,4 @@ pub mod Items
 pub mod Levels
 pub mod Tails
 pub mod ToEnd
+pub mod Answer

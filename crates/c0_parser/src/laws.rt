@@ -1,8 +1,10 @@
 // What holds of the tree of every source.
 
-ghost use Rattle.std.specs.Prelude.{ℕ, ◌≡◌, ◌+◌, List, length};
+ghost use Rattle.std.specs.Prelude.{ℕ, ◌≡◌, ◌+◌, List, length, Result};
 ghost use Rattle.c0_tree.specs.Tree.{CUnit};
+ghost use Rattle.c0_parser.specs.Answer.{IsAnswer};
 ghost use Rattle.c0_parser.specs.Faults.{Reads};
+ghost use Rattle.c0_parser.specs.declared.fault.ReadFault.{ReadFault};
 ghost use Rattle.c0_parser.specs.Items.{CItem, IsMadeOf, structs_among, globals_among, functions_among, unit_with};
 
 /// A law: a source that has a tree is a row of items and its end, and its unit is made of these: its structs, globals and functions are those
@@ -12,4 +14,9 @@ pub fn unit_has_all_items()
     ensures made { (source : List ℕ) (u : CUnit) → Reads source u → (items : List CItem) × IsMadeOf source items × (u ≡ unit_with (length source) items) }
     ensures reads { (source : List ℕ) (items : List CItem) → IsMadeOf source items → Reads source (unit_with (length source) items) }
     ensures count { (items : List CItem) → length (structs_among items) + length (globals_among items) + length (functions_among items) ≡ length items }
+{}
+
+/// A law: of a source there is one answer. It has no second tree, none beside a first token that cannot be, and no second such token.
+pub fn sources_have_one_answer()
+    ensures { (source : List ℕ) (a b : Result CUnit ReadFault) → IsAnswer source a → IsAnswer source b → a ≡ b }
 {}

@@ -12,5 +12,5 @@ mod statements;
 mod types;
 
 pub use fault::ReadFault;
-pub use laws::unit_has_all_items;
+pub use laws::{sources_have_one_answer, unit_has_all_items};
 pub use source::parse;

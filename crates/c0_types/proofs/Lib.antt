@@ -13,3 +13,4 @@ pub mod UnitBodies
 pub mod UnitOutside
 pub mod UnitAnswer
 pub mod TypedSources
+pub mod OneAnswer

@@ -1,1 +1,6 @@
+pub mod Comparing
+pub mod Declared
+pub mod LinkSteps
+pub mod AcceptSteps
+pub mod LinkedAccepted
 mod Joined

@@ -14,11 +14,13 @@ ghost use Rattle.layer_contract.specs.Samples.{AStateStands, ASpreadStateStands}
 mod boot;
 mod entry;
 mod layer;
+mod maker;
 mod registers;
 
 pub use boot::Boot;
 pub use entry::Entry;
 pub use layer::Layer;
+pub use maker::LayerMaker;
 use mips_table::runs::words_stay_words;
 pub use registers::{ANSWER, ARGUMENT, KEPT, RETURN};
 

@@ -1,0 +1,61 @@
+-- What is answered of an image that is to be booted: its source is read and checked, and its linked words are compared with those that its
+-- own source, parameters and users are linked to. An image of form 1 carries no linked words: they are made.
+use Rattle.std.specs.Prelude.{◌≡◌, ℕ, nat_eq, List, length, map, Result, Ok, Err, if◌then◌else◌}
+use Rattle.layer_map.specs.declared.params.Params.{Params}
+use Rattle.layer_map.specs.Map.{Map}
+use Rattle.boot_image.specs.Parts.{Parts as Image}
+use Rattle.boot_image.specs.declared.fault.ImageFault.{ImageFault}
+use Rattle.c0_tree.specs.Tree.{CUnit}
+use Rattle.c0_tree.specs.View.{unit_view}
+use Rattle.c0_types.specs.declared.source_fault.SourceFault.{SourceFault}
+use Rattle.layer_contract.specs.declared.boot.Boot.{Boot}
+use Rattle.kernel_linker.specs.Answers.{GivesUnless, Comes}
+use Rattle.kernel_linker.specs.Linked.{linked, sizes_of}
+use Rattle.kernel_linker.specs.Difference.{compared}
+use Rattle.kernel_linker.specs.declared.difference.Difference.{Difference}
+use Rattle.kernel_linker.specs.Fault.{accept_source_fault, accept_file_fault, accept_difference}
+use Rattle.kernel_linker.specs.declared.fault.AcceptFault.{AcceptFault}
+use Rattle.kernel_linker.specs.declared.fault.AcceptFault.TheVariants.{Memory}
+
+-- what is booted, as lists: the parameters, the checked unit, the linked words, and the words of each user
+pub record System : Type 0 where
+  pub params : Params
+  pub unit : CUnit
+  pub words : List ℕ
+  pub users : List (List ℕ)
+
+-- a boot as lists
+abbrev pub system_of : Boot → System
+system_of b = record { params = b.params; unit = unit_view b.unit; words = b.words.items; users = map (λ u. u.items) b.users.items }
+
+-- a step, and then another by its value
+infixl 10 ◌>>=◌
+abbrev pub ◌>>=◌ : {A B : Type 0} → Result A AcceptFault → (A → Result B AcceptFault) → Result B AcceptFault
+(Ok x) >>= f = f x
+(Err e) >>= f = Err e
+
+-- the unit that the front came to
+abbrev pub unit_in : Result CUnit SourceFault → Result CUnit AcceptFault
+unit_in (Ok u) = Ok u
+unit_in (Err f) = Err (accept_source_fault f)
+
+-- words are those that are made
+abbrev pub unforged : Result (Unit {0}) Difference → Result (Unit {0}) AcceptFault
+unforged (Ok x) = Ok x
+unforged (Err d) = Err (accept_difference d)
+
+-- an image's linked words, if it has any, are those that are made
+abbrev pub stored : Image → (made : List ℕ) → Result (Unit {0}) AcceptFault
+stored i made = if nat_eq i.form 1 then Ok tt else unforged (compared i.words made)
+
+-- ACCEPT, over a layer that has these words for a map and sizes, where the front came to this on the image's source
+unfoldable pub accept_answer : (layer : Map → List ℕ → List ℕ) → Image → Result CUnit SourceFault → Result System AcceptFault
+accept_answer layer i front = do
+  u ← unit_in front
+  same ← stored i (linked layer u i.params (sizes_of i.users))
+  Ok (record { params = i.params; unit = u; words = linked layer u i.params (sizes_of i.users); users = i.users })
+
+-- a result is what is answered of the image that bytes were read as, or of their fault
+abbrev pub Answers : {X : Type 0} → (layer : Map → List ℕ → List ℕ) → (X → System) → Result Image ImageFault → Result X AcceptFault → Type 0
+Answers layer view (Ok i) result = (front : Result CUnit SourceFault) × Comes i.source front × GivesUnless Memory view result (accept_answer layer i front)
+Answers layer view (Err f) result = result ≡ Err (accept_file_fault f)

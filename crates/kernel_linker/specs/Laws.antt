@@ -1,0 +1,24 @@
+-- What is linked is accepted.
+use Rattle.std.specs.Prelude.{◌≡◌, ℕ, List, Result, Ok}
+use Rattle.layer_map.specs.declared.params.Params.{Params}
+use Rattle.layer_map.specs.Map.{Map}
+use Rattle.boot_image.specs.Parts.{Parts as Image}
+use Rattle.object_file.specs.Parts.{Parts as Object}
+use Rattle.c0_tree.specs.Tree.{CUnit}
+use Rattle.c0_types.specs.declared.source_fault.SourceFault.{SourceFault}
+use Rattle.kernel_linker.specs.Linked.{linked, sizes_of}
+use Rattle.kernel_linker.specs.Link.{link_answer}
+use Rattle.kernel_linker.specs.Accept.{accept_answer}
+
+-- An image that is answered has the object's source, and over the same layer it is accepted as the system of that source's unit, the parameters, the
+-- linked words and the users.
+pub record IsAccepted (layer : Map → List ℕ → List ℕ) (o : Object) (p : Params) (users : List (List ℕ)) (front : Result CUnit SourceFault) (i : Image) : Type 0 where
+  pub unit : CUnit
+  pub read : front ≡ Ok unit
+  pub source : i.source ≡ o.source
+  pub accepted : accept_answer layer i front ≡ Ok (record { params = p; unit = unit; words = linked layer unit p (sizes_of users); users = users })
+
+-- a law: so is each
+abbrev pub LinkedAreAccepted : Type 0
+LinkedAreAccepted = (layer : Map → List ℕ → List ℕ) (o : Object) (p : Params) (users : List (List ℕ)) (front : Result CUnit SourceFault) (i : Image) →
+    link_answer layer o p users front ≡ Ok i → IsAccepted layer o p users front i
