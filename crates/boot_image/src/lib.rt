@@ -32,5 +32,5 @@ mod writing;
 
 pub use fault::ImageFault;
 pub use image::Image;
-pub use reading::{images_are_their_spellings, read};
+pub use reading::{images_are_their_spellings, old_images_are_their_spellings, read, read_old};
 pub use writing::write;
