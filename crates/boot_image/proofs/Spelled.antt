@@ -14,11 +14,11 @@ use Rattle.boot_image.specs.declared.fault.ImageFault.TheVariants.{Truncated, Pa
 use Rattle.boot_image.specs.declared.reading.Header.{Header}
 use Rattle.boot_image.specs.Parts.{Parts}
 use Rattle.word_bytes.specs.Words.{word, words_of}
-use Rattle.boot_image.specs.Format.{spelling, fields, bare_params, most_words, AreWords, IsSystem, IsInRange}
-use Rattle.boot_image.specs.Reading.{◌>>=◌, mark_at, number_at, form_at, params_at, counts_at, bare_at, system_at, header_of, part_at, users_at, parts_of, image_of, users_of, answer}
+use Rattle.boot_image.specs.Format.{spelling, bare_params, most_words, AreWords, IsSystem, IsOldSystem, IsInRange, IsOldInRange}
+use Rattle.boot_image.specs.Reading.{◌>>=◌, mark_at, number_at, form_at, params_at, counts_at, bare_at, system_at, header_of, old_header_of, part_at, users_at, parts_of, image_of, users_of, answer, old_answer}
 use Rattle.word_bytes.proofs.Words.{length-word, number-word, words_of-words, IsBytes, IsBytes-drop, IsBytes-take, Front, front, Made, made}
 use Rattle.boot_image.proofs.Loops.{part_short, part_whole, users_go_on, FirstWhole, first_whole}
-use Rattle.boot_image.proofs.Steps.{onto, words-onto, number_whole, users_read, bare, system}
+use Rattle.boot_image.proofs.Steps.{onto, words-onto, number_whole, users_read, bare, system, system_spelling}
 
 -- a step and the next one went on
 record Went (A B : Type 0) (r : Result A ImageFault) (f : A → Result B ImageFault) (y : B) : Type 0 where
@@ -119,16 +119,17 @@ form_is bytes x h fits =
 
 -- ---- the parameters and the numbers of words
 
-record ParamsIs (bytes : List ℕ) (x : Params × List ℕ) : Type 0 where
+record ParamsIs (most : ℕ) (bytes : List ℕ) (x : Params × List ℕ) : Type 0 where
   is : bytes ≡ onto (x.0.pages ∷ x.0.frames ∷ x.0.heap ∷ x.0.stack ∷ []) x.1
   range : ParamsInRange x.0
+  pages : x.0.pages ≤ most
   fits : IsBytes x.1
 
-params_is : (bytes : List ℕ) (x : Params × List ℕ) → params_at bytes ≡ Ok x → IsBytes bytes → ParamsIs bytes x
+params_is : (most : ℕ) → most ≤ 1024 → (bytes : List ℕ) (x : Params × List ℕ) → params_at most bytes ≡ Ok x → IsBytes bytes → ParamsIs most bytes x
 unfolding params_at
-params_is bytes x h fits =
-    let a = went (number_at 3 1 1024 bytes) _ x h in
-    let p : NumberIs 1 1024 bytes a.x = number_is 3 1 1024 bytes a.x fits a.is in
+params_is most limit bytes x h fits =
+    let a = went (number_at 3 1 most bytes) _ x h in
+    let p : NumberIs 1 most bytes a.x = number_is 3 1 most bytes a.x fits a.is in
     let b = went (number_at 4 2 16384 a.x.1) _ x a.next in
     let f : NumberIs 2 16384 a.x.1 b.x = number_is 4 2 16384 a.x.1 b.x p.fits b.is in
     let c = went (number_at 5 0 1048576 b.x.1) _ x b.next in
@@ -137,12 +138,14 @@ params_is bytes x h fits =
     let s : NumberIs 64 262144 c.x.1 d.x = number_is 6 64 262144 c.x.1 d.x g.fits d.is in
     let found : Params = record { pages = a.x.0; frames = b.x.0; heap = c.x.0; stack = d.x.0 } in
     let same : (found, d.x.1) ≡ x = one_is _ (found, d.x.1) x refl d.next in
-    subst (λ (y : Params × List ℕ). ParamsIs bytes y) same
+    let low : a.x.0 ≤ 1024 = omega (arith, p.high, limit) in
+    subst (λ (y : Params × List ℕ). ParamsIs most bytes y) same
     (record {
       is =
           p.is ∙ ap (λ (l : List ℕ). word a.x.0 ++ l) f.is ∙ ap (λ (l : List ℕ). word a.x.0 ++ (word b.x.0 ++ l)) g.is
           ∙ ap (λ (l : List ℕ). word a.x.0 ++ (word b.x.0 ++ (word c.x.0 ++ l))) s.is;
-      range = record { a_page = p.low; pages = p.high; two_frames = f.low; frames = f.high; heap = g.high; least_stack = s.low; stack = s.high };
+      pages = p.high;
+      range = record { a_page = p.low; pages = low; two_frames = f.low; frames = f.high; heap = g.high; least_stack = s.low; stack = s.high };
       fits = s.fits;
     })
 
@@ -262,7 +265,7 @@ record BareIs (bytes : List ℕ) (x : Header × (List ℕ × List ℕ)) : Type 0
   is : bytes ≡ codes "CVMI" ++ onto (1 ∷ n ∷ []) rest
   fits : IsBytes rest
 
-record SystemIs (bytes : List ℕ) (x : Header × (List ℕ × List ℕ)) : Type 0 where
+record SystemIs (form most_users most_pages : ℕ) (bytes : List ℕ) (x : Header × (List ℕ × List ℕ)) : Type 0 where
   params : Params
   users : ℕ
   n : ℕ
@@ -270,14 +273,15 @@ record SystemIs (bytes : List ℕ) (x : Header × (List ℕ × List ℕ)) : Type
   counts : List ℕ
   rest : List ℕ
   range : ParamsInRange params
+  pages : params.pages ≤ most_pages
   few : n ≤ 1048576
   least : 16384 ≤ k
   most : k ≤ 4194304
   many : length counts ≡ users
-  few_users : users ≤ 64
+  few_users : users ≤ most_users
   sizes : AllByRecursion (λ c. c ≤ most_words params.pages) counts
-  found : x ≡ (record { form = 3; params = params; source_length = n; word_count = k; parts_at = 36 + 4 * users }, (counts, rest))
-  is : bytes ≡ codes "CVMI" ++ (word 3 ++ (word users ++ onto (params.pages ∷ params.frames ∷ params.heap ∷ params.stack ∷ []) (word n ++ (word k ++ onto counts rest))))
+  found : x ≡ (record { form = form; params = params; source_length = n; word_count = k; parts_at = 36 + 4 * users }, (counts, rest))
+  is : bytes ≡ codes "CVMI" ++ (word form ++ (word users ++ onto (params.pages ∷ params.frames ∷ params.heap ∷ params.stack ∷ []) (word n ++ (word k ++ onto counts rest))))
   fits : IsBytes rest
 
 bare_is : (bytes rest : List ℕ) (x : Header × (List ℕ × List ℕ)) → bytes ≡ codes "CVMI" ++ (word 1 ++ rest) → bare_at rest ≡ Ok x → IsBytes rest → BareIs bytes x
@@ -287,13 +291,13 @@ bare_is bytes rest x is h fits =
     let n : NumberIs 0 1048576 rest w.x = number_is 2 0 1048576 rest w.x fits w.is in
     record { n = w.x.0; rest = w.x.1; few = n.high; found = sym (one_is _ _ x refl w.next); is = is ∙ ap (λ (l : List ℕ). codes "CVMI" ++ (word 1 ++ l)) n.is; fits = n.fits }
 
-system_is : (bytes rest : List ℕ) (x : Header × (List ℕ × List ℕ)) → bytes ≡ codes "CVMI" ++ (word 3 ++ rest) → system_at rest ≡ Ok x → IsBytes rest → SystemIs bytes x
+system_is : (form users pages : ℕ) → pages ≤ 1024 → (bytes rest : List ℕ) (x : Header × (List ℕ × List ℕ)) → bytes ≡ codes "CVMI" ++ (word form ++ rest) → system_at form users pages rest ≡ Ok x → IsBytes rest → SystemIs form users pages bytes x
 unfolding system_at
-system_is bytes rest x is h fits =
-    let a = went (number_at 2 0 64 rest) _ x h in
-    let u : NumberIs 0 64 rest a.x = number_is 2 0 64 rest a.x fits a.is in
-    let b = went (params_at a.x.1) _ x a.next in
-    let p : ParamsIs a.x.1 b.x = params_is a.x.1 b.x b.is u.fits in
+system_is form users pages limit bytes rest x is h fits =
+    let a = went (number_at 2 0 users rest) _ x h in
+    let u : NumberIs 0 users rest a.x = number_is 2 0 users rest a.x fits a.is in
+    let b = went (params_at pages a.x.1) _ x a.next in
+    let p : ParamsIs pages a.x.1 b.x = params_is pages limit a.x.1 b.x b.is u.fits in
     let c = went (number_at 7 0 1048576 b.x.1) _ x b.next in
     let n : NumberIs 0 1048576 b.x.1 c.x = number_is 7 0 1048576 b.x.1 c.x p.fits c.is in
     let d = went (number_at 8 16384 4194304 c.x.1) _ x c.next in
@@ -308,6 +312,7 @@ system_is bytes rest x is h fits =
       counts = s.counts;
       rest = e.x.1;
       range = p.range;
+      pages = p.pages;
       few = n.high;
       least = k.low;
       most = k.high;
@@ -316,26 +321,37 @@ system_is bytes rest x is h fits =
       sizes = s.range;
       found =
           sym (one_is _ _ x refl e.next)
-          ∙ ap (λ (l : List ℕ). (record { form = 3; params = b.x.0; source_length = c.x.0; word_count = d.x.0; parts_at = 36 + 4 * a.x.0 }, (l, e.x.1))) s.found;
+          ∙ ap (λ (l : List ℕ). (record { form = form; params = b.x.0; source_length = c.x.0; word_count = d.x.0; parts_at = 36 + 4 * a.x.0 }, (l, e.x.1))) s.found;
       is =
-          is ∙ ap (λ (l : List ℕ). codes "CVMI" ++ (word 3 ++ l)) u.is ∙ ap (λ (l : List ℕ). codes "CVMI" ++ (word 3 ++ (word a.x.0 ++ l))) p.is
-          ∙ ap (λ (l : List ℕ). codes "CVMI" ++ (word 3 ++ (word a.x.0 ++ onto (b.x.0.pages ∷ b.x.0.frames ∷ b.x.0.heap ∷ b.x.0.stack ∷ []) l))) (n.is ∙ ap (λ (l : List ℕ). word c.x.0 ++ l) (k.is ∙ ap (λ (l : List ℕ). word d.x.0 ++ l) s.is));
+          is ∙ ap (λ (l : List ℕ). codes "CVMI" ++ (word form ++ l)) u.is ∙ ap (λ (l : List ℕ). codes "CVMI" ++ (word form ++ (word a.x.0 ++ l))) p.is
+          ∙ ap (λ (l : List ℕ). codes "CVMI" ++ (word form ++ (word a.x.0 ++ onto (b.x.0.pages ∷ b.x.0.frames ∷ b.x.0.heap ∷ b.x.0.stack ∷ []) l))) (n.is ∙ ap (λ (l : List ℕ). word c.x.0 ++ l) (k.is ∙ ap (λ (l : List ℕ). word d.x.0 ++ l) s.is));
       fits = s.fits;
     }
 
-header_is : (bytes : List ℕ) (x : Header × (List ℕ × List ℕ)) → header_of bytes ≡ Ok x → IsBytes bytes → BareIs bytes x ⊎ SystemIs bytes x
+header_is : (bytes : List ℕ) (x : Header × (List ℕ × List ℕ)) → header_of bytes ≡ Ok x → IsBytes bytes → BareIs bytes x ⊎ SystemIs 3 64 1024 bytes x
 unfolding header_of
 header_is bytes x h fits =
     let a = went (mark_at bytes) _ x h in
     let m : (bytes ≡ codes "CVMI" ++ a.x) × IsBytes a.x = mark_is bytes a.x a.is fits in
     let b = went (form_at a.x) _ x a.next in
     let f : FormIs a.x b.x = form_is a.x b.x b.is m.1 in
-    let goes_on : ℕ → Type 0 = λ n. (if nat_eq n 1 then bare_at b.x.1 else system_at b.x.1) ≡ Ok x in
+    let goes_on : ℕ → Type 0 = λ n. (if nat_eq n 1 then bare_at b.x.1 else system_at 3 64 1024 b.x.1) ≡ Ok x in
     let begins : (n : ℕ) → b.x.0 ≡ n → bytes ≡ codes "CVMI" ++ (word n ++ b.x.1) = λ n is. m.0 ∙ ap (λ (l : List ℕ). codes "CVMI" ++ l) f.is ∙ ap (λ (k : ℕ). codes "CVMI" ++ (word k ++ b.x.1)) is in
     elim f.form [
       | inl one ↦ inl (bare_is bytes b.x.1 x (begins 1 one) (subst goes_on one b.next) f.fits)
-      | inr three ↦ inr (system_is bytes b.x.1 x (begins 3 three) (subst goes_on three b.next) f.fits)
+      | inr three ↦ inr (system_is 3 64 1024 (omega arith) bytes b.x.1 x (begins 3 three) (subst goes_on three b.next) f.fits)
     ]
+
+old_header_is : (bytes : List ℕ) (x : Header × (List ℕ × List ℕ)) → old_header_of bytes ≡ Ok x → IsBytes bytes → SystemIs 2 16 256 bytes x
+unfolding old_header_of
+old_header_is bytes x h fits =
+    let a = went (mark_at bytes) _ x h in
+    let m : (bytes ≡ codes "CVMI" ++ a.x) × IsBytes a.x = mark_is bytes a.x a.is fits in
+    let b = went (number_at 1 2 2 a.x) _ x a.next in
+    let n : NumberIs 2 2 a.x b.x = number_is 1 2 2 a.x b.x m.1 b.is in
+    let two : b.x.0 ≡ 2 = omega (arith, n.low, n.high) in
+    let begins : bytes ≡ codes "CVMI" ++ (word 2 ++ b.x.1) = m.0 ∙ ap (λ (l : List ℕ). codes "CVMI" ++ l) n.is ∙ ap (λ (k : ℕ). codes "CVMI" ++ (word k ++ b.x.1)) two in
+    system_is 2 16 256 (omega arith) bytes b.x.1 x begins b.next n.fits
 
 -- ---- the image
 
@@ -377,35 +393,75 @@ bare_from bytes x y b h =
     (p.is ∙ ap (λ (ws : List ℕ). p.source ++ (flat_map word ws ++ flat_map (flat_map word) p.users)) none ∙ ap (λ (us : List (List ℕ)). p.source ++ flat_map (flat_map word) us) alone) in
     subst (IsSpelled bytes) (sym image) (bare_spelled bytes p.source (omega (arith, p.source_many, b.few)) spelled)
 
-abbrev system_bytes : Params → ℕ → ℕ → ℕ → List ℕ → List ℕ → List ℕ
-system_bytes p users n k counts rest = codes "CVMI" ++ (word 3 ++ (word users ++ onto (p.pages ∷ p.frames ∷ p.heap ∷ p.stack ∷ []) (word n ++ (word k ++ onto counts rest))))
+abbrev IsOldSpelled : List ℕ → Parts → Type 0
+IsOldSpelled bytes i = IsOldInRange i × (bytes ≡ spelling i)
 
-system_from : (bytes : List ℕ) (x : Header × (List ℕ × List ℕ)) (y : List ℕ × (List ℕ × List ℕ)) → SystemIs bytes x → parts_of x.0 x.1.0 x.1.1 ≡ Ok y → IsSpelled bytes (image_of x.0 x.1.0 y.0 y.1.0 y.1.1)
-system_from bytes x y b h =
-    let header : Header = record { form = 3; params = b.params; source_length = b.n; word_count = b.k; parts_at = 36 + 4 * b.users } in
+abbrev system_bytes : ℕ → Params → ℕ → ℕ → ℕ → List ℕ → List ℕ → List ℕ
+system_bytes form p users n k counts rest = codes "CVMI" ++ (word form ++ (word users ++ onto (p.pages ∷ p.frames ∷ p.heap ∷ p.stack ∷ []) (word n ++ (word k ++ onto counts rest))))
+
+-- an image of a system of a form, with so many users and pages of a user at most, and the bytes that spell it
+record Whole (form most_users most_pages : ℕ) (bytes : List ℕ) (image : Parts) : Type 0 where
+  params : Params
+  source : List ℕ
+  words : List ℕ
+  users : List (List ℕ)
+  is : image ≡ system form params source words users
+  range : ParamsInRange params
+  pages : params.pages ≤ most_pages
+  few : length source ≤ 1048576
+  least : 16384 ≤ length words
+  most : length words ≤ 4194304
+  few_users : length users ≤ most_users
+  sizes : All (λ (u : List ℕ). length u ≤ most_words params.pages) users
+  bits : AreWords words
+  user_bits : All AreWords users
+  spelled : bytes ≡ system_spelling form params source words users
+
+whole_from : (form users pages : ℕ) (bytes : List ℕ) (x : Header × (List ℕ × List ℕ)) (y : List ℕ × (List ℕ × List ℕ)) → SystemIs form users pages bytes x → parts_of x.0 x.1.0 x.1.1 ≡ Ok y → Whole form users pages bytes (image_of x.0 x.1.0 y.0 y.1.0 y.1.1)
+whole_from form users pages bytes x y b h =
+    let header : Header = record { form = form; params = b.params; source_length = b.n; word_count = b.k; parts_at = 36 + 4 * b.users } in
     let read : parts_of header b.counts b.rest ≡ Ok y = sym (ap (λ (z : Header × (List ℕ × List ℕ)). parts_of z.0 z.1.0 z.1.1) b.found) ∙ h in
     let p : PartsAre header b.counts b.rest y = parts_are header b.counts b.rest y read b.fits in
-    let i : Parts = system b.params p.source p.words p.users in
-    let image : image_of x.0 x.1.0 y.0 y.1.0 y.1.1 ≡ i = ap (λ (z : Header × (List ℕ × List ℕ)). image_of z.0 z.1.0 y.0 y.1.0 y.1.1) b.found ∙ p.image in
     let many : b.users ≡ length p.users = sym b.many ∙ ap length (sym p.users_many) ∙ length-map p.users length in
     let rest : List ℕ = p.source ++ (flat_map word p.words ++ flat_map (flat_map word) p.users) in
     let sizes : AllByRecursion (λ u. length u ≤ most_words b.params.pages) p.users = sizes_back (most_words b.params.pages) p.users (subst (AllByRecursion (λ n. n ≤ most_words b.params.pages)) (sym p.users_many) b.sizes) in
-    let spelled : bytes ≡ spelling i =
-    b.is ∙ ap (λ (u : ℕ). system_bytes b.params u b.n b.k b.counts b.rest) many ∙ ap (λ (n : ℕ). system_bytes b.params (length p.users) n b.k b.counts b.rest) (sym p.source_many)
-    ∙ ap (λ (k : ℕ). system_bytes b.params (length p.users) (length p.source) k b.counts b.rest) (sym p.words_many)
-    ∙ ap (λ (l : List ℕ). system_bytes b.params (length p.users) (length p.source) (length p.words) l b.rest) (sym p.users_many)
-    ∙ ap (λ (l : List ℕ). system_bytes b.params (length p.users) (length p.source) (length p.words) (map length p.users) l) p.is
-    ∙ ap (λ (l : List ℕ). codes "CVMI" ++ l) (sym (words-onto (fields i) rest)) in
-    let system_range : IsSystem i = record {
-      form = refl;
-      params = b.range;
+    let numbers : List ℕ = form ∷ length p.users ∷ b.params.pages ∷ b.params.frames ∷ b.params.heap ∷ b.params.stack ∷ length p.source ∷ length p.words ∷ map length p.users in
+    record {
+      params = b.params;
+      source = p.source;
+      words = p.words;
+      users = p.users;
+      is = ap (λ (z : Header × (List ℕ × List ℕ)). image_of z.0 z.1.0 y.0 y.1.0 y.1.1) b.found ∙ p.image;
+      range = b.range;
+      pages = b.pages;
+      few = omega (arith, p.source_many, b.few);
       least = omega (arith, p.words_many, b.least);
       most = omega (arith, p.words_many, b.most);
-      users = omega (arith, many, b.few_users);
+      few_users = omega (arith, many, b.few_users);
       sizes = All-from_recursion (λ (u : List ℕ). length u ≤ most_words b.params.pages) p.users sizes;
-    } in
-    let in_range : IsInRange i = record { spelled = record { source = omega (arith, p.source_many, b.few); form = inr system_range }; bits = p.bits; user_bits = p.user_bits } in
-    subst (IsSpelled bytes) (sym image) (in_range, spelled)
+      bits = p.bits;
+      user_bits = p.user_bits;
+      spelled =
+          b.is ∙ ap (λ (u : ℕ). system_bytes form b.params u b.n b.k b.counts b.rest) many ∙ ap (λ (n : ℕ). system_bytes form b.params (length p.users) n b.k b.counts b.rest) (sym p.source_many)
+          ∙ ap (λ (k : ℕ). system_bytes form b.params (length p.users) (length p.source) k b.counts b.rest) (sym p.words_many)
+          ∙ ap (λ (l : List ℕ). system_bytes form b.params (length p.users) (length p.source) (length p.words) l b.rest) (sym p.users_many)
+          ∙ ap (λ (l : List ℕ). system_bytes form b.params (length p.users) (length p.source) (length p.words) (map length p.users) l) p.is
+          ∙ ap (λ (l : List ℕ). codes "CVMI" ++ l) (sym (words-onto numbers rest));
+    }
+
+three_spelled : (bytes : List ℕ) (image : Parts) → Whole 3 64 1024 bytes image → IsSpelled bytes image
+three_spelled bytes image w =
+    let i : Parts = system 3 w.params w.source w.words w.users in
+    let system_range : IsSystem i = record { form = refl; params = w.range; least = w.least; most = w.most; users = w.few_users; sizes = w.sizes } in
+    let in_range : IsInRange i = record { spelled = record { source = w.few; form = inr system_range }; bits = w.bits; user_bits = w.user_bits } in
+    subst (IsSpelled bytes) (sym w.is) (in_range, w.spelled)
+
+two_spelled : (bytes : List ℕ) (image : Parts) → Whole 2 16 256 bytes image → IsOldSpelled bytes image
+two_spelled bytes image w =
+    let i : Parts = system 2 w.params w.source w.words w.users in
+    let system_range : IsOldSystem i = record { form = refl; params = w.range; pages = w.pages; least = w.least; most = w.most; users = w.few_users; sizes = w.sizes } in
+    let in_range : IsOldInRange i = record { source = w.few; system = system_range; bits = w.bits; user_bits = w.user_bits } in
+    subst (IsOldSpelled bytes) (sym w.is) (in_range, w.spelled)
 
 pub answer_spelled : (bytes : List ℕ) → IsBytes bytes → (image : Parts) → answer bytes ≡ Ok image → IsSpelled bytes image
 unfolding answer
@@ -413,4 +469,16 @@ answer_spelled bytes fits image h =
     let a = went (header_of bytes) _ image h in
     let b = went (parts_of a.x.0 a.x.1.0 a.x.1.1) _ image a.next in
     let same : image_of a.x.0 a.x.1.0 b.x.0 b.x.1.0 b.x.1.1 ≡ image = one_is _ _ image refl b.next in
-    subst (IsSpelled bytes) same (elim (header_is bytes a.x a.is fits) [ inl bare ↦ bare_from bytes a.x b.x bare b.is | inr system ↦ system_from bytes a.x b.x system b.is ])
+    subst (IsSpelled bytes) same
+    (elim (header_is bytes a.x a.is fits) [
+      | inl bare ↦ bare_from bytes a.x b.x bare b.is
+      | inr system ↦ three_spelled bytes _ (whole_from 3 64 1024 bytes a.x b.x system b.is)
+    ])
+
+pub old_answer_spelled : (bytes : List ℕ) → IsBytes bytes → (image : Parts) → old_answer bytes ≡ Ok image → IsOldSpelled bytes image
+unfolding old_answer
+old_answer_spelled bytes fits image h =
+    let a = went (old_header_of bytes) _ image h in
+    let b = went (parts_of a.x.0 a.x.1.0 a.x.1.1) _ image a.next in
+    let same : image_of a.x.0 a.x.1.0 b.x.0 b.x.1.0 b.x.1.1 ≡ image = one_is _ _ image refl b.next in
+    subst (IsOldSpelled bytes) same (two_spelled bytes _ (whole_from 2 16 256 bytes a.x b.x (old_header_is bytes a.x a.is fits) b.is))

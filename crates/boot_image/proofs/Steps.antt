@@ -1,5 +1,5 @@
 -- What each step of the reading makes of bytes that begin as an image does, and so what is answered of an image's spelling.
-use Rattle.std.proofs.Common.{◌≡◌, ℕ, ◌+◌, ◌*◌, ◌^◌, ◌<◌, ◌≤◌, false, true, ltb, ◌||◌, All, List, [], ◌∷◌, ◌++◌, length, drop, map, Result, Ok, inl, inr, refl, sym, ap, subst, ◌∙◌, append_assoc, arith}
+use Rattle.std.proofs.Common.{◌≡◌, ℕ, ◌+◌, ◌*◌, ◌^◌, ◌<◌, ◌≤◌, false, true, ltb, ◌||◌, All, List, [], ◌∷◌, ◌++◌, length, drop, map, Result, Ok, inl, inr, refl, sym, ap, ◌∙◌, append_assoc, arith}
 use Rattle.std.specs.Prelude.{codes}
 use Rattle.std.specs.Str.{bytes_eq}
 use Rattle.std.specs.List.{flat_map, AllByRecursion}
@@ -13,10 +13,10 @@ use Rattle.boot_image.specs.declared.fault.ImageFault.{ImageFault}
 use Rattle.boot_image.specs.declared.reading.Header.{Header}
 use Rattle.boot_image.specs.Parts.{Parts}
 use Rattle.word_bytes.specs.Words.{word, words_of}
-use Rattle.boot_image.specs.Format.{spelling, bare_params, most_words, AreWords, IsBare, IsSystem, IsInRange}
-use Rattle.boot_image.specs.Reading.{◌>>=◌, mark_at, number_at, form_at, params_at, counts_at, bare_at, system_at, header_of, part_at, users_at, parts_of, users_of, answer}
+use Rattle.boot_image.specs.Format.{spelling, bare_params, most_words, AreWords, IsBare, IsOldSystem, IsInRange, IsOldInRange}
+use Rattle.boot_image.specs.Reading.{◌>>=◌, mark_at, number_at, form_at, params_at, counts_at, bare_at, system_at, header_of, old_header_of, part_at, users_at, parts_of, users_of, answer, old_answer}
 use Rattle.word_bytes.proofs.Words.{length-word, number-word, length-words, words_of-words}
-use Rattle.boot_image.proofs.Answers.{answer_parts}
+use Rattle.boot_image.proofs.Answers.{Found, answered, answer_by, old_answer_by, answered_parts}
 use Rattle.boot_image.proofs.Loops.{counts_suc, part_whole, users_first, users_end}
 
 -- a step that goes on
@@ -54,10 +54,10 @@ form_three : (rest : List ℕ) → form_at (word 3 ++ rest) ≡ Ok (3, rest)
 unfolding form_at
 form_three rest = step _ (number_whole 1 1 3 3 rest (omega arith) (omega arith) (omega arith)) refl
 
-params_whole : (p : Params) (rest : List ℕ) → ParamsInRange p → params_at (onto (p.pages ∷ p.frames ∷ p.heap ∷ p.stack ∷ []) rest) ≡ Ok (p, rest)
+params_whole : (most : ℕ) (p : Params) (rest : List ℕ) → ParamsInRange p → p.pages ≤ most → params_at most (onto (p.pages ∷ p.frames ∷ p.heap ∷ p.stack ∷ []) rest) ≡ Ok (p, rest)
 unfolding params_at
-params_whole p rest fits =
-    step _ (number_whole 3 1 1024 p.pages _ (omega (arith, fits.pages)) fits.a_page fits.pages)
+params_whole most p rest fits pages =
+    step _ (number_whole 3 1 most p.pages _ (omega (arith, fits.pages)) fits.a_page pages)
     (step _ (number_whole 4 2 16384 p.frames _ (omega (arith, fits.frames)) fits.two_frames fits.frames)
     (step _ (number_whole 5 0 1048576 p.heap _ (omega (arith, fits.heap)) (omega arith) fits.heap)
     (step _ (number_whole 6 64 262144 p.stack rest (omega (arith, fits.stack)) fits.least_stack fits.stack) refl)))
@@ -74,16 +74,23 @@ unfolding header_of bare_at
 bare_whole n rest few =
     step _ (mark_whole (codes "CVMI") _ refl refl) (step _ (form_one _) (step _ (number_whole 2 0 1048576 n rest (omega (arith, few)) (omega arith) few) refl))
 
-system_whole : (p : Params) (n k : ℕ) (counts rest : List ℕ) → ParamsInRange p → n ≤ 1048576 → 16384 ≤ k → k ≤ 4194304 → length counts ≤ 64 → AllByRecursion (λ c. c ≤ most_words p.pages) counts → header_of (codes "CVMI" ++ (word 3 ++ (word (length counts) ++ onto (p.pages ∷ p.frames ∷ p.heap ∷ p.stack ∷ []) (word n ++ (word k ++ onto counts rest))))) ≡ Ok (record { form = 3; params = p; source_length = n; word_count = k; parts_at = 36 + 4 * length counts }, (counts, rest))
-unfolding header_of system_at
-system_whole p n k counts rest fits few least most users sizes =
-    step _ (mark_whole (codes "CVMI") _ refl refl)
-    (step _ (form_three _)
-    (step _ (number_whole 2 0 64 (length counts) _ (omega (arith, users)) (omega arith) users)
-    (step _ (params_whole p _ fits)
+-- a system of a form, with so many users and pages at most, behind that form
+system_whole : (form users pages : ℕ) (p : Params) (n k : ℕ) (counts rest : List ℕ) → users ≤ 64 → ParamsInRange p → p.pages ≤ pages → n ≤ 1048576 → 16384 ≤ k → k ≤ 4194304 → length counts ≤ users → AllByRecursion (λ c. c ≤ most_words p.pages) counts → system_at form users pages (word (length counts) ++ onto (p.pages ∷ p.frames ∷ p.heap ∷ p.stack ∷ []) (word n ++ (word k ++ onto counts rest))) ≡ Ok (record { form = form; params = p; source_length = n; word_count = k; parts_at = 36 + 4 * length counts }, (counts, rest))
+unfolding system_at
+system_whole form users pages p n k counts rest limit fits low few least most many sizes =
+    step _ (number_whole 2 0 users (length counts) _ (omega (arith, many, limit)) (omega arith) many)
+    (step _ (params_whole pages p _ fits low)
     (step _ (number_whole 7 0 1048576 n _ (omega (arith, few)) (omega arith) few)
     (step _ (number_whole 8 16384 4194304 k _ (omega (arith, most)) least most)
-    (step _ (counts_whole [] counts (most_words p.pages) rest (omega arith) sizes) refl))))))
+    (step _ (counts_whole [] counts (most_words p.pages) rest (omega arith) sizes) refl))))
+
+header_three : (rest : List ℕ) (r : Found) → system_at 3 64 1024 rest ≡ r → header_of (codes "CVMI" ++ (word 3 ++ rest)) ≡ r
+unfolding header_of
+header_three rest r is = step _ (mark_whole (codes "CVMI") _ refl refl) (step _ (form_three _) is)
+
+header_two : (rest : List ℕ) (r : Found) → system_at 2 16 256 rest ≡ r → old_header_of (codes "CVMI" ++ (word 2 ++ rest)) ≡ r
+unfolding old_header_of
+header_two rest r is = step _ (mark_whole (codes "CVMI") _ refl refl) (step _ (number_whole 1 2 2 2 _ (omega arith) (omega arith) (omega arith)) is)
 
 -- ---- the parts
 
@@ -138,35 +145,67 @@ bare_read source few =
     let h : Header = record { form = 1; params = bare_params; source_length = length source; word_count = 0; parts_at = 12 } in
     let rest : List ℕ = source ++ (flat_map word [] ++ flat_map (flat_map word) []) in
     ap (λ (l : List ℕ). answer (codes "CVMI" ++ l)) (words-onto (1 ∷ length source ∷ []) rest)
-    ∙ answer_parts (codes "CVMI" ++ onto (1 ∷ length source ∷ []) rest) h [] rest (Ok (source, ([], []))) (bare_whole (length source) rest few) (parts_whole h source [] [] refl refl)
+    ∙ answer_by (codes "CVMI" ++ onto (1 ∷ length source ∷ []) rest) (Ok (h, ([], rest))) (bare_whole (length source) rest few)
+    ∙ answered_parts h [] rest (Ok (source, ([], []))) (parts_whole h source [] [] refl refl)
 
-abbrev pub system : Params → List ℕ → List ℕ → List (List ℕ) → Parts
-system p source words users = record { params = p; form = 3; source = source; words = words; users = users }
+abbrev pub system : ℕ → Params → List ℕ → List ℕ → List (List ℕ) → Parts
+system form p source words users = record { params = p; form = form; source = source; words = words; users = users }
 
-system_same : (i : Parts) → i.form ≡ 3 → i ≡ system i.params i.source i.words i.users
-system_same i is = ap (λ (n : ℕ). record { params = i.params; form = n; source = i.source; words = i.words; users = i.users }) is
+-- the spelling of a system of a form
+abbrev pub system_spelling : ℕ → Params → List ℕ → List ℕ → List (List ℕ) → List ℕ
+system_spelling form p source words users =
+    codes "CVMI" ++ (flat_map word (form ∷ length users ∷ p.pages ∷ p.frames ∷ p.heap ∷ p.stack ∷ length source ∷ length words ∷ map length users) ++ (source ++ (flat_map word words ++ flat_map (flat_map word) users)))
 
-system_read : (p : Params) (source words : List ℕ) (users : List (List ℕ)) → IsSystem (system p source words users) → length source ≤ 1048576 → AreWords words → All AreWords users → answer (spelling (system p source words users)) ≡ Ok (system p source words users)
-system_read p source words users s few bits user_bits =
-    let counts : List ℕ = map length users in
-    let many : length counts ≡ length users = length-map users length in
-    let h : Header = record { form = 3; params = p; source_length = length source; word_count = length words; parts_at = 36 + 4 * length counts } in
-    let rest : List ℕ = source ++ (flat_map word words ++ flat_map (flat_map word) users) in
-    let sizes : AllByRecursion (λ n. n ≤ most_words p.pages) counts = sizes_of (most_words p.pages) users (recursion_from_All (λ (u : List ℕ). length u ≤ most_words p.pages) users s.sizes) in
-    let tail : List ℕ → List ℕ = λ m. codes "CVMI" ++ (word 3 ++ (m ++ onto (p.pages ∷ p.frames ∷ p.heap ∷ p.stack ∷ []) (word (length source) ++ (word (length words) ++ onto counts rest)))) in
-    ap (λ (l : List ℕ). answer (codes "CVMI" ++ l)) (words-onto (3 ∷ length users ∷ p.pages ∷ p.frames ∷ p.heap ∷ p.stack ∷ length source ∷ length words ∷ counts) rest)
-    ∙ ap (λ (n : ℕ). answer (tail (word n))) (sym many)
-    ∙ answer_parts (tail (word (length counts))) h counts rest (Ok (source, (flat_map word words, flat_map (flat_map word) users)))
-    (system_whole p (length source) (length words) counts rest s.params few s.least s.most (omega (arith, many, s.users)) sizes) (parts_whole h source words users refl refl)
-    ∙ ap (λ (ws : List ℕ). Ok (record { params = p; form = 3; source = source; words = ws; users = users_of counts (flat_map (flat_map word) users) })) (words_of-words words (recursion_from_All (λ w. w < 2 ^ 32) words bits))
-    ∙ ap (λ (us : List (List ℕ)). Ok (record { params = p; form = 3; source = source; words = words; users = us })) (users_read users (recursion_from_All AreWords users user_bits))
+system_same : (form : ℕ) (i : Parts) → i.form ≡ form → i ≡ system form i.params i.source i.words i.users
+system_same form i is = ap (λ (n : ℕ). record { params = i.params; form = n; source = i.source; words = i.words; users = i.users }) is
+
+-- what holds of a system with so many users and pages of a user at most
+record Fits (users_most pages_most : ℕ) (p : Params) (text ws : List ℕ) (us : List (List ℕ)) : Type 0 where
+  params : ParamsInRange p
+  pages : p.pages ≤ pages_most
+  least : 16384 ≤ length ws
+  most : length ws ≤ 4194304
+  few : length us ≤ users_most
+  sizes : All (λ u. length u ≤ most_words p.pages) us
+  source : length text ≤ 1048576
+  bits : AreWords ws
+  user_bits : All AreWords us
+
+-- a header that is read as `head` says gives back the system
+system_read : (form users pages : ℕ) (p : Params) (source words : List ℕ) (us : List (List ℕ)) (head : List ℕ → Found) → users ≤ 64 → Fits users pages p source words us → ((rest : List ℕ) (r : Found) → system_at form users pages rest ≡ r → head (codes "CVMI" ++ (word form ++ rest)) ≡ r) → answered (head (system_spelling form p source words us)) ≡ Ok (system form p source words us)
+system_read form users pages p source words us head limit s reads =
+    let counts : List ℕ = map length us in
+    let many : length counts ≡ length us = length-map us length in
+    let h : Header = record { form = form; params = p; source_length = length source; word_count = length words; parts_at = 36 + 4 * length counts } in
+    let rest : List ℕ = source ++ (flat_map word words ++ flat_map (flat_map word) us) in
+    let sizes : AllByRecursion (λ n. n ≤ most_words p.pages) counts = sizes_of (most_words p.pages) us (recursion_from_All (λ (u : List ℕ). length u ≤ most_words p.pages) us s.sizes) in
+    let tail : List ℕ → List ℕ = λ m. codes "CVMI" ++ (word form ++ (m ++ onto (p.pages ∷ p.frames ∷ p.heap ∷ p.stack ∷ []) (word (length source) ++ (word (length words) ++ onto counts rest)))) in
+    ap (λ (l : List ℕ). answered (head (codes "CVMI" ++ l))) (words-onto (form ∷ length us ∷ p.pages ∷ p.frames ∷ p.heap ∷ p.stack ∷ length source ∷ length words ∷ counts) rest)
+    ∙ ap (λ (n : ℕ). answered (head (tail (word n)))) (sym many)
+    ∙ ap answered (reads _ _ (system_whole form users pages p (length source) (length words) counts rest limit s.params s.pages s.source s.least s.most (omega (arith, many, s.few)) sizes))
+    ∙ answered_parts h counts rest (Ok (source, (flat_map word words, flat_map (flat_map word) us))) (parts_whole h source words us refl refl)
+    ∙ ap (λ (ws : List ℕ). Ok (record { params = p; form = form; source = source; words = ws; users = users_of counts (flat_map (flat_map word) us) })) (words_of-words words (recursion_from_All (λ w. w < 2 ^ 32) words s.bits))
+    ∙ ap (λ (uss : List (List ℕ)). Ok (record { params = p; form = form; source = source; words = words; users = uss })) (users_read us (recursion_from_All AreWords us s.user_bits))
+
+three_read : (p : Params) (source words : List ℕ) (us : List (List ℕ)) → Fits 64 1024 p source words us → answer (spelling (system 3 p source words us)) ≡ Ok (system 3 p source words us)
+three_read p source words us s = answer_by (spelling (system 3 p source words us)) _ refl ∙ system_read 3 64 1024 p source words us header_of (omega arith) s header_three
+
+two_read : (p : Params) (source words : List ℕ) (us : List (List ℕ)) → Fits 16 256 p source words us → old_answer (spelling (system 2 p source words us)) ≡ Ok (system 2 p source words us)
+two_read p source words us s = old_answer_by (spelling (system 2 p source words us)) _ refl ∙ system_read 2 16 256 p source words us old_header_of (omega arith) s header_two
 
 pub read_back : (i : Parts) → IsInRange i → answer (spelling i) ≡ Ok i
 read_back i fits =
     elim fits.spelled.form [
       | inl b ↦ let same = bare_same i b in ap (λ (j : Parts). answer (spelling j)) same ∙ bare_read i.source fits.spelled.source ∙ ap (λ (j : Parts). Ok j) (sym same)
       | inr s ↦
-          let same = system_same i s.form in
-          ap (λ (j : Parts). answer (spelling j)) same
-          ∙ system_read i.params i.source i.words i.users (subst IsSystem same s) fits.spelled.source fits.bits fits.user_bits ∙ ap (λ (j : Parts). Ok j) (sym same)
+          let same = system_same 3 i s.form in
+          let all : Fits 64 1024 i.params i.source i.words i.users = record { params = s.params; pages = s.params.pages; least = s.least; most = s.most; few = s.users; sizes = s.sizes; source = fits.spelled.source; bits = fits.bits; user_bits = fits.user_bits } in
+          ap (λ (j : Parts). answer (spelling j)) same ∙ three_read i.params i.source i.words i.users all ∙ ap (λ (j : Parts). Ok j) (sym same)
     ]
+
+pub old_read_back : (i : Parts) → IsOldInRange i → old_answer (spelling i) ≡ Ok i
+old_read_back i fits =
+    let s : IsOldSystem i = fits.system in
+    let same = system_same 2 i s.form in
+    let all : Fits 16 256 i.params i.source i.words i.users = record { params = s.params; pages = s.pages; least = s.least; most = s.most; few = s.users; sizes = s.sizes; source = fits.source; bits = fits.bits; user_bits = fits.user_bits } in
+    ap (λ (j : Parts). old_answer (spelling j)) same ∙ two_read i.params i.source i.words i.users all ∙ ap (λ (j : Parts). Ok j) (sym same)

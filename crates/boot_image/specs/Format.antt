@@ -14,7 +14,7 @@ bare_params = record { pages = 1; frames = 2; heap = 1024; stack = 1024 }
 abbrev pub fields : Parts → List ℕ
 fields i =
     if nat_eq i.form 1 then 1 ∷ length i.source ∷ [] else
-    3 ∷ length i.users ∷ i.params.pages ∷ i.params.frames ∷ i.params.heap ∷ i.params.stack ∷ length i.source ∷ length i.words ∷ map length i.users
+    i.form ∷ length i.users ∷ i.params.pages ∷ i.params.frames ∷ i.params.heap ∷ i.params.stack ∷ length i.source ∷ length i.words ∷ map length i.users
 
 -- the bytes of an image: the mark, the fields, the source, the linked words, and the words of each user
 abbrev pub spelling : Parts → List ℕ
@@ -40,6 +40,16 @@ pub record IsSystem (i : Parts) : Type 0 where
   pub users : length i.users ≤ 64
   pub sizes : All (λ u. length u ≤ most_words i.params.pages) i.users
 
+-- an image of form 2 carries a whole system too, in smaller ranges
+pub record IsOldSystem (i : Parts) : Type 0 where
+  pub form : i.form ≡ 2
+  pub params : ParamsInRange i.params
+  pub pages : i.params.pages ≤ 256
+  pub least : 16384 ≤ length i.words
+  pub most : length i.words ≤ 4194304
+  pub users : length i.users ≤ 16
+  pub sizes : All (λ u. length u ≤ most_words i.params.pages) i.users
+
 -- an image of a form and a size that a file may have
 pub record HasSpelling (i : Parts) : Type 0 where
   pub source : length i.source ≤ 1048576
@@ -52,5 +62,12 @@ AreWords words = All (λ w. w < 2 ^ 32) words
 -- an image that a file may be, of words of 32 bits
 pub record IsInRange (i : Parts) : Type 0 where
   pub spelled : HasSpelling i
+  pub bits : AreWords i.words
+  pub user_bits : All AreWords i.users
+
+-- an image that a file of form 2 may be, of words of 32 bits
+pub record IsOldInRange (i : Parts) : Type 0 where
+  pub source : length i.source ≤ 1048576
+  pub system : IsOldSystem i
   pub bits : AreWords i.words
   pub user_bits : All AreWords i.users

@@ -41,10 +41,10 @@ form_at bytes = do
   form ← number_at 1 1 3 bytes
   if nat_eq form.0 2 then Err (Parameter 1 2) else Ok form
 
--- the parameters, which begin with word 3
-unfoldable pub params_at : List ℕ → Result (Params × List ℕ) ImageFault
-params_at bytes = do
-  pages ← number_at 3 1 1024 bytes
+-- the parameters, which begin with word 3, with so many pages of a user at most
+unfoldable pub params_at : ℕ → List ℕ → Result (Params × List ℕ) ImageFault
+params_at most_pages bytes = do
+  pages ← number_at 3 1 most_pages bytes
   frames ← number_at 4 2 16384 pages.1
   heap ← number_at 5 0 1048576 frames.1
   stack ← number_at 6 64 262144 heap.1
@@ -63,22 +63,29 @@ bare_at bytes = do
   source ← number_at 2 0 1048576 bytes
   Ok (record { form = 1; params = bare_params; source_length = source.0; word_count = 0; parts_at = 12 }, ([], source.1))
 
--- behind the form: a whole system
-unfoldable pub system_at : List ℕ → Result (Header × (List ℕ × List ℕ)) ImageFault
-system_at bytes = do
-  users ← number_at 2 0 64 bytes
-  params ← params_at users.1
+-- behind the form: a whole system, with so many users and so many pages of a user at most
+unfoldable pub system_at : ℕ → ℕ → ℕ → List ℕ → Result (Header × (List ℕ × List ℕ)) ImageFault
+system_at form most_users most_pages bytes = do
+  users ← number_at 2 0 most_users bytes
+  params ← params_at most_pages users.1
   source ← number_at 7 0 1048576 params.1
   words ← number_at 8 16384 4194304 source.1
   counts ← counts_at [] (most_words params.0.pages) users.0 words.1
-  Ok (record { form = 3; params = params.0; source_length = source.0; word_count = words.0; parts_at = 36 + 4 * users.0 }, counts)
+  Ok (record { form = form; params = params.0; source_length = source.0; word_count = words.0; parts_at = 36 + 4 * users.0 }, counts)
 
 -- the fields, with the users' numbers of words apart, and what follows them
 unfoldable pub header_of : List ℕ → Result (Header × (List ℕ × List ℕ)) ImageFault
 header_of bytes = do
   rest ← mark_at bytes
   form ← form_at rest
-  if nat_eq form.0 1 then bare_at form.1 else system_at form.1
+  if nat_eq form.0 1 then bare_at form.1 else system_at 3 64 1024 form.1
+
+-- the same of a file of form 2
+unfoldable pub old_header_of : List ℕ → Result (Header × (List ℕ × List ℕ)) ImageFault
+old_header_of bytes = do
+  rest ← mark_at bytes
+  form ← number_at 1 2 2 rest
+  system_at 2 16 256 form.1
 
 -- a part of so many bytes, which begins at `at`, and what follows it
 unfoldable pub part_at : ℕ → ℕ → List ℕ → Result (List ℕ × List ℕ) ImageFault
@@ -108,12 +115,21 @@ abbrev pub image_of : Header → List ℕ → List ℕ → List ℕ → List ℕ
 image_of header counts source words users =
     record { params = header.params; form = header.form; source = source; words = words_of words; users = users_of counts users }
 
+-- what is answered of the bytes that follow a header
+abbrev pub image_at : Header → List ℕ → List ℕ → Result Parts ImageFault
+image_at header counts bytes = parts_of header counts bytes >>= λ parts. Ok (image_of header counts parts.0 parts.1.0 parts.1.1)
+
 -- what is answered of bytes
 unfoldable pub answer : List ℕ → Result Parts ImageFault
 answer bytes = do
   header ← header_of bytes
-  parts ← parts_of header.0 header.1.0 header.1.1
-  Ok (image_of header.0 header.1.0 parts.0 parts.1.0 parts.1.1)
+  image_at header.0 header.1.0 header.1.1
+
+-- what is answered of bytes where form 2 is read
+unfoldable pub old_answer : List ℕ → Result Parts ImageFault
+old_answer bytes = do
+  header ← old_header_of bytes
+  image_at header.0 header.1.0 header.1.1
 
 -- an image may also be answered by want of memory, a fault may not
 abbrev pub Gives : Result Parts ImageFault → Result Parts ImageFault → Type 0

@@ -8,14 +8,14 @@ use std::marker::Model;
 pub struct Image {
     /// The parameters of the system; in form 1 these are 1 page, 2 frames, and a heap and a stack of 1,024 words.
     pub params: Params,
-    /// The form of the file, 1 or 3.
+    /// The form of the file, 1, 2 or 3.
     pub form: u32,
     /// The kernel's source, at most 1,048,576 bytes.
     pub source: Vec<u8>,
-    /// The linked words: none in form 1, 16,384 to 4,194,304 in form 3.
+    /// The linked words: none in form 1, 16,384 to 4,194,304 in forms 2 and 3.
     pub words: Vec<u32>,
-    /// The words of each user: none in form 1, at most 64 users in form 3, each of at most 65,536 words and of no more than the
-    /// pages of the parameters have.
+    /// The words of each user: none in form 1, at most 16 users in form 2 and 64 in form 3, each of at most 65,536 words and of no more
+    /// than the pages of the parameters have.
     pub users: Vec<Vec<u32>>,
 }
 

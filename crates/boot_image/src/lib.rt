@@ -3,7 +3,7 @@
 //! A file is, with no padding, words being 32 bits and little-endian:
 //!
 //! - the four bytes `CVMI` (43 56 4d 49);
-//! - the form, a word: 1 or 3.
+//! - the form, a word: 1, 2 or 3.
 //!
 //! Form 1 carries a source alone. It has no users, and its parameters are 1 page, 2 frames, a heap and a stack of 1,024 words each:
 //!
@@ -23,6 +23,9 @@
 //! - n bytes of source;
 //! - k linked words;
 //! - the words of each user.
+//!
+//! Form 2 is what carried a whole system before form 3 did. It is laid out as form 3, with at most 16 users of at most 256 pages, and is read
+//! by a function of its own alone.
 #![tactic(auto)]
 
 mod fault;
@@ -32,5 +35,5 @@ mod writing;
 
 pub use fault::ImageFault;
 pub use image::Image;
-pub use reading::{images_are_their_spellings, read};
+pub use reading::{images_are_their_spellings, old_images_are_their_spellings, read, read_old};
 pub use writing::write;

@@ -2,9 +2,9 @@
 
 ghost use Rattle.std.specs.Prelude.{◌≡◌, ◌+◌, ◌*◌, ◌≤◌, ◌<◌, ◌%◌, ◌↔◌, ℕ, [], ◌++◌, List, length, slice_index, map, Result, IfOk, Ok, Err};
 ghost use Rattle.boot_image.specs.Parts.{Parts};
-ghost use Rattle.boot_image.specs.Format.{IsInRange, spelling, most_words};
+ghost use Rattle.boot_image.specs.Format.{IsInRange, IsOldInRange, spelling, most_words};
 ghost use Rattle.word_bytes.specs.Words.{words_of};
-ghost use Rattle.boot_image.specs.Reading.{Comes, Gives, mark_at, number_at, form_at, params_at, counts_at, bare_at, system_at, header_of, part_at, users_at, parts_of, users_of, answer};
+ghost use Rattle.boot_image.specs.Reading.{Comes, Gives, mark_at, number_at, form_at, params_at, counts_at, bare_at, system_at, header_of, old_header_of, part_at, users_at, parts_of, users_of, image_at, answer, old_answer};
 
 use crate::fault::ImageFault;
 use crate::image::Image;
@@ -37,14 +37,18 @@ pub fn read(alloc: Global, bytes: &[u8]) -> Result<Image, ImageFault>
     ensures only { (i : Parts) → IsInRange i → bytes.now ≡ spelling i → Gives result (Ok i) }
 {
     let (header, counts, rest) = fields(bytes)?;
-    let (source, words, users) = parts(&header, &counts, rest)?;
-    Ok(Image {
-        params: header.params,
-        form: header.form,
-        source: Vec::from_slice(alloc, source)?,
-        words: read_words(alloc, words)?,
-        users: users_in(alloc, &counts, users)?,
-    })
+    image_in(alloc, &header, &counts, rest)
+}
+
+/// Reads an image of form 2, which carried a whole system before form 3 did. It is laid out as form 3, with at most 16 users of at most 256
+/// pages. Its linked words are those of the system of its time.
+pub fn read_old(alloc: Global, bytes: &[u8]) -> Result<Image, ImageFault>
+    ensures is { Gives result (old_answer bytes.now) }
+    ensures spelled { IfOk result (λ i. IsOldInRange i × (bytes.now ≡ spelling i)) }
+    ensures only { (i : Parts) → IsOldInRange i → bytes.now ≡ spelling i → Gives result (Ok i) }
+{
+    let (header, counts, rest) = old_fields(bytes)?;
+    image_in(alloc, &header, &counts, rest)
 }
 
 /// A law: bytes are answered by an image exactly where they are its spelling.
@@ -52,6 +56,33 @@ pub fn images_are_their_spellings()
     ensures spelled { (bytes : List ℕ) → ((i : ℕ) → slice_index bytes i < 256) → (image : Parts) → answer bytes ≡ Ok image → IsInRange image × (bytes ≡ spelling image) }
     ensures read_back { (image : Parts) → IsInRange image → answer (spelling image) ≡ Ok image }
 {}
+
+/// A law: bytes are answered by an image of form 2 exactly where they are its spelling.
+pub fn old_images_are_their_spellings()
+    ensures spelled { (bytes : List ℕ) → ((i : ℕ) → slice_index bytes i < 256) → (image : Parts) → old_answer bytes ≡ Ok image → IsOldInRange image × (bytes ≡ spelling image) }
+    ensures read_back { (image : Parts) → IsOldInRange image → old_answer (spelling image) ≡ Ok image }
+{}
+
+// The image of a header and of the bytes that follow it.
+fn image_in(
+    alloc: Global,
+    header: &Header,
+    counts: &[u32],
+    bytes: &[u8],
+) -> Result<Image, ImageFault>
+    requires at { header.now.parts_at ≤ 1000 }
+    requires few { length counts.now ≤ 64 }
+    ensures { Gives result (image_at header.now counts.now bytes.now) }
+{
+    let (source, words, users) = parts(header, counts, bytes)?;
+    Ok(Image {
+        params: header.params,
+        form: header.form,
+        source: Vec::from_slice(alloc, source)?,
+        words: read_words(alloc, words)?,
+        users: users_in(alloc, counts, users)?,
+    })
+}
 
 // The fields, the users' numbers of words, and the bytes that follow them.
 #[tactic(auto, unfolding(crate::specs::Reading::header_of))]
@@ -61,7 +92,22 @@ fn fields(bytes: &[u8]) -> Result<(Header, ArrayVec<u32, 64>, &[u8]), ImageFault
 {
     let rest = after_mark(bytes)?;
     let (form, rest) = form(rest)?;
-    if form == 1 { bare(rest) } else { system(rest) }
+    if form == 1 {
+        bare(rest)
+    } else {
+        system(rest, 3, 64, 1024)
+    }
+}
+
+// The same of a file of form 2.
+#[tactic(auto, unfolding(crate::specs::Reading::old_header_of))]
+fn old_fields(bytes: &[u8]) -> Result<(Header, ArrayVec<u32, 64>, &[u8]), ImageFault>
+    ensures is { Comes (λ x. (x.0, (x.1.items, x.2.now))) result (old_header_of bytes.now) }
+    ensures place { IfOk result (λ x. x.0.parts_at ≤ 1000) }
+{
+    let rest = after_mark(bytes)?;
+    let (_, rest) = number(rest, 1, 2, 2)?;
+    system(rest, 2, 16, 256)
 }
 
 // The bytes that follow the mark.
@@ -138,18 +184,25 @@ fn bare(bytes: &[u8]) -> Result<(Header, ArrayVec<u32, 64>, &[u8]), ImageFault>
 
 // Behind the form of a whole system.
 #[tactic(auto, unfolding(crate::specs::Reading::system_at))]
-fn system(bytes: &[u8]) -> Result<(Header, ArrayVec<u32, 64>, &[u8]), ImageFault>
-    ensures is { Comes (λ x. (x.0, (x.1.items, x.2.now))) result (system_at bytes.now) }
+fn system(
+    bytes: &[u8],
+    form: u32,
+    most_users: u32,
+    most_pages: u32,
+) -> Result<(Header, ArrayVec<u32, 64>, &[u8]), ImageFault>
+    requires users { most_users ≤ 64 }
+    requires pages { most_pages ≤ 1024 }
+    ensures is { Comes (λ x. (x.0, (x.1.items, x.2.now))) result (system_at form most_users most_pages bytes.now) }
     ensures place { IfOk result (λ x. x.0.parts_at ≤ 1000) }
 {
-    let (users, rest) = number(bytes, 2, 0, 64)?;
-    let (params, rest) = params(rest)?;
+    let (users, rest) = number(bytes, 2, 0, most_users)?;
+    let (params, rest) = params(rest, most_pages)?;
     let (source_length, rest) = number(rest, 7, 0, 1_048_576)?;
     let (word_count, rest) = number(rest, 8, 16384, 4_194_304)?;
     let most = (1024 * params.pages).min(65536);
     let (counts, rest) = counts(rest, users, most)?;
     let header = Header {
-        form: 3,
+        form,
         params,
         source_length,
         word_count,
@@ -160,11 +213,11 @@ fn system(bytes: &[u8]) -> Result<(Header, ArrayVec<u32, 64>, &[u8]), ImageFault
 
 // The parameters, and the bytes that follow them.
 #[tactic(auto, unfolding(crate::specs::Reading::params_at))]
-fn params(bytes: &[u8]) -> Result<(Params, &[u8]), ImageFault>
-    ensures is { Comes (λ x. (x.0, x.1.now)) result (params_at bytes.now) }
-    ensures pages { IfOk result (λ x. x.0.pages ≤ 1024) }
+fn params(bytes: &[u8], most_pages: u32) -> Result<(Params, &[u8]), ImageFault>
+    ensures is { Comes (λ x. (x.0, x.1.now)) result (params_at most_pages bytes.now) }
+    ensures pages { IfOk result (λ x. x.0.pages ≤ most_pages) }
 {
-    let (pages, rest) = number(bytes, 3, 1, 1024)?;
+    let (pages, rest) = number(bytes, 3, 1, most_pages)?;
     let (frames, rest) = number(rest, 4, 2, 16384)?;
     let (heap, rest) = number(rest, 5, 0, 1_048_576)?;
     let (stack, rest) = number(rest, 6, 64, 262_144)?;

@@ -36,7 +36,7 @@ fn push_fields(bytes: &mut Vec<u8>, image: &Image) -> Result<(), AllocError>
         return push_words(bytes, &[1, source_length]);
     }
     let numbers = [
-        3,
+        image.form,
         image.users.len() as u32,
         image.params.pages,
         image.params.frames,

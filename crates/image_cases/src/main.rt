@@ -1,9 +1,9 @@
 // Reads the bytes of files of cases, and prints what each holds, or the refusal of docs/REFUSALS.md. `case_file` says how a case is
 // written. Its kind is `image`, a boot image (its parameters, source, words and users, and whether writing it gives the same bytes
-// again), `params`, the parameters of a system, or `user`, the words of a user.
+// again), `old`, one of form 2, `params`, the parameters of a system, or `user`, the words of a user.
 #![tactic(auto)]
 
-use boot_image::{Image, ImageFault, read, write};
+use boot_image::{Image, ImageFault, read, read_old, write};
 use case_file::{Case, cases};
 use std::alloc::{AllocError, Global};
 use std::fmt::Write;
@@ -71,6 +71,14 @@ fn put_answer(alloc: Global, out: &mut String, bytes: &[u8]) -> Result<(), Alloc
     }
 }
 
+// What is printed of bytes that are read as an image of form 2.
+fn put_old(alloc: Global, out: &mut String, bytes: &[u8]) -> Result<(), AllocError> {
+    match read_old(alloc, bytes) {
+        Ok(image) => put_image(out, &image),
+        Err(fault) => put_fault(out, fault),
+    }
+}
+
 // Why a file has no parameters or no words.
 fn put_file_fault(out: &mut String, fault: FileFault) -> Result<(), AllocError> {
     write!(out, "{}", fault.number())?;
@@ -116,6 +124,7 @@ fn put_case(alloc: Global, out: &mut String, case: &Case) -> Result<(), AllocErr
     writeln!(out, "== {kind} {name}")?;
     match kind {
         "image" => put_answer(alloc, out, &case.source),
+        "old" => put_old(alloc, out, &case.source),
         "params" => put_params(out, &case.source),
         "user" => put_user(alloc, out, &case.source),
         _ => out.push_str("no such kind\n"),
