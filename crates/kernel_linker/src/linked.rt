@@ -91,6 +91,7 @@ pub fn link_words<M: LayerMaker>(
     let map = map_of(alloc, unit, code, params, users.len() as u32)?;
     let sizes = sizes(alloc, users)?;
     let layer = M::make(alloc, &map, &sizes)?;
+    layer.keeps_laws();
     let mut words = Vec::from_slice(alloc, layer.words())?;
     words.extend_from_slice(code)?;
     Ok(Joined { words, layer })
