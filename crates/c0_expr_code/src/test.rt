@@ -365,7 +365,7 @@ fn emit_equality_test(
 
 /// Appends the code of a test: it goes to a place where the expression is `wanted`, and else falls through. Its branches to the place
 /// lead nowhere yet, and where they stand is appended to `jumps`: `patch_all` lets them lead to the place.
-#[cycle(test)]
+#[cycle(testing)]
 pub fn emit_test(
     alloc: Global,
     scene: &Scene<'_>,
@@ -403,7 +403,7 @@ pub fn emit_test(
 }
 
 // Appends the test of an operator between two operands; `whole` is the expression that they make.
-#[cycle(test)]
+#[cycle(testing)]
 fn emit_operation(
     alloc: Global,
     scene: &Scene<'_>,
@@ -441,7 +441,7 @@ fn emit_operation(
 }
 
 // Appends the test of `||`, which a first side that is true decides, or else of `&&`, which one that is false decides.
-#[cycle(test)]
+#[cycle(testing)]
 fn emit_both(
     alloc: Global,
     scene: &Scene<'_>,
@@ -467,7 +467,7 @@ fn emit_both(
 }
 
 // Appends two tests that go to the place both.
-#[cycle(test)]
+#[cycle(testing)]
 fn emit_joined(
     alloc: Global,
     scene: &Scene<'_>,
@@ -489,7 +489,7 @@ fn emit_joined(
 }
 
 // Appends two tests, of which the first goes over the second where it isn't `wanted`.
-#[cycle(test)]
+#[cycle(testing)]
 fn emit_over(
     alloc: Global,
     scene: &Scene<'_>,

@@ -2,7 +2,7 @@
 use Rattle.std.proofs.Common.{◌+◌, ◌*◌}
 use Rattle.c0_tree.specs.Size.{nodes}
 use Rattle.c0_tree.specs.View.{expr_view}
-use Rattle.c0_expr_code.proofs.test.+test.Given as goal
+use Rattle.c0_expr_code.proofs.test.+testing.Given as goal
 
 abbrev pub decreases-emit_test : goal.decreases-emit_test
 decreases-emit_test l = 4 * nodes (expr_view l.expr.now)

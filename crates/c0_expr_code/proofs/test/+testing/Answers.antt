@@ -4,7 +4,7 @@ use Rattle.c0_tree.specs.View.{expr_view}
 use Rattle.c0_expr_code.specs.Jumps.{test_open}
 use Rattle.c0_expr_code.specs.Scene.{scope_in}
 use Rattle.c0_expr_code.proofs.Openings.{then, there, over_it}
-use Rattle.c0_expr_code.proofs.test.+test.Goals as goal
+use Rattle.c0_expr_code.proofs.test.+testing.Goals as goal
 
 pub emit_joined-returns : goal.emit_joined-returns
 emit_joined-returns t c =
