@@ -4,3 +4,9 @@ pub mod Turned
 pub mod Loads
 pub mod Proceeding
 pub mod Readiness
+pub mod Going
+pub mod Looping
+pub mod Closing
+pub mod Premises
+pub mod Reporting
+pub mod Booting

@@ -5,6 +5,7 @@ ghost use Rattle.layer_contract.specs.Boots.{BootFollows};
 ghost use Rattle.mips_table.specs.Device.{Outside};
 ghost use Rattle.boot_run.specs.Loading.{system_of, StaysFrom};
 ghost use Rattle.boot_run.specs.LoadEnds.{pages_needed, IsFresh, StandsLoaded, LoadFails};
+ghost use Rattle.boot_run.specs.Report.{ReportRuns};
 ghost use Rattle.boot_run.specs.TurnCalls.{around, IsOver, IsReady, KeepsLoad, TurnRuns};
 
 use crate::load::{LoadFault, check_view, loaded_machine};
@@ -189,6 +190,33 @@ impl<L: Layer + Drop> Run<L> {
                 Err(fault)
             }
         }
+    }
+
+    /// STAND-IN: prints the report.
+    pub fn report<D: Sectors, O: Sink>(
+        &mut self,
+        disk: &mut D,
+        out: &mut O,
+    ) -> Result<(), RunFault>
+        requires disk { D.size disk.old ≡ self.old.count }
+        requires view { self.old.view ≡ View.Boot }
+        ensures same { self.new ≡ record self.old { machine = self.new.machine; fault = self.new.fault } }
+        ensures machine { self.new.machine.rows ≡ self.old.machine.rows }
+        ensures sectors { D.sectors disk.new ≡ D.sectors disk.old }
+        ensures size { D.size disk.new ≡ D.size disk.old }
+        ensures again { IfSome self.old.fault (λ f. result ≡ Err f) }
+        ensures still { IsSome self.old.fault → (self.new ≡ self.old) × (disk.new ≡ disk.old) × (out.new ≡ out.old) }
+        ensures keeps { IfErr result (λ f. self.new.fault ≡ Some f) }
+        ensures fine { OnOk result (self.new.fault ≡ None) }
+        ensures ends { self.old.fault ≡ None → ReportRuns (D.size disk.old) self.old self.new (D.sectors disk.old) (D.sectors disk.new) (O.text out.old) (O.text out.new) result }
+        ensures limit { result ≡ Err RunFault.StepLimit → self.old.fault ≡ Some RunFault.StepLimit }
+        ensures disk { result ≡ Err RunFault.Disk → self.old.fault ≡ None → Rose (D.faults disk.old) (D.faults disk.new) }
+        ensures disk_same { result ≢ Err RunFault.Disk → D.faults disk.new ≡ D.faults disk.old }
+        ensures sink { result ≡ Err RunFault.Sink → self.old.fault ≡ None → Rose (O.faults out.old) (O.faults out.new) }
+        ensures sink_same { result ≢ Err RunFault.Sink → O.faults out.new ≡ O.faults out.old }
+    {
+        out.put(b"report\n")?;
+        Ok(())
     }
 
     /// How the run ended: `Halt`, or the kernel's fault.
