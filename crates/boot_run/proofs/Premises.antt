@@ -1,7 +1,9 @@
 -- The premises of a boot, from what a layer, what is booted, a schedule and a disk promise.
 use Rattle.std.proofs.Common.{◌≡◌, ℕ, ◌+◌, ◌-◌, ◌*◌, ◌≤◌, List, ◌++◌, length, map, drop, refl, sym, ap, ap₂, ◌∙◌, subst, arith, length-append, length-drop}
 use Rattle.std.proofs.lemmas.List.{length-map}
+use Rattle.std.proofs.lemmas.List.Elements.{All-weaker}
 use Rattle.std.specs.Prelude.{All}
+use Rattle.cvm_outside.specs.Told.{IsSector}
 use Rattle.schedule_file.specs.Rows.{Rows, lines_at, busy_of, longest}
 use Rattle.mips_table.specs.Device.{HasEightLines, LinesEnd}
 use Rattle.mips_table.specs.Fits.{IsWord, IsPage}
@@ -18,6 +20,10 @@ use Rattle.layer_contract.specs.Follows.{site_of}
 use Rattle.boot_run.specs.Loading.{system_of}
 use Rattle.boot_run.specs.LoadEnds.{pages_needed}
 use Rattle.boot_run.specs.Whole.{Bootable}
+
+-- sectors of words are pages
+pub are_pages : (old : List (List ℕ)) → All IsSector old → All IsPage old
+are_pages old h = All-weaker IsSector IsPage (λ s p. record { size = p.size; each = p.each }) old h
 
 -- what a schedule's rows promise, over a disk of so many sectors
 pub record RowsFit (rows : Rows) (count : ℕ) : Type 0 where

@@ -1,10 +1,11 @@
 // A whole boot: load, turns until the wanted number is complete, and the report.
-ghost use Rattle.std.specs.Prelude.{◌≡◌, ◌≢◌, ℕ, ◌+◌, ◌<◌, ◌≤◌, ◌^◌, IfOk, IfErr, IsSome, OnErr, Err, Ok, Some, None};
+ghost use Rattle.std.specs.Prelude.{◌≡◌, ◌≢◌, All, List, ℕ, ◌+◌, ◌<◌, ◌≤◌, ◌^◌, IfOk, IfErr, IsSome, OnErr, Err, Ok, Some, None};
 ghost use Rattle.cvm_outside.specs.Causes.{Rose};
 ghost use Rattle.layer_contract.specs.Boots.{BootFollows};
-ghost use Rattle.boot_run.specs.LoadEnds.{HasRoom, LoadFails};
+ghost use Rattle.boot_run.specs.Loading.{system_of};
+ghost use Rattle.boot_run.specs.LoadEnds.{pages_needed, HasRoom, LoadFails};
 ghost use Rattle.boot_run.specs.TurnCalls.{around, KeepsLoad};
-ghost use Rattle.boot_run.specs.Whole.{end_of_fault, is_kernel_fault, CloseRuns, GoRuns, IsDiskFault, IsSinkFault, RunsToEnd, WholeEnds, WholeGoesOn};
+ghost use Rattle.boot_run.specs.Whole.{Bootable, end_of_fault, is_kernel_fault, CloseRuns, GoRuns, IsDiskFault, IsSinkFault, RunsToEnd, WholeEnds, WholeGoesOn};
 
 use crate::load::LoadFault;
 use crate::run::Run;
@@ -12,6 +13,7 @@ use boot_turns::{RunFault, Turn, View, machines_run};
 use cvm_model::{Next, units_replay};
 use cvm_outside::{Sectors, Sink};
 use layer_contract::{Boot, Layer};
+use mips_machine::laws::schedules_end;
 use mips_table::runs::turns_are_counted;
 use schedule_file::Schedule;
 use std::alloc::Global;
@@ -29,6 +31,25 @@ pub enum RunEnd {
     DiskFault,
     /// The sink failed.
     SinkFault,
+}
+
+/// Tells proofs that words are in the range of their type.
+fn are_words(words: &[u32])
+    ensures { All (λ w. w < 2 ^ 32) words.now }
+{}
+
+/// A law: what a layer, what is booted over it, a schedule and a disk promise are the premises of a boot.
+fn premises_hold<L: Layer, D: Sectors>(layer: &L, boot: &Boot, schedule: &Schedule, disk: &D)
+    requires { BootFollows (L.image layer.now) (L.sizes layer.now) (L.map layer.now) boot.now }
+    ensures { (old : List (List ℕ)) → D.sectors disk.now ≡ Some old → pages_needed boot.now ≤ D.size disk.now → Bootable boot.now schedule.now (D.size disk.now) (system_of boot.now schedule.now) old }
+{
+    units_replay();
+    layer.keeps_laws();
+    disk.are_sectors();
+    are_words(boot.words.as_slice());
+    schedules_end(schedule);
+    let _ = schedule.longest();
+    let _ = schedule.inputs();
 }
 
 /// How a run ends with a fault.
@@ -182,8 +203,7 @@ pub fn run_whole<L: Layer + Drop, D: Sectors, O: Sink>(
     ensures sink_same { (IsSinkFault result → ⊥) → O.faults out.new ≡ O.faults out.old }
 {
     machines_run();
-    units_replay();
-    layer.keeps_laws();
+    premises_hold(&layer, &boot, &schedule, disk);
     let mut run = Run::load(alloc, layer, boot, schedule, view, disk)?;
     Ok(run_to_end(&mut run, turns, steps, disk, out))
 }
