@@ -1,5 +1,5 @@
 -- What a step was says whether it began a turn.
-use Rattle.std.proofs.Common.{◌≡◌, ℕ, zero, suc, ◌+◌, ◌≤◌, ◌&&◌, ◌||◌, not, Bool, true, false, Option, Some, None, List, [], refl, sym, ap, ◌∙◌, subst, arith, slice_index, slice_set}
+use Rattle.std.proofs.Common.{◌≡◌, ℕ, zero, suc, ◌+◌, ◌&&◌, ◌||◌, not, Bool, true, false, Option, Some, None, List, [], refl, sym, ap, ◌∙◌, subst, slice_index, slice_set}
 use Rattle.std.specs.Prelude.{IfSome, is_some, ◌==◌}
 use Rattle.std.specs.Option.{option_map}
 use Rattle.mips_table.specs.declared.cause.Cause.TheVariants as causes
@@ -99,7 +99,7 @@ torn_by : (p : Pending) (buffer after : List ℕ) (ss : List (List ℕ)) (retold
 torn_by Idle buffer after ss retold h = absurd h
 torn_by (Reading zero sector) buffer after ss retold h = (ss, h, refl)
 torn_by (Reading (suc left) sector) buffer after ss retold h = absurd h
-torn_by (Writing zero sector) buffer after ss retold (same, words, h) = (slice_set ss sector words, h, (words, refl))
+torn_by (Writing zero sector) buffer after ss retold h = let w = h.1 in (slice_set ss sector w.0, w.1, (w.0, refl))
 torn_by (Writing (suc left) sector) buffer after ss retold h = absurd h
 
 pub fails_torn : (count : ℕ) (old new : Held) (told retold : Option (List (List ℕ))) → Fails count old new told retold → StepTorn count old told retold
