@@ -72,17 +72,17 @@ module _ {L : Type 0} (layer : L) (b : Booted) (rows : Rows) (count size : ℕ) 
 
   is_some : (o : Option (List (List ℕ))) (now : List (List ℕ)) → o ≡ Some now → IsSome o
   is_some None now h = absurd (cc)
-  is_some (Some x) now h = tt
+  is_some (Some x) now h = refl
 
   pub whole_told : IsSome told → IsSome retold
   whole_told h = by told refl h
     where
       by : (o : Option (List (List ℕ))) → told ≡ o → IsSome o → IsSome retold
-      by None q i = absurd i
+      by None q i = absurd (cc)
       by (Some old) q i = let w = ends_at old q in is_some retold w.0 w.1
 
 -- sectors that stay somewhere are told
 pub stays_told : (n : ℕ) (told retold : Option (List (List ℕ))) → StaysFrom n told retold → IsSome told → IsSome retold
-stays_told n None retold h i = absurd i
+stays_told n None retold h i = absurd (cc)
 stays_told n (Some old) None h i = absurd (let e = h n (omega arith) in cc)
-stays_told n (Some old) (Some now) h i = tt
+stays_told n (Some old) (Some now) h i = refl

@@ -98,9 +98,13 @@ go_done x y old v base turns steps (suc k) now some same (t, c, g) = record {
   within = within x y old v base steps (suc k) t c now g;
 }
 
+some_none : (o : Option Next) → o ≡ None → IsSome o → ⊥
+some_none None e h = cc
+some_none (Some n) e h = cc
+
 -- or the run has ended
 off_of : (s : Status) (z : State) → (IsSome (ended_of s)) → Rests s z → (v : ℕ) × (z.off ≡ Some v)
-off_of Running z e r = absurd e
+off_of Running z e r = absurd (cc)
 off_of Halted z e r = (0, r)
 off_of (Faulted f) z e r = (power_of f, r)
 
@@ -109,7 +113,7 @@ pub go_over : (x : Outside) (y : System) (old : List (List ℕ)) → Machines x 
 go_over x y old m v base turns steps zero now le over (t, c, g) =
     let first : c ≡ first_cvm y = m.same 0 c (first_cvm y) g.ready.stood.cvm (record { units = 0; is = refl }) in
     let none : now.ended ≡ None = g.ready.ended ∙ ap (λ (w : Cvm). ended_of w.status) first in
-    absurd (subst (λ (o : Option Next). IsSome o) none over)
+    absurd (some_none now.ended none over)
 go_over x y old m v base turns steps (suc k) now le over (t, c, g) =
     let off = off_of c.status (machine x y old t) (subst (λ (o : Option Next). IsSome o) g.ready.ended over) g.ready.stood.rests.0 in
     record {

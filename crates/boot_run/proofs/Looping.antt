@@ -78,11 +78,8 @@ go_failed counts count size r now turns before mid after i f e result kept same 
 pub went_over : {L : Type 0} (run : (u : CUnit) → MachinesRun (IsTypedState u)) (count : ℕ) (r : Kept L) (turns : ℕ) (before mid after : Around) (i : ℕ) → i ≤ turns → IsSome mid.ended → mid ≡ after → KeepsGoing count r before i mid →
     GoRuns count r turns before after (Ok tt)
 went_over run count r turns before mid after i le over same k = λ y old base p ready.
-    subst (λ (a : Around). GoneAt y old base a) same
+    subst (λ (a : Around). Gone (outside_of r.machine.rows count) y old r.view base turns before.budget a) same
     (go_over (outside_of r.machine.rows count) y old (machines run r.boot r.machine.rows count y old p) r.view base turns before.budget i mid le over (k y old base p ready))
-  where
-    abbrev GoneAt : System → List (List ℕ) → Option (List ℕ) → Around → Type 0
-    GoneAt y old base a = Gone (outside_of r.machine.rows count) y old r.view base turns before.budget a
 
 -- or all turns are complete
 pub went : {L : Type 0} (count : ℕ) (r : Kept L) (turns : ℕ) (before after : Around) (i : ℕ) → 1 ≤ turns → i ≡ turns → KeepsGoing count r before i after → GoRuns count r turns before after (Ok tt)
@@ -91,8 +88,8 @@ went count r turns before after i some same k = λ y old base p ready. go_done (
 -- a run that answers other than that it is over has not ended
 pub not_over : (ended : Option Next) (answer : Turn) → (IsSome ended → ◌≡◌ {A = Result Turn RunFault} (Ok answer) (Ok Over)) → (answer ≡ Over → ⊥) → ended ≡ None
 not_over None answer h n = refl
-not_over (Some e) answer h n = absurd (n (let w = h tt in cc))
+not_over (Some e) answer h n = absurd (n (let w = h refl in cc))
 
 pub not_failed : (ended : Option Next) (f : RunFault) → (IsSome ended → ◌≡◌ {A = Result Turn RunFault} (Err f) (Ok Over)) → ended ≡ None
 not_failed None f h = refl
-not_failed (Some e) f h = absurd (let w = h tt in cc)
+not_failed (Some e) f h = absurd (let w = h refl in cc)
