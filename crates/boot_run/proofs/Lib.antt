@@ -8,5 +8,5 @@ pub mod Going
 pub mod Looping
 pub mod Closing
 pub mod Premises
-pub mod Reporting
+pub mod Ending
 pub mod Booting

@@ -2,7 +2,7 @@ use Rattle.std.proofs.Common.{◌≡◌, false, sym, ap, ◌∙◌, subst}
 use Rattle.boot_run.specs.TurnCalls.{around}
 use Rattle.boot_run.specs.declared.whole.RunEnd.{RunEnd}
 use Rattle.boot_run.specs.Whole.{CloseRuns, is_kernel_fault}
-use Rattle.boot_run.proofs.Reporting.{closes_done, closes_failed}
+use Rattle.boot_run.proofs.Ending.{closes_done, closes_failed}
 use Rattle.boot_run.proofs.whole.close.Goals as goal
 
 pub returns-in-Ok-clause-ends : goal.returns-in-Ok-clause-ends

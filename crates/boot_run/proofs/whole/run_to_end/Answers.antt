@@ -2,7 +2,7 @@ use Rattle.std.proofs.Common.{◌≡◌, sym, subst}
 use Rattle.boot_run.specs.TurnCalls.{around}
 use Rattle.boot_run.specs.declared.whole.RunEnd.{RunEnd}
 use Rattle.boot_run.specs.Whole.{RunsToEnd}
-use Rattle.boot_run.proofs.Reporting.{to_fault, to_close}
+use Rattle.boot_run.proofs.Ending.{to_fault, to_close}
 use Rattle.boot_run.proofs.whole.run_to_end.Goals as goal
 
 pub returns-in-Ok-clause-ends : goal.returns-in-Ok-clause-ends
