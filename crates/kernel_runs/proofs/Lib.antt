@@ -17,3 +17,5 @@ pub mod Begins
 pub mod FewUnits
 pub mod KernelRun
 pub mod Compiled
+pub mod FirstCore
+pub mod WholeBoots
