@@ -5,3 +5,4 @@ pub mod Samples
 pub mod Rows
 pub mod Completes
 pub mod Advances
+pub mod TypedRuns

@@ -4,7 +4,7 @@ use Rattle.c0_meaning.specs.Env.{typed_of}
 use Rattle.c0_meaning.specs.Words.{all_words}
 use Rattle.c0_meaning.specs.DeclaredTypes.{MAX_TYPE_WORDS}
 use Rattle.c0_meaning.specs.Sound.{shapes}
-use Rattle.boot_run.proofs.load.decls_words.Given as goal
+use Rattle.boot_run.proofs.places.decls_words.Given as goal
 
 abbrev pub invariant-loop-decl : goal.invariant-loop-decl
 invariant-loop-decl l = record {

@@ -4,7 +4,7 @@ use Rattle.c0_tree.specs.declared.tree.Decl.{Decl}
 use Rattle.c0_tree.specs.declared.tree.Unit.{Unit as Source}
 use Rattle.c0_tree.specs.View.{decl_view, unit_view}
 use Rattle.c0_meaning.specs.Sound.{shapes, IsSized}
-use Rattle.boot_run.proofs.load.global_words.Goals as goal
+use Rattle.boot_run.proofs.places.global_words.Goals as goal
 
 pub decls_words-requires-clause-decls : goal.decls_words-requires-clause-decls
 decls_words-requires-clause-decls c =

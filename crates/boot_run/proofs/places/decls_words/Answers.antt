@@ -6,7 +6,7 @@ use Rattle.c0_meaning.specs.Env.{Shape}
 use Rattle.c0_meaning.specs.Sizes.{capped}
 use Rattle.c0_meaning.specs.Sound.{shapes, IsSized}
 use Rattle.c0_meaning.proofs.Sized.{decl_sized, words_left}
-use Rattle.boot_run.proofs.load.decls_words.Goals as goal
+use Rattle.boot_run.proofs.places.decls_words.Goals as goal
 
 pub words_of-requires : goal.words_of-requires
 words_of-requires c =
