@@ -5,3 +5,5 @@ pub mod Samples
 pub mod Rows
 pub mod Completes
 pub mod Advances
+pub mod Entries
+pub mod JournalText
