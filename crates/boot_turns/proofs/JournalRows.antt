@@ -7,7 +7,7 @@ use Rattle.boot_turns.specs.JournalText.{steps_after, pending_steps, RowsFollow}
 
 -- an entry that is no step has its row after those of the steps
 more_after : (n : ℕ) (e j d : List ℕ) → (steps_row n ++ e ++ (j ++ d)) ≡ (steps_row n ++ e ++ j) ++ d
-more_after n e j d = ap (λ r. steps_row n ++ r) (sym (append_assoc e j d)) ∙ sym (append_assoc (steps_row n) (e ++ j) d)
+more_after n e j d = sym (append_assoc (steps_row n ++ e) j d)
 
 more : (ends : Bool) (n : ℕ) (j d : List JournalEntry) → journal_rows_after ends n (j ++ d) ≡ journal_rows_after false n j ++ journal_rows_after ends (steps_after n j) d
 more ends n [] d = refl

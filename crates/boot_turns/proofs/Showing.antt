@@ -428,10 +428,12 @@ module _ (x : Outside) (y : System) (old : List (List ℕ)) (Typed : C0 → Type
         let v : Knows n (complete x s t) (turn_of x s t) (ended_since x s t) j = subst (λ i. Knows n (complete x s t) (turn_of x s t) i j) (sym e) v2 in
         record { units = n; past = v.past; cvm = v.cvm_is; enough = v.enough; is = v.is }
 
+    as_known : (t : ℕ) (j : List JournalEntry) (w : Shown x s y u t j) → Knows w.units (complete x s t) (turn_of x s t) (ended_since x s t) j
+    as_known t j w = record { past = w.past; cvm_is = w.cvm; enough = w.enough; is = w.is }
+
     known_from : (t k r : ℕ) (j : List JournalEntry) → complete x s t ≡ k → turn_of x s t ≡ r → Shown x s y u t j → (n : ℕ) × Knows n k r (ended_since x s t) j
     known_from t k r j a b w =
-        let v : Knows w.units (complete x s t) (turn_of x s t) (ended_since x s t) j = record { past = w.past; cvm_is = w.cvm; enough = w.enough; is = w.is } in
-        let v1 : Knows w.units k (turn_of x s t) (ended_since x s t) j = subst (λ i. Knows w.units i (turn_of x s t) (ended_since x s t) j) a v in
+        let v1 : Knows w.units k (turn_of x s t) (ended_since x s t) j = subst (λ i. Knows w.units i (turn_of x s t) (ended_since x s t) j) a (as_known t j w) in
         (w.units, subst (λ i. Knows w.units k i (ended_since x s t) j) b v1)
 
     past_is : (n at k r m : ℕ) (c : Cvm) (j : List JournalEntry) → Turn at k c → Knows n k r m j → cvm y lines n k ≡ Some c
@@ -656,6 +658,15 @@ module _ (x : Outside) (y : System) (old : List (List ℕ)) (Typed : C0 → Type
           by None is = same_step (ap (ends_here (run x s (suc t))) (sym (noted_back x s t) ∙ ap note_back is)) (ap (returned (run x s (suc t))) is)
           by (Some e) is = ended_one e is ((run x s (suc t)).cpu.pc == e.back) refl
 
+    -- what is shown is one journal
+    one_shown : (t : ℕ) (i j : List JournalEntry) → Shown x s y u t i → Shown x s y u t j → i ≡ j
+    one_shown t i j a b =
+        let va = known_more y g.meaning lines u a.units b.units (complete x s t) (turn_of x s t) (ended_since x s t) i (as_known t i a) in
+        let vb = known_more y g.meaning lines u b.units a.units (complete x s t) (turn_of x s t) (ended_since x s t) j (as_known t j b) in
+        let sum : b.units + a.units ≡ a.units + b.units = omega arith in
+        let vc : Knows (a.units + b.units) (complete x s t) (turn_of x s t) (ended_since x s t) j = subst (λ n. Knows n (complete x s t) (turn_of x s t) (ended_since x s t) j) sum vb in
+        va.is ∙ sym vc.is
+
     -- any step
     pub grows : 1 ≤ u → u ≤ length y.boot.users → (t : ℕ) (j : List JournalEntry) → (run x s t).off ≡ None → Shown x s y u t j → ShowsMore x y old u t j
     grows low high t j on sh = by (rests (run x s (suc t))) refl
@@ -697,6 +708,7 @@ module _ (x : Outside) (y : System) (old : List (List ℕ)) (Typed : C0 → Type
 
     pub trace_grows : 1 ≤ u → u ≤ length y.boot.users → TraceGrows x y old u
     trace_grows low high = record {
+      one = one_shown;
       none = record { units = 0; past = first_cvm y; cvm = refl; enough = λ lt. absurd (omega (arith, lt)); is = refl };
       more = grows low high;
     }

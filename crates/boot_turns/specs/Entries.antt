@@ -91,8 +91,9 @@ pub record ShowsMore (x : Outside) (y : System) (old : List (List ℕ)) (u t : �
   pub there : WordsAt x y u (machine x y old (suc t)) words (returned (machine x y old (suc t)) (noted_call x (loaded y old) t))
   pub shown : Shown x (loaded y old) y u (suc t) (j ++ step_entries x (loaded y old) u t words)
 
--- A TRACE GROWS: nothing is shown before the first step, and each step of a machine that is on adds its entries
+-- A TRACE GROWS: one journal at most is shown at a step; none before the first step; and each step of a machine that is on adds its entries
 pub record TraceGrows (x : Outside) (y : System) (old : List (List ℕ)) (u : ℕ) : Type 0 where
+  pub one : (t : ℕ) (i j : List JournalEntry) → Shown x (loaded y old) y u t i → Shown x (loaded y old) y u t j → i ≡ j
   pub none : Shown x (loaded y old) y u 0 []
   pub more : (t : ℕ) (j : List JournalEntry) → (machine x y old t).off ≡ None → Shown x (loaded y old) y u t j → ShowsMore x y old u t j
 

@@ -10,7 +10,7 @@ use arrayvec::ArrayString;
 use cvm_text::{decimal_u64, hex8};
 
 /// The first row, of a user and the number of its pages at the start.
-pub fn start_row(user: u32, pages: u32) -> ArrayString<40>
+pub fn start_row(user: u32, pages: u32) -> ArrayString<64>
     ensures { (f : Flat) → pages_of f ≡ pages → result.bytes ≡ start_row user f }
 {
     let mut text = ArrayString::new();
@@ -23,7 +23,7 @@ pub fn start_row(user: u32, pages: u32) -> ArrayString<40>
 }
 
 /// The row of so many untrapped steps: none where there are none.
-pub fn steps_row(steps: u64) -> ArrayString<40>
+pub fn steps_row(steps: u64) -> ArrayString<64>
     ensures { result.bytes ≡ steps_row steps }
 {
     if steps == 0 {
@@ -37,7 +37,7 @@ pub fn steps_row(steps: u64) -> ArrayString<40>
 }
 
 /// The row of a trap.
-pub fn trap_row(cause: u32, edata: u32) -> ArrayString<40>
+pub fn trap_row(cause: u32, edata: u32) -> ArrayString<64>
     ensures { result.bytes ≡ entry_row (Trapped cause edata) }
 {
     let mut text = ArrayString::new();
@@ -50,7 +50,7 @@ pub fn trap_row(cause: u32, edata: u32) -> ArrayString<40>
 }
 
 /// The row of a register that was put, where 32 is the pc.
-pub fn set_row(register: u32, value: u32) -> ArrayString<40>
+pub fn set_row(register: u32, value: u32) -> ArrayString<64>
     ensures { result.bytes ≡ entry_row (Set register value) }
 {
     let mut text = ArrayString::new();
@@ -63,7 +63,7 @@ pub fn set_row(register: u32, value: u32) -> ArrayString<40>
 }
 
 /// The row of a size in pages that was put.
-pub fn size_row(pages: u32) -> ArrayString<40>
+pub fn size_row(pages: u32) -> ArrayString<64>
     ensures { result.bytes ≡ entry_row (Size pages) }
 {
     let mut text = ArrayString::new();
@@ -74,7 +74,7 @@ pub fn size_row(pages: u32) -> ArrayString<40>
 }
 
 /// The row of a word that was put at an address.
-pub fn put_row(address: u32, value: u32) -> ArrayString<40>
+pub fn put_row(address: u32, value: u32) -> ArrayString<64>
     ensures { result.bytes ≡ entry_row (Put address value) }
 {
     let mut text = ArrayString::new();
