@@ -14,3 +14,4 @@ mod Plans
 mod Puts
 mod Spellings
 mod Values
+mod LinkPlans
