@@ -32,7 +32,7 @@ first_sizes [] = refl
 first_sizes (u ∷ rest) = ap (λ ns. pages_of (first_flat u) ∷ ns) (first_sizes rest)
 
 -- what the premises of a boot and the laws give
-given : (Typed : C0 → Type 0) (lines busy : ℕ → ℕ) (x : Outside) (y : System) (old : List (List ℕ)) (image sizes : List ℕ) (m : Map) → LoadedResets → UserStepsLinked →
+pub given : (Typed : C0 → Type 0) (lines busy : ℕ → ℕ) (x : Outside) (y : System) (old : List (List ℕ)) (image sizes : List ℕ) (m : Map) → LoadedResets → UserStepsLinked →
     Boots Typed lines busy x y old image sizes m → Laws (site_of y.boot) sizes → Given x y old Typed
 given Typed lines busy x y old image sizes m resets users boots laws = record {
   lines = boots.happens.end;

@@ -6,3 +6,5 @@ pub mod Rows
 pub mod Completes
 pub mod Advances
 pub mod TypedRuns
+pub mod Entries
+pub mod JournalText
