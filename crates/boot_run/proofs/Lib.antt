@@ -4,3 +4,6 @@ pub mod Turned
 pub mod Loads
 pub mod Proceeding
 pub mod Readiness
+pub mod Rows
+pub mod Room
+pub mod Reporting

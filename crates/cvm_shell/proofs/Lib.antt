@@ -7,10 +7,13 @@ mod Four
 mod FourBytes
 mod GlobalRows
 mod Globals
+mod GotFiles
 mod KernelPlans
 mod KernelTurn
+mod LinkPlans
 mod OneTurn
 mod Plans
 mod Puts
 mod Spellings
+mod UserWords
 mod Values

@@ -20,11 +20,19 @@ pub record CompileKernel : Type 0 where
   pub source : List ℕ
   pub object : List ℕ
 
+-- link an object, parameters and users, and put the image that they give
+pub record Link : Type 0 where
+  pub object : List ℕ
+  pub params : List ℕ
+  pub image : List ℕ
+  pub users : List (List ℕ)
+
 -- a command, of one of the kinds
 pub data Command : Type 0 where
   boot : Boot → Command
   compile_user : CompileUser → Command
   compile_kernel : CompileKernel → Command
+  link : Link → Command
 
 -- the words as texts
 abbrev pub texts : List (String Global) → List (List ℕ)
@@ -45,11 +53,16 @@ pub record IsCompileUser (words : List (List ℕ)) (c : CompileUser) : Type 0 wh
 pub record IsCompileKernel (words : List (List ℕ)) (c : CompileKernel) : Type 0 where
   pub spelled : words ≡ codes "compile" ∷ codes "kernel" ∷ c.source ∷ c.object ∷ []
 
+-- link OBJ PARAMS OUT USER.., with any number of users
+pub record IsLink (words : List (List ℕ)) (l : Link) : Type 0 where
+  pub spelled : words ≡ codes "link" ∷ l.object ∷ l.params ∷ l.image ∷ l.users
+
 -- the words are this command
 abbrev pub IsCommand : List (List ℕ) → Command → Type 0
 IsCommand words (boot b) = IsBoot words b
 IsCommand words (compile_user c) = IsCompileUser words c
 IsCommand words (compile_kernel c) = IsCompileKernel words c
+IsCommand words (link l) = IsLink words l
 
 -- no command has these words
 abbrev pub IsNoCommand : List (List ℕ) → Type 0

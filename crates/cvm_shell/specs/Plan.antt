@@ -1,5 +1,5 @@
 -- What words and the files that they name come to, before anything is put or run: stage by stage, in the order of work.
-use Rattle.std.specs.Prelude.{◌≡◌, ◌≢◌, ℕ, ◌<◌, ◌≤◌, List, [], length, flat_map, Option, Ok, Err}
+use Rattle.std.specs.Prelude.{◌≡◌, ◌≢◌, ⊤, ℕ, suc, nat_eq, ◌%◌, ◌<◌, ◌≤◌, List, [], ◌∷◌, length, flat_map, Option, Result, Ok, Err, if◌then◌else◌}
 use Rattle.std.specs.Int.{to_le_bytes, w32}
 use Rattle.std.specs.Option.{IsSome}
 use Rattle.cvm_outside.specs.Told.{TOO_LONG, Tells}
@@ -13,12 +13,27 @@ use Rattle.c0_parser.specs.declared.fault.ReadFault.{ReadFault}
 use Rattle.c0_parser.specs.declared.fault.ReadFault.TheVariants as read
 use Rattle.c0_types.specs.declared.fault.TypeFault.{TypeFault}
 use Rattle.c0_types.specs.declared.fault.TypeFault.TheVariants as typing
-use Rattle.c0_types.specs.Front.{IsUnitOf, IsMistyped}
+use Rattle.c0_types.specs.Front.{IsUnitOf, IsMistyped, IsAnswer}
 use Rattle.c0_types.specs.declared.source_fault.SourceFault.TheVariants.{Reading as BadReading, Typing as BadTyping}
 use Rattle.object_file.specs.Format.{spelling}
 use Rattle.kernel_linker.specs.Object.{object_of}
-use Rattle.cvm_shell.specs.Command.{Boot, CompileUser, CompileKernel, Command, boot, compile_user, compile_kernel, IsBoot, IsCompileUser, IsCompileKernel, IsCommand, IsNoCommand}
-use Rattle.cvm_shell.specs.Refusal.{Refusal, bad_text, bad_source, not_built, too_long}
+use Rattle.kernel_linker.specs.Link.{fitting, link_answer}
+use Rattle.kernel_linker.specs.declared.fault.LinkFault.{LinkFault}
+use Rattle.layer_map.specs.Map.{Map}
+use Rattle.layer_map.specs.declared.params.Params.{Params}
+use Rattle.layer_runs.specs.Image.{layer_image}
+use Rattle.boot_image.specs.Format.{spelling as image_bytes}
+use Rattle.boot_image.specs.Parts.{Parts as Image}
+use Rattle.object_file.specs.Answer.{IsAnswer as IsObject}
+use Rattle.object_file.specs.Parts.{Parts as Object}
+use Rattle.object_file.specs.declared.fault.ObjectFault.{ObjectFault}
+use Rattle.word_bytes.specs.Words.{words_of}
+use Rattle.system_files.specs.Params.{params_of}
+use Rattle.system_files.specs.declared.fault.FileFault.{FileFault}
+use Rattle.system_files.specs.declared.fault.FileFault.TheVariants.{UserTorn}
+use Rattle.c0_types.specs.declared.source_fault.SourceFault.{SourceFault}
+use Rattle.cvm_shell.specs.Command.{Boot, CompileUser, CompileKernel, Link, Command, boot, compile_user, compile_kernel, link, IsBoot, IsCompileUser, IsCompileKernel, IsLink, IsCommand, IsNoCommand}
+use Rattle.cvm_shell.specs.Refusal.{Refusal, bad_text, bad_source, bad_object, bad_file, unlinked, not_built, too_long}
 use Rattle.cvm_shell.specs.Image.{Reading, gives, refuses as faulty, reading}
 
 -- what is to be done
@@ -86,18 +101,69 @@ pub data AfterKernel (name source : List ℕ) : Plan → Type 0 where
 abbrev pub KernelPlan : (List ℕ → Option (List ℕ)) → CompileKernel → Plan → Type 0
 KernelPlan file c p = Got (file c.source) (AfterKernel c.object) p
 
+-- FILES ARE GOT one after the other: the first that is too long is refused, else the bytes of all go on
+abbrev pub GotAll : (List ℕ → Option (List ℕ)) → List (List ℕ) → (List (List ℕ) → Plan → Type 0) → Plan → Type 0
+GotAll file [] next p = next [] p
+GotAll file (name ∷ rest) next p = Got (file name) (λ bytes. GotAll file rest (λ all. next (bytes ∷ all))) p
+
+-- the words of users by the bytes of their files, or the fault of the first file that has no whole words; this is the first user's number
+abbrev pub before_them : List ℕ → Result (List (List ℕ)) FileFault → Result (List (List ℕ)) FileFault
+before_them words (Ok users) = Ok (words ∷ users)
+before_them words (Err f) = Err f
+
+abbrev pub words_from : (user : ℕ) → List (List ℕ) → Result (List (List ℕ)) FileFault
+words_from user [] = Ok []
+words_from user (bytes ∷ rest) =
+    if nat_eq (length bytes % 4) 0 then before_them (words_of bytes) (words_from (suc user) rest) else Err (UserTorn user (length bytes))
+
+-- what is linked is put
+abbrev pub linked_plan : (name : List ℕ) → Result Image LinkFault → Plan
+linked_plan name (Ok image) = puts name (image_bytes image)
+linked_plan name (Err f) = refuses (unlinked f)
+
+-- AFTER THE PARTS of a system they are linked: users or parameters that don't fit are refused, whatever the source is
+pub data AfterParts (layer : Map → List ℕ → List ℕ) (name : List ℕ) (o : Object) (params : Params) (users : List (List ℕ)) : Plan → Type 0 where
+  unfit : (f : LinkFault) → fitting params users ≡ Err f → AfterParts layer name o params users (refuses (unlinked f))
+  answered : (front : Result Unit SourceFault) → IsAnswer o.source front → AfterParts layer name o params users (linked_plan name (link_answer layer o params users front))
+
+-- AFTER THE PARAMETERS the users' words are read
+abbrev pub AfterUsers : (layer : Map → List ℕ → List ℕ) → (name : List ℕ) → Object → Params → Result (List (List ℕ)) FileFault → Plan → Type 0
+AfterUsers layer name o params (Ok users) p = AfterParts layer name o params users p
+AfterUsers layer name o params (Err f) p = p ≡ refuses (bad_file f)
+
+-- AFTER THE OBJECT the parameters are read
+abbrev pub AfterParams : (layer : Map → List ℕ → List ℕ) → (name : List ℕ) → Object → (users : List (List ℕ)) → Result Params FileFault → Plan → Type 0
+AfterParams layer name o users (Ok params) p = AfterUsers layer name o params (words_from 1 users) p
+AfterParams layer name o users (Err f) p = p ≡ refuses (bad_file f)
+
+-- AFTER THE FILES of a system the object is read
+pub data AfterSystem (layer : Map → List ℕ → List ℕ) (name object params : List ℕ) (users : List (List ℕ)) : Plan → Type 0 where
+  no_object : (f : ObjectFault) → IsObject object (Err f) → AfterSystem layer name object params users (refuses (bad_object f))
+  has_object : (o : Object) (p : Plan) → IsObject object (Ok o) → AfterParams layer name o users (params_of params) p → AfterSystem layer name object params users p
+
+-- link OBJ PARAMS OUT USER.. gets the object, then the parameters, then the users
+abbrev pub LinkPlan : (layer : Map → List ℕ → List ℕ) → (List ℕ → Option (List ℕ)) → Link → Plan → Type 0
+LinkPlan layer file l p = Got (file l.object) (λ object. Got (file l.params) (λ params. GotAll file l.users (AfterSystem layer l.image object params))) p
+
 -- THE PLAN that words and files come to
 pub data ComesTo (words : List (List ℕ)) (file : List ℕ → Option (List ℕ)) : Plan → Type 0 where
   no_command : IsNoCommand words → ComesTo words file bad_words
   boot_plan : (b : Boot) (p : Plan) → IsBoot words b → BootPlan file b p → ComesTo words file p
   user_plan : (c : CompileUser) (p : Plan) → IsCompileUser words c → UserPlan file c p → ComesTo words file p
   kernel_plan : (c : CompileKernel) (p : Plan) → IsCompileKernel words c → KernelPlan file c p → ComesTo words file p
+  link_plan : (l : Link) (p : Plan) → IsLink words l → LinkPlan layer_image file l p → ComesTo words file p
+
+-- files are told
+abbrev pub AreTold : (List ℕ → Option (List ℕ)) → List (List ℕ) → Type 0
+AreTold file [] = ⊤
+AreTold file (name ∷ rest) = IsSome (file name) × AreTold file rest
 
 -- the files that a command gets are told
 abbrev pub GetsTold : (List ℕ → Option (List ℕ)) → Command → Type 0
 GetsTold file (boot b) = IsSome (file b.image) × IsSome (file b.schedule)
 GetsTold file (compile_user c) = IsSome (file c.text)
 GetsTold file (compile_kernel c) = IsSome (file c.source)
+GetsTold file (link l) = IsSome (file l.object) × IsSome (file l.params) × AreTold file l.users
 
 abbrev pub AllTold : List (List ℕ) → (List ℕ → Option (List ℕ)) → Type 0
 AllTold words file = (c : Command) → IsCommand words c → GetsTold file c

@@ -8,6 +8,12 @@ use Rattle.c0_parser.specs.Faults.{read_fault_number, read_fault_place}
 use Rattle.c0_types.specs.Answer.{type_fault_number, type_fault_span, type_fault_line}
 use Rattle.c0_types.specs.declared.source_fault.SourceFault.{SourceFault}
 use Rattle.c0_types.specs.declared.source_fault.SourceFault.TheVariants.{Reading, Typing}
+use Rattle.object_file.specs.Answer.{object_fault_number, object_fault_place, object_fault_value}
+use Rattle.object_file.specs.declared.fault.ObjectFault.{ObjectFault}
+use Rattle.system_files.specs.Fault.{file_fault_number, file_fault_fields}
+use Rattle.system_files.specs.declared.fault.FileFault.{FileFault}
+use Rattle.kernel_linker.specs.Fault.{link_fault_number, link_fault_fields}
+use Rattle.kernel_linker.specs.declared.fault.LinkFault.{LinkFault}
 use Rattle.cvm_shell.specs.declared.status.Status.{Status}
 use Rattle.cvm_shell.specs.declared.status.Status.TheVariants.{Refused, Shelf}
 
@@ -16,6 +22,12 @@ pub data Refusal : Type 0 where
   bad_text : (fault : AsmFault) → Refusal
   -- 10 to 14, and 20 to 35: a kernel's source has no tree, or its tree is not typed
   bad_source : (fault : SourceFault) → Refusal
+  -- 40 to 43: a file is no object
+  bad_object : (fault : ObjectFault) → Refusal
+  -- 62, 65 and 66: a text has no parameters, or a user's file no words
+  bad_file : (fault : FileFault) → Refusal
+  -- 60 to 63 and 67 to 69: an object, parameters and users are not linked
+  unlinked : (fault : LinkFault) → Refusal
   -- 50: the first four bytes are there, and aren't those of an image
   magic : Refusal
   -- 51: the field or part that begins at this byte isn't whole
@@ -59,10 +71,26 @@ source_fault_row (Typing f) =
     codes "refused " ++ decimal (type_fault_number f) ++ field_text (start_of (type_fault_span f)) ++ field_text (end_of (type_fault_span f))
     ++ field_text (type_fault_line f) ++ codes "\n"
 
+-- a row of numbers: the refusal's, and those behind it
+abbrev pub numbers_text : List ℕ → List ℕ
+numbers_text [] = []
+numbers_text (n ∷ rest) = 32 ∷ decimal n ++ numbers_text rest
+
+abbrev pub numbers_row : (number : ℕ) → (fields : List ℕ) → List ℕ
+numbers_row number fields = codes "refused " ++ decimal number ++ numbers_text fields ++ codes "\n"
+
+-- the row of a fault of an object: its number, the byte that it names, and the value that stands there
+abbrev pub object_fault_row : ObjectFault → List ℕ
+object_fault_row f =
+    codes "refused " ++ decimal (object_fault_number f) ++ field_text (object_fault_place f) ++ field_text (object_fault_value f) ++ codes "\n"
+
 -- the row that is printed
 abbrev pub refusal_text : Refusal → List ℕ
 refusal_text (bad_text f) = text_fault_row f
 refusal_text (bad_source f) = source_fault_row f
+refusal_text (bad_object f) = object_fault_row f
+refusal_text (bad_file f) = numbers_row (file_fault_number f) (file_fault_fields f)
+refusal_text (unlinked f) = numbers_row (link_fault_number f) (link_fault_fields f)
 refusal_text magic = codes "refused 50\n"
 refusal_text (truncated at) = codes "refused 51 " ++ decimal at ++ codes "\n"
 refusal_text (trailing at) = codes "refused 52 " ++ decimal at ++ codes "\n"

@@ -9,10 +9,11 @@ use Rattle.cvm_shell.specs.Plan.{Plan, refuses}
 use Rattle.cvm_shell.specs.declared.command.Boot.{Boot}
 use Rattle.cvm_shell.specs.declared.command.CompileUser.{CompileUser}
 use Rattle.cvm_shell.specs.declared.command.CompileKernel.{CompileKernel}
+use Rattle.cvm_shell.specs.declared.command.Link.{Link}
 use Rattle.cvm_shell.specs.declared.command.Command.{Command}
 use Rattle.cvm_shell.specs.declared.command.Command.TheVariants as command_code
 use Rattle.cvm_shell.specs.declared.refusal.Refusal.{Refusal}
-use Rattle.cvm_shell.specs.declared.refusal.Refusal.TheVariants.{BadText, BadSource, Magic, Truncated, Trailing, Parameter, NotBuilt, TooLong}
+use Rattle.cvm_shell.specs.declared.refusal.Refusal.TheVariants.{BadText, BadSource, BadObject, BadFile, Unlinked, Magic, Truncated, Trailing, Parameter, NotBuilt, TooLong}
 use Rattle.cvm_shell.specs.declared.boot.Stop.{Stop}
 use Rattle.cvm_shell.specs.declared.boot.Stop.TheVariants.{Refused, Shelf, Memory}
 
@@ -28,16 +29,24 @@ user_view c = record { text = c.text.now; image = c.image.now }
 abbrev pub kernel_view : CompileKernel → command.CompileKernel
 kernel_view c = record { source = c.source.now; object = c.object.now }
 
+-- a linking, with its names as lists of bytes
+abbrev pub link_view : Link → command.Link
+link_view l = record { object = l.object.now; params = l.params.now; image = l.image.now; users = command.texts l.users.now }
+
 -- a command
 abbrev pub command_view : Command → command.Command
 command_view (command_code.Boot b) = command.boot (boot_view b)
 command_view (command_code.CompileUser c) = command.compile_user (user_view c)
 command_view (command_code.CompileKernel c) = command.compile_kernel (kernel_view c)
+command_view (command_code.Link l) = command.link (link_view l)
 
 -- a refusal
 abbrev pub refusal_view : Refusal → refusal.Refusal
 refusal_view (BadText fault) = refusal.bad_text fault
 refusal_view (BadSource fault) = refusal.bad_source fault
+refusal_view (BadObject fault) = refusal.bad_object fault
+refusal_view (BadFile fault) = refusal.bad_file fault
+refusal_view (Unlinked fault) = refusal.unlinked fault
 refusal_view Magic = refusal.magic
 refusal_view (Truncated at) = refusal.truncated at
 refusal_view (Trailing at) = refusal.trailing at

@@ -1,7 +1,7 @@
 // The words of a command.
 ghost use Rattle.std.specs.Prelude.{◌≡◌, ◌<◌, ◌≤◌, ◌^◌, ℕ, IfSome, IfNone, MatchOption, decimal, Some, option_map};
 ghost use Rattle.cvm_shell.specs.Command as command;
-ghost use Rattle.cvm_shell.specs.Views.{boot_view, user_view, kernel_view, command_view};
+ghost use Rattle.cvm_shell.specs.Views.{boot_view, user_view, kernel_view, link_view, command_view};
 
 use cvm_text::{read_decimal, spelled_numbers_are_read};
 
@@ -39,6 +39,19 @@ pub struct CompileKernel<'a> {
     pub object: &'a str,
 }
 
+/// The command `link OBJ PARAMS OUT USER..`.
+#[derive(Clone, Copy, Drop)]
+pub struct Link<'a> {
+    /// The name of the object's file.
+    pub object: &'a str,
+    /// The name of the parameters' file.
+    pub params: &'a str,
+    /// The name of the image's file.
+    pub image: &'a str,
+    /// The names of the users' files.
+    pub users: &'a [String],
+}
+
 /// A command.
 #[derive(Clone, Copy, Drop)]
 pub enum Command<'a> {
@@ -48,6 +61,8 @@ pub enum Command<'a> {
     CompileUser(CompileUser<'a>),
     /// Compiles the source of a kernel, and puts its object.
     CompileKernel(CompileKernel<'a>),
+    /// Links an object, parameters and users, and puts their image.
+    Link(Link<'a>),
 }
 
 /// Reads the words of a command, None where they have no form of one.
@@ -62,8 +77,11 @@ pub fn read_command(words: &Vec<String>) -> Option<Command<'_>>
     if let Some(user) = read_compile_user(words) {
         return Some(Command::CompileUser(user));
     }
-    let kernel = read_compile_kernel(words)?;
-    Some(Command::CompileKernel(kernel))
+    if let Some(kernel) = read_compile_kernel(words) {
+        return Some(Command::CompileKernel(kernel));
+    }
+    let link = read_link(words)?;
+    Some(Command::Link(link))
 }
 
 /// Reads the words of a boot, None where they have no form of one.
@@ -127,6 +145,26 @@ pub fn read_compile_kernel(words: &Vec<String>) -> Option<CompileKernel<'_>>
     Some(CompileKernel {
         source: source.as_str(),
         object: object.as_str(),
+    })
+}
+
+/// Reads the words of a linking, None where they aren't those of one.
+pub fn read_link(words: &Vec<String>) -> Option<Link<'_>>
+    ensures found { IfSome result (λ l. command.IsLink (command.texts words.now.items) (link_view l)) }
+    ensures only { (l : command.Link) → command.IsLink (command.texts words.now.items) l → option_map link_view result ≡ Some l }
+    ensures none { IfNone result ((l : command.Link) → command.IsLink (command.texts words.now.items) l → ⊥) }
+{
+    let [word, object, params, image, users @ ..] = words.as_slice() else {
+        return None;
+    };
+    if word.as_str() != "link" {
+        return None;
+    }
+    Some(Link {
+        object: object.as_str(),
+        params: params.as_str(),
+        image: image.as_str(),
+        users,
     })
 }
 

@@ -14,12 +14,13 @@ ghost use Rattle.cvm_shell.specs.Image.{reading, gives};
 ghost use Rattle.cvm_shell.specs.Outcome.{Outcome, Causes};
 ghost use Rattle.cvm_shell.specs.Outside.{Drive, seen, beside};
 ghost use Rattle.cvm_shell.specs.Stages.{EndsAs};
-ghost use Rattle.cvm_shell.specs.Views.{boot_view, user_view, kernel_view, stated_row, stated_status};
+ghost use Rattle.cvm_shell.specs.Views.{boot_view, user_view, kernel_view, link_view, stated_row, stated_status};
 
 pub mod assembly;
 pub mod boot;
 pub mod command;
 pub mod image;
+pub mod linking;
 pub mod object;
 pub mod refusal;
 pub mod report;
@@ -28,12 +29,11 @@ pub mod status;
 pub use assembly::{user_image, words_have_four_bytes};
 pub use boot::{Stop, kernels_run_once};
 use boot::{plan, run_kernel};
-pub use command::{
-    Boot, Command, CompileKernel, CompileUser, read_boot, read_command, read_compile_kernel,
-    read_compile_user,
-};
+pub use command::{Boot, Command, CompileKernel, CompileUser, Link, read_boot, read_command, read_compile_kernel, read_compile_user, read_link};
 use cvm_outside::{Sectors, Shelf, Sink};
 pub use image::{images_are_read, read_image};
+use layer_runs::RealLayer;
+pub use linking::system_image;
 pub use object::kernel_object;
 pub use refusal::Refusal;
 pub use status::Status;
@@ -41,10 +41,11 @@ use std::alloc::Global;
 
 /// Runs the command of these words over a shelf of files, a sink of text and a disk.
 ///
-/// The commands are `boot IMAGE SCHEDULE TURNS STEPS`, `compile user ASM IMG` and `compile kernel SRC OBJ`. The status says how
+/// The commands are `boot IMAGE SCHEDULE TURNS STEPS`, `compile user ASM IMG`, `compile kernel SRC OBJ` and
+/// `link OBJ PARAMS OUT USER..`. The status says how
 /// it ended; `Words`, `Refused`, and `Shelf` where a file is too long, print a row of their own, and a
 /// sink that fails is `Sink`, also in place of another status whose text it was to take. No file
-/// changes but the one that a `compile user` or a `compile kernel` names to be put.
+/// changes but the one that a `compile user`, a `compile kernel` or a `link` names to be put.
 pub fn run<S: Shelf, O: Sink, D: Sectors>(
     alloc: Global,
     words: &Vec<String>,
@@ -67,6 +68,7 @@ pub fn run<S: Shelf, O: Sink, D: Sectors>(
         Some(Command::Boot(boot)) => run_boot(alloc, &boot, shelf, out),
         Some(Command::CompileUser(names)) => compile_user(alloc, &names, shelf, out),
         Some(Command::CompileKernel(names)) => compile_kernel(alloc, &names, shelf, out),
+        Some(Command::Link(names)) => link_system(alloc, &names, shelf, out),
     }
 }
 
@@ -123,6 +125,28 @@ fn compile_kernel<S: Shelf, O: Sink>(
         Err(Stop::Memory) => return Status::Memory,
     };
     match shelf.put(names.object, &object) {
+        Ok(()) => Status::Done,
+        Err(_) => Status::Shelf,
+    }
+}
+
+// Puts the image of a system, whose object, parameters and users are got, read and linked.
+fn link_system<S: Shelf, O: Sink>(
+    alloc: Global,
+    names: &Link,
+    shelf: &mut S,
+    out: &mut O,
+) -> Status
+    ensures ends { EndsAs (command.link (link_view names.now)) (beside S.Shelf O.Sink) result (shelf.old, out.old) (shelf.new, out.new) }
+    ensures causes { (disk : Drive) → Causes (beside S.Shelf O.Sink disk) result (shelf.old, out.old) (shelf.new, out.new) }
+{
+    let image = match system_image::<RealLayer, S>(alloc, names, shelf) {
+        Ok(image) => image,
+        Err(Stop::Refused(refusal)) => return refuse(&refusal, out),
+        Err(Stop::Shelf) => return Status::Shelf,
+        Err(Stop::Memory) => return Status::Memory,
+    };
+    match shelf.put(names.image, &image) {
         Ok(()) => Status::Done,
         Err(_) => Status::Shelf,
     }

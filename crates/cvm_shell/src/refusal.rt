@@ -1,7 +1,8 @@
 // The refusals, with the row and the status of each.
 ghost use Rattle.std.specs.Prelude.{◌≡◌, ◌≢◌, ◌≤◌, ◌+◌, ◌++◌, length, codes, decimal};
 ghost use Rattle.c0_types.specs.declared.source_fault.SourceFault.TheVariants.{Reading, Typing};
-ghost use Rattle.cvm_shell.specs.Refusal.{refusal_text, refusal_status, field_text, signed_field_text, start_of, end_of, text_fault_row, source_fault_row};
+ghost use Rattle.cvm_shell.specs.Refusal.{refusal_text, refusal_status, field_text, signed_field_text, start_of, end_of, text_fault_row, source_fault_row, object_fault_row};
+ghost use Rattle.cvm_shell.specs.Refusal as rows;
 ghost use Rattle.cvm_shell.specs.Views.{refusal_view};
 
 use crate::status::Status;
@@ -10,7 +11,10 @@ use c0_parser::ReadFault;
 use c0_tree::Span;
 use c0_types::{SourceFault, TypeFault};
 use cvm_text::{decimal, decimal_u64};
+use kernel_linker::LinkFault;
 use mips_asm::AsmFault;
+use object_file::ObjectFault;
+use system_files::FileFault;
 
 /// A fault that an image, a schedule, a source or a user's text has. Places are bytes, counted from
 /// 0, and lines are counted from 1.
@@ -20,6 +24,12 @@ pub enum Refusal {
     BadText(AsmFault),
     /// A kernel's source has no tree, or its tree is not typed.
     BadSource(SourceFault),
+    /// A file is no object.
+    BadObject(ObjectFault),
+    /// A text has no parameters, or a user's file no words.
+    BadFile(FileFault),
+    /// An object, parameters and users are not linked.
+    Unlinked(LinkFault),
     /// The first four bytes are there, and aren't those of an image.
     Magic,
     /// The field or part that begins at this byte isn't whole.
@@ -36,12 +46,15 @@ pub enum Refusal {
 
 impl Refusal {
     /// The row that is printed.
-    pub fn row(&self) -> ArrayString<96>
+    pub fn row(&self) -> ArrayString<128>
         ensures { result.bytes ≡ refusal_text (refusal_view self.now) }
     {
         match self {
             Refusal::BadText(fault) => text_row(*fault),
             Refusal::BadSource(fault) => source_row(*fault),
+            Refusal::BadObject(fault) => object_row(*fault),
+            Refusal::BadFile(fault) => numbers_row(fault.number(), &fault.fields()),
+            Refusal::Unlinked(fault) => numbers_row(fault.number(), &fault.fields()),
             Refusal::Magic => plain_row("refused 50\n"),
             Refusal::Truncated { at } => numbered_row("refused 51 ", *at),
             Refusal::Trailing { at } => numbered_row("refused 52 ", *at),
@@ -64,7 +77,7 @@ impl Refusal {
 }
 
 // A text as a row.
-fn plain_row(text: &str) -> ArrayString<96>
+fn plain_row(text: &str) -> ArrayString<128>
     requires { length text.now ≤ 16 }
     ensures { result.bytes ≡ text.now }
 {
@@ -74,7 +87,7 @@ fn plain_row(text: &str) -> ArrayString<96>
 }
 
 // A row that ends with a number.
-fn numbered_row(head: &str, number: u64) -> ArrayString<96>
+fn numbered_row(head: &str, number: u64) -> ArrayString<128>
     requires { length head.now ≤ 16 }
     ensures { result.bytes ≡ head.now ++ decimal number ++ codes "\n" }
 {
@@ -87,7 +100,7 @@ fn numbered_row(head: &str, number: u64) -> ArrayString<96>
 }
 
 // The row of a field out of its range.
-fn parameter_row(which: u32, value: u32) -> ArrayString<96>
+fn parameter_row(which: u32, value: u32) -> ArrayString<128>
     ensures { result.bytes ≡ codes "refused 53 " ++ decimal which ++ codes " " ++ decimal value ++ codes "\n" }
 {
     let place = decimal_u64(u64::from(which));
@@ -102,8 +115,8 @@ fn parameter_row(which: u32, value: u32) -> ArrayString<96>
 }
 
 // Appends a field, if there is one.
-fn put_field(row: &mut ArrayString<96>, field: Option<u64>)
-    requires { length row.old.bytes ≤ 70 }
+fn put_field(row: &mut ArrayString<128>, field: Option<u64>)
+    requires { length row.old.bytes ≤ 100 }
     ensures bytes { row.new.bytes ≡ row.old.bytes ++ field_text field }
     ensures few { length row.new.bytes ≤ length row.old.bytes + 21 }
 {
@@ -114,9 +127,39 @@ fn put_field(row: &mut ArrayString<96>, field: Option<u64>)
     }
 }
 
+// A row of numbers: the refusal's, and those behind it.
+fn numbers_row(number: u32, fields: &[u64]) -> ArrayString<128>
+    requires { length fields.now ≤ 4 }
+    ensures { result.bytes ≡ rows.numbers_row number fields.now }
+{
+    let number = decimal_u64(u64::from(number));
+    let mut row = ArrayString::new();
+    row.push_str("refused ");
+    row.push_str(number.as_str());
+    for field in fields {
+        put_field(&mut row, Some(*field));
+    }
+    row.push_str("\n");
+    row
+}
+
+// The row of a fault of an object.
+fn object_row(fault: ObjectFault) -> ArrayString<128>
+    ensures { result.bytes ≡ object_fault_row fault }
+{
+    let number = decimal_u64(u64::from(fault.number()));
+    let mut row = ArrayString::new();
+    row.push_str("refused ");
+    row.push_str(number.as_str());
+    put_field(&mut row, fault.at());
+    put_field(&mut row, fault.value());
+    row.push_str("\n");
+    row
+}
+
 // Appends a field with a sign, if there is one.
-fn put_signed_field(row: &mut ArrayString<96>, field: Option<i64>)
-    requires { length row.old.bytes ≤ 70 }
+fn put_signed_field(row: &mut ArrayString<128>, field: Option<i64>)
+    requires { length row.old.bytes ≤ 100 }
     ensures bytes { row.new.bytes ≡ row.old.bytes ++ signed_field_text field }
     ensures few { length row.new.bytes ≤ length row.old.bytes + 21 }
 {
@@ -128,7 +171,7 @@ fn put_signed_field(row: &mut ArrayString<96>, field: Option<i64>)
 }
 
 // The row of a fault of a user's text.
-fn text_row(fault: AsmFault) -> ArrayString<96>
+fn text_row(fault: AsmFault) -> ArrayString<128>
     ensures { result.bytes ≡ text_fault_row fault }
 {
     let number = decimal_u64(u64::from(fault.number()));
@@ -143,7 +186,7 @@ fn text_row(fault: AsmFault) -> ArrayString<96>
 }
 
 // The row of a fault of a kernel's source.
-fn source_row(fault: SourceFault) -> ArrayString<96>
+fn source_row(fault: SourceFault) -> ArrayString<128>
     ensures { result.bytes ≡ source_fault_row fault }
 {
     match fault {
@@ -153,7 +196,7 @@ fn source_row(fault: SourceFault) -> ArrayString<96>
 }
 
 // The row of a source that has no tree.
-fn reading_row(fault: ReadFault) -> ArrayString<96>
+fn reading_row(fault: ReadFault) -> ArrayString<128>
     ensures { result.bytes ≡ source_fault_row (Reading fault) }
 {
     let number = decimal_u64(u64::from(fault.number()));
@@ -166,7 +209,7 @@ fn reading_row(fault: ReadFault) -> ArrayString<96>
 }
 
 // The row of a source whose tree is not typed.
-fn typing_row(fault: TypeFault) -> ArrayString<96>
+fn typing_row(fault: TypeFault) -> ArrayString<128>
     ensures { result.bytes ≡ source_fault_row (Typing fault) }
 {
     let number = decimal_u64(u64::from(fault.number()));
@@ -180,8 +223,8 @@ fn typing_row(fault: TypeFault) -> ArrayString<96>
 }
 
 // Appends the two ends of a span, if there is one.
-fn put_span(row: &mut ArrayString<96>, span: Option<Span>)
-    requires { length row.old.bytes ≤ 28 }
+fn put_span(row: &mut ArrayString<128>, span: Option<Span>)
+    requires { length row.old.bytes ≤ 58 }
     ensures bytes { row.new.bytes ≡ row.old.bytes ++ field_text (start_of span) ++ field_text (end_of span) }
     ensures few { length row.new.bytes ≤ length row.old.bytes + 42 }
 {

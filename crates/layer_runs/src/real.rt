@@ -4,7 +4,7 @@ ghost use Rattle.layer_runs.specs.Image.{layer_image};
 
 use crate::image::layer_words;
 use crate::laws::{the_image_is_linked, the_layer_is_lawful};
-use layer_contract::{Entry, Layer};
+use layer_contract::{Entry, Layer, LayerMaker};
 use layer_map::Map;
 use std::alloc::{AllocError, Global};
 use std::marker::Model;
@@ -67,5 +67,14 @@ impl Layer for RealLayer {
         the_image_is_linked();
         the_layer_is_lawful();
         let _made = &self.sizes;
+    }
+}
+
+impl LayerMaker for RealLayer {
+    ghost made = { layer_image };
+
+    fn make(alloc: Global, map: &Map, sizes: &[u32]) -> Result<Self, AllocError> {
+        let sizes = Vec::from_slice(alloc, sizes)?;
+        RealLayer::made_for(alloc, map, sizes)
     }
 }

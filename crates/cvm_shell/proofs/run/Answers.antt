@@ -4,7 +4,7 @@ use Rattle.cvm_shell.specs.Command.{IsCommand, boot, texts}
 use Rattle.cvm_shell.specs.Outside.{drive}
 use Rattle.cvm_shell.specs.Views.{command_view}
 use Rattle.cvm_shell.proofs.Endings.{bad_words_end, headline_end}
-use Rattle.cvm_shell.proofs.Spellings.{boot_or_user, boot_or_kernel}
+use Rattle.cvm_shell.proofs.Spellings.{boot_or_user, boot_or_kernel, boot_or_link}
 use Rattle.cvm_shell.proofs.run.Goals as goal
 
 pub returns-in-None-clause-ends : goal.returns-in-None-clause-ends
@@ -44,3 +44,13 @@ pub returns-in-Some-CompileKernel-clause-headline : goal.returns-in-Some-Compile
 returns-in-Some-CompileKernel-clause-headline g c = λ b image source u is.
     let P : Command → Type 0 = λ x. IsCommand (texts c.args.words.now.items) (command_view x) in
     absurd (boot_or_kernel _ b _ is (subst P c.in-Some-CompileKernel.field-0-is c.in-Some-CompileKernel.ensures.found))
+
+pub returns-in-Some-Link-clause-ends : goal.returns-in-Some-Link-clause-ends
+returns-in-Some-Link-clause-ends g c =
+    let P : Command → Type 0 = λ x. IsCommand (texts c.args.words.now.items) (command_view x) in
+    c.link_system.ensures.ends _ (drive g.D.Sectors c.args.disk.now) (subst P c.in-Some-Link.field-0-is c.in-Some-Link.ensures.found)
+
+pub returns-in-Some-Link-clause-headline : goal.returns-in-Some-Link-clause-headline
+returns-in-Some-Link-clause-headline g c = λ b image source u is.
+    let P : Command → Type 0 = λ x. IsCommand (texts c.args.words.now.items) (command_view x) in
+    absurd (boot_or_link _ b _ is (subst P c.in-Some-Link.field-0-is c.in-Some-Link.ensures.found))

@@ -1,0 +1,280 @@
+-- What the files of a system come to: each is got, read and linked, or the first fault is refused, and nothing else.
+use Rattle.std.proofs.Common.{◌≡◌, ◌≢◌, ◌⊎◌, inl, inr, ℕ, suc, ◌+◌, ◌<◌, ◌≤◌, List, [], ◌∷◌, ◌++◌, length, map, refl, sym, ap, ◌∙◌, subst, arith, append_assoc, append_nil, Ok, Err}
+use Rattle.std.specs.Prelude.{Option, Result, ⊤}
+use Rattle.std.specs.Option.{IsSome}
+use Rattle.cvm_outside.specs.Told.{TOO_LONG, Tells}
+use Rattle.layer_map.specs.Map.{Map}
+use Rattle.layer_map.specs.declared.params.Params.{Params}
+use Rattle.c0_tree.specs.Tree.{CUnit}
+use Rattle.c0_types.specs.Front.{IsAnswer, IsUnitOf, IsFaultOf, IsFirstFault}
+use Rattle.c0_types.specs.declared.source_fault.SourceFault.{SourceFault}
+use Rattle.c0_types.specs.declared.source_fault.SourceFault.TheVariants.{Reading, Typing}
+use Rattle.c0_parser.specs.declared.fault.ReadFault.{ReadFault}
+use Rattle.c0_parser.specs.declared.fault.ReadFault.TheVariants as read
+use Rattle.c0_types.specs.declared.fault.TypeFault.{TypeFault}
+use Rattle.c0_types.specs.declared.fault.TypeFault.TheVariants as typing
+use Rattle.boot_image.specs.Parts.{Parts as Image}
+use Rattle.boot_image.specs.Format.{spelling as image_bytes}
+use Rattle.object_file.specs.Parts.{Parts as Object}
+use Rattle.object_file.specs.Answer.{IsAnswer as IsObject, UnlessMemory}
+use Rattle.object_file.specs.declared.fault.ObjectFault.{ObjectFault}
+use Rattle.object_file.specs.declared.fault.ObjectFault.TheVariants as object
+use Rattle.system_files.specs.Params.{params_of}
+use Rattle.system_files.specs.declared.fault.FileFault.{FileFault}
+use Rattle.system_files.specs.declared.fault.FileFault.TheVariants as system
+use Rattle.kernel_linker.specs.Answers.{Comes, GivesUnless}
+use Rattle.kernel_linker.specs.Link.{fitting, unit_in, unforged, link_answer}
+use Rattle.kernel_linker.specs.Fault.{link_source_fault}
+use Rattle.kernel_linker.specs.Difference.{compared}
+use Rattle.kernel_linker.specs.declared.fault.LinkFault.{LinkFault}
+use Rattle.kernel_linker.specs.declared.fault.LinkFault.TheVariants as linking
+use Rattle.cvm_shell.specs.declared.boot.Stop.{Stop}
+use Rattle.cvm_shell.specs.declared.boot.Stop.TheVariants as Stops
+use Rattle.cvm_shell.specs.declared.refusal.Refusal.{Refusal as ByCode}
+use Rattle.cvm_shell.specs.declared.refusal.Refusal.TheVariants as by
+use Rattle.cvm_shell.specs.Command.{Link, link}
+use Rattle.cvm_shell.specs.Refusal.{Refusal, bad_object, bad_file, unlinked, too_long}
+use Rattle.cvm_shell.specs.Plan.{Plan, refuses, puts, Got, GotAll, words_from, before_them, linked_plan, AfterParts, unfit, answered, AfterUsers, AfterParams, AfterSystem, no_object, has_object, LinkPlan, AreTold, GetsTold, IsPlan}
+use Rattle.cvm_shell.specs.Stages.{object_stop, file_stop, link_stop, Fetched, IsLinkPlan}
+use Rattle.cvm_shell.specs.Views.{IfRefused, IfPlan}
+use Rattle.cvm_shell.proofs.Plans.{got_whole, if_refused, if_plan}
+use Rattle.cvm_shell.proofs.GotFiles.{fetched_plan}
+
+-- LINKING: a source has one answer.
+
+abbrev OneAnswer : Type 0
+OneAnswer = (source : List ℕ) (a b : Result CUnit SourceFault) → IsAnswer source a → IsAnswer source b → a ≡ b
+
+abbrev Layers : Type 0
+Layers = Map → List ℕ → List ℕ
+
+-- what doesn't fit is answered by its fault, whatever the source is
+unfolding link_answer
+unfit_answers : (layer : Layers) (o : Object) (p : Params) (us : List (List ℕ)) (front : Result CUnit SourceFault) (f : LinkFault) → fitting p us ≡ Err f → link_answer layer o p us front ≡ Err f
+unfit_answers layer o p us front f e = rw e refl
+
+-- what fits and has no unit is answered by the source's fault
+unfolding link_answer
+no_unit : (layer : Layers) (o : Object) (p : Params) (us : List (List ℕ)) (f : SourceFault) → fitting p us ≡ Ok tt → link_answer layer o p us (Err f) ≡ Err (link_source_fault f)
+no_unit layer o p us f e = rw e refl
+
+-- the answer is one
+only_answered : OneAnswer → (layer : Layers) (name : List ℕ) (o : Object) (p : Params) (us : List (List ℕ)) (front : Result CUnit SourceFault) → IsAnswer o.source front
+    → (q : Plan) → AfterParts layer name o p us q → q ≡ linked_plan name (link_answer layer o p us front)
+only_answered one layer name o p us front is q (unfit f e) = ap (linked_plan name) (sym (unfit_answers layer o p us front f e))
+only_answered one layer name o p us front is q (answered other also) = ap (λ (x : Result CUnit SourceFault). linked_plan name (link_answer layer o p us x)) (one o.source other front also is)
+
+only_unfit : (layer : Layers) (name : List ℕ) (o : Object) (p : Params) (us : List (List ℕ)) (f : LinkFault) → fitting p us ≡ Err f
+    → (q : Plan) → AfterParts layer name o p us q → q ≡ refuses (unlinked f)
+only_unfit layer name o p us f e q (unfit g d) = ap (linked_plan name) (sym (unfit_answers layer o p us (Err (Reading read.Memory)) g d) ∙ unfit_answers layer o p us (Err (Reading read.Memory)) f e)
+only_unfit layer name o p us f e q (answered front is) = ap (linked_plan name) (unfit_answers layer o p us front f e)
+
+plan_unfit : (layer : Layers) (name : List ℕ) (o : Object) (p : Params) (us : List (List ℕ)) (f : LinkFault) → fitting p us ≡ Err f → IsPlan ⊤ (AfterParts layer name o p us) (refuses (unlinked f))
+plan_unfit layer name o p us f e = record { comes = unfit f e; only = λ t q h. only_unfit layer name o p us f e q h }
+
+plan_answered : OneAnswer → (layer : Layers) (name : List ℕ) (o : Object) (p : Params) (us : List (List ℕ)) (front : Result CUnit SourceFault) → IsAnswer o.source front
+    → IsPlan ⊤ (AfterParts layer name o p us) (linked_plan name (link_answer layer o p us front))
+plan_answered one layer name o p us front is = record { comes = answered front is; only = λ t q h. only_answered one layer name o p us front is q h }
+
+-- a fault of a source is want of memory, or its first fault
+first_or_memory : (source : List ℕ) (f : SourceFault) → IsFaultOf source f → (link_source_fault f ≡ linking.Memory) ⊎ IsFirstFault source f
+first_or_memory source (Reading read.Memory) is = inl refl
+first_or_memory source (Reading (read.BadByte at)) is = inr (record { fault = is; read = λ e. cc; typed = λ e. cc })
+first_or_memory source (Reading (read.BadNumber at)) is = inr (record { fault = is; read = λ e. cc; typed = λ e. cc })
+first_or_memory source (Reading (read.Unexpected at)) is = inr (record { fault = is; read = λ e. cc; typed = λ e. cc })
+first_or_memory source (Reading (read.TooNested at)) is = inr (record { fault = is; read = λ e. cc; typed = λ e. cc })
+first_or_memory source (Reading read.SourceTooLong) is = inr (record { fault = is; read = λ e. cc; typed = λ e. cc })
+first_or_memory source (Typing typing.Memory) is = inl refl
+first_or_memory source (Typing (typing.UnknownName s)) is = inr (record { fault = is; read = λ e. cc; typed = λ e. cc })
+first_or_memory source (Typing (typing.NameTwice s)) is = inr (record { fault = is; read = λ e. cc; typed = λ e. cc })
+first_or_memory source (Typing (typing.WrongType s)) is = inr (record { fault = is; read = λ e. cc; typed = λ e. cc })
+first_or_memory source (Typing (typing.WrongCount s)) is = inr (record { fault = is; read = λ e. cc; typed = λ e. cc })
+first_or_memory source (Typing (typing.NotAPlace s)) is = inr (record { fault = is; read = λ e. cc; typed = λ e. cc })
+first_or_memory source (Typing (typing.LocalAddress s)) is = inr (record { fault = is; read = λ e. cc; typed = λ e. cc })
+first_or_memory source (Typing (typing.StructHoldsItself s)) is = inr (record { fault = is; read = λ e. cc; typed = λ e. cc })
+first_or_memory source (Typing (typing.TooDeep s)) is = inr (record { fault = is; read = λ e. cc; typed = λ e. cc })
+first_or_memory source (Typing (typing.TooManyNodes s)) is = inr (record { fault = is; read = λ e. cc; typed = λ e. cc })
+first_or_memory source (Typing (typing.UnitTooLarge s)) is = inr (record { fault = is; read = λ e. cc; typed = λ e. cc })
+first_or_memory source (Typing (typing.GlobalsTooLarge s)) is = inr (record { fault = is; read = λ e. cc; typed = λ e. cc })
+first_or_memory source (Typing (typing.NoDispatch s)) is = inr (record { fault = is; read = λ e. cc; typed = λ e. cc })
+first_or_memory source (Typing (typing.AsmNotAllowed s line)) is = inr (record { fault = is; read = λ e. cc; typed = λ e. cc })
+first_or_memory source (Typing (typing.TooManyParameters s)) is = inr (record { fault = is; read = λ e. cc; typed = λ e. cc })
+first_or_memory source (Typing (typing.TypeTooLarge s)) is = inr (record { fault = is; read = λ e. cc; typed = λ e. cc })
+first_or_memory source (Typing (typing.EmptyArray s)) is = inr (record { fault = is; read = λ e. cc; typed = λ e. cc })
+
+-- what the front came to, where it is not want of memory
+answer_or_memory : (source : List ℕ) (front : Result CUnit SourceFault) → Comes source front → ((f : SourceFault) × (front ≡ Err f) × (link_source_fault f ≡ linking.Memory)) ⊎ IsAnswer source front
+answer_or_memory source (Ok u) is = inr is
+answer_or_memory source (Err f) is = elim (first_or_memory source f is) [ | inl e ↦ inl (f, refl, e) | inr h ↦ inr h ]
+
+-- a fault of linking is want of memory, or it is refused
+link_stops : (f : LinkFault) → (f ≡ linking.Memory) ⊎ ((f ≢ linking.Memory) × (link_stop f ≡ Stops.Refused (by.Unlinked f)))
+link_stops (linking.UserCount n) = inr (λ e. cc, refl)
+link_stops (linking.UserTooLong n m) = inr (λ e. cc, refl)
+link_stops (linking.Parameter n m) = inr (λ e. cc, refl)
+link_stops (linking.ObjectSource g) = inr (λ e. cc, refl)
+link_stops (linking.ObjectTypes g) = inr (λ e. cc, refl)
+link_stops (linking.ObjectForgedCount n m) = inr (λ e. cc, refl)
+link_stops (linking.ObjectForged n m k) = inr (λ e. cc, refl)
+link_stops linking.Memory = inl refl
+
+one_link_fault : {A : Type 0} (r : Result A LinkFault) (f g : LinkFault) → r ≡ Err f → r ≡ Err g → f ≡ g
+one_link_fault r f g a b = let e = sym a ∙ b in cc
+
+not_both : {A : Type 0} (r : Result A LinkFault) (x : A) (g : LinkFault) → r ≡ Ok x → r ≡ Err g → ⊥
+not_both r x g a b = let e = sym a ∙ b in cc
+
+-- a fault is refused, by whether the parts fit and by what the front came to
+refused_link : OneAnswer → (layer : Layers) (name : List ℕ) (o : Object) (p : Params) (us : List (List ℕ)) (front : Result CUnit SourceFault) (f : LinkFault) (fit : Result (Unit {0}) LinkFault)
+    → fitting p us ≡ fit → f ≢ linking.Memory → Comes o.source front → link_answer layer o p us front ≡ Err f → IsPlan ⊤ (AfterParts layer name o p us) (refuses (unlinked f))
+refused_link one layer name o p us front f (Err g) e named comes a =
+    let same : g ≡ f = one_link_fault (link_answer layer o p us front) g f (unfit_answers layer o p us front g e) a in
+    subst (λ (x : LinkFault). IsPlan ⊤ (AfterParts layer name o p us) (refuses (unlinked x))) same (plan_unfit layer name o p us g e)
+refused_link one layer name o p us front f (Ok u) e named comes a = elim (answer_or_memory o.source front comes) [
+  | inl h ↦ absurd (named (sym (one_link_fault (link_answer layer o p us front) (link_source_fault h.0) f (subst (λ (x : Result CUnit SourceFault). link_answer layer o p us x ≡ Err (link_source_fault h.0)) (sym h.1) (no_unit layer o p us h.0 e)) a) ∙ h.2))
+  | inr is ↦ subst (λ (x : Result Image LinkFault). IsPlan ⊤ (AfterParts layer name o p us) (linked_plan name x)) a (plan_answered one layer name o p us front is)
+]
+
+-- THE FAULT of linking
+pub linked_fault : OneAnswer → (layer : Layers) (name : List ℕ) (o : Object) (p : Params) (us : List (List ℕ)) (f : LinkFault) (front : Result CUnit SourceFault)
+    → Comes o.source front → (f ≡ linking.Memory) ⊎ (link_answer layer o p us front ≡ Err f) → IfRefused (IsPlan ⊤ (AfterParts layer name o p us)) (link_stop f)
+linked_fault one layer name o p us f front comes (inl e) = subst (λ (x : LinkFault). IfRefused (IsPlan ⊤ (AfterParts layer name o p us)) (link_stop x)) (sym e) tt
+linked_fault one layer name o p us f front comes (inr a) = elim (link_stops f) [
+  | inl e ↦ subst (λ (x : LinkFault). IfRefused (IsPlan ⊤ (AfterParts layer name o p us)) (link_stop x)) (sym e) tt
+  | inr h ↦ subst (IfRefused (IsPlan ⊤ (AfterParts layer name o p us))) (sym h.1) (refused_link one layer name o p us front f (fitting p us) refl h.0 comes a)
+]
+
+-- THE IMAGE that is linked
+image_linked : OneAnswer → (layer : Layers) (name : List ℕ) (o : Object) (p : Params) (us : List (List ℕ)) (i : Image) (front : Result CUnit SourceFault) (fit : Result (Unit {0}) LinkFault)
+    → fitting p us ≡ fit → Comes o.source front → link_answer layer o p us front ≡ Ok i → IsPlan ⊤ (AfterParts layer name o p us) (puts name (image_bytes i))
+image_linked one layer name o p us i front (Err g) e comes a = absurd (not_both (link_answer layer o p us front) i g a (unfit_answers layer o p us front g e))
+image_linked one layer name o p us i (Err f) (Ok u) e comes a = absurd (not_both (link_answer layer o p us (Err f)) i (link_source_fault f) a (no_unit layer o p us f e))
+image_linked one layer name o p us i (Ok v) (Ok u) e comes a =
+    subst (λ (x : Result Image LinkFault). IsPlan ⊤ (AfterParts layer name o p us) (linked_plan name x)) a (plan_answered one layer name o p us (Ok v) comes)
+
+pub linked_whole : OneAnswer → (layer : Layers) (name bytes : List ℕ) (o : Object) (p : Params) (us : List (List ℕ)) (i : Image) (front : Result CUnit SourceFault)
+    → Comes o.source front → link_answer layer o p us front ≡ Ok i → bytes ≡ image_bytes i → IsPlan ⊤ (AfterParts layer name o p us) (puts name bytes)
+linked_whole one layer name bytes o p us i front comes a e =
+    subst (λ (bs : List ℕ). IsPlan ⊤ (AfterParts layer name o p us) (puts name bs)) (sym e) (image_linked one layer name o p us i front (fitting p us) refl comes a)
+
+-- THE STAGES BEFORE: the object, the parameters, the users.
+
+-- a fault of an object is want of memory, or it is refused
+object_stops : (f : ObjectFault) → (f ≡ object.Memory) ⊎ ((f ≢ object.Memory) × (object_stop f ≡ Stops.Refused (by.BadObject f)))
+object_stops object.Magic = inr (λ e. cc, refl)
+object_stops (object.Truncated at) = inr (λ e. cc, refl)
+object_stops (object.Trailing at) = inr (λ e. cc, refl)
+object_stops (object.Field at value) = inr (λ e. cc, refl)
+object_stops object.Memory = inl refl
+
+file_stops : (f : FileFault) → (f ≡ system.Memory) ⊎ ((f ≢ system.Memory) × (file_stop f ≡ Stops.Refused (by.BadFile f)))
+file_stops (system.Parameter which value) = inr (λ e. cc, refl)
+file_stops (system.UserTorn user bytes) = inr (λ e. cc, refl)
+file_stops (system.BadParams line) = inr (λ e. cc, refl)
+file_stops system.Memory = inl refl
+
+abbrev OneObject : Type 0
+OneObject = (bytes : List ℕ) (a b : Result Object ObjectFault) → IsObject bytes a → IsObject bytes b → a ≡ b
+
+-- an object is no fault
+no_fault : (bytes : List ℕ) (o : Object) (f : ObjectFault) → OneObject → IsObject bytes (Ok o) → IsObject bytes (Err f) → ⊥
+no_fault bytes o f one is other = let e = one bytes (Ok o) (Err f) is other in cc
+
+one_object : (o p : Object) (x : Result Object ObjectFault) → x ≡ Ok o → x ≡ Ok p → o ≡ p
+one_object o p x a b = let e = sym a ∙ b in cc
+
+one_object_fault : (f g : ObjectFault) (x : Result Object ObjectFault) → x ≡ Err f → x ≡ Err g → f ≡ g
+one_object_fault f g x a b = let e = sym a ∙ b in cc
+
+only_no_object : OneObject → (layer : Layers) (name bytes params : List ℕ) (users : List (List ℕ)) (f : ObjectFault) → IsObject bytes (Err f)
+    → (q : Plan) → AfterSystem layer name bytes params users q → q ≡ refuses (bad_object f)
+only_no_object one layer name bytes params users f is q (no_object g other) = ap (λ (x : ObjectFault). refuses (bad_object x)) (one_object_fault g f (Err g) refl (one bytes (Err g) (Err f) other is))
+only_no_object one layer name bytes params users f is q (has_object o r other next) = absurd (no_fault bytes o f one other is)
+
+plan_no_object : OneObject → (layer : Layers) (name bytes params : List ℕ) (users : List (List ℕ)) (f : ObjectFault) → IsObject bytes (Err f)
+    → IsPlan ⊤ (AfterSystem layer name bytes params users) (refuses (bad_object f))
+plan_no_object one layer name bytes params users f is = record { comes = no_object f is; only = λ t q h. only_no_object one layer name bytes params users f is q h }
+
+-- THE FAULT of an object
+pub object_fault : OneObject → (layer : Layers) (name bytes params : List ℕ) (users : List (List ℕ)) (f : ObjectFault) → (f ≢ object.Memory → IsObject bytes (Err f))
+    → IfRefused (IsPlan ⊤ (AfterSystem layer name bytes params users)) (object_stop f)
+object_fault one layer name bytes params users f is = elim (object_stops f) [
+  | inl e ↦ subst (λ (x : ObjectFault). IfRefused (IsPlan ⊤ (AfterSystem layer name bytes params users)) (object_stop x)) (sym e) tt
+  | inr h ↦ subst (IfRefused (IsPlan ⊤ (AfterSystem layer name bytes params users))) (sym h.1) (plan_no_object one layer name bytes params users f (is h.0))
+]
+
+-- unless memory ran out, a fault is the object's
+pub fault_unless : (bytes : List ℕ) (f : ObjectFault) → UnlessMemory (Err f) (IsObject bytes (Err f)) → f ≢ object.Memory → IsObject bytes (Err f)
+fault_unless bytes object.Magic is named = is
+fault_unless bytes (object.Truncated at) is named = is
+fault_unless bytes (object.Trailing at) is named = is
+fault_unless bytes (object.Field at value) is named = is
+fault_unless bytes object.Memory is named = absurd (named refl)
+
+-- an object that is read: what comes of it is what comes of the parameters
+only_has_object : OneObject → (layer : Layers) (name bytes params : List ℕ) (users : List (List ℕ)) (o : Object) (p : Plan) → IsObject bytes (Ok o)
+    → ((q : Plan) → AfterParams layer name o users (params_of params) q → q ≡ p) → (q : Plan) → AfterSystem layer name bytes params users q → q ≡ p
+only_has_object one layer name bytes params users o p is only q (no_object g other) = absurd (no_fault bytes o g one is other)
+only_has_object one layer name bytes params users o p is only q (has_object v r other next) =
+    let same : v ≡ o = one_object v o (Ok v) refl (one bytes (Ok v) (Ok o) other is) in
+    only q (subst (λ (x : Object). AfterParams layer name x users (params_of params) q) same next)
+
+pub plan_object : OneObject → (layer : Layers) (name bytes params : List ℕ) (users : List (List ℕ)) (o : Object) (p : Plan) → IsObject bytes (Ok o)
+    → IsPlan ⊤ (AfterParams layer name o users (params_of params)) p → IsPlan ⊤ (AfterSystem layer name bytes params users) p
+plan_object one layer name bytes params users o p is plan = record { comes = has_object o p is plan.comes; only = λ t q h. only_has_object one layer name bytes params users o p is (plan.only tt) q h }
+
+-- the parameters
+pub params_fault : (layer : Layers) (name : List ℕ) (o : Object) (users : List (List ℕ)) (r : Result Params FileFault) (f : FileFault) → r ≡ Err f
+    → IfRefused (IsPlan ⊤ (AfterParams layer name o users r)) (file_stop f)
+params_fault layer name o users r f e = elim (file_stops f) [
+  | inl m ↦ subst (λ (x : FileFault). IfRefused (IsPlan ⊤ (AfterParams layer name o users r)) (file_stop x)) (sym m) tt
+  | inr h ↦ subst (IfRefused (IsPlan ⊤ (AfterParams layer name o users r))) (sym h.1)
+            (subst (λ (x : Result Params FileFault). IsPlan ⊤ (AfterParams layer name o users x) (refuses (bad_file f))) (sym e) (record { comes = refl; only = λ t q k. k }))
+]
+
+pub plan_params : (layer : Layers) (name : List ℕ) (o : Object) (users : List (List ℕ)) (r : Result Params FileFault) (params : Params) (p : Plan) → r ≡ Ok params
+    → IsPlan ⊤ (AfterUsers layer name o params (words_from 1 users)) p → IsPlan ⊤ (AfterParams layer name o users r) p
+plan_params layer name o users r params p e plan =
+    subst (λ (x : Result Params FileFault). IsPlan ⊤ (AfterParams layer name o users x) p) (sym e) (record { comes = plan.comes; only = λ t q k. plan.only tt q k })
+
+-- the users
+pub users_fault : (layer : Layers) (name : List ℕ) (o : Object) (params : Params) (r : Result (List (List ℕ)) FileFault) (f : FileFault) → (f ≢ system.Memory → r ≡ Err f)
+    → IfRefused (IsPlan ⊤ (AfterUsers layer name o params r)) (file_stop f)
+users_fault layer name o params r f e = elim (file_stops f) [
+  | inl m ↦ subst (λ (x : FileFault). IfRefused (IsPlan ⊤ (AfterUsers layer name o params r)) (file_stop x)) (sym m) tt
+  | inr h ↦ subst (IfRefused (IsPlan ⊤ (AfterUsers layer name o params r))) (sym h.1)
+            (subst (λ (x : Result (List (List ℕ)) FileFault). IsPlan ⊤ (AfterUsers layer name o params x) (refuses (bad_file f))) (sym (e h.0)) (record { comes = refl; only = λ t q k. k }))
+]
+
+pub plan_users : (layer : Layers) (name : List ℕ) (o : Object) (params : Params) (r : Result (List (List ℕ)) FileFault) (users : List (List ℕ)) (p : Plan) → r ≡ Ok users
+    → IsPlan ⊤ (AfterParts layer name o params users) p → IsPlan ⊤ (AfterUsers layer name o params r) p
+plan_users layer name o params r users p e plan =
+    subst (λ (x : Result (List (List ℕ)) FileFault). IsPlan ⊤ (AfterUsers layer name o params x) p) (sym e) (record { comes = plan.comes; only = λ t q k. plan.only tt q k })
+
+-- THE FILES of a system.
+
+-- what comes of an object whose parameters and users are still to be got
+abbrev AfterObject : Layers → (List ℕ → Option (List ℕ)) → Link → List ℕ → Plan → Type 0
+AfterObject layer told l object = Got (told l.params) (λ params. GotAll told l.users (AfterSystem layer l.image object params))
+
+-- the object was got: a stop at the parameters is a stop of the linking
+pub object_got : (layer : Layers) (told : List ℕ → Option (List ℕ)) (l : Link) (object : List ℕ) (s : Stop) → Tells (told l.object) object → length object < TOO_LONG
+    → IfRefused (IsPlan (IsSome (told l.params) × AreTold told l.users) (AfterObject layer told l object)) s → IfRefused (IsLinkPlan layer told l) s
+object_got layer told l object s t short h =
+    if_refused _ (IsLinkPlan layer told l) (λ p is. got_whole (told l.object) (AfterObject layer told l) (GetsTold told (link l)) (IsSome (told l.params) × AreTold told l.users) object p (λ k. k.0) (λ k. (k.1, k.2)) t short is) s h
+
+-- the parameters were got too: a stop at the users
+pub params_got : (layer : Layers) (told : List ℕ → Option (List ℕ)) (l : Link) (object params : List ℕ) (s : Stop) → Tells (told l.object) object → length object < TOO_LONG
+    → Tells (told l.params) params → length params < TOO_LONG → IfRefused (IsPlan (AreTold told l.users) (GotAll told l.users (AfterSystem layer l.image object params))) s → IfRefused (IsLinkPlan layer told l) s
+params_got layer told l object params s t short u few h =
+    object_got layer told l object s t short
+    (if_refused _ _ (λ p is. got_whole (told l.params) (λ ps. GotAll told l.users (AfterSystem layer l.image object ps)) (IsSome (told l.params) × AreTold told l.users) (AreTold told l.users) params p (λ k. k.0) (λ k. k.1) u few is) s h)
+
+-- all files were got: what their bytes come to is what the linking comes to
+pub system_got : {A : Type 0} (made : A → Plan) (layer : Layers) (told : List ℕ → Option (List ℕ)) (l : Link) (object params : List ℕ) (users : List (List ℕ)) (r : Result A Stop)
+    → Tells (told l.object) object → length object < TOO_LONG → Tells (told l.params) params → length params < TOO_LONG → Fetched told l.users users
+    → IfPlan made (IsPlan ⊤ (AfterSystem layer l.image object params users)) r → IfPlan made (IsLinkPlan layer told l) r
+system_got made layer told l object params users r t short u few all h =
+    if_plan made _ (IsLinkPlan layer told l) (λ p is. got_whole (told l.object) (AfterObject layer told l) (GetsTold told (link l)) (IsSome (told l.params) × AreTold told l.users) object p (λ k. k.0) (λ k. (k.1, k.2)) t short
+    (got_whole (told l.params) (λ ps. GotAll told l.users (AfterSystem layer l.image object ps)) (IsSome (told l.params) × AreTold told l.users) (AreTold told l.users) params p (λ k. k.0) (λ k. k.1) u few
+    (fetched_plan told l.users users (AfterSystem layer l.image object params) p all is))) r h

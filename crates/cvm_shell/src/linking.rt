@@ -1,0 +1,145 @@
+// The image of a system: its object, parameters and users, read and linked.
+ghost use Rattle.std.specs.Prelude.{◌≡◌, ◌≢◌, ◌↔◌, ⊤, ℕ, List, map, IfOk, IfErr, IsErrOf};
+ghost use Rattle.boot_image.specs.Format.{HasSpelling};
+ghost use Rattle.cvm_outside.specs.Told.{TOO_LONG};
+ghost use Rattle.object_file.specs.Parts.{Parts as LinkedObject};
+ghost use Rattle.cvm_shell.specs.Command as Command;
+ghost use Rattle.cvm_shell.specs.Command.{texts};
+ghost use Rattle.cvm_shell.specs.Plan.{AfterParts, AfterSystem, IsPlan};
+ghost use Rattle.cvm_shell.specs.Stages.{object_stop, file_stop, link_stop, Fetched, NotFetched, AreWordsOf, PlanCounts, linked_to, IsLinkPlan};
+ghost use Rattle.cvm_shell.specs.Views.{link_view, IfPlan};
+
+use crate::boot::Stop;
+use crate::command::Link;
+use crate::refusal::Refusal;
+use boot_image::write;
+use c0_types::laws::sources_have_one_answer;
+use cvm_outside::Shelf;
+use kernel_linker::{LinkFault, link};
+use layer_contract::LayerMaker;
+use layer_map::Params;
+use object_file::{Object, ObjectFault, bytes_have_one_answer, read};
+use std::alloc::Global;
+use system_files::{FileFault, params_of, user_words};
+
+impl From<ObjectFault> for Stop {
+    ghost from_gives = { λ f e. e ≡ object_stop f };
+
+    fn from(fault: ObjectFault) -> Self {
+        match fault {
+            ObjectFault::Memory => Stop::Memory,
+            fault => Stop::Refused(Refusal::BadObject(fault)),
+        }
+    }
+}
+
+impl From<FileFault> for Stop {
+    ghost from_gives = { λ f e. e ≡ file_stop f };
+
+    fn from(fault: FileFault) -> Self {
+        match fault {
+            FileFault::Memory => Stop::Memory,
+            fault => Stop::Refused(Refusal::BadFile(fault)),
+        }
+    }
+}
+
+impl From<LinkFault> for Stop {
+    ghost from_gives = { λ f e. e ≡ link_stop f };
+
+    fn from(fault: LinkFault) -> Self {
+        match fault {
+            LinkFault::Memory => Stop::Memory,
+            fault => Stop::Refused(Refusal::Unlinked(fault)),
+        }
+    }
+}
+
+/// Gets the object, the parameters and the users of a system, reads and links them: the bytes of its image.
+pub fn system_image<M: LayerMaker, S: Shelf>(
+    alloc: Global,
+    names: &Link,
+    shelf: &mut S,
+) -> Result<Vec<u8>, Stop>
+    ensures comes { IfPlan (linked_to (link_view names.now)) (IsLinkPlan M.made (S.file shelf.old) (link_view names.now)) result }
+    ensures long { IsErrOf result (Stop.Refused Refusal.TooLong) ↔ (S.taken shelf.new ≡ TOO_LONG) }
+    ensures count { PlanCounts (S.faults shelf.old) (S.faults shelf.new) result }
+    ensures files { (n : List ℕ) → S.file shelf.new n ≡ S.file shelf.old n }
+{
+    let object = shelf.get(alloc, names.object)?;
+    let params = shelf.get(alloc, names.params)?;
+    let users = get_all(alloc, names.users, shelf)?;
+    linked_image::<M>(alloc, &object, &params, &users)
+}
+
+// Gets files, one after the other.
+fn get_all<S: Shelf>(alloc: Global, names: &[String], shelf: &mut S) -> Result<Vec<Vec<u8>>, Stop>
+    requires { S.taken shelf.old ≢ TOO_LONG }
+    ensures got { IfOk result (λ v. Fetched (S.file shelf.old) (texts names.now) (map (λ b. b.items) v.items)) }
+    ensures stops { IfErr result (NotFetched (S.file shelf.old) (texts names.now)) }
+    ensures long { IsErrOf result (Stop.Refused Refusal.TooLong) ↔ (S.taken shelf.new ≡ TOO_LONG) }
+    ensures count { PlanCounts (S.faults shelf.old) (S.faults shelf.new) result }
+    ensures files { (n : List ℕ) → S.file shelf.new n ≡ S.file shelf.old n }
+{
+    let mut files = Vec::new(alloc);
+    for name in names {
+        let file = shelf.get(alloc, name.as_str())?;
+        if files.push(file).is_err() {
+            return Err(Stop::Memory);
+        }
+    }
+    Ok(files)
+}
+
+// The bytes of the image that an object, parameters and users come to.
+fn linked_image<M: LayerMaker>(
+    alloc: Global,
+    object: &[u8],
+    params: &[u8],
+    users: &[Vec<u8>],
+) -> Result<Vec<u8>, Stop>
+    ensures comes { (l : Command.Link) → IfPlan (linked_to l) (IsPlan ⊤ (AfterSystem M.made l.image object.now params.now (map (λ b. b.items) users.now))) result }
+    ensures inside { IfErr result (λ s. s ≢ Stop.Shelf) }
+    ensures short { IsErrOf result (Stop.Refused Refusal.TooLong) → ⊥ }
+{
+    bytes_have_one_answer();
+    let object = read(alloc, object)?;
+    let params = params_of(params)?;
+    let users = words_of_users(alloc, users)?;
+    image_of::<M>(alloc, &object, &params, &users)
+}
+
+// The words of users by the bytes of their files.
+fn words_of_users(alloc: Global, files: &[Vec<u8>]) -> Result<Vec<Vec<u32>>, FileFault>
+    ensures { AreWordsOf (map (λ b. b.items) files.now) result }
+{
+    let mut users = Vec::new(alloc);
+    let mut number = 1;
+    for file in files {
+        let words = user_words(alloc, number, file)?;
+        if users.push(words).is_err() {
+            return Err(FileFault::Memory);
+        }
+        number += 1;
+    }
+    Ok(users)
+}
+
+// The bytes of the image that the parts of a system are linked to.
+fn image_of<M: LayerMaker>(
+    alloc: Global,
+    object: &Object,
+    params: &Params,
+    users: &[Vec<u32>],
+) -> Result<Vec<u8>, Stop>
+    ensures comes { (l : Command.Link) → IfPlan (linked_to l) (IsPlan ⊤ (AfterParts M.made l.image object.now params.now (map (λ u. u.items) users.now))) result }
+    ensures inside { IfErr result (λ s. s ≢ Stop.Shelf) }
+    ensures short { IsErrOf result (Stop.Refused Refusal.TooLong) → ⊥ }
+{
+    sources_have_one_answer();
+    let image = link::<M>(alloc, object, params, users)?;
+    match write(alloc, &image) {
+        Ok(bytes) => Ok(bytes),
+        Err(_) => Err(Stop::Memory),
+    }
+}
