@@ -15,9 +15,11 @@ use Rattle.boot_turns.specs.declared.answers.View.TheVariants.{Boot as whole_boo
 use Rattle.boot_turns.specs.Headline as headline
 use Rattle.boot_turns.specs.Headline.{Ending}
 use Rattle.boot_run.specs.LoadEnds.{pages_needed}
-use Rattle.boot_run.specs.Whole.{ending_of_answer, BootEnds, WholeEnds, WholeGoesOn, IsDiskFault}
+use Rattle.boot_run.specs.Whole.{ending_of_end, ending_of_answer, BootEnds, WholeEnds, WholeGoesOn, IsDiskFault}
 use Rattle.boot_run.specs.declared.load.LoadFault.{LoadFault}
+use Rattle.boot_run.specs.declared.load.LoadFault.TheVariants as load
 use Rattle.boot_run.specs.declared.whole.RunEnd.{RunEnd}
+use Rattle.boot_run.specs.declared.whole.RunEnd.TheVariants as ends
 use Rattle.kernel_linker.specs.Accept.{System, system_of}
 use Rattle.cvm_shell.specs.declared.status.Status.{Status}
 use Rattle.cvm_shell.specs.declared.status.Status.TheVariants.{Disk, Shelf, Sink, Memory}
@@ -27,7 +29,7 @@ use Rattle.cvm_shell.specs.Refusal.{small_disk, refusal_text}
 use Rattle.cvm_shell.specs.Plan.{Plan, boots, scheduled_plan, BootPlan, whole, ComesTo, boot_plan, GetsTold, AllTold, IsPlan}
 use Rattle.cvm_shell.specs.Boot.{sectors_needed, ended_as, Runs, IsRun, RunEnds, small, run, Headline, IsHonest}
 use Rattle.cvm_shell.specs.Outcome.{Ends, CommandEnds, done, undone, CausedBy}
-use Rattle.cvm_shell.proofs.Endings.{row_said}
+use Rattle.cvm_shell.proofs.Endings.{nothing, row_said}
 use Rattle.cvm_shell.proofs.Spellings.{one_command}
 
 -- THE RUN.
@@ -57,13 +59,13 @@ runs_over : (booted : Booted) (rows : Rows) (b : Boot) (answer : Result RunEnd L
     → (before : List (List ℕ)) → old.disk.sectors ≡ Some before → Runs b (system_of booted) rows e before old new
 runs_over booted rows b answer e old new made is before told =
     let (after, retold) = some_is new.disk.sectors (made.told (is_told old.disk.sectors before told)) in
-    let ends = subst (λ (o : Option Ending). IfSome o (BootEnds _ _ before after whole_boot b.turns b.steps old.sink.text new.sink.text)) is (made.ends before after told retold) in
+    let so = subst (λ (o : Option Ending). IfSome o (BootEnds _ _ before after whole_boot b.turns b.steps old.sink.text new.sink.text)) is (made.ends before after told retold) in
     record {
       after = after;
-      text = ends.0;
+      text = so.0;
       sectors = retold;
-      printed = ends.2;
-      ends = ends.1;
+      printed = so.2;
+      ends = so.1;
       goes_on = made.goes_on before told made.room;
     }
 
@@ -82,6 +84,33 @@ run_made booted rows turns steps b answer e status old new t s files made is as 
       disk = λ d. made.rose (is ∙ ap (λ (x : Ending). Some x) d);
       undone = undone;
     })
+
+-- an end is no want of memory
+not_memory : (e : RunEnd) → ending_of_end e ≡ headline.NoMemory → ⊥
+not_memory ends.Done h = cc
+not_memory ends.KernelFaulted h = cc
+not_memory ends.OutOfSteps h = cc
+not_memory ends.DiskFault h = cc
+not_memory ends.SinkFault h = cc
+
+-- a run that was loaded
+pub ok_made : (booted : Booted) (rows : Rows) (turns steps : ℕ) (b : Boot) (e : RunEnd) (status : Status) (old new : Outside) → b.turns ≡ turns → b.steps ≡ steps
+    → ((n : List ℕ) → new.shelf.file n ≡ old.shelf.file n) → Made booted rows turns steps (Ok e) old new → status ≡ ended_as (ending_of_end e) → RunEnds b (system_of booted) rows status old new
+ok_made booted rows turns steps b e status old new t s files made as =
+    run_made booted rows turns steps b (Ok e) (ending_of_end e) status old new t s files made refl as (λ h. absurd (not_memory e h))
+
+-- one whose pages could not be written
+pub disk_made : (booted : Booted) (rows : Rows) (turns steps : ℕ) (b : Boot) (old new : Outside) → b.turns ≡ turns → b.steps ≡ steps
+    → ((n : List ℕ) → new.shelf.file n ≡ old.shelf.file n) → Made booted rows turns steps (Err load.Disk) old new → RunEnds b (system_of booted) rows Disk old new
+disk_made booted rows turns steps b old new t s files made =
+    run_made booted rows turns steps b (Err load.Disk) headline.DiskFault Disk old new t s files made refl refl (λ h. absurd cc)
+
+-- one for which there was no memory
+pub memory_made : (booted : Booted) (rows : Rows) (turns steps : ℕ) (b : Boot) (old new : Outside) → b.turns ≡ turns → b.steps ≡ steps
+    → ((n : List ℕ) → new.shelf.file n ≡ old.shelf.file n) → Made booted rows turns steps (Err load.Memory) old new → SameSectors old.disk new.disk → new.sink.text ≡ old.sink.text
+    → RunEnds b (system_of booted) rows Memory old new
+memory_made booted rows turns steps b old new t s files made disk text =
+    run_made booted rows turns steps b (Err load.Memory) headline.NoMemory Memory old new t s files made refl refl (λ h. nothing old new (record { files = files; disk = disk }) text)
 
 -- a disk that is too small
 pub small_made : (booted : Booted) (rows : Rows) (b : Boot) (need have : ℕ) (status : Status) (old new : Outside) → need ≡ pages_needed booted → have ≡ old.disk.size → have < need

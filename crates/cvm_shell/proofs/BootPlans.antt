@@ -81,8 +81,8 @@ first_or_memory source (Typing (typing.TypeTooLarge s)) is = inr (record { fault
 first_or_memory source (Typing (typing.EmptyArray s)) is = inr (record { fault = is; read = λ e. cc; typed = λ e. cc })
 
 -- a source that has no unit is answered by its fault
-unfolding accept_answer
 no_unit : (layer : Layers) (i : Image) (f : SourceFault) → accept_answer layer i (Err f) ≡ Err (accept_source_fault f)
+unfolding accept_answer
 no_unit layer i f = refl
 
 one_fault : {A : Type 0} (r : Result A AcceptFault) (f g : AcceptFault) → r ≡ Err f → r ≡ Err g → f ≡ g

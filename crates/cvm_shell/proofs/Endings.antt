@@ -12,20 +12,20 @@ use Rattle.schedule_file.specs.Rows.{Rows}
 use Rattle.layer_runs.specs.Image.{layer_image}
 use Rattle.kernel_linker.specs.Accept.{System}
 use Rattle.cvm_shell.specs.declared.status.Status.{Status}
-use Rattle.cvm_shell.specs.declared.status.Status.TheVariants.{Done, Words, Refused, KernelFault, StepLimit, Disk, Shelf, Sink, Memory}
+use Rattle.cvm_shell.specs.declared.status.Status.TheVariants.{Done, Words, Shelf, Sink, Memory}
 use Rattle.cvm_shell.specs.declared.boot.Stop.{Stop}
 use Rattle.cvm_shell.specs.declared.boot.Stop.TheVariants as Stops
 use Rattle.cvm_shell.specs.declared.refusal.Refusal.{Refusal as ByCode}
 use Rattle.cvm_shell.specs.declared.refusal.Refusal.TheVariants as by
-use Rattle.cvm_shell.specs.Command.{Boot, Command, boot, compile_user, compile_kernel, IsBoot, IsCommand, IsNoCommand}
+use Rattle.cvm_shell.specs.Command.{Boot, Command, boot, compile_user, compile_kernel, link, IsBoot, IsCommand, IsNoCommand}
 use Rattle.cvm_shell.specs.Outside.{Files, Outside, SameSectors, Leaves, Says, said, broken}
 use Rattle.cvm_shell.specs.Refusal.{Refusal, too_long, refusal_text, refusal_status}
-use Rattle.cvm_shell.specs.Plan.{Plan, bad_words, refuses, puts, boots, BootPlan, UserPlan, KernelPlan, ComesTo, no_command, boot_plan, user_plan, kernel_plan, AllTold, IsPlan}
+use Rattle.cvm_shell.specs.Plan.{Plan, bad_words, refuses, puts, boots, BootPlan, UserPlan, KernelPlan, LinkPlan, ComesTo, no_command, boot_plan, user_plan, kernel_plan, link_plan, AllTold, IsPlan}
 use Rattle.cvm_shell.specs.Boot.{RunEnds}
 use Rattle.cvm_shell.specs.Outcome.{HasPut, Ends, Took, CommandEnds, done, undone, CausedBy}
-use Rattle.cvm_shell.specs.Stages.{IsBootPlan, IsUserPlan, IsKernelPlan}
+use Rattle.cvm_shell.specs.Stages.{IsBootPlan, IsUserPlan, IsKernelPlan, IsLinkPlan}
 use Rattle.cvm_shell.specs.Views.{refusal_view}
-use Rattle.cvm_shell.proofs.Spellings.{one_boot, one_command, boot_or_user, boot_or_kernel}
+use Rattle.cvm_shell.proofs.Spellings.{one_command}
 
 -- What words and files come to is one plan, by the command.
 
@@ -34,12 +34,14 @@ abbrev CommandPlan : (List ℕ → Option (List ℕ)) → Command → Plan → T
 CommandPlan file (boot b) = BootPlan layer_image file b
 CommandPlan file (compile_user c) = UserPlan file c
 CommandPlan file (compile_kernel c) = KernelPlan file c
+CommandPlan file (link l) = LinkPlan layer_image file l
 
 -- and to no other
 abbrev pub FilesPlan : (List ℕ → Option (List ℕ)) → Command → Plan → Type 0
 FilesPlan file (boot b) p = IsBootPlan layer_image file b p
 FilesPlan file (compile_user c) p = IsUserPlan file c p
 FilesPlan file (compile_kernel c) p = IsKernelPlan file c p
+FilesPlan file (link l) p = IsLinkPlan layer_image file l p
 
 only_here : (words : List (List ℕ)) (file : List ℕ → Option (List ℕ)) (c d : Command) (p q : Plan) → IsCommand words c → IsCommand words d → ((r : Plan) → CommandPlan file c r → r ≡ p) → CommandPlan file d q → q ≡ p
 only_here words file c d p q is other only got = only q (let P : Command → Type 0 = λ x. CommandPlan file x q in subst P (sym (one_command words c d is other)) got)
@@ -49,17 +51,20 @@ only_plan words file c p is only q (no_command none) = absurd (none c is)
 only_plan words file c p is only q (boot_plan b r other got) = only_here words file c (boot b) p r is other only got
 only_plan words file c p is only q (user_plan d r other got) = only_here words file c (compile_user d) p r is other only got
 only_plan words file c p is only q (kernel_plan d r other got) = only_here words file c (compile_kernel d) p r is other only got
+only_plan words file c p is only q (link_plan l r other got) = only_here words file c (link l) p r is other only got
 
 only_none : (words : List (List ℕ)) (file : List ℕ → Option (List ℕ)) → IsNoCommand words → (q : Plan) → ComesTo words file q → q ≡ bad_words
 only_none words file none q (no_command also) = refl
 only_none words file none q (boot_plan b r other got) = absurd (none (boot b) other)
 only_none words file none q (user_plan c r other got) = absurd (none (compile_user c) other)
 only_none words file none q (kernel_plan c r other got) = absurd (none (compile_kernel c) other)
+only_none words file none q (link_plan l r other got) = absurd (none (link l) other)
 
 pub plan_of : (words : List (List ℕ)) (file : List ℕ → Option (List ℕ)) (c : Command) (p : Plan) → IsCommand words c → FilesPlan file c p → IsPlan (AllTold words file) (ComesTo words file) p
 plan_of words file (boot b) p is plan = record { comes = boot_plan b p is plan.comes; only = λ told q h. only_plan words file (boot b) p is (plan.only (told (boot b) is)) q h }
 plan_of words file (compile_user c) p is plan = record { comes = user_plan c p is plan.comes; only = λ told q h. only_plan words file (compile_user c) p is (plan.only (told (compile_user c) is)) q h }
 plan_of words file (compile_kernel c) p is plan = record { comes = kernel_plan c p is plan.comes; only = λ told q h. only_plan words file (compile_kernel c) p is (plan.only (told (compile_kernel c) is)) q h }
+plan_of words file (link l) p is plan = record { comes = link_plan l p is plan.comes; only = λ told q h. only_plan words file (link l) p is (plan.only (told (link l) is)) q h }
 
 -- How many bytes were taken.
 

@@ -7,18 +7,15 @@ use Rattle.std.proofs.lemmas.List.{length-replicate}
 use Rattle.cvm_outside.specs.Told.{TOO_LONG, Tells}
 use Rattle.cvm_outside.specs.declared.shelf.ShelfFault.{ShelfFault}
 use Rattle.cvm_outside.specs.declared.shelf.ShelfFault.TheVariants.{Failed, TooLong as Long, Memory as NoMemory}
-use Rattle.c0_tree.specs.FirstTree.{CUnit}
-use Rattle.first_source.specs.Reading.{Reads, Breaks}
 use Rattle.mips_asm.specs.Assembled.{assembled}
 use Rattle.mips_asm.specs.declared.fault.AsmFault.{AsmFault}
 use Rattle.mips_asm.specs.declared.fault.AsmFault.TheVariants.{BadByte, UnknownMnemonic, BadOperand, OutOfRange, UnknownLabel, LabelTwice, TooLong, Memory}
 use Rattle.cvm_shell.specs.declared.boot.Stop.{Stop}
 use Rattle.cvm_shell.specs.declared.boot.Stop.TheVariants.{Refused, Shelf, Memory as OutOfMemory}
-use Rattle.cvm_shell.specs.Command.{Boot, CompileUser}
-use Rattle.cvm_shell.specs.Refusal.{Refusal, not_built, too_long, bad_text}
-use Rattle.cvm_shell.specs.Image.{Reading, gives, refuses as faulty, reading}
-use Rattle.cvm_shell.specs.Plan.{Plan, refuses, puts, boots, Got, long, whole, AfterSource, scheduled, runs, AfterImage, breaks, reads, AfterReading, AfterFiles, AfterText, no_words, assembles, bytes_of, IsPlan}
-use Rattle.cvm_shell.specs.Stages.{stop_of, text_stop, IsBootPlan, IsUserPlan}
+use Rattle.cvm_shell.specs.Command.{CompileUser}
+use Rattle.cvm_shell.specs.Refusal.{Refusal, too_long, bad_text}
+use Rattle.cvm_shell.specs.Plan.{Plan, refuses, puts, Got, long, whole, AfterText, no_words, assembles, bytes_of, IsPlan}
+use Rattle.cvm_shell.specs.Stages.{stop_of, text_stop, IsUserPlan}
 use Rattle.cvm_shell.specs.Views.{refusal_view, IfRefused, IfPlan}
 
 -- A file is got.

@@ -18,7 +18,7 @@ use crate::status::Status;
 use boot_run::{LoadFault, RunEnd, View, run_whole};
 use c0_types::laws::sources_have_one_answer;
 use cvm_outside::{Sectors, Shelf, ShelfFault, Sink};
-use kernel_linker::{AcceptFault, Accepted, accept};
+use kernel_linker::{AcceptFault, accept};
 use layer_contract::Boot as Booted;
 use layer_runs::RealLayer;
 use schedule_file::{Schedule, ScheduleFault, read};
@@ -101,11 +101,11 @@ fn ready_of(alloc: Global, image: &[u8], schedule: &[u8]) -> Result<Ready, Stop>
     ensures short { IsErrOf result (Stop.Refused Refusal.TooLong) → ⊥ }
 {
     sources_have_one_answer();
-    let Accepted { boot, layer } = accept::<RealLayer>(alloc, image)?;
+    let accepted = accept::<RealLayer>(alloc, image)?;
     let schedule = read(alloc, schedule)?;
     Ok(Ready {
-        boot,
-        layer,
+        boot: accepted.boot,
+        layer: accepted.layer,
         schedule,
     })
 }
