@@ -5,7 +5,9 @@ mod FirstBad
 mod Five
 mod Four
 mod FourBytes
+mod GotFiles
 mod KernelPlans
+mod LinkPlans
 mod Plans
 mod Spellings
-mod LinkPlans
+mod UserWords

@@ -33,7 +33,7 @@ a_long_list : (n : ℕ) → (xs : List ℕ) × (n ≤ length xs)
 a_long_list n = (replicate n 0, omega (arith, length-replicate {A = ℕ} n 0))
 
 -- the contents of a file that is too long
-long_contents : (told : Option (List ℕ)) (taken : ℕ) → taken ≡ TOO_LONG → IfSome told (λ bs. taken ≡ min (length bs) TOO_LONG) → (xs : List ℕ) × Tells told xs × (TOO_LONG ≤ length xs)
+pub long_contents : (told : Option (List ℕ)) (taken : ℕ) → taken ≡ TOO_LONG → IfSome told (λ bs. taken ≡ min (length bs) TOO_LONG) → (xs : List ℕ) × Tells told xs × (TOO_LONG ≤ length xs)
 long_contents None taken e h = let xs = a_long_list TOO_LONG in (xs.0, tt, xs.1)
 long_contents (Some xs) taken e h = (xs, refl, omega arith)
 
@@ -43,7 +43,7 @@ only_long told next bytes t l some q (whole other r u m n) =
     let same : other ≡ bytes = same_told told other bytes some u t in
     absurd (too_short (length other) m (subst (λ (xs : List ℕ). TOO_LONG ≤ length xs) (sym same) l))
 
-got_long : (told : Option (List ℕ)) (next : List ℕ → Plan → Type 0) (T : Type 0) (bytes : List ℕ) → (T → IsSome told) → Tells told bytes → TOO_LONG ≤ length bytes → IsPlan T (Got told next) (refuses too_long)
+pub got_long : (told : Option (List ℕ)) (next : List ℕ → Plan → Type 0) (T : Type 0) (bytes : List ℕ) → (T → IsSome told) → Tells told bytes → TOO_LONG ≤ length bytes → IsPlan T (Got told next) (refuses too_long)
 got_long told next T bytes some t l = record { comes = long bytes t l; only = λ h q. only_long told next bytes t l (some h) q }
 
 only_whole : (told : Option (List ℕ)) (next : List ℕ → Plan → Type 0) (bytes : List ℕ) (p : Plan) → Tells told bytes → length bytes < TOO_LONG → ((q : Plan) → next bytes q → q ≡ p) → IsSome told → (q : Plan) → Got told next q → q ≡ p

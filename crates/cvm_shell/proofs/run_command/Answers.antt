@@ -23,3 +23,8 @@ pub returns-in-Some-CompileKernel-clause-ends : goal.returns-in-Some-CompileKern
 returns-in-Some-CompileKernel-clause-ends g c =
     let P : Command → Type 0 = λ x. IsCommand (texts c.args.words.now.items) (command_view x) in
     c.compile_kernel.ensures.ends _ (drive g.D.Sectors c.args.disk.now) (subst P c.in-Some-CompileKernel.field-0-is c.in-Some-CompileKernel.ensures.found)
+
+pub returns-in-Some-Link-clause-ends : goal.returns-in-Some-Link-clause-ends
+returns-in-Some-Link-clause-ends g c =
+    let P : Command → Type 0 = λ x. IsCommand (texts c.args.words.now.items) (command_view x) in
+    c.link_system.ensures.ends _ (drive g.D.Sectors c.args.disk.now) (subst P c.in-Some-Link.field-0-is c.in-Some-Link.ensures.found)
