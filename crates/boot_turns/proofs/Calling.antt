@@ -1,18 +1,18 @@
 -- The calls that a dispatch ends, on the run of the machine.
-use Rattle.std.proofs.Common.{◌≡◌, ◌≢◌, ◌⊎◌, inl, inr, ℕ, zero, suc, ◌+◌, ◌-◌, ◌<◌, ◌≤◌, ◌&&◌, Bool, true, false, Option, Some, None, List, refl, sym, ap, ap₂, ◌∙◌, subst, ⊎_elim, arith, eq-eqb, ne_eqb}
+use Rattle.std.proofs.Common.{◌≡◌, ◌≢◌, ℕ, zero, suc, ◌+◌, ◌-◌, ◌<◌, ◌≤◌, true, Option, Some, None, List, refl, sym, ap, ◌∙◌, subst, ⊎_elim, arith, eq-eqb, ne_eqb}
 use Rattle.std.specs.Prelude.{◌==◌, ℤ, [], ◌∷◌, length, slice_get, slice_index}
-use Rattle.std.proofs.lemmas.Bool.{cases_lt, cases_order, cond-true, cond-false}
+use Rattle.std.proofs.lemmas.Bool.{cases_lt, cond-true, cond-false}
 use Rattle.mips_table.specs.Device.{Outside}
-use Rattle.mips_table.specs.Machine.{State, in_system, step, run}
+use Rattle.mips_table.specs.Machine.{State, in_system, run}
 use Rattle.mips_table.specs.Turns.{is_on}
 use Rattle.c0_meaning.specs.State.{State as C0}
-use Rattle.cvm_model.specs.Kernel.{Core, Changes, Meaning, MeaningLaws, End, NotYet}
+use Rattle.cvm_model.specs.Kernel.{Core, Changes, Meaning, MeaningLaws, NotYet}
 use Rattle.cvm_model.specs.Primitives.{Call, VmGet, VmSet, VmSize, VmResize, VmWord, VmPut, VmCopy, ConPut, ConGet, ConLeft, primitive_number}
 use Rattle.cvm_model.specs.Stands.{Site}
 use Rattle.layer_contract.specs.declared.entry.Entry.TheVariants.{Dispatch, Primitive}
 use Rattle.layer_contract.specs.declared.registers.TheConstants.{RETURN}
 use Rattle.layer_contract.specs.Layer.{Inside, entry_address}
-use Rattle.layer_contract.specs.Calls.{entered, goes_on, under_way, ends_here, ended_before, is_busy, entered_before, EndsCall, KernelCalled, CallsFollow}
+use Rattle.layer_contract.specs.Calls.{under_way, ends_here, ended_before, is_busy, entered_before, EndsCall, KernelCalled, CallsFollow}
 use Rattle.boot_turns.specs.Entries.{Entered, entry_note, noted_at, notes_on, noted_call}
 use Rattle.boot_turns.proofs.Stepping.{is_on_of}
 use Rattle.boot_turns.proofs.Stretches.{later}

@@ -1,16 +1,16 @@
 -- The entries of a primitive that has returned, by its arguments and its answer as words.
-use Rattle.std.proofs.Common.{◌≡◌, ◌≢◌, ◌⊎◌, ℕ, zero, suc, ◌+◌, ◌-◌, ◌*◌, ◌/◌, ◌%◌, ◌^◌, ◌<◌, ◌≤◌, ◌&&◌, Bool, true, false, not, cond, min, Option, Some, None, List, [], ◌∷◌, ◌++◌, length, take, drop, refl, sym, ap, ap₂, ◌∙◌, subst, ⊎_elim, arith, eqb-true, append-nil}
-use Rattle.std.specs.Prelude.{◌==◌, ℤ, pos, negsuc, nat_abs, nat_le, slice_index, slice_index_or, slice_set}
+use Rattle.std.proofs.Common.{◌≡◌, ℕ, zero, suc, ◌+◌, ◌-◌, ◌*◌, ◌/◌, ◌%◌, ◌^◌, ◌<◌, ◌≤◌, ◌&&◌, Bool, true, false, cond, List, [], ◌∷◌, ◌++◌, length, take, drop, refl, sym, ap, ap₂, ◌∙◌, subst, ⊎_elim, arith, eqb-true, append-nil}
+use Rattle.std.specs.Prelude.{◌==◌, ℤ, pos, negsuc, nat_abs, slice_index, slice_index_or, slice_set}
 use Rattle.std.specs.Int.{cast_unsigned, w32}
-use Rattle.std.proofs.lemmas.Bool.{cases_lt, cond_both, cond-true, cond-false, leb-true}
+use Rattle.std.proofs.lemmas.Bool.{cases_lt, cond_both, leb-true}
 use Rattle.std.proofs.lemmas.Int.{of_z-to_z, to_z_pos}
 use Rattle.std.proofs.Math.Facts.{to_z-neg}
-use Rattle.std.proofs.lemmas.List.{length-take, length-take-le, take_at}
+use Rattle.std.proofs.lemmas.List.{length-take-le, take_at}
 use Rattle.mips_table.specs.Arith.{signed}
 use Rattle.mips_table.specs.Flat.{Flat}
 use Rattle.c0_meaning.specs.Value.{bool}
-use Rattle.cvm_model.specs.Kernel.{flat, Console, Changes, JournalEntry, Set, Size, Put}
-use Rattle.cvm_model.specs.Primitives.{Call, VmGet, VmSet, VmSize, VmResize, VmWord, VmPut, VmCopy, ConPut, ConGet, ConLeft, primitive_number, arguments_of, user_of, with_user, with_words, pages_of, puts, is_within, is_place, is_good, refused, unchanged, granted, prim, Given, no_flat}
+use Rattle.cvm_model.specs.Kernel.{flat, Console, JournalEntry, Set, Size, Put}
+use Rattle.cvm_model.specs.Primitives.{Call, VmGet, VmSet, VmSize, VmResize, VmWord, VmPut, VmCopy, ConPut, ConGet, ConLeft, primitive_number, arguments_of, user_of, with_user, with_words, puts, is_within, is_place, is_good, refused, unchanged, granted, prim, Given, no_flat}
 use Rattle.cvm_model.specs.Journal.{changes_of}
 use Rattle.layer_contract.specs.Layer.{AreArguments}
 use Rattle.boot_turns.specs.Entries.{Entered, call_ends}

@@ -2,8 +2,8 @@
 use Rattle.std.proofs.Common.{◌≡◌, ℕ, ◌+◌, Bool, true, false, List, [], ◌∷◌, ◌++◌, refl, sym, ap, ◌∙◌}
 use Rattle.std.proofs.lemmas.List.{append_assoc}
 use Rattle.cvm_model.specs.Kernel.{JournalEntry, Stepped, Trapped, Set, Size, Put}
-use Rattle.cvm_model.specs.Text.{steps_row, entry_row, journal_rows_after, journal_rows, open_journal_rows}
-use Rattle.boot_turns.specs.JournalText.{steps_after, pending_steps, RowsFollow}
+use Rattle.cvm_model.specs.Text.{steps_row, entry_row, journal_rows_after}
+use Rattle.boot_turns.specs.JournalText.{steps_after, RowsFollow}
 
 -- an entry that is no step has its row after those of the steps
 more_after : (n : ℕ) (e j d : List ℕ) → (steps_row n ++ e ++ (j ++ d)) ≡ (steps_row n ++ e ++ j) ++ d

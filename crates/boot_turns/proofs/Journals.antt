@@ -1,10 +1,10 @@
 -- Journals with more units, and how what is shown of a user goes on: over the CVM run alone.
-use Rattle.std.proofs.Common.{◌≡◌, ◌≢◌, ℕ, zero, suc, ◌+◌, ◌<◌, ◌≤◌, Bool, true, false, cond, min, Option, Some, None, List, [], ◌∷◌, ◌++◌, length, take, refl, sym, ap, ap₂, ◌∙◌, subst, arith, append-nil, lt-ltb, le-ltb, ltb-true}
+use Rattle.std.proofs.Common.{◌≡◌, ◌≢◌, ℕ, zero, suc, ◌+◌, ◌<◌, ◌≤◌, Bool, true, false, cond, min, Option, Some, None, List, [], ◌∷◌, ◌++◌, length, take, refl, sym, ap, ap₂, ◌∙◌, arith, append-nil, lt-ltb, le-ltb, ltb-true}
 use Rattle.std.specs.Prelude.{◌==◌, nat_lt, bit_or, pos, ℤ, slice_get}
 use Rattle.std.proofs.lemmas.Bool.{cond-true, cond-false}
 use Rattle.std.proofs.lemmas.List.{length-take, take-take, take_all, append_assoc}
 use Rattle.mips_table.specs.Arith.{signed}
-use Rattle.cvm_model.specs.Kernel.{Core, Changes, JournalEntry, Stepped, Trapped, MeaningLaws, Meaning, Outcome, End, Answers, Faults, NotYet}
+use Rattle.cvm_model.specs.Kernel.{Core, Changes, JournalEntry, Trapped, MeaningLaws, Meaning, Outcome, End, Answers, Faults, NotYet}
 use Rattle.cvm_model.specs.Cvm.{System, Status, Running, Halted, Faulted, Cvm, Begin, Steps, Traps, Interrupts, begin, dispatch_of, after_dispatch, dispatches, begun, turn_by, turn, cvm}
 use Rattle.cvm_model.specs.Journal.{changes_of, begin_calls, turn_calls, begin_entries, running_entries, turn_entries, journal}
 use Rattle.boot_turns.proofs.Units.{cvm_more}

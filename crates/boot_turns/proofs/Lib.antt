@@ -19,3 +19,4 @@ pub mod Calls
 pub mod Showing
 pub mod JournalRows
 pub mod Tracing
+pub mod SetRow

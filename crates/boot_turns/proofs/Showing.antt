@@ -1,30 +1,30 @@
 -- What is shown of a user grows by the entries of a step, on the machine of a boot.
-use Rattle.std.proofs.Common.{◌≡◌, ◌≢◌, ◌⊎◌, inl, inr, ℕ, zero, suc, ◌+◌, ◌-◌, ◌*◌, ◌^◌, ◌<◌, ◌≤◌, ◌&&◌, ◌||◌, Bool, true, false, not, cond, All, Option, Some, None, List, [], ◌∷◌, ◌++◌, length, slice_index, refl, sym, ap, ap₂, ◌∙◌, subst, subst₂, ⊎_elim, arith, append-nil, eq-eqb, ne_eqb, lt-ltb, le-ltb}
+use Rattle.std.proofs.Common.{◌≡◌, ◌≢◌, ◌⊎◌, inl, inr, ℕ, zero, suc, ◌+◌, ◌-◌, ◌*◌, ◌^◌, ◌<◌, ◌≤◌, ◌||◌, Bool, true, false, not, cond, All, Option, Some, None, List, [], ◌∷◌, ◌++◌, length, slice_index, refl, sym, ap, ap₂, ◌∙◌, subst, ⊎_elim, arith, append-nil, eq-eqb, lt-ltb, le-ltb}
 use Rattle.std.specs.Prelude.{◌==◌, nat_lt, bit_or, pos, ℤ, is_some, slice_get}
 use Rattle.std.proofs.lemmas.Bool.{cases_lt, cond-true, cond-false}
 use Rattle.std.proofs.lemmas.List.Elements.{All-head, All-tail}
 use Rattle.mips_table.specs.Arith.{signed}
 use Rattle.mips_table.specs.Device.{Outside}
-use Rattle.mips_table.specs.Machine.{State, MODE, step, run}
+use Rattle.mips_table.specs.Machine.{State, run}
 use Rattle.mips_table.specs.Fits.{IsWord}
 use Rattle.mips_table.specs.Turns.{begins, rests, is_on, in_user, turn_of, complete, lines_of}
 use Rattle.layer_map.specs.Map.{current_at}
 use Rattle.c0_meaning.specs.State.{State as C0}
-use Rattle.cvm_model.specs.Kernel.{Core, Changes, JournalEntry, Stepped, Trapped, Outcome, End, NotYet}
-use Rattle.cvm_model.specs.Primitives.{user_of, primitive_number}
+use Rattle.cvm_model.specs.Kernel.{Core, Changes, JournalEntry, Stepped, Trapped, NotYet}
+use Rattle.cvm_model.specs.Primitives.{user_of}
 use Rattle.cvm_model.specs.Cvm.{System, Status, Running, Halted, Faulted, Cvm, IsCvm, Begin, Steps, Traps, Interrupts, begin, begun, turn_by, turn, cvm, dispatch_of, after_dispatch, turn_steps, map_of, first_cvm}
-use Rattle.cvm_model.specs.Journal.{changes_of, begin_calls, begin_entries, journal}
+use Rattle.cvm_model.specs.Journal.{changes_of, begin_calls, begin_entries}
 use Rattle.cvm_model.specs.Stands.{Site, Stands, runs_user}
 use Rattle.layer_contract.specs.declared.registers.TheConstants.{ANSWER, RETURN}
 use Rattle.layer_contract.specs.Layer.{Inside, Comes, IsEntry, DispatchCalled, Returned, given}
 use Rattle.layer_contract.specs.Follows.{site_of, loaded, machine}
-use Rattle.layer_contract.specs.Calls.{entered, goes_on, under_way, ends_here, ended_before, KernelCalled, CallsFollow}
+use Rattle.layer_contract.specs.Calls.{entered, under_way, ends_here, ended_before, KernelCalled, CallsFollow}
 use Rattle.boot_turns.specs.declared.completion.Begun.{Begun}
 use Rattle.boot_turns.specs.Completes.{note, ShownAs}
 use Rattle.boot_turns.specs.Trace.{ended_at_begin, ended_since, Shown}
 use Rattle.boot_turns.specs.TurnEnds.{Stood}
-use Rattle.boot_turns.specs.Entries.{Entered, noted_call, turn_begins, call_ends, returned, return_entries, step_entries, WordsAt, ShowsMore, TraceGrows}
-use Rattle.boot_turns.proofs.Stepping.{both_left, both_right, inside_begins, inside_rests, user_rests}
+use Rattle.boot_turns.specs.Entries.{Entered, noted_call, turn_begins, call_ends, returned, return_entries, WordsAt, ShowsMore, TraceGrows}
+use Rattle.boot_turns.proofs.Stepping.{both_right, inside_begins, inside_rests, user_rests}
 use Rattle.boot_turns.proofs.Entering.{entered_none, entered_user, entered_off, not_system, begins_enters}
 use Rattle.boot_turns.proofs.Counting.{turn_same, turn_more, still, completes}
 use Rattle.boot_turns.proofs.Stretches.{later, quietly}
@@ -33,7 +33,7 @@ use Rattle.boot_turns.proofs.Turning.{Given, Beginning, BegunAs, same_data}
 use Rattle.boot_turns.proofs.Whole.{on_back, OffOn, off_on, ended_off, forward, Going, Covered, covered, defined}
 use Rattle.boot_turns.proofs.Joining.{stood_rests}
 use Rattle.boot_turns.proofs.UnderWay.{stays_quiet, next_none, under_way_later, ended_later, ended_grows, note_back, noted_back, noted_none, noted_later}
-use Rattle.boot_turns.proofs.Calling.{over_quiet, CallAt, call_at, its_note, noted_last, pc_last}
+use Rattle.boot_turns.proofs.Calling.{over_quiet, CallAt, call_at, its_note, noted_last}
 use Rattle.boot_turns.proofs.Calls.{call_agrees}
 use Rattle.boot_turns.proofs.Journals.{calls_grow, get_same, Known, known_more, Cut, closed_is, closed, begins_open, begins_step, goes_more, closes}
 

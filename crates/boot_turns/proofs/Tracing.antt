@@ -1,6 +1,5 @@
 -- The trace of every boot grows by the entries of its steps.
 use Rattle.c0_meaning.specs.State.{State as C0}
-use Rattle.std.proofs.Common.{ℕ}
 use Rattle.layer_contract.specs.Follows.{LoadedResets}
 use Rattle.layer_contract.specs.Users.{UserStepsLinked}
 use Rattle.boot_turns.specs.Entries.{TracesGrow}

@@ -1,12 +1,11 @@
 -- The primitive that is under way, how many have ended, and the note of it, step by step.
-use Rattle.std.proofs.Common.{◌≡◌, ◌≢◌, ℕ, zero, suc, ◌+◌, ◌<◌, ◌≤◌, ◌&&◌, Bool, true, false, cond, Option, Some, None, refl, sym, ap, ap₂, ◌∙◌, subst, ⊎_elim, arith, ne_eqb}
-use Rattle.std.specs.Prelude.{◌==◌, slice_index}
+use Rattle.std.proofs.Common.{◌≡◌, ℕ, zero, suc, ◌+◌, ◌<◌, ◌≤◌, Bool, true, false, cond, Option, Some, None, refl, sym, ap, ap₂, ◌∙◌, subst, ⊎_elim, arith, ne_eqb}
+use Rattle.std.specs.Prelude.{◌==◌}
 use Rattle.std.proofs.lemmas.Bool.{cases_lt, cond-true, cond-false}
 use Rattle.mips_table.specs.Device.{Outside}
 use Rattle.mips_table.specs.Machine.{State, in_system, step, run}
 use Rattle.mips_table.specs.Turns.{is_on}
 use Rattle.layer_contract.specs.declared.entry.Entry.TheVariants.{Primitive}
-use Rattle.layer_contract.specs.declared.registers.TheConstants.{RETURN}
 use Rattle.layer_contract.specs.Layer.{entry_address}
 use Rattle.layer_contract.specs.Calls.{entered, goes_on, under_way, ends_here, ended_before}
 use Rattle.boot_turns.specs.Entries.{Entered, entry_note, noted_at, notes_on, noted_call}

@@ -8,7 +8,6 @@ use Rattle.c0_meaning.specs.State.{State as C0}
 use Rattle.cvm_model.specs.Kernel.{Core, JournalEntry, Stepped, Trapped, Set, Size, Put}
 use Rattle.cvm_model.specs.Primitives.{user_of, puts}
 use Rattle.cvm_model.specs.Cvm.{System, Running}
-use Rattle.cvm_model.specs.Journal.{KernelReplays}
 use Rattle.cvm_model.specs.Stands.{Stands}
 use Rattle.layer_contract.specs.declared.entry.Entry.TheVariants.{Primitive}
 use Rattle.layer_contract.specs.declared.registers.TheConstants.{ARGUMENT, ANSWER, RETURN}

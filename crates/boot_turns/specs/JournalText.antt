@@ -1,5 +1,5 @@
 -- How the rows of a journal grow with it: the one thing to be known is how many of its last steps have no row yet.
-use Rattle.std.specs.Prelude.{◌≡◌, ℕ, ◌+◌, true, false, List, [], ◌∷◌, ◌++◌}
+use Rattle.std.specs.Prelude.{◌≡◌, ℕ, ◌+◌, false, List, [], ◌∷◌, ◌++◌}
 use Rattle.cvm_model.specs.Kernel.{JournalEntry, Stepped}
 use Rattle.cvm_model.specs.Text.{steps_row, journal_rows_after, journal_rows, open_journal_rows}
 
