@@ -25,7 +25,7 @@ def part(head, body=''):
     cases.append('== ' + head)
     if body:
         cases.append(body.replace('\\', '\\\\').replace('`', '\\x60').replace('~', '\\x7e').rstrip('\n'))
-    if head.split(' ')[0] not in ('file', 'zeros'):
+    if head.split(' ')[0] not in ('file', 'zeros', 'flip'):
         told.append('== ' + head)
 
 
@@ -244,6 +244,12 @@ run('boot img s 100 100000000', CUT)
 run('boot img s 1 100000000', model(MESSAGES[0], MESSAGES[1:], PARAMS, '', 1))
 run('boot img s 4294967295 18446744073709551615', WHOLE)
 
+# ---- a disk that doesn't return what was written: the machine runs the altered word
+ALTERED = NINE.replace('vm_get(1, 2)', 'vm_word(1, 8)')
+boots('a disk that answers another word', ALTERED, [OVERFLOW], options='sectors 64\nalter 0 2 %d' % 0x20220002,
+      text=NINE_TEXT.replace('20220001', '20220002').replace('global w 0', 'global w %d' % 0x20220002))
+boots('and the same with the words that were written', ALTERED, [OVERFLOW], text=NINE_TEXT.replace('global w 0', 'global w %d' % 0x20220001))
+
 # ---- lines
 CALLED = ('int n; int m; ' + HEAD
           + ' { int next; next = 1; if (cause == 1) { n = n + 1; m = m * 8 + data; if (n == 2) { next = 0; } } return next; }')
@@ -287,6 +293,30 @@ begin('a sink whose first call fails', 'sink 0')
 raw('file img', FIRST_IMAGE)
 part('file s')
 run('boot img s 1000 1000', '', 7)
+begin('each length of an image')
+for n in range(0, 87):
+    raw('file cut%d' % n, source_image(FIRST) if n == 87 else ''.join('\\x%02x' % b for b in (b'CVMI' + bytes([1, 0, 0, 0, 75, 0, 0, 0]) + FIRST.encode())[:n]))
+part('file s')
+for n in range(0, 87):
+    run('boot cut%d s 1000 1000' % n, 'refused 51 %d' % (0 if n < 4 else 4 if n < 8 else 8 if n < 12 else 12), 2)
+begin('a bit of the linked words, and of the object, is turned', 'sectors 64')
+system(NINE, [OVERFLOW])
+part('flip img', str(36 + 4 + len(NINE) + 4 * 20))
+made = 0x2b << 26 | 21 << 16 | 4 * (1030 + 21)
+run('boot img s 1000 1000000', 'refused 56 20 %d %d' % (made ^ 1, made), 2)
+part('flip o', str(16 + len(NINE)))
+run('link o p img u1', 'refused 63 0 %d %d' % (0x3c1c0001 ^ 1, 0x3c1c0001), 2)
+begin('an object of another form')
+raw('file form', 'CVMO\\x02\\0\\0\\0\\0\\0\\0\\0\\0\\0\\0\\0')
+raw('file long', 'CVMO\\x01\\0\\0\\0\\x01\\0\\x10\\0\\0\\0\\0\\0')
+part('file p', PARAMS)
+raw('zeros img', str(ROOM))
+run('link form p img', 'refused 43 4 2', 2)
+run('link long p img', 'refused 43 8 1048577', 2)
+begin('the shelf fails when the object is put', 'shelf 1')
+part('file k', FIRST)
+raw('zeros o', str(ROOM))
+run('compile kernel k o', '', 6)
 begin('words that are no boot')
 run('boot a b 0 5', 'bad words', 1)
 run('boot a b 4294967296 5', 'bad words', 1)

@@ -22,38 +22,39 @@ use Rattle.boot_run.specs.LoadEnds.{Kept}
 use Rattle.boot_run.specs.declared.whole.RunEnd.{RunEnd}
 use Rattle.boot_run.specs.declared.whole.RunEnd.TheVariants as run
 use Rattle.boot_run.specs.TurnCalls.{ended_of, Around, around, Ready, KeepsLoad}
+use Rattle.boot_run.specs.Shown.{has_faulted}
 use Rattle.boot_run.specs.Report.{ReportBroken, ReportRuns}
-use Rattle.boot_run.specs.Whole.{Bootable, CloseEnds, CloseRuns, GoRuns, BootEnds, RunsToEnd, ending_of_end, end_of_fault, is_kernel_fault}
+use Rattle.boot_run.specs.Whole.{Bootable, CloseEnds, CloseRuns, GoRuns, BootEnds, RunsToEnd, ending_of_end, end_of_fault}
 use Rattle.boot_run.proofs.Looping.{machines}
 use Rattle.boot_run.proofs.Closing.{fails_end, closed}
 
 -- how a run ended tells how the boot ends
-faulted_end : (s : Status) → is_kernel_fault (ended_of s) ≡ true → ending_of s ≡ headline.KernelFaulted
+faulted_end : (s : Status) → has_faulted (ended_of s) ≡ true → ending_of s ≡ headline.KernelFaulted
 faulted_end Running e = absurd (cc)
 faulted_end Halted e = absurd (cc)
 faulted_end (Faulted f) e = refl
 
-other_end : (s : Status) → is_kernel_fault (ended_of s) ≡ false → ending_of s ≡ headline.Done
+other_end : (s : Status) → has_faulted (ended_of s) ≡ false → ending_of s ≡ headline.Done
 other_end Running e = refl
 other_end Halted e = refl
 other_end (Faulted f) e = absurd (cc)
 
 module _ {L : Type 0} (count : ℕ) (r : Kept L) (told : Option (List (List ℕ))) (budget : ℕ) (text : Option (List ℕ)) where
-  pub closes_faulted : is_kernel_fault r.ended ≡ true → CloseRuns count r (around r told budget text) (around r told budget text) run.KernelFaulted
-  closes_faulted e = λ y old base k t c p ready. (faulted_end c.status (ap is_kernel_fault (sym ready.ended) ∙ e), refl)
+  pub closes_faulted : has_faulted r.ended ≡ true → CloseRuns count r (around r told budget text) (around r told budget text) run.KernelFaulted
+  closes_faulted e = λ y old base k t c p ready. (faulted_end c.status (ap has_faulted (sym ready.ended) ∙ e), refl)
 
-  module _ (new : Kept L) (retold : Option (List (List ℕ))) (retext : Option (List ℕ)) (e : is_kernel_fault r.ended ≡ false) where
+  module _ (new : Kept L) (retold : Option (List (List ℕ))) (retext : Option (List ℕ)) (e : has_faulted r.ended ≡ false) where
     pub closes_done : ReportRuns count r new told retold text retext (Ok tt) → CloseRuns count r (around r told budget text) (around new retold budget retext) run.Done
     closes_done w = λ y old base k t c p ready.
-        (other_end c.status (ap is_kernel_fault (sym ready.ended) ∙ e), w budget p.lines p.busy y old p.image p.sizes p.made_for base k t c p.same p.boots p.laws p.replays ready)
+        (other_end c.status (ap has_faulted (sym ready.ended) ∙ e), w budget p.lines p.busy y old p.image p.sizes p.made_for base k t c p.same p.boots p.laws p.replays ready)
 
     pub closes_failed : (f : RunFault) → ReportRuns count r new told retold text retext (Err f) → CloseRuns count r (around r told budget text) (around new retold budget retext) (end_of_fault f)
     closes_failed StepLimit w = λ y old base k t c p ready.
         absurd ((w budget p.lines p.busy y old p.image p.sizes p.made_for base k t c p.same p.boots p.laws p.replays ready).limit refl)
     closes_failed Disk w = λ y old base k t c p ready.
-        (other_end c.status (ap is_kernel_fault (sym ready.ended) ∙ e), w budget p.lines p.busy y old p.image p.sizes p.made_for base k t c p.same p.boots p.laws p.replays ready)
+        (other_end c.status (ap has_faulted (sym ready.ended) ∙ e), w budget p.lines p.busy y old p.image p.sizes p.made_for base k t c p.same p.boots p.laws p.replays ready)
     closes_failed Sink w = λ y old base k t c p ready.
-        (other_end c.status (ap is_kernel_fault (sym ready.ended) ∙ e), w budget p.lines p.busy y old p.image p.sizes p.made_for base k t c p.same p.boots p.laws p.replays ready)
+        (other_end c.status (ap has_faulted (sym ready.ended) ∙ e), w budget p.lines p.busy y old p.image p.sizes p.made_for base k t c p.same p.boots p.laws p.replays ready)
 
 -- what stands in a machine is what the disk tells
 pub stand_told : (told : Option (List (List ℕ))) (held : Held) (now : List (List ℕ)) → option_map (λ (s : State). s.device.sectors) (seen told held) ≡ Some now → told ≡ Some now

@@ -4,6 +4,9 @@ pub mod Turned
 pub mod Loads
 pub mod Proceeding
 pub mod Readiness
+pub mod Rows
+pub mod Room
+pub mod Reporting
 pub mod Going
 pub mod Looping
 pub mod Closing

@@ -1,5 +1,5 @@
 -- How a whole boot ends: load, turns, and the report, over any layer, disk and sink.
-use Rattle.std.specs.Prelude.{◌≡◌, ℕ, suc, ◌≤◌, Bool, true, false, IfSome, Option, Some, None, List, Result, Ok, Err, MatchResult}
+use Rattle.std.specs.Prelude.{◌≡◌, ℕ, suc, ◌≤◌, false, IfSome, Option, Some, None, List, Result, Ok, Err, MatchResult}
 use Rattle.std.specs.Option.{option_map}
 use Rattle.std.specs.Io.KnownBytes.{append_known}
 use Rattle.mips_table.specs.Device.{Outside}
@@ -10,8 +10,6 @@ use Rattle.mips_machine.specs.Steps.{outside_of}
 use Rattle.layer_map.specs.Map.{Map}
 use Rattle.c0_tree.specs.View.{unit_view}
 use Rattle.c0_meaning.specs.TypedState.{IsTypedState}
-use Rattle.cvm_model.specs.declared.row.Next.{Next}
-use Rattle.cvm_model.specs.declared.row.Next.TheVariants.{Fault}
 use Rattle.cvm_model.specs.Cvm.{System, Cvm, first_cvm}
 use Rattle.cvm_model.specs.Journal.{KernelReplays}
 use Rattle.layer_contract.specs.declared.boot.Boot.{Boot as Booted}
@@ -136,8 +134,3 @@ abbrev pub end_of_fault : RunFault → RunEnd
 end_of_fault StepLimit = run.OutOfSteps
 end_of_fault Disk = run.DiskFault
 end_of_fault Sink = run.SinkFault
-
--- whether a run ended by a fault of the kernel
-abbrev pub is_kernel_fault : Option Next → Bool
-is_kernel_fault (Some (Fault f)) = true
-is_kernel_fault other = false

@@ -4,6 +4,8 @@
 mod load;
 mod next;
 mod pages;
+mod places;
+mod report;
 mod run;
 mod whole;
 

@@ -5,12 +5,13 @@ ghost use Rattle.layer_contract.specs.Boots.{BootFollows};
 ghost use Rattle.boot_run.specs.Loading.{system_of};
 ghost use Rattle.boot_run.specs.LoadEnds.{pages_needed, HasRoom, LoadFails};
 ghost use Rattle.boot_run.specs.TurnCalls.{around, KeepsLoad};
-ghost use Rattle.boot_run.specs.Whole.{Bootable, end_of_fault, is_kernel_fault, CloseRuns, GoRuns, IsDiskFault, IsSinkFault, RunsToEnd, WholeEnds, WholeGoesOn};
+ghost use Rattle.boot_run.specs.Whole.{Bootable, end_of_fault, CloseRuns, GoRuns, IsDiskFault, IsSinkFault, RunsToEnd, WholeEnds, WholeGoesOn};
 
 use crate::load::LoadFault;
+use crate::next::has_faulted;
 use crate::run::Run;
 use boot_turns::{RunFault, Turn, View, machines_run};
-use cvm_model::{Next, units_replay};
+use cvm_model::units_replay;
 use cvm_outside::{Sectors, Sink};
 use layer_contract::{Boot, Layer};
 use mips_machine::laws::schedules_end;
@@ -99,18 +100,6 @@ fn go<L: Layer + Drop, D: Sectors, O: Sink>(
         }
     }
     Ok(())
-}
-
-/// Whether a run ended by a fault of the kernel.
-fn has_faulted(ended: Option<Next>) -> bool
-    ensures { result ≡ is_kernel_fault ended }
-{
-    match ended {
-        Some(Next::Fault(_)) => true,
-        Some(Next::Halt) => false,
-        Some(Next::User(_)) => false,
-        None => false,
-    }
 }
 
 /// Prints the report, unless the kernel faulted.

@@ -12,3 +12,12 @@ pub mod Opening
 pub mod Joining
 pub mod Advancing
 pub mod Growing
+pub mod Entering
+pub mod UnderWay
+pub mod Journals
+pub mod Calling
+pub mod Calls
+pub mod Showing
+pub mod JournalRows
+pub mod Tracing
+pub mod SetRow

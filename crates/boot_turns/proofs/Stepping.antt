@@ -189,6 +189,17 @@ inside_comes x s i =
     ∙ cond-false (slice_index s.special SR == 1 && not ((latched x s).mask == 0)) (Interrupt (latched x s) causes.External (latched x s).mask s.cpu.pc) (instruction x (latched x s))
     (ap (λ n. (n == 1) && not ((latched x s).mask == 0)) i.sr)
 
+-- so it does where no line is pending
+pub comes_plainly : (x : Outside) (s : State) → s.reset ≡ false → (latched x s).mask ≡ 0 → coming x (latched x s) ≡ instruction x (latched x s)
+comes_plainly x s r z =
+    cond-false s.reset (Interrupt (latched x s) causes.Reset 0 s.cpu.pc) _ r
+    ∙ cond-false (slice_index s.special SR == 1 && not ((latched x s).mask == 0)) (Interrupt (latched x s) causes.External (latched x s).mask s.cpu.pc) (instruction x (latched x s))
+    (ap (λ m. slice_index s.special SR == 1 && not (m == 0)) z ∙ no_right (slice_index s.special SR == 1))
+  where
+    no_right : (b : Bool) → (b && false) ≡ false
+    no_right true = refl
+    no_right false = refl
+
 -- a step inside joins its lines to the mask
 pub inside_mask : (x : Outside) (s : State) → Inside s → (step x s).mask ≡ bit_or s.mask (x.lines s.time)
 inside_mask x s i =

@@ -8,8 +8,11 @@ use Rattle.mips_table.specs.Turns.{begins, handled, in_user, is_on, turn_of, com
 use Rattle.cvm_model.specs.Kernel.{Core}
 use Rattle.cvm_model.specs.Stands.{Site}
 use Rattle.layer_contract.specs.declared.entry.Entry.{Entry}
+use Rattle.layer_contract.specs.declared.entry.Entry.TheVariants.{Primitive}
 use Rattle.layer_contract.specs.Layer.{Inside, Way, Comes, Back, Brought, Settles, IsEntry}
+use Rattle.layer_contract.specs.Calls.{entered}
 use Rattle.boot_turns.proofs.Stepping.{both_left, both_right, on_of, inside_begins, inside_handled, inside_mask, inside_rests, user_begins, user_rests, handled_mask, handled_device, time_is}
+use Rattle.boot_turns.proofs.Entering.{entered_none, entered_user, not_system, user_enters}
 use Rattle.boot_turns.proofs.Counting.{or_associates, turn_same, gathers, still, completes_at, faults_more, faults_stay}
 
 pub later : (x : Outside) (s : State) (t n : ℕ) → run x (run x s t) n ≡ run x s (t + n)
@@ -50,6 +53,30 @@ absolute x y Door s n t Q c = (
   },
   (let w = c.within in omega (arith, w)),
 )
+
+-- the same by a way that leads to no entry of a primitive
+pub quietly : (x : Outside) (y : Site) (s : State) (n t : ℕ) (Q : State → Type 0) → ((r : State) → Q r → entered 10 r ≡ None) → entered 10 (run x s t) ≡ None → Comes x y IsEntry n (run x s t) Q →
+    (u : ℕ) × Arrives x (user_sectors y) s t u Q × (u ≤ t + n) × ((j : ℕ) → t ≤ j → j ≤ u → entered 10 (run x s j) ≡ None)
+quietly x y s n t Q none first c = (
+  t + c.steps,
+  record {
+    from = omega arith;
+    inside = λ j a b. let e : t + (j - t) ≡ j = omega arith in subst Inside (later x s t (j - t) ∙ ap (run x s) e) (c.way.inside (j - t) (omega arith));
+    stays = λ j a b. way_stays x y IsEntry s c.steps t (j - t) j (omega arith) (omega arith) c.way;
+    there = subst Q (later x s t c.steps) c.there;
+  },
+  (let w = c.within in omega (arith, w)),
+  λ j a b. let e : t + (j - t) ≡ j = omega arith in subst (λ r. entered 10 r ≡ None) (later x s t (j - t) ∙ ap (run x s) e) (by (j - t) (omega (arith, a, b))),
+)
+  where
+    by : (i : ℕ) → i ≤ c.steps → entered 10 (run x (run x s t) i) ≡ None
+    by i le = ⊎_elim
+        (λ (lt : i < c.steps). ⊎_elim
+        (λ (some : 0 < i). entered_none 10 (run x (run x s t) i) (λ k l. c.way.between i (Primitive k) some lt l))
+        (λ (zero : i ≤ 0). let e : 0 ≡ i = omega (arith, zero) in subst (λ i. entered 10 (run x (run x s t) i) ≡ None) e first)
+        (cases_lt 0 i))
+        (λ (ge : c.steps ≤ i). let e : c.steps ≡ i = omega (arith, ge, le) in subst (λ i. entered 10 (run x (run x s t) i) ≡ None) e (none (run x (run x s t) c.steps) c.there))
+        (cases_lt i c.steps)
 
 pub joins : (x : Outside) (pages : ℕ) (s : State) (t u v : ℕ) (P Q : State → Type 0) → Arrives x pages s t u P → Arrives x pages s u v Q → Arrives x pages s t v Q
 joins x pages s t u v P Q a b = record {
@@ -95,6 +122,7 @@ pub record Settled (x : Outside) (s : State) (y : Site) (c : Core) (k m most fue
   pub between : (j : ℕ) → t ≤ j → j ≤ u → complete x s j ≡ k
   pub none : (j : ℕ) → t ≤ j → j < u → begins x (run x s j) ≡ false
   pub stays : (j : ℕ) → t ≤ j → j < u → Stays x (user_sectors y) s j
+  pub quiet : (j : ℕ) → t < j → j ≤ u → entered 10 (run x s j) ≡ None
 
 fault_stays : (x : Outside) (pages : ℕ) (s : State) (t : ℕ) → (run x s t).off ≡ None → handled x (run x s t) ≡ true → (run x s t).device.pending ≡ Idle → Stays x pages s t
 fault_stays x pages s t on h idle = record { sectors = λ q le. ap (λ (d : Device). sector_of d.sectors q) (handled_device x (run x s t) on h idle) }
@@ -116,6 +144,7 @@ at_once x s y c k m most fuel t calm back w all = record {
   between = λ j a b. let e : t ≡ j = omega arith in subst (λ i. complete x s i ≡ k) e all;
   none = λ j a b. absurd (omega arith);
   stays = λ j a b. absurd (omega arith);
+  quiet = λ j a b. absurd (omega arith);
 }
 
 pub settled : (x : Outside) (s : State) → s.time ≡ 0 → (y : Site) (most : ℕ) (c : Core) (k m fuel t : ℕ) → Settles fuel x y most c (run x s t) → Back x y c (run x s t) →
@@ -127,7 +156,8 @@ settled x s z y most c k m (suc fuel) t st back w all = by (λ u. settled x s z 
         (h : Bool) → handled x (run x s t) ≡ h → (u : ℕ) × Settled x s y c k m most (suc fuel) t u
     by go false h = (t, at_once x s y c k m most (suc fuel) t h back w all)
     by go true h =
-        let got = absolute x y IsEntry s most (suc t) (λ r. Back x y c r × Brought y c (run x s t) r (coming x (latched x (run x s t))) × Settles fuel x y most c r) (st h) in
+        let got = quietly x y s most (suc t) (λ r. Back x y c r × Brought y c (run x s t) r (coming x (latched x (run x s t))) × Settles fuel x y most c r) (λ r q. entered_user 10 r (not_system r (back_user x y c r q.0)))
+        (user_enters 10 x (run x s t) (back_on x y c (run x s t) back) (back_user x y c (run x s t) back)) (st h) in
         let u = got.0 in
         let a = got.1 in
         let on = back_on x y c (run x s t) back in
@@ -159,5 +189,6 @@ settled x s z y most c k m (suc fuel) t st back w all = by (λ u. settled x s z 
                 (λ (lt : j < u). ⊎_elim (λ (o : t < j). a.stays j o lt) (λ (o : j ≤ t). let e : t ≡ j = omega arith in subst (Stays x (user_sectors y) s) e (fault_stays x (user_sectors y) s t on h back.stands.idle)) (cases_lt t j))
                 (λ (ge : u ≤ j). r.stays j ge h1)
                 (cases_lt j u);
+            quiet = λ j l h1. ⊎_elim (λ (gt : u < j). r.quiet j gt h1) (λ (le : j ≤ u). got.3 j l le) (cases_lt u j);
           },
         )

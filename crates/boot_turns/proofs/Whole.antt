@@ -32,7 +32,7 @@ pub record OffOn (x : Outside) (s : State) (k v u : ℕ) : Type 0 where
   pub turn : turn_of x s u ≡ k
   pub all : complete x s u ≡ k
 
-off_on : (x : Outside) (s : State) (k v t u : ℕ) → t ≤ u → OffOn x s k v t → OffOn x s k v u
+pub off_on : (x : Outside) (s : State) (k v t u : ℕ) → t ≤ u → OffOn x s k v t → OffOn x s k v u
 off_on x s k v t zero le o = let d : t ≡ 0 = omega arith in subst (OffOn x s k v) d o
 off_on x s k v t (suc u) le o = ⊎_elim
     (λ (lt : t < suc u).
@@ -77,7 +77,7 @@ module _ (x : Outside) (y : System) (old : List (List ℕ)) (Typed : C0 → Type
   first_is c i = one_cvm y g.meaning lines 0 c (first_cvm y) i (record { units = 0; is = refl })
 
   -- a run that has ended is off
-  ended_off : (k t : ℕ) (c : Cvm) → Stood x y old k t c → c.status ≢ Running → (v : ℕ) × ((run x s t).off ≡ Some v)
+  pub ended_off : (k t : ℕ) (c : Cvm) → Stood x y old k t c → c.status ≢ Running → (v : ℕ) × ((run x s t).off ≡ Some v)
   ended_off zero t c st stopped = absurd (stopped (ap (λ (w : Cvm). w.status) (first_is c st.cvm)))
   ended_off (suc k) t c st stopped = by c.status refl st.rests.0
     where

@@ -32,11 +32,13 @@ use Rattle.cvm_shell.specs.declared.boot.Stop.{Stop}
 use Rattle.cvm_shell.specs.declared.boot.Stop.TheVariants as Stops
 use Rattle.cvm_shell.specs.declared.refusal.Refusal.{Refusal as ByCode}
 use Rattle.cvm_shell.specs.declared.refusal.Refusal.TheVariants as by
-use Rattle.cvm_shell.specs.Command.{Link}
+use Rattle.cvm_shell.specs.Command.{Link, link}
 use Rattle.cvm_shell.specs.Refusal.{Refusal, bad_object, bad_file, unlinked, too_long}
 use Rattle.cvm_shell.specs.Plan.{Plan, refuses, puts, Got, GotAll, words_from, before_them, linked_plan, AfterParts, unfit, answered, AfterUsers, AfterParams, AfterSystem, no_object, has_object, LinkPlan, AreTold, GetsTold, IsPlan}
-use Rattle.cvm_shell.specs.Stages.{object_stop, file_stop, link_stop, Fetched, LongAmong, NotFetched}
-use Rattle.cvm_shell.specs.Views.{IfRefused}
+use Rattle.cvm_shell.specs.Stages.{object_stop, file_stop, link_stop, Fetched, IsLinkPlan}
+use Rattle.cvm_shell.specs.Views.{IfRefused, IfPlan}
+use Rattle.cvm_shell.proofs.Plans.{got_whole, if_refused, if_plan}
+use Rattle.cvm_shell.proofs.GotFiles.{fetched_plan}
 
 -- LINKING: a source has one answer.
 
@@ -249,8 +251,30 @@ pub plan_users : (layer : Layers) (name : List ℕ) (o : Object) (params : Param
 plan_users layer name o params r users p e plan =
     subst (λ (x : Result (List (List ℕ)) FileFault). IsPlan ⊤ (AfterUsers layer name o params x) p) (sym e) (record { comes = plan.comes; only = λ t q k. plan.only tt q k })
 
--- a plan of a later stage is one of this stage, refused or not
-pub if_refused : (P Q : Plan → Type 0) → ((p : Plan) → P p → Q p) → (s : Stop) → IfRefused P s → IfRefused Q s
-if_refused P Q f (Stops.Refused r) h = f _ h
-if_refused P Q f Stops.Shelf h = tt
-if_refused P Q f Stops.Memory h = tt
+-- THE FILES of a system.
+
+-- what comes of an object whose parameters and users are still to be got
+abbrev AfterObject : Layers → (List ℕ → Option (List ℕ)) → Link → List ℕ → Plan → Type 0
+AfterObject layer told l object = Got (told l.params) (λ params. GotAll told l.users (AfterSystem layer l.image object params))
+
+-- the object was got: a stop at the parameters is a stop of the linking
+pub object_got : (layer : Layers) (told : List ℕ → Option (List ℕ)) (l : Link) (object : List ℕ) (s : Stop) → Tells (told l.object) object → length object < TOO_LONG
+    → IfRefused (IsPlan (IsSome (told l.params) × AreTold told l.users) (AfterObject layer told l object)) s → IfRefused (IsLinkPlan layer told l) s
+object_got layer told l object s t short h =
+    if_refused _ (IsLinkPlan layer told l) (λ p is. got_whole (told l.object) (AfterObject layer told l) (GetsTold told (link l)) (IsSome (told l.params) × AreTold told l.users) object p (λ k. k.0) (λ k. (k.1, k.2)) t short is) s h
+
+-- the parameters were got too: a stop at the users
+pub params_got : (layer : Layers) (told : List ℕ → Option (List ℕ)) (l : Link) (object params : List ℕ) (s : Stop) → Tells (told l.object) object → length object < TOO_LONG
+    → Tells (told l.params) params → length params < TOO_LONG → IfRefused (IsPlan (AreTold told l.users) (GotAll told l.users (AfterSystem layer l.image object params))) s → IfRefused (IsLinkPlan layer told l) s
+params_got layer told l object params s t short u few h =
+    object_got layer told l object s t short
+    (if_refused _ _ (λ p is. got_whole (told l.params) (λ ps. GotAll told l.users (AfterSystem layer l.image object ps)) (IsSome (told l.params) × AreTold told l.users) (AreTold told l.users) params p (λ k. k.0) (λ k. k.1) u few is) s h)
+
+-- all files were got: what their bytes come to is what the linking comes to
+pub system_got : {A : Type 0} (made : A → Plan) (layer : Layers) (told : List ℕ → Option (List ℕ)) (l : Link) (object params : List ℕ) (users : List (List ℕ)) (r : Result A Stop)
+    → Tells (told l.object) object → length object < TOO_LONG → Tells (told l.params) params → length params < TOO_LONG → Fetched told l.users users
+    → IfPlan made (IsPlan ⊤ (AfterSystem layer l.image object params users)) r → IfPlan made (IsLinkPlan layer told l) r
+system_got made layer told l object params users r t short u few all h =
+    if_plan made _ (IsLinkPlan layer told l) (λ p is. got_whole (told l.object) (AfterObject layer told l) (GetsTold told (link l)) (IsSome (told l.params) × AreTold told l.users) object p (λ k. k.0) (λ k. (k.1, k.2)) t short
+    (got_whole (told l.params) (λ ps. GotAll told l.users (AfterSystem layer l.image object ps)) (IsSome (told l.params) × AreTold told l.users) (AreTold told l.users) params p (λ k. k.0) (λ k. k.1) u few
+    (fetched_plan told l.users users (AfterSystem layer l.image object params) p all is))) r h

@@ -1,6 +1,7 @@
 use Rattle.std.proofs.Common.{Ok, Err, map}
 use Rattle.std.proofs.lemmas.Result.{err_from_is_err_and}
-use Rattle.cvm_shell.proofs.LinkPlans.{object_fault, fault_unless, plan_object, params_fault, plan_params, users_fault, if_refused}
+use Rattle.cvm_shell.proofs.Plans.{if_refused}
+use Rattle.cvm_shell.proofs.LinkPlans.{object_fault, fault_unless, plan_object, params_fault, plan_params, users_fault}
 use Rattle.cvm_shell.proofs.linking.linked_image.Goals as goal
 
 pub returns-in_err-object-clause-comes : goal.returns-in_err-object-clause-comes
