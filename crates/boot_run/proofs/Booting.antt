@@ -1,5 +1,5 @@
 -- A whole boot, by what load and the run come to.
-use Rattle.std.proofs.Common.{◌≡◌, ℕ, ◌*◌, ◌≤◌, Option, Some, None, List, [], Result, Ok, Err, map, length, inl, inr, arith, refl, sym, ap, ◌∙◌, subst, append-nil}
+use Rattle.std.proofs.Common.{◌≡◌, ◌≢◌, ℕ, ◌*◌, ◌≤◌, Option, Some, None, List, [], Result, Ok, Err, map, length, inl, inr, arith, refl, sym, ap, ◌∙◌, subst, append-nil}
 use Rattle.std.proofs.lemmas.List.{length-map}
 use Rattle.std.specs.Prelude.{IfSome, IsSome}
 use Rattle.std.specs.Option.{option_map}
@@ -17,8 +17,9 @@ use Rattle.boot_run.specs.LoadEnds.{Kept, IsFresh, pages_needed}
 use Rattle.boot_run.specs.declared.load.LoadFault.{LoadFault}
 use Rattle.boot_run.specs.declared.load.LoadFault.TheVariants.{NoSuchUser, SmallDisk, Memory, Disk}
 use Rattle.boot_run.specs.declared.whole.RunEnd.{RunEnd}
+use Rattle.boot_run.specs.declared.whole.RunEnd.TheVariants as run
 use Rattle.boot_run.specs.TurnCalls.{Around, around, Ready, IsReady}
-use Rattle.boot_run.specs.Whole.{Bootable, BootEnds, RunsToEnd, WholeEnds, ending_of_end}
+use Rattle.boot_run.specs.Whole.{Bootable, BootEnds, RunsToEnd, WholeEnds, IsDiskFault, IsSinkFault, ending_of_end, ending_of_answer}
 
 nothing_more : (t : Option (List ℕ)) → t ≡ append_known t []
 nothing_more None = refl
@@ -86,3 +87,27 @@ pub stays_told : (n : ℕ) (told retold : Option (List (List ℕ))) → StaysFro
 stays_told n None retold h i = absurd (cc)
 stays_told n (Some old) None h i = absurd (let e = h n (omega arith) in cc)
 stays_told n (Some old) (Some now) h i = refl
+
+pub memory_not_disk : (f : LoadFault) → f ≡ Memory → f ≡ Disk → ⊥
+memory_not_disk f e q = cc
+
+-- which fault it is
+pub end_disk : (e : RunEnd) → IsDiskFault (Ok e) → e ≡ run.DiskFault
+end_disk run.Done h = absurd (cc)
+end_disk run.KernelFaulted h = absurd (cc)
+end_disk run.OutOfSteps h = absurd (cc)
+end_disk run.DiskFault h = refl
+end_disk run.SinkFault h = absurd (cc)
+
+pub end_sink : (e : RunEnd) → IsSinkFault (Ok e) → e ≡ run.SinkFault
+end_sink run.Done h = absurd (cc)
+end_sink run.KernelFaulted h = absurd (cc)
+end_sink run.OutOfSteps h = absurd (cc)
+end_sink run.DiskFault h = absurd (cc)
+end_sink run.SinkFault h = refl
+
+pub disk_end : (e : RunEnd) → (IsDiskFault (Ok e) → ⊥) → e ≢ run.DiskFault
+disk_end e h q = h (ap (λ (w : RunEnd). ending_of_answer (Ok w)) q)
+
+pub sink_end : (e : RunEnd) → (IsSinkFault (Ok e) → ⊥) → e ≢ run.SinkFault
+sink_end e h q = h (ap (λ (w : RunEnd). ending_of_answer (Ok w)) q)
