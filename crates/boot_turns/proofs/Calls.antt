@@ -13,7 +13,8 @@ use Rattle.cvm_model.specs.Kernel.{flat, Console, JournalEntry, Set, Size, Put}
 use Rattle.cvm_model.specs.Primitives.{Call, VmGet, VmSet, VmSize, VmResize, VmWord, VmPut, VmCopy, ConPut, ConGet, ConLeft, primitive_number, arguments_of, user_of, with_user, with_words, puts, is_within, is_place, is_good, refused, unchanged, granted, prim, Given, no_flat}
 use Rattle.cvm_model.specs.Journal.{changes_of}
 use Rattle.layer_contract.specs.Layer.{AreArguments}
-use Rattle.boot_turns.specs.Entries.{Entered, call_ends}
+use Rattle.boot_turns.specs.declared.tracer.Entered.{Entered}
+use Rattle.boot_turns.specs.Entries.{call_ends}
 
 both_left : (a b : Bool) → (a && b) ≡ true → a ≡ true
 both_left true b h = refl

@@ -19,11 +19,11 @@ third_false true true c e = e
 third_false true false c e = refl
 third_false false b c e = refl
 
-second_false : (a b c : Bool) → b ≡ false → (a && b && c) ≡ false
+pub second_false : (a b c : Bool) → b ≡ false → (a && b && c) ≡ false
 second_false true b c e = ap (λ b. true && b && c) e
 second_false false b c e = refl
 
-first_false : (a b c : Bool) → a ≡ false → (a && b && c) ≡ false
+pub first_false : (a b c : Bool) → a ≡ false → (a && b && c) ≡ false
 first_false a b c e = ap (λ a. a && b && c) e
 
 pub all_true : (a b c : Bool) → a ≡ true → b ≡ true → c ≡ true → (a && b && c) ≡ true

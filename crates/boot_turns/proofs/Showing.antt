@@ -23,7 +23,8 @@ use Rattle.boot_turns.specs.declared.completion.Begun.{Begun}
 use Rattle.boot_turns.specs.Completes.{note, ShownAs}
 use Rattle.boot_turns.specs.Trace.{ended_at_begin, ended_since, Shown}
 use Rattle.boot_turns.specs.TurnEnds.{Stood}
-use Rattle.boot_turns.specs.Entries.{Entered, noted_call, turn_begins, call_ends, returned, return_entries, WordsAt, ShowsMore, TraceGrows}
+use Rattle.boot_turns.specs.declared.tracer.Entered.{Entered}
+use Rattle.boot_turns.specs.Entries.{noted_call, turn_begins, call_ends, returned, return_entries, WordsAt, ShowsMore, TraceGrows}
 use Rattle.boot_turns.proofs.Stepping.{both_right, inside_begins, inside_rests, user_rests}
 use Rattle.boot_turns.proofs.Entering.{entered_none, entered_user, entered_off, not_system, begins_enters}
 use Rattle.boot_turns.proofs.Counting.{turn_same, turn_more, still, completes}

@@ -1,5 +1,5 @@
 -- The entries that a step of the machine adds to what is shown of a user, by what the machine shows.
-use Rattle.std.specs.Prelude.{◌≡◌, ℕ, zero, suc, ◌+◌, ◌/◌, ◌≤◌, ◌&&◌, ◌==◌, nat_lt, if◌then◌else◌, List, [], ◌∷◌, ◌++◌, length, take, drop, slice_index, Option, Some, None}
+use Rattle.std.specs.Prelude.{◌≡◌, ◌≢◌, ℕ, zero, suc, ◌+◌, ◌/◌, ◌≤◌, ◌&&◌, ◌==◌, nat_lt, if◌then◌else◌, List, [], ◌∷◌, ◌++◌, length, take, drop, slice_index, Option, Some, None}
 use Rattle.mips_table.specs.Device.{Outside}
 use Rattle.mips_table.specs.Machine.{State, in_system, run}
 use Rattle.mips_table.specs.Turns.{is_on, begins}
@@ -14,21 +14,16 @@ use Rattle.layer_contract.specs.declared.registers.TheConstants.{ARGUMENT, ANSWE
 use Rattle.layer_contract.specs.Layer.{entry_address, Laws}
 use Rattle.layer_contract.specs.Follows.{site_of, machine, loaded}
 use Rattle.boot_turns.specs.declared.completion.Begun.{Begun}
+use Rattle.boot_turns.specs.declared.tracer.Entered.{Entered}
 use Rattle.boot_turns.specs.Completes.{note}
 use Rattle.boot_turns.specs.Headline.{Boots}
 use Rattle.boot_turns.specs.Trace.{Shown}
-
--- what is noted of a primitive that is entered: its number, its return address, and the words of its arguments
-pub record Entered : Type 0 where
-  pub primitive : ℕ
-  pub back : ℕ
-  pub arguments : List ℕ
 
 -- argument i, from 0
 abbrev pub argument : State → ℕ → ℕ
 argument s i = slice_index s.cpu.regs (ARGUMENT + i)
 
--- of primitive k
+-- what is noted at the entry of primitive k
 abbrev pub entry_note : ℕ → State → Entered
 entry_note k s = record {
   primitive = k;
@@ -64,6 +59,10 @@ call_ends u e answer words =
       if e.primitive == 5 && a 0 == u then Put (a 1) (a 2) ∷ [] else
       if e.primitive == 6 && a 2 == u then puts (a 3) (take (a 4) (drop (a 3 / 4) words)) else []
     ) else []
+
+-- it is not the primitive that copies words
+abbrev pub IsNoCopy : Entered → Type 0
+IsNoCopy e = e.primitive ≢ 6
 
 -- the primitive that returns here
 abbrev pub returned : State → Option Entered → Option Entered

@@ -15,6 +15,7 @@ pub mod completion;
 pub mod journal_text;
 pub mod row_text;
 mod rows;
+pub mod tracer;
 
 pub use answers::{RunFault, Turn, View};
 use cvm_model::users_are_isolated;

@@ -1,5 +1,5 @@
 -- What the files of a system come to: each is got, read and linked, or the first fault is refused, and nothing else.
-use Rattle.std.proofs.Common.{◌≡◌, ◌≢◌, ◌⊎◌, inl, inr, ℕ, suc, ◌+◌, ◌<◌, ◌≤◌, List, [], ◌∷◌, ◌++◌, length, map, refl, sym, ap, ◌∙◌, subst, arith, append_assoc, append_nil, Ok, Err}
+use Rattle.std.proofs.Common.{◌≡◌, ◌≢◌, ◌⊎◌, inl, inr, ℕ, suc, ◌+◌, ◌<◌, ◌≤◌, List, [], ◌∷◌, ◌++◌, length, map, refl, sym, ap, ◌∙◌, subst, arith, append_assoc, append-nil, Ok, Err}
 use Rattle.std.specs.Prelude.{Option, Result, ⊤}
 use Rattle.std.specs.Option.{IsSome}
 use Rattle.cvm_outside.specs.Told.{TOO_LONG, Tells}
@@ -49,13 +49,13 @@ abbrev Layers : Type 0
 Layers = Map → List ℕ → List ℕ
 
 -- what doesn't fit is answered by its fault, whatever the source is
-unfolding link_answer
 unfit_answers : (layer : Layers) (o : Object) (p : Params) (us : List (List ℕ)) (front : Result CUnit SourceFault) (f : LinkFault) → fitting p us ≡ Err f → link_answer layer o p us front ≡ Err f
+unfolding link_answer
 unfit_answers layer o p us front f e = rw e refl
 
 -- what fits and has no unit is answered by the source's fault
-unfolding link_answer
 no_unit : (layer : Layers) (o : Object) (p : Params) (us : List (List ℕ)) (f : SourceFault) → fitting p us ≡ Ok tt → link_answer layer o p us (Err f) ≡ Err (link_source_fault f)
+unfolding link_answer
 no_unit layer o p us f e = rw e refl
 
 -- the answer is one
