@@ -4,6 +4,8 @@ pub mod Turned
 pub mod Loads
 pub mod Proceeding
 pub mod Readiness
+pub mod Placing
 pub mod Rows
 pub mod Room
 pub mod Reporting
+pub mod Reports
