@@ -4,6 +4,7 @@ pub mod Turned
 pub mod Loads
 pub mod Proceeding
 pub mod Readiness
+pub mod Placing
 pub mod Rows
 pub mod Room
 pub mod Reporting
@@ -13,3 +14,4 @@ pub mod Closing
 pub mod Premises
 pub mod Ending
 pub mod Booting
+pub mod Reports

@@ -43,7 +43,6 @@ use Rattle.boot_run.specs.Placed.{IsPlaced}
 use Rattle.boot_run.specs.Shown.{has_faulted}
 use Rattle.boot_run.specs.TurnCalls.{ended_of, Around, around, Ready}
 use Rattle.boot_run.specs.Report.{end_row, kernel_rows, runs_now, closing_rows, Reported, ReportBroken}
-use Rattle.boot_run.proofs.Turned.{take_own}
 
 -- sectors that are told, with which a machine is seen as a state
 pub record Told (told : Option (List (List ℕ))) (held : Held) (s : State) : Type 0 where

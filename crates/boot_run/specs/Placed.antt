@@ -9,9 +9,9 @@ use Rattle.boot_report.specs.Given.{places_of}
 use Rattle.boot_run.specs.LoadEnds.{pages_needed}
 
 -- the map of what is booted, and the places of its globals; the memory has room for the map, and the disk for the users' pages
-pub record IsPlaced (b : Booted) (m : Map) (places memory : List ℕ) (count : ℕ) : Type 0 where
+pub record IsPlaced (b : Booted) (m : Map) (places words : List ℕ) (count : ℕ) : Type 0 where
   pub map : m ≡ map_of (boot_of b)
   pub range : MapInRange m
   pub globals : places ≡ places_of (unit_view b.unit)
-  pub memory : memory_words m ≤ length memory
+  pub memory : memory_words m ≤ length words
   pub sectors : pages_needed b ≤ count

@@ -6,7 +6,7 @@ ghost use Rattle.cvm_outside.specs.Told.{AppendsPart};
 ghost use Rattle.layer_map.specs.Map.{globals_at, memory_words};
 ghost use Rattle.mips_machine.specs.Machine.{state_of};
 ghost use Rattle.boot_report.specs.Texts.{EntriesFit, SameButViewed};
-ghost use Rattle.boot_run.specs.Report.{end_row, kernel_rows, closing_rows};
+ghost use Rattle.boot_run.specs.Report.{end_row, kernel_rows, runs_now, closing_rows};
 
 use crate::places::Places;
 use boot_report::{ReportFault, put_globals, put_log, put_users};
@@ -48,6 +48,13 @@ fn put_kernel<O: Sink>(
     Ok(())
 }
 
+/// The user that the machine of a run runs between turns: the current one, and once it halted none, 0.
+fn runs_now(halted: bool, current: u32) -> u32
+    ensures { result ≡ runs_now halted current }
+{
+    if halted { 0 } else { current }
+}
+
 /// Prints the end and the report of a run that halted, or goes on with this current user.
 ///
 /// # Errors
@@ -80,6 +87,6 @@ pub(crate) fn put_closing<D: Sectors, O: Sink>(
     ensures sink_same { result ≢ Err ReportFault.Sink → O.faults out.new ≡ O.faults out.old }
 {
     put_kernel(machine, places, decls, halted, out)?;
-    let running = if halted { 0 } else { current };
+    let running = runs_now(halted, current);
     put_users(machine, &places.map, running, disk, out)
 }

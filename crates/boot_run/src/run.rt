@@ -231,9 +231,9 @@ impl<L: Layer + Drop> Run<L> {
         let halted = self.ended.is_some();
         let decls = self.boot.unit.unit().globals.as_slice();
         match put_closing(&mut self.machine, &self.places, decls, halted, self.current, disk, out) {
-            Ok(()) => Ok(()),
-            Err(ReportFault::Disk) => Err(RunFault::Disk),
-            Err(ReportFault::Sink) => Err(RunFault::Sink),
+            Ok(()) => return Ok(()),
+            Err(ReportFault::Disk) => return Err(RunFault::Disk),
+            Err(ReportFault::Sink) => return Err(RunFault::Sink),
         }
     }
 
