@@ -61,7 +61,7 @@ whole layer view r a b image sizes m range h same checked map_is sizes_are image
     let users : length found.0.users ≤ 64 = spelled_users found.0 found.1.spelled in
     let count : length (user_words b) ≡ length b.users.items = length-map b.users.items (λ u. u.items) in
     let made : layer m sizes ≡ layer (map_for (unit_view b.unit) b.params (length (user_words b))) (sizes_of (user_words b)) =
-        ap (λ (n : Map). layer n sizes) (map_is ∙ ap (λ (n : ℕ). map_for (unit_view b.unit) b.params n) (sym count)) ∙ ap (layer (map_for (unit_view b.unit) b.params (length (user_words b)))) sizes_are in
+    ap (λ (n : Map). layer n sizes) (map_is ∙ ap (λ (n : ℕ). map_for (unit_view b.unit) b.params n) (sym count)) ∙ ap (layer (map_for (unit_view b.unit) b.params (length (user_words b)))) sizes_are in
     record {
       checked = checked;
       params = subst ParamsInRange (sym of_image.params) (spelled_params found.0 found.1.spelled);
