@@ -1,39 +1,23 @@
 -- The rows of the entries of a step, put after those of the steps before it.
-use Rattle.std.proofs.Common.{◌≡◌, ◌≢◌, ℕ, ◌+◌, ◌<◌, ◌≤◌, Bool, true, false, not, cond, List, [], ◌∷◌, ◌++◌, refl, sym, ap, ap₂, ◌∙◌, subst, append-nil, Option, Result, Ok, Err, OnErr, lt-ltb, le-ltb, ne_eqb, arith}
-use Rattle.std.specs.Prelude.{◌==◌, nat_lt}
+use Rattle.std.proofs.Common.{◌≡◌, ℕ, ◌&&◌, true, false, slice_index, List, [], ◌∷◌, ◌++◌, refl, sym, ap, ◌∙◌, append-nil, eq-eqb, Result, Ok, Err, OnErr}
+use Rattle.std.specs.Prelude.{◌==◌}
 use Rattle.std.proofs.lemmas.Bool.{cond-true, cond-false}
-use Rattle.std.specs.Io.KnownBytes.{append_known}
-use Rattle.cvm_outside.specs.Told.{AppendsPart}
-use Rattle.cvm_outside.proofs.Parts.{append_known-nil}
-use Rattle.cvm_model.specs.Kernel.{JournalEntry, Stepped, Trapped}
+use Rattle.cvm_model.specs.Kernel.{Set, Size, Put}
 use Rattle.cvm_model.specs.Text.{steps_row, entry_row, journal_rows_after}
-use Rattle.boot_turns.specs.declared.completion.Begun.{Begun}
-use Rattle.boot_turns.specs.Entries.{turn_begins}
-use Rattle.boot_turns.specs.JournalText.{steps_after}
+use Rattle.boot_turns.specs.declared.tracer.Entered.{Entered}
+use Rattle.boot_turns.specs.Entries.{call_ends}
 
--- what a turn begins with, by the three tests
-pub begins_other : (u current : ℕ) (b : Begun) → (current == u) ≡ false → turn_begins u current b ≡ []
-begins_other u current b e = cond-false (current == u) _ [] e
+-- the entry of a word that was put
+pub put_is : (u : ℕ) (e : Entered) (answer : ℕ) → answer ≡ 1 → slice_index e.arguments 0 ≡ u → e.primitive ≡ 5 → call_ends u e answer [] ≡ Put (slice_index e.arguments 1) (slice_index e.arguments 2) ∷ []
+put_is u e answer one user fifth =
+    cond-true (answer == 1) _ [] (eq-eqb _ _ one)
+    ∙ cond-false (e.primitive == 1 && slice_index e.arguments 0 == u) (Set (slice_index e.arguments 1) (slice_index e.arguments 2) ∷ []) _ (ap (λ p. p == 1 && slice_index e.arguments 0 == u) fifth)
+    ∙ cond-false (e.primitive == 3 && slice_index e.arguments 0 == u) (Size (slice_index e.arguments 1) ∷ []) _ (ap (λ p. p == 3 && slice_index e.arguments 0 == u) fifth)
+    ∙ cond-true (e.primitive == 5 && slice_index e.arguments 0 == u) (Put (slice_index e.arguments 1) (slice_index e.arguments 2) ∷ []) _ (ap (λ p. p == 5 && slice_index e.arguments 0 == u) fifth ∙ eq-eqb _ _ user)
 
-pub begins_step : (u current : ℕ) (b : Begun) → (current == u) ≡ true → b.dispatched ≡ false → turn_begins u current b ≡ Stepped ∷ []
-begins_step u current b e d = cond-true (current == u) _ [] e ∙ cond-false b.dispatched _ (Stepped ∷ []) d
-
-pub begins_none : (u current : ℕ) (b : Begun) → (current == u) ≡ true → b.dispatched ≡ true → b.cause ≤ 1 → turn_begins u current b ≡ []
-begins_none u current b e d le = cond-true (current == u) _ [] e ∙ cond-true b.dispatched _ (Stepped ∷ []) d ∙ cond-false (nat_lt 1 b.cause) (Trapped b.cause b.edata ∷ []) [] (le-ltb 1 b.cause le)
-
-pub begins_trap : (u current : ℕ) (b : Begun) → (current == u) ≡ true → b.dispatched ≡ true → 1 < b.cause → turn_begins u current b ≡ Trapped b.cause b.edata ∷ []
-begins_trap u current b e d lt = cond-true (current == u) _ [] e ∙ cond-true b.dispatched _ (Stepped ∷ []) d ∙ cond-true (nat_lt 1 b.cause) (Trapped b.cause b.edata ∷ []) [] (lt-ltb 1 b.cause lt)
-
--- nothing is put for no entry
-pub puts_none : (n : ℕ) (es : List JournalEntry) (t : Option (List ℕ)) → es ≡ [] → t ≡ append_known t (journal_rows_after false n es)
-puts_none n es t e = sym (append_known-nil t) ∙ ap (λ es. append_known t (journal_rows_after false n es)) (sym e)
-
-pub puts_step : (n : ℕ) (es : List JournalEntry) (t : Option (List ℕ)) → es ≡ Stepped ∷ [] → t ≡ append_known t (journal_rows_after false n es)
-puts_step n es t e = sym (append_known-nil t) ∙ ap (λ es. append_known t (journal_rows_after false n es)) (sym e)
-
--- one row
-pub trap_text : (n : ℕ) (b : Begun) (es : List JournalEntry) (row : List ℕ) → es ≡ Trapped b.cause b.edata ∷ [] → row ≡ entry_row (Trapped b.cause b.edata) → steps_row n ++ row ≡ journal_rows_after false n es
-trap_text n b es row e r = ap (λ row. steps_row n ++ row) r ∙ sym (append-nil _) ∙ ap (journal_rows_after false n) (sym e)
+pub put_text : (u n : ℕ) (e : Entered) (answer : ℕ) (row : List ℕ) → call_ends u e answer [] ≡ Put (slice_index e.arguments 1) (slice_index e.arguments 2) ∷ [] → row ≡ entry_row (Put (slice_index e.arguments 1) (slice_index e.arguments 2)) →
+    steps_row n ++ row ≡ journal_rows_after false n (call_ends u e answer [])
+put_text u n e answer row is r = ap (λ row. steps_row n ++ row) r ∙ sym (append-nil _) ∙ ap (journal_rows_after false n) (sym is)
 
 pub is_err : {T E P : Type 0} (r : Result T E) → P → OnErr r P
 is_err (Ok v) h = tt

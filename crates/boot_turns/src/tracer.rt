@@ -103,12 +103,59 @@ impl Tracer {
         if begun.cause <= 1 {
             return Ok(());
         }
-        put_after(
-            self.steps,
+        self.put(
             trap_row(begun.cause, begun.edata).as_str().as_bytes(),
             out,
-        )?;
+        )
+    }
+
+    /// Prints the row of the steps that have none yet, and then this one.
+    ///
+    /// # Errors
+    ///
+    /// A fault of the sink.
+    fn put<O: Sink>(&mut self, row: &[u8], out: &mut O) -> Result<(), SinkFault>
+        ensures ok { OnOk result (O.text out.new ≡ append_known (O.text out.old) (steps_text self.old.steps ++ row.now)) }
+        ensures err { OnErr result (AppendsPart (O.text out.old) (O.text out.new) (steps_text self.old.steps ++ row.now)) }
+        ensures steps { OnOk result (self.new ≡ record self.old { steps = 0 }) }
+        ensures count { Counts (O.faults out.old) (O.faults out.new) result }
+    {
+        put_after(self.steps, row, out)?;
         self.steps = 0;
+        Ok(())
+    }
+
+    /// Prints the row of a primitive that has returned with this answer: of a put of a register, of a size or of a word. The primitive
+    /// that copies words has other rows.
+    ///
+    /// # Errors
+    ///
+    /// A fault of the sink.
+    pub fn end_call<O: Sink>(
+        &mut self,
+        call: &Entered,
+        answer: u32,
+        out: &mut O,
+    ) -> Result<(), SinkFault>
+        requires no_copy { IsNoCopy call.now }
+        ensures ok { OnOk result (O.text out.new ≡ append_known (O.text out.old) (journal_rows_after false self.old.steps (call_ends self.old.user call.now answer []))) }
+        ensures err { OnErr result (AppendsPart (O.text out.old) (O.text out.new) (journal_rows_after false self.old.steps (call_ends self.old.user call.now answer []))) }
+        ensures steps { OnOk result (self.new ≡ record self.old { steps = steps_after self.old.steps (call_ends self.old.user call.now answer []) }) }
+        ensures count { Counts (O.faults out.old) (O.faults out.new) result }
+    {
+        let [user, second, third, _, _] = call.arguments;
+        if answer != 1 || user != self.user {
+            return Ok(());
+        }
+        if call.primitive == 1 {
+            return self.put(set_row(second, third).as_str().as_bytes(), out);
+        }
+        if call.primitive == 3 {
+            return self.put(size_row(second).as_str().as_bytes(), out);
+        }
+        if call.primitive == 5 {
+            return self.put(put_row(second, third).as_str().as_bytes(), out);
+        }
         Ok(())
     }
 }
