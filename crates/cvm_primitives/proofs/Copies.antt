@@ -76,7 +76,7 @@ module _ (w : World) (f : RoutineLaws w) (p : Places) (b : ℕ) (si : Sited p w)
       refuse (λ g. let g0 = g.0 in let g1 = g.1 in absurd (omega arith)) _ d (record { memory = refl; special = refl; r2 = refl; r22 = refl; r23 = refl; r26 = refl; r14 = refl; r28 = refl; r29 = refl; r30 = refl; r31 = refl; disk = refl })))
 
   -- ranges of two users are apart, so the numbers' ranges are apart exactly where the arguments' are
-  numbers_apart : (c : Contents) (u a v' b' n : ℕ) → UsersIn p users per size v c → RangeGood users size u a n → RangeGood users size v' b' n → (Apart (number per u a) (number per v' b') n → u ≡ v' → Apart (a / 4) (b' / 4) n) × ((u ≡ v' → Apart (a / 4) (b' / 4) n) → Apart (number per u a) (number per v' b') n)
+  pub numbers_apart : (c : Contents) (u a v' b' n : ℕ) → UsersIn p users per size v c → RangeGood users size u a n → RangeGood users size v' b' n → (Apart (number per u a) (number per v' b') n → u ≡ v' → Apart (a / 4) (b' / 4) n) × ((u ≡ v' → Apart (a / 4) (b' / 4) n) → Apart (number per u a) (number per v' b') n)
   numbers_apart c u a v' b' n us gu gv =
       let u0 = gu.0 in let u1 = gu.1 in let u3 = gu.3 in let v0 = gv.0 in let v1 = gv.1 in let v3 = gv.3 in
       let fu = us.fit u u0 u1 in let fv = us.fit v' v0 v1 in (
@@ -132,14 +132,14 @@ module _ (w : World) (f : RoutineLaws w) (p : Places) (b : ℕ) (si : Sited p w)
       (λ nay c1 d1 k1. refuse (λ g. nay g.source) c1 d1 k1.memory k1.special k1.r28 k1.r29 k1.r30 k1.r31 k1.r2 k1.disk)))
 
 -- a good range's words are live
-live_range : (p : Places) (users per : ℕ) (size : ℕ → ℕ) (v : Pages) (c : Contents) (u a n : ℕ) → UsersIn p users per size v c → RangeGood users size u a n → (j : ℕ) → j < n → v.live ((number per u a + j) / 1024) ≡ true
+pub live_range : (p : Places) (users per : ℕ) (size : ℕ → ℕ) (v : Pages) (c : Contents) (u a n : ℕ) → UsersIn p users per size v c → RangeGood users size u a n → (j : ℕ) → j < n → v.live ((number per u a + j) / 1024) ≡ true
 live_range p users per size v c u a n us g j lt =
     let g0 = g.0 in let g1 = g.1 in let g2 = g.2 in let g3 = g.3 in
     let k = number_good p users per size v c u (a + 4 * j) us (g0, g1, omega arith, omega arith) in
     let e : number per u (a + 4 * j) ≡ number per u a + j = omega arith in
     ap (λ z. v.live (z / 1024)) (sym e) ∙ k.1
 
-range_below : (p : Places) (users per : ℕ) (size : ℕ → ℕ) (v : Pages) (c : Contents) (u a n : ℕ) → UsersIn p users per size v c → RangeGood users size u a n → number per u a + n ≤ 1024 * p.layout.pages
+pub range_below : (p : Places) (users per : ℕ) (size : ℕ → ℕ) (v : Pages) (c : Contents) (u a n : ℕ) → UsersIn p users per size v c → RangeGood users size u a n → number per u a + n ≤ 1024 * p.layout.pages
 range_below p users per size v c u a n us g =
     let g0 = g.0 in let g1 = g.1 in let g3 = g.3 in let fit = us.fit u g0 g1 in let shape = us.shape in
     let bound = product_below (u - 1) users per (omega arith) in omega arith

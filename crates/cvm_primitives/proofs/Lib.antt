@@ -13,6 +13,7 @@ pub mod Piece
 pub mod Asks
 pub mod Access
 pub mod Copies
+pub mod Last
 pub mod Resize
 pub mod Users
 pub mod Emit

@@ -81,7 +81,7 @@ paid u l k a a1 a2 r h i j some =
 same_pieces : (x y n x' y' n' : ℕ) → x ≡ x' → y ≡ y' → n ≡ n' → pieces x y n ≡ pieces x' y' n'
 same_pieces x y n x' y' n' e h k = ap (λ z. pieces z y n) e ∙ ap (λ z. pieces x' z n) h ∙ ap (pieces x' y') k
 
-whole_cost : (u x y n : ℕ) → copy_cost u x y n 0 ≡ 3 * u * pieces x y n + 600 * n
+pub whole_cost : (u x y n : ℕ) → copy_cost u x y n 0 ≡ 3 * u * pieces x y n + 600 * n
 whole_cost u x y n = ap (λ z. 3 * u * z + 600 * (n - 0)) (same_pieces (x + 0) (y + 0) (n - 0) x y n (omega arith) (omega arith) (omega arith)) ∙ omega arith
 
 module _ (w : World) (f : RoutineLaws w) (p : Places) (b : ℕ) (code : List Inst) (short : length code + 2 ≤ 32768) (g : Start) (law : PieceLaw w p b code g) (v : Pages) (x y n : ℕ) (good : CopyGood p.layout v x y n) where
@@ -91,13 +91,13 @@ module _ (w : World) (f : RoutineLaws w) (p : Places) (b : ℕ) (code : List Ins
     pub most : m ≤ n
     pub marks : Marks (x + m) (y + m) (n - m) c
 
-  abbrev unit : ℕ
+  abbrev pub unit : ℕ
   unit = page_steps p.layout.pages b
 
-  abbrev long : ℕ → ℕ
+  abbrev pub long : ℕ → ℕ
   long m = piece (x + m) (y + m) (n - m)
 
-  rest_good : (m : ℕ) → m ≤ n → CopyGood p.layout (copied v x y m) (x + m) (y + m) (n - m)
+  pub rest_good : (m : ℕ) → m ≤ n → CopyGood p.layout (copied v x y m) (x + m) (y + m) (n - m)
   rest_good m le =
       let s = good.source in let t = good.target in record {
         source = omega arith;
@@ -107,7 +107,7 @@ module _ (w : World) (f : RoutineLaws w) (p : Places) (b : ℕ) (code : List Ins
         apart = ⊎_elim (λ h. inl (omega arith)) (λ h. inr (omega arith)) good.apart;
       }
 
-  turn : (m : ℕ) → m < n → Does w code (3 * unit + 600 * long m - 2) (Copying m) (Copying (m + long m))
+  pub turn : (m : ℕ) → m < n → Does w code (3 * unit + 600 * long m - 2) (Copying m) (Copying (m + long m))
   turn m lt =
       let t = fits (x + m) (y + m) (n - m) (omega arith) in
       let most = t.most in
@@ -120,7 +120,7 @@ module _ (w : World) (f : RoutineLaws w) (p : Places) (b : ℕ) (code : List Ins
       })
       (law (copied v x y m) (x + m) (y + m) (n - m) (omega arith) (rest_good m (omega arith)))
 
-  pays : (m : ℕ) → m < n → 3 * unit + 600 * long m - 2 + 2 + copy_cost unit x y n (m + long m) ≤ copy_cost unit x y n m
+  pub pays : (m : ℕ) → m < n → 3 * unit + 600 * long m - 2 + 2 + copy_cost unit x y n (m + long m) ≤ copy_cost unit x y n m
   pays m lt =
       let t = fits (x + m) (y + m) (n - m) (omega arith) in
       let most = t.most in

@@ -4,3 +4,4 @@ pub mod Code
 pub mod Laws
 pub mod Routines
 pub mod Calls
+pub mod Sharing

@@ -2,6 +2,7 @@
 ghost use Rattle.mips_table.specs.Code.{World, Sound};
 ghost use Rattle.cvm_primitives.specs.Routines.{RoutineLaws};
 ghost use Rattle.cvm_primitives.specs.Laws.{VmWord, VmPut, VmCopy, VmResize, PieceShares};
+ghost use Rattle.cvm_primitives.specs.Sharing.{CopyShares};
 ghost use Rattle.cvm_primitives.specs.Calls.{MemoryAnswers};
 
 use masm::laws::{a_condition_is_tested, a_loop_turns, runs_compose, straight_code_runs};
@@ -64,6 +65,15 @@ pub fn a_memory_is_resized()
 /// other pages named.
 pub fn a_piece_shares()
     ensures { (w : World) → Sound w → PieceShares w }
+{
+    routines_have_laws();
+    the_block_is_a_page_block();
+}
+
+/// A copy that ends with a whole page: in the end the target's last page names the source's frame, unless that was a user frame that four other
+/// pages named when the last piece began.
+pub fn the_last_page_is_shared()
+    ensures { (w : World) → Sound w → CopyShares w }
 {
     routines_have_laws();
     the_block_is_a_page_block();
