@@ -131,7 +131,7 @@ pub accept_fault : {X : Type 0} → OneAnswer → (layer : Layers) (view : X →
 accept_fault one layer view b image schedule r f e answers = elim (accept_stops f) [
   | inl m ↦ subst (λ (x : AcceptFault). IfRefused (IsPlan ⊤ (AfterFiles layer b image schedule)) (accept_stop x)) (sym m) tt
   | inr h ↦ subst (IfRefused (IsPlan ⊤ (AfterFiles layer b image schedule))) (sym h.1)
-            (plan_accepted one layer b image schedule (Err f) (image_refused layer view (image_of image) r f e h.0 answers))
+      (plan_accepted one layer b image schedule (Err f) (image_refused layer view (image_of image) r f e h.0 answers))
 ]
 
 -- THE SCHEDULE of an accepted image
@@ -155,7 +155,7 @@ pub schedule_fault : {X : Type 0} → OneAnswer → (layer : Layers) (view : X �
 schedule_fault one layer view b image schedule x f answers given = elim (schedule_stops f (schedule_of schedule) given) [
   | inl m ↦ subst (λ (g : ScheduleFault). IfRefused (IsPlan ⊤ (AfterFiles layer b image schedule)) (schedule_stop g)) (sym m) tt
   | inr h ↦ subst (IfRefused (IsPlan ⊤ (AfterFiles layer b image schedule))) (sym h.1)
-            (scheduled one layer b image schedule (view x) (Err f) (image_accepted layer view (image_of image) x answers) h.0)
+      (scheduled one layer b image schedule (view x) (Err f) (image_accepted layer view (image_of image) x answers) h.0)
 ]
 
 -- ALL IS READY

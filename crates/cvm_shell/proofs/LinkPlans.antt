@@ -1,5 +1,5 @@
 -- What the files of a system come to: each is got, read and linked, or the first fault is refused, and nothing else.
-use Rattle.std.proofs.Common.{◌≡◌, ◌≢◌, ◌⊎◌, inl, inr, ℕ, suc, ◌+◌, ◌<◌, ◌≤◌, List, [], ◌∷◌, ◌++◌, length, map, refl, sym, ap, ◌∙◌, subst, arith, append_assoc, append_nil, Ok, Err}
+use Rattle.std.proofs.Common.{◌≡◌, ◌≢◌, ◌⊎◌, inl, inr, ℕ, suc, ◌+◌, ◌<◌, ◌≤◌, List, [], ◌∷◌, ◌++◌, length, map, refl, sym, ap, ◌∙◌, subst, arith, append_assoc, append-nil, Ok, Err}
 use Rattle.std.specs.Prelude.{Option, Result, ⊤}
 use Rattle.std.specs.Option.{IsSome}
 use Rattle.cvm_outside.specs.Told.{TOO_LONG, Tells}
@@ -49,13 +49,13 @@ abbrev Layers : Type 0
 Layers = Map → List ℕ → List ℕ
 
 -- what doesn't fit is answered by its fault, whatever the source is
-unfolding link_answer
 unfit_answers : (layer : Layers) (o : Object) (p : Params) (us : List (List ℕ)) (front : Result CUnit SourceFault) (f : LinkFault) → fitting p us ≡ Err f → link_answer layer o p us front ≡ Err f
+unfolding link_answer
 unfit_answers layer o p us front f e = rw e refl
 
 -- what fits and has no unit is answered by the source's fault
-unfolding link_answer
 no_unit : (layer : Layers) (o : Object) (p : Params) (us : List (List ℕ)) (f : SourceFault) → fitting p us ≡ Ok tt → link_answer layer o p us (Err f) ≡ Err (link_source_fault f)
+unfolding link_answer
 no_unit layer o p us f e = rw e refl
 
 -- the answer is one
@@ -105,7 +105,7 @@ first_or_memory source (Typing (typing.EmptyArray s)) is = inr (record { fault =
 -- what the front came to, where it is not want of memory
 answer_or_memory : (source : List ℕ) (front : Result CUnit SourceFault) → Comes source front → ((f : SourceFault) × (front ≡ Err f) × (link_source_fault f ≡ linking.Memory)) ⊎ IsAnswer source front
 answer_or_memory source (Ok u) is = inr is
-answer_or_memory source (Err f) is = elim (first_or_memory source f is) [ | inl e ↦ inl (f, refl, e) | inr h ↦ inr h ]
+answer_or_memory source (Err f) is = elim (first_or_memory source f is) [ inl e ↦ inl (f, refl, e) | inr h ↦ inr h ]
 
 -- a fault of linking is want of memory, or it is refused
 link_stops : (f : LinkFault) → (f ≡ linking.Memory) ⊎ ((f ≢ linking.Memory) × (link_stop f ≡ Stops.Refused (by.Unlinked f)))
@@ -229,7 +229,7 @@ pub params_fault : (layer : Layers) (name : List ℕ) (o : Object) (users : List
 params_fault layer name o users r f e = elim (file_stops f) [
   | inl m ↦ subst (λ (x : FileFault). IfRefused (IsPlan ⊤ (AfterParams layer name o users r)) (file_stop x)) (sym m) tt
   | inr h ↦ subst (IfRefused (IsPlan ⊤ (AfterParams layer name o users r))) (sym h.1)
-            (subst (λ (x : Result Params FileFault). IsPlan ⊤ (AfterParams layer name o users x) (refuses (bad_file f))) (sym e) (record { comes = refl; only = λ t q k. k }))
+      (subst (λ (x : Result Params FileFault). IsPlan ⊤ (AfterParams layer name o users x) (refuses (bad_file f))) (sym e) (record { comes = refl; only = λ t q k. k }))
 ]
 
 pub plan_params : (layer : Layers) (name : List ℕ) (o : Object) (users : List (List ℕ)) (r : Result Params FileFault) (params : Params) (p : Plan) → r ≡ Ok params
@@ -243,7 +243,7 @@ pub users_fault : (layer : Layers) (name : List ℕ) (o : Object) (params : Para
 users_fault layer name o params r f e = elim (file_stops f) [
   | inl m ↦ subst (λ (x : FileFault). IfRefused (IsPlan ⊤ (AfterUsers layer name o params r)) (file_stop x)) (sym m) tt
   | inr h ↦ subst (IfRefused (IsPlan ⊤ (AfterUsers layer name o params r))) (sym h.1)
-            (subst (λ (x : Result (List (List ℕ)) FileFault). IsPlan ⊤ (AfterUsers layer name o params x) (refuses (bad_file f))) (sym (e h.0)) (record { comes = refl; only = λ t q k. k }))
+      (subst (λ (x : Result (List (List ℕ)) FileFault). IsPlan ⊤ (AfterUsers layer name o params x) (refuses (bad_file f))) (sym (e h.0)) (record { comes = refl; only = λ t q k. k }))
 ]
 
 pub plan_users : (layer : Layers) (name : List ℕ) (o : Object) (params : Params) (r : Result (List (List ℕ)) FileFault) (users : List (List ℕ)) (p : Plan) → r ≡ Ok users

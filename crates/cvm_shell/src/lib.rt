@@ -20,7 +20,10 @@ pub mod status;
 
 pub use assembly::{user_image, words_have_four_bytes};
 pub use boot::{Ready, Stop, plan, run_system};
-pub use command::{Boot, Command, CompileKernel, CompileUser, Link, read_boot, read_command, read_compile_kernel, read_compile_user, read_link};
+pub use command::{
+    Boot, Command, CompileKernel, CompileUser, Link, read_boot, read_command, read_compile_kernel,
+    read_compile_user, read_link,
+};
 use cvm_outside::{Sectors, Shelf, Sink};
 use layer_runs::RealLayer;
 pub use linking::system_image;
@@ -138,22 +141,17 @@ fn compile_kernel<S: Shelf, O: Sink>(
 }
 
 // Puts the image of a system, whose object, parameters and users are got, read and linked.
-fn link_system<S: Shelf, O: Sink>(
-    alloc: Global,
-    names: &Link,
-    shelf: &mut S,
-    out: &mut O,
-) -> Status
+fn link_system<S: Shelf, O: Sink>(alloc: Global, names: &Link, shelf: &mut S, out: &mut O) -> Status
     ensures ends { EndsAs (command.link (link_view names.now)) (beside S.Shelf O.Sink) result (shelf.old, out.old) (shelf.new, out.new) }
     ensures causes { (disk : Drive) → Causes (beside S.Shelf O.Sink disk) result (shelf.old, out.old) (shelf.new, out.new) }
 {
-    let image = match system_image::<RealLayer, S>(alloc, names, shelf) {
-        Ok(image) => image,
+    let linked = match system_image::<RealLayer, S>(alloc, names, shelf) {
+        Ok(linked) => linked,
         Err(Stop::Refused(refusal)) => return refuse(&refusal, out),
         Err(Stop::Shelf) => return Status::Shelf,
         Err(Stop::Memory) => return Status::Memory,
     };
-    match shelf.put(names.image, &image) {
+    match shelf.put(names.image, &linked) {
         Ok(()) => Status::Done,
         Err(_) => Status::Shelf,
     }

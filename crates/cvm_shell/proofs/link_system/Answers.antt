@@ -33,10 +33,10 @@ returns-in-Err-Memory-clause-ends g c = λ words disk is.
 
 pub returns-in-Ok-put-clause-ends : goal.returns-in-Ok-put-clause-ends
 returns-in-Ok-put-clause-ends g c = λ words disk is.
-    put_end words (link (link_view c.args.names.now)) (link_view c.args.names.now).image c.deref.result.now c.in-Ok.image.items (files g.S.Shelf c.system_image.new.shelf) _ _ is c.in-Ok.ensures.comes (none_long _ _ c.in-Ok.ensures.long)
+    put_end words (link (link_view c.args.names.now)) (link_view c.args.names.now).image c.deref.result.now c.in-Ok.linked.items (files g.S.Shelf c.system_image.new.shelf) _ _ is c.in-Ok.ensures.comes (none_long _ _ c.in-Ok.ensures.long)
     (record { before = c.in-Ok.ensures.files; others = c.in-Ok-put.ensures.others; taken = c.in-Ok-put.ensures.taken }) c.deref.ensures.value refl (record { sectors = refl; size = refl }) c.in-Ok-put.ensures.bytes
 
 pub returns-clause-ends : goal.returns-clause-ends
 returns-clause-ends g c = λ words disk is.
-    put_broken words (link (link_view c.args.names.now)) (link_view c.args.names.now).image c.deref.result.now c.in-Ok.image.items (files g.S.Shelf c.system_image.new.shelf) _ _ is c.in-Ok.ensures.comes (none_long _ _ c.in-Ok.ensures.long)
+    put_broken words (link (link_view c.args.names.now)) (link_view c.args.names.now).image c.deref.result.now c.in-Ok.linked.items (files g.S.Shelf c.system_image.new.shelf) _ _ is c.in-Ok.ensures.comes (none_long _ _ c.in-Ok.ensures.long)
     (record { before = c.in-Ok.ensures.files; others = c.in-Err.ensures.others; taken = c.in-Err.ensures.taken }) c.deref.ensures.value refl (record { sectors = refl; size = refl }) c.in-Err.ensures.part
