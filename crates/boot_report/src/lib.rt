@@ -10,5 +10,5 @@ mod users;
 
 pub use fault::ReportFault;
 pub use globals::{put_global, put_globals};
-pub use laws::{a_global_tells, the_rows_tell};
+pub use laws::{a_global_tells, the_globals_tell, the_rows_tell};
 pub use users::{put_log, put_users};

@@ -1,13 +1,13 @@
 -- The rows of a turn.
-use Rattle.std.proofs.Common.{◌≡◌, ℕ, suc, Option, Some, None, List, refl, sym, ap, ◌∙◌, subst}
+use Rattle.std.proofs.Common.{◌≡◌, ℕ, Option, Some, None, List, refl, sym, ap, ◌∙◌, subst}
 use Rattle.std.specs.Prelude.{bit_or, length}
 use Rattle.mips_table.specs.Device.{Outside}
 use Rattle.mips_table.specs.Turns.{lines_of}
 use Rattle.c0_meaning.specs.State.{State as C0}
 use Rattle.cvm_model.specs.declared.row.Next.TheVariants.{User, Fault}
 use Rattle.cvm_model.specs.declared.kernel_fault.KernelFault.{KernelFault}
-use Rattle.cvm_model.specs.Kernel.{Core, Outcome, End, Answers, Faults, NotYet}
-use Rattle.cvm_model.specs.Cvm.{System, Running, Cvm, IsCvm, Begin, Steps, Traps, Interrupts, begin, begun, next_of, core_of, after_dispatch, dispatch_of, turn, turn_by, cvm}
+use Rattle.cvm_model.specs.Kernel.{Outcome, End, Answers, Faults, NotYet}
+use Rattle.cvm_model.specs.Cvm.{System, Running, Cvm, Begin, Steps, Traps, Interrupts, begin, begun, next_of, core_of, after_dispatch, dispatch_of, turn, turn_by, cvm}
 use Rattle.layer_contract.specs.Follows.{loaded}
 use Rattle.boot_turns.specs.Headline.{RowAdded, RowsGrow, TurnRows}
 use Rattle.boot_turns.proofs.Units.{one_cvm}

@@ -22,7 +22,7 @@ use Rattle.boot_turns.proofs.Whole.{on_back, onward_on, forward}
 true_false : (b : Bool) → b ≡ true → b ≡ false → ⊥
 true_false b e f = cc
 
-stood_rests : (x : Outside) (y : System) (old : List (List ℕ)) (k t : ℕ) (c : Cvm) → Stood x y old (suc k) t c → rests (machine x y old t) ≡ true
+pub stood_rests : (x : Outside) (y : System) (old : List (List ℕ)) (k t : ℕ) (c : Cvm) → Stood x y old (suc k) t c → rests (machine x y old t) ≡ true
 stood_rests x y old k t c st = by c.status st.rests.0
   where
     by : (b : Status) → Rests b (machine x y old t) → rests (machine x y old t) ≡ true

@@ -1,6 +1,7 @@
 pub mod Stepping
 pub mod Counting
 pub mod Stretches
+pub mod Sectors
 pub mod Units
 pub mod Dispatching
 pub mod Turning
@@ -11,3 +12,13 @@ pub mod Opening
 pub mod Joining
 pub mod Advancing
 pub mod Growing
+pub mod Entering
+pub mod UnderWay
+pub mod Journals
+pub mod Calling
+pub mod Calls
+pub mod Showing
+pub mod JournalRows
+pub mod Tracing
+pub mod SetRow
+pub mod Puts

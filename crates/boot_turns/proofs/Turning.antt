@@ -8,7 +8,7 @@ use Rattle.std.proofs.lemmas.Bool.{cond_both, cond-true, cond-false, cases_lt}
 use Rattle.mips_table.specs.declared.cause.Cause.{Cause}
 use Rattle.mips_table.specs.declared.cause.Cause.TheVariants as causes
 use Rattle.mips_table.specs.Arith.{signed}
-use Rattle.mips_table.specs.Device.{Outside, LinesEnd}
+use Rattle.mips_table.specs.Device.{Device, Outside, LinesEnd, sector_of}
 use Rattle.mips_table.specs.Processor.{Cpu}
 use Rattle.mips_table.specs.Flat.{Flat, VStep, Next as Goes, Trap, vstep}
 use Rattle.mips_table.specs.Machine.{State, Interrupt, coming, latched, number_of, MODE, ECA, EDATA, run, step}
@@ -23,13 +23,14 @@ use Rattle.cvm_model.specs.TypedKernel.{StaysTyped}
 use Rattle.cvm_model.specs.Cvm.{System, map_of, Running, Cvm, Begin, Steps, Traps, Interrupts, user_step, begin, next_of, core_of, page_steps, reset_steps, enter_steps, leave_steps, run_steps, turn_steps, dispatch_of, dispatched, after_dispatch, begun, turn_by, turn, cvm, IsCvm, first_cvm}
 use Rattle.cvm_model.specs.Stands.{Site, Stands, runs_user, CoreFits}
 use Rattle.layer_contract.specs.Layer.{Inside, Comes, IsEntry, DispatchCalled, BusyWithin, Rests, Back, Settles, with_epc}
+use Rattle.layer_contract.specs.Calls.{entered}
 use Rattle.layer_contract.specs.Follows.{site_of, loaded, machine, FirstCall, BeginsAs}
 use Rattle.layer_contract.specs.Users.{UserStepsLinked}
 use Rattle.boot_turns.specs.Completes.{note, ShownAs}
 use Rattle.boot_turns.specs.TurnEnds.{Stood}
-use Rattle.boot_turns.proofs.Stepping.{both_left, both_right, on_of, inside_rests, user_rests, user_begins, reset_begins, reset_mask, none_pending, external_mask, taken_special}
+use Rattle.boot_turns.proofs.Stepping.{Plain, instruction_plain, comes_plainly, both_left, both_right, on_of, inside_rests, user_rests, user_begins, reset_begins, reset_mask, reset_device, none_pending, external_mask, taken_special}
 use Rattle.boot_turns.proofs.Counting.{turn_more, still, completes_at}
-use Rattle.boot_turns.proofs.Stretches.{Passed, times, Settled, settled}
+use Rattle.boot_turns.proofs.Stretches.{Stays, user_sectors, Passed, times, Settled, settled}
 use Rattle.boot_turns.proofs.Units.{one_cvm, cvm_more, cvm_next}
 use Rattle.boot_turns.proofs.Dispatching.{mask_begins, none_yet, Closed, Known, Came, dispatches}
 
@@ -51,8 +52,8 @@ pub record Given (x : Outside) (y : System) (old : List (List ℕ)) (Typed : C0 
 -- what begins at the step before
 abbrev pub BegunAs : Outside → System → State → ℕ → Begin → Type 0
 BegunAs x y s enter (Steps after) = Stands x (site_of y.boot) s Running after × (runs_user s ≡ true) × (s.mask ≡ 0)
-BegunAs x y s enter (Traps cause edata at) = Comes x (site_of y.boot) IsEntry enter s (DispatchCalled x (site_of y.boot) at (pos cause) (signed edata) (pos at.current)) × (s.mask ≡ 0) × (cause < 9)
-BegunAs x y s enter (Interrupts cause edata at pending) = Comes x (site_of y.boot) IsEntry enter s (DispatchCalled x (site_of y.boot) at (pos cause) (signed edata) (pos at.current)) × (s.mask ≡ pending) × (cause < 9)
+BegunAs x y s enter (Traps cause edata at) = Comes x (site_of y.boot) IsEntry enter s (DispatchCalled x (site_of y.boot) at (pos cause) (signed edata) (pos at.current)) × (s.mask ≡ 0) × (cause < 9) × (1 < cause)
+BegunAs x y s enter (Interrupts cause edata at pending) = Comes x (site_of y.boot) IsEntry enter s (DispatchCalled x (site_of y.boot) at (pos cause) (signed edata) (pos at.current)) × (s.mask ≡ pending) × (cause < 9) × (cause ≤ 1)
 
 -- turn k begins, from step t on
 pub record Beginning (x : Outside) (y : System) (old : List (List ℕ)) (k t : ℕ) (c : Cvm) : Type 0 where
@@ -64,6 +65,9 @@ pub record Beginning (x : Outside) (y : System) (old : List (List ℕ)) (k t : �
   pub none : (j : ℕ) → t ≤ j → j < start → begins x (machine x y old j) ≡ false
   pub few : faults_before x (loaded y old) start ≤ faults_before x (loaded y old) t + 2
   pub between : (j : ℕ) → t ≤ j → j ≤ start → complete x (loaded y old) j ≡ k
+  pub stays : (j : ℕ) → t ≤ j → j ≤ start → Stays x (user_sectors (site_of y.boot)) (loaded y old) j
+  pub quiet : (j : ℕ) → t < j → j ≤ start → entered 10 (machine x y old j) ≡ None
+  pub current : 0 < k → slice_index (machine x y old start).memory 1024 ≡ c.core.current
   pub on : (machine x y old start).off ≡ None
   pub begin_here : begins x (machine x y old start) ≡ true
   pub calm : handled x (machine x y old start) ≡ false
@@ -79,6 +83,7 @@ pub record Onward (x : Outside) (y : System) (old : List (List ℕ)) (Typed : C0
   pub to : beginning.start < end
   pub inside : (j : ℕ) → beginning.start < j → j < end → Inside (machine x y old j)
   pub between : (j : ℕ) → t ≤ j → j < end → complete x (loaded y old) j ≡ k
+  pub stays : (j : ℕ) → t ≤ j → j < end → Stays x (user_sectors (site_of y.boot)) (loaded y old) j
   pub stood : Stood x y old (suc k) end after
   pub typed : Typed after.core.c0
   pub within : t ≤ c.bound → end ≤ after.bound
@@ -91,6 +96,7 @@ pub record Stuck (x : Outside) (y : System) (old : List (List ℕ)) (k t n : ℕ
   pub undefined : turn_by y units k (lines_of x (loaded y old) k) c Running ≡ None
   pub inside : (j : ℕ) → beginning.start < j → j ≤ n → Inside (machine x y old j)
   pub between : (j : ℕ) → t ≤ j → j ≤ n → complete x (loaded y old) j ≡ k
+  pub stays : (j : ℕ) → t ≤ j → j < n → Stays x (user_sectors (site_of y.boot)) (loaded y old) j
 
 -- the pc of the machine is that of the current user
 epc_stays : (c : Core) (epc : ℕ) → epc ≡ (user_of c.users c.current).cpu.pc → with_epc c epc ≡ c
@@ -119,6 +125,21 @@ steps_calm k c m b e = by (m == 0) refl
 trap_calm : (k : ℕ) (c : Core) (m cause edata : ℕ) (at : Core) → begin (suc k) c m ≡ Traps cause edata at → m ≡ 0
 trap_calm k c m cause edata at e = ⊎_elim (λ z. z) (λ f. absurd (cc)) (steps_calm k c m (Traps cause edata at) e)
 
+-- with no line pending, an interrupt of a user is no external one
+plain_late : (before : State) (why : Cause) (edata epc : ℕ) → Plain (Interrupt before why edata epc) → 1 < number_of why
+plain_late before causes.Reset edata epc h = absurd h
+plain_late before causes.External edata epc h = absurd h
+plain_late before causes.FetchAlign edata epc h = omega arith
+plain_late before causes.FetchFault edata epc h = omega arith
+plain_late before causes.Illegal edata epc h = omega arith
+plain_late before causes.Overflow edata epc h = omega arith
+plain_late before causes.Syscall edata epc h = omega arith
+plain_late before causes.DataAlign edata epc h = omega arith
+plain_late before causes.DataFault edata epc h = omega arith
+
+trap_late : (x : Outside) (s before : State) (why : Cause) (edata epc : ℕ) → s.reset ≡ false → (latched x s).mask ≡ 0 → coming x (latched x s) ≡ Interrupt before why edata epc → 1 < number_of why
+trap_late x s before why edata epc r z e = plain_late before why edata epc (subst Plain (sym (comes_plainly x s r z) ∙ e) (instruction_plain x (latched x s)))
+
 plus_right : (a b e : ℕ) → a ≤ b → a + e ≤ b + e
 plus_right a b e h = omega (arith, h)
 
@@ -136,6 +157,7 @@ from_user x y s c k m on back calm same enters (Traps cause edata at) e (before,
       (subst (λ n. Comes x (site_of y.boot) IsEntry enter_steps (step x s) (DispatchCalled x (site_of y.boot) (with_epc c epc) (pos n) (signed edata) (pos c.current))) number (enters before why edata epc comes)),
   none_pending x s on (same ∙ trap_calm k c m cause edata at e),
   subst (λ n. n < 9) number (number_small why),
+  subst (λ n. 1 < n) number (trap_late x s before why edata epc back.stands.no_reset (same ∙ trap_calm k c m cause edata at e) comes),
 )
 from_user x y s c k m on back calm same enters (Interrupts cause edata at pending) e (comes, one, is, none) =
     let pc : s.cpu.pc ≡ (user_of c.users c.current).cpu.pc = ap (λ (u : Cpu). u.pc) (back.stands.users.runs back.user).cpu in
@@ -144,6 +166,7 @@ from_user x y s c k m on back calm same enters (Interrupts cause edata at pendin
           (subst (λ n. Comes x (site_of y.boot) IsEntry enter_steps (step x s) (DispatchCalled x (site_of y.boot) (with_epc c s.cpu.pc) (pos n) (signed edata) (pos c.current))) (sym one) (enters (latched x s) causes.External edata s.cpu.pc comes)),
       external_mask x s (latched x s) edata s.cpu.pc on comes ∙ sym none,
       subst (λ n. n < 9) (sym one) (omega arith),
+      subst (λ n. n ≤ 1) (sym one) (omega arith),
     )
 
 -- what that step shows
@@ -166,7 +189,7 @@ both_no true = refl
 both_no false = refl
 
 -- the data with which a turn begins
-abbrev DataOf : Core → Begin → Type 0
+abbrev pub DataOf : Core → Begin → Type 0
 DataOf c (Steps after) = after.c0 ≡ c.c0
 DataOf c (Traps cause edata at) = at.c0 ≡ c.c0
 DataOf c (Interrupts cause edata at pending) = at.c0 ≡ c.c0
@@ -187,7 +210,7 @@ signed_fits n = by (nat_lt n (2 ^ 31)) refl
     by true e = let lt : n < 2 ^ 31 = ltb-true n (2 ^ 31) e in rw e (record { sfits = omega (arith, lt) })
     by false e = let ge : 2 ^ 31 ≤ n = ltb-false n (2 ^ 31) e in rw e (record { sfits = omega (arith, ge) })
 
-called_inside : (x : Outside) (y : Site) (n : ℕ) (s : State) (c : Core) (cause edata user : ℤ) → Comes x y IsEntry n s (DispatchCalled x y c cause edata user) → Inside s
+pub called_inside : (x : Outside) (y : Site) (n : ℕ) (s : State) (c : Core) (cause edata user : ℤ) → Comes x y IsEntry n s (DispatchCalled x y c cause edata user) → Inside s
 called_inside x y n s c cause edata user a = by a.steps refl
   where
     by : (k : ℕ) → a.steps ≡ k → Inside s
@@ -226,12 +249,15 @@ module _ (x : Outside) (y : System) (old : List (List ℕ)) (Typed : C0 → Type
     none = λ j a b. absurd (omega arith);
     few = omega arith;
     between = λ j a b. let d : 0 ≡ j = omega arith in subst (λ i. complete x s i ≡ 0) d refl;
+    stays = λ j a b. let d : 0 ≡ j = omega arith in subst (Stays x (user_sectors site) s) d (record { sectors = λ q le. ap (λ (d : Device). sector_of d.sectors q) (reset_device x s refl refl refl) });
+    quiet = λ j a b. absurd (omega arith);
+    current = λ a. absurd (omega arith);
     on = refl;
     begin_here = reset_begins x s refl refl;
     calm = new_calm x s refl;
     turn = refl;
     shows = reset_shows x s (first_cvm y).core (bit_or (first_cvm y).pending (lines 0)) refl refl;
-    comes = (g.first, reset_mask x s refl refl ∙ mask_begins x s g.lines refl 0 0 0 (record { turn = refl; mask = refl }) refl (reset_begins x s refl refl), omega arith);
+    comes = (g.first, reset_mask x s refl refl ∙ mask_begins x s g.lines refl 0 0 0 (record { turn = refl; mask = refl }) refl (reset_begins x s refl refl), omega arith, omega arith);
   })
 
   -- a user's step begins turn k + 1
@@ -248,7 +274,8 @@ module _ (x : Outside) (y : System) (old : List (List ℕ)) (Typed : C0 → Type
           let user = both_right (is_on (run x s u)) (in_user (run x s u)) r.back.user in
           let begin_here : begins x (run x s u) ≡ true = user_begins x (run x s u) on user r.back.stands.no_reset ∙ ap not r.calm in
           let mask : (latched x (run x s u)).mask ≡ bit_or c.pending (lines (suc k)) = mask_begins x s g.lines refl (suc k) c.pending u r.way on begin_here in
-          let follows = (g.users x site (run x s u) c.core k g.range g.linked r.back r.calm).0 in
+          let steps = g.users x site (run x s u) c.core k g.range g.linked r.back r.calm in
+          let follows = steps.0 in
           let le : 1 ≤ page_steps (map_of y.boot) y.longest = omega arith in
           record {
             start = u;
@@ -259,6 +286,9 @@ module _ (x : Outside) (y : System) (old : List (List ℕ)) (Typed : C0 → Type
             none = r.none;
             few = r.few;
             between = r.between;
+            stays = λ j l h. ⊎_elim (λ (lt : j < u). r.stays j l lt) (λ (ge : u ≤ j). let d : u ≡ j = omega arith in subst (Stays x (user_sectors site) s) d (record { sectors = steps.1 })) (cases_lt j u);
+            quiet = r.quiet;
+            current = λ _. r.back.stands.users.current refl;
             on = on;
             begin_here = begin_here;
             calm = r.calm;
@@ -283,7 +313,7 @@ module _ (x : Outside) (y : System) (old : List (List ℕ)) (Typed : C0 → Type
   }
 
   -- the data of a begun turn is that before it
-  same_data : (k : ℕ) (c : Core) (m : ℕ) (b : Begin) → begin k c m ≡ b → DataOf c b
+  pub same_data : (k : ℕ) (c : Core) (m : ℕ) (b : Begin) → begin k c m ≡ b → DataOf c b
   same_data zero c m b e = subst (DataOf c) e refl
   same_data (suc k) c m b e = subst (DataOf c) e (cond_both (m == 0) (user_step c (vstep (user_of c.users c.current))) (Interrupts 1 m c 0) (DataOf c) (λ _. stepped_data c (vstep (user_of c.users c.current))) (λ _. refl))
 
@@ -316,6 +346,7 @@ module _ (x : Outside) (y : System) (old : List (List ℕ)) (Typed : C0 → Type
         to = let w = r.to in omega (arith, w);
         inside = λ j l h. r.inside j l h;
         between = λ j l h. ⊎_elim (λ (lt : j < suc b.start). b.between j l (omega arith)) (λ (ge : suc b.start ≤ j). r.between j ge h) (cases_lt j (suc b.start));
+        stays = λ j l h. ⊎_elim (λ (lt : j < suc b.start). b.stays j l (omega arith)) (λ (ge : suc b.start ≤ j). r.stays j ge h) (cases_lt j (suc b.start));
         stood = record {
           cvm = record { units = n; is = ap (turn y n k (lines k)) here ∙ ap (turn_by y n k (lines k) c) running ∙ turns (Some (dispatched y c k cause edata at.current pending (dispatch_of y n cause edata at) next)) e };
           turn = r.way.turn;
@@ -334,9 +365,10 @@ module _ (x : Outside) (y : System) (old : List (List ℕ)) (Typed : C0 → Type
         units = n;
         many = omega (arith, enough);
         undefined = turns None (ap (after_dispatch y c k cause edata at.current pending (dispatch_of y n cause edata at)) e);
-        inside = λ j l h. r j l (omega (arith, h, enough));
+        inside = λ j l h. (r j l (omega (arith, h, enough))).0;
+        stays = λ j l h. ⊎_elim (λ (lt : j < suc b.start). b.stays j l (omega arith)) (λ (ge : suc b.start ≤ j). (r m (omega arith) (omega (arith, enough))).1 j ge h) (cases_lt j (suc b.start));
         between = λ j l h. ⊎_elim (λ (lt : j < suc b.start). b.between j l (omega arith))
-            (λ (ge : suc b.start ≤ j). still x s (suc b.start) j ge (λ i d f. inside_rests _ (r i (omega arith) (omega (arith, h, enough)))) ∙ all) (cases_lt j (suc b.start));
+            (λ (ge : suc b.start ≤ j). still x s (suc b.start) j ge (λ i d f. inside_rests _ (r i (omega arith) (omega (arith, h, enough))).0) ∙ all) (cases_lt j (suc b.start));
       })
 
   -- a turn from where the machine stands: complete, or not by step m
@@ -362,6 +394,7 @@ module _ (x : Outside) (y : System) (old : List (List ℕ)) (Typed : C0 → Type
             to = omega arith;
             inside = λ j l h. absurd (omega arith);
             between = λ j l h. b.between j l (omega arith);
+            stays = λ j l h. b.stays j l (omega arith);
             stood = record {
               cvm = record { units = n; is = cvm_next y g.meaning lines n k c (record c { core = after; pending = 0; bound = c.bound + turn_steps (map_of y.boot) y.longest }) (Steps after) here running e refl };
               turn = w.turn;

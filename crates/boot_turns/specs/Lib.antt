@@ -5,3 +5,6 @@ pub mod Samples
 pub mod Rows
 pub mod Completes
 pub mod Advances
+pub mod TypedRuns
+pub mod Entries
+pub mod JournalText

@@ -1,12 +1,11 @@
 -- Where the machine of a boot stands between turns, what one turn does, and the text that is printed.
-use Rattle.std.specs.Prelude.{◌≡◌, ◌≢◌, true, false, ℕ, zero, suc, ◌+◌, ◌<◌, ◌≤◌, ◌⊎◌, Option, Some, None, List, [], ◌∷◌, ◌++◌, length, take, Result, Ok, Err, MatchResult}
+use Rattle.std.specs.Prelude.{◌≡◌, true, false, ℕ, zero, suc, ◌+◌, ◌<◌, ◌≤◌, None, List, [], ◌++◌, length, take}
 use Rattle.mips_table.specs.Device.{Outside}
-use Rattle.mips_table.specs.Machine.{State}
 use Rattle.mips_table.specs.Turns.{begins}
 use Rattle.mips_table.specs.Flat.{Flat}
 use Rattle.cvm_model.specs.Kernel.{JournalEntry}
 use Rattle.cvm_model.specs.Primitives.{user_of}
-use Rattle.cvm_model.specs.Cvm.{System, Status, Running, Halted, Faulted, Cvm, first_core, IsCvm}
+use Rattle.cvm_model.specs.Cvm.{System, Status, Faulted, Cvm, first_core, IsCvm}
 use Rattle.cvm_model.specs.Text.{rows_text, boot_text, journal_rows, open_journal_rows, start_row, trace_text}
 use Rattle.mips_table.specs.Turns.{turn_of, complete, gathered, lines_of, faults_before}
 use Rattle.cvm_model.specs.Stands.{StandsFor}

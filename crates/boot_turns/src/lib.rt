@@ -6,11 +6,16 @@
 ghost use Rattle.c0_tree.specs.Tree.{CUnit};
 ghost use Rattle.c0_meaning.specs.TypedState.{IsTypedState};
 ghost use Rattle.boot_turns.specs.Headline.{MachinesRun};
+ghost use Rattle.boot_turns.specs.TypedRuns.{RunsStayTyped};
+ghost use Rattle.boot_turns.specs.Entries.{TracesGrow};
+ghost use Rattle.boot_turns.specs.JournalText.{RowsFollow};
 
 mod answers;
 pub mod completion;
+pub mod journal_text;
 pub mod row_text;
 mod rows;
+pub mod tracer;
 
 pub use answers::{RunFault, Turn, View};
 use cvm_model::users_are_isolated;
@@ -28,3 +33,25 @@ pub fn machines_run()
     turns_are_counted();
     users_are_isolated();
 }
+
+/// A law: the kernel's data is typed after every number of turns for which the CVM run of a boot is defined.
+pub fn runs_stay_typed()
+    ensures { (u : CUnit) → RunsStayTyped (IsTypedState u) }
+{
+    the_loaded_machine_resets();
+    users_follow_linked();
+}
+
+/// A law: of a user nothing is shown before the first step, and each step of a machine that is on adds its entries to what is shown: those
+/// with which a turn begins, and those of a primitive that returns.
+pub fn traces_grow()
+    ensures { (u : CUnit) → TracesGrow (IsTypedState u) }
+{
+    the_loaded_machine_resets();
+    users_follow_linked();
+}
+
+/// A law: the rows of a journal stay as it grows, and the last steps have theirs at its end.
+pub fn journal_rows_follow()
+    ensures { RowsFollow }
+{}

@@ -7,15 +7,13 @@
 // - `names`, `sizes`: its tree with what each name stands for, or the words of each function's frame;
 // - `offsets`: where its globals, each function's parameters and locals, and each struct's fields begin, in words;
 // - `structs`: the words of its structs, up to 1,048,577, and whether they hold themselves, typed or not;
-// - `asm`: the words of an asm text, and its first line that is not allowed;
-// - `first`, `first-tokens`: what the reader of the first kernels answers.
+// - `asm`: the words of an asm text, and its first line that is not allowed.
 //
 // A source that is refused is answered by the refusal of docs/C0.md in place of that.
 #![tactic(auto)]
 
 mod answers;
 mod faults;
-mod first;
 mod offsets;
 mod structs;
 mod tokens;
@@ -42,8 +40,6 @@ fn put_answer(alloc: Global, out: &mut String, case: &Case) -> Result<(), AllocE
         "offsets" => offsets::put_offsets(alloc, out, source),
         "structs" => structs::put_structs(alloc, out, source),
         "asm" => answers::put_asm(alloc, out, source),
-        "first" => first::put_first(alloc, out, source),
-        "first-tokens" => first::put_first_tokens(alloc, out, source),
         _ => out.push_str("no such kind\n"),
     }
 }

@@ -108,6 +108,8 @@ impl<R: Files + Drop> Sectors for FileSectors<R> {
             Err(_) => Err(self.fault()),
         }
     }
+
+    fn are_sectors(&self) {}
 }
 
 /// Fills the buffer as far as the file goes, and leaves zeros past its end.

@@ -1,8 +1,8 @@
 // A disk in memory.
-ghost use Rattle.std.specs.Prelude.{slice_set, slice_index_or, ◌≡◌, ◌<◌, ◌≤◌, is_err, length, replicate, refl, Some, IfOk, OnOk, OnErr, List, ℕ, []};
+ghost use Rattle.std.specs.Prelude.{All, slice_set, slice_index_or, ◌≡◌, ◌<◌, ◌≤◌, ◌^◌, is_err, length, replicate, refl, Some, IfOk, OnOk, OnErr, List, ℕ, []};
 ghost use Rattle.cvm_outside.specs.Causes.{Counts};
 ghost use Rattle.cvm_outside.specs.Numbering.{fresh, is_listed, after_call};
-ghost use Rattle.cvm_outside.specs.Told.{Tells, sector_of, with_sector};
+ghost use Rattle.cvm_outside.specs.Told.{IsSector, Tells, sector_of, with_sector};
 
 use crate::calls::Calls;
 use crate::{DiskFault, Sectors};
@@ -18,14 +18,15 @@ pub struct MemSectors {
 }
 
 impl Model for MemSectors {
-    ghost use Rattle.std.specs.Prelude.{◌≡◌, vec_len};
+    ghost use Rattle.std.specs.Prelude.{◌≡◌, All, vec_len};
     ghost use Rattle.cvm_outside.specs.Memory.{Disk};
+    ghost use Rattle.cvm_outside.specs.Told.{IsSector};
 
     ghost Value = { Disk };
 
     ghost view = { λ s. record { sectors = s.sectors.items; calls = s.calls } };
 
-    ghost invariant = { λ s. vec_len s.sectors ≡ s.count };
+    ghost invariant = { λ s. (vec_len s.sectors ≡ s.count) × All IsSector s.sectors.items };
 }
 
 impl MemSectors {
@@ -104,12 +105,24 @@ impl Sectors for MemSectors {
             self.calls.count_fault();
             return Err(DiskFault::Failed);
         }
+        is_whole(from);
         self.sectors[i as usize] = *from;
         Ok(())
     }
+
+    fn are_sectors(&self) {
+        let _all = &self.sectors;
+    }
 }
 
-/// Tells proofs that an array has as many words as its type says.
+/// Tells proofs that an array of 1,024 words is a sector.
 fn is_whole(words: &[u32; 1024])
-    ensures { length words.now ≡ 1024 }
+    ensures { IsSector words.now }
+{
+    are_words(words);
+}
+
+/// Tells proofs that words are in the range of their type.
+fn are_words(words: &[u32])
+    ensures { All (λ w. w < 2 ^ 32) words.now }
 {}

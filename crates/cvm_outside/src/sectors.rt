@@ -1,7 +1,7 @@
 // A disk of sectors of 1,024 words.
-ghost use Rattle.std.specs.Prelude.{IfSome, length, ◌≡◌, ◌<◌, ◌≢◌, ℕ, List, Option, OnOk, OnErr};
+ghost use Rattle.std.specs.Prelude.{All, IfSome, length, ◌≡◌, ◌<◌, ◌≢◌, ℕ, List, Option, OnOk, OnErr};
 ghost use Rattle.cvm_outside.specs.Causes.{Counts};
-ghost use Rattle.cvm_outside.specs.Told.{Tells, sector_of, with_sector};
+ghost use Rattle.cvm_outside.specs.Told.{Tells, IsSector, sector_of, with_sector};
 
 /// Why a call of a disk was not done.
 #[derive(Clone, Copy, Debug, PartialEq, Eq)]
@@ -51,6 +51,10 @@ pub trait Sectors {
         ensures words { OnOk result (sectors self.new ≡ with_sector (sectors self.old) i from.now) }
         ensures torn { OnErr result ((words : List ℕ) × (sectors self.new ≡ with_sector (sectors self.old) i words)) }
         ensures count { Counts (faults self.old) (faults self.new) result };
+
+    /// A law: each sector that is told is 1,024 words of 32 bits.
+    fn are_sectors(&self)
+        ensures { IfSome (sectors self.now) (All IsSector) };
 
     /// Where the sectors are told, there are as many as `size` says.
     ghost sized: { (disk : Self) → IfSome (sectors disk) (λ ss. length ss ≡ size disk) };

@@ -63,4 +63,8 @@ impl Sectors for SureSectors {
     {
         self.inner.write(i, from)
     }
+
+    fn are_sectors(&self) {
+        self.inner.are_sectors();
+    }
 }

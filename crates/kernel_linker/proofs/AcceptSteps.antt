@@ -14,34 +14,38 @@ use Rattle.c0_types.specs.declared.source_fault.SourceFault.{SourceFault}
 use Rattle.c0_types.specs.declared.source_fault.SourceFault.TheVariants.{Reading}
 use Rattle.kernel_linker.specs.Linked.{linked, sizes_of}
 use Rattle.kernel_linker.specs.Fault.{accept_source_fault, accept_file_fault}
-use Rattle.kernel_linker.specs.Accept.{System, Answers, ◌>>=◌, stored, accept_answer}
+use Rattle.kernel_linker.specs.Accept.{System, AnswersBy, Answers, ◌>>=◌, stored, accept_answer}
 use Rattle.kernel_linker.specs.declared.fault.AcceptFault.{AcceptFault}
 use Rattle.kernel_linker.specs.declared.fault.AcceptFault.TheVariants.{Memory}
 
 -- what is due of a result, by what the bytes were read as, where that is an image
-of_image : {X : Type 0} (layer : Map → List ℕ → List ℕ) (view : X → System) (r : Result Image ImageFault) (i : Image) (result : Result X AcceptFault) →
-    Gives (Ok i) r → Answers layer view (Ok i) result → Answers layer view r result
-of_image layer view (Ok j) i result h a = subst (λ (k : Image). Answers layer view (Ok k) result) h a
-of_image layer view (Err f) i result h a = cc
+pub of_image : {X Y : Type 0} (due : Image → Result CUnit SourceFault → Result Y AcceptFault) (view : X → Y) (r : Result Image ImageFault) (i : Image) (result : Result X AcceptFault) →
+    Gives (Ok i) r → AnswersBy due view (Ok i) result → AnswersBy due view r result
+of_image due view (Ok j) i result h a = subst (λ (k : Image). AnswersBy due view (Ok k) result) h a
+of_image due view (Err f) i result h a = cc
 
 -- bytes that are no image, or want of memory
-pub unread_file : {X : Type 0} (layer : Map → List ℕ → List ℕ) (view : X → System) (r : Result Image ImageFault) (result : Result X AcceptFault) (e : AcceptFault) (f : ImageFault) →
-    result ≡ Err e → e ≡ accept_file_fault f → Gives (Err f) r → Answers layer view r result
-unread_file layer view (Ok i) result e f h k given =
-    subst (Answers layer view (Ok i)) (sym h) (Err (Reading NoMemory), tt, inl (k ∙ ap accept_file_fault given))
-unread_file layer view (Err g) result e f h k given = let same : f ≡ g = cc in h ∙ ap Err (k ∙ ap accept_file_fault same)
+pub unread_file : {X Y : Type 0} (due : Image → Result CUnit SourceFault → Result Y AcceptFault) (view : X → Y) (r : Result Image ImageFault) (result : Result X AcceptFault) (e : AcceptFault) (f : ImageFault) →
+    result ≡ Err e → e ≡ accept_file_fault f → Gives (Err f) r → AnswersBy due view r result
+unread_file due view (Ok i) result e f h k given =
+    subst (AnswersBy due view (Ok i)) (sym h) (Err (Reading NoMemory), tt, inl (k ∙ ap accept_file_fault given))
+unread_file due view (Err g) result e f h k given = let same : f ≡ g = cc in h ∙ ap Err (k ∙ ap accept_file_fault same)
 
 -- want of memory
-pub wanting : {X : Type 0} (layer : Map → List ℕ → List ℕ) (view : X → System) (r : Result Image ImageFault) (i : Image) (result : Result X AcceptFault) (e : AcceptFault) →
-    Gives (Ok i) r → result ≡ Err e → e ≡ Memory → Answers layer view r result
-wanting layer view r i result e given h k = of_image layer view r i result given (subst (Answers layer view (Ok i)) (sym h) (Err (Reading NoMemory), tt, inl k))
+pub wanting : {X Y : Type 0} (due : Image → Result CUnit SourceFault → Result Y AcceptFault) (view : X → Y) (r : Result Image ImageFault) (i : Image) (result : Result X AcceptFault) (e : AcceptFault) →
+    Gives (Ok i) r → result ≡ Err e → e ≡ Memory → AnswersBy due view r result
+wanting due view r i result e given h k = of_image due view r i result given (subst (AnswersBy due view (Ok i)) (sym h) (Err (Reading NoMemory), tt, inl k))
 
 -- the source has no checked unit
-pub unread_source : {X : Type 0} (layer : Map → List ℕ → List ℕ) (view : X → System) (r : Result Image ImageFault) (i : Image) (result : Result X AcceptFault) (e : AcceptFault) (f : SourceFault) (source : List ℕ) →
-    Gives (Ok i) r → result ≡ Err e → e ≡ accept_source_fault f → IsFaultOf source f → source ≡ i.source → Answers layer view r result
+pub unread_source : {X Y : Type 0} (due : Image → Result CUnit SourceFault → Result Y AcceptFault) (view : X → Y) (r : Result Image ImageFault) (i : Image) (result : Result X AcceptFault) (e : AcceptFault) (f : SourceFault) (source : List ℕ) →
+    due i (Err f) ≡ Err (accept_source_fault f) → Gives (Ok i) r → result ≡ Err e → e ≡ accept_source_fault f → IsFaultOf source f → source ≡ i.source → AnswersBy due view r result
+unread_source due view r i result e f source stops given h k fault same =
+    of_image due view r i result given (subst (AnswersBy due view (Ok i)) (sym (h ∙ ap Err k)) (Err f, subst (λ (s : List ℕ). IsFaultOf s f) same fault, inr stops))
+
+-- a fault of the source is what is answered
+pub source_stops : (layer : Map → List ℕ → List ℕ) (i : Image) (f : SourceFault) → accept_answer layer i (Err f) ≡ Err (accept_source_fault f)
 unfolding accept_answer
-unread_source layer view r i result e f source given h k fault same =
-    of_image layer view r i result given (subst (Answers layer view (Ok i)) (sym (h ∙ ap Err k)) (Err f, subst (λ (s : List ℕ). IsFaultOf s f) same fault, inr refl))
+source_stops layer i f = refl
 
 -- the words are others than are made
 pub forged_image : {X : Type 0} (layer : Map → List ℕ → List ℕ) (view : X → System) (r : Result Image ImageFault) (i : Image) (result : Result X AcceptFault) (e f : AcceptFault) (u : CUnit) (source words : List ℕ) →
@@ -49,7 +53,7 @@ pub forged_image : {X : Type 0} (layer : Map → List ℕ → List ℕ) (view : 
 unfolding accept_answer
 forged_image layer view r i result e f u source words given h k found same differ made =
     let other : Err f ≡ stored i (linked layer u i.params (sizes_of i.users)) = differ ∙ ap (stored i) made in
-    of_image layer view r i result given (subst (Answers layer view (Ok i)) (sym (h ∙ ap Err k)) (Ok u, subst (λ (s : List ℕ). IsUnitOf s u) same found, inr (rw (← other) refl)))
+    of_image (accept_answer layer) view r i result given (subst (Answers layer view (Ok i)) (sym (h ∙ ap Err k)) (Ok u, subst (λ (s : List ℕ). IsUnitOf s u) same found, inr (rw (← other) refl)))
 
 -- all is well
 pub accepted_image : {X : Type 0} (layer : Map → List ℕ → List ℕ) (view : X → System) (r : Result Image ImageFault) (i : Image) (a : X) (u : CUnit) (source words : List ℕ) (users : List (List ℕ)) (x : Unit {0}) →
@@ -58,7 +62,7 @@ pub accepted_image : {X : Type 0} (layer : Map → List ℕ → List ℕ) (view 
 unfolding accept_answer
 accepted_image layer view r i a u source words users x given found same equal made kept seen =
     let other : Ok x ≡ stored i (linked layer u i.params (sizes_of i.users)) = equal ∙ ap (stored i) made in
-    of_image layer view r i (Ok a) given (Ok u, subst (λ (s : List ℕ). IsUnitOf s u) same found, rw (seen, ← other, made, kept) refl)
+    of_image (accept_answer layer) view r i (Ok a) given (Ok u, subst (λ (s : List ℕ). IsUnitOf s u) same found, rw (seen, ← other, made, kept) refl)
 
 -- what an image's users and parameters are
 bare_in_range : ParamsInRange bare_params

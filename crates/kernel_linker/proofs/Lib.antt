@@ -4,3 +4,4 @@ pub mod LinkSteps
 pub mod AcceptSteps
 pub mod LinkedAccepted
 mod Joined
+mod MigrateSteps

@@ -55,7 +55,12 @@ accept_answer layer i front = do
   same ← stored i (linked layer u i.params (sizes_of i.users))
   Ok (record { params = i.params; unit = u; words = linked layer u i.params (sizes_of i.users); users = i.users })
 
--- a result is what is answered of the image that bytes were read as, or of their fault
+-- A result, seen by view, is what is due of the image that bytes were read as, or it is their fault. What is due of an image goes by what
+-- the front comes to on its source.
+abbrev pub AnswersBy : {X Y : Type 0} → (Image → Result CUnit SourceFault → Result Y AcceptFault) → (X → Y) → Result Image ImageFault → Result X AcceptFault → Type 0
+AnswersBy due view (Ok i) result = (front : Result CUnit SourceFault) × Comes i.source front × GivesUnless Memory view result (due i front)
+AnswersBy due view (Err f) result = result ≡ Err (accept_file_fault f)
+
+-- what is due is whether the image is accepted, over a layer that has these words for a map and sizes
 abbrev pub Answers : {X : Type 0} → (layer : Map → List ℕ → List ℕ) → (X → System) → Result Image ImageFault → Result X AcceptFault → Type 0
-Answers layer view (Ok i) result = (front : Result CUnit SourceFault) × Comes i.source front × GivesUnless Memory view result (accept_answer layer i front)
-Answers layer view (Err f) result = result ≡ Err (accept_file_fault f)
+Answers layer view read result = AnswersBy (accept_answer layer) view read result

@@ -4,5 +4,6 @@ pub mod Fault
 pub mod Answers
 pub mod Link
 pub mod Accept
+pub mod Migrate
 pub mod Object
 pub mod Laws

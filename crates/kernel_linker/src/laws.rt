@@ -1,8 +1,19 @@
 //! What is known of linking and accepting: each function says a law, and does nothing.
 
 ghost use Rattle.kernel_linker.specs.Laws.{LinkedAreAccepted};
+ghost use Rattle.kernel_linker.specs.Migrate.{MigratedAreAccepted, OldWordsAreIgnored};
 
 /// A law: what is linked is accepted, over the same layer.
 pub fn linked_images_are_accepted()
     ensures { LinkedAreAccepted }
+{}
+
+/// A law: what is migrated is accepted, over the same layer.
+pub fn migrated_images_are_accepted()
+    ensures { MigratedAreAccepted }
+{}
+
+/// A law: what is migrated does not depend on the old linked words.
+pub fn old_words_are_ignored()
+    ensures { OldWordsAreIgnored }
 {}

@@ -8,9 +8,11 @@ mod globals;
 pub mod laws;
 mod linked;
 mod linking;
+mod migrating;
 mod object;
 
 pub use accepting::{Accepted, accept};
 pub use fault::{AcceptFault, LinkFault};
 pub use linking::link;
+pub use migrating::migrate;
 pub use object::make_object;

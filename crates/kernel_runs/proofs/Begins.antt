@@ -50,6 +50,7 @@ use Rattle.kernel_runs.proofs.Instructions.{piece_at, not_own, kept_words}
 use Rattle.kernel_runs.proofs.Seen.{space_is}
 use Rattle.kernel_runs.proofs.Standing.{seen, behind, no_user, outer_of}
 use Rattle.kernel_runs.proofs.Reached.{RunsJoin, Reached, inside_of, goes_on}
+use Rattle.kernel_runs.proofs.Counting.{IsElsewhere, Counts, begins, counts_along, counts_on}
 use Rattle.kernel_runs.proofs.Site.{setup}
 use Rattle.kernel_runs.proofs.Flat.{flat_scalars}
 use Rattle.kernel_runs.proofs.Passing.{Ground, linked_words, whole}
@@ -138,11 +139,15 @@ module _ (simulates : MachineSimulates) (joins : RunsJoin) (fitting : StaysFitti
   code_all : CodeAt all layer_words (entry_code p.globals (4 * target))
   code_all = let e : layer_words + 0 ≡ layer_words = omega arith in subst (λ k. CodeAt all k (entry_code p.globals (4 * target))) e (piece_at x layer_words words code (entry_code p.globals (4 * target)) [] st.rest (omega arith) st.entry)
 
+  not_there : IsElsewhere s0
+  not_there i lt e = let pc = called.at.pc in omega (arith, pc, lt, e)
+
   -- the first instruction
   pub record First : Type 0 where
     pub steps : ℕ
     pub few : steps ≤ 1
     pub come : Here steps (at_with (layer_words + 1) (with_half p.globals (seen s0)) (behind s0))
+    pub counts : Counts x s0 steps 0
 
   first : First
   first =
@@ -165,6 +170,9 @@ module _ (simulates : MachineSimulates) (joins : RunsJoin) (fitting : StaysFitti
             sectors = λ j le q from. (sim.along j le).sectors q (omega arith);
           };
         };
+        counts =
+            let e : 0 + r.steps ≡ r.steps = omega arith in
+            subst (λ i. Counts x s0 i 0) e (counts_along x s0 0 0 r.steps (begins x s0 not_there) (λ j lt. let none : 0 ≡ 0 + j = omega (arith, lt, one) in subst (λ i. IsElsewhere (run x s0 i)) none not_there));
       }
 
   -- the layer's variables that the kernel knows
@@ -198,6 +206,7 @@ module _ (simulates : MachineSimulates) (joins : RunsJoin) (fitting : StaysFitti
     pub few : base ≤ 7
     pub end : Machine
     pub come : Here base end
+    pub counts : Counts x s0 base 0
     pub sim : Simulated Machines Changes (Outer y c.current) (λ s t. ⊥) z 0 (begin (dispatch_number u) args ∷ []) started end
 
   abbrev its_bases : Bases
@@ -274,6 +283,7 @@ module _ (simulates : MachineSimulates) (joins : RunsJoin) (fitting : StaysFitti
         few = omega (arith, one, six);
         end = at_with target e.0 (behind s0);
         come = goes_on simulates joins x y code words sound s0 f.steps e.2.steps (at_with (layer_words + 1) (with_half p.globals (seen s0)) (behind s0)) (at_with target e.0 (behind s0)) f.come e.2.run;
+        counts = counts_on simulates joins x y code words sound s0 f.steps e.2.steps (at_with (layer_words + 1) (with_half p.globals (seen s0)) (behind s0)) (at_with target e.0 (behind s0)) f.come e.2.run 0 f.counts;
         sim = record {
           objects = typed.0;
           stands = stands e.0 e.1;

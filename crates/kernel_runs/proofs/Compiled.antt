@@ -12,7 +12,7 @@ use Rattle.cvm_model.specs.Kernel.{power_of}
 use Rattle.cvm_model.specs.KernelMeaning.{fault_of}
 use Rattle.cvm_model.specs.Stands.{Site}
 use Rattle.kernel_runs.specs.Placed.{StandsAt, CodeStands}
-use Rattle.kernel_runs.specs.Runs.{UnitsRunOverLayers, IsLinked, CompiledUnitsRun}
+use Rattle.kernel_runs.specs.Runs.{UnitsRunOverLayers, UnitsCallsFollow, IsLinked, CompiledUnitsRun, CompiledUnitsCallsFollow}
 
 same_exit : (f : KernelFault) → 2058 + exit_number f ≡ 2057 + power_of (fault_of f)
 same_exit NullUse = refl
@@ -46,3 +46,6 @@ code_stands stand u p y checked places l =
 
 pub compiled : UnitsHavePlaces → UnitsStand → UnitsRunOverLayers → CompiledUnitsRun
 compiled have stand runs s y sizes checked l variables answers = let p = have s checked in runs _ p.0 y _ sizes (code_stands stand _ p.0 y checked p.1 l) variables answers
+
+pub compiled_calls : UnitsHavePlaces → UnitsStand → UnitsCallsFollow → CompiledUnitsCallsFollow
+compiled_calls have stand follow s y sizes checked l variables laws = let p = have s checked in follow _ p.0 y _ sizes (code_stands stand _ p.0 y checked p.1 l) variables laws

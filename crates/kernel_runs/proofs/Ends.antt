@@ -1,5 +1,5 @@
 -- Where a run has come to an end the machine stands for what the dispatch means.
-use Rattle.std.specs.Prelude.{Some, ℤ}
+use Rattle.std.specs.Prelude.{Some, ℤ, slice_index}
 use Rattle.std.specs.Prelude.{FitsSigned}
 use Rattle.std.proofs.lemmas.Bool.{cases_lt}
 use Rattle.std.specs.Int.{w32}
@@ -18,10 +18,10 @@ use Rattle.page_model.specs.Laws.{AlikesStand}
 use Rattle.c0_tree.specs.Tree.{CUnit}
 use Rattle.c0_meaning.specs.Ty.{Ty}
 use Rattle.c0_meaning.specs.Sound.{shapes}
-use Rattle.c0_meaning.specs.Operators.{faulted, stuck}
+use Rattle.c0_meaning.specs.Operators.{KernelFault, faulted, stuck}
 use Rattle.c0_meaning.specs.RunLaws.{AnswersAnInt}
 use Rattle.c0_meaning.specs.Value.{Value, int}
-use Rattle.c0_meaning.specs.World.{Cost, Configuration}
+use Rattle.c0_meaning.specs.World.{Cost, total, Configuration, journal}
 use Rattle.c0_meaning.specs.TypedState.{IsTypedWith}
 use Rattle.c0_meaning.specs.Execution as c0_run
 use Rattle.c0_runtime.specs.Code.{behind_first}
@@ -34,11 +34,12 @@ use Rattle.c0_stmt_code.specs.Standing as code_run
 use Rattle.c0_stmt_code.specs.Standing.{bases, unit_scope, Ended, AtExit, StepsRun}
 use Rattle.layer_contract.specs.declared.entry.Entry.{Entry}
 use Rattle.layer_contract.specs.declared.entry.Entry.TheVariants.{Fault as Exit, Leave}
+use Rattle.layer_contract.specs.declared.registers.TheConstants.{ANSWER}
 use Rattle.layer_contract.specs.Layer.{entry_address, Inside, Way, IsAt}
 use Rattle.layer_contract.specs.Follows.{IsKernelDoor, EndsAs}
 use Rattle.cvm_model.specs.Kernel.{Core, Changes, Answers, power_of, flat}
 use Rattle.cvm_model.specs.KernelMeaning.{Machines, fault_of, answer_end, core_at, outcome_of}
-use Rattle.cvm_model.specs.Cvm.{Running}
+use Rattle.cvm_model.specs.Cvm.{Running, run_steps}
 use Rattle.cvm_model.specs.TypedKernel.{RowsAreCalled}
 use Rattle.cvm_model.specs.Stands.{Site, Stands, address_of}
 use Rattle.kernel_runs.specs.Held.{HoldsAt, IsHeldFlat, HeldIsFlat}
@@ -47,6 +48,7 @@ use Rattle.kernel_runs.specs.Placed.{program, CodeStands}
 use Rattle.c0_unit.specs.Code.{dispatch_number}
 use Rattle.kernel_runs.proofs.Standing.{seen, behind, IsSeen, stands_of}
 use Rattle.kernel_runs.proofs.Reached.{RunsJoin, Reached, inside_of, goes_on}
+use Rattle.kernel_runs.proofs.Counting.{Counts, counts_on}
 use Rattle.kernel_runs.proofs.Site.{setup}
 use Rattle.kernel_runs.proofs.Passing.{Ground, whole}
 use Rattle.kernel_runs.proofs.Runs.{RunTo}
@@ -137,39 +139,49 @@ module _ (simulates : MachineSimulates) (joins : RunsJoin) (fitting : StaysFitti
     abbrev To : c0_run.Outcome Machines Changes → Type 0
     To o = RunTo simulates joins fitting alikes rows x y u p code words longest c.current st g user_ok small sound s0 each base n o
 
+    -- the kernel is left, in so many steps, where the run has ended
+    pub record Left (cost : Cost) (d : H) : Type 0 where
+      pub steps : ℕ
+      pub within : steps ≤ run_steps y.map longest (total cost) cost.pages
+      pub way : Way x y IsKernelDoor steps s0
+      pub at : IsAt x y Leave (core_at c d) (run x s0 steps)
+      pub answer : (a : ℤ) → d.answer ≡ Some (int a) → FitsSigned w32 a → signed (slice_index (run x s0 steps).cpu.regs ANSWER) ≡ a
+      pub counts : Counts x s0 steps (length (journal d))
+
     -- the first function has returned: a jump leads to the entry at which the kernel is left
-    leaves : (cost : Cost) (d : H) → To (c0_run.Done cost d) → (a : ℤ) → d.answer ≡ Some (int a) → FitsSigned w32 a → EndsAs x longest y n s0 (outcome_of c (c0_run.Done cost d)) (Answers a)
-    leaves cost d r a is fits =
-        let k : ℕ = r.0 in let ended = r.3 in
-        let s : Machine = r.1 in
+    pub left : (cost : Cost) (d : H) → To (c0_run.Done cost d) → Left cost d
+    left cost d r =
         let at_back : ◌≡◌ {A = Machine} r.1 (at_with (layer_words + 7) r.1.contents r.1.behind) = ap (λ i. at_with i r.1.contents r.1.behind) r.3.at in
         let jump = entry.leaves layer_words p.globals (4 * (links_of p).function (dispatch_number u)) r.1.contents r.1.behind code_at r.3.stands.idle in
-        let here = goes_on simulates joins x y code words sound s0 r.0 jump.steps (at_with (layer_words + 7) r.1.contents r.1.behind) (at_with 2062 r.1.contents r.1.behind) (subst (Here r.0) at_back r.2) jump.run in
-        let value : r.3.value ≡ int a = some_same (sym r.3.is ∙ is) in
+        let there = subst (Here r.0) at_back r.2 in
+        let here = goes_on simulates joins x y code words sound s0 r.0 jump.steps (at_with (layer_words + 7) r.1.contents r.1.behind) (at_with 2062 r.1.contents r.1.behind) there jump.run in
         let one = jump.within in let high = r.5.high in let spent = r.5.spent in let some = r.6 in
         record {
           steps = r.0 + jump.steps;
           within = omega (arith, one, high, spent, some, few);
           way = here.way;
-          there = (
-            is_at (r.0 + jump.steps) 2062 (at_with 2062 r.1.contents r.1.behind) d r.3.objects Leave here r.3.stands refl refl,
-            ap (λ q. signed (q.contents.regs 2)) here.same ∙ ap signed r.3.answer ∙ ap (λ v. signed (word (unit_scope u) (its_bases r.3.objects) v)) value ∙ to_z-of_z w32 a fits,
-          );
+          at = is_at (r.0 + jump.steps) 2062 (at_with 2062 r.1.contents r.1.behind) d r.3.objects Leave here r.3.stands refl refl;
+          answer = λ a is fits.
+              let value : r.3.value ≡ int a = some_same (sym r.3.is ∙ is) in
+              ap (λ q. signed (q.contents.regs 2)) here.same ∙ ap signed r.3.answer ∙ ap (λ v. signed (word (unit_scope u) (its_bases r.3.objects) v)) value ∙ to_z-of_z w32 a fits;
+          counts = counts_on simulates joins x y code words sound s0 r.0 jump.steps (at_with (layer_words + 7) r.1.contents r.1.behind) (at_with 2062 r.1.contents r.1.behind) there jump.run (length (journal d)) r.7.counts;
         }
       where
         some_same : {v w : Value} → Some v ≡ Some w → v ≡ w
         some_same q = cc
 
+    leaves : (cost : Cost) (d : H) → To (c0_run.Done cost d) → (a : ℤ) → d.answer ≡ Some (int a) → FitsSigned w32 a → EndsAs x longest y n s0 (outcome_of c (c0_run.Done cost d)) (Answers a)
+    leaves cost d r a is fits = let l = left cost d r in record { steps = l.steps; within = l.within; way = l.way; there = (l.at, l.answer a is fits) }
+
+    -- a fault's exit is reached
+    pub at_exit : (cost : Cost) (f : KernelFault) (d : H) → (r : To (c0_run.Failed cost (faulted f) d)) → IsAt x y (Exit (power_of (fault_of f))) (core_at c d) (run x s0 r.0)
+    at_exit cost f d r = is_at r.0 (2057 + power_of (fault_of f)) r.1 d r.3.objects (Exit (power_of (fault_of f))) r.2 r.3.stands (r.3.at ∙ st.exits f) (omega arith)
+
     pub ends : (o : c0_run.Outcome Machines Changes) → To o → AnswersAnInt o → EndsAs x longest y n s0 (outcome_of c o) (outcome_of c o).end
     ends (c0_run.Done cost d) r a = subst (λ e. EndsAs x longest y n s0 (outcome_of c (c0_run.Done cost d)) e) (sym (ap answer_end a.1)) (leaves cost d r a.0 a.1 a.2)
     ends (c0_run.Failed cost (faulted f) d) r a =
         let high = r.5 in let spent = r.6 in let some = r.7 in
-        record {
-          steps = r.0;
-          within = omega (arith, high, spent, some, few);
-          way = r.2.way;
-          there = is_at r.0 (2057 + power_of (fault_of f)) r.1 d r.3.objects (Exit (power_of (fault_of f))) r.2 r.3.stands (r.3.at ∙ st.exits f) (omega arith);
-        }
+        record { steps = r.0; within = omega (arith, high, spent, some, few); way = r.2.way; there = at_exit cost f d r }
     ends (c0_run.Failed cost stuck d) r a = absurd r
     ends (c0_run.NotYet cost d) r a = λ j le. let lt = r.3 in let less : j ≤ r.0 = omega (arith, le, lt) in (way_upto x y IsKernelDoor s0 r.0 j less r.2.way, by j less (cases_lt j r.0))
       where

@@ -6,11 +6,16 @@ pub mod Standing
 pub mod Instructions
 pub mod Site
 pub mod Reached
+pub mod Counting
+pub mod Growing
 pub mod Words
 pub mod Passing
 pub mod Runs
 pub mod Ends
+pub mod Told
 pub mod Begins
 pub mod FewUnits
 pub mod KernelRun
 pub mod Compiled
+pub mod FirstCore
+pub mod WholeBoots

@@ -1,6 +1,6 @@
 -- A call of a primitive, passed on the machine: by the layer's law, from the state that has the call's configuration.
 use Rattle.std.specs.Prelude.{slice_get, slice_index, Some}
-use Rattle.std.proofs.Common.{◌≡◌, ◌⊎◌, inl, inr, ℕ, ◌+◌, ◌-◌, ◌*◌, ◌/◌, ◌^◌, ◌<◌, ◌≤◌, List, [], ◌∷◌, length, map, refl, sym, ap, ◌∙◌, subst, arith}
+use Rattle.std.proofs.Common.{◌≡◌, ◌⊎◌, inl, inr, ℕ, suc, ◌+◌, ◌-◌, ◌*◌, ◌/◌, ◌^◌, ◌<◌, ◌≤◌, List, [], ◌∷◌, length, map, refl, sym, ap, ◌∙◌, subst, arith}
 use Rattle.std.proofs.lemmas.Bool.{cases_lt}
 use Rattle.std.proofs.lemmas.List.{length-drop, length-map}
 use Rattle.mips_table.specs.declared.inst.Inst.{Inst}
@@ -24,9 +24,10 @@ use Rattle.c0_stmt_code.specs.Code.{links_of}
 use Rattle.c0_stmt_code.specs.Setup.{scalar_word, IsKept, Back, Called}
 use Rattle.layer_contract.specs.declared.entry.Entry.{Entry}
 use Rattle.layer_contract.specs.declared.entry.Entry.TheVariants.{Dispatch, Primitive, Fault as Exit, Leave}
-use Rattle.layer_contract.specs.Layer.{IsEntry, BusyWithin, PrimitiveCalled, Returned, ComesBack, PrimitivesAnswer}
+use Rattle.layer_contract.specs.Layer.{Inside, IsEntry, BusyWithin, PrimitiveCalled, Returned, ComesBack, PrimitivesAnswer}
+use Rattle.layer_contract.specs.Calls.{EndsCall}
 use Rattle.layer_contract.specs.Follows.{IsKernelDoor}
-use Rattle.cvm_model.specs.Kernel.{Console, Core}
+use Rattle.cvm_model.specs.Kernel.{Console, Core, Changes}
 use Rattle.cvm_model.specs.KernelMeaning.{Machines, kernel_primitive, called_by}
 use Rattle.cvm_model.specs.Primitives.{Call, Given, prim}
 use Rattle.cvm_model.specs.Cvm.{run_steps}
@@ -40,6 +41,7 @@ use Rattle.kernel_runs.proofs.Instructions.{code_is, some_below, not_own, kept_w
 use Rattle.kernel_runs.proofs.Seen.{space_is}
 use Rattle.kernel_runs.proofs.Standing.{seen, behind, no_user, outer_of, IsSeen, stands_of}
 use Rattle.kernel_runs.proofs.Reached.{RunsJoin, inside_of, no_primitive, Reached, passes_on}
+use Rattle.kernel_runs.proofs.Counting.{IsElsewhere, Counts, counts_one, was_idle, in_code}
 use Rattle.kernel_runs.proofs.Site.{regions_on}
 use Rattle.kernel_runs.proofs.Words.{ints_from, ints_count, ints_stand, ints_length, scalar_flat, arguments}
 
@@ -85,6 +87,10 @@ module _ (simulates : MachineSimulates) (joins : RunsJoin) (fitting : StaysFitti
     pub answer : end.contents.regs 2 ≡ scalar_word (kernel_primitive n vs v).answer
     pub outer : Outer y current (kernel_primitive n vs v).world end.contents end.behind
     pub within : steps ≤ run_steps y.map longest (call_cost (kernel_primitive n vs v)).primitive (kernel_primitive n vs v).pages
+    pub changes : Changes
+    pub made : (kernel_primitive n vs v).entries ≡ changes ∷ []
+    pub counts : (m : ℕ) → Counts x s0 k m → Counts x s0 (k + steps) (suc m)
+    pub ends : (m : ℕ) → Counts x s0 k m → EndsCall x y longest s0 m changes
 
   module _ (k : ℕ) (s : Machine) (to n : ℕ) (row : CPrimitive) (vs : Values) (users : List Flat) (console : Console) (come : Come k s) (is : slice_get kernel_primitives n ≡ Some row)
       (called : Called world (links_of p) row n vs to s) (outer : Outer y current (record { most = y.map.params.pages; users = users; console = console }) s.contents s.behind) (room : s.contents.memory 1026 ≤ y.map.params.heap) where
@@ -286,6 +292,35 @@ module _ (simulates : MachineSimulates) (joins : RunsJoin) (fitting : StaysFitti
         let c : slice_index later.cpu.regs 2 ∷ [] ≡ scalar_word given.answer ∷ [] = sym a ∙ b in
         cc
 
+    elsewhere : IsElsewhere later
+    elsewhere = let a = returned.pc in let from = is_called.back.from in in_code later (omega (arith, a, from))
+
+    counts : (m : ℕ) → Counts x s0 k m → Counts x s0 (k + steps) (suc m)
+    counts m c =
+        let at = at_entry in
+        counts_one joins x s0 k m n steps c (inside_of x here come.quiet) few (omega (arith, at)) back_it.apart returned.pc elsewhere
+
+    inside_so_far : (j : ℕ) → j ≤ k → Inside (run x s0 j)
+    inside_so_far j le = by (cases_lt j k)
+      where
+        by : (j < k) ⊎ (k ≤ j) → Inside (run x s0 j)
+        by (inl lt) = come.way.inside j lt
+        by (inr ge) = let q : k ≡ j = omega (arith, le, ge) in subst (λ i. Inside (run x s0 i)) q (inside_of x here come.quiet)
+
+    ends : (m : ℕ) → Counts x s0 k m → EndsCall x y longest s0 m given.changes
+    ends m c = record {
+      entry = k;
+      core = core;
+      call = call;
+      inside = inside_so_far;
+      idle = let at = at_entry in was_idle x s0 k m n c (inside_of x here come.quiet) few (omega (arith, at));
+      called = is_called;
+      back = back_it;
+      ended = c.count;
+      ends = (counts m c).count;
+      same = refl;
+    }
+
     pub passes : Passed k s to n row vs v
     passes = record {
       steps = steps;
@@ -297,4 +332,8 @@ module _ (simulates : MachineSimulates) (joins : RunsJoin) (fitting : StaysFitti
       outer = subst (λ r. Outer y current r.world (seen later) (behind later)) (sym result)
           (outer_of alikes x y g.bounds whole later (record core { users = given.users; console = given.console }) returned.stands (no_user later returned.inside.mode));
       within = subst (λ r. steps ≤ run_steps y.map longest (call_cost r).primitive r.pages) (sym result) back_it.comes.within;
+      changes = given.changes;
+      made = ap (λ r. r.entries) result;
+      counts = counts;
+      ends = ends;
     }

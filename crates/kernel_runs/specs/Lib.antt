@@ -2,3 +2,4 @@ pub mod Held
 pub mod Outer
 pub mod Placed
 pub mod Runs
+pub mod Follows

@@ -12,7 +12,8 @@ use Rattle.c0_meaning.specs.Sound.{shapes}
 use Rattle.c0_meaning.specs.Unit.{IsChecked}
 use Rattle.c0_meaning.specs.TypedState.{IsTypedState}
 use Rattle.c0_unit.specs.Code.{code_words, unit_words}
-use Rattle.layer_contract.specs.Layer.{Linked, PrimitivesAnswer}
+use Rattle.layer_contract.specs.Layer.{Linked, PrimitivesAnswer, Laws}
+use Rattle.layer_contract.specs.Calls.{CallsFollow}
 use Rattle.layer_contract.specs.Follows.{KernelRuns}
 use Rattle.cvm_model.specs.KernelMeaning.{kernel_meaning}
 use Rattle.cvm_model.specs.Stands.{Site}
@@ -28,6 +29,11 @@ abbrev pub UnitsRunOverLayers : Type 0
 UnitsRunOverLayers = (u : CUnit) (p : Places) (y : Site) (code : List Inst) (sizes : List ℕ) → CodeStands u p y code → Linked y.map sizes (take layer_words y.linked)
     → PrimitivesAnswer y → KernelRuns y (IsTypedState u) (kernel_meaning u y.map.params)
 
+-- A law: over a layer that keeps its laws, the calls that such a dispatch has ended are those that the machine ends, in order, and it ends no others.
+abbrev pub UnitsCallsFollow : Type 0
+UnitsCallsFollow = (u : CUnit) (p : Places) (y : Site) (code : List Inst) (sizes : List ℕ) → CodeStands u p y code → Linked y.map sizes (take layer_words y.linked)
+    → Laws y sizes → CallsFollow y (IsTypedState u) (kernel_meaning u y.map.params)
+
 -- The code of a unit stands behind a layer's words, in a map of its sizes.
 pub record IsLinked (u : CUnit) (y : Site) : Type 0 where
   pub range : MapInRange y.map
@@ -40,3 +46,8 @@ pub record IsLinked (u : CUnit) (y : Site) : Type 0 where
 abbrev pub CompiledUnitsRun : Type 0
 CompiledUnitsRun = (s : Source) (y : Site) (sizes : List ℕ) → IsChecked (unit_view s) → IsLinked (unit_view s) y → Linked y.map sizes (take layer_words y.linked)
     → PrimitivesAnswer y → KernelRuns y (IsTypedState (unit_view s)) (kernel_meaning (unit_view s) y.map.params)
+
+-- A law: so are those of a dispatch of compiled words.
+abbrev pub CompiledUnitsCallsFollow : Type 0
+CompiledUnitsCallsFollow = (s : Source) (y : Site) (sizes : List ℕ) → IsChecked (unit_view s) → IsLinked (unit_view s) y → Linked y.map sizes (take layer_words y.linked)
+    → Laws y sizes → CallsFollow y (IsTypedState (unit_view s)) (kernel_meaning (unit_view s) y.map.params)

@@ -4,7 +4,7 @@ ghost use Rattle.cvm_model.specs.Kernel.{Changes};
 ghost use Rattle.cvm_model.specs.KernelMeaning.{Machines};
 ghost use Rattle.kernel_runs.specs.Held.{HeldIsFlat};
 ghost use Rattle.kernel_runs.specs.Outer.{Outer};
-ghost use Rattle.kernel_runs.specs.Runs.{CompiledUnitsRun, Fixed, UnitsRunOverLayers};
+ghost use Rattle.kernel_runs.specs.Runs.{CompiledUnitsCallsFollow, CompiledUnitsRun, Fixed, UnitsCallsFollow, UnitsRunOverLayers};
 
 use c0_expr_code::laws::areas_hold;
 use c0_meaning::laws::types_are_equal_as_written;
@@ -62,4 +62,32 @@ pub fn compiled_units_run()
     units_have_places();
     units_stand();
     units_run_over_layers();
+}
+
+/// Over a layer that keeps its laws, the calls of primitives that a dispatch has ended are those that the machine ends, in order, and it ends no others.
+pub fn units_calls_follow()
+    ensures { UnitsCallsFollow }
+{
+    held_values_are_their_words();
+    areas_hold();
+    types_are_equal_as_written();
+    kernels_have_a_dispatch();
+    kernels_are_entered();
+    steps_run::<BesideKernel>();
+    steps_cost_some::<BesideKernel>();
+    rows_are_called();
+    units_stay_typed();
+    code_runs_on_the_machine();
+    runs_join();
+    words_stay_words();
+    alikes_stand();
+}
+
+/// So are those of a dispatch of the words that a checked unit is compiled to, behind the words of such a layer.
+pub fn compiled_units_calls_follow()
+    ensures { CompiledUnitsCallsFollow }
+{
+    units_have_places();
+    units_stand();
+    units_calls_follow();
 }

@@ -3,4 +3,5 @@
 //! The definitions are in `specs/`. Each law is the contract of a function that does nothing.
 #![tactic(auto)]
 
+pub mod follows;
 pub mod laws;

@@ -36,13 +36,23 @@ abbrev pub ended_before : Outside → State → ℕ → ℕ
 ended_before x s zero = 0
 ended_before x s (suc t) = ended_before x s t + ends_here (run x s (suc t)) (under_way x s t)
 
--- One call of a primitive, the m-th to end since s: from its entry it comes back, and the return, which is the first, ends it. The machine
--- stands there for what the call comes to.
+-- 1 where a primitive is under way
+abbrev pub is_busy : Option ℕ → ℕ
+is_busy None = 0
+is_busy (Some back) = 1
+
+-- how many have been entered up to step t
+abbrev pub entered_before : Outside → State → ℕ → ℕ
+entered_before x s t = ended_before x s t + is_busy (under_way x s t)
+
+-- One call of a primitive, the m-th to end since s: none is under way before its entry, from there it comes back, and the return, which is
+-- the first, ends it. The machine stands there for what the call comes to.
 pub record EndsCall (x : Outside) (y : Site) (longest : ℕ) (s : State) (m : ℕ) (changes : Changes) : Type 0 where
   pub entry : ℕ
   pub core : Core
   pub call : Call
   pub inside : (j : ℕ) → j ≤ entry → Inside (run x s j)
+  pub idle : (j : ℕ) → suc j ≡ entry → under_way x s j ≡ None
   pub called : PrimitiveCalled x y core call (run x s entry)
   pub back : ComesBack x y longest core call (run x s entry)
   pub ended : ended_before x s entry ≡ m
@@ -55,10 +65,10 @@ pub record KernelCalled (x : Outside) (longest : ℕ) (y : Site) (Typed : C0 →
   pub typed : Typed c.c0
   pub called : DispatchCalled x y c cause edata user s
 
--- The calls that a dispatch has ended are those that the machine ends, in order; and the machine ends no more of them in so many steps
--- than the dispatch within some number of units.
+-- The calls that a dispatch has ended are those that the machine ends, in order; and the machine enters no more of them in so many steps
+-- than the dispatch ends within some number of units.
 pub record CallsFollow (y : Site) (Typed : C0 → Type 0) (e : Meaning) : Type 0 where
   pub each : (x : Outside) (longest n m : ℕ) (s : State) (c : Core) (cause edata user : ℤ) (changes : Changes) → KernelCalled x longest y Typed c cause edata user s →
       slice_get (e.dispatch n c cause edata user).calls m ≡ Some changes → EndsCall x y longest s m changes
   pub no_more : (x : Outside) (longest t : ℕ) (s : State) (c : Core) (cause edata user : ℤ) → KernelCalled x longest y Typed c cause edata user s →
-      ((j : ℕ) → j ≤ t → Inside (run x s j)) → (n : ℕ) × (ended_before x s t ≤ length (e.dispatch n c cause edata user).calls)
+      ((j : ℕ) → j ≤ t → Inside (run x s j)) → (n : ℕ) × (entered_before x s t ≤ length (e.dispatch n c cause edata user).calls)

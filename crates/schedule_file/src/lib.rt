@@ -23,4 +23,4 @@ mod schedule;
 pub use fault::ScheduleFault;
 pub use lines::Lines;
 pub use row::{BusyRow, LineRow, Row, read_rows_are_spelled, spelled_rows_are_read};
-pub use schedule::{MOST_INPUTS, Schedule, read};
+pub use schedule::{MOST_INPUTS, Schedule, busy_times_are_within_the_longest, read};

@@ -1,6 +1,6 @@
 // A schedule's rows, and what they say.
 
-ghost use Rattle.std.specs.Prelude.{◌≡◌, ◌≤◌, ◌<◌, ◌+◌, ◌^◌, ◌∷◌, ℕ, None, length, IfErr, OnOk};
+ghost use Rattle.std.specs.Prelude.{All, ◌≡◌, ◌≤◌, ◌<◌, ◌+◌, ◌^◌, ◌∷◌, ℕ, None, length, IfErr, OnOk};
 ghost use Rattle.schedule_file.specs.Rows.{Rows, lines_at as lines_in, busy_of as busy_in, longest as longest_in, last_step as last_step_in, IsNextAt, with_row};
 ghost use Rattle.schedule_file.specs.Schedule.{fault_of_row, fault_of_line, with_line, schedule_of, Gives, IsFault, Keeps};
 
@@ -56,6 +56,17 @@ pub fn read(alloc: Global, bytes: &[u8]) -> Result<Schedule, ScheduleFault>
     Ok(schedule)
 }
 
+/// A law: under all rows no command is busy for longer than the longest busy time.
+#[tactic(auto, using(crate::proofs::Reading::time_within))]
+pub fn busy_times_are_within_the_longest()
+    ensures { (rows : Rows) (command : ℕ) → busy_in rows command ≤ longest_in rows }
+{}
+
+/// Tells proofs that words are in the range of their type.
+fn are_words(words: &[u32])
+    ensures { All (λ w. w < 2 ^ 32) words.now }
+{}
+
 impl Schedule {
     /// The lines that are raised at the step with this number. Takes a number
     /// of comparisons that is a logarithm of the number of rows, and one more
@@ -100,19 +111,24 @@ impl Schedule {
     }
 
     /// The longest busy time, in steps, at most 65,535: 0 where the schedule
-    /// states none.
+    /// states none. No command is busy for longer.
     pub fn longest(&self) -> u64
         ensures value { result ≡ longest_in self.now }
         ensures small { result ≤ 65535 }
+        ensures longest { (command : ℕ) → busy_in self.now command ≤ longest_in self.now }
     {
+        busy_times_are_within_the_longest();
         self.longest
     }
 
-    /// The words of the console's input, in the order of their rows.
+    /// The words of the console's input, in the order of their rows: at most
+    /// 4,096 words of 32 bits.
     pub fn inputs(&self) -> &[u32]
         ensures words { result.now ≡ self.now.inputs }
-        ensures few { length result.now ≤ 4096 }
+        ensures bits { All (λ w. w < 2 ^ 32) self.now.inputs }
+        ensures few { length self.now.inputs ≤ 4096 }
     {
+        are_words(&self.inputs);
         &self.inputs
     }
 

@@ -2,13 +2,18 @@
 // that are asked for. `case_file` says how a case is written. The kinds, in the order in which they stand:
 //
 // - `case NAME` begins with a new outside. Lines below it may say `shelf N ..`, `sink N ..` or `disk N ..`, the numbers of the calls of
-//   that object that fail, from 0; `room N`, how many bytes the sink has room for; `sectors N`, how many sectors the disk has;
+//   that object that fail, from 0; `room N`, how many bytes the sink has room for; `sectors N`, how many sectors the disk has; `alter S P W`,
+//   that the disk answers each read of sector S with the word W in place of word P;
 // - `file NAME` places a file with these bytes, and `zeros NAME` one with so many bytes 0. A put to it has room for as many;
+// - `flip NAME` turns the lowest bit of a byte of a file, whose place from 0 stands below it;
 // - `run WORD ..` runs the command of these words;
 // - `show NAME` gets a file and prints its bytes, `part NAME AT COUNT` so many of its bytes from a place on, `object NAME` reads it as an
 //   object and prints its source and how many words it has, and `sector N` prints the words of a sector that aren't 0.
 #![tactic(auto)]
 
+mod altered;
+
+use altered::Altered;
 use case_file::{Case, cases};
 use cvm_outside::{MemSectors, MemShelf, MemSink, Sectors, Shelf};
 use cvm_shell::run;
@@ -25,7 +30,7 @@ const ROOM: usize = 65_536;
 struct World {
     shelf: MemShelf,
     sink: MemSink,
-    disk: MemSectors,
+    disk: Altered,
     /// How many bytes of the sink were shown.
     shown: usize,
 }
@@ -38,6 +43,7 @@ struct Options {
     disk: Vec<u64>,
     room: usize,
     sectors: u32,
+    alter: Vec<u64>,
 }
 
 /// Reads the numbers of a text that stand between blanks.
@@ -59,6 +65,7 @@ fn read_options(alloc: Global, lines: &str) -> Result<Options, AllocError> {
         disk: Vec::new(alloc),
         room: ROOM,
         sectors: 2,
+        alter: Vec::new(alloc),
     };
     for line in lines.lines() {
         let (what, rest) = line.split_once(' ').unwrap_or((line, ""));
@@ -66,6 +73,7 @@ fn read_options(alloc: Global, lines: &str) -> Result<Options, AllocError> {
             "shelf" => options.shelf = numbers(alloc, rest)?,
             "sink" => options.sink = numbers(alloc, rest)?,
             "disk" => options.disk = numbers(alloc, rest)?,
+            "alter" => options.alter = numbers(alloc, rest)?,
             "room" => options.room = rest.parse::<usize>().unwrap_or(ROOM),
             _ => options.sectors = rest.parse::<u32>().unwrap_or(2),
         }
@@ -79,7 +87,10 @@ fn world_of(alloc: Global, lines: &[u8]) -> Result<World, AllocError> {
     Ok(World {
         shelf: MemShelf::new(alloc, options.shelf)?,
         sink: MemSink::with_room(alloc, options.room, options.sink)?,
-        disk: MemSectors::new(alloc, options.sectors, options.disk)?,
+        disk: Altered::new(
+            MemSectors::new(alloc, options.sectors, options.disk)?,
+            &options.alter,
+        ),
         shown: 0,
     })
 }
@@ -213,6 +224,18 @@ fn place_zeros(
     world.shelf.place(alloc, name, &zeros)
 }
 
+/// Turns the lowest bit of a byte of a file.
+fn flip_bit(alloc: Global, world: &mut World, name: &str, place: &[u8]) -> Result<(), AllocError> {
+    let place = str::from_utf8(place).unwrap_or("").parse::<usize>();
+    let Ok(mut bytes) = world.shelf.get(alloc, name) else {
+        return Ok(());
+    };
+    if let Some(byte) = bytes.get_mut(place.unwrap_or(usize::MAX)) {
+        *byte ^= 1;
+    }
+    world.shelf.place(alloc, name, &bytes)
+}
+
 /// Does what a part of a case says.
 fn do_part(
     alloc: Global,
@@ -227,6 +250,9 @@ fn do_part(
     }
     if kind == "zeros" {
         return place_zeros(alloc, world, name, &part.source);
+    }
+    if kind == "flip" {
+        return flip_bit(alloc, world, name, &part.source);
     }
     writeln!(out, "== {kind} {name}")?;
     match kind {

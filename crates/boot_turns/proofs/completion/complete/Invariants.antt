@@ -1,4 +1,4 @@
-use Rattle.std.proofs.Common.{◌≡◌, ℕ, ◌+◌, ◌≤◌, ◌<◌, ◌^◌, Some}
+use Rattle.std.proofs.Common.{◌≡◌, ℕ, ◌+◌, ◌≤◌, Some}
 use Rattle.std.specs.Prelude.{length}
 use Rattle.mips_table.specs.Fits.{NamesSector}
 use Rattle.mips_table.specs.Machine.{State, run}

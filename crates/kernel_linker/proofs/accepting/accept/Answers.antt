@@ -6,31 +6,31 @@ use Rattle.layer_map.specs.Map.{ParamsInRange}
 use Rattle.c0_tree.specs.View.{unit_view}
 use Rattle.boot_image.specs.Parts.{Parts as Image}
 use Rattle.boot_image.specs.Reading.{answer}
-use Rattle.kernel_linker.specs.Accept.{system_of, stored}
+use Rattle.kernel_linker.specs.Accept.{system_of, stored, accept_answer}
 use Rattle.kernel_linker.specs.Linked.{linked, sizes_of}
-use Rattle.kernel_linker.proofs.AcceptSteps.{unread_file, wanting, unread_source, forged_image, accepted_image, spelled_params, spelled_users, spelled_sizes}
+use Rattle.kernel_linker.proofs.AcceptSteps.{source_stops, unread_file, wanting, unread_source, forged_image, accepted_image, spelled_params, spelled_users, spelled_sizes}
 use Rattle.kernel_linker.proofs.accepting.accept.Goals as goal
 
 pub returns-in_err-image-clause-is : goal.returns-in_err-image-clause-is
 returns-in_err-image-clause-is g c =
     let p = err_from_is_err_and c.from_residual.result c.from_residual.ensures.1 in
-    unread_file g.M.LayerMaker.made (λ a. system_of a.boot) (answer c.args.bytes.now) c.from_residual.result p.0 c.in_err-image.field-0.0 p.1 p.2 c.in_err-image.ensures.is
+    unread_file (accept_answer g.M.LayerMaker.made) (λ a. system_of a.boot) (answer c.args.bytes.now) c.from_residual.result p.0 c.in_err-image.field-0.0 p.1 p.2 c.in_err-image.ensures.is
 
 pub returns-in_err-unit-clause-is : goal.returns-in_err-unit-clause-is
 returns-in_err-unit-clause-is g c =
     let p = err_from_is_err_and c.from_residual-in_err-unit.result c.from_residual-in_err-unit.ensures.1 in
     let same : c.deref.result.now ≡ c.in_ok-image.image.source = cc (c.deref.ensures.value, ap (λ (i : Image). i.source) c.image.view_is) in
-    unread_source g.M.LayerMaker.made (λ a. system_of a.boot) (answer c.args.bytes.now) c.in_ok-image.image c.from_residual-in_err-unit.result p.0 c.in_err-unit.field-0.0 c.deref.result.now c.in_ok-image.ensures.is p.1 p.2 c.in_err-unit.ensures.fault same
+    unread_source (accept_answer g.M.LayerMaker.made) (λ a. system_of a.boot) (answer c.args.bytes.now) c.in_ok-image.image c.from_residual-in_err-unit.result p.0 c.in_err-unit.field-0.0 c.deref.result.now (source_stops g.M.LayerMaker.made c.in_ok-image.image c.in_err-unit.field-0.0) c.in_ok-image.ensures.is p.1 p.2 c.in_err-unit.ensures.fault same
 
 pub returns-in_err-code-clause-is : goal.returns-in_err-code-clause-is
 returns-in_err-code-clause-is g c =
     let p = err_from_is_err_and c.from_residual-in_err-code.result c.from_residual-in_err-code.ensures.1 in
-    wanting g.M.LayerMaker.made (λ a. system_of a.boot) (answer c.args.bytes.now) c.in_ok-image.image c.from_residual-in_err-code.result p.0 c.in_ok-image.ensures.is p.1 p.2
+    wanting (accept_answer g.M.LayerMaker.made) (λ a. system_of a.boot) (answer c.args.bytes.now) c.in_ok-image.image c.from_residual-in_err-code.result p.0 c.in_ok-image.ensures.is p.1 p.2
 
 pub returns-in_err-joined-clause-is : goal.returns-in_err-joined-clause-is
 returns-in_err-joined-clause-is g c =
     let p = err_from_is_err_and c.from_residual-in_err-joined.result c.from_residual-in_err-joined.ensures.1 in
-    wanting g.M.LayerMaker.made (λ a. system_of a.boot) (answer c.args.bytes.now) c.in_ok-image.image c.from_residual-in_err-joined.result p.0 c.in_ok-image.ensures.is p.1 p.2
+    wanting (accept_answer g.M.LayerMaker.made) (λ a. system_of a.boot) (answer c.args.bytes.now) c.in_ok-image.image c.from_residual-in_err-joined.result p.0 c.in_ok-image.ensures.is p.1 p.2
 
 pub returns-in_err-check_words-clause-is : goal.returns-in_err-check_words-clause-is
 returns-in_err-check_words-clause-is g c =

@@ -1,0 +1,161 @@
+// What a trace keeps between two steps, and the rows that it prints.
+ghost use Rattle.std.specs.Prelude.{◌≡◌, ℕ, ◌+◌, ◌-◌, ◌<◌, ◌^◌, ◌++◌, [], false, OnOk, OnErr};
+ghost use Rattle.std.specs.Io.KnownBytes.{append_known};
+ghost use Rattle.cvm_outside.specs.Causes.{Counts};
+ghost use Rattle.cvm_outside.specs.Told.{AppendsPart};
+ghost use Rattle.mips_machine.specs.Machine.{state_of};
+ghost use Rattle.cvm_model.specs.Text.{steps_row as steps_text, journal_rows_after};
+ghost use Rattle.boot_turns.specs.Entries.{noted_at, turn_begins, call_ends, IsNoCopy};
+ghost use Rattle.boot_turns.specs.JournalText.{steps_after};
+
+use crate::completion::Begun;
+use crate::journal_text::{put_row, set_row, size_row, steps_row, trap_row};
+use cvm_outside::{Sink, SinkFault};
+use mips_machine::Machine;
+
+/// The number of the special register that says the mode.
+const MODE: u32 = 7;
+
+/// The address of the first entry of a primitive. The ten entries are a word each.
+const PRIMITIVES: u32 = 0x2000;
+
+/// What is noted of a primitive at its entry.
+#[derive(Clone, Copy, Debug, PartialEq, Eq)]
+pub struct Entered {
+    /// Its number, 0 to 9.
+    pub primitive: u32,
+    /// Its return address.
+    pub back: u32,
+    /// The words of its arguments. Those past its last are of no use.
+    pub arguments: [u32; 5],
+}
+
+/// The note, where the machine is at the entry of a primitive.
+pub fn note_entry(machine: &Machine) -> Option<Entered>
+    ensures { result ≡ noted_at 10 (state_of machine.now []) }
+{
+    if machine.special(MODE) != 0 || machine.off().is_some() {
+        return None;
+    }
+    let pc = machine.pc();
+    if pc < PRIMITIVES || pc >= PRIMITIVES + 40 || pc % 4 != 0 {
+        return None;
+    }
+    Some(Entered {
+        primitive: (pc - PRIMITIVES) / 4,
+        back: machine.reg(31),
+        arguments: [
+            machine.reg(20),
+            machine.reg(21),
+            machine.reg(22),
+            machine.reg(23),
+            machine.reg(24),
+        ],
+    })
+}
+
+/// Prints the row of the steps that have none yet, and then this one.
+fn put_after<O: Sink>(steps: u64, row: &[u8], out: &mut O) -> Result<(), SinkFault>
+    ensures ok { OnOk result (O.text out.new ≡ append_known (O.text out.old) (steps_text steps ++ row.now)) }
+    ensures err { OnErr result (AppendsPart (O.text out.old) (O.text out.new) (steps_text steps ++ row.now)) }
+    ensures count { Counts (O.faults out.old) (O.faults out.new) result }
+{
+    out.put(steps_row(steps).as_str().as_bytes())?;
+    out.put(row)
+}
+
+/// What a trace keeps between two steps.
+#[derive(Clone, Copy, Debug, PartialEq, Eq)]
+pub struct Tracer {
+    /// The user that is traced, from 1.
+    pub user: u32,
+    /// How many untrapped steps of the user have no row yet.
+    pub steps: u64,
+    /// What is noted of the primitive that is under way.
+    pub call: Option<Entered>,
+}
+
+impl Tracer {
+    /// Prints what begins with a turn under this current user, by what is noted after its first step: a trap. A step is counted.
+    ///
+    /// # Errors
+    ///
+    /// A fault of the sink.
+    pub fn begin<O: Sink>(
+        &mut self,
+        current: u32,
+        begun: &Begun,
+        out: &mut O,
+    ) -> Result<(), SinkFault>
+        requires few { self.old.steps < 2 ^ 64 - 1 }
+        ensures ok { OnOk result (O.text out.new ≡ append_known (O.text out.old) (journal_rows_after false self.old.steps (turn_begins self.old.user current begun.now))) }
+        ensures err { OnErr result (AppendsPart (O.text out.old) (O.text out.new) (journal_rows_after false self.old.steps (turn_begins self.old.user current begun.now))) }
+        ensures steps { OnOk result (self.new ≡ record self.old { steps = steps_after self.old.steps (turn_begins self.old.user current begun.now) }) }
+        ensures count { Counts (O.faults out.old) (O.faults out.new) result }
+    {
+        if current != self.user {
+            return Ok(());
+        }
+        if !begun.dispatched {
+            self.steps += 1;
+            return Ok(());
+        }
+        if begun.cause <= 1 {
+            return Ok(());
+        }
+        self.put(
+            trap_row(begun.cause, begun.edata).as_str().as_bytes(),
+            out,
+        )
+    }
+
+    /// Prints the row of the steps that have none yet, and then this one.
+    ///
+    /// # Errors
+    ///
+    /// A fault of the sink.
+    fn put<O: Sink>(&mut self, row: &[u8], out: &mut O) -> Result<(), SinkFault>
+        ensures ok { OnOk result (O.text out.new ≡ append_known (O.text out.old) (steps_text self.old.steps ++ row.now)) }
+        ensures err { OnErr result (AppendsPart (O.text out.old) (O.text out.new) (steps_text self.old.steps ++ row.now)) }
+        ensures steps { OnOk result (self.new ≡ record self.old { steps = 0 }) }
+        ensures count { Counts (O.faults out.old) (O.faults out.new) result }
+    {
+        put_after(self.steps, row, out)?;
+        self.steps = 0;
+        Ok(())
+    }
+
+    /// Prints the row of a primitive that has returned with this answer: of a put of a register, of a size or of a word. The primitive
+    /// that copies words has other rows.
+    ///
+    /// # Errors
+    ///
+    /// A fault of the sink.
+    pub fn end_call<O: Sink>(
+        &mut self,
+        call: &Entered,
+        answer: u32,
+        out: &mut O,
+    ) -> Result<(), SinkFault>
+        requires no_copy { IsNoCopy call.now }
+        ensures ok { OnOk result (O.text out.new ≡ append_known (O.text out.old) (journal_rows_after false self.old.steps (call_ends self.old.user call.now answer []))) }
+        ensures err { OnErr result (AppendsPart (O.text out.old) (O.text out.new) (journal_rows_after false self.old.steps (call_ends self.old.user call.now answer []))) }
+        ensures steps { OnOk result (self.new ≡ record self.old { steps = steps_after self.old.steps (call_ends self.old.user call.now answer []) }) }
+        ensures count { Counts (O.faults out.old) (O.faults out.new) result }
+    {
+        let [user, second, third, _, _] = call.arguments;
+        if answer != 1 || user != self.user {
+            return Ok(());
+        }
+        if call.primitive == 1 {
+            return self.put(set_row(second, third).as_str().as_bytes(), out);
+        }
+        if call.primitive == 3 {
+            return self.put(size_row(second).as_str().as_bytes(), out);
+        }
+        if call.primitive == 5 {
+            return self.put(put_row(second, third).as_str().as_bytes(), out);
+        }
+        Ok(())
+    }
+}

@@ -1,4 +1,0 @@
-pub mod Meaning
-pub mod Code
-pub mod Runs
-pub mod Emit

@@ -1,8 +1,0 @@
--- A number that is too large so far stays too large.
-use Rattle.std.proofs.Common.{arith}
-use Rattle.first_source.proofs.Lexing.{digits_value_too_large}
-use Rattle.first_source.proofs.tokens.digits_value.Goals as goal
-
-pub returns-then-value-gt-MAX_NUMBER : goal.returns-then-value-gt-MAX_NUMBER
-returns-then-value-gt-MAX_NUMBER c small =
-    omega (arith, digits_value_too_large c.args.digits.now c.loop-digit.digit-index 2147483647 c.loop-digit-test.true (omega arith))

@@ -1,7 +1,0 @@
--- The number read so far is what the digits before it spell, and is small.
-use Rattle.std.proofs.Common.{◌≡◌, ◌≤◌, take}
-use Rattle.first_source.specs.Lexis.{digits_value}
-use Rattle.first_source.proofs.tokens.digits_value.Given as goal
-
-abbrev pub invariant-loop-digit : goal.invariant-loop-digit
-invariant-loop-digit l = record { small : l.value ≤ 2147483647; spelled : l.value ≡ digits_value (take l.digit-index l.digits) }
