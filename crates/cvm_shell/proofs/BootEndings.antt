@@ -78,7 +78,7 @@ pub run_made : (booted : Booted) (rows : Rows) (turns steps : ℕ) (b : Boot) (a
     → (e ≡ headline.NoMemory → Leaves old new []) → RunEnds b (system_of booted) rows status old new
 run_made booted rows turns steps b answer e status old new t s files called room is stands nothing_done =
     let mine : Called booted rows b.turns b.steps answer old new =
-        subst (λ (n : ℕ). Called booted rows b.turns n answer old new) (sym s) (subst (λ (n : ℕ). Called booted rows n steps answer old new) (sym t) called) in
+    subst (λ (n : ℕ). Called booted rows b.turns n answer old new) (sym s) (subst (λ (n : ℕ). Called booted rows n steps answer old new) (sym t) called) in
     run e stands (record {
       room = subst (λ (n : ℕ). n ≤ old.disk.size) (same_need booted) room;
       files = files;
@@ -127,7 +127,7 @@ pub small_made : (booted : Booted) (rows : Rows) (b : Boot) (need have : ℕ) (s
 small_made booted rows b need have status old new files (user, n, h, less) disk faults cases all part =
     let needed : need ≡ sectors_needed (system_of booted) = n ∙ same_need booted in
     let row : refusal_text (small_disk need have) ≡ refusal_text (small_disk (sectors_needed (system_of booted)) old.disk.size) =
-        ap (λ (k : ℕ). refusal_text (small_disk k have)) needed ∙ ap (λ (k : ℕ). refusal_text (small_disk (sectors_needed (system_of booted)) k)) h in
+    ap (λ (k : ℕ). refusal_text (small_disk k have)) needed ∙ ap (λ (k : ℕ). refusal_text (small_disk (sectors_needed (system_of booted)) k)) h in
     small (subst (λ (k : ℕ). k < sectors_needed (system_of booted)) h (subst (λ (k : ℕ). have < k) needed less)) faults
     (subst (λ (text : List ℕ). Says Disk text old new status) row
     (row_said Disk status (refusal_text (small_disk need have)) old new (record { files = files; disk = disk }) cases all part))
