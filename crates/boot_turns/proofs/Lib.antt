@@ -21,3 +21,4 @@ pub mod JournalRows
 pub mod Tracing
 pub mod SetRow
 pub mod Puts
+pub mod Copying

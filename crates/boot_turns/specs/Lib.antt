@@ -7,3 +7,4 @@ pub mod Completes
 pub mod Advances
 pub mod Entries
 pub mod JournalText
+pub mod Copies
