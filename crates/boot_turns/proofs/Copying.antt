@@ -1,8 +1,9 @@
 -- The rows of words that are put one after another.
-use Rattle.std.proofs.Common.{◌≡◌, ℕ, zero, suc, ◌+◌, ◌-◌, ◌*◌, ◌/◌, ◌<◌, ◌≤◌, Bool, true, false, Option, List, [], ◌∷◌, ◌++◌, length, take, drop, refl, sym, ap, ap₂, ◌∙◌, subst, arith, append-nil}
+use Rattle.std.proofs.Common.{◌≡◌, ℕ, zero, suc, ◌+◌, ◌-◌, ◌*◌, ◌/◌, ◌<◌, ◌≤◌, Bool, true, false, Option, List, [], ◌∷◌, ◌++◌, length, take, drop, refl, sym, ap, ap₂, ◌∙◌, subst, arith, append-nil, ne_eqb}
 use Rattle.std.specs.Prelude.{◌==◌, slice_index}
 use Rattle.std.specs.Io.KnownBytes.{append_known}
 use Rattle.std.proofs.lemmas.List.{append_assoc}
+use Rattle.std.proofs.lemmas.Bool.{cond-false}
 use Rattle.cvm_outside.specs.Told.{AppendsPart}
 use Rattle.cvm_outside.proofs.Parts.{append_known-nil, puts-both, part-front, part-back}
 use Rattle.layer_map.specs.Map.{Map}
@@ -10,7 +11,11 @@ use Rattle.page_model.specs.Paging.{Paged}
 use Rattle.cvm_model.specs.Kernel.{JournalEntry, Put}
 use Rattle.cvm_model.specs.Primitives.{puts}
 use Rattle.cvm_model.specs.Text.{steps_row, entry_row, journal_rows_after}
+use Rattle.mips_machine.specs.Machine.{Held, state_of}
+use Rattle.cvm_model.specs.Paged.{paged_of}
+use Rattle.boot_report.specs.Texts.{EntriesFit, SameButViewed}
 use Rattle.boot_report.specs.Told.{user_word}
+use Rattle.boot_turns.specs.declared.tracer.Tracer.{Tracer}
 use Rattle.boot_turns.specs.JournalText.{steps_after}
 use Rattle.boot_turns.specs.Copies.{user_words, copy_rows, steps_left}
 use Rattle.boot_turns.proofs.JournalRows.{more}
@@ -42,10 +47,13 @@ module _ (m : Map) (a : Paged) (u steps address : ℕ) where
       ∙ ap (λ l. puts address (user_words m a u (address / 4) n) ++ Put (address + 4 * l) (user_word m a u (address / 4 + n)) ∷ []) (long n)
 
   -- after the first put no step is left with no row
+  none_after : (b : ℕ) (ws : List ℕ) → steps_after 0 (puts b ws) ≡ 0
+  none_after b [] = refl
+  none_after b (w ∷ ws) = none_after (b + 4) ws
+
   after_puts : (s b : ℕ) (ws : List ℕ) → steps_after s (puts b ws) ≡ steps_left s (length ws)
   after_puts s b [] = refl
-  after_puts s b (w ∷ []) = refl
-  after_puts s b (w ∷ v ∷ ws) = after_puts 0 (b + 4) (v ∷ ws)
+  after_puts s b (w ∷ ws) = none_after (b + 4) ws ∙ sym (cond-false (suc (length ws) == 0) s 0 (ne_eqb (suc (length ws)) 0 (λ e. absurd (omega (arith, e)))))
 
   left_is : (n : ℕ) → steps_after steps (puts address (user_words m a u (address / 4) n)) ≡ steps_left steps n
   left_is n = after_puts steps address (user_words m a u (address / 4) n) ∙ ap (steps_left steps) (long n)
@@ -105,3 +113,26 @@ module _ (m : Map) (a : Paged) (u steps address : ℕ) where
 
   pub none_put : (old : Option (List ℕ)) → old ≡ append_known old (copy_rows m a u steps address 0)
   none_put old = sym (append_known-nil old)
+
+pub left_none : (steps i : ℕ) → steps_left steps (i + 1) ≡ 0
+left_none steps i = cond-false (i + 1 == 0) steps 0 (ne_eqb (i + 1) 0 (λ e. absurd (omega (arith, e))))
+
+-- the tracer after one put more
+pub put_tracer : (old now new : Tracer) (i : ℕ) → now ≡ record old { steps = steps_left old.steps i } → new ≡ record now { steps = 0 } → new ≡ record old { steps = steps_left old.steps (i + 1) }
+put_tracer old now new i before is = is ∙ ap (λ (t : Tracer). record t { steps = 0 }) before ∙ ap (λ (n : ℕ). record old { steps = n }) (sym (left_none old.steps i))
+
+-- what is viewed is not part of the state
+pub state_same : (old new : Held) (ss : List (List ℕ)) → SameButViewed old new → state_of new ss ≡ state_of old ss
+state_same old new ss e = ap (λ h. state_of h ss) e
+
+pub same_twice : (a b c : Held) → SameButViewed a b → SameButViewed b c → SameButViewed a c
+same_twice a b c e f = f ∙ ap (λ (h : Held). record h { hardware = record h.hardware { viewed = c.hardware.viewed } }) e
+
+pub fits_then : (m : Map) (old new : Held) (ss : List (List ℕ)) → SameButViewed old new → EntriesFit m (state_of old ss) → EntriesFit m (state_of new ss)
+fits_then m old new ss e f = subst (EntriesFit m) (sym (state_same old new ss e)) f
+
+-- the row of the word that was read
+pub row_read : (m : Map) (old now : Held) (ss : List (List ℕ)) (u v k address word : ℕ) (row : List ℕ) → SameButViewed old now → v ≡ u → word ≡ user_word m (paged_of m (state_of now ss)) v k → row ≡ entry_row (Put address word) →
+    row ≡ entry_row (Put address (user_word m (paged_of m (state_of old ss)) u k))
+row_read m old now ss u v k address word row same e is r =
+    r ∙ ap (λ w. entry_row (Put address w)) (is ∙ ap (λ v. user_word m (paged_of m (state_of now ss)) v k) e ∙ ap (λ s. user_word m (paged_of m s) u k) (state_same old now ss same))
