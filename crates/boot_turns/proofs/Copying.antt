@@ -2,7 +2,7 @@
 use Rattle.std.proofs.Common.{◌≡◌, ℕ, zero, suc, ◌+◌, ◌-◌, ◌*◌, ◌/◌, ◌<◌, ◌≤◌, Bool, true, false, Option, List, [], ◌∷◌, ◌++◌, length, take, drop, refl, sym, ap, ap₂, ◌∙◌, subst, arith, append-nil, ne_eqb}
 use Rattle.std.specs.Prelude.{◌==◌, slice_index}
 use Rattle.std.specs.Io.KnownBytes.{append_known}
-use Rattle.std.proofs.lemmas.List.{append_assoc}
+use Rattle.std.proofs.lemmas.List.{append_assoc, get_or-drop, length-drop, take_more}
 use Rattle.std.proofs.lemmas.Bool.{cond-false}
 use Rattle.cvm_outside.specs.Told.{AppendsPart}
 use Rattle.cvm_outside.proofs.Parts.{append_known-nil, puts-both, part-front, part-back}
@@ -17,7 +17,7 @@ use Rattle.boot_report.specs.Texts.{EntriesFit, SameButViewed}
 use Rattle.boot_report.specs.Told.{user_word}
 use Rattle.boot_turns.specs.declared.tracer.Tracer.{Tracer}
 use Rattle.boot_turns.specs.JournalText.{steps_after}
-use Rattle.boot_turns.specs.Copies.{user_words, copy_rows, steps_left}
+use Rattle.boot_turns.specs.Copies.{user_words, copy_rows, steps_left, CopiesTell}
 use Rattle.boot_turns.proofs.JournalRows.{more}
 
 -- one word more is put
@@ -136,3 +136,13 @@ pub row_read : (m : Map) (old now : Held) (ss : List (List ℕ)) (u v k address 
     row ≡ entry_row (Put address (user_word m (paged_of m (state_of old ss)) u k))
 row_read m old now ss u v k address word row same e is r =
     r ∙ ap (λ w. entry_row (Put address w)) (is ∙ ap (λ v. user_word m (paged_of m (state_of now ss)) v k) e ∙ ap (λ s. user_word m (paged_of m s) u k) (state_same old now ss same))
+
+-- the words of the pages are those of the user
+pub copies_tell : CopiesTell
+copies_tell m s u k zero words told le = refl
+copies_tell m s u k (suc n) words told le =
+    let lt : k + n < length words = omega (arith, le) in
+    let long : length (drop k words) ≡ length words - k = length-drop k words in
+    let e : n + 1 ≡ suc n = omega arith in
+    ap₂ (λ (a : List ℕ) (w : ℕ). a ++ w ∷ []) (copies_tell m s u k n words told (omega (arith, le))) (told.word (k + n) lt ∙ sym (get_or-drop k words n 0))
+    ∙ sym (take_more (drop k words) n 0 (omega (arith, long, lt))) ∙ ap (λ i. take i (drop k words)) e

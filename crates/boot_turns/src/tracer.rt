@@ -171,7 +171,7 @@ impl Tracer {
     /// # Errors
     ///
     /// A fault of the disk, from which a page may have to be read, or of the sink.
-    fn put_words<D: Sectors, O: Sink>(
+    pub fn put_words<D: Sectors, O: Sink>(
         &mut self,
         machine: &mut Machine,
         map: &Map,
