@@ -3,3 +3,5 @@ pub mod MemoryLemmas
 pub mod UserLemmas
 pub mod Telling
 pub mod GlobalRows
+pub mod GlobalNumbers
+pub mod GlobalsGiven

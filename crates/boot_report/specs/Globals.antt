@@ -1,5 +1,5 @@
 -- The rows of the globals, by the words that stand for them.
-use Rattle.std.specs.Prelude.{◌≡◌, ◌≢◌, ℕ, ◌+◌, ◌==◌, if◌then◌else◌, Option, Some, List, [], ◌∷◌, ◌++◌, length, codes, slice_index, slice_index_or}
+use Rattle.std.specs.Prelude.{◌≡◌, ◌≢◌, ℕ, ◌+◌, ◌==◌, if◌then◌else◌, Option, Some, List, [], ◌∷◌, ◌++◌, codes, slice_index}
 use Rattle.std.specs.Fmt.{signed_decimal}
 use Rattle.mips_table.specs.Arith.{signed}
 use Rattle.c0_tree.specs.declared.tree.Decl.{Decl}
@@ -10,7 +10,6 @@ use Rattle.c0_meaning.specs.Value.{Value, Location}
 use Rattle.c0_meaning.specs.TypedState.{Layout, PointsTo, Fits}
 use Rattle.cvm_model.specs.Kernel.{flat}
 use Rattle.cvm_model.specs.Text.{global_row}
-use Rattle.boot_report.specs.Texts.{texts}
 
 -- the end of the row of a value of this type, by its word: a value that isn't scalar has no row
 abbrev pub value_end : Option Ty → ℕ → List ℕ
@@ -34,6 +33,7 @@ GlobalsTell = (structs : List Shape) (layout : Layout) (t : Ty) (v : Value) (nam
     ((l : Location) (u : Ty) → PointsTo structs layout l.region l.path u → address l ≢ 0) →
     named_row name (value_end (Some t) (slice_index (flat address v) 0)) ≡ global_row name v
 
--- the rows of the globals, each of which begins so many words behind the first: the default is never looked at
-abbrev pub globals_rows : Decl → List Decl → List ℕ → ℕ → List ℕ → List ℕ
-globals_rows d decls memory first offsets = texts (λ i. global_word_row (slice_index_or decls i d) (slice_index memory (first + slice_index offsets i))) (length decls)
+-- the rows of the globals, each of which begins so many words behind the first
+abbrev pub globals_rows : List Decl → List ℕ → ℕ → List ℕ → List ℕ
+globals_rows (d ∷ decls) memory first (n ∷ offsets) = global_word_row d (slice_index memory (first + n)) ++ globals_rows decls memory first offsets
+globals_rows decls memory first offsets = []

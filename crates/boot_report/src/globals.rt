@@ -3,7 +3,6 @@ ghost use Rattle.std.specs.Prelude.{◌≡◌, ◌+◌, ◌<◌, ◌≤◌, ℕ,
 ghost use Rattle.std.specs.Io.KnownBytes.{append_known};
 ghost use Rattle.cvm_outside.specs.Causes.{Counts};
 ghost use Rattle.cvm_outside.specs.Told.{AppendsPart};
-ghost use Rattle.c0_tree.specs.declared.tree.Decl.{Decl as Source};
 ghost use Rattle.c0_meaning.specs.Form.{form_view, ty_view};
 ghost use Rattle.layer_map.specs.Map.{globals_at, memory_words};
 ghost use Rattle.boot_report.specs.Globals.{value_end as end_of_value, named_row, global_word_row, globals_rows};
@@ -85,8 +84,8 @@ pub fn put_globals<O: Sink>(
     requires memory { memory_words map.now ≤ length machine.now.hardware.memory }
     requires small { memory_words map.now ≤ 30000000 }
     requires inside { (i : ℕ) → i < length offsets.now → globals_at map.now + slice_index offsets.now i < memory_words map.now }
-    ensures ok { (d : Source) → OnOk result (O.text out.new ≡ append_known (O.text out.old) (globals_rows d decls.now machine.now.hardware.memory (globals_at map.now) offsets.now)) }
-    ensures err { (d : Source) → OnErr result (AppendsPart (O.text out.old) (O.text out.new) (globals_rows d decls.now machine.now.hardware.memory (globals_at map.now) offsets.now)) }
+    ensures ok { OnOk result (O.text out.new ≡ append_known (O.text out.old) (globals_rows decls.now machine.now.hardware.memory (globals_at map.now) offsets.now)) }
+    ensures err { OnErr result (AppendsPart (O.text out.old) (O.text out.new) (globals_rows decls.now machine.now.hardware.memory (globals_at map.now) offsets.now)) }
     ensures count { Counts (O.faults out.old) (O.faults out.new) result }
 {
     let first = map.globals() / 4;

@@ -1,6 +1,9 @@
 // Laws, each the contract of a function that does nothing.
 ghost use Rattle.boot_report.specs.Globals.{GlobalsTell};
+ghost use Rattle.boot_report.specs.Given.{GlobalRowsTell};
 ghost use Rattle.boot_report.specs.Told.{RowsTell, WordsTell};
+
+use c0_meaning::laws::words_are_those_of_the_parts;
 
 /// A law: where the machine stands for a state of the abstract machine, the rows of users and log are those of its text, and each valid
 /// entry of the page tables names a frame of the memory.
@@ -17,3 +20,12 @@ pub fn the_words_tell()
 pub fn a_global_tells()
     ensures { GlobalsTell }
 {}
+
+/// A law: where memory holds the words of the globals of a typed state, one behind another, their rows are those of the abstract
+/// machine's text.
+pub fn the_globals_tell()
+    ensures { GlobalRowsTell }
+{
+    a_global_tells();
+    words_are_those_of_the_parts();
+}

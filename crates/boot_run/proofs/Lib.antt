@@ -4,3 +4,14 @@ pub mod Turned
 pub mod Loads
 pub mod Proceeding
 pub mod Readiness
+pub mod Placing
+pub mod Rows
+pub mod Room
+pub mod Reporting
+pub mod Going
+pub mod Looping
+pub mod Closing
+pub mod Premises
+pub mod Ending
+pub mod Booting
+pub mod Reports

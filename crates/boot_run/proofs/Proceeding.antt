@@ -83,14 +83,14 @@ module _ {L : Type 0} (r : Kept L) (count : ℕ) (told retold : Option (List (Li
         (adv u lines busy y old image sizes made_for boots laws replays k t c ready.stood running ready.state) wrote answer rows proper user is)
 
     -- and its row isn't printed whole
-    pub cut : (answer : Turn) → rows_of answer ≡ noted_rows r.turns b r.current (next_of_held held) → AppendsPart text retext (rows_text (rows_of answer)) →
+    pub cut : (answer : Turn) → rows_of answer ≡ noted_rows r.turns b r.current (next_of_held held) → (row : Row) → rows_of answer ≡ row ∷ [] → AppendsPart text retext (rows_text (rows_of answer)) →
         TurnRuns count r (around r told budget text) (around new retold left retext) (Err Sink)
-    cut answer rows is = λ u lines busy y old image sizes made_for base k t c boots laws replays ready running.
+    cut answer rows row one is = λ u lines busy y old image sizes made_for base k t c boots laws replays ready running.
         subst (λ (v : View). TurnEnds (outside_of r.machine.rows count) y old v base k t c (around r told budget text) (around new retold left retext) (Err Sink)) (sym view)
         (broken (outside_of r.machine.rows count) y old (run u lines busy (outside_of r.machine.rows count) y old image sizes made_for boots laws replays) base k t c
         (around r told budget text) (around new retold left retext)
         (subst (λ (v : View). Ready (outside_of r.machine.rows count) y old v base k t c (around r told budget text)) view ready) running retold held b refl
-        (adv u lines busy y old image sizes made_for boots laws replays k t c ready.stood running ready.state) wrote answer rows is)
+        (adv u lines busy y old image sizes made_for boots laws replays k t c ready.stood running ready.state) wrote answer rows row one is)
 
   module _ (b : Begun) (adv : Advances count r.machine held told retold budget left (Ok b)) (small : r.machine.time + budget < 2 ^ 64) (turns word : ℕ) (ended : Option Next) (turns_are : turns ≡ min (r.turns + 1) (2 ^ 64 - 1))
       (word_is : word ≡ current_word held) (ended_is : ended ≡ end_of_next (next_of_held held)) where
@@ -111,7 +111,7 @@ module _ {L : Type 0} (r : Kept L) (count : ℕ) (told retold : Option (List (Li
         AppendsPart text retext bytes → TurnRuns count r (around r told budget text) (around (record r { machine = held; turns = turns; current = word; ended = ended }) retold left retext) (Err Sink)
     cut_row retext n bytes next e is part =
         cut b adv small turns word ended turns_are word_is ended_is retext (Dispatch (record { turn = r.turns; cause = b.cause; edata = b.edata; user = r.current; next = n }))
-        (one_row r.turns r.current b n e ∙ ap (noted_rows r.turns b r.current) next)
+        (one_row r.turns r.current b n e ∙ ap (noted_rows r.turns b r.current) next) (record { turn = r.turns; cause = b.cause; edata = b.edata; user = r.current; next = n }) refl
         (subst (AppendsPart text retext) (is ∙ sym (append-nil _)) part)
 
 -- the same of the run as the call found it
@@ -164,7 +164,7 @@ faulted : (x : Outside) (y : System) (old : List (List ℕ)) (v : View) (base : 
 faulted x y old v base k t c before after StepLimit kept w =
     record { spent = w.spent; state = w.state; steps = w.steps; between = w.between; on = w.on; ended = w.ended; shown = w.shown; printed = w.printed; text = w.text }
 faulted x y old v base k t c before after Disk kept w =
-    record { at = w.at; from = w.from; steps = w.steps; budget = w.budget; between = w.between; ended = w.ended; shown = w.shown; printed = w.printed; text = w.text }
+    record { at = w.at; from = w.from; steps = w.steps; budget = w.budget; between = w.between; on = w.on; torn = w.torn; ended = w.ended; shown = w.shown; printed = w.printed; text = w.text }
 faulted x y old v base k t c before after Sink kept w =
     record { at = w.at; state = w.state; steps = w.steps; budget = w.budget; past = w.past; cvm = w.cvm; ended = w.ended; shown = w.shown; printed = w.printed; text = w.text }
 

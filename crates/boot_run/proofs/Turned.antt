@@ -221,6 +221,8 @@ module _ (x : Outside) (y : System) (old : List (List ℕ)) (m : Machines x y ol
         steps = omega (arith, time, spent, steps);
         budget = omega (arith, spent);
         between = s.goes.between;
+        on = s.goes.on;
+        torn = s.torn;
         ended = ended ∙ r.ended ∙ ap ended_of running;
         shown = r.shown;
         printed = printed_at s.at (s.goes.between s.at s.from (omega arith));
@@ -263,8 +265,8 @@ module _ (x : Outside) (y : System) (old : List (List ℕ)) (m : Machines x y ol
     }
 
     -- or a part of it
-    pub broken : AppendsPart before.text after.text (rows_text (rows_of answer)) → SinkFailed x y old Boot base k t c before after
-    broken (n, text) = record {
+    pub broken : (row : Row) → rows_of answer ≡ row ∷ [] → AppendsPart before.text after.text (rows_text (rows_of answer)) → SinkFailed x y old Boot base k t c before after
+    broken row one (n, text) = record {
       at = adv.ahead.end;
       state = state ∙ adv.state;
       steps = at_end;
@@ -281,6 +283,7 @@ module _ (x : Outside) (y : System) (old : List (List ℕ)) (m : Machines x y ol
           is = sym (take-append-add r.shown (rows_text (rows_of answer)) n) ∙ ap (take (length r.shown + n)) (ap (λ l. l ++ rows_text (rows_of answer)) so_far ∙ sym (rows_text-append c.rows (rows_of answer)) ∙ ap rows_text (sym row_is));
           holds = subst (λ l. take (length l) (r.shown ++ take n (rows_text (rows_of answer))) ≡ l) so_far (take_own r.shown (take n (rows_text (rows_of answer))));
         },
+        (row, row_is ∙ ap (λ l. c.rows ++ l) one),
       );
       text = text ∙ ap (λ o. append_known o (take n (rows_text (rows_of answer)))) r.text ∙ append_known-append base r.shown (take n (rows_text (rows_of answer)));
     }

@@ -2,3 +2,6 @@ pub mod Loading
 pub mod LoadEnds
 pub mod TurnCalls
 pub mod Shown
+pub mod Placed
+pub mod Report
+pub mod Whole

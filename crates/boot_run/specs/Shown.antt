@@ -1,5 +1,5 @@
 -- Who is next, as the machine shows it at the end of a turn.
-use Rattle.std.specs.Prelude.{ℕ, ◌==◌, if◌then◌else◌, Option, Some, None}
+use Rattle.std.specs.Prelude.{ℕ, Bool, true, false, ◌==◌, if◌then◌else◌, Option, Some, None}
 use Rattle.cvm_model.specs.declared.kernel_fault.KernelFault.{KernelFault}
 use Rattle.cvm_model.specs.declared.kernel_fault.KernelFault.TheVariants.{NullUse, Bounds, DivZero, StackOut, BadUser}
 use Rattle.cvm_model.specs.declared.row.Next.{Next}
@@ -24,3 +24,8 @@ abbrev pub end_of_next : Next → Option Next
 end_of_next (User u) = None
 end_of_next Halt = Some Halt
 end_of_next (Fault f) = Some (Fault f)
+
+-- whether it has ended by a fault of the kernel
+abbrev pub has_faulted : Option Next → Bool
+has_faulted (Some (Fault f)) = true
+has_faulted other = false

@@ -16,7 +16,7 @@ use Rattle.cvm_model.specs.declared.row.Row.{Row}
 use Rattle.cvm_model.specs.Text.{rows_text}
 use Rattle.layer_contract.specs.Layer.{Laws}
 use Rattle.layer_contract.specs.Follows.{site_of, machine, loaded}
-use Rattle.boot_turns.specs.Completes.{seen}
+use Rattle.boot_turns.specs.Completes.{seen, SeenTorn}
 use Rattle.boot_turns.specs.Headline.{Boots}
 use Rattle.boot_turns.specs.TurnEnds.{Stood, Ahead, Printed, Rows, Whole, TextBefore, Prefix, PrintedBroken}
 use Rattle.boot_turns.specs.declared.answers.View.{View}
@@ -105,6 +105,8 @@ pub record DiskFailed (x : Outside) (y : System) (old : List (List ℕ)) (v : Vi
   pub steps : after.steps ≡ suc at
   pub budget : after.budget + suc at ≡ before.budget + t
   pub between : (j : ℕ) → t ≤ j → j ≤ at → complete x (loaded y old) j ≡ k
+  pub on : (j : ℕ) → j ≤ at → (machine x y old j).off ≡ None
+  pub torn : SeenTorn x (machine x y old at) after.state
   pub ended : after.ended ≡ None
   pub shown : List ℕ
   pub printed : PrintedBroken x y old v at shown
@@ -112,7 +114,7 @@ pub record DiskFailed (x : Outside) (y : System) (old : List (List ℕ)) (v : Vi
 
 -- what of turn k was printed where the sink failed after so many steps: of a boot its row, when it was complete; of a trace rows of a step
 abbrev pub PutBroken : Outside → System → List (List ℕ) → View → (k t : ℕ) → Cvm → ℕ → List ℕ → Type 0
-PutBroken x y old Boot k t c at text = (ahead : Ahead x y old k t c) × (at ≡ ahead.end) × Prefix (rows_text c.rows) (rows_text ahead.after.rows) text
+PutBroken x y old Boot k t c at text = (ahead : Ahead x y old k t c) × (at ≡ ahead.end) × Prefix (rows_text c.rows) (rows_text ahead.after.rows) text × ((row : Row) × (ahead.after.rows ≡ c.rows ++ row ∷ []))
 PutBroken x y old (Trace u) k t c at text = (whole : List ℕ) × (t ≤ at) × (Rows x y old (Trace u) at whole ⊎ Whole x y old (Trace u) at whole) × Prefix [] whole text
 
 -- the sink failed in turn k

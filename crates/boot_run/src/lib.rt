@@ -4,9 +4,13 @@
 mod load;
 mod next;
 mod pages;
+mod places;
+mod report;
 mod run;
+mod whole;
 
 pub use boot_turns::{RunFault, Turn, View};
 pub use cvm_model::{Next, Row};
 pub use load::LoadFault;
 pub use run::Run;
+pub use whole::{RunEnd, run_whole};

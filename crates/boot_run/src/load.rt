@@ -1,11 +1,6 @@
 // The machine of a boot, loaded.
 ghost use Rattle.std.specs.Prelude.{◌≡◌, ◌≢◌, ℕ, ◌*◌, ◌/◌, ◌^◌, ◌<◌, ◌≤◌, All, List, length, map, IfOk, IfErr, OnOk, OnErr, Err, Ok};
 ghost use Rattle.cvm_outside.specs.Causes.{Counts};
-ghost use Rattle.c0_tree.specs.Tree.{CUnit};
-ghost use Rattle.c0_tree.specs.View.{decl_view, unit_view};
-ghost use Rattle.c0_meaning.specs.Env.{typed_of};
-ghost use Rattle.c0_meaning.specs.Sound.{shapes, IsSized};
-ghost use Rattle.c0_meaning.specs.Words.{all_words};
 ghost use Rattle.layer_map.specs.Map.{MapInRange, memory_frames};
 ghost use Rattle.cvm_model.specs.Cvm.{map_of};
 ghost use Rattle.layer_contract.specs.Boots.{boot_of};
@@ -16,12 +11,8 @@ ghost use Rattle.boot_run.specs.LoadEnds.{pages_needed, SeesUser, HasRoom, LoadF
 
 use crate::pages::put_words;
 use boot_turns::View;
-use c0_meaning::laws::well_formed_units_are_sized;
-use c0_meaning::{Measured, words_of};
-use c0_structs::measured;
-use c0_tree::Decl;
 use layer_contract::Boot;
-use layer_map::{LAYER_WORDS, Map};
+use layer_map::Map;
 use mips_machine::Machine;
 use schedule_file::Schedule;
 use std::alloc::{AllocError, Global};
@@ -73,46 +64,6 @@ pub(crate) fn check_view(view: View, users: u32) -> Result<(), LoadFault>
     }
 }
 
-/// The words of declarations.
-fn decls_words(decls: &[Decl], unit: &Measured<'_>) -> u64
-    requires decls { All (λ d. IsSized (shapes (unit_view unit.now)) d.ty) (map decl_view decls.now) }
-    requires few { length decls.now < 2 ^ 32 }
-    ensures { result ≡ all_words (shapes (unit_view unit.now)) (map typed_of (map decl_view decls.now)) }
-{
-    let mut words = 0;
-    for decl in decls {
-        words += u64::from(words_of(&decl.ty, unit));
-    }
-    words
-}
-
-/// The words of a unit's globals.
-fn global_words(unit: &Measured<'_>) -> u64
-    ensures { result ≡ all_words (shapes (unit_view unit.now)) (map typed_of (unit_view unit.now).globals) }
-{
-    well_formed_units_are_sized();
-    decls_words(&unit.unit().globals, unit)
-}
-
-/// The map of what is booted.
-///
-/// # Errors
-///
-/// Want of memory.
-fn map_of_boot(alloc: Global, boot: &Boot) -> Result<Map, AllocError>
-    requires { MapInRange (map_of (boot_of boot.now)) }
-    ensures { IfOk result (λ m. m ≡ map_of (boot_of boot.now)) }
-{
-    let unit = measured(alloc, boot.unit.unit())?;
-    let code_words = (boot.words.len() as u32).saturating_sub(LAYER_WORDS);
-    Ok(Map::of(
-        &boot.params,
-        boot.users.len() as u32,
-        code_words,
-        global_words(&unit) as u32,
-    ))
-}
-
 /// The machine of what is booted, with the linked words in its memory.
 ///
 /// # Errors
@@ -120,13 +71,14 @@ fn map_of_boot(alloc: Global, boot: &Boot) -> Result<Map, AllocError>
 /// Want of memory.
 pub(crate) fn loaded_machine(
     alloc: Global,
+    map: &Map,
     boot: &Boot,
     schedule: Schedule,
 ) -> Result<Machine, AllocError>
-    requires { MapInRange (map_of (boot_of boot.now)) }
+    requires range { MapInRange map.now }
+    requires map { map.now ≡ map_of (boot_of boot.now) }
     ensures { IfOk result (λ m. m ≡ with_words (started (memory_frames (map_of (boot_of boot.now))) schedule) boot.now.words.items) }
 {
-    let map = map_of_boot(alloc, boot)?;
     let mut machine = Machine::new(alloc, map.memory_frames(), schedule)?;
     put_words(&mut machine, boot.words.as_slice());
     Ok(machine)

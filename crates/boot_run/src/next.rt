@@ -1,6 +1,6 @@
 // Who is next, as the machine shows it at the end of a turn.
 ghost use Rattle.std.specs.Prelude.{◌≡◌, ◌<◌, length, slice_index};
-ghost use Rattle.boot_run.specs.Shown.{fault_of_power, next_shown, end_of_next};
+ghost use Rattle.boot_run.specs.Shown.{fault_of_power, next_shown, end_of_next, has_faulted};
 
 use cvm_model::{KernelFault, Next};
 use layer_map::CURRENT;
@@ -39,5 +39,15 @@ pub(crate) fn ended_by(next: Next) -> Option<Next>
         Next::User(_) => None,
         Next::Halt => Some(Next::Halt),
         Next::Fault(fault) => Some(Next::Fault(fault)),
+    }
+}
+
+/// Whether a run has ended by a fault of the kernel.
+pub(crate) fn has_faulted(ended: Option<Next>) -> bool
+    ensures { result ≡ has_faulted ended }
+{
+    match ended {
+        Some(Next::Fault(_)) => true,
+        _ => false,
     }
 }

@@ -1,22 +1,29 @@
 // A loaded run.
-ghost use Rattle.std.specs.Prelude.{◌≡◌, ◌≢◌, List, Option, ℕ, ◌+◌, ◌<◌, ◌≤◌, ◌^◌, length, IfOk, IfErr, IfSome, IsSome, OnOk, OnErr, Err, Ok, Some, None};
+ghost use Rattle.std.specs.Prelude.{false, ◌≡◌, ◌≢◌, List, Option, ℕ, ◌+◌, ◌<◌, ◌≤◌, ◌^◌, length, IfOk, IfErr, IfSome, IsSome, OnOk, OnErr, Err, Ok, Some, None};
+ghost use Rattle.std.specs.Result.{result_err};
 ghost use Rattle.cvm_outside.specs.Causes.{Counts, Rose};
 ghost use Rattle.layer_contract.specs.Boots.{BootFollows};
 ghost use Rattle.mips_table.specs.Device.{Outside};
 ghost use Rattle.boot_run.specs.Loading.{system_of, StaysFrom};
 ghost use Rattle.boot_run.specs.LoadEnds.{pages_needed, IsFresh, StandsLoaded, LoadFails};
+ghost use Rattle.boot_report.specs.Texts.{SameButViewed};
+ghost use Rattle.boot_run.specs.Shown.{has_faulted};
+ghost use Rattle.boot_run.specs.Report.{ReportRuns};
 ghost use Rattle.boot_run.specs.TurnCalls.{around, IsOver, IsReady, KeepsLoad, TurnRuns};
 
 use crate::load::{LoadFault, check_view, loaded_machine};
-use crate::next::{ended_by, seen_next};
+use crate::next::{ended_by, has_faulted, seen_next};
 use crate::pages::write_pages;
+use crate::places::{Places, places_of};
+use crate::report::put_closing;
 use boot_turns::completion::advance;
 use boot_turns::row_text::row_text;
-use boot_turns::{RunFault, Turn, View, machines_run};
+use boot_report::{ReportFault, the_globals_tell, the_rows_tell};
+use boot_turns::{RunFault, Turn, View, machines_run, runs_stay_typed};
 use cvm_model::{Next, Row};
 use cvm_outside::{Sectors, Sink};
 use layer_contract::{Boot, Layer};
-use layer_map::CURRENT;
+use layer_map::{CURRENT, memory_is_whole, parts_are_in_order};
 use mips_machine::Machine;
 use schedule_file::Schedule;
 use std::alloc::Global;
@@ -34,11 +41,13 @@ pub struct Run<L> {
     current: u32,
     ended: Option<Next>,
     fault: Option<RunFault>,
+    places: Places,
 }
 
 impl<L> Model for Run<L> {
     ghost use Rattle.std.specs.Prelude.{◌<◌, length, IsTrue};
     ghost use Rattle.boot_run.specs.LoadEnds.{Kept, names_sector};
+    ghost use Rattle.boot_run.specs.Placed.{IsPlaced};
     ghost use Rattle.std.specs.Coded.{codes};
     ghost use Rattle.layer_contract.specs.contracts.boot.Boot as booted;
 
@@ -48,7 +57,7 @@ impl<L> Model for Run<L> {
 
     ghost view = { λ r. record { layer = r.layer; boot = r.boot; view = r.view; count = r.count; machine = r.machine; turns = r.turns; current = r.current; ended = r.ended; fault = r.fault } };
 
-    ghost invariant = { λ r. IsTrue (names_sector r.count r.machine.hardware.ports.pending) × (1024 < length r.machine.hardware.memory) };
+    ghost invariant = { λ r. IsTrue (names_sector r.count r.machine.hardware.ports.pending) × (1024 < length r.machine.hardware.memory) × IsPlaced r.boot r.places.map r.places.offsets.items r.machine.hardware.memory r.count };
 }
 
 impl<L: Layer + Drop> Run<L> {
@@ -84,7 +93,8 @@ impl<L: Layer + Drop> Run<L> {
         if have < need {
             return Err(LoadFault::SmallDisk { need, have });
         }
-        let machine = loaded_machine(alloc, &boot, schedule)?;
+        let places = places_of(alloc, &boot)?;
+        let machine = loaded_machine(alloc, &places.map, &boot, schedule)?;
         match write_pages(boot.users.as_slice(), boot.params.pages, disk) {
             Ok(()) => Ok(Run {
                 layer,
@@ -96,6 +106,7 @@ impl<L: Layer + Drop> Run<L> {
                 current: 0,
                 ended: None,
                 fault: None,
+                places,
             }),
             Err(_) => Err(LoadFault::Disk),
         }
@@ -189,6 +200,81 @@ impl<L: Layer + Drop> Run<L> {
                 Err(fault)
             }
         }
+    }
+
+    /// Prints the end and the report of a run that halted, or goes on.
+    fn put_report<D: Sectors, O: Sink>(
+        &mut self,
+        disk: &mut D,
+        out: &mut O,
+    ) -> Result<(), RunFault>
+        requires disk { D.size disk.old ≡ self.old.count }
+        requires view { self.old.view ≡ View.Boot }
+        requires goes_on { has_faulted self.old.ended ≡ false }
+        ensures same { self.new ≡ record self.old { machine = self.new.machine } }
+        ensures machine { SameButViewed self.old.machine self.new.machine }
+        ensures sectors { D.sectors disk.new ≡ D.sectors disk.old }
+        ensures size { D.size disk.new ≡ D.size disk.old }
+        ensures ends { ReportRuns (D.size disk.old) self.old (record self.new { fault = result_err result }) (D.sectors disk.old) (D.sectors disk.new) (O.text out.old) (O.text out.new) result }
+        ensures limit { result ≢ Err RunFault.StepLimit }
+        ensures disk { result ≡ Err RunFault.Disk → Rose (D.faults disk.old) (D.faults disk.new) }
+        ensures disk_same { result ≢ Err RunFault.Disk → D.faults disk.new ≡ D.faults disk.old }
+        ensures sink { result ≡ Err RunFault.Sink → Rose (O.faults out.old) (O.faults out.new) }
+        ensures sink_same { result ≢ Err RunFault.Sink → O.faults out.new ≡ O.faults out.old }
+    {
+        machines_run();
+        runs_stay_typed();
+        the_rows_tell();
+        the_globals_tell();
+        parts_are_in_order();
+        memory_is_whole();
+        let halted = self.ended.is_some();
+        let decls = self.boot.unit.unit().globals.as_slice();
+        match put_closing(&mut self.machine, &self.places, decls, halted, self.current, disk, out) {
+            Ok(()) => return Ok(()),
+            Err(ReportFault::Disk) => return Err(RunFault::Disk),
+            Err(ReportFault::Sink) => return Err(RunFault::Sink),
+        }
+    }
+
+    /// Prints the end and the report of a run that halted, or goes on. Where the kernel faulted the row of that turn ended the text, and
+    /// nothing is printed. It reads pages from the disk, and writes nothing there.
+    ///
+    /// # Errors
+    ///
+    /// `Disk` and `Sink`, only where the count of faults of that object rose. After a fault each call answers it again, and touches
+    /// nothing.
+    pub fn report<D: Sectors, O: Sink>(
+        &mut self,
+        disk: &mut D,
+        out: &mut O,
+    ) -> Result<(), RunFault>
+        requires disk { D.size disk.old ≡ self.old.count }
+        requires view { self.old.view ≡ View.Boot }
+        ensures same { self.new ≡ record self.old { machine = self.new.machine; fault = self.new.fault } }
+        ensures machine { SameButViewed self.old.machine self.new.machine }
+        ensures sectors { D.sectors disk.new ≡ D.sectors disk.old }
+        ensures size { D.size disk.new ≡ D.size disk.old }
+        ensures again { IfSome self.old.fault (λ f. result ≡ Err f) }
+        ensures still { IsSome self.old.fault → (self.new ≡ self.old) × (disk.new ≡ disk.old) × (out.new ≡ out.old) }
+        ensures keeps { IfErr result (λ f. self.new.fault ≡ Some f) }
+        ensures fine { OnOk result (self.new.fault ≡ None) }
+        ensures ends { self.old.fault ≡ None → ReportRuns (D.size disk.old) self.old self.new (D.sectors disk.old) (D.sectors disk.new) (O.text out.old) (O.text out.new) result }
+        ensures limit { result ≡ Err RunFault.StepLimit → self.old.fault ≡ Some RunFault.StepLimit }
+        ensures disk { result ≡ Err RunFault.Disk → self.old.fault ≡ None → Rose (D.faults disk.old) (D.faults disk.new) }
+        ensures disk_same { result ≢ Err RunFault.Disk → D.faults disk.new ≡ D.faults disk.old }
+        ensures sink { result ≡ Err RunFault.Sink → self.old.fault ≡ None → Rose (O.faults out.old) (O.faults out.new) }
+        ensures sink_same { result ≢ Err RunFault.Sink → O.faults out.new ≡ O.faults out.old }
+    {
+        if let Some(fault) = self.fault {
+            return Err(fault);
+        }
+        if has_faulted(self.ended) {
+            return Ok(());
+        }
+        let answer = self.put_report(disk, out);
+        self.fault = answer.err();
+        answer
     }
 
     /// How the run ended: `Halt`, or the kernel's fault.

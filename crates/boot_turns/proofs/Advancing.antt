@@ -35,7 +35,7 @@ stopped x y old m k t c st r now budget left StepLimit ne (u, le, spent, is, why
     let none : left ≡ 0 = ⊎_elim (λ (e : left ≡ 0). e) (λ (off : (run x (loaded y old) u).off ≢ None). absurd (off (g.on u (omega arith)))) why in
     let at : u ≡ t + budget = omega (arith, spent, none) in
     record { spent = none; state = subst (λ i. now ≡ Some (machine x y old i)) at is; goes = subst (Goes x y old k t) at g }
-stopped x y old m k t c st r now budget left Disk ne d = record { at = d.0; from = d.1; spent = d.2; goes = goes x y old m k t d.0 c d.3.0 d.1 st r d.3.1 }
+stopped x y old m k t c st r now budget left Disk ne d = record { at = d.0; from = d.1; spent = d.2; goes = goes x y old m k t d.0 c d.3.0 d.1 st r d.3.1; torn = d.4 }
 stopped x y old m k t c st r now budget left Sink ne d = absurd (ne refl)
 
 by_result : (x : Outside) (y : System) (old : List (List ℕ)) → Machines x y old → (k t : ℕ) (c : Cvm) → Stood x y old k t c → c.status ≡ Running → (now : Option State) (budget left : ℕ) (result : Result Begun RunFault) →

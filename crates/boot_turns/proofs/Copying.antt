@@ -71,10 +71,11 @@ module _ (m : Map) (a : Paged) (u steps address : ℕ) where
   rows_grow i (suc d) =
       let r = rows_grow i d in
       let e : i + suc d ≡ suc (i + d) = omega arith in
-      let next : List ℕ = steps_row (steps_left steps (i + d)) ++ entry_row (Put (address + 4 * (i + d)) (user_word m a u (address / 4 + (i + d)))) in
-      (r.0 ++ (steps_row (steps_left steps (i + d)) ++ entry_row (Put (address + 4 * (i + d)) (user_word m a u (address / 4 + (i + d))))),
-      ap (copy_rows m a u steps address) e ∙ rows_next (i + d) ∙ ap (λ l. l ++ (steps_row (steps_left steps (i + d)) ++ entry_row (Put (address + 4 * (i + d)) (user_word m a u (address / 4 + (i + d)))))) r.1
-      ∙ append_assoc (copy_rows m a u steps address i) r.0 _)
+      let next : List ℕ = steps_row (steps_left steps (i + d)) ++ entry_row (Put (address + 4 * (i + d)) (user_word m a u (address / 4 + (i + d)))) in (
+        r.0 ++ (steps_row (steps_left steps (i + d)) ++ entry_row (Put (address + 4 * (i + d)) (user_word m a u (address / 4 + (i + d))))),
+        ap (copy_rows m a u steps address) e ∙ rows_next (i + d) ∙ ap (λ l. l ++ (steps_row (steps_left steps (i + d)) ++ entry_row (Put (address + 4 * (i + d)) (user_word m a u (address / 4 + (i + d)))))) r.1
+            ∙ append_assoc (copy_rows m a u steps address i) r.0 _,
+      )
 
   module _ (old mid new : Option (List ℕ)) (i : ℕ) (row : List ℕ) (left : ℕ) (before : mid ≡ append_known old (copy_rows m a u steps address i))
       (row_is : row ≡ entry_row (Put (address + 4 * i) (user_word m a u (address / 4 + i)))) (left_now : left ≡ steps_left steps i) where

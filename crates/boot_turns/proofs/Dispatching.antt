@@ -20,7 +20,7 @@ use Rattle.layer_contract.specs.Layer.{Inside, Comes, IsAt, IsEntry, DispatchCal
 use Rattle.layer_contract.specs.Follows.{IsKernelDoor, EndsAs, KernelRuns}
 use Rattle.boot_turns.proofs.Stepping.{both_right, inside_rests, user_rests, off_rests, time_is}
 use Rattle.boot_turns.proofs.Counting.{or_associates, turn_more, turn_grows, gathers, gathered_none, lines_settled, still, completes_at}
-use Rattle.boot_turns.proofs.Stretches.{later, Arrives, absolute, joins, Passed, through}
+use Rattle.boot_turns.proofs.Stretches.{later, Stays, user_sectors, way_stays, Arrives, absolute, joins, Passed, through}
 
 -- the mask at the step that begins turn k
 pub mask_begins : (x : Outside) (s : State) → LinesEnd x → s.time ≡ 0 → (k m t : ℕ) → Passed x s k m t → (run x s t).off ≡ None → begins x (run x s t) ≡ true →
@@ -44,6 +44,7 @@ pub record Closed (x : Outside) (s : State) (y : Site) (c : Core) (next : Next) 
   pub all : complete x s u ≡ suc k
   pub between : (j : ℕ) → t ≤ j → j < u → complete x s j ≡ k
   pub inside : (j : ℕ) → t ≤ j → j < u → Inside (run x s j)
+  pub stays : (j : ℕ) → t ≤ j → j < u → Stays x (user_sectors y) s j
 
 status_rests : (b : Status) (s : State) → Rests b s → rests s ≡ true
 status_rests Running s r = user_rests s (both_right (is_on s) (in_user s) r)
@@ -53,7 +54,7 @@ status_rests (Faulted f) s r = off_rests s (power_of f) r
 true_false : (b : Bool) → b ≡ true → b ≡ false → ⊥
 true_false b e f = cc
 
-closed : (x : Outside) (s : State) → s.time ≡ 0 → (y : Site) (c : Core) (next : Next) (k m cost t u : ℕ) → u ≤ t + cost → 0 < t → Inside (run x s t) → Arrives x s t u (Rested x y next c) →
+closed : (x : Outside) (s : State) → s.time ≡ 0 → (y : Site) (c : Core) (next : Next) (k m cost t u : ℕ) → u ≤ t + cost → 0 < t → Inside (run x s t) → Arrives x (user_sectors y) s t u (Rested x y next c) →
     Passed x s (suc k) m t → complete x s t ≡ k → Closed x s y c next k m cost t u
 closed x s z y c next k m cost t u within some i a w all =
     let r : rests (run x s u) ≡ true = status_rests (status_of next) _ a.there.rests in
@@ -68,6 +69,7 @@ closed x s z y c next k m cost t u within some i a w all =
       all = completes_at x s u (omega (arith, lt)) r ∙ w2.turn;
       between = λ j l h. still x s t j l (λ o f g. inside_rests _ (a.inside o (omega arith) (omega arith))) ∙ all;
       inside = a.inside;
+      stays = a.stays;
     }
 
 sums : (t enter leave cost u v w : ℕ) → u ≤ t + enter → v ≤ u + cost → w ≤ v + leave → w ≤ t + (enter + (leave + cost))
@@ -85,7 +87,7 @@ pub record Known (x : Outside) (y : Site) (longest : ℕ) (Typed : C0 → Type 0
 abbrev pub Came : Outside → State → Site → ℕ → (k m t enter n : ℕ) → Outcome → End → Type 0
 Came x s y longest k m t enter n o (Answers a) = (u : ℕ) × Closed x s y o.after (next_of y.map.users a) k m (enter + (leave_steps + run_steps y.map longest o.units o.pages)) t u
 Came x s y longest k m t enter n o (Faults f) = (u : ℕ) × Closed x s y o.after (Fault f) k m (enter + (leave_steps + run_steps y.map longest o.units o.pages)) t u
-Came x s y longest k m t enter n o NotYet = (j : ℕ) → t ≤ j → 8388608 * j ≤ n → Inside (run x s j)
+Came x s y longest k m t enter n o NotYet = (j : ℕ) → t ≤ j → 8388608 * j ≤ n → Inside (run x s j) × ((i : ℕ) → t ≤ i → i < j → Stays x (user_sectors y) s i)
 
 pub dispatches : (x : Outside) (s : State) → s.time ≡ 0 → (y : Site) (longest : ℕ) (Typed : C0 → Type 0) (e : Meaning) → Known x y longest Typed e → (k m t enter n : ℕ) (cause edata user : ℤ) (c : Core) →
     0 < t → Inside (run x s t) → Typed c.c0 → Comes x y IsEntry enter (run x s t) (DispatchCalled x y c cause edata user) → Passed x s (suc k) m t → complete x s t ≡ k →
@@ -95,21 +97,24 @@ dispatches x s z y longest Typed e known k m t enter n cause edata user c some h
     by a1.0 a1.1 a1.2 (e.dispatch n c cause edata user).end refl
     (known.runs x longest n (run x s a1.0) c cause edata user (record { busy = known.busy; typed = typed; called = a1.1.there }))
   where
-    by : (u : ℕ) → Arrives x s t u (DispatchCalled x y c cause edata user) → u ≤ t + enter → (end : End) → (e.dispatch n c cause edata user).end ≡ end → EndsAs x longest y n (run x s u) (e.dispatch n c cause edata user) end → Came x s y longest k m t enter n (e.dispatch n c cause edata user) end
+    by : (u : ℕ) → Arrives x (user_sectors y) s t u (DispatchCalled x y c cause edata user) → u ≤ t + enter → (end : End) → (e.dispatch n c cause edata user).end ≡ end → EndsAs x longest y n (run x s u) (e.dispatch n c cause edata user) end → Came x s y longest k m t enter n (e.dispatch n c cause edata user) end
     by u a w1 (Answers b) eo r =
         let a2 = absolute x y IsKernelDoor s (run_steps y.map longest (e.dispatch n c cause edata user).units (e.dispatch n c cause edata user).pages) u (λ r. IsAt x y Leave (e.dispatch n c cause edata user).after r × (signed (slice_index r.cpu.regs ANSWER) ≡ b)) r in
         let left = subst (λ i. Comes x y IsEntry leave_steps (run x s a2.0) (Rested x y (next_of y.map.users i) (e.dispatch n c cause edata user).after)) a2.1.there.1 (known.laws_leave (run x s a2.0) (e.dispatch n c cause edata user).after a2.1.there.0) in
         let a3 = absolute x y IsEntry s leave_steps a2.0 (Rested x y (next_of y.map.users b) (e.dispatch n c cause edata user).after) left in
-        let a4 = joins x s t u a2.0 _ _ a a2.1 in
-        let a5 = joins x s t a2.0 a3.0 _ _ a4 a3.1 in
+        let a4 = joins x (user_sectors y) s t u a2.0 _ _ a a2.1 in
+        let a5 = joins x (user_sectors y) s t a2.0 a3.0 _ _ a4 a3.1 in
         (a3.0, closed x s z y (e.dispatch n c cause edata user).after (next_of y.map.users b) k m (enter + (leave_steps + run_steps y.map longest (e.dispatch n c cause edata user).units (e.dispatch n c cause edata user).pages)) t a3.0 (let w2 = a2.2 in let w3 = a3.2 in sums t enter leave_steps (run_steps y.map longest (e.dispatch n c cause edata user).units (e.dispatch n c cause edata user).pages) u a2.0 a3.0 w1 w2 w3) some here a5 w all)
     by u a w1 (Faults f) eo r =
         let a2 = absolute x y IsKernelDoor s (run_steps y.map longest (e.dispatch n c cause edata user).units (e.dispatch n c cause edata user).pages) u (IsAt x y (Exit (power_of f)) (e.dispatch n c cause edata user).after) r in
         let a3 = absolute x y IsEntry s leave_steps a2.0 (Rested x y (Fault f) (e.dispatch n c cause edata user).after) (known.laws_exit (run x s a2.0) (e.dispatch n c cause edata user).after f (λ bad. known.proper n c cause edata user (eo ∙ ap Faults bad)) a2.1.there) in
-        let a4 = joins x s t u a2.0 _ _ a a2.1 in
-        let a5 = joins x s t a2.0 a3.0 _ _ a4 a3.1 in
+        let a4 = joins x (user_sectors y) s t u a2.0 _ _ a a2.1 in
+        let a5 = joins x (user_sectors y) s t a2.0 a3.0 _ _ a4 a3.1 in
         (a3.0, closed x s z y (e.dispatch n c cause edata user).after (Fault f) k m (enter + (leave_steps + run_steps y.map longest (e.dispatch n c cause edata user).units (e.dispatch n c cause edata user).pages)) t a3.0 (let w2 = a2.2 in let w3 = a3.2 in sums t enter leave_steps (run_steps y.map longest (e.dispatch n c cause edata user).units (e.dispatch n c cause edata user).pages) u a2.0 a3.0 w1 w2 w3) some here a5 w all)
     by u a w1 NotYet eo r = λ j le small. ⊎_elim
-        (λ (lt : j < u). a.inside j le lt)
-        (λ (ge : u ≤ j). let d : u + (j - u) ≡ j = omega arith in subst Inside (later x s u (j - u) ∙ ap (run x s) d) (r (j - u) (omega arith)).1)
+        (λ (lt : j < u). (a.inside j le lt, λ i l h. a.stays i l (omega arith)))
+        (λ (ge : u ≤ j). let d : u + (j - u) ≡ j = omega arith in let w = r (j - u) (omega arith) in (
+          subst Inside (later x s u (j - u) ∙ ap (run x s) d) w.1,
+          λ i l h. ⊎_elim (λ (lt : i < u). a.stays i l lt) (λ (up : u ≤ i). way_stays x y IsKernelDoor s (j - u) u (i - u) i (omega arith) (omega arith) w.0) (cases_lt i u),
+        ))
         (cases_lt j u)

@@ -1,16 +1,17 @@
 -- What a step was says whether it began a turn.
-use Rattle.std.proofs.Common.{◌≡◌, ℕ, ◌+◌, ◌&&◌, ◌||◌, not, Bool, true, false, Option, Some, None, List, [], refl, sym, ap, ◌∙◌, subst, slice_index}
+use Rattle.std.proofs.Common.{◌≡◌, ℕ, zero, suc, ◌+◌, ◌&&◌, ◌||◌, not, Bool, true, false, Option, Some, None, List, [], refl, sym, ap, ◌∙◌, subst, slice_index, slice_set}
 use Rattle.std.specs.Prelude.{IfSome, is_some, ◌==◌}
 use Rattle.std.specs.Option.{option_map}
 use Rattle.mips_table.specs.declared.cause.Cause.TheVariants as causes
-use Rattle.mips_table.specs.Device.{Outside}
+use Rattle.mips_table.specs.Device.{Device, Outside, Pending, Idle, Reading, Writing}
 use Rattle.mips_table.specs.Machine.{State, MODE, PTL, EDATA, Coming, Interrupt, Done, coming, latched, come_to, ended, if_on, step}
 use Rattle.mips_table.specs.Turns.{in_user, is_handled, handled, begins}
+use Rattle.sector_disk.specs.Ports.{TransferFails}
 use Rattle.mips_machine.specs.declared.event.Event.{Event}
 use Rattle.mips_machine.specs.Hardware.{told_as, event_by}
 use Rattle.mips_machine.specs.Machine.{Held, state_of}
-use Rattle.mips_machine.specs.Steps.{outside_of, event_if, event_of, after_step, Steps, Fails}
-use Rattle.boot_turns.specs.Completes.{seen, begun_by}
+use Rattle.mips_machine.specs.Steps.{outside_of, event_if, event_of, before_count, after_step, Steps, Fails}
+use Rattle.boot_turns.specs.Completes.{seen, begun_by, TornBy, Torn, StepTorn, SeenTorn}
 use Rattle.boot_turns.proofs.Stepping.{on_time}
 
 fault_begins : (r u h : Bool) → r || (u && not (u && h)) ≡ r || (u && not h)
@@ -91,3 +92,30 @@ event_told count old new told retold e b reset mode pages edata h hr hm hp hd is
     ∙ (ap (λ m. begun_by old.hardware.reset (m == 1) pages edata e) hm
     ∙ (ap (λ p. begun_by old.hardware.reset (slice_index old.hardware.special MODE == 1) p edata e) hp
     ∙ ap (λ d. begun_by old.hardware.reset (slice_index old.hardware.special MODE == 1) (slice_index old.hardware.special PTL) d e) hd))))
+
+-- a transfer that fails leaves all sectors but the one that it names
+torn_by : (p : Pending) (buffer after : List ℕ) (ss : List (List ℕ)) (retold : Option (List (List ℕ))) → TransferFails p buffer after (Some ss) retold →
+    (now : List (List ℕ)) × (retold ≡ Some now) × TornBy p ss now
+torn_by Idle buffer after ss retold h = absurd h
+torn_by (Reading zero sector) buffer after ss retold h = (ss, h, refl)
+torn_by (Reading (suc left) sector) buffer after ss retold h = absurd h
+torn_by (Writing zero sector) buffer after ss retold h = let w = h.1 in (slice_set ss sector w.0, w.1, (w.0, refl))
+torn_by (Writing (suc left) sector) buffer after ss retold h = absurd h
+
+pub fails_torn : (count : ℕ) (old new : Held) (told retold : Option (List (List ℕ))) → Fails count old new told retold → StepTorn count old told retold
+fails_torn count old new told retold h = λ ss e.
+    let d : Device = before_count (outside_of old.rows count) (state_of old ss) in
+    torn_by d.pending d.buffer new.hardware.buffer ss retold (subst (λ (t : Option (List (List ℕ))). TransferFails d.pending d.buffer new.hardware.buffer t retold) e (h.disk ss))
+
+told_as_some : (told : Option (List (List ℕ))) (held : Held) (v : State) → seen told held ≡ Some v → (ss : List (List ℕ)) × (told ≡ Some ss) × (state_of held ss ≡ v)
+told_as_some None held v h = absurd (let f : ◌≡◌ {A = Option State} None (Some v) = h in cc)
+told_as_some (Some ss) held v h = (ss, refl, cc)
+
+pub step_torn : (count : ℕ) (x : Outside) (old new : Held) (told retold : Option (List (List ℕ))) (v : State) → outside_of old.rows count ≡ x → seen told old ≡ Some v → StepTorn count old told retold → SeenTorn x v (seen retold new)
+step_torn count x old new told retold v same is h =
+    let s = told_as_some told old v is in
+    let w = h s.0 s.1 in (
+      w.0,
+      ap (option_map (λ (z : State). z.device.sectors)) (ap (λ (r : Option (List (List ℕ))). seen r new) w.1),
+      subst (λ (u : State). Torn x u w.0) s.2 (subst (λ (u : Outside). Torn u (state_of old s.0) w.0) same w.2),
+    )

@@ -1,6 +1,7 @@
 pub mod Stepping
 pub mod Counting
 pub mod Stretches
+pub mod Sectors
 pub mod Units
 pub mod Dispatching
 pub mod Turning

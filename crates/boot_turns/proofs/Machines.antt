@@ -17,13 +17,14 @@ use Rattle.layer_contract.specs.Users.{UserStepsLinked}
 use Rattle.boot_turns.specs.Trace.{entries_so_far}
 use Rattle.boot_turns.specs.TurnEnds.{first_of}
 use Rattle.boot_turns.specs.Headline.{Boots, end_of, TraceReplays, MachinesRun}
+use Rattle.boot_turns.specs.TypedRuns.{RunsStayTyped}
 use Rattle.boot_turns.proofs.Stepping.{off_rests}
 use Rattle.boot_turns.proofs.Counting.{completes, complete_small}
 use Rattle.boot_turns.proofs.Units.{one_cvm}
 use Rattle.boot_turns.proofs.Turning.{Given}
 use Rattle.boot_turns.proofs.Growing.{rows_grow}
 use Rattle.boot_turns.proofs.Joining.{finished, unfinished, shown}
-use Rattle.boot_turns.proofs.Whole.{goes_on, two_faults, ahead, defined}
+use Rattle.boot_turns.proofs.Whole.{forward, goes_on, two_faults, ahead, defined, beyond}
 
 -- sizes of users at the start
 first_sizes : (users : List (List ℕ)) → map (λ words. pages_of (first_flat words)) users ≡ map pages_of (map first_flat users)
@@ -114,6 +115,7 @@ machines_run resets users counts isolated Typed lines busy x y old image sizes m
       defined = defined x y old Typed g;
       two_faults = two_faults x y old Typed g counts;
       ahead = ahead x y old Typed g;
+      beyond = beyond x y old Typed g boots.fits.range.params.a_page;
       found = finished x y old Typed g;
       unfound = unfinished x y old Typed g;
       shows = shown x y old Typed g;
@@ -122,3 +124,9 @@ machines_run resets users counts isolated Typed lines busy x y old image sizes m
       same = λ k c d. one_cvm y g.meaning (lines_of x (loaded y old)) k c d;
       replays = trace_replays counts isolated x y old Typed g replays;
     }
+
+-- the kernel's data stays typed
+pub runs_stay_typed : LoadedResets → UserStepsLinked → (Typed : C0 → Type 0) → RunsStayTyped Typed
+runs_stay_typed resets users Typed lines busy x y old image sizes m boots laws k c is =
+    let g = given Typed lines busy x y old image sizes m resets users boots laws in
+    (forward x y old Typed g is.units k c is.is).1.typed

@@ -8,10 +8,10 @@ use Rattle.mips_table.specs.declared.inst.Inst.{Inst}
 use Rattle.mips_table.specs.declared.inst.Inst.TheVariants.{Mfc0, Mtc0, Eret}
 use Rattle.mips_table.specs.declared.effect.Effect.{Effect}
 use Rattle.mips_table.specs.declared.effect.Effect.TheVariants.{Set, Wide, Load, Store, Overflow, Call, System}
-use Rattle.mips_table.specs.Device.{Outside, POWER, port_write}
+use Rattle.mips_table.specs.Device.{Idle, Outside, POWER, port_write, settled, counted}
 use Rattle.mips_table.specs.Decoding.{decoding}
 use Rattle.mips_table.specs.Processor.{Cpu, Access, Move, Ran, Loaded, Stored, Trapped, Privileged, is_aligned, accessed, performed, effect_on, executed, move}
-use Rattle.mips_table.specs.Machine.{State, SR, LOG, INPUT, LOG_ROOM, Coming, Interrupt, Done, in_system, located, after_read, after_read_at, port_written, written_at, access, privileged, moved, fetch, fetched, coming, taken, number_of, interrupted, come_to, latched, ended, if_on, step, run}
+use Rattle.mips_table.specs.Machine.{State, SR, LOG, INPUT, LOG_ROOM, Coming, Interrupt, Done, in_system, located, after_read, after_read_at, port_written, written_at, access, privileged, moved, fetch, fetched, coming, taken, number_of, cleared, interrupted, come_to, latched, ended, if_on, step, run}
 use Rattle.mips_table.specs.Turns.{is_on, in_user, is_handled, handled, begins, rests}
 use Rattle.layer_contract.specs.Layer.{Inside}
 
@@ -315,3 +315,60 @@ time_is x s z (suc t) on = let o = was_on x (run x s t) on in on_time x (run x s
 pub taken_special : (x : Outside) (s before : State) (why : Cause) (edata epc : ℕ) → s.off ≡ None → coming x (latched x s) ≡ Interrupt before why edata epc →
     (step x s).special ≡ taken before.special (number_of why) edata epc
 taken_special x s before why edata epc on e = ap (λ (t : State). t.special) (on_is x s on) ∙ ap (λ o. (ended (come_to o)).special) e
+
+-- no interrupt comes with another disk
+abbrev DeviceHeld : State → Coming → Type 0
+DeviceHeld s (Interrupt before cause edata epc) = before.device ≡ s.device
+DeviceHeld s (Done after) = Unit {0}
+
+after_read_device : (s : State) (k : ℕ) → (after_read s k).device ≡ s.device
+after_read_device s k = cond_both (nat_lt k (length s.memory)) s (cond (k == INPUT) (record s { input = drop 1 s.input }) s) (λ (t : State). t.device ≡ s.device) (λ _. refl)
+    (λ _. cond_both (k == INPUT) (record s { input = drop 1 s.input }) s (λ (t : State). t.device ≡ s.device) (λ _. refl) (λ _. refl))
+
+after_read_at_device : (s : State) (o : Option ℕ) → (after_read_at s o).device ≡ s.device
+after_read_at_device s None = refl
+after_read_at_device s (Some address) = after_read_device s _
+
+fetched_device : (s : State) → (fetched s).device ≡ s.device
+fetched_device s = cond_both (is_aligned s.cpu.pc) (after_read_at s (located s false s.cpu.pc)) s (λ (t : State). t.device ≡ s.device) (λ _. after_read_at_device s _) (λ _. refl)
+
+privileged_device : (s : State) (word : ℕ) (o : Option Inst) → DeviceHeld s (privileged s word o)
+privileged_device s word None = refl
+privileged_device s word (Some (Mfc0 rt special)) = tt
+privileged_device s word (Some (Mtc0 rt special)) = tt
+privileged_device s word (Some Eret) = tt
+privileged_device s word (Some other) = refl
+
+moved_device : (x : Outside) (s : State) (m : Move) → DeviceHeld s (moved x s m)
+moved_device x s (Ran c) = tt
+moved_device x s (Loaded c register address) = tt
+moved_device x s (Stored c address value) = tt
+moved_device x s (Trapped cause edata epc) = refl
+moved_device x s (Privileged word) = cond_both (in_system s.special) (privileged s word (decoding word)) (Interrupt s causes.Illegal word s.cpu.pc) (DeviceHeld s) (λ _. privileged_device s word (decoding word)) (λ _. refl)
+
+device_from : (s u : State) → u.device ≡ s.device → (o : Coming) → DeviceHeld u o → DeviceHeld s o
+device_from s u h (Interrupt before cause edata epc) g = g ∙ h
+device_from s u h (Done after) g = tt
+
+coming_device : (x : Outside) (s : State) → DeviceHeld s (coming x s)
+coming_device x s =
+    cond_both s.reset (Interrupt s causes.Reset 0 s.cpu.pc) _ (DeviceHeld s) (λ _. refl)
+    (λ _. cond_both (slice_index s.special SR == 1 && not (s.mask == 0)) (Interrupt s causes.External s.mask s.cpu.pc) (instruction x s) (DeviceHeld s) (λ _. refl)
+    (λ _. device_from s (fetched s) (fetched_device s) _ (moved_device x (fetched s) _)))
+
+cleared_device : (cause : Cause) (s : State) → (cleared cause s).device ≡ s.device
+cleared_device causes.Reset s = refl
+cleared_device causes.External s = refl
+cleared_device other s = refl
+
+-- taking one leaves the disk as it is, where it rests
+taken_device : (s : State) (o : Coming) → DeviceHeld s o → is_handled s o ≡ true → s.device.pending ≡ Idle → (ended (come_to o)).device ≡ s.device
+taken_device s (Interrupt before cause edata epc) h e idle = ap counted (cleared_device cause before ∙ h) ∙ ap (λ p. settled p s.device) idle
+taken_device s (Done after) h e idle = absurd (cc)
+
+pub handled_device : (x : Outside) (s : State) → s.off ≡ None → handled x s ≡ true → s.device.pending ≡ Idle → (step x s).device ≡ s.device
+handled_device x s on h idle = ap (λ (t : State). t.device) (on_is x s on) ∙ taken_device s _ (coming_device x (latched x s)) (handled_is x s h) idle
+
+pub reset_device : (x : Outside) (s : State) → s.off ≡ None → s.reset ≡ true → s.device.pending ≡ Idle → (step x s).device ≡ s.device
+reset_device x s on r idle = ap (λ (t : State). t.device) (on_is x s on)
+    ∙ ap (λ o. (ended (come_to o)).device) (cond-true s.reset (Interrupt (latched x s) causes.Reset 0 s.cpu.pc) _ r) ∙ ap (λ p. settled p s.device) idle

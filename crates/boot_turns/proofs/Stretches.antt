@@ -1,17 +1,17 @@
 -- Stretches of a run in which no turn begins: inside the kernel, and handled faults.
-use Rattle.std.proofs.Common.{◌≡◌, ℕ, zero, suc, ◌+◌, ◌-◌, ◌<◌, ◌≤◌, Bool, true, false, not, None, refl, sym, ap, ap₂, ◌∙◌, subst, ⊎_elim, arith}
+use Rattle.std.proofs.Common.{◌≡◌, ℕ, zero, suc, ◌+◌, ◌-◌, ◌*◌, ◌<◌, ◌≤◌, Bool, true, false, not, None, refl, sym, ap, ap₂, ◌∙◌, subst, ⊎_elim, arith}
 use Rattle.std.specs.Prelude.{bit_or}
 use Rattle.std.proofs.lemmas.Bool.{cases_lt}
-use Rattle.mips_table.specs.Device.{Outside}
+use Rattle.mips_table.specs.Device.{Idle, Device, Outside, sector_of}
 use Rattle.mips_table.specs.Machine.{State, coming, latched, run, step}
 use Rattle.mips_table.specs.Turns.{begins, handled, in_user, is_on, turn_of, complete, gathered, faults_before}
 use Rattle.cvm_model.specs.Kernel.{Core}
 use Rattle.cvm_model.specs.Stands.{Site}
 use Rattle.layer_contract.specs.declared.entry.Entry.{Entry}
 use Rattle.layer_contract.specs.declared.entry.Entry.TheVariants.{Primitive}
-use Rattle.layer_contract.specs.Layer.{Inside, Comes, Back, Brought, Settles, IsEntry}
+use Rattle.layer_contract.specs.Layer.{Inside, Way, Comes, Back, Brought, Settles, IsEntry}
 use Rattle.layer_contract.specs.Calls.{entered}
-use Rattle.boot_turns.proofs.Stepping.{both_left, both_right, on_of, inside_begins, inside_handled, inside_mask, inside_rests, user_begins, user_rests, handled_mask, time_is}
+use Rattle.boot_turns.proofs.Stepping.{both_left, both_right, on_of, inside_begins, inside_handled, inside_mask, inside_rests, user_begins, user_rests, handled_mask, handled_device, time_is}
 use Rattle.boot_turns.proofs.Entering.{entered_none, entered_user, not_system, user_enters}
 use Rattle.boot_turns.proofs.Counting.{or_associates, turn_same, gathers, still, completes_at, faults_more, faults_stay}
 
@@ -19,18 +19,36 @@ pub later : (x : Outside) (s : State) (t n : ℕ) → run x (run x s t) n ≡ ru
 later x s t zero = let e : t ≡ t + 0 = omega arith in ap (run x s) e
 later x s t (suc n) = let e : suc (t + n) ≡ t + suc n = omega arith in ap (step x) (later x s t n) ∙ ap (run x s) e
 
+-- step j leaves the sectors from a number on as they are
+pub record Stays (x : Outside) (pages : ℕ) (s : State) (j : ℕ) : Type 0 where
+  pub sectors : (q : ℕ) → pages ≤ q → sector_of (run x s (suc j)).device.sectors q ≡ sector_of (run x s j).device.sectors q
+
+-- the sectors of the users' pages
+abbrev pub user_sectors : Site → ℕ
+user_sectors y = y.map.users * y.map.params.pages
+
+pub way_stays : (x : Outside) (y : Site) (Door : Entry → Type 0) (s : State) (n t i j : ℕ) → t + i ≡ j → suc i ≤ n → Way x y Door n (run x s t) → Stays x (user_sectors y) s j
+way_stays x y Door s n t i j e lt w = record {
+  sectors = λ q le.
+      let here : run x (run x s t) i ≡ run x s j = later x s t i ∙ ap (run x s) e in
+      let there : run x (run x s t) (suc i) ≡ run x s (suc j) = ap (step x) (later x s t i ∙ ap (run x s) e) in
+      ap (λ (z : State). sector_of z.device.sectors q) (sym there) ∙ w.sectors (suc i) lt q le ∙ sym (w.sectors i (omega arith) q le) ∙ ap (λ (z : State). sector_of z.device.sectors q) here;
+}
+
 -- in absolute steps: inside from t on, and Q at u
-pub record Arrives (x : Outside) (s : State) (t u : ℕ) (Q : State → Type 0) : Type 0 where
+pub record Arrives (x : Outside) (pages : ℕ) (s : State) (t u : ℕ) (Q : State → Type 0) : Type 0 where
   pub from : t ≤ u
   pub inside : (j : ℕ) → t ≤ j → j < u → Inside (run x s j)
+  pub stays : (j : ℕ) → t ≤ j → j < u → Stays x pages s j
   pub there : Q (run x s u)
 
-pub absolute : (x : Outside) (y : Site) (Door : Entry → Type 0) (s : State) (n t : ℕ) (Q : State → Type 0) → Comes x y Door n (run x s t) Q → (u : ℕ) × Arrives x s t u Q × (u ≤ t + n)
+pub absolute : (x : Outside) (y : Site) (Door : Entry → Type 0) (s : State) (n t : ℕ) (Q : State → Type 0) → Comes x y Door n (run x s t) Q → (u : ℕ) × Arrives x (user_sectors y) s t u Q × (u ≤ t + n)
 absolute x y Door s n t Q c = (
   t + c.steps,
   record {
     from = omega arith;
     inside = λ j a b. let e : t + (j - t) ≡ j = omega arith in subst Inside (later x s t (j - t) ∙ ap (run x s) e) (c.way.inside (j - t) (omega arith));
+    stays = λ j a b. way_stays x y Door s c.steps t (j - t) j (omega arith) (omega arith) c.way;
     there = subst Q (later x s t c.steps) c.there;
   },
   (let w = c.within in omega (arith, w)),
@@ -38,12 +56,13 @@ absolute x y Door s n t Q c = (
 
 -- the same by a way that leads to no entry of a primitive
 pub quietly : (x : Outside) (y : Site) (s : State) (n t : ℕ) (Q : State → Type 0) → ((r : State) → Q r → entered 10 r ≡ None) → entered 10 (run x s t) ≡ None → Comes x y IsEntry n (run x s t) Q →
-    (u : ℕ) × Arrives x s t u Q × (u ≤ t + n) × ((j : ℕ) → t ≤ j → j ≤ u → entered 10 (run x s j) ≡ None)
+    (u : ℕ) × Arrives x (user_sectors y) s t u Q × (u ≤ t + n) × ((j : ℕ) → t ≤ j → j ≤ u → entered 10 (run x s j) ≡ None)
 quietly x y s n t Q none first c = (
   t + c.steps,
   record {
     from = omega arith;
     inside = λ j a b. let e : t + (j - t) ≡ j = omega arith in subst Inside (later x s t (j - t) ∙ ap (run x s) e) (c.way.inside (j - t) (omega arith));
+    stays = λ j a b. way_stays x y IsEntry s c.steps t (j - t) j (omega arith) (omega arith) c.way;
     there = subst Q (later x s t c.steps) c.there;
   },
   (let w = c.within in omega (arith, w)),
@@ -59,10 +78,11 @@ quietly x y s n t Q none first c = (
         (λ (ge : c.steps ≤ i). let e : c.steps ≡ i = omega (arith, ge, le) in subst (λ i. entered 10 (run x (run x s t) i) ≡ None) e (none (run x (run x s t) c.steps) c.there))
         (cases_lt i c.steps)
 
-pub joins : (x : Outside) (s : State) (t u v : ℕ) (P Q : State → Type 0) → Arrives x s t u P → Arrives x s u v Q → Arrives x s t v Q
-joins x s t u v P Q a b = record {
+pub joins : (x : Outside) (pages : ℕ) (s : State) (t u v : ℕ) (P Q : State → Type 0) → Arrives x pages s t u P → Arrives x pages s u v Q → Arrives x pages s t v Q
+joins x pages s t u v P Q a b = record {
   from = let c = a.from in let d = b.from in omega (arith, c, d);
   inside = λ j l h. ⊎_elim (λ lt. a.inside j l lt) (λ ge. b.inside j ge h) (cases_lt j u);
+  stays = λ j l h. ⊎_elim (λ lt. a.stays j l lt) (λ ge. b.stays j ge h) (cases_lt j u);
   there = b.there;
 }
 
@@ -101,7 +121,11 @@ pub record Settled (x : Outside) (s : State) (y : Site) (c : Core) (k m most fue
   pub way : Passed x s k m u
   pub between : (j : ℕ) → t ≤ j → j ≤ u → complete x s j ≡ k
   pub none : (j : ℕ) → t ≤ j → j < u → begins x (run x s j) ≡ false
+  pub stays : (j : ℕ) → t ≤ j → j < u → Stays x (user_sectors y) s j
   pub quiet : (j : ℕ) → t < j → j ≤ u → entered 10 (run x s j) ≡ None
+
+fault_stays : (x : Outside) (pages : ℕ) (s : State) (t : ℕ) → (run x s t).off ≡ None → handled x (run x s t) ≡ true → (run x s t).device.pending ≡ Idle → Stays x pages s t
+fault_stays x pages s t on h idle = record { sectors = λ q le. ap (λ (d : Device). sector_of d.sectors q) (handled_device x (run x s t) on h idle) }
 
 back_on : (x : Outside) (y : Site) (c : Core) (s : State) → Back x y c s → s.off ≡ None
 back_on x y c s b = on_of s (both_left (is_on s) (in_user s) b.user)
@@ -119,6 +143,7 @@ at_once x s y c k m most fuel t calm back w all = record {
   way = w;
   between = λ j a b. let e : t ≡ j = omega arith in subst (λ i. complete x s i ≡ k) e all;
   none = λ j a b. absurd (omega arith);
+  stays = λ j a b. absurd (omega arith);
   quiet = λ j a b. absurd (omega arith);
 }
 
@@ -159,6 +184,10 @@ settled x s z y most c k m (suc fuel) t st back w all = by (λ u. settled x s z 
             none = λ j l h1. ⊎_elim
                 (λ (lt : j < u). ⊎_elim (λ (o : t < j). inside_begins x _ (a.inside j o lt)) (λ (o : j ≤ t). let e : t ≡ j = omega arith in subst (λ i. begins x (run x s i) ≡ false) e b0) (cases_lt t j))
                 (λ (ge : u ≤ j). r.none j ge h1)
+                (cases_lt j u);
+            stays = λ j l h1. ⊎_elim
+                (λ (lt : j < u). ⊎_elim (λ (o : t < j). a.stays j o lt) (λ (o : j ≤ t). let e : t ≡ j = omega arith in subst (Stays x (user_sectors y) s) e (fault_stays x (user_sectors y) s t on h back.stands.idle)) (cases_lt t j))
+                (λ (ge : u ≤ j). r.stays j ge h1)
                 (cases_lt j u);
             quiet = λ j l h1. ⊎_elim (λ (gt : u < j). r.quiet j gt h1) (λ (le : j ≤ u). got.3 j l le) (cases_lt u j);
           },

@@ -8,7 +8,7 @@ use Rattle.std.proofs.lemmas.Bool.{cond_both, cond-true, cond-false, cases_lt}
 use Rattle.mips_table.specs.declared.cause.Cause.{Cause}
 use Rattle.mips_table.specs.declared.cause.Cause.TheVariants as causes
 use Rattle.mips_table.specs.Arith.{signed}
-use Rattle.mips_table.specs.Device.{Outside, LinesEnd}
+use Rattle.mips_table.specs.Device.{Device, Outside, LinesEnd, sector_of}
 use Rattle.mips_table.specs.Processor.{Cpu}
 use Rattle.mips_table.specs.Flat.{Flat, VStep, Next as Goes, Trap, vstep}
 use Rattle.mips_table.specs.Machine.{State, Interrupt, coming, latched, number_of, MODE, ECA, EDATA, run, step}
@@ -28,9 +28,9 @@ use Rattle.layer_contract.specs.Follows.{site_of, loaded, machine, FirstCall, Be
 use Rattle.layer_contract.specs.Users.{UserStepsLinked}
 use Rattle.boot_turns.specs.Completes.{note, ShownAs}
 use Rattle.boot_turns.specs.TurnEnds.{Stood}
-use Rattle.boot_turns.proofs.Stepping.{Plain, instruction_plain, comes_plainly, both_left, both_right, on_of, inside_rests, user_rests, user_begins, reset_begins, reset_mask, none_pending, external_mask, taken_special}
+use Rattle.boot_turns.proofs.Stepping.{Plain, instruction_plain, comes_plainly, both_left, both_right, on_of, inside_rests, user_rests, user_begins, reset_begins, reset_mask, reset_device, none_pending, external_mask, taken_special}
 use Rattle.boot_turns.proofs.Counting.{turn_more, still, completes_at}
-use Rattle.boot_turns.proofs.Stretches.{Passed, times, Settled, settled}
+use Rattle.boot_turns.proofs.Stretches.{Stays, user_sectors, Passed, times, Settled, settled}
 use Rattle.boot_turns.proofs.Units.{one_cvm, cvm_more, cvm_next}
 use Rattle.boot_turns.proofs.Dispatching.{mask_begins, none_yet, Closed, Known, Came, dispatches}
 
@@ -65,6 +65,7 @@ pub record Beginning (x : Outside) (y : System) (old : List (List ℕ)) (k t : �
   pub none : (j : ℕ) → t ≤ j → j < start → begins x (machine x y old j) ≡ false
   pub few : faults_before x (loaded y old) start ≤ faults_before x (loaded y old) t + 2
   pub between : (j : ℕ) → t ≤ j → j ≤ start → complete x (loaded y old) j ≡ k
+  pub stays : (j : ℕ) → t ≤ j → j ≤ start → Stays x (user_sectors (site_of y.boot)) (loaded y old) j
   pub quiet : (j : ℕ) → t < j → j ≤ start → entered 10 (machine x y old j) ≡ None
   pub current : 0 < k → slice_index (machine x y old start).memory 1024 ≡ c.core.current
   pub on : (machine x y old start).off ≡ None
@@ -82,6 +83,7 @@ pub record Onward (x : Outside) (y : System) (old : List (List ℕ)) (Typed : C0
   pub to : beginning.start < end
   pub inside : (j : ℕ) → beginning.start < j → j < end → Inside (machine x y old j)
   pub between : (j : ℕ) → t ≤ j → j < end → complete x (loaded y old) j ≡ k
+  pub stays : (j : ℕ) → t ≤ j → j < end → Stays x (user_sectors (site_of y.boot)) (loaded y old) j
   pub stood : Stood x y old (suc k) end after
   pub typed : Typed after.core.c0
   pub within : t ≤ c.bound → end ≤ after.bound
@@ -94,6 +96,7 @@ pub record Stuck (x : Outside) (y : System) (old : List (List ℕ)) (k t n : ℕ
   pub undefined : turn_by y units k (lines_of x (loaded y old) k) c Running ≡ None
   pub inside : (j : ℕ) → beginning.start < j → j ≤ n → Inside (machine x y old j)
   pub between : (j : ℕ) → t ≤ j → j ≤ n → complete x (loaded y old) j ≡ k
+  pub stays : (j : ℕ) → t ≤ j → j < n → Stays x (user_sectors (site_of y.boot)) (loaded y old) j
 
 -- the pc of the machine is that of the current user
 epc_stays : (c : Core) (epc : ℕ) → epc ≡ (user_of c.users c.current).cpu.pc → with_epc c epc ≡ c
@@ -246,6 +249,7 @@ module _ (x : Outside) (y : System) (old : List (List ℕ)) (Typed : C0 → Type
     none = λ j a b. absurd (omega arith);
     few = omega arith;
     between = λ j a b. let d : 0 ≡ j = omega arith in subst (λ i. complete x s i ≡ 0) d refl;
+    stays = λ j a b. let d : 0 ≡ j = omega arith in subst (Stays x (user_sectors site) s) d (record { sectors = λ q le. ap (λ (d : Device). sector_of d.sectors q) (reset_device x s refl refl refl) });
     quiet = λ j a b. absurd (omega arith);
     current = λ a. absurd (omega arith);
     on = refl;
@@ -270,7 +274,8 @@ module _ (x : Outside) (y : System) (old : List (List ℕ)) (Typed : C0 → Type
           let user = both_right (is_on (run x s u)) (in_user (run x s u)) r.back.user in
           let begin_here : begins x (run x s u) ≡ true = user_begins x (run x s u) on user r.back.stands.no_reset ∙ ap not r.calm in
           let mask : (latched x (run x s u)).mask ≡ bit_or c.pending (lines (suc k)) = mask_begins x s g.lines refl (suc k) c.pending u r.way on begin_here in
-          let follows = (g.users x site (run x s u) c.core k g.range g.linked r.back r.calm).0 in
+          let steps = g.users x site (run x s u) c.core k g.range g.linked r.back r.calm in
+          let follows = steps.0 in
           let le : 1 ≤ page_steps (map_of y.boot) y.longest = omega arith in
           record {
             start = u;
@@ -281,6 +286,7 @@ module _ (x : Outside) (y : System) (old : List (List ℕ)) (Typed : C0 → Type
             none = r.none;
             few = r.few;
             between = r.between;
+            stays = λ j l h. ⊎_elim (λ (lt : j < u). r.stays j l lt) (λ (ge : u ≤ j). let d : u ≡ j = omega arith in subst (Stays x (user_sectors site) s) d (record { sectors = steps.1 })) (cases_lt j u);
             quiet = r.quiet;
             current = λ _. r.back.stands.users.current refl;
             on = on;
@@ -340,6 +346,7 @@ module _ (x : Outside) (y : System) (old : List (List ℕ)) (Typed : C0 → Type
         to = let w = r.to in omega (arith, w);
         inside = λ j l h. r.inside j l h;
         between = λ j l h. ⊎_elim (λ (lt : j < suc b.start). b.between j l (omega arith)) (λ (ge : suc b.start ≤ j). r.between j ge h) (cases_lt j (suc b.start));
+        stays = λ j l h. ⊎_elim (λ (lt : j < suc b.start). b.stays j l (omega arith)) (λ (ge : suc b.start ≤ j). r.stays j ge h) (cases_lt j (suc b.start));
         stood = record {
           cvm = record { units = n; is = ap (turn y n k (lines k)) here ∙ ap (turn_by y n k (lines k) c) running ∙ turns (Some (dispatched y c k cause edata at.current pending (dispatch_of y n cause edata at) next)) e };
           turn = r.way.turn;
@@ -358,9 +365,10 @@ module _ (x : Outside) (y : System) (old : List (List ℕ)) (Typed : C0 → Type
         units = n;
         many = omega (arith, enough);
         undefined = turns None (ap (after_dispatch y c k cause edata at.current pending (dispatch_of y n cause edata at)) e);
-        inside = λ j l h. r j l (omega (arith, h, enough));
+        inside = λ j l h. (r j l (omega (arith, h, enough))).0;
+        stays = λ j l h. ⊎_elim (λ (lt : j < suc b.start). b.stays j l (omega arith)) (λ (ge : suc b.start ≤ j). (r m (omega arith) (omega (arith, enough))).1 j ge h) (cases_lt j (suc b.start));
         between = λ j l h. ⊎_elim (λ (lt : j < suc b.start). b.between j l (omega arith))
-            (λ (ge : suc b.start ≤ j). still x s (suc b.start) j ge (λ i d f. inside_rests _ (r i (omega arith) (omega (arith, h, enough)))) ∙ all) (cases_lt j (suc b.start));
+            (λ (ge : suc b.start ≤ j). still x s (suc b.start) j ge (λ i d f. inside_rests _ (r i (omega arith) (omega (arith, h, enough))).0) ∙ all) (cases_lt j (suc b.start));
       })
 
   -- a turn from where the machine stands: complete, or not by step m
@@ -386,6 +394,7 @@ module _ (x : Outside) (y : System) (old : List (List ℕ)) (Typed : C0 → Type
             to = omega arith;
             inside = λ j l h. absurd (omega arith);
             between = λ j l h. b.between j l (omega arith);
+            stays = λ j l h. b.stays j l (omega arith);
             stood = record {
               cvm = record { units = n; is = cvm_next y g.meaning lines n k c (record c { core = after; pending = 0; bound = c.bound + turn_steps (map_of y.boot) y.longest }) (Steps after) here running e refl };
               turn = w.turn;

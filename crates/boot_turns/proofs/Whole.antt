@@ -1,19 +1,21 @@
 -- The whole run, both ways: where the CVM run is defined the machine comes there, and the machine is never anywhere else.
-use Rattle.std.proofs.Common.{◌≡◌, ◌≢◌, ◌⊎◌, inl, inr, ℕ, zero, suc, ◌+◌, ◌-◌, ◌<◌, ◌≤◌, Bool, true, false, not, Option, Some, None, List, refl, sym, ap, ap₂, ◌∙◌, subst, ⊎_elim, arith, eq-eqb, ne_eqb}
-use Rattle.std.specs.Prelude.{◌==◌, ◌||◌, is_some}
+use Rattle.std.proofs.Common.{◌≡◌, ◌≢◌, ◌⊎◌, inl, inr, ℕ, zero, suc, ◌+◌, ◌-◌, ◌*◌, ◌<◌, ◌≤◌, Bool, true, false, not, Option, Some, None, List, refl, sym, ap, ap₂, ◌∙◌, subst, ⊎_elim, arith, eq-eqb, ne_eqb}
+use Rattle.std.specs.Prelude.{◌==◌, ◌||◌, is_some, length}
 use Rattle.std.proofs.lemmas.Bool.{cases_lt}
-use Rattle.mips_table.specs.Device.{Outside}
+use Rattle.mips_table.specs.Device.{Outside, sector_of}
 use Rattle.mips_table.specs.Machine.{State, run}
 use Rattle.mips_table.specs.Turns.{begins, is_on, turn_of, complete, lines_of, is_end, IsEnd, faults_before, TurnLaws}
 use Rattle.c0_meaning.specs.State.{State as C0}
 use Rattle.cvm_model.specs.Kernel.{power_of}
 use Rattle.cvm_model.specs.Cvm.{System, Status, Running, Halted, Faulted, Cvm, turn_by, turn, cvm, IsCvm, first_cvm}
 use Rattle.layer_contract.specs.Layer.{Inside, Rests}
-use Rattle.layer_contract.specs.Follows.{loaded}
+use Rattle.layer_contract.specs.Follows.{site_of, loaded}
 use Rattle.boot_turns.specs.TurnEnds.{Stood, Ahead}
-use Rattle.boot_turns.specs.Headline.{GoesOn, TwoFaults}
+use Rattle.boot_turns.specs.Headline.{Beyond, GoesOn, TwoFaults}
 use Rattle.boot_turns.proofs.Stepping.{was_on, off_stays, off_rests, off_begins, off_handled, inside_handled}
 use Rattle.boot_turns.proofs.Counting.{turn_same, completes, faults_grow, faults_stay}
+use Rattle.boot_turns.proofs.Stretches.{Stays, user_sectors}
+use Rattle.boot_turns.proofs.Sectors.{loaded_beyond}
 use Rattle.boot_turns.proofs.Units.{one_cvm, turn_more_units}
 use Rattle.boot_turns.proofs.Turning.{Given, Beginning, Onward, Stuck, turn_ahead}
 
@@ -195,20 +197,24 @@ module _ (x : Outside) (y : System) (old : List (List ℕ)) (Typed : C0 → Type
     pub stood : Stood x y old count at past
     pub between : (j : ℕ) → at ≤ j → j ≤ t → complete x s j ≡ count
     pub before : (j : ℕ) → j < at → complete x s j < count
+    pub stays : (j : ℕ) → j < t → Stays x (user_sectors (site_of y.boot)) s j
     pub then : ((v : ℕ) × OffOn x s count v at) ⊎ Going count at t past
 
-  covered_off : (t from k : ℕ) (c : Cvm) → from ≤ t → Stood x y old k from c → ((j : ℕ) → j < from → complete x s j < k) → (v : ℕ) → (run x s from).off ≡ Some v → Covered t
-  covered_off t from k c le st before v o =
+  off_stays_on : (j v : ℕ) → (run x s j).off ≡ Some v → Stays x (user_sectors (site_of y.boot)) s j
+  off_stays_on j v e = record { sectors = λ q le. ap (λ (z : State). sector_of z.device.sectors q) (off_stays x (run x s j) v e) }
+
+  covered_off : (t from k : ℕ) (c : Cvm) → from ≤ t → Stood x y old k from c → ((j : ℕ) → j < from → complete x s j < k) → ((j : ℕ) → j < from → Stays x (user_sectors (site_of y.boot)) s j) → (v : ℕ) → (run x s from).off ≡ Some v → Covered t
+  covered_off t from k c le st before stays v o =
       let here : OffOn x s k v from = record { off = o; turn = st.turn; all = st.all } in
-      record { at = from; count = k; past = c; from = le; stood = st; between = λ j a b. (off_on x s k v from j a here).all; before = before; then = inl (v, here) }
+      record { at = from; count = k; past = c; from = le; stood = st; between = λ j a b. (off_on x s k v from j a here).all; before = before; stays = λ j h. ⊎_elim (λ (lt : j < from). stays j lt) (λ (ge : from ≤ j). off_stays_on j v (off_on x s k v from j ge here).off) (cases_lt j from); then = inl (v, here) }
 
   -- the machine is never anywhere else
-  cover : (t fuel from k : ℕ) (c : Cvm) → t ≤ from + fuel → from ≤ t → Stood x y old k from c → Typed c.core.c0 → ((j : ℕ) → j < from → complete x s j < k) → Covered t
-  cover t zero from k c h le st typed before = by c.status refl
+  cover : (t fuel from k : ℕ) (c : Cvm) → t ≤ from + fuel → from ≤ t → Stood x y old k from c → Typed c.core.c0 → ((j : ℕ) → j < from → complete x s j < k) → ((j : ℕ) → j < from → Stays x (user_sectors (site_of y.boot)) s j) → Covered t
+  cover t zero from k c h le st typed before stays = by c.status refl
     where
       by : (b : Status) → c.status ≡ b → Covered t
-      by Halted e = let o = ended_off k from c st (λ w. absurd (let f : Halted ≡ Running = sym e ∙ w in cc)) in covered_off t from k c le st before o.0 o.1
-      by (Faulted f) e = let o = ended_off k from c st (λ w. absurd (let d : Faulted f ≡ Running = sym e ∙ w in cc)) in covered_off t from k c le st before o.0 o.1
+      by Halted e = let o = ended_off k from c st (λ w. absurd (let f : Halted ≡ Running = sym e ∙ w in cc)) in covered_off t from k c le st before stays o.0 o.1
+      by (Faulted f) e = let o = ended_off k from c st (λ w. absurd (let d : Faulted f ≡ Running = sym e ∙ w in cc)) in covered_off t from k c le st before stays o.0 o.1
       by Running e = ⊎_elim
           (λ (a : Onward x y old Typed k from c). let fr = a.beginning.from in let to = a.to in record {
             at = from;
@@ -217,16 +223,17 @@ module _ (x : Outside) (y : System) (old : List (List ℕ)) (Typed : C0 → Type
             from = le;
             stood = st;
             before = before;
+            stays = λ j f. ⊎_elim (λ (lt : j < from). stays j lt) (λ (ge : from ≤ j). a.stays j ge (omega (arith, h, f, fr, to))) (cases_lt j from);
             between = λ j d f. a.between j d (omega (arith, h, f, fr, to));
             then = inr (record { beginning = a.beginning; inside = λ j d f. a.inside j d (omega (arith, h, f, fr, to)) });
           })
-          (λ (b : Stuck x y old k from t c). record { at = from; count = k; past = c; from = le; stood = st; before = before; between = b.between; then = inr (record { beginning = b.beginning; inside = b.inside }) })
+          (λ (b : Stuck x y old k from t c). record { at = from; count = k; past = c; from = le; stood = st; before = before; stays = λ j f. ⊎_elim (λ (lt : j < from). stays j lt) (λ (ge : from ≤ j). b.stays j ge f) (cases_lt j from); between = b.between; then = inr (record { beginning = b.beginning; inside = b.inside }) })
           (turn_ahead x y old Typed g k from t c st e typed)
-  cover t (suc fuel) from k c h le st typed before = by c.status refl (cover t fuel)
+  cover t (suc fuel) from k c h le st typed before stays = by c.status refl (cover t fuel)
     where
-      by : (b : Status) → c.status ≡ b → ((from k : ℕ) (c : Cvm) → t ≤ from + fuel → from ≤ t → Stood x y old k from c → Typed c.core.c0 → ((j : ℕ) → j < from → complete x s j < k) → Covered t) → Covered t
-      by Halted e rec = let o = ended_off k from c st (λ w. absurd (let f : Halted ≡ Running = sym e ∙ w in cc)) in covered_off t from k c le st before o.0 o.1
-      by (Faulted f) e rec = let o = ended_off k from c st (λ w. absurd (let d : Faulted f ≡ Running = sym e ∙ w in cc)) in covered_off t from k c le st before o.0 o.1
+      by : (b : Status) → c.status ≡ b → ((from k : ℕ) (c : Cvm) → t ≤ from + fuel → from ≤ t → Stood x y old k from c → Typed c.core.c0 → ((j : ℕ) → j < from → complete x s j < k) → ((j : ℕ) → j < from → Stays x (user_sectors (site_of y.boot)) s j) → Covered t) → Covered t
+      by Halted e rec = let o = ended_off k from c st (λ w. absurd (let f : Halted ≡ Running = sym e ∙ w in cc)) in covered_off t from k c le st before stays o.0 o.1
+      by (Faulted f) e rec = let o = ended_off k from c st (λ w. absurd (let d : Faulted f ≡ Running = sym e ∙ w in cc)) in covered_off t from k c le st before stays o.0 o.1
       by Running e rec = ⊎_elim
           (λ (a : Onward x y old Typed k from c).
           let fr = a.beginning.from in
@@ -239,17 +246,19 @@ module _ (x : Outside) (y : System) (old : List (List ℕ)) (Typed : C0 → Type
             from = le;
             stood = st;
             before = before;
+            stays = λ j f. ⊎_elim (λ (l : j < from). stays j l) (λ (ge : from ≤ j). a.stays j ge (omega (arith, f, lt))) (cases_lt j from);
             between = λ j d f. a.between j d (omega (arith, f, lt));
             then = inr (record { beginning = a.beginning; inside = λ j d f. a.inside j d (omega (arith, f, lt)) });
           })
           (λ (ge : a.end ≤ t). rec a.end (suc k) a.after (omega (arith, h, fr, to)) ge a.stood a.typed
-          (λ j l. ⊎_elim (λ (lt : j < from). let d = before j lt in omega (arith, d)) (λ (up : from ≤ j). let d = a.between j up l in omega (arith, d)) (cases_lt j from)))
+          (λ j l. ⊎_elim (λ (lt : j < from). let d = before j lt in omega (arith, d)) (λ (up : from ≤ j). let d = a.between j up l in omega (arith, d)) (cases_lt j from))
+          (λ j l. ⊎_elim (λ (lt : j < from). stays j lt) (λ (up : from ≤ j). a.stays j up l) (cases_lt j from)))
           (cases_lt t a.end))
-          (λ (b : Stuck x y old k from t c). record { at = from; count = k; past = c; from = le; stood = st; before = before; between = b.between; then = inr (record { beginning = b.beginning; inside = b.inside }) })
+          (λ (b : Stuck x y old k from t c). record { at = from; count = k; past = c; from = le; stood = st; before = before; stays = λ j f. ⊎_elim (λ (lt : j < from). stays j lt) (λ (ge : from ≤ j). b.stays j ge f) (cases_lt j from); between = b.between; then = inr (record { beginning = b.beginning; inside = b.inside }) })
           (turn_ahead x y old Typed g k from t c st e typed)
 
   pub covered : (t : ℕ) → Covered t
-  covered t = cover t t 0 0 (first_cvm y) (omega arith) (omega arith) stood_first g.typed.starts (λ j a. absurd (omega arith))
+  covered t = cover t t 0 0 (first_cvm y) (omega arith) (omega arith) stood_first g.typed.starts (λ j a. absurd (omega arith)) (λ j a. absurd (omega arith))
 
   -- the CVM run is defined for the turns that are complete
   pub defined : (t : ℕ) → (c : Cvm) × IsCvm y lines (complete x s t) c
@@ -257,6 +266,14 @@ module _ (x : Outside) (y : System) (old : List (List ℕ)) (Typed : C0 → Type
       let d = covered t in
       let e : complete x s t ≡ d.count = d.between t d.from (omega arith) in
       (d.past, subst (λ k. IsCvm y lines k d.past) (sym e) d.stood.cvm)
+
+  -- the sectors past the users' pages are as they were loaded
+  kept : (t : ℕ) (q : ℕ) → length y.boot.users * y.boot.params.pages ≤ q → sector_of (run x s t).device.sectors q ≡ sector_of s.device.sectors q
+  kept zero q le = refl
+  kept (suc t) q le = ((covered (suc t)).stays t (omega arith)).sectors q le ∙ kept t q le
+
+  pub beyond : 1 ≤ y.boot.params.pages → (t : ℕ) → Beyond y old (run x s t).device.sectors
+  beyond some t q le = kept t q le ∙ loaded_beyond y old some q le
 
   complete_grows : TurnLaws → (t u : ℕ) → t ≤ u → complete x s t ≤ complete x s u
   complete_grows counts t zero le = let e : t ≡ 0 = omega arith in rw e (omega arith)

@@ -14,7 +14,7 @@ use Rattle.cvm_model.specs.Journal.{KernelReplays}
 use Rattle.layer_contract.specs.Layer.{Laws}
 use Rattle.layer_contract.specs.Follows.{site_of, loaded, machine}
 use Rattle.boot_turns.specs.TurnEnds.{Stood, Ahead}
-use Rattle.boot_turns.specs.Completes.{seen, note}
+use Rattle.boot_turns.specs.Completes.{seen, note, SeenTorn}
 use Rattle.boot_turns.specs.Headline.{Boots}
 use Rattle.boot_turns.specs.declared.completion.Begun.{Begun}
 use Rattle.boot_turns.specs.declared.answers.RunFault.{RunFault}
@@ -33,11 +33,12 @@ pub record Goes (x : Outside) (y : System) (old : List (List ℕ)) (k t u : ℕ)
   pub on : (j : ℕ) → j ≤ u → (machine x y old j).off ≡ None
 
 -- the disk failed in step number `at`
-pub record DiskStops (x : Outside) (y : System) (old : List (List ℕ)) (k t budget left : ℕ) : Type 0 where
+pub record DiskStops (x : Outside) (y : System) (old : List (List ℕ)) (k t : ℕ) (now : Option State) (budget left : ℕ) : Type 0 where
   pub at : ℕ
   pub from : t ≤ at
   pub spent : left + (at + 1) ≡ budget + t
   pub goes : Goes x y old k t at
+  pub torn : SeenTorn x (machine x y old at) now
 
 -- the budget was spent
 pub record BudgetStops (x : Outside) (y : System) (old : List (List ℕ)) (k t : ℕ) (now : Option State) (budget left : ℕ) : Type 0 where
@@ -48,7 +49,7 @@ pub record BudgetStops (x : Outside) (y : System) (old : List (List ℕ)) (k t :
 -- by the fault
 abbrev pub Stops : Outside → System → List (List ℕ) → (k t : ℕ) → Option State → (budget left : ℕ) → RunFault → Type 0
 Stops x y old k t now budget left StepLimit = BudgetStops x y old k t now budget left
-Stops x y old k t now budget left Disk = DiskStops x y old k t budget left
+Stops x y old k t now budget left Disk = DiskStops x y old k t now budget left
 Stops x y old k t now budget left Sink = ⊥
 
 -- how the run of turn k ends

@@ -1,12 +1,12 @@
 -- What a loop that steps a machine to the end of a turn has done.
-use Rattle.std.specs.Prelude.{◌≡◌, ◌≢◌, ◌⊎◌, ℕ, suc, ◌+◌, ◌/◌, ◌<◌, ◌≤◌, ◌==◌, ◌&&◌, ◌||◌, not, nat_lt, is_some, IfSome, Option, Some, None, Bool, true, false, List, [], slice_index, Result, MatchResult, ⊤}
+use Rattle.std.specs.Prelude.{◌≡◌, ◌≢◌, ◌⊎◌, ℕ, suc, ◌+◌, ◌/◌, ◌<◌, ◌≤◌, ◌==◌, ◌&&◌, ◌||◌, not, nat_lt, is_some, IfSome, Option, Some, None, Bool, true, false, List, [], slice_index, slice_set, Result, MatchResult, ⊤}
 use Rattle.std.specs.Option.{option_map}
 use Rattle.mips_table.specs.declared.cause.Cause.TheVariants.{FetchFault, DataFault}
-use Rattle.mips_table.specs.Device.{Outside}
+use Rattle.mips_table.specs.Device.{Outside, Pending, Writing}
 use Rattle.mips_table.specs.Machine.{State, MODE, ECA, EDATA, step, run}
 use Rattle.mips_table.specs.Turns.{begins, rests}
 use Rattle.mips_machine.specs.Machine.{Held, state_of}
-use Rattle.mips_machine.specs.Steps.{outside_of}
+use Rattle.mips_machine.specs.Steps.{outside_of, before_count}
 use Rattle.mips_machine.specs.declared.event.Event.{Event}
 use Rattle.mips_machine.specs.declared.event.Event.TheVariants.{Taken, Off}
 use Rattle.cvm_model.specs.Cvm.{Begin, Steps, Traps, Interrupts}
@@ -21,6 +21,23 @@ seen told held = option_map (state_of held) told
 -- over a disk of so many sectors the machine made one step
 abbrev pub StepRan : (count : ℕ) → (old new : Held) → (told retold : Option (List (List ℕ))) → Type 0
 StepRan count old new told retold = seen retold new ≡ option_map (step (outside_of old.rows count)) (seen told old)
+
+-- what sectors are where the transfer of a command fails: where one was to be written that sector may hold anything, and all else is as before
+abbrev pub TornBy : Pending → (old now : List (List ℕ)) → Type 0
+TornBy (Writing left sector) old now = (words : List ℕ) × (now ≡ slice_set old sector words)
+TornBy other old now = now ≡ old
+
+-- where that of the command fails that is under way before the step of a state ends
+abbrev pub Torn : Outside → State → List (List ℕ) → Type 0
+Torn x s now = TornBy (before_count x s).pending s.device.sectors now
+
+-- over a disk of so many sectors, where they are told
+abbrev pub StepTorn : (count : ℕ) → Held → (told retold : Option (List (List ℕ))) → Type 0
+StepTorn count old told retold = (ss : List (List ℕ)) → told ≡ Some ss → (now : List (List ℕ)) × (retold ≡ Some now) × Torn (outside_of old.rows count) (state_of old ss) now
+
+-- and in a machine that is seen afterwards
+abbrev pub SeenTorn : Outside → State → Option State → Type 0
+SeenTorn x s new = (now : List (List ℕ)) × (option_map (λ (z : State). z.device.sectors) new ≡ Some now) × Torn x s now
 
 -- the answer is whether that step begins a turn
 abbrev pub StepBegan : (count : ℕ) → Held → Option (List (List ℕ)) → Bool → Type 0
@@ -83,7 +100,7 @@ CompleteOk x new before after s t b = (u : ℕ) × Completed x s t u b × (new �
 -- the budget was spent, or the disk failed in step number u
 abbrev pub CompleteErr : Outside → Option State → ℕ → ℕ → State → ℕ → RunFault → Type 0
 CompleteErr x new before after s t StepLimit = (u : ℕ) × (t ≤ u) × (after + u ≡ before + t) × (new ≡ Some (run x s u)) × ((after ≡ 0) ⊎ ((run x s u).off ≢ None)) × ((b : Option Begun) × Progress x s t u b)
-CompleteErr x new before after s t Disk = (u : ℕ) × (t ≤ u) × (after + (u + 1) ≡ before + t) × ((b : Option Begun) × Progress x s t u b)
+CompleteErr x new before after s t Disk = (u : ℕ) × (t ≤ u) × (after + (u + 1) ≡ before + t) × ((b : Option Begun) × Progress x s t u b) × SeenTorn x (run x s u) new
 CompleteErr x new before after s t Sink = ⊤
 
 -- how the loop ends

@@ -18,7 +18,7 @@ use Rattle.mips_table.specs.Turns.{complete, lines_of, is_end, IsEnd, end_within
 use Rattle.layer_contract.specs.Layer.{BusyWithin, Laws}
 use Rattle.layer_contract.specs.Follows.{site_of, machine, loaded, SystemFits, Follows}
 use Rattle.boot_turns.specs.Trace.{Shown}
-use Rattle.boot_turns.specs.Completes.{note, ShownAs, Progress, Completed}
+use Rattle.boot_turns.specs.Completes.{note, ShownAs, Progress, Completed, Torn}
 use Rattle.boot_turns.specs.declared.completion.Begun.{Begun}
 use Rattle.boot_turns.specs.declared.answers.View.{View}
 use Rattle.boot_turns.specs.declared.answers.View.TheVariants.{Boot, Trace}
@@ -84,14 +84,15 @@ pub record Ran (x : Outside) (y : System) (old now : List (List ℕ)) (v : View)
   pub status : e ≡ ending x y old turns steps past
   pub text_is : TextOf x y old v (end_of x y old turns steps) e text
 
--- the disk failed while the users' pages were written, in a step of a turn, or in the report
+-- the disk failed while the users' pages were written; in a step of a turn, where it may have torn the sector that the step's command names; or in the report
 pub record LoadBroken (text : List ℕ) : Type 0 where
   pub none : text ≡ []
 
-pub record StepBroken (x : Outside) (y : System) (old : List (List ℕ)) (v : View) (turns steps : ℕ) (text : List ℕ) : Type 0 where
+pub record StepBroken (x : Outside) (y : System) (old now : List (List ℕ)) (v : View) (turns steps : ℕ) (text : List ℕ) : Type 0 where
   pub at : ℕ
   pub less : at < steps
   pub goes_on : (j : ℕ) → j ≤ at → is_end x (loaded y old) turns j ≡ false
+  pub sectors : Torn x (machine x y old at) now
   pub printed : PrintedBroken x y old v at text
 
 pub record EndBroken (x : Outside) (y : System) (old : List (List ℕ)) (v : View) (turns steps : ℕ) (text : List ℕ) : Type 0 where
@@ -103,6 +104,10 @@ pub record EndBroken (x : Outside) (y : System) (old : List (List ℕ)) (v : Vie
   pub whole : List ℕ
   pub is_whole : Whole x y old v (end_of x y old turns steps) whole
   pub printed : Prefix rows whole text
+
+-- in the report, of which the sectors are those of the machine
+abbrev pub EndsBroken : Outside → System → (old now : List (List ℕ)) → View → (turns steps : ℕ) → List ℕ → Type 0
+EndsBroken x y old now v turns steps text = EndBroken x y old v turns steps text × (now ≡ (machine x y old (end_of x y old turns steps)).device.sectors)
 
 -- the sink failed in the row of a turn that dispatches
 pub record RowBroken (x : Outside) (y : System) (old now : List (List ℕ)) (turns steps : ℕ) (text : List ℕ) : Type 0 where
@@ -123,13 +128,13 @@ pub record RowBroken (x : Outside) (y : System) (old now : List (List ℕ)) (tur
 -- in the rows of a boot, or in the end row or the report; of a trace any prefix of its text was printed
 abbrev pub SinkBroken : Outside → System → (old now : List (List ℕ)) → View → (turns steps : ℕ) → List ℕ → Type 0
 SinkBroken x y old now Boot turns steps text =
-    RowBroken x y old now turns steps text ⊎ (EndBroken x y old Boot turns steps text × (now ≡ (machine x y old (end_of x y old turns steps)).device.sectors))
+    RowBroken x y old now turns steps text ⊎ EndsBroken x y old now Boot turns steps text
 SinkBroken x y old now (Trace u) turns steps text =
     (e : Ending) × (clean : List (List ℕ)) × (whole : List ℕ) × Ran x y old clean (Trace u) turns steps e whole × Prefix [] whole text
 
 -- THE HEADLINE of a boot or a trace, by its ending
 abbrev pub Ends : Outside → System → (old now : List (List ℕ)) → View → (turns steps : ℕ) → List ℕ → Ending → Type 0
-Ends x y old now v turns steps text DiskFault = Beyond y old now × (LoadBroken text ⊎ (StepBroken x y old v turns steps text ⊎ EndBroken x y old v turns steps text))
+Ends x y old now v turns steps text DiskFault = StepBroken x y old now v turns steps text ⊎ (Beyond y old now × (LoadBroken text ⊎ EndsBroken x y old now v turns steps text))
 Ends x y old now v turns steps text SinkFault = Beyond y old now × SinkBroken x y old now v turns steps text
 Ends x y old now v turns steps text NoMemory = (text ≡ []) × (now ≡ old)
 Ends x y old now v turns steps text e = Ran x y old now v turns steps e text
@@ -196,6 +201,7 @@ pub record Machines (x : Outside) (y : System) (old : List (List ℕ)) : Type 0 
   pub unfound : TurnGoesOn x y old
   pub shows : TurnShows x y old
   pub rows : TurnRows x y old
+  pub beyond : (t : ℕ) → Beyond y old (machine x y old t).device.sectors
   pub few : (t : ℕ) → complete x (loaded y old) t ≤ t
   pub same : (k : ℕ) (c d : Cvm) → IsCvm y (lines_of x (loaded y old)) k c → IsCvm y (lines_of x (loaded y old)) k d → c ≡ d
   pub replays : (u turns steps : ℕ) → 1 ≤ u → u ≤ length y.boot.users → TraceReplays x y old u turns steps

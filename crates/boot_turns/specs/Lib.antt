@@ -5,6 +5,7 @@ pub mod Samples
 pub mod Rows
 pub mod Completes
 pub mod Advances
+pub mod TypedRuns
 pub mod Entries
 pub mod JournalText
 pub mod Copies

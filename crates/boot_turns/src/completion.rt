@@ -1,9 +1,9 @@
 // The machine runs until its next turn is complete.
-ghost use Rattle.std.specs.Prelude.{◌≡◌, ◌≢◌, ◌+◌, ◌-◌, ◌<◌, ◌≤◌, ◌^◌, length, IfOk, OnOk, Err, None};
+ghost use Rattle.std.specs.Prelude.{◌≡◌, ◌≢◌, ◌+◌, ◌-◌, ◌<◌, ◌≤◌, ◌^◌, length, IfOk, OnOk, OnErr, Err, None};
 ghost use Rattle.cvm_outside.specs.Causes.{Counts, Rose};
 ghost use Rattle.mips_table.specs.Fits.{NamesSector};
 ghost use Rattle.boot_turns.specs.Advances.{Advances};
-ghost use Rattle.boot_turns.specs.Completes.{begun_by, noted, shown, is_at_rest, StepRan, StepBegan, Completes};
+ghost use Rattle.boot_turns.specs.Completes.{begun_by, noted, shown, is_at_rest, StepRan, StepBegan, StepTorn, Completes};
 
 use crate::answers::RunFault;
 use crate::machines_run;
@@ -57,6 +57,7 @@ fn step_once<D: Sectors>(machine: &mut Machine, disk: &mut D) -> Result<bool, Di
     requires steps { machine.old.time < 2 ^ 64 - 1 }
     requires sector { NamesSector (D.size disk.old) machine.old.hardware.ports.pending }
     ensures ran { OnOk result (StepRan (D.size disk.old) machine.old machine.new (D.sectors disk.old) (D.sectors disk.new)) }
+    ensures torn { OnErr result (StepTorn (D.size disk.old) machine.old (D.sectors disk.old) (D.sectors disk.new)) }
     ensures began { IfOk result (λ began. StepBegan (D.size disk.old) machine.old (D.sectors disk.old) began) }
     ensures time { machine.old.hardware.off ≡ None → machine.new.time ≡ machine.old.time + 1 }
     ensures rows { machine.new.rows ≡ machine.old.rows }

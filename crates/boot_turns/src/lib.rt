@@ -6,6 +6,7 @@
 ghost use Rattle.c0_tree.specs.Tree.{CUnit};
 ghost use Rattle.c0_meaning.specs.TypedState.{IsTypedState};
 ghost use Rattle.boot_turns.specs.Headline.{MachinesRun};
+ghost use Rattle.boot_turns.specs.TypedRuns.{RunsStayTyped};
 ghost use Rattle.boot_turns.specs.Entries.{TracesGrow};
 ghost use Rattle.boot_turns.specs.Copies.{CopiesTell};
 ghost use Rattle.boot_turns.specs.JournalText.{RowsFollow};
@@ -32,6 +33,14 @@ pub fn machines_run()
     users_follow_linked();
     turns_are_counted();
     users_are_isolated();
+}
+
+/// A law: the kernel's data is typed after every number of turns for which the CVM run of a boot is defined.
+pub fn runs_stay_typed()
+    ensures { (u : CUnit) → RunsStayTyped (IsTypedState u) }
+{
+    the_loaded_machine_resets();
+    users_follow_linked();
 }
 
 /// A law: of a user nothing is shown before the first step, and each step of a machine that is on adds its entries to what is shown: those

@@ -110,10 +110,7 @@ impl Tracer {
         if begun.cause <= 1 {
             return Ok(());
         }
-        self.put(
-            trap_row(begun.cause, begun.edata).as_str().as_bytes(),
-            out,
-        )
+        self.put(trap_row(begun.cause, begun.edata).as_str().as_bytes(), out)
     }
 
     /// Prints the row of the steps that have none yet, and then this one.

@@ -7,39 +7,41 @@ use Rattle.std.specs.Str.{bytes_eq}
 use Rattle.std.proofs.lemmas.Slice.Eq.{bytes_eq-Decides}
 use Rattle.cvm_outside.specs.Told.{AppendsPart, Tells, TOO_LONG, retold}
 use Rattle.std.specs.Option.{IsSome}
-use Rattle.first_source.specs.Reading.{Reads}
-use Rattle.cvm_shell.specs.Image.{Reading, gives, reading}
 use Rattle.cvm_outside.proofs.Parts.{append_known-nil}
-use Rattle.c0_tree.specs.FirstTree.{CUnit}
+use Rattle.schedule_file.specs.Rows.{Rows}
+use Rattle.layer_runs.specs.Image.{layer_image}
+use Rattle.kernel_linker.specs.Accept.{System}
 use Rattle.cvm_shell.specs.declared.status.Status.{Status}
-use Rattle.cvm_shell.specs.declared.status.Status.TheVariants.{Done, Words, Refused, KernelFault, StepLimit, Disk, Shelf, Sink, Memory}
+use Rattle.cvm_shell.specs.declared.status.Status.TheVariants.{Done, Words, Shelf, Sink, Memory}
 use Rattle.cvm_shell.specs.declared.boot.Stop.{Stop}
 use Rattle.cvm_shell.specs.declared.boot.Stop.TheVariants as Stops
 use Rattle.cvm_shell.specs.declared.refusal.Refusal.{Refusal as ByCode}
 use Rattle.cvm_shell.specs.declared.refusal.Refusal.TheVariants as by
-use Rattle.cvm_shell.specs.Command.{Boot, Command, boot, compile_user, compile_kernel, IsBoot, IsCommand, IsNoCommand}
-use Rattle.cvm_shell.specs.Outside.{Files, Outside, SameSectors, Leaves}
+use Rattle.cvm_shell.specs.Command.{Boot, Command, boot, compile_user, compile_kernel, link, IsBoot, IsCommand, IsNoCommand}
+use Rattle.cvm_shell.specs.Outside.{Files, Outside, SameSectors, Leaves, Says, said, broken}
 use Rattle.cvm_shell.specs.Refusal.{Refusal, too_long, refusal_text, refusal_status}
-use Rattle.cvm_shell.specs.Plan.{Plan, bad_words, refuses, puts, boots, BootPlan, UserPlan, KernelPlan, whole, AfterReading, reads, runs, ComesTo, no_command, boot_plan, user_plan, kernel_plan, AllTold, IsPlan}
-use Rattle.cvm_shell.specs.Boot.{Ran, Boots, GoesOn, RunEnds}
-use Rattle.cvm_shell.specs.Outcome.{Says, said, broken, HasPut, Ends, Took, CommandEnds, done, undone, CausedBy}
-use Rattle.cvm_shell.specs.Stages.{KernelEnds, IsBootPlan, IsUserPlan, IsKernelPlan}
+use Rattle.cvm_shell.specs.Plan.{Plan, bad_words, refuses, puts, boots, BootPlan, UserPlan, KernelPlan, LinkPlan, ComesTo, no_command, boot_plan, user_plan, kernel_plan, link_plan, AllTold, IsPlan}
+use Rattle.cvm_shell.specs.Boot.{RunEnds}
+use Rattle.cvm_shell.specs.Outcome.{HasPut, Ends, Took, CommandEnds, done, undone, CausedBy}
+use Rattle.cvm_shell.specs.Stages.{IsBootPlan, IsUserPlan, IsKernelPlan, IsLinkPlan}
 use Rattle.cvm_shell.specs.Views.{refusal_view}
-use Rattle.cvm_shell.proofs.Spellings.{one_boot, one_command, boot_or_user, boot_or_kernel}
+use Rattle.cvm_shell.proofs.Spellings.{one_command}
 
 -- What words and files come to is one plan, by the command.
 
 -- the files of a command come to a plan
 abbrev CommandPlan : (List ℕ → Option (List ℕ)) → Command → Plan → Type 0
-CommandPlan file (boot b) = BootPlan file b
+CommandPlan file (boot b) = BootPlan layer_image file b
 CommandPlan file (compile_user c) = UserPlan file c
 CommandPlan file (compile_kernel c) = KernelPlan file c
+CommandPlan file (link l) = LinkPlan layer_image file l
 
 -- and to no other
 abbrev pub FilesPlan : (List ℕ → Option (List ℕ)) → Command → Plan → Type 0
-FilesPlan file (boot b) p = IsBootPlan file b p
+FilesPlan file (boot b) p = IsBootPlan layer_image file b p
 FilesPlan file (compile_user c) p = IsUserPlan file c p
 FilesPlan file (compile_kernel c) p = IsKernelPlan file c p
+FilesPlan file (link l) p = IsLinkPlan layer_image file l p
 
 only_here : (words : List (List ℕ)) (file : List ℕ → Option (List ℕ)) (c d : Command) (p q : Plan) → IsCommand words c → IsCommand words d → ((r : Plan) → CommandPlan file c r → r ≡ p) → CommandPlan file d q → q ≡ p
 only_here words file c d p q is other only got = only q (let P : Command → Type 0 = λ x. CommandPlan file x q in subst P (sym (one_command words c d is other)) got)
@@ -49,17 +51,20 @@ only_plan words file c p is only q (no_command none) = absurd (none c is)
 only_plan words file c p is only q (boot_plan b r other got) = only_here words file c (boot b) p r is other only got
 only_plan words file c p is only q (user_plan d r other got) = only_here words file c (compile_user d) p r is other only got
 only_plan words file c p is only q (kernel_plan d r other got) = only_here words file c (compile_kernel d) p r is other only got
+only_plan words file c p is only q (link_plan l r other got) = only_here words file c (link l) p r is other only got
 
 only_none : (words : List (List ℕ)) (file : List ℕ → Option (List ℕ)) → IsNoCommand words → (q : Plan) → ComesTo words file q → q ≡ bad_words
 only_none words file none q (no_command also) = refl
 only_none words file none q (boot_plan b r other got) = absurd (none (boot b) other)
 only_none words file none q (user_plan c r other got) = absurd (none (compile_user c) other)
 only_none words file none q (kernel_plan c r other got) = absurd (none (compile_kernel c) other)
+only_none words file none q (link_plan l r other got) = absurd (none (link l) other)
 
-plan_of : (words : List (List ℕ)) (file : List ℕ → Option (List ℕ)) (c : Command) (p : Plan) → IsCommand words c → FilesPlan file c p → IsPlan (AllTold words file) (ComesTo words file) p
+pub plan_of : (words : List (List ℕ)) (file : List ℕ → Option (List ℕ)) (c : Command) (p : Plan) → IsCommand words c → FilesPlan file c p → IsPlan (AllTold words file) (ComesTo words file) p
 plan_of words file (boot b) p is plan = record { comes = boot_plan b p is plan.comes; only = λ told q h. only_plan words file (boot b) p is (plan.only (told (boot b) is)) q h }
 plan_of words file (compile_user c) p is plan = record { comes = user_plan c p is plan.comes; only = λ told q h. only_plan words file (compile_user c) p is (plan.only (told (compile_user c) is)) q h }
 plan_of words file (compile_kernel c) p is plan = record { comes = kernel_plan c p is plan.comes; only = λ told q h. only_plan words file (compile_kernel c) p is (plan.only (told (compile_kernel c) is)) q h }
+plan_of words file (link l) p is plan = record { comes = link_plan l p is plan.comes; only = λ told q h. only_plan words file (link l) p is (plan.only (told (link l) is)) q h }
 
 -- How many bytes were taken.
 
@@ -90,15 +95,17 @@ shelf_long s taken e long h = let d : Stops.Shelf ≡ Stops.Refused by.TooLong =
 pub memory_long : (s : Stop) (taken : ℕ) → s ≡ Stops.Memory → Long s taken → taken ≢ TOO_LONG
 memory_long s taken e long h = let d : Stops.Memory ≡ Stops.Refused by.TooLong = sym e ∙ long.1 h in absurd cc
 
--- a refusal is that of a file that is too long, or has the status of a refusal
-which : (r : ByCode) → (r ≡ by.TooLong) ⊎ ((refusal_view r ≢ too_long) × (refusal_status (refusal_view r) ≡ Refused))
-which (by.BadText fault) = inr (λ e. cc, refl)
-which (by.BadSource fault) = inr (λ e. cc, refl)
-which by.Magic = inr (λ e. cc, refl)
-which (by.Truncated at) = inr (λ e. cc, refl)
-which (by.Trailing at) = inr (λ e. cc, refl)
-which (by.Parameter number value) = inr (λ e. cc, refl)
-which (by.NotBuilt at) = inr (λ e. cc, refl)
+-- a refusal is that of a file that is too long, or another
+which : (r : ByCode) → (r ≡ by.TooLong) ⊎ (refusal_view r ≢ too_long)
+which (by.BadText fault) = inr (λ e. cc)
+which (by.BadSource fault) = inr (λ e. cc)
+which (by.BadObject fault) = inr (λ e. cc)
+which (by.BadFile fault) = inr (λ e. cc)
+which (by.Unlinked fault) = inr (λ e. cc)
+which (by.Unaccepted fault) = inr (λ e. cc)
+which (by.BadSchedule fault) = inr (λ e. cc)
+which (by.SmallDisk need have) = inr (λ e. cc)
+which (by.NoSuchUser user users) = inr (λ e. cc)
 which by.TooLong = inl refl
 
 one_refusal : (r s : Refusal) → refuses r ≡ refuses s → r ≡ s
@@ -110,11 +117,11 @@ one_stop r s h = cc
 took_refused : (r : ByCode) (taken : ℕ) → Long (Stops.Refused r) taken → Took (refuses (refusal_view r)) taken
 took_refused r taken long = elim (which r) [
   | inl e ↦ (λ h. long.0 (ap (λ (x : ByCode). Stops.Refused x) e), λ h. ap (λ (x : ByCode). refuses (refusal_view x)) (one_stop r by.TooLong (long.1 h)))
-  | inr e ↦ (λ h. absurd (e.0 (one_refusal _ _ h)), λ h. ap (λ (x : ByCode). refuses (refusal_view x)) (one_stop r by.TooLong (long.1 h)))
+  | inr e ↦ (λ h. absurd (e (one_refusal _ _ h)), λ h. ap (λ (x : ByCode). refuses (refusal_view x)) (one_stop r by.TooLong (long.1 h)))
 ]
 
-took_boots : (b : Boot) (u : CUnit) (taken : ℕ) → taken ≢ TOO_LONG → Took (boots b u) taken
-took_boots b u taken few = (λ h. absurd cc, λ h. absurd (few h))
+took_boots : (b : Boot) (s : System) (rows : Rows) (taken : ℕ) → taken ≢ TOO_LONG → Took (boots b s rows) taken
+took_boots b s rows taken few = (λ h. absurd cc, λ h. absurd (few h))
 
 took_puts : (name bytes : List ℕ) (taken : ℕ) → taken ≢ TOO_LONG → Took (puts name bytes) taken
 took_puts name bytes taken few = (λ h. absurd cc, λ h. absurd (few h))
@@ -128,11 +135,11 @@ pub record Unchanged (old new : Outside) : Type 0 where
 leaves : (old new : Outside) (text : List ℕ) → Unchanged old new → new.sink.text ≡ append_known old.sink.text text → Leaves old new text
 leaves old new text same e = record { printed = e; files = same.files; disk = same.disk }
 
-nothing : (old new : Outside) → Unchanged old new → new.sink.text ≡ old.sink.text → Leaves old new []
+pub nothing : (old new : Outside) → Unchanged old new → new.sink.text ≡ old.sink.text → Leaves old new []
 nothing old new same e = leaves old new [] same (e ∙ sym (append_known-nil old.sink.text))
 
 -- a row was said, as far as the sink took it
-row_said : (stated status : Status) (row : List ℕ) (old new : Outside) → Unchanged old new → (status ≡ stated) ⊎ (status ≡ Sink) → (status ≡ stated → new.sink.text ≡ append_known old.sink.text row)
+pub row_said : (stated status : Status) (row : List ℕ) (old new : Outside) → Unchanged old new → (status ≡ stated) ⊎ (status ≡ Sink) → (status ≡ stated → new.sink.text ≡ append_known old.sink.text row)
     → (status ≡ Sink → AppendsPart old.sink.text new.sink.text row) → Says stated row old new status
 row_said stated status row old new same (inl e) all part = subst (Says stated row old new) (sym e) (said (leaves old new row same (all e)))
 row_said stated status row old new same (inr e) all part =
@@ -159,23 +166,11 @@ pub undone_end : (words : List (List ℕ)) (c : Command) (status : Status) (old 
     → new.sink.text ≡ old.sink.text → CommandEnds words status old new
 undone_end words c status old new is cases few same e = undone c is cases few (nothing old new same e)
 
--- the run of a kernel, with what it leaves alone
-run_ends : (u : CUnit) (turns steps : ℕ) (status : Status) (old new : Outside) → Unchanged old new → KernelEnds u turns steps status old.sink.text new.sink.text → RunEnds u turns steps status old new
-run_ends u turns steps Done old new same (text, ran, e, goes) = record { text = text; ran = ran; leaves = leaves old new text same e; goes_on = goes }
-run_ends u turns steps StepLimit old new same (text, ran, e, goes) = record { text = text; ran = ran; leaves = leaves old new text same e; goes_on = goes }
-run_ends u turns steps Sink old new same (status, text, ran, part) = record { status = status; text = text; ran = ran; count = part.0; leaves = leaves old new (take part.0 text) same part.1 }
-run_ends u turns steps Memory old new same e = nothing old new same e
-run_ends u turns steps Words old new same h = absurd h
-run_ends u turns steps Refused old new same h = absurd h
-run_ends u turns steps KernelFault old new same h = absurd h
-run_ends u turns steps Disk old new same h = absurd h
-run_ends u turns steps Shelf old new same h = absurd h
-
--- a kernel was run
-pub kernel_end : (words : List (List ℕ)) (b : Boot) (u : CUnit) (status : Status) (old new : Outside) → IsBoot words b → IsBootPlan old.shelf.file b (boots b u) → new.shelf.taken ≢ TOO_LONG → Unchanged old new
-    → KernelEnds u b.turns b.steps status old.sink.text new.sink.text → CommandEnds words status old new
-kernel_end words b u status old new is plan few same ends =
-    done (boots b u) (plan_of words old.shelf.file (boot b) (boots b u) is plan) (took_boots b u new.shelf.taken few) (run_ends u b.turns b.steps status old new same ends)
+-- a system was run
+pub run_end : (words : List (List ℕ)) (b : Boot) (s : System) (rows : Rows) (status : Status) (old new : Outside) → IsBoot words b → IsBootPlan layer_image old.shelf.file b (boots b s rows)
+    → new.shelf.taken ≢ TOO_LONG → RunEnds b s rows status old new → CommandEnds words status old new
+run_end words b s rows status old new is plan few ends =
+    done (boots b s rows) (plan_of words old.shelf.file (boot b) (boots b s rows) is plan) (took_boots b s rows new.shelf.taken few) ends
 
 -- a shelf before and after a put: first the files of another shelf, which are those at the start
 pub record Put (name put : List ℕ) (old mid new : Files) : Type 0 where
@@ -225,61 +220,3 @@ pub put_broken : (words : List (List ℕ)) (c : Command) (name put bytes : List 
     → (new.shelf.file name ≡ mid.file name) ⊎ ((n : ℕ) × (new.shelf.file name ≡ retold (mid.file name) (take n put))) → CommandEnds words Shelf old new
 put_broken words c name put bytes mid old new is plan few p e text disk f =
     done (puts name bytes) (plan_of words old.shelf.file c (puts name bytes) is plan) (took_puts name bytes new.shelf.taken (λ h. few (sym p.taken ∙ h))) (broken_put name put bytes mid old new p e text disk f)
-
--- The headline, from how a command ends and why.
-
-is_told : (told : Option (List ℕ)) (bytes : List ℕ) → told ≡ Some bytes → IsSome told
-is_told told bytes e = let P : Option (List ℕ) → Type 0 = λ o. IsSome o in subst P (sym e) refl
-
-tells : (told : Option (List ℕ)) (bytes : List ℕ) → told ≡ Some bytes → Tells told bytes
-tells told bytes e = let P : Option (List ℕ) → Type 0 = λ o. Tells o bytes in subst P (sym e) refl
-
-all_told : (words : List (List ℕ)) (file : List ℕ → Option (List ℕ)) (b : Boot) (image : List ℕ) → IsBoot words b → file b.image ≡ Some image → file b.schedule ≡ Some [] → AllTold words file
-all_told words file b image is told scheduled (boot other) also =
-    let P : Boot → Type 0 = λ x. IsSome (file x.image) × IsSome (file x.schedule) in
-    subst P (one_boot words b other is also) (is_told (file b.image) image told, is_told (file b.schedule) [] scheduled)
-all_told words file b image is told scheduled (compile_user c) also = absurd (boot_or_user words b c is also)
-all_told words file b image is told scheduled (compile_kernel c) also = absurd (boot_or_kernel words b c is also)
-
--- the files come to the kernel
-comes_to_kernel : (file : List ℕ → Option (List ℕ)) (b : Boot) (image source : List ℕ) (u : CUnit) → file b.image ≡ Some image → file b.schedule ≡ Some [] → length image < TOO_LONG
-    → reading image ≡ gives source → Reads source u → BootPlan file b (boots b u)
-comes_to_kernel file b image source u told scheduled short e read =
-    let P : Reading → Type 0 = λ r. AfterReading b [] r (boots b u) in
-    whole image (boots b u) (tells (file b.image) image told) short
-    (whole [] (boots b u) (tells (file b.schedule) [] scheduled) (omega arith) (subst P (sym e) (reads u (boots b u) read (runs refl))))
-
--- what the headline says
-abbrev pub Headline : CUnit → (turns steps : ℕ) → Status → (old new : Outside) → Type 0
-Headline u turns steps status old new = (text : List ℕ) × Ran u turns steps status text × (new.sink.text ≡ append_known old.sink.text text) × (new.disk.sectors ≡ old.disk.sectors) × GoesOn u
-
-booted : (u : CUnit) (turns steps : ℕ) (status : Status) (old new : Outside) → Boots u turns steps status old new → Headline u turns steps status old new
-booted u turns steps status old new b = (b.text, b.ran, b.leaves.printed, b.leaves.disk.sectors, b.goes_on)
-
-run_headline : (u : CUnit) (turns steps : ℕ) (status : Status) (old new : Outside) → RunEnds u turns steps status old new → CausedBy status old new → (Rose old.sink.faults new.sink.faults → ⊥) → status ≢ Memory
-    → Headline u turns steps status old new
-run_headline u turns steps Done old new ends why sink memory = booted u turns steps Done old new ends
-run_headline u turns steps StepLimit old new ends why sink memory = booted u turns steps StepLimit old new ends
-run_headline u turns steps Sink old new ends why sink memory = absurd (sink why.0)
-run_headline u turns steps Memory old new ends why sink memory = absurd (memory refl)
-run_headline u turns steps Words old new ends why sink memory = absurd ends
-run_headline u turns steps Refused old new ends why sink memory = absurd ends
-run_headline u turns steps KernelFault old new ends why sink memory = absurd ends
-run_headline u turns steps Disk old new ends why sink memory = absurd ends
-run_headline u turns steps Shelf old new ends why sink memory = absurd ends
-
--- the shelf's fault, where not too many bytes were taken, is counted
-shelf_rose : (status : Status) (old new : Outside) → status ≡ Shelf → new.shelf.taken ≢ TOO_LONG → CausedBy status old new → Rose old.shelf.faults new.shelf.faults
-shelf_rose status old new e few why = let P : Status → Type 0 = λ s. CausedBy s old new in elim ((subst P e why).0) [ inl rose ↦ rose | inr long ↦ absurd (few long.0) ]
-
-pub headline_end : (words : List (List ℕ)) (b : Boot) (image source : List ℕ) (u : CUnit) (status : Status) (old new : Outside) → IsBoot words b
-    → old.shelf.file b.image ≡ Some image → old.shelf.file b.schedule ≡ Some [] → length image < TOO_LONG → reading image ≡ gives source → Reads source u
-    → (Rose old.shelf.faults new.shelf.faults → ⊥) → (Rose old.sink.faults new.sink.faults → ⊥) → status ≢ Memory
-    → CommandEnds words status old new → CausedBy status old new → Headline u b.turns b.steps status old new
-headline_end words b image source u status old new is told scheduled short e read shelf sink memory (done p plan took ends) why =
-    let comes : ComesTo words old.shelf.file (boots b u) = boot_plan b (boots b u) is (comes_to_kernel old.shelf.file b image source u told scheduled short e read) in
-    let same : boots b u ≡ p = plan.only (all_told words old.shelf.file b image is told scheduled) (boots b u) comes in
-    let P : Plan → Type 0 = λ q. Ends q status old new in
-    run_headline u b.turns b.steps status old new (subst P (sym same) ends) why sink memory
-headline_end words b image source u status old new is told scheduled short e read shelf sink memory (undone c also (inl h) few same) why = absurd (memory h)
-headline_end words b image source u status old new is told scheduled short e read shelf sink memory (undone c also (inr h) few same) why = absurd (shelf (shelf_rose status old new h few why))

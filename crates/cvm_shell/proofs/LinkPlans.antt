@@ -1,5 +1,5 @@
 -- What the files of a system come to: each is got, read and linked, or the first fault is refused, and nothing else.
-use Rattle.std.proofs.Common.{◌≡◌, ◌≢◌, ◌⊎◌, inl, inr, ℕ, suc, ◌+◌, ◌<◌, ◌≤◌, List, [], ◌∷◌, ◌++◌, length, map, refl, sym, ap, ◌∙◌, subst, arith, append_assoc, append_nil, Ok, Err}
+use Rattle.std.proofs.Common.{◌≡◌, ◌≢◌, ◌⊎◌, inl, inr, ℕ, suc, ◌+◌, ◌<◌, ◌≤◌, List, [], ◌∷◌, ◌++◌, length, map, refl, sym, ap, ◌∙◌, subst, arith, append_assoc, append-nil, Ok, Err}
 use Rattle.std.specs.Prelude.{Option, Result, ⊤}
 use Rattle.std.specs.Option.{IsSome}
 use Rattle.cvm_outside.specs.Told.{TOO_LONG, Tells}
@@ -32,11 +32,13 @@ use Rattle.cvm_shell.specs.declared.boot.Stop.{Stop}
 use Rattle.cvm_shell.specs.declared.boot.Stop.TheVariants as Stops
 use Rattle.cvm_shell.specs.declared.refusal.Refusal.{Refusal as ByCode}
 use Rattle.cvm_shell.specs.declared.refusal.Refusal.TheVariants as by
-use Rattle.cvm_shell.specs.Command.{Link}
+use Rattle.cvm_shell.specs.Command.{Link, link}
 use Rattle.cvm_shell.specs.Refusal.{Refusal, bad_object, bad_file, unlinked, too_long}
 use Rattle.cvm_shell.specs.Plan.{Plan, refuses, puts, Got, GotAll, words_from, before_them, linked_plan, AfterParts, unfit, answered, AfterUsers, AfterParams, AfterSystem, no_object, has_object, LinkPlan, AreTold, GetsTold, IsPlan}
-use Rattle.cvm_shell.specs.Stages.{object_stop, file_stop, link_stop, Fetched, LongAmong, NotFetched}
-use Rattle.cvm_shell.specs.Views.{IfRefused}
+use Rattle.cvm_shell.specs.Stages.{object_stop, file_stop, link_stop, Fetched, IsLinkPlan}
+use Rattle.cvm_shell.specs.Views.{IfRefused, IfPlan}
+use Rattle.cvm_shell.proofs.Plans.{got_whole, if_refused, if_plan}
+use Rattle.cvm_shell.proofs.GotFiles.{fetched_plan}
 
 -- LINKING: a source has one answer.
 
@@ -47,13 +49,13 @@ abbrev Layers : Type 0
 Layers = Map → List ℕ → List ℕ
 
 -- what doesn't fit is answered by its fault, whatever the source is
-unfolding link_answer
 unfit_answers : (layer : Layers) (o : Object) (p : Params) (us : List (List ℕ)) (front : Result CUnit SourceFault) (f : LinkFault) → fitting p us ≡ Err f → link_answer layer o p us front ≡ Err f
+unfolding link_answer
 unfit_answers layer o p us front f e = rw e refl
 
 -- what fits and has no unit is answered by the source's fault
-unfolding link_answer
 no_unit : (layer : Layers) (o : Object) (p : Params) (us : List (List ℕ)) (f : SourceFault) → fitting p us ≡ Ok tt → link_answer layer o p us (Err f) ≡ Err (link_source_fault f)
+unfolding link_answer
 no_unit layer o p us f e = rw e refl
 
 -- the answer is one
@@ -103,7 +105,7 @@ first_or_memory source (Typing (typing.EmptyArray s)) is = inr (record { fault =
 -- what the front came to, where it is not want of memory
 answer_or_memory : (source : List ℕ) (front : Result CUnit SourceFault) → Comes source front → ((f : SourceFault) × (front ≡ Err f) × (link_source_fault f ≡ linking.Memory)) ⊎ IsAnswer source front
 answer_or_memory source (Ok u) is = inr is
-answer_or_memory source (Err f) is = elim (first_or_memory source f is) [ | inl e ↦ inl (f, refl, e) | inr h ↦ inr h ]
+answer_or_memory source (Err f) is = elim (first_or_memory source f is) [ inl e ↦ inl (f, refl, e) | inr h ↦ inr h ]
 
 -- a fault of linking is want of memory, or it is refused
 link_stops : (f : LinkFault) → (f ≡ linking.Memory) ⊎ ((f ≢ linking.Memory) × (link_stop f ≡ Stops.Refused (by.Unlinked f)))
@@ -227,7 +229,7 @@ pub params_fault : (layer : Layers) (name : List ℕ) (o : Object) (users : List
 params_fault layer name o users r f e = elim (file_stops f) [
   | inl m ↦ subst (λ (x : FileFault). IfRefused (IsPlan ⊤ (AfterParams layer name o users r)) (file_stop x)) (sym m) tt
   | inr h ↦ subst (IfRefused (IsPlan ⊤ (AfterParams layer name o users r))) (sym h.1)
-            (subst (λ (x : Result Params FileFault). IsPlan ⊤ (AfterParams layer name o users x) (refuses (bad_file f))) (sym e) (record { comes = refl; only = λ t q k. k }))
+      (subst (λ (x : Result Params FileFault). IsPlan ⊤ (AfterParams layer name o users x) (refuses (bad_file f))) (sym e) (record { comes = refl; only = λ t q k. k }))
 ]
 
 pub plan_params : (layer : Layers) (name : List ℕ) (o : Object) (users : List (List ℕ)) (r : Result Params FileFault) (params : Params) (p : Plan) → r ≡ Ok params
@@ -241,7 +243,7 @@ pub users_fault : (layer : Layers) (name : List ℕ) (o : Object) (params : Para
 users_fault layer name o params r f e = elim (file_stops f) [
   | inl m ↦ subst (λ (x : FileFault). IfRefused (IsPlan ⊤ (AfterUsers layer name o params r)) (file_stop x)) (sym m) tt
   | inr h ↦ subst (IfRefused (IsPlan ⊤ (AfterUsers layer name o params r))) (sym h.1)
-            (subst (λ (x : Result (List (List ℕ)) FileFault). IsPlan ⊤ (AfterUsers layer name o params x) (refuses (bad_file f))) (sym (e h.0)) (record { comes = refl; only = λ t q k. k }))
+      (subst (λ (x : Result (List (List ℕ)) FileFault). IsPlan ⊤ (AfterUsers layer name o params x) (refuses (bad_file f))) (sym (e h.0)) (record { comes = refl; only = λ t q k. k }))
 ]
 
 pub plan_users : (layer : Layers) (name : List ℕ) (o : Object) (params : Params) (r : Result (List (List ℕ)) FileFault) (users : List (List ℕ)) (p : Plan) → r ≡ Ok users
@@ -249,8 +251,30 @@ pub plan_users : (layer : Layers) (name : List ℕ) (o : Object) (params : Param
 plan_users layer name o params r users p e plan =
     subst (λ (x : Result (List (List ℕ)) FileFault). IsPlan ⊤ (AfterUsers layer name o params x) p) (sym e) (record { comes = plan.comes; only = λ t q k. plan.only tt q k })
 
--- a plan of a later stage is one of this stage, refused or not
-pub if_refused : (P Q : Plan → Type 0) → ((p : Plan) → P p → Q p) → (s : Stop) → IfRefused P s → IfRefused Q s
-if_refused P Q f (Stops.Refused r) h = f _ h
-if_refused P Q f Stops.Shelf h = tt
-if_refused P Q f Stops.Memory h = tt
+-- THE FILES of a system.
+
+-- what comes of an object whose parameters and users are still to be got
+abbrev AfterObject : Layers → (List ℕ → Option (List ℕ)) → Link → List ℕ → Plan → Type 0
+AfterObject layer told l object = Got (told l.params) (λ params. GotAll told l.users (AfterSystem layer l.image object params))
+
+-- the object was got: a stop at the parameters is a stop of the linking
+pub object_got : (layer : Layers) (told : List ℕ → Option (List ℕ)) (l : Link) (object : List ℕ) (s : Stop) → Tells (told l.object) object → length object < TOO_LONG
+    → IfRefused (IsPlan (IsSome (told l.params) × AreTold told l.users) (AfterObject layer told l object)) s → IfRefused (IsLinkPlan layer told l) s
+object_got layer told l object s t short h =
+    if_refused _ (IsLinkPlan layer told l) (λ p is. got_whole (told l.object) (AfterObject layer told l) (GetsTold told (link l)) (IsSome (told l.params) × AreTold told l.users) object p (λ k. k.0) (λ k. (k.1, k.2)) t short is) s h
+
+-- the parameters were got too: a stop at the users
+pub params_got : (layer : Layers) (told : List ℕ → Option (List ℕ)) (l : Link) (object params : List ℕ) (s : Stop) → Tells (told l.object) object → length object < TOO_LONG
+    → Tells (told l.params) params → length params < TOO_LONG → IfRefused (IsPlan (AreTold told l.users) (GotAll told l.users (AfterSystem layer l.image object params))) s → IfRefused (IsLinkPlan layer told l) s
+params_got layer told l object params s t short u few h =
+    object_got layer told l object s t short
+    (if_refused _ _ (λ p is. got_whole (told l.params) (λ ps. GotAll told l.users (AfterSystem layer l.image object ps)) (IsSome (told l.params) × AreTold told l.users) (AreTold told l.users) params p (λ k. k.0) (λ k. k.1) u few is) s h)
+
+-- all files were got: what their bytes come to is what the linking comes to
+pub system_got : {A : Type 0} (made : A → Plan) (layer : Layers) (told : List ℕ → Option (List ℕ)) (l : Link) (object params : List ℕ) (users : List (List ℕ)) (r : Result A Stop)
+    → Tells (told l.object) object → length object < TOO_LONG → Tells (told l.params) params → length params < TOO_LONG → Fetched told l.users users
+    → IfPlan made (IsPlan ⊤ (AfterSystem layer l.image object params users)) r → IfPlan made (IsLinkPlan layer told l) r
+system_got made layer told l object params users r t short u few all h =
+    if_plan made _ (IsLinkPlan layer told l) (λ p is. got_whole (told l.object) (AfterObject layer told l) (GetsTold told (link l)) (IsSome (told l.params) × AreTold told l.users) object p (λ k. k.0) (λ k. (k.1, k.2)) t short
+    (got_whole (told l.params) (λ ps. GotAll told l.users (AfterSystem layer l.image object ps)) (IsSome (told l.params) × AreTold told l.users) (AreTold told l.users) params p (λ k. k.0) (λ k. k.1) u few
+    (fetched_plan told l.users users (AfterSystem layer l.image object params) p all is))) r h

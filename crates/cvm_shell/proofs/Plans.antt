@@ -7,18 +7,15 @@ use Rattle.std.proofs.lemmas.List.{length-replicate}
 use Rattle.cvm_outside.specs.Told.{TOO_LONG, Tells}
 use Rattle.cvm_outside.specs.declared.shelf.ShelfFault.{ShelfFault}
 use Rattle.cvm_outside.specs.declared.shelf.ShelfFault.TheVariants.{Failed, TooLong as Long, Memory as NoMemory}
-use Rattle.c0_tree.specs.FirstTree.{CUnit}
-use Rattle.first_source.specs.Reading.{Reads, Breaks}
 use Rattle.mips_asm.specs.Assembled.{assembled}
 use Rattle.mips_asm.specs.declared.fault.AsmFault.{AsmFault}
 use Rattle.mips_asm.specs.declared.fault.AsmFault.TheVariants.{BadByte, UnknownMnemonic, BadOperand, OutOfRange, UnknownLabel, LabelTwice, TooLong, Memory}
 use Rattle.cvm_shell.specs.declared.boot.Stop.{Stop}
 use Rattle.cvm_shell.specs.declared.boot.Stop.TheVariants.{Refused, Shelf, Memory as OutOfMemory}
-use Rattle.cvm_shell.specs.Command.{Boot, CompileUser}
-use Rattle.cvm_shell.specs.Refusal.{Refusal, not_built, too_long, bad_text}
-use Rattle.cvm_shell.specs.Image.{Reading, gives, refuses as faulty, reading}
-use Rattle.cvm_shell.specs.Plan.{Plan, refuses, puts, boots, Got, long, whole, AfterSource, scheduled, runs, AfterImage, breaks, reads, AfterReading, AfterFiles, AfterText, no_words, assembles, bytes_of, IsPlan}
-use Rattle.cvm_shell.specs.Stages.{stop_of, text_stop, IsBootPlan, IsUserPlan}
+use Rattle.cvm_shell.specs.Command.{CompileUser}
+use Rattle.cvm_shell.specs.Refusal.{Refusal, too_long, bad_text}
+use Rattle.cvm_shell.specs.Plan.{Plan, refuses, puts, Got, long, whole, AfterText, no_words, assembles, bytes_of, IsPlan}
+use Rattle.cvm_shell.specs.Stages.{stop_of, text_stop, IsUserPlan}
 use Rattle.cvm_shell.specs.Views.{refusal_view, IfRefused, IfPlan}
 
 -- A file is got.
@@ -36,7 +33,7 @@ a_long_list : (n : ℕ) → (xs : List ℕ) × (n ≤ length xs)
 a_long_list n = (replicate n 0, omega (arith, length-replicate {A = ℕ} n 0))
 
 -- the contents of a file that is too long
-long_contents : (told : Option (List ℕ)) (taken : ℕ) → taken ≡ TOO_LONG → IfSome told (λ bs. taken ≡ min (length bs) TOO_LONG) → (xs : List ℕ) × Tells told xs × (TOO_LONG ≤ length xs)
+pub long_contents : (told : Option (List ℕ)) (taken : ℕ) → taken ≡ TOO_LONG → IfSome told (λ bs. taken ≡ min (length bs) TOO_LONG) → (xs : List ℕ) × Tells told xs × (TOO_LONG ≤ length xs)
 long_contents None taken e h = let xs = a_long_list TOO_LONG in (xs.0, tt, xs.1)
 long_contents (Some xs) taken e h = (xs, refl, omega arith)
 
@@ -46,7 +43,7 @@ only_long told next bytes t l some q (whole other r u m n) =
     let same : other ≡ bytes = same_told told other bytes some u t in
     absurd (too_short (length other) m (subst (λ (xs : List ℕ). TOO_LONG ≤ length xs) (sym same) l))
 
-got_long : (told : Option (List ℕ)) (next : List ℕ → Plan → Type 0) (T : Type 0) (bytes : List ℕ) → (T → IsSome told) → Tells told bytes → TOO_LONG ≤ length bytes → IsPlan T (Got told next) (refuses too_long)
+pub got_long : (told : Option (List ℕ)) (next : List ℕ → Plan → Type 0) (T : Type 0) (bytes : List ℕ) → (T → IsSome told) → Tells told bytes → TOO_LONG ≤ length bytes → IsPlan T (Got told next) (refuses too_long)
 got_long told next T bytes some t l = record { comes = long bytes t l; only = λ h q. only_long told next bytes t l (some h) q }
 
 only_whole : (told : Option (List ℕ)) (next : List ℕ → Plan → Type 0) (bytes : List ℕ) (p : Plan) → Tells told bytes → length bytes < TOO_LONG → ((q : Plan) → next bytes q → q ≡ p) → IsSome told → (q : Plan) → Got told next q → q ≡ p
@@ -83,76 +80,6 @@ pub if_plan : {A : Type 0} (made : A → Plan) (P Q : Plan → Type 0) → ((p :
 if_plan made P Q f (Ok x) h = f (made x) h
 if_plan made P Q f (Err s) h = if_refused P Q f s h
 
--- A boot.
-
-one_source : (a b : List ℕ) → gives a ≡ gives b → a ≡ b
-one_source a b h = cc
-
--- that a source breaks at one byte at most, and not where it is read
-pub record BreaksOnce : Type 0 where
-  pub place : (source : List ℕ) (at other : ℕ) → Breaks source at → Breaks source other → at ≡ other
-  pub never : (source : List ℕ) (at : ℕ) (u : CUnit) → Breaks source at → Reads source u → ⊥
-
--- the reading of an image as it is told
-after_reading : (b : Boot) (image schedule : List ℕ) (r : Reading) (p : Plan) → reading image ≡ r → IsPlan ⊤ (AfterReading b schedule r) p → IsPlan ⊤ (AfterFiles b image schedule) p
-after_reading b image schedule r p e is = subst (λ (x : Reading). IsPlan ⊤ (AfterReading b schedule x) p) (sym e) is
-
--- the image is refused
-pub image_refused : (b : Boot) (image schedule : List ℕ) (r : Refusal) → reading image ≡ faulty r → IsPlan ⊤ (AfterFiles b image schedule) (refuses r)
-image_refused b image schedule r e = after_reading b image schedule (faulty r) (refuses r) e (record { comes = refl; only = λ t q h. h })
-
--- the source is refused
-only_broken : (b : Boot) (schedule source : List ℕ) → BreaksOnce → (at : ℕ) → Breaks source at → (q : Plan) → AfterImage b schedule source q → q ≡ refuses (not_built at)
-only_broken b schedule source once at broken q (breaks other h) = ap (λ (n : ℕ). refuses (not_built n)) (once.place source other at h broken)
-only_broken b schedule source once at broken q (reads u p h n) = absurd (once.never source at u broken h)
-
-pub source_refused : (b : Boot) (image schedule source : List ℕ) → BreaksOnce → (at : ℕ) → reading image ≡ gives source → Breaks source at → IsPlan ⊤ (AfterFiles b image schedule) (refuses (not_built at))
-source_refused b image schedule source once at e broken =
-    after_reading b image schedule (gives source) (refuses (not_built at)) e (record { comes = breaks at broken; only = λ t q h. only_broken b schedule source once at broken q h })
-
--- the source is read
-only_read : (b : Boot) (schedule source : List ℕ) → BreaksOnce → (u : CUnit) (p : Plan) → Reads source u → ((v : CUnit) → Reads source v → u ≡ v) → ((q : Plan) → AfterSource b schedule u q → q ≡ p)
-    → (q : Plan) → AfterImage b schedule source q → q ≡ p
-only_read b schedule source once u p read one only q (breaks at h) = absurd (once.never source at u h read)
-only_read b schedule source once u p read one only q (reads v r h n) = only r (subst (λ (w : CUnit). AfterSource b schedule w r) (sym (one v h)) n)
-
-source_read : (b : Boot) (image schedule source : List ℕ) → BreaksOnce → (u : CUnit) (p : Plan) → reading image ≡ gives source → Reads source u → ((v : CUnit) → Reads source v → u ≡ v)
-    → AfterSource b schedule u p → ((q : Plan) → AfterSource b schedule u q → q ≡ p) → IsPlan ⊤ (AfterFiles b image schedule) p
-source_read b image schedule source once u p e read one next only =
-    after_reading b image schedule (gives source) p e (record { comes = reads u p read next; only = λ t q h. only_read b schedule source once u p read one only q h })
-
-only_scheduled : (b : Boot) (schedule : List ℕ) (u : CUnit) → schedule ≢ [] → (q : Plan) → AfterSource b schedule u q → q ≡ refuses (not_built 0)
-only_scheduled b schedule u some q (scheduled h) = refl
-only_scheduled b schedule u some q (runs h) = absurd (some h)
-
-only_runs : (b : Boot) (schedule : List ℕ) (u : CUnit) → schedule ≡ [] → (q : Plan) → AfterSource b schedule u q → q ≡ boots b u
-only_runs b schedule u none q (scheduled h) = absurd (h none)
-only_runs b schedule u none q (runs h) = refl
-
-some_schedule : (xs : List ℕ) (b : Bool) → b ≡ (length xs == 0) → b ≡ false → xs ≢ []
-some_schedule [] b e f h = absurd cc
-some_schedule (x ∷ xs) b e f h = absurd cc
-
-no_schedule_left : (xs : List ℕ) (b : Bool) → b ≡ (length xs == 0) → b ≡ true → xs ≡ []
-no_schedule_left [] b e f = refl
-no_schedule_left (x ∷ xs) b e f =
-    let no : (length (x ∷ xs) == 0) ≡ false = grind (arith, nat_tests) in
-    absurd cc
-
--- the schedule is refused
-pub schedule_refused : (b : Boot) (image schedule source : List ℕ) → BreaksOnce → (u : CUnit) (empty : Bool) → reading image ≡ gives source → Reads source u → ((v : CUnit) → Reads source v → u ≡ v)
-    → empty ≡ (length schedule == 0) → empty ≡ false → IsPlan ⊤ (AfterFiles b image schedule) (refuses (not_built 0))
-schedule_refused b image schedule source once u empty e read one test not =
-    let some = some_schedule schedule empty test not in
-    source_read b image schedule source once u (refuses (not_built 0)) e read one (scheduled some) (only_scheduled b schedule u some)
-
--- the kernel runs
-pub kernel_runs : (b : Boot) (image schedule source : List ℕ) → BreaksOnce → (u : CUnit) (empty : Bool) → reading image ≡ gives source → Reads source u → ((v : CUnit) → Reads source v → u ≡ v)
-    → empty ≡ (length schedule == 0) → empty ≡ true → IsPlan ⊤ (AfterFiles b image schedule) (boots b u)
-kernel_runs b image schedule source once u empty e read one test is =
-    let none = no_schedule_left schedule empty test is in
-    source_read b image schedule source once u (boots b u) e read one (runs none) (only_runs b schedule u none)
-
 -- The text of a user.
 
 text_is_refused : (name text : List ℕ) (f : AsmFault) → assembled text ≡ Err f → (q : Plan) → AfterText name text q → q ≡ refuses (bad_text f)
@@ -180,19 +107,6 @@ text_is_assembled name text words e q (assembles other d) = let same : other ≡
 -- a text is assembled
 pub text_assembled : (name text words : List ℕ) → assembled text ≡ Ok words → IsPlan ⊤ (AfterText name text) (puts name (bytes_of words))
 text_assembled name text words e = record { comes = assembles words e; only = λ t q h. text_is_assembled name text words e q h }
-
--- An image was got: a stop at the schedule is a stop of the boot.
-pub image_got : (file : List ℕ → Option (List ℕ)) (b : Boot) (image : List ℕ) (s : Stop) → Tells (file b.image) image → length image < TOO_LONG
-    → IfRefused (IsPlan (IsSome (file b.schedule)) (Got (file b.schedule) (AfterFiles b image))) s → IfRefused (IsBootPlan file b) s
-image_got file b image s t short h =
-    if_refused _ (IsBootPlan file b) (λ p is. got_whole (file b.image) (λ i. Got (file b.schedule) (AfterFiles b i)) (IsSome (file b.image) × IsSome (file b.schedule)) (IsSome (file b.schedule)) image p (λ told. told.0) (λ told. told.1) t short is) s h
-
--- Both files were got: what their bytes come to is what the boot comes to.
-pub boot_got : {A : Type 0} (made : A → Plan) (file : List ℕ → Option (List ℕ)) (b : Boot) (image schedule : List ℕ) (r : Result A Stop) → Tells (file b.image) image → length image < TOO_LONG
-    → Tells (file b.schedule) schedule → length schedule < TOO_LONG → IfPlan made (IsPlan ⊤ (AfterFiles b image schedule)) r → IfPlan made (IsBootPlan file b) r
-boot_got made file b image schedule r t short u few h =
-    if_plan made _ (IsBootPlan file b) (λ p is. got_whole (file b.image) (λ i. Got (file b.schedule) (AfterFiles b i)) (IsSome (file b.image) × IsSome (file b.schedule)) (IsSome (file b.schedule)) image p (λ told. told.0) (λ told. told.1) t short
-    (got_whole (file b.schedule) (AfterFiles b image) (IsSome (file b.schedule)) ⊤ schedule p (λ told. told) (λ told. tt) u few is)) r h
 
 -- The text of a user was got.
 pub text_got : {A : Type 0} (made : A → Plan) (file : List ℕ → Option (List ℕ)) (c : CompileUser) (text : List ℕ) (r : Result A Stop) → Tells (file c.text) text → length text < TOO_LONG

@@ -1,11 +1,11 @@
 -- A text spells one number at most, and one that spells a number is read whole. So the words of a command are those of one boot.
 use Rattle.std.proofs.Common.{◌≡◌, ℕ, ◌+◌, ◌<◌, ◌≤◌, ◌^◌, List, [], ◌∷◌, ◌++◌, length, drop, refl, sym, ap, ◌∙◌, arith, append-nil, Some}
-use Rattle.std.specs.Prelude.{decimal, codes}
+use Rattle.std.specs.Prelude.{decimal, codes, slice_index}
 use Rattle.std.specs.List.{prefix_len}
 use Rattle.std.specs.Char.{is_ascii_digit}
 use Rattle.std.proofs.lemmas.Fmt.{decimal_injective}
 use Rattle.cvm_text.specs.Number.{number_at}
-use Rattle.cvm_shell.specs.Command.{Boot, CompileUser, CompileKernel, Command, boot, compile_user, compile_kernel, IsBoot, IsCompileUser, IsCompileKernel, IsCommand}
+use Rattle.cvm_shell.specs.Command.{Boot, CompileUser, CompileKernel, Link, Command, boot, compile_user, compile_kernel, link, IsBoot, IsCompileUser, IsCompileKernel, IsLink, IsCommand}
 
 -- that the numbers which are spelled are read, as the reader of numbers says it
 abbrev pub AreRead : Type 0
@@ -84,6 +84,23 @@ words_of_one_kernel words word kind source object e c is =
     let kernel_of : List ℕ → List ℕ → CompileKernel = λ x y. record { source = x; object = y } in
     ap (λ x. Some (kernel_of x object)) s ∙ ap (λ x. Some (kernel_of c.source x)) o
 
+-- these words are a linking
+pub words_of_link : (words : List (List ℕ)) (word object params image : List ℕ) (users : List (List ℕ)) → words ≡ word ∷ object ∷ params ∷ image ∷ users → word ≡ codes "link"
+    → IsLink words (record { object = object; params = params; image = image; users = users })
+words_of_link words word object params image users e w = record { spelled = cc }
+
+-- and of no other
+pub words_of_one_link : (words : List (List ℕ)) (word object params image : List ℕ) (users : List (List ℕ)) → words ≡ word ∷ object ∷ params ∷ image ∷ users → (l : Link) → IsLink words l
+    → Some (record { object = object; params = params; image = image; users = users }) ≡ Some l
+words_of_one_link words word object params image users e l is =
+    let spelled : word ∷ object ∷ params ∷ image ∷ users ≡ codes "link" ∷ l.object ∷ l.params ∷ l.image ∷ l.users = sym e ∙ is.spelled in
+    let o : object ≡ l.object = cc in
+    let p : params ≡ l.params = cc in
+    let i : image ≡ l.image = cc in
+    let u : users ≡ l.users = cc in
+    let link_of : List ℕ → List ℕ → List ℕ → List (List ℕ) → Link = λ x y z w. record { object = x; params = y; image = z; users = w } in
+    ap (λ x. Some (link_of x params image users)) o ∙ ap (λ x. Some (link_of l.object x image users)) p ∙ ap (λ x. Some (link_of l.object l.params x users)) i ∙ ap (λ x. Some (link_of l.object l.params l.image x)) u
+
 -- no words are of two kinds
 pub boot_or_user : (words : List (List ℕ)) (b : Boot) (c : CompileUser) → IsBoot words b → IsCompileUser words c → ⊥
 boot_or_user words b c one other = let e = sym one.spelled ∙ other.spelled in cc
@@ -93,6 +110,28 @@ boot_or_kernel words b c one other = let e = sym one.spelled ∙ other.spelled i
 
 user_or_kernel : (words : List (List ℕ)) (c : CompileUser) (d : CompileKernel) → IsCompileUser words c → IsCompileKernel words d → ⊥
 user_or_kernel words c d one other = let e = sym one.spelled ∙ other.spelled in cc
+
+-- nor of two first words
+same_first : (a b : List ℕ) (rest more : List (List ℕ)) → a ∷ rest ≡ b ∷ more → a ≡ b
+same_first a b rest more e = cc
+
+pub boot_or_link : (words : List (List ℕ)) (b : Boot) (l : Link) → IsBoot words b → IsLink words l → ⊥
+boot_or_link words b l one other =
+    let e : codes "boot" ≡ codes "link" = same_first _ _ _ _ (sym one.spelled ∙ other.spelled) in
+    let letter : 98 ≡ 108 = ap (λ (xs : List ℕ). slice_index xs 0) e in
+    omega (arith, letter)
+
+user_or_link : (words : List (List ℕ)) (c : CompileUser) (l : Link) → IsCompileUser words c → IsLink words l → ⊥
+user_or_link words c l one other =
+    let e : codes "compile" ≡ codes "link" = same_first _ _ _ _ (sym one.spelled ∙ other.spelled) in
+    let letter : 99 ≡ 108 = ap (λ (xs : List ℕ). slice_index xs 0) e in
+    omega (arith, letter)
+
+kernel_or_link : (words : List (List ℕ)) (c : CompileKernel) (l : Link) → IsCompileKernel words c → IsLink words l → ⊥
+kernel_or_link words c l one other =
+    let e : codes "compile" ≡ codes "link" = same_first _ _ _ _ (sym one.spelled ∙ other.spelled) in
+    let letter : 99 ≡ 108 = ap (λ (xs : List ℕ). slice_index xs 0) e in
+    omega (arith, letter)
 
 -- the words of a command are those of one
 pub one_boot : (words : List (List ℕ)) (b c : Boot) → IsBoot words b → IsBoot words c → b ≡ c
@@ -104,13 +143,23 @@ one_user words c d is other = let e : Some c ≡ Some d = words_of_one_user word
 one_kernel : (words : List (List ℕ)) (c d : CompileKernel) → IsCompileKernel words c → IsCompileKernel words d → c ≡ d
 one_kernel words c d is other = let e : Some c ≡ Some d = words_of_one_kernel words (codes "compile") (codes "kernel") c.source c.object is.spelled d other in cc
 
+one_link : (words : List (List ℕ)) (l m : Link) → IsLink words l → IsLink words m → l ≡ m
+one_link words l m is other = let e : Some l ≡ Some m = words_of_one_link words (codes "link") l.object l.params l.image l.users is.spelled m other in cc
+
 pub one_command : (words : List (List ℕ)) (c d : Command) → IsCommand words c → IsCommand words d → c ≡ d
 one_command words (boot b) (boot c) is other = ap (λ (x : Boot). boot x) (one_boot words b c is other)
 one_command words (boot b) (compile_user c) is other = absurd (boot_or_user words b c is other)
 one_command words (boot b) (compile_kernel c) is other = absurd (boot_or_kernel words b c is other)
+one_command words (boot b) (link l) is other = absurd (boot_or_link words b l is other)
 one_command words (compile_user c) (boot b) is other = absurd (boot_or_user words b c other is)
 one_command words (compile_user c) (compile_user d) is other = ap (λ (x : CompileUser). compile_user x) (one_user words c d is other)
 one_command words (compile_user c) (compile_kernel d) is other = absurd (user_or_kernel words c d is other)
+one_command words (compile_user c) (link l) is other = absurd (user_or_link words c l is other)
 one_command words (compile_kernel c) (boot b) is other = absurd (boot_or_kernel words b c other is)
 one_command words (compile_kernel c) (compile_user d) is other = absurd (user_or_kernel words d c other is)
 one_command words (compile_kernel c) (compile_kernel d) is other = ap (λ (x : CompileKernel). compile_kernel x) (one_kernel words c d is other)
+one_command words (compile_kernel c) (link l) is other = absurd (kernel_or_link words c l is other)
+one_command words (link l) (boot b) is other = absurd (boot_or_link words b l other is)
+one_command words (link l) (compile_user c) is other = absurd (user_or_link words c l other is)
+one_command words (link l) (compile_kernel c) is other = absurd (kernel_or_link words c l other is)
+one_command words (link l) (link m) is other = ap (λ (x : Link). link x) (one_link words l m is other)

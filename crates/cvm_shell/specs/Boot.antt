@@ -1,77 +1,101 @@
--- The claim of a boot: how the run of a kernel ends, and what is printed of it.
-use Rattle.std.specs.Prelude.{◌≡◌, ℕ, ◌<◌, Bool, true, false, List, [], ◌++◌, take}
-use Rattle.c0_tree.specs.FirstTree.{CUnit}
-use Rattle.first_machine.specs.Machine.{State}
-use Rattle.first_machine.specs.Turns.{complete, is_end, end_within}
-use Rattle.first_code.specs.Runs.{start_of}
+-- The claim of a boot: how the run of an accepted system ends, what is printed of it, and which sectors stand.
+use Rattle.std.specs.Prelude.{◌≡◌, ℕ, ◌*◌, ◌<◌, ◌≤◌, List, [], length, Some, Ok}
+use Rattle.std.specs.Io.KnownBytes.{append_known}
+use Rattle.cvm_outside.specs.Causes.{Rose}
+use Rattle.cvm_outside.specs.Told.{TOO_LONG}
+use Rattle.schedule_file.specs.Rows.{Rows, longest}
+use Rattle.schedule_file.specs.Schedule.{schedule_of}
+use Rattle.boot_image.specs.Reading.{answer as image_of}
+use Rattle.layer_runs.specs.Image.{layer_image}
+use Rattle.mips_table.specs.Device.{Outside as Surroundings}
+use Rattle.mips_machine.specs.Steps.{outside_of}
+use Rattle.cvm_model.specs.Cvm.{System as Booted}
+use Rattle.cvm_model.specs.KernelMeaning.{kernel_meaning}
+use Rattle.boot_turns.specs.declared.answers.View.TheVariants.{Boot as whole_boot}
+use Rattle.boot_turns.specs.Headline.{Ending, Done as IsDone, KernelFaulted, OutOfSteps, DiskFault, SinkFault, NoMemory, Ends, Ran, GoesOn}
+use Rattle.kernel_linker.specs.Accept.{System}
 use Rattle.cvm_shell.specs.declared.status.Status.{Status}
-use Rattle.cvm_shell.specs.declared.status.Status.TheVariants.{Done, KernelFault, StepLimit, Sink, Memory}
-use Rattle.cvm_shell.specs.Outside.{Outside, Leaves}
-use Rattle.cvm_shell.specs.Cvm.{Standing, faulted, Past, IsCvm}
-use Rattle.cvm_shell.specs.Text.{rows_text, report_text}
+use Rattle.cvm_shell.specs.declared.status.Status.TheVariants.{Done, KernelFault, StepLimit, Disk, Sink, Memory}
+use Rattle.cvm_shell.specs.Command.{Boot, IsBoot}
+use Rattle.cvm_shell.specs.Outside.{Outside, Leaves, Says}
+use Rattle.cvm_shell.specs.Refusal.{small_disk, refusal_text}
+use Rattle.cvm_shell.specs.Plan.{Accepts}
 
--- the moment at which the run of a boot ends: so many turns are complete or the machine is off, or the steps are spent
-abbrev pub last_step : CUnit → (turns steps : ℕ) → ℕ
-last_step u turns steps = end_within (start_of u) turns steps
+-- the abstract run of an accepted system under a schedule: its kernel is what its own source means
+abbrev pub booted : System → Rows → Booted
+booted s rows = record {
+  boot = record { params = s.params; meaning = kernel_meaning s.unit s.params; words = s.words; users = s.users };
+  input = rows.inputs;
+  longest = longest rows;
+}
 
--- the turns that are complete then
-abbrev pub last_turn : CUnit → (turns steps : ℕ) → ℕ
-last_turn u turns steps = complete (start_of u) (last_step u turns steps)
+-- what surrounds its machine: the schedule's lines and busy times, and the number of sectors
+abbrev pub around : Rows → Outside → Surroundings
+around rows old = outside_of rows old.disk.size
 
--- the wanted turns are complete by then, or the machine is off
-abbrev pub is_over : CUnit → (turns steps : ℕ) → Bool
-is_over u turns steps = is_end (start_of u) turns (last_step u turns steps)
+-- the sectors that the users' pages take
+abbrev pub sectors_needed : System → ℕ
+sectors_needed s = length s.users * s.params.pages
 
--- where a kernel stands, as a status
-abbrev pub standing_status : Standing → Status
-standing_status faulted = KernelFault
-standing_status other = Done
+-- an ending as a status
+abbrev pub ended_as : Ending → Status
+ended_as IsDone = Done
+ended_as KernelFaulted = KernelFault
+ended_as OutOfSteps = StepLimit
+ended_as DiskFault = Disk
+ended_as SinkFault = Sink
+ended_as NoMemory = Memory
 
--- the status, by whether the run is over and where the kernel stands
-abbrev pub ended : Bool → Standing → Status
-ended false standing = StepLimit
-ended true standing = standing_status standing
-
--- what is printed after the rows
-abbrev pub closing : Status → CUnit → Past → List ℕ
-closing Done u c = report_text u c
-closing other u c = []
-
--- THE RUN with no failed call: status and text are those of the kernel's own run, cut where the machine's run ends
-pub record Ran (u : CUnit) (turns steps : ℕ) (status : Status) (text : List ℕ) : Type 0 where
-  pub past : Past
-  pub cvm : IsCvm u (last_turn u turns steps) past
-  pub status_is : status ≡ ended (is_over u turns steps) past.standing
-  pub text_is : text ≡ rows_text past.rows ++ closing status u past
-
--- k turns are complete at step t, or the machine is off, for the first time
-pub record IsFirstEnd (s : State) (k t : ℕ) : Type 0 where
-  pub here : is_end s k t ≡ true
-  pub before : (j : ℕ) → j < t → is_end s k j ≡ false
-
--- the machine goes on: it comes to the end of every turn of the kernel's run
-abbrev pub GoesOn : CUnit → Type 0
-GoesOn u = (k : ℕ) (c : Past) → IsCvm u k c → (t : ℕ) × IsFirstEnd (start_of u) k t
-
--- THE HEADLINE: the machine runs the words of the kernel, and what is printed is the kernel's own run; no file and no sector changes
-pub record Boots (u : CUnit) (turns steps : ℕ) (status : Status) (old new : Outside) : Type 0 where
+-- THE RUN over a disk with these sectors: what was printed and which sectors stand are, by the ending, those of the machine and of the
+-- abstract run; and the machine comes to the end of every turn of the abstract run, within its bound
+pub record Runs (b : Boot) (s : System) (rows : Rows) (e : Ending) (before : List (List ℕ)) (old new : Outside) : Type 0 where
+  pub after : List (List ℕ)
   pub text : List ℕ
-  pub ran : Ran u turns steps status text
-  pub leaves : Leaves old new text
-  pub goes_on : GoesOn u
+  pub sectors : new.disk.sectors ≡ Some after
+  pub printed : new.sink.text ≡ append_known old.sink.text text
+  pub ends : Ends (around rows old) (booted s rows) before after whole_boot b.turns b.steps text e
+  pub goes_on : GoesOn (around rows old) (booted s rows) before
 
--- a failing sink took a part of the text
-pub record SinkBroken (u : CUnit) (turns steps : ℕ) (old new : Outside) : Type 0 where
-  pub status : Status
+-- a run was made, or there was no memory for it: then nothing is printed, and no sector changes
+pub record IsRun (b : Boot) (s : System) (rows : Rows) (e : Ending) (old new : Outside) : Type 0 where
+  pub room : sectors_needed s ≤ old.disk.size
+  pub files : (n : List ℕ) → new.shelf.file n ≡ old.shelf.file n
+  pub size : new.disk.size ≡ old.disk.size
+  pub told : (before : List (List ℕ)) → old.disk.sectors ≡ Some before → Runs b s rows e before old new
+  pub disk : e ≡ DiskFault → Rose old.disk.faults new.disk.faults
+  pub undone : e ≡ NoMemory → Leaves old new []
+
+-- HOW A BOOT ENDS: a disk that is too small is refused, with no fault of the disk; else the system is run
+pub data RunEnds (b : Boot) (s : System) (rows : Rows) (status : Status) (old new : Outside) : Type 0 where
+  small : old.disk.size < sectors_needed s → new.disk.faults ≡ old.disk.faults
+      → Says Disk (refusal_text (small_disk (sectors_needed s) old.disk.size)) old new status → RunEnds b s rows status old new
+  run : (e : Ending) → status ≡ ended_as e → IsRun b s rows e old new → RunEnds b s rows status old new
+
+-- THE HEADLINE, of a run with no failed call: the sectors are those of the machine that runs the image's words, and status and text are those of
+-- the abstract run of the image's own kernel, with each line at the turn where the machine met it
+pub record Headline (b : Boot) (s : System) (rows : Rows) (before : List (List ℕ)) (old new : Outside) (status : Status) : Type 0 where
+  pub after : List (List ℕ)
   pub text : List ℕ
-  pub ran : Ran u turns steps status text
-  pub count : ℕ
-  pub leaves : Leaves old new (take count text)
+  pub ending : Ending
+  pub sectors : new.disk.sectors ≡ Some after
+  pub printed : new.sink.text ≡ append_known old.sink.text text
+  pub status_is : status ≡ ended_as ending
+  pub ran : Ran (around rows old) (booted s rows) before after whole_boot b.turns b.steps ending text
+  pub goes_on : GoesOn (around rows old) (booted s rows) before
 
--- HOW A BOOT ENDS, by its status: these kernels meet no fault and no disk, and for want of memory nothing is run
-abbrev pub RunEnds : CUnit → (turns steps : ℕ) → Status → (old new : Outside) → Type 0
-RunEnds u turns steps Done old new = Boots u turns steps Done old new
-RunEnds u turns steps StepLimit old new = Boots u turns steps StepLimit old new
-RunEnds u turns steps Sink old new = SinkBroken u turns steps old new
-RunEnds u turns steps Memory old new = Leaves old new []
-RunEnds u turns steps other old new = ⊥
+-- THE PREMISES of the headline: an accepted image and a valid schedule, which the shelf gives; an honest disk with sectors enough; and a sink that takes all
+pub record IsHonest (words : List (List ℕ)) (b : Boot) (s : System) (rows : Rows) (before : List (List ℕ)) (old new : Outside) : Type 0 where
+  pub command : IsBoot words b
+  pub image : List ℕ
+  pub image_told : old.shelf.file b.image ≡ Some image
+  pub image_short : length image < TOO_LONG
+  pub accepted : Accepts layer_image (image_of image) (Ok s)
+  pub schedule : List ℕ
+  pub schedule_told : old.shelf.file b.schedule ≡ Some schedule
+  pub schedule_short : length schedule < TOO_LONG
+  pub valid : schedule_of schedule ≡ Ok rows
+  pub sectors : old.disk.sectors ≡ Some before
+  pub enough : sectors_needed s ≤ old.disk.size
+  pub shelf_done : Rose old.shelf.faults new.shelf.faults → ⊥
+  pub disk_done : Rose old.disk.faults new.disk.faults → ⊥
+  pub sink_done : Rose old.sink.faults new.sink.faults → ⊥

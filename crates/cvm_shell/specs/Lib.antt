@@ -2,10 +2,7 @@ pub mod Outside
 pub mod Status
 pub mod Command
 pub mod Refusal
-pub mod Image
 pub mod Plan
-pub mod Cvm
-pub mod Text
 pub mod Boot
 pub mod Outcome
 pub mod Views

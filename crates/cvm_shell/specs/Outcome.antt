@@ -2,18 +2,15 @@
 use Rattle.std.specs.Prelude.{◌≡◌, ◌≢◌, ◌⊎◌, ◌↔◌, ℕ, List, [], take, codes}
 use Rattle.cvm_outside.specs.Causes.{Rose}
 use Rattle.cvm_outside.specs.Told.{retold, TOO_LONG}
+use Rattle.schedule_file.specs.Rows.{Rows}
+use Rattle.kernel_linker.specs.Accept.{System}
 use Rattle.cvm_shell.specs.declared.status.Status.{Status}
 use Rattle.cvm_shell.specs.declared.status.Status.TheVariants.{Done, Words, Disk, Shelf, Sink, Memory}
-use Rattle.cvm_shell.specs.Outside.{Outside, SameSectors, Leaves}
-use Rattle.cvm_shell.specs.Command.{Command, IsCommand}
+use Rattle.cvm_shell.specs.Outside.{Outside, SameSectors, Leaves, Says}
+use Rattle.cvm_shell.specs.Command.{Boot, Command, IsCommand}
 use Rattle.cvm_shell.specs.Refusal.{too_long, refusal_text, refusal_status}
 use Rattle.cvm_shell.specs.Plan.{Plan, bad_words, refuses, puts, boots, ComesTo, AllTold, IsPlan}
-use Rattle.cvm_shell.specs.Boot.{RunEnds}
-
--- a row is printed beside a status, or a failing sink took a part of it; nothing else changes
-pub data Says (stated : Status) (row : List ℕ) (old new : Outside) : Status → Type 0 where
-  said : Leaves old new row → Says stated row old new stated
-  broken : (n : ℕ) → Leaves old new (take n row) → Says stated row old new Sink
+use Rattle.cvm_shell.specs.Boot.{RunEnds, IsHonest, Headline}
 
 -- this file has these bytes now, and nothing else changed
 pub record HasPut (name bytes : List ℕ) (old new : Outside) : Type 0 where
@@ -33,7 +30,7 @@ abbrev pub Ends : Plan → Status → (old new : Outside) → Type 0
 Ends bad_words status old new = Says Words (codes "bad words\n") old new status
 Ends (refuses r) status old new = Says (refusal_status r) (refusal_text r) old new status
 Ends (puts name bytes) status old new = PutEnds name bytes status old new
-Ends (boots b u) status old new = RunEnds u b.turns b.steps status old new
+Ends (boots b s rows) status old new = RunEnds b s rows status old new
 
 -- 67,108,865 bytes were taken of a file exactly where it is refused as too long; where the words are no command no file is got
 abbrev pub Took : Plan → ℕ → Type 0
@@ -57,9 +54,10 @@ pub record NoFault (old new : Outside) : Type 0 where
 abbrev pub ShelfFails : (old new : Outside) → Type 0
 ShelfFails old new = Rose old.shelf.faults new.shelf.faults ⊎ ((new.shelf.taken ≡ TOO_LONG) × (new.shelf.faults ≡ old.shelf.faults))
 
--- WHY, by the status: an object whose call failed counted it, and the counts of the others are as before
+-- WHY, by the status: an object whose call failed counted it, and the counts of the others are as before; how a run ends says whether the disk
+-- failed or is too small
 abbrev pub CausedBy : Status → (old new : Outside) → Type 0
-CausedBy Disk old new = Rose old.disk.faults new.disk.faults × (new.shelf.faults ≡ old.shelf.faults) × (new.sink.faults ≡ old.sink.faults)
+CausedBy Disk old new = (new.shelf.faults ≡ old.shelf.faults) × (new.sink.faults ≡ old.sink.faults)
 CausedBy Shelf old new = ShelfFails old new × (new.sink.faults ≡ old.sink.faults) × (new.disk.faults ≡ old.disk.faults)
 CausedBy Sink old new = Rose old.sink.faults new.sink.faults × (new.shelf.faults ≡ old.shelf.faults) × (new.disk.faults ≡ old.disk.faults)
 CausedBy other old new = NoFault old new
@@ -70,3 +68,8 @@ Outcome see words status old new = CommandEnds words status (see old) (see new)
 
 abbrev pub Causes : {A : Type 0} → (A → Outside) → Status → (old new : A) → Type 0
 Causes see status old new = CausedBy status (see old) (see new)
+
+-- THE HEADLINE of each boot with these words
+abbrev pub Headlines : {A : Type 0} → (A → Outside) → List (List ℕ) → Status → (old new : A) → Type 0
+Headlines see words status old new = (b : Boot) (s : System) (rows : Rows) (sectors : List (List ℕ)) →
+    IsHonest words b s rows sectors (see old) (see new) → status ≢ Memory → Headline b s rows sectors (see old) (see new) status

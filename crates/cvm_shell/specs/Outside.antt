@@ -1,9 +1,11 @@
 -- The outside of a command: named files, the text that is printed, and the disk, each as it is told, with its count of faults.
-use Rattle.std.specs.Prelude.{◌≡◌, ℕ, List, Option}
+use Rattle.std.specs.Prelude.{◌≡◌, ℕ, List, Option, take}
 use Rattle.std.specs.Io.KnownBytes.{append_known}
 use Rattle.cvm_outside.specs.declared.shelf.Shelf as shelf_of
 use Rattle.cvm_outside.specs.declared.sink.Sink as sink_of
 use Rattle.cvm_outside.specs.declared.sectors.Sectors as sectors_of
+use Rattle.cvm_shell.specs.declared.status.Status.{Status}
+use Rattle.cvm_shell.specs.declared.status.Status.TheVariants.{Sink}
 
 -- files: the bytes of each where they are told, how many bytes the last `get` took, and the count of faults
 pub record Files : Type 0 where
@@ -45,6 +47,10 @@ seen shelf sink disk (s, o, d) = record { shelf = files shelf s; sink = output s
 abbrev pub beside : {S O : Type 0} → shelf_of.Ghosts S → sink_of.Ghosts O → Drive → S × O → Outside
 beside shelf sink disk (s, o) = record { shelf = files shelf s; sink = output sink o; disk = disk }
 
+-- a sink and a disk beside files
+abbrev pub within : {O D : Type 0} → sink_of.Ghosts O → sectors_of.Ghosts D → Files → O × D → Outside
+within sink disk shelf (o, d) = record { shelf = shelf; sink = output sink o; disk = drive disk d }
+
 -- the disk's sectors are as before
 pub record SameSectors (old new : Drive) : Type 0 where
   pub sectors : new.sectors ≡ old.sectors
@@ -55,3 +61,8 @@ pub record Leaves (old new : Outside) (text : List ℕ) : Type 0 where
   pub printed : new.sink.text ≡ append_known old.sink.text text
   pub files : (n : List ℕ) → new.shelf.file n ≡ old.shelf.file n
   pub disk : SameSectors old.disk new.disk
+
+-- a row is printed beside a status, or a failing sink took a part of it; nothing else changes
+pub data Says (stated : Status) (row : List ℕ) (old new : Outside) : Status → Type 0 where
+  said : Leaves old new row → Says stated row old new stated
+  broken : (n : ℕ) → Leaves old new (take n row) → Says stated row old new Sink

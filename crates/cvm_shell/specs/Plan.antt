@@ -3,8 +3,6 @@ use Rattle.std.specs.Prelude.{◌≡◌, ◌≢◌, ⊤, ℕ, suc, nat_eq, ◌%�
 use Rattle.std.specs.Int.{to_le_bytes, w32}
 use Rattle.std.specs.Option.{IsSome}
 use Rattle.cvm_outside.specs.Told.{TOO_LONG, Tells}
-use Rattle.c0_tree.specs.FirstTree.{CUnit}
-use Rattle.first_source.specs.Reading.{Reads, Breaks}
 use Rattle.mips_asm.specs.Assembled.{assembled}
 use Rattle.mips_asm.specs.declared.fault.AsmFault.{AsmFault}
 use Rattle.c0_tree.specs.Tree.{CUnit as Unit}
@@ -24,6 +22,14 @@ use Rattle.layer_map.specs.declared.params.Params.{Params}
 use Rattle.layer_runs.specs.Image.{layer_image}
 use Rattle.boot_image.specs.Format.{spelling as image_bytes}
 use Rattle.boot_image.specs.Parts.{Parts as Image}
+use Rattle.boot_image.specs.Reading.{answer as image_of}
+use Rattle.boot_image.specs.declared.fault.ImageFault.{ImageFault}
+use Rattle.kernel_linker.specs.Accept.{System, accept_answer}
+use Rattle.kernel_linker.specs.Fault.{accept_file_fault}
+use Rattle.kernel_linker.specs.declared.fault.AcceptFault.{AcceptFault}
+use Rattle.schedule_file.specs.Rows.{Rows}
+use Rattle.schedule_file.specs.Schedule.{schedule_of}
+use Rattle.schedule_file.specs.declared.fault.ScheduleFault.{ScheduleFault}
 use Rattle.object_file.specs.Answer.{IsAnswer as IsObject}
 use Rattle.object_file.specs.Parts.{Parts as Object}
 use Rattle.object_file.specs.declared.fault.ObjectFault.{ObjectFault}
@@ -33,8 +39,7 @@ use Rattle.system_files.specs.declared.fault.FileFault.{FileFault}
 use Rattle.system_files.specs.declared.fault.FileFault.TheVariants.{UserTorn}
 use Rattle.c0_types.specs.declared.source_fault.SourceFault.{SourceFault}
 use Rattle.cvm_shell.specs.Command.{Boot, CompileUser, CompileKernel, Link, Command, boot, compile_user, compile_kernel, link, IsBoot, IsCompileUser, IsCompileKernel, IsLink, IsCommand, IsNoCommand}
-use Rattle.cvm_shell.specs.Refusal.{Refusal, bad_text, bad_source, bad_object, bad_file, unlinked, not_built, too_long}
-use Rattle.cvm_shell.specs.Image.{Reading, gives, refuses as faulty, reading}
+use Rattle.cvm_shell.specs.Refusal.{Refusal, bad_text, bad_source, bad_object, bad_file, unlinked, unaccepted, bad_schedule, too_long}
 
 -- what is to be done
 pub data Plan : Type 0 where
@@ -44,35 +49,36 @@ pub data Plan : Type 0 where
   refuses : Refusal → Plan
   -- make the bytes of this file these
   puts : (name bytes : List ℕ) → Plan
-  -- run this kernel as that command says
-  boots : Boot → CUnit → Plan
+  -- run this system as that command says, under this schedule
+  boots : Boot → System → Rows → Plan
 
 -- A FILE IS GOT: one with more than 67,108,864 bytes is refused, else its bytes go on
 pub data Got (told : Option (List ℕ)) (next : List ℕ → Plan → Type 0) : Plan → Type 0 where
   long : (bytes : List ℕ) → Tells told bytes → TOO_LONG ≤ length bytes → Got told next (refuses too_long)
   whole : (bytes : List ℕ) (p : Plan) → Tells told bytes → length bytes < TOO_LONG → next bytes p → Got told next p
 
--- AFTER THE SOURCE the schedule is looked at: it is to be empty
-pub data AfterSource (b : Boot) (schedule : List ℕ) (u : CUnit) : Plan → Type 0 where
-  scheduled : schedule ≢ [] → AfterSource b schedule u (refuses (not_built 0))
-  runs : schedule ≡ [] → AfterSource b schedule u (boots b u)
+-- WHAT IS ACCEPTED of the image that bytes are: their fault, or what linking its own source, parameters and users answers
+abbrev pub Accepts : (layer : Map → List ℕ → List ℕ) → Result Image ImageFault → Result System AcceptFault → Type 0
+Accepts layer (Err f) answer = answer ≡ Err (accept_file_fault f)
+Accepts layer (Ok image) answer = (front : Result Unit SourceFault) × IsAnswer image.source front × (answer ≡ accept_answer layer image front)
 
--- AFTER THE IMAGE the source in it is read
-pub data AfterImage (b : Boot) (schedule source : List ℕ) : Plan → Type 0 where
-  breaks : (at : ℕ) → Breaks source at → AfterImage b schedule source (refuses (not_built at))
-  reads : (u : CUnit) (p : Plan) → Reads source u → AfterSource b schedule u p → AfterImage b schedule source p
+-- AFTER THE IMAGE the schedule is read
+abbrev pub scheduled_plan : Boot → System → Result Rows ScheduleFault → Plan
+scheduled_plan b s (Ok rows) = boots b s rows
+scheduled_plan b s (Err f) = refuses (bad_schedule f)
 
--- AFTER THE FILES the image's fields are read
-abbrev pub AfterReading : Boot → List ℕ → Reading → Plan → Type 0
-AfterReading b schedule (faulty r) p = p ≡ refuses r
-AfterReading b schedule (gives source) p = AfterImage b schedule source p
+abbrev pub accepted_plan : Boot → Result Rows ScheduleFault → Result System AcceptFault → Plan
+accepted_plan b rows (Ok s) = scheduled_plan b s rows
+accepted_plan b rows (Err f) = refuses (unaccepted f)
 
-abbrev pub AfterFiles : Boot → (image schedule : List ℕ) → Plan → Type 0
-AfterFiles b image schedule p = AfterReading b schedule (reading image) p
+-- AFTER THE FILES of a boot the image is accepted
+abbrev pub AfterFiles : (layer : Map → List ℕ → List ℕ) → Boot → (image schedule : List ℕ) → Plan → Type 0
+AfterFiles layer b image schedule p =
+    (answer : Result System AcceptFault) × Accepts layer (image_of image) answer × (p ≡ accepted_plan b (schedule_of schedule) answer)
 
 -- boot IMAGE SCHEDULE TURNS STEPS gets the image, then the schedule
-abbrev pub BootPlan : (List ℕ → Option (List ℕ)) → Boot → Plan → Type 0
-BootPlan file b p = Got (file b.image) (λ image. Got (file b.schedule) (AfterFiles b image)) p
+abbrev pub BootPlan : (layer : Map → List ℕ → List ℕ) → (List ℕ → Option (List ℕ)) → Boot → Plan → Type 0
+BootPlan layer file b p = Got (file b.image) (λ image. Got (file b.schedule) (AfterFiles layer b image)) p
 
 -- the bytes of a user's image: its words, each as four bytes with the lowest first, and nothing else
 abbrev pub bytes_of : List ℕ → List ℕ
@@ -148,7 +154,7 @@ LinkPlan layer file l p = Got (file l.object) (λ object. Got (file l.params) (�
 -- THE PLAN that words and files come to
 pub data ComesTo (words : List (List ℕ)) (file : List ℕ → Option (List ℕ)) : Plan → Type 0 where
   no_command : IsNoCommand words → ComesTo words file bad_words
-  boot_plan : (b : Boot) (p : Plan) → IsBoot words b → BootPlan file b p → ComesTo words file p
+  boot_plan : (b : Boot) (p : Plan) → IsBoot words b → BootPlan layer_image file b p → ComesTo words file p
   user_plan : (c : CompileUser) (p : Plan) → IsCompileUser words c → UserPlan file c p → ComesTo words file p
   kernel_plan : (c : CompileKernel) (p : Plan) → IsCompileKernel words c → KernelPlan file c p → ComesTo words file p
   link_plan : (l : Link) (p : Plan) → IsLink words l → LinkPlan layer_image file l p → ComesTo words file p

@@ -12,10 +12,13 @@ use Rattle.object_file.specs.Answer.{object_fault_number, object_fault_place, ob
 use Rattle.object_file.specs.declared.fault.ObjectFault.{ObjectFault}
 use Rattle.system_files.specs.Fault.{file_fault_number, file_fault_fields}
 use Rattle.system_files.specs.declared.fault.FileFault.{FileFault}
-use Rattle.kernel_linker.specs.Fault.{link_fault_number, link_fault_fields}
+use Rattle.kernel_linker.specs.Fault.{link_fault_number, link_fault_fields, accept_fault_number, accept_fault_fields}
+use Rattle.kernel_linker.specs.declared.fault.AcceptFault.{AcceptFault}
+use Rattle.schedule_file.specs.Fault.{schedule_fault_number, schedule_fault_line, schedule_fault_value}
+use Rattle.schedule_file.specs.declared.fault.ScheduleFault.{ScheduleFault}
 use Rattle.kernel_linker.specs.declared.fault.LinkFault.{LinkFault}
 use Rattle.cvm_shell.specs.declared.status.Status.{Status}
-use Rattle.cvm_shell.specs.declared.status.Status.TheVariants.{Refused, Shelf}
+use Rattle.cvm_shell.specs.declared.status.Status.TheVariants.{Refused, Disk, Shelf}
 
 pub data Refusal : Type 0 where
   -- 1 to 7: a user's text has no words
@@ -28,16 +31,14 @@ pub data Refusal : Type 0 where
   bad_file : (fault : FileFault) → Refusal
   -- 60 to 63 and 67 to 69: an object, parameters and users are not linked
   unlinked : (fault : LinkFault) → Refusal
-  -- 50: the first four bytes are there, and aren't those of an image
-  magic : Refusal
-  -- 51: the field or part that begins at this byte isn't whole
-  truncated : (at : ℕ) → Refusal
-  -- 52: the image ends at this byte, and a further byte stands there
-  trailing : (at : ℕ) → Refusal
-  -- 53: a field, by its word number from 0, has a value out of its range
-  parameter : (which value : ℕ) → Refusal
-  -- 59: what begins at this byte isn't built yet
-  not_built : (at : ℕ) → Refusal
+  -- 50 to 56 and 58: an image is not accepted
+  unaccepted : (fault : AcceptFault) → Refusal
+  -- 70 to 72 and 74: a text is no schedule
+  bad_schedule : (fault : ScheduleFault) → Refusal
+  -- 90: the disk has fewer sectors than the users' pages need
+  small_disk : (need have : ℕ) → Refusal
+  -- 96: the user of a trace is none of the users
+  no_such_user : (user users : ℕ) → Refusal
   -- 81: a file has more than 67,108,864 bytes
   too_long : Refusal
 
@@ -84,6 +85,11 @@ abbrev pub object_fault_row : ObjectFault → List ℕ
 object_fault_row f =
     codes "refused " ++ decimal (object_fault_number f) ++ field_text (object_fault_place f) ++ field_text (object_fault_value f) ++ codes "\n"
 
+-- the row of a fault of a schedule: its number, the line, and the value that is out of range
+abbrev pub schedule_fault_row : ScheduleFault → List ℕ
+schedule_fault_row f =
+    codes "refused " ++ decimal (schedule_fault_number f) ++ field_text (schedule_fault_line f) ++ field_text (schedule_fault_value f) ++ codes "\n"
+
 -- the row that is printed
 abbrev pub refusal_text : Refusal → List ℕ
 refusal_text (bad_text f) = text_fault_row f
@@ -91,14 +97,14 @@ refusal_text (bad_source f) = source_fault_row f
 refusal_text (bad_object f) = object_fault_row f
 refusal_text (bad_file f) = numbers_row (file_fault_number f) (file_fault_fields f)
 refusal_text (unlinked f) = numbers_row (link_fault_number f) (link_fault_fields f)
-refusal_text magic = codes "refused 50\n"
-refusal_text (truncated at) = codes "refused 51 " ++ decimal at ++ codes "\n"
-refusal_text (trailing at) = codes "refused 52 " ++ decimal at ++ codes "\n"
-refusal_text (parameter which value) = codes "refused 53 " ++ decimal which ++ codes " " ++ decimal value ++ codes "\n"
-refusal_text (not_built at) = codes "refused 59 " ++ decimal at ++ codes "\n"
+refusal_text (unaccepted f) = numbers_row (accept_fault_number f) (accept_fault_fields f)
+refusal_text (bad_schedule f) = schedule_fault_row f
+refusal_text (small_disk need have) = numbers_row 90 (need ∷ have ∷ [])
+refusal_text (no_such_user user users) = numbers_row 96 (user ∷ users ∷ [])
 refusal_text too_long = codes "refused 81\n"
 
--- the status beside the row: a file that is too long is the shelf's fault
+-- the status beside the row: a file that is too long is the shelf's fault, and a disk that is too small the disk's
 abbrev pub refusal_status : Refusal → Status
+refusal_status (small_disk need have) = Disk
 refusal_status too_long = Shelf
 refusal_status other = Refused

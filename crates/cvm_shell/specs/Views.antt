@@ -1,8 +1,6 @@
 -- Only for the contracts inside the crate: what they see of the enums and structs of the code, and of a stage that may stop.
 use Rattle.std.specs.Prelude.{◌≡◌, ℕ, List, Result, MatchResult, ⊤}
-use Rattle.std.specs.Borrow.{Bor}
 use Rattle.cvm_shell.specs.declared.status.Status.{Status}
-use Rattle.cvm_shell.specs.Image.{Reading, gives, refuses as refused_for}
 use Rattle.cvm_shell.specs.Command as command
 use Rattle.cvm_shell.specs.Refusal as refusal
 use Rattle.cvm_shell.specs.Plan.{Plan, refuses}
@@ -13,7 +11,7 @@ use Rattle.cvm_shell.specs.declared.command.Link.{Link}
 use Rattle.cvm_shell.specs.declared.command.Command.{Command}
 use Rattle.cvm_shell.specs.declared.command.Command.TheVariants as command_code
 use Rattle.cvm_shell.specs.declared.refusal.Refusal.{Refusal}
-use Rattle.cvm_shell.specs.declared.refusal.Refusal.TheVariants.{BadText, BadSource, BadObject, BadFile, Unlinked, Magic, Truncated, Trailing, Parameter, NotBuilt, TooLong}
+use Rattle.cvm_shell.specs.declared.refusal.Refusal.TheVariants.{BadText, BadSource, BadObject, BadFile, Unlinked, Unaccepted, BadSchedule, SmallDisk, NoSuchUser, TooLong}
 use Rattle.cvm_shell.specs.declared.boot.Stop.{Stop}
 use Rattle.cvm_shell.specs.declared.boot.Stop.TheVariants.{Refused, Shelf, Memory}
 
@@ -47,11 +45,10 @@ refusal_view (BadSource fault) = refusal.bad_source fault
 refusal_view (BadObject fault) = refusal.bad_object fault
 refusal_view (BadFile fault) = refusal.bad_file fault
 refusal_view (Unlinked fault) = refusal.unlinked fault
-refusal_view Magic = refusal.magic
-refusal_view (Truncated at) = refusal.truncated at
-refusal_view (Trailing at) = refusal.trailing at
-refusal_view (Parameter which value) = refusal.parameter which value
-refusal_view (NotBuilt at) = refusal.not_built at
+refusal_view (Unaccepted fault) = refusal.unaccepted fault
+refusal_view (BadSchedule fault) = refusal.bad_schedule fault
+refusal_view (SmallDisk need have) = refusal.small_disk need have
+refusal_view (NoSuchUser user users) = refusal.no_such_user user users
 refusal_view TooLong = refusal.too_long
 
 -- the row and the status of a refusal
@@ -60,10 +57,6 @@ stated_row r = refusal.refusal_text (refusal_view r)
 
 abbrev pub stated_status : Refusal → Status
 stated_status r = refusal.refusal_status (refusal_view r)
-
--- bytes were read to this: a source, or a refusal
-abbrev pub IsReading : Reading → Result (Bor (List ℕ)) Refusal → Type 0
-IsReading reading result = MatchResult result (λ source. reading ≡ gives source.now) (λ r. reading ≡ refused_for (refusal_view r))
 
 -- a fact of the plan, where a stop is a refusal
 abbrev pub IfRefused : (Plan → Type 0) → Stop → Type 0

@@ -1,29 +1,30 @@
-// A boot: what its files come to, and the run of its kernel.
-ghost use Rattle.std.specs.Prelude.{◌≡◌, ◌≢◌, ◌≤◌, ◌↔◌, ⊤, ℕ, List, IfOk, IfErr, IsErrOf};
+// A boot: what its files come to, and the run of the system that is accepted.
+ghost use Rattle.std.specs.Prelude.{◌≡◌, ◌≢◌, ◌↔◌, ◌≤◌, ⊤, ℕ, List, IfOk, IfErr, IsErrOf};
 ghost use Rattle.cvm_outside.specs.Causes.{Rose};
 ghost use Rattle.cvm_outside.specs.Told.{TOO_LONG};
-ghost use Rattle.c0_tree.specs.First.{IsFirst};
-ghost use Rattle.c0_tree.specs.FirstTree.{CUnit};
-ghost use Rattle.c0_tree.specs.FirstView.{unit_view};
+ghost use Rattle.layer_runs.specs.Image.{layer_image};
+ghost use Rattle.boot_run.specs.Whole.{ending_of_end};
+ghost use Rattle.cvm_shell.specs.Boot.{ended_as};
 ghost use Rattle.cvm_shell.specs.Command as Command;
-ghost use Rattle.cvm_shell.specs.Cvm.{Past, IsCvm};
+ghost use Rattle.cvm_shell.specs.Outside.{within};
 ghost use Rattle.cvm_shell.specs.Plan.{AfterFiles, IsPlan};
-ghost use Rattle.cvm_shell.specs.Stages.{stop_of, PlanCounts, KernelEnds, booted, IsBootPlan};
+ghost use Rattle.cvm_shell.specs.Stages.{stop_of, accept_stop, schedule_stop, PlanCounts, ready_for, IsBootPlan, Follows, RunsAs};
 ghost use Rattle.cvm_shell.specs.Views.{boot_view, IfPlan};
 
 use crate::command::Boot;
-use crate::image::read_image;
 use crate::refusal::Refusal;
-use crate::report::print_run;
+use crate::saying::refuse;
 use crate::status::Status;
-use c0_tree::Unit;
-use cvm_outside::{Shelf, ShelfFault, Sink};
-use first_code::compile;
-use first_machine::Machine;
-use first_source::{SourceFault, breaks_once, read};
+use boot_run::{LoadFault, RunEnd, View, run_whole};
+use c0_types::laws::sources_have_one_answer;
+use cvm_outside::{Sectors, Shelf, ShelfFault, Sink};
+use kernel_linker::{AcceptFault, accept};
+use layer_contract::Boot as Booted;
+use layer_runs::RealLayer;
+use schedule_file::{Schedule, ScheduleFault, read};
 use std::alloc::Global;
 
-/// Why no kernel is run, and no image of a user and no object of a kernel is put.
+/// Why nothing is run, and no file is put.
 #[derive(Clone, Copy, Debug, PartialEq, Eq)]
 pub enum Stop {
     /// A file has a named fault.
@@ -46,74 +47,121 @@ impl From<ShelfFault> for Stop {
     }
 }
 
-/// Gets the files of a boot and reads them, the image first: the kernel that is to run.
-pub fn plan<S: Shelf>(alloc: Global, boot: &Boot, shelf: &mut S) -> Result<Unit, Stop>
-    ensures comes { IfPlan (booted (boot_view boot.now)) (IsBootPlan (S.file shelf.old) (boot_view boot.now)) result }
-    ensures first { IfOk result (λ u. IsFirst (unit_view u)) }
+impl From<AcceptFault> for Stop {
+    ghost from_gives = { λ f e. e ≡ accept_stop f };
+
+    fn from(fault: AcceptFault) -> Self {
+        match fault {
+            AcceptFault::Memory => Stop::Memory,
+            fault => Stop::Refused(Refusal::Unaccepted(fault)),
+        }
+    }
+}
+
+impl From<ScheduleFault> for Stop {
+    ghost from_gives = { λ f e. e ≡ schedule_stop f };
+
+    fn from(fault: ScheduleFault) -> Self {
+        match fault {
+            ScheduleFault::Memory => Stop::Memory,
+            fault => Stop::Refused(Refusal::BadSchedule(fault)),
+        }
+    }
+}
+
+/// An accepted system, with the layer that it is linked with, and the schedule under which it is to be run.
+#[derive(Drop)]
+pub struct Ready {
+    /// What is booted.
+    pub boot: Booted,
+    /// The layer that was made for it.
+    pub layer: RealLayer,
+    /// The schedule.
+    pub schedule: Schedule,
+}
+
+/// Gets the files of a boot, the image first; accepts the image, and reads the schedule: what is to be run.
+pub fn plan<S: Shelf>(alloc: Global, boot: &Boot, shelf: &mut S) -> Result<Ready, Stop>
+    ensures comes { IfPlan (ready_for (boot_view boot.now)) (IsBootPlan layer_image (S.file shelf.old) (boot_view boot.now)) result }
+    ensures follows { IfOk result Follows }
     ensures long { IsErrOf result (Stop.Refused Refusal.TooLong) ↔ (S.taken shelf.new ≡ TOO_LONG) }
     ensures count { PlanCounts (S.faults shelf.old) (S.faults shelf.new) result }
     ensures files { (n : List ℕ) → S.file shelf.new n ≡ S.file shelf.old n }
 {
     let image = shelf.get(alloc, boot.image)?;
     let schedule = shelf.get(alloc, boot.schedule)?;
-    kernel_of(alloc, &image, &schedule)
+    ready_of(alloc, &image, &schedule)
 }
 
-// The kernel that the bytes of an image and of a schedule come to.
-fn kernel_of(alloc: Global, image: &[u8], schedule: &[u8]) -> Result<Unit, Stop>
-    ensures comes { (b : Command.Boot) → IfPlan (booted b) (IsPlan ⊤ (AfterFiles b image.now schedule.now)) result }
-    ensures first { IfOk result (λ u. IsFirst (unit_view u)) }
+// What the bytes of an image and of a schedule come to.
+fn ready_of(alloc: Global, image: &[u8], schedule: &[u8]) -> Result<Ready, Stop>
+    ensures comes { (b : Command.Boot) → IfPlan (ready_for b) (IsPlan ⊤ (AfterFiles layer_image b image.now schedule.now)) result }
+    ensures follows { IfOk result Follows }
     ensures inside { IfErr result (λ s. s ≢ Stop.Shelf) }
     ensures short { IsErrOf result (Stop.Refused Refusal.TooLong) → ⊥ }
 {
-    breaks_once();
-    let source = match read_image(image) {
-        Ok(source) => source,
-        Err(refusal) => return Err(Stop::Refused(refusal)),
-    };
-    let unit = match read(alloc, source) {
-        Ok(unit) => unit,
-        Err(SourceFault::NotBuilt { at }) => return Err(Stop::Refused(Refusal::NotBuilt { at })),
-        Err(SourceFault::Memory) => return Err(Stop::Memory),
-    };
-    if !schedule.is_empty() {
-        return Err(Stop::Refused(Refusal::NotBuilt { at: 0 }));
-    }
-    Ok(unit)
+    sources_have_one_answer();
+    let accepted = accept::<RealLayer>(alloc, image)?;
+    let schedule = read(alloc, schedule)?;
+    Ok(Ready {
+        boot: accepted.boot,
+        layer: accepted.layer,
+        schedule,
+    })
 }
 
-/// A law: so many turns of a kernel lead to one past.
-pub fn kernels_run_once()
-    ensures total { (u : CUnit) (k : ℕ) → (c : Past) × IsCvm u k c }
-    ensures one { (u : CUnit) (k : ℕ) (c d : Past) → IsCvm u k c → IsCvm u k d → c ≡ d }
-{}
-
-/// Runs a kernel for at most so many steps of its machine, and prints its run.
-pub fn run_kernel<O: Sink>(
+/// Runs a system until so many turns are complete or it has ended, for at most so many steps of its machine, and prints its run.
+pub fn run_system<O: Sink, D: Sectors>(
     alloc: Global,
-    unit: &Unit,
+    ready: Ready,
     turns: u32,
     steps: u64,
     out: &mut O,
+    disk: &mut D,
 ) -> Status
-    requires first { IsFirst (unit_view unit.now) }
+    requires follows { Follows ready }
     requires some { 1 ≤ turns }
-    ensures ends { KernelEnds (unit_view unit.now) turns steps result (O.text out.old) (O.text out.new) }
+    ensures ends { RunsAs ready turns steps (within O.Sink D.Sectors) result (out.old, disk.old) (out.new, disk.new) }
     ensures rose { result ≡ Status.Sink → Rose (O.faults out.old) (O.faults out.new) }
     ensures same { result ≢ Status.Sink → O.faults out.new ≡ O.faults out.old }
+    ensures disk_same { result ≢ Status.Disk → D.faults disk.new ≡ D.faults disk.old }
+    ensures never { (result ≢ Status.Words) × (result ≢ Status.Refused) × (result ≢ Status.Shelf) }
 {
-    let Ok(kernel) = compile(alloc, unit) else {
-        return Status::Memory;
-    };
-    let Ok(mut machine) = Machine::new(alloc, &kernel.words, kernel.frames) else {
-        return Status::Memory;
-    };
-    let mut budget = steps;
-    let Ok(begun) = machine.finish_turn(&mut budget) else {
-        return Status::StepLimit;
-    };
-    match print_run(unit, kernel.globals, &machine, &begun, out) {
-        Ok(()) => Status::Done,
-        Err(_) => Status::Sink,
+    let Ready {
+        boot,
+        layer,
+        schedule,
+    } = ready;
+    match run_whole(
+        alloc,
+        layer,
+        boot,
+        schedule,
+        View::Boot,
+        turns,
+        steps,
+        disk,
+        out,
+    ) {
+        Ok(end) => status_of(end),
+        Err(LoadFault::SmallDisk { need, have }) => refuse(&Refusal::SmallDisk { need, have }, out),
+        Err(LoadFault::Disk) => Status::Disk,
+        Err(LoadFault::Memory) => Status::Memory,
+        Err(LoadFault::NoSuchUser { user, users }) => {
+            refuse(&Refusal::NoSuchUser { user, users }, out)
+        }
+    }
+}
+
+// The status of a run by its end.
+fn status_of(end: RunEnd) -> Status
+    ensures { result ≡ ended_as (ending_of_end end) }
+{
+    match end {
+        RunEnd::Done => Status::Done,
+        RunEnd::KernelFaulted => Status::KernelFault,
+        RunEnd::OutOfSteps => Status::StepLimit,
+        RunEnd::DiskFault => Status::Disk,
+        RunEnd::SinkFault => Status::Sink,
     }
 }

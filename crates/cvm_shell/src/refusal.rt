@@ -1,7 +1,7 @@
 // The refusals, with the row and the status of each.
-ghost use Rattle.std.specs.Prelude.{◌≡◌, ◌≢◌, ◌≤◌, ◌+◌, ◌++◌, length, codes, decimal};
+ghost use Rattle.std.specs.Prelude.{◌≡◌, ◌≢◌, ◌≤◌, ◌+◌, ◌++◌, [], ◌∷◌, length, codes, decimal};
 ghost use Rattle.c0_types.specs.declared.source_fault.SourceFault.TheVariants.{Reading, Typing};
-ghost use Rattle.cvm_shell.specs.Refusal.{refusal_text, refusal_status, field_text, signed_field_text, start_of, end_of, text_fault_row, source_fault_row, object_fault_row};
+ghost use Rattle.cvm_shell.specs.Refusal.{refusal_text, refusal_status, field_text, signed_field_text, start_of, end_of, text_fault_row, source_fault_row, object_fault_row, schedule_fault_row};
 ghost use Rattle.cvm_shell.specs.Refusal as rows;
 ghost use Rattle.cvm_shell.specs.Views.{refusal_view};
 
@@ -11,9 +11,10 @@ use c0_parser::ReadFault;
 use c0_tree::Span;
 use c0_types::{SourceFault, TypeFault};
 use cvm_text::{decimal, decimal_u64};
-use kernel_linker::LinkFault;
+use kernel_linker::{AcceptFault, LinkFault};
 use mips_asm::AsmFault;
 use object_file::ObjectFault;
+use schedule_file::ScheduleFault;
 use system_files::FileFault;
 
 /// A fault that an image, a schedule, a source or a user's text has. Places are bytes, counted from
@@ -30,16 +31,14 @@ pub enum Refusal {
     BadFile(FileFault),
     /// An object, parameters and users are not linked.
     Unlinked(LinkFault),
-    /// The first four bytes are there, and aren't those of an image.
-    Magic,
-    /// The field or part that begins at this byte isn't whole.
-    Truncated { at: u64 },
-    /// The image ends at this byte, and a further byte stands there.
-    Trailing { at: u64 },
-    /// A field, by its word number from 0, has a value out of its range.
-    Parameter { which: u32, value: u32 },
-    /// What begins at this byte isn't built yet.
-    NotBuilt { at: u64 },
+    /// An image is not accepted.
+    Unaccepted(AcceptFault),
+    /// A text is no schedule.
+    BadSchedule(ScheduleFault),
+    /// The disk has fewer sectors than the users' pages need.
+    SmallDisk { need: u32, have: u32 },
+    /// The user of a trace is none of the users.
+    NoSuchUser { user: u32, users: u32 },
     /// A file has more than 67,108,864 bytes.
     TooLong,
 }
@@ -55,21 +54,21 @@ impl Refusal {
             Refusal::BadObject(fault) => object_row(*fault),
             Refusal::BadFile(fault) => numbers_row(fault.number(), &fault.fields()),
             Refusal::Unlinked(fault) => numbers_row(fault.number(), &fault.fields()),
-            Refusal::Magic => plain_row("refused 50\n"),
-            Refusal::Truncated { at } => numbered_row("refused 51 ", *at),
-            Refusal::Trailing { at } => numbered_row("refused 52 ", *at),
-            Refusal::Parameter { which, value } => parameter_row(*which, *value),
-            Refusal::NotBuilt { at } => numbered_row("refused 59 ", *at),
+            Refusal::Unaccepted(fault) => numbers_row(fault.number(), &fault.fields()),
+            Refusal::BadSchedule(fault) => schedule_row(*fault),
+            Refusal::SmallDisk { need, have } => two_row(90, *need, *have),
+            Refusal::NoSuchUser { user, users } => two_row(96, *user, *users),
             Refusal::TooLong => plain_row("refused 81\n"),
         }
     }
 
-    /// The status beside the row: `Shelf` where a file is too long, else `Refused`.
+    /// The status beside the row: `Shelf` where a file is too long, `Disk` where the disk is too small, else `Refused`.
     pub fn status(&self) -> Status
         ensures is { result ≡ refusal_status (refusal_view self.now) }
         ensures row { result ≢ Status.Sink }
     {
         match self {
+            Refusal::SmallDisk { .. } => Status::Disk,
             Refusal::TooLong => Status::Shelf,
             _ => Status::Refused,
         }
@@ -83,34 +82,6 @@ fn plain_row(text: &str) -> ArrayString<128>
 {
     let mut row = ArrayString::new();
     row.push_str(text);
-    row
-}
-
-// A row that ends with a number.
-fn numbered_row(head: &str, number: u64) -> ArrayString<128>
-    requires { length head.now ≤ 16 }
-    ensures { result.bytes ≡ head.now ++ decimal number ++ codes "\n" }
-{
-    let digits = decimal_u64(number);
-    let mut row = ArrayString::new();
-    row.push_str(head);
-    row.push_str(digits.as_str());
-    row.push_str("\n");
-    row
-}
-
-// The row of a field out of its range.
-fn parameter_row(which: u32, value: u32) -> ArrayString<128>
-    ensures { result.bytes ≡ codes "refused 53 " ++ decimal which ++ codes " " ++ decimal value ++ codes "\n" }
-{
-    let place = decimal_u64(u64::from(which));
-    let digits = decimal_u64(u64::from(value));
-    let mut row = ArrayString::new();
-    row.push_str("refused 53 ");
-    row.push_str(place.as_str());
-    row.push_str(" ");
-    row.push_str(digits.as_str());
-    row.push_str("\n");
     row
 }
 
@@ -139,6 +110,27 @@ fn numbers_row(number: u32, fields: &[u64]) -> ArrayString<128>
     for field in fields {
         put_field(&mut row, Some(*field));
     }
+    row.push_str("\n");
+    row
+}
+
+// A row with two numbers.
+fn two_row(number: u32, first: u32, second: u32) -> ArrayString<128>
+    ensures { result.bytes ≡ rows.numbers_row number (first ∷ second ∷ []) }
+{
+    numbers_row(number, &[u64::from(first), u64::from(second)])
+}
+
+// The row of a fault of a schedule.
+fn schedule_row(fault: ScheduleFault) -> ArrayString<128>
+    ensures { result.bytes ≡ schedule_fault_row fault }
+{
+    let number = decimal_u64(u64::from(fault.number()));
+    let mut row = ArrayString::new();
+    row.push_str("refused ");
+    row.push_str(number.as_str());
+    put_field(&mut row, fault.line());
+    put_field(&mut row, fault.value());
     row.push_str("\n");
     row
 }

@@ -18,11 +18,11 @@ use Rattle.c0_meaning.specs.Sound.{shapes}
 use Rattle.c0_meaning.specs.Operators.{faulted, stuck}
 use Rattle.c0_meaning.specs.Operators as c0
 use Rattle.c0_meaning.specs.Execution as c0_run
-use Rattle.kernel_runs.specs.C0RuntimeCode.{behind_first}
-use Rattle.kernel_runs.specs.C0RuntimeLaws.{EntryRuns}
-use Rattle.kernel_runs.specs.C0ExprCodeLaws.{IsOpened}
-use Rattle.kernel_runs.specs.C0StmtCodeCode.{links_of}
-use Rattle.kernel_runs.specs.C0StmtCodeStanding.{StepsRun}
+use Rattle.c0_runtime.specs.Code.{behind_first}
+use Rattle.c0_runtime.specs.Laws.{EntryRuns}
+use Rattle.c0_expr_code.specs.Laws.{IsOpened}
+use Rattle.c0_stmt_code.specs.Code.{links_of}
+use Rattle.c0_stmt_code.specs.Standing.{StepsRun}
 use Rattle.layer_contract.specs.declared.entry.Entry.TheVariants.{Fault as Exit, Leave}
 use Rattle.layer_contract.specs.Layer.{entry_address, Inside, Leaves, Exits, Rests}
 use Rattle.layer_contract.specs.declared.registers.TheConstants.{ANSWER}
@@ -37,7 +37,7 @@ use Rattle.cvm_model.specs.Stands.{Site}
 use Rattle.kernel_runs.specs.Held.{HeldIsFlat}
 use Rattle.kernel_runs.specs.Outer.{Outer}
 use Rattle.kernel_runs.specs.Placed.{program, CodeStands}
-use Rattle.kernel_runs.specs.C0UnitCode.{dispatch_number}
+use Rattle.c0_unit.specs.Code.{dispatch_number}
 use Rattle.kernel_runs.proofs.Reached.{RunsJoin}
 use Rattle.kernel_runs.proofs.Counting.{none_some, IsElsewhere, counts_last}
 use Rattle.kernel_runs.proofs.Passing.{Ground}

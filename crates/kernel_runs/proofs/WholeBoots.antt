@@ -132,6 +132,5 @@ whole_follows law image sizes m b w linked laws =
     let variables : Linked (map_of_boot b) sizes image = subst (λ (n : Map). Linked n sizes image) w.map_is (linked within) in
     let size : length (unit_words (unit_view b.unit)) ≡ m.code_words = ap (λ (n : Map). n.code_words) (sym w.map_is) in
     let kept : Laws (site_with (map_of_boot b) image (unit_words (unit_view b.unit))) sizes =
-        subst (λ (n : Map). Laws (site_with n image (unit_words (unit_view b.unit))) sizes) w.map_is (laws (unit_words (unit_view b.unit)) within size) in
+    subst (λ (n : Map). Laws (site_with n image (unit_words (unit_view b.unit))) sizes) w.map_is (laws (unit_words (unit_view b.unit)) within size) in
     subst (λ (n : Map). BootFollows image sizes n b) (sym w.map_is) (follows law image sizes b there variables kept)
-

@@ -2,7 +2,7 @@
 
 ghost use Rattle.kernel_runs.specs.Follows.{LinkedBootsFollow};
 
-use crate::laws::compiled_units_run;
+use crate::laws::{compiled_units_calls_follow, compiled_units_run};
 use c0_meaning::laws::units_are_typed_or_faulty;
 use c0_meaning::run_laws::zeros_have_the_words_of_their_types;
 use c0_unit::laws::{units_are_short, units_have_places, units_stand};
@@ -21,4 +21,5 @@ pub fn linked_boots_follow()
     units_are_kernels();
     units_stay_typed();
     compiled_units_run();
+    compiled_units_calls_follow();
 }

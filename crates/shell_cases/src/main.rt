@@ -7,8 +7,8 @@
 // - `file NAME` places a file with these bytes, and `zeros NAME` one with so many bytes 0. A put to it has room for as many;
 // - `flip NAME` turns the lowest bit of a byte of a file, whose place from 0 stands below it;
 // - `run WORD ..` runs the command of these words;
-// - `show NAME` gets a file and prints its bytes, `object NAME` reads it as an object and prints its source and how many words it has, and
-//   `sector N` prints the words of a sector that aren't 0.
+// - `show NAME` gets a file and prints its bytes, `part NAME AT COUNT` so many of its bytes from a place on, `object NAME` reads it as an
+//   object and prints its source and how many words it has, and `sector N` prints the words of a sector that aren't 0.
 #![tactic(auto)]
 
 mod altered;
@@ -156,6 +156,27 @@ fn show_file(
     out.push('\n')
 }
 
+/// Prints bytes of a file: its name, the first byte's place and their number stand between blanks.
+fn show_part(
+    alloc: Global,
+    world: &mut World,
+    out: &mut String,
+    line: &str,
+) -> Result<(), AllocError> {
+    let (name, range) = line.split_once(' ').unwrap_or((line, ""));
+    let (at, count) = range.split_once(' ').unwrap_or((range, ""));
+    let at = at.parse::<usize>().unwrap_or(0);
+    let count = count.parse::<usize>().unwrap_or(0);
+    match world.shelf.get(alloc, name) {
+        Ok(bytes) => {
+            let rest = bytes.get(at..).unwrap_or(b"");
+            put_bytes(out, rest.get(..count).unwrap_or(rest))?;
+        }
+        Err(_) => out.push_str("(not got)")?,
+    }
+    out.push('\n')
+}
+
 /// Prints the source of an object, and how many words it has.
 fn show_object(
     alloc: Global,
@@ -238,6 +259,7 @@ fn do_part(
         "case" => *world = world_of(alloc, &part.source)?,
         "run" => run_words(alloc, world, out, name)?,
         "show" => show_file(alloc, world, out, name)?,
+        "part" => show_part(alloc, world, out, name)?,
         "object" => show_object(alloc, world, out, name)?,
         "sector" => show_sector(world, out, name)?,
         _ => out.push_str("(no such kind)\n")?,

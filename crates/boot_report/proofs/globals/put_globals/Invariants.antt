@@ -11,5 +11,6 @@ abbrev pub invariant-loop-i : goal.invariant-loop-i
 invariant-loop-i g l = record {
   text : (d : Decl) → g.O.Sink.text l.out ≡ append_known (g.O.Sink.text l.fn.out)
       (texts (λ i. global_word_row (slice_index_or l.decls i d) (slice_index l.machine.hardware.memory (globals_at l.map + slice_index l.offsets i))) l.i);
+  start : l.i ≡ 0 → g.O.Sink.text l.out ≡ g.O.Sink.text l.fn.out;
   faults : g.O.Sink.faults l.out ≡ g.O.Sink.faults l.fn.out;
 }

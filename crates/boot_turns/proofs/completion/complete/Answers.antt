@@ -1,13 +1,26 @@
+use Rattle.std.proofs.lemmas.Result.{err_from_is_err_and}
 use Rattle.std.specs.Prelude.{is_some}
 use Rattle.std.proofs.Common.{ℕ, Bool, true, false, Option, Some, suc, ◌≡◌, None, sym, ap₂, ◌∙◌, subst, arith}
 use Rattle.mips_machine.specs.Steps.{outside_of}
 use Rattle.boot_turns.specs.Completes.{Open, Progress}
+use Rattle.boot_turns.proofs.Events.{step_torn}
 use Rattle.boot_turns.proofs.Opening.{one_step, Opened, seen_rests}
 use Rattle.boot_turns.proofs.completion.complete.Goals as goal
 
 off_none : (o r : Option ℕ) (b : Bool) → o ≡ r → b ≡ is_some o → b ≡ false → r ≡ None
 off_none None r b e f h = sym e
 off_none (Some w) r b e f h = absurd (let g : true ≡ false = sym f ∙ h in cc)
+
+pub returns-in_err-began-clause-ends : goal.returns-in_err-began-clause-ends
+returns-in_err-began-clause-ends g c = λ s t h.
+    let w = err_from_is_err_and c.from_residual.result c.from_residual.ensures.1 in
+    let i = c.loop-budget.invariant.ran s t h in
+    let x = outside_of c.args.machine.now.rows (g.D.Sectors.size c.args.disk.now) in
+    let same : outside_of c.loop-budget.machine.rows (g.D.Sectors.size c.loop-budget.disk) ≡ x = ap₂ outside_of c.loop-budget.invariant.rows c.loop-budget.invariant.size in
+    let torn = step_torn (g.D.Sectors.size c.loop-budget.disk) x c.loop-budget.machine c.step_once.new.machine (g.D.Sectors.sectors c.loop-budget.disk) (g.D.Sectors.sectors c.step_once.new.disk) _ same i.3 c.in_err-began.ensures.torn in
+    let b = i.2 in
+    let p = c.loop-budget-test.true in
+    rw (w.1, w.2) (i.0, i.1, omega (arith, b, p), (c.loop-budget.begun, i.4), torn)
 
 pub returns-then-at_rest-clause-ends : goal.returns-then-at_rest-clause-ends
 returns-then-at_rest-clause-ends g c = λ s t h.

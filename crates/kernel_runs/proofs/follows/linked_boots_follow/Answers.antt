@@ -12,5 +12,5 @@ returns c = whole_follows (record {
   kernels = c.units_are_kernels.ensures;
   stay = c.units_stay_typed.ensures.typed;
   run = c.compiled_units_run.ensures;
-  calls = ?;
+  calls = c.compiled_units_calls_follow.ensures;
 })

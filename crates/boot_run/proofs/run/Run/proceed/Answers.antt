@@ -1,7 +1,8 @@
-use Rattle.std.proofs.Common.{◌<◌, ◌+◌, ◌^◌, sym, subst, ◌∙◌}
+use Rattle.std.proofs.Common.{◌≡◌, ◌<◌, ◌+◌, ◌^◌, sym, ap, subst, ◌∙◌, arith}
 use Rattle.std.proofs.lemmas.Result.{err_from_is_err_and}
 use Rattle.boot_run.specs.LoadEnds.{Kept}
 use Rattle.boot_run.proofs.Proceeding.{now_stopped, now_step, now_row, now_cut, is_false, is_true}
+use Rattle.boot_run.proofs.Placing.{names_there, stays_placed}
 use Rattle.boot_run.proofs.run.Run.proceed.Goals as goal
 
 pub returns-in_err-begun-clause-ends : goal.returns-in_err-begun-clause-ends
@@ -33,3 +34,23 @@ returns-clause-ends g c = λ _.
     (subst (λ (r : Kept _). r.machine.time + c.args.budget.now < 2 ^ 64) (sym c.self.view_is) c.requires.steps) _ _ _ c.seen_next-next.result
     c.saturating_add-self-inside.ensures c.word-self-inside.ensures c.seen_next-next.ensures c.ended_by-self-inside.ensures
     (g.O.Sink.text c.put.new.self) c.as_bytes.result.now (is_true c.in_ok-begun.begun.dispatched c.if-not-begun.false) (c.as_bytes.ensures.value ∙ c.as_str.ensures.value ∙ c.row_text.ensures) c.in_ok-put.ensures.whole
+
+pub invariant_of-self-in_err-put : goal.invariant_of-self-in_err-put
+invariant_of-self-in_err-put g c =
+    let count : g.D.Sectors.size c.advance.new.disk ≡ c.self.inside.count = c.advance.ensures.size ∙ c.requires.disk ∙ sym (ap (λ (q : Kept _). q.count) c.self.view_is) in
+    let long = c.advance.ensures.memory in
+    let some = c.self.invariant.1 in (
+      names_there (g.D.Sectors.size c.advance.new.disk) c.self.inside.count c.advance.new.machine.hardware.ports.pending count c.advance.ensures.sector,
+      omega (arith, long, some),
+      stays_placed c.self.inside.boot c.self.inside.places.map c.self.inside.places.offsets.items c.self.inside.machine.hardware.memory c.advance.new.machine.hardware.memory c.self.inside.count c.advance.ensures.memory c.self.invariant.2,
+    )
+
+pub invariant_of-self-2 : goal.invariant_of-self-2
+invariant_of-self-2 g c =
+    let count : g.D.Sectors.size c.advance.new.disk ≡ c.self.inside.count = c.advance.ensures.size ∙ c.requires.disk ∙ sym (ap (λ (q : Kept _). q.count) c.self.view_is) in
+    let long = c.advance.ensures.memory in
+    let some = c.self.invariant.1 in (
+      names_there (g.D.Sectors.size c.advance.new.disk) c.self.inside.count c.advance.new.machine.hardware.ports.pending count c.advance.ensures.sector,
+      omega (arith, long, some),
+      stays_placed c.self.inside.boot c.self.inside.places.map c.self.inside.places.offsets.items c.self.inside.machine.hardware.memory c.advance.new.machine.hardware.memory c.self.inside.count c.advance.ensures.memory c.self.invariant.2,
+    )

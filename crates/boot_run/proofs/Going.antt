@@ -1,0 +1,209 @@
+-- From turn to turn, and how the loop over turns ends.
+use Rattle.std.proofs.Common.{◌≡◌, ◌≢◌, ◌⊎◌, ℕ, zero, suc, ◌+◌, ◌<◌, ◌≤◌, Bool, true, false, not, Option, Some, None, List, [], ◌∷◌, ◌++◌, refl, sym, ap, ap₂, ◌∙◌, subst, ⊎_elim, arith, eq-eqb, ne_eqb}
+use Rattle.std.specs.Prelude.{◌==◌, ◌||◌, is_some, IsSome, if◌then◌else◌}
+use Rattle.std.specs.Option.{option_map}
+use Rattle.std.specs.Io.KnownBytes.{append_known}
+use Rattle.std.proofs.lemmas.Bool.{cases_lt}
+use Rattle.mips_table.specs.Device.{Outside}
+use Rattle.mips_table.specs.Machine.{State, run}
+use Rattle.mips_table.specs.Turns.{is_on, complete, lines_of, is_end, IsEnd, end_within, TurnLaws}
+use Rattle.cvm_model.specs.Kernel.{power_of}
+use Rattle.cvm_model.specs.declared.row.Next.{Next}
+use Rattle.cvm_model.specs.Cvm.{System, Status, Running, Halted, Faulted, Cvm, first_cvm}
+use Rattle.layer_contract.specs.Layer.{Rests}
+use Rattle.layer_contract.specs.Follows.{loaded, machine}
+use Rattle.boot_turns.specs.Headline.{Machines, StepBroken, RowBroken, end_of}
+use Rattle.boot_turns.specs.TurnEnds.{Printed}
+use Rattle.boot_turns.specs.declared.answers.View.{View}
+use Rattle.boot_turns.specs.declared.answers.View.TheVariants.{Boot}
+use Rattle.boot_turns.specs.declared.answers.Turn.{Turn}
+use Rattle.boot_turns.specs.declared.answers.RunFault.{RunFault}
+use Rattle.boot_turns.specs.declared.answers.RunFault.TheVariants.{StepLimit, Disk, Sink}
+use Rattle.boot_run.specs.TurnCalls.{ended_of, Around, Ready, Turned, Limited, DiskFailed, PutBroken, SinkFailed, TurnFails}
+use Rattle.boot_run.specs.Whole.{Gone, Late, GoFails}
+
+-- after i turns, at step t, the next call finds the run so, and no end came before
+pub record Going (x : Outside) (y : System) (old : List (List ℕ)) (v : View) (base : Option (List ℕ)) (steps i t : ℕ) (c : Cvm) (now : Around) : Type 0 where
+  pub ready : Ready x y old v base i t c now
+  pub before : (j : ℕ) → j < t → complete x (loaded y old) j < i
+  pub on : (j : ℕ) → j < t → (machine x y old j).off ≡ None
+  pub budget : now.budget + t ≡ steps
+
+abbrev pub Goes : Outside → System → List (List ℕ) → View → Option (List ℕ) → (steps i : ℕ) → Around → Type 0
+Goes x y old v base steps i now = (t : ℕ) × (c : Cvm) × Going x y old v base steps i t c now
+
+pub going_first : (x : Outside) (y : System) (old : List (List ℕ)) (v : View) (base : Option (List ℕ)) (now : Around) → Ready x y old v base 0 0 (first_cvm y) now → Goes x y old v base now.budget 0 now
+going_first x y old v base now ready = (0, first_cvm y, record { ready = ready; before = λ j h. absurd (omega arith); on = λ j h. absurd (omega arith); budget = omega arith })
+
+-- how a run ended tells its status
+pub running_of : (s : Status) → ended_of s ≡ None → s ≡ Running
+running_of Running e = refl
+running_of Halted e = absurd (cc)
+running_of (Faulted f) e = absurd (cc)
+
+pub goes_on : (x : Outside) (y : System) (old : List (List ℕ)) (v : View) (base : Option (List ℕ)) (i t : ℕ) (c : Cvm) (now : Around) → Ready x y old v base i t c now → now.ended ≡ None → c.status ≡ Running
+goes_on x y old v base i t c now r e = running_of c.status (sym r.ended ∙ e)
+
+or_true : (b : Bool) → (b || true) ≡ true
+or_true true = refl
+or_true false = refl
+
+end_at : (x : Outside) (s : State) (k t : ℕ) → complete x s t ≡ k → is_end x s k t ≡ true
+end_at x s k t e = ap (λ b. b || not (is_on (run x s t))) (eq-eqb (complete x s t) k e)
+
+end_off : (x : Outside) (s : State) (k t v : ℕ) → (run x s t).off ≡ Some v → is_end x s k t ≡ true
+end_off x s k t v e = ap (λ o. (complete x s t == k) || not (not (is_some o))) e ∙ or_true _
+
+no_end : (x : Outside) (s : State) (k t : ℕ) → complete x s t ≢ k → (run x s t).off ≡ None → is_end x s k t ≡ false
+no_end x s k t e o = ap₂ (λ (b : Bool) (o : Option ℕ). b || not (not (is_some o))) (ne_eqb (complete x s t) k e) o
+
+-- the next turn is complete
+pub going_next : (x : Outside) (y : System) (old : List (List ℕ)) (v : View) (base : Option (List ℕ)) (steps i t : ℕ) (c : Cvm) (before after : Around) (answer : Turn) →
+    Going x y old v base steps i t c before → Turned x y old v base i t c before after answer → Goes x y old v base steps (i + 1) after
+going_next x y old v base steps i t c before after answer g w =
+    let a = w.ahead in
+    let next : suc i ≡ i + 1 = omega arith in
+    let b0 = g.budget in
+    let b1 = w.budget in (
+      a.end,
+      a.after,
+      record {
+        ready = subst (λ n. Ready x y old v base n a.end a.after after) next w.ready;
+        before = λ j h. ⊎_elim
+            (λ (lt : j < t). let e = g.before j lt in omega (arith, e))
+            (λ (ge : t ≤ j). let e = a.between j ge h in omega (arith, e))
+            (cases_lt j t);
+        on = a.on;
+        budget = omega (arith, b0, b1);
+      },
+    )
+
+-- no end comes before t
+not_before : (x : Outside) (y : System) (old : List (List ℕ)) (v : View) (base : Option (List ℕ)) (turns steps i t : ℕ) (c : Cvm) (now : Around) → i ≤ turns → Going x y old v base steps i t c now →
+    (j : ℕ) → j < t → is_end x (loaded y old) turns j ≡ false
+not_before x y old v base turns steps i t c now le g j h = let b = g.before j h in no_end x (loaded y old) turns j (λ e. omega (arith, b, e)) (g.on j h)
+
+within : (x : Outside) (y : System) (old : List (List ℕ)) (v : View) (base : Option (List ℕ)) (steps i t : ℕ) (c : Cvm) (now : Around) → Going x y old v base steps i t c now → t ≤ steps
+within x y old v base steps i t c now g = let b = g.budget in omega (arith, b)
+
+-- so many turns are complete
+pub go_done : (x : Outside) (y : System) (old : List (List ℕ)) (v : View) (base : Option (List ℕ)) (turns steps i : ℕ) (now : Around) → 1 ≤ turns → i ≡ turns → Goes x y old v base steps i now → Gone x y old v base turns steps now
+go_done x y old v base turns steps zero now some same (t, c, g) = absurd (omega arith)
+go_done x y old v base turns steps (suc k) now some same (t, c, g) = record {
+  count = k;
+  at = t;
+  past = c;
+  ready = g.ready;
+  end = record { here = end_at x (loaded y old) turns t (g.ready.stood.all ∙ same); first = not_before x y old v base turns steps (suc k) t c now (omega arith) g };
+  within = within x y old v base steps (suc k) t c now g;
+}
+
+some_none : (o : Option Next) → o ≡ None → IsSome o → ⊥
+some_none None e h = cc
+some_none (Some n) e h = cc
+
+-- or the run has ended
+off_of : (s : Status) (z : State) → (IsSome (ended_of s)) → Rests s z → (v : ℕ) × (z.off ≡ Some v)
+off_of Running z e r = absurd (cc)
+off_of Halted z e r = (0, r)
+off_of (Faulted f) z e r = (power_of f, r)
+
+pub go_over : (x : Outside) (y : System) (old : List (List ℕ)) → Machines x y old → (v : View) (base : Option (List ℕ)) (turns steps i : ℕ) (now : Around) → i ≤ turns → IsSome now.ended → Goes x y old v base steps i now →
+    Gone x y old v base turns steps now
+go_over x y old m v base turns steps zero now le over (t, c, g) =
+    let first : c ≡ first_cvm y = m.same 0 c (first_cvm y) g.ready.stood.cvm (record { units = 0; is = refl }) in
+    let none : now.ended ≡ None = g.ready.ended ∙ ap (λ (w : Cvm). ended_of w.status) first in
+    absurd (some_none now.ended none over)
+go_over x y old m v base turns steps (suc k) now le over (t, c, g) =
+    let off = off_of c.status (machine x y old t) (subst (λ (o : Option Next). IsSome o) g.ready.ended over) g.ready.stood.rests.0 in
+    record {
+      count = k;
+      at = t;
+      past = c;
+      ready = g.ready;
+      end = record { here = end_off x (loaded y old) turns t off.0 off.1; first = not_before x y old v base turns steps (suc k) t c now le g };
+      within = within x y old v base steps (suc k) t c now g;
+    }
+
+-- the search for the end stops within the steps
+end_most : (x : Outside) (s : State) (k n : ℕ) → end_within x s k n ≤ n
+end_most x s k zero = omega arith
+end_most x s k (suc n) = by (is_end x s k (end_within x s k n)) (end_most x s k n)
+  where
+    by : (b : Bool) → end_within x s k n ≤ n → (if b then end_within x s k n else suc n) ≤ suc n
+    by true h = omega (arith, h)
+    by false h = omega arith
+
+true_false : (b : Bool) → b ≡ true → b ≡ false → ⊥
+true_false b e f = cc
+
+-- where there is no end it is the last step
+pub none_within : TurnLaws → (x : Outside) (s : State) (k n : ℕ) → ((j : ℕ) → j ≤ n → is_end x s k j ≡ false) → (is_end x s k (end_within x s k n) ≡ false) × (end_within x s k n ≡ n)
+none_within counts x s k n h = let e = h (end_within x s k n) (end_most x s k n) in (e, (counts.none x s k n e).0)
+
+module _ (counts : TurnLaws) (x : Outside) (y : System) (old : List (List ℕ)) (v : View) (base : Option (List ℕ)) (turns steps i t : ℕ) (c : Cvm) (before after : Around) (lt : i < turns) (g : Going x y old v base steps i t c before) where
+  late : Limited x y old v base i t before after → Late x y old v base turns steps after
+  late w =
+      let b = g.budget in
+      let same : t + before.budget ≡ steps = omega (arith, b) in
+      let none : (j : ℕ) → j ≤ steps → is_end x (loaded y old) turns j ≡ false = λ j h. ⊎_elim
+      (λ (l : j < t). not_before x y old v base turns steps i t c before (omega arith) g j l)
+      (λ (ge : t ≤ j). let e = w.between j ge (omega (arith, same)) in no_end x (loaded y old) turns j (λ f. omega (arith, e, f)) (w.on j (omega (arith, same))))
+      (cases_lt j t) in
+      let e = none_within counts x (loaded y old) turns steps none in
+      let here : t + before.budget ≡ end_of x y old turns steps = same ∙ sym e.1 in
+      record {
+        none = e.0;
+        state = w.state ∙ ap (λ n. Some (machine x y old n)) here;
+        shown = w.shown;
+        printed = subst (λ n. Printed x y old v n w.shown) here w.printed;
+        text = w.text;
+      }
+
+  step_broken : (w : DiskFailed x y old v base i t before after) → StepBroken x y old w.torn.0 v turns steps w.shown
+  step_broken w =
+      let b0 = g.budget in
+      let b1 = w.budget in
+      record {
+        at = w.at;
+        less = omega (arith, b0, b1);
+        goes_on = λ j h. ⊎_elim
+            (λ (l : j < t). not_before x y old v base turns steps i t c before (omega arith) g j l)
+            (λ (ge : t ≤ j). let e = w.between j ge h in no_end x (loaded y old) turns j (λ f. omega (arith, e, f)) (w.on j h))
+            (cases_lt j t);
+        sectors = w.torn.2;
+        printed = w.printed;
+      }
+
+  row_broken : v ≡ Boot → (w : SinkFailed x y old v base i t c before after) → RowBroken x y old (machine x y old w.at).device.sectors turns steps w.shown
+  row_broken view w =
+      let p = subst (λ (v : View). PutBroken x y old v i t c w.at w.shown) view w.printed in
+      let a = p.0 in
+      let at : w.at ≡ a.end = p.1 in
+      let b0 = g.budget in
+      let b1 = w.budget in
+      record {
+        count = i;
+        less = lt;
+        end = a.end;
+        most = omega (arith, b0, b1, at);
+        past = c;
+        cvm = g.ready.stood.cvm;
+        after = a.after;
+        first = record {
+          here = end_at x (loaded y old) (suc i) a.end a.stood.all;
+          first = λ j h. no_end x (loaded y old) (suc i) j
+              (λ e. ⊎_elim (λ (l : j < t). let d = g.before j l in omega (arith, d, e)) (λ (ge : t ≤ j). let d = a.between j ge h in omega (arith, d, e)) (cases_lt j t))
+              (a.on j h);
+        };
+        stood = a.stood;
+        row = p.3.0;
+        dispatches = p.3.1;
+        sectors = ap (λ n. (machine x y old n).device.sectors) at;
+        printed = p.2;
+      }
+
+  pub go_fails : v ≡ Boot → (f : RunFault) → TurnFails x y old v base i t c before after f → GoFails x y old v base turns steps after f
+  go_fails view StepLimit w = late w
+  go_fails view Disk w = (w.shown, w.torn.0, w.torn.1, step_broken w, w.text)
+  go_fails view Sink w = (w.shown, (machine x y old w.at).device.sectors, ap (option_map (λ (s : State). s.device.sectors)) w.state, row_broken view w, w.text)

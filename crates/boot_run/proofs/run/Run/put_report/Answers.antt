@@ -1,0 +1,41 @@
+use Rattle.std.proofs.Common.{◌≡◌, ◌∙◌, ap, sym, List, length}
+use Rattle.c0_tree.specs.declared.tree.Unit.{Unit as Source}
+use Rattle.c0_tree.specs.declared.tree.Decl.{Decl}
+use Rattle.boot_turns.specs.declared.answers.RunFault.TheVariants.{StepLimit, Disk, Sink}
+use Rattle.boot_run.proofs.Room.{many, inside}
+use Rattle.boot_run.proofs.Reports.{now_printed, now_broken}
+use Rattle.boot_run.proofs.run.Run.put_report.Goals as goal
+
+pub put_closing-requires-clause-many : goal.put_closing-requires-clause-many
+put_closing-requires-clause-many g c =
+    many c.self.inside.boot c.self.inside.places.map c.self.inside.places.offsets.items c.self.inside.machine.hardware.memory c.self.inside.count c.self.invariant.2
+    ∙ sym (ap (λ (ds : List Decl). length ds) (c.as_slice-decls.ensures.value ∙ ap (λ (u : Source). u.globals.items) c.unit.ensures.same))
+
+pub put_closing-requires-clause-inside : goal.put_closing-requires-clause-inside
+put_closing-requires-clause-inside g c =
+    inside c.self.inside.boot c.self.inside.places.map c.self.inside.places.offsets.items c.self.inside.machine.hardware.memory c.self.inside.count c.self.invariant.2
+    (c.parts_are_in_order.ensures c.self.inside.places.map c.self.invariant.2.range)
+
+pub returns-in-Ok-clause-ends : goal.returns-in-Ok-clause-ends
+returns-in-Ok-clause-ends g c =
+    now_printed c.args.self.now _ c.self.view_is (g.D.Sectors.size c.args.disk.now) (g.D.Sectors.sectors c.args.disk.now) (g.D.Sectors.sectors c.put_closing.new.disk) (g.O.Sink.text c.args.out.now) (g.O.Sink.text c.put_closing.new.out)
+    c.requires.view c.requires.goes_on c.machines_run.ensures c.runs_stay_typed.ensures c.the_rows_tell.ensures c.the_globals_tell.ensures c.unit.ensures.well_formed
+    c.self.inside.places.map c.self.inside.places.offsets.items c.self.invariant.2 c.put_closing.new.machine c.put_closing.ensures.same c.put_closing.ensures.sectors
+    c.is_some-halted.result c.is_some-halted.ensures c.as_slice-decls.result.now (c.as_slice-decls.ensures.value ∙ ap (λ (u : Source). u.globals.items) c.unit.ensures.same)
+    c.in-Ok.ensures.ok
+
+pub returns-in-Err-Disk-clause-ends : goal.returns-in-Err-Disk-clause-ends
+returns-in-Err-Disk-clause-ends g c =
+    now_broken c.args.self.now _ c.self.view_is (g.D.Sectors.size c.args.disk.now) (g.D.Sectors.sectors c.args.disk.now) (g.D.Sectors.sectors c.put_closing.new.disk) (g.O.Sink.text c.args.out.now) (g.O.Sink.text c.put_closing.new.out)
+    c.requires.view c.requires.goes_on c.machines_run.ensures c.runs_stay_typed.ensures c.the_rows_tell.ensures c.the_globals_tell.ensures c.unit.ensures.well_formed
+    c.self.inside.places.map c.self.inside.places.offsets.items c.self.invariant.2 c.put_closing.new.machine c.put_closing.ensures.same c.put_closing.ensures.sectors
+    c.is_some-halted.result c.is_some-halted.ensures c.as_slice-decls.result.now (c.as_slice-decls.ensures.value ∙ ap (λ (u : Source). u.globals.items) c.unit.ensures.same)
+    Disk (λ h. cc) c.in-Err-Disk.ensures.err
+
+pub returns-in-Err-Sink-clause-ends : goal.returns-in-Err-Sink-clause-ends
+returns-in-Err-Sink-clause-ends g c =
+    now_broken c.args.self.now _ c.self.view_is (g.D.Sectors.size c.args.disk.now) (g.D.Sectors.sectors c.args.disk.now) (g.D.Sectors.sectors c.put_closing.new.disk) (g.O.Sink.text c.args.out.now) (g.O.Sink.text c.put_closing.new.out)
+    c.requires.view c.requires.goes_on c.machines_run.ensures c.runs_stay_typed.ensures c.the_rows_tell.ensures c.the_globals_tell.ensures c.unit.ensures.well_formed
+    c.self.inside.places.map c.self.inside.places.offsets.items c.self.invariant.2 c.put_closing.new.machine c.put_closing.ensures.same c.put_closing.ensures.sectors
+    c.is_some-halted.result c.is_some-halted.ensures c.as_slice-decls.result.now (c.as_slice-decls.ensures.value ∙ ap (λ (u : Source). u.globals.items) c.unit.ensures.same)
+    Sink (λ h. cc) c.in-Err-Sink.ensures.err

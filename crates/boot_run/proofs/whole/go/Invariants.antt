@@ -1,0 +1,16 @@
+use Rattle.std.proofs.Common.{◌≡◌, ◌+◌, ◌≤◌, None}
+use Rattle.boot_run.specs.TurnCalls.{around, KeepsLoad}
+use Rattle.boot_run.proofs.Looping.{KeepsGoing}
+use Rattle.boot_run.proofs.whole.go.Given as goal
+
+abbrev pub invariant-loop-k : goal.invariant-loop-k
+invariant-loop-k g l = record {
+  kept : KeepsLoad l.fn.run l.run;
+  fault : l.run.fault ≡ None;
+  size : g.D.Sectors.size l.disk ≡ g.D.Sectors.size l.fn.disk;
+  time : l.run.machine.time + l.budget ≤ l.fn.run.machine.time + l.fn.budget;
+  disk : g.D.Sectors.faults l.disk ≡ g.D.Sectors.faults l.fn.disk;
+  sink : g.O.Sink.faults l.out ≡ g.O.Sink.faults l.fn.out;
+  going : KeepsGoing (g.D.Sectors.size l.fn.disk) l.fn.run (around l.fn.run (g.D.Sectors.sectors l.fn.disk) l.fn.budget (g.O.Sink.text l.fn.out)) l.k
+      (around l.run (g.D.Sectors.sectors l.disk) l.budget (g.O.Sink.text l.out));
+}

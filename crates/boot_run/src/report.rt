@@ -1,0 +1,92 @@
+// The end and the report of a run, printed from its machine.
+ghost use Rattle.std.specs.Prelude.{◌≡◌, ◌≢◌, ℕ, ◌+◌, ◌*◌, ◌<◌, ◌≤◌, List, length, slice_index, Some, Err, OnOk, OnErr};
+ghost use Rattle.std.specs.Io.KnownBytes.{append_known};
+ghost use Rattle.cvm_outside.specs.Causes.{Counts, Rose};
+ghost use Rattle.cvm_outside.specs.Told.{AppendsPart};
+ghost use Rattle.layer_map.specs.Map.{globals_at, memory_words};
+ghost use Rattle.mips_machine.specs.Machine.{state_of};
+ghost use Rattle.boot_report.specs.Texts.{EntriesFit, SameButViewed};
+ghost use Rattle.boot_run.specs.Report.{end_row, kernel_rows, runs_now, closing_rows};
+
+use crate::places::Places;
+use boot_report::{ReportFault, put_globals, put_log, put_users};
+use c0_tree::Decl;
+use cvm_outside::{Sectors, Sink, SinkFault};
+use mips_machine::Machine;
+
+/// Prints whether a run halted or goes on.
+fn put_end<O: Sink>(halted: bool, out: &mut O) -> Result<(), SinkFault>
+    ensures ok { OnOk result (O.text out.new ≡ append_known (O.text out.old) (end_row halted)) }
+    ensures err { OnErr result (AppendsPart (O.text out.old) (O.text out.new) (end_row halted)) }
+    ensures count { Counts (O.faults out.old) (O.faults out.new) result }
+{
+    if halted {
+        return out.put(b"halted\n");
+    }
+    out.put(b"stopped\n")
+}
+
+/// Prints the end, the globals and the console's log.
+fn put_kernel<O: Sink>(
+    machine: &Machine,
+    places: &Places,
+    decls: &[Decl],
+    halted: bool,
+    out: &mut O,
+) -> Result<(), SinkFault>
+    requires many { length places.now.offsets.items ≡ length decls.now }
+    requires memory { memory_words places.now.map ≤ length machine.now.hardware.memory }
+    requires small { memory_words places.now.map ≤ 30000000 }
+    requires inside { (i : ℕ) → i < length places.now.offsets.items → globals_at places.now.map + slice_index places.now.offsets.items i < memory_words places.now.map }
+    ensures ok { OnOk result (O.text out.new ≡ append_known (O.text out.old) (kernel_rows halted machine.now places.now.map places.now.offsets.items decls.now)) }
+    ensures err { OnErr result (AppendsPart (O.text out.old) (O.text out.new) (kernel_rows halted machine.now places.now.map places.now.offsets.items decls.now)) }
+    ensures count { Counts (O.faults out.old) (O.faults out.new) result }
+{
+    put_end(halted, out)?;
+    put_globals(machine, &places.map, &places.offsets, decls, out)?;
+    put_log(machine.log(), out)?;
+    Ok(())
+}
+
+/// The user that the machine of a run runs between turns: the current one, and once it halted none, 0.
+fn runs_now(halted: bool, current: u32) -> u32
+    ensures { result ≡ runs_now halted current }
+{
+    if halted { 0 } else { current }
+}
+
+/// Prints the end and the report of a run that halted, or goes on with this current user.
+///
+/// # Errors
+///
+/// A fault of the disk or of the sink.
+pub(crate) fn put_closing<D: Sectors, O: Sink>(
+    machine: &mut Machine,
+    places: &Places,
+    decls: &[Decl],
+    halted: bool,
+    current: u32,
+    disk: &mut D,
+    out: &mut O,
+) -> Result<(), ReportFault>
+    requires many { length places.now.offsets.items ≡ length decls.now }
+    requires users { places.now.map.users ≤ 64 }
+    requires memory { memory_words places.now.map ≤ length machine.old.hardware.memory }
+    requires small { memory_words places.now.map ≤ 30000000 }
+    requires inside { (i : ℕ) → i < length places.now.offsets.items → globals_at places.now.map + slice_index places.now.offsets.items i < memory_words places.now.map }
+    requires all { places.now.map.users * places.now.map.params.pages ≤ 65536 }
+    requires room { places.now.map.users * places.now.map.params.pages ≤ D.size disk.old }
+    ensures ok { (ss : List (List ℕ)) → D.sectors disk.old ≡ Some ss → EntriesFit places.now.map (state_of machine.old ss) → OnOk result (O.text out.new ≡ append_known (O.text out.old) (closing_rows halted current machine.old ss places.now.map places.now.offsets.items decls.now)) }
+    ensures err { (ss : List (List ℕ)) → D.sectors disk.old ≡ Some ss → EntriesFit places.now.map (state_of machine.old ss) → OnErr result (AppendsPart (O.text out.old) (O.text out.new) (closing_rows halted current machine.old ss places.now.map places.now.offsets.items decls.now)) }
+    ensures same { SameButViewed machine.old machine.new }
+    ensures sectors { D.sectors disk.new ≡ D.sectors disk.old }
+    ensures size { D.size disk.new ≡ D.size disk.old }
+    ensures disk { result ≡ Err ReportFault.Disk → Rose (D.faults disk.old) (D.faults disk.new) }
+    ensures disk_same { result ≢ Err ReportFault.Disk → D.faults disk.new ≡ D.faults disk.old }
+    ensures sink { result ≡ Err ReportFault.Sink → Rose (O.faults out.old) (O.faults out.new) }
+    ensures sink_same { result ≢ Err ReportFault.Sink → O.faults out.new ≡ O.faults out.old }
+{
+    put_kernel(machine, places, decls, halted, out)?;
+    let running = runs_now(halted, current);
+    put_users(machine, &places.map, running, disk, out)
+}

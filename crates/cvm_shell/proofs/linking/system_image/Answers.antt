@@ -1,0 +1,65 @@
+use Rattle.std.proofs.Common.{◌≡◌, ◌<◌, ◌∙◌, length, map, subst, ap, rules, List, ℕ, min, Err, Vec, Global}
+use Rattle.std.specs.Prelude.{Option, IfSome}
+use Rattle.std.specs.Option.{IsSome}
+use Rattle.std.proofs.lemmas.Result.{err_from_is_err_and}
+use Rattle.cvm_outside.specs.Told.{TOO_LONG, Tells}
+use Rattle.cvm_outside.specs.declared.shelf.ShelfFault.{ShelfFault}
+use Rattle.cvm_shell.specs.Plan.{GotAll, AreTold, AfterSystem}
+use Rattle.cvm_shell.specs.Stages.{linked_to}
+use Rattle.cvm_shell.specs.Views.{link_view}
+use Rattle.cvm_shell.proofs.Plans.{got_fault}
+use Rattle.cvm_shell.proofs.GotFiles.{fetched_moved, not_fetched_moved, unfetched_plan}
+use Rattle.cvm_shell.proofs.LinkPlans.{object_got, params_got, system_got}
+use Rattle.cvm_shell.proofs.linking.system_image.Goals as goal
+
+pub returns-in_err-object-clause-comes : goal.returns-in_err-object-clause-comes
+returns-in_err-object-clause-comes g c =
+    let p = err_from_is_err_and c.from_residual.result c.from_residual.ensures.1 in
+    rw (p.1, p.2) (got_fault _ _ _ _ c.in_err-object.field-0.0 (λ told. told.0)
+    (λ e. c.in_err-object.ensures.long.0 (ap (λ (x : ShelfFault). Err x) e))
+    (λ e. c.in_err-object.ensures.told_long (ap (λ (x : ShelfFault). Err x) e)))
+
+pub returns-in_err-params-clause-comes : goal.returns-in_err-params-clause-comes
+returns-in_err-params-clause-comes g c =
+    let p = err_from_is_err_and c.from_residual-in_err-params.result c.from_residual-in_err-params.ensures.1 in
+    let l = link_view c.args.names.now in
+    let told = g.S.Shelf.file c.args.shelf.now in
+    let object = c.in_ok-object.object.items in
+    let short : length c.in_ok-object.object.items < TOO_LONG = search rules in
+    rw (p.1, p.2) (object_got g.M.LayerMaker.made told l object _ c.in_ok-object.ensures.bytes short
+    (got_fault (told l.params) (λ ps. GotAll told l.users (AfterSystem g.M.LayerMaker.made l.image object ps)) (IsSome (told l.params) × AreTold told l.users) _ c.in_err-params.field-0.0 (λ k. k.0)
+    (λ e. c.in_err-params.ensures.long.0 (ap (λ (x : ShelfFault). Err x) e))
+    (λ e. let P : Option (List ℕ) → Type 0 = λ o. IfSome o (λ bs. g.S.Shelf.taken c.get-2.new.self ≡ min (length bs) TOO_LONG) in
+    subst P (c.in_ok-object.ensures.files c.args.names.now.params.now) (c.in_err-params.ensures.told_long (ap (λ (x : ShelfFault). Err x) e)))))
+
+pub returns-in_err-users-clause-comes : goal.returns-in_err-users-clause-comes
+returns-in_err-users-clause-comes g c =
+    let p = err_from_is_err_and c.from_residual-in_err-users.result c.from_residual-in_err-users.ensures.1 in
+    let l = link_view c.args.names.now in
+    let told = g.S.Shelf.file c.args.shelf.now in
+    let object = c.in_ok-object.object.items in
+    let params = c.in_ok-params.params.items in
+    let short : length c.in_ok-object.object.items < TOO_LONG = search rules in
+    let few : length c.in_ok-params.params.items < TOO_LONG = search rules in
+    let tells : Tells (told l.params) params =
+    let P : Option (List ℕ) → Type 0 = λ o. Tells o params in
+    subst P (c.in_ok-object.ensures.files c.args.names.now.params.now) c.in_ok-params.ensures.bytes in
+    rw (p.1, p.2) (params_got g.M.LayerMaker.made told l object params _ c.in_ok-object.ensures.bytes short tells few
+    (unfetched_plan told l.users (AfterSystem g.M.LayerMaker.made l.image object params) c.in_err-users.field-0.0
+    (not_fetched_moved told _ (λ n. c.in_ok-params.ensures.files n ∙ c.in_ok-object.ensures.files n) l.users c.in_err-users.field-0.0 c.in_err-users.ensures.stops)))
+
+pub returns-clause-comes : goal.returns-clause-comes
+returns-clause-comes g c =
+    let l = link_view c.args.names.now in
+    let told = g.S.Shelf.file c.args.shelf.now in
+    let object = c.in_ok-object.object.items in
+    let params = c.in_ok-params.params.items in
+    let users = map (λ (b : Vec ℕ Global). b.items) c.in_ok-users.users.items in
+    let short : length c.in_ok-object.object.items < TOO_LONG = search rules in
+    let few : length c.in_ok-params.params.items < TOO_LONG = search rules in
+    let tells : Tells (told l.params) params =
+    let P : Option (List ℕ) → Type 0 = λ o. Tells o params in
+    subst P (c.in_ok-object.ensures.files c.args.names.now.params.now) c.in_ok-params.ensures.bytes in
+    system_got (linked_to l) g.M.LayerMaker.made told l object params users c.linked_image.result c.in_ok-object.ensures.bytes short tells few
+    (fetched_moved told _ (λ n. c.in_ok-params.ensures.files n ∙ c.in_ok-object.ensures.files n) l.users users c.in_ok-users.ensures.got)
+    (rw (c.deref.ensures.value, c.deref-2.ensures.value, c.deref-3.ensures.value) at (c.linked_image.ensures.comes l))

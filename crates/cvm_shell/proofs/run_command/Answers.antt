@@ -1,0 +1,30 @@
+use Rattle.std.proofs.Common.{refl, subst}
+use Rattle.cvm_shell.specs.declared.command.Command.{Command}
+use Rattle.cvm_shell.specs.Command.{IsCommand, texts}
+use Rattle.cvm_shell.specs.Outside.{drive}
+use Rattle.cvm_shell.specs.Views.{command_view}
+use Rattle.cvm_shell.proofs.Endings.{bad_words_end}
+use Rattle.cvm_shell.proofs.run_command.Goals as goal
+
+pub returns-in-None-clause-ends : goal.returns-in-None-clause-ends
+returns-in-None-clause-ends g c = bad_words_end _ _ _ _ c.in-None.ensures.none (record { files = λ n. refl; disk = record { sectors = refl; size = refl } }) c.say.ensures.cases c.say.ensures.whole c.say.ensures.part
+
+pub returns-in-Some-Boot-clause-ends : goal.returns-in-Some-Boot-clause-ends
+returns-in-Some-Boot-clause-ends g c =
+    let P : Command → Type 0 = λ x. IsCommand (texts c.args.words.now.items) (command_view x) in
+    c.run_boot.ensures.ends _ (subst P c.in-Some-Boot.field-0-is c.in-Some-Boot.ensures.found)
+
+pub returns-in-Some-CompileUser-clause-ends : goal.returns-in-Some-CompileUser-clause-ends
+returns-in-Some-CompileUser-clause-ends g c =
+    let P : Command → Type 0 = λ x. IsCommand (texts c.args.words.now.items) (command_view x) in
+    c.compile_user.ensures.ends _ (drive g.D.Sectors c.args.disk.now) (subst P c.in-Some-CompileUser.field-0-is c.in-Some-CompileUser.ensures.found)
+
+pub returns-in-Some-CompileKernel-clause-ends : goal.returns-in-Some-CompileKernel-clause-ends
+returns-in-Some-CompileKernel-clause-ends g c =
+    let P : Command → Type 0 = λ x. IsCommand (texts c.args.words.now.items) (command_view x) in
+    c.compile_kernel.ensures.ends _ (drive g.D.Sectors c.args.disk.now) (subst P c.in-Some-CompileKernel.field-0-is c.in-Some-CompileKernel.ensures.found)
+
+pub returns-in-Some-Link-clause-ends : goal.returns-in-Some-Link-clause-ends
+returns-in-Some-Link-clause-ends g c =
+    let P : Command → Type 0 = λ x. IsCommand (texts c.args.words.now.items) (command_view x) in
+    c.link_system.ensures.ends _ (drive g.D.Sectors c.args.disk.now) (subst P c.in-Some-Link.field-0-is c.in-Some-Link.ensures.found)
