@@ -1,9 +1,8 @@
 -- Files that are got one after the other: what comes of all of them, or of the first that is too long.
-use Rattle.std.proofs.Common.{◌≡◌, ◌≢◌, ◌⊎◌, inl, inr, ℕ, zero, suc, ◌<◌, ◌≤◌, min, List, [], ◌∷◌, ◌++◌, ◌+◌, length, map, take, drop, get_or, Vec, refl, sym, ap, ◌∙◌, subst, arith}
+use Rattle.std.proofs.Common.{◌≡◌, inl, inr, ℕ, zero, suc, ◌<◌, ◌≤◌, min, List, [], ◌∷◌, ◌++◌, ◌+◌, length, map, take, drop, get_or, Vec, refl, sym, ap, ◌∙◌, subst, arith}
 use Rattle.std.specs.Prelude.{Option, IfSome, ⊤, string_bytes}
 use Rattle.std.specs.declared.string.String.{String}
 use Rattle.std.specs.declared.alloc.Global.{Global}
-use Rattle.std.specs.Option.{IsSome}
 use Rattle.cvm_outside.specs.Told.{TOO_LONG, Tells}
 use Rattle.cvm_outside.specs.declared.shelf.ShelfFault.{ShelfFault}
 use Rattle.cvm_outside.specs.declared.shelf.ShelfFault.TheVariants.{Failed, TooLong as Long, Memory as NoMemory}
@@ -12,7 +11,7 @@ use Rattle.cvm_shell.specs.declared.boot.Stop.TheVariants.{Refused, Shelf, Memor
 use Rattle.cvm_shell.specs.declared.refusal.Refusal.{Refusal as ByCode}
 use Rattle.cvm_shell.specs.Command.{texts}
 use Rattle.cvm_shell.specs.Refusal.{too_long}
-use Rattle.cvm_shell.specs.Plan.{Plan, refuses, Got, GotAll, AreTold, IsPlan}
+use Rattle.cvm_shell.specs.Plan.{Plan, refuses, GotAll, AreTold, IsPlan}
 use Rattle.cvm_shell.specs.Stages.{stop_of, Fetched, LongAmong, NotFetched}
 use Rattle.cvm_shell.specs.Views.{refusal_view, IfRefused}
 use Rattle.cvm_shell.proofs.Plans.{got_whole, got_long, long_contents}

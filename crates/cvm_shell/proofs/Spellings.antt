@@ -1,6 +1,6 @@
 -- A text spells one number at most, and one that spells a number is read whole. So the words of a command are those of one boot.
 use Rattle.std.proofs.Common.{◌≡◌, ℕ, ◌+◌, ◌<◌, ◌≤◌, ◌^◌, List, [], ◌∷◌, ◌++◌, length, drop, refl, sym, ap, ◌∙◌, arith, append-nil, Some}
-use Rattle.std.specs.Prelude.{decimal, codes}
+use Rattle.std.specs.Prelude.{decimal, codes, slice_index}
 use Rattle.std.specs.List.{prefix_len}
 use Rattle.std.specs.Char.{is_ascii_digit}
 use Rattle.std.proofs.lemmas.Fmt.{decimal_injective}
@@ -111,14 +111,27 @@ boot_or_kernel words b c one other = let e = sym one.spelled ∙ other.spelled i
 user_or_kernel : (words : List (List ℕ)) (c : CompileUser) (d : CompileKernel) → IsCompileUser words c → IsCompileKernel words d → ⊥
 user_or_kernel words c d one other = let e = sym one.spelled ∙ other.spelled in cc
 
+-- nor of two first words
+same_first : (a b : List ℕ) (rest more : List (List ℕ)) → a ∷ rest ≡ b ∷ more → a ≡ b
+same_first a b rest more e = cc
+
 pub boot_or_link : (words : List (List ℕ)) (b : Boot) (l : Link) → IsBoot words b → IsLink words l → ⊥
-boot_or_link words b l one other = let e = sym one.spelled ∙ other.spelled in cc
+boot_or_link words b l one other =
+    let e : codes "boot" ≡ codes "link" = same_first _ _ _ _ (sym one.spelled ∙ other.spelled) in
+    let letter : 98 ≡ 108 = ap (λ (xs : List ℕ). slice_index xs 0) e in
+    omega (arith, letter)
 
 user_or_link : (words : List (List ℕ)) (c : CompileUser) (l : Link) → IsCompileUser words c → IsLink words l → ⊥
-user_or_link words c l one other = let e = sym one.spelled ∙ other.spelled in cc
+user_or_link words c l one other =
+    let e : codes "compile" ≡ codes "link" = same_first _ _ _ _ (sym one.spelled ∙ other.spelled) in
+    let letter : 99 ≡ 108 = ap (λ (xs : List ℕ). slice_index xs 0) e in
+    omega (arith, letter)
 
 kernel_or_link : (words : List (List ℕ)) (c : CompileKernel) (l : Link) → IsCompileKernel words c → IsLink words l → ⊥
-kernel_or_link words c l one other = let e = sym one.spelled ∙ other.spelled in cc
+kernel_or_link words c l one other =
+    let e : codes "compile" ≡ codes "link" = same_first _ _ _ _ (sym one.spelled ∙ other.spelled) in
+    let letter : 99 ≡ 108 = ap (λ (xs : List ℕ). slice_index xs 0) e in
+    omega (arith, letter)
 
 -- the words of a command are those of one
 pub one_boot : (words : List (List ℕ)) (b c : Boot) → IsBoot words b → IsBoot words c → b ≡ c

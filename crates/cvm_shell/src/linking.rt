@@ -1,8 +1,6 @@
 // The image of a system: its object, parameters and users, read and linked.
 ghost use Rattle.std.specs.Prelude.{◌≡◌, ◌≢◌, ◌↔◌, ⊤, ℕ, List, map, IfOk, IfErr, IsErrOf};
-ghost use Rattle.boot_image.specs.Format.{HasSpelling};
 ghost use Rattle.cvm_outside.specs.Told.{TOO_LONG};
-ghost use Rattle.object_file.specs.Parts.{Parts as LinkedObject};
 ghost use Rattle.cvm_shell.specs.Command as Command;
 ghost use Rattle.cvm_shell.specs.Command.{texts};
 ghost use Rattle.cvm_shell.specs.Plan.{AfterParts, AfterSystem, IsPlan};

@@ -1,4 +1,4 @@
-use Rattle.std.proofs.Common.{◌≡◌, ◌<◌, ◌∙◌, ◌++◌, ◌∷◌, [], ℕ, suc, List, Vec, Global, length, map, min, take, drop, Err, ap, subst, rules}
+use Rattle.std.proofs.Common.{◌≡◌, ◌<◌, ◌∙◌, ◌++◌, ◌∷◌, [], ℕ, suc, List, length, min, take, drop, Err, ap, subst, rules}
 use Rattle.std.specs.Prelude.{Option, IfSome, string_bytes}
 use Rattle.std.proofs.lemmas.Result.{err_from_is_err_and}
 use Rattle.cvm_outside.specs.Told.{TOO_LONG, Tells}

@@ -1,4 +1,4 @@
-use Rattle.std.proofs.Common.{Ok, Err, map, ℕ, Vec, Global}
+use Rattle.std.proofs.Common.{map, ℕ, Vec, Global}
 use Rattle.std.proofs.lemmas.Result.{err_from_is_err_and}
 use Rattle.cvm_shell.specs.Stages.{linked_to}
 use Rattle.cvm_shell.proofs.Plans.{if_refused, if_plan}
