@@ -1,6 +1,6 @@
 -- The rows of words that are put one after another.
-use Rattle.std.proofs.Common.{◌≡◌, ℕ, zero, suc, ◌+◌, ◌-◌, ◌*◌, ◌/◌, ◌<◌, ◌≤◌, Bool, true, false, Option, List, [], ◌∷◌, ◌++◌, length, take, drop, refl, sym, ap, ap₂, ◌∙◌, subst, arith, append-nil, ne_eqb}
-use Rattle.std.specs.Prelude.{◌==◌, slice_index}
+use Rattle.std.proofs.Common.{◌≡◌, ℕ, zero, suc, ◌+◌, ◌-◌, ◌*◌, ◌/◌, ◌<◌, ◌≤◌, false, Option, List, [], ◌∷◌, ◌++◌, length, take, drop, refl, sym, ap, ap₂, ◌∙◌, subst, arith, append-nil, ne_eqb}
+use Rattle.std.specs.Prelude.{◌==◌}
 use Rattle.std.specs.Io.KnownBytes.{append_known}
 use Rattle.std.proofs.lemmas.List.{append_assoc, get_or-drop, length-drop, take_more}
 use Rattle.std.proofs.lemmas.Bool.{cond-false}
@@ -8,7 +8,7 @@ use Rattle.cvm_outside.specs.Told.{AppendsPart}
 use Rattle.cvm_outside.proofs.Parts.{append_known-nil, puts-both, part-front, part-back}
 use Rattle.layer_map.specs.Map.{Map}
 use Rattle.page_model.specs.Paging.{Paged}
-use Rattle.cvm_model.specs.Kernel.{JournalEntry, Put}
+use Rattle.cvm_model.specs.Kernel.{Put}
 use Rattle.cvm_model.specs.Primitives.{puts}
 use Rattle.cvm_model.specs.Text.{steps_row, entry_row, journal_rows_after}
 use Rattle.mips_machine.specs.Machine.{Held, state_of}

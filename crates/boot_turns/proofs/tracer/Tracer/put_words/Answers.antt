@@ -2,7 +2,7 @@ use Rattle.std.proofs.Common.{◌+◌, ◌*◌, ◌/◌, ◌<◌, ◌≤◌, ref
 use Rattle.mips_machine.specs.Machine.{state_of}
 use Rattle.cvm_model.specs.Paged.{paged_of}
 use Rattle.boot_turns.proofs.Puts.{is_err}
-use Rattle.boot_turns.proofs.Copying.{one_put, part_put, stop_put, none_put, left_none, put_tracer, same_twice, fits_then, row_read}
+use Rattle.boot_turns.proofs.Copying.{one_put, part_put, stop_put, none_put, put_tracer, same_twice, fits_then, row_read}
 use Rattle.boot_turns.proofs.tracer.Tracer.put_words.Goals as goal
 
 pub loop-i-init : goal.loop-i-init
