@@ -1,6 +1,6 @@
 -- The exits of a boot: how the run of an accepted system ends, and the headline, which follows from how a command ends and why.
-use Rattle.std.proofs.Common.{◌≡◌, ◌≢◌, ◌⊎◌, inl, inr, ℕ, ◌<◌, ◌≤◌, ◌*◌, List, [], ◌∷◌, refl, sym, ap, ◌∙◌, length, map, subst, Some, None, Ok, Err, arith}
-use Rattle.std.specs.Prelude.{Option, Result, IfSome, IfOk, IfErr}
+use Rattle.std.proofs.Common.{◌≡◌, ◌≢◌, ◌⊎◌, inl, inr, Bool, true, false, ℕ, ◌<◌, ◌≤◌, ◌*◌, List, [], ◌∷◌, refl, sym, ap, ◌∙◌, length, map, subst, Some, None, Ok, Err, arith}
+use Rattle.std.specs.Prelude.{Option, Result, IfSome, IfOk, IfErr, if◌then◌else◌}
 use Rattle.std.specs.Option.{IsSome}
 use Rattle.std.specs.Io.KnownBytes.{append_known}
 use Rattle.std.proofs.lemmas.List.{length-map}
@@ -13,8 +13,11 @@ use Rattle.layer_runs.specs.Image.{layer_image}
 use Rattle.layer_contract.specs.declared.boot.Boot.{Boot as Booted}
 use Rattle.boot_turns.specs.declared.answers.View.TheVariants.{Boot as whole_boot}
 use Rattle.boot_turns.specs.Headline as headline
-use Rattle.boot_turns.specs.Headline.{Ending}
+use Rattle.boot_turns.specs.Headline.{Ending, ending_of}
+use Rattle.mips_table.specs.Turns.{is_end, end_within, TurnLaws}
 use Rattle.mips_machine.specs.Steps.{outside_of}
+use Rattle.cvm_model.specs.Cvm.{Cvm, Status as CvmStatus, Running, Halted, Faulted}
+use Rattle.layer_contract.specs.Follows.{loaded}
 use Rattle.boot_run.specs.Loading.{system_of as run_of}
 use Rattle.boot_run.specs.LoadEnds.{pages_needed, HasRoom, LoadFails}
 use Rattle.boot_run.specs.Whole.{ending_of_end, ending_of_answer, BootEnds, WholeEnds, WholeGoesOn, IsDiskFault}
@@ -24,12 +27,12 @@ use Rattle.boot_run.specs.declared.whole.RunEnd.{RunEnd}
 use Rattle.boot_run.specs.declared.whole.RunEnd.TheVariants as ends
 use Rattle.kernel_linker.specs.Accept.{System, system_of}
 use Rattle.cvm_shell.specs.declared.status.Status.{Status}
-use Rattle.cvm_shell.specs.declared.status.Status.TheVariants.{Disk, Shelf, Sink, Memory}
+use Rattle.cvm_shell.specs.declared.status.Status.TheVariants.{Done, KernelFault, Disk, Shelf, Sink, Memory}
 use Rattle.cvm_shell.specs.Command.{Boot, Command, boot, IsBoot, IsCommand}
 use Rattle.cvm_shell.specs.Outside.{Outside, SameSectors, Leaves, Says}
 use Rattle.cvm_shell.specs.Refusal.{small_disk, refusal_text}
 use Rattle.cvm_shell.specs.Plan.{Plan, boots, scheduled_plan, BootPlan, whole, ComesTo, boot_plan, GetsTold, AllTold, IsPlan}
-use Rattle.cvm_shell.specs.Boot.{sectors_needed, ended_as, Runs, IsRun, RunEnds, small, run, Headline, IsHonest}
+use Rattle.cvm_shell.specs.Boot.{booted, around, IsBooted, sectors_needed, ended_as, Runs, IsRun, RunEnds, small, run, Headline, IsHonest}
 use Rattle.cvm_shell.specs.Outcome.{Ends, CommandEnds, done, undone, CausedBy}
 use Rattle.cvm_shell.proofs.Endings.{nothing, row_said}
 use Rattle.cvm_shell.proofs.Spellings.{one_command}
@@ -182,3 +185,31 @@ headline_end words b s rows before status old new (done p plan took ends) why h 
     run_headline words b s rows before status old new h (subst P (sym same) ends) why memory
 headline_end words b s rows before status old new (undone c is (inl m) few same) why h memory = absurd (memory m)
 headline_end words b s rows before status old new (undone c is (inr e) few same) why h memory = absurd (h.shelf_done (shelf_rose status old new e few why))
+
+-- ENOUGH STEPS.
+
+-- an ending that is not for want of steps
+done_or_faulted : (e : Ending) (over : Bool) (status : CvmStatus) → over ≡ true → e ≡ (if over then ending_of status else headline.OutOfSteps) → (ended_as e ≡ Done) ⊎ (ended_as e ≡ KernelFault)
+done_or_faulted e true Running t is = inl (ap ended_as is)
+done_or_faulted e true Halted t is = inl (ap ended_as is)
+done_or_faulted e true (Faulted f) t is = inr (ap ended_as is)
+done_or_faulted e false status t is = absurd cc
+
+-- the headline's end comes within the bound
+in_time : TurnLaws → (b : Boot) (s : System) (rows : Rows) (before : List (List ℕ)) (status : Status) (old new : Outside) (c : Cvm) → Headline b s rows before old new status → IsBooted old s rows before b.turns c
+    → c.bound ≤ b.steps → (status ≡ Done) ⊎ (status ≡ KernelFault)
+in_time laws b s rows before status old new c h defined enough =
+    let x = around rows old in
+    let y = loaded (booted s rows) before in
+    let (t, first, within) = h.goes_on b.turns c defined in
+    let e : end_within x y b.turns b.steps ≡ t = laws.ends x y b.turns b.steps t first (omega (arith, within, enough)) in
+    let here : is_end x y b.turns (end_within x y b.turns b.steps) ≡ true = subst (λ (n : ℕ). is_end x y b.turns n ≡ true) (sym e) first.here in
+    elim (done_or_faulted h.ending (is_end x y b.turns (end_within x y b.turns b.steps)) h.ran.past.status here h.ran.status) [
+      | inl is ↦ inl (h.status_is ∙ is)
+      | inr is ↦ inr (h.status_is ∙ is)
+    ]
+
+pub completes : TurnLaws → (words : List (List ℕ)) (b : Boot) (s : System) (rows : Rows) (before : List (List ℕ)) (status : Status) (old new : Outside) (c : Cvm) → CommandEnds words status old new → CausedBy status old new
+    → IsHonest words b s rows before old new → status ≢ Memory → IsBooted old s rows before b.turns c → c.bound ≤ b.steps → (status ≡ Done) ⊎ (status ≡ KernelFault)
+completes laws words b s rows before status old new c ends why h memory defined enough =
+    in_time laws b s rows before status old new c (headline_end words b s rows before status old new ends why h memory) defined enough

@@ -3,6 +3,7 @@ mod BootPlans
 mod Endings
 mod FirstBad
 mod Five
+pub mod Follows
 mod Four
 mod FourBytes
 mod GotFiles

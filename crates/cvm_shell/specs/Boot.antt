@@ -9,8 +9,10 @@ use Rattle.boot_image.specs.Reading.{answer as image_of}
 use Rattle.layer_runs.specs.Image.{layer_image}
 use Rattle.mips_table.specs.Device.{Outside as Surroundings}
 use Rattle.mips_machine.specs.Steps.{outside_of}
-use Rattle.cvm_model.specs.Cvm.{System as Booted}
+use Rattle.mips_table.specs.Turns.{lines_of}
+use Rattle.cvm_model.specs.Cvm.{System as Booted, Cvm, IsCvm}
 use Rattle.cvm_model.specs.KernelMeaning.{kernel_meaning}
+use Rattle.layer_contract.specs.Follows.{loaded}
 use Rattle.boot_turns.specs.declared.answers.View.TheVariants.{Boot as whole_boot}
 use Rattle.boot_turns.specs.Headline.{Ending, Done as IsDone, KernelFaulted, OutOfSteps, DiskFault, SinkFault, NoMemory, Ends, Ran, GoesOn}
 use Rattle.kernel_linker.specs.Accept.{System}
@@ -32,6 +34,10 @@ booted s rows = record {
 -- what surrounds its machine: the schedule's lines and busy times, and the number of sectors
 abbrev pub around : Rows → Outside → Surroundings
 around rows old = outside_of rows old.disk.size
+
+-- so many turns of the abstract run lead to this, with the lines of the machine that is loaded over a disk with these sectors
+abbrev pub IsBooted : Outside → System → Rows → (sectors : List (List ℕ)) → (turns : ℕ) → Cvm → Type 0
+IsBooted old s rows sectors turns c = IsCvm (booted s rows) (lines_of (around rows old) (loaded (booted s rows) sectors)) turns c
 
 -- the sectors that the users' pages take
 abbrev pub sectors_needed : System → ℕ

@@ -1,16 +1,17 @@
 -- How a command ends: status, text, files and sectors together; and what the counts of faults say of each status.
-use Rattle.std.specs.Prelude.{◌≡◌, ◌≢◌, ◌⊎◌, ◌↔◌, ℕ, List, [], take, codes}
+use Rattle.std.specs.Prelude.{◌≡◌, ◌≢◌, ◌⊎◌, ◌↔◌, ◌≤◌, ℕ, List, [], take, codes}
 use Rattle.cvm_outside.specs.Causes.{Rose}
 use Rattle.cvm_outside.specs.Told.{retold, TOO_LONG}
 use Rattle.schedule_file.specs.Rows.{Rows}
+use Rattle.cvm_model.specs.Cvm.{Cvm}
 use Rattle.kernel_linker.specs.Accept.{System}
 use Rattle.cvm_shell.specs.declared.status.Status.{Status}
-use Rattle.cvm_shell.specs.declared.status.Status.TheVariants.{Done, Words, Disk, Shelf, Sink, Memory}
+use Rattle.cvm_shell.specs.declared.status.Status.TheVariants.{Done, Words, KernelFault, Disk, Shelf, Sink, Memory}
 use Rattle.cvm_shell.specs.Outside.{Outside, SameSectors, Leaves, Says}
 use Rattle.cvm_shell.specs.Command.{Boot, Command, IsCommand}
 use Rattle.cvm_shell.specs.Refusal.{too_long, refusal_text, refusal_status}
 use Rattle.cvm_shell.specs.Plan.{Plan, bad_words, refuses, puts, boots, ComesTo, AllTold, IsPlan}
-use Rattle.cvm_shell.specs.Boot.{RunEnds, IsHonest, Headline}
+use Rattle.cvm_shell.specs.Boot.{RunEnds, IsBooted, IsHonest, Headline}
 
 -- this file has these bytes now, and nothing else changed
 pub record HasPut (name bytes : List ℕ) (old new : Outside) : Type 0 where
@@ -73,3 +74,8 @@ Causes see status old new = CausedBy status (see old) (see new)
 abbrev pub Headlines : {A : Type 0} → (A → Outside) → List (List ℕ) → Status → (old new : A) → Type 0
 Headlines see words status old new = (b : Boot) (s : System) (rows : Rows) (sectors : List (List ℕ)) →
     IsHonest words b s rows sectors (see old) (see new) → status ≢ Memory → Headline b s rows sectors (see old) (see new) status
+
+-- ENOUGH STEPS: where the abstract run is defined for the wanted turns, and its bound is within the steps, the boot is done or its kernel faulted
+abbrev pub Completes : {A : Type 0} → (A → Outside) → List (List ℕ) → Status → (old new : A) → Type 0
+Completes see words status old new = (b : Boot) (s : System) (rows : Rows) (sectors : List (List ℕ)) (c : Cvm) → IsHonest words b s rows sectors (see old) (see new) → status ≢ Memory
+    → IsBooted (see old) s rows sectors b.turns c → c.bound ≤ b.steps → (status ≡ Done) ⊎ (status ≡ KernelFault)

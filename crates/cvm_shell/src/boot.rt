@@ -11,6 +11,7 @@ ghost use Rattle.cvm_shell.specs.Plan.{AfterFiles, IsPlan};
 ghost use Rattle.cvm_shell.specs.Stages.{stop_of, accept_stop, schedule_stop, PlanCounts, ready_for, IsBootPlan, Follows, RunsAs};
 ghost use Rattle.cvm_shell.specs.Views.{boot_view, IfPlan};
 
+use crate::accepted::accept_image;
 use crate::command::Boot;
 use crate::refusal::Refusal;
 use crate::saying::refuse;
@@ -18,7 +19,7 @@ use crate::status::Status;
 use boot_run::{LoadFault, RunEnd, View, run_whole};
 use c0_types::laws::sources_have_one_answer;
 use cvm_outside::{Sectors, Shelf, ShelfFault, Sink};
-use kernel_linker::{AcceptFault, accept};
+use kernel_linker::AcceptFault;
 use layer_contract::Boot as Booted;
 use layer_runs::RealLayer;
 use schedule_file::{Schedule, ScheduleFault, read};
@@ -101,7 +102,7 @@ fn ready_of(alloc: Global, image: &[u8], schedule: &[u8]) -> Result<Ready, Stop>
     ensures short { IsErrOf result (Stop.Refused Refusal.TooLong) → ⊥ }
 {
     sources_have_one_answer();
-    let accepted = accept::<RealLayer>(alloc, image)?;
+    let accepted = accept_image::<RealLayer>(alloc, image)?;
     let schedule = read(alloc, schedule)?;
     Ok(Ready {
         boot: accepted.boot,

@@ -4,11 +4,12 @@
 ghost use Rattle.std.specs.Prelude.{◌≤◌};
 ghost use Rattle.cvm_shell.specs.Command as command;
 ghost use Rattle.cvm_shell.specs.Command.{texts};
-ghost use Rattle.cvm_shell.specs.Outcome.{Outcome, Causes, Headlines};
+ghost use Rattle.cvm_shell.specs.Outcome.{Outcome, Causes, Headlines, Completes};
 ghost use Rattle.cvm_shell.specs.Outside.{Drive, seen, beside};
 ghost use Rattle.cvm_shell.specs.Stages.{EndsAs, BootEndsAs};
 ghost use Rattle.cvm_shell.specs.Views.{boot_view, user_view, kernel_view, link_view};
 
+pub mod accepted;
 pub mod assembly;
 pub mod boot;
 pub mod command;
@@ -27,6 +28,7 @@ pub use command::{
 use cvm_outside::{Sectors, Shelf, Sink};
 use layer_runs::RealLayer;
 pub use linking::system_image;
+use mips_table::runs::turns_are_counted;
 pub use object::kernel_object;
 pub use refusal::Refusal;
 use saying::{refuse, say};
@@ -52,7 +54,9 @@ pub fn run<S: Shelf, O: Sink, D: Sectors>(
     ensures ends { Outcome (seen S.Shelf O.Sink D.Sectors) (texts words.now.items) result (shelf.old, out.old, disk.old) (shelf.new, out.new, disk.new) }
     ensures causes { Causes (seen S.Shelf O.Sink D.Sectors) result (shelf.old, out.old, disk.old) (shelf.new, out.new, disk.new) }
     ensures headline { Headlines (seen S.Shelf O.Sink D.Sectors) (texts words.now.items) result (shelf.old, out.old, disk.old) (shelf.new, out.new, disk.new) }
+    ensures complete { Completes (seen S.Shelf O.Sink D.Sectors) (texts words.now.items) result (shelf.old, out.old, disk.old) (shelf.new, out.new, disk.new) }
 {
+    turns_are_counted();
     run_command(alloc, words, shelf, out, disk)
 }
 

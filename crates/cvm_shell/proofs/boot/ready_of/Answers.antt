@@ -18,3 +18,6 @@ returns-in_err-schedule-clause-comes c = λ b.
 pub returns-clause-comes : goal.returns-clause-comes
 returns-clause-comes c = λ b.
     ready_plan c.sources_have_one_answer.ensures layer_image (λ a. system_of a.boot) b c.args.image.now c.args.schedule.now c.in_ok-accepted.accepted _ c.in_ok-accepted.ensures.is c.in_ok-schedule.ensures
+
+pub returns-clause-follows : goal.returns-clause-follows
+returns-clause-follows c = c.in_ok-accepted.ensures.follows
