@@ -69,6 +69,7 @@ module _ (structs : List Shape) (opened : AreOpened structs) (lay : Layout) wher
 
   mutual
     unfolding type_words AreOpened
+
     value_words : (t : Ty) (v : Value) → Fits structs lay t v → scalars v ≡ words structs t
     value_words ty.int (int z) f = refl
     value_words ty.bool (bool b) f = refl

@@ -19,7 +19,7 @@ use Rattle.cvm_model.specs.Paged.{paged_of, pages_by}
 use Rattle.cvm_model.specs.Stands.{Site, Stands, UserFits, runs_user}
 use Rattle.cvm_model.specs.Text.{hex_row, nonzero_row, regs_text, memory_text, user_text, users_text, log_text}
 use Rattle.boot_report.specs.Texts.{texts, register_row, memory_row, pages_rows, register_rows, user_head, user_rows, users_rows, log_rows, cpu_of, pages_in, EntriesFit}
-use Rattle.boot_report.specs.Told.{IsRunning, RowsTell}
+use Rattle.boot_report.specs.Told.{IsRunning, RowsTell, WordsAreTold, WordsTell}
 use Rattle.boot_report.proofs.Texts.{texts-none, texts-suc, texts-add, texts-same}
 
 -- a text that goes down a list from the front
@@ -153,3 +153,29 @@ rows_tell x y held ss status c running range st run = record {
   users = users_told x y held ss status c running range st run;
   log = ap log_rows st.log ∙ log_told c.console.log;
 }
+
+-- some user runs, or none
+runs_some : (held : Held) (ss : List (List ℕ)) (c : Core) → (running : ℕ) × IsRunning held ss c running
+runs_some held ss c = by (runs_user (state_of held ss)) refl
+  where
+    by : (b : Bool) → runs_user (state_of held ss) ≡ b → (running : ℕ) × IsRunning held ss c running
+    by true e = (c.current, record { one = λ _. refl; none = λ f. absurd (false_true _ f e) })
+    by false e = (0, record { one = λ f. absurd (false_true _ e f); none = λ _. refl })
+
+pub words_tell : WordsTell
+words_tell x y held ss status c u range st is = by (runs_some held ss c)
+  where
+    by : (r : (running : ℕ) × IsRunning held ss c running) → WordsAreTold y.map (state_of held ss) u (user_of c.users u).words
+    by r =
+        let low : 1 ≤ u = is.0 in
+        let high : u ≤ length c.users = is.1 in
+        let lt : u - 1 < length c.users = omega (arith, low, high) in
+        let fit : UserFits y.map.params.pages (get_or c.users (u - 1) no_flat) = fits x y held ss status c r.0 range st r.1 (u - 1) lt in
+        let whole = fit.whole in
+        let most = fit.pages in
+        record {
+          entries = entries_told x y held ss status c r.0 range st r.1;
+          room = omega (arith, whole, most);
+          word = λ k l. page_told x y held ss status c r.0 range st r.1 (u - 1) lt (k / 1024) (k % 1024) (omega (arith, whole, l)) (omega arith)
+              ∙ (let e : 1024 * (k / 1024) + k % 1024 ≡ k = omega arith in ap (λ n. get_or (user_of c.users u).words n 0) e);
+        }

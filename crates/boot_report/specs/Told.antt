@@ -1,12 +1,15 @@
 -- What is printed of the users is what the abstract machine's text says of them, where the machine stands for its state.
-use Rattle.std.specs.Prelude.{◌≡◌, ℕ, true, false, List}
+use Rattle.std.specs.Prelude.{◌≡◌, ℕ, ◌+◌, ◌-◌, ◌*◌, ◌/◌, ◌%◌, ◌<◌, ◌≤◌, true, false, List, length, slice_index}
 use Rattle.mips_table.specs.Device.{Outside}
 use Rattle.mips_machine.specs.Machine.{Held, state_of}
-use Rattle.layer_map.specs.Map.{MapInRange}
+use Rattle.mips_table.specs.Machine.{State}
+use Rattle.layer_map.specs.Map.{Map, MapInRange}
+use Rattle.page_model.specs.Paging.{Paged, shown_word}
 use Rattle.cvm_model.specs.Kernel.{Core}
+use Rattle.cvm_model.specs.Primitives.{user_of}
 use Rattle.cvm_model.specs.Cvm.{Status}
 use Rattle.cvm_model.specs.Paged.{paged_of}
-use Rattle.cvm_model.specs.Stands.{Site, Stands, runs_user}
+use Rattle.cvm_model.specs.Stands.{Site, Stands, IsUser, runs_user}
 use Rattle.cvm_model.specs.Text.{users_text, log_text}
 use Rattle.boot_report.specs.Texts.{users_rows, log_rows, EntriesFit}
 
@@ -25,3 +28,18 @@ pub record RowsAreTold (x : Outside) (y : Site) (held : Held) (ss : List (List �
 abbrev pub RowsTell : Type 0
 RowsTell = (x : Outside) (y : Site) (held : Held) (ss : List (List ℕ)) (status : Status) (c : Core) (running : ℕ) → MapInRange y.map → Stands x y (state_of held ss) status c → IsRunning held ss c running →
     RowsAreTold x y held ss c running
+
+-- word k of user u, as the machine shows it by pages
+abbrev pub user_word : Map → Paged → (u k : ℕ) → ℕ
+user_word m a u k = shown_word a ((u - 1) * m.params.pages + k / 1024) (k % 1024)
+
+-- the words of user u
+pub record WordsAreTold (m : Map) (s : State) (u : ℕ) (words : List ℕ) : Type 0 where
+  pub entries : EntriesFit m s
+  pub room : length words ≤ 1024 * m.params.pages
+  pub word : (k : ℕ) → k < length words → user_word m (paged_of m s) u k ≡ slice_index words k
+
+-- of every machine that stands for a state
+abbrev pub WordsTell : Type 0
+WordsTell = (x : Outside) (y : Site) (held : Held) (ss : List (List ℕ)) (status : Status) (c : Core) (u : ℕ) → MapInRange y.map → Stands x y (state_of held ss) status c → IsUser c u →
+    WordsAreTold y.map (state_of held ss) u (user_of c.users u).words

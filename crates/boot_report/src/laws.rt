@@ -1,7 +1,7 @@
 // Laws, each the contract of a function that does nothing.
 ghost use Rattle.boot_report.specs.Globals.{GlobalsTell};
 ghost use Rattle.boot_report.specs.Given.{GlobalRowsTell};
-ghost use Rattle.boot_report.specs.Told.{RowsTell};
+ghost use Rattle.boot_report.specs.Told.{RowsTell, WordsTell};
 
 use c0_meaning::laws::words_are_those_of_the_parts;
 
@@ -9,6 +9,11 @@ use c0_meaning::laws::words_are_those_of_the_parts;
 /// entry of the page tables names a frame of the memory.
 pub fn the_rows_tell()
     ensures { RowsTell }
+{}
+
+/// A law: where the machine stands for a state of the abstract machine, the words of each user are those that its pages show.
+pub fn the_words_tell()
+    ensures { WordsTell }
 {}
 
 /// A law: the row of a global by its first word is that of its value, where the value has the shape of its type.

@@ -10,5 +10,6 @@ mod users;
 
 pub use fault::ReportFault;
 pub use globals::{put_global, put_globals};
-pub use laws::{a_global_tells, the_globals_tell, the_rows_tell};
+pub use laws::{a_global_tells, the_globals_tell, the_rows_tell, the_words_tell};
+pub use memory::read_user_word;
 pub use users::{put_log, put_users};

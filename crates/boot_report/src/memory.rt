@@ -7,6 +7,7 @@ ghost use Rattle.layer_map.specs.Map.{memory_words, memory_frames};
 ghost use Rattle.mips_machine.specs.Machine.{state_of};
 ghost use Rattle.page_model.specs.Paging.{shown_word};
 ghost use Rattle.cvm_model.specs.Paged.{paged_of};
+ghost use Rattle.boot_report.specs.Told.{user_word};
 ghost use Rattle.boot_report.specs.Texts.{texts, memory_row, page_word, pages_rows, EntriesFit, SameButViewed};
 
 use crate::fault::ReportFault;
@@ -78,6 +79,36 @@ fn find_page<D: Sectors>(
     }
     machine.view_sector(disk, q)?;
     Ok(None)
+}
+
+/// The word of a user with this number, from 0, whose page may have to be read from its sector.
+///
+/// # Errors
+///
+/// A fault of the disk.
+pub fn read_user_word<D: Sectors>(
+    machine: &mut Machine,
+    map: &Map,
+    user: u32,
+    k: u32,
+    disk: &mut D,
+) -> Result<u32, DiskFault>
+    requires some { 1 ≤ user }
+    requires user { user ≤ map.now.users }
+    requires word { k < 1024 * map.now.params.pages }
+    requires memory { memory_words map.now ≤ length machine.old.hardware.memory }
+    requires small { memory_words map.now ≤ 30000000 }
+    requires all { map.now.users * map.now.params.pages ≤ 65536 }
+    requires room { map.now.users * map.now.params.pages ≤ D.size disk.old }
+    ensures shown { (ss : List (List ℕ)) → D.sectors disk.old ≡ Some ss → EntriesFit map.now (state_of machine.old ss) → IfOk result (λ w. w ≡ user_word map.now (paged_of map.now (state_of machine.old ss)) user k) }
+    ensures same { SameButViewed machine.old machine.new }
+    ensures sectors { D.sectors disk.new ≡ D.sectors disk.old }
+    ensures size { D.size disk.new ≡ D.size disk.old }
+    ensures count { Counts (D.faults disk.old) (D.faults disk.new) result }
+{
+    let page = (user - 1) * map.params().pages + k / 1024;
+    let frame = find_page(machine, map, page, disk)?;
+    Ok(word_of_page(machine, frame, k % 1024))
 }
 
 /// Prints the rows of so many pages of a user, the first of which has this number of all pages.

@@ -1,5 +1,5 @@
 -- What a loaded run's fields keep while its machine runs.
-use Rattle.std.proofs.Common.{◌≡◌, ℕ, List, length, subst, sym}
+use Rattle.std.proofs.Common.{◌≡◌, ℕ, List, length, rules, subst, sym}
 use Rattle.std.specs.Prelude.{IsTrue}
 use Rattle.mips_table.specs.Device.{Pending, Idle, Reading, Writing}
 use Rattle.mips_table.specs.Fits.{NamesSector}

@@ -1,13 +1,11 @@
 -- What the rows of a report are, where the machine of a run stands between turns.
-use Rattle.std.proofs.Common.{◌≡◌, ◌≢◌, ℕ, zero, suc, ◌+◌, Bool, true, false, not, ◌&&◌, Option, Some, None, List, [], ◌∷◌, ◌++◌, length, take, map, Result, Ok, Err, refl, sym, ap, ap₂, ◌∙◌, subst, append_assoc, append-nil}
-use Rattle.std.specs.Prelude.{is_some, OnOk, OnErr}
-use Rattle.std.specs.Option.{option_map}
+use Rattle.std.proofs.Common.{◌≡◌, ◌≢◌, ℕ, suc, ◌+◌, Bool, true, false, not, ◌&&◌, Option, Some, None, List, [], ◌∷◌, ◌++◌, length, take, refl, sym, ap, ap₂, ◌∙◌, subst, append_assoc}
+use Rattle.std.specs.Prelude.{is_some}
 use Rattle.std.specs.Io.KnownBytes.{append_known}
 use Rattle.std.proofs.Math.Seq.{take-append-add}
 use Rattle.cvm_outside.specs.Told.{AppendsPart}
-use Rattle.cvm_outside.proofs.Parts.{append_known-nil, append_known-append}
+use Rattle.cvm_outside.proofs.Parts.{append_known-append}
 use Rattle.c0_tree.specs.Primitives.{kernel_primitives}
-use Rattle.c0_tree.specs.Tree.{CUnit}
 use Rattle.c0_tree.specs.View.{unit_view}
 use Rattle.c0_meaning.specs.TypedState.{IsTypedState}
 use Rattle.c0_meaning.specs.Unit.{IsWellFormed}
@@ -15,34 +13,32 @@ use Rattle.mips_table.specs.Device.{Outside}
 use Rattle.mips_table.specs.Machine.{State}
 use Rattle.mips_table.specs.Turns.{in_user, complete, lines_of}
 use Rattle.mips_machine.specs.Machine.{Held, state_of}
-use Rattle.mips_machine.specs.Steps.{outside_of}
 use Rattle.layer_map.specs.Map.{Map, MapInRange, globals_at}
 use Rattle.cvm_model.specs.Kernel.{parts_of}
 use Rattle.cvm_model.specs.declared.row.Next.{Next}
 use Rattle.cvm_model.specs.Cvm.{Boot, System, Status, Running, Halted, Faulted, Cvm, IsCvm, map_of}
 use Rattle.cvm_model.specs.Stands.{Stands, runs_user}
-use Rattle.cvm_model.specs.Text.{rows_text, globals_text, log_text, users_text, report_text, end_text, closing_text, boot_text}
+use Rattle.cvm_model.specs.Text.{rows_text, globals_text, log_text, users_text, report_text, end_text, closing_text}
 use Rattle.cvm_model.specs.Paged.{paged_of}
 use Rattle.layer_contract.specs.Layer.{Rests}
 use Rattle.layer_contract.specs.Follows.{site_of, machine, loaded}
-use Rattle.layer_contract.specs.declared.boot.Boot.{Boot as Booted}
 use Rattle.layer_contract.specs.Boots.{boot_of}
 use Rattle.boot_report.specs.Texts.{users_rows, log_rows, EntriesFit}
 use Rattle.boot_report.specs.Globals.{globals_rows}
-use Rattle.boot_report.specs.Told.{IsRunning, RowsAreTold, RowsTell}
-use Rattle.boot_report.specs.Given.{places_of, GlobalRowsTell}
+use Rattle.boot_report.specs.Told.{RowsAreTold, RowsTell}
+use Rattle.boot_report.specs.Given.{GlobalRowsTell}
 use Rattle.boot_turns.specs.Completes.{seen}
 use Rattle.boot_turns.specs.Headline.{Machines}
-use Rattle.boot_turns.specs.TurnEnds.{Whole, Printed, TextAfter, Prefix}
+use Rattle.boot_turns.specs.TurnEnds.{Whole, TextAfter, Prefix}
 use Rattle.boot_turns.specs.TypedRuns.{TypedThroughout}
 use Rattle.boot_turns.specs.declared.answers.View.TheVariants.{Boot as OfBoot}
 use Rattle.boot_turns.specs.declared.answers.RunFault.{RunFault}
-use Rattle.boot_turns.specs.declared.answers.RunFault.TheVariants.{StepLimit, Disk}
+use Rattle.boot_turns.specs.declared.answers.RunFault.TheVariants.{StepLimit}
 use Rattle.boot_run.specs.LoadEnds.{Kept}
 use Rattle.boot_run.specs.Placed.{IsPlaced}
 use Rattle.boot_run.specs.Shown.{has_faulted}
-use Rattle.boot_run.specs.TurnCalls.{ended_of, Around, around, Ready}
-use Rattle.boot_run.specs.Report.{end_row, kernel_rows, runs_now, closing_rows, Reported, ReportBroken}
+use Rattle.boot_run.specs.TurnCalls.{ended_of, around, Ready}
+use Rattle.boot_run.specs.Report.{end_row, runs_now, closing_rows, Reported, ReportBroken}
 
 -- sectors that are told, with which a machine is seen as a state
 pub record Told (told : Option (List (List ℕ))) (held : Held) (s : State) : Type 0 where

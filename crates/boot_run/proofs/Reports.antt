@@ -1,5 +1,5 @@
 -- A call of `report`, by what it printed.
-use Rattle.std.proofs.Common.{◌≡◌, ◌≢◌, ℕ, suc, Bool, false, true, Option, Some, None, List, Result, Ok, Err, refl, sym, ap, ap₂, ◌∙◌, subst}
+use Rattle.std.proofs.Common.{◌≡◌, ◌≢◌, ℕ, suc, Bool, false, true, Option, Some, None, List, Result, Ok, Err, sym, ap, ap₂, ◌∙◌, subst}
 use Rattle.std.specs.Prelude.{is_some}
 use Rattle.std.specs.Io.KnownBytes.{append_known}
 use Rattle.cvm_outside.specs.Told.{AppendsPart}
@@ -24,7 +24,7 @@ use Rattle.boot_turns.specs.declared.answers.RunFault.TheVariants.{StepLimit}
 use Rattle.boot_run.specs.LoadEnds.{Kept}
 use Rattle.boot_run.specs.Placed.{IsPlaced}
 use Rattle.boot_run.specs.Shown.{has_faulted}
-use Rattle.boot_run.specs.TurnCalls.{Around, around, Ready}
+use Rattle.boot_run.specs.TurnCalls.{around, Ready}
 use Rattle.boot_run.specs.Report.{closing_rows, ReportEnds, ReportRuns}
 use Rattle.boot_run.proofs.Reporting.{its_told, nothing_more, entries, printed, cut}
 

@@ -1,5 +1,5 @@
 -- What a loaded run has room for.
-use Rattle.std.proofs.Common.{◌≡◌, ℕ, zero, suc, ◌+◌, ◌*◌, ◌<◌, ◌≤◌, List, [], ◌∷◌, length, map, refl, sym, ap, ◌∙◌, subst, subst₂, arith}
+use Rattle.std.proofs.Common.{◌≡◌, ℕ, zero, suc, ◌+◌, ◌*◌, ◌<◌, ◌≤◌, List, [], ◌∷◌, length, map, refl, sym, ap, ◌∙◌, subst, arith}
 use Rattle.std.specs.Prelude.{slice_index}
 use Rattle.std.proofs.lemmas.List.{length-map}
 use Rattle.std.proofs.Math.Nat.{mul-le-mul}
@@ -9,11 +9,8 @@ use Rattle.c0_meaning.specs.Words.{words, all_words}
 use Rattle.c0_meaning.specs.Offsets.{offsets_from}
 use Rattle.c0_meaning.specs.Sound.{shapes}
 use Rattle.c0_meaning.specs.TypedState.{types_of}
-use Rattle.layer_map.specs.Map.{Map, MapInRange, PartsInOrder, MemoryIsWhole, globals_at, memory_words, memory_frames}
-use Rattle.cvm_model.specs.Cvm.{map_of}
+use Rattle.layer_map.specs.Map.{Map, PartsInOrder, MemoryIsWhole, globals_at, memory_words}
 use Rattle.layer_contract.specs.declared.boot.Boot.{Boot as Booted}
-use Rattle.layer_contract.specs.Boots.{boot_of}
-use Rattle.boot_report.specs.Given.{places_of}
 use Rattle.boot_run.specs.Placed.{IsPlaced}
 
 -- there is a place for each declaration, none behind the words of all

@@ -16,9 +16,9 @@ use crate::next::{ended_by, has_faulted, seen_next};
 use crate::pages::write_pages;
 use crate::places::{Places, places_of};
 use crate::report::put_closing;
+use boot_report::{ReportFault, the_globals_tell, the_rows_tell};
 use boot_turns::completion::advance;
 use boot_turns::row_text::row_text;
-use boot_report::{ReportFault, the_globals_tell, the_rows_tell};
 use boot_turns::{RunFault, Turn, View, machines_run, runs_stay_typed};
 use cvm_model::{Next, Row};
 use cvm_outside::{Sectors, Sink};
@@ -203,11 +203,7 @@ impl<L: Layer + Drop> Run<L> {
     }
 
     /// Prints the end and the report of a run that halted, or goes on.
-    fn put_report<D: Sectors, O: Sink>(
-        &mut self,
-        disk: &mut D,
-        out: &mut O,
-    ) -> Result<(), RunFault>
+    fn put_report<D: Sectors, O: Sink>(&mut self, disk: &mut D, out: &mut O) -> Result<(), RunFault>
         requires disk { D.size disk.old ≡ self.old.count }
         requires view { self.old.view ≡ View.Boot }
         requires goes_on { has_faulted self.old.ended ≡ false }
@@ -230,7 +226,15 @@ impl<L: Layer + Drop> Run<L> {
         memory_is_whole();
         let halted = self.ended.is_some();
         let decls = self.boot.unit.unit().globals.as_slice();
-        match put_closing(&mut self.machine, &self.places, decls, halted, self.current, disk, out) {
+        match put_closing(
+            &mut self.machine,
+            &self.places,
+            decls,
+            halted,
+            self.current,
+            disk,
+            out,
+        ) {
             Ok(()) => return Ok(()),
             Err(ReportFault::Disk) => return Err(RunFault::Disk),
             Err(ReportFault::Sink) => return Err(RunFault::Sink),
@@ -244,11 +248,7 @@ impl<L: Layer + Drop> Run<L> {
     ///
     /// `Disk` and `Sink`, only where the count of faults of that object rose. After a fault each call answers it again, and touches
     /// nothing.
-    pub fn report<D: Sectors, O: Sink>(
-        &mut self,
-        disk: &mut D,
-        out: &mut O,
-    ) -> Result<(), RunFault>
+    pub fn report<D: Sectors, O: Sink>(&mut self, disk: &mut D, out: &mut O) -> Result<(), RunFault>
         requires disk { D.size disk.old ≡ self.old.count }
         requires view { self.old.view ≡ View.Boot }
         ensures same { self.new ≡ record self.old { machine = self.new.machine; fault = self.new.fault } }

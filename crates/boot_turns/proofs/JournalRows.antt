@@ -9,7 +9,7 @@ use Rattle.boot_turns.specs.JournalText.{steps_after, RowsFollow}
 more_after : (n : ℕ) (e j d : List ℕ) → (steps_row n ++ e ++ (j ++ d)) ≡ (steps_row n ++ e ++ j) ++ d
 more_after n e j d = sym (append_assoc (steps_row n ++ e) j d)
 
-more : (ends : Bool) (n : ℕ) (j d : List JournalEntry) → journal_rows_after ends n (j ++ d) ≡ journal_rows_after false n j ++ journal_rows_after ends (steps_after n j) d
+pub more : (ends : Bool) (n : ℕ) (j d : List JournalEntry) → journal_rows_after ends n (j ++ d) ≡ journal_rows_after false n j ++ journal_rows_after ends (steps_after n j) d
 more ends n [] d = refl
 more ends n (Stepped ∷ j) d = more ends (n + 1) j d
 more ends n (Trapped cause edata ∷ j) d = ap (λ r. steps_row n ++ entry_row (Trapped cause edata) ++ r) (more ends 0 j d) ∙ more_after n (entry_row (Trapped cause edata)) (journal_rows_after false 0 j) (journal_rows_after ends (steps_after 0 j) d)

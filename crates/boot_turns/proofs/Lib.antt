@@ -22,3 +22,4 @@ pub mod JournalRows
 pub mod Tracing
 pub mod SetRow
 pub mod Puts
+pub mod Copying

@@ -1,5 +1,5 @@
 -- The rows of the entries of a step, put after those of the steps before it.
-use Rattle.std.proofs.Common.{◌≡◌, ℕ, ◌&&◌, true, false, slice_index, List, [], ◌∷◌, ◌++◌, refl, sym, ap, ◌∙◌, append-nil, eq-eqb, Result, Ok, Err, OnErr}
+use Rattle.std.proofs.Common.{◌≡◌, ℕ, ◌&&◌, false, slice_index, List, [], ◌∷◌, ◌++◌, sym, ap, ◌∙◌, append-nil, eq-eqb, Result, Ok, Err, OnErr}
 use Rattle.std.specs.Prelude.{◌==◌}
 use Rattle.std.proofs.lemmas.Bool.{cond-true, cond-false}
 use Rattle.cvm_model.specs.Kernel.{Set, Size, Put}

@@ -86,20 +86,20 @@ shown_begin u dispatched cause edata current = cond (current == u) (cond dispatc
 trap_heads : (u user current cause edata : ℕ) (b : Begun) → user ≡ current → b.dispatched ≡ true → b.cause ≡ cause → b.edata ≡ edata → 1 < cause →
     cond (current == u) (Trapped cause edata ∷ []) [] ≡ turn_begins u user b
 trap_heads u user current cause edata b e d c f lt = sym (
-  ap (λ (d : Bool). shown_begin u d b.cause b.edata user) d
-  ∙ ap₂ (λ (c f : ℕ). shown_begin u true c f user) c f
-  ∙ ap (shown_begin u true cause edata) e
-  ∙ ap (λ (l : List JournalEntry). cond (current == u) l []) (cond-true (nat_lt 1 cause) (Trapped cause edata ∷ []) [] (lt-ltb 1 cause lt)))
+    ap (λ (d : Bool). shown_begin u d b.cause b.edata user) d
+    ∙ ap₂ (λ (c f : ℕ). shown_begin u true c f user) c f
+    ∙ ap (shown_begin u true cause edata) e
+    ∙ ap (λ (l : List JournalEntry). cond (current == u) l []) (cond-true (nat_lt 1 cause) (Trapped cause edata ∷ []) [] (lt-ltb 1 cause lt)))
 
 step_heads : (u user current : ℕ) (b : Begun) → user ≡ current → b.dispatched ≡ false → cond (current == u) (Stepped ∷ []) [] ≡ turn_begins u user b
 step_heads u user current b e d = sym (ap (λ (d : Bool). shown_begin u d b.cause b.edata user) d ∙ ap (shown_begin u false b.cause b.edata) e)
 
 none_heads : (u user cause : ℕ) (b : Begun) → b.dispatched ≡ true → b.cause ≡ cause → cause ≤ 1 → [] ≡ turn_begins u user b
 none_heads u user cause b d c le = sym (
-  ap (λ (d : Bool). shown_begin u d b.cause b.edata user) d
-  ∙ ap (λ (c : ℕ). shown_begin u true c b.edata user) c
-  ∙ ap (λ (l : List JournalEntry). cond (user == u) l []) (cond-false (nat_lt 1 cause) (Trapped cause b.edata ∷ []) [] (le-ltb 1 cause le))
-  ∙ nothing (user == u))
+    ap (λ (d : Bool). shown_begin u d b.cause b.edata user) d
+    ∙ ap (λ (c : ℕ). shown_begin u true c b.edata user) c
+    ∙ ap (λ (l : List JournalEntry). cond (user == u) l []) (cond-false (nat_lt 1 cause) (Trapped cause b.edata ∷ []) [] (le-ltb 1 cause le))
+    ∙ nothing (user == u))
   where
     nothing : (b : Bool) → ◌≡◌ {A = List JournalEntry} (cond b [] []) []
     nothing true = refl
@@ -596,11 +596,12 @@ module _ (x : Outside) (y : System) (old : List (List ℕ)) (Typed : C0 → Type
             (get_same y.boot.meaning g.meaning d.core d.cause d.edata d.user it.units v.0 (ended_before x (run x s d.at) (t - d.at)) it.changes it.is enough) in
             let grows = calls_grow y.boot.meaning g.meaning d.core d.cause d.edata d.user it.units v.0 in
             let most : suc (ended_before x (run x s d.at) (t - d.at)) ≤ length (y.boot.meaning.dispatch (v.0 + it.units) d.core d.cause d.edata d.user).calls =
-            subst (λ n. suc (ended_before x (run x s d.at) (t - d.at)) ≤ length (y.boot.meaning.dispatch n d.core d.cause d.edata d.user).calls) sum (omega (arith, enough, grows)) in
-            (v.0 + it.units,
-            goes_more y g.meaning lines u (v.0 + it.units) k (ended_before x (run x s d.at) (t - d.at)) c (λ n. (y.boot.meaning.dispatch n d.core d.cause d.edata d.user).calls)
-            (turn_begins u (slice_index (run x s w.beginning.start).memory current_at) (note (run x s (suc w.beginning.start)))) j it.changes (d.cut u)
-            (past_is (v.0 + it.units) at k (suc k) (ended_before x (run x s d.at) (t - d.at)) c j w vn) is most vn)
+            subst (λ n. suc (ended_before x (run x s d.at) (t - d.at)) ≤ length (y.boot.meaning.dispatch n d.core d.cause d.edata d.user).calls) sum (omega (arith, enough, grows)) in (
+              v.0 + it.units,
+              goes_more y g.meaning lines u (v.0 + it.units) k (ended_before x (run x s d.at) (t - d.at)) c (λ n. (y.boot.meaning.dispatch n d.core d.cause d.edata d.user).calls)
+                  (turn_begins u (slice_index (run x s w.beginning.start).memory current_at) (note (run x s (suc w.beginning.start)))) j it.changes (d.cut u)
+                  (past_is (v.0 + it.units) at k (suc k) (ended_before x (run x s d.at) (t - d.at)) c j w vn) is most vn,
+            )
 
         shown_one : Shown x s y u (suc t) (j ++ changes_of u (it.changes ∷ []))
         shown_one =

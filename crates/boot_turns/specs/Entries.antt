@@ -54,10 +54,10 @@ abbrev pub call_ends : ℕ → Entered → (answer : ℕ) → (words : List ℕ)
 call_ends u e answer words =
     let a : ℕ → ℕ = slice_index e.arguments in
     if answer == 1 then (
-      if e.primitive == 1 && a 0 == u then Set (a 1) (a 2) ∷ [] else
-      if e.primitive == 3 && a 0 == u then Size (a 1) ∷ [] else
-      if e.primitive == 5 && a 0 == u then Put (a 1) (a 2) ∷ [] else
-      if e.primitive == 6 && a 2 == u then puts (a 3) (take (a 4) (drop (a 3 / 4) words)) else []
+    if e.primitive == 1 && a 0 == u then Set (a 1) (a 2) ∷ [] else
+    if e.primitive == 3 && a 0 == u then Size (a 1) ∷ [] else
+    if e.primitive == 5 && a 0 == u then Put (a 1) (a 2) ∷ [] else
+    if e.primitive == 6 && a 2 == u then puts (a 3) (take (a 4) (drop (a 3 / 4) words)) else []
     ) else []
 
 -- it is not the primitive that copies words

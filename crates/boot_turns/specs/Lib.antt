@@ -8,3 +8,4 @@ pub mod Advances
 pub mod TypedRuns
 pub mod Entries
 pub mod JournalText
+pub mod Copies

@@ -8,6 +8,7 @@ ghost use Rattle.c0_meaning.specs.TypedState.{IsTypedState};
 ghost use Rattle.boot_turns.specs.Headline.{MachinesRun};
 ghost use Rattle.boot_turns.specs.TypedRuns.{RunsStayTyped};
 ghost use Rattle.boot_turns.specs.Entries.{TracesGrow};
+ghost use Rattle.boot_turns.specs.Copies.{CopiesTell};
 ghost use Rattle.boot_turns.specs.JournalText.{RowsFollow};
 
 mod answers;
@@ -54,4 +55,9 @@ pub fn traces_grow()
 /// A law: the rows of a journal stay as it grows, and the last steps have theirs at its end.
 pub fn journal_rows_follow()
     ensures { RowsFollow }
+{}
+
+/// A law: where the pages of a user tell its words, so they do of words that were copied to it.
+pub fn copied_words_tell()
+    ensures { CopiesTell }
 {}

@@ -1,16 +1,23 @@
 // What a trace keeps between two steps, and the rows that it prints.
-ghost use Rattle.std.specs.Prelude.{◌≡◌, ℕ, ◌+◌, ◌-◌, ◌<◌, ◌^◌, ◌++◌, [], false, OnOk, OnErr};
+ghost use Rattle.std.specs.Prelude.{◌≡◌, ◌≢◌, ◌*◌, ◌/◌, ◌≤◌, List, length, Some, Err, ℕ, ◌+◌, ◌-◌, ◌<◌, ◌^◌, ◌++◌, [], false, OnOk, OnErr};
 ghost use Rattle.std.specs.Io.KnownBytes.{append_known};
-ghost use Rattle.cvm_outside.specs.Causes.{Counts};
+ghost use Rattle.cvm_outside.specs.Causes.{Counts, Rose};
 ghost use Rattle.cvm_outside.specs.Told.{AppendsPart};
 ghost use Rattle.mips_machine.specs.Machine.{state_of};
 ghost use Rattle.cvm_model.specs.Text.{steps_row as steps_text, journal_rows_after};
 ghost use Rattle.boot_turns.specs.Entries.{noted_at, turn_begins, call_ends, IsNoCopy};
+ghost use Rattle.layer_map.specs.Map.{memory_words};
+ghost use Rattle.cvm_model.specs.Paged.{paged_of};
+ghost use Rattle.boot_report.specs.Texts.{EntriesFit, SameButViewed};
+ghost use Rattle.boot_turns.specs.Copies.{copy_rows, steps_left};
 ghost use Rattle.boot_turns.specs.JournalText.{steps_after};
 
+use crate::answers::RunFault;
 use crate::completion::Begun;
 use crate::journal_text::{put_row, set_row, size_row, steps_row, trap_row};
-use cvm_outside::{Sink, SinkFault};
+use boot_report::read_user_word;
+use cvm_outside::{Sectors, Sink, SinkFault};
+use layer_map::Map;
 use mips_machine::Machine;
 
 /// The number of the special register that says the mode.
@@ -103,10 +110,7 @@ impl Tracer {
         if begun.cause <= 1 {
             return Ok(());
         }
-        self.put(
-            trap_row(begun.cause, begun.edata).as_str().as_bytes(),
-            out,
-        )
+        self.put(trap_row(begun.cause, begun.edata).as_str().as_bytes(), out)
     }
 
     /// Prints the row of the steps that have none yet, and then this one.
@@ -155,6 +159,47 @@ impl Tracer {
         }
         if call.primitive == 5 {
             return self.put(put_row(second, third).as_str().as_bytes(), out);
+        }
+        Ok(())
+    }
+
+    /// Prints the rows of words of the user from an address on, as its memory has them.
+    ///
+    /// # Errors
+    ///
+    /// A fault of the disk, from which a page may have to be read, or of the sink.
+    pub fn put_words<D: Sectors, O: Sink>(
+        &mut self,
+        machine: &mut Machine,
+        map: &Map,
+        address: u32,
+        count: u32,
+        disk: &mut D,
+        out: &mut O,
+    ) -> Result<(), RunFault>
+        requires some { 1 ≤ self.old.user }
+        requires user { self.old.user ≤ map.now.users }
+        requires inside { address / 4 + count ≤ 1024 * map.now.params.pages }
+        requires pages { map.now.params.pages ≤ 65536 }
+        requires memory { memory_words map.now ≤ length machine.old.hardware.memory }
+        requires small { memory_words map.now ≤ 30000000 }
+        requires all { map.now.users * map.now.params.pages ≤ 65536 }
+        requires room { map.now.users * map.now.params.pages ≤ D.size disk.old }
+        ensures ok { (ss : List (List ℕ)) → D.sectors disk.old ≡ Some ss → EntriesFit map.now (state_of machine.old ss) → OnOk result (O.text out.new ≡ append_known (O.text out.old) (copy_rows map.now (paged_of map.now (state_of machine.old ss)) self.old.user self.old.steps address count)) }
+        ensures err { (ss : List (List ℕ)) → D.sectors disk.old ≡ Some ss → EntriesFit map.now (state_of machine.old ss) → OnErr result (AppendsPart (O.text out.old) (O.text out.new) (copy_rows map.now (paged_of map.now (state_of machine.old ss)) self.old.user self.old.steps address count)) }
+        ensures steps { OnOk result (self.new ≡ record self.old { steps = steps_left self.old.steps count }) }
+        ensures same { SameButViewed machine.old machine.new }
+        ensures sectors { D.sectors disk.new ≡ D.sectors disk.old }
+        ensures size { D.size disk.new ≡ D.size disk.old }
+        ensures disk { result ≡ Err RunFault.Disk → Rose (D.faults disk.old) (D.faults disk.new) }
+        ensures disk_same { result ≢ Err RunFault.Disk → D.faults disk.new ≡ D.faults disk.old }
+        ensures sink { result ≡ Err RunFault.Sink → Rose (O.faults out.old) (O.faults out.new) }
+        ensures sink_same { result ≢ Err RunFault.Sink → O.faults out.new ≡ O.faults out.old }
+        ensures no_limit { result ≢ Err RunFault.StepLimit }
+    {
+        for i in 0..count {
+            let word = read_user_word(machine, map, self.user, address / 4 + i, disk)?;
+            self.put(put_row(address + 4 * i, word).as_str().as_bytes(), out)?;
         }
         Ok(())
     }

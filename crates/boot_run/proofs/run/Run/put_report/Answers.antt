@@ -1,7 +1,7 @@
-use Rattle.std.proofs.Common.{◌≡◌, ◌∙◌, ap, sym, List, length}
+use Rattle.std.proofs.Common.{◌∙◌, ap, sym, List, length}
 use Rattle.c0_tree.specs.declared.tree.Unit.{Unit as Source}
 use Rattle.c0_tree.specs.declared.tree.Decl.{Decl}
-use Rattle.boot_turns.specs.declared.answers.RunFault.TheVariants.{StepLimit, Disk, Sink}
+use Rattle.boot_turns.specs.declared.answers.RunFault.TheVariants.{Disk, Sink}
 use Rattle.boot_run.proofs.Room.{many, inside}
 use Rattle.boot_run.proofs.Reports.{now_printed, now_broken}
 use Rattle.boot_run.proofs.run.Run.put_report.Goals as goal

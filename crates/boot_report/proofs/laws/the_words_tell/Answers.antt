@@ -1,0 +1,5 @@
+use Rattle.boot_report.proofs.Telling.{words_tell}
+use Rattle.boot_report.proofs.laws.the_words_tell.Goals as goal
+
+pub returns : goal.returns
+returns c = words_tell

@@ -1,0 +1,149 @@
+-- The rows of words that are put one after another.
+use Rattle.std.proofs.Common.{◌≡◌, ℕ, zero, suc, ◌+◌, ◌-◌, ◌*◌, ◌/◌, ◌<◌, ◌≤◌, Bool, true, false, Option, List, [], ◌∷◌, ◌++◌, length, take, drop, refl, sym, ap, ap₂, ◌∙◌, subst, arith, append-nil, ne_eqb}
+use Rattle.std.specs.Prelude.{◌==◌, slice_index}
+use Rattle.std.specs.Io.KnownBytes.{append_known}
+use Rattle.std.proofs.lemmas.List.{append_assoc, get_or-drop, length-drop, take_more}
+use Rattle.std.proofs.lemmas.Bool.{cond-false}
+use Rattle.cvm_outside.specs.Told.{AppendsPart}
+use Rattle.cvm_outside.proofs.Parts.{append_known-nil, puts-both, part-front, part-back}
+use Rattle.layer_map.specs.Map.{Map}
+use Rattle.page_model.specs.Paging.{Paged}
+use Rattle.cvm_model.specs.Kernel.{JournalEntry, Put}
+use Rattle.cvm_model.specs.Primitives.{puts}
+use Rattle.cvm_model.specs.Text.{steps_row, entry_row, journal_rows_after}
+use Rattle.mips_machine.specs.Machine.{Held, state_of}
+use Rattle.cvm_model.specs.Paged.{paged_of}
+use Rattle.boot_report.specs.Texts.{EntriesFit, SameButViewed}
+use Rattle.boot_report.specs.Told.{user_word}
+use Rattle.boot_turns.specs.declared.tracer.Tracer.{Tracer}
+use Rattle.boot_turns.specs.JournalText.{steps_after}
+use Rattle.boot_turns.specs.Copies.{user_words, copy_rows, steps_left, CopiesTell}
+use Rattle.boot_turns.proofs.JournalRows.{more}
+
+-- one word more is put
+puts_one : (address : ℕ) (ws : List ℕ) (w : ℕ) → puts address (ws ++ w ∷ []) ≡ puts address ws ++ Put (address + 4 * length ws) w ∷ []
+puts_one address [] w = let e : address ≡ address + 0 = omega arith in ap (λ a. Put a w ∷ []) e
+puts_one address (v ∷ ws) w =
+    let e : address + 4 + 4 * length ws ≡ address + 4 * suc (length ws) = omega arith in
+    ap (λ r. Put address v ∷ r) (puts_one (address + 4) ws w ∙ ap (λ a. puts (address + 4) ws ++ Put a w ∷ []) e)
+
+length_one : (ws : List ℕ) (w : ℕ) → length (ws ++ w ∷ []) ≡ suc (length ws)
+length_one [] w = refl
+length_one (v ∷ ws) w = ap suc (length_one ws w)
+
+module _ (m : Map) (a : Paged) (u steps address : ℕ) where
+  abbrev words : ℕ → List ℕ
+  words n = user_words m a u (address / 4) n
+
+  abbrev rows : ℕ → List ℕ
+  rows n = copy_rows m a u steps address n
+
+  long : (n : ℕ) → length (user_words m a u (address / 4) n) ≡ n
+  long zero = refl
+  long (suc n) = length_one (user_words m a u (address / 4) n) (user_word m a u (address / 4 + n)) ∙ ap suc (long n)
+
+  puts_next : (n : ℕ) → puts address (user_words m a u (address / 4) (suc n)) ≡ puts address (user_words m a u (address / 4) n) ++ Put (address + 4 * n) (user_word m a u (address / 4 + n)) ∷ []
+  puts_next n = puts_one address (user_words m a u (address / 4) n) (user_word m a u (address / 4 + n))
+      ∙ ap (λ l. puts address (user_words m a u (address / 4) n) ++ Put (address + 4 * l) (user_word m a u (address / 4 + n)) ∷ []) (long n)
+
+  -- after the first put no step is left with no row
+  none_after : (b : ℕ) (ws : List ℕ) → steps_after 0 (puts b ws) ≡ 0
+  none_after b [] = refl
+  none_after b (w ∷ ws) = none_after (b + 4) ws
+
+  after_puts : (s b : ℕ) (ws : List ℕ) → steps_after s (puts b ws) ≡ steps_left s (length ws)
+  after_puts s b [] = refl
+  after_puts s b (w ∷ ws) = none_after (b + 4) ws ∙ sym (cond-false (suc (length ws) == 0) s 0 (ne_eqb (suc (length ws)) 0 (λ e. absurd (omega (arith, e)))))
+
+  left_is : (n : ℕ) → steps_after steps (puts address (user_words m a u (address / 4) n)) ≡ steps_left steps n
+  left_is n = after_puts steps address (user_words m a u (address / 4) n) ∙ ap (steps_left steps) (long n)
+
+  pub rows_next : (n : ℕ) → copy_rows m a u steps address (suc n) ≡ copy_rows m a u steps address n ++ (steps_row (steps_left steps n) ++ entry_row (Put (address + 4 * n) (user_word m a u (address / 4 + n))))
+  rows_next n =
+      ap (journal_rows_after false steps) (puts_next n)
+      ∙ more false steps (puts address (user_words m a u (address / 4) n)) (Put (address + 4 * n) (user_word m a u (address / 4 + n)) ∷ [])
+      ∙ ap (λ s. copy_rows m a u steps address n ++ journal_rows_after false s (Put (address + 4 * n) (user_word m a u (address / 4 + n)) ∷ [])) (left_is n)
+      ∙ ap (λ r. copy_rows m a u steps address n ++ r) (append-nil _)
+
+  -- the rows of some are the first of those of more
+  pub rows_grow : (i d : ℕ) → (rest : List ℕ) × (copy_rows m a u steps address (i + d) ≡ copy_rows m a u steps address i ++ rest)
+  rows_grow i zero = let e : i + 0 ≡ i = omega arith in ([], ap (copy_rows m a u steps address) e ∙ sym (append-nil _))
+  rows_grow i (suc d) =
+      let r = rows_grow i d in
+      let e : i + suc d ≡ suc (i + d) = omega arith in
+      let next : List ℕ = steps_row (steps_left steps (i + d)) ++ entry_row (Put (address + 4 * (i + d)) (user_word m a u (address / 4 + (i + d)))) in (
+        r.0 ++ (steps_row (steps_left steps (i + d)) ++ entry_row (Put (address + 4 * (i + d)) (user_word m a u (address / 4 + (i + d))))),
+        ap (copy_rows m a u steps address) e ∙ rows_next (i + d) ∙ ap (λ l. l ++ (steps_row (steps_left steps (i + d)) ++ entry_row (Put (address + 4 * (i + d)) (user_word m a u (address / 4 + (i + d)))))) r.1
+            ∙ append_assoc (copy_rows m a u steps address i) r.0 _,
+      )
+
+  module _ (old mid new : Option (List ℕ)) (i : ℕ) (row : List ℕ) (left : ℕ) (before : mid ≡ append_known old (copy_rows m a u steps address i))
+      (row_is : row ≡ entry_row (Put (address + 4 * i) (user_word m a u (address / 4 + i)))) (left_now : left ≡ steps_left steps i) where
+    both : steps_row left ++ row ≡ steps_row (steps_left steps i) ++ entry_row (Put (address + 4 * i) (user_word m a u (address / 4 + i)))
+    both = ap₂ (λ s r. steps_row s ++ r) left_now row_is
+
+    -- one more is put
+    pub one_put : new ≡ append_known mid (steps_row left ++ row) → new ≡ append_known old (copy_rows m a u steps address (i + 1))
+    one_put is =
+        let e : suc i ≡ i + 1 = omega arith in
+        puts-both old mid new (copy_rows m a u steps address i) (steps_row (steps_left steps i) ++ entry_row (Put (address + 4 * i) (user_word m a u (address / 4 + i)))) before (is ∙ ap (append_known mid) both)
+        ∙ ap (append_known old) (sym (rows_next i) ∙ ap (copy_rows m a u steps address) e)
+
+    -- or a part of it
+    pub part_put : (n : ℕ) → i < n → AppendsPart mid new (steps_row left ++ row) → AppendsPart old new (copy_rows m a u steps address n)
+    part_put n lt p =
+        let e : suc i + (n - suc i) ≡ n = omega (arith, lt) in
+        let g = rows_grow (suc i) (n - suc i) in
+        subst (AppendsPart old new) (sym g.1 ∙ ap (copy_rows m a u steps address) e)
+        (part-front old new (copy_rows m a u steps address (suc i)) g.0
+        (subst (AppendsPart old new) (sym (rows_next i))
+        (part-back old mid new (copy_rows m a u steps address i) (steps_row (steps_left steps i) ++ entry_row (Put (address + 4 * i) (user_word m a u (address / 4 + i)))) before
+        (subst (AppendsPart mid new) both p))))
+
+  -- nothing more is put
+  pub stop_put : (old mid : Option (List ℕ)) (i n : ℕ) → i ≤ n → mid ≡ append_known old (copy_rows m a u steps address i) → AppendsPart old mid (copy_rows m a u steps address n)
+  stop_put old mid i n le before =
+      let e : i + (n - i) ≡ n = omega (arith, le) in
+      let g = rows_grow i (n - i) in
+      subst (AppendsPart old mid) (sym g.1 ∙ ap (copy_rows m a u steps address) e)
+      (part-front old mid (copy_rows m a u steps address i) g.0 (length (copy_rows m a u steps address i), before ∙ ap (append_known old) (sym (take_whole (copy_rows m a u steps address i)))))
+    where
+      take_whole : (xs : List ℕ) → take (length xs) xs ≡ xs
+      take_whole [] = refl
+      take_whole (x ∷ xs) = ap (λ l. x ∷ l) (take_whole xs)
+
+  pub none_put : (old : Option (List ℕ)) → old ≡ append_known old (copy_rows m a u steps address 0)
+  none_put old = sym (append_known-nil old)
+
+pub left_none : (steps i : ℕ) → steps_left steps (i + 1) ≡ 0
+left_none steps i = cond-false (i + 1 == 0) steps 0 (ne_eqb (i + 1) 0 (λ e. absurd (omega (arith, e))))
+
+-- the tracer after one put more
+pub put_tracer : (old now new : Tracer) (i : ℕ) → now ≡ record old { steps = steps_left old.steps i } → new ≡ record now { steps = 0 } → new ≡ record old { steps = steps_left old.steps (i + 1) }
+put_tracer old now new i before is = is ∙ ap (λ (t : Tracer). record t { steps = 0 }) before ∙ ap (λ (n : ℕ). record old { steps = n }) (sym (left_none old.steps i))
+
+-- what is viewed is not part of the state
+pub state_same : (old new : Held) (ss : List (List ℕ)) → SameButViewed old new → state_of new ss ≡ state_of old ss
+state_same old new ss e = ap (λ h. state_of h ss) e
+
+pub same_twice : (a b c : Held) → SameButViewed a b → SameButViewed b c → SameButViewed a c
+same_twice a b c e f = f ∙ ap (λ (h : Held). record h { hardware = record h.hardware { viewed = c.hardware.viewed } }) e
+
+pub fits_then : (m : Map) (old new : Held) (ss : List (List ℕ)) → SameButViewed old new → EntriesFit m (state_of old ss) → EntriesFit m (state_of new ss)
+fits_then m old new ss e f = subst (EntriesFit m) (sym (state_same old new ss e)) f
+
+-- the row of the word that was read
+pub row_read : (m : Map) (old now : Held) (ss : List (List ℕ)) (u v k address word : ℕ) (row : List ℕ) → SameButViewed old now → v ≡ u → word ≡ user_word m (paged_of m (state_of now ss)) v k → row ≡ entry_row (Put address word) →
+    row ≡ entry_row (Put address (user_word m (paged_of m (state_of old ss)) u k))
+row_read m old now ss u v k address word row same e is r =
+    r ∙ ap (λ w. entry_row (Put address w)) (is ∙ ap (λ v. user_word m (paged_of m (state_of now ss)) v k) e ∙ ap (λ s. user_word m (paged_of m s) u k) (state_same old now ss same))
+
+-- the words of the pages are those of the user
+pub copies_tell : CopiesTell
+copies_tell m s u k zero words told le = refl
+copies_tell m s u k (suc n) words told le =
+    let lt : k + n < length words = omega (arith, le) in
+    let long : length (drop k words) ≡ length words - k = length-drop k words in
+    let e : n + 1 ≡ suc n = omega arith in
+    ap₂ (λ (a : List ℕ) (w : ℕ). a ++ w ∷ []) (copies_tell m s u k n words told (omega (arith, le))) (told.word (k + n) lt ∙ sym (get_or-drop k words n 0))
+    ∙ sym (take_more (drop k words) n 0 (omega (arith, long, lt))) ∙ ap (λ i. take i (drop k words)) e
