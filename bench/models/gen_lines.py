@@ -1,0 +1,213 @@
+#!/usr/bin/env python3
+"""Writes cases of whole commands for shell_cases, with what each prints: lines at chosen steps, calls that fail, steps that are spent, the examples.
+
+usage: gen_lines.py CASES STDOUT [PRINTED]   writes the cases to CASES, and to STDOUT what the program prints of them; PRINTED is what the
+                                             program printed of them before
+
+Which turn takes a line, how many rows stand printed when a call fails, and at which steps turns begin hangs on the physical machine alone. The
+steps are given below, as measured. The turns of lines and the numbers of rows are taken from PRINTED, and all else of these texts is worked
+out by the abstract machine of boot.py with these turns, and compared: a text that breaks a rule ends this script. Where PRINTED does not have
+such a case yet, `(not printed)` stands for its text.
+"""
+import os
+import re
+import subprocess
+import sys
+import tempfile
+
+HERE = os.path.dirname(os.path.abspath(__file__))
+source = open(os.path.join(HERE, 'gen_rows.py')).read()
+exec(compile(source[:source.index('# ---- kernels with no users')].replace('os.path.abspath(__file__)', repr(os.path.join(HERE, 'gen_rows.py'))), 'gen_rows.py', 'exec'))
+
+EXAMPLES = os.path.join(HERE, '..', '..', 'examples')
+read = lambda *path: open(os.path.join(EXAMPLES, *path)).read()
+
+# ---- measured: the step that begins a turn, or the number of steps after which the machine is past its turns
+ONE_LEFT = 137         # one user: the system is first left for user mode
+ONE_BEGINS = 3003      # one user: turn 1 begins where no line is raised, after the page fault of its first fetch
+CALLED_LEFT = 138      # the same of the user whose lines are counted, with line 1 raised at step 1
+CALLED_BACK = 361      # and user mode is back after turn 1
+PRODUCTS_LEFT = 144    # the user of products and quotients
+PRODUCTS_BEGINS = 3010 # and its turn 1
+MESSAGES_STEPS = 9779  # messages: the whole run
+DISK_CALLS = 12        # four pages over two frames: calls of the disk in the whole run
+SINK_CALLS = 34        # messages: calls of the sink in the whole run
+
+
+def printed_runs(path):
+    """The boots of each case: lists of (words, text, status)."""
+    runs, case = {}, None
+    for block in ('\n' + open(path).read()).split('\n== ')[1:]:
+        head, _, rest = block.partition('\n')
+        kind, _, name = head.partition(' ')
+        if kind == 'case':
+            case = runs.setdefault(name, [])
+        elif kind == 'run' and name.startswith('boot ') and case is not None:
+            text, _, status = ('\n' + rest.rstrip('\n')).rpartition('\nstatus ')
+            case.append((name, text.lstrip('\n'), int(status)))
+    return runs
+
+
+PRINTED = printed_runs(sys.argv[3]) if len(sys.argv) > 3 else {}
+
+
+def lines_of(text):
+    """The turns at which lines are taken, as words of boot.py."""
+    return re.findall(r'^turn (\d+) cause 1 data ([0-9a-f]{8}) ', text, re.M)
+
+
+def model_lines(kernel, users, par, schedule, turns, taken):
+    """What the abstract machine prints where each of these turns takes these lines."""
+    with tempfile.TemporaryDirectory() as d:
+        put = lambda n, t: open(os.path.join(d, n), 'w').write(t)
+        put('kernel.c0', kernel)
+        put('params', par)
+        put('schedule', schedule)
+        for i, u in enumerate(users):
+            put('user%d.s' % (i + 1), u)
+        words = [sys.executable, os.path.join(HERE, 'boot.py'), d, str(turns)] + ['%d:%d' % (int(turn), int(mask, 16)) for turn, mask in taken]
+        return subprocess.run(words, capture_output=True, text=True, check=True).stdout
+
+
+def had(name, at):
+    """What the program printed of a boot of a case, or none."""
+    boots = PRINTED.get(name, [])
+    return boots[at] if at < len(boots) else None
+
+
+def checked(name, at, words, whole, holds, status):
+    """A run whose text is the program's own, after the check."""
+    seen = had(name, at)
+    if seen is None:
+        return run(words, '(not printed)', status)
+    if seen[0] != words or seen[2] != status or not holds(seen[1]):
+        sys.exit('a rule is broken: case %s, run %s:\n%s\nstatus %d, where the rule says %d and of the text\n%s' % (name, words, seen[1], seen[2], status, whole))
+    run(words, seen[1], status)
+
+
+def schedules(name, kernel, users, par=PARAMS, options='sectors 64\nroom 1000000'):
+    begin(name, options)
+    system(kernel, users, par)
+
+
+def line_at(step, line, text, turns=TURNS):
+    """A boot with this schedule."""
+    part('file l', 'line %d %d\n' % (step, line))
+    run('boot img l %d %d' % (turns, STEPS), text)
+
+
+# ---- a line at each part of turn 0 and of the first page fault
+TAKEN = RESET + ' 1\nturn 1 cause 1 data 00000008 user 1 next 0\nhalted\nuser 1 pages 1 pc 00000000\nmem 00000000 0000000c\n'
+LATE = TAKEN.replace('cause 1 data 00000008', 'cause 6 data 0000000c').replace('pc 00000000', 'pc 00000004')
+schedules('a line at each part of turn 0 and of the first page fault', K1, ['syscall'])
+for step in sorted(set(range(1, ONE_BEGINS, 2 * 97)) | {ONE_LEFT, ONE_LEFT + 1, ONE_BEGINS}):
+    line_at(step, 3, TAKEN)
+line_at(ONE_BEGINS + 1, 3, LATE)
+run('boot img s 1 %d' % (ONE_LEFT - 1), '', 4)
+
+# ---- a second line while the first is handled
+CALLED = ('int n; int m; ' + HEAD
+          + ' { int next; next = 1; if (cause == 1) { n = n + 1; m = m * 8 + data; if (n == 2) { next = 0; } } return next; }')
+TWICE = (RESET + ' 1\nturn 1 cause 1 data 00000002 user 1 next 1\nturn 2 cause 1 data 00000004 user 1 next 0\nhalted\nglobal n 2\nglobal m 20\n'
+         + 'user 1 pages 1 pc 00000000\nmem 00000000 0000000c\n')
+schedules('a second line while the first is handled', CALLED, ['syscall'])
+for i in range(3):
+    part('file l', 'line 1 1\nline %d 2\n' % (CALLED_LEFT + 1 + (CALLED_BACK - CALLED_LEFT - 1) * i // 2))
+    run('boot img l %d %d' % (TURNS, STEPS), TWICE)
+
+# ---- messages: steps to the last, lines, and a sink that fails
+MESSAGES = [read('messages', n) for n in ('kernel.c0', 'user1.s', 'user2.s', 'user3.s')]
+WHOLE = model(MESSAGES[0], MESSAGES[1:], PARAMS, '', 1000)
+ROWS = WHOLE.split('\n')
+schedules('the example messages, to its last step', MESSAGES[0], MESSAGES[1:], read('messages', 'params'))
+run('boot img s %d %d' % (TURNS, MESSAGES_STEPS), WHOLE)
+run('boot img s %d %d' % (TURNS, MESSAGES_STEPS - 1), '\n'.join(ROWS[:3]), 4)
+
+FAIR_IF = 'if (!done[3]) { next = pick(user); }'
+assert FAIR_IF in MESSAGES[0]
+FAIR = MESSAGES[0].replace(FAIR_IF, 'if (!done[3]) { next = pick(user); if (next == 3 && !(done[1] && done[2])) { next = pick(3); } }')
+FORTY = ''.join('line %d 0\n' % (1000 * i) for i in range(1, 41))
+
+
+def fair(text):
+    """One row of turn 0, one system call of each user, at most forty lines; the report of the run without lines; and the model's text."""
+    rows, cut = text.split('\nhalted')[0].split('\n'), lambda t: t[t.index('\nhalted'):].rstrip('\n')
+    calls = [r.split()[7] for r in rows if ' cause 6 data 0000000c ' in r]
+    lines = [r for r in rows if ' cause 1 data 00000001 ' in r]
+    return ('\nhalted' in text and rows[0] == RESET + ' 1' and sorted(calls) == ['1', '2', '3'] and len(lines) <= 40
+            and len(rows) == 4 + len(lines) and cut(text) == cut(WHOLE)
+            and text.rstrip('\n') == model_lines(FAIR, MESSAGES[1:], PARAMS, '', 100000, lines_of(text)).rstrip('\n'))
+
+
+schedules('forty lines', FAIR, MESSAGES[1:])
+part('file l', FORTY)
+checked('forty lines', 0, 'boot img l 100000 %d' % STEPS, WHOLE, fair, 0)
+
+
+def prefix(whole):
+    """The first rows of this text, or the first rows and a part of the next, behind which ` ..` stands."""
+    def holds(text):
+        begun = text[:-3] if text.endswith(' ..') else text + '\n' if text else ''
+        return whole.startswith(begun) and begun != whole
+    return holds
+
+
+def failing(name, what, calls, kernel, users, par, whole, status):
+    """Boots in one world, of which each fails at the next of these calls of its own, and a last one that doesn't fail."""
+    numbers, before = [], 0
+    for call in calls:
+        numbers.append(str(before + call))
+        before += call + 1
+    schedules(name, kernel, users, par, 'sectors 64\nroom 1000000\n%s %s' % (what, ' '.join(numbers)))
+    for at in range(len(calls)):
+        checked(name, at, 'boot img s %d %d' % (TURNS, STEPS), whole, prefix(whole), status)
+    run('boot img s %d %d' % (TURNS, STEPS), whole)
+
+
+failing('calls of the sink fail in turn', 'sink', [c for c in range(SINK_CALLS) if c in (0, 1, 4, 5, 6, 7, 8, 20, SINK_CALLS - 1)], MESSAGES[0], MESSAGES[1:], PARAMS, WHOLE, 7)
+
+# ---- four pages over two frames, and a disk that fails
+FOUR = 'bool b; ' + HEAD + ' { int next; if (cause == 0) { b = vm_resize(1, 4); next = 1; } return next; }'
+PAGES = ['lw r1, 4096(r0)\nlw r2, 8192(r0)\nsw r2, 12288(r0)\nsyscall\n.zero 1020\n.word 11\n.zero 1023\n.word 12\n']
+FOUR_TEXT = model(FOUR, PAGES, params(frames=2), '', TURNS)
+failing('each call of the disk fails in turn', 'disk', range(DISK_CALLS), FOUR, PAGES, params(frames=2), FOUR_TEXT, 5)
+
+# ---- a line at steps of products and quotients
+KEPT = 'int x; ' + HEAD + ' { int next; x = 100 / (cause + 3); if (cause < 2) { next = 1; } return next; }'
+PRODUCTS = ['ori r1, r0, 7\naddiu r2, r0, -3\nmult r1, r2\nmflo r3\ndiv r1, r2\ndiv r1, r0\nsyscall\n']
+schedules('a line at steps of products and quotients', KEPT, PRODUCTS)
+for step in (PRODUCTS_LEFT, (PRODUCTS_LEFT + PRODUCTS_BEGINS) // 2):
+    line_at(step, 5, model_lines(KEPT, PRODUCTS, PARAMS, '', TURNS, [('1', '20')]))
+for turn in range(1, 8):
+    line_at(PRODUCTS_BEGINS + turn - 1, 5, model_lines(KEPT, PRODUCTS, PARAMS, '', TURNS, [(str(turn), '20')]))
+line_at(PRODUCTS_BEGINS + 7, 5, model(KEPT, PRODUCTS, PARAMS, '', TURNS))
+
+
+# ---- the examples
+def as_modeled(kernel, users, par, schedule):
+    return lambda text: text.rstrip('\n') == model_lines(kernel, users, par, schedule, 100000, lines_of(text)).rstrip('\n')
+
+
+for name in ('adder', 'faults', 'round_robin', 'sharing'):
+    names = sorted((n for n in os.listdir(os.path.join(EXAMPLES, name)) if re.fullmatch(r'user\d+\.s', n)), key=lambda n: int(n[4:-2]))
+    kernel, users, par, schedule = read(name, 'kernel.c0'), [read(name, n) for n in names], read(name, 'params'), read(name, 'schedule')
+    begin('the example ' + name, 'sectors 64')
+    system(kernel, users, par, schedule)
+    words = 'boot img s 100000 %d' % STEPS
+    if 'line' in schedule:
+        checked('the example ' + name, 0, words, '', as_modeled(kernel, users, par, schedule), 0)
+    else:
+        run(words, model(kernel, users, par, schedule, 100000))
+
+NOTE = '''Lines at chosen steps, steps that are spent, calls that fail, and the examples. Written by bench/models/gen_lines.py.
+
+Three kinds of texts hang on the physical machine alone: at which turns lines are taken (forty lines, the example round_robin), and how many
+rows stand printed when a call fails. These are the program's own, checked by that script: with the turns of the lines as printed the model
+gives the same text, and what a failing call leaves is the first rows of the whole text. The steps of lines and of the last step of a run are
+measured. All else is worked out apart.
+
+'''
+with open(sys.argv[1], 'w') as f:
+    f.write(NOTE + '\n'.join(cases) + '\n')
+with open(sys.argv[2], 'w') as f:
+    f.write('\n'.join(told) + '\n')
