@@ -20,7 +20,7 @@ impl Altered {
             inner,
             sector: number(0).unwrap_or(u64::MAX),
             place: number(1).unwrap_or(0),
-            word: number(2).unwrap_or(0) as u32,
+            word: (number(2).unwrap_or(0) % 0x1_0000_0000) as u32,
         }
     }
 }
