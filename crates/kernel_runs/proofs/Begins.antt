@@ -49,7 +49,7 @@ use Rattle.c0_unit.specs.Code.{dispatch_number}
 use Rattle.kernel_runs.proofs.Instructions.{piece_at, not_own, kept_words}
 use Rattle.kernel_runs.proofs.Seen.{space_is}
 use Rattle.kernel_runs.proofs.Standing.{seen, behind, no_user, outer_of}
-use Rattle.kernel_runs.proofs.Reached.{RunsJoin, Reached, inside_of, goes_on}
+use Rattle.kernel_runs.proofs.Reached.{RunsJoin, Reached, inside_of, instructs_named, goes_on}
 use Rattle.kernel_runs.proofs.Counting.{IsElsewhere, Counts, begins, counts_along, counts_on}
 use Rattle.kernel_runs.proofs.Site.{setup}
 use Rattle.kernel_runs.proofs.Flat.{flat_scalars}
@@ -168,6 +168,7 @@ module _ (simulates : MachineSimulates) (joins : RunsJoin) (fitting : StaysFitti
             inside = λ j lt. inside_of x (run x s0 j) (sim.along j (omega (arith, lt))).quiet;
             between = λ j e pos lt d. absurd (omega (arith, pos, lt, one));
             sectors = λ j le q from. (sim.along j le).sectors q (omega arith);
+            named = λ j lt. instructs_named x y layer_words code words (run x s0 j) (sim.instructs j lt);
           };
         };
         counts =

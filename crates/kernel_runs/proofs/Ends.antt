@@ -55,7 +55,7 @@ use Rattle.kernel_runs.proofs.Runs.{RunTo}
 
 -- the first part of a way
 pub way_upto : (x : Outside) (y : Site) (D : Entry → Type 0) (s : State) (k j : ℕ) → j ≤ k → Way x y D k s → Way x y D j s
-way_upto x y D s k j le w = record { inside = λ i lt. w.inside i (omega (arith, lt, le)); between = λ i e pos lt d. w.between i e pos (omega (arith, lt, le)) d; sectors = λ i less. w.sectors i (omega (arith, less, le)) }
+way_upto x y D s k j le w = record { inside = λ i lt. w.inside i (omega (arith, lt, le)); between = λ i e pos lt d. w.between i e pos (omega (arith, lt, le)) d; sectors = λ i less. w.sectors i (omega (arith, less, le)); named = λ i lt. w.named i (omega (arith, lt, le)) }
 
 abbrev pub with_most : ℕ → Machines → Machines
 with_most m v = record { most = m; users = v.users; console = v.console }

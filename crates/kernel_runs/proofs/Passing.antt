@@ -229,7 +229,7 @@ module _ (simulates : MachineSimulates) (joins : RunsJoin) (fitting : StaysFitti
 
     come_on : Come (k + steps) (configuration_of later)
     come_on = passes_on simulates joins x y code words sound s0 k steps s come
-        (let w = back_it.comes.way in record { inside = w.inside; between = λ j e pos lt d. w.between j e pos lt (door_entry e d); sectors = w.sectors })
+        (let w = back_it.comes.way in record { inside = w.inside; between = λ j e pos lt d. w.between j e pos lt (door_entry e d); sectors = w.sectors; named = w.named })
         (λ e pos d. no_primitive here.cpu.pc n e few at_entry d) quiet
         (record { size = later_size; kept = kept_words y.linked later.memory code st.linked (λ j le lt. let l = linked_words in returned.stands.kernel.linked j (omega (arith, lt, l)) (not_own y.map j g.bounds.users le)) })
         (record { count = omega arith; named = subst (NamesSector 0) (sym returned.stands.idle) tt })

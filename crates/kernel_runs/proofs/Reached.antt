@@ -1,15 +1,16 @@
 -- How far a run has come: so many steps of the machine lead to a configuration, by a way that meets no door of the kernel.
-use Rattle.std.proofs.Common.{◌≡◌, ◌≢◌, ◌⊎◌, List, ℕ, ◌+◌, ◌-◌, ◌/◌, ◌<◌, ◌≤◌, inl, inr, sym, ap, ◌∙◌, subst, arith}
+use Rattle.std.proofs.Common.{◌≡◌, ◌≢◌, ◌⊎◌, List, ℕ, ◌+◌, ◌-◌, ◌*◌, ◌/◌, ◌<◌, ◌≤◌, inl, inr, sym, ap, ◌∙◌, subst, arith}
 use Rattle.std.proofs.lemmas.Bool.{cases_lt}
-use Rattle.mips_table.specs.Device.{Outside, sector_of}
+use Rattle.mips_table.specs.Device.{Pending, Idle, Reading, Writing, Outside, sector_of}
 use Rattle.mips_table.specs.Code.{World, Configuration as Machine, on_machine, Sound, Steps}
-use Rattle.mips_table.specs.Machine.{State, run}
-use Rattle.mips_table.specs.Simulation.{configuration_of, Quiet, Holds, Serves, MachineSimulates}
+use Rattle.mips_table.specs.Machine.{State, come_to, run}
+use Rattle.mips_table.specs.Fits.{NamesSector}
+use Rattle.mips_table.specs.Simulation.{configuration_of, Quiet, Holds, Serves, Instructs, MachineSimulates}
 use Rattle.mips_table.specs.declared.inst.Inst.{Inst}
 use Rattle.layer_map.specs.Map.{layer_words}
 use Rattle.layer_contract.specs.declared.entry.Entry.{Entry}
 use Rattle.layer_contract.specs.declared.entry.Entry.TheVariants.{Dispatch, Primitive, Fault as Exit, Leave}
-use Rattle.layer_contract.specs.Layer.{entry_address, Inside, Way, SectorsStay}
+use Rattle.layer_contract.specs.Layer.{entry_address, Inside, due, EndsNamed, Way, SectorsStay}
 use Rattle.layer_contract.specs.Follows.{IsKernelDoor}
 use Rattle.cvm_model.specs.Stands.{Site}
 use Rattle.kernel_runs.specs.Placed.{program}
@@ -36,12 +37,25 @@ no_primitive pc k (Primitive j) lt at d e = absurd d
 no_primitive pc k (Exit f) lt at d e = let least = d.0 in let most = d.1 in omega (arith, lt, at, e, least, most)
 no_primitive pc k Leave lt at d e = omega (arith, lt, at, e)
 
+-- no number is below 0
+in_none : (n : ℕ) (p : Pending) → NamesSector 0 p → NamesSector n p
+in_none n Idle h = tt
+in_none n (Reading left sector) h = absurd (omega (arith, h))
+in_none n (Writing left sector) h = absurd (omega (arith, h))
+
+-- a kernel's code uses no sector, so the command that one of its steps ends is for any of the users'
+pub instructs_named : (x : Outside) (y : Site) (first : ℕ) (code : List Inst) (words : ℕ) (s : State) → Instructs x (on_machine x (program first code words)) s → EndsNamed x y.map s
+unfolding due
+instructs_named x y first code words s i =
+    subst (λ o. NamesSector (y.map.users * y.map.params.pages) (come_to o).device.pending) (sym i.untaken) (in_none (y.map.users * y.map.params.pages) i.after.device.pending i.named)
+
 module _ (joins : RunsJoin) (x : Outside) (y : Site) (D : Entry → Type 0) (s : State) where
   no_way : Way x y D 0 s
   no_way = record {
     inside = λ j lt. absurd (omega (arith, lt));
     between = λ j e pos lt. absurd (omega (arith, lt));
     sectors = λ j le q from. let e : j ≡ 0 = omega (arith, le) in ap (λ n. sector_of (run x s n).device.sectors q) e;
+    named = λ j lt. absurd (omega (arith, lt));
   }
 
   -- ways join, where the state between them isn't at a door
@@ -50,6 +64,7 @@ module _ (joins : RunsJoin) (x : Outside) (y : Site) (D : Entry → Type 0) (s :
     inside = λ j lt. by_inside j lt (cases_lt j k);
     between = λ j e pos lt d. by_between j e pos lt d (cases_lt j k);
     sectors = λ j le. by_sectors j le (cases_lt j k);
+    named = λ j lt. by_named j lt (cases_lt j k);
   }
     where
       at : (j : ℕ) → k ≤ j → run x s j ≡ run x (run x s k) (j - k)
@@ -71,6 +86,10 @@ module _ (joins : RunsJoin) (x : Outside) (y : Site) (D : Entry → Type 0) (s :
       by_sectors j lt (inl less) = a.sectors j (omega (arith, less))
       by_sectors j lt (inr le) = λ q from. ap (λ t. sector_of t.device.sectors q) (at j le) ∙ b.sectors (j - k) (omega (arith, lt, le)) q from ∙ a.sectors k (omega arith) q from
 
+      by_named : (j : ℕ) → j < k + n → (j < k) ⊎ (k ≤ j) → EndsNamed x y.map (run x s j)
+      by_named j lt (inl less) = a.named j less
+      by_named j lt (inr le) = subst (EndsNamed x y.map) (sym (at j le)) (b.named (j - k) (omega (arith, lt, le)))
+
 module _ (simulates : MachineSimulates) (joins : RunsJoin) (x : Outside) (y : Site) (code : List Inst) (words : ℕ) (sound : Sound (on_machine x (program (layer_words + 1) code words))) where
   abbrev pub w : World
   w = on_machine x (program (layer_words + 1) code words)
@@ -91,6 +110,7 @@ module _ (simulates : MachineSimulates) (joins : RunsJoin) (x : Outside) (y : Si
         inside = λ j lt. inside_of x (run x s j) (sim.along j (omega (arith, lt))).quiet;
         between = λ j e pos lt d. let i = sim.instructs j lt in no_door (run x s j).cpu.pc e (code_is (layer_words + 1) code ((run x s j).cpu.pc / 4) i.inst i.code).0 d;
         sectors = λ j le q from. (sim.along j le).sectors q (omega arith);
+        named = λ j lt. instructs_named x y (layer_words + 1) code words (run x s j) (sim.instructs j lt);
       }
 
   first_pc : (s : State) (n : ℕ) (t : Machine) → Quiet x s → Holds w s.memory → Serves x w s.device → Steps w n (configuration_of s) t → (e : Entry) → 0 < n → IsKernelDoor e → s.cpu.pc ≢ entry_address e

@@ -1,3 +1,4 @@
+pub mod Due
 pub mod Apart
 pub mod ResetState
 pub mod LoadedState

@@ -4,24 +4,25 @@ use Rattle.std.specs.Prelude.{◌==◌, is_some}
 use Rattle.std.proofs.lemmas.Bool.{cond-true, cond-false}
 use Rattle.mips_table.specs.declared.cause.Cause.{Cause}
 use Rattle.mips_table.specs.declared.cause.Cause.TheVariants as causes
-use Rattle.mips_table.specs.Device.{Device, Outside, settled, counted, sector_of}
+use Rattle.mips_table.specs.Device.{Device, Idle, Outside, settled, counted, sector_of}
 use Rattle.mips_table.specs.Machine.{SR}
 use Rattle.mips_table.specs.Processor.{Cpu}
 use Rattle.mips_table.specs.Processor.{move}
 use Rattle.mips_table.specs.Flat.{Flat, VStep, Next as Goes, Trap, flat_access, answered, vstep}
 use Rattle.mips_table.specs.Machine.{State, Coming, Interrupt, Done, located, read_at, access, moved, fetched, latched, ended, come_to, cleared, interrupted, coming, if_on, step}
 use Rattle.mips_table.specs.Turns.{in_user, is_handled, handled}
-use Rattle.mips_table.specs.Fits.{Fits, StaysFitting}
+use Rattle.mips_table.specs.Fits.{NamesSector, Fits, StaysFitting}
 use Rattle.layer_map.specs.Map.{layer_words, globals_at, tables_at, frame_table_at, zero_frame_at}
 use Rattle.cvm_model.specs.Kernel.{Core}
 use Rattle.cvm_model.specs.Primitives.{user_of, with_user}
 use Rattle.cvm_model.specs.Cvm.{Running, Interrupts, user_step}
 use Rattle.cvm_model.specs.Stands.{Site, runs_user, Stands}
-use Rattle.layer_contract.specs.Layer.{SectorsStay}
+use Rattle.layer_contract.specs.Layer.{due}
 use Rattle.layer_contract.specs.Follows.{BeginsAs}
-use Rattle.layer_contract.specs.Users.{Premises, TakesFault, StepFollows, UserSteps, UserStepsLinked, UserStepsOrFaults}
+use Rattle.layer_contract.specs.Users.{Premises, TakesFault, StepSpares, StepFollows, UserSteps, UserStepsLinked, UserStepsOrFaults}
 use Rattle.layer_contract.proofs.Places.{own, Known, Sizes, sizes_of}
 use Rattle.layer_contract.proofs.After.{with_current, stands_after, running}
+use Rattle.layer_contract.proofs.Due.{none_is_due}
 use Rattle.layer_contract.proofs.Follow.{Good, Refused, follows}
 
 left : (a b : Bool) → (a && b) ≡ true → a ≡ true
@@ -62,8 +63,11 @@ module _ (words : StaysFitting) (x : Outside) (y : Site) (s : State) (c : Core) 
   unfolding step
   step_is = ap (if_on x s) on
 
-  stays : (o : Coming) → coming x (latched x s) ≡ o → (ended (come_to o)).device ≡ s.device → SectorsStay y.map s (step x s)
-  stays o e same q le = ap (λ (t : State). sector_of t.device.sectors q) step_is ∙ ap (λ o. sector_of (ended (come_to o)).device.sectors q) e ∙ ap (λ (d : Device). sector_of d.sectors q) same
+  stays : (o : Coming) → coming x (latched x s) ≡ o → (ended (come_to o)).device ≡ s.device → StepSpares x y s
+  stays o e same =
+      let all : (step x s).device ≡ s.device = ap (λ (t : State). t.device) step_is ∙ ap (λ o. (ended (come_to o)).device) e ∙ same in
+      let none : due x s ≡ Idle = none_is_due x s on p.back.stands.idle (ap (λ (d : Device). d.commands) all) in
+      (λ q le. ap (λ (d : Device). sector_of d.sectors q) all, subst (NamesSector (y.map.users * y.map.params.pages)) (sym none) tt)
 
   interrupt_stays : (before : State) (cause : Cause) (edata epc : ℕ) → before.device ≡ s.device → (ended (interrupted before cause edata epc)).device ≡ s.device
   interrupt_stays before cause edata epc same = ap counted (cleared_device cause before ∙ same) ∙ ap (λ p. settled p s.device) p.back.stands.idle
@@ -101,7 +105,7 @@ module _ (words : StaysFitting) (x : Outside) (y : Site) (s : State) (c : Core) 
   fits : (t : State) → step x s ≡ ended t → Fits x (ended t)
   fits t is = subst (Fits x) is (words x s 1 p.back.stands.fits).0
 
-  is_good : (o : Coming) (v : VStep) → coming x (latched x s) ≡ o → mask ≡ 0 → Good x y s c known o v → BeginsAs x y s c (user_step c v) × SectorsStay y.map s (step x s)
+  is_good : (o : Coming) (v : VStep) → coming x (latched x s) ≡ o → mask ≡ 0 → Good x y s c known o v → BeginsAs x y s c (user_step c v) × StepSpares x y s
   is_good o (Goes g) e z (t, od, after, same) =
       let is : step x s ≡ ended t = step_is ∙ ap (λ o. ended (come_to o)) (e ∙ od) in (
         (
@@ -121,12 +125,12 @@ module _ (words : StaysFitting) (x : Outside) (y : Site) (s : State) (c : Core) 
   takes : (o : Coming) → coming x (latched x s) ≡ o → Refused x y s c known o → TakesFault x s
   takes o e (why, edata, is, number, page, h) = record { handled = faults o e h; why = why; edata = edata; comes = e ∙ is; number = number; page = ltb-true _ _ page }
 
-  begins_as : (b : Bool) → (mask == 0) ≡ b → TakesFault x s ⊎ (BeginsAs x y s c (cond b (user_step c (vstep f)) (Interrupts 1 mask c 0)) × SectorsStay y.map s (step x s))
+  begins_as : (b : Bool) → (mask == 0) ≡ b → TakesFault x s ⊎ (BeginsAs x y s c (cond b (user_step c (vstep f)) (Interrupts 1 mask c 0)) × StepSpares x y s)
   begins_as true e =
       let z : mask ≡ 0 = eqb-true mask 0 e in
       ⊎_elim
       (λ r. inl (takes executed_as (instruction z) r))
-      (λ g. inr (subst (λ v. BeginsAs x y s c (user_step c v) × SectorsStay y.map s (step x s)) (sym vstep_is)
+      (λ g. inr (subst (λ v. BeginsAs x y s c (user_step c v) × StepSpares x y s) (sym vstep_is)
       (is_good executed_as (answered f (move (flat_access (own c)) s.cpu (slice_index (own c) (s.cpu.pc / 4)))) (instruction z) z g)))
       (follows x y s c known)
   begins_as false e = inr ((external e, refl, refl, refl), stays taken_as (external e) (interrupt_stays (latched x s) causes.External mask s.cpu.pc refl))

@@ -6,11 +6,11 @@ use Rattle.mips_table.specs.declared.inst.Inst.TheVariants.{Sw}
 use Rattle.mips_table.specs.declared.cause.Cause.TheVariants.{FetchFault, DataFault}
 use Rattle.mips_table.specs.Decoding.{decoding}
 use Rattle.mips_table.specs.Arith.{signed}
-use Rattle.mips_table.specs.Device.{Idle, Outside, sector_of}
+use Rattle.mips_table.specs.Device.{Pending, Idle, Outside, sector_of}
 use Rattle.mips_table.specs.Machine.{SR, MODE, number_of}
-use Rattle.mips_table.specs.Machine.{State, zero_cpu, Coming, Interrupt, latched, coming, run, step, located, read_at}
+use Rattle.mips_table.specs.Machine.{State, zero_cpu, Coming, Interrupt, latched, coming, come_to, run, step, located, read_at}
 use Rattle.mips_table.specs.Turns.{handled}
-use Rattle.mips_table.specs.Fits.{Fits}
+use Rattle.mips_table.specs.Fits.{NamesSector, Fits}
 use Rattle.c0_meaning.specs.Value.{group, empty}
 use Rattle.layer_contract.specs.declared.registers.TheConstants.{ARGUMENT, ANSWER, RETURN, KEPT}
 use Rattle.layer_contract.specs.declared.entry.Entry.{Entry}
@@ -52,12 +52,25 @@ pub record Inside (s : State) : Type 0 where
 abbrev pub SectorsStay : Map → State → State → Type 0
 SectorsStay m s t = (q : ℕ) → m.users * m.params.pages ≤ q → sector_of t.device.sectors q ≡ sector_of s.device.sectors q
 
--- For n steps, whatever lines are raised, the machine is inside, the pc is none of the doors but in the first and the last state, and
--- the sectors past the users' pages stay.
+-- the command that is under way in the step from this state just before the disk counts
+unfoldable pub due : Outside → State → Pending
+due x s = (come_to (coming x (latched x s))).device.pending
+
+-- if there is one, it is for a sector of the users' pages
+abbrev pub EndsNamed : Outside → Map → State → Type 0
+EndsNamed x m s = NamesSector (m.users * m.params.pages) (due x s)
+
+-- there is none where none was under way before the step and none begins in it
+abbrev pub NoneIsDue : Type 0
+NoneIsDue = (x : Outside) (s : State) → s.off ≡ None → s.device.pending ≡ Idle → (step x s).device.commands ≡ s.device.commands → due x s ≡ Idle
+
+-- For n steps, whatever lines are raised, the machine is inside, the pc is none of the doors but in the first and the last state, the
+-- sectors past the users' pages stay, and no command is for one of them.
 pub record Way (x : Outside) (y : Site) (Door : Entry → Type 0) (n : ℕ) (s : State) : Type 0 where
   pub inside : (j : ℕ) → j < n → Inside (run x s j)
   pub between : (j : ℕ) (e : Entry) → 0 < j → j < n → Door e → (run x s j).cpu.pc ≢ entry_address e
   pub sectors : (j : ℕ) → j ≤ n → SectorsStay y.map s (run x s j)
+  pub named : (j : ℕ) → j < n → EndsNamed x y.map (run x s j)
 
 -- within n steps the machine comes by such a way to a state of which Q holds
 pub record Comes (x : Outside) (y : Site) (Door : Entry → Type 0) (n : ℕ) (s : State) (Q : State → Type 0) : Type 0 where

@@ -18,7 +18,7 @@ use Rattle.cvm_model.specs.Primitives.{user_of}
 use Rattle.cvm_model.specs.Cvm.{begin}
 use Rattle.cvm_model.specs.Paged.{paged_of}
 use Rattle.cvm_model.specs.Stands.{Site}
-use Rattle.layer_contract.specs.Layer.{Back, SectorsStay, page_at}
+use Rattle.layer_contract.specs.Layer.{Back, SectorsStay, EndsNamed, page_at}
 use Rattle.layer_contract.specs.Follows.{BeginsAs}
 
 -- the premises: a map in range; words as they were linked that end before the zero frame; and a machine that runs a user
@@ -27,9 +27,13 @@ pub record Premises (x : Outside) (y : Site) (s : State) (c : Core) : Type 0 whe
   pub linked : length y.linked ≤ zero_frame_at y.map
   pub back : Back x y c s
 
+-- the step leaves the sectors past the users' pages as they are, and ends no command for one of them
+abbrev pub StepSpares : Outside → Site → State → Type 0
+StepSpares x y s = SectorsStay y.map s (step x s) × EndsNamed x y.map s
+
 -- the step is as turn k + 1 begins: the flat machine's step, its trap, or the taking of the pending lines
 abbrev pub StepFollows : Outside → Site → State → Core → ℕ → Type 0
-StepFollows x y s c k = BeginsAs x y s c (begin (suc k) c (latched x s).mask) × SectorsStay y.map s (step x s)
+StepFollows x y s c k = BeginsAs x y s c (begin (suc k) c (latched x s).mask) × StepSpares x y s
 
 -- a step that takes no handled fault
 abbrev pub UserSteps : Type 0

@@ -6,7 +6,7 @@
 ghost use Rattle.std.specs.Prelude.{◌≤◌, ℕ, List};
 ghost use Rattle.mips_table.specs.Device.{Outside, HasEightLines};
 ghost use Rattle.cvm_model.specs.Cvm.{System};
-ghost use Rattle.layer_contract.specs.Layer.{ResetStands, UserStands};
+ghost use Rattle.layer_contract.specs.Layer.{ResetStands, UserStands, NoneIsDue};
 ghost use Rattle.layer_contract.specs.Follows.{FirstCall, LoadedResets, MadeFor, SystemFits};
 ghost use Rattle.layer_contract.specs.Users.{FaultsAsk, SomeStores, UserSteps, UserStepsLinked, UserStepsOrFaults, UsersAreInterrupted};
 ghost use Rattle.layer_contract.specs.Samples.{AStateStands, ASpreadStateStands};
@@ -37,6 +37,11 @@ pub fn the_reset_stands()
 /// A law: a machine that stands in system mode stands in user mode once the processor and the current user's word are a user's.
 pub fn a_user_goes_on()
     ensures { UserStands }
+{}
+
+/// A law: where no command is under way and a step begins none, the disk ends none with it.
+pub fn no_command_is_due()
+    ensures { NoneIsDue }
 {}
 
 /// A law: there is a state that stands for the start of a run, and one in user mode.

@@ -5,13 +5,13 @@ use Rattle.std.proofs.lemmas.Bool.{cond-true, cond-false, cases_eq}
 use Rattle.mips_table.specs.declared.inst.Inst.{Inst}
 use Rattle.mips_table.specs.Encoding.{encoding}
 use Rattle.mips_table.specs.Device.{Outside}
-use Rattle.mips_table.specs.Machine.{State, run}
+use Rattle.mips_table.specs.Machine.{State, Done, come_to, coming, latched, run}
 use Rattle.mips_table.specs.Fits.{NamesSector}
 use Rattle.mips_table.specs.Code.{World, Sound, Configuration, Steps}
 use Rattle.mips_table.specs.Simulation.{configuration_of, Quiet, Holds, Serves, Simulates, MachineSimulates}
 use Rattle.masm.specs.Standing.{placed, BlockStands}
 use Rattle.cvm_model.specs.Stands.{Site, is_own}
-use Rattle.layer_contract.specs.Layer.{Inside}
+use Rattle.layer_contract.specs.Layer.{Inside, due, EndsNamed}
 use Rattle.layer_runs.specs.Runs.{Standing, Calm, kept_words, block_program, block_world, Makes, BlocksRun}
 
 -- the word of an instruction of a placed block
@@ -43,6 +43,11 @@ kept_by y k v e = by (nat_lt k (length y.linked)) (is_own y.map k) refl refl e
     by true false p q h = (ltb-true k (length y.linked) p, q, cc)
     by true true p q h = absurd (cc)
     by false b p q h = absurd (cc)
+
+-- the command that an instruction's step ends
+named_by : (x : Outside) (y : Site) (s after : State) → coming x (latched x s) ≡ Done after → NamesSector (y.map.users * y.map.params.pages) after.device.pending → EndsNamed x y.map s
+unfolding due
+named_by x y s after e h = subst (λ o. NamesSector (y.map.users * y.map.params.pages) (come_to o).device.pending) (sym e) h
 
 module _ (stands : (n : ℕ) (is : List Inst) → BlockStands n is) (x : Outside) (y : Site) (s : State) (n : ℕ) (is : List Inst) (at : Standing y n is) (c : Calm x y s) where
   pub sound : Sound (block_world x y s n is)
@@ -82,6 +87,7 @@ module _ (stands : (n : ℕ) (is : List Inst) → BlockStands n is) (x : Outside
           from = λ j lt. let i = m.instructs j lt in let b : n ≤ (run x s j).cpu.pc / 4 = ((stands n is).inside _ i.inst i.code).0 in omega arith;
           to = λ j lt. let i = m.instructs j lt in let b : (run x s j).cpu.pc / 4 < n + length is = ((stands n is).inside _ i.inst i.code).1 in omega arith;
           sectors = λ j le q past. (m.along j le).sectors q past;
+          named = λ j lt. let i = m.instructs j lt in named_by x y (run x s j) i.after i.untaken i.named;
         };
         there = there;
         calm = λ idle. record {

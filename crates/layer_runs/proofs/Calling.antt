@@ -153,7 +153,7 @@ module _ (m : Map) (sizes code : List ℕ) (made : IsMade m sizes code) where
           comes = record {
             steps = 1 + a.steps;
             within = omega arith;
-            way = way_from b.sum x y a.steps s r.enters.inside r.enters.sectors a.between;
+            way = way_from b.sum x y a.steps s r.enters.inside r.enters.sectors r.enters.named a.between;
             there = subst (Returned x y g c s) (sym (b.sum x s 1 a.steps)) q;
           };
           apart = λ j less same. ⊎_elim

@@ -209,7 +209,7 @@ module _ (m : Map) (sizes code : List ℕ) (made : IsMade m sizes code) where
         let gone : Gone z.words b.stands x y s2 n is r.stands a.calm (step x s2) = goes z.words b.stands x y s2 n is r.stands a.calm leaves (ap (placed n is) at2 ∙ g.stands) in
         let ready : UserReady (places_of m) m.params.pages u (contents s) (behind s) (contents s2) (behind s2) =
         subst (λ (v : Configuration). UserReady (places_of m) m.params.pages u (contents s) (behind s) v.contents v.behind) (sym a.there) g.done in
-        comes_by b x y s n 67 leave_steps e (Rested x y (User u) c) r.enters a (single x y n (n + length is) s2 (inr (omega arith, omega arith)) a.calm (omega arith) (omega arith) gone.stays.device)
+        comes_by b x y s n 67 leave_steps e (Rested x y (User u) c) r.enters a (single b.none x y n (n + length is) s2 (inr (omega arith, omega arith)) a.calm (omega arith) (omega arith) gone.stays.device)
         (user_stands s2 (step x s2) a.calm (a.size ∙ size) ready gone.off gone.special gone.cpu gone.stays) (omega arith)
 
   pub leaves : Tools → PowerEnds → EretLeaves → ((w : World) → Sound w → LeavesToUser w) → ((w : World) → Sound w → LeavesForGood w) → ((w : World) → Sound w → LeavesBadly w) → Leaves y

@@ -333,7 +333,7 @@ module _ (m : Map) (sizes code : List ℕ) (made : IsMade m sizes code) where
         subst (λ (v : Configuration). FaultDone (places_of m) (pages_by m.params.pages c.users) (base + a.edata / 4096) (contents (step x s)) (behind (step x s)) v.contents v.behind) (sym r.there) g.done in
         let size : length s2.memory ≡ length s.memory = r.size ∙ ap length first.memory in
         let there : run x (step x s) (r.steps + 1) ≡ step x s2 = b.sum x (step x s) r.steps 1 in
-        let last = single x y 0 (0 + length is) s2 (inl (omega (arith, handler_end m sizes code made))) r.calm (omega arith) (omega arith) gone.stays.device in
+        let last = single b.none x y 0 (0 + length is) s2 (inl (omega (arith, handler_end m sizes code made))) r.calm (omega arith) (omega arith) gone.stays.device in
         let within = r.within in
         let q : ℕ = base + a.edata / 4096 in
         record {

@@ -1,4 +1,5 @@
--- A run of one block of the layer's code, as the machine makes it: in the block's words, with the sectors past the users' pages as they were.
+-- A run of one block of the layer's code, as the machine makes it: in the block's words, with the sectors past the users' pages as they were,
+-- and no command for one of them.
 use Rattle.std.specs.Prelude.{◌≡◌, ◌≢◌, ℕ, ◌+◌, ◌*◌, ◌^◌, ◌<◌, ◌≤◌, ◌&&◌, not, false, nat_lt, if◌then◌else◌, List, length, map, slice_index, All, Option, Some, None}
 use Rattle.mips_table.specs.declared.inst.Inst.{Inst}
 use Rattle.mips_table.specs.Encoding.{InRange, encoding}
@@ -10,7 +11,7 @@ use Rattle.layer_map.specs.Map.{layer_words}
 use Rattle.masm.specs.Standing.{placed}
 use Rattle.cvm_model.specs.Stands.{Site, is_own}
 use Rattle.layer_contract.specs.declared.entry.Entry.{Entry}
-use Rattle.layer_contract.specs.Layer.{entry_address, IsEntry, Inside, SectorsStay}
+use Rattle.layer_contract.specs.Layer.{entry_address, IsEntry, Inside, SectorsStay, EndsNamed}
 
 -- a block stands at word n of a site's linked words, all of which stay
 pub record Standing (y : Site) (n : ℕ) (is : List Inst) : Type 0 where
@@ -40,12 +41,14 @@ block_program y words n is = record { code = placed n is; kept = kept_words y; w
 abbrev pub block_world : Outside → Site → State → ℕ → List Inst → World
 block_world x y s n is = on_machine x (block_program y (length s.memory) n is)
 
--- for n steps the machine is inside, with its pc at one of the words from a to b, and the sectors past the users' pages stay
+-- for n steps the machine is inside, with its pc at one of the words from a to b, the sectors past the users' pages stay, and no command is
+-- for one of them
 pub record Stretch (x : Outside) (y : Site) (a b n : ℕ) (s : State) : Type 0 where
   pub inside : (j : ℕ) → j < n → Inside (run x s j)
   pub from : (j : ℕ) → j < n → 4 * a ≤ (run x s j).cpu.pc
   pub to : (j : ℕ) → j < n → (run x s j).cpu.pc < 4 * b
   pub sectors : (j : ℕ) → j ≤ n → SectorsStay y.map s (run x s j)
+  pub named : (j : ℕ) → j < n → EndsNamed x y.map (run x s j)
 
 -- the machine makes a run of the block: after so many steps it is at t, and as calm as before where no command is under way
 pub record Makes (x : Outside) (y : Site) (n : ℕ) (is : List Inst) (steps : ℕ) (s : State) (t : Configuration) : Type 0 where
@@ -59,9 +62,11 @@ abbrev pub BlocksRun : Type 0
 BlocksRun = (x : Outside) (y : Site) (s : State) (t : Configuration) (n : ℕ) (is : List Inst) (steps : ℕ) → Standing y n is → Calm x y s →
     Steps (block_world x y s n is) steps (configuration_of s) t → Makes x y n is steps s t
 
--- for n steps the machine is inside, at no entry and below the kernel's code, and the sectors past the users' pages stay
+-- for n steps the machine is inside, at no entry and below the kernel's code, the sectors past the users' pages stay, and no command is for
+-- one of them
 pub record Between (x : Outside) (y : Site) (n : ℕ) (s : State) : Type 0 where
   pub inside : (j : ℕ) → j < n → Inside (run x s j)
   pub below : (j : ℕ) → j < n → (run x s j).cpu.pc < 4 * layer_words
   pub apart : (j : ℕ) (e : Entry) → j < n → IsEntry e → (run x s j).cpu.pc ≢ entry_address e
   pub sectors : (j : ℕ) → j ≤ n → SectorsStay y.map s (run x s j)
+  pub named : (j : ℕ) → j < n → EndsNamed x y.map (run x s j)

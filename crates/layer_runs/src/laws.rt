@@ -3,7 +3,7 @@ ghost use Rattle.layer_runs.specs.Laws.{ImageEnters, ImageEntersFirst, ImageExit
 ghost use Rattle.layer_runs.specs.Runs.{BlocksRun};
 
 use cvm_primitives::laws::memory_answers;
-use layer_contract::{faults_ask, the_reset_stands, users_are_interrupted};
+use layer_contract::{faults_ask, no_command_is_due, the_reset_stands, users_are_interrupted};
 use masm::laws::{a_block_stands, a_routine_returns, jumps_lead, runs_compose};
 use mips_table::runs::{
     an_interrupt_is_taken, code_runs_on_the_machine, eret_leaves, runs_join,
@@ -18,7 +18,7 @@ use trap_entry::{
 };
 
 /// The machine makes each run of a block of the layer's code, whatever lines are raised: its pc stays in the block up to the end of the run, the
-/// linked words stay, and so do the sectors past the users' pages.
+/// linked words stay, and so do the sectors past the users' pages, for which there is no command.
 pub fn blocks_run()
     ensures { BlocksRun }
 {
@@ -35,6 +35,7 @@ pub fn faults_exit()
     a_block_stands();
     runs_compose();
     jumps_lead();
+    no_command_is_due();
     words_stay_words();
     alikes_stand();
     the_power_port_ends_a_run();
@@ -50,6 +51,7 @@ pub fn the_kernel_is_left()
     a_block_stands();
     runs_compose();
     jumps_lead();
+    no_command_is_due();
     words_stay_words();
     alikes_stand();
     the_power_port_ends_a_run();
@@ -73,6 +75,7 @@ pub fn the_kernel_begins()
     a_block_stands();
     runs_compose();
     jumps_lead();
+    no_command_is_due();
     words_stay_words();
     alikes_stand();
     the_reset_stands();
@@ -89,6 +92,7 @@ pub fn the_kernel_is_called()
     a_block_stands();
     runs_compose();
     jumps_lead();
+    no_command_is_due();
     words_stay_words();
     alikes_stand();
     an_interrupt_is_taken();
@@ -105,6 +109,7 @@ pub fn primitives_answer()
     a_block_stands();
     runs_compose();
     jumps_lead();
+    no_command_is_due();
     words_stay_words();
     alikes_stand();
     a_routine_returns();
@@ -123,6 +128,7 @@ pub fn faults_settle()
     a_block_stands();
     runs_compose();
     jumps_lead();
+    no_command_is_due();
     words_stay_words();
     alikes_stand();
     eret_leaves();

@@ -68,7 +68,7 @@ module _ (x : Outside) (p : Program) (f : Sound (on_machine x p)) where
         time = ap (λ z. z.time) there ∙ ap (λ t. t + 1) g.time;
         serves = subst (λ z. Serves x (on_machine x p) z.device) (sym there) (record { count = v.count; named = settled_names p.count d.pending d named named });
         sectors = λ k le. ap (λ z. sector_of z.device.sectors k) there ∙ settled_sectors p.count d.pending d named k le ∙ ap (λ z. sector_of z k) g.disk.sectors;
-        instructs = record { inst = i; code = at; after = g.after; untaken = g.is };
+        instructs = record { inst = i; code = at; after = g.after; untaken = g.is; named = named };
       }
 
   steps_once : (s : State) (i : Inst) → Quiet x s → Holds (on_machine x p) s.memory → Serves x (on_machine x p) s.device → p.code (s.cpu.pc / 4) ≡ Some i → May (on_machine x p) i (configuration_of s) → After s (step x s) (act (on_machine x p) i (configuration_of s))

@@ -66,12 +66,14 @@ pub record Along (x : Outside) (w : World) (s : State) (j : ℕ) : Type 0 where
   pub mask : (run x s j).mask ≡ raised x j s.time s.mask
   pub time : (run x s j).time ≡ s.time + j
 
--- the step from this state is that of an instruction of the code, and takes no interrupt
+-- the step from this state is that of an instruction of the code, and takes no interrupt; a command that is under way before the disk
+-- counts is for a sector that the code may use
 pub record Instructs (x : Outside) (w : World) (s : State) : Type 0 where
   pub inst : Inst
   pub code : w.code (s.cpu.pc / 4) ≡ Some inst
   pub after : State
   pub untaken : coming x (latched x s) ≡ Done after
+  pub named : NamesSector w.count after.device.pending
 
 -- n steps of code, as the machine makes them, whatever lines are raised: each state on the way is what the code comes to
 pub record Simulates (x : Outside) (w : World) (n : ℕ) (s : State) : Type 0 where

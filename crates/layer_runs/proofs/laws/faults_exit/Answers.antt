@@ -5,6 +5,6 @@ use Rattle.layer_runs.proofs.laws.faults_exit.Goals as goal
 
 pub returns : goal.returns
 returns c =
-    let below : Below = record { sum = c.runs_join.ensures; blocks = c.blocks_run.ensures; stands = c.a_block_stands.ensures; runs = c.runs_compose.ensures; jumps = c.jumps_lead.ensures } in
+    let below : Below = record { sum = c.runs_join.ensures; blocks = c.blocks_run.ensures; stands = c.a_block_stands.ensures; runs = c.runs_compose.ensures; jumps = c.jumps_lead.ensures; none = c.no_command_is_due.ensures } in
     let tools : Tools = record { below = below; words = c.words_stay_words.ensures; alikes = c.alikes_stand.ensures } in
     λ m sizes code made. exits m sizes code made tools c.the_power_port_ends_a_run.ensures c.an_exit_comes.ensures

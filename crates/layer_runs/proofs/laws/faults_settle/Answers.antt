@@ -6,7 +6,7 @@ use Rattle.layer_runs.proofs.laws.faults_settle.Goals as goal
 
 pub returns : goal.returns
 returns c =
-    let below : Below = record { sum = c.runs_join.ensures; blocks = c.blocks_run.ensures; stands = c.a_block_stands.ensures; runs = c.runs_compose.ensures; jumps = c.jumps_lead.ensures } in
+    let below : Below = record { sum = c.runs_join.ensures; blocks = c.blocks_run.ensures; stands = c.a_block_stands.ensures; runs = c.runs_compose.ensures; jumps = c.jumps_lead.ensures; none = c.no_command_is_due.ensures } in
     let tools : Tools = record { below = below; words = c.words_stay_words.ensures; alikes = c.alikes_stand.ensures } in
     let handlers : Handlers = record {
       tools = tools;
