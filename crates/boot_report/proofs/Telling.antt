@@ -18,8 +18,8 @@ use Rattle.cvm_model.specs.Cvm.{Status}
 use Rattle.cvm_model.specs.Paged.{paged_of, pages_by}
 use Rattle.cvm_model.specs.Stands.{Site, Stands, UserFits, runs_user}
 use Rattle.cvm_model.specs.Text.{hex_row, nonzero_row, regs_text, memory_text, user_text, users_text, log_text}
-use Rattle.boot_report.specs.Texts.{texts, register_row, memory_row, pages_rows, register_rows, user_head, user_rows, users_rows, log_rows, cpu_of, pages_in, EntriesFit}
-use Rattle.boot_report.specs.Told.{IsRunning, RowsTell, WordsAreTold, WordsTell}
+use Rattle.boot_report.specs.Texts.{texts, register_row, memory_row, pages_rows, register_rows, user_head, user_rows, rows_of_user, users_rows, log_rows, cpu_of, pages_in, EntriesFit}
+use Rattle.boot_report.specs.Told.{IsRunning, RowsTell, UserRowsTell, WordsAreTold, WordsTell}
 use Rattle.boot_report.proofs.Texts.{texts-none, texts-suc, texts-add, texts-same}
 
 -- a text that goes down a list from the front
@@ -153,6 +153,20 @@ rows_tell x y held ss status c running range st run = record {
   users = users_told x y held ss status c running range st run;
   log = ap log_rows st.log ∙ log_told c.console.log;
 }
+
+pub user_rows_tell : UserRowsTell
+user_rows_tell x y held ss status c running u range st run is =
+    let low : 1 ≤ u = is.0 in
+    let high : u ≤ length c.users = is.1 in
+    let lt : u - 1 < length c.users = omega (arith, low, high) in
+    let after : u - 1 + 1 ≡ u = omega (arith, low) in
+    let before : 1 + (u - 1) ≡ u = omega (arith, low) in
+    record {
+      entries = entries_told x y held ss status c running range st run;
+      rows = ap (rows_of_user y.map held (paged_of y.map (state_of held ss)) running) (sym after)
+          ∙ user_told x y held ss status c running range st run (u - 1) lt
+          ∙ ap (λ n. user_text n (user_of c.users u)) before;
+    }
 
 -- some user runs, or none
 runs_some : (held : Held) (ss : List (List ℕ)) (c : Core) → (running : ℕ) × IsRunning held ss c running

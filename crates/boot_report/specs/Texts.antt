@@ -67,10 +67,13 @@ processor_rows u pages cpu =
 abbrev pub user_rows : Map → Paged → ℕ → ℕ → Cpu → List ℕ
 user_rows m a u pages cpu = processor_rows u pages cpu ++ pages_rows a ((u - 1) * m.params.pages) pages
 
--- the rows of users 1 to n, one of whom may run
+-- the rows of user u, where one of all users may run
+abbrev pub rows_of_user : Map → Held → Paged → (running u : ℕ) → List ℕ
+rows_of_user m held a running u = user_rows m a u (pages_in m held.hardware.memory u) (cpu_of held (u == running) u)
+
+-- and those of users 1 to n
 abbrev pub users_rows : Map → Held → Paged → (running : ℕ) → ℕ → List ℕ
-users_rows m held a running n =
-    texts (λ i. user_rows m a (i + 1) (pages_in m held.hardware.memory (i + 1)) (cpu_of held (i + 1 == running) (i + 1))) n
+users_rows m held a running n = texts (λ i. rows_of_user m held a running (i + 1)) n
 
 -- the rows of the words of the console's log
 abbrev pub log_rows : List ℕ → List ℕ

@@ -10,8 +10,8 @@ use Rattle.cvm_model.specs.Primitives.{user_of}
 use Rattle.cvm_model.specs.Cvm.{Status}
 use Rattle.cvm_model.specs.Paged.{paged_of}
 use Rattle.cvm_model.specs.Stands.{Site, Stands, IsUser, runs_user}
-use Rattle.cvm_model.specs.Text.{users_text, log_text}
-use Rattle.boot_report.specs.Texts.{users_rows, log_rows, EntriesFit}
+use Rattle.cvm_model.specs.Text.{user_text, users_text, log_text}
+use Rattle.boot_report.specs.Texts.{rows_of_user, users_rows, log_rows, EntriesFit}
 
 -- the user whom the machine runs has this number, and where it runs none the number is 0
 pub record IsRunning (held : Held) (ss : List (List ℕ)) (c : Core) (running : ℕ) : Type 0 where
@@ -28,6 +28,16 @@ pub record RowsAreTold (x : Outside) (y : Site) (held : Held) (ss : List (List �
 abbrev pub RowsTell : Type 0
 RowsTell = (x : Outside) (y : Site) (held : Held) (ss : List (List ℕ)) (status : Status) (c : Core) (running : ℕ) → MapInRange y.map → Stands x y (state_of held ss) status c → IsRunning held ss c running →
     RowsAreTold x y held ss c running
+
+-- the rows of user u alone
+pub record UserIsTold (m : Map) (held : Held) (ss : List (List ℕ)) (c : Core) (running u : ℕ) : Type 0 where
+  pub entries : EntriesFit m (state_of held ss)
+  pub rows : rows_of_user m held (paged_of m (state_of held ss)) running u ≡ user_text u (user_of c.users u)
+
+-- of every machine that stands for a state
+abbrev pub UserRowsTell : Type 0
+UserRowsTell = (x : Outside) (y : Site) (held : Held) (ss : List (List ℕ)) (status : Status) (c : Core) (running u : ℕ) → MapInRange y.map → Stands x y (state_of held ss) status c → IsRunning held ss c running → IsUser c u →
+    UserIsTold y.map held ss c running u
 
 -- word k of user u, as the machine shows it by pages
 abbrev pub user_word : Map → Paged → (u k : ℕ) → ℕ

@@ -1,7 +1,7 @@
 // Laws, each the contract of a function that does nothing.
 ghost use Rattle.boot_report.specs.Globals.{GlobalsTell};
 ghost use Rattle.boot_report.specs.Given.{GlobalRowsTell};
-ghost use Rattle.boot_report.specs.Told.{RowsTell, WordsTell};
+ghost use Rattle.boot_report.specs.Told.{RowsTell, UserRowsTell, WordsTell};
 
 use c0_meaning::laws::words_are_those_of_the_parts;
 
@@ -9,6 +9,11 @@ use c0_meaning::laws::words_are_those_of_the_parts;
 /// entry of the page tables names a frame of the memory.
 pub fn the_rows_tell()
     ensures { RowsTell }
+{}
+
+/// A law: where the machine stands for a state of the abstract machine, the rows of each user are those of its text.
+pub fn the_user_rows_tell()
+    ensures { UserRowsTell }
 {}
 
 /// A law: where the machine stands for a state of the abstract machine, the words of each user are those that its pages show.

@@ -6,7 +6,7 @@ ghost use Rattle.cvm_outside.specs.Told.{AppendsPart};
 ghost use Rattle.layer_map.specs.Map.{block_at, memory_words};
 ghost use Rattle.mips_machine.specs.Machine.{state_of};
 ghost use Rattle.cvm_model.specs.Paged.{paged_of};
-ghost use Rattle.boot_report.specs.Texts.{cpu_of, pages_in, register_rows, processor_rows, user_rows, users_rows, log_rows, EntriesFit, SameButViewed};
+ghost use Rattle.boot_report.specs.Texts.{cpu_of, pages_in, register_rows, processor_rows, user_rows, rows_of_user, users_rows, log_rows, EntriesFit, SameButViewed};
 
 use crate::fault::ReportFault;
 use crate::memory::put_memory;
@@ -157,6 +157,40 @@ fn put_one<D: Sectors, O: Sink>(
     let pages = block_word(machine, user, BLOCK_SIZE).min(most);
     put_processor(machine, runs, user, pages, out)?;
     put_memory(machine, map, (user - 1) * most, pages, disk, out)
+}
+
+/// Prints the rows of this user, where one of all users may run: its number, or 0.
+///
+/// # Errors
+///
+/// A fault of the disk or of the sink.
+pub fn put_user_rows<D: Sectors, O: Sink>(
+    machine: &mut Machine,
+    map: &Map,
+    running: u32,
+    user: u32,
+    disk: &mut D,
+    out: &mut O,
+) -> Result<(), ReportFault>
+    requires user { 1 ≤ user }
+    requires most { user ≤ map.now.users }
+    requires few { map.now.users ≤ 64 }
+    requires memory { memory_words map.now ≤ length machine.old.hardware.memory }
+    requires layer { 16384 ≤ length machine.old.hardware.memory }
+    requires small { memory_words map.now ≤ 30000000 }
+    requires all { map.now.users * map.now.params.pages ≤ 65536 }
+    requires room { map.now.users * map.now.params.pages ≤ D.size disk.old }
+    ensures ok { (ss : List (List ℕ)) → D.sectors disk.old ≡ Some ss → EntriesFit map.now (state_of machine.old ss) → OnOk result (O.text out.new ≡ append_known (O.text out.old) (rows_of_user map.now machine.old (paged_of map.now (state_of machine.old ss)) running user)) }
+    ensures err { (ss : List (List ℕ)) → D.sectors disk.old ≡ Some ss → EntriesFit map.now (state_of machine.old ss) → OnErr result (AppendsPart (O.text out.old) (O.text out.new) (rows_of_user map.now machine.old (paged_of map.now (state_of machine.old ss)) running user)) }
+    ensures same { SameButViewed machine.old machine.new }
+    ensures sectors { D.sectors disk.new ≡ D.sectors disk.old }
+    ensures size { D.size disk.new ≡ D.size disk.old }
+    ensures disk { result ≡ Err ReportFault.Disk → Rose (D.faults disk.old) (D.faults disk.new) }
+    ensures disk_same { result ≢ Err ReportFault.Disk → D.faults disk.new ≡ D.faults disk.old }
+    ensures sink { result ≡ Err ReportFault.Sink → Rose (O.faults out.old) (O.faults out.new) }
+    ensures sink_same { result ≢ Err ReportFault.Sink → O.faults out.new ≡ O.faults out.old }
+{
+    put_one(machine, map, user == running, user, disk, out)
 }
 
 /// Prints the rows of all users, one of whom may run: its number, or 0.
