@@ -5,7 +5,7 @@ use Rattle.std.specs.Int.{cast_unsigned, w32}
 use Rattle.std.proofs.lemmas.Bool.{cases_lt, cond_both, leb-true}
 use Rattle.std.proofs.lemmas.Int.{of_z-to_z, to_z_pos}
 use Rattle.std.proofs.Math.Facts.{to_z-neg}
-use Rattle.std.proofs.lemmas.List.{length-take-le, take_at}
+use Rattle.std.proofs.lemmas.List.{length-append, length-take, length-take-le, take_at}
 use Rattle.mips_table.specs.Arith.{signed}
 use Rattle.mips_table.specs.Flat.{Flat}
 use Rattle.c0_meaning.specs.Value.{bool}
@@ -99,6 +99,15 @@ length_dropped : (n : ℕ) (xs : List ℕ) → length (drop n xs) ≡ length xs 
 length_dropped zero xs = omega arith
 length_dropped (suc n) [] = omega arith
 length_dropped (suc n) (x ∷ xs) = length_dropped n xs ∙ omega arith
+
+-- words that are replaced are as many
+put_length : (ws new : List ℕ) (b : ℕ) → b + length new ≤ length ws → length (take b ws ++ (new ++ drop (b + length new) ws)) ≡ length ws
+put_length ws new b le =
+    let p = length-append (take b ws) (new ++ drop (b + length new) ws) in
+    let q = length-append new (drop (b + length new) ws) in
+    let r = length-take-le b ws (omega (arith, le)) in
+    let s = length_dropped (b + length new) ws in
+    omega (arith, p, q, r, s, le)
 
 module _ (regs : List ℕ) (fits : (r : ℕ) → slice_index regs r < 2 ^ 32) (u back answer : ℕ) where
   -- what is noted of it
@@ -202,3 +211,58 @@ module _ (regs : List ℕ) (fits : (r : ℕ) → slice_index regs r < 2 ^ 32) (u
     -- THE ENTRIES of user u of what a primitive changed are those by its note
     pub call_agrees : (call : Call) → AreArguments regs 20 (arguments_of call) → Agrees (primitive_number call) (prim most call users o)
     call_agrees call args = cond_both (is_good most users call) (granted users o call) (unchanged users o (refused call) 0 0) (Agrees (primitive_number call)) (λ good. granted_agrees call good args) (λ _. refused_agrees users o call)
+
+    -- the words that were copied lie in the user's memory
+    copied_placed : (a b v w : ℤ) (n : ℕ) → is_good most users (VmCopy v a w b (pos n)) ≡ true → AreArguments regs 20 (arguments_of (VmCopy v a w b (pos n))) → slice_index regs 22 ≡ u →
+        slice_index regs 23 / 4 + slice_index regs 24 ≤ length (user_of (granted users o (VmCopy v a w b (pos n))).users u).words
+    copied_placed a b v w n good args same =
+        let h4 = both_left _ _ good in
+        let h3 = both_left _ _ h4 in
+        let h2 = both_left _ _ h3 in
+        let target : is_within 1 (length users) w ≡ true = both_right _ _ h2 in
+        let from : is_place (user_of users (nat_abs v)) a n ≡ true = both_right _ _ h3 in
+        let to : is_place (user_of users (nat_abs w)) b n ≡ true = both_right _ _ h4 in
+        let ew : nat_abs w ≡ u = abs_of 22 w args.1.1.0 (within_pos 1 (length users) w target) ∙ same in
+        let eb : nat_abs b ≡ slice_index regs 23 = abs_of 23 b args.1.1.1.0 (place_pos (user_of users (nat_abs w)) b n to) in
+        let en : n ≡ slice_index regs 24 = abs_of 24 (pos n) args.1.1.1.1.0 (n, refl) in
+        let few = length-take n (drop (nat_abs a / 4) (user_of users (nat_abs v)).words) in
+        let room = place_is (user_of users (nat_abs w)) b n to in
+        let size : length (with_words (user_of users (nat_abs w)) (nat_abs b) (take n (drop (nat_abs a / 4) (user_of users (nat_abs v)).words))).words ≡ length (user_of users (nat_abs w)).words =
+        put_length (user_of users (nat_abs w)).words (take n (drop (nat_abs a / 4) (user_of users (nat_abs v)).words)) (nat_abs b / 4) (omega (arith, few, room)) in
+        let there : user_of (with_user users (nat_abs w) (with_words (user_of users (nat_abs w)) (nat_abs b) (take n (drop (nat_abs a / 4) (user_of users (nat_abs v)).words)))) u
+        ≡ with_words (user_of users (nat_abs w)) (nat_abs b) (take n (drop (nat_abs a / 4) (user_of users (nat_abs v)).words)) =
+        subst (λ i. user_of (with_user users i (with_words (user_of users (nat_abs w)) (nat_abs b) (take n (drop (nat_abs a / 4) (user_of users (nat_abs v)).words)))) u
+        ≡ with_words (user_of users (nat_abs w)) (nat_abs b) (take n (drop (nat_abs a / 4) (user_of users (nat_abs v)).words))) (sym ew)
+        (user_set users u (with_words (user_of users (nat_abs w)) (nat_abs b) (take n (drop (nat_abs a / 4) (user_of users (nat_abs v)).words))) low high) in
+        let same_length = ap (λ (f : Flat). length f.words) there in
+        let bound : nat_abs b / 4 + n ≤ length (user_of (with_user users (nat_abs w) (with_words (user_of users (nat_abs w)) (nat_abs b) (take n (drop (nat_abs a / 4) (user_of users (nat_abs v)).words)))) u).words =
+        omega (arith, room, size, same_length) in
+        subst (λ i. i / 4 + slice_index regs 24 ≤ length (user_of (granted users o (VmCopy v a w b (pos n))).users u).words) eb
+        (subst (λ i. nat_abs b / 4 + i ≤ length (user_of (granted users o (VmCopy v a w b (pos n))).users u).words) en bound)
+
+    abbrev Placed : Call → Given → Type 0
+    Placed call g = flat (λ _. 0) g.answer ≡ answer ∷ [] → answer ≡ 1 → primitive_number call ≡ 6 → slice_index regs 22 ≡ u → slice_index regs 23 / 4 + slice_index regs 24 ≤ length (user_of g.users u).words
+
+    not_one : (a : ℕ) → 0 ∷ [] ≡ a ∷ [] → a ≡ 1 → ⊥
+    not_one a h one = let z = one_value 0 a h in omega (arith, z, one)
+
+    other_call : (k : ℕ) → k ≡ 6 → k < 6 → ⊥
+    other_call k e lt = omega (arith, e, lt)
+
+    later_call : (k : ℕ) → k ≡ 6 → 6 < k → ⊥
+    later_call k e lt = omega (arith, e, lt)
+
+    pub call_placed : (call : Call) → AreArguments regs 20 (arguments_of call) → Placed call (prim most call users o)
+    call_placed (VmGet v r) args h one six same = absurd (other_call 0 six (omega arith))
+    call_placed (VmSet v r w) args h one six same = absurd (other_call 1 six (omega arith))
+    call_placed (VmSize v) args h one six same = absurd (other_call 2 six (omega arith))
+    call_placed (VmResize v pages) args h one six same = absurd (other_call 3 six (omega arith))
+    call_placed (VmWord v a) args h one six same = absurd (other_call 4 six (omega arith))
+    call_placed (VmPut v a w) args h one six same = absurd (other_call 5 six (omega arith))
+    call_placed (VmCopy v a w b (negsuc n)) args h one six same = absurd (not_one answer h one)
+    call_placed (VmCopy v a w b (pos n)) args h one six same =
+        cond_both (is_good most users (VmCopy v a w b (pos n))) (granted users o (VmCopy v a w b (pos n))) (unchanged users o (bool false) 0 0) (Placed (VmCopy v a w b (pos n)))
+        (λ good h one six same. copied_placed a b v w n good args same) (λ bad h one six same. absurd (not_one answer h one)) h one six same
+    call_placed (ConPut w) args h one six same = absurd (later_call 7 six (omega arith))
+    call_placed ConGet args h one six same = absurd (later_call 8 six (omega arith))
+    call_placed ConLeft args h one six same = absurd (later_call 9 six (omega arith))

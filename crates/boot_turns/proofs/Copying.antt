@@ -55,7 +55,7 @@ module _ (m : Map) (a : Paged) (u steps address : ℕ) where
   after_puts s b [] = refl
   after_puts s b (w ∷ ws) = none_after (b + 4) ws ∙ sym (cond-false (suc (length ws) == 0) s 0 (ne_eqb (suc (length ws)) 0 (λ e. absurd (omega (arith, e)))))
 
-  left_is : (n : ℕ) → steps_after steps (puts address (user_words m a u (address / 4) n)) ≡ steps_left steps n
+  pub left_is : (n : ℕ) → steps_after steps (puts address (user_words m a u (address / 4) n)) ≡ steps_left steps n
   left_is n = after_puts steps address (user_words m a u (address / 4) n) ∙ ap (steps_left steps) (long n)
 
   pub rows_next : (n : ℕ) → copy_rows m a u steps address (suc n) ≡ copy_rows m a u steps address n ++ (steps_row (steps_left steps n) ++ entry_row (Put (address + 4 * n) (user_word m a u (address / 4 + n))))

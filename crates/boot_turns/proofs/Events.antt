@@ -107,7 +107,7 @@ fails_torn count old new told retold h = λ ss e.
     let d : Device = before_count (outside_of old.rows count) (state_of old ss) in
     torn_by d.pending d.buffer new.hardware.buffer ss retold (subst (λ (t : Option (List (List ℕ))). TransferFails d.pending d.buffer new.hardware.buffer t retold) e (h.disk ss))
 
-told_as_some : (told : Option (List (List ℕ))) (held : Held) (v : State) → seen told held ≡ Some v → (ss : List (List ℕ)) × (told ≡ Some ss) × (state_of held ss ≡ v)
+pub told_as_some : (told : Option (List (List ℕ))) (held : Held) (v : State) → seen told held ≡ Some v → (ss : List (List ℕ)) × (told ≡ Some ss) × (state_of held ss ≡ v)
 told_as_some None held v h = absurd (let f : ◌≡◌ {A = Option State} None (Some v) = h in cc)
 told_as_some (Some ss) held v h = (ss, refl, cc)
 

@@ -23,3 +23,6 @@ pub mod Tracing
 pub mod SetRow
 pub mod Puts
 pub mod Copying
+pub mod Tearing
+pub mod Tracking
+pub mod Followed

@@ -24,7 +24,7 @@ use Rattle.boot_turns.proofs.Units.{one_cvm}
 use Rattle.boot_turns.proofs.Turning.{Given}
 use Rattle.boot_turns.proofs.Growing.{rows_grow}
 use Rattle.boot_turns.proofs.Joining.{finished, unfinished, shown}
-use Rattle.boot_turns.proofs.Whole.{forward, goes_on, two_faults, ahead, defined, beyond}
+use Rattle.boot_turns.proofs.Whole.{forward, goes_on, two_faults, ahead, defined, beyond, torn}
 
 -- sizes of users at the start
 first_sizes : (users : List (List ℕ)) → map (λ words. pages_of (first_flat words)) users ≡ map pages_of (map first_flat users)
@@ -116,6 +116,7 @@ machines_run resets users counts isolated Typed lines busy x y old image sizes m
       two_faults = two_faults x y old Typed g counts;
       ahead = ahead x y old Typed g;
       beyond = beyond x y old Typed g boots.fits.range.params.a_page;
+      torn = torn x y old Typed g boots.fits.range.params.a_page;
       found = finished x y old Typed g;
       unfound = unfinished x y old Typed g;
       shows = shown x y old Typed g;

@@ -1,5 +1,5 @@
 -- One more step of the loop to the end of a turn.
-use Rattle.std.proofs.Common.{◌≡◌, ℕ, suc, ◌<◌, ◌≤◌, ◌||◌, not, Bool, true, false, Option, Some, None, List, refl, sym, ap, ◌∙◌, subst, subst₂, ⊎_elim, arith}
+use Rattle.std.proofs.Common.{◌≡◌, ℕ, suc, ◌+◌, ◌<◌, ◌≤◌, Result, Err, ◌||◌, not, Bool, true, false, Option, Some, None, List, refl, sym, ap, ◌∙◌, subst, subst₂, ⊎_elim, arith}
 use Rattle.std.specs.Prelude.{IfSome, is_some}
 use Rattle.std.specs.Option.{option_map}
 use Rattle.std.proofs.lemmas.Bool.{cases_lt}
@@ -7,8 +7,12 @@ use Rattle.mips_table.specs.Device.{Outside}
 use Rattle.mips_table.specs.Machine.{State, run, step}
 use Rattle.mips_table.specs.Turns.{begins, rests, in_user}
 use Rattle.mips_machine.specs.Machine.{Held, state_of}
-use Rattle.boot_turns.specs.Completes.{seen, note, shown, noted, is_at_rest, Open, Progress}
+use Rattle.mips_machine.specs.Steps.{outside_of}
+use Rattle.boot_turns.specs.Completes.{seen, note, shown, noted, is_at_rest, Open, Progress, StepRan, StepTorn, CompleteErr}
 use Rattle.boot_turns.specs.declared.completion.Begun.{Begun}
+use Rattle.boot_turns.specs.declared.answers.RunFault.{RunFault}
+use Rattle.boot_turns.specs.declared.answers.RunFault.TheVariants.{StepLimit, Disk, Sink}
+use Rattle.boot_turns.proofs.Events.{step_torn}
 
 same_state : (a b : State) → Some a ≡ Some b → a ≡ b
 same_state a b h = cc
@@ -63,7 +67,7 @@ opened_more x s t u None false now le p e n = λ j l h. ⊎_elim
     (λ (ge : u ≤ j). let d : u ≡ j = omega arith in subst (λ i. begins x (run x s i) ≡ false) d (sym e))
     (cases_lt j u)
 
-seen_more : (x : Outside) (a b : Option State) (v : State) → b ≡ option_map (step x) a → a ≡ Some v → b ≡ Some (step x v)
+pub seen_more : (x : Outside) (a b : Option State) (v : State) → b ≡ option_map (step x) a → a ≡ Some v → b ≡ Some (step x v)
 seen_more x a b v h e = h ∙ ap (option_map (step x)) e
 
 pub one_step : (x y : Outside) (s : State) (t u : ℕ) (told retold : Option (List (List ℕ))) (old new : Held) (b out : Option Begun) (began : Bool) → y ≡ x → t ≤ u →
@@ -74,3 +78,17 @@ one_step x y s t u told retold old new b out began same le is p ran bg note_is =
     let bg2 : IfSome (Some (run x s u)) (λ s. began ≡ begins x s) = subst₂ (λ y o. IfSome o (λ s. began ≡ begins y s)) same is bg in
     let there : seen retold new ≡ Some (run x s (suc u)) = seen_more x _ _ _ ran2 is in
     (there, subst (Opened x s t (suc u)) (sym note_is) (opened_more x s t u b began (shown new) le p bg2 (seen_note retold new _ there)))
+
+-- the answer of a step that failed, or whose rows did
+abbrev failing : RunFault → Result Bool RunFault
+failing f = Err f
+
+-- the step at u failed, or its rows
+pub step_stops : (count : ℕ) (x : Outside) (s : State) (t u before after : ℕ) (told retold : Option (List (List ℕ))) (old new : Held) (b : Option Begun) (f : RunFault) → outside_of old.rows count ≡ x → t ≤ u → after + (u + 1) ≡ before + t →
+    seen told old ≡ Some (run x s u) → Progress x s t u b → (failing f ≡ Err StepLimit → ⊥) → (failing f ≡ Err Disk → StepTorn count old told retold) → ((failing f ≡ Err Disk → ⊥) → StepRan count old new told retold) →
+    CompleteErr x (seen retold new) before after s t f
+step_stops count x s t u before after told retold old new b StepLimit same le spent is p limit torn ran = absurd (limit refl)
+step_stops count x s t u before after told retold old new b Disk same le spent is p limit torn ran = (u, le, spent, (b, p), step_torn count x old new told retold (run x s u) same is (torn refl))
+step_stops count x s t u before after told retold old new b Sink same le spent is p limit torn ran =
+    let ran_x : seen retold new ≡ option_map (step x) (seen told old) = subst (λ (z : Outside). seen retold new ≡ option_map (step z) (seen told old)) same (ran (λ e. cc)) in
+    (u, le, spent, (b, p), seen_more x (seen told old) (seen retold new) (run x s u) ran_x is)

@@ -24,7 +24,7 @@ use Rattle.boot_turns.specs.Completes.{note, ShownAs}
 use Rattle.boot_turns.specs.Trace.{ended_at_begin, ended_since, Shown}
 use Rattle.boot_turns.specs.TurnEnds.{Stood}
 use Rattle.boot_turns.specs.declared.tracer.Entered.{Entered}
-use Rattle.boot_turns.specs.Entries.{noted_call, turn_begins, call_ends, returned, return_entries, WordsAt, ShowsMore, TraceGrows}
+use Rattle.boot_turns.specs.Entries.{IsPlaced, noted_call, turn_begins, call_ends, returned, return_entries, WordsAt, ShowsMore, TraceGrows}
 use Rattle.boot_turns.proofs.Stepping.{both_right, inside_begins, inside_rests, user_rests}
 use Rattle.boot_turns.proofs.Entering.{entered_none, entered_user, entered_off, not_system, begins_enters}
 use Rattle.boot_turns.proofs.Counting.{turn_same, turn_more, still, completes}
@@ -35,7 +35,7 @@ use Rattle.boot_turns.proofs.Whole.{on_back, OffOn, off_on, ended_off, forward, 
 use Rattle.boot_turns.proofs.Joining.{stood_rests}
 use Rattle.boot_turns.proofs.UnderWay.{stays_quiet, next_none, under_way_later, ended_later, ended_grows, note_back, noted_back, noted_none, noted_later}
 use Rattle.boot_turns.proofs.Calling.{over_quiet, CallAt, call_at, its_note, noted_last}
-use Rattle.boot_turns.proofs.Calls.{call_agrees}
+use Rattle.boot_turns.proofs.Calls.{call_agrees, call_placed}
 use Rattle.boot_turns.proofs.Journals.{calls_grow, get_same, Known, known_more, Cut, closed_is, closed, begins_open, begins_step, goes_more, closes}
 
 none_some : {A : Type 0} (p : A) → None ≡ Some p → ⊥
@@ -463,12 +463,13 @@ module _ (x : Outside) (y : System) (old : List (List ℕ)) (Typed : C0 → Type
 
     -- a step in which a primitive returns
     call_step : (t : ℕ) (j : List JournalEntry) (e : Entered) (core : Core) → begins x (run x s t) ≡ false → noted_call x s t ≡ Some e → (run x s (suc t)).cpu.pc ≡ e.back → Stands x site (run x s (suc t)) Running core →
+        IsPlaced u e (slice_index (run x s (suc t)).cpu.regs ANSWER) (user_of core.users u).words →
         Shown x s y u (suc t) (j ++ call_ends u e (slice_index (run x s (suc t)).cpu.regs ANSWER) (user_of core.users u).words) → ShowsMore x y old u t j
-    call_step t j e core b is pc stands w =
+    call_step t j e core b is pc stands placed w =
         let back : returned (run x s (suc t)) (noted_call x s t) ≡ Some e = ap (returned (run x s (suc t))) is ∙ cond-true ((run x s (suc t)).cpu.pc == e.back) (Some e) None (eq-eqb _ _ pc) in
         record {
           words = (user_of core.users u).words;
-          there = subst (WordsAt x y u (run x s (suc t)) (user_of core.users u).words) (sym back) (core, stands, refl);
+          there = subst (WordsAt x y u (run x s (suc t)) (user_of core.users u).words) (sym back) (core, stands, refl, placed);
           shown = subst (λ (l : List JournalEntry). Shown x s y u (suc t) (j ++ l))
               (sym (cond-false (begins x (run x s t)) (turn_begins u (slice_index (run x s t).memory current_at) (note (run x s (suc t))))
               (return_entries u (run x s (suc t)) (user_of core.users u).words (returned (run x s (suc t)) (noted_call x s t))) b
@@ -630,10 +631,17 @@ module _ (x : Outside) (y : System) (old : List (List ℕ)) (Typed : C0 → Type
             ∙ call_agrees entry_state.cpu.regs (λ r. index_word entry_state.cpu.regs r it.ends.called.at.stands.fits.cpu.regs.each) u (slice_index entry_state.cpu.regs RETURN) (slice_index (run x s (suc t)).cpu.regs ANSWER)
             site.map.params.pages it.ends.core.users it.ends.core.console low (omega (arith, high, count)) it.ends.call it.ends.called.arguments back_there.answer
 
+        placed_there : IsPlaced u (its_note x site y.longest (run x s d.at) (ended_before x (run x s d.at) (t - d.at)) it.changes it.ends d.called.called.at.pc) (slice_index (run x s (suc t)).cpu.regs ANSWER)
+            (user_of (given site it.ends.core it.ends.call).users u).words
+        placed_there =
+            let count : length it.ends.core.users ≡ length y.boot.users = it.ends.called.at.stands.whole.users in
+            call_placed entry_state.cpu.regs (λ r. index_word entry_state.cpu.regs r it.ends.called.at.stands.fits.cpu.regs.each) u (slice_index entry_state.cpu.regs RETURN) (slice_index (run x s (suc t)).cpu.regs ANSWER)
+            site.map.params.pages it.ends.core.users it.ends.core.console low (omega (arith, high, count)) it.ends.call it.ends.called.arguments back_there.answer
+
         call_here : ShowsMore x y old u t j
         call_here = call_step t j (its_note x site y.longest (run x s d.at) (ended_before x (run x s d.at) (t - d.at)) it.changes it.ends d.called.called.at.pc)
             (record it.ends.core { users = (given site it.ends.core it.ends.call).users; console = (given site it.ends.core it.ends.call).console })
-            no_begin_here noted_it back_there.pc back_there.stands
+            no_begin_here noted_it back_there.pc back_there.stands placed_there
             (subst (λ (l : List JournalEntry). Shown x s y u (suc t) (j ++ l)) entries_are shown_one)
 
       none_noted : (e : Entered) → None ≡ Some e → ⊥

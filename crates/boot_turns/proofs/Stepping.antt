@@ -8,12 +8,12 @@ use Rattle.mips_table.specs.declared.inst.Inst.{Inst}
 use Rattle.mips_table.specs.declared.inst.Inst.TheVariants.{Mfc0, Mtc0, Eret}
 use Rattle.mips_table.specs.declared.effect.Effect.{Effect}
 use Rattle.mips_table.specs.declared.effect.Effect.TheVariants.{Set, Wide, Load, Store, Overflow, Call, System}
-use Rattle.mips_table.specs.Device.{Idle, Outside, POWER, port_write, settled, counted}
+use Rattle.mips_table.specs.Device.{Device, Idle, Outside, POWER, port_write, settled, counted}
 use Rattle.mips_table.specs.Decoding.{decoding}
 use Rattle.mips_table.specs.Processor.{Cpu, Access, Move, Ran, Loaded, Stored, Trapped, Privileged, is_aligned, accessed, performed, effect_on, executed, move}
 use Rattle.mips_table.specs.Machine.{State, SR, LOG, INPUT, LOG_ROOM, Coming, Interrupt, Done, in_system, located, after_read, after_read_at, port_written, written_at, access, privileged, moved, fetch, fetched, coming, taken, number_of, cleared, interrupted, come_to, latched, ended, if_on, step, run}
 use Rattle.mips_table.specs.Turns.{is_on, in_user, is_handled, handled, begins, rests}
-use Rattle.layer_contract.specs.Layer.{Inside}
+use Rattle.layer_contract.specs.Layer.{Inside, due}
 
 -- the same mask, time and reset latch
 pub record Same (s t : State) : Type 0 where
@@ -325,11 +325,11 @@ after_read_device : (s : State) (k : ℕ) → (after_read s k).device ≡ s.devi
 after_read_device s k = cond_both (nat_lt k (length s.memory)) s (cond (k == INPUT) (record s { input = drop 1 s.input }) s) (λ (t : State). t.device ≡ s.device) (λ _. refl)
     (λ _. cond_both (k == INPUT) (record s { input = drop 1 s.input }) s (λ (t : State). t.device ≡ s.device) (λ _. refl) (λ _. refl))
 
-after_read_at_device : (s : State) (o : Option ℕ) → (after_read_at s o).device ≡ s.device
+pub after_read_at_device : (s : State) (o : Option ℕ) → (after_read_at s o).device ≡ s.device
 after_read_at_device s None = refl
 after_read_at_device s (Some address) = after_read_device s _
 
-fetched_device : (s : State) → (fetched s).device ≡ s.device
+pub fetched_device : (s : State) → (fetched s).device ≡ s.device
 fetched_device s = cond_both (is_aligned s.cpu.pc) (after_read_at s (located s false s.cpu.pc)) s (λ (t : State). t.device ≡ s.device) (λ _. after_read_at_device s _) (λ _. refl)
 
 privileged_device : (s : State) (word : ℕ) (o : Option Inst) → DeviceHeld s (privileged s word o)
@@ -356,7 +356,7 @@ coming_device x s =
     (λ _. cond_both (slice_index s.special SR == 1 && not (s.mask == 0)) (Interrupt s causes.External s.mask s.cpu.pc) (instruction x s) (DeviceHeld s) (λ _. refl)
     (λ _. device_from s (fetched s) (fetched_device s) _ (moved_device x (fetched s) _)))
 
-cleared_device : (cause : Cause) (s : State) → (cleared cause s).device ≡ s.device
+pub cleared_device : (cause : Cause) (s : State) → (cleared cause s).device ≡ s.device
 cleared_device causes.Reset s = refl
 cleared_device causes.External s = refl
 cleared_device other s = refl
@@ -368,6 +368,19 @@ taken_device s (Done after) h e idle = absurd (cc)
 
 pub handled_device : (x : Outside) (s : State) → s.off ≡ None → handled x s ≡ true → s.device.pending ≡ Idle → (step x s).device ≡ s.device
 handled_device x s on h idle = ap (λ (t : State). t.device) (on_is x s on) ∙ taken_device s _ (coming_device x (latched x s)) (handled_is x s h) idle
+
+-- nor does it end a command, where none is under way
+taken_due : (s : State) (o : Coming) → DeviceHeld s o → is_handled s o ≡ true → (come_to o).device.pending ≡ s.device.pending
+taken_due s (Interrupt before cause edata epc) h e = ap (λ (d : Device). d.pending) (cleared_device cause before ∙ h)
+taken_due s (Done after) h e = absurd (cc)
+
+pub handled_due : (x : Outside) (s : State) → handled x s ≡ true → s.device.pending ≡ Idle → due x s ≡ Idle
+unfolding due
+handled_due x s h idle = taken_due s _ (coming_device x (latched x s)) (handled_is x s h) ∙ idle
+
+pub reset_due : (x : Outside) (s : State) → s.reset ≡ true → s.device.pending ≡ Idle → due x s ≡ Idle
+unfolding due
+reset_due x s r idle = ap (λ o. (come_to o).device.pending) (cond-true s.reset (Interrupt (latched x s) causes.Reset 0 s.cpu.pc) _ r) ∙ idle
 
 pub reset_device : (x : Outside) (s : State) → s.off ≡ None → s.reset ≡ true → s.device.pending ≡ Idle → (step x s).device ≡ s.device
 reset_device x s on r idle = ap (λ (t : State). t.device) (on_is x s on)

@@ -4,14 +4,15 @@ use Rattle.std.specs.Prelude.{bit_or}
 use Rattle.std.proofs.lemmas.Bool.{cases_lt}
 use Rattle.mips_table.specs.Device.{Idle, Device, Outside, sector_of}
 use Rattle.mips_table.specs.Machine.{State, coming, latched, run, step}
+use Rattle.mips_table.specs.Fits.{NamesSector}
 use Rattle.mips_table.specs.Turns.{begins, handled, in_user, is_on, turn_of, complete, gathered, faults_before}
 use Rattle.cvm_model.specs.Kernel.{Core}
 use Rattle.cvm_model.specs.Stands.{Site}
 use Rattle.layer_contract.specs.declared.entry.Entry.{Entry}
 use Rattle.layer_contract.specs.declared.entry.Entry.TheVariants.{Primitive}
-use Rattle.layer_contract.specs.Layer.{Inside, Way, Comes, Back, Brought, Settles, IsEntry}
+use Rattle.layer_contract.specs.Layer.{Inside, due, Way, Comes, Back, Brought, Settles, IsEntry}
 use Rattle.layer_contract.specs.Calls.{entered}
-use Rattle.boot_turns.proofs.Stepping.{both_left, both_right, on_of, inside_begins, inside_handled, inside_mask, inside_rests, user_begins, user_rests, handled_mask, handled_device, time_is}
+use Rattle.boot_turns.proofs.Stepping.{both_left, both_right, on_of, inside_begins, inside_handled, inside_mask, inside_rests, user_begins, user_rests, handled_mask, handled_device, handled_due, time_is}
 use Rattle.boot_turns.proofs.Entering.{entered_none, entered_user, not_system, user_enters}
 use Rattle.boot_turns.proofs.Counting.{or_associates, turn_same, gathers, still, completes_at, faults_more, faults_stay}
 
@@ -19,9 +20,10 @@ pub later : (x : Outside) (s : State) (t n : ℕ) → run x (run x s t) n ≡ ru
 later x s t zero = let e : t ≡ t + 0 = omega arith in ap (run x s) e
 later x s t (suc n) = let e : suc (t + n) ≡ t + suc n = omega arith in ap (step x) (later x s t n) ∙ ap (run x s) e
 
--- step j leaves the sectors from a number on as they are
+-- step j leaves the sectors from a number on as they are, and ends no command for one of them
 pub record Stays (x : Outside) (pages : ℕ) (s : State) (j : ℕ) : Type 0 where
   pub sectors : (q : ℕ) → pages ≤ q → sector_of (run x s (suc j)).device.sectors q ≡ sector_of (run x s j).device.sectors q
+  pub named : (run x s j).off ≡ None → NamesSector pages (due x (run x s j))
 
 -- the sectors of the users' pages
 abbrev pub user_sectors : Site → ℕ
@@ -33,6 +35,7 @@ way_stays x y Door s n t i j e lt w = record {
       let here : run x (run x s t) i ≡ run x s j = later x s t i ∙ ap (run x s) e in
       let there : run x (run x s t) (suc i) ≡ run x s (suc j) = ap (step x) (later x s t i ∙ ap (run x s) e) in
       ap (λ (z : State). sector_of z.device.sectors q) (sym there) ∙ w.sectors (suc i) lt q le ∙ sym (w.sectors i (omega arith) q le) ∙ ap (λ (z : State). sector_of z.device.sectors q) here;
+  named = λ on. subst (λ (z : State). NamesSector (user_sectors y) (due x z)) (later x s t i ∙ ap (run x s) e) (w.named i (omega arith));
 }
 
 -- in absolute steps: inside from t on, and Q at u
@@ -125,7 +128,10 @@ pub record Settled (x : Outside) (s : State) (y : Site) (c : Core) (k m most fue
   pub quiet : (j : ℕ) → t < j → j ≤ u → entered 10 (run x s j) ≡ None
 
 fault_stays : (x : Outside) (pages : ℕ) (s : State) (t : ℕ) → (run x s t).off ≡ None → handled x (run x s t) ≡ true → (run x s t).device.pending ≡ Idle → Stays x pages s t
-fault_stays x pages s t on h idle = record { sectors = λ q le. ap (λ (d : Device). sector_of d.sectors q) (handled_device x (run x s t) on h idle) }
+fault_stays x pages s t on h idle = record {
+  sectors = λ q le. ap (λ (d : Device). sector_of d.sectors q) (handled_device x (run x s t) on h idle);
+  named = λ _. subst (NamesSector pages) (sym (handled_due x (run x s t) h idle)) tt;
+}
 
 back_on : (x : Outside) (y : Site) (c : Core) (s : State) → Back x y c s → s.off ≡ None
 back_on x y c s b = on_of s (both_left (is_on s) (in_user s) b.user)

@@ -12,6 +12,7 @@ use Rattle.mips_table.specs.Device.{Device, Outside, LinesEnd, sector_of}
 use Rattle.mips_table.specs.Processor.{Cpu}
 use Rattle.mips_table.specs.Flat.{Flat, VStep, Next as Goes, Trap, vstep}
 use Rattle.mips_table.specs.Machine.{State, Interrupt, coming, latched, number_of, MODE, ECA, EDATA, run, step}
+use Rattle.mips_table.specs.Fits.{NamesSector}
 use Rattle.mips_table.specs.Turns.{begins, handled, rests, is_on, in_user, turn_of, complete, lines_of, faults_before, is_handled}
 use Rattle.c0_meaning.specs.State.{State as C0}
 use Rattle.layer_map.specs.Map.{MapInRange, layer_words}
@@ -28,7 +29,7 @@ use Rattle.layer_contract.specs.Follows.{site_of, loaded, machine, FirstCall, Be
 use Rattle.layer_contract.specs.Users.{UserStepsLinked}
 use Rattle.boot_turns.specs.Completes.{note, ShownAs}
 use Rattle.boot_turns.specs.TurnEnds.{Stood}
-use Rattle.boot_turns.proofs.Stepping.{Plain, instruction_plain, comes_plainly, both_left, both_right, on_of, inside_rests, user_rests, user_begins, reset_begins, reset_mask, reset_device, none_pending, external_mask, taken_special}
+use Rattle.boot_turns.proofs.Stepping.{Plain, instruction_plain, comes_plainly, both_left, both_right, on_of, inside_rests, user_rests, user_begins, reset_begins, reset_mask, reset_device, reset_due, none_pending, external_mask, taken_special}
 use Rattle.boot_turns.proofs.Counting.{turn_more, still, completes_at}
 use Rattle.boot_turns.proofs.Stretches.{Stays, user_sectors, Passed, times, Settled, settled}
 use Rattle.boot_turns.proofs.Units.{one_cvm, cvm_more, cvm_next}
@@ -249,7 +250,7 @@ module _ (x : Outside) (y : System) (old : List (List ℕ)) (Typed : C0 → Type
     none = λ j a b. absurd (omega arith);
     few = omega arith;
     between = λ j a b. let d : 0 ≡ j = omega arith in subst (λ i. complete x s i ≡ 0) d refl;
-    stays = λ j a b. let d : 0 ≡ j = omega arith in subst (Stays x (user_sectors site) s) d (record { sectors = λ q le. ap (λ (d : Device). sector_of d.sectors q) (reset_device x s refl refl refl) });
+    stays = λ j a b. let d : 0 ≡ j = omega arith in subst (Stays x (user_sectors site) s) d (record { sectors = λ q le. ap (λ (d : Device). sector_of d.sectors q) (reset_device x s refl refl refl); named = λ _. subst (NamesSector (user_sectors site)) (sym (reset_due x s refl refl)) tt });
     quiet = λ j a b. absurd (omega arith);
     current = λ a. absurd (omega arith);
     on = refl;
@@ -286,7 +287,7 @@ module _ (x : Outside) (y : System) (old : List (List ℕ)) (Typed : C0 → Type
             none = r.none;
             few = r.few;
             between = r.between;
-            stays = λ j l h. ⊎_elim (λ (lt : j < u). r.stays j l lt) (λ (ge : u ≤ j). let d : u ≡ j = omega arith in subst (Stays x (user_sectors site) s) d (record { sectors = steps.1 })) (cases_lt j u);
+            stays = λ j l h. ⊎_elim (λ (lt : j < u). r.stays j l lt) (λ (ge : u ≤ j). let d : u ≡ j = omega arith in subst (Stays x (user_sectors site) s) d (record { sectors = steps.1.0; named = λ _. steps.1.1 })) (cases_lt j u);
             quiet = r.quiet;
             current = λ _. r.back.stands.users.current refl;
             on = on;

@@ -10,12 +10,14 @@ use Rattle.cvm_model.specs.Kernel.{power_of}
 use Rattle.cvm_model.specs.Cvm.{System, Status, Running, Halted, Faulted, Cvm, turn_by, turn, cvm, IsCvm, first_cvm}
 use Rattle.layer_contract.specs.Layer.{Inside, Rests}
 use Rattle.layer_contract.specs.Follows.{site_of, loaded}
+use Rattle.boot_turns.specs.Completes.{Torn}
+use Rattle.boot_turns.specs.declared.answers.View.{View}
 use Rattle.boot_turns.specs.TurnEnds.{Stood, Ahead}
-use Rattle.boot_turns.specs.Headline.{Beyond, GoesOn, TwoFaults}
+use Rattle.boot_turns.specs.Headline.{Beyond, StepBroken, GoesOn, TwoFaults}
 use Rattle.boot_turns.proofs.Stepping.{was_on, off_stays, off_rests, off_begins, off_handled, inside_handled}
 use Rattle.boot_turns.proofs.Counting.{turn_same, completes, faults_grow, faults_stay}
 use Rattle.boot_turns.proofs.Stretches.{Stays, user_sectors}
-use Rattle.boot_turns.proofs.Sectors.{loaded_beyond}
+use Rattle.boot_turns.proofs.Sectors.{loaded_beyond, torn_past}
 use Rattle.boot_turns.proofs.Units.{one_cvm, turn_more_units}
 use Rattle.boot_turns.proofs.Turning.{Given, Beginning, Onward, Stuck, turn_ahead}
 
@@ -168,6 +170,14 @@ module _ (x : Outside) (y : System) (old : List (List ℕ)) (Typed : C0 → Type
   end_off : (k t v : ℕ) → (run x s t).off ≡ Some v → is_end x s k t ≡ true
   end_off k t v e = ap (λ o. (complete x s t == k) || not (not (is_some o))) e ∙ or_true _
 
+  -- a machine that goes on is on
+  goes_on_on : (k t : ℕ) → is_end x s k t ≡ false → (run x s t).off ≡ None
+  goes_on_on k t e = from (run x s t).off refl
+    where
+      from : (o : Option ℕ) → (run x s t).off ≡ o → (run x s t).off ≡ None
+      from None h = h
+      from (Some v) h = absurd (true_false _ (end_off k t v h) e)
+
   no_end : (k t : ℕ) → complete x s t ≢ k → (run x s t).off ≡ None → is_end x s k t ≡ false
   no_end k t e o = ap₂ (λ (b : Bool) (o : Option ℕ). b || not (not (is_some o))) (ne_eqb (complete x s t) k e) o
 
@@ -201,7 +211,7 @@ module _ (x : Outside) (y : System) (old : List (List ℕ)) (Typed : C0 → Type
     pub then : ((v : ℕ) × OffOn x s count v at) ⊎ Going count at t past
 
   off_stays_on : (j v : ℕ) → (run x s j).off ≡ Some v → Stays x (user_sectors (site_of y.boot)) s j
-  off_stays_on j v e = record { sectors = λ q le. ap (λ (z : State). sector_of z.device.sectors q) (off_stays x (run x s j) v e) }
+  off_stays_on j v e = record { sectors = λ q le. ap (λ (z : State). sector_of z.device.sectors q) (off_stays x (run x s j) v e); named = λ on. absurd (let d : Some v ≡ None = sym e ∙ on in cc) }
 
   covered_off : (t from k : ℕ) (c : Cvm) → from ≤ t → Stood x y old k from c → ((j : ℕ) → j < from → complete x s j < k) → ((j : ℕ) → j < from → Stays x (user_sectors (site_of y.boot)) s j) → (v : ℕ) → (run x s from).off ≡ Some v → Covered t
   covered_off t from k c le st before stays v o =
@@ -274,6 +284,13 @@ module _ (x : Outside) (y : System) (old : List (List ℕ)) (Typed : C0 → Type
 
   pub beyond : 1 ≤ y.boot.params.pages → (t : ℕ) → Beyond y old (run x s t).device.sectors
   beyond some t q le = kept t q le ∙ loaded_beyond y old some q le
+
+  -- and so they are where the transfer of a step's command failed
+  torn_at : 1 ≤ y.boot.params.pages → (t : ℕ) (now : List (List ℕ)) → (run x s t).off ≡ None → Torn x (run x s t) now → Beyond y old now
+  torn_at some t now on h q le = torn_past x (length y.boot.users * y.boot.params.pages) (run x s t) now (((covered (suc t)).stays t (omega arith)).named on) h q le ∙ beyond some t q le
+
+  pub torn : 1 ≤ y.boot.params.pages → (now : List (List ℕ)) (v : View) (turns steps : ℕ) (text : List ℕ) → StepBroken x y old now v turns steps text → Beyond y old now
+  torn some now v turns steps text b = torn_at some b.at now (goes_on_on turns b.at (b.goes_on b.at (omega arith))) b.sectors
 
   complete_grows : TurnLaws → (t u : ℕ) → t ≤ u → complete x s t ≤ complete x s u
   complete_grows counts t zero le = let e : t ≡ 0 = omega arith in rw e (omega arith)

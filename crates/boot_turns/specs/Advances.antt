@@ -32,7 +32,7 @@ pub record Goes (x : Outside) (y : System) (old : List (List ℕ)) (k t u : ℕ)
   pub between : (j : ℕ) → t ≤ j → j ≤ u → complete x (loaded y old) j ≡ k
   pub on : (j : ℕ) → j ≤ u → (machine x y old j).off ≡ None
 
--- the disk failed in step number `at`
+-- the disk failed in step number `at`, or where a page was read for its rows
 pub record DiskStops (x : Outside) (y : System) (old : List (List ℕ)) (k t : ℕ) (now : Option State) (budget left : ℕ) : Type 0 where
   pub at : ℕ
   pub from : t ≤ at
@@ -46,11 +46,19 @@ pub record BudgetStops (x : Outside) (y : System) (old : List (List ℕ)) (k t :
   pub state : now ≡ Some (machine x y old (t + budget))
   pub goes : Goes x y old k t (t + budget)
 
+-- the sink failed in the rows of step number `at`, which is done
+pub record SinkStops (x : Outside) (y : System) (old : List (List ℕ)) (k t : ℕ) (now : Option State) (budget left : ℕ) : Type 0 where
+  pub at : ℕ
+  pub from : t ≤ at
+  pub spent : left + (at + 1) ≡ budget + t
+  pub goes : Goes x y old k t at
+  pub state : now ≡ Some (machine x y old (suc at))
+
 -- by the fault
 abbrev pub Stops : Outside → System → List (List ℕ) → (k t : ℕ) → Option State → (budget left : ℕ) → RunFault → Type 0
 Stops x y old k t now budget left StepLimit = BudgetStops x y old k t now budget left
 Stops x y old k t now budget left Disk = DiskStops x y old k t now budget left
-Stops x y old k t now budget left Sink = ⊥
+Stops x y old k t now budget left Sink = SinkStops x y old k t now budget left
 
 -- how the run of turn k ends
 abbrev pub AdvanceEnds : Outside → System → List (List ℕ) → (k t : ℕ) → Cvm → Option State → (budget left : ℕ) → Result Begun RunFault → Type 0

@@ -1,5 +1,5 @@
 -- What a loop that steps a machine to the end of a turn has done.
-use Rattle.std.specs.Prelude.{◌≡◌, ◌≢◌, ◌⊎◌, ℕ, suc, ◌+◌, ◌/◌, ◌<◌, ◌≤◌, ◌==◌, ◌&&◌, ◌||◌, not, nat_lt, is_some, IfSome, Option, Some, None, Bool, true, false, List, [], slice_index, slice_set, Result, MatchResult, ⊤}
+use Rattle.std.specs.Prelude.{◌≡◌, ◌≢◌, ◌⊎◌, ℕ, suc, ◌+◌, ◌/◌, ◌<◌, ◌≤◌, ◌==◌, ◌&&◌, ◌||◌, not, nat_lt, is_some, IfSome, Option, Some, None, Bool, true, false, List, [], slice_index, slice_set, Result, MatchResult}
 use Rattle.std.specs.Option.{option_map}
 use Rattle.mips_table.specs.declared.cause.Cause.TheVariants.{FetchFault, DataFault}
 use Rattle.mips_table.specs.Device.{Outside, Pending, Writing}
@@ -97,11 +97,11 @@ pub record Completed (x : Outside) (s : State) (t u : ℕ) (b : Begun) : Type 0 
 abbrev pub CompleteOk : Outside → Option State → ℕ → ℕ → State → ℕ → Begun → Type 0
 CompleteOk x new before after s t b = (u : ℕ) × Completed x s t u b × (new ≡ Some (run x s u)) × (after + u ≡ before + t)
 
--- the budget was spent, or the disk failed in step number u
+-- the budget was spent; or the disk failed in step number u or in its rows; or the sink failed in the rows of step number u, which is done
 abbrev pub CompleteErr : Outside → Option State → ℕ → ℕ → State → ℕ → RunFault → Type 0
 CompleteErr x new before after s t StepLimit = (u : ℕ) × (t ≤ u) × (after + u ≡ before + t) × (new ≡ Some (run x s u)) × ((after ≡ 0) ⊎ ((run x s u).off ≢ None)) × ((b : Option Begun) × Progress x s t u b)
 CompleteErr x new before after s t Disk = (u : ℕ) × (t ≤ u) × (after + (u + 1) ≡ before + t) × ((b : Option Begun) × Progress x s t u b) × SeenTorn x (run x s u) new
-CompleteErr x new before after s t Sink = ⊤
+CompleteErr x new before after s t Sink = (u : ℕ) × (t ≤ u) × (after + (u + 1) ≡ before + t) × ((b : Option Begun) × Progress x s t u b) × (new ≡ Some (run x s (suc u)))
 
 -- how the loop ends
 abbrev pub CompleteEnds : Outside → Option State → ℕ → ℕ → State → ℕ → Result Begun RunFault → Type 0

@@ -134,7 +134,7 @@ SinkBroken x y old now (Trace u) turns steps text =
 
 -- THE HEADLINE of a boot or a trace, by its ending
 abbrev pub Ends : Outside → System → (old now : List (List ℕ)) → View → (turns steps : ℕ) → List ℕ → Ending → Type 0
-Ends x y old now v turns steps text DiskFault = StepBroken x y old now v turns steps text ⊎ (Beyond y old now × (LoadBroken text ⊎ EndsBroken x y old now v turns steps text))
+Ends x y old now v turns steps text DiskFault = Beyond y old now × (StepBroken x y old now v turns steps text ⊎ (LoadBroken text ⊎ EndsBroken x y old now v turns steps text))
 Ends x y old now v turns steps text SinkFault = Beyond y old now × SinkBroken x y old now v turns steps text
 Ends x y old now v turns steps text NoMemory = (text ≡ []) × (now ≡ old)
 Ends x y old now v turns steps text e = Ran x y old now v turns steps e text
@@ -202,6 +202,7 @@ pub record Machines (x : Outside) (y : System) (old : List (List ℕ)) : Type 0 
   pub shows : TurnShows x y old
   pub rows : TurnRows x y old
   pub beyond : (t : ℕ) → Beyond y old (machine x y old t).device.sectors
+  pub torn : (now : List (List ℕ)) (v : View) (turns steps : ℕ) (text : List ℕ) → StepBroken x y old now v turns steps text → Beyond y old now
   pub few : (t : ℕ) → complete x (loaded y old) t ≤ t
   pub same : (k : ℕ) (c d : Cvm) → IsCvm y (lines_of x (loaded y old)) k c → IsCvm y (lines_of x (loaded y old)) k d → c ≡ d
   pub replays : (u turns steps : ℕ) → 1 ≤ u → u ≤ length y.boot.users → TraceReplays x y old u turns steps

@@ -9,3 +9,5 @@ pub mod TypedRuns
 pub mod Entries
 pub mod JournalText
 pub mod Copies
+pub mod Tracing
+pub mod TraceSteps

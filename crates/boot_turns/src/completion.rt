@@ -1,19 +1,25 @@
 // The machine runs until its next turn is complete.
-ghost use Rattle.std.specs.Prelude.{◌≡◌, ◌≢◌, ◌+◌, ◌-◌, ◌<◌, ◌≤◌, ◌^◌, length, IfOk, OnOk, OnErr, Err, None};
+ghost use Rattle.std.specs.Prelude.{◌≡◌, ◌≢◌, ◌+◌, ◌-◌, ◌<◌, ◌≤◌, ◌^◌, length, slice_index, IfOk, IfSome, OnOk, OnErr, Err, None};
+ghost use Rattle.std.specs.Option.{option_map};
 ghost use Rattle.cvm_outside.specs.Causes.{Counts, Rose};
 ghost use Rattle.mips_table.specs.Fits.{NamesSector};
+ghost use Rattle.layer_map.specs.Map.{current_at};
+ghost use Rattle.mips_machine.specs.Steps.{outside_of};
 ghost use Rattle.boot_turns.specs.Advances.{Advances};
 ghost use Rattle.boot_turns.specs.Completes.{begun_by, noted, shown, is_at_rest, StepRan, StepBegan, StepTorn, Completes};
+ghost use Rattle.boot_turns.specs.Tracing.{CanTrace, TraceRuns};
+ghost use Rattle.boot_turns.specs.TraceSteps.{StepTraces};
 
 use crate::answers::RunFault;
-use crate::machines_run;
-use cvm_outside::{DiskFault, Sectors};
-use layer_map::CURRENT;
+use crate::following::begun_now;
+use crate::tracer::Tracer;
+use crate::{journal_rows_follow, machines_run, traces_grow};
+use boot_report::the_words_tell;
+use cvm_outside::{DiskFault, Sectors, Sink};
+use layer_map::{CURRENT, Map};
 use mips_machine::{Cause, Event, Machine};
 
-/// The numbers of special registers: the cause of the last interrupt, what it concerns, the number of pages, and the mode.
-const CAUSE: u32 = 2;
-
+/// The numbers of special registers: what the last interrupt concerns, the number of pages, and the mode.
 const CONCERN: u32 = 4;
 
 const PAGES: u32 = 6;
@@ -73,6 +79,65 @@ fn step_once<D: Sectors>(machine: &mut Machine, disk: &mut D) -> Result<bool, Di
     Ok(has_begun(reset, in_user, pages, event, machine.special(CONCERN)))
 }
 
+/// The current user, which is read only where a user is traced.
+fn traced_current(machine: &Machine, tracer: &Option<Tracer>) -> u32
+    requires room { 1024 < length machine.now.hardware.memory }
+    ensures { IfSome tracer.now (λ kept. result ≡ slice_index machine.now.hardware.memory current_at) }
+{
+    match tracer {
+        Some(_) => machine.word(CURRENT),
+        None => 0,
+    }
+}
+
+/// One step, and what a trace prints of it. The answer is whether it begins a turn.
+///
+/// # Errors
+///
+/// A fault of the disk, in the step or where a page is read for the rows, or of the sink. After a fault in the rows the step is done.
+fn step_traced<D: Sectors, O: Sink>(
+    machine: &mut Machine,
+    tracer: &mut Option<Tracer>,
+    map: &Map,
+    disk: &mut D,
+    out: &mut O,
+) -> Result<bool, RunFault>
+    requires steps { machine.old.time < 2 ^ 64 - 1 }
+    requires sector { NamesSector (D.size disk.old) machine.old.hardware.ports.pending }
+    requires room { 1024 < length machine.old.hardware.memory }
+    requires on { machine.old.hardware.off ≡ None }
+    requires can { IfSome tracer.old (CanTrace map.now (length machine.old.hardware.memory) machine.old.time (D.size disk.old)) }
+    ensures ran { result ≢ Err RunFault.Disk → StepRan (D.size disk.old) machine.old machine.new (D.sectors disk.old) (D.sectors disk.new) }
+    ensures torn { result ≡ Err RunFault.Disk → StepTorn (D.size disk.old) machine.old (D.sectors disk.old) (D.sectors disk.new) }
+    ensures began { IfOk result (λ began. StepBegan (D.size disk.old) machine.old (D.sectors disk.old) began) }
+    ensures traced { StepTraces (outside_of machine.old.rows (D.size disk.old)) map.now machine.old (D.sectors disk.old) tracer.old tracer.new (O.text out.old) (O.text out.new) result }
+    ensures untraced { tracer.old ≡ None → (tracer.new ≡ None) × (out.new ≡ out.old) }
+    ensures no_sink { tracer.old ≡ None → result ≢ Err RunFault.Sink }
+    ensures no_limit { result ≢ Err RunFault.StepLimit }
+    ensures can { IfSome tracer.new (CanTrace map.now (length machine.new.hardware.memory) machine.new.time (D.size disk.new)) }
+    ensures user { option_map (λ k. k.user) tracer.new ≡ option_map (λ k. k.user) tracer.old }
+    ensures time { machine.new.time ≡ machine.old.time + 1 }
+    ensures rows { machine.new.rows ≡ machine.old.rows }
+    ensures memory { length machine.new.hardware.memory ≡ length machine.old.hardware.memory }
+    ensures sector { NamesSector (D.size disk.new) machine.new.hardware.ports.pending }
+    ensures size { D.size disk.new ≡ D.size disk.old }
+    ensures disk { result ≡ Err RunFault.Disk → Rose (D.faults disk.old) (D.faults disk.new) }
+    ensures same { result ≢ Err RunFault.Disk → D.faults disk.new ≡ D.faults disk.old }
+    ensures sink { result ≡ Err RunFault.Sink → Rose (O.faults out.old) (O.faults out.new) }
+    ensures sink_same { result ≢ Err RunFault.Sink → O.faults out.new ≡ O.faults out.old }
+{
+    traces_grow();
+    journal_rows_follow();
+    the_words_tell();
+    let current = traced_current(machine, tracer);
+    let began = step_once(machine, disk)?;
+    if let Some(kept) = tracer {
+        kept.follow(machine, map, current, began, disk, out)?;
+        return Ok(began);
+    }
+    Ok(began)
+}
+
 /// What the machine shows now, unless a turn was noted before or none began.
 fn noted(machine: &Machine, begun: Option<Begun>, began: bool) -> Option<Begun>
     requires room { 1024 < length machine.now.hardware.memory }
@@ -80,12 +145,7 @@ fn noted(machine: &Machine, begun: Option<Begun>, began: bool) -> Option<Begun>
 {
     match begun {
         Some(b) => Some(b),
-        None if began => Some(Begun {
-            dispatched: machine.special(MODE) != 1,
-            cause: machine.special(CAUSE),
-            edata: machine.special(CONCERN),
-            user: machine.word(CURRENT),
-        }),
+        None if began => Some(begun_now(machine)),
         None => None,
     }
 }
@@ -97,27 +157,39 @@ fn at_rest(machine: &Machine) -> bool
     machine.special(MODE) == 1 || machine.off().is_some()
 }
 
-/// Steps the machine until the next turn is complete, a step from the budget each.
+/// Steps the machine until the next turn is complete, a step from the budget each. Where a user is traced, its rows are printed as their
+/// entries end; else nothing is.
 ///
 /// # Errors
 ///
-/// `StepLimit`, where the budget is spent before, or the machine is off before a turn begins; `Disk`, where the disk failed.
-pub fn complete<D: Sectors>(
+/// `StepLimit`, where the budget is spent before, or the machine is off before a turn begins; `Disk`, where the disk failed, in a step or
+/// in its rows; `Sink`, where the sink failed.
+pub fn complete<D: Sectors, O: Sink>(
     machine: &mut Machine,
     budget: &mut u64,
+    tracer: &mut Option<Tracer>,
+    map: &Map,
     disk: &mut D,
+    out: &mut O,
 ) -> Result<Begun, RunFault>
     requires steps { machine.old.time + budget.old < 2 ^ 64 }
     requires sector { NamesSector (D.size disk.old) machine.old.hardware.ports.pending }
     requires room { 1024 < length machine.old.hardware.memory }
+    requires can { IfSome tracer.old (CanTrace map.now (length machine.old.hardware.memory) machine.old.time (D.size disk.old)) }
     ensures ends { Completes (D.size disk.old) machine.old machine.new (D.sectors disk.old) (D.sectors disk.new) budget.old budget.new result }
+    ensures traced { TraceRuns (D.size disk.old) map.now machine.old machine.new (D.sectors disk.old) (D.sectors disk.new) (record { tracer = tracer.old; text = O.text out.old; budget = budget.old }) (record { tracer = tracer.new; text = O.text out.new; budget = budget.new }) result }
+    ensures untraced { tracer.old ≡ None → (tracer.new ≡ None) × (out.new ≡ out.old) }
+    ensures no_sink { tracer.old ≡ None → result ≢ Err RunFault.Sink }
+    ensures can { IfSome tracer.new (CanTrace map.now (length machine.new.hardware.memory) machine.new.time (D.size disk.new)) }
+    ensures user { option_map (λ k. k.user) tracer.new ≡ option_map (λ k. k.user) tracer.old }
     ensures rows { machine.new.rows ≡ machine.old.rows }
     ensures memory { length machine.new.hardware.memory ≡ length machine.old.hardware.memory }
     ensures sector { NamesSector (D.size disk.new) machine.new.hardware.ports.pending }
     ensures size { D.size disk.new ≡ D.size disk.old }
     ensures disk { result ≡ Err RunFault.Disk → Rose (D.faults disk.old) (D.faults disk.new) }
     ensures same { result ≢ Err RunFault.Disk → D.faults disk.new ≡ D.faults disk.old }
-    ensures no_sink { result ≢ Err RunFault.Sink }
+    ensures sink { result ≡ Err RunFault.Sink → Rose (O.faults out.old) (O.faults out.new) }
+    ensures sink_same { result ≢ Err RunFault.Sink → O.faults out.new ≡ O.faults out.old }
     ensures spent { machine.new.time + budget.new ≡ machine.old.time + budget.old }
 {
     let mut begun: Option<Begun> = None;
@@ -126,7 +198,7 @@ pub fn complete<D: Sectors>(
             return Err(RunFault::StepLimit);
         }
         *budget -= 1;
-        let began = step_once(machine, disk)?;
+        let began = step_traced(machine, tracer, map, disk, out)?;
         begun = noted(machine, begun, began);
         if let Some(b) = begun {
             if at_rest(machine) {
@@ -137,29 +209,41 @@ pub fn complete<D: Sectors>(
     Err(RunFault::StepLimit)
 }
 
-/// Runs one turn of the machine of a boot, a step from the budget each.
+/// Runs one turn of the machine of a boot, a step from the budget each. Where a user is traced, its rows are printed as their entries end;
+/// else nothing is.
 ///
 /// # Errors
 ///
-/// `StepLimit`, where the budget is spent before the turn is complete; `Disk`, where the disk failed.
-pub fn advance<D: Sectors>(
+/// `StepLimit`, where the budget is spent before the turn is complete; `Disk`, where the disk failed, in a step or in its rows; `Sink`,
+/// where the sink failed.
+pub fn advance<D: Sectors, O: Sink>(
     machine: &mut Machine,
     budget: &mut u64,
+    tracer: &mut Option<Tracer>,
+    map: &Map,
     disk: &mut D,
+    out: &mut O,
 ) -> Result<Begun, RunFault>
     requires steps { machine.old.time + budget.old < 2 ^ 64 }
     requires sector { NamesSector (D.size disk.old) machine.old.hardware.ports.pending }
     requires room { 1024 < length machine.old.hardware.memory }
+    requires can { IfSome tracer.old (CanTrace map.now (length machine.old.hardware.memory) machine.old.time (D.size disk.old)) }
     ensures ends { Advances (D.size disk.old) machine.old machine.new (D.sectors disk.old) (D.sectors disk.new) budget.old budget.new result }
+    ensures traced { TraceRuns (D.size disk.old) map.now machine.old machine.new (D.sectors disk.old) (D.sectors disk.new) (record { tracer = tracer.old; text = O.text out.old; budget = budget.old }) (record { tracer = tracer.new; text = O.text out.new; budget = budget.new }) result }
+    ensures untraced { tracer.old ≡ None → (tracer.new ≡ None) × (out.new ≡ out.old) }
+    ensures no_sink { tracer.old ≡ None → result ≢ Err RunFault.Sink }
+    ensures can { IfSome tracer.new (CanTrace map.now (length machine.new.hardware.memory) machine.new.time (D.size disk.new)) }
+    ensures user { option_map (λ k. k.user) tracer.new ≡ option_map (λ k. k.user) tracer.old }
     ensures rows { machine.new.rows ≡ machine.old.rows }
     ensures memory { length machine.new.hardware.memory ≡ length machine.old.hardware.memory }
     ensures sector { NamesSector (D.size disk.new) machine.new.hardware.ports.pending }
     ensures size { D.size disk.new ≡ D.size disk.old }
     ensures disk { result ≡ Err RunFault.Disk → Rose (D.faults disk.old) (D.faults disk.new) }
     ensures same { result ≢ Err RunFault.Disk → D.faults disk.new ≡ D.faults disk.old }
-    ensures no_sink { result ≢ Err RunFault.Sink }
+    ensures sink { result ≡ Err RunFault.Sink → Rose (O.faults out.old) (O.faults out.new) }
+    ensures sink_same { result ≢ Err RunFault.Sink → O.faults out.new ≡ O.faults out.old }
     ensures spent { machine.new.time + budget.new ≡ machine.old.time + budget.old }
 {
     machines_run();
-    complete(machine, budget, disk)
+    complete(machine, budget, tracer, map, disk, out)
 }

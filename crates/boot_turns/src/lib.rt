@@ -13,6 +13,7 @@ ghost use Rattle.boot_turns.specs.JournalText.{RowsFollow};
 
 mod answers;
 pub mod completion;
+mod following;
 pub mod journal_text;
 pub mod row_text;
 mod rows;

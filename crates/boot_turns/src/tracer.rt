@@ -98,6 +98,8 @@ impl Tracer {
         ensures ok { OnOk result (O.text out.new ≡ append_known (O.text out.old) (journal_rows_after false self.old.steps (turn_begins self.old.user current begun.now))) }
         ensures err { OnErr result (AppendsPart (O.text out.old) (O.text out.new) (journal_rows_after false self.old.steps (turn_begins self.old.user current begun.now))) }
         ensures steps { OnOk result (self.new ≡ record self.old { steps = steps_after self.old.steps (turn_begins self.old.user current begun.now) }) }
+        ensures user { self.new.user ≡ self.old.user }
+        ensures few { self.new.steps ≤ self.old.steps + 1 }
         ensures count { Counts (O.faults out.old) (O.faults out.new) result }
     {
         if current != self.user {
@@ -122,6 +124,8 @@ impl Tracer {
         ensures ok { OnOk result (O.text out.new ≡ append_known (O.text out.old) (steps_text self.old.steps ++ row.now)) }
         ensures err { OnErr result (AppendsPart (O.text out.old) (O.text out.new) (steps_text self.old.steps ++ row.now)) }
         ensures steps { OnOk result (self.new ≡ record self.old { steps = 0 }) }
+        ensures user { self.new.user ≡ self.old.user }
+        ensures few { self.new.steps ≤ self.old.steps }
         ensures count { Counts (O.faults out.old) (O.faults out.new) result }
     {
         put_after(self.steps, row, out)?;
@@ -145,6 +149,8 @@ impl Tracer {
         ensures ok { OnOk result (O.text out.new ≡ append_known (O.text out.old) (journal_rows_after false self.old.steps (call_ends self.old.user call.now answer []))) }
         ensures err { OnErr result (AppendsPart (O.text out.old) (O.text out.new) (journal_rows_after false self.old.steps (call_ends self.old.user call.now answer []))) }
         ensures steps { OnOk result (self.new ≡ record self.old { steps = steps_after self.old.steps (call_ends self.old.user call.now answer []) }) }
+        ensures user { self.new.user ≡ self.old.user }
+        ensures few { self.new.steps ≤ self.old.steps }
         ensures count { Counts (O.faults out.old) (O.faults out.new) result }
     {
         let [user, second, third, _, _] = call.arguments;
@@ -188,6 +194,8 @@ impl Tracer {
         ensures ok { (ss : List (List ℕ)) → D.sectors disk.old ≡ Some ss → EntriesFit map.now (state_of machine.old ss) → OnOk result (O.text out.new ≡ append_known (O.text out.old) (copy_rows map.now (paged_of map.now (state_of machine.old ss)) self.old.user self.old.steps address count)) }
         ensures err { (ss : List (List ℕ)) → D.sectors disk.old ≡ Some ss → EntriesFit map.now (state_of machine.old ss) → OnErr result (AppendsPart (O.text out.old) (O.text out.new) (copy_rows map.now (paged_of map.now (state_of machine.old ss)) self.old.user self.old.steps address count)) }
         ensures steps { OnOk result (self.new ≡ record self.old { steps = steps_left self.old.steps count }) }
+        ensures user { self.new.user ≡ self.old.user }
+        ensures few { self.new.steps ≤ self.old.steps }
         ensures same { SameButViewed machine.old machine.new }
         ensures sectors { D.sectors disk.new ≡ D.sectors disk.old }
         ensures size { D.size disk.new ≡ D.size disk.old }

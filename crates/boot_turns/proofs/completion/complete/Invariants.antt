@@ -1,9 +1,12 @@
-use Rattle.std.proofs.Common.{◌≡◌, ℕ, ◌+◌, ◌≤◌, Some}
-use Rattle.std.specs.Prelude.{length}
+use Rattle.std.proofs.Common.{◌≡◌, ℕ, ◌+◌, ◌≤◌, Some, None}
+use Rattle.std.specs.Prelude.{length, IfSome}
+use Rattle.std.specs.Option.{option_map}
 use Rattle.mips_table.specs.Fits.{NamesSector}
 use Rattle.mips_table.specs.Machine.{State, run}
 use Rattle.mips_machine.specs.Steps.{outside_of}
 use Rattle.boot_turns.specs.Completes.{seen, Progress}
+use Rattle.boot_turns.specs.Tracing.{CanTrace}
+use Rattle.boot_turns.proofs.Tracking.{Tracks}
 use Rattle.boot_turns.proofs.completion.complete.Given as goal
 
 abbrev pub invariant-loop-budget : goal.invariant-loop-budget
@@ -17,6 +20,12 @@ invariant-loop-budget g l = record {
   ran : (s : State) (t : ℕ) → seen (g.D.Sectors.sectors l.fn.disk) l.fn.machine ≡ Some (run (outside_of l.fn.machine.rows (g.D.Sectors.size l.fn.disk)) s t) →
       (u : ℕ) × (t ≤ u) × (l.budget + u ≡ l.fn.budget + t) × (seen (g.D.Sectors.sectors l.disk) l.machine ≡ Some (run (outside_of l.fn.machine.rows (g.D.Sectors.size l.fn.disk)) s u))
       × Progress (outside_of l.fn.machine.rows (g.D.Sectors.size l.fn.disk)) s t u l.begun;
+  can : IfSome l.tracer (CanTrace l.map (length l.machine.hardware.memory) l.machine.time (g.D.Sectors.size l.disk));
+  user : option_map (λ k. k.user) l.tracer ≡ option_map (λ k. k.user) l.fn.tracer;
+  untraced : l.fn.tracer ≡ None → (l.tracer ≡ None) × (l.out ≡ l.fn.out);
+  sink_faults : g.O.Sink.faults l.out ≡ g.O.Sink.faults l.fn.out;
+  tracks : Tracks (outside_of l.fn.machine.rows (g.D.Sectors.size l.fn.disk)) l.map (seen (g.D.Sectors.sectors l.fn.disk) l.fn.machine) (seen (g.D.Sectors.sectors l.disk) l.machine)
+      (record { tracer = l.fn.tracer; text = g.O.Sink.text l.fn.out; budget = l.fn.budget }) (record { tracer = l.tracer; text = g.O.Sink.text l.out; budget = l.budget });
 }
 
 abbrev pub decreases-loop-budget : goal.decreases-loop-budget

@@ -1,0 +1,106 @@
+-- The entries and the rows of one step, by what it began or which primitive returned.
+use Rattle.std.proofs.Common.{◌≡◌, ◌≢◌, ℕ, ◌/◌, ◌&&◌, Bool, true, false, List, [], ◌∷◌, Option, Some, None, take, drop, slice_index, refl, sym, ap, ap₂, ◌∙◌, subst, eq-eqb, ne_eqb}
+use Rattle.std.specs.Prelude.{◌==◌}
+use Rattle.std.specs.Io.KnownBytes.{append_known}
+use Rattle.std.proofs.lemmas.Bool.{cond-true, cond-false}
+use Rattle.cvm_outside.specs.Told.{AppendsPart}
+use Rattle.mips_table.specs.Machine.{State}
+use Rattle.layer_map.specs.Map.{Map}
+use Rattle.cvm_model.specs.Kernel.{JournalEntry, Set, Size, Put}
+use Rattle.cvm_model.specs.Primitives.{puts}
+use Rattle.cvm_model.specs.Text.{journal_rows_after}
+use Rattle.cvm_model.specs.Paged.{paged_of}
+use Rattle.boot_report.specs.Told.{WordsAreTold}
+use Rattle.layer_contract.specs.declared.registers.TheConstants.{ANSWER}
+use Rattle.boot_turns.specs.declared.completion.Begun.{Begun}
+use Rattle.boot_turns.specs.declared.tracer.Entered.{Entered}
+use Rattle.boot_turns.specs.declared.tracer.Tracer.{Tracer}
+use Rattle.boot_turns.specs.Completes.{note}
+use Rattle.boot_turns.specs.Copies.{copy_rows, steps_left}
+use Rattle.boot_turns.specs.Entries.{IsPlaced, call_ends, turn_begins, returned, return_entries, notes_on}
+use Rattle.boot_turns.specs.JournalText.{steps_after}
+use Rattle.boot_turns.specs.Tracing.{ReturnTold, followed, followed_rows, ended_rows, kept_after}
+use Rattle.boot_turns.proofs.Copying.{copies_tell, left_is}
+
+-- the entries of a primitive that has copied words to the user
+copy_is : (u : ℕ) (e : Entered) (answer : ℕ) (words : List ℕ) → answer ≡ 1 → slice_index e.arguments 2 ≡ u → e.primitive ≡ 6 →
+    call_ends u e answer words ≡ puts (slice_index e.arguments 3) (take (slice_index e.arguments 4) (drop (slice_index e.arguments 3 / 4) words))
+copy_is u e answer words one user sixth =
+    cond-true (answer == 1) _ [] (eq-eqb _ _ one)
+    ∙ cond-false (e.primitive == 1 && slice_index e.arguments 0 == u) (Set (slice_index e.arguments 1) (slice_index e.arguments 2) ∷ []) _ (ap (λ p. p == 1 && slice_index e.arguments 0 == u) sixth)
+    ∙ cond-false (e.primitive == 3 && slice_index e.arguments 0 == u) (Size (slice_index e.arguments 1) ∷ []) _ (ap (λ p. p == 3 && slice_index e.arguments 0 == u) sixth)
+    ∙ cond-false (e.primitive == 5 && slice_index e.arguments 0 == u) (Put (slice_index e.arguments 1) (slice_index e.arguments 2) ∷ []) _ (ap (λ p. p == 5 && slice_index e.arguments 0 == u) sixth)
+    ∙ cond-true (e.primitive == 6 && slice_index e.arguments 2 == u) (puts (slice_index e.arguments 3) (take (slice_index e.arguments 4) (drop (slice_index e.arguments 3 / 4) words))) []
+    (ap (λ p. p == 6 && slice_index e.arguments 2 == u) sixth ∙ eq-eqb _ _ user)
+
+module _ (m : Map) (s : State) (u steps answer : ℕ) (e : Entered) (words : List ℕ) (one : answer ≡ 1) (user : slice_index e.arguments 2 ≡ u) (sixth : e.primitive ≡ 6)
+    (told : WordsAreTold m s u words) (placed : IsPlaced u e answer words) where
+  -- the words that the pages show are those that were copied
+  pub copied_rows : copy_rows m (paged_of m s) u steps (slice_index e.arguments 3) (slice_index e.arguments 4) ≡ journal_rows_after false steps (call_ends u e answer words)
+  copied_rows =
+      ap (λ ws. journal_rows_after false steps (puts (slice_index e.arguments 3) ws)) (copies_tell m s u (slice_index e.arguments 3 / 4) (slice_index e.arguments 4) words told (placed one sixth user))
+      ∙ ap (journal_rows_after false steps) (sym (copy_is u e answer words one user sixth))
+
+  pub copied_steps : steps_left steps (slice_index e.arguments 4) ≡ steps_after steps (call_ends u e answer words)
+  copied_steps =
+      sym (left_is m (paged_of m s) u steps (slice_index e.arguments 3) (slice_index e.arguments 4))
+      ∙ ap (λ ws. steps_after steps (puts (slice_index e.arguments 3) ws)) (copies_tell m s u (slice_index e.arguments 3 / 4) (slice_index e.arguments 4) words told (placed one sixth user))
+      ∙ ap (steps_after steps) (sym (copy_is u e answer words one user sixth))
+
+-- what follows a step, by what the code tests
+module _ (s : State) (kept : Tracer) (current : ℕ) (began : Bool) (words : List ℕ) where
+  -- the rows of these entries, and what is kept then
+  module _ (j : List JournalEntry) (is : followed s kept current began words ≡ j) where
+    rows_are : journal_rows_after false kept.steps j ≡ followed_rows s kept current began words
+    rows_are = ap (journal_rows_after false kept.steps) (sym is)
+
+    pub rows_put : (old new : Option (List ℕ)) → new ≡ append_known old (journal_rows_after false kept.steps j) → new ≡ append_known old (followed_rows s kept current began words)
+    rows_put old new e = e ∙ ap (append_known old) rows_are
+
+    rows_begun : (old new : Option (List ℕ)) → AppendsPart old new (journal_rows_after false kept.steps j) → AppendsPart old new (followed_rows s kept current began words)
+    rows_begun old new p = subst (AppendsPart old new) rows_are p
+
+    pub kept_then : (mid : Tracer) (next : Option Entered) → mid ≡ record kept { steps = steps_after kept.steps j } → next ≡ notes_on s kept.call → record mid { call = next } ≡ kept_after s kept current began words
+    kept_then mid next e n =
+        ap₂ (λ (t : Tracer) (c : Option Entered). record t { call = c }) e n
+        ∙ ap (λ (d : List JournalEntry). record { user = kept.user; steps = steps_after kept.steps d; call = notes_on s kept.call }) (sym is)
+
+  -- a turn began, of the user that is traced or of another
+  pub own_turn : (b : Begun) → began ≡ true → b ≡ note s → followed s kept current began words ≡ turn_begins kept.user current b
+  own_turn b e is = cond-true began (turn_begins kept.user current (note s)) (return_entries kept.user s words (returned s kept.call)) e ∙ ap (turn_begins kept.user current) (sym is)
+
+  pub other_turn : began ≡ true → current ≢ kept.user → followed s kept current began words ≡ []
+  other_turn e other = own_turn (note s) e refl ∙ cond-false (current == kept.user) _ [] (ne_eqb current kept.user other)
+
+  -- none began: a primitive returned, or none did
+  not_begun : (r : Option Entered) → began ≡ false → r ≡ returned s kept.call → followed s kept current began words ≡ return_entries kept.user s words r
+  not_begun r e is = cond-false began (turn_begins kept.user current (note s)) (return_entries kept.user s words (returned s kept.call)) e ∙ ap (return_entries kept.user s words) (sym is)
+
+  pub none_returned : (r : Option Entered) → began ≡ false → r ≡ returned s kept.call → r ≡ None → followed s kept current began words ≡ []
+  none_returned r e is none = not_begun r e is ∙ ap (return_entries kept.user s words) none
+
+  module _ (m : Map) (r : Option Entered) (e : Entered) (answer : ℕ) (no : began ≡ false) (is : r ≡ returned s kept.call) (one : r ≡ Some e) (a : answer ≡ slice_index s.cpu.regs ANSWER)
+      (told : ReturnTold m s kept.user words (returned s kept.call)) where
+    told_there : ReturnTold m s kept.user words (Some e)
+    told_there = subst (ReturnTold m s kept.user words) (sym is ∙ one) told
+
+    placed : IsPlaced kept.user e answer words
+    placed = subst (λ n. IsPlaced kept.user e n words) (sym a) told_there.1
+
+    call_returned : followed s kept current began words ≡ call_ends kept.user e answer words
+    call_returned = not_begun r no is ∙ ap (return_entries kept.user s words) one ∙ ap (λ n. call_ends kept.user e n words) (sym a)
+
+    pub call_put : (old new : Option (List ℕ)) → (WordsAreTold m s kept.user words → IsPlaced kept.user e answer words → new ≡ append_known old (ended_rows kept e answer words)) →
+        new ≡ append_known old (followed_rows s kept current began words)
+    call_put old new put = rows_put (call_ends kept.user e answer words) call_returned old new (put told_there.0 placed)
+
+    pub call_begun : (old new : Option (List ℕ)) → (WordsAreTold m s kept.user words → IsPlaced kept.user e answer words → AppendsPart old new (ended_rows kept e answer words)) →
+        AppendsPart old new (followed_rows s kept current began words)
+    call_begun old new put = rows_begun (call_ends kept.user e answer words) call_returned old new (put told_there.0 placed)
+
+    pub call_kept : (mid : Tracer) (next : Option Entered) →
+        (WordsAreTold m s kept.user words → IsPlaced kept.user e answer words → mid ≡ record kept { steps = steps_after kept.steps (call_ends kept.user e answer words) }) → (mid.call ≡ kept.call → next ≡ notes_on s kept.call) →
+        record mid { call = next } ≡ kept_after s kept current began words
+    call_kept mid next is n =
+        let same : mid ≡ record kept { steps = steps_after kept.steps (call_ends kept.user e answer words) } = is told_there.0 placed in
+        kept_then (call_ends kept.user e answer words) call_returned mid next same (n (ap (λ (t : Tracer). t.call) same))

@@ -1,0 +1,41 @@
+use Rattle.std.proofs.Common.{◌≡◌, ℕ, Option, Some, None, slice_index, ap, Err}
+use Rattle.std.specs.Prelude.{IfSome}
+use Rattle.std.proofs.lemmas.Result.{err_from_is_err_and}
+use Rattle.mips_machine.specs.Steps.{outside_of}
+use Rattle.boot_turns.proofs.Tearing.{step_done_torn}
+use Rattle.boot_turns.specs.declared.tracer.Tracer.{Tracer}
+use Rattle.boot_turns.proofs.Tracking.{step_breaks, step_goes, step_stops}
+use Rattle.boot_turns.proofs.completion.step_traced.Goals as goal
+
+-- what is read where a user is traced
+current_read : (o : Option Tracer) (k : Tracer) (n v : ℕ) → IfSome o (λ _. n ≡ v) → o ≡ Some k → n ≡ v
+current_read None k n v h e = absurd (cc)
+current_read (Some j) k n v h e = h
+
+pub returns-in_err-began-clause-traced : goal.returns-in_err-began-clause-traced
+returns-in_err-began-clause-traced g c =
+    let w = err_from_is_err_and c.from_residual.result c.from_residual.ensures.1 in
+    let x = outside_of c.args.machine.now.rows (g.D.Sectors.size c.args.disk.now) in
+    step_breaks c.traces_grow.ensures c.journal_rows_follow.ensures c.the_words_tell.ensures x c.args.map.now c.args.machine.now (g.D.Sectors.sectors c.args.disk.now) c.args.tracer.now _ (g.O.Sink.text c.args.out.now)
+    c.from_residual.result w.0 c.requires.on w.1 w.2
+
+pub returns-in_err-follow-clause-torn : goal.returns-in_err-follow-clause-torn
+returns-in_err-follow-clause-torn g c = λ _.
+    step_done_torn (g.D.Sectors.size c.args.disk.now) c.args.machine.now c.step_once.new.machine (g.D.Sectors.sectors c.args.disk.now) (g.D.Sectors.sectors c.step_once.new.disk) (g.D.Sectors.sectors c.follow.new.disk)
+    c.in_ok-began.ensures.ran c.in_err-follow.ensures.sectors
+
+pub returns-in_err-follow-clause-traced : goal.returns-in_err-follow-clause-traced
+returns-in_err-follow-clause-traced g c =
+    let w = err_from_is_err_and c.from_residual-in_err-follow.result c.from_residual-in_err-follow.ensures.1 in
+    let x = outside_of c.args.machine.now.rows (g.D.Sectors.size c.args.disk.now) in
+    step_stops c.traces_grow.ensures c.journal_rows_follow.ensures c.the_words_tell.ensures x c.args.map.now c.args.machine.now (g.D.Sectors.sectors c.args.disk.now) c.in-Some.kept (g.O.Sink.text c.args.out.now) c.requires.on
+    c.step_once.new.machine (g.D.Sectors.sectors c.step_once.new.disk) c.in_ok-began.ensures.ran c.traced_current-current.result (current_read c.args.tracer.now c.in-Some.kept c.traced_current-current.result (slice_index c.args.machine.now.hardware.memory 1024) c.traced_current-current.ensures c.in-Some.is) c.in_ok-began.began c.in_ok-began.ensures.began
+    c.args.tracer.now _ (g.O.Sink.text c.follow.new.out) c.from_residual-in_err-follow.result w.0 c.in_err-follow.field-0.0 c.in-Some.is w.1 w.2
+    (λ e. c.in_err-follow.ensures.no_limit (ap (λ f. Err f) e)) c.in_err-follow.ensures.err
+
+pub returns-in-Some-clause-traced : goal.returns-in-Some-clause-traced
+returns-in-Some-clause-traced g c =
+    let x = outside_of c.args.machine.now.rows (g.D.Sectors.size c.args.disk.now) in
+    step_goes c.traces_grow.ensures c.journal_rows_follow.ensures c.the_words_tell.ensures x c.args.map.now c.args.machine.now (g.D.Sectors.sectors c.args.disk.now) c.in-Some.kept (g.O.Sink.text c.args.out.now) c.requires.on
+    c.step_once.new.machine (g.D.Sectors.sectors c.step_once.new.disk) c.in_ok-began.ensures.ran c.traced_current-current.result (current_read c.args.tracer.now c.in-Some.kept c.traced_current-current.result (slice_index c.args.machine.now.hardware.memory 1024) c.traced_current-current.ensures c.in-Some.is) c.in_ok-began.began c.in_ok-began.ensures.began
+    c.args.tracer.now c.follow.new.self (g.O.Sink.text c.follow.new.out) c.in-Some.is c.in_ok-follow.ensures.ok c.in_ok-follow.ensures.kept

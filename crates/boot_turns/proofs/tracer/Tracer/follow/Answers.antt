@@ -1,0 +1,79 @@
+-- What a step adds is what its branch prints: a turn of the user, a turn of another, a primitive that returned, or nothing.
+use Rattle.std.proofs.Common.{◌≡◌, ℕ, List, [], Option, sym, ap, ap₂, ◌∙◌, subst}
+use Rattle.cvm_outside.proofs.Parts.{append_known-nil}
+use Rattle.mips_table.specs.Machine.{State}
+use Rattle.mips_machine.specs.Machine.{Held, state_of}
+use Rattle.boot_report.specs.Texts.{SameButViewed}
+use Rattle.boot_turns.specs.declared.tracer.Entered.{Entered}
+use Rattle.boot_turns.specs.declared.tracer.Tracer.{Tracer}
+use Rattle.boot_turns.specs.Entries.{turn_begins, notes_on}
+use Rattle.boot_turns.proofs.Puts.{is_err}
+use Rattle.boot_turns.proofs.Followed.{own_turn, other_turn, none_returned, rows_put, kept_then, call_put, call_begun, call_kept}
+use Rattle.boot_turns.proofs.tracer.Tracer.follow.Goals.{then-began+then-current-self+else-prove+in_ok-begin, then-began+else-current-self, else-began+in-Some+in_ok-end, else-began+in_default}
+use Rattle.boot_turns.proofs.tracer.Tracer.follow.Goals as goal
+
+pub returns-in_err-end-clause-err : goal.returns-in_err-end-clause-err
+returns-in_err-end-clause-err g c = λ ss words e told.
+    let s : State = state_of c.args.machine.now ss in
+    is_err c.from_residual-in_err-end.result
+    (call_begun s c.args.self.now c.args.current c.args.began words c.args.map.now c.returned_call.result c.in-Some.call c.reg.result c.if-began.false c.returned_call.ensures c.in-Some.is c.reg.ensures told
+    (g.O.Sink.text c.args.out.now) (g.O.Sink.text c.end.new.out) (c.in_err-end.ensures.err ss words e))
+
+pub returns-clause-ok : goal.returns-clause-ok
+returns-clause-ok g c = λ ss words e told.
+    let s : State = state_of c.args.machine.now ss in
+    let kept = c.args.self.now in
+    elim c.if-began.branch [
+      | then-began+then-current-self+else-prove+in_ok-begin w ↦ (
+          let is = own_turn s kept c.args.current c.args.began words w.begun_now.result w.if-began.true w.begun_now.ensures in
+          ap g.O.Sink.text w.out-is
+          ∙ rows_put s kept c.args.current c.args.began words (turn_begins kept.user c.args.current w.begun_now.result) is (g.O.Sink.text c.args.out.now) (g.O.Sink.text w.begin.new.out) w.in_ok-begin.ensures.ok
+          )
+      | then-began+else-current-self w ↦ (
+          let is = other_turn s kept c.args.current c.args.began words w.if-began.true w.if-current-self.false in
+          ap g.O.Sink.text w.out-is ∙ rows_put s kept c.args.current c.args.began words [] is (g.O.Sink.text c.args.out.now) (g.O.Sink.text c.args.out.now) (sym (append_known-nil _))
+          )
+      | else-began+in-Some+in_ok-end w ↦
+          ap g.O.Sink.text w.out-is
+          ∙ call_put s kept c.args.current c.args.began words c.args.map.now w.returned_call.result w.in-Some.call w.reg.result w.if-began.false w.returned_call.ensures w.in-Some.is w.reg.ensures told
+          (g.O.Sink.text c.args.out.now) (g.O.Sink.text w.end.new.out) (w.in_ok-end.ensures.ok ss words e)
+      | else-began+in_default w ↦ (
+          let is = none_returned s kept c.args.current c.args.began words w.returned_call.result w.if-began.false w.returned_call.ensures w.in_default.is in
+          ap g.O.Sink.text w.out-is ∙ rows_put s kept c.args.current c.args.began words [] is (g.O.Sink.text c.args.out.now) (g.O.Sink.text c.args.out.now) (sym (append_known-nil _))
+          )
+    ]
+
+-- the note is made by the machine as it was, and by the note before
+noted_then : (a b : Held) (ss : List (List ℕ)) (c d : Option Entered) → SameButViewed a b → d ≡ c → notes_on (state_of b []) d ≡ notes_on (state_of a ss) c
+noted_then a b ss c d same e = ap₂ (λ (h : Held) (c : Option Entered). notes_on (state_of h []) c) same e
+
+noted_there : (a b : Held) (ss : List (List ℕ)) (c d : Option Entered) → b ≡ a → d ≡ c → notes_on (state_of b []) d ≡ notes_on (state_of a ss) c
+noted_there a b ss c d same e = ap₂ (λ (h : Held) (c : Option Entered). notes_on (state_of h []) c) same e
+
+pub returns-clause-kept : goal.returns-clause-kept
+returns-clause-kept g c = λ ss words e told.
+    let s : State = state_of c.args.machine.now ss in
+    let kept = c.args.self.now in
+    let next = notes_on (state_of c.if-began.machine []) c.if-began.self.call in
+    c.note_call.ensures ∙ elim c.if-began.branch [
+      | then-began+then-current-self+else-prove+in_ok-begin w ↦ (
+          let is = own_turn s kept c.args.current c.args.began words w.begun_now.result w.if-began.true w.begun_now.ensures in
+          let mid = w.self-is ∙ w.in_ok-begin.ensures.steps in
+          kept_then s kept c.args.current c.args.began words (turn_begins kept.user c.args.current w.begun_now.result) is c.if-began.self next mid
+          (noted_there c.args.machine.now c.if-began.machine ss kept.call c.if-began.self.call w.machine-is (ap (λ (t : Tracer). t.call) mid))
+          )
+      | then-began+else-current-self w ↦ (
+          let is = other_turn s kept c.args.current c.args.began words w.if-began.true w.if-current-self.false in
+          kept_then s kept c.args.current c.args.began words [] is c.if-began.self next w.self-is
+          (noted_there c.args.machine.now c.if-began.machine ss kept.call c.if-began.self.call w.machine-is (ap (λ (t : Tracer). t.call) w.self-is))
+          )
+      | else-began+in-Some+in_ok-end w ↦
+          call_kept s kept c.args.current c.args.began words c.args.map.now w.returned_call.result w.in-Some.call w.reg.result w.if-began.false w.returned_call.ensures w.in-Some.is w.reg.ensures told
+          c.if-began.self next (λ t p. w.self-is ∙ w.in_ok-end.ensures.steps ss words e t p)
+          (λ h. noted_then c.args.machine.now c.if-began.machine ss kept.call c.if-began.self.call (subst (SameButViewed c.args.machine.now) (sym w.machine-is) w.in_ok-end.ensures.same) h)
+      | else-began+in_default w ↦ (
+          let is = none_returned s kept c.args.current c.args.began words w.returned_call.result w.if-began.false w.returned_call.ensures w.in_default.is in
+          kept_then s kept c.args.current c.args.began words [] is c.if-began.self next w.self-is
+          (noted_there c.args.machine.now c.if-began.machine ss kept.call c.if-began.self.call w.machine-is (ap (λ (t : Tracer). t.call) w.self-is))
+          )
+    ]

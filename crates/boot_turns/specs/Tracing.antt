@@ -1,0 +1,125 @@
+-- What a trace has printed, and what is kept of it, while the machine steps.
+use Rattle.std.specs.Prelude.{◌≡◌, ℕ, suc, ◌+◌, ◌*◌, ◌≤◌, Bool, false, if◌then◌else◌, Option, Some, None, List, [], length, slice_index, Result, MatchResult}
+use Rattle.std.specs.Io.KnownBytes.{append_known}
+use Rattle.mips_table.specs.Device.{Outside}
+use Rattle.mips_table.specs.Machine.{State}
+use Rattle.mips_machine.specs.Machine.{Held, state_of}
+use Rattle.mips_machine.specs.Steps.{outside_of}
+use Rattle.layer_map.specs.Map.{Map, memory_words}
+use Rattle.layer_contract.specs.declared.registers.TheConstants.{ANSWER}
+use Rattle.c0_tree.specs.Tree.{CUnit}
+use Rattle.c0_meaning.specs.TypedState.{IsTypedState}
+use Rattle.cvm_model.specs.Kernel.{JournalEntry}
+use Rattle.cvm_model.specs.Cvm.{System}
+use Rattle.cvm_model.specs.Text.{journal_rows, open_journal_rows, journal_rows_after}
+use Rattle.layer_contract.specs.Layer.{Laws}
+use Rattle.layer_contract.specs.Follows.{site_of, machine, loaded}
+use Rattle.boot_report.specs.Told.{WordsAreTold}
+use Rattle.boot_turns.specs.declared.completion.Begun.{Begun}
+use Rattle.boot_turns.specs.declared.tracer.Entered.{Entered}
+use Rattle.boot_turns.specs.declared.tracer.Tracer.{Tracer}
+use Rattle.boot_turns.specs.declared.answers.RunFault.{RunFault}
+use Rattle.boot_turns.specs.declared.answers.RunFault.TheVariants.{StepLimit, Disk, Sink}
+use Rattle.boot_turns.specs.Completes.{seen, note}
+use Rattle.boot_turns.specs.Entries.{noted_call, notes_on, turn_begins, call_ends, returned, return_entries, IsPlaced}
+use Rattle.boot_turns.specs.JournalText.{steps_after, pending_steps}
+use Rattle.boot_turns.specs.Headline.{Boots}
+use Rattle.boot_turns.specs.Trace.{Shown}
+use Rattle.boot_turns.specs.TurnEnds.{Prefix}
+
+-- a trace can be printed from a machine with so many words of memory, after so many steps, over a disk of so many sectors
+pub record CanTrace (m : Map) (words time count : ℕ) (kept : Tracer) : Type 0 where
+  pub some : 1 ≤ kept.user
+  pub user : kept.user ≤ m.users
+  pub few : kept.steps ≤ time
+  pub pages : m.params.pages ≤ 65536
+  pub memory : memory_words m ≤ words
+  pub small : memory_words m ≤ 30000000
+  pub all : m.users * m.params.pages ≤ 65536
+  pub room : m.users * m.params.pages ≤ count
+
+-- the entries of the traced user after a step that led to s: it began a turn under this current user, or a primitive returned
+abbrev pub followed : State → Tracer → (current : ℕ) → (began : Bool) → (words : List ℕ) → List JournalEntry
+followed s kept current began words =
+    if began then turn_begins kept.user current (note s) else return_entries kept.user s words (returned s kept.call)
+
+-- where a primitive has returned, the pages tell the user's words, and what was copied to it lies there
+abbrev pub ReturnTold : Map → State → (u : ℕ) → List ℕ → Option Entered → Type 0
+ReturnTold m s u words None = Unit {0}
+ReturnTold m s u words (Some e) = WordsAreTold m s u words × IsPlaced u e (slice_index s.cpu.regs ANSWER) words
+
+-- of every state in which a machine stands, with words of the traced user that it tells where a primitive has returned
+abbrev pub WhereTold : Option (List (List ℕ)) → Held → Map → Tracer → (State → List ℕ → Type 0) → Type 0
+WhereTold told held m kept P = (ss : List (List ℕ)) (words : List ℕ) → told ≡ Some ss → ReturnTold m (state_of held ss) kept.user words (returned (state_of held ss) kept.call) → P (state_of held ss) words
+
+-- the rows of what follows, and what is kept then
+abbrev pub followed_rows : State → Tracer → (current : ℕ) → (began : Bool) → (words : List ℕ) → List ℕ
+followed_rows s kept current began words = journal_rows_after false kept.steps (followed s kept current began words)
+
+abbrev pub kept_after : State → Tracer → (current : ℕ) → (began : Bool) → (words : List ℕ) → Tracer
+kept_after s kept current began words = record { user = kept.user; steps = steps_after kept.steps (followed s kept current began words); call = notes_on s kept.call }
+
+-- of every words of the traced user that the pages tell, where those that a primitive with this answer copied to it lie
+abbrev pub WhereCopied : Option (List (List ℕ)) → Held → Map → Tracer → Entered → (answer : ℕ) → (List ℕ → Type 0) → Type 0
+WhereCopied told held m kept e answer P = (ss : List (List ℕ)) (words : List ℕ) → told ≡ Some ss → WordsAreTold m (state_of held ss) kept.user words → IsPlaced kept.user e answer words → P words
+
+-- the rows of a primitive that has given this answer
+abbrev pub ended_rows : Tracer → Entered → (answer : ℕ) → (words : List ℕ) → List ℕ
+ended_rows kept e answer words = journal_rows_after false kept.steps (call_ends kept.user e answer words)
+
+-- what is kept at step t, where j is shown
+abbrev pub tracer_at : Outside → State → (u t : ℕ) → List JournalEntry → Tracer
+tracer_at x s u t j = record { user = u; steps = pending_steps j; call = noted_call x s t }
+
+-- AT STEP t, over a sink that had `base` before the first row of the journal: the rows of what is shown are printed, but for a last row of steps
+pub record Traced (x : Outside) (y : System) (old : List (List ℕ)) (u t : ℕ) (base : Option (List ℕ)) (kept : Option Tracer) (text : Option (List ℕ)) : Type 0 where
+  pub journal : List JournalEntry
+  pub shown : Shown x (loaded y old) y u t journal
+  pub keeps : kept ≡ Some (tracer_at x (loaded y old) u t journal)
+  pub printed : text ≡ append_known base (open_journal_rows journal)
+
+-- the disk failed in step number `at`, or in its rows: the rows of what was shown before it stand, and some of what is shown after it may
+pub record RowsTorn (x : Outside) (y : System) (old : List (List ℕ)) (u at : ℕ) (base text : Option (List ℕ)) : Type 0 where
+  pub before : List JournalEntry
+  pub after : List JournalEntry
+  pub shown_before : Shown x (loaded y old) y u at before
+  pub shown_after : Shown x (loaded y old) y u (suc at) after
+  pub rows : List ℕ
+  pub part : Prefix (open_journal_rows before) (journal_rows after) rows
+  pub printed : text ≡ append_known base rows
+
+-- the sink failed in the rows of the step that led to number `at`
+pub record RowsCut (x : Outside) (y : System) (old : List (List ℕ)) (u at : ℕ) (base text : Option (List ℕ)) : Type 0 where
+  pub after : List JournalEntry
+  pub shown_after : Shown x (loaded y old) y u at after
+  pub rows : List ℕ
+  pub part : Prefix [] (open_journal_rows after) rows
+  pub printed : text ≡ append_known base rows
+
+-- steps were made from step t on, each taken from the budget
+pub record TracedOn (x : Outside) (y : System) (old : List (List ℕ)) (u t : ℕ) (base : Option (List ℕ)) (before after : ℕ) (kept : Option Tracer) (text : Option (List ℕ)) : Type 0 where
+  pub at : ℕ
+  pub from : t ≤ at
+  pub spent : after + at ≡ before + t
+  pub traced : Traced x y old u at base kept text
+
+-- how they end by a fault
+abbrev pub TraceStops : Outside → System → List (List ℕ) → (u t : ℕ) → (base : Option (List ℕ)) → (now : Option State) → (before after : ℕ) → (kept : Option Tracer) → (text : Option (List ℕ)) → RunFault → Type 0
+TraceStops x y old u t base now before after kept text StepLimit = TracedOn x y old u t base before after kept text
+TraceStops x y old u t base now before after kept text Disk = (at : ℕ) × (t ≤ at) × (after + suc at ≡ before + t) × RowsTorn x y old u at base text
+TraceStops x y old u t base now before after kept text Sink = (at : ℕ) × (t ≤ at) × (after + at ≡ before + t) × (now ≡ Some (machine x y old at)) × RowsCut x y old u at base text
+
+-- what is kept of a trace, the sink's text, and the budget, before and after
+pub record Tracing : Type 0 where
+  pub tracer : Option Tracer
+  pub text : Option (List ℕ)
+  pub budget : ℕ
+
+-- THE TRACE OF A LOOP that steps a machine, over a disk of so many sectors: for every boot whose run stands there, of one of its users
+abbrev pub TraceRuns : (count : ℕ) → Map → (old new : Held) → (told retold : Option (List (List ℕ))) → (before after : Tracing) → Result Begun RunFault → Type 0
+TraceRuns count m held new told retold before after result =
+    (c : CUnit) (lines busy : ℕ → ℕ) (y : System) (old : List (List ℕ)) (image sizes : List ℕ) (made_for : Map) (u t : ℕ) (base : Option (List ℕ)) →
+    Boots (IsTypedState c) lines busy (outside_of held.rows count) y old image sizes made_for → Laws (site_of y.boot) sizes → m ≡ (site_of y.boot).map → 1 ≤ u → u ≤ length y.boot.users →
+    seen told held ≡ Some (machine (outside_of held.rows count) y old t) → Traced (outside_of held.rows count) y old u t base before.tracer before.text →
+    MatchResult result (λ _. TracedOn (outside_of held.rows count) y old u t base before.budget after.budget after.tracer after.text)
+    (TraceStops (outside_of held.rows count) y old u t base (seen retold new) before.budget after.budget after.tracer after.text)

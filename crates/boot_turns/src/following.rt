@@ -1,0 +1,190 @@
+// The rows of one step of a trace, and what is kept after it.
+ghost use Rattle.std.specs.Prelude.{◌≡◌, ◌≢◌, ◌*◌, ◌≤◌, ◌<◌, List, [], length, Err, OnOk, OnErr};
+ghost use Rattle.std.specs.Io.KnownBytes.{append_known};
+ghost use Rattle.cvm_outside.specs.Causes.{Rose};
+ghost use Rattle.cvm_outside.specs.Told.{AppendsPart};
+ghost use Rattle.mips_machine.specs.Machine.{state_of};
+ghost use Rattle.layer_map.specs.Map.{memory_words};
+ghost use Rattle.boot_report.specs.Texts.{SameButViewed};
+ghost use Rattle.boot_turns.specs.Completes.{shown};
+ghost use Rattle.boot_turns.specs.Entries.{notes_on, returned, call_ends};
+ghost use Rattle.boot_turns.specs.JournalText.{steps_after};
+ghost use Rattle.boot_turns.specs.Tracing.{CanTrace, WhereTold, WhereCopied, followed_rows, ended_rows, kept_after};
+
+use crate::answers::RunFault;
+use crate::completion::Begun;
+use crate::tracer::{Entered, Tracer, note_entry};
+use cvm_outside::{Sectors, Sink};
+use layer_map::{CURRENT, Map};
+use mips_machine::Machine;
+
+/// The numbers of special registers: the cause of the last interrupt, what it concerns, and the mode.
+const CAUSE: u32 = 2;
+
+const CONCERN: u32 = 4;
+
+const MODE: u32 = 7;
+
+/// The register of a primitive's answer.
+const ANSWER: u32 = 2;
+
+/// The number of the primitive that copies words.
+const COPY: u32 = 6;
+
+/// What the machine shows now, as it is noted after the step that begins a turn.
+pub(crate) fn begun_now(machine: &Machine) -> Begun
+    requires room { 1024 < length machine.now.hardware.memory }
+    ensures { result ≡ shown machine.now }
+{
+    Begun {
+        dispatched: machine.special(MODE) != 1,
+        cause: machine.special(CAUSE),
+        edata: machine.special(CONCERN),
+        user: machine.word(CURRENT),
+    }
+}
+
+impl Tracer {
+    /// The primitive that returns where the machine is.
+    fn returned_call(&self, machine: &Machine) -> Option<Entered>
+        ensures { result ≡ returned (state_of machine.now []) self.now.call }
+    {
+        match self.call {
+            Some(entered) if machine.pc() == entered.back => Some(entered),
+            _ => None,
+        }
+    }
+
+    /// Keeps the note of the primitive that is under way. Most steps have none before and after them, and then nothing is written.
+    fn note_call(&mut self, machine: &Machine)
+        ensures { self.new ≡ record self.old { call = notes_on (state_of machine.now []) self.old.call } }
+    {
+        if let Some(entered) = self.call {
+            if machine.pc() == entered.back {
+                self.call = None;
+            }
+        } else if let Some(entered) = note_entry(machine) {
+            self.call = Some(entered);
+        }
+    }
+
+    /// Prints the rows of words that were copied to the user by a primitive that has returned with this answer.
+    ///
+    /// # Errors
+    ///
+    /// A fault of the disk, from which a page may have to be read, or of the sink.
+    fn end_copy<D: Sectors, O: Sink>(
+        &mut self,
+        machine: &mut Machine,
+        map: &Map,
+        call: &Entered,
+        answer: u32,
+        disk: &mut D,
+        out: &mut O,
+    ) -> Result<(), RunFault>
+        requires copy { call.now.primitive ≡ 6 }
+        requires can { CanTrace map.now (length machine.old.hardware.memory) machine.old.time (D.size disk.old) self.old }
+        ensures ok { WhereCopied (D.sectors disk.old) machine.old map.now self.old call.now answer (λ words. OnOk result (O.text out.new ≡ append_known (O.text out.old) (ended_rows self.old call.now answer words))) }
+        ensures err { WhereCopied (D.sectors disk.old) machine.old map.now self.old call.now answer (λ words. OnErr result (AppendsPart (O.text out.old) (O.text out.new) (ended_rows self.old call.now answer words))) }
+        ensures steps { WhereCopied (D.sectors disk.old) machine.old map.now self.old call.now answer (λ words. OnOk result (self.new ≡ record self.old { steps = steps_after self.old.steps (call_ends self.old.user call.now answer words) })) }
+        ensures user { self.new.user ≡ self.old.user }
+        ensures few { self.new.steps ≤ self.old.steps }
+        ensures same { SameButViewed machine.old machine.new }
+        ensures sectors { D.sectors disk.new ≡ D.sectors disk.old }
+        ensures size { D.size disk.new ≡ D.size disk.old }
+        ensures disk { result ≡ Err RunFault.Disk → Rose (D.faults disk.old) (D.faults disk.new) }
+        ensures disk_same { result ≢ Err RunFault.Disk → D.faults disk.new ≡ D.faults disk.old }
+        ensures sink { result ≡ Err RunFault.Sink → Rose (O.faults out.old) (O.faults out.new) }
+        ensures sink_same { result ≢ Err RunFault.Sink → O.faults out.new ≡ O.faults out.old }
+        ensures no_limit { result ≢ Err RunFault.StepLimit }
+    {
+        let [_, _, user, address, count] = call.arguments;
+        let most = 1024 * map.params().pages;
+        let first = address / 4;
+        if answer != 1 || user != self.user || first > most || count > most - first {
+            return Ok(());
+        }
+        self.put_words(machine, map, address, count, disk, out)
+    }
+
+    /// Prints the rows of a primitive that has returned with this answer.
+    ///
+    /// # Errors
+    ///
+    /// A fault of the disk, from which a page may have to be read, or of the sink.
+    fn end<D: Sectors, O: Sink>(
+        &mut self,
+        machine: &mut Machine,
+        map: &Map,
+        call: &Entered,
+        answer: u32,
+        disk: &mut D,
+        out: &mut O,
+    ) -> Result<(), RunFault>
+        requires can { CanTrace map.now (length machine.old.hardware.memory) machine.old.time (D.size disk.old) self.old }
+        ensures ok { WhereCopied (D.sectors disk.old) machine.old map.now self.old call.now answer (λ words. OnOk result (O.text out.new ≡ append_known (O.text out.old) (ended_rows self.old call.now answer words))) }
+        ensures err { WhereCopied (D.sectors disk.old) machine.old map.now self.old call.now answer (λ words. OnErr result (AppendsPart (O.text out.old) (O.text out.new) (ended_rows self.old call.now answer words))) }
+        ensures steps { WhereCopied (D.sectors disk.old) machine.old map.now self.old call.now answer (λ words. OnOk result (self.new ≡ record self.old { steps = steps_after self.old.steps (call_ends self.old.user call.now answer words) })) }
+        ensures user { self.new.user ≡ self.old.user }
+        ensures few { self.new.steps ≤ self.old.steps }
+        ensures same { SameButViewed machine.old machine.new }
+        ensures sectors { D.sectors disk.new ≡ D.sectors disk.old }
+        ensures size { D.size disk.new ≡ D.size disk.old }
+        ensures disk { result ≡ Err RunFault.Disk → Rose (D.faults disk.old) (D.faults disk.new) }
+        ensures disk_same { result ≢ Err RunFault.Disk → D.faults disk.new ≡ D.faults disk.old }
+        ensures sink { result ≡ Err RunFault.Sink → Rose (O.faults out.old) (O.faults out.new) }
+        ensures sink_same { result ≢ Err RunFault.Sink → O.faults out.new ≡ O.faults out.old }
+        ensures no_limit { result ≢ Err RunFault.StepLimit }
+    {
+        if call.primitive == COPY {
+            return self.end_copy(machine, map, call, answer, disk, out);
+        }
+        self.end_call(call, answer, out)?;
+        Ok(())
+    }
+
+    /// Prints the rows of what the user's journal grew by in the step that led here: it began a turn under this current user, or a
+    /// primitive returned. A step of the user that was not trapped is counted.
+    ///
+    /// # Errors
+    ///
+    /// A fault of the disk, from which a page may have to be read, or of the sink.
+    pub fn follow<D: Sectors, O: Sink>(
+        &mut self,
+        machine: &mut Machine,
+        map: &Map,
+        current: u32,
+        began: bool,
+        disk: &mut D,
+        out: &mut O,
+    ) -> Result<(), RunFault>
+        requires can { CanTrace map.now (length machine.old.hardware.memory) machine.old.time (D.size disk.old) self.old }
+        requires few { self.old.steps < machine.old.time }
+        requires room { 1024 < length machine.old.hardware.memory }
+        ensures ok { WhereTold (D.sectors disk.old) machine.old map.now self.old (λ s words. OnOk result (O.text out.new ≡ append_known (O.text out.old) (followed_rows s self.old current began words))) }
+        ensures err { WhereTold (D.sectors disk.old) machine.old map.now self.old (λ s words. OnErr result (AppendsPart (O.text out.old) (O.text out.new) (followed_rows s self.old current began words))) }
+        ensures kept { WhereTold (D.sectors disk.old) machine.old map.now self.old (λ s words. OnOk result (self.new ≡ kept_after s self.old current began words)) }
+        ensures can { CanTrace map.now (length machine.new.hardware.memory) machine.new.time (D.size disk.new) self.new }
+        ensures user { self.new.user ≡ self.old.user }
+        ensures same { SameButViewed machine.old machine.new }
+        ensures sectors { D.sectors disk.new ≡ D.sectors disk.old }
+        ensures size { D.size disk.new ≡ D.size disk.old }
+        ensures disk { result ≡ Err RunFault.Disk → Rose (D.faults disk.old) (D.faults disk.new) }
+        ensures disk_same { result ≢ Err RunFault.Disk → D.faults disk.new ≡ D.faults disk.old }
+        ensures sink { result ≡ Err RunFault.Sink → Rose (O.faults out.old) (O.faults out.new) }
+        ensures sink_same { result ≢ Err RunFault.Sink → O.faults out.new ≡ O.faults out.old }
+        ensures no_limit { result ≢ Err RunFault.StepLimit }
+    {
+        if began {
+            if current == self.user {
+                // so the steps with no row can be counted in as many bits
+                prove!(self.steps < machine.steps());
+                self.begin(current, &begun_now(machine), out)?;
+            }
+        } else if let Some(call) = self.returned_call(machine) {
+            self.end(machine, map, &call, machine.reg(ANSWER), disk, out)?;
+        }
+        self.note_call(machine);
+        Ok(())
+    }
+}
