@@ -9,11 +9,12 @@ use Rattle.schedule_file.specs.Rows.{Rows}
 use Rattle.mips_machine.specs.Steps.{outside_of}
 use Rattle.cvm_model.specs.Cvm.{System, first_cvm}
 use Rattle.layer_contract.specs.declared.boot.Boot.{Boot as Booted}
+use Rattle.layer_contract.specs.Boots.{boot_of}
 use Rattle.boot_turns.specs.Headline as headline
 use Rattle.boot_turns.specs.Headline.{Beyond}
 use Rattle.boot_turns.specs.declared.answers.View.{View}
 use Rattle.boot_run.specs.Loading.{system_of, StaysFrom}
-use Rattle.boot_run.specs.LoadEnds.{Kept, IsFresh, pages_needed}
+use Rattle.boot_run.specs.LoadEnds.{Kept, IsFresh, SeesUser, pages_needed}
 use Rattle.boot_run.specs.declared.load.LoadFault.{LoadFault}
 use Rattle.boot_run.specs.declared.load.LoadFault.TheVariants.{NoSuchUser, SmallDisk, Memory, Disk}
 use Rattle.boot_run.specs.declared.whole.RunEnd.{RunEnd}
@@ -33,6 +34,10 @@ beyond_of : (b : Booted) (rows : Rows) (old now : List (List ℕ)) → StaysFrom
 beyond_of b rows old now h = λ q le.
     one_list (sector_of now q) (sector_of old q) (h q (subst (λ n. n * b.params.pages ≤ q) (length-map b.users.items (λ words. words.items)) le))
 
+-- one of the users
+pub users_of : (b : Booted) (u : ℕ) → u ≤ length b.users.items → u ≤ length (boot_of b).users
+users_of b u h = subst (λ n. u ≤ n) (sym (length-map b.users.items (λ words. words.items))) h
+
 -- where it isn't loaded
 pub whole_refused : (b : Booted) (rows : Rows) (count : ℕ) (v : View) (turns steps : ℕ) (told retold : Option (List (List ℕ))) (before after : Option (List ℕ)) (f : LoadFault) → after ≡ before →
     (f ≡ Memory → retold ≡ told) → StaysFrom (pages_needed b) told retold → WholeEnds b rows count v turns steps told retold before after (Err f)
@@ -42,12 +47,12 @@ whole_refused b rows count v turns steps told retold before after Memory text sa
     ([], (refl, one_list now old (sym re ∙ same refl ∙ is)), text ∙ nothing_more before)
 whole_refused b rows count v turns steps told retold before after Disk text same torn = λ old now is re.
     let stays : StaysFrom (pages_needed b) (Some old) (Some now) = subst (λ (o : Option (List (List ℕ))). StaysFrom (pages_needed b) o (Some now)) is (subst (λ (o : Option (List (List ℕ))). StaysFrom (pages_needed b) told o) re torn) in
-    ([], inr (beyond_of b rows old now stays, inl (record { none = refl })), text ∙ nothing_more before)
+    ([], (beyond_of b rows old now stays, inr (inl (record { none = refl }))), text ∙ nothing_more before)
 
 -- a loaded run to its end, over these rows and this view
 abbrev RunsAt : Booted → Rows → View → ℕ → (turns steps : ℕ) → Around → Option (List (List ℕ)) → Option (List ℕ) → RunEnd → Type 0
 RunsAt b rows v count turns steps before retold after e = (y : System) (old : List (List ℕ)) (base : Option (List ℕ)) → Bootable b rows count y old →
-    Ready (outside_of rows count) y old v base 0 0 (first_cvm y) before →
+    SeesUser v (length y.boot.users) → Ready (outside_of rows count) y old v base 0 0 (first_cvm y) before →
     (now : List (List ℕ)) × (retold ≡ Some now) × BootEnds (outside_of rows count) y old now v turns steps base after (ending_of_end e)
 
 module _ {L : Type 0} (layer : L) (b : Booted) (rows : Rows) (count size : ℕ) (v : View) (turns steps : ℕ) (told mid retold : Option (List (List ℕ))) (before after : Option (List ℕ)) (r : Kept L) (e : RunEnd) (fresh : IsFresh layer b v rows count r) (same : size ≡ count)
@@ -63,7 +68,7 @@ module _ {L : Type 0} (layer : L) (b : Booted) (rows : Rows) (count size : ℕ) 
 
   ends_at : (old : List (List ℕ)) → told ≡ Some old → (now : List (List ℕ)) × (retold ≡ Some now) × BootEnds (outside_of rows count) (system_of b rows) old now v turns steps before after (ending_of_end e)
   ends_at old is =
-      runs_at (system_of b rows) old before (premises old is)
+      runs_at (system_of b rows) old before (premises old is) (subst (λ n. SeesUser v n) (sym (length-map b.users.items (λ words. words.items))) fresh.has_room.user)
       (subst (λ (w : View). Ready (outside_of rows count) (system_of b rows) old w before 0 0 (first_cvm (system_of b rows)) (around r mid steps before)) fresh.view_is (ready (outside_of rows count) old steps before is))
 
   pub whole_ends : WholeEnds b rows count v turns steps told retold before after (Ok e)

@@ -9,10 +9,10 @@ use Rattle.mips_table.specs.Turns.{complete, lines_of, is_end, TurnLaws}
 use Rattle.cvm_model.specs.Cvm.{System, Status, Running, Halted, Faulted, IsCvm}
 use Rattle.layer_contract.specs.Follows.{loaded, machine}
 use Rattle.boot_turns.specs.Headline as headline
-use Rattle.boot_turns.specs.Headline.{Machines, Beyond, Ending, Ran, EndBroken, EndsBroken, SinkBroken, end_of, ending, ending_of}
-use Rattle.boot_turns.specs.TurnEnds.{Printed, Rows, Whole, TextAfter}
+use Rattle.boot_turns.specs.Headline.{Machines, Ending, Ran, EndBroken, EndsBroken, end_of, ending, ending_of}
+use Rattle.boot_turns.specs.JournalText.{RowsFollow}
+use Rattle.boot_turns.specs.TurnEnds.{Printed, Rows, Whole, TextAfter, Prefix}
 use Rattle.boot_turns.specs.declared.answers.View.{View}
-use Rattle.boot_turns.specs.declared.answers.View.TheVariants.{Boot}
 use Rattle.boot_turns.specs.declared.answers.RunFault.{RunFault}
 use Rattle.boot_turns.specs.declared.answers.RunFault.TheVariants.{StepLimit, Disk, Sink}
 use Rattle.boot_run.specs.declared.whole.RunEnd.{RunEnd}
@@ -20,6 +20,7 @@ use Rattle.boot_run.specs.declared.whole.RunEnd.TheVariants as run
 use Rattle.boot_run.specs.TurnCalls.{Around}
 use Rattle.boot_run.specs.Report.{ReportBroken}
 use Rattle.boot_run.specs.Whole.{Stand, Gone, Late, GoFails, CloseEnds, BootEnds, ending_of_end, end_of_fault}
+use Rattle.boot_run.proofs.Prefixes.{GrowsFor, put_ends, report_ends}
 
 -- the text of a run whose kernel faulted is whole
 faulted_whole : (x : Outside) (y : System) (old : List (List ℕ)) (v : View) (t : ℕ) (s : Status) (text : List ℕ) → ending_of s ≡ headline.KernelFaulted → TextAfter x y old v t s text → Whole x y old v t text
@@ -35,7 +36,7 @@ by_none : (b : Bool) (e : Ending) → b ≡ false → (if b then e else headline
 by_none true e h = absurd (cc)
 by_none false e h = refl
 
-module _ (x : Outside) (y : System) (old : List (List ℕ)) (m : Machines x y old) (v : View) (view : v ≡ Boot) (base : Option (List ℕ)) (turns steps : ℕ) (after : Around) where
+module _ (x : Outside) (y : System) (old : List (List ℕ)) (m : Machines x y old) (v : View) (grows : GrowsFor x y old v) (counts : TurnLaws) (follow : RowsFollow) (base : Option (List ℕ)) (turns steps : ℕ) (after : Around) where
   -- how it ends, for the sectors that stand there
   abbrev pub EndsAs : Ending → Type 0
   EndsAs e = (now : List (List ℕ)) × Stand after now × BootEnds x y old now v turns steps base after.text e
@@ -64,18 +65,10 @@ module _ (x : Outside) (y : System) (old : List (List ℕ)) (m : Machines x y ol
 
   pub fails_end : (f : RunFault) → GoFails x y old v base turns steps after f → EndsAs (ending_of_end (end_of_fault f))
   fails_end StepLimit w = late_ends w
-  fails_end Disk (shown, now, stand, broken, text) = (now, stand, (shown, inl broken, text))
-  fails_end Sink (shown, now, stand, broken, text) = (
-    now,
-    stand,
-    (
-      shown,
-      (subst (Beyond y old) (sym broken.sectors) (m.beyond broken.end), subst (λ (v : View). SinkBroken x y old now v turns steps shown) (sym view) (inl broken)),
-      text,
-    ),
-  )
+  fails_end Disk (shown, now, stand, broken, text) = (now, stand, (shown, (m.torn now v turns steps shown broken, inl broken), text))
+  fails_end Sink (shown, now, stand, broken, text) = (now, stand, (shown, put_ends counts follow x y old m v grows turns steps now shown broken, text))
 
-  module _ (counts : TurnLaws) (mid : Around) (g : Gone x y old v base turns steps mid) where
+  module _ (mid : Around) (g : Gone x y old v base turns steps mid) where
     end_is : end_of x y old turns steps ≡ g.at
     end_is = counts.ends x (loaded y old) turns steps g.at g.end g.within
 
@@ -102,28 +95,41 @@ module _ (x : Outside) (y : System) (old : List (List ℕ)) (m : Machines x y ol
       text_is = h;
     }
 
-    -- the report was broken off
-    ends_broken : (f : RunFault) (r : ReportBroken x y old v base g.at mid after f) → ending_of g.past.status ≡ headline.Done →
-        EndsBroken x y old (machine x y old (end_of x y old turns steps)).device.sectors v turns steps r.shown
-    ends_broken f r done = (
+    -- the report's text
+    whole_at : (whole : List ℕ) → Whole x y old v g.at whole → Whole x y old v (end_of x y old turns steps) whole
+    whole_at whole w = subst (λ n. Whole x y old v n whole) (sym end_is) w
+
+    -- the report was broken off, once these rows stood
+    ends_broken : (f : RunFault) (r : ReportBroken x y old v base g.at mid after f) → ending_of g.past.status ≡ headline.Done → (rows : List ℕ) → Rows x y old v (end_of x y old turns steps) rows → Prefix rows r.whole r.shown →
+        EndsBroken x y old sectors v turns steps r.shown
+    ends_broken f r done rows are part = (
       record {
         past = g.past;
         cvm = cvm_at;
         done = ending_is ∙ done;
-        rows = r.part;
-        are_rows = subst (λ n. Rows x y old v n r.part) (sym end_is) (subst (λ (v : View). Rows x y old v g.at r.part) (sym view) (subst (λ (v : View). Printed x y old v g.at r.part) view r.is_part));
+        rows = rows;
+        are_rows = are;
         whole = r.whole;
-        is_whole = subst (λ n. Whole x y old v n r.whole) (sym end_is) r.is_whole;
-        printed = r.printed;
+        is_whole = whole_at r.whole r.is_whole;
+        printed = part;
       },
       refl,
     )
+
+    -- by the disk, once all rows before the end row stood; or by the sink
+    disk_broken : (r : ReportBroken x y old v base g.at mid after Disk) → ending_of g.past.status ≡ headline.Done → EndsBroken x y old sectors v turns steps r.shown
+    disk_broken r done = let w = r.rows refl in ends_broken Disk r done w.0 (subst (λ n. Rows x y old v n w.0) (sym end_is) w.1) w.2
+
+    sink_broken : (r : ReportBroken x y old v base g.at mid after Sink) → ending_of g.past.status ≡ headline.Done → headline.SinkBroken x y old sectors v turns steps r.shown
+    sink_broken r done =
+        report_ends x y old sectors v turns steps r.part r.whole r.shown (λ are. ends_broken Sink r done r.part are r.printed)
+        (subst (λ n. Printed x y old v n r.part) (sym end_is) r.is_part) (ran headline.Done r.whole done (whole_at r.whole r.is_whole)) r.printed
 
     pub closed : (e : RunEnd) → CloseEnds x y old v base g.at g.past mid after e → EndsAs (ending_of_end e)
     closed run.Done (done, r) = (
       sectors,
       stand_there (ap (λ (a : Around). a.state) r.same),
-      (r.whole, ran headline.Done r.whole done (subst (λ n. Whole x y old v n r.whole) (sym end_is) r.is_whole), ap (λ (a : Around). a.text) r.same),
+      (r.whole, ran headline.Done r.whole done (whole_at r.whole r.is_whole), ap (λ (a : Around). a.text) r.same),
     )
     closed run.KernelFaulted (faulted, same) = (
       sectors,
@@ -137,16 +143,9 @@ module _ (x : Outside) (y : System) (old : List (List ℕ)) (m : Machines x y ol
     )
     closed run.OutOfSteps h = absurd h
     closed run.DiskFault (done, r) =
-        (sectors, stand_there (ap (λ (a : Around). a.state) r.same), (r.shown, inr (m.beyond (end_of x y old turns steps), inr (ends_broken Disk r done)), ap (λ (a : Around). a.text) r.same))
+        (sectors, stand_there (ap (λ (a : Around). a.state) r.same), (r.shown, (m.beyond (end_of x y old turns steps), inr (inr (disk_broken r done))), ap (λ (a : Around). a.text) r.same))
     closed run.SinkFault (done, r) = (
       sectors,
       stand_there (ap (λ (a : Around). a.state) r.same),
-      (
-        r.shown,
-        (
-          m.beyond (end_of x y old turns steps),
-          subst (λ (v : View). SinkBroken x y old sectors v turns steps r.shown) (sym view) (inr (subst (λ (v : View). EndsBroken x y old sectors v turns steps r.shown) view (ends_broken Sink r done))),
-        ),
-        ap (λ (a : Around). a.text) r.same,
-      ),
+      (r.shown, (m.beyond (end_of x y old turns steps), sink_broken r done), ap (λ (a : Around). a.text) r.same),
     )

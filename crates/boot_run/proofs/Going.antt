@@ -1,5 +1,5 @@
 -- From turn to turn, and how the loop over turns ends.
-use Rattle.std.proofs.Common.{◌≡◌, ◌≢◌, ◌⊎◌, ℕ, zero, suc, ◌+◌, ◌<◌, ◌≤◌, Bool, true, false, not, Option, Some, None, List, [], ◌∷◌, ◌++◌, refl, sym, ap, ap₂, ◌∙◌, subst, ⊎_elim, arith, eq-eqb, ne_eqb}
+use Rattle.std.proofs.Common.{◌≡◌, ◌≢◌, ◌⊎◌, inl, inr, ℕ, zero, suc, ◌+◌, ◌<◌, ◌≤◌, Bool, true, false, not, Option, Some, None, List, [], ◌∷◌, ◌++◌, refl, sym, ap, ap₂, ◌∙◌, subst, ⊎_elim, arith, eq-eqb, ne_eqb}
 use Rattle.std.specs.Prelude.{◌==◌, ◌||◌, is_some, IsSome, if◌then◌else◌}
 use Rattle.std.specs.Option.{option_map}
 use Rattle.std.specs.Io.KnownBytes.{append_known}
@@ -13,14 +13,14 @@ use Rattle.cvm_model.specs.Cvm.{System, Status, Running, Halted, Faulted, Cvm, f
 use Rattle.layer_contract.specs.Layer.{Rests}
 use Rattle.layer_contract.specs.Follows.{loaded, machine}
 use Rattle.boot_turns.specs.Headline.{Machines, StepBroken, RowBroken, end_of}
-use Rattle.boot_turns.specs.TurnEnds.{Printed}
+use Rattle.boot_turns.specs.TurnEnds.{Printed, Whole}
 use Rattle.boot_turns.specs.declared.answers.View.{View}
-use Rattle.boot_turns.specs.declared.answers.View.TheVariants.{Boot}
+use Rattle.boot_turns.specs.declared.answers.View.TheVariants.{Boot, Trace}
 use Rattle.boot_turns.specs.declared.answers.Turn.{Turn}
 use Rattle.boot_turns.specs.declared.answers.RunFault.{RunFault}
 use Rattle.boot_turns.specs.declared.answers.RunFault.TheVariants.{StepLimit, Disk, Sink}
 use Rattle.boot_run.specs.TurnCalls.{ended_of, Around, Ready, Turned, Limited, DiskFailed, PutBroken, SinkFailed, TurnFails}
-use Rattle.boot_run.specs.Whole.{Gone, Late, GoFails}
+use Rattle.boot_run.specs.Whole.{Gone, Late, TraceBroken, PutFails, GoFails}
 
 -- after i turns, at step t, the next call finds the run so, and no end came before
 pub record Going (x : Outside) (y : System) (old : List (List ℕ)) (v : View) (base : Option (List ℕ)) (steps i t : ℕ) (c : Cvm) (now : Around) : Type 0 where
@@ -53,6 +53,13 @@ end_at x s k t e = ap (λ b. b || not (is_on (run x s t))) (eq-eqb (complete x s
 
 end_off : (x : Outside) (s : State) (k t v : ℕ) → (run x s t).off ≡ Some v → is_end x s k t ≡ true
 end_off x s k t v e = ap (λ o. (complete x s t == k) || not (not (is_some o))) e ∙ or_true _
+
+is_off : (x : Outside) (s : State) (k t : ℕ) → IsSome (run x s t).off → is_end x s k t ≡ true
+is_off x s k t h = by (run x s t).off refl h
+  where
+    by : (o : Option ℕ) → (run x s t).off ≡ o → IsSome o → is_end x s k t ≡ true
+    by None e i = absurd (cc)
+    by (Some v) e i = end_off x s k t v e
 
 no_end : (x : Outside) (s : State) (k t : ℕ) → complete x s t ≢ k → (run x s t).off ≡ None → is_end x s k t ≡ false
 no_end x s k t e o = ap₂ (λ (b : Bool) (o : Option ℕ). b || not (not (is_some o))) (ne_eqb (complete x s t) k e) o
@@ -142,14 +149,19 @@ pub none_within : TurnLaws → (x : Outside) (s : State) (k n : ℕ) → ((j : �
 none_within counts x s k n h = let e = h (end_within x s k n) (end_most x s k n) in (e, (counts.none x s k n e).0)
 
 module _ (counts : TurnLaws) (x : Outside) (y : System) (old : List (List ℕ)) (v : View) (base : Option (List ℕ)) (turns steps i t : ℕ) (c : Cvm) (before after : Around) (lt : i < turns) (g : Going x y old v base steps i t c before) where
+  -- where turn i isn't complete at a step, and the machine is on, the run hasn't ended there
+  goes_on_to : (j : ℕ) → (t ≤ j → complete x (loaded y old) j ≡ i) → (machine x y old j).off ≡ None → is_end x (loaded y old) turns j ≡ false
+  goes_on_to j between on = ⊎_elim
+      (λ (l : j < t). not_before x y old v base turns steps i t c before (omega arith) g j l)
+      (λ (ge : t ≤ j). let e = between ge in no_end x (loaded y old) turns j (λ f. omega (arith, e, f)) on)
+      (cases_lt j t)
+
+  -- the steps were run
   late : Limited x y old v base i t before after → Late x y old v base turns steps after
   late w =
       let b = g.budget in
       let same : t + before.budget ≡ steps = omega (arith, b) in
-      let none : (j : ℕ) → j ≤ steps → is_end x (loaded y old) turns j ≡ false = λ j h. ⊎_elim
-      (λ (l : j < t). not_before x y old v base turns steps i t c before (omega arith) g j l)
-      (λ (ge : t ≤ j). let e = w.between j ge (omega (arith, same)) in no_end x (loaded y old) turns j (λ f. omega (arith, e, f)) (w.on j (omega (arith, same))))
-      (cases_lt j t) in
+      let none : (j : ℕ) → j ≤ steps → is_end x (loaded y old) turns j ≡ false = λ j h. goes_on_to j (λ ge. w.between j ge (omega (arith, same))) (w.on j (omega (arith, same))) in
       let e = none_within counts x (loaded y old) turns steps none in
       let here : t + before.budget ≡ end_of x y old turns steps = same ∙ sym e.1 in
       record {
@@ -160,6 +172,7 @@ module _ (counts : TurnLaws) (x : Outside) (y : System) (old : List (List ℕ)) 
         text = w.text;
       }
 
+  -- the disk failed in a step
   step_broken : (w : DiskFailed x y old v base i t before after) → StepBroken x y old w.torn.0 v turns steps w.shown
   step_broken w =
       let b0 = g.budget in
@@ -167,17 +180,18 @@ module _ (counts : TurnLaws) (x : Outside) (y : System) (old : List (List ℕ)) 
       record {
         at = w.at;
         less = omega (arith, b0, b1);
-        goes_on = λ j h. ⊎_elim
-            (λ (l : j < t). not_before x y old v base turns steps i t c before (omega arith) g j l)
-            (λ (ge : t ≤ j). let e = w.between j ge h in no_end x (loaded y old) turns j (λ f. omega (arith, e, f)) (w.on j h))
-            (cases_lt j t);
+        goes_on = λ j h. goes_on_to j (λ ge. w.between j ge h) (w.on j h);
         sectors = w.torn.2;
         printed = w.printed;
       }
 
-  row_broken : v ≡ Boot → (w : SinkFailed x y old v base i t c before after) → RowBroken x y old (machine x y old w.at).device.sectors turns steps w.shown
-  row_broken view w =
-      let p = subst (λ (v : View). PutBroken x y old v i t c w.at w.shown) view w.printed in
+  -- the sink failed: the sectors are those of the machine
+  abbrev sink_sectors : SinkFailed x y old v base i t c before after → List (List ℕ)
+  sink_sectors w = (machine x y old w.at).device.sectors
+
+  -- of a boot in the row of the turn
+  row_broken : (w : SinkFailed x y old v base i t c before after) → PutBroken x y old Boot i t c w.at w.shown → RowBroken x y old (sink_sectors w) turns steps w.shown
+  row_broken w p =
       let a = p.0 in
       let at : w.at ≡ a.end = p.1 in
       let b0 = g.budget in
@@ -203,7 +217,29 @@ module _ (counts : TurnLaws) (x : Outside) (y : System) (old : List (List ℕ)) 
         printed = p.2;
       }
 
-  pub go_fails : v ≡ Boot → (f : RunFault) → TurnFails x y old v base i t c before after f → GoFails x y old v base turns steps after f
-  go_fails view StepLimit w = late w
-  go_fails view Disk w = (w.shown, w.torn.0, w.torn.1, step_broken w, w.text)
-  go_fails view Sink w = (w.shown, (machine x y old w.at).device.sectors, ap (option_map (λ (s : State). s.device.sectors)) w.state, row_broken view w, w.text)
+  -- of a trace in what is printed at some step
+  trace_broken : (u : ℕ) (w : SinkFailed x y old v base i t c before after) → PutBroken x y old (Trace u) i t c w.at w.shown → TraceBroken x y old (sink_sectors w) u turns steps w.shown
+  trace_broken u w (whole, from, is, part) =
+      let b0 = g.budget in
+      let b1 = w.budget in
+      record {
+        at = w.at;
+        most = omega (arith, b0, b1);
+        goes_on = λ j h. goes_on_to j (λ ge. w.between j ge h) (w.on j h);
+        sectors = refl;
+        whole = whole;
+        is_whole = ⊎_elim
+            (λ (p : Printed x y old (Trace u) w.at whole). inl p)
+            (λ (p : Whole x y old (Trace u) w.at whole × IsSome (machine x y old w.at).off). inr (p.0, is_off x (loaded y old) turns w.at p.1))
+            is;
+        printed = part;
+      }
+
+  put_fails : (w : SinkFailed x y old v base i t c before after) (view : View) → PutBroken x y old view i t c w.at w.shown → PutFails x y old (sink_sectors w) view turns steps w.shown
+  put_fails w Boot p = row_broken w p
+  put_fails w (Trace u) p = trace_broken u w p
+
+  pub go_fails : (f : RunFault) → TurnFails x y old v base i t c before after f → GoFails x y old v base turns steps after f
+  go_fails StepLimit w = late w
+  go_fails Disk w = (w.shown, w.torn.0, w.torn.1, step_broken w, w.text)
+  go_fails Sink w = (w.shown, sink_sectors w, ap (option_map (λ (s : State). s.device.sectors)) w.state, put_fails w v w.printed, w.text)

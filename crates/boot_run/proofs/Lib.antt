@@ -10,8 +10,16 @@ pub mod Room
 pub mod Reporting
 pub mod Going
 pub mod Looping
+pub mod Prefixes
 pub mod Closing
 pub mod Premises
 pub mod Ending
 pub mod Booting
 pub mod Reports
+pub mod TraceReporting
+pub mod TraceReports
+pub mod FirstPages
+pub mod TwoRows
+pub mod TracedTurn
+pub mod Fitting
+pub mod Making

@@ -1,9 +1,9 @@
 -- The machine that `load` makes is the loaded machine.
-use Rattle.std.proofs.Common.{◌≡◌, ℕ, ◌*◌, ◌/◌, ◌-◌, ◌≤◌, false, List, ◌++◌, map, drop, length, replicate, Option, None, Some, refl, sym, ap, ap₂, ◌∙◌, subst, arith}
+use Rattle.std.proofs.Common.{◌≡◌, ℕ, ◌*◌, ◌/◌, ◌-◌, ◌≤◌, false, List, ◌++◌, map, drop, length, replicate, Option, None, Some, refl, sym, ap, ap₂, ◌∙◌, subst, arith, length-append, length-drop}
 use Rattle.std.specs.Prelude.{IfSome}
 use Rattle.std.specs.Option.{option_map}
 use Rattle.std.specs.List.{range_with_len}
-use Rattle.std.proofs.lemmas.List.{drop-replicate, length-map}
+use Rattle.std.proofs.lemmas.List.{drop-replicate, length-map, length-replicate}
 use Rattle.std.proofs.Math.Nat.{le-div_iff_mul-le}
 use Rattle.schedule_file.specs.Rows.{Rows}
 use Rattle.layer_map.specs.Map.{memory_frames, memory_words}
@@ -47,6 +47,16 @@ module _ (b : Booted) (rows : Rows) where
   fresh some (Some old) count sized le =
       let le2 : needed ≤ length old = omega (arith, sized, le) in
       ap Some (ap₂ (λ memory sectors. start memory sectors rows.inputs) memory_is (sectors_are some old le2))
+
+-- its memory has room for the map
+pub loaded_long : (b : Booted) (rows : Rows) (held : Held) → held ≡ with_words (started (memory_frames (map_of (boot_of b))) rows) b.words.items → memory_words (map_of (boot_of b)) ≤ length held.hardware.memory
+loaded_long b rows held e =
+    let zeros : List ℕ = replicate (1024 * memory_frames (map_of (boot_of b))) 0 in
+    let a = length-append b.words.items (drop (length b.words.items) zeros) in
+    let d = length-drop (length b.words.items) zeros in
+    let r = length-replicate {A = ℕ} (1024 * memory_frames (map_of (boot_of b))) 0 in
+    let w = whole b rows in
+    subst (λ (m : Held). memory_words (map_of (boot_of b)) ≤ length m.hardware.memory) (sym e) (omega (arith, a, d, r, w))
 
 pub stands_loaded : (b : Booted) (rows : Rows) (held : Held) (told retold : Option (List (List ℕ))) (count : ℕ) → 1 ≤ b.params.pages →
     held ≡ with_words (started (memory_frames (map_of (boot_of b))) rows) b.words.items →

@@ -12,11 +12,11 @@ use Rattle.cvm_model.specs.Cvm.{System, Running, Cvm, first_cvm}
 use Rattle.cvm_model.specs.Journal.{KernelReplays}
 use Rattle.cvm_model.specs.declared.row.Next.{Next}
 use Rattle.layer_contract.specs.declared.boot.Boot.{Boot as Booted}
+use Rattle.layer_contract.specs.Boots.{boot_of}
 use Rattle.layer_contract.specs.Layer.{Laws}
 use Rattle.layer_contract.specs.Follows.{site_of}
 use Rattle.boot_turns.specs.Headline.{Boots, Machines, MachinesRun}
 use Rattle.boot_turns.specs.declared.answers.View.{View}
-use Rattle.boot_turns.specs.declared.answers.View.TheVariants.{Boot}
 use Rattle.boot_turns.specs.declared.answers.Turn.{Turn}
 use Rattle.boot_turns.specs.declared.answers.Turn.TheVariants.{Over}
 use Rattle.boot_turns.specs.declared.answers.RunFault.{RunFault}
@@ -28,11 +28,11 @@ use Rattle.boot_run.proofs.Going.{Going, Goes, going_first, going_next, goes_on,
 pub machines : ((u : CUnit) → MachinesRun (IsTypedState u)) → (b : Booted) (rows : Rows) (count : ℕ) (y : System) (old : List (List ℕ)) → Bootable b rows count y old → Machines (outside_of rows count) y old
 machines run b rows count y old p = run (unit_view b.unit) p.lines p.busy (outside_of rows count) y old p.image p.sizes p.made_for p.boots p.laws p.replays
 
--- what a call of `turn` comes to, over these rows and this view
-abbrev TurnAt : Rows → View → (count : ℕ) → (before after : Around) → Result Turn RunFault → Type 0
-TurnAt rows v count before after result =
+-- what a call of `turn` comes to, of this boot, over these rows and this view
+abbrev TurnAt : Booted → Rows → View → (count : ℕ) → (before after : Around) → Result Turn RunFault → Type 0
+TurnAt b rows v count before after result =
     (u : CUnit) (lines busy : ℕ → ℕ) (y : System) (old : List (List ℕ)) (image sizes : List ℕ) (made_for : Map) (base : Option (List ℕ)) (k t : ℕ) (c : Cvm) →
-    Boots (IsTypedState u) lines busy (outside_of rows count) y old image sizes made_for → Laws (site_of y.boot) sizes → KernelReplays y.boot.meaning →
+    y.boot ≡ boot_of b → Boots (IsTypedState u) lines busy (outside_of rows count) y old image sizes made_for → Laws (site_of y.boot) sizes → KernelReplays y.boot.meaning →
     Ready (outside_of rows count) y old v base k t c before → c.status ≡ Running → TurnEnds (outside_of rows count) y old v base k t c before after result
 
 -- after i turns of a run that was found as r
@@ -44,16 +44,17 @@ pub keeps_first : {L : Type 0} (count : ℕ) (r : Kept L) (before : Around) → 
 keeps_first count r before = λ y old base p ready. going_first (outside_of r.machine.rows count) y old r.view base before ready
 
 module _ {L : Type 0} (count size : ℕ) (r now : Kept L) (kept : KeepsLoad r now) (same : size ≡ count) (mid after : Around) (result : Result Turn RunFault) (runs : TurnRuns size now mid after result) where
-  at_load : TurnAt r.machine.rows r.view count mid after result
+  at_load : TurnAt r.boot r.machine.rows r.view count mid after result
   at_load =
-      subst (λ (n : ℕ). TurnAt r.machine.rows r.view n mid after result) same
-      (subst (λ (v : View). TurnAt r.machine.rows v size mid after result) kept.view_is
-      (subst (λ (rows : Rows). TurnAt rows now.view size mid after result) kept.rows_are runs))
+      subst (λ (n : ℕ). TurnAt r.boot r.machine.rows r.view n mid after result) same
+      (subst (λ (v : View). TurnAt r.boot r.machine.rows v size mid after result) kept.view_is
+      (subst (λ (rows : Rows). TurnAt r.boot rows now.view size mid after result) kept.rows_are
+      (subst (λ (b : Booted). TurnAt b now.machine.rows now.view size mid after result) kept.boot_is runs)))
 
   turn_ends : (y : System) (old : List (List ℕ)) (base : Option (List ℕ)) (k t : ℕ) (c : Cvm) → Bootable r.boot r.machine.rows count y old → Ready (outside_of r.machine.rows count) y old r.view base k t c mid → c.status ≡ Running →
       TurnEnds (outside_of r.machine.rows count) y old r.view base k t c mid after result
   turn_ends y old base k t c p ready running =
-      at_load (unit_view r.boot.unit) p.lines p.busy y old p.image p.sizes p.made_for base k t c p.boots p.laws p.replays ready running
+      at_load (unit_view r.boot.unit) p.lines p.busy y old p.image p.sizes p.made_for base k t c p.same p.boots p.laws p.replays ready running
 
 -- the turn is complete
 pub keeps_next : {L : Type 0} (count size : ℕ) (r now : Kept L) (before mid after : Around) (i : ℕ) (answer : Turn) → KeepsLoad r now → size ≡ count → mid.ended ≡ None → TurnRuns size now mid after (Ok answer) →
@@ -65,12 +66,12 @@ keeps_next count size r now before mid after i answer kept same on runs k = λ y
     (turn_ends count size r now kept same mid after (Ok answer) runs y old base i g.0 g.1 p g.2.ready (goes_on x y old r.view base i g.0 g.1 mid g.2.ready on))
 
 -- it fails
-pub go_failed : {L : Type 0} (counts : TurnLaws) (count size : ℕ) (r now : Kept L) (turns : ℕ) (before mid after : Around) (i : ℕ) (f e : RunFault) (result : Result (Unit {0}) RunFault) → KeepsLoad r now → size ≡ count → r.view ≡ Boot → i < turns →
+pub go_failed : {L : Type 0} (counts : TurnLaws) (count size : ℕ) (r now : Kept L) (turns : ℕ) (before mid after : Around) (i : ℕ) (f e : RunFault) (result : Result (Unit {0}) RunFault) → KeepsLoad r now → size ≡ count → i < turns →
     mid.ended ≡ None → TurnRuns size now mid after (Err f) → KeepsGoing count r before i mid → result ≡ Err e → f ≡ e → GoRuns count r turns before after result
-go_failed counts count size r now turns before mid after i f e result kept same view lt on runs k is fault = λ y old base p ready.
+go_failed counts count size r now turns before mid after i f e result kept same lt on runs k is fault = λ y old base p ready.
     let g = k y old base p ready in
     let x = outside_of r.machine.rows count in
-    let w = go_fails counts x y old r.view base turns before.budget i g.0 g.1 mid after lt g.2 view f
+    let w = go_fails counts x y old r.view base turns before.budget i g.0 g.1 mid after lt g.2 f
     (turn_ends count size r now kept same mid after (Err f) runs y old base i g.0 g.1 p g.2.ready (goes_on x y old r.view base i g.0 g.1 mid g.2.ready on)) in
     rw (is, sym fault) w
 

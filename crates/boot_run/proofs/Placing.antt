@@ -26,4 +26,5 @@ stays_placed b m places old new count e p = record {
   globals = p.globals;
   memory = subst (λ n. memory_words m ≤ n) (sym e) p.memory;
   sectors = p.sectors;
+  users = p.users;
 }

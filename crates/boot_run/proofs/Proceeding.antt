@@ -1,162 +1,162 @@
--- A call that goes on with a run, by what the machine did in it.
-use Rattle.std.proofs.Common.{◌≡◌, ◌≢◌, ℕ, ◌+◌, ◌-◌, ◌^◌, ◌<◌, Bool, true, false, not, min, Option, Some, None, List, [], ◌∷◌, Result, Ok, Err, refl, sym, ap, ◌∙◌, subst, append-nil}
-use Rattle.std.specs.Prelude.{if◌then◌else◌}
+-- A call that goes on with a run, by what was printed before the turn, what the turn did, and what was printed after it.
+use Rattle.std.proofs.Common.{◌≡◌, ℕ, zero, suc, ◌+◌, ◌^◌, ◌<◌, ◌≤◌, Option, Some, None, List, [], ◌∷◌, length, map, Result, Ok, Err, refl, sym, ap, ◌∙◌, subst}
+use Rattle.std.specs.Prelude.{IsSome}
 use Rattle.std.specs.Io.KnownBytes.{append_known}
+use Rattle.std.proofs.lemmas.List.{length-map}
+use Rattle.cvm_outside.specs.Told.{AppendsPart}
+use Rattle.cvm_outside.proofs.Parts.{append_known-nil}
 use Rattle.c0_tree.specs.Tree.{CUnit}
 use Rattle.c0_meaning.specs.TypedState.{IsTypedState}
-use Rattle.cvm_outside.specs.Told.{AppendsPart}
-use Rattle.mips_machine.specs.Machine.{Held}
+use Rattle.layer_map.specs.Map.{Map}
 use Rattle.mips_machine.specs.Steps.{outside_of}
-use Rattle.cvm_model.specs.declared.row.Next.{Next}
+use Rattle.cvm_model.specs.Primitives.{user_of}
+use Rattle.cvm_model.specs.Text.{rows_text, start_row}
 use Rattle.cvm_model.specs.declared.row.Row.{Row}
+use Rattle.cvm_model.specs.Journal.{KernelReplays}
 use Rattle.mips_table.specs.Device.{Outside}
-use Rattle.cvm_model.specs.Cvm.{System, Cvm}
-use Rattle.cvm_model.specs.Text.{row_text, rows_text}
-use Rattle.boot_turns.specs.Headline.{MachinesRun}
-use Rattle.boot_turns.specs.Advances.{Advances}
+use Rattle.cvm_model.specs.Cvm.{Boot as CvmBoot, System, Running, Cvm, first_flat, map_of}
+use Rattle.layer_contract.specs.declared.boot.Boot.{Boot as Booted}
+use Rattle.layer_contract.specs.Boots.{boot_of}
+use Rattle.layer_contract.specs.Layer.{Laws}
+use Rattle.layer_contract.specs.Follows.{site_of}
+use Rattle.boot_turns.specs.Headline.{Boots, Machines, MachinesRun}
+use Rattle.boot_turns.specs.Entries.{TracesGrow, TraceGrows}
+use Rattle.boot_turns.specs.JournalText.{RowsFollow}
+use Rattle.boot_turns.specs.Tracing.{Traced}
 use Rattle.boot_turns.specs.declared.completion.Begun.{Begun}
+use Rattle.boot_turns.specs.declared.tracer.Tracer.{Tracer}
 use Rattle.boot_turns.specs.declared.answers.View.{View}
-use Rattle.boot_turns.specs.declared.answers.View.TheVariants.{Boot}
+use Rattle.boot_turns.specs.declared.answers.View.TheVariants.{Boot, Trace}
 use Rattle.boot_turns.specs.declared.answers.Turn.{Turn}
-use Rattle.boot_turns.specs.declared.answers.Turn.TheVariants.{Step, Dispatch, Over}
 use Rattle.boot_turns.specs.declared.answers.RunFault.{RunFault}
 use Rattle.boot_turns.specs.declared.answers.RunFault.TheVariants.{StepLimit, Disk, Sink}
-use Rattle.boot_run.specs.LoadEnds.{Kept}
-use Rattle.boot_run.specs.Shown.{end_of_next}
+use Rattle.boot_run.specs.LoadEnds.{Kept, SeesUser, viewed}
 use Rattle.boot_run.specs.TurnCalls.{rows_of, Around, around, Ready, TurnFails, TurnEnds, TurnRuns}
-use Rattle.boot_run.proofs.Turned.{noted_rows, current_word, next_of_held, Wrote, failed, turned, broken}
+use Rattle.boot_run.specs.TurnParts.{rows_before, rows_after, Counted, Moved, Views}
+use Rattle.boot_run.proofs.Turned.{Wrote, failed, turned, broken}
+use Rattle.boot_run.proofs.TracedTurn.{start_at, traced_mid, start_cut, trace_failed, trace_turned, trace_cut}
 
-append_known-nil : (t : Option (List ℕ)) → append_known t [] ≡ t
-append_known-nil None = refl
-append_known-nil (Some xs) = ap (λ l. Some l) (append-nil xs)
+-- by what is viewed: a boot, or one of the users
+by_view : {L : Type 0} (r : Kept L) → Views r → (P : View → Type 0) → (r.tracer ≡ None → P Boot) → ((kept : Tracer) → r.tracer ≡ Some kept → 1 ≤ kept.user → kept.user ≤ length r.boot.users.items → P (Trace kept.user)) → P r.view
+by_view r w P boot trace = subst P (sym w.view) (by r.tracer refl)
+  where
+    by : (o : Option Tracer) → r.tracer ≡ o → P (viewed o)
+    by None e = boot e
+    by (Some kept) e = let h : SeesUser (Trace kept.user) (length r.boot.users.items) = subst (λ (v : View). SeesUser v (length r.boot.users.items)) (w.view ∙ ap viewed e) w.user in trace kept e h.0 h.1
 
--- a step answers no row
-pub no_rows : (k user v : ℕ) (b : Begun) (n : Next) → b.dispatched ≡ false → rows_of (Step v) ≡ noted_rows k b user n
-no_rows k user v b n e = sym (ap (λ (d : Bool). if d then (record { turn = k; cause = b.cause; edata = b.edata; user = user; next = n }) ∷ [] else []) e)
+none_some : (kept : Tracer) → None ≡ Some kept → ⊥
+none_some kept e = cc
 
--- and a dispatch its row
-pub one_row : (k user : ℕ) (b : Begun) (n : Next) → b.dispatched ≡ true → rows_of (Dispatch (record { turn = k; cause = b.cause; edata = b.edata; user = user; next = n })) ≡ noted_rows k b user n
-one_row k user b n e = sym (ap (λ (d : Bool). if d then (record { turn = k; cause = b.cause; edata = b.edata; user = user; next = n }) ∷ [] else []) e)
+is_some : (o : Option Tracer) → o ≡ None → IsSome o → ⊥
+is_some None e h = cc
+is_some (Some kept) e h = none_some kept (sym e)
 
-step_user : (u v : ℕ) → Step v ≡ Step u → u ≡ v
-step_user u v h = cc
+-- the start row, of the boot that the run has
+starts : (b : Booted) (kept : Tracer) (n : ℕ) (y : System) → y.boot ≡ boot_of b → rows_before b (Some kept) n ≡ start_at y kept.user n
+starts b kept zero y same = ap (λ (q : CvmBoot). start_row kept.user (user_of (map first_flat q.users) kept.user)) (sym same)
+starts b kept (suc n) y same = refl
 
-step_proper : (v : ℕ) → Step v ≢ Over
-step_proper v h = cc
+module _ {L : Type 0} (r new : Kept L) (count : ℕ) (told retold : Option (List (List ℕ))) (budget left : ℕ) (text mid late retext : Option (List ℕ)) (views : Views r)
+    (run : (u : CUnit) → MachinesRun (IsTypedState u)) (grow : (u : CUnit) → TracesGrow (IsTypedState u)) (follow : RowsFollow) where
+  abbrev x : Outside
+  x = outside_of r.machine.rows count
 
-dispatch_proper : (r : Row) → Dispatch r ≢ Over
-dispatch_proper r h = cc
+  -- what a boot shows of each exit, and what a trace does
+  abbrev EndsAs : Around → Result Turn RunFault → View → Type 0
+  EndsAs after result v = (u : CUnit) (lines busy : ℕ → ℕ) (y : System) (old : List (List ℕ)) (image sizes : List ℕ) (made_for : Map) (base : Option (List ℕ)) (k t : ℕ) (c : Cvm) → y.boot ≡ boot_of r.boot →
+      Boots (IsTypedState u) lines busy (outside_of r.machine.rows count) y old image sizes made_for → Laws (site_of y.boot) sizes → KernelReplays y.boot.meaning →
+      Ready (outside_of r.machine.rows count) y old v base k t c (around r told budget text) → c.status ≡ Running →
+      TurnEnds (outside_of r.machine.rows count) y old v base k t c (around r told budget text) after result
 
-dispatch_step : (r : Row) (u : ℕ) → Dispatch r ≡ Step u → (v : ℕ) → u ≡ v
-dispatch_step r u h = absurd (cc)
+  both : (after : Around) (result : Result Turn RunFault) → (r.tracer ≡ None → EndsAs after result Boot) →
+      ((kept : Tracer) → r.tracer ≡ Some kept → 1 ≤ kept.user → kept.user ≤ length r.boot.users.items → EndsAs after result (Trace kept.user)) → TurnRuns count r (around r told budget text) after result
+  both after result boot trace = by_view r views (EndsAs after result) boot trace
 
-module _ {L : Type 0} (r : Kept L) (count : ℕ) (told retold : Option (List (List ℕ))) (budget left : ℕ) (text : Option (List ℕ)) (held : Held) (view : r.view ≡ Boot)
-    (run : (u : CUnit) → MachinesRun (IsTypedState u)) (spent : held.time + left ≡ r.machine.time + budget) where
-  before : Around
-  before = around r told budget text
+  -- the user is one of the boot's
+  few : (y : System) (u : ℕ) → y.boot ≡ boot_of r.boot → u ≤ length r.boot.users.items → u ≤ length y.boot.users
+  few y u same le = subst (λ n. u ≤ n) (sym (ap (λ (q : CvmBoot). length q.users) same ∙ length-map r.boot.users.items (λ words. words.items))) le
 
-  -- the machine didn't come through the turn
-  pub stopped : (f : RunFault) → Advances count r.machine held told retold budget left (Err f) → TurnRuns count r (around r told budget text) (around (record r { machine = held }) retold left text) (Err f)
-  stopped f adv = λ u lines busy y old image sizes made_for base k t c boots laws replays ready running.
-      subst (λ (v : View). TurnEnds (outside_of r.machine.rows count) y old v base k t c (around r told budget text) (around (record r { machine = held }) retold left text) (Err f)) (sym view)
-      (failed (outside_of r.machine.rows count) y old (run u lines busy (outside_of r.machine.rows count) y old image sizes made_for boots laws replays) base k t c
-      (around r told budget text) (around (record r { machine = held }) retold left text)
-      (subst (λ (v : View). Ready (outside_of r.machine.rows count) y old v base k t c (around r told budget text)) view ready) running f
-      (adv u lines busy y old image sizes made_for boots laws replays k t c ready.stood running ready.state) spent refl refl)
+  -- what stands before the turn was cut off
+  pub cut_before : IsSome r.tracer → r.turns ≡ 0 → AppendsPart text retext (rows_before r.boot r.tracer r.turns) → TurnRuns count r (around r told budget text) (around r told budget retext) (Err Sink)
+  cut_before some first part = both (around r told budget retext) (Err Sink)
+      (λ e. absurd (is_some r.tracer e some))
+      (λ kept e low high. λ u lines busy y old image sizes made_for base k t c same boots laws replays ready running.
+      start_cut x y old (run u lines busy x y old image sizes made_for boots laws replays) kept.user (grow u lines busy x y old image sizes made_for kept.user boots laws low (few y kept.user same high)) follow base k t c
+      (around r told budget text) (around r told budget retext) ready running first
+      (subst (AppendsPart text retext) (ap (λ o. rows_before r.boot o r.turns) e ∙ starts r.boot kept r.turns y same) part) refl refl refl)
 
-  module _ (b : Begun) (adv : Advances count r.machine held told retold budget left (Ok b)) (small : r.machine.time + budget < 2 ^ 64) (turns word : ℕ) (ended : Option Next) (turns_are : turns ≡ min (r.turns + 1) (2 ^ 64 - 1))
-      (word_is : word ≡ current_word held) (ended_is : ended ≡ end_of_next (next_of_held held)) (retext : Option (List ℕ)) where
-    abbrev new : Kept L
-    new = record r { machine = held; turns = turns; current = word; ended = ended }
+  module _ (put : mid ≡ append_known text (rows_before r.boot r.tracer r.turns)) (still : r.tracer ≡ None → late ≡ mid) (spent : new.machine.time + left ≡ r.machine.time + budget) where
+    -- of a boot nothing was printed yet
+    none_put : r.tracer ≡ None → late ≡ text
+    none_put e = still e ∙ put ∙ ap (λ o. append_known text (rows_before r.boot o r.turns)) e ∙ append_known-nil text
 
-    wrote : Wrote held (around r told budget text) (around new retold left retext)
-    wrote = record { spent = spent; small = small; turns = turns_are; current = word_is; ended = ended_is; fault = refl }
+    module _ (kept : Tracer) (e : r.tracer ≡ Some kept) (u : CUnit) (lines busy : ℕ → ℕ) (y : System) (old : List (List ℕ)) (image sizes : List ℕ) (made_for : Map) (base : Option (List ℕ)) (k t : ℕ) (c : Cvm) (same : y.boot ≡ boot_of r.boot)
+        (boots : Boots (IsTypedState u) lines busy x y old image sizes made_for) (laws : Laws (site_of y.boot) sizes) (replays : KernelReplays y.boot.meaning) (low : 1 ≤ kept.user) (high : kept.user ≤ length r.boot.users.items)
+        (ready : Ready x y old (Trace kept.user) base k t c (around r told budget text)) (running : c.status ≡ Running) where
+      grows : TraceGrows x y old kept.user
+      grows = grow u lines busy x y old image sizes made_for kept.user boots laws low (few y kept.user same high)
 
-    -- the turn is complete
-    pub went : (answer : Turn) → rows_of answer ≡ noted_rows r.turns b r.current (next_of_held held) → answer ≢ Over → ((u : ℕ) → answer ≡ Step u → u ≡ r.current) → retext ≡ append_known text (rows_text (rows_of answer)) →
-        TurnRuns count r (around r told budget text) (around new retold left retext) (Ok answer)
-    went answer rows proper user is = λ u lines busy y old image sizes made_for base k t c boots laws replays ready running.
-        subst (λ (v : View). TurnEnds (outside_of r.machine.rows count) y old v base k t c (around r told budget text) (around new retold left retext) (Ok answer)) (sym view)
-        (turned (outside_of r.machine.rows count) y old (run u lines busy (outside_of r.machine.rows count) y old image sizes made_for boots laws replays) base k t c
-        (around r told budget text) (around new retold left retext)
-        (subst (λ (v : View). Ready (outside_of r.machine.rows count) y old v base k t c (around r told budget text)) view ready) running retold held b refl
-        (adv u lines busy y old image sizes made_for boots laws replays k t c ready.stood running ready.state) wrote answer rows proper user is)
+      machines : Machines x y old
+      machines = run u lines busy x y old image sizes made_for boots laws replays
 
-    -- and its row isn't printed whole
-    pub cut : (answer : Turn) → rows_of answer ≡ noted_rows r.turns b r.current (next_of_held held) → (row : Row) → rows_of answer ≡ row ∷ [] → AppendsPart text retext (rows_text (rows_of answer)) →
-        TurnRuns count r (around r told budget text) (around new retold left retext) (Err Sink)
-    cut answer rows row one is = λ u lines busy y old image sizes made_for base k t c boots laws replays ready running.
-        subst (λ (v : View). TurnEnds (outside_of r.machine.rows count) y old v base k t c (around r told budget text) (around new retold left retext) (Err Sink)) (sym view)
-        (broken (outside_of r.machine.rows count) y old (run u lines busy (outside_of r.machine.rows count) y old image sizes made_for boots laws replays) base k t c
-        (around r told budget text) (around new retold left retext)
-        (subst (λ (v : View). Ready (outside_of r.machine.rows count) y old v base k t c (around r told budget text)) view ready) running retold held b refl
-        (adv u lines busy y old image sizes made_for boots laws replays k t c ready.stood running ready.state) wrote answer rows row one is)
+      traced : Traced x y old kept.user t (append_known base (start_at y kept.user 0)) r.tracer mid
+      traced = traced_mid x y old machines kept.user grows follow base k t c (around r told budget text) (around r told budget text) ready running mid
+          (put ∙ ap (append_known text) (ap (λ o. rows_before r.boot o r.turns) e ∙ starts r.boot kept r.turns y same))
 
-  module _ (b : Begun) (adv : Advances count r.machine held told retold budget left (Ok b)) (small : r.machine.time + budget < 2 ^ 64) (turns word : ℕ) (ended : Option Next) (turns_are : turns ≡ min (r.turns + 1) (2 ^ 64 - 1))
-      (word_is : word ≡ current_word held) (ended_is : ended ≡ end_of_next (next_of_held held)) where
-    -- a user's step, with no row
-    pub went_step : b.dispatched ≡ false → TurnRuns count r (around r told budget text) (around (record r { machine = held; turns = turns; current = word; ended = ended }) retold left text) (Ok (Step r.current))
-    went_step e = went b adv small turns word ended turns_are word_is ended_is text (Step r.current) (no_rows r.turns r.current r.current b (next_of_held held) e) (step_proper r.current) (λ u h. step_user u r.current h) (sym (append_known-nil text))
+    -- the turn was broken off
+    pub broke_off : (f : RunFault) → Moved count r new told retold mid late budget left (Err f) → (r.tracer ≡ None → f ≡ Sink → ⊥) → new.ended ≡ r.ended → TurnRuns count r (around r told budget text) (around new retold left late) (Err f)
+    broke_off f w no_sink ended = both (around new retold left late) (Err f)
+        (λ e. λ u lines busy y old image sizes made_for base k t c same boots laws replays ready running.
+        failed x y old (run u lines busy x y old image sizes made_for boots laws replays) base k t c (around r told budget text) (around new retold left late) ready running f (no_sink e)
+        (w.advances u lines busy y old image sizes made_for boots laws replays k t c ready.stood running ready.state) spent (none_put e) ended)
+        (λ kept e low high. λ u lines busy y old image sizes made_for base k t c same boots laws replays ready running.
+        trace_failed x y old (machines kept e u lines busy y old image sizes made_for base k t c same boots laws replays low high ready running) kept.user
+        (grows kept e u lines busy y old image sizes made_for base k t c same boots laws replays low high ready running) follow base k t c (around r told budget text) (around new retold left late) ready running f
+        (w.advances u lines busy y old image sizes made_for boots laws replays k t c ready.stood running ready.state)
+        (w.traces u lines busy y old image sizes made_for kept.user t (append_known base (start_at y kept.user 0)) boots laws (ap map_of (sym same)) low (few y kept.user same high) ready.state
+        (traced kept e u lines busy y old image sizes made_for base k t c same boots laws replays low high ready running))
+        spent ended)
 
-    -- a dispatch, with its row
-    pub went_row : (retext : Option (List ℕ)) (n : Next) (bytes : List ℕ) → n ≡ next_of_held held → b.dispatched ≡ true → bytes ≡ row_text (record { turn = r.turns; cause = b.cause; edata = b.edata; user = r.current; next = n }) →
-        retext ≡ append_known text bytes →
-        TurnRuns count r (around r told budget text) (around (record r { machine = held; turns = turns; current = word; ended = ended }) retold left retext) (Ok (Dispatch (record { turn = r.turns; cause = b.cause; edata = b.edata; user = r.current; next = n })))
-    went_row retext n bytes next e is text_is =
-        went b adv small turns word ended turns_are word_is ended_is retext (Dispatch (record { turn = r.turns; cause = b.cause; edata = b.edata; user = r.current; next = n }))
-        (one_row r.turns r.current b n e ∙ ap (noted_rows r.turns b r.current) next) (dispatch_proper _) (λ u h. dispatch_step _ u h r.current)
-        (text_is ∙ ap (append_known text) (is ∙ sym (append-nil _)))
+    module _ (b : Begun) (answer : Turn) (w : Moved count r new told retold mid late budget left (Ok b)) (counted : Counted r new b answer) (small : r.machine.time + budget < 2 ^ 64) (fault : new.fault ≡ r.fault) (none : r.tracer ≡ None → new.tracer ≡ None) where
+      wrote : Wrote new.machine b answer (around r told budget text) (around new retold left retext)
+      wrote = record { spent = spent; small = small; turns = counted.turns; current = counted.current; ended = counted.ended; fault = fault; is = counted.is }
 
-    pub cut_row : (retext : Option (List ℕ)) (n : Next) (bytes : List ℕ) → n ≡ next_of_held held → b.dispatched ≡ true → bytes ≡ row_text (record { turn = r.turns; cause = b.cause; edata = b.edata; user = r.current; next = n }) →
-        AppendsPart text retext bytes → TurnRuns count r (around r told budget text) (around (record r { machine = held; turns = turns; current = word; ended = ended }) retold left retext) (Err Sink)
-    cut_row retext n bytes next e is part =
-        cut b adv small turns word ended turns_are word_is ended_is retext (Dispatch (record { turn = r.turns; cause = b.cause; edata = b.edata; user = r.current; next = n }))
-        (one_row r.turns r.current b n e ∙ ap (noted_rows r.turns b r.current) next) (record { turn = r.turns; cause = b.cause; edata = b.edata; user = r.current; next = n }) refl
-        (subst (AppendsPart text retext) (is ∙ sym (append-nil _)) part)
+      rows_are : r.tracer ≡ None → rows_after new.tracer new.ended answer ≡ rows_text (rows_of answer)
+      rows_are e = ap (λ o. rows_after o new.ended answer) (none e)
 
--- the same of the run as the call found it
-module _ {L : Type 0} (now r : Kept L) (same : r ≡ now) (count : ℕ) (told retold : Option (List (List ℕ))) (budget left : ℕ) (text : Option (List ℕ)) (held : Held) (view : now.view ≡ Boot)
-    (run : (u : CUnit) → MachinesRun (IsTypedState u)) (spent : held.time + left ≡ r.machine.time + budget) where
-  its_view : r.view ≡ Boot
-  its_view = ap (λ (q : Kept L). q.view) same ∙ view
+      -- the turn is complete, and all is printed
+      pub went : retext ≡ append_known late (rows_after new.tracer new.ended answer) → TurnRuns count r (around r told budget text) (around new retold left retext) (Ok answer)
+      went printed = both (around new retold left retext) (Ok answer)
+          (λ e. λ u lines busy y old image sizes made_for base k t c same boots laws replays ready running.
+          turned x y old (run u lines busy x y old image sizes made_for boots laws replays) base k t c (around r told budget text) (around new retold left retext) ready running retold new.machine b refl
+          (w.advances u lines busy y old image sizes made_for boots laws replays k t c ready.stood running ready.state) answer wrote (none e)
+          (printed ∙ ap (append_known late) (rows_are e) ∙ ap (λ o. append_known o (rows_text (rows_of answer))) (none_put e)))
+          (λ kept e low high. λ u lines busy y old image sizes made_for base k t c same boots laws replays ready running.
+          trace_turned x y old (machines kept e u lines busy y old image sizes made_for base k t c same boots laws replays low high ready running) kept.user
+          (grows kept e u lines busy y old image sizes made_for base k t c same boots laws replays low high ready running) follow base k t c (around r told budget text) (around new retold left retext) ready running
+          retold new.machine b refl (w.advances u lines busy y old image sizes made_for boots laws replays k t c ready.stood running ready.state) answer wrote late
+          (w.traces u lines busy y old image sizes made_for kept.user t (append_known base (start_at y kept.user 0)) boots laws (ap map_of (sym same)) low (few y kept.user same high) ready.state
+          (traced kept e u lines busy y old image sizes made_for base k t c same boots laws replays low high ready running))
+          printed)
 
-  at_now : (after : Around) (result : Result Turn RunFault) → TurnRuns count r (around r told budget text) after result → TurnRuns count now (around now told budget text) after result
-  at_now after result w = subst (λ (q : Kept L). TurnRuns count q (around q told budget text) after result) same w
+      -- or it is cut off behind the turn
+      pub cut_after : (r.tracer ≡ None → (row : Row) × (rows_of answer ≡ row ∷ [])) → AppendsPart late retext (rows_after new.tracer new.ended answer) → TurnRuns count r (around r told budget text) (around new retold left retext) (Err Sink)
+      cut_after one part = both (around new retold left retext) (Err Sink)
+          (λ e. λ u lines busy y old image sizes made_for base k t c same boots laws replays ready running.
+          broken x y old (run u lines busy x y old image sizes made_for boots laws replays) base k t c (around r told budget text) (around new retold left retext) ready running retold new.machine b refl
+          (w.advances u lines busy y old image sizes made_for boots laws replays k t c ready.stood running ready.state) answer wrote (one e).0 (one e).1
+          (subst (λ (o : Option (List ℕ)). AppendsPart o retext (rows_text (rows_of answer))) (none_put e) (subst (AppendsPart late retext) (rows_are e) part)))
+          (λ kept e low high. λ u lines busy y old image sizes made_for base k t c same boots laws replays ready running.
+          trace_cut x y old (machines kept e u lines busy y old image sizes made_for base k t c same boots laws replays low high ready running) kept.user
+          (grows kept e u lines busy y old image sizes made_for base k t c same boots laws replays low high ready running) follow base k t c (around r told budget text) (around new retold left retext) ready running
+          retold new.machine b refl (w.advances u lines busy y old image sizes made_for boots laws replays k t c ready.stood running ready.state) answer wrote late
+          (w.traces u lines busy y old image sizes made_for kept.user t (append_known base (start_at y kept.user 0)) boots laws (ap map_of (sym same)) low (few y kept.user same high) ready.state
+          (traced kept e u lines busy y old image sizes made_for base k t c same boots laws replays low high ready running))
+          part)
 
-  pub now_stopped : (f e : RunFault) (result : Result Turn RunFault) → Advances count r.machine held told retold budget left (Err f) → result ≡ Err e → f ≡ e →
-      TurnRuns count now (around now told budget text) (around (record r { machine = held }) retold left text) result
-  now_stopped f e result adv is same_fault = at_now (around (record r { machine = held }) retold left text) result
-      (subst (λ (q : Result Turn RunFault). TurnRuns count r (around r told budget text) (around (record r { machine = held }) retold left text) q) (ap (λ x. Err x) same_fault ∙ sym is)
-      (stopped r count told retold budget left text held its_view run spent f adv))
-
-  module _ (b : Begun) (adv : Advances count r.machine held told retold budget left (Ok b)) (small : r.machine.time + budget < 2 ^ 64) (turns word : ℕ) (ended : Option Next) (n : Next) (turns_are : turns ≡ min (r.turns + 1) (2 ^ 64 - 1))
-      (word_is : word ≡ current_word held) (next : n ≡ next_of_held held) (ended_is : ended ≡ end_of_next n) where
-    its_end : ended ≡ end_of_next (next_of_held held)
-    its_end = ended_is ∙ ap end_of_next next
-
-    pub now_step : b.dispatched ≡ false → TurnRuns count now (around now told budget text) (around (record r { machine = held; turns = turns; current = word; ended = ended }) retold left text) (Ok (Step r.current))
-    now_step e = at_now (around (record r { machine = held; turns = turns; current = word; ended = ended }) retold left text) (Ok (Step r.current))
-        (went_step r count told retold budget left text held its_view run spent b adv small turns word ended turns_are word_is its_end e)
-
-    pub now_row : (retext : Option (List ℕ)) (bytes : List ℕ) → b.dispatched ≡ true → bytes ≡ row_text (record { turn = r.turns; cause = b.cause; edata = b.edata; user = r.current; next = n }) → retext ≡ append_known text bytes →
-        TurnRuns count now (around now told budget text) (around (record r { machine = held; turns = turns; current = word; ended = ended }) retold left retext) (Ok (Dispatch (record { turn = r.turns; cause = b.cause; edata = b.edata; user = r.current; next = n })))
-    now_row retext bytes e is text_is = at_now (around (record r { machine = held; turns = turns; current = word; ended = ended }) retold left retext) (Ok (Dispatch (record { turn = r.turns; cause = b.cause; edata = b.edata; user = r.current; next = n })))
-        (went_row r count told retold budget left text held its_view run spent b adv small turns word ended turns_are word_is its_end retext n bytes next e is text_is)
-
-    pub now_cut : (retext : Option (List ℕ)) (bytes : List ℕ) (f : RunFault) (result : Result Turn RunFault) → b.dispatched ≡ true → bytes ≡ row_text (record { turn = r.turns; cause = b.cause; edata = b.edata; user = r.current; next = n }) →
-        AppendsPart text retext bytes → result ≡ Err f → f ≡ Sink →
-        TurnRuns count now (around now told budget text) (around (record r { machine = held; turns = turns; current = word; ended = ended }) retold left retext) result
-    now_cut retext bytes f result e is part is_err sink = at_now (around (record r { machine = held; turns = turns; current = word; ended = ended }) retold left retext) result
-        (subst (λ (q : Result Turn RunFault). TurnRuns count r (around r told budget text) (around (record r { machine = held; turns = turns; current = word; ended = ended }) retold left retext) q) (sym (is_err ∙ ap (λ x. Err x) sink))
-        (cut_row r count told retold budget left text held its_view run spent b adv small turns word ended turns_are word_is its_end retext n bytes next e is part))
-
-pub is_false : (b : Bool) → not b ≡ true → b ≡ false
-is_false true e = sym e
-is_false false e = refl
-
-pub is_true : (b : Bool) → not b ≡ false → b ≡ true
-is_true true e = refl
-is_true false e = sym e
+-- a fault that is passed on
+pub passed : {L : Type 0} (count : ℕ) (r : Kept L) (before after : Around) (f e : RunFault) (result : Result Turn RunFault) → result ≡ Err e → f ≡ e → TurnRuns count r before after (Err f) → TurnRuns count r before after result
+passed count r before after f e result is same w = subst (TurnRuns count r before after) (ap (λ g. Err g) same ∙ sym is) w
 
 -- what a broken turn comes to doesn't hang on the kept fault
 faulted : (x : Outside) (y : System) (old : List (List ℕ)) (v : View) (base : Option (List ℕ)) (k t : ℕ) (c : Cvm) (before after : Around) (f : RunFault) (kept : Option RunFault) →
@@ -166,11 +166,11 @@ faulted x y old v base k t c before after StepLimit kept w =
 faulted x y old v base k t c before after Disk kept w =
     record { at = w.at; from = w.from; steps = w.steps; budget = w.budget; between = w.between; on = w.on; torn = w.torn; ended = w.ended; shown = w.shown; printed = w.printed; text = w.text }
 faulted x y old v base k t c before after Sink kept w =
-    record { at = w.at; state = w.state; steps = w.steps; budget = w.budget; past = w.past; cvm = w.cvm; ended = w.ended; shown = w.shown; printed = w.printed; text = w.text }
+    record { at = w.at; state = w.state; steps = w.steps; budget = w.budget; between = w.between; on = w.on; past = w.past; cvm = w.cvm; ended = w.ended; shown = w.shown; printed = w.printed; text = w.text }
 
 pub runs_faulted : {L : Type 0} (count : ℕ) (r : Kept L) (before after : Around) (f : RunFault) (kept : Option RunFault) → TurnRuns count r before after (Err f) → TurnRuns count r before (record after { fault = kept }) (Err f)
-runs_faulted count r before after f kept w = λ u lines busy y old image sizes made_for base k t c boots laws replays ready running.
-    faulted (outside_of r.machine.rows count) y old r.view base k t c before after f kept (w u lines busy y old image sizes made_for base k t c boots laws replays ready running)
+runs_faulted count r before after f kept w = λ u lines busy y old image sizes made_for base k t c same boots laws replays ready running.
+    faulted (outside_of r.machine.rows count) y old r.view base k t c before after f kept (w u lines busy y old image sizes made_for base k t c same boots laws replays ready running)
 
 pub runs_after : {L : Type 0} (a b : Kept L) → a ≡ b → (count : ℕ) (r : Kept L) (before : Around) (told : Option (List (List ℕ))) (budget : ℕ) (text : Option (List ℕ)) (result : Result Turn RunFault) →
     TurnRuns count r before (around b told budget text) result → TurnRuns count r before (around a told budget text) result

@@ -1,5 +1,5 @@
 -- A call of `report`, by what it printed.
-use Rattle.std.proofs.Common.{◌≡◌, ◌≢◌, ℕ, suc, Bool, false, true, Option, Some, None, List, Result, Ok, Err, sym, ap, ap₂, ◌∙◌, subst}
+use Rattle.std.proofs.Common.{◌≡◌, ◌≢◌, ℕ, Bool, false, true, Option, Some, None, List, Result, Ok, Err, sym, ap, ap₂, ◌∙◌, subst}
 use Rattle.std.specs.Prelude.{is_some}
 use Rattle.std.specs.Io.KnownBytes.{append_known}
 use Rattle.cvm_outside.specs.Told.{AppendsPart}
@@ -17,38 +17,33 @@ use Rattle.boot_report.specs.Told.{RowsTell}
 use Rattle.boot_report.specs.Given.{GlobalRowsTell}
 use Rattle.boot_turns.specs.Headline.{MachinesRun}
 use Rattle.boot_turns.specs.TypedRuns.{RunsStayTyped}
-use Rattle.boot_turns.specs.declared.answers.View.{View}
 use Rattle.boot_turns.specs.declared.answers.View.TheVariants.{Boot as OfBoot}
 use Rattle.boot_turns.specs.declared.answers.RunFault.{RunFault}
 use Rattle.boot_turns.specs.declared.answers.RunFault.TheVariants.{StepLimit}
-use Rattle.boot_run.specs.LoadEnds.{Kept}
+use Rattle.boot_run.specs.LoadEnds.{Kept, viewed}
 use Rattle.boot_run.specs.Placed.{IsPlaced}
 use Rattle.boot_run.specs.Shown.{has_faulted}
-use Rattle.boot_run.specs.TurnCalls.{around, Ready}
-use Rattle.boot_run.specs.Report.{closing_rows, ReportEnds, ReportRuns}
-use Rattle.boot_run.proofs.Reporting.{its_told, nothing_more, entries, printed, cut}
+use Rattle.boot_run.specs.Report.{closing_rows, ReportRuns}
+use Rattle.boot_run.proofs.Reporting.{its_told, nothing_more, boot_rows, prefix_of, so_far, entries, whole_boot, printed, cut}
 
 -- where the kernel faulted
-pub faulted_before : {L : Type 0} (now : Kept L) (count : ℕ) (told : Option (List (List ℕ))) (text : Option (List ℕ)) → now.view ≡ OfBoot → has_faulted now.ended ≡ true → ReportRuns count now now told told text text (Ok tt)
-faulted_before now count told text view faulted = λ budget lines busy y old image sizes made_for base k t c same_boot boots laws replays ready.
-    subst (λ (v : View). ReportEnds (outside_of now.machine.rows count) y old v base t (around now told budget text) (around now told budget text) (Ok tt)) (sym view)
-    (nothing_more (outside_of now.machine.rows count) y old base k t budget c now told text
-    (subst (λ (v : View). Ready (outside_of now.machine.rows count) y old v base (suc k) t c (around now told budget text)) view ready) faulted)
+pub faulted_before : {L : Type 0} (now : Kept L) (count : ℕ) (told : Option (List (List ℕ))) (text : Option (List ℕ)) → has_faulted now.ended ≡ true → ReportRuns count now now told told text text (Ok tt)
+faulted_before now count told text faulted = λ budget lines busy y old image sizes made_for base k t c same_boot boots laws replays ready.
+    nothing_more (outside_of now.machine.rows count) y old now.view base k t budget c now told text ready faulted
 
 module _ {L : Type 0} (r : Kept L) (count : ℕ) (told retold : Option (List (List ℕ))) (text retext : Option (List ℕ)) (view : r.view ≡ OfBoot) (fine : has_faulted r.ended ≡ false)
     (run : (u : CUnit) → MachinesRun (IsTypedState u)) (typed : (u : CUnit) → RunsStayTyped (IsTypedState u)) (rows : RowsTell) (globals : GlobalRowsTell) (formed : IsWellFormed kernel_primitives (unit_view r.boot.unit))
-    (map : Map) (places : List ℕ) (placed : IsPlaced r.boot map places r.machine.hardware.memory r.count) (held : Held) (viewed : SameButViewed r.machine held) (retold_is : retold ≡ told) where
+    (map : Map) (places : List ℕ) (placed : IsPlaced r.boot map places r.machine.hardware.memory r.count) (held : Held) (same_machine : SameButViewed r.machine held) (retold_is : retold ≡ told) where
   pub all_printed : ((ss : List (List ℕ)) → told ≡ Some ss → EntriesFit map (state_of r.machine ss) → retext ≡ append_known text (closing_rows (is_some r.ended) r.current r.machine ss map places r.boot.unit.globals.items)) →
       ReportRuns count r (record r { machine = held; fault = None }) told retold text retext (Ok tt)
   all_printed put = λ budget lines busy y old image sizes made_for base k t c same_boot boots laws replays ready.
       let m = run (unit_view r.boot.unit) lines busy (outside_of r.machine.rows count) y old image sizes made_for boots laws replays in
       let stays = typed (unit_view r.boot.unit) lines busy (outside_of r.machine.rows count) y old image sizes made_for boots laws in
-      let at_boot : Ready (outside_of r.machine.rows count) y old OfBoot base (suc k) t c (around r told budget text) =
-      subst (λ (v : View). Ready (outside_of r.machine.rows count) y old v base (suc k) t c (around r told budget text)) view ready in
-      let seen = its_told (outside_of r.machine.rows count) y old base k t budget c r told text at_boot in
-      subst (λ (v : View). ReportEnds (outside_of r.machine.rows count) y old v base t (around r told budget text) (around (record r { machine = held; fault = None }) retold budget retext) (Ok tt)) (sym view)
-      (printed (outside_of r.machine.rows count) y old base k t budget c r told text at_boot m stays rows globals same_boot formed map places placed fine held viewed retold retold_is retext
-      (put seen.sectors seen.are (entries (outside_of r.machine.rows count) y old base k t budget c r told text at_boot m stays rows globals same_boot formed map places placed fine)))
+      let seen = its_told (outside_of r.machine.rows count) y old r.view base k t budget c r told text ready in
+      let fit = entries (outside_of r.machine.rows count) y old r.view base k t budget c r told text ready same_boot map places placed fine m stays rows globals formed in
+      let whole = whole_boot (outside_of r.machine.rows count) y old r.view base k t budget c r told text ready same_boot map places placed fine m stays rows globals formed view in
+      printed (outside_of r.machine.rows count) y old r.view base k t budget c r told text ready (closing_rows (is_some r.ended) r.current r.machine seen.sectors map places r.boot.unit.globals.items) whole
+      held same_machine retold retold_is retext (put seen.sectors seen.are fit)
 
   pub broken_off : (f : RunFault) → f ≢ StepLimit →
       ((ss : List (List ℕ)) → told ≡ Some ss → EntriesFit map (state_of r.machine ss) → AppendsPart text retext (closing_rows (is_some r.ended) r.current r.machine ss map places r.boot.unit.globals.items)) →
@@ -56,20 +51,22 @@ module _ {L : Type 0} (r : Kept L) (count : ℕ) (told retold : Option (List (Li
   broken_off f limit put = λ budget lines busy y old image sizes made_for base k t c same_boot boots laws replays ready.
       let m = run (unit_view r.boot.unit) lines busy (outside_of r.machine.rows count) y old image sizes made_for boots laws replays in
       let stays = typed (unit_view r.boot.unit) lines busy (outside_of r.machine.rows count) y old image sizes made_for boots laws in
-      let at_boot : Ready (outside_of r.machine.rows count) y old OfBoot base (suc k) t c (around r told budget text) =
-      subst (λ (v : View). Ready (outside_of r.machine.rows count) y old v base (suc k) t c (around r told budget text)) view ready in
-      let seen = its_told (outside_of r.machine.rows count) y old base k t budget c r told text at_boot in
-      subst (λ (v : View). ReportEnds (outside_of r.machine.rows count) y old v base t (around r told budget text) (around (record r { machine = held; fault = Some f }) retold budget retext) (Err f)) (sym view)
-      (cut (outside_of r.machine.rows count) y old base k t budget c r told text at_boot m stays rows globals same_boot formed map places placed fine held viewed retold retold_is retext f limit
-      (put seen.sectors seen.are (entries (outside_of r.machine.rows count) y old base k t budget c r told text at_boot m stays rows globals same_boot formed map places placed fine)))
+      let seen = its_told (outside_of r.machine.rows count) y old r.view base k t budget c r told text ready in
+      let fit = entries (outside_of r.machine.rows count) y old r.view base k t budget c r told text ready same_boot map places placed fine m stays rows globals formed in
+      let whole = whole_boot (outside_of r.machine.rows count) y old r.view base k t budget c r told text ready same_boot map places placed fine m stays rows globals formed view in
+      let so = so_far (outside_of r.machine.rows count) y old r.view base k t budget c r told text ready same_boot map places placed fine in
+      let part = put seen.sectors seen.are fit in
+      cut (outside_of r.machine.rows count) y old r.view base k t budget c r told text ready (closing_rows (is_some r.ended) r.current r.machine seen.sectors map places r.boot.unit.globals.items) whole
+      held same_machine retold retold_is retext so f limit part.0 part.1
+      (λ h. (ready.shown, boot_rows (outside_of r.machine.rows count) y old t r.view view ready.shown so, prefix_of ready.shown (closing_rows (is_some r.ended) r.current r.machine seen.sectors map places r.boot.unit.globals.items) part.0))
 
 -- the same of the run as the call found it, by the code's own values
-module _ {L : Type 0} (now r : Kept L) (same : r ≡ now) (count : ℕ) (told retold : Option (List (List ℕ))) (text retext : Option (List ℕ)) (view : now.view ≡ OfBoot) (fine : has_faulted now.ended ≡ false)
+module _ {L : Type 0} (now r : Kept L) (same : r ≡ now) (count : ℕ) (told retold : Option (List (List ℕ))) (text retext : Option (List ℕ)) (tracer : r.tracer ≡ None) (view : r.view ≡ viewed r.tracer) (fine : has_faulted now.ended ≡ false)
     (run : (u : CUnit) → MachinesRun (IsTypedState u)) (typed : (u : CUnit) → RunsStayTyped (IsTypedState u)) (rows : RowsTell) (globals : GlobalRowsTell) (formed : IsWellFormed kernel_primitives (unit_view r.boot.unit))
-    (map : Map) (places : List ℕ) (placed : IsPlaced r.boot map places r.machine.hardware.memory r.count) (held : Held) (viewed : SameButViewed r.machine held) (retold_is : retold ≡ told)
+    (map : Map) (places : List ℕ) (placed : IsPlaced r.boot map places r.machine.hardware.memory r.count) (held : Held) (same_machine : SameButViewed r.machine held) (retold_is : retold ≡ told)
     (halted : Bool) (halted_is : halted ≡ is_some r.ended) (decls : List Decl) (decls_are : decls ≡ r.boot.unit.globals.items) where
   its_view : r.view ≡ OfBoot
-  its_view = ap (λ (q : Kept L). q.view) same ∙ view
+  its_view = view ∙ ap viewed tracer
 
   its_end : has_faulted r.ended ≡ false
   its_end = ap (λ (q : Kept L). has_faulted q.ended) same ∙ fine
@@ -80,14 +77,14 @@ module _ {L : Type 0} (now r : Kept L) (same : r ≡ now) (count : ℕ) (told re
   pub now_printed : ((ss : List (List ℕ)) → told ≡ Some ss → EntriesFit map (state_of r.machine ss) → retext ≡ append_known text (closing_rows halted r.current r.machine ss map places decls)) →
       ReportRuns count now (record r { machine = held; fault = None }) told retold text retext (Ok tt)
   now_printed put = subst (λ (q : Kept L). ReportRuns count q (record r { machine = held; fault = None }) told retold text retext (Ok tt)) same
-      (all_printed r count told retold text retext its_view its_end run typed rows globals formed map places placed held viewed retold_is
+      (all_printed r count told retold text retext its_view its_end run typed rows globals formed map places placed held same_machine retold_is
       (λ ss e f. put ss e f ∙ ap (append_known text) (rows_are ss)))
 
   pub now_broken : (f : RunFault) → f ≢ StepLimit →
       ((ss : List (List ℕ)) → told ≡ Some ss → EntriesFit map (state_of r.machine ss) → AppendsPart text retext (closing_rows halted r.current r.machine ss map places decls)) →
       ReportRuns count now (record r { machine = held; fault = Some f }) told retold text retext (Err f)
   now_broken f limit put = subst (λ (q : Kept L). ReportRuns count q (record r { machine = held; fault = Some f }) told retold text retext (Err f)) same
-      (broken_off r count told retold text retext its_view its_end run typed rows globals formed map places placed held viewed retold_is f limit
+      (broken_off r count told retold text retext its_view its_end run typed rows globals formed map places placed held same_machine retold_is f limit
       (λ ss e g. subst (AppendsPart text retext) (rows_are ss) (put ss e g)))
 
 -- and with the fault kept in the run's own fields

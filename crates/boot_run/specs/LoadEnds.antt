@@ -1,5 +1,5 @@
 -- What contracts see of a loaded run, and how a call of `load` ends.
-use Rattle.std.specs.Prelude.{◌≡◌, ℕ, ◌*◌, ◌<◌, ◌≤◌, Bool, true, nat_lt, Option, None, List, length, ⊤}
+use Rattle.std.specs.Prelude.{◌≡◌, ℕ, ◌+◌, ◌*◌, ◌<◌, ◌≤◌, ◌&&◌, Bool, true, nat_lt, Option, Some, None, List, length, ⊤}
 use Rattle.std.specs.Option.{option_map}
 use Rattle.cvm_outside.specs.Causes.{Rose}
 use Rattle.mips_table.specs.Device.{Pending, Idle, Reading, Writing}
@@ -11,6 +11,7 @@ use Rattle.layer_contract.specs.Follows.{loaded}
 use Rattle.boot_turns.specs.declared.answers.View.{View}
 use Rattle.boot_turns.specs.declared.answers.View.TheVariants.{Boot, Trace}
 use Rattle.boot_turns.specs.declared.answers.RunFault.{RunFault}
+use Rattle.boot_turns.specs.declared.tracer.Tracer.{Tracer}
 use Rattle.boot_turns.specs.Completes.{seen}
 use Rattle.boot_run.specs.Loading.{system_of}
 use Rattle.boot_run.specs.declared.load.LoadFault.{LoadFault}
@@ -37,8 +38,23 @@ LoadFails b view count before now (SmallDisk need have) = SeesUser view (length 
 LoadFails b view count before now Memory = HasRoom b view count
 LoadFails b view count before now Disk = HasRoom b view count × Rose before now
 
+-- what is kept of a trace before the first step
+abbrev pub first_tracer : View → Option Tracer
+first_tracer Boot = None
+first_tracer (Trace u) = Some (record { user = u; steps = 0; call = None })
+
+-- what is viewed is what a tracer is kept for
+abbrev pub viewed : Option Tracer → View
+viewed None = Boot
+viewed (Some kept) = Trace kept.user
+
+-- a trace is of one of the users, and no more steps are pending than were made
+abbrev pub tracer_fits : Option Tracer → (users time : ℕ) → Bool
+tracer_fits None users time = true
+tracer_fits (Some kept) users time = nat_lt 0 kept.user && nat_lt kept.user (users + 1) && nat_lt kept.steps (time + 1)
+
 -- what contracts see of a loaded run: what it was loaded with, the number of its disk's sectors, its machine,
--- the turns that are complete, the current user, how the run ended, and the kept fault
+-- the turns that are complete, the current user, how the run ended, the kept fault, and what is kept of a trace
 pub record Kept (L : Type 0) : Type 0 where
   pub layer : L
   pub boot : Booted
@@ -49,6 +65,7 @@ pub record Kept (L : Type 0) : Type 0 where
   pub current : ℕ
   pub ended : Option Next
   pub fault : Option RunFault
+  pub tracer : Option Tracer
 
 -- a run that was loaded with these, and made no step
 pub record IsFresh {L : Type 0} (layer : L) (boot : Booted) (view : View) (rows : Rows) (count : ℕ) (r : Kept L) : Type 0 where
@@ -62,6 +79,7 @@ pub record IsFresh {L : Type 0} (layer : L) (boot : Booted) (view : View) (rows 
   pub no_user : r.current ≡ 0
   pub goes_on : r.ended ≡ None
   pub no_fault : r.fault ≡ None
+  pub tracer_is : r.tracer ≡ first_tracer view
   pub has_room : HasRoom boot view count
 
 -- where its sectors are told, it stands as the machine that was loaded over the sectors as they were

@@ -14,7 +14,7 @@ use Rattle.cvm_model.specs.Paged.{paged_of}
 use Rattle.layer_contract.specs.Layer.{Laws}
 use Rattle.layer_contract.specs.Follows.{site_of}
 use Rattle.layer_contract.specs.Boots.{boot_of}
-use Rattle.boot_report.specs.Texts.{users_rows, log_rows}
+use Rattle.boot_report.specs.Texts.{rows_of_user, users_rows, log_rows}
 use Rattle.boot_report.specs.Globals.{globals_rows}
 use Rattle.boot_turns.specs.Headline.{Boots}
 use Rattle.boot_turns.specs.TurnEnds.{Printed, Rows, Whole, Prefix}
@@ -41,6 +41,10 @@ runs_now halted current = if halted then 0 else current
 abbrev pub closing_rows : Bool → (current : ℕ) → Held → List (List ℕ) → Map → (places : List ℕ) → List Decl → List ℕ
 closing_rows halted current held ss m places decls =
     kernel_rows halted held m places decls ++ users_rows m held (paged_of m (state_of held ss)) (runs_now halted current) m.users
+
+-- what a trace of user u prints behind the row of its last steps: the end, and the user's rows
+abbrev pub trace_rows : Bool → (current : ℕ) → Held → List (List ℕ) → Map → (u : ℕ) → List ℕ
+trace_rows halted current held ss m u = end_row halted ++ rows_of_user m held (paged_of m (state_of held ss)) (runs_now halted current) u
 
 -- a report, after turns that are complete at step t, is printed
 pub record Reported (x : Outside) (y : System) (old : List (List ℕ)) (v : View) (base : Option (List ℕ)) (t : ℕ) (before after : Around) : Type 0 where

@@ -1,5 +1,5 @@
 -- What the calls `turn`, `report` and `ended` of a loaded run come to, on the run of the machine.
-use Rattle.std.specs.Prelude.{◌≡◌, ◌≢◌, ℕ, suc, ◌+◌, ◌≤◌, ◌⊎◌, Option, Some, None, IsSome, List, [], ◌∷◌, ◌++◌, Result, MatchResult}
+use Rattle.std.specs.Prelude.{◌≡◌, ◌≢◌, ℕ, suc, ◌+◌, ◌<◌, ◌≤◌, ◌⊎◌, Option, Some, None, IsSome, List, [], ◌∷◌, ◌++◌, Result, MatchResult}
 use Rattle.std.specs.Io.KnownBytes.{append_known}
 use Rattle.mips_table.specs.Device.{Outside}
 use Rattle.mips_table.specs.Machine.{State}
@@ -8,17 +8,22 @@ use Rattle.mips_machine.specs.Steps.{outside_of}
 use Rattle.layer_map.specs.Map.{Map}
 use Rattle.c0_tree.specs.Tree.{CUnit}
 use Rattle.c0_meaning.specs.TypedState.{IsTypedState}
+use Rattle.cvm_model.specs.Kernel.{JournalEntry}
 use Rattle.cvm_model.specs.Cvm.{System, Status, Running, Halted, Faulted, Cvm, IsCvm, first_cvm}
 use Rattle.cvm_model.specs.Journal.{KernelReplays}
 use Rattle.cvm_model.specs.declared.row.Next.{Next}
 use Rattle.cvm_model.specs.declared.row.Next.TheVariants.{Halt, Fault}
 use Rattle.cvm_model.specs.declared.row.Row.{Row}
 use Rattle.cvm_model.specs.Text.{rows_text}
+use Rattle.layer_contract.specs.Boots.{boot_of}
 use Rattle.layer_contract.specs.Layer.{Laws}
 use Rattle.layer_contract.specs.Follows.{site_of, machine, loaded}
 use Rattle.boot_turns.specs.Completes.{seen, SeenTorn}
 use Rattle.boot_turns.specs.Headline.{Boots}
-use Rattle.boot_turns.specs.TurnEnds.{Stood, Ahead, Printed, Rows, Whole, TextBefore, Prefix, PrintedBroken}
+use Rattle.boot_turns.specs.Trace.{Shown}
+use Rattle.boot_turns.specs.Tracing.{tracer_at}
+use Rattle.boot_turns.specs.declared.tracer.Tracer.{Tracer}
+use Rattle.boot_turns.specs.TurnEnds.{Stood, Ahead, Printed, Whole, TextBefore, Prefix, PrintedBroken}
 use Rattle.boot_turns.specs.declared.answers.View.{View}
 use Rattle.boot_turns.specs.declared.answers.View.TheVariants.{Boot, Trace}
 use Rattle.boot_turns.specs.declared.answers.Turn.{Turn}
@@ -40,7 +45,7 @@ ended_of Halted = Some Halt
 ended_of (Faulted f) = Some (Fault f)
 
 -- a loaded run and what is around it: the machine with the disk's sectors, where they are told; steps done; the budget; the sink's text,
--- where it is told; turns that are complete; the current user; how the run ended; and the kept fault
+-- where it is told; turns that are complete; the current user; how the run ended; the kept fault; and what is kept of a trace
 pub record Around : Type 0 where
   pub state : Option State
   pub steps : ℕ
@@ -50,6 +55,7 @@ pub record Around : Type 0 where
   pub current : ℕ
   pub ended : Option Next
   pub fault : Option RunFault
+  pub tracer : Option Tracer
 
 -- these of a run, with the disk's sectors, a budget and the sink's text
 abbrev pub around : {L : Type 0} → Kept L → Option (List (List ℕ)) → ℕ → Option (List ℕ) → Around
@@ -62,7 +68,13 @@ around r told budget text = record {
   current = r.current;
   ended = r.ended;
   fault = r.fault;
+  tracer = r.tracer;
 }
+
+-- what is kept of a trace at step t
+abbrev pub Traces : Outside → System → List (List ℕ) → View → ℕ → Option Tracer → Type 0
+Traces x y old Boot t tracer = tracer ≡ None
+Traces x y old (Trace u) t tracer = (j : List JournalEntry) × Shown x (loaded y old) y u t j × (tracer ≡ Some (tracer_at x (loaded y old) u t j))
 
 -- what a call finds after k turns, at step t, over a sink that had the text `base` at load
 pub record Ready (x : Outside) (y : System) (old : List (List ℕ)) (v : View) (base : Option (List ℕ)) (k t : ℕ) (c : Cvm) (a : Around) : Type 0 where
@@ -73,6 +85,7 @@ pub record Ready (x : Outside) (y : System) (old : List (List ℕ)) (v : View) (
   pub current : c.status ≡ Running → a.current ≡ c.core.current
   pub ended : a.ended ≡ ended_of c.status
   pub fault : a.fault ≡ None
+  pub traces : Traces x y old v t a.tracer
   pub shown : List ℕ
   pub printed : TextBefore x y old v k t c.status shown
   pub text : a.text ≡ append_known base shown
@@ -112,20 +125,23 @@ pub record DiskFailed (x : Outside) (y : System) (old : List (List ℕ)) (v : Vi
   pub printed : PrintedBroken x y old v at shown
   pub text : after.text ≡ append_known base shown
 
--- what of turn k was printed where the sink failed after so many steps: of a boot its row, when it was complete; of a trace rows of a step
+-- what of turn k was printed where the sink failed after so many steps: of a boot its row, when it was complete; of a trace any part of what is
+-- to be printed there, the kernel's fault too where the machine is off
 abbrev pub PutBroken : Outside → System → List (List ℕ) → View → (k t : ℕ) → Cvm → ℕ → List ℕ → Type 0
 PutBroken x y old Boot k t c at text = (ahead : Ahead x y old k t c) × (at ≡ ahead.end) × Prefix (rows_text c.rows) (rows_text ahead.after.rows) text × ((row : Row) × (ahead.after.rows ≡ c.rows ++ row ∷ []))
-PutBroken x y old (Trace u) k t c at text = (whole : List ℕ) × (t ≤ at) × (Rows x y old (Trace u) at whole ⊎ Whole x y old (Trace u) at whole) × Prefix [] whole text
+PutBroken x y old (Trace u) k t c at text = (whole : List ℕ) × (t ≤ at) × (Printed x y old (Trace u) at whole ⊎ (Whole x y old (Trace u) at whole × IsSome (machine x y old at).off)) × Prefix [] whole text
 
--- the sink failed in turn k
+-- the sink failed in turn k, which wasn't complete before step number `at`
 pub record SinkFailed (x : Outside) (y : System) (old : List (List ℕ)) (v : View) (base : Option (List ℕ)) (k t : ℕ) (c : Cvm) (before after : Around) : Type 0 where
   pub at : ℕ
   pub state : after.state ≡ Some (machine x y old at)
   pub steps : after.steps ≡ at
   pub budget : after.budget + at ≡ before.budget + t
+  pub between : (j : ℕ) → t ≤ j → j < at → complete x (loaded y old) j ≡ k
+  pub on : (j : ℕ) → j < at → (machine x y old j).off ≡ None
   pub past : Cvm
   pub cvm : IsCvm y (lines_of x (loaded y old)) (complete x (loaded y old) at) past
-  pub ended : after.ended ≡ ended_of past.status
+  pub ended : v ≡ Boot → after.ended ≡ ended_of past.status
   pub shown : List ℕ
   pub printed : PutBroken x y old v k t c at shown
   pub text : after.text ≡ append_known base shown
@@ -140,10 +156,10 @@ TurnFails x y old v base k t c before after Sink = SinkFailed x y old v base k t
 abbrev pub TurnEnds : Outside → System → List (List ℕ) → View → Option (List ℕ) → (k t : ℕ) → Cvm → (before after : Around) → Result Turn RunFault → Type 0
 TurnEnds x y old v base k t c before after result = MatchResult result (Turned x y old v base k t c before after) (TurnFails x y old v base k t c before after)
 
--- for every boot whose run stands there and goes on, whatever unit the kernel is, over a disk of so many sectors
+-- for every boot of this kernel whose run stands there and goes on, whatever unit the kernel is, over a disk of so many sectors
 abbrev pub TurnRuns : {L : Type 0} → (count : ℕ) → Kept L → (before after : Around) → Result Turn RunFault → Type 0
 TurnRuns count r before after result =
-    (u : CUnit) (lines busy : ℕ → ℕ) (y : System) (old : List (List ℕ)) (image sizes : List ℕ) (made_for : Map) (base : Option (List ℕ)) (k t : ℕ) (c : Cvm) →
+    (u : CUnit) (lines busy : ℕ → ℕ) (y : System) (old : List (List ℕ)) (image sizes : List ℕ) (made_for : Map) (base : Option (List ℕ)) (k t : ℕ) (c : Cvm) → y.boot ≡ boot_of r.boot →
     Boots (IsTypedState u) lines busy (outside_of r.machine.rows count) y old image sizes made_for → Laws (site_of y.boot) sizes → KernelReplays y.boot.meaning →
     Ready (outside_of r.machine.rows count) y old r.view base k t c before → c.status ≡ Running →
     TurnEnds (outside_of r.machine.rows count) y old r.view base k t c before after result

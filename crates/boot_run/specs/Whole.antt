@@ -1,5 +1,5 @@
 -- How a whole boot ends: load, turns, and the report, over any layer, disk and sink.
-use Rattle.std.specs.Prelude.{◌≡◌, ℕ, suc, ◌≤◌, false, IfSome, Option, Some, None, List, Result, Ok, Err, MatchResult}
+use Rattle.std.specs.Prelude.{◌≡◌, ℕ, suc, ◌<◌, ◌≤◌, ◌⊎◌, true, false, IfSome, Option, Some, None, List, [], length, Result, Ok, Err, MatchResult}
 use Rattle.std.specs.Option.{option_map}
 use Rattle.std.specs.Io.KnownBytes.{append_known}
 use Rattle.mips_table.specs.Device.{Outside}
@@ -16,10 +16,11 @@ use Rattle.layer_contract.specs.declared.boot.Boot.{Boot as Booted}
 use Rattle.layer_contract.specs.Boots.{boot_of}
 use Rattle.layer_contract.specs.Layer.{Laws}
 use Rattle.layer_contract.specs.Follows.{site_of, machine, loaded}
-use Rattle.boot_turns.specs.TurnEnds.{Printed}
+use Rattle.boot_turns.specs.TurnEnds.{Printed, Whole, Prefix}
 use Rattle.boot_turns.specs.Headline as headline
-use Rattle.boot_turns.specs.Headline.{Boots, Ending, Ends, GoesOn, StepBroken, RowBroken, end_of, ending_of}
+use Rattle.boot_turns.specs.Headline.{Boots, Ending, Ends, GoesOn, TraceReplays, StepBroken, RowBroken, end_of, ending_of}
 use Rattle.boot_turns.specs.declared.answers.View.{View}
+use Rattle.boot_turns.specs.declared.answers.View.TheVariants.{Boot, Trace}
 use Rattle.boot_turns.specs.declared.answers.RunFault.{RunFault}
 use Rattle.boot_turns.specs.declared.answers.RunFault.TheVariants.{StepLimit, Disk, Sink}
 use Rattle.boot_run.specs.declared.load.LoadFault.{LoadFault}
@@ -27,7 +28,7 @@ use Rattle.boot_run.specs.declared.load.LoadFault.TheVariants as load
 use Rattle.boot_run.specs.declared.whole.RunEnd.{RunEnd}
 use Rattle.boot_run.specs.declared.whole.RunEnd.TheVariants as run
 use Rattle.boot_run.specs.Loading.{system_of}
-use Rattle.boot_run.specs.LoadEnds.{Kept, pages_needed}
+use Rattle.boot_run.specs.LoadEnds.{Kept, SeesUser, pages_needed}
 use Rattle.boot_run.specs.TurnCalls.{Around, Ready}
 use Rattle.boot_run.specs.Report.{Reported, ReportBroken}
 
@@ -58,6 +59,12 @@ WholeEnds b rows count v turns steps told retold before after result = (old now 
 -- the machine goes on, over each disk of so many sectors that are enough
 abbrev pub WholeGoesOn : Booted → Rows → ℕ → Option (List (List ℕ)) → Type 0
 WholeGoesOn b rows count told = (old : List (List ℕ)) → told ≡ Some old → pages_needed b ≤ count → GoesOn (outside_of rows count) (system_of b rows) old
+
+-- ISOLATION, over each disk of so many sectors that are enough: where the turns are complete, the replay of the journal that a trace of a user
+-- shows, over that user's first machine, gives its last one
+abbrev pub WholeReplays : Booted → Rows → ℕ → Option (List (List ℕ)) → Type 0
+WholeReplays b rows count told = (old : List (List ℕ)) → told ≡ Some old → pages_needed b ≤ count → (u turns steps : ℕ) → 1 ≤ u → u ≤ length b.users.items →
+    TraceReplays (outside_of rows count) (system_of b rows) old u turns steps
 
 -- whether an answer is a fault of the disk, or of the sink
 abbrev pub IsDiskFault : Result RunEnd LoadFault → Type 0
@@ -99,11 +106,27 @@ pub record Late (x : Outside) (y : System) (old : List (List ℕ)) (v : View) (b
   pub printed : Printed x y old v (end_of x y old turns steps) shown
   pub text : after.text ≡ append_known base shown
 
+-- the sink failed in a trace after `at` steps, before which the run hadn't ended: a part was printed of what is to be printed there; of the whole
+-- text where the run has ended
+pub record TraceBroken (x : Outside) (y : System) (old now : List (List ℕ)) (u turns steps : ℕ) (text : List ℕ) : Type 0 where
+  pub at : ℕ
+  pub most : at ≤ steps
+  pub goes_on : (j : ℕ) → j < at → is_end x (loaded y old) turns j ≡ false
+  pub sectors : now ≡ (machine x y old at).device.sectors
+  pub whole : List ℕ
+  pub is_whole : Printed x y old (Trace u) at whole ⊎ (Whole x y old (Trace u) at whole × (is_end x (loaded y old) turns at ≡ true))
+  pub printed : Prefix [] whole text
+
+-- the sink failed in a turn
+abbrev pub PutFails : Outside → System → (old now : List (List ℕ)) → View → (turns steps : ℕ) → List ℕ → Type 0
+PutFails x y old now Boot turns steps text = RowBroken x y old now turns steps text
+PutFails x y old now (Trace u) turns steps text = TraceBroken x y old now u turns steps text
+
 -- a fault of a turn
 abbrev pub GoFails : Outside → System → List (List ℕ) → View → Option (List ℕ) → (turns steps : ℕ) → Around → RunFault → Type 0
 GoFails x y old v base turns steps after StepLimit = Late x y old v base turns steps after
 GoFails x y old v base turns steps after Disk = (shown : List ℕ) × (now : List (List ℕ)) × Stand after now × StepBroken x y old now v turns steps shown × (after.text ≡ append_known base shown)
-GoFails x y old v base turns steps after Sink = (shown : List ℕ) × (now : List (List ℕ)) × Stand after now × RowBroken x y old now turns steps shown × (after.text ≡ append_known base shown)
+GoFails x y old v base turns steps after Sink = (shown : List ℕ) × (now : List (List ℕ)) × Stand after now × PutFails x y old now v turns steps shown × (after.text ≡ append_known base shown)
 
 -- THE LOOP over turns
 abbrev pub GoRuns : {L : Type 0} → (count : ℕ) → Kept L → ℕ → (before after : Around) → Result (Unit {0}) RunFault → Type 0
@@ -123,10 +146,10 @@ abbrev pub CloseRuns : {L : Type 0} → (count : ℕ) → Kept L → (before aft
 CloseRuns count r before after result = (y : System) (old : List (List ℕ)) (base : Option (List ℕ)) (k t : ℕ) (c : Cvm) → Bootable r.boot r.machine.rows count y old →
     Ready (outside_of r.machine.rows count) y old r.view base (suc k) t c before → CloseEnds (outside_of r.machine.rows count) y old r.view base t c before after result
 
--- a loaded run to its end
+-- a loaded run to its end, of one of the users where it is traced
 abbrev pub RunsToEnd : {L : Type 0} → (count : ℕ) → Kept L → (turns steps : ℕ) → (before : Around) → (retold : Option (List (List ℕ))) → (after : Option (List ℕ)) → RunEnd → Type 0
 RunsToEnd count r turns steps before retold after result = (y : System) (old : List (List ℕ)) (base : Option (List ℕ)) → Bootable r.boot r.machine.rows count y old →
-    Ready (outside_of r.machine.rows count) y old r.view base 0 0 (first_cvm y) before →
+    SeesUser r.view (length y.boot.users) → Ready (outside_of r.machine.rows count) y old r.view base 0 0 (first_cvm y) before →
     (now : List (List ℕ)) × (retold ≡ Some now) × BootEnds (outside_of r.machine.rows count) y old now r.view turns steps base after (ending_of_end result)
 
 -- how an ended run is told, and a fault

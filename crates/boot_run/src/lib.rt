@@ -7,6 +7,7 @@ mod pages;
 mod places;
 mod report;
 mod run;
+mod turn_rows;
 mod whole;
 
 pub use boot_turns::{RunFault, Turn, View};

@@ -7,10 +7,11 @@ ghost use Rattle.layer_contract.specs.Boots.{boot_of};
 ghost use Rattle.mips_machine.specs.Machine.{started};
 ghost use Rattle.boot_run.specs.Loading.{with_words};
 ghost use Rattle.boot_run.specs.declared.load.LoadFault.TheVariants.{Memory as NoRoom};
-ghost use Rattle.boot_run.specs.LoadEnds.{pages_needed, SeesUser, HasRoom, LoadFails};
+ghost use Rattle.boot_run.specs.LoadEnds.{pages_needed, SeesUser, HasRoom, LoadFails, first_tracer};
 
 use crate::pages::put_words;
 use boot_turns::View;
+use boot_turns::tracer::Tracer;
 use layer_contract::Boot;
 use layer_map::Map;
 use mips_machine::Machine;
@@ -61,6 +62,20 @@ pub(crate) fn check_view(view: View, users: u32) -> Result<(), LoadFault>
         View::Boot => Ok(()),
         View::Trace(user) if 1 <= user && user <= users => Ok(()),
         View::Trace(user) => Err(LoadFault::NoSuchUser { user, users }),
+    }
+}
+
+/// What is kept of a trace before the first step, where a user is traced.
+pub(crate) fn first_tracer(view: View) -> Option<Tracer>
+    ensures { result ≡ first_tracer view }
+{
+    match view {
+        View::Boot => None,
+        View::Trace(user) => Some(Tracer {
+            user,
+            steps: 0,
+            call: None,
+        }),
     }
 }
 

@@ -1,17 +1,21 @@
 // The end and the report of a run, printed from its machine.
-ghost use Rattle.std.specs.Prelude.{◌≡◌, ◌≢◌, ℕ, ◌+◌, ◌*◌, ◌<◌, ◌≤◌, List, length, slice_index, Some, Err, OnOk, OnErr};
+ghost use Rattle.std.specs.Prelude.{◌≡◌, ◌≢◌, ℕ, ◌+◌, ◌*◌, ◌<◌, ◌≤◌, ◌++◌, List, length, slice_index, Some, Err, OnOk, OnErr};
 ghost use Rattle.std.specs.Io.KnownBytes.{append_known};
 ghost use Rattle.cvm_outside.specs.Causes.{Counts, Rose};
 ghost use Rattle.cvm_outside.specs.Told.{AppendsPart};
 ghost use Rattle.layer_map.specs.Map.{globals_at, memory_words};
 ghost use Rattle.mips_machine.specs.Machine.{state_of};
+ghost use Rattle.cvm_model.specs.Text.{steps_row as steps_text};
 ghost use Rattle.boot_report.specs.Texts.{EntriesFit, SameButViewed};
-ghost use Rattle.boot_run.specs.Report.{end_row, kernel_rows, runs_now, closing_rows};
+ghost use Rattle.boot_run.specs.Report.{end_row, kernel_rows, runs_now, closing_rows, trace_rows};
 
 use crate::places::Places;
-use boot_report::{ReportFault, put_globals, put_log, put_users};
+use boot_report::{ReportFault, put_globals, put_log, put_user_rows, put_users};
+use boot_turns::journal_text::steps_row;
+use boot_turns::tracer::Tracer;
 use c0_tree::Decl;
 use cvm_outside::{Sectors, Sink, SinkFault};
+use layer_map::Map;
 use mips_machine::Machine;
 
 /// Prints whether a run halted or goes on.
@@ -89,4 +93,53 @@ pub(crate) fn put_closing<D: Sectors, O: Sink>(
     put_kernel(machine, places, decls, halted, out)?;
     let running = runs_now(halted, current);
     put_users(machine, &places.map, running, disk, out)
+}
+
+/// Prints the row of a trace's last steps, where there are any, and the end.
+fn put_last<O: Sink>(steps: u64, halted: bool, out: &mut O) -> Result<(), SinkFault>
+    ensures ok { OnOk result (O.text out.new ≡ append_known (O.text out.old) (steps_text steps ++ end_row halted)) }
+    ensures err { OnErr result (AppendsPart (O.text out.old) (O.text out.new) (steps_text steps ++ end_row halted)) }
+    ensures count { Counts (O.faults out.old) (O.faults out.new) result }
+{
+    out.put(steps_row(steps).as_str().as_bytes())?;
+    put_end(halted, out)
+}
+
+/// Prints what ends a trace of a run that halted, or goes on with this current user: the row of the last steps, the end, and the rows of
+/// the traced user.
+///
+/// # Errors
+///
+/// A fault of the disk or of the sink. Where the disk failed the row of the last steps is printed.
+pub(crate) fn put_trace_closing<D: Sectors, O: Sink>(
+    machine: &mut Machine,
+    map: &Map,
+    tracer: Tracer,
+    halted: bool,
+    current: u32,
+    disk: &mut D,
+    out: &mut O,
+) -> Result<(), ReportFault>
+    requires some { 1 ≤ tracer.user }
+    requires most { tracer.user ≤ map.now.users }
+    requires users { map.now.users ≤ 64 }
+    requires memory { memory_words map.now ≤ length machine.old.hardware.memory }
+    requires layer { 16384 ≤ length machine.old.hardware.memory }
+    requires small { memory_words map.now ≤ 30000000 }
+    requires all { map.now.users * map.now.params.pages ≤ 65536 }
+    requires room { map.now.users * map.now.params.pages ≤ D.size disk.old }
+    ensures ok { (ss : List (List ℕ)) → D.sectors disk.old ≡ Some ss → EntriesFit map.now (state_of machine.old ss) → OnOk result (O.text out.new ≡ append_known (O.text out.old) (steps_text tracer.steps ++ trace_rows halted current machine.old ss map.now tracer.user)) }
+    ensures err { (ss : List (List ℕ)) → D.sectors disk.old ≡ Some ss → EntriesFit map.now (state_of machine.old ss) → OnErr result (AppendsPart (O.text out.old) (O.text out.new) (steps_text tracer.steps ++ trace_rows halted current machine.old ss map.now tracer.user)) }
+    ensures rows { (ss : List (List ℕ)) → D.sectors disk.old ≡ Some ss → EntriesFit map.now (state_of machine.old ss) → result ≡ Err ReportFault.Disk → AppendsPart (append_known (O.text out.old) (steps_text tracer.steps)) (O.text out.new) (trace_rows halted current machine.old ss map.now tracer.user) }
+    ensures same { SameButViewed machine.old machine.new }
+    ensures sectors { D.sectors disk.new ≡ D.sectors disk.old }
+    ensures size { D.size disk.new ≡ D.size disk.old }
+    ensures disk { result ≡ Err ReportFault.Disk → Rose (D.faults disk.old) (D.faults disk.new) }
+    ensures disk_same { result ≢ Err ReportFault.Disk → D.faults disk.new ≡ D.faults disk.old }
+    ensures sink { result ≡ Err ReportFault.Sink → Rose (O.faults out.old) (O.faults out.new) }
+    ensures sink_same { result ≢ Err ReportFault.Sink → O.faults out.new ≡ O.faults out.old }
+{
+    put_last(tracer.steps, halted, out)?;
+    let running = runs_now(halted, current);
+    put_user_rows(machine, map, running, tracer.user, disk, out)
 }

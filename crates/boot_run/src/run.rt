@@ -1,7 +1,9 @@
 // A loaded run.
-ghost use Rattle.std.specs.Prelude.{false, ◌≡◌, ◌≢◌, List, Option, ℕ, ◌+◌, ◌<◌, ◌≤◌, ◌^◌, length, IfOk, IfErr, IfSome, IsSome, OnOk, OnErr, Err, Ok, Some, None};
+ghost use Rattle.std.specs.Prelude.{false, ◌≡◌, ◌≢◌, [], ◌∷◌, List, Option, ℕ, ◌+◌, ◌<◌, ◌≤◌, ◌^◌, length, IfOk, IfErr, IfSome, IsSome, OnOk, OnErr, Err, Ok, Some, None};
 ghost use Rattle.std.specs.Result.{result_err};
+ghost use Rattle.std.specs.Io.KnownBytes.{append_known};
 ghost use Rattle.cvm_outside.specs.Causes.{Counts, Rose};
+ghost use Rattle.cvm_outside.specs.Told.{AppendsPart};
 ghost use Rattle.layer_contract.specs.Boots.{BootFollows};
 ghost use Rattle.mips_table.specs.Device.{Outside};
 ghost use Rattle.boot_run.specs.Loading.{system_of, StaysFrom};
@@ -9,19 +11,24 @@ ghost use Rattle.boot_run.specs.LoadEnds.{pages_needed, IsFresh, StandsLoaded, L
 ghost use Rattle.boot_report.specs.Texts.{SameButViewed};
 ghost use Rattle.boot_run.specs.Shown.{has_faulted};
 ghost use Rattle.boot_run.specs.Report.{ReportRuns};
-ghost use Rattle.boot_run.specs.TurnCalls.{around, IsOver, IsReady, KeepsLoad, TurnRuns};
+ghost use Rattle.boot_run.specs.TurnCalls.{around, rows_of, IsOver, IsReady, KeepsLoad, TurnRuns};
+ghost use Rattle.boot_run.specs.TurnParts.{rows_before, rows_after, MakesTurn, Views};
+ghost use Rattle.cvm_model.specs.declared.row.Row.{Row as OneRow};
 
-use crate::load::{LoadFault, check_view, loaded_machine};
+use crate::load::{LoadFault, check_view, first_tracer, loaded_machine};
 use crate::next::{ended_by, has_faulted, seen_next};
 use crate::pages::write_pages;
 use crate::places::{Places, places_of};
-use crate::report::put_closing;
-use boot_report::{ReportFault, the_globals_tell, the_rows_tell};
+use crate::report::{put_closing, put_trace_closing};
+use crate::turn_rows::{put_fault, put_row, put_start};
+use boot_report::{ReportFault, the_globals_tell, the_rows_tell, the_user_rows_tell};
 use boot_turns::completion::advance;
-use boot_turns::row_text::row_text;
-use boot_turns::{RunFault, Turn, View, machines_run, runs_stay_typed};
+use boot_turns::tracer::Tracer;
+use boot_turns::{
+    RunFault, Turn, View, journal_rows_follow, machines_run, runs_stay_typed, traces_grow,
+};
 use cvm_model::{Next, Row};
-use cvm_outside::{Sectors, Sink};
+use cvm_outside::{Sectors, Sink, SinkFault};
 use layer_contract::{Boot, Layer};
 use layer_map::{CURRENT, memory_is_whole, parts_are_in_order};
 use mips_machine::Machine;
@@ -34,7 +41,7 @@ use std::marker::Model;
 pub struct Run<L> {
     layer: L,
     boot: Boot,
-    view: View,
+    tracer: Option<Tracer>,
     count: u32,
     machine: Machine,
     turns: u64,
@@ -46,7 +53,7 @@ pub struct Run<L> {
 
 impl<L> Model for Run<L> {
     ghost use Rattle.std.specs.Prelude.{◌<◌, length, IsTrue};
-    ghost use Rattle.boot_run.specs.LoadEnds.{Kept, names_sector};
+    ghost use Rattle.boot_run.specs.LoadEnds.{Kept, names_sector, tracer_fits, viewed};
     ghost use Rattle.boot_run.specs.Placed.{IsPlaced};
     ghost use Rattle.std.specs.Coded.{codes};
     ghost use Rattle.layer_contract.specs.contracts.boot.Boot as booted;
@@ -55,9 +62,9 @@ impl<L> Model for Run<L> {
 
     ghost coded = { Prim.hlevel (codes, booted.the_row.coded) };
 
-    ghost view = { λ r. record { layer = r.layer; boot = r.boot; view = r.view; count = r.count; machine = r.machine; turns = r.turns; current = r.current; ended = r.ended; fault = r.fault } };
+    ghost view = { λ r. record { layer = r.layer; boot = r.boot; view = viewed r.tracer; count = r.count; machine = r.machine; turns = r.turns; current = r.current; ended = r.ended; fault = r.fault; tracer = r.tracer } };
 
-    ghost invariant = { λ r. IsTrue (names_sector r.count r.machine.hardware.ports.pending) × (1024 < length r.machine.hardware.memory) × IsPlaced r.boot r.places.map r.places.offsets.items r.machine.hardware.memory r.count };
+    ghost invariant = { λ r. IsTrue (names_sector r.count r.machine.hardware.ports.pending) × (1024 < length r.machine.hardware.memory) × IsPlaced r.boot r.places.map r.places.offsets.items r.machine.hardware.memory r.count × IsTrue (tracer_fits r.tracer (length r.boot.users.items) r.machine.time) };
 }
 
 impl<L: Layer + Drop> Run<L> {
@@ -99,7 +106,7 @@ impl<L: Layer + Drop> Run<L> {
             Ok(()) => Ok(Run {
                 layer,
                 boot,
-                view,
+                tracer: first_tracer(view),
                 count: have,
                 machine,
                 turns: 0,
@@ -112,7 +119,86 @@ impl<L: Layer + Drop> Run<L> {
         }
     }
 
-    /// Runs the machine to the end of the next turn, and prints the row of its dispatch.
+    /// Prints what stands before the next turn: the first row of a trace, before its first turn.
+    fn put_before<O: Sink>(&self, out: &mut O) -> Result<(), SinkFault>
+        ensures ok { OnOk result (O.text out.new ≡ append_known (O.text out.old) (rows_before self.now.boot self.now.tracer self.now.turns)) }
+        ensures err { OnErr result (AppendsPart (O.text out.old) (O.text out.new) (rows_before self.now.boot self.now.tracer self.now.turns)) }
+        ensures first { OnErr result (IsSome self.now.tracer × (self.now.turns ≡ 0)) }
+        ensures count { Counts (O.faults out.old) (O.faults out.new) result }
+        ensures views { Views self.now }
+    {
+        let first = self.turns == 0;
+        if let Some(tracer) = self.tracer {
+            if first {
+                return put_start(&self.boot, tracer.user, out);
+            }
+        }
+        Ok(())
+    }
+
+    /// Runs the machine to the end of the next turn, and counts it. Of a trace it prints the rows whose entries end.
+    fn make_turn<D: Sectors, O: Sink>(
+        &mut self,
+        budget: &mut u64,
+        disk: &mut D,
+        out: &mut O,
+    ) -> Result<Turn, RunFault>
+        requires disk { D.size disk.old ≡ self.old.count }
+        requires steps { self.old.machine.time + budget.old < 2 ^ 64 }
+        ensures kept { KeepsLoad self.old self.new }
+        ensures fault { self.new.fault ≡ self.old.fault }
+        ensures ends { MakesTurn (D.size disk.old) self.old self.new (D.sectors disk.old) (D.sectors disk.new) (O.text out.old) (O.text out.new) budget.old budget.new result }
+        ensures untraced { self.old.tracer ≡ None → (self.new.tracer ≡ None) × (out.new ≡ out.old) }
+        ensures no_sink { self.old.tracer ≡ None → result ≢ Err RunFault.Sink }
+        ensures size { D.size disk.new ≡ D.size disk.old }
+        ensures disk { result ≡ Err RunFault.Disk → Rose (D.faults disk.old) (D.faults disk.new) }
+        ensures disk_same { result ≢ Err RunFault.Disk → D.faults disk.new ≡ D.faults disk.old }
+        ensures sink { result ≡ Err RunFault.Sink → Rose (O.faults out.old) (O.faults out.new) }
+        ensures sink_same { result ≢ Err RunFault.Sink → O.faults out.new ≡ O.faults out.old }
+        ensures spent { self.new.machine.time + budget.new ≡ self.old.machine.time + budget.old }
+        ensures never { result ≢ Ok Turn.Over }
+    {
+        memory_is_whole();
+        let begun = advance(
+            &mut self.machine,
+            budget,
+            &mut self.tracer,
+            &self.places.map,
+            disk,
+            out,
+        )?;
+        let next = seen_next(&self.machine);
+        let turn = self.turns;
+        let user = self.current;
+        self.turns = turn.saturating_add(1);
+        self.current = self.machine.word(CURRENT);
+        self.ended = ended_by(next);
+        if !begun.dispatched {
+            return Ok(Turn::Step(user));
+        }
+        Ok(Turn::Dispatch(Row {
+            turn,
+            cause: begun.cause,
+            edata: begun.edata,
+            user,
+            next,
+        }))
+    }
+
+    /// Prints what stands behind a turn: of a boot the row of its dispatch, and of a trace the kernel's fault.
+    fn put_after<O: Sink>(&self, answer: Turn, out: &mut O) -> Result<(), SinkFault>
+        ensures ok { OnOk result (O.text out.new ≡ append_known (O.text out.old) (rows_after self.now.tracer self.now.ended answer)) }
+        ensures err { OnErr result (AppendsPart (O.text out.old) (O.text out.new) (rows_after self.now.tracer self.now.ended answer)) }
+        ensures dispatch { self.now.tracer ≡ None → OnErr result ((row : OneRow) × (rows_of answer ≡ row ∷ [])) }
+        ensures count { Counts (O.faults out.old) (O.faults out.new) result }
+    {
+        match self.tracer {
+            None => put_row(answer, out),
+            Some(tracer) => put_fault(tracer.steps, self.ended, out),
+        }
+    }
+
+    /// Runs the machine to the end of the next turn, and prints what is to be seen of it.
     fn proceed<D: Sectors, O: Sink>(
         &mut self,
         budget: &mut u64,
@@ -121,8 +207,6 @@ impl<L: Layer + Drop> Run<L> {
     ) -> Result<Turn, RunFault>
         requires disk { D.size disk.old ≡ self.old.count }
         requires steps { self.old.machine.time + budget.old < 2 ^ 64 }
-        requires view { self.old.view ≡ View.Boot }
-        requires goes_on { self.old.ended ≡ None }
         ensures kept { KeepsLoad self.old self.new }
         ensures fault { self.new.fault ≡ self.old.fault }
         ensures size { D.size disk.new ≡ D.size disk.old }
@@ -135,29 +219,17 @@ impl<L: Layer + Drop> Run<L> {
         ensures never { result ≢ Ok Turn.Over }
     {
         machines_run();
-        let begun = advance(&mut self.machine, budget, disk)?;
-        let next = seen_next(&self.machine);
-        let turn = self.turns;
-        let user = self.current;
-        self.turns = turn.saturating_add(1);
-        self.current = self.machine.word(CURRENT);
-        self.ended = ended_by(next);
-        if !begun.dispatched {
-            return Ok(Turn::Step(user));
-        }
-        let row = Row {
-            turn,
-            cause: begun.cause,
-            edata: begun.edata,
-            user,
-            next,
-        };
-        out.put(row_text(&row).as_str().as_bytes())?;
-        Ok(Turn::Dispatch(row))
+        traces_grow();
+        journal_rows_follow();
+        self.put_before(out)?;
+        let answer = self.make_turn(budget, disk, out)?;
+        self.put_after(answer, out)?;
+        Ok(answer)
     }
 
-    /// Runs the machine, a step from the budget each, until the next turn is complete, and prints the row of its dispatch. A run that has
-    /// ended answers `Over`, and touches nothing.
+    /// Runs the machine, a step from the budget each, until the next turn is complete, and prints what is to be seen of it: of a boot the
+    /// row of its dispatch; of a trace the rows of its user as they end, the start row before the first turn, and the kernel's fault. A run
+    /// that has ended answers `Over`, and touches nothing.
     ///
     /// # Errors
     ///
@@ -171,7 +243,6 @@ impl<L: Layer + Drop> Run<L> {
     ) -> Result<Turn, RunFault>
         requires disk { D.size disk.old ≡ self.old.count }
         requires steps { self.old.machine.time + budget.old < 2 ^ 64 }
-        requires view { self.old.view ≡ View.Boot }
         ensures kept { KeepsLoad self.old self.new }
         ensures size { D.size disk.new ≡ D.size disk.old }
         ensures again { IfSome self.old.fault (λ f. result ≡ Err f) }
@@ -202,10 +273,9 @@ impl<L: Layer + Drop> Run<L> {
         }
     }
 
-    /// Prints the end and the report of a run that halted, or goes on.
+    /// Prints the end and the report of a run that halted, or goes on: of a trace its last steps, the end, and the rows of its user.
     fn put_report<D: Sectors, O: Sink>(&mut self, disk: &mut D, out: &mut O) -> Result<(), RunFault>
         requires disk { D.size disk.old ≡ self.old.count }
-        requires view { self.old.view ≡ View.Boot }
         requires goes_on { has_faulted self.old.ended ≡ false }
         ensures same { self.new ≡ record self.old { machine = self.new.machine } }
         ensures machine { SameButViewed self.old.machine self.new.machine }
@@ -220,11 +290,29 @@ impl<L: Layer + Drop> Run<L> {
     {
         machines_run();
         runs_stay_typed();
+        traces_grow();
+        journal_rows_follow();
         the_rows_tell();
+        the_user_rows_tell();
         the_globals_tell();
         parts_are_in_order();
         memory_is_whole();
         let halted = self.ended.is_some();
+        if let Some(tracer) = self.tracer {
+            match put_trace_closing(
+                &mut self.machine,
+                &self.places.map,
+                tracer,
+                halted,
+                self.current,
+                disk,
+                out,
+            ) {
+                Ok(()) => return Ok(()),
+                Err(ReportFault::Disk) => return Err(RunFault::Disk),
+                Err(ReportFault::Sink) => return Err(RunFault::Sink),
+            }
+        }
         let decls = self.boot.unit.unit().globals.as_slice();
         match put_closing(
             &mut self.machine,
@@ -241,8 +329,9 @@ impl<L: Layer + Drop> Run<L> {
         }
     }
 
-    /// Prints the end and the report of a run that halted, or goes on. Where the kernel faulted the row of that turn ended the text, and
-    /// nothing is printed. It reads pages from the disk, and writes nothing there.
+    /// Prints the end and the report of a run that halted, or goes on: of a trace the row of the last steps, the end, and the rows of the
+    /// traced user alone. Where the kernel faulted the rows of that turn ended the text, and nothing is printed. It reads pages from the
+    /// disk, and writes nothing there.
     ///
     /// # Errors
     ///
@@ -250,7 +339,6 @@ impl<L: Layer + Drop> Run<L> {
     /// nothing.
     pub fn report<D: Sectors, O: Sink>(&mut self, disk: &mut D, out: &mut O) -> Result<(), RunFault>
         requires disk { D.size disk.old ≡ self.old.count }
-        requires view { self.old.view ≡ View.Boot }
         ensures same { self.new ≡ record self.old { machine = self.new.machine; fault = self.new.fault } }
         ensures machine { SameButViewed self.old.machine self.new.machine }
         ensures sectors { D.sectors disk.new ≡ D.sectors disk.old }

@@ -1,16 +1,16 @@
-// A whole boot: load, turns until the wanted number is complete, and the report.
+// A whole boot or trace: load, turns until the wanted number is complete, and the report.
 ghost use Rattle.std.specs.Prelude.{◌≡◌, ◌≢◌, All, List, ℕ, ◌+◌, ◌<◌, ◌≤◌, ◌^◌, IfOk, IfErr, IsSome, OnErr, Err, Ok, Some, None};
 ghost use Rattle.cvm_outside.specs.Causes.{Rose};
 ghost use Rattle.layer_contract.specs.Boots.{BootFollows};
 ghost use Rattle.boot_run.specs.Loading.{system_of};
 ghost use Rattle.boot_run.specs.LoadEnds.{pages_needed, HasRoom, LoadFails};
 ghost use Rattle.boot_run.specs.TurnCalls.{around, KeepsLoad};
-ghost use Rattle.boot_run.specs.Whole.{Bootable, end_of_fault, CloseRuns, GoRuns, IsDiskFault, IsSinkFault, RunsToEnd, WholeEnds, WholeGoesOn};
+ghost use Rattle.boot_run.specs.Whole.{Bootable, end_of_fault, CloseRuns, GoRuns, IsDiskFault, IsSinkFault, RunsToEnd, WholeEnds, WholeGoesOn, WholeReplays};
 
 use crate::load::LoadFault;
 use crate::next::has_faulted;
 use crate::run::Run;
-use boot_turns::{RunFault, Turn, View, machines_run};
+use boot_turns::{RunFault, Turn, View, journal_rows_follow, machines_run, traces_grow};
 use cvm_model::units_replay;
 use cvm_outside::{Sectors, Sink};
 use layer_contract::{Boot, Layer};
@@ -19,7 +19,7 @@ use mips_table::runs::turns_are_counted;
 use schedule_file::Schedule;
 use std::alloc::Global;
 
-/// How a boot ended that was loaded.
+/// How a boot or a trace ended that was loaded.
 #[derive(Clone, Copy, Debug, PartialEq, Eq)]
 pub enum RunEnd {
     /// The wanted turns are complete, or the run has halted; the report is printed.
@@ -78,7 +78,6 @@ fn go<L: Layer + Drop, D: Sectors, O: Sink>(
 ) -> Result<(), RunFault>
     requires disk { D.size disk.old ≡ run.old.count }
     requires steps { run.old.machine.time + budget.old < 2 ^ 64 }
-    requires view { run.old.view ≡ View.Boot }
     requires fine { run.old.fault ≡ None }
     requires some { 1 ≤ turns }
     ensures kept { KeepsLoad run.old run.new }
@@ -109,7 +108,6 @@ fn close<L: Layer + Drop, D: Sectors, O: Sink>(
     out: &mut O,
 ) -> RunEnd
     requires disk { D.size disk.old ≡ run.old.count }
-    requires view { run.old.view ≡ View.Boot }
     requires fine { run.old.fault ≡ None }
     ensures size { D.size disk.new ≡ D.size disk.old }
     ensures ends { (budget : ℕ) → CloseRuns (D.size disk.old) run.old (around run.old (D.sectors disk.old) budget (O.text out.old)) (around run.new (D.sectors disk.new) budget (O.text out.new)) result }
@@ -139,7 +137,6 @@ fn run_to_end<L: Layer + Drop, D: Sectors, O: Sink>(
 ) -> RunEnd
     requires disk { D.size disk.old ≡ run.old.count }
     requires start { run.old.machine.time ≡ 0 }
-    requires view { run.old.view ≡ View.Boot }
     requires fine { run.old.fault ≡ None }
     requires some { 1 ≤ turns }
     ensures size { D.size disk.new ≡ D.size disk.old }
@@ -150,6 +147,8 @@ fn run_to_end<L: Layer + Drop, D: Sectors, O: Sink>(
     ensures sink_same { result ≢ RunEnd.SinkFault → O.faults out.new ≡ O.faults out.old }
 {
     machines_run();
+    traces_grow();
+    journal_rows_follow();
     turns_are_counted();
     let mut budget = steps;
     match go(run, turns, &mut budget, disk, out) {
@@ -158,8 +157,8 @@ fn run_to_end<L: Layer + Drop, D: Sectors, O: Sink>(
     }
 }
 
-/// Boots: loads, makes turns until so many, at least one, are complete or the run has ended or met a fault, at most so many steps, and
-/// prints the rows of the dispatches and the report.
+/// Boots or traces: loads, makes turns until so many, at least one, are complete or the run has ended or met a fault, at most so many
+/// steps, and prints the rows of the dispatches and the report; or of a traced user the start, its journal and its report.
 ///
 /// # Errors
 ///
@@ -176,10 +175,10 @@ pub fn run_whole<L: Layer + Drop, D: Sectors, O: Sink>(
     out: &mut O,
 ) -> Result<RunEnd, LoadFault>
     requires follows { BootFollows (L.image layer) (L.sizes layer) (L.map layer) boot }
-    requires view { view ≡ View.Boot }
     requires some { 1 ≤ turns }
     ensures ends { WholeEnds boot schedule (D.size disk.old) view turns steps (D.sectors disk.old) (D.sectors disk.new) (O.text out.old) (O.text out.new) result }
     ensures goes_on { WholeGoesOn boot schedule (D.size disk.old) (D.sectors disk.old) }
+    ensures replays { WholeReplays boot schedule (D.size disk.old) (D.sectors disk.old) }
     ensures told { IsSome (D.sectors disk.old) → IsSome (D.sectors disk.new) }
     ensures refused { IfErr result (LoadFails boot view (D.size disk.old) (D.faults disk.old) (D.faults disk.new)) }
     ensures loaded { IfOk result (λ _. HasRoom boot view (D.size disk.old)) }

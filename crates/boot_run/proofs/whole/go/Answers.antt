@@ -23,7 +23,7 @@ returns-in_err-turn-clause-ends g c =
     let w = err_from_is_err_and c.from_residual.result c.from_residual.ensures.1 in
     let on = not_failed c.loop-k.run.ended c.in_err-turn.field-0.0 (λ o. c.in_err-turn.ensures.over c.loop-k.invariant.fault o) in
     go_failed c.turns_are_counted.ensures (g.D.Sectors.size c.args.disk.now) (g.D.Sectors.size c.loop-k.disk) c.args.run.now c.loop-k.run c.args.turns _ _ _ c.loop-k.k c.in_err-turn.field-0.0 w.0 c.from_residual.result
-    c.loop-k.invariant.kept c.loop-k.invariant.size c.requires.view c.loop-k-test.true on (c.in_err-turn.ensures.ends c.loop-k.invariant.fault on) c.loop-k.invariant.going w.1 (sym w.2)
+    c.loop-k.invariant.kept c.loop-k.invariant.size c.loop-k-test.true on (c.in_err-turn.ensures.ends c.loop-k.invariant.fault on) c.loop-k.invariant.going w.1 (sym w.2)
 
 pub returns-in-Over-clause-ends : goal.returns-in-Over-clause-ends
 returns-in-Over-clause-ends g c =

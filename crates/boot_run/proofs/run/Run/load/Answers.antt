@@ -1,13 +1,15 @@
-use Rattle.std.proofs.Common.{Some, ◌≡◌, ◌≤◌, ◌*◌, ◌∙◌, sym, ap, ℕ, List, Vec, Global, length, map, subst}
+use Rattle.std.proofs.Common.{Some, refl, arith, ◌≡◌, ◌≤◌, ◌*◌, ◌∙◌, sym, ap, ℕ, List, Vec, Global, length, map, subst}
+use Rattle.std.specs.Prelude.{IsTrue}
 use Rattle.std.specs.Option.{option_map}
-use Rattle.layer_map.specs.Map.{Map}
+use Rattle.layer_map.specs.Map.{Map, MapInRange, memory_words}
 use Rattle.boot_run.specs.Loading.{first_pages, written, system_of}
 use Rattle.schedule_file.specs.Rows.{Rows}
 use Rattle.mips_machine.specs.Machine.{Held}
 use Rattle.layer_contract.specs.Follows.{loaded}
 use Rattle.boot_turns.specs.Completes.{seen}
-use Rattle.boot_run.proofs.Readiness.{loaded_ready}
-use Rattle.boot_run.proofs.Loads.{stands_loaded}
+use Rattle.boot_run.specs.LoadEnds.{SeesUser, names_sector}
+use Rattle.boot_run.proofs.Readiness.{first_fits, loaded_ready}
+use Rattle.boot_run.proofs.Loads.{loaded_long, stands_loaded}
 use Rattle.boot_run.proofs.run.Run.load.Goals as goal
 
 pub returns-in-Ok-clause-stands : goal.returns-in-Ok-clause-stands
@@ -23,6 +25,24 @@ pub returns-in-Ok-clause-ready : goal.returns-in-Ok-clause-ready
 returns-in-Ok-clause-ready g c = λ x old budget text e.
     let rows : c.in_ok-machine.machine.rows ≡ c.args.schedule = ap (λ (m : Held). m.rows) c.in_ok-machine.ensures in
     let stands = returns-in-Ok-clause-stands g c in
-    loaded_ready x (system_of c.args.boot c.args.schedule) old c.args.view budget text c.in_ok-machine.machine (g.D.Sectors.sectors c.write_pages.new.disk)
+    loaded_ready x (system_of c.args.boot c.args.schedule) old c.args.view c.first_tracer.result c.first_tracer.ensures budget text c.in_ok-machine.machine (g.D.Sectors.sectors c.write_pages.new.disk)
     (subst (λ (r : Rows). seen (g.D.Sectors.sectors c.write_pages.new.disk) c.in_ok-machine.machine ≡ Some (loaded (system_of c.args.boot r) old)) rows (stands ∙ ap (option_map (loaded (system_of c.args.boot c.in_ok-machine.machine.rows))) e))
     (ap (λ (m : Held). m.time) c.in_ok-machine.ensures)
+
+pub invariant_of-result : goal.invariant_of-result
+invariant_of-result g c =
+    let long = loaded_long c.args.boot c.args.schedule c.in_ok-machine.machine c.in_ok-machine.ensures in
+    let users : c.len-users.result ≡ length c.args.boot.users.items = c.len-users.ensures ∙ sym c.as_slice.ensures.len ∙ ap (λ (us : List (Vec ℕ Global)). length us) c.as_slice.ensures.value in
+    let few : c.len-users.result * c.args.boot.params.pages ≤ c.count-have.result = c.if-have-need.false in (
+      subst (λ (m : Held). IsTrue (names_sector c.count-have.result m.hardware.ports.pending)) (sym c.in_ok-machine.ensures) refl,
+      omega (arith, long),
+      record {
+        map = c.in_ok-places.ensures.map;
+        range = subst MapInRange (c.requires.made.same_map ∙ sym c.in_ok-places.ensures.map) c.requires.made.range;
+        globals = c.in_ok-places.ensures.globals;
+        memory = subst (λ (m : Map). memory_words m ≤ length c.in_ok-machine.machine.hardware.memory) (sym c.in_ok-places.ensures.map) long;
+        sectors = subst (λ n. n * c.args.boot.params.pages ≤ c.count-have.result) users few;
+        users = c.requires.made.users;
+      },
+      first_fits c.args.view c.first_tracer.result c.first_tracer.ensures (length c.args.boot.users.items) c.in_ok-machine.machine.time (subst (λ n. SeesUser c.args.view n) users c.in_ok-check_view.ensures.ok),
+    )

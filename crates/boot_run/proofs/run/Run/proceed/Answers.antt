@@ -1,56 +1,42 @@
-use Rattle.std.proofs.Common.{◌≡◌, ◌<◌, ◌+◌, ◌^◌, sym, ap, subst, ◌∙◌, arith}
+use Rattle.std.proofs.Common.{Err, ap, sym}
 use Rattle.std.proofs.lemmas.Result.{err_from_is_err_and}
-use Rattle.boot_run.specs.LoadEnds.{Kept}
-use Rattle.boot_run.proofs.Proceeding.{now_stopped, now_step, now_row, now_cut, is_false, is_true}
-use Rattle.boot_run.proofs.Placing.{names_there, stays_placed}
+use Rattle.boot_turns.specs.declared.answers.RunFault.TheVariants.{Sink}
+use Rattle.boot_run.proofs.Proceeding.{cut_before, broke_off, went, cut_after, passed}
 use Rattle.boot_run.proofs.run.Run.proceed.Goals as goal
 
-pub returns-in_err-begun-clause-ends : goal.returns-in_err-begun-clause-ends
-returns-in_err-begun-clause-ends g c = λ _.
+pub returns-in_err-put_before-clause-ends : goal.returns-in_err-put_before-clause-ends
+returns-in_err-put_before-clause-ends g c = λ _.
     let h = err_from_is_err_and c.from_residual.result c.from_residual.ensures.1 in
-    now_stopped c.args.self.now _ c.self.view_is (g.D.Sectors.size c.args.disk.now) (g.D.Sectors.sectors c.args.disk.now) (g.D.Sectors.sectors c.advance.new.disk) c.args.budget.now c.advance.new.budget (g.O.Sink.text c.args.out.now) c.advance.new.machine
-    c.requires.view c.machines_run.ensures c.advance.ensures.spent c.in_err-begun.field-0.0 h.0 c.from_residual.result c.in_err-begun.ensures.ends h.1 (sym h.2)
+    passed (g.D.Sectors.size c.args.disk.now) c.args.self.now _ _ Sink h.0 c.from_residual.result h.1 (sym h.2)
+    (cut_before c.args.self.now c.args.self.now (g.D.Sectors.size c.args.disk.now) (g.D.Sectors.sectors c.args.disk.now) (g.D.Sectors.sectors c.args.disk.now) c.args.budget.now c.args.budget.now (g.O.Sink.text c.args.out.now)
+    (g.O.Sink.text c.put_before.new.out) (g.O.Sink.text c.put_before.new.out) (g.O.Sink.text c.put_before.new.out) c.put_before.ensures.views c.machines_run.ensures c.traces_grow.ensures c.journal_rows_follow.ensures
+    c.in_err-put_before.ensures.first.0 c.in_err-put_before.ensures.first.1 c.in_err-put_before.ensures.err)
 
-pub returns-then-not-begun-clause-ends : goal.returns-then-not-begun-clause-ends
-returns-then-not-begun-clause-ends g c = λ _.
-    now_step c.args.self.now _ c.self.view_is (g.D.Sectors.size c.args.disk.now) (g.D.Sectors.sectors c.args.disk.now) (g.D.Sectors.sectors c.advance.new.disk) c.args.budget.now c.advance.new.budget (g.O.Sink.text c.args.out.now) c.advance.new.machine
-    c.requires.view c.machines_run.ensures c.advance.ensures.spent c.in_ok-begun.begun c.in_ok-begun.ensures.ends
-    (subst (λ (r : Kept _). r.machine.time + c.args.budget.now < 2 ^ 64) (sym c.self.view_is) c.requires.steps) _ _ _ c.seen_next-next.result
-    c.saturating_add-self-inside.ensures c.word-self-inside.ensures c.seen_next-next.ensures c.ended_by-self-inside.ensures (is_false c.in_ok-begun.begun.dispatched c.if-not-begun.true)
+pub returns-in_err-answer-clause-ends : goal.returns-in_err-answer-clause-ends
+returns-in_err-answer-clause-ends g c = λ _.
+    let h = err_from_is_err_and c.from_residual-in_err-answer.result c.from_residual-in_err-answer.ensures.1 in
+    passed (g.D.Sectors.size c.args.disk.now) c.args.self.now _ _ c.in_err-answer.field-0.0 h.0 c.from_residual-in_err-answer.result h.1 (sym h.2)
+    (broke_off c.args.self.now c.make_turn.new.self (g.D.Sectors.size c.args.disk.now) (g.D.Sectors.sectors c.args.disk.now) (g.D.Sectors.sectors c.make_turn.new.disk) c.args.budget.now c.make_turn.new.budget (g.O.Sink.text c.args.out.now)
+    (g.O.Sink.text c.put_before.new.out) (g.O.Sink.text c.make_turn.new.out) (g.O.Sink.text c.make_turn.new.out) c.put_before.ensures.views c.machines_run.ensures c.traces_grow.ensures c.journal_rows_follow.ensures
+    c.in_ok-put_before.ensures.ok (λ e. ap g.O.Sink.text (c.make_turn.ensures.untraced e).1) c.make_turn.ensures.spent
+    c.in_err-answer.field-0.0 c.in_err-answer.ensures.ends.0 (λ e f. c.in_err-answer.ensures.no_sink e (ap (λ q. Err q) f)) c.in_err-answer.ensures.ends.1)
 
-pub returns-in_err-put-clause-ends : goal.returns-in_err-put-clause-ends
-returns-in_err-put-clause-ends g c = λ _.
-    let h = err_from_is_err_and c.from_residual-in_err-put.result c.from_residual-in_err-put.ensures.1 in
-    now_cut c.args.self.now _ c.self.view_is (g.D.Sectors.size c.args.disk.now) (g.D.Sectors.sectors c.args.disk.now) (g.D.Sectors.sectors c.advance.new.disk) c.args.budget.now c.advance.new.budget (g.O.Sink.text c.args.out.now) c.advance.new.machine
-    c.requires.view c.machines_run.ensures c.advance.ensures.spent c.in_ok-begun.begun c.in_ok-begun.ensures.ends
-    (subst (λ (r : Kept _). r.machine.time + c.args.budget.now < 2 ^ 64) (sym c.self.view_is) c.requires.steps) _ _ _ c.seen_next-next.result
-    c.saturating_add-self-inside.ensures c.word-self-inside.ensures c.seen_next-next.ensures c.ended_by-self-inside.ensures
-    (g.O.Sink.text c.put.new.self) c.as_bytes.result.now h.0 c.from_residual-in_err-put.result (is_true c.in_ok-begun.begun.dispatched c.if-not-begun.false) (c.as_bytes.ensures.value ∙ c.as_str.ensures.value ∙ c.row_text.ensures) c.in_err-put.ensures.part h.1 h.2
+pub returns-in_err-put_after-clause-ends : goal.returns-in_err-put_after-clause-ends
+returns-in_err-put_after-clause-ends g c = λ _.
+    let h = err_from_is_err_and c.from_residual-in_err-put_after.result c.from_residual-in_err-put_after.ensures.1 in
+    let made = c.in_ok-answer.ensures.ends in
+    passed (g.D.Sectors.size c.args.disk.now) c.args.self.now _ _ Sink h.0 c.from_residual-in_err-put_after.result h.1 (sym h.2)
+    (cut_after c.args.self.now c.make_turn.new.self (g.D.Sectors.size c.args.disk.now) (g.D.Sectors.sectors c.args.disk.now) (g.D.Sectors.sectors c.make_turn.new.disk) c.args.budget.now c.make_turn.new.budget (g.O.Sink.text c.args.out.now)
+    (g.O.Sink.text c.put_before.new.out) (g.O.Sink.text c.make_turn.new.out) (g.O.Sink.text c.put_after.new.out) c.put_before.ensures.views c.machines_run.ensures c.traces_grow.ensures c.journal_rows_follow.ensures
+    c.in_ok-put_before.ensures.ok (λ e. ap g.O.Sink.text (c.make_turn.ensures.untraced e).1) c.make_turn.ensures.spent
+    made.0 c.in_ok-answer.answer made.1 made.2 c.requires.steps c.make_turn.ensures.fault (λ e. (c.make_turn.ensures.untraced e).0)
+    (λ e. c.in_err-put_after.ensures.dispatch (c.make_turn.ensures.untraced e).0) c.in_err-put_after.ensures.err)
 
 pub returns-clause-ends : goal.returns-clause-ends
 returns-clause-ends g c = λ _.
-    now_row c.args.self.now _ c.self.view_is (g.D.Sectors.size c.args.disk.now) (g.D.Sectors.sectors c.args.disk.now) (g.D.Sectors.sectors c.advance.new.disk) c.args.budget.now c.advance.new.budget (g.O.Sink.text c.args.out.now) c.advance.new.machine
-    c.requires.view c.machines_run.ensures c.advance.ensures.spent c.in_ok-begun.begun c.in_ok-begun.ensures.ends
-    (subst (λ (r : Kept _). r.machine.time + c.args.budget.now < 2 ^ 64) (sym c.self.view_is) c.requires.steps) _ _ _ c.seen_next-next.result
-    c.saturating_add-self-inside.ensures c.word-self-inside.ensures c.seen_next-next.ensures c.ended_by-self-inside.ensures
-    (g.O.Sink.text c.put.new.self) c.as_bytes.result.now (is_true c.in_ok-begun.begun.dispatched c.if-not-begun.false) (c.as_bytes.ensures.value ∙ c.as_str.ensures.value ∙ c.row_text.ensures) c.in_ok-put.ensures.whole
-
-pub invariant_of-self-in_err-put : goal.invariant_of-self-in_err-put
-invariant_of-self-in_err-put g c =
-    let count : g.D.Sectors.size c.advance.new.disk ≡ c.self.inside.count = c.advance.ensures.size ∙ c.requires.disk ∙ sym (ap (λ (q : Kept _). q.count) c.self.view_is) in
-    let long = c.advance.ensures.memory in
-    let some = c.self.invariant.1 in (
-      names_there (g.D.Sectors.size c.advance.new.disk) c.self.inside.count c.advance.new.machine.hardware.ports.pending count c.advance.ensures.sector,
-      omega (arith, long, some),
-      stays_placed c.self.inside.boot c.self.inside.places.map c.self.inside.places.offsets.items c.self.inside.machine.hardware.memory c.advance.new.machine.hardware.memory c.self.inside.count c.advance.ensures.memory c.self.invariant.2,
-    )
-
-pub invariant_of-self-2 : goal.invariant_of-self-2
-invariant_of-self-2 g c =
-    let count : g.D.Sectors.size c.advance.new.disk ≡ c.self.inside.count = c.advance.ensures.size ∙ c.requires.disk ∙ sym (ap (λ (q : Kept _). q.count) c.self.view_is) in
-    let long = c.advance.ensures.memory in
-    let some = c.self.invariant.1 in (
-      names_there (g.D.Sectors.size c.advance.new.disk) c.self.inside.count c.advance.new.machine.hardware.ports.pending count c.advance.ensures.sector,
-      omega (arith, long, some),
-      stays_placed c.self.inside.boot c.self.inside.places.map c.self.inside.places.offsets.items c.self.inside.machine.hardware.memory c.advance.new.machine.hardware.memory c.self.inside.count c.advance.ensures.memory c.self.invariant.2,
-    )
+    let made = c.in_ok-answer.ensures.ends in
+    went c.args.self.now c.make_turn.new.self (g.D.Sectors.size c.args.disk.now) (g.D.Sectors.sectors c.args.disk.now) (g.D.Sectors.sectors c.make_turn.new.disk) c.args.budget.now c.make_turn.new.budget (g.O.Sink.text c.args.out.now)
+    (g.O.Sink.text c.put_before.new.out) (g.O.Sink.text c.make_turn.new.out) (g.O.Sink.text c.put_after.new.out) c.put_before.ensures.views c.machines_run.ensures c.traces_grow.ensures c.journal_rows_follow.ensures
+    c.in_ok-put_before.ensures.ok (λ e. ap g.O.Sink.text (c.make_turn.ensures.untraced e).1) c.make_turn.ensures.spent
+    made.0 c.in_ok-answer.answer made.1 made.2 c.requires.steps c.make_turn.ensures.fault (λ e. (c.make_turn.ensures.untraced e).0)
+    c.in_ok-put_after.ensures.ok

@@ -1,9 +1,10 @@
-use Rattle.std.proofs.Common.{◌∙◌, ap, sym, List, length}
+use Rattle.std.proofs.Common.{◌∙◌, ap, sym, refl, Err, List, length}
 use Rattle.c0_tree.specs.declared.tree.Unit.{Unit as Source}
 use Rattle.c0_tree.specs.declared.tree.Decl.{Decl}
 use Rattle.boot_turns.specs.declared.answers.RunFault.TheVariants.{Disk, Sink}
 use Rattle.boot_run.proofs.Room.{many, inside}
 use Rattle.boot_run.proofs.Reports.{now_printed, now_broken}
+use Rattle.boot_run.proofs.TraceReports.{now_traced, now_unread, now_unwritten}
 use Rattle.boot_run.proofs.run.Run.put_report.Goals as goal
 
 pub put_closing-requires-clause-many : goal.put_closing-requires-clause-many
@@ -16,26 +17,49 @@ put_closing-requires-clause-inside g c =
     inside c.self.inside.boot c.self.inside.places.map c.self.inside.places.offsets.items c.self.inside.machine.hardware.memory c.self.inside.count c.self.invariant.2
     (c.parts_are_in_order.ensures c.self.inside.places.map c.self.invariant.2.range)
 
+-- of a trace
 pub returns-in-Ok-clause-ends : goal.returns-in-Ok-clause-ends
 returns-in-Ok-clause-ends g c =
-    now_printed c.args.self.now _ c.self.view_is (g.D.Sectors.size c.args.disk.now) (g.D.Sectors.sectors c.args.disk.now) (g.D.Sectors.sectors c.put_closing.new.disk) (g.O.Sink.text c.args.out.now) (g.O.Sink.text c.put_closing.new.out)
-    c.requires.view c.requires.goes_on c.machines_run.ensures c.runs_stay_typed.ensures c.the_rows_tell.ensures c.the_globals_tell.ensures c.unit.ensures.well_formed
-    c.self.inside.places.map c.self.inside.places.offsets.items c.self.invariant.2 c.put_closing.new.machine c.put_closing.ensures.same c.put_closing.ensures.sectors
-    c.is_some-halted.result c.is_some-halted.ensures c.as_slice-decls.result.now (c.as_slice-decls.ensures.value ∙ ap (λ (u : Source). u.globals.items) c.unit.ensures.same)
-    c.in-Ok.ensures.ok
+    now_traced c.args.self.now _ c.self.view_is (g.D.Sectors.size c.args.disk.now) (g.D.Sectors.sectors c.args.disk.now) (g.D.Sectors.sectors c.put_trace_closing.new.disk) (g.O.Sink.text c.args.out.now) (g.O.Sink.text c.put_trace_closing.new.out)
+    c.in-Some.tracer c.in-Some.is refl c.requires.goes_on c.traces_grow.ensures c.journal_rows_follow.ensures c.the_user_rows_tell.ensures
+    c.self.inside.places.map c.self.inside.places.offsets.items c.self.invariant.2 c.self.invariant.3 c.put_trace_closing.new.machine c.put_trace_closing.ensures.same c.put_trace_closing.ensures.sectors
+    c.is_some-halted.result c.is_some-halted.ensures c.in-Ok.ensures.ok
 
 pub returns-in-Err-Disk-clause-ends : goal.returns-in-Err-Disk-clause-ends
 returns-in-Err-Disk-clause-ends g c =
-    now_broken c.args.self.now _ c.self.view_is (g.D.Sectors.size c.args.disk.now) (g.D.Sectors.sectors c.args.disk.now) (g.D.Sectors.sectors c.put_closing.new.disk) (g.O.Sink.text c.args.out.now) (g.O.Sink.text c.put_closing.new.out)
-    c.requires.view c.requires.goes_on c.machines_run.ensures c.runs_stay_typed.ensures c.the_rows_tell.ensures c.the_globals_tell.ensures c.unit.ensures.well_formed
-    c.self.inside.places.map c.self.inside.places.offsets.items c.self.invariant.2 c.put_closing.new.machine c.put_closing.ensures.same c.put_closing.ensures.sectors
-    c.is_some-halted.result c.is_some-halted.ensures c.as_slice-decls.result.now (c.as_slice-decls.ensures.value ∙ ap (λ (u : Source). u.globals.items) c.unit.ensures.same)
-    Disk (λ h. cc) c.in-Err-Disk.ensures.err
+    now_unread c.args.self.now _ c.self.view_is (g.D.Sectors.size c.args.disk.now) (g.D.Sectors.sectors c.args.disk.now) (g.D.Sectors.sectors c.put_trace_closing.new.disk) (g.O.Sink.text c.args.out.now) (g.O.Sink.text c.put_trace_closing.new.out)
+    c.in-Some.tracer c.in-Some.is refl c.requires.goes_on c.traces_grow.ensures c.journal_rows_follow.ensures c.the_user_rows_tell.ensures
+    c.self.inside.places.map c.self.inside.places.offsets.items c.self.invariant.2 c.self.invariant.3 c.put_trace_closing.new.machine c.put_trace_closing.ensures.same c.put_trace_closing.ensures.sectors
+    c.is_some-halted.result c.is_some-halted.ensures (λ ss e f. c.in-Err-Disk.ensures.rows ss e f (ap (λ h. Err h) c.in-Err-Disk.field-0-is))
 
 pub returns-in-Err-Sink-clause-ends : goal.returns-in-Err-Sink-clause-ends
 returns-in-Err-Sink-clause-ends g c =
-    now_broken c.args.self.now _ c.self.view_is (g.D.Sectors.size c.args.disk.now) (g.D.Sectors.sectors c.args.disk.now) (g.D.Sectors.sectors c.put_closing.new.disk) (g.O.Sink.text c.args.out.now) (g.O.Sink.text c.put_closing.new.out)
-    c.requires.view c.requires.goes_on c.machines_run.ensures c.runs_stay_typed.ensures c.the_rows_tell.ensures c.the_globals_tell.ensures c.unit.ensures.well_formed
+    now_unwritten c.args.self.now _ c.self.view_is (g.D.Sectors.size c.args.disk.now) (g.D.Sectors.sectors c.args.disk.now) (g.D.Sectors.sectors c.put_trace_closing.new.disk) (g.O.Sink.text c.args.out.now) (g.O.Sink.text c.put_trace_closing.new.out)
+    c.in-Some.tracer c.in-Some.is refl c.requires.goes_on c.traces_grow.ensures c.journal_rows_follow.ensures c.the_user_rows_tell.ensures
+    c.self.inside.places.map c.self.inside.places.offsets.items c.self.invariant.2 c.self.invariant.3 c.put_trace_closing.new.machine c.put_trace_closing.ensures.same c.put_trace_closing.ensures.sectors
+    c.is_some-halted.result c.is_some-halted.ensures c.in-Err-Sink.ensures.err
+
+-- of a boot
+pub returns-in-Ok-put_closing-clause-ends : goal.returns-in-Ok-put_closing-clause-ends
+returns-in-Ok-put_closing-clause-ends g c =
+    now_printed c.args.self.now _ c.self.view_is (g.D.Sectors.size c.args.disk.now) (g.D.Sectors.sectors c.args.disk.now) (g.D.Sectors.sectors c.put_closing.new.disk) (g.O.Sink.text c.args.out.now) (g.O.Sink.text c.put_closing.new.out)
+    c.in_default.is refl c.requires.goes_on c.machines_run.ensures c.runs_stay_typed.ensures c.the_rows_tell.ensures c.the_globals_tell.ensures c.unit.ensures.well_formed
     c.self.inside.places.map c.self.inside.places.offsets.items c.self.invariant.2 c.put_closing.new.machine c.put_closing.ensures.same c.put_closing.ensures.sectors
     c.is_some-halted.result c.is_some-halted.ensures c.as_slice-decls.result.now (c.as_slice-decls.ensures.value ∙ ap (λ (u : Source). u.globals.items) c.unit.ensures.same)
-    Sink (λ h. cc) c.in-Err-Sink.ensures.err
+    c.in-Ok-put_closing.ensures.ok
+
+pub returns-in-Err-Disk-put_closing-clause-ends : goal.returns-in-Err-Disk-put_closing-clause-ends
+returns-in-Err-Disk-put_closing-clause-ends g c =
+    now_broken c.args.self.now _ c.self.view_is (g.D.Sectors.size c.args.disk.now) (g.D.Sectors.sectors c.args.disk.now) (g.D.Sectors.sectors c.put_closing.new.disk) (g.O.Sink.text c.args.out.now) (g.O.Sink.text c.put_closing.new.out)
+    c.in_default.is refl c.requires.goes_on c.machines_run.ensures c.runs_stay_typed.ensures c.the_rows_tell.ensures c.the_globals_tell.ensures c.unit.ensures.well_formed
+    c.self.inside.places.map c.self.inside.places.offsets.items c.self.invariant.2 c.put_closing.new.machine c.put_closing.ensures.same c.put_closing.ensures.sectors
+    c.is_some-halted.result c.is_some-halted.ensures c.as_slice-decls.result.now (c.as_slice-decls.ensures.value ∙ ap (λ (u : Source). u.globals.items) c.unit.ensures.same)
+    Disk (λ h. cc) c.in-Err-Disk-put_closing.ensures.err
+
+pub returns-in-Err-Sink-put_closing-clause-ends : goal.returns-in-Err-Sink-put_closing-clause-ends
+returns-in-Err-Sink-put_closing-clause-ends g c =
+    now_broken c.args.self.now _ c.self.view_is (g.D.Sectors.size c.args.disk.now) (g.D.Sectors.sectors c.args.disk.now) (g.D.Sectors.sectors c.put_closing.new.disk) (g.O.Sink.text c.args.out.now) (g.O.Sink.text c.put_closing.new.out)
+    c.in_default.is refl c.requires.goes_on c.machines_run.ensures c.runs_stay_typed.ensures c.the_rows_tell.ensures c.the_globals_tell.ensures c.unit.ensures.well_formed
+    c.self.inside.places.map c.self.inside.places.offsets.items c.self.invariant.2 c.put_closing.new.machine c.put_closing.ensures.same c.put_closing.ensures.sectors
+    c.is_some-halted.result c.is_some-halted.ensures c.as_slice-decls.result.now (c.as_slice-decls.ensures.value ∙ ap (λ (u : Source). u.globals.items) c.unit.ensures.same)
+    Sink (λ h. cc) c.in-Err-Sink-put_closing.ensures.err

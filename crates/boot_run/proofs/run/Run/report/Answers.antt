@@ -11,5 +11,5 @@ returns-clause-ends g c = λ none.
 
 pub returns-then-has_faulted-clause-ends : goal.returns-then-has_faulted-clause-ends
 returns-then-has_faulted-clause-ends g c = λ none.
-    faulted_before c.args.self.now (g.D.Sectors.size c.args.disk.now) (g.D.Sectors.sectors c.args.disk.now) (g.O.Sink.text c.args.out.now) c.requires.view
+    faulted_before c.args.self.now (g.D.Sectors.size c.args.disk.now) (g.D.Sectors.sectors c.args.disk.now) (g.O.Sink.text c.args.out.now)
     (ap (λ (q : Kept _). has_faulted q.ended) (sym c.self.view_is) ∙ sym c.has_faulted.ensures ∙ c.if-has_faulted.true)

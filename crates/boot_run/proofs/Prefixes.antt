@@ -1,0 +1,189 @@
+-- What a trace has printed at a step up to which its run goes on is a prefix of what it prints with no failed call.
+use Rattle.std.proofs.Common.{◌≡◌, ◌⊎◌, inl, inr, ℕ, zero, suc, ◌+◌, ◌-◌, ◌<◌, ◌≤◌, min, Bool, true, false, not, Option, Some, None, List, [], ◌++◌, length, take, refl, sym, ap, ◌∙◌, subst, ⊎_elim, arith, append_assoc, append-nil}
+use Rattle.std.specs.Prelude.{⊤, ◌||◌, is_some, if◌then◌else◌}
+use Rattle.std.proofs.lemmas.Grind.{common_steps}
+use Rattle.std.proofs.lemmas.Bool.{cases_lt}
+use Rattle.mips_table.specs.Device.{Outside}
+use Rattle.mips_table.specs.Turns.{complete, lines_of, is_end, TurnLaws}
+use Rattle.cvm_model.specs.Kernel.{JournalEntry}
+use Rattle.cvm_model.specs.Primitives.{user_of}
+use Rattle.cvm_model.specs.Cvm.{System, Status, Running, Halted, Faulted, Cvm, IsCvm}
+use Rattle.cvm_model.specs.Text.{steps_row, journal_rows_after, journal_rows, open_journal_rows, start_row, trace_end}
+use Rattle.layer_map.specs.Map.{Map}
+use Rattle.c0_meaning.specs.State.{State as C0}
+use Rattle.layer_contract.specs.Layer.{Laws}
+use Rattle.layer_contract.specs.Follows.{site_of, machine, loaded}
+use Rattle.boot_turns.specs.Headline as headline
+use Rattle.boot_turns.specs.Headline.{Boots, Machines, Beyond, Ending, Ran, TextOf, EndsBroken, SinkBroken, end_of, ending, ending_of}
+use Rattle.boot_turns.specs.Trace.{Shown}
+use Rattle.boot_turns.specs.Entries.{TraceGrows, TracesGrow, step_entries}
+use Rattle.boot_turns.specs.JournalText.{RowsFollow, pending_steps}
+use Rattle.boot_turns.specs.TurnEnds.{Printed, Rows, Whole, Prefix, first_of}
+use Rattle.boot_turns.specs.declared.answers.View.{View}
+use Rattle.boot_turns.specs.declared.answers.View.TheVariants.{Boot, Trace}
+use Rattle.boot_run.specs.LoadEnds.{SeesUser}
+use Rattle.boot_run.specs.Whole.{TraceBroken, PutFails}
+
+-- A PREFIX of a text is one of a longer text
+take_more : (n : ℕ) (a b : List ℕ) → take n a ≡ take (min n (length a)) (a ++ b)
+take_more n a b = grind (arith, common_steps)
+
+pub prefix_more : (whole more text : List ℕ) → Prefix [] whole text → Prefix [] (whole ++ more) text
+prefix_more whole more text p = record { count = min p.count (length whole); is = p.is ∙ take_more p.count whole more; holds = refl }
+
+-- and one that holds a part is one
+pub prefix_any : (part whole text : List ℕ) → Prefix part whole text → Prefix [] whole text
+prefix_any part whole text p = record { count = p.count; is = p.is; holds = refl }
+
+-- WHERE THE RUN HASN'T ENDED the machine is on
+on_of : (b : Bool) (o : Option ℕ) → (b || not (not (is_some o))) ≡ false → o ≡ None
+on_of true o e = absurd (cc)
+on_of false None e = refl
+on_of false (Some v) e = absurd (cc)
+
+pub on_at : (x : Outside) (y : System) (old : List (List ℕ)) (turns t : ℕ) → is_end x (loaded y old) turns t ≡ false → (machine x y old t).off ≡ None
+on_at x y old turns t e = on_of _ (machine x y old t).off e
+
+bool_cases : (b : Bool) → (b ≡ true) ⊎ (b ≡ false)
+bool_cases true = inl refl
+bool_cases false = inr refl
+
+both : (b : Bool) → b ≡ true → b ≡ false → ⊥
+both b e f = cc
+
+module _ (counts : TurnLaws) (x : Outside) (y : System) (old : List (List ℕ)) (turns steps : ℕ) where
+  -- the run hasn't ended before the headline's step
+  pub goes_to_end : (j : ℕ) → j < end_of x y old turns steps → is_end x (loaded y old) turns j ≡ false
+  goes_to_end j h = ⊎_elim
+      (λ (e : is_end x (loaded y old) turns (end_of x y old turns steps) ≡ true). (counts.found x (loaded y old) turns steps e).first j h)
+      (λ (e : is_end x (loaded y old) turns (end_of x y old turns steps) ≡ false). let n = counts.none x (loaded y old) turns steps e in let same = n.0 in n.1 j (omega (arith, same, h)))
+      (bool_cases (is_end x (loaded y old) turns (end_of x y old turns steps)))
+
+  -- and so a step up to which it hasn't is at most that step
+  pub before_end : (at : ℕ) → at ≤ steps → ((j : ℕ) → j < at → is_end x (loaded y old) turns j ≡ false) → at ≤ end_of x y old turns steps
+  before_end at most goes = ⊎_elim
+      (λ (past : end_of x y old turns steps < at). let e = goes (end_of x y old turns steps) past in let n = (counts.none x (loaded y old) turns steps e).0 in absurd (omega (arith, n, past, most)))
+      (λ (h : at ≤ end_of x y old turns steps). h)
+      (cases_lt (end_of x y old turns steps) at)
+
+-- THE JOURNAL of a later step begins with that of an earlier one
+grown : (x : Outside) (y : System) (old : List (List ℕ)) (u : ℕ) → TraceGrows x y old u → (n t end : ℕ) (j : List JournalEntry) → end ≡ t + n → ((i : ℕ) → i < end → (machine x y old i).off ≡ None) →
+    Shown x (loaded y old) y u t j → (d : List JournalEntry) × Shown x (loaded y old) y u end (j ++ d)
+grown x y old u grows zero t end j same on s =
+    let there : t ≡ end = omega (arith, same) in
+    ([], subst (λ e. Shown x (loaded y old) y u e (j ++ [])) there (subst (λ l. Shown x (loaded y old) y u t l) (sym (append-nil j)) s))
+grown x y old u grows (suc n) t end j same on s =
+    let m = grows.more t j (on t (omega (arith, same))) s in
+    let d = step_entries x (loaded y old) u t m.words in
+    let g = grown x y old u grows n (suc t) end (j ++ d) (omega (arith, same)) on m.shown in
+    (d ++ g.0, subst (λ l. Shown x (loaded y old) y u end l) (append_assoc j d g.0) g.1)
+
+-- a whole text, by the status of the run
+text_whole : (x : Outside) (y : System) (old : List (List ℕ)) (v : View) (t : ℕ) (s : Status) (text : List ℕ) → Whole x y old v t text → TextOf x y old v t (ending_of s) text
+text_whole x y old v t Running text w = w
+text_whole x y old v t Halted text w = w
+text_whole x y old v t (Faulted f) text w = w
+
+-- the rows of a journal, and what follows them to the end of the text
+ends_with : RowsFollow → (start last : List ℕ) (j : List JournalEntry) → (start ++ open_journal_rows j) ++ (steps_row (pending_steps j) ++ last) ≡ start ++ journal_rows j ++ last
+ends_with follow start last j =
+    sym (append_assoc (start ++ open_journal_rows j) (steps_row (pending_steps j)) last)
+    ∙ ap (λ l. l ++ last) (append_assoc start (open_journal_rows j) (steps_row (pending_steps j)) ∙ ap (λ l. start ++ l) (sym (follow.end j)))
+
+-- the rows of an earlier journal stand at its front
+front_is : RowsFollow → (start : List ℕ) (j d : List JournalEntry) (rest : List ℕ) →
+    (start ++ open_journal_rows j) ++ (journal_rows_after false (pending_steps j) d ++ rest) ≡ (start ++ open_journal_rows (j ++ d)) ++ rest
+front_is follow start j d rest =
+    sym (append_assoc (start ++ open_journal_rows j) (journal_rows_after false (pending_steps j) d) rest)
+    ∙ ap (λ l. l ++ rest) (append_assoc start (open_journal_rows j) (journal_rows_after false (pending_steps j) d) ∙ ap (λ l. start ++ l) (sym (follow.more j d)))
+
+-- so a part of its text is one of the whole
+front_cut : RowsFollow → (start : List ℕ) (j d : List JournalEntry) (rest whole text : List ℕ) → whole ≡ start ++ open_journal_rows j → Prefix [] whole text → Prefix [] ((start ++ open_journal_rows (j ++ d)) ++ rest) text
+front_cut follow start j d rest whole text is p =
+    let front : Prefix [] (start ++ open_journal_rows j) text = subst (λ w. Prefix [] w text) is p in
+    subst (λ w. Prefix [] w text) (front_is follow start j d rest) (prefix_more (start ++ open_journal_rows j) (journal_rows_after false (pending_steps j) d ++ rest) text front)
+
+module _ (follow : RowsFollow) (x : Outside) (y : System) (old : List (List ℕ)) (m : Machines x y old) (u turns steps : ℕ) where
+  -- what is printed with no failed call, by whether the run has ended
+  text_by : (t : ℕ) (b : Bool) (c : Cvm) (j : List JournalEntry) → IsCvm y (lines_of x (loaded y old)) (complete x (loaded y old) t) c → Shown x (loaded y old) y u t j →
+      (rest : List ℕ) × TextOf x y old (Trace u) t (if b then ending_of c.status else headline.OutOfSteps) ((start_row u (first_of y u) ++ open_journal_rows j) ++ rest)
+  text_by t true c j cvm s = (
+    steps_row (pending_steps j) ++ trace_end u (user_of c.core.users u) c.status,
+    text_whole x y old (Trace u) t c.status _ (c, j, cvm, s, ends_with follow (start_row u (first_of y u)) (trace_end u (user_of c.core.users u) c.status) j),
+  )
+  text_by t false c j cvm s = ([], (j, s, append-nil (start_row u (first_of y u) ++ open_journal_rows j)))
+
+  -- with no failed call the text begins with the rows of what is shown at the headline's step
+  clean : (j : List JournalEntry) → Shown x (loaded y old) y u (end_of x y old turns steps) j →
+      (e : Ending) × (rest : List ℕ) × Ran x y old (machine x y old (end_of x y old turns steps)).device.sectors (Trace u) turns steps e ((start_row u (first_of y u) ++ open_journal_rows j) ++ rest)
+  clean j s =
+      let d = m.defined (end_of x y old turns steps) in
+      let w = text_by (end_of x y old turns steps) (is_end x (loaded y old) turns (end_of x y old turns steps)) d.0 j d.1 s in
+      (ending x y old turns steps d.0, w.0, record { past = d.0; cvm = d.1; sectors = refl; beyond = m.beyond (end_of x y old turns steps); status = refl; text_is = w.1 })
+
+  module _ (counts : TurnLaws) (at : ℕ) (most : at ≤ steps) (goes : (j : ℕ) → j < at → is_end x (loaded y old) turns j ≡ false) (now : List (List ℕ)) (whole text : List ℕ) (p : Prefix [] whole text) where
+    -- a part was printed of the text at a step
+    printed_cut : TraceGrows x y old u → Printed x y old (Trace u) at whole → SinkBroken x y old now (Trace u) turns steps text
+    printed_cut grows (j, s, is) =
+        let end = end_of x y old turns steps in
+        let le : at ≤ end_of x y old turns steps = before_end counts x y old turns steps at most goes in
+        let g = grown x y old u grows (end - at) at end j (omega arith) (λ i h. on_at x y old turns i (goes_to_end counts x y old turns steps i h)) s in
+        let c = clean (j ++ g.0) g.1 in
+        let start : List ℕ = start_row u (first_of y u) in (
+          c.0,
+          (machine x y old end).device.sectors,
+          (start ++ open_journal_rows (j ++ g.0)) ++ c.1,
+          c.2,
+          front_cut follow start j g.0 c.1 whole text is p,
+        )
+
+    -- or of the whole text, where the run has ended
+    whole_cut : Whole x y old (Trace u) at whole → is_end x (loaded y old) turns at ≡ true → SinkBroken x y old now (Trace u) turns steps text
+    whole_cut (c, j, cvm, s, is) ended =
+        let here : end_of x y old turns steps ≡ at = counts.ends x (loaded y old) turns steps at (record { here = ended; first = goes }) most in
+        let end_here : is_end x (loaded y old) turns (end_of x y old turns steps) ≡ true = ap (is_end x (loaded y old) turns) here ∙ ended in
+        let w : Whole x y old (Trace u) (end_of x y old turns steps) whole = subst (λ n. Whole x y old (Trace u) n whole) (sym here) (c, j, cvm, s, is) in (
+          ending x y old turns steps c,
+          (machine x y old (end_of x y old turns steps)).device.sectors,
+          whole,
+          record {
+            past = c;
+            cvm = subst (λ n. IsCvm y (lines_of x (loaded y old)) (complete x (loaded y old) n) c) (sym here) cvm;
+            sectors = refl;
+            beyond = m.beyond (end_of x y old turns steps);
+            status = refl;
+            text_is = subst (λ (b : Bool). TextOf x y old (Trace u) (end_of x y old turns steps) (if b then ending_of c.status else headline.OutOfSteps) whole) (sym end_here)
+                (text_whole x y old (Trace u) (end_of x y old turns steps) c.status whole w);
+          },
+          p,
+        )
+
+    pub cut : TraceGrows x y old u → Printed x y old (Trace u) at whole ⊎ (Whole x y old (Trace u) at whole × (is_end x (loaded y old) turns at ≡ true)) → SinkBroken x y old now (Trace u) turns steps text
+    cut grows h = ⊎_elim (λ (w : Printed x y old (Trace u) at whole). printed_cut grows w) (λ (w : Whole x y old (Trace u) at whole × (is_end x (loaded y old) turns at ≡ true)). whole_cut w.0 w.1) h
+
+-- THE SINK'S FAULT IN A TURN of a trace
+pub trace_cut : TurnLaws → RowsFollow → (x : Outside) (y : System) (old : List (List ℕ)) → Machines x y old → (u turns steps : ℕ) → TraceGrows x y old u → (now : List (List ℕ)) (text : List ℕ) →
+    TraceBroken x y old now u turns steps text → SinkBroken x y old now (Trace u) turns steps text
+trace_cut counts follow x y old m u turns steps grows now text w = cut follow x y old m u turns steps counts w.at w.most w.goes_on now w.whole text w.printed grows w.is_whole
+
+-- BY THE VIEW: what is known of the journals of what is viewed
+abbrev pub GrowsFor : Outside → System → List (List ℕ) → View → Type 0
+GrowsFor x y old Boot = ⊤
+GrowsFor x y old (Trace u) = TraceGrows x y old u
+
+pub grows_for : (Typed : C0 → Type 0) → TracesGrow Typed → (lines busy : ℕ → ℕ) (x : Outside) (y : System) (old : List (List ℕ)) (image sizes : List ℕ) (made_for : Map) → Boots Typed lines busy x y old image sizes made_for →
+    Laws (site_of y.boot) sizes → (v : View) → SeesUser v (length y.boot.users) → GrowsFor x y old v
+grows_for Typed law lines busy x y old image sizes made_for boots laws Boot sees = tt
+grows_for Typed law lines busy x y old image sizes made_for boots laws (Trace u) sees = law lines busy x y old image sizes made_for u boots laws sees.0 sees.1
+
+-- the sink failed in a turn
+pub put_ends : TurnLaws → RowsFollow → (x : Outside) (y : System) (old : List (List ℕ)) → Machines x y old → (v : View) → GrowsFor x y old v → (turns steps : ℕ) (now : List (List ℕ)) (text : List ℕ) → PutFails x y old now v turns steps text →
+    Beyond y old now × SinkBroken x y old now v turns steps text
+put_ends counts follow x y old m Boot grows turns steps now text w = (subst (Beyond y old) (sym w.sectors) (m.beyond w.end), inl w)
+put_ends counts follow x y old m (Trace u) grows turns steps now text w = (subst (Beyond y old) (sym w.sectors) (m.beyond w.at), trace_cut counts follow x y old m u turns steps grows now text w)
+
+-- or in the report
+pub report_ends : (x : Outside) (y : System) (old now : List (List ℕ)) (v : View) (turns steps : ℕ) (part whole text : List ℕ) → (Rows x y old v (end_of x y old turns steps) part → EndsBroken x y old now v turns steps text) →
+    Printed x y old v (end_of x y old turns steps) part → Ran x y old now v turns steps headline.Done whole → Prefix part whole text → SinkBroken x y old now v turns steps text
+report_ends x y old now Boot turns steps part whole text broken printed ran p = inr (broken printed)
+report_ends x y old now (Trace u) turns steps part whole text broken printed ran p = (headline.Done, now, whole, ran, prefix_any part whole text p)

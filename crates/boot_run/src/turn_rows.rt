@@ -1,0 +1,109 @@
+// What a call of `turn` prints beside the rows of a journal: the first row of a trace, a dispatch's row, and the kernel's fault.
+ghost use Rattle.std.specs.Prelude.{◌≡◌, ◌≤◌, ◌∷◌, ◌++◌, All, [], length, OnOk, OnErr};
+ghost use Rattle.std.specs.Io.KnownBytes.{append_known};
+ghost use Rattle.cvm_outside.specs.Causes.{Counts};
+ghost use Rattle.cvm_outside.specs.Told.{AppendsPart};
+ghost use Rattle.cvm_model.specs.Primitives.{pages_of};
+ghost use Rattle.cvm_model.specs.Text.{rows_text, start_row as start_text, steps_row as steps_text};
+ghost use Rattle.cvm_model.specs.declared.row.Row.{Row as OneRow};
+ghost use Rattle.layer_contract.specs.Boots.{boot_of};
+ghost use Rattle.boot_run.specs.TurnCalls.{rows_of};
+ghost use Rattle.boot_run.specs.TurnParts.{first_machine, fault_row, fault_rows};
+
+use arrayvec::ArrayString;
+use boot_turns::Turn;
+use boot_turns::journal_text::{start_row, steps_row};
+use boot_turns::row_text::row_text;
+use cvm_model::{KernelFault, Next};
+use cvm_outside::{Sink, SinkFault};
+use layer_contract::Boot;
+
+/// The number of pages of a user's machine at the start: those that its words reach into.
+fn first_pages(boot: &Boot, user: u32) -> u32
+    requires some { 1 ≤ user }
+    requires there { user ≤ length boot.now.users.items }
+    requires fits { All (λ words. length words ≤ 1048576) (boot_of boot.now).users }
+    ensures { pages_of (first_machine boot.now user) ≡ result }
+{
+    let words = boot.users[user as usize - 1].as_slice();
+    words.len().div_ceil(1024).min(1024) as u32
+}
+
+/// Prints the first row of a trace.
+///
+/// # Errors
+///
+/// A fault of the sink.
+pub(crate) fn put_start<O: Sink>(boot: &Boot, user: u32, out: &mut O) -> Result<(), SinkFault>
+    requires some { 1 ≤ user }
+    requires there { user ≤ length boot.now.users.items }
+    requires fits { All (λ words. length words ≤ 1048576) (boot_of boot.now).users }
+    ensures ok { OnOk result (O.text out.new ≡ append_known (O.text out.old) (start_text user (first_machine boot.now user))) }
+    ensures err { OnErr result (AppendsPart (O.text out.old) (O.text out.new) (start_text user (first_machine boot.now user))) }
+    ensures count { Counts (O.faults out.old) (O.faults out.new) result }
+{
+    let pages = first_pages(boot, user);
+    out.put(start_row(user, pages).as_str().as_bytes())
+}
+
+/// Prints the row of a dispatch.
+///
+/// # Errors
+///
+/// A fault of the sink.
+pub(crate) fn put_row<O: Sink>(answer: Turn, out: &mut O) -> Result<(), SinkFault>
+    ensures ok { OnOk result (O.text out.new ≡ append_known (O.text out.old) (rows_text (rows_of answer))) }
+    ensures err { OnErr result (AppendsPart (O.text out.old) (O.text out.new) (rows_text (rows_of answer))) }
+    ensures dispatch { OnErr result ((row : OneRow) × (rows_of answer ≡ row ∷ [])) }
+    ensures count { Counts (O.faults out.old) (O.faults out.new) result }
+{
+    match answer {
+        Turn::Dispatch(row) => out.put(row_text(&row).as_str().as_bytes()),
+        Turn::Step(_) | Turn::Over => Ok(()),
+    }
+}
+
+/// The row of a kernel's fault.
+fn fault_row(fault: KernelFault) -> ArrayString<64>
+    ensures { result.bytes ≡ fault_row fault }
+{
+    let mut text = ArrayString::new();
+    text.push_str("fault ");
+    text.push_str(fault.name());
+    text.push('\n');
+    text
+}
+
+/// Prints the row of so many steps that have none yet, and that of a kernel's fault.
+///
+/// # Errors
+///
+/// A fault of the sink.
+fn put_both<O: Sink>(steps: u64, fault: KernelFault, out: &mut O) -> Result<(), SinkFault>
+    ensures ok { OnOk result (O.text out.new ≡ append_known (O.text out.old) (steps_text steps ++ fault_row fault)) }
+    ensures err { OnErr result (AppendsPart (O.text out.old) (O.text out.new) (steps_text steps ++ fault_row fault)) }
+    ensures count { Counts (O.faults out.old) (O.faults out.new) result }
+{
+    out.put(steps_row(steps).as_str().as_bytes())?;
+    out.put(fault_row(fault).as_str().as_bytes())
+}
+
+/// Prints the last rows of a trace whose kernel faulted, after so many steps that have no row yet. Of any other run it prints nothing.
+///
+/// # Errors
+///
+/// A fault of the sink.
+pub(crate) fn put_fault<O: Sink>(
+    steps: u64,
+    ended: Option<Next>,
+    out: &mut O,
+) -> Result<(), SinkFault>
+    ensures ok { OnOk result (O.text out.new ≡ append_known (O.text out.old) (fault_rows steps ended)) }
+    ensures err { OnErr result (AppendsPart (O.text out.old) (O.text out.new) (fault_rows steps ended)) }
+    ensures count { Counts (O.faults out.old) (O.faults out.new) result }
+{
+    match ended {
+        Some(Next::Fault(fault)) => put_both(steps, fault, out),
+        _ => Ok(()),
+    }
+}
