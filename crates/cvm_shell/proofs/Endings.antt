@@ -1,12 +1,10 @@
 -- The exits of a command: what was printed, put or run is how its plan ends, and the counts of faults are as the status says.
-use Rattle.std.proofs.Common.{◌≡◌, ◌≢◌, ◌⊎◌, inl, inr, ℕ, List, [], refl, sym, ap, ◌∙◌, ◌<◌, length, subst, Some, Ok, Err, arith, Bool, true, false}
+use Rattle.std.proofs.Common.{◌≡◌, ◌≢◌, ◌⊎◌, inl, inr, ℕ, List, [], refl, sym, ap, ◌∙◌, subst, Ok, Err, Bool, true, false}
 use Rattle.std.specs.Prelude.{Option, Result, ◌↔◌, codes, take}
 use Rattle.std.specs.Io.KnownBytes.{append_known}
-use Rattle.cvm_outside.specs.Causes.{Rose}
 use Rattle.std.specs.Str.{bytes_eq}
 use Rattle.std.proofs.lemmas.Slice.Eq.{bytes_eq-Decides}
-use Rattle.cvm_outside.specs.Told.{AppendsPart, Tells, TOO_LONG, retold}
-use Rattle.std.specs.Option.{IsSome}
+use Rattle.cvm_outside.specs.Told.{AppendsPart, TOO_LONG, retold}
 use Rattle.cvm_outside.proofs.Parts.{append_known-nil}
 use Rattle.schedule_file.specs.Rows.{Rows}
 use Rattle.layer_runs.specs.Image.{layer_image}
@@ -17,31 +15,40 @@ use Rattle.cvm_shell.specs.declared.boot.Stop.{Stop}
 use Rattle.cvm_shell.specs.declared.boot.Stop.TheVariants as Stops
 use Rattle.cvm_shell.specs.declared.refusal.Refusal.{Refusal as ByCode}
 use Rattle.cvm_shell.specs.declared.refusal.Refusal.TheVariants as by
-use Rattle.cvm_shell.specs.Command.{Boot, Command, boot, compile_user, compile_kernel, link, IsBoot, IsCommand, IsNoCommand}
+use Rattle.cvm_shell.specs.declared.boot.Session.{Session}
+use Rattle.boot_turns.specs.declared.answers.View.{View}
+use Rattle.boot_turns.specs.declared.answers.View.TheVariants as view
+use Rattle.cvm_shell.specs.Command.{Boot, Command, boot, trace, compile_user, compile_kernel, link, migrate, sample, IsCommand, IsNoCommand, GetsFiles, boot_session, trace_session, command_of}
 use Rattle.cvm_shell.specs.Outside.{Files, Outside, SameSectors, Leaves, Says, said, broken}
 use Rattle.cvm_shell.specs.Refusal.{Refusal, too_long, refusal_text, refusal_status}
-use Rattle.cvm_shell.specs.Plan.{Plan, bad_words, refuses, puts, boots, BootPlan, UserPlan, KernelPlan, LinkPlan, ComesTo, no_command, boot_plan, user_plan, kernel_plan, link_plan, AllTold, IsPlan}
+use Rattle.cvm_shell.specs.Plan.{Plan, bad_words, refuses, puts, boots, BootPlan, UserPlan, KernelPlan, LinkPlan, MigratePlan, SamplePlan, ComesTo, no_command, boot_plan, trace_plan, user_plan, kernel_plan, link_plan, migrate_plan, sample_plan, AllTold, IsPlan}
 use Rattle.cvm_shell.specs.Boot.{RunEnds}
-use Rattle.cvm_shell.specs.Outcome.{HasPut, Ends, Took, CommandEnds, done, undone, CausedBy}
-use Rattle.cvm_shell.specs.Stages.{IsBootPlan, IsUserPlan, IsKernelPlan, IsLinkPlan}
+use Rattle.cvm_shell.specs.Outcome.{HasPut, CommandEnds, done, undone}
+use Rattle.cvm_shell.specs.Stages.{IsBootPlan, IsUserPlan, IsKernelPlan, IsLinkPlan, IsMigratePlan, IsSamplePlan}
 use Rattle.cvm_shell.specs.Views.{refusal_view}
-use Rattle.cvm_shell.proofs.Spellings.{one_command}
+use Rattle.cvm_shell.proofs.OneCommand.{one_command}
 
 -- What words and files come to is one plan, by the command.
 
 -- the files of a command come to a plan
 abbrev CommandPlan : (List ℕ → Option (List ℕ)) → Command → Plan → Type 0
-CommandPlan file (boot b) = BootPlan layer_image file b
+CommandPlan file (boot b) = BootPlan layer_image file b (boot_session b)
+CommandPlan file (trace t) = BootPlan layer_image file t.boot (trace_session t)
 CommandPlan file (compile_user c) = UserPlan file c
 CommandPlan file (compile_kernel c) = KernelPlan file c
 CommandPlan file (link l) = LinkPlan layer_image file l
+CommandPlan file (migrate m) = MigratePlan layer_image file m
+CommandPlan file (sample x) = SamplePlan layer_image x.number
 
 -- and to no other
 abbrev pub FilesPlan : (List ℕ → Option (List ℕ)) → Command → Plan → Type 0
-FilesPlan file (boot b) p = IsBootPlan layer_image file b p
+FilesPlan file (boot b) p = IsBootPlan layer_image file b (boot_session b) p
+FilesPlan file (trace t) p = IsBootPlan layer_image file t.boot (trace_session t) p
 FilesPlan file (compile_user c) p = IsUserPlan file c p
 FilesPlan file (compile_kernel c) p = IsKernelPlan file c p
 FilesPlan file (link l) p = IsLinkPlan layer_image file l p
+FilesPlan file (migrate m) p = IsMigratePlan layer_image file m p
+FilesPlan file (sample x) p = IsSamplePlan layer_image x.number p
 
 only_here : (words : List (List ℕ)) (file : List ℕ → Option (List ℕ)) (c d : Command) (p q : Plan) → IsCommand words c → IsCommand words d → ((r : Plan) → CommandPlan file c r → r ≡ p) → CommandPlan file d q → q ≡ p
 only_here words file c d p q is other only got = only q (let P : Command → Type 0 = λ x. CommandPlan file x q in subst P (sym (one_command words c d is other)) got)
@@ -49,22 +56,31 @@ only_here words file c d p q is other only got = only q (let P : Command → Typ
 only_plan : (words : List (List ℕ)) (file : List ℕ → Option (List ℕ)) (c : Command) (p : Plan) → IsCommand words c → ((r : Plan) → CommandPlan file c r → r ≡ p) → (q : Plan) → ComesTo words file q → q ≡ p
 only_plan words file c p is only q (no_command none) = absurd (none c is)
 only_plan words file c p is only q (boot_plan b r other got) = only_here words file c (boot b) p r is other only got
+only_plan words file c p is only q (trace_plan t r other got) = only_here words file c (trace t) p r is other only got
 only_plan words file c p is only q (user_plan d r other got) = only_here words file c (compile_user d) p r is other only got
 only_plan words file c p is only q (kernel_plan d r other got) = only_here words file c (compile_kernel d) p r is other only got
 only_plan words file c p is only q (link_plan l r other got) = only_here words file c (link l) p r is other only got
+only_plan words file c p is only q (migrate_plan m r other got) = only_here words file c (migrate m) p r is other only got
+only_plan words file c p is only q (sample_plan x r other got) = only_here words file c (sample x) p r is other only got
 
 only_none : (words : List (List ℕ)) (file : List ℕ → Option (List ℕ)) → IsNoCommand words → (q : Plan) → ComesTo words file q → q ≡ bad_words
 only_none words file none q (no_command also) = refl
 only_none words file none q (boot_plan b r other got) = absurd (none (boot b) other)
+only_none words file none q (trace_plan t r other got) = absurd (none (trace t) other)
 only_none words file none q (user_plan c r other got) = absurd (none (compile_user c) other)
 only_none words file none q (kernel_plan c r other got) = absurd (none (compile_kernel c) other)
 only_none words file none q (link_plan l r other got) = absurd (none (link l) other)
+only_none words file none q (migrate_plan m r other got) = absurd (none (migrate m) other)
+only_none words file none q (sample_plan x r other got) = absurd (none (sample x) other)
 
 pub plan_of : (words : List (List ℕ)) (file : List ℕ → Option (List ℕ)) (c : Command) (p : Plan) → IsCommand words c → FilesPlan file c p → IsPlan (AllTold words file) (ComesTo words file) p
 plan_of words file (boot b) p is plan = record { comes = boot_plan b p is plan.comes; only = λ told q h. only_plan words file (boot b) p is (plan.only (told (boot b) is)) q h }
+plan_of words file (trace t) p is plan = record { comes = trace_plan t p is plan.comes; only = λ told q h. only_plan words file (trace t) p is (plan.only (told (trace t) is)) q h }
 plan_of words file (compile_user c) p is plan = record { comes = user_plan c p is plan.comes; only = λ told q h. only_plan words file (compile_user c) p is (plan.only (told (compile_user c) is)) q h }
 plan_of words file (compile_kernel c) p is plan = record { comes = kernel_plan c p is plan.comes; only = λ told q h. only_plan words file (compile_kernel c) p is (plan.only (told (compile_kernel c) is)) q h }
 plan_of words file (link l) p is plan = record { comes = link_plan l p is plan.comes; only = λ told q h. only_plan words file (link l) p is (plan.only (told (link l) is)) q h }
+plan_of words file (migrate m) p is plan = record { comes = migrate_plan m p is plan.comes; only = λ told q h. only_plan words file (migrate m) p is (plan.only (told (migrate m) is)) q h }
+plan_of words file (sample x) p is plan = record { comes = sample_plan x p is plan.comes; only = λ told q h. only_plan words file (sample x) p is (plan.only (told (sample x) is)) q h }
 
 -- How many bytes were taken.
 
@@ -114,16 +130,20 @@ one_refusal r s h = cc
 one_stop : (r s : ByCode) → Stops.Refused r ≡ Stops.Refused s → r ≡ s
 one_stop r s h = cc
 
-took_refused : (r : ByCode) (taken : ℕ) → Long (Stops.Refused r) taken → Took (refuses (refusal_view r)) taken
+-- a plan refuses a file as too long exactly where so many bytes were taken
+abbrev Tells_long : Plan → ℕ → Type 0
+Tells_long p taken = (p ≡ refuses too_long) ↔ (taken ≡ TOO_LONG)
+
+took_refused : (r : ByCode) (taken : ℕ) → Long (Stops.Refused r) taken → Tells_long (refuses (refusal_view r)) taken
 took_refused r taken long = elim (which r) [
   | inl e ↦ (λ h. long.0 (ap (λ (x : ByCode). Stops.Refused x) e), λ h. ap (λ (x : ByCode). refuses (refusal_view x)) (one_stop r by.TooLong (long.1 h)))
   | inr e ↦ (λ h. absurd (e (one_refusal _ _ h)), λ h. ap (λ (x : ByCode). refuses (refusal_view x)) (one_stop r by.TooLong (long.1 h)))
 ]
 
-took_boots : (b : Boot) (s : System) (rows : Rows) (taken : ℕ) → taken ≢ TOO_LONG → Took (boots b s rows) taken
-took_boots b s rows taken few = (λ h. absurd cc, λ h. absurd (few h))
+took_boots : (session : Session) (s : System) (rows : Rows) (taken : ℕ) → taken ≢ TOO_LONG → Tells_long (boots session s rows) taken
+took_boots session s rows taken few = (λ h. absurd cc, λ h. absurd (few h))
 
-took_puts : (name bytes : List ℕ) (taken : ℕ) → taken ≢ TOO_LONG → Took (puts name bytes) taken
+took_puts : (name bytes : List ℕ) (taken : ℕ) → taken ≢ TOO_LONG → Tells_long (puts name bytes) taken
 took_puts name bytes taken few = (λ h. absurd cc, λ h. absurd (few h))
 
 -- The exits.
@@ -150,7 +170,7 @@ row_said stated status row old new same (inr e) all part =
 pub bad_words_end : (words : List (List ℕ)) (status : Status) (old new : Outside) → IsNoCommand words → Unchanged old new → (status ≡ Words) ⊎ (status ≡ Sink)
     → (status ≡ Words → new.sink.text ≡ append_known old.sink.text (codes "bad words\n")) → (status ≡ Sink → AppendsPart old.sink.text new.sink.text (codes "bad words\n")) → CommandEnds words status old new
 bad_words_end words status old new none same cases all part =
-    done bad_words (record { comes = no_command none; only = λ told q h. only_none words old.shelf.file none q h }) tt (row_said Words status (codes "bad words\n") old new same cases all part)
+    done bad_words (record { comes = no_command none; only = λ told q h. only_none words old.shelf.file none q h }) (λ c is gets. absurd (none c is)) (row_said Words status (codes "bad words\n") old new same cases all part)
 
 -- a file is refused
 pub refused_end : (words : List (List ℕ)) (c : Command) (r : ByCode) (status : Status) (old new : Outside) → IsCommand words c → FilesPlan old.shelf.file c (refuses (refusal_view r))
@@ -158,19 +178,33 @@ pub refused_end : (words : List (List ℕ)) (c : Command) (r : ByCode) (status :
     → (status ≡ refusal_status (refusal_view r) → new.sink.text ≡ append_known old.sink.text (refusal_text (refusal_view r)))
     → (status ≡ Sink → AppendsPart old.sink.text new.sink.text (refusal_text (refusal_view r))) → CommandEnds words status old new
 refused_end words c r status old new is plan many same cases all part =
-    done (refuses (refusal_view r)) (plan_of words old.shelf.file c (refuses (refusal_view r)) is plan) (took_refused r new.shelf.taken many)
+    done (refuses (refusal_view r)) (plan_of words old.shelf.file c (refuses (refusal_view r)) is plan) (λ d other gets. took_refused r new.shelf.taken many)
     (row_said (refusal_status (refusal_view r)) status (refusal_text (refusal_view r)) old new same cases all part)
 
 -- the shelf or memory failed before a plan was there
-pub undone_end : (words : List (List ℕ)) (c : Command) (status : Status) (old new : Outside) → IsCommand words c → (status ≡ Memory) ⊎ (status ≡ Shelf) → new.shelf.taken ≢ TOO_LONG → Unchanged old new
+pub undone_end : (words : List (List ℕ)) (c : Command) (status : Status) (old new : Outside) → IsCommand words c → GetsFiles c → (status ≡ Memory) ⊎ (status ≡ Shelf) → new.shelf.taken ≢ TOO_LONG → Unchanged old new
     → new.sink.text ≡ old.sink.text → CommandEnds words status old new
-undone_end words c status old new is cases few same e = undone c is cases few (nothing old new same e)
+undone_end words c status old new is gets (inl m) few same e = undone c is (inl m) (λ h. few) (nothing old new same e)
+undone_end words c status old new is gets (inr s) few same e = undone c is (inr (s, gets)) (λ h. few) (nothing old new same e)
+
+-- the plan of a boot's files is that of the command with its view
+abbrev pub session_of : Boot → View → Session
+session_of b v = record { view = v; turns = b.turns; steps = b.steps }
+
+pub viewed_plan : (file : List ℕ → Option (List ℕ)) (b : Boot) (v : View) (p : Plan) → IsBootPlan layer_image file b (session_of b v) p → FilesPlan file (command_of b v) p
+viewed_plan file b view.Boot p h = h
+viewed_plan file b (view.Trace u) p h = h
+
+-- which gets files
+pub viewed_gets : (b : Boot) (v : View) → GetsFiles (command_of b v)
+viewed_gets b view.Boot = tt
+viewed_gets b (view.Trace u) = tt
 
 -- a system was run
-pub run_end : (words : List (List ℕ)) (b : Boot) (s : System) (rows : Rows) (status : Status) (old new : Outside) → IsBoot words b → IsBootPlan layer_image old.shelf.file b (boots b s rows)
-    → new.shelf.taken ≢ TOO_LONG → RunEnds b s rows status old new → CommandEnds words status old new
-run_end words b s rows status old new is plan few ends =
-    done (boots b s rows) (plan_of words old.shelf.file (boot b) (boots b s rows) is plan) (took_boots b s rows new.shelf.taken few) ends
+pub run_end : (words : List (List ℕ)) (c : Command) (session : Session) (s : System) (rows : Rows) (status : Status) (old new : Outside) → IsCommand words c
+    → FilesPlan old.shelf.file c (boots session s rows) → new.shelf.taken ≢ TOO_LONG → RunEnds session s rows status old new → CommandEnds words status old new
+run_end words c session s rows status old new is plan few ends =
+    done (boots session s rows) (plan_of words old.shelf.file c (boots session s rows) is plan) (λ d other gets. took_boots session s rows new.shelf.taken few) ends
 
 -- a shelf before and after a put: first the files of another shelf, which are those at the start
 pub record Put (name put : List ℕ) (old mid new : Files) : Type 0 where
@@ -195,7 +229,7 @@ pub put_end : (words : List (List ℕ)) (c : Command) (name put bytes : List ℕ
     → Put name put old.shelf mid new.shelf → put ≡ bytes → new.sink.text ≡ old.sink.text → SameSectors old.disk new.disk
     → new.shelf.file name ≡ retold (mid.file name) put → CommandEnds words Done old new
 put_end words c name put bytes mid old new is plan few p e text disk f =
-    done (puts name bytes) (plan_of words old.shelf.file c (puts name bytes) is plan) (took_puts name bytes new.shelf.taken (λ h. few (sym p.taken ∙ h))) (has_put name put bytes mid old new p e text disk f)
+    done (puts name bytes) (plan_of words old.shelf.file c (puts name bytes) is plan) (λ d other gets. took_puts name bytes new.shelf.taken (λ h. few (sym p.taken ∙ h))) (has_put name put bytes mid old new p e text disk f)
 
 -- a file that is kept, and the others
 every_file : (name n : List ℕ) (b : Bool) (a c : Option (List ℕ)) → (b ≡ true → n ≡ name) → (b ≡ false → n ≢ name) → (n ≡ name → a ≡ c) → (n ≢ name → a ≡ c) → a ≡ c
@@ -219,4 +253,4 @@ pub put_broken : (words : List (List ℕ)) (c : Command) (name put bytes : List 
     → Put name put old.shelf mid new.shelf → put ≡ bytes → new.sink.text ≡ old.sink.text → SameSectors old.disk new.disk
     → (new.shelf.file name ≡ mid.file name) ⊎ ((n : ℕ) × (new.shelf.file name ≡ retold (mid.file name) (take n put))) → CommandEnds words Shelf old new
 put_broken words c name put bytes mid old new is plan few p e text disk f =
-    done (puts name bytes) (plan_of words old.shelf.file c (puts name bytes) is plan) (took_puts name bytes new.shelf.taken (λ h. few (sym p.taken ∙ h))) (broken_put name put bytes mid old new p e text disk f)
+    done (puts name bytes) (plan_of words old.shelf.file c (puts name bytes) is plan) (λ d other gets. took_puts name bytes new.shelf.taken (λ h. few (sym p.taken ∙ h))) (broken_put name put bytes mid old new p e text disk f)

@@ -1,5 +1,5 @@
 -- What the source of a kernel comes to: it is refused for its first fault, or the object of its unit is put, and nothing else.
-use Rattle.std.proofs.Common.{◌≡◌, ◌≢◌, ◌⊎◌, inl, inr, ℕ, ◌<◌, ◌≤◌, List, [], length, refl, sym, ap, ◌∙◌, subst, Ok, Err, Bool, true, false, ltb, ltb-true, ltb-false}
+use Rattle.std.proofs.Common.{◌≡◌, ◌≢◌, inl, inr, ℕ, ◌<◌, ◌≤◌, List, [], length, refl, sym, ap, ◌∙◌, subst, Ok, Err, Bool, true, false, ltb, ltb-true, ltb-false}
 use Rattle.std.specs.Prelude.{Option, Result, ⊤}
 use Rattle.std.specs.Option.{IsSome}
 use Rattle.cvm_outside.specs.Told.{TOO_LONG, Tells}
@@ -18,14 +18,13 @@ use Rattle.c0_types.specs.declared.source_fault.SourceFault.TheVariants.{Reading
 use Rattle.object_file.specs.Format.{spelling}
 use Rattle.kernel_linker.specs.Object.{object_of}
 use Rattle.cvm_shell.specs.declared.boot.Stop.{Stop}
-use Rattle.cvm_shell.specs.declared.boot.Stop.TheVariants as Stops
-use Rattle.cvm_shell.specs.declared.refusal.Refusal.TheVariants as by
 use Rattle.cvm_shell.specs.Command.{CompileKernel}
 use Rattle.cvm_shell.specs.Refusal.{bad_source}
 use Rattle.cvm_shell.specs.Plan.{Plan, refuses, puts, AfterKernel, unread, mistyped, compiles, IsPlan}
 use Rattle.cvm_shell.specs.Stages.{source_stop, IsKernelPlan}
 use Rattle.cvm_shell.specs.Views.{IfRefused, IfPlan}
 use Rattle.cvm_shell.proofs.Plans.{got_whole, if_plan}
+use Rattle.cvm_shell.proofs.SourceStops.{unread_stops, mistyped_stops}
 use Rattle.cvm_shell.proofs.FirstBad.{one_unread, never_unread, one_mistake, no_mistake}
 
 -- The source has no tree.
@@ -73,34 +72,6 @@ plan_compiles law name source u short is each = record { comes = compiles u shor
 
 abbrev err_of : (A : Type 0) → SourceFault → Result A SourceFault
 err_of A f = Err f
-
--- a fault is want of memory, or it is one of the source, which is refused
-unread_stops : (f : ReadFault) → (f ≡ read.Memory) ⊎ ((f ≢ read.Memory) × (source_stop (Reading f) ≡ Stops.Refused (by.BadSource (Reading f))))
-unread_stops (read.BadByte at) = inr (λ e. cc, refl)
-unread_stops (read.BadNumber at) = inr (λ e. cc, refl)
-unread_stops (read.Unexpected at) = inr (λ e. cc, refl)
-unread_stops (read.TooNested at) = inr (λ e. cc, refl)
-unread_stops read.SourceTooLong = inr (λ e. cc, refl)
-unread_stops read.Memory = inl refl
-
-mistyped_stops : (f : TypeFault) → (f ≡ typing.Memory) ⊎ ((f ≢ typing.Memory) × (source_stop (Typing f) ≡ Stops.Refused (by.BadSource (Typing f))))
-mistyped_stops (typing.UnknownName s) = inr (λ e. cc, refl)
-mistyped_stops (typing.NameTwice s) = inr (λ e. cc, refl)
-mistyped_stops (typing.WrongType s) = inr (λ e. cc, refl)
-mistyped_stops (typing.WrongCount s) = inr (λ e. cc, refl)
-mistyped_stops (typing.NotAPlace s) = inr (λ e. cc, refl)
-mistyped_stops (typing.LocalAddress s) = inr (λ e. cc, refl)
-mistyped_stops (typing.StructHoldsItself s) = inr (λ e. cc, refl)
-mistyped_stops (typing.TooDeep s) = inr (λ e. cc, refl)
-mistyped_stops (typing.TooManyNodes s) = inr (λ e. cc, refl)
-mistyped_stops (typing.UnitTooLarge s) = inr (λ e. cc, refl)
-mistyped_stops (typing.GlobalsTooLarge s) = inr (λ e. cc, refl)
-mistyped_stops (typing.NoDispatch s) = inr (λ e. cc, refl)
-mistyped_stops (typing.AsmNotAllowed s line) = inr (λ e. cc, refl)
-mistyped_stops (typing.TooManyParameters s) = inr (λ e. cc, refl)
-mistyped_stops (typing.TypeTooLarge s) = inr (λ e. cc, refl)
-mistyped_stops (typing.EmptyArray s) = inr (λ e. cc, refl)
-mistyped_stops typing.Memory = inl refl
 
 -- a source that has a fault of typing is short enough
 not_above : (n : ℕ) (b : Bool) → ltb 1048576 n ≡ b → (1048576 < n → ⊥) → n ≤ 1048576

@@ -1,14 +1,22 @@
+mod Answered
 mod BootEndings
 mod BootPlans
 mod Endings
+mod Few
 mod FirstBad
 mod Five
 pub mod Follows
 mod Four
 mod FourBytes
 mod GotFiles
+mod Isolating
 mod KernelPlans
 mod LinkPlans
+mod MigratePlans
+mod OneCommand
 mod Plans
+mod SampleEndings
+mod SamplePlans
+mod SourceStops
 mod Spellings
 mod UserWords

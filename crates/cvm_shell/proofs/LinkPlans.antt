@@ -38,19 +38,19 @@ use Rattle.cvm_shell.proofs.GotFiles.{fetched_plan}
 
 -- LINKING: a source has one answer.
 
-abbrev OneAnswer : Type 0
+abbrev pub OneAnswer : Type 0
 OneAnswer = (source : List ℕ) (a b : Result CUnit SourceFault) → IsAnswer source a → IsAnswer source b → a ≡ b
 
-abbrev Layers : Type 0
+abbrev pub Layers : Type 0
 Layers = Map → List ℕ → List ℕ
 
 -- what doesn't fit is answered by its fault, whatever the source is
-unfit_answers : (layer : Layers) (o : Object) (p : Params) (us : List (List ℕ)) (front : Result CUnit SourceFault) (f : LinkFault) → fitting p us ≡ Err f → link_answer layer o p us front ≡ Err f
+pub unfit_answers : (layer : Layers) (o : Object) (p : Params) (us : List (List ℕ)) (front : Result CUnit SourceFault) (f : LinkFault) → fitting p us ≡ Err f → link_answer layer o p us front ≡ Err f
 unfolding link_answer
 unfit_answers layer o p us front f e = rw e refl
 
 -- what fits and has no unit is answered by the source's fault
-no_unit : (layer : Layers) (o : Object) (p : Params) (us : List (List ℕ)) (f : SourceFault) → fitting p us ≡ Ok tt → link_answer layer o p us (Err f) ≡ Err (link_source_fault f)
+pub no_unit : (layer : Layers) (o : Object) (p : Params) (us : List (List ℕ)) (f : SourceFault) → fitting p us ≡ Ok tt → link_answer layer o p us (Err f) ≡ Err (link_source_fault f)
 unfolding link_answer
 no_unit layer o p us f e = rw e refl
 
@@ -99,12 +99,12 @@ first_or_memory source (Typing (typing.TypeTooLarge s)) is = inr (record { fault
 first_or_memory source (Typing (typing.EmptyArray s)) is = inr (record { fault = is; read = λ e. cc; typed = λ e. cc })
 
 -- what the front came to, where it is not want of memory
-answer_or_memory : (source : List ℕ) (front : Result CUnit SourceFault) → Comes source front → ((f : SourceFault) × (front ≡ Err f) × (link_source_fault f ≡ linking.Memory)) ⊎ IsAnswer source front
+pub answer_or_memory : (source : List ℕ) (front : Result CUnit SourceFault) → Comes source front → ((f : SourceFault) × (front ≡ Err f) × (link_source_fault f ≡ linking.Memory)) ⊎ IsAnswer source front
 answer_or_memory source (Ok u) is = inr is
 answer_or_memory source (Err f) is = elim (first_or_memory source f is) [ inl e ↦ inl (f, refl, e) | inr h ↦ inr h ]
 
 -- a fault of linking is want of memory, or it is refused
-link_stops : (f : LinkFault) → (f ≡ linking.Memory) ⊎ ((f ≢ linking.Memory) × (link_stop f ≡ Stops.Refused (by.Unlinked f)))
+pub link_stops : (f : LinkFault) → (f ≡ linking.Memory) ⊎ ((f ≢ linking.Memory) × (link_stop f ≡ Stops.Refused (by.Unlinked f)))
 link_stops (linking.UserCount n) = inr (λ e. cc, refl)
 link_stops (linking.UserTooLong n m) = inr (λ e. cc, refl)
 link_stops (linking.Parameter n m) = inr (λ e. cc, refl)
@@ -114,10 +114,10 @@ link_stops (linking.ObjectForgedCount n m) = inr (λ e. cc, refl)
 link_stops (linking.ObjectForged n m k) = inr (λ e. cc, refl)
 link_stops linking.Memory = inl refl
 
-one_link_fault : {A : Type 0} (r : Result A LinkFault) (f g : LinkFault) → r ≡ Err f → r ≡ Err g → f ≡ g
+pub one_link_fault : {A : Type 0} (r : Result A LinkFault) (f g : LinkFault) → r ≡ Err f → r ≡ Err g → f ≡ g
 one_link_fault r f g a b = let e = sym a ∙ b in cc
 
-not_both : {A : Type 0} (r : Result A LinkFault) (x : A) (g : LinkFault) → r ≡ Ok x → r ≡ Err g → ⊥
+pub not_both : {A : Type 0} (r : Result A LinkFault) (x : A) (g : LinkFault) → r ≡ Ok x → r ≡ Err g → ⊥
 not_both r x g a b = let e = sym a ∙ b in cc
 
 -- a fault is refused, by whether the parts fit and by what the front came to

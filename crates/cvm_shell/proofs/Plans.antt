@@ -1,8 +1,7 @@
 -- What files come to, stage by stage: each stage that stops, or goes on to what comes to one plan, comes to that plan and to no other.
-use Rattle.std.proofs.Common.{◌≡◌, ◌≢◌, ℕ, ◌<◌, ◌≤◌, Bool, true, false, ◌==◌, min, List, [], ◌∷◌, length, refl, sym, ap, ◌∙◌, subst, arith, Some, None, Ok, Err}
+use Rattle.std.proofs.Common.{◌≡◌, ◌≢◌, ℕ, ◌<◌, ◌≤◌, min, List, length, refl, sym, ap, ◌∙◌, subst, arith, Some, None, Ok, Err}
 use Rattle.std.specs.Prelude.{Option, IfSome, Result, ⊤, replicate}
 use Rattle.std.specs.Option.{IsSome}
-use Rattle.std.proofs.lemmas.Bool.Decides.{nat_tests}
 use Rattle.std.proofs.lemmas.List.{length-replicate}
 use Rattle.cvm_outside.specs.Told.{TOO_LONG, Tells}
 use Rattle.cvm_outside.specs.declared.shelf.ShelfFault.{ShelfFault}
@@ -13,7 +12,7 @@ use Rattle.mips_asm.specs.declared.fault.AsmFault.TheVariants.{BadByte, UnknownM
 use Rattle.cvm_shell.specs.declared.boot.Stop.{Stop}
 use Rattle.cvm_shell.specs.declared.boot.Stop.TheVariants.{Refused, Shelf, Memory as OutOfMemory}
 use Rattle.cvm_shell.specs.Command.{CompileUser}
-use Rattle.cvm_shell.specs.Refusal.{Refusal, too_long, bad_text}
+use Rattle.cvm_shell.specs.Refusal.{too_long, bad_text}
 use Rattle.cvm_shell.specs.Plan.{Plan, refuses, puts, Got, long, whole, AfterText, no_words, assembles, bytes_of, IsPlan}
 use Rattle.cvm_shell.specs.Stages.{stop_of, text_stop, IsUserPlan}
 use Rattle.cvm_shell.specs.Views.{refusal_view, IfRefused, IfPlan}

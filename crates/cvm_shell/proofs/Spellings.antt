@@ -1,11 +1,11 @@
--- A text spells one number at most, and one that spells a number is read whole. So the words of a command are those of one boot.
+-- A text spells one number at most, and one that spells a number is read whole. So the words of a command of one kind are those of one.
 use Rattle.std.proofs.Common.{◌≡◌, ℕ, ◌+◌, ◌<◌, ◌≤◌, ◌^◌, List, [], ◌∷◌, ◌++◌, length, drop, refl, sym, ap, ◌∙◌, arith, append-nil, Some}
-use Rattle.std.specs.Prelude.{decimal, codes, slice_index}
+use Rattle.std.specs.Prelude.{decimal, codes}
 use Rattle.std.specs.List.{prefix_len}
 use Rattle.std.specs.Char.{is_ascii_digit}
 use Rattle.std.proofs.lemmas.Fmt.{decimal_injective}
 use Rattle.cvm_text.specs.Number.{number_at}
-use Rattle.cvm_shell.specs.Command.{Boot, CompileUser, CompileKernel, Link, Command, boot, compile_user, compile_kernel, link, IsBoot, IsCompileUser, IsCompileKernel, IsLink, IsCommand}
+use Rattle.cvm_shell.specs.Command.{Boot, Trace, CompileUser, CompileKernel, Link, Migrate, Sample, IsBoot, IsTrace, IsCompileUser, IsCompileKernel, IsLink, IsMigrate, IsSample}
 
 -- that the numbers which are spelled are read, as the reader of numbers says it
 abbrev pub AreRead : Type 0
@@ -58,6 +58,48 @@ none_for_steps words word image schedule t s e none b is =
     let k : s ≡ decimal b.steps = cc in
     none b.steps is.steps_fit k
 
+-- these words, with numbers that they spell, are a trace
+pub words_of_trace : (words : List (List ℕ)) (word image schedule t s u : List ℕ) (turns steps user : ℕ) → words ≡ word ∷ image ∷ schedule ∷ t ∷ s ∷ u ∷ [] → word ≡ codes "trace"
+    → t ≡ decimal turns → 1 ≤ turns → turns < 2 ^ 32 → s ≡ decimal steps → steps < 2 ^ 64 → u ≡ decimal user → 1 ≤ user → user ≤ 64
+    → IsTrace words (record { boot = record { image = image; schedule = schedule; turns = turns; steps = steps }; user = user })
+words_of_trace words word image schedule t s u turns steps user e w a some fit b less d one most =
+    record { spelled = cc; some_turns = some; turns_fit = fit; steps_fit = less; some_user = one; most_users = most }
+
+-- a boot stands in the words of a trace
+words_inside : (words : List (List ℕ)) (word image schedule t s u : List ℕ) → words ≡ word ∷ image ∷ schedule ∷ t ∷ s ∷ u ∷ [] → (x : Trace) → IsTrace words x
+    → IsBoot (codes "boot" ∷ image ∷ schedule ∷ t ∷ s ∷ []) x.boot × (u ≡ decimal x.user)
+words_inside words word image schedule t s u e x is =
+    let spelled : word ∷ image ∷ schedule ∷ t ∷ s ∷ u ∷ [] ≡ codes "trace" ∷ x.boot.image ∷ x.boot.schedule ∷ decimal x.boot.turns ∷ decimal x.boot.steps ∷ decimal x.user ∷ [] = sym e ∙ is.spelled in
+    let i : image ≡ x.boot.image = cc in
+    let j : schedule ≡ x.boot.schedule = cc in
+    let k : t ≡ decimal x.boot.turns = cc in
+    let l : s ≡ decimal x.boot.steps = cc in
+    let m : u ≡ decimal x.user = cc in
+    (record { spelled = cc; some_turns = is.some_turns; turns_fit = is.turns_fit; steps_fit = is.steps_fit }, m)
+
+-- so they are no other trace
+pub words_of_one_trace : (words : List (List ℕ)) (word image schedule t s u : List ℕ) (turns steps user : ℕ) → words ≡ word ∷ image ∷ schedule ∷ t ∷ s ∷ u ∷ []
+    → t ≡ decimal turns → turns < 2 ^ 32 → s ≡ decimal steps → steps < 2 ^ 64 → u ≡ decimal user → user ≤ 64
+    → (x : Trace) → IsTrace words x → record { boot = record { image = image; schedule = schedule; turns = turns; steps = steps }; user = user } ≡ x
+words_of_one_trace words word image schedule t s u turns steps user e a fit c less d most x is =
+    let inside = words_inside words word image schedule t s u e x is in
+    let here = words_of_one (codes "boot" ∷ image ∷ schedule ∷ t ∷ s ∷ []) (codes "boot") image schedule t s turns steps refl a fit c less x.boot inside.0 in
+    let small : user < 2 ^ 64 = omega (arith, most) in
+    let also : x.user < 2 ^ 64 = omega (arith, is.most_users) in
+    let n : user ≡ x.user = same_number u user x.user small also d inside.1 in
+    let trace_of : Boot → ℕ → Trace = λ b k. record { boot = b; user = k } in
+    ap (λ b. trace_of b user) here ∙ ap (λ k. trace_of x.boot k) n
+
+-- words of which one spells no number of its kind are no trace
+pub no_trace_by_turns : (words : List (List ℕ)) (word image schedule t s u : List ℕ) → words ≡ word ∷ image ∷ schedule ∷ t ∷ s ∷ u ∷ [] → ((n : ℕ) → 1 ≤ n → n < 2 ^ 32 → t ≡ decimal n → ⊥) → (x : Trace) → IsTrace words x → ⊥
+no_trace_by_turns words word image schedule t s u e none x is = none_for_turns _ (codes "boot") image schedule t s refl none x.boot ((words_inside words word image schedule t s u e x is).0)
+
+pub no_trace_by_steps : (words : List (List ℕ)) (word image schedule t s u : List ℕ) → words ≡ word ∷ image ∷ schedule ∷ t ∷ s ∷ u ∷ [] → ((n : ℕ) → n < 2 ^ 64 → s ≡ decimal n → ⊥) → (x : Trace) → IsTrace words x → ⊥
+no_trace_by_steps words word image schedule t s u e none x is = none_for_steps _ (codes "boot") image schedule t s refl none x.boot ((words_inside words word image schedule t s u e x is).0)
+
+pub no_trace_by_user : (words : List (List ℕ)) (word image schedule t s u : List ℕ) → words ≡ word ∷ image ∷ schedule ∷ t ∷ s ∷ u ∷ [] → ((n : ℕ) → 1 ≤ n → n ≤ 64 → u ≡ decimal n → ⊥) → (x : Trace) → IsTrace words x → ⊥
+no_trace_by_user words word image schedule t s u e none x is = none x.user is.some_user is.most_users ((words_inside words word image schedule t s u e x is).1)
+
 -- these words are a compilation of a user
 pub words_of_user : (words : List (List ℕ)) (word kind text image : List ℕ) → words ≡ word ∷ kind ∷ text ∷ image ∷ [] → word ≡ codes "compile" → kind ≡ codes "user" → IsCompileUser words (record { text = text; image = image })
 words_of_user words word kind text image e w k = record { spelled = cc }
@@ -101,65 +143,37 @@ words_of_one_link words word object params image users e l is =
     let link_of : List ℕ → List ℕ → List ℕ → List (List ℕ) → Link = λ x y z w. record { object = x; params = y; image = z; users = w } in
     ap (λ x. Some (link_of x params image users)) o ∙ ap (λ x. Some (link_of l.object x image users)) p ∙ ap (λ x. Some (link_of l.object l.params x users)) i ∙ ap (λ x. Some (link_of l.object l.params l.image x)) u
 
--- no words are of two kinds
-pub boot_or_user : (words : List (List ℕ)) (b : Boot) (c : CompileUser) → IsBoot words b → IsCompileUser words c → ⊥
-boot_or_user words b c one other = let e = sym one.spelled ∙ other.spelled in cc
+-- these words are a migration
+pub words_of_migrate : (words : List (List ℕ)) (word old image : List ℕ) → words ≡ word ∷ old ∷ image ∷ [] → word ≡ codes "migrate" → IsMigrate words (record { old = old; image = image })
+words_of_migrate words word old image e w = record { spelled = cc }
 
-pub boot_or_kernel : (words : List (List ℕ)) (b : Boot) (c : CompileKernel) → IsBoot words b → IsCompileKernel words c → ⊥
-boot_or_kernel words b c one other = let e = sym one.spelled ∙ other.spelled in cc
+-- and of no other
+pub words_of_one_migrate : (words : List (List ℕ)) (word old image : List ℕ) → words ≡ word ∷ old ∷ image ∷ [] → (m : Migrate) → IsMigrate words m → Some (record { old = old; image = image }) ≡ Some m
+words_of_one_migrate words word old image e m is =
+    let spelled : word ∷ old ∷ image ∷ [] ≡ codes "migrate" ∷ m.old ∷ m.image ∷ [] = sym e ∙ is.spelled in
+    let o : old ≡ m.old = cc in
+    let i : image ≡ m.image = cc in
+    let migrate_of : List ℕ → List ℕ → Migrate = λ x y. record { old = x; image = y } in
+    ap (λ x. Some (migrate_of x image)) o ∙ ap (λ x. Some (migrate_of m.old x)) i
 
-user_or_kernel : (words : List (List ℕ)) (c : CompileUser) (d : CompileKernel) → IsCompileUser words c → IsCompileKernel words d → ⊥
-user_or_kernel words c d one other = let e = sym one.spelled ∙ other.spelled in cc
+-- these words, with the number that the second spells, are a sample
+pub words_of_sample : (words : List (List ℕ)) (word text : List ℕ) (number : ℕ) → words ≡ word ∷ text ∷ [] → word ≡ codes "sample" → text ≡ decimal number → number < 2 ^ 32
+    → IsSample words (record { number = number })
+words_of_sample words word text number e w n few = record { spelled = cc; fits = few }
 
--- nor of two first words
-same_first : (a b : List ℕ) (rest more : List (List ℕ)) → a ∷ rest ≡ b ∷ more → a ≡ b
-same_first a b rest more e = cc
+-- and no other
+pub words_of_one_sample : (words : List (List ℕ)) (word text : List ℕ) (number : ℕ) → words ≡ word ∷ text ∷ [] → text ≡ decimal number → number < 2 ^ 32 → (x : Sample) → IsSample words x
+    → Some (record { number = number }) ≡ Some x
+words_of_one_sample words word text number e n few x is =
+    let spelled : word ∷ text ∷ [] ≡ codes "sample" ∷ decimal x.number ∷ [] = sym e ∙ is.spelled in
+    let t : text ≡ decimal x.number = cc in
+    let same : number ≡ x.number = same_number text number x.number (omega (arith, few)) (omega (arith, is.fits)) n t in
+    let sample_of : ℕ → Sample = λ k. record { number = k } in
+    ap (λ k. Some (sample_of k)) same
 
-pub boot_or_link : (words : List (List ℕ)) (b : Boot) (l : Link) → IsBoot words b → IsLink words l → ⊥
-boot_or_link words b l one other =
-    let e : codes "boot" ≡ codes "link" = same_first _ _ _ _ (sym one.spelled ∙ other.spelled) in
-    let letter : 98 ≡ 108 = ap (λ (xs : List ℕ). slice_index xs 0) e in
-    omega (arith, letter)
-
-user_or_link : (words : List (List ℕ)) (c : CompileUser) (l : Link) → IsCompileUser words c → IsLink words l → ⊥
-user_or_link words c l one other =
-    let e : codes "compile" ≡ codes "link" = same_first _ _ _ _ (sym one.spelled ∙ other.spelled) in
-    let letter : 99 ≡ 108 = ap (λ (xs : List ℕ). slice_index xs 0) e in
-    omega (arith, letter)
-
-kernel_or_link : (words : List (List ℕ)) (c : CompileKernel) (l : Link) → IsCompileKernel words c → IsLink words l → ⊥
-kernel_or_link words c l one other =
-    let e : codes "compile" ≡ codes "link" = same_first _ _ _ _ (sym one.spelled ∙ other.spelled) in
-    let letter : 99 ≡ 108 = ap (λ (xs : List ℕ). slice_index xs 0) e in
-    omega (arith, letter)
-
--- the words of a command are those of one
-pub one_boot : (words : List (List ℕ)) (b c : Boot) → IsBoot words b → IsBoot words c → b ≡ c
-one_boot words b c is other = words_of_one words (codes "boot") b.image b.schedule _ _ b.turns b.steps is.spelled refl is.turns_fit refl is.steps_fit c other
-
-one_user : (words : List (List ℕ)) (c d : CompileUser) → IsCompileUser words c → IsCompileUser words d → c ≡ d
-one_user words c d is other = let e : Some c ≡ Some d = words_of_one_user words (codes "compile") (codes "user") c.text c.image is.spelled d other in cc
-
-one_kernel : (words : List (List ℕ)) (c d : CompileKernel) → IsCompileKernel words c → IsCompileKernel words d → c ≡ d
-one_kernel words c d is other = let e : Some c ≡ Some d = words_of_one_kernel words (codes "compile") (codes "kernel") c.source c.object is.spelled d other in cc
-
-one_link : (words : List (List ℕ)) (l m : Link) → IsLink words l → IsLink words m → l ≡ m
-one_link words l m is other = let e : Some l ≡ Some m = words_of_one_link words (codes "link") l.object l.params l.image l.users is.spelled m other in cc
-
-pub one_command : (words : List (List ℕ)) (c d : Command) → IsCommand words c → IsCommand words d → c ≡ d
-one_command words (boot b) (boot c) is other = ap (λ (x : Boot). boot x) (one_boot words b c is other)
-one_command words (boot b) (compile_user c) is other = absurd (boot_or_user words b c is other)
-one_command words (boot b) (compile_kernel c) is other = absurd (boot_or_kernel words b c is other)
-one_command words (boot b) (link l) is other = absurd (boot_or_link words b l is other)
-one_command words (compile_user c) (boot b) is other = absurd (boot_or_user words b c other is)
-one_command words (compile_user c) (compile_user d) is other = ap (λ (x : CompileUser). compile_user x) (one_user words c d is other)
-one_command words (compile_user c) (compile_kernel d) is other = absurd (user_or_kernel words c d is other)
-one_command words (compile_user c) (link l) is other = absurd (user_or_link words c l is other)
-one_command words (compile_kernel c) (boot b) is other = absurd (boot_or_kernel words b c other is)
-one_command words (compile_kernel c) (compile_user d) is other = absurd (user_or_kernel words d c other is)
-one_command words (compile_kernel c) (compile_kernel d) is other = ap (λ (x : CompileKernel). compile_kernel x) (one_kernel words c d is other)
-one_command words (compile_kernel c) (link l) is other = absurd (kernel_or_link words c l is other)
-one_command words (link l) (boot b) is other = absurd (boot_or_link words b l other is)
-one_command words (link l) (compile_user c) is other = absurd (user_or_link words c l other is)
-one_command words (link l) (compile_kernel c) is other = absurd (kernel_or_link words c l other is)
-one_command words (link l) (link m) is other = ap (λ (x : Link). link x) (one_link words l m is other)
+-- words whose second spells no number of a sample
+pub no_sample : (words : List (List ℕ)) (word text : List ℕ) → words ≡ word ∷ text ∷ [] → ((n : ℕ) → n < 2 ^ 32 → text ≡ decimal n → ⊥) → (x : Sample) → IsSample words x → ⊥
+no_sample words word text e none x is =
+    let spelled : word ∷ text ∷ [] ≡ codes "sample" ∷ decimal x.number ∷ [] = sym e ∙ is.spelled in
+    let t : text ≡ decimal x.number = cc in
+    none x.number is.fits t

@@ -1,5 +1,5 @@
--- The claim of a boot: how the run of an accepted system ends, what is printed of it, and which sectors stand.
-use Rattle.std.specs.Prelude.{◌≡◌, ℕ, ◌*◌, ◌<◌, ◌≤◌, List, [], length, Some, Ok}
+-- The claim of a boot and of a trace: how the run of an accepted system ends, what is printed of it, and which sectors stand.
+use Rattle.std.specs.Prelude.{◌≡◌, ℕ, ◌*◌, ◌<◌, ◌≤◌, List, [], length, Option, Some, Ok}
 use Rattle.std.specs.Io.KnownBytes.{append_known}
 use Rattle.cvm_outside.specs.Causes.{Rose}
 use Rattle.cvm_outside.specs.Told.{TOO_LONG}
@@ -13,15 +13,19 @@ use Rattle.mips_table.specs.Turns.{lines_of}
 use Rattle.cvm_model.specs.Cvm.{System as Booted, Cvm, IsCvm}
 use Rattle.cvm_model.specs.KernelMeaning.{kernel_meaning}
 use Rattle.layer_contract.specs.Follows.{loaded}
-use Rattle.boot_turns.specs.declared.answers.View.TheVariants.{Boot as whole_boot}
+use Rattle.boot_turns.specs.declared.answers.View.TheVariants as view
 use Rattle.boot_turns.specs.Headline.{Ending, Done as IsDone, KernelFaulted, OutOfSteps, DiskFault, SinkFault, NoMemory, Ends, Ran, GoesOn}
+use Rattle.boot_run.specs.LoadEnds.{SeesUser}
 use Rattle.kernel_linker.specs.Accept.{System}
 use Rattle.cvm_shell.specs.declared.status.Status.{Status}
-use Rattle.cvm_shell.specs.declared.status.Status.TheVariants.{Done, KernelFault, StepLimit, Disk, Sink, Memory}
-use Rattle.cvm_shell.specs.Command.{Boot, IsBoot}
+use Rattle.cvm_shell.specs.declared.status.Status.TheVariants.{Done, Refused, KernelFault, StepLimit, Disk, Sink, Memory}
+use Rattle.cvm_shell.specs.declared.boot.Session.{Session}
+use Rattle.sample_maker.specs.Parts.{Parts as Sampled}
+use Rattle.sample_maker.specs.Sample.{sample_of}
+use Rattle.cvm_shell.specs.Command.{Boot, Trace, Sample, IsBoot, IsTrace, IsSample, boot_session, trace_session, sample_session}
 use Rattle.cvm_shell.specs.Outside.{Outside, Leaves, Says}
-use Rattle.cvm_shell.specs.Refusal.{small_disk, refusal_text}
-use Rattle.cvm_shell.specs.Plan.{Accepts}
+use Rattle.cvm_shell.specs.Refusal.{small_disk, no_such_user, refusal_text}
+use Rattle.cvm_shell.specs.Plan.{Accepts, IsLinkedTo}
 
 -- the abstract run of an accepted system under a schedule: its kernel is what its own source means
 abbrev pub booted : System → Rows → Booted
@@ -54,52 +58,73 @@ ended_as NoMemory = Memory
 
 -- THE RUN over a disk with these sectors: what was printed and which sectors stand are, by the ending, those of the machine and of the
 -- abstract run; and the machine comes to the end of every turn of the abstract run, within its bound
-pub record Runs (b : Boot) (s : System) (rows : Rows) (e : Ending) (before : List (List ℕ)) (old new : Outside) : Type 0 where
+pub record Runs (session : Session) (s : System) (rows : Rows) (e : Ending) (before : List (List ℕ)) (old new : Outside) : Type 0 where
   pub after : List (List ℕ)
   pub text : List ℕ
   pub sectors : new.disk.sectors ≡ Some after
   pub printed : new.sink.text ≡ append_known old.sink.text text
-  pub ends : Ends (around rows old) (booted s rows) before after whole_boot b.turns b.steps text e
+  pub ends : Ends (around rows old) (booted s rows) before after session.view session.turns session.steps text e
   pub goes_on : GoesOn (around rows old) (booted s rows) before
 
--- a run was made, or there was no memory for it: then nothing is printed, and no sector changes
-pub record IsRun (b : Boot) (s : System) (rows : Rows) (e : Ending) (old new : Outside) : Type 0 where
+-- a run was made, of a boot or of one of the users; or there was no memory for it: then nothing is printed, and no sector changes
+pub record IsRun (session : Session) (s : System) (rows : Rows) (e : Ending) (old new : Outside) : Type 0 where
+  pub user : SeesUser session.view (length s.users)
   pub room : sectors_needed s ≤ old.disk.size
   pub files : (n : List ℕ) → new.shelf.file n ≡ old.shelf.file n
   pub size : new.disk.size ≡ old.disk.size
-  pub told : (before : List (List ℕ)) → old.disk.sectors ≡ Some before → Runs b s rows e before old new
+  pub told : (before : List (List ℕ)) → old.disk.sectors ≡ Some before → Runs session s rows e before old new
   pub disk : e ≡ DiskFault → Rose old.disk.faults new.disk.faults
   pub undone : e ≡ NoMemory → Leaves old new []
 
--- HOW A BOOT ENDS: a disk that is too small is refused, with no fault of the disk; else the system is run
-pub data RunEnds (b : Boot) (s : System) (rows : Rows) (status : Status) (old new : Outside) : Type 0 where
-  small : old.disk.size < sectors_needed s → new.disk.faults ≡ old.disk.faults
-      → Says Disk (refusal_text (small_disk (sectors_needed s) old.disk.size)) old new status → RunEnds b s rows status old new
-  run : (e : Ending) → status ≡ ended_as e → IsRun b s rows e old new → RunEnds b s rows status old new
+-- HOW A BOOT OR A TRACE ENDS: the user of a trace that is none is refused; then a disk that is too small, with no fault of the disk; else the system is run
+pub data RunEnds (session : Session) (s : System) (rows : Rows) (status : Status) (old new : Outside) : Type 0 where
+  no_user : (u : ℕ) → session.view ≡ view.Trace u → (SeesUser session.view (length s.users) → ⊥) → new.disk.faults ≡ old.disk.faults
+      → Says Refused (refusal_text (no_such_user u (length s.users))) old new status → RunEnds session s rows status old new
+  small : SeesUser session.view (length s.users) → old.disk.size < sectors_needed s → new.disk.faults ≡ old.disk.faults
+      → Says Disk (refusal_text (small_disk (sectors_needed s) old.disk.size)) old new status → RunEnds session s rows status old new
+  run : (e : Ending) → status ≡ ended_as e → IsRun session s rows e old new → RunEnds session s rows status old new
 
 -- THE HEADLINE, of a run with no failed call: the sectors are those of the machine that runs the image's words, and status and text are those of
 -- the abstract run of the image's own kernel, with each line at the turn where the machine met it
-pub record Headline (b : Boot) (s : System) (rows : Rows) (before : List (List ℕ)) (old new : Outside) (status : Status) : Type 0 where
+pub record Headline (session : Session) (s : System) (rows : Rows) (before : List (List ℕ)) (old new : Outside) (status : Status) : Type 0 where
   pub after : List (List ℕ)
   pub text : List ℕ
   pub ending : Ending
   pub sectors : new.disk.sectors ≡ Some after
   pub printed : new.sink.text ≡ append_known old.sink.text text
   pub status_is : status ≡ ended_as ending
-  pub ran : Ran (around rows old) (booted s rows) before after whole_boot b.turns b.steps ending text
+  pub ran : Ran (around rows old) (booted s rows) before after session.view session.turns session.steps ending text
   pub goes_on : GoesOn (around rows old) (booted s rows) before
 
--- THE PREMISES of the headline: an accepted image and a valid schedule, which the shelf gives; an honest disk with sectors enough; and a sink that takes all
-pub record IsHonest (words : List (List ℕ)) (b : Boot) (s : System) (rows : Rows) (before : List (List ℕ)) (old new : Outside) : Type 0 where
-  pub command : IsBoot words b
+-- these files are an accepted image and a valid schedule
+pub record AreFilesOf (file : List ℕ → Option (List ℕ)) (b : Boot) (s : System) (rows : Rows) : Type 0 where
   pub image : List ℕ
-  pub image_told : old.shelf.file b.image ≡ Some image
+  pub image_told : file b.image ≡ Some image
   pub image_short : length image < TOO_LONG
   pub accepted : Accepts layer_image (image_of image) (Ok s)
   pub schedule : List ℕ
-  pub schedule_told : old.shelf.file b.schedule ≡ Some schedule
+  pub schedule_told : file b.schedule ≡ Some schedule
   pub schedule_short : length schedule < TOO_LONG
   pub valid : schedule_of schedule ≡ Ok rows
+
+-- the parts of a sample are linked to an accepted image, and have a valid schedule
+pub record ArePartsOf (parts : Sampled) (s : System) (rows : Rows) : Type 0 where
+  pub image : List ℕ
+  pub linked : IsLinkedTo layer_image parts image
+  pub accepted : Accepts layer_image (image_of image) (Ok s)
+  pub valid : schedule_of parts.schedule ≡ Ok rows
+
+-- THESE WORDS AND FILES ASK for this session of this system under this schedule: by a boot, by a trace, or by a sample
+pub data AskFor (words : List (List ℕ)) (file : List ℕ → Option (List ℕ)) (session : Session) (s : System) (rows : Rows) : Type 0 where
+  by_boot : (b : Boot) → IsBoot words b → session ≡ boot_session b → AreFilesOf file b s rows → AskFor words file session s rows
+  by_trace : (t : Trace) → IsTrace words t → session ≡ trace_session t → AreFilesOf file t.boot s rows → AskFor words file session s rows
+  by_sample : (x : Sample) → IsSample words x → session ≡ sample_session → ArePartsOf (sample_of x.number) s rows → AskFor words file session s rows
+
+-- THE PREMISES of the headline: words and files that ask for a run, of a trace that of a user that there is; an honest disk with sectors enough; and a
+-- shelf and a sink that don't fail
+pub record IsHonest (words : List (List ℕ)) (session : Session) (s : System) (rows : Rows) (before : List (List ℕ)) (old new : Outside) : Type 0 where
+  pub asked : AskFor words old.shelf.file session s rows
+  pub user : SeesUser session.view (length s.users)
   pub sectors : old.disk.sectors ≡ Some before
   pub enough : sectors_needed s ≤ old.disk.size
   pub shelf_done : Rose old.shelf.faults new.shelf.faults → ⊥

@@ -2,6 +2,9 @@
 use Rattle.std.specs.Prelude.{◌≡◌, ℕ, ◌^◌, ◌<◌, ◌≤◌, List, [], ◌∷◌, decimal, codes, string_bytes, map}
 use Rattle.std.specs.declared.string.String.{String}
 use Rattle.std.specs.declared.alloc.Global.{Global}
+use Rattle.boot_turns.specs.declared.answers.View.{View}
+use Rattle.boot_turns.specs.declared.answers.View.TheVariants as view
+use Rattle.cvm_shell.specs.declared.boot.Session.{Session}
 
 -- boot an image under a schedule, for so many turns and at most so many steps
 pub record Boot : Type 0 where
@@ -9,6 +12,11 @@ pub record Boot : Type 0 where
   pub schedule : List ℕ
   pub turns : ℕ
   pub steps : ℕ
+
+-- boot it so, and print of it what concerns one user
+pub record Trace : Type 0 where
+  pub boot : Boot
+  pub user : ℕ
 
 -- assemble a text, and put the image that it gives
 pub record CompileUser : Type 0 where
@@ -27,12 +35,24 @@ pub record Link : Type 0 where
   pub image : List ℕ
   pub users : List (List ℕ)
 
+-- make an image of form 2 anew, and put the image that it gives
+pub record Migrate : Type 0 where
+  pub old : List ℕ
+  pub image : List ℕ
+
+-- make, link and boot the sample of a number
+pub record Sample : Type 0 where
+  pub number : ℕ
+
 -- a command, of one of the kinds
 pub data Command : Type 0 where
   boot : Boot → Command
+  trace : Trace → Command
   compile_user : CompileUser → Command
   compile_kernel : CompileKernel → Command
   link : Link → Command
+  migrate : Migrate → Command
+  sample : Sample → Command
 
 -- the words as texts
 abbrev pub texts : List (String Global) → List (List ℕ)
@@ -44,6 +64,15 @@ pub record IsBoot (words : List (List ℕ)) (b : Boot) : Type 0 where
   pub some_turns : 1 ≤ b.turns
   pub turns_fit : b.turns < 2 ^ 32
   pub steps_fit : b.steps < 2 ^ 64
+
+-- trace IMAGE SCHEDULE TURNS STEPS USER, whose users are counted from 1
+pub record IsTrace (words : List (List ℕ)) (t : Trace) : Type 0 where
+  pub spelled : words ≡ codes "trace" ∷ t.boot.image ∷ t.boot.schedule ∷ decimal t.boot.turns ∷ decimal t.boot.steps ∷ decimal t.user ∷ []
+  pub some_turns : 1 ≤ t.boot.turns
+  pub turns_fit : t.boot.turns < 2 ^ 32
+  pub steps_fit : t.boot.steps < 2 ^ 64
+  pub some_user : 1 ≤ t.user
+  pub most_users : t.user ≤ 64
 
 -- compile user ASM IMG
 pub record IsCompileUser (words : List (List ℕ)) (c : CompileUser) : Type 0 where
@@ -57,13 +86,45 @@ pub record IsCompileKernel (words : List (List ℕ)) (c : CompileKernel) : Type 
 pub record IsLink (words : List (List ℕ)) (l : Link) : Type 0 where
   pub spelled : words ≡ codes "link" ∷ l.object ∷ l.params ∷ l.image ∷ l.users
 
+-- migrate IMAGE OUT
+pub record IsMigrate (words : List (List ℕ)) (m : Migrate) : Type 0 where
+  pub spelled : words ≡ codes "migrate" ∷ m.old ∷ m.image ∷ []
+
+-- sample N
+pub record IsSample (words : List (List ℕ)) (x : Sample) : Type 0 where
+  pub spelled : words ≡ codes "sample" ∷ decimal x.number ∷ []
+  pub fits : x.number < 2 ^ 32
+
 -- the words are this command
 abbrev pub IsCommand : List (List ℕ) → Command → Type 0
 IsCommand words (boot b) = IsBoot words b
+IsCommand words (trace t) = IsTrace words t
 IsCommand words (compile_user c) = IsCompileUser words c
 IsCommand words (compile_kernel c) = IsCompileKernel words c
 IsCommand words (link l) = IsLink words l
+IsCommand words (migrate m) = IsMigrate words m
+IsCommand words (sample x) = IsSample words x
 
 -- no command has these words
 abbrev pub IsNoCommand : List (List ℕ) → Type 0
 IsNoCommand words = (c : Command) → IsCommand words c → ⊥
+
+-- a command that gets files: each but a sample
+abbrev pub GetsFiles : Command → Type 0
+GetsFiles (sample x) = ⊥
+GetsFiles other = Unit {0}
+
+-- WHAT IS RUN by a boot, by a trace, and by a sample
+abbrev pub boot_session : Boot → Session
+boot_session b = record { view = view.Boot; turns = b.turns; steps = b.steps }
+
+abbrev pub trace_session : Trace → Session
+trace_session t = record { view = view.Trace t.user; turns = t.boot.turns; steps = t.boot.steps }
+
+abbrev pub sample_session : Session
+sample_session = record { view = view.Boot; turns = 100000; steps = 4000000000 }
+
+-- the command that boots so, with this view
+abbrev pub command_of : Boot → View → Command
+command_of b view.Boot = boot b
+command_of b (view.Trace u) = trace (record { boot = b; user = u })

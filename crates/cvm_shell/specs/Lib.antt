@@ -4,6 +4,7 @@ pub mod Command
 pub mod Refusal
 pub mod Plan
 pub mod Boot
+pub mod Isolation
 pub mod Outcome
 pub mod Views
 pub mod Stages

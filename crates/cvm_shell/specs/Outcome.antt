@@ -3,15 +3,18 @@ use Rattle.std.specs.Prelude.{◌≡◌, ◌≢◌, ◌⊎◌, ◌↔◌, ◌≤
 use Rattle.cvm_outside.specs.Causes.{Rose}
 use Rattle.cvm_outside.specs.Told.{retold, TOO_LONG}
 use Rattle.schedule_file.specs.Rows.{Rows}
+use Rattle.boot_turns.specs.declared.answers.View.TheVariants as view
 use Rattle.cvm_model.specs.Cvm.{Cvm}
 use Rattle.kernel_linker.specs.Accept.{System}
 use Rattle.cvm_shell.specs.declared.status.Status.{Status}
 use Rattle.cvm_shell.specs.declared.status.Status.TheVariants.{Done, Words, KernelFault, Disk, Shelf, Sink, Memory}
 use Rattle.cvm_shell.specs.Outside.{Outside, SameSectors, Leaves, Says}
-use Rattle.cvm_shell.specs.Command.{Boot, Command, IsCommand}
+use Rattle.cvm_shell.specs.declared.boot.Session.{Session}
+use Rattle.cvm_shell.specs.Command.{Command, IsCommand, GetsFiles}
 use Rattle.cvm_shell.specs.Refusal.{too_long, refusal_text, refusal_status}
 use Rattle.cvm_shell.specs.Plan.{Plan, bad_words, refuses, puts, boots, ComesTo, AllTold, IsPlan}
 use Rattle.cvm_shell.specs.Boot.{RunEnds, IsBooted, IsHonest, Headline}
+use Rattle.cvm_shell.specs.Isolation.{Isolated}
 
 -- this file has these bytes now, and nothing else changed
 pub record HasPut (name bytes : List ℕ) (old new : Outside) : Type 0 where
@@ -31,19 +34,18 @@ abbrev pub Ends : Plan → Status → (old new : Outside) → Type 0
 Ends bad_words status old new = Says Words (codes "bad words\n") old new status
 Ends (refuses r) status old new = Says (refusal_status r) (refusal_text r) old new status
 Ends (puts name bytes) status old new = PutEnds name bytes status old new
-Ends (boots b s rows) status old new = RunEnds b s rows status old new
+Ends (boots session s rows) status old new = RunEnds session s rows status old new
 
--- 67,108,865 bytes were taken of a file exactly where it is refused as too long; where the words are no command no file is got
-abbrev pub Took : Plan → ℕ → Type 0
-Took bad_words taken = Unit {0}
-Took p taken = (p ≡ refuses too_long) ↔ (taken ≡ TOO_LONG)
+-- a command that gets files took 67,108,865 bytes of one exactly where that is refused as too long
+abbrev pub Took : List (List ℕ) → Plan → ℕ → Type 0
+Took words p taken = (c : Command) → IsCommand words c → GetsFiles c → (p ≡ refuses too_long) ↔ (taken ≡ TOO_LONG)
 
 -- HOW A COMMAND ENDS: what it comes to is done; or there was no memory or no file to know what that is, and nothing is done
 pub data CommandEnds (words : List (List ℕ)) (status : Status) (old new : Outside) : Type 0 where
   done : (p : Plan) → IsPlan (AllTold words old.shelf.file) (ComesTo words old.shelf.file) p
-      → Took p new.shelf.taken → Ends p status old new → CommandEnds words status old new
-  undone : (c : Command) → IsCommand words c → (status ≡ Memory) ⊎ (status ≡ Shelf)
-      → new.shelf.taken ≢ TOO_LONG → Leaves old new [] → CommandEnds words status old new
+      → Took words p new.shelf.taken → Ends p status old new → CommandEnds words status old new
+  undone : (c : Command) → IsCommand words c → (status ≡ Memory) ⊎ ((status ≡ Shelf) × GetsFiles c)
+      → (GetsFiles c → new.shelf.taken ≢ TOO_LONG) → Leaves old new [] → CommandEnds words status old new
 
 -- no count of faults changed
 pub record NoFault (old new : Outside) : Type 0 where
@@ -70,12 +72,17 @@ Outcome see words status old new = CommandEnds words status (see old) (see new)
 abbrev pub Causes : {A : Type 0} → (A → Outside) → Status → (old new : A) → Type 0
 Causes see status old new = CausedBy status (see old) (see new)
 
--- THE HEADLINE of each boot with these words
+-- THE HEADLINE of each boot and each trace with these words
 abbrev pub Headlines : {A : Type 0} → (A → Outside) → List (List ℕ) → Status → (old new : A) → Type 0
-Headlines see words status old new = (b : Boot) (s : System) (rows : Rows) (sectors : List (List ℕ)) →
-    IsHonest words b s rows sectors (see old) (see new) → status ≢ Memory → Headline b s rows sectors (see old) (see new) status
+Headlines see words status old new = (session : Session) (s : System) (rows : Rows) (sectors : List (List ℕ)) →
+    IsHonest words session s rows sectors (see old) (see new) → status ≢ Memory → Headline session s rows sectors (see old) (see new) status
 
--- ENOUGH STEPS: where the abstract run is defined for the wanted turns, and its bound is within the steps, the boot is done or its kernel faulted
+-- ENOUGH STEPS: where the abstract run is defined for the wanted turns, and its bound is within the steps, the run is done or its kernel faulted
 abbrev pub Completes : {A : Type 0} → (A → Outside) → List (List ℕ) → Status → (old new : A) → Type 0
-Completes see words status old new = (b : Boot) (s : System) (rows : Rows) (sectors : List (List ℕ)) (c : Cvm) → IsHonest words b s rows sectors (see old) (see new) → status ≢ Memory
-    → IsBooted (see old) s rows sectors b.turns c → c.bound ≤ b.steps → (status ≡ Done) ⊎ (status ≡ KernelFault)
+Completes see words status old new = (session : Session) (s : System) (rows : Rows) (sectors : List (List ℕ)) (c : Cvm) → IsHonest words session s rows sectors (see old) (see new)
+    → status ≢ Memory → IsBooted (see old) s rows sectors session.turns c → c.bound ≤ session.steps → (status ≡ Done) ⊎ (status ≡ KernelFault)
+
+-- ISOLATION of the user of each trace that is done, or whose kernel faulted
+abbrev pub Isolates : {A : Type 0} → (A → Outside) → List (List ℕ) → Status → (old new : A) → Type 0
+Isolates see words status old new = (session : Session) (u : ℕ) (s : System) (rows : Rows) (sectors : List (List ℕ)) → IsHonest words session s rows sectors (see old) (see new)
+    → session.view ≡ view.Trace u → (status ≡ Done) ⊎ (status ≡ KernelFault) → Isolated session u s rows sectors (see old) (see new) status

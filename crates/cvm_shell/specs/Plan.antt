@@ -22,9 +22,10 @@ use Rattle.layer_map.specs.declared.params.Params.{Params}
 use Rattle.layer_runs.specs.Image.{layer_image}
 use Rattle.boot_image.specs.Format.{spelling as image_bytes}
 use Rattle.boot_image.specs.Parts.{Parts as Image}
-use Rattle.boot_image.specs.Reading.{answer as image_of}
+use Rattle.boot_image.specs.Reading.{answer as image_of, old_answer as old_image_of}
 use Rattle.boot_image.specs.declared.fault.ImageFault.{ImageFault}
 use Rattle.kernel_linker.specs.Accept.{System, accept_answer}
+use Rattle.kernel_linker.specs.Migrate.{migrate_answer}
 use Rattle.kernel_linker.specs.Fault.{accept_file_fault}
 use Rattle.kernel_linker.specs.declared.fault.AcceptFault.{AcceptFault}
 use Rattle.schedule_file.specs.Rows.{Rows}
@@ -38,7 +39,11 @@ use Rattle.system_files.specs.Params.{params_of}
 use Rattle.system_files.specs.declared.fault.FileFault.{FileFault}
 use Rattle.system_files.specs.declared.fault.FileFault.TheVariants.{UserTorn}
 use Rattle.c0_types.specs.declared.source_fault.SourceFault.{SourceFault}
-use Rattle.cvm_shell.specs.Command.{Boot, CompileUser, CompileKernel, Link, Command, boot, compile_user, compile_kernel, link, IsBoot, IsCompileUser, IsCompileKernel, IsLink, IsCommand, IsNoCommand}
+use Rattle.sample_maker.specs.Parts.{Parts as Sampled}
+use Rattle.sample_maker.specs.Sample.{sample_of}
+use Rattle.cvm_shell.specs.declared.boot.Session.{Session}
+use Rattle.cvm_shell.specs.Command.{Boot, Trace, CompileUser, CompileKernel, Link, Migrate, Sample, Command, boot, trace, compile_user, compile_kernel, link, migrate, sample}
+use Rattle.cvm_shell.specs.Command.{IsBoot, IsTrace, IsCompileUser, IsCompileKernel, IsLink, IsMigrate, IsSample, IsCommand, IsNoCommand, boot_session, trace_session, sample_session}
 use Rattle.cvm_shell.specs.Refusal.{Refusal, bad_text, bad_source, bad_object, bad_file, unlinked, unaccepted, bad_schedule, too_long}
 
 -- what is to be done
@@ -49,36 +54,44 @@ pub data Plan : Type 0 where
   refuses : Refusal → Plan
   -- make the bytes of this file these
   puts : (name bytes : List ℕ) → Plan
-  -- run this system as that command says, under this schedule
-  boots : Boot → System → Rows → Plan
+  -- run this system so, under this schedule
+  boots : Session → System → Rows → Plan
 
 -- A FILE IS GOT: one with more than 67,108,864 bytes is refused, else its bytes go on
 pub data Got (told : Option (List ℕ)) (next : List ℕ → Plan → Type 0) : Plan → Type 0 where
   long : (bytes : List ℕ) → Tells told bytes → TOO_LONG ≤ length bytes → Got told next (refuses too_long)
   whole : (bytes : List ℕ) (p : Plan) → Tells told bytes → length bytes < TOO_LONG → next bytes p → Got told next p
 
--- WHAT IS ACCEPTED of the image that bytes are: their fault, or what linking its own source, parameters and users answers
+-- WHAT IS ANSWERED of the image that bytes are: their fault, or what is due by what its own source is answered by
+abbrev pub Answered : {A : Type 0} → (due : Image → Result Unit SourceFault → Result A AcceptFault) → Result Image ImageFault → Result A AcceptFault → Type 0
+Answered due (Err f) answer = answer ≡ Err (accept_file_fault f)
+Answered due (Ok image) answer = (front : Result Unit SourceFault) × IsAnswer image.source front × (answer ≡ due image front)
+
+-- WHAT IS ACCEPTED: what linking its own source, parameters and users answers
 abbrev pub Accepts : (layer : Map → List ℕ → List ℕ) → Result Image ImageFault → Result System AcceptFault → Type 0
-Accepts layer (Err f) answer = answer ≡ Err (accept_file_fault f)
-Accepts layer (Ok image) answer = (front : Result Unit SourceFault) × IsAnswer image.source front × (answer ≡ accept_answer layer image front)
+Accepts layer image answer = Answered (accept_answer layer) image answer
+
+-- WHAT IS MIGRATED: the image of its own source, parameters and users, whose linked words are made anew
+abbrev pub Renews : (layer : Map → List ℕ → List ℕ) → Result Image ImageFault → Result Image AcceptFault → Type 0
+Renews layer old answer = Answered (migrate_answer layer) old answer
 
 -- AFTER THE IMAGE the schedule is read
-abbrev pub scheduled_plan : Boot → System → Result Rows ScheduleFault → Plan
-scheduled_plan b s (Ok rows) = boots b s rows
-scheduled_plan b s (Err f) = refuses (bad_schedule f)
+abbrev pub scheduled_plan : Session → System → Result Rows ScheduleFault → Plan
+scheduled_plan session s (Ok rows) = boots session s rows
+scheduled_plan session s (Err f) = refuses (bad_schedule f)
 
-abbrev pub accepted_plan : Boot → Result Rows ScheduleFault → Result System AcceptFault → Plan
-accepted_plan b rows (Ok s) = scheduled_plan b s rows
-accepted_plan b rows (Err f) = refuses (unaccepted f)
+abbrev pub accepted_plan : Session → Result Rows ScheduleFault → Result System AcceptFault → Plan
+accepted_plan session rows (Ok s) = scheduled_plan session s rows
+accepted_plan session rows (Err f) = refuses (unaccepted f)
 
--- AFTER THE FILES of a boot the image is accepted
-abbrev pub AfterFiles : (layer : Map → List ℕ → List ℕ) → Boot → (image schedule : List ℕ) → Plan → Type 0
-AfterFiles layer b image schedule p =
-    (answer : Result System AcceptFault) × Accepts layer (image_of image) answer × (p ≡ accepted_plan b (schedule_of schedule) answer)
+-- AFTER THE FILES of a boot or a trace the image is accepted
+abbrev pub AfterFiles : (layer : Map → List ℕ → List ℕ) → Session → (image schedule : List ℕ) → Plan → Type 0
+AfterFiles layer session image schedule p =
+    (answer : Result System AcceptFault) × Accepts layer (image_of image) answer × (p ≡ accepted_plan session (schedule_of schedule) answer)
 
--- boot IMAGE SCHEDULE TURNS STEPS gets the image, then the schedule
-abbrev pub BootPlan : (layer : Map → List ℕ → List ℕ) → (List ℕ → Option (List ℕ)) → Boot → Plan → Type 0
-BootPlan layer file b p = Got (file b.image) (λ image. Got (file b.schedule) (AfterFiles layer b image)) p
+-- boot IMAGE SCHEDULE TURNS STEPS gets the image, then the schedule; and so does a trace, with another session
+abbrev pub BootPlan : (layer : Map → List ℕ → List ℕ) → (List ℕ → Option (List ℕ)) → Boot → Session → Plan → Type 0
+BootPlan layer file b session p = Got (file b.image) (λ image. Got (file b.schedule) (AfterFiles layer session image)) p
 
 -- the bytes of a user's image: its words, each as four bytes with the lowest first, and nothing else
 abbrev pub bytes_of : List ℕ → List ℕ
@@ -151,13 +164,47 @@ pub data AfterSystem (layer : Map → List ℕ → List ℕ) (name object params
 abbrev pub LinkPlan : (layer : Map → List ℕ → List ℕ) → (List ℕ → Option (List ℕ)) → Link → Plan → Type 0
 LinkPlan layer file l p = Got (file l.object) (λ object. Got (file l.params) (λ params. GotAll file l.users (AfterSystem layer l.image object params))) p
 
+-- what is made anew is put
+abbrev pub renewed_plan : (name : List ℕ) → Result Image AcceptFault → Plan
+renewed_plan name (Ok image) = puts name (image_bytes image)
+renewed_plan name (Err f) = refuses (unaccepted f)
+
+-- AFTER THE OLD IMAGE it is made anew
+abbrev pub AfterOld : (layer : Map → List ℕ → List ℕ) → (name old : List ℕ) → Plan → Type 0
+AfterOld layer name old p = (answer : Result Image AcceptFault) × Renews layer (old_image_of old) answer × (p ≡ renewed_plan name answer)
+
+-- migrate IMAGE OUT gets the old image
+abbrev pub MigratePlan : (layer : Map → List ℕ → List ℕ) → (List ℕ → Option (List ℕ)) → Migrate → Plan → Type 0
+MigratePlan layer file m p = Got (file m.old) (AfterOld layer m.image) p
+
+-- AFTER LINKING the parts of a sample their image is booted under its schedule, as that of a file is
+abbrev pub AfterLinking : (layer : Map → List ℕ → List ℕ) → Session → (schedule : List ℕ) → Result Image LinkFault → Plan → Type 0
+AfterLinking layer session schedule (Ok image) p = AfterFiles layer session (image_bytes image) schedule p
+AfterLinking layer session schedule (Err f) p = p ≡ refuses (unlinked f)
+
+-- AFTER THE SOURCE of a sample its object is linked with its parameters and users
+abbrev pub AfterSource : (layer : Map → List ℕ → List ℕ) → Session → Sampled → Result Unit SourceFault → Plan → Type 0
+AfterSource layer session parts (Ok u) p = AfterLinking layer session parts.schedule (link_answer layer (object_of parts.source u) parts.params parts.users (Ok u)) p
+AfterSource layer session parts (Err f) p = p ≡ refuses (bad_source f)
+
+-- the parts of a sample: their source is read and checked
+abbrev pub PartsPlan : (layer : Map → List ℕ → List ℕ) → Session → Sampled → Plan → Type 0
+PartsPlan layer session parts p = (front : Result Unit SourceFault) × IsAnswer parts.source front × AfterSource layer session parts front p
+
+-- sample N gets no file
+abbrev pub SamplePlan : (layer : Map → List ℕ → List ℕ) → (number : ℕ) → Plan → Type 0
+SamplePlan layer number p = PartsPlan layer sample_session (sample_of number) p
+
 -- THE PLAN that words and files come to
 pub data ComesTo (words : List (List ℕ)) (file : List ℕ → Option (List ℕ)) : Plan → Type 0 where
   no_command : IsNoCommand words → ComesTo words file bad_words
-  boot_plan : (b : Boot) (p : Plan) → IsBoot words b → BootPlan layer_image file b p → ComesTo words file p
+  boot_plan : (b : Boot) (p : Plan) → IsBoot words b → BootPlan layer_image file b (boot_session b) p → ComesTo words file p
+  trace_plan : (t : Trace) (p : Plan) → IsTrace words t → BootPlan layer_image file t.boot (trace_session t) p → ComesTo words file p
   user_plan : (c : CompileUser) (p : Plan) → IsCompileUser words c → UserPlan file c p → ComesTo words file p
   kernel_plan : (c : CompileKernel) (p : Plan) → IsCompileKernel words c → KernelPlan file c p → ComesTo words file p
   link_plan : (l : Link) (p : Plan) → IsLink words l → LinkPlan layer_image file l p → ComesTo words file p
+  migrate_plan : (m : Migrate) (p : Plan) → IsMigrate words m → MigratePlan layer_image file m p → ComesTo words file p
+  sample_plan : (x : Sample) (p : Plan) → IsSample words x → SamplePlan layer_image x.number p → ComesTo words file p
 
 -- files are told
 abbrev pub AreTold : (List ℕ → Option (List ℕ)) → List (List ℕ) → Type 0
@@ -167,12 +214,23 @@ AreTold file (name ∷ rest) = IsSome (file name) × AreTold file rest
 -- the files that a command gets are told
 abbrev pub GetsTold : (List ℕ → Option (List ℕ)) → Command → Type 0
 GetsTold file (boot b) = IsSome (file b.image) × IsSome (file b.schedule)
+GetsTold file (trace t) = IsSome (file t.boot.image) × IsSome (file t.boot.schedule)
 GetsTold file (compile_user c) = IsSome (file c.text)
 GetsTold file (compile_kernel c) = IsSome (file c.source)
 GetsTold file (link l) = IsSome (file l.object) × IsSome (file l.params) × AreTold file l.users
+GetsTold file (migrate m) = IsSome (file m.old)
+GetsTold file (sample x) = ⊤
 
 abbrev pub AllTold : List (List ℕ) → (List ℕ → Option (List ℕ)) → Type 0
 AllTold words file = (c : Command) → IsCommand words c → GetsTold file c
+
+-- bytes are the image that a sample's parts are linked to
+pub record IsLinkedTo (layer : Map → List ℕ → List ℕ) (parts : Sampled) (bytes : List ℕ) : Type 0 where
+  pub unit : Unit
+  pub typed : IsUnitOf parts.source unit
+  pub image : Image
+  pub linked : link_answer layer (object_of parts.source unit) parts.params parts.users (Ok unit) ≡ Ok image
+  pub spelled : bytes ≡ image_bytes image
 
 -- what something comes to, and where the files are told to nothing else
 pub record IsPlan (told : Type 0) (Comes : Plan → Type 0) (p : Plan) : Type 0 where

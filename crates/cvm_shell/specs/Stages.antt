@@ -1,5 +1,5 @@
 -- Only for the contracts inside the crate: how the stages of a command end.
-use Rattle.std.specs.Prelude.{◌≡◌, ◌≢◌, ⊤, ◌⊎◌, ◌<◌, ◌≤◌, ℕ, List, [], ◌∷◌, length, map, Option, Result, Ok, Err, MatchResult}
+use Rattle.std.specs.Prelude.{◌≡◌, ◌≢◌, ⊤, ◌⊎◌, ◌<◌, ◌≤◌, ℕ, List, [], ◌∷◌, length, map, Option, Some, Result, Ok, Err, MatchResult}
 use Rattle.cvm_outside.specs.Causes.{Rose}
 use Rattle.cvm_outside.specs.Told.{Tells, TOO_LONG}
 use Rattle.cvm_outside.specs.declared.shelf.ShelfFault.{ShelfFault}
@@ -19,8 +19,13 @@ use Rattle.kernel_linker.specs.declared.fault.LinkFault.{LinkFault}
 use Rattle.kernel_linker.specs.declared.fault.LinkFault.TheVariants as link
 use Rattle.kernel_linker.specs.declared.fault.AcceptFault.{AcceptFault}
 use Rattle.kernel_linker.specs.declared.fault.AcceptFault.TheVariants as accept
-use Rattle.kernel_linker.specs.Accept.{system_of}
+use Rattle.kernel_linker.specs.Accept.{System, system_of}
+use Rattle.cvm_model.specs.Primitives.{user_of}
+use Rattle.cvm_model.specs.Cvm.{Cvm, IsCvm, cvm}
+use Rattle.cvm_model.specs.Journal.{journal, replay}
 use Rattle.layer_contract.specs.Boots.{BootFollows}
+use Rattle.boot_turns.specs.TurnEnds.{first_of}
+use Rattle.schedule_file.specs.Rows.{Rows}
 use Rattle.schedule_file.specs.declared.fault.ScheduleFault.{ScheduleFault}
 use Rattle.schedule_file.specs.declared.fault.ScheduleFault.TheVariants as schedule
 use Rattle.cvm_shell.specs.declared.boot.Ready.{Ready}
@@ -29,10 +34,11 @@ use Rattle.cvm_shell.specs.declared.boot.Stop.TheVariants as stop
 use Rattle.cvm_shell.specs.declared.refusal.Refusal.TheVariants as refusal
 use Rattle.cvm_shell.specs.declared.status.Status.{Status}
 use Rattle.std.specs.Global.{Vec}
-use Rattle.cvm_shell.specs.Command.{Boot, CompileUser, CompileKernel, Link, Command, boot, compile_user, compile_kernel, link as link_command, IsBoot, IsCommand}
-use Rattle.cvm_shell.specs.Plan.{Plan, puts, boots, BootPlan, UserPlan, KernelPlan, LinkPlan, GetsTold, IsPlan, words_from}
+use Rattle.cvm_shell.specs.declared.boot.Session.{Session}
+use Rattle.cvm_shell.specs.Command.{Boot, CompileUser, CompileKernel, Link, Migrate, Command, boot, compile_user, compile_kernel, link as link_command, migrate, IsSample, IsCommand}
+use Rattle.cvm_shell.specs.Plan.{Plan, puts, boots, BootPlan, UserPlan, KernelPlan, LinkPlan, MigratePlan, SamplePlan, GetsTold, IsPlan, words_from}
 use Rattle.cvm_shell.specs.Outside.{Drive, Files, Outside}
-use Rattle.cvm_shell.specs.Boot.{RunEnds}
+use Rattle.cvm_shell.specs.Boot.{booted, RunEnds}
 use Rattle.cvm_shell.specs.Outcome.{CommandEnds}
 
 -- what a fault of the shelf comes to
@@ -112,22 +118,26 @@ PlanCounts before now result = MatchResult result (λ _. now ≡ before) (StopCo
 abbrev pub EndsAs : {A : Type 0} → Command → (Drive → A → Outside) → Status → (old new : A) → Type 0
 EndsAs c see status old new = (words : List (List ℕ)) (disk : Drive) → IsCommand words c → CommandEnds words status (see disk old) (see disk new)
 
--- how a boot ends, which may change the disk
-abbrev pub BootEndsAs : {A : Type 0} → Boot → (A → Outside) → Status → (old new : A) → Type 0
-BootEndsAs b see status old new = (words : List (List ℕ)) → IsBoot words b → CommandEnds words status (see old) (see new)
+-- how a boot or a trace ends, which may change the disk
+abbrev pub BootEndsAs : {A : Type 0} → Command → (A → Outside) → Status → (old new : A) → Type 0
+BootEndsAs c see status old new = (words : List (List ℕ)) → IsCommand words c → CommandEnds words status (see old) (see new)
+
+-- how a sample ends, whatever the files, which it leaves alone
+abbrev pub SampleEndsAs : {A : Type 0} → (number : ℕ) → (Files → A → Outside) → Status → (old new : A) → Type 0
+SampleEndsAs number see status old new = (words : List (List ℕ)) (shelf : Files) → IsSample words (record { number = number }) → CommandEnds words status (see shelf old) (see shelf new)
 
 -- how the run of a system ends, whatever the files, which it leaves alone
-abbrev pub RunsAs : {A : Type 0} → Ready → (turns steps : ℕ) → (Files → A → Outside) → Status → (old new : A) → Type 0
-RunsAs r turns steps see status old new = (b : Boot) (before after : Files) → b.turns ≡ turns → b.steps ≡ steps → ((n : List ℕ) → after.file n ≡ before.file n)
-    → RunEnds b (system_of r.boot) r.schedule status (see before old) (see after new)
+abbrev pub RunsAs : {A : Type 0} → Ready → Session → (Files → A → Outside) → Status → (old new : A) → Type 0
+RunsAs r session see status old new = (before after : Files) → ((n : List ℕ) → after.file n ≡ before.file n)
+    → RunEnds session (system_of r.boot) r.schedule status (see before old) (see after new)
 
 -- a system belongs to its layer
 abbrev pub Follows : Ready → Type 0
 Follows r = BootFollows r.layer.words r.layer.sizes r.layer.map r.boot
 
 -- the plans of the commands, by what their stages found
-abbrev pub ready_for : Boot → Ready → Plan
-ready_for b r = boots b (system_of r.boot) r.schedule
+abbrev pub ready_for : Session → Ready → Plan
+ready_for session r = boots session (system_of r.boot) r.schedule
 
 abbrev pub compiled : CompileUser → Vec ℕ → Plan
 compiled c image = puts c.image image.items
@@ -138,15 +148,29 @@ linkable c object = puts c.object object.items
 abbrev pub linked_to : Link → Vec ℕ → Plan
 linked_to l image = puts l.image image.items
 
+abbrev pub renewed : Migrate → Vec ℕ → Plan
+renewed m image = puts m.image image.items
+
 -- what the files of a command come to
 abbrev pub IsLinkPlan : (layer : Map → List ℕ → List ℕ) → (List ℕ → Option (List ℕ)) → Link → Plan → Type 0
 IsLinkPlan layer told l p = IsPlan (GetsTold told (link_command l)) (LinkPlan layer told l) p
 
-abbrev pub IsBootPlan : (layer : Map → List ℕ → List ℕ) → (List ℕ → Option (List ℕ)) → Boot → Plan → Type 0
-IsBootPlan layer file b p = IsPlan (GetsTold file (boot b)) (BootPlan layer file b) p
+abbrev pub IsMigratePlan : (layer : Map → List ℕ → List ℕ) → (List ℕ → Option (List ℕ)) → Migrate → Plan → Type 0
+IsMigratePlan layer told m p = IsPlan (GetsTold told (migrate m)) (MigratePlan layer told m) p
+
+abbrev pub IsSamplePlan : (layer : Map → List ℕ → List ℕ) → (number : ℕ) → Plan → Type 0
+IsSamplePlan layer number p = IsPlan ⊤ (SamplePlan layer number) p
+
+abbrev pub IsBootPlan : (layer : Map → List ℕ → List ℕ) → (List ℕ → Option (List ℕ)) → Boot → Session → Plan → Type 0
+IsBootPlan layer file b session p = IsPlan (GetsTold file (boot b)) (BootPlan layer file b session) p
 
 abbrev pub IsUserPlan : (List ℕ → Option (List ℕ)) → CompileUser → Plan → Type 0
 IsUserPlan file c p = IsPlan (GetsTold file (compile_user c)) (UserPlan file c) p
 
 abbrev pub IsKernelPlan : (List ℕ → Option (List ℕ)) → CompileKernel → Plan → Type 0
 IsKernelPlan file c p = IsPlan (GetsTold file (compile_kernel c)) (KernelPlan file c) p
+
+-- a law of every system: with whatever units its run comes to a state, that state is one; and the replay of a user's journal is its machine there
+abbrev pub JournalsReplay : Type 0
+JournalsReplay = (s : System) (rows : Rows) (lines : ℕ → ℕ) (n k u : ℕ) (c d : Cvm) → 1 ≤ u → u ≤ length s.users → cvm (booted s rows) lines n k ≡ Some c → IsCvm (booted s rows) lines k d
+    → (c ≡ d) × (replay (first_of (booted s rows) u) (journal (booted s rows) lines n u k) ≡ Some (user_of c.core.users u))

@@ -1,13 +1,16 @@
 -- Only for the contracts inside the crate: what they see of the enums and structs of the code, and of a stage that may stop.
-use Rattle.std.specs.Prelude.{◌≡◌, ℕ, List, Result, MatchResult, ⊤}
+use Rattle.std.specs.Prelude.{ℕ, List, Result, MatchResult, ⊤}
 use Rattle.cvm_shell.specs.declared.status.Status.{Status}
 use Rattle.cvm_shell.specs.Command as command
 use Rattle.cvm_shell.specs.Refusal as refusal
 use Rattle.cvm_shell.specs.Plan.{Plan, refuses}
 use Rattle.cvm_shell.specs.declared.command.Boot.{Boot}
+use Rattle.cvm_shell.specs.declared.command.Trace.{Trace}
 use Rattle.cvm_shell.specs.declared.command.CompileUser.{CompileUser}
 use Rattle.cvm_shell.specs.declared.command.CompileKernel.{CompileKernel}
 use Rattle.cvm_shell.specs.declared.command.Link.{Link}
+use Rattle.cvm_shell.specs.declared.command.Migrate.{Migrate}
+use Rattle.cvm_shell.specs.declared.command.Sample.{Sample}
 use Rattle.cvm_shell.specs.declared.command.Command.{Command}
 use Rattle.cvm_shell.specs.declared.command.Command.TheVariants as command_code
 use Rattle.cvm_shell.specs.declared.refusal.Refusal.{Refusal}
@@ -18,6 +21,10 @@ use Rattle.cvm_shell.specs.declared.boot.Stop.TheVariants.{Refused, Shelf, Memor
 -- a boot, with its names as lists of bytes
 abbrev pub boot_view : Boot → command.Boot
 boot_view b = record { image = b.image.now; schedule = b.schedule.now; turns = b.turns; steps = b.steps }
+
+-- a trace, with its names as lists of bytes
+abbrev pub trace_view : Trace → command.Trace
+trace_view t = record { boot = boot_view t.boot; user = t.user }
 
 -- a compilation of a user, with its names as lists of bytes
 abbrev pub user_view : CompileUser → command.CompileUser
@@ -31,12 +38,23 @@ kernel_view c = record { source = c.source.now; object = c.object.now }
 abbrev pub link_view : Link → command.Link
 link_view l = record { object = l.object.now; params = l.params.now; image = l.image.now; users = command.texts l.users.now }
 
+-- a migration, with its names as lists of bytes
+abbrev pub migrate_view : Migrate → command.Migrate
+migrate_view m = record { old = m.old.now; image = m.image.now }
+
+-- a sample
+abbrev pub sample_view : Sample → command.Sample
+sample_view x = record { number = x.number }
+
 -- a command
 abbrev pub command_view : Command → command.Command
 command_view (command_code.Boot b) = command.boot (boot_view b)
+command_view (command_code.Trace t) = command.trace (trace_view t)
 command_view (command_code.CompileUser c) = command.compile_user (user_view c)
 command_view (command_code.CompileKernel c) = command.compile_kernel (kernel_view c)
 command_view (command_code.Link l) = command.link (link_view l)
+command_view (command_code.Migrate m) = command.migrate (migrate_view m)
+command_view (command_code.Sample x) = command.sample (sample_view x)
 
 -- a refusal
 abbrev pub refusal_view : Refusal → refusal.Refusal

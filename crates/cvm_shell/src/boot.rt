@@ -1,11 +1,10 @@
-// A boot: what its files come to, and the run of the system that is accepted.
+// A boot or a trace: what its files come to, and the run of the system that is accepted.
 ghost use Rattle.std.specs.Prelude.{◌≡◌, ◌≢◌, ◌↔◌, ◌≤◌, ⊤, ℕ, List, IfOk, IfErr, IsErrOf};
 ghost use Rattle.cvm_outside.specs.Causes.{Rose};
 ghost use Rattle.cvm_outside.specs.Told.{TOO_LONG};
 ghost use Rattle.layer_runs.specs.Image.{layer_image};
 ghost use Rattle.boot_run.specs.Whole.{ending_of_end};
 ghost use Rattle.cvm_shell.specs.Boot.{ended_as};
-ghost use Rattle.cvm_shell.specs.Command as Command;
 ghost use Rattle.cvm_shell.specs.Outside.{within};
 ghost use Rattle.cvm_shell.specs.Plan.{AfterFiles, IsPlan};
 ghost use Rattle.cvm_shell.specs.Stages.{stop_of, accept_stop, schedule_stop, PlanCounts, ready_for, IsBootPlan, Follows, RunsAs};
@@ -81,9 +80,20 @@ pub struct Ready {
     pub schedule: Schedule,
 }
 
-/// Gets the files of a boot, the image first; accepts the image, and reads the schedule: what is to be run.
+/// What is run of an accepted system, under its schedule.
+#[derive(Clone, Copy, Debug, PartialEq, Eq)]
+pub struct Session {
+    /// What is printed: the rows and the report of a boot, or the trace of one user.
+    pub view: View,
+    /// How many turns are wanted, at least 1.
+    pub turns: u32,
+    /// The most steps of the machine.
+    pub steps: u64,
+}
+
+/// Gets the files of a boot, the image first; accepts the image, and reads the schedule: what is to be run, by whatever session.
 pub fn plan<S: Shelf>(alloc: Global, boot: &Boot, shelf: &mut S) -> Result<Ready, Stop>
-    ensures comes { IfPlan (ready_for (boot_view boot.now)) (IsBootPlan layer_image (S.file shelf.old) (boot_view boot.now)) result }
+    ensures comes { (session : Session) → IfPlan (ready_for session) (IsBootPlan layer_image (S.file shelf.old) (boot_view boot.now) session) result }
     ensures follows { IfOk result Follows }
     ensures long { IsErrOf result (Stop.Refused Refusal.TooLong) ↔ (S.taken shelf.new ≡ TOO_LONG) }
     ensures count { PlanCounts (S.faults shelf.old) (S.faults shelf.new) result }
@@ -94,9 +104,9 @@ pub fn plan<S: Shelf>(alloc: Global, boot: &Boot, shelf: &mut S) -> Result<Ready
     ready_of(alloc, &image, &schedule)
 }
 
-// What the bytes of an image and of a schedule come to.
-fn ready_of(alloc: Global, image: &[u8], schedule: &[u8]) -> Result<Ready, Stop>
-    ensures comes { (b : Command.Boot) → IfPlan (ready_for b) (IsPlan ⊤ (AfterFiles layer_image b image.now schedule.now)) result }
+/// What the bytes of an image and of a schedule come to: what is to be run, by whatever session.
+pub fn ready_of(alloc: Global, image: &[u8], schedule: &[u8]) -> Result<Ready, Stop>
+    ensures comes { (session : Session) → IfPlan (ready_for session) (IsPlan ⊤ (AfterFiles layer_image session image.now schedule.now)) result }
     ensures follows { IfOk result Follows }
     ensures inside { IfErr result (λ s. s ≢ Stop.Shelf) }
     ensures short { IsErrOf result (Stop.Refused Refusal.TooLong) → ⊥ }
@@ -111,22 +121,22 @@ fn ready_of(alloc: Global, image: &[u8], schedule: &[u8]) -> Result<Ready, Stop>
     })
 }
 
-/// Runs a system until so many turns are complete or it has ended, for at most so many steps of its machine, and prints its run.
+/// Runs a system until the wanted turns are complete or it has ended, for at most so many steps of its machine, and prints of its run
+/// what is viewed. The user of a trace that is none is refused.
 pub fn run_system<O: Sink, D: Sectors>(
     alloc: Global,
     ready: Ready,
-    turns: u32,
-    steps: u64,
+    session: Session,
     out: &mut O,
     disk: &mut D,
 ) -> Status
     requires follows { Follows ready }
-    requires some { 1 ≤ turns }
-    ensures ends { RunsAs ready turns steps (within O.Sink D.Sectors) result (out.old, disk.old) (out.new, disk.new) }
+    requires some { 1 ≤ session.turns }
+    ensures ends { RunsAs ready session (within O.Sink D.Sectors) result (out.old, disk.old) (out.new, disk.new) }
     ensures rose { result ≡ Status.Sink → Rose (O.faults out.old) (O.faults out.new) }
     ensures same { result ≢ Status.Sink → O.faults out.new ≡ O.faults out.old }
     ensures disk_same { result ≢ Status.Disk → D.faults disk.new ≡ D.faults disk.old }
-    ensures never { (result ≢ Status.Words) × (result ≢ Status.Refused) × (result ≢ Status.Shelf) }
+    ensures never { (result ≢ Status.Words) × (result ≢ Status.Shelf) }
 {
     let Ready {
         boot,
@@ -138,9 +148,9 @@ pub fn run_system<O: Sink, D: Sectors>(
         layer,
         boot,
         schedule,
-        View::Boot,
-        turns,
-        steps,
+        session.view,
+        session.turns,
+        session.steps,
         disk,
         out,
     ) {

@@ -1,12 +1,15 @@
 // The words of a command.
 ghost use Rattle.std.specs.Prelude.{◌≡◌, ◌<◌, ◌≤◌, ◌^◌, ℕ, IfSome, IfNone, MatchOption, decimal, Some, option_map};
 ghost use Rattle.cvm_shell.specs.Command as command;
-ghost use Rattle.cvm_shell.specs.Views.{boot_view, user_view, kernel_view, link_view, command_view};
+ghost use Rattle.cvm_shell.specs.Views.{boot_view, trace_view, user_view, kernel_view, link_view, migrate_view, sample_view, command_view};
 
 use cvm_text::{read_decimal, spelled_numbers_are_read};
 
-/// The most turns that a command names.
+/// The most turns that a command names, and the last sample.
 const MOST_TURNS: u64 = 4_294_967_295;
+
+/// The most users that an image has.
+const MOST_USERS: u64 = 64;
 
 /// The command `boot IMAGE SCHEDULE TURNS STEPS`.
 #[derive(Clone, Copy, Drop)]
@@ -19,6 +22,15 @@ pub struct Boot<'a> {
     pub turns: u32,
     /// The most steps of the machine.
     pub steps: u64,
+}
+
+/// The command `trace IMAGE SCHEDULE TURNS STEPS USER`.
+#[derive(Clone, Copy, Drop)]
+pub struct Trace<'a> {
+    /// What is booted, and how long it runs.
+    pub boot: Boot<'a>,
+    /// The user that is traced, 1 to 64.
+    pub user: u32,
 }
 
 /// The command `compile user ASM IMG`.
@@ -52,17 +64,39 @@ pub struct Link<'a> {
     pub users: &'a [String],
 }
 
+/// The command `migrate IMAGE OUT`.
+#[derive(Clone, Copy, Drop)]
+pub struct Migrate<'a> {
+    /// The name of the file of the image of form 2.
+    pub old: &'a str,
+    /// The name of the new image's file.
+    pub image: &'a str,
+}
+
+/// The command `sample N`.
+#[derive(Clone, Copy, Drop)]
+pub struct Sample {
+    /// The number of the sample.
+    pub number: u32,
+}
+
 /// A command.
 #[derive(Clone, Copy, Drop)]
 pub enum Command<'a> {
     /// Boots an image under a schedule.
     Boot(Boot<'a>),
+    /// Boots an image under a schedule, and prints of it what concerns one user.
+    Trace(Trace<'a>),
     /// Assembles the text of a user, and puts its image.
     CompileUser(CompileUser<'a>),
     /// Compiles the source of a kernel, and puts its object.
     CompileKernel(CompileKernel<'a>),
     /// Links an object, parameters and users, and puts their image.
     Link(Link<'a>),
+    /// Makes an image of form 2 anew, and puts the image of form 3.
+    Migrate(Migrate<'a>),
+    /// Makes, links and boots a sample.
+    Sample(Sample),
 }
 
 /// Reads the words of a command, None where they have no form of one.
@@ -74,14 +108,23 @@ pub fn read_command(words: &Vec<String>) -> Option<Command<'_>>
     if let Some(boot) = read_boot(words) {
         return Some(Command::Boot(boot));
     }
+    if let Some(trace) = read_trace(words) {
+        return Some(Command::Trace(trace));
+    }
     if let Some(user) = read_compile_user(words) {
         return Some(Command::CompileUser(user));
     }
     if let Some(kernel) = read_compile_kernel(words) {
         return Some(Command::CompileKernel(kernel));
     }
-    let link = read_link(words)?;
-    Some(Command::Link(link))
+    if let Some(link) = read_link(words) {
+        return Some(Command::Link(link));
+    }
+    if let Some(migrate) = read_migrate(words) {
+        return Some(Command::Migrate(migrate));
+    }
+    let sample = read_sample(words)?;
+    Some(Command::Sample(sample))
 }
 
 /// Reads the words of a boot, None where they have no form of one.
@@ -103,6 +146,32 @@ pub fn read_boot(words: &Vec<String>) -> Option<Boot<'_>>
         schedule: schedule.as_str(),
         turns,
         steps,
+    })
+}
+
+/// Reads the words of a trace, None where they have no form of one.
+pub fn read_trace(words: &Vec<String>) -> Option<Trace<'_>>
+    ensures found { IfSome result (λ t. command.IsTrace (command.texts words.now.items) (trace_view t)) }
+    ensures only { (t : command.Trace) → command.IsTrace (command.texts words.now.items) t → option_map trace_view result ≡ Some t }
+    ensures none { IfNone result ((t : command.Trace) → command.IsTrace (command.texts words.now.items) t → ⊥) }
+{
+    let [word, image, schedule, turns, steps, user] = words.as_slice() else {
+        return None;
+    };
+    if word.as_str() != "trace" {
+        return None;
+    }
+    let turns = read_turns(turns.as_str())?;
+    let steps = read_number(steps.as_str())?;
+    let user = read_user(user.as_str())?;
+    Some(Trace {
+        boot: Boot {
+            image: image.as_str(),
+            schedule: schedule.as_str(),
+            turns,
+            steps,
+        },
+        user,
     })
 }
 
@@ -168,6 +237,51 @@ pub fn read_link(words: &Vec<String>) -> Option<Link<'_>>
     })
 }
 
+/// Reads the words of a migration, None where they aren't those of one.
+pub fn read_migrate(words: &Vec<String>) -> Option<Migrate<'_>>
+    ensures found { IfSome result (λ m. command.IsMigrate (command.texts words.now.items) (migrate_view m)) }
+    ensures only { (m : command.Migrate) → command.IsMigrate (command.texts words.now.items) m → option_map migrate_view result ≡ Some m }
+    ensures none { IfNone result ((m : command.Migrate) → command.IsMigrate (command.texts words.now.items) m → ⊥) }
+{
+    let [word, old, image] = words.as_slice() else {
+        return None;
+    };
+    if word.as_str() != "migrate" {
+        return None;
+    }
+    Some(Migrate {
+        old: old.as_str(),
+        image: image.as_str(),
+    })
+}
+
+/// Reads the words of a sample, None where they aren't those of one.
+pub fn read_sample(words: &Vec<String>) -> Option<Sample>
+    ensures found { IfSome result (λ x. command.IsSample (command.texts words.now.items) (sample_view x)) }
+    ensures only { (x : command.Sample) → command.IsSample (command.texts words.now.items) x → option_map sample_view result ≡ Some x }
+    ensures none { IfNone result ((x : command.Sample) → command.IsSample (command.texts words.now.items) x → ⊥) }
+{
+    let [word, number] = words.as_slice() else {
+        return None;
+    };
+    if word.as_str() != "sample" {
+        return None;
+    }
+    let number = read_sample_number(number.as_str())?;
+    Some(Sample { number })
+}
+
+// The number of a sample, below 2^32, that a text is the decimal spelling of.
+fn read_sample_number(text: &str) -> Option<u32>
+    ensures { MatchOption result ((n : ℕ) → n < 2 ^ 32 → text.now ≡ decimal n → ⊥) (λ n. text.now ≡ decimal n) }
+{
+    let number = read_number(text)?;
+    if number > MOST_TURNS {
+        return None;
+    }
+    Some(number as u32)
+}
+
 // The number of turns, at least 1 and below 2^32, that a text is the decimal spelling of.
 fn read_turns(text: &str) -> Option<u32>
     ensures { MatchOption result ((n : ℕ) → 1 ≤ n → n < 2 ^ 32 → text.now ≡ decimal n → ⊥) (λ n. (text.now ≡ decimal n) × (1 ≤ n)) }
@@ -177,6 +291,20 @@ fn read_turns(text: &str) -> Option<u32>
         return None;
     }
     if number > MOST_TURNS {
+        return None;
+    }
+    Some(number as u32)
+}
+
+// The number of a user, 1 to 64, that a text is the decimal spelling of.
+fn read_user(text: &str) -> Option<u32>
+    ensures { MatchOption result ((n : ℕ) → 1 ≤ n → n ≤ 64 → text.now ≡ decimal n → ⊥) (λ n. (text.now ≡ decimal n) × (1 ≤ n) × (n ≤ 64)) }
+{
+    let number = read_number(text)?;
+    if number == 0 {
+        return None;
+    }
+    if number > MOST_USERS {
         return None;
     }
     Some(number as u32)

@@ -4,46 +4,59 @@
 ghost use Rattle.std.specs.Prelude.{◌≤◌};
 ghost use Rattle.cvm_shell.specs.Command as command;
 ghost use Rattle.cvm_shell.specs.Command.{texts};
-ghost use Rattle.cvm_shell.specs.Outcome.{Outcome, Causes, Headlines, Completes};
-ghost use Rattle.cvm_shell.specs.Outside.{Drive, seen, beside};
-ghost use Rattle.cvm_shell.specs.Stages.{EndsAs, BootEndsAs};
-ghost use Rattle.cvm_shell.specs.Views.{boot_view, user_view, kernel_view, link_view};
+ghost use Rattle.cvm_shell.specs.Outcome.{Outcome, Causes, Headlines, Completes, Isolates};
+ghost use Rattle.cvm_shell.specs.Outside.{Drive, Files, seen, beside, within};
+ghost use Rattle.cvm_shell.specs.Stages.{EndsAs, BootEndsAs, SampleEndsAs, JournalsReplay};
+ghost use Rattle.cvm_shell.specs.Views.{boot_view, user_view, kernel_view, link_view, migrate_view};
 
 pub mod accepted;
 pub mod assembly;
 pub mod boot;
 pub mod command;
 pub mod linking;
+pub mod migration;
 pub mod object;
 pub mod refusal;
+pub mod sampling;
 pub mod saying;
 pub mod status;
 
 pub use assembly::{user_image, words_have_four_bytes};
-pub use boot::{Ready, Stop, plan, run_system};
+pub use boot::{Ready, Session, Stop, plan, run_system};
+use boot_run::View;
 pub use command::{
-    Boot, Command, CompileKernel, CompileUser, Link, read_boot, read_command, read_compile_kernel,
-    read_compile_user, read_link,
+    Boot, Command, CompileKernel, CompileUser, Link, Migrate, Sample, Trace, read_boot,
+    read_command, read_compile_kernel, read_compile_user, read_link, read_migrate, read_sample,
+    read_trace,
 };
+use cvm_model::{units_are_kernels, units_dont_matter, units_replay, users_are_isolated};
 use cvm_outside::{Sectors, Shelf, Sink};
 use layer_runs::RealLayer;
 pub use linking::system_image;
+pub use migration::migrated_image;
 use mips_table::runs::turns_are_counted;
 pub use object::kernel_object;
 pub use refusal::Refusal;
+pub use sampling::sampled;
 use saying::{refuse, say};
 pub use status::Status;
 use std::alloc::Global;
 
 /// Runs the command of these words over a shelf of files, a sink of text and a disk.
 ///
-/// The commands are `boot IMAGE SCHEDULE TURNS STEPS`, `compile user ASM IMG`, `compile kernel SRC OBJ` and
-/// `link OBJ PARAMS OUT USER..`. The status says how
-/// it ended; `Words`, `Refused`, `Shelf` where a file is too long, and `Disk` where the disk is too
-/// small, print a row of their own, and a
-/// sink that fails is `Sink`, also in place of another status whose text it was to take. No file
-/// changes but the one that a `compile user`, a `compile kernel` or a `link` names to be put, and no
-/// sector but those of the users' pages of a `boot`.
+/// The commands are `boot IMAGE SCHEDULE TURNS STEPS`, `trace IMAGE SCHEDULE TURNS STEPS USER`, `compile user ASM IMG`,
+/// `compile kernel SRC OBJ`, `link OBJ PARAMS OUT USER..`, `migrate IMAGE OUT` and `sample N`. A trace runs the machine as its boot does,
+/// and prints in place of the boot's rows and report the start row, the journal, the end and the registers and memory of one user, of
+/// those of the image, counted from 1. A migration puts the image of form 3 of an image of form 2. A sample is the boot of the system
+/// that is made from its number, for 100,000 turns and at most 4,000,000,000 steps.
+///
+/// The status says how it ended; `Words`, `Refused`, `Shelf` where a file is too long, and `Disk` where the disk is too small, print a
+/// row of their own, and a sink that fails is `Sink`, also in place of another status whose text it was to take. No file changes but the
+/// one that a `compile user`, a `compile kernel`, a `link` or a `migrate` names to be put, and no sector but those of the users' pages of
+/// a `boot`, a `trace` or a `sample`.
+///
+/// What a `trace` that is done prints of its user depends on nothing but the user's own words, its journal and whether the run halted:
+/// the machine that it shows is the replay of that journal.
 pub fn run<S: Shelf, O: Sink, D: Sectors>(
     alloc: Global,
     words: &Vec<String>,
@@ -55,9 +68,21 @@ pub fn run<S: Shelf, O: Sink, D: Sectors>(
     ensures causes { Causes (seen S.Shelf O.Sink D.Sectors) result (shelf.old, out.old, disk.old) (shelf.new, out.new, disk.new) }
     ensures headline { Headlines (seen S.Shelf O.Sink D.Sectors) (texts words.now.items) result (shelf.old, out.old, disk.old) (shelf.new, out.new, disk.new) }
     ensures complete { Completes (seen S.Shelf O.Sink D.Sectors) (texts words.now.items) result (shelf.old, out.old, disk.old) (shelf.new, out.new, disk.new) }
+    ensures isolated { Isolates (seen S.Shelf O.Sink D.Sectors) (texts words.now.items) result (shelf.old, out.old, disk.old) (shelf.new, out.new, disk.new) }
 {
     turns_are_counted();
+    journals_replay();
     run_command(alloc, words, shelf, out, disk)
+}
+
+// A law: the replay of a user's journal gives its machine, whatever else is in the system.
+fn journals_replay()
+    ensures { JournalsReplay }
+{
+    units_are_kernels();
+    units_dont_matter();
+    units_replay();
+    users_are_isolated();
 }
 
 // Runs the command of these words.
@@ -73,27 +98,39 @@ fn run_command<S: Shelf, O: Sink, D: Sectors>(
 {
     match read_command(words) {
         None => say(out, b"bad words\n", Status::Words),
-        Some(Command::Boot(boot)) => run_boot(alloc, &boot, shelf, out, disk),
+        Some(Command::Boot(boot)) => run_boot(alloc, &boot, View::Boot, shelf, out, disk),
+        Some(Command::Trace(trace)) => {
+            let view = View::Trace(trace.user);
+            run_boot(alloc, &trace.boot, view, shelf, out, disk)
+        }
         Some(Command::CompileUser(names)) => compile_user(alloc, &names, shelf, out),
         Some(Command::CompileKernel(names)) => compile_kernel(alloc, &names, shelf, out),
         Some(Command::Link(names)) => link_system(alloc, &names, shelf, out),
+        Some(Command::Migrate(names)) => migrate_image(alloc, &names, shelf, out),
+        Some(Command::Sample(sample)) => run_sample(alloc, sample.number, out, disk),
     }
 }
 
-// Boots an image under a schedule.
+// Boots an image under a schedule, and prints what is viewed.
 fn run_boot<S: Shelf, O: Sink, D: Sectors>(
     alloc: Global,
     boot: &Boot,
+    view: View,
     shelf: &mut S,
     out: &mut O,
     disk: &mut D,
 ) -> Status
     requires { 1 ≤ (boot_view boot.now).turns }
-    ensures ends { BootEndsAs (boot_view boot.now) (seen S.Shelf O.Sink D.Sectors) result (shelf.old, out.old, disk.old) (shelf.new, out.new, disk.new) }
+    ensures ends { BootEndsAs (command.command_of (boot_view boot.now) view) (seen S.Shelf O.Sink D.Sectors) result (shelf.old, out.old, disk.old) (shelf.new, out.new, disk.new) }
     ensures causes { Causes (seen S.Shelf O.Sink D.Sectors) result (shelf.old, out.old, disk.old) (shelf.new, out.new, disk.new) }
 {
+    let session = Session {
+        view,
+        turns: boot.turns,
+        steps: boot.steps,
+    };
     match plan(alloc, boot, shelf) {
-        Ok(ready) => run_system(alloc, ready, boot.turns, boot.steps, out, disk),
+        Ok(ready) => run_system(alloc, ready, session, out, disk),
         Err(Stop::Refused(refusal)) => refuse(&refusal, out),
         Err(Stop::Shelf) => Status::Shelf,
         Err(Stop::Memory) => Status::Memory,
@@ -158,5 +195,45 @@ fn link_system<S: Shelf, O: Sink>(alloc: Global, names: &Link, shelf: &mut S, ou
     match shelf.put(names.image, &linked) {
         Ok(()) => Status::Done,
         Err(_) => Status::Shelf,
+    }
+}
+
+// Puts the image that is made anew of one of form 2, which is got and read.
+fn migrate_image<S: Shelf, O: Sink>(
+    alloc: Global,
+    names: &Migrate,
+    shelf: &mut S,
+    out: &mut O,
+) -> Status
+    ensures ends { EndsAs (command.migrate (migrate_view names.now)) (beside S.Shelf O.Sink) result (shelf.old, out.old) (shelf.new, out.new) }
+    ensures causes { (disk : Drive) → Causes (beside S.Shelf O.Sink disk) result (shelf.old, out.old) (shelf.new, out.new) }
+{
+    let made = match migrated_image::<RealLayer, S>(alloc, names, shelf) {
+        Ok(made) => made,
+        Err(Stop::Refused(refusal)) => return refuse(&refusal, out),
+        Err(Stop::Shelf) => return Status::Shelf,
+        Err(Stop::Memory) => return Status::Memory,
+    };
+    match shelf.put(names.image, &made) {
+        Ok(()) => Status::Done,
+        Err(_) => Status::Shelf,
+    }
+}
+
+// Makes, links and boots the sample of a number.
+fn run_sample<O: Sink, D: Sectors>(alloc: Global, number: u32, out: &mut O, disk: &mut D) -> Status
+    ensures ends { SampleEndsAs number (within O.Sink D.Sectors) result (out.old, disk.old) (out.new, disk.new) }
+    ensures causes { (shelf : Files) → Causes (within O.Sink D.Sectors shelf) result (out.old, disk.old) (out.new, disk.new) }
+{
+    let session = Session {
+        view: View::Boot,
+        turns: 100_000,
+        steps: 4_000_000_000,
+    };
+    match sampled(alloc, number) {
+        Ok(ready) => run_system(alloc, ready, session, out, disk),
+        Err(Stop::Refused(refusal)) => refuse(&refusal, out),
+        Err(Stop::Shelf) => Status::Shelf,
+        Err(Stop::Memory) => Status::Memory,
     }
 }

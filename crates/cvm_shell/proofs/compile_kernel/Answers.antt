@@ -22,12 +22,12 @@ returns-in-Err-Refused-clause-ends g c = λ words disk is.
 
 pub returns-in-Err-Shelf-clause-ends : goal.returns-in-Err-Shelf-clause-ends
 returns-in-Err-Shelf-clause-ends g c = λ words disk is.
-    undone_end words (compile_kernel (kernel_view c.args.names.now)) _ _ _ is (inr refl) (shelf_long _ _ c.in-Err-Shelf.field-0-is (stopped_long _ _ c.in-Err-Shelf.ensures.long))
+    undone_end words (compile_kernel (kernel_view c.args.names.now)) _ _ _ is tt (inr refl) (shelf_long _ _ c.in-Err-Shelf.field-0-is (stopped_long _ _ c.in-Err-Shelf.ensures.long))
     (record { files = c.in-Err-Shelf.ensures.files; disk = record { sectors = refl; size = refl } }) refl
 
 pub returns-in-Err-Memory-clause-ends : goal.returns-in-Err-Memory-clause-ends
 returns-in-Err-Memory-clause-ends g c = λ words disk is.
-    undone_end words (compile_kernel (kernel_view c.args.names.now)) _ _ _ is (inl refl) (memory_long _ _ c.in-Err-Memory.field-0-is (stopped_long _ _ c.in-Err-Memory.ensures.long))
+    undone_end words (compile_kernel (kernel_view c.args.names.now)) _ _ _ is tt (inl refl) (memory_long _ _ c.in-Err-Memory.field-0-is (stopped_long _ _ c.in-Err-Memory.ensures.long))
     (record { files = c.in-Err-Memory.ensures.files; disk = record { sectors = refl; size = refl } }) refl
 
 pub returns-in-Ok-put-clause-ends : goal.returns-in-Ok-put-clause-ends

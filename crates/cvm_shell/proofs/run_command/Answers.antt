@@ -1,7 +1,7 @@
 use Rattle.std.proofs.Common.{refl, subst}
 use Rattle.cvm_shell.specs.declared.command.Command.{Command}
 use Rattle.cvm_shell.specs.Command.{IsCommand, texts}
-use Rattle.cvm_shell.specs.Outside.{drive}
+use Rattle.cvm_shell.specs.Outside.{drive, files}
 use Rattle.cvm_shell.specs.Views.{command_view}
 use Rattle.cvm_shell.proofs.Endings.{bad_words_end}
 use Rattle.cvm_shell.proofs.run_command.Goals as goal
@@ -13,6 +13,11 @@ pub returns-in-Some-Boot-clause-ends : goal.returns-in-Some-Boot-clause-ends
 returns-in-Some-Boot-clause-ends g c =
     let P : Command → Type 0 = λ x. IsCommand (texts c.args.words.now.items) (command_view x) in
     c.run_boot.ensures.ends _ (subst P c.in-Some-Boot.field-0-is c.in-Some-Boot.ensures.found)
+
+pub returns-in-Some-Trace-clause-ends : goal.returns-in-Some-Trace-clause-ends
+returns-in-Some-Trace-clause-ends g c =
+    let P : Command → Type 0 = λ x. IsCommand (texts c.args.words.now.items) (command_view x) in
+    c.run_boot-in-Some-Trace.ensures.ends _ (subst P c.in-Some-Trace.field-0-is c.in-Some-Trace.ensures.found)
 
 pub returns-in-Some-CompileUser-clause-ends : goal.returns-in-Some-CompileUser-clause-ends
 returns-in-Some-CompileUser-clause-ends g c =
@@ -28,3 +33,13 @@ pub returns-in-Some-Link-clause-ends : goal.returns-in-Some-Link-clause-ends
 returns-in-Some-Link-clause-ends g c =
     let P : Command → Type 0 = λ x. IsCommand (texts c.args.words.now.items) (command_view x) in
     c.link_system.ensures.ends _ (drive g.D.Sectors c.args.disk.now) (subst P c.in-Some-Link.field-0-is c.in-Some-Link.ensures.found)
+
+pub returns-in-Some-Migrate-clause-ends : goal.returns-in-Some-Migrate-clause-ends
+returns-in-Some-Migrate-clause-ends g c =
+    let P : Command → Type 0 = λ x. IsCommand (texts c.args.words.now.items) (command_view x) in
+    c.migrate_image.ensures.ends _ (drive g.D.Sectors c.args.disk.now) (subst P c.in-Some-Migrate.field-0-is c.in-Some-Migrate.ensures.found)
+
+pub returns-in-Some-Sample-clause-ends : goal.returns-in-Some-Sample-clause-ends
+returns-in-Some-Sample-clause-ends g c =
+    let P : Command → Type 0 = λ x. IsCommand (texts c.args.words.now.items) (command_view x) in
+    c.run_sample.ensures.ends _ (files g.S.Shelf c.args.shelf.now) (subst P c.in-Some-Sample.field-0-is c.in-Some-Sample.ensures.found)

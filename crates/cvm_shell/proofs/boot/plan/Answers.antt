@@ -13,29 +13,29 @@ use Rattle.cvm_shell.proofs.BootPlans.{image_got, boot_got}
 use Rattle.cvm_shell.proofs.boot.plan.Goals as goal
 
 pub returns-in_err-image-clause-comes : goal.returns-in_err-image-clause-comes
-returns-in_err-image-clause-comes g c =
+returns-in_err-image-clause-comes g c = λ session.
     let p = err_from_is_err_and c.from_residual.result c.from_residual.ensures.1 in
     rw (p.1, p.2) (got_fault _ _ _ _ c.in_err-image.field-0.0 (λ told. told.0)
     (λ e. c.in_err-image.ensures.long.0 (ap (λ (x : ShelfFault). Err x) e))
     (λ e. c.in_err-image.ensures.told_long (ap (λ (x : ShelfFault). Err x) e)))
 
 pub returns-in_err-schedule-clause-comes : goal.returns-in_err-schedule-clause-comes
-returns-in_err-schedule-clause-comes g c =
+returns-in_err-schedule-clause-comes g c = λ session.
     let p = err_from_is_err_and c.from_residual-in_err-schedule.result c.from_residual-in_err-schedule.ensures.1 in
     let short : length c.in_ok-image.image.items < TOO_LONG = search rules in
-    rw (p.1, p.2) (image_got layer_image (g.S.Shelf.file c.args.shelf.now) (boot_view c.args.boot.now) c.in_ok-image.image.items _ c.in_ok-image.ensures.bytes short
-    (got_fault (g.S.Shelf.file c.args.shelf.now (boot_view c.args.boot.now).schedule) (AfterFiles layer_image (boot_view c.args.boot.now) c.in_ok-image.image.items) (IsSome (g.S.Shelf.file c.args.shelf.now (boot_view c.args.boot.now).schedule)) _ c.in_err-schedule.field-0.0 (λ told. told)
+    rw (p.1, p.2) (image_got layer_image (g.S.Shelf.file c.args.shelf.now) (boot_view c.args.boot.now) session c.in_ok-image.image.items _ c.in_ok-image.ensures.bytes short
+    (got_fault (g.S.Shelf.file c.args.shelf.now (boot_view c.args.boot.now).schedule) (AfterFiles layer_image session c.in_ok-image.image.items) (IsSome (g.S.Shelf.file c.args.shelf.now (boot_view c.args.boot.now).schedule)) _ c.in_err-schedule.field-0.0 (λ told. told)
     (λ e. c.in_err-schedule.ensures.long.0 (ap (λ (x : ShelfFault). Err x) e))
     (λ e. let P : Option (List ℕ) → Type 0 = λ o. IfSome o (λ bs. g.S.Shelf.taken c.get-2.new.self ≡ min (length bs) TOO_LONG) in
     subst P (c.in_ok-image.ensures.files c.args.boot.now.schedule.now) (c.in_err-schedule.ensures.told_long (ap (λ (x : ShelfFault). Err x) e)))))
 
 pub returns-clause-comes : goal.returns-clause-comes
-returns-clause-comes g c =
+returns-clause-comes g c = λ session.
     let b = boot_view c.args.boot.now in
     let short : length c.in_ok-image.image.items < TOO_LONG = search rules in
     let few : length c.in_ok-schedule.schedule.items < TOO_LONG = search rules in
     let tells : Tells (g.S.Shelf.file c.args.shelf.now b.schedule) c.in_ok-schedule.schedule.items =
     let P : Option (List ℕ) → Type 0 = λ o. Tells o c.in_ok-schedule.schedule.items in
     subst P (c.in_ok-image.ensures.files c.args.boot.now.schedule.now) c.in_ok-schedule.ensures.bytes in
-    boot_got layer_image (ready_for b) (g.S.Shelf.file c.args.shelf.now) b c.in_ok-image.image.items c.in_ok-schedule.schedule.items c.ready_of.result c.in_ok-image.ensures.bytes short tells few
-    (rw (c.deref.ensures.value, c.deref-2.ensures.value) at (c.ready_of.ensures.comes b))
+    boot_got layer_image (ready_for session) (g.S.Shelf.file c.args.shelf.now) b session c.in_ok-image.image.items c.in_ok-schedule.schedule.items c.ready_of.result c.in_ok-image.ensures.bytes short tells few
+    (rw (c.deref.ensures.value, c.deref-2.ensures.value) at (c.ready_of.ensures.comes session))

@@ -1,0 +1,69 @@
+-- What an image of form 2 comes to: it is made anew and put, or its first fault is refused, and nothing else. What is put is accepted.
+use Rattle.std.proofs.Common.{◌≡◌, inl, inr, ℕ, ◌<◌, List, length, refl, sym, ap, ◌∙◌, subst, Ok, Err}
+use Rattle.std.specs.Prelude.{Option, Result, ⊤}
+use Rattle.std.specs.Option.{IsSome}
+use Rattle.cvm_outside.specs.Told.{TOO_LONG, Tells}
+use Rattle.layer_map.specs.Map.{Map}
+use Rattle.c0_types.specs.Front.{IsAnswer}
+use Rattle.boot_image.specs.Parts.{Parts as Image}
+use Rattle.boot_image.specs.Format.{spelling as image_bytes}
+use Rattle.boot_image.specs.Reading.{answer as image_of, old_answer as old_image_of}
+use Rattle.boot_image.specs.declared.fault.ImageFault.{ImageFault}
+use Rattle.kernel_linker.specs.Accept.{System}
+use Rattle.kernel_linker.specs.Migrate.{migrate_answer, Migrates, MigratedAreAccepted}
+use Rattle.kernel_linker.specs.declared.fault.AcceptFault.{AcceptFault}
+use Rattle.cvm_shell.specs.declared.boot.Stop.{Stop}
+use Rattle.cvm_shell.specs.Command.{Migrate}
+use Rattle.cvm_shell.specs.Plan.{Plan, puts, Accepts, Renews, renewed_plan, AfterOld, IsPlan}
+use Rattle.cvm_shell.specs.Stages.{accept_stop, IsMigratePlan}
+use Rattle.cvm_shell.specs.Views.{IfRefused, IfPlan}
+use Rattle.cvm_shell.proofs.Plans.{got_whole, if_plan}
+use Rattle.cvm_shell.proofs.Answered.{OneAnswer, Faulty, only_answered, image_answered, image_refused, accept_stops}
+
+abbrev Layers : Type 0
+Layers = Map → List ℕ → List ℕ
+
+-- a source that has no unit is answered by its fault
+no_unit : (layer : Layers) → Faulty (migrate_answer layer)
+unfolding migrate_answer
+no_unit layer i f = refl
+
+-- the bytes come to one plan
+plan_renewed : OneAnswer → (layer : Layers) (name old : List ℕ) (a : Result Image AcceptFault) → Renews layer (old_image_of old) a → IsPlan ⊤ (AfterOld layer name old) (renewed_plan name a)
+plan_renewed one layer name old a is = record {
+  comes = (a, is, refl);
+  only = λ told q other. other.2 ∙ ap (renewed_plan name) (only_answered one (migrate_answer layer) (old_image_of old) other.0 a other.1 is);
+}
+
+-- THE FAULT of an old image
+pub migrate_fault : OneAnswer → (layer : Layers) (name old : List ℕ) (r : Result Image AcceptFault) (f : AcceptFault) → r ≡ Err f
+    → Migrates layer (old_image_of old) r → IfRefused (IsPlan ⊤ (AfterOld layer name old)) (accept_stop f)
+migrate_fault one layer name old r f e answers = elim (accept_stops f) [
+  | inl m ↦ subst (λ (x : AcceptFault). IfRefused (IsPlan ⊤ (AfterOld layer name old)) (accept_stop x)) (sym m) tt
+  | inr h ↦ subst (IfRefused (IsPlan ⊤ (AfterOld layer name old))) (sym h.1)
+      (plan_renewed one layer name old (Err f) (image_refused (migrate_answer layer) (no_unit layer) (λ i. i) (old_image_of old) r f e h.0 answers))
+]
+
+-- THE NEW IMAGE
+pub migrated_whole : OneAnswer → (layer : Layers) (name old bytes : List ℕ) (i : Image) → Migrates layer (old_image_of old) (Ok i) → bytes ≡ image_bytes i → IsPlan ⊤ (AfterOld layer name old) (puts name bytes)
+migrated_whole one layer name old bytes i answers e =
+    subst (λ (bs : List ℕ). IsPlan ⊤ (AfterOld layer name old) (puts name bs)) (sym e)
+    (plan_renewed one layer name old (Ok i) (image_answered (migrate_answer layer) (no_unit layer) (λ x. x) (old_image_of old) i answers))
+
+-- it is accepted
+accepted_anew : MigratedAreAccepted → (layer : Layers) (old : Result Image ImageFault) (i : Image) → Renews layer old (Ok i) → (s : System) × Accepts layer (Ok i) (Ok s)
+accepted_anew law layer (Err f) i h = absurd cc
+accepted_anew law layer (Ok old) i (front, is, e) =
+    let anew = law layer old front i (sym e) in
+    (record { params = old.params; unit = anew.unit; words = _; users = old.users }, (front, subst (λ (source : List ℕ). IsAnswer source front) (sym anew.source) is, sym anew.accepted))
+
+pub migrated_accepted : MigratedAreAccepted → (layer : Layers) (old bytes : List ℕ) (i : Image) → Migrates layer (old_image_of old) (Ok i) → image_of bytes ≡ Ok i → (s : System) × Accepts layer (image_of bytes) (Ok s)
+migrated_accepted law layer old bytes i answers e =
+    let found = accepted_anew law layer (old_image_of old) i (image_answered (migrate_answer layer) (no_unit layer) (λ x. x) (old_image_of old) i answers) in
+    (found.0, subst (λ (image : Result Image ImageFault). Accepts layer image (Ok found.0)) (sym e) found.1)
+
+-- An image of form 2 was got.
+pub old_got : {A : Type 0} (made : A → Plan) (layer : Layers) (file : List ℕ → Option (List ℕ)) (m : Migrate) (old : List ℕ) (r : Result A Stop) → Tells (file m.old) old → length old < TOO_LONG
+    → IfPlan made (IsPlan ⊤ (AfterOld layer m.image old)) r → IfPlan made (IsMigratePlan layer file m) r
+old_got made layer file m old r t short h =
+    if_plan made _ (IsMigratePlan layer file m) (λ p is. got_whole (file m.old) (AfterOld layer m.image) (IsSome (file m.old)) ⊤ old p (λ told. told) (λ told. tt) t short is) r h

@@ -1,0 +1,62 @@
+-- The words of a command tell which it is, so they are those of one command.
+use Rattle.std.proofs.Common.{◌≡◌, ℕ, ◌<◌, ◌^◌, List, [], ◌∷◌, drop, get_or, sym, ap, ◌∙◌, arith}
+use Rattle.std.specs.Prelude.{decimal, slice_index, ◌==◌, if◌then◌else◌}
+use Rattle.std.specs.Str.Parse.{digits_value}
+use Rattle.std.proofs.lemmas.Fmt.{decimal_is_IsNumeral}
+use Rattle.cvm_shell.specs.Command.{Boot, Trace, Command, boot, trace, compile_user, compile_kernel, link, migrate, sample, IsCommand}
+
+-- what stands at a place
+abbrev at : List (List ℕ) → ℕ → List ℕ
+at words i = get_or words i []
+
+-- the number that a text spells
+abbrev number : List ℕ → ℕ
+number text = digits_value 10 text
+
+-- its first letter
+abbrev letter : List ℕ → ℕ
+letter text = slice_index text 0
+
+abbrev boot_of : List (List ℕ) → Boot
+boot_of words = record { image = at words 1; schedule = at words 2; turns = number (at words 3); steps = number (at words 4) }
+
+-- the command that words are, where they are one: the first letter tells which, or that of the second word
+abbrev meant : List (List ℕ) → Command
+meant words =
+    if letter (at words 0) == 98 then boot (boot_of words) else
+    if letter (at words 0) == 116 then trace (record { boot = boot_of words; user = number (at words 5) }) else
+    if letter (at words 0) == 108 then link (record { object = at words 1; params = at words 2; image = at words 3; users = drop 4 words }) else
+    if letter (at words 0) == 109 then migrate (record { old = at words 1; image = at words 2 }) else
+    if letter (at words 0) == 115 then sample (record { number = number (at words 1) }) else
+    if letter (at words 1) == 117 then compile_user (record { text = at words 2; image = at words 3 }) else
+    compile_kernel (record { source = at words 2; object = at words 3 })
+
+-- a number is read as it was spelled
+read_back : (n : ℕ) → n < 2 ^ 64 → number (decimal n) ≡ n
+read_back n small = (decimal_is_IsNumeral n small).1
+
+boot_back : (b : Boot) → b.turns < 2 ^ 32 → b.steps < 2 ^ 64 → boot_of ([] ∷ b.image ∷ b.schedule ∷ decimal b.turns ∷ decimal b.steps ∷ []) ≡ b
+boot_back b few less =
+    let with_numbers : ℕ → ℕ → Boot = λ turns steps. record { image = b.image; schedule = b.schedule; turns = turns; steps = steps } in
+    ap (λ turns. with_numbers turns (number (decimal b.steps))) (read_back b.turns (omega (arith, few))) ∙ ap (with_numbers b.turns) (read_back b.steps less)
+
+trace_back : (t : Trace) (b : Boot) (user : ℕ) → b ≡ t.boot → user ≡ t.user → trace (record { boot = b; user = user }) ≡ trace t
+trace_back t b user e f =
+    let trace_of : Boot → ℕ → Command = λ x u. trace (record { boot = x; user = u }) in
+    ap (λ x. trace_of x user) e ∙ ap (trace_of t.boot) f
+
+is_meant : (words : List (List ℕ)) (c : Command) → IsCommand words c → meant words ≡ c
+is_meant words (boot b) is = ap meant is.spelled ∙ ap (λ x. boot x) (boot_back b is.turns_fit is.steps_fit)
+is_meant words (trace t) is =
+    ap meant is.spelled ∙ trace_back t _ _ (boot_back t.boot is.turns_fit is.steps_fit) (read_back t.user (omega (arith, is.most_users)))
+is_meant words (compile_user c) is = ap meant is.spelled
+is_meant words (compile_kernel c) is = ap meant is.spelled
+is_meant words (link l) is = ap meant is.spelled
+is_meant words (migrate m) is = ap meant is.spelled
+is_meant words (sample x) is =
+    let numbered : ℕ → Command = λ n. sample (record { number = n }) in
+    ap meant is.spelled ∙ ap numbered (read_back x.number (omega (arith, is.fits)))
+
+-- THE WORDS of a command are those of one
+pub one_command : (words : List (List ℕ)) (c d : Command) → IsCommand words c → IsCommand words d → c ≡ d
+one_command words c d is other = sym (is_meant words c is) ∙ is_meant words d other

@@ -1,0 +1,9 @@
+use Rattle.std.proofs.Common.{◌≡◌, decimal, arith}
+use Rattle.cvm_shell.proofs.Spellings.{same_number}
+use Rattle.cvm_shell.proofs.command.read_sample_number.Goals as goal
+
+pub returns-then-number-gt-MOST_TURNS : goal.returns-then-number-gt-MOST_TURNS
+returns-then-number-gt-MOST_TURNS c = λ n small e.
+    let here : c.args.text.now ≡ decimal c.in_ok-number.number = c.in_ok-number.ensures in
+    let same : n ≡ c.in_ok-number.number = same_number c.args.text.now n c.in_ok-number.number (omega arith) (omega arith) e here in
+    absurd (omega arith)

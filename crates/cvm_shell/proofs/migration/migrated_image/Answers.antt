@@ -1,0 +1,22 @@
+use Rattle.std.proofs.Common.{ap, Err, length, ◌<◌, rules}
+use Rattle.cvm_outside.specs.Told.{TOO_LONG}
+use Rattle.cvm_shell.specs.Stages.{renewed}
+use Rattle.cvm_shell.specs.Views.{migrate_view}
+use Rattle.std.proofs.lemmas.Result.{err_from_is_err_and}
+use Rattle.cvm_outside.specs.declared.shelf.ShelfFault.{ShelfFault}
+use Rattle.cvm_shell.proofs.Plans.{got_fault}
+use Rattle.cvm_shell.proofs.MigratePlans.{old_got}
+use Rattle.cvm_shell.proofs.migration.migrated_image.Goals as goal
+
+pub returns-in_err-old-clause-comes : goal.returns-in_err-old-clause-comes
+returns-in_err-old-clause-comes g c =
+    let p = err_from_is_err_and c.from_residual.result c.from_residual.ensures.1 in
+    rw (p.1, p.2) (got_fault _ _ _ _ c.in_err-old.field-0.0 (λ told. told)
+    (λ e. c.in_err-old.ensures.long.0 (ap (λ (x : ShelfFault). Err x) e))
+    (λ e. c.in_err-old.ensures.told_long (ap (λ (x : ShelfFault). Err x) e)))
+
+pub returns-clause-comes : goal.returns-clause-comes
+returns-clause-comes g c =
+    let short : length c.in_ok-old.old.items < TOO_LONG = search rules in
+    old_got (renewed (migrate_view c.args.names.now)) g.M.LayerMaker.made (g.S.Shelf.file c.args.shelf.now) (migrate_view c.args.names.now) c.in_ok-old.old.items c.renewed_image.result c.in_ok-old.ensures.bytes short
+    (rw c.deref.ensures.value at (c.renewed_image.ensures.comes (migrate_view c.args.names.now)))

@@ -1,0 +1,53 @@
+// An image of form 2, read and made anew.
+ghost use Rattle.std.specs.Prelude.{◌≡◌, ◌≢◌, ◌↔◌, ⊤, ℕ, List, IfOk, IfErr, IsErrOf, Ok};
+ghost use Rattle.boot_image.specs.Reading.{answer};
+ghost use Rattle.cvm_outside.specs.Told.{TOO_LONG};
+ghost use Rattle.kernel_linker.specs.Accept.{System};
+ghost use Rattle.cvm_shell.specs.Command as Command;
+ghost use Rattle.cvm_shell.specs.Plan.{Accepts, AfterOld, IsPlan};
+ghost use Rattle.cvm_shell.specs.Stages.{PlanCounts, renewed, IsMigratePlan};
+ghost use Rattle.cvm_shell.specs.Views.{migrate_view, IfPlan};
+
+use crate::boot::Stop;
+use crate::command::Migrate;
+use crate::refusal::Refusal;
+use boot_image::write;
+use c0_types::laws::sources_have_one_answer;
+use cvm_outside::Shelf;
+use kernel_linker::laws::migrated_images_are_accepted;
+use kernel_linker::migrate;
+use layer_contract::LayerMaker;
+use std::alloc::Global;
+
+/// Gets an image of form 2 and makes it anew: the bytes of the image of form 3 of the same source, parameters and users.
+pub fn migrated_image<M: LayerMaker, S: Shelf>(
+    alloc: Global,
+    names: &Migrate,
+    shelf: &mut S,
+) -> Result<Vec<u8>, Stop>
+    ensures comes { IfPlan (renewed (migrate_view names.now)) (IsMigratePlan M.made (S.file shelf.old) (migrate_view names.now)) result }
+    // These bytes are those of an image that is accepted, over the same layer.
+    ensures accepted { IfOk result (λ v. (s : System) × Accepts M.made (answer v.items) (Ok s)) }
+    ensures long { IsErrOf result (Stop.Refused Refusal.TooLong) ↔ (S.taken shelf.new ≡ TOO_LONG) }
+    ensures count { PlanCounts (S.faults shelf.old) (S.faults shelf.new) result }
+    ensures files { (n : List ℕ) → S.file shelf.new n ≡ S.file shelf.old n }
+{
+    let old = shelf.get(alloc, names.old)?;
+    renewed_image::<M>(alloc, &old)
+}
+
+// The bytes of the image that is made of an old one.
+fn renewed_image<M: LayerMaker>(alloc: Global, old: &[u8]) -> Result<Vec<u8>, Stop>
+    ensures comes { (m : Command.Migrate) → IfPlan (renewed m) (IsPlan ⊤ (AfterOld M.made m.image old.now)) result }
+    ensures accepted { IfOk result (λ v. (s : System) × Accepts M.made (answer v.items) (Ok s)) }
+    ensures inside { IfErr result (λ s. s ≢ Stop.Shelf) }
+    ensures short { IsErrOf result (Stop.Refused Refusal.TooLong) → ⊥ }
+{
+    sources_have_one_answer();
+    migrated_images_are_accepted();
+    let image = migrate::<M>(alloc, old)?;
+    match write(alloc, &image) {
+        Ok(bytes) => Ok(bytes),
+        Err(_) => Err(Stop::Memory),
+    }
+}
