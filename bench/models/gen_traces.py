@@ -1,0 +1,279 @@
+#!/usr/bin/env python3
+"""Writes cases of traces, samples and migrated images for shell_cases, with what each command prints.
+
+usage: gen_traces.py CASES STDOUT [PRINTED]   as gen_lines.py, whose rules for PRINTED hold here too
+
+The texts are the abstract machine's of boot.py. Under lines it needs the turns that took them: for `sample N` these come from PRINTED, and
+the text that it then works out must be the one printed. How much of a trace stands where a call fails or the steps are spent hangs on the
+physical machine alone, and is taken from PRINTED after the check that it is a beginning of the whole text.
+"""
+import os
+import sys
+
+HERE = os.path.dirname(os.path.abspath(__file__))
+source = open(os.path.join(HERE, 'gen_lines.py')).read()
+exec(compile(source[:source.index('# ---- a line at each part of turn 0')].replace("name.startswith('boot ')", "name.split(' ')[0] in ('boot', 'trace', 'sample')"), 'gen_lines.py', 'exec'))
+
+
+def trace_of(kernel, users, par, turns, user, schedule=''):
+    return model(kernel, users, par, schedule, turns, user)
+
+
+def traces(name, kernel, users, par=PARAMS, schedule='', turns=TURNS, which=None, status=0, options='sectors 64'):
+    """A system of which some users are traced, or all."""
+    begin(name, options)
+    system(kernel, users, par, schedule)
+    for u in which or range(1, len(users) + 1):
+        run('trace img s %d %d %d' % (turns, STEPS, u), trace_of(kernel, users, par, turns, u, schedule), status)
+
+
+# ---- each entry
+MESSAGES = [read('messages', n) for n in ('kernel.c0', 'user1.s', 'user2.s', 'user3.s')]
+SUMS = ('put 00000040 00000037\nput 00000044 000000d2\nsteps 5\ntrap 6 0000000c\nhalted\nuser 3 pages 1 pc 00000018\nreg 1 00000037\n'
+        + 'reg 3 000000d2\nreg 4 00000109\n')
+assert trace_of(MESSAGES[0], MESSAGES[1:], PARAMS, TURNS, 3).startswith('start 3 pages 1\n' + SUMS)
+assert trace_of(MESSAGES[0], MESSAGES[1:], PARAMS, TURNS, 1).startswith('start 1 pages 1\nsteps 31\ntrap 6 0000000c\nhalted\nuser 1 pages 1 pc 00000014\n')
+begin('traces of messages', 'sectors 64')
+system(MESSAGES[0], MESSAGES[1:])
+for u in (1, 2, 3):
+    run('trace img s 1000 100000000 %d' % u, trace_of(MESSAGES[0], MESSAGES[1:], PARAMS, 1000, u))
+for turns in (1, 100, 101):
+    run('trace img s %d 100000000 3' % turns, trace_of(MESSAGES[0], MESSAGES[1:], PARAMS, turns, 3))
+run('trace img s 1000 100000000 4', 'refused 96 4 3', 2)
+run('trace img s 1000 100000000 64', 'refused 96 64 3', 2)
+run('boot img s 1000 100000000', model(MESSAGES[0], MESSAGES[1:], PARAMS, '', 1000))
+
+NINE = 'int c; int w; ' + HEAD + ' { int next; next = 1; if (cause == 5) { c = vm_get(1, 32); w = vm_get(1, 2); next = 0; } return next; }'
+OVERFLOW = 'lui r1, 0x7fff\nori r1, r1, 0xffff\naddi r2, r1, 1\n'
+NINE_TRACE = '''start 1 pages 1
+steps 2
+trap 5 20220001
+halted
+user 1 pages 1 pc 0000000c
+reg 1 7fffffff
+mem 00000000 3c017fff
+mem 00000004 3421ffff
+mem 00000008 20220001
+'''
+assert trace_of(NINE, [OVERFLOW], PARAMS, TURNS, 1) == NINE_TRACE
+traces('a trace of an overflow', NINE, [OVERFLOW])
+COPIES = ('bool b; bool c; ' + HEAD + ' { b = vm_copy(1, 4088, 2, 0, 4); c = vm_copy(1, 4088, 1, 4096, 4); return 0; }',
+          ['syscall\n.zero 1021\n.word 11\n.word 12\n.word 13\n.word 14\n', 'syscall\n'])
+assert trace_of(COPIES[0], COPIES[1], params(frames=2), TURNS, 2).startswith(
+    'start 2 pages 1\nput 00000000 0000000b\nput 00000004 0000000c\nput 00000008 0000000d\nput 0000000c 0000000e\nhalted\nuser 2 pages 1 pc 00000000\n')
+traces('words are copied, and a copy is refused', *COPIES, par=params(frames=2))
+BAD = ('int g; int w; bool s; bool t; ' + HEAD
+       + ' { g = vm_get(9, 1); w = vm_word(1, 2); s = vm_set(1, 0, 5); t = vm_resize(1, 5); t = vm_resize(1, 0); t = vm_resize(1, 1); return 0; }')
+assert trace_of(BAD, ['syscall\n'], PARAMS, TURNS, 1) == 'start 1 pages 1\nsize 0\nsize 1\nhalted\nuser 1 pages 1 pc 00000000\n'
+traces('bad calls make no row', BAD, ['syscall\n'])
+EACH = ('bool b; int v; ' + HEAD + ' { int next; next = 1; if (cause == 6) { b = vm_set(1, 7, -2147483647 - 1); b = vm_set(1, 32, 12); b = vm_set(1, 33, 1); b = vm_set(2, 3, 4); '
+        + 'b = vm_put(1, 60, -1); b = vm_put(1, 4096, 1); b = vm_put(2, 64, 9); b = vm_resize(1, 3); v = vm_word(1, 60); v = vm_size(1); b = con_put(v); '
+        + 'b = vm_copy(1, 56, 1, 8188, 2); b = vm_copy(1, 0, 2, 0, 0); b = vm_copy(2, 60, 1, 100, 2); } if (cause == 4) { next = 2; } if (cause == 6 && user == 2) { next = 0; } return next; }')
+EACH_USERS = ['ori r1, r0, 3\nsyscall\nnop\nori r2, r0, 4\nmult r1, r2\nsw r1, 8192(r0)\nlw r3, 8188(r0)\n.word 0xffffffff\n'.replace('nop', 'sll r0, r0, 0'), 'addiu r1, r0, -1\nsyscall\n']
+traces('each entry', EACH, EACH_USERS, params(frames=2))
+traces('each entry, over many frames', EACH, EACH_USERS, params(frames=64))
+PAGE = ('bool b; ' + HEAD + ' { int next; if (cause == 0) { b = vm_resize(1, 2); b = vm_copy(1, 0, 1, 4096, 1024); next = 1; } return next; }',
+        ['ori r1, r0, 5\nsw r1, 4096(r0)\nsyscall\n'])
+traces('a whole page is copied, and shares its frame', *PAGE, par=params(frames=2))
+STREAM = ('bool b; ' + HEAD + ' { int next; int u; if (cause == 0) { u = 2; while (u < 6) { b = vm_resize(u, 3); b = vm_copy(1, 4000 + 4 * u, u, 8192 - 8 * u, 32); u = u + 1; } next = 2; } '
+          + 'if (cause == 4) { b = vm_copy(2, 8176, user, 8, 6); next = 0; } return next; }')
+traces('copies over page ends, with few frames', STREAM, ['.zero 1000\n' + ''.join('.word %d\n' % (7 * i + 1) for i in range(48)), 'lw r2, 8176(r0)\nsw r2, 0(r0)\n.word 0xffffffff\n', '', '', ''],
+       params(frames=2), which=[1, 2, 3, 5])
+
+# ---- faults of kernels
+FAULTY = ('int n; ' + HEAD + ' { int next; bool b; next = 1; if (cause == 6) { n = n + 1; b = vm_set(1, 9, n); if (n == 2) { b = vm_put(1, 16, n); n = 1 / (n - 2); } } return next; }')
+traces('a kernel that faults', FAULTY, ['ori r1, r0, 1\nsyscall\nori r1, r0, 2\nsyscall\n', 'syscall'], status=3)
+traces('a bad next user', HEAD + ' { int next; bool b; next = 1; if (cause == 6) { b = vm_resize(2, 2); next = 3; } return next; }',
+       ['ori r1, r0, 1\nsyscall\n', ''], status=3)
+traces('a fault in turn 0', HEAD + ' { return 5; }', ['syscall'], status=3)
+
+# ---- words and refusals
+begin('words that are no trace, sample or migration')
+for words in ('trace a b 1 2', 'trace a b 0 2 1', 'trace a b 1 2 0', 'trace a b 1 2 65', 'trace a b 1 2 01', 'trace a b 1 2 3 4', 'trace a b 1 18446744073709551616 1',
+              'trace a b 4294967296 1 1', 'sample', 'sample 4294967296', 'sample 00', 'sample -1', 'sample 1 2', 'migrate', 'migrate a', 'migrate a b c'):
+    run(words, 'bad words', 1)
+run('trace a b 1 2 64', '', 6)
+run('migrate a b', '', 6)
+begin('a user that there is not comes before a disk that is too small', 'sectors 1')
+system(K1, ['syscall', 'syscall'])
+run('trace img s 1000 1000000 3', 'refused 96 3 2', 2)
+run('trace img s 1000 1000000 2', 'refused 90 8 1', 5)
+begin('a trace where there are no users')
+raw('file img', source_image(FIRST))
+part('file s')
+run('trace img s 1000 1000000 1', 'refused 96 1 0', 2)
+
+# ---- steps that are spent, and calls that fail
+MESSAGES_TRACE = trace_of(MESSAGES[0], MESSAGES[1:], PARAMS, TURNS, 3)
+MESSAGES_FIRST = trace_of(MESSAGES[0], MESSAGES[1:], PARAMS, TURNS, 1)
+
+
+def prefix(whole):
+    """The whole text's first rows, or the first rows and a part of the next, behind which ` ..` stands."""
+    def holds(text):
+        begun = text[:-3] if text.endswith(' ..') else text + '\n' if text else ''
+        return whole.startswith(begun) and begun != whole
+    return holds
+
+
+schedules('the steps of a trace are spent', MESSAGES[0], MESSAGES[1:], read('messages', 'params'))
+run('trace img s %d 0 3' % TURNS, 'start 3 pages 1', 4)
+run('trace img s %d %d 3' % (TURNS, MESSAGES_STEPS), MESSAGES_TRACE)
+for at, (u, whole, steps) in enumerate([(3, MESSAGES_TRACE, MESSAGES_STEPS - 1), (1, MESSAGES_FIRST, MESSAGES_STEPS - 1)] + [(u, w, s) for s in (3100, 4000, 6000, 8000) for u, w in ((1, MESSAGES_FIRST), (3, MESSAGES_TRACE))]):
+    checked('the steps of a trace are spent', at + 2, 'trace img s %d %d %d' % (TURNS, steps, u), whole, prefix(whole), 4)
+
+
+def failing_traces(name, what, calls, kernel, users, par, user, whole, status):
+    """Traces in one world, of which each fails at the next of these calls of its own, and a last one that doesn't fail."""
+    numbers, before = [], 0
+    for call in calls:
+        numbers.append(str(before + call))
+        before += call + 1
+    schedules(name, kernel, users, par, 'sectors 64\nroom 1000000\n%s %s' % (what, ' '.join(numbers)))
+    for at in range(len(calls)):
+        checked(name, at, 'trace img s %d %d %d' % (TURNS, STEPS, user), whole, prefix(whole), status)
+    run('trace img s %d %d %d' % (TURNS, STEPS, user), whole)
+
+
+FOUR = 'bool b; ' + HEAD + ' { int next; if (cause == 0) { b = vm_resize(1, 4); next = 1; } return next; }'
+PAGES = ['lw r1, 4096(r0)\nlw r2, 8192(r0)\nsw r2, 12288(r0)\nsyscall\n.zero 1020\n.word 11\n.zero 1023\n.word 12\n']
+FOUR_TRACE = trace_of(FOUR, PAGES, params(frames=2), TURNS, 1)
+failing_traces('each call of the disk fails in a trace', 'disk', range(DISK_CALLS), FOUR, PAGES, params(frames=2), 1, FOUR_TRACE, 5)
+SINK_CALLS_TRACED = 18  # messages, user 3: calls of the sink, the last rows' among them, that are made to fail
+failing_traces('each call of the sink fails in a trace', 'sink', range(SINK_CALLS_TRACED), MESSAGES[0], MESSAGES[1:], PARAMS, 3, MESSAGES_TRACE, 7)
+
+# ---- isolation: another kernel, other users and another schedule, and the same journal of user 1
+OTHER = ('int a; int b; ' + HEAD + ' { int next; next = user; if (cause == 0) { next = 2; } if (cause == 6) { if (user == 2) { next = 1; } else { next = 0; } } return next; }')
+SAME = 'ori r1, r0, 7\nsw r1, 64(r0)\nlw r2, 64(r0)\nsyscall\n'
+first = trace_of(K1, [SAME], PARAMS, TURNS, 1)
+assert first == trace_of(OTHER, [SAME, 'ori r9, r0, 9\nsyscall\n'], PARAMS, TURNS, 1)
+traces('a user under one kernel', K1, [SAME])
+begin('the same user under another kernel, with another user, over few frames and under lines', 'sectors 64')
+system(OTHER, [SAME, 'ori r9, r0, 9\nsyscall\n'], params(frames=2, stack=300), 'line 1 1\nline 400 2\nbusy 1 100\n')
+run('trace img s %d %d 1' % (TURNS, STEPS), first)
+
+# ---- images of form 2
+word = lambda n: ''.join('\\x%02x' % (n >> 8 * i & 255) for i in range(4))
+OLD_WORDS = [0x3c017fff, 0x3421ffff, 0x20220001]
+
+
+def old_image(u, q, f, h, s, source, k, users):
+    return ('CVMI' + word(2) + ''.join(map(word, (u, q, f, h, s, len(source), k))) + ''.join(word(len(w)) for w in users) + source
+            + '`%d \\0\\0\\0\\0`' % k + ''.join(word(w) for ws in users for w in ws))
+
+
+NINE_TEXT = model(NINE, [OVERFLOW], PARAMS, '', TURNS)
+begin('an image of form 2 is made anew', 'sectors 64')
+raw('file old', old_image(1, 4, 8, 64, 256, NINE, 16384, [OLD_WORDS]))
+raw('zeros new', str(ROOM))
+part('file s')
+run('boot old s %d %d' % (TURNS, STEPS), 'refused 53 1 2', 2)
+run('migrate old new')
+run('boot new s %d %d' % (TURNS, STEPS), NINE_TEXT)
+run('trace new s %d %d 1' % (TURNS, STEPS), NINE_TRACE)
+run('migrate new old', 'refused 53 1 3', 2)
+begin('images of form 2 that are not made anew')
+for name, bytes_ in (('users', old_image(17, 4, 8, 64, 256, FIRST, 16384, [[]] * 17)), ('pages', old_image(0, 257, 8, 64, 256, FIRST, 16384, [])),
+                     ('frames', old_image(0, 4, 1, 64, 256, FIRST, 16384, [])), ('words', old_image(0, 4, 8, 64, 256, FIRST, 16383, [])),
+                     ('more', old_image(0, 4, 8, 64, 256, FIRST, 16384, []) + '\\0'), ('mark', 'CVMJ'), ('source', old_image(0, 4, 8, 64, 256, 'int x', 16384, [])),
+                     ('types', old_image(0, 4, 8, 64, 256, FIRST.replace('2 - 5', 'true'), 16384, [])), ('form', source_image(FIRST)), ('cut', 'CVMI' + word(2) + word(0) + '\\0')):
+    raw('file ' + name, bytes_)
+raw('zeros new', str(ROOM))
+run('migrate users new', 'refused 53 2 17', 2)
+run('migrate pages new', 'refused 53 3 257', 2)
+run('migrate frames new', 'refused 53 4 1', 2)
+run('migrate words new', 'refused 53 8 16383', 2)
+run('migrate more new', 'refused 52 %d' % (36 + len(FIRST) + 4 * 16384), 2)
+run('migrate mark new', 'refused 50', 2)
+run('migrate source new', 'refused 54 12 5', 2)
+run('migrate types new', 'refused 55 22 57 61', 2)
+run('migrate form new', 'refused 53 1 1', 2)
+run('migrate cut new', 'refused 51 12', 2)
+begin('the shelf fails when a migrated image is put', 'shelf 1')
+raw('file old', old_image(0, 4, 8, 64, 256, FIRST, 16384, []))
+raw('zeros new', str(ROOM))
+run('migrate old new', '', 6)
+
+# ---- samples
+PATTERN = '''int total;
+int left;
+bool[17] done;
+int pick(int user) {
+  int next; bool look;
+  next = user; look = true;
+  while (look) {
+    next = next + 1;
+    if (next > %(U)d) { next = 1; }
+    if (!done[next]) { look = false; }
+  }
+  return next;
+}
+int dispatch(int cause, int data, int user) {
+  int next; int u; int v; bool ok;
+  if (cause == 0) {
+    left = %(U)d; u = 1;
+    while (u <= %(U)d) {
+      ok = vm_resize(u, 16);
+      if (u > 1) { ok = vm_copy(1, 0, u, 0, 1024); }
+      ok = vm_set(u, 1, %(K)d + u);
+      u = u + 1;
+    }
+    next = 1;
+  }
+  if (cause == 1) { next = pick(user); }
+  if (cause == 6) {
+    v = vm_get(user, 4);
+    total = total + v;
+    left = left - 1;
+    done[user] = true;
+    if (left > 0) { next = pick(user); }
+  }
+  return next;
+}
+'''
+PROGRAM = '''ori r2, r0, 61440
+fill: sw r1, 0(r2)
+addiu r1, r1, 1
+addiu r2, r2, -4096
+bgtz r2, fill
+ori r2, r0, 61440
+add: lw r3, 0(r2)
+addu r4, r4, r3
+sw r0, 0(r2)
+addiu r2, r2, -4096
+bgtz r2, add
+syscall
+'''
+
+
+def sample(number):
+    users, base = 3 + number % 14, number % 1000
+    return PATTERN % dict(U=users, K=base), [PROGRAM] + [''] * (users - 1), params(pages=16, frames=2 + number % 7, heap=0, stack=64)
+
+
+def sampled(number):
+    kernel, users, par = sample(number)
+    plain = model(kernel, users, par, '', 100000)
+    cut = lambda t: t[t.index('halted'):].rstrip('\n')
+    return plain, lambda text: cut(text) == cut(plain) and text.rstrip('\n') == model_lines(kernel, users, par, '', 100000, lines_of(text)).rstrip('\n')
+
+
+ZERO = sampled(0)[0]
+assert 'halted\nglobal total 405\nglobal left 0\nuser 1 pages 16 pc 00000030\nreg 1 00000010\nreg 3 0000000f\nreg 4 00000078\n' in ZERO
+begin('samples', 'sectors 256\nroom 1000000')
+for at, number in enumerate((0, 1, 5, 13, 999, 4294967295)):
+    plain, holds = sampled(number)
+    checked('samples', at, 'sample %d' % number, plain, holds, 0)
+begin('a sample for which the disk is too small', 'sectors 47')
+run('sample 0', 'refused 90 48 47', 5)
+
+NOTE = '''Traces, samples, and images made anew. Written by bench/models/gen_traces.py.
+
+As in lines.cases, two kinds of texts hang on the physical machine alone and are the program's own, checked by that script: at which turns the
+lines of a sample are taken, and how much of a trace stands printed when a call fails or the steps are spent. All else is worked out apart.
+
+'''
+with open(sys.argv[1], 'w') as f:
+    f.write(NOTE + '\n'.join(cases) + '\n')
+with open(sys.argv[2], 'w') as f:
+    f.write('\n'.join(told) + '\n')
