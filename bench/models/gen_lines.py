@@ -1,5 +1,5 @@
 #!/usr/bin/env python3
-"""Writes cases of whole commands for shell_cases, with what each prints: lines at chosen steps, calls that fail, steps that are spent, the examples.
+"""Writes cases of whole commands for shell_cases, with what each prints: lines at chosen steps, calls that fail, steps that are spent.
 
 usage: gen_lines.py CASES STDOUT [PRINTED]   writes the cases to CASES, and to STDOUT what the program prints of them; PRINTED is what the
                                              program printed of them before
@@ -128,6 +128,19 @@ def failing(name, what, lefts, kernel, users, par, whole, status, words='boot im
     run(words, whole)
 
 
+def taking(name, takes, calls, puts, kernel, users, par, words='boot img s %d %d' % (TURNS, STEPS)):
+    """Runs in one world over a sink that takes so many bytes of a put that fails; each fails at one of these calls, the last at none."""
+    numbers, before = [], 0
+    for call in calls:
+        numbers.append(str(before + call))
+        before += call + 2
+    schedules(name, kernel, users, par, 'sectors 64\nroom 1000000\ntakes %d\nsink %s' % (takes, ' '.join(numbers)))
+    for call in calls:
+        left = before_each(puts)[call] + puts[call][:takes]
+        run(words, left + (' ..' if left[-1:] not in ('', '\n') else ''), 7)
+    run(words, ''.join(puts))
+
+
 # ---- a line at each part of turn 0 and of the first page fault
 TAKEN = RESET + ' 1\nturn 1 cause 1 data 00000008 user 1 next 0\nhalted\nuser 1 pages 1 pc 00000000\nmem 00000000 0000000c\n'
 LATE = TAKEN.replace('cause 1 data 00000008', 'cause 6 data 0000000c').replace('pc 00000000', 'pc 00000004')
@@ -179,6 +192,7 @@ checked('forty lines', 0, 'boot img l 100000 %d' % STEPS, WHOLE, fair, 0)
 # a row is one put, but for that of a global: its name is put by itself
 PUTS = [p for row in WHOLE.splitlines(True) for p in (re.findall('^global |[^ ]+(?= )|.*\n', row) if row.startswith('global') else [row])]
 failing('each call of the sink fails in turn', 'sink', before_each(PUTS), MESSAGES[0], MESSAGES[1:], PARAMS, WHOLE, 7)
+taking('a sink that takes four bytes of a put that fails', 4, (0, 1, 4, 5, 6, 7, 8, 20, 33), PUTS, MESSAGES[0], MESSAGES[1:], PARAMS)
 
 # ---- four pages over two frames, and a disk that fails
 FOUR = 'bool b; ' + HEAD + ' { int next; if (cause == 0) { b = vm_resize(1, 4); next = 1; } return next; }'
@@ -199,28 +213,11 @@ for turn in range(1, 8):
     line_at(PRODUCTS_BEGINS + turn - 1, 5, model_lines(KEPT, PRODUCTS, PARAMS, '', TURNS, [(str(turn), '20')]))
 line_at(PRODUCTS_BEGINS + 7, 5, model(KEPT, PRODUCTS, PARAMS, '', TURNS))
 
+NOTE = '''Lines at chosen steps, steps that are spent, and calls that fail. Written by bench/models/gen_lines.py.
 
-# ---- the examples
-def as_modeled(kernel, users, par, schedule):
-    return lambda text: text.rstrip('\n') == model_lines(kernel, users, par, schedule, 100000, lines_of(text)).rstrip('\n')
-
-
-for name in ('adder', 'faults', 'round_robin', 'sharing'):
-    names = sorted((n for n in os.listdir(os.path.join(EXAMPLES, name)) if re.fullmatch(r'user\d+\.s', n)), key=lambda n: int(n[4:-2]))
-    kernel, users, par, schedule = read(name, 'kernel.c0'), [read(name, n) for n in names], read(name, 'params'), read(name, 'schedule')
-    begin('the example ' + name, 'sectors 64')
-    system(kernel, users, par, schedule)
-    words = 'boot img s 100000 %d' % STEPS
-    if 'line' in schedule:
-        checked('the example ' + name, 0, words, '', as_modeled(kernel, users, par, schedule), 0)
-    else:
-        run(words, model(kernel, users, par, schedule, 100000))
-
-NOTE = '''Lines at chosen steps, steps that are spent, calls that fail, and the examples. Written by bench/models/gen_lines.py.
-
-At which turns lines are taken (forty lines, the example round_robin) hangs on the physical machine alone. These texts are the program's own,
-checked by that script: with the turns of the lines as printed the model gives the same text. The steps of lines and of the last step of a run are
-measured. All else is worked out apart.
+At which turns lines are taken (forty lines) hangs on the physical machine alone. This text is the program's own, checked by that script: with
+the turns of the lines as printed the model gives the same text. The steps of lines and of the last step of a run are measured. All else is worked
+out apart.
 
 '''
 with open(sys.argv[1], 'w') as f:

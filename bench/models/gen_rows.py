@@ -71,12 +71,17 @@ def system(kernel, users=(), par=PARAMS, schedule='', image='img'):
     part('file s', schedule)
     for i, u in enumerate(users):
         part('file a%d' % (i + 1), u)
-    for n in ['o', image] + ['u%d' % (i + 1) for i in range(len(users))]:
+    build(len(users), image)
+
+
+def build(users, image='img'):
+    """Compiles and links the system whose files are placed."""
+    for n in ['o', image] + ['u%d' % (i + 1) for i in range(users)]:
         raw('zeros ' + n, str(ROOM))
     run('compile kernel k o')
-    for i in range(len(users)):
+    for i in range(users):
         run('compile user a%d u%d' % (i + 1, i + 1))
-    run('link o p %s%s' % (image, ''.join(' u%d' % (i + 1) for i in range(len(users)))))
+    run('link o p %s%s' % (image, ''.join(' u%d' % (i + 1) for i in range(users))))
 
 
 def sectors(held):

@@ -149,6 +149,7 @@ failing_traces('each call of the disk fails where words are copied over the end 
 # before each row of the journal but a trap, and before the end, the steps so far are put, here no bytes
 PUTS_TRACED = [p for row in MESSAGES_TRACE.splitlines(True) for p in ([''] if row.startswith('put') or row == 'halted\n' else []) + [row]]
 failing_traces('each call of the sink fails in a trace', 'sink', before_each(PUTS_TRACED), MESSAGES[0], MESSAGES[1:], PARAMS, 3, MESSAGES_TRACE, 7)
+taking('a sink that takes seven bytes of a put of a trace that fails', 7, (0, 1, 2, 5, 6, 7, 9, 20), PUTS_TRACED, MESSAGES[0], MESSAGES[1:], PARAMS, 'trace img s %d %d 3' % (TURNS, STEPS))
 
 # ---- isolation: another kernel, other users and another schedule, and the same journal of user 1
 OTHER = ('int a; int b; ' + HEAD + ' { int next; next = user; if (cause == 0) { next = 2; } if (cause == 6) { if (user == 2) { next = 1; } else { next = 0; } } return next; }')
