@@ -210,8 +210,8 @@ boots('bad calls and a memory cut away', 'int g; int w; bool s; bool t; ' + HEAD
       + ' { g = vm_get(9, 1); w = vm_word(1, 2); s = vm_set(1, 0, 5); t = vm_resize(1, 5); t = vm_resize(1, 0); t = vm_resize(1, 1); return 0; }',
       ['syscall\n'], text=RESET + ' 0\nhalted\nglobal g -1\nglobal w -1\nglobal s false\nglobal t true\nuser 1 pages 1 pc 00000000\n')
 FOUR = 'bool b; ' + HEAD + ' { int next; if (cause == 0) { b = vm_resize(1, 4); next = 1; } return next; }'
-boots('four pages over two frames', FOUR, ['lw r1, 4096(r0)\nlw r2, 8192(r0)\nsw r2, 12288(r0)\nsyscall\n.zero 1020\n.word 11\n.zero 1023\n.word 12\n'],
-      params(frames=2), text='''turn 0 cause 0 data 00000000 user 0 next 1
+FOUR_USER = 'lw r1, 4096(r0)\nlw r2, 8192(r0)\nsw r2, 12288(r0)\nsyscall\n.zero 1020\n.word 11\n.zero 1023\n.word 12\n'
+boots('four pages over two frames', FOUR, [FOUR_USER], params(frames=2), text='''turn 0 cause 0 data 00000000 user 0 next 1
 turn 4 cause 6 data 0000000c user 1 next 0
 halted
 global b true
@@ -227,7 +227,35 @@ mem 00002000 0000000c
 mem 00003000 0000000c
 ''')
 # the frames take pages in turn: page 0 and 1; page 2, and 0 again; and the stored page 3, which stays in its frame to the end
-sectors([(0, [0x8c011000, 0x8c022000, 0xac023000, 0x0000000c]), (1, [11]), (2, [12]), (3, []), (4, [])])
+FOUR_SECTORS = [(0, [0x8c011000, 0x8c022000, 0xac023000, 0x0000000c]), (1, [11]), (2, [12]), (3, []), (4, [])]
+sectors(FOUR_SECTORS)
+# the pages are on the disk before the first step, and where the first row can't be printed
+boots('four pages, of which no step is made', FOUR, [FOUR_USER], params(frames=2), text='', status=4, steps=0)
+sectors(FOUR_SECTORS)
+boots('four pages, and a sink whose first call fails', FOUR, [FOUR_USER], params(frames=2), text='', status=7, options='sectors 64\nsink 0')
+sectors(FOUR_SECTORS)
+# the second user's pages begin at sector 4, one page that is stored to is written when its frame is taken, and what is beyond stays
+boots('two users, and a page whose frame is taken', K1.replace('return', 'if (cause == 6 && user == 1) { next = 2; } return'),
+      ['ori r1, r0, 7\nsw r1, 4092(r0)\nsyscall\n', 'lw r1, 0(r0)\nlw r2, 4096(r0)\nsyscall\n.zero 1021\n.word 9\n'], params(frames=2),
+      text='''turn 0 cause 0 data 00000000 user 0 next 1
+turn 3 cause 6 data 0000000c user 1 next 2
+turn 6 cause 6 data 0000000c user 2 next 0
+halted
+user 1 pages 1 pc 0000000c
+reg 1 00000007
+mem 00000000 34010007
+mem 00000004 ac010ffc
+mem 00000008 0000000c
+mem 00000ffc 00000007
+user 2 pages 2 pc 0000000c
+reg 1 8c010000
+reg 2 00000009
+mem 00000000 8c010000
+mem 00000004 8c021000
+mem 00000008 0000000c
+mem 00001000 00000009
+''')
+sectors([(0, [0x34010007, 0xac010ffc, 0x0000000c] + [0] * 1020 + [7]), (1, []), (4, [0x8c010000, 0x8c021000, 0x0000000c]), (5, [9]), (6, []), (8, [])])
 boots('three pages that fight for two frames', FOUR.replace('4)', '3)'), ['sw r1, 4096(r0)\nsw r2, 8192(r0)\nj 0\n'], params(frames=2), turns=301,
       steps=150000000, text=RESET + ' 1\nstopped\nglobal b true\nuser 1 pages 3 pc 00000000\nmem 00000000 ac011000\nmem 00000004 ac022000\nmem 00000008 08000000\n')
 boots('products and quotients', 'int x; ' + HEAD + ' { int next; x = 100 / (cause + 3); if (cause == 0) { next = 1; } return next; }',

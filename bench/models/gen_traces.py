@@ -137,6 +137,11 @@ FOUR_TRACE = trace_of(FOUR, PAGES, params(frames=2), TURNS, 1)
 failing_traces('each call of the disk fails in a trace', 'disk', [''] * 3 + ['start 1 pages 3\nsize 4\n'] * 7 + until(FOUR_TRACE, 'mem 00001000', 'mem 00002000'),
                FOUR, PAGES, params(frames=2), 1, FOUR_TRACE, 5)
 
+begin('the sectors after a trace', 'sectors 64')
+system(FOUR, PAGES, params(frames=2))
+run('trace img s %d %d 1' % (TURNS, STEPS), FOUR_TRACE)
+sectors([(0, [0x8c011000, 0x8c022000, 0xac023000, 0x0000000c]), (1, [11]), (2, [12]), (3, []), (4, [])])
+
 # four pages are loaded. Page 0 of both users is read, then for page 1 of each a page is written and one read. Behind the copy the journal reads each of
 # the two words on page 0 of user 2 from its sector, and so does the report
 ENDS = 'bool b; ' + HEAD + ' { b = vm_copy(1, 4088, 2, 4088, 4); return 0; }', ['syscall\n.zero 1021\n.word 11\n.word 12\n.word 13\n.word 14\n', 'syscall\n.zero 1025\n']
