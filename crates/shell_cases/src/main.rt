@@ -263,7 +263,11 @@ fn place_host(rt: &HostRuntime, world: &mut World, part: &Case) -> io::Result<()
 fn put_same(rt: &HostRuntime, world: &World, out: &mut String, path: &str) -> io::Result<()> {
     let text = fs::read_to_string(rt, path)?;
     let same = world.sink.bytes().get(world.before..world.shown) == Some(text.as_bytes());
-    writeln!(out, "== as {path}\n{}", if same { "the same" } else { "another" })?;
+    writeln!(
+        out,
+        "== as {path}\n{}",
+        if same { "the same" } else { "another" }
+    )?;
     Ok(())
 }
 
