@@ -293,6 +293,21 @@ class Kernel(Run):
         return len(self.inputs)
 
 
+def has_steps(name, enter, leave, fault, primitive, pages, busy):
+    """Whether the parts of a case that is there for its steps take as many as they may; a trap and a page fault begin with one step more."""
+    copy = re.fullmatch(r'vm_copy of (\d+) words between pages that are (not )?there', name)
+    if copy:
+        return primitive <= 8 * int(copy.group(1)) + 200 + (2 * (6 * pages + busy + 2800) if copy.group(2) else 0)
+    for begin, holds in (('a trap to dispatch and back', 1 + enter + leave <= 300),
+                         ('a vm_get', primitive <= 60),
+                         ('a page fault that writes a sector and reads one', 1 + fault <= 6000 + 6 * pages + 2 * busy),
+                         ('four pages name a frame', primitive < 3500),
+                         ('a fifth page is copied', primitive > 7 * 1024)):
+        if name.startswith(begin):
+            return holds
+    return True
+
+
 FAULTS = {'null': ('NullUse', 1), 'bounds': ('Bounds', 2), 'zero': ('DivZero', 3), 'stack': ('StackOut', 4)}
 
 
@@ -313,6 +328,7 @@ def parts_of(src):
 
 def run_system(rest, src, told):
     q, frames, heap, stack, turns = [int(x) for x in rest.split(' ')[:5]]
+    name = ' '.join(rest.split(' ')[5:])
     parts = parts_of(src)
     users = [Flat(assemble(t)) for t in parts['u']]
     rows = [r.split() for r in parts['s'].split('\n') if r]
@@ -372,6 +388,7 @@ def run_system(rest, src, told):
     page = 200000 + 32 * len(users) * q + 6 * busy
     assert int(m.group(3)) <= 20000 + 64 * (len(users) * q + frames) and int(m.group(4)) <= 1000, steps_row
     assert int(m.group(5)) <= 6 * len(users) * q + 5 * busy + 13600 + 100, steps_row
+    assert m.group(1) == '0' or has_steps(name, *[int(x) for x in m.groups()[2:]], len(users) * q, busy), steps_row
     out.append('turns %d %s' % (turn, m.group(2)))
     return out
 

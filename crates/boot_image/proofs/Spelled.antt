@@ -460,7 +460,7 @@ two_spelled : (bytes : List ℕ) (image : Parts) → Whole 2 16 256 bytes image 
 two_spelled bytes image w =
     let i : Parts = system 2 w.params w.source w.words w.users in
     let system_range : IsOldSystem i = record { form = refl; params = w.range; pages = w.pages; least = w.least; most = w.most; users = w.few_users; sizes = w.sizes } in
-    let in_range : IsOldInRange i = record { source = w.few; system = system_range; bits = w.bits; user_bits = w.user_bits } in
+    let in_range : IsOldInRange i = record { spelled = record { source = w.few; system = system_range }; bits = w.bits; user_bits = w.user_bits } in
     subst (IsOldSpelled bytes) (sym w.is) (in_range, w.spelled)
 
 pub answer_spelled : (bytes : List ℕ) → IsBytes bytes → (image : Parts) → answer bytes ≡ Ok image → IsSpelled bytes image

@@ -1,6 +1,6 @@
 -- What each step of the reading makes of bytes that begin as an image does, and so what is answered of an image's spelling.
-use Rattle.std.proofs.Common.{◌≡◌, ℕ, ◌+◌, ◌*◌, ◌^◌, ◌<◌, ◌≤◌, false, true, ltb, ◌||◌, All, List, [], ◌∷◌, ◌++◌, length, drop, map, Result, Ok, inl, inr, refl, sym, ap, ◌∙◌, append_assoc, arith}
-use Rattle.std.specs.Prelude.{codes}
+use Rattle.std.proofs.Common.{◌≡◌, ℕ, ◌+◌, ◌*◌, ◌^◌, ◌<◌, ◌≤◌, false, true, ltb, ◌||◌, All, List, [], ◌∷◌, ◌++◌, length, drop, map, Result, Ok, Err, inl, inr, refl, sym, ap, ◌∙◌, append_assoc, arith}
+use Rattle.std.specs.Prelude.{codes, nat_eq, if◌then◌else◌}
 use Rattle.std.specs.Str.{bytes_eq}
 use Rattle.std.specs.List.{flat_map, AllByRecursion}
 use Rattle.std.proofs.lemmas.Bool.{le-ltb, or_from}
@@ -10,10 +10,11 @@ use Rattle.std.proofs.lemmas.Slice.Eq.{bytes_eq-Decides}
 use Rattle.layer_map.specs.declared.params.Params.{Params}
 use Rattle.layer_map.specs.Map.{ParamsInRange}
 use Rattle.boot_image.specs.declared.fault.ImageFault.{ImageFault}
+use Rattle.boot_image.specs.declared.fault.ImageFault.TheVariants.{Parameter}
 use Rattle.boot_image.specs.declared.reading.Header.{Header}
 use Rattle.boot_image.specs.Parts.{Parts}
 use Rattle.word_bytes.specs.Words.{word, words_of}
-use Rattle.boot_image.specs.Format.{spelling, bare_params, most_words, AreWords, IsBare, IsOldSystem, IsInRange, IsOldInRange}
+use Rattle.boot_image.specs.Format.{spelling, bare_params, most_words, AreWords, IsBare, IsOldSystem, HasOldSpelling, IsInRange, IsOldInRange}
 use Rattle.boot_image.specs.Reading.{◌>>=◌, mark_at, number_at, form_at, params_at, counts_at, bare_at, system_at, header_of, old_header_of, part_at, users_at, parts_of, users_of, answer, old_answer}
 use Rattle.word_bytes.proofs.Words.{length-word, number-word, length-words, words_of-words}
 use Rattle.boot_image.proofs.Answers.{Found, answered, answer_by, old_answer_by, answered_parts}
@@ -54,6 +55,10 @@ form_three : (rest : List ℕ) → form_at (word 3 ++ rest) ≡ Ok (3, rest)
 unfolding form_at
 form_three rest = step _ (number_whole 1 1 3 3 rest (omega arith) (omega arith) (omega arith)) refl
 
+form_two : (rest : List ℕ) → form_at (word 2 ++ rest) ≡ Err (Parameter 1 2)
+unfolding form_at
+form_two rest = step _ (number_whole 1 1 3 2 rest (omega arith) (omega arith) (omega arith)) refl
+
 params_whole : (most : ℕ) (p : Params) (rest : List ℕ) → ParamsInRange p → p.pages ≤ most → params_at most (onto (p.pages ∷ p.frames ∷ p.heap ∷ p.stack ∷ []) rest) ≡ Ok (p, rest)
 unfolding params_at
 params_whole most p rest fits pages =
@@ -91,6 +96,13 @@ header_three rest r is = step _ (mark_whole (codes "CVMI") _ refl refl) (step _ 
 header_two : (rest : List ℕ) (r : Found) → system_at 2 16 256 rest ≡ r → old_header_of (codes "CVMI" ++ (word 2 ++ rest)) ≡ r
 unfolding old_header_of
 header_two rest r is = step _ (mark_whole (codes "CVMI") _ refl refl) (step _ (number_whole 1 2 2 2 _ (omega arith) (omega arith) (omega arith)) is)
+
+-- where form 2 isn't read, its header is refused
+header_refused : (rest : List ℕ) → header_of (codes "CVMI" ++ (word 2 ++ rest)) ≡ Err (Parameter 1 2)
+unfolding header_of
+header_refused rest =
+    step _ (mark_whole (codes "CVMI") _ refl refl)
+    (ap (λ (q : Result (ℕ × List ℕ) ImageFault). q >>= λ form. if nat_eq form.0 1 then bare_at form.1 else system_at 3 64 1024 form.1) (form_two rest))
 
 -- ---- the parts
 
@@ -205,7 +217,17 @@ read_back i fits =
 
 pub old_read_back : (i : Parts) → IsOldInRange i → old_answer (spelling i) ≡ Ok i
 old_read_back i fits =
-    let s : IsOldSystem i = fits.system in
+    let s : IsOldSystem i = fits.spelled.system in
     let same = system_same 2 i s.form in
-    let all : Fits 16 256 i.params i.source i.words i.users = record { params = s.params; pages = s.pages; least = s.least; most = s.most; few = s.users; sizes = s.sizes; source = fits.source; bits = fits.bits; user_bits = fits.user_bits } in
+    let all : Fits 16 256 i.params i.source i.words i.users = record { params = s.params; pages = s.pages; least = s.least; most = s.most; few = s.users; sizes = s.sizes; source = fits.spelled.source; bits = fits.bits; user_bits = fits.user_bits } in
     ap (λ (j : Parts). old_answer (spelling j)) same ∙ two_read i.params i.source i.words i.users all ∙ ap (λ (j : Parts). Ok j) (sym same)
+
+two_refused : (p : Params) (source words : List ℕ) (us : List (List ℕ)) → answer (spelling (system 2 p source words us)) ≡ Err (Parameter 1 2)
+two_refused p source words us =
+    let numbers : List ℕ = length us ∷ p.pages ∷ p.frames ∷ p.heap ∷ p.stack ∷ length source ∷ length words ∷ map length us in
+    let rest : List ℕ = source ++ (flat_map word words ++ flat_map (flat_map word) us) in
+    ap (λ (l : List ℕ). answer (codes "CVMI" ++ l)) (words-onto (2 ∷ numbers) rest)
+    ∙ answer_by (codes "CVMI" ++ onto (2 ∷ numbers) rest) (Err (Parameter 1 2)) (header_refused (onto numbers rest))
+
+pub old_refused : (i : Parts) → HasOldSpelling i → answer (spelling i) ≡ Err (Parameter 1 2)
+old_refused i fits = ap (λ (j : Parts). answer (spelling j)) (system_same 2 i fits.system.form) ∙ two_refused i.params i.source i.words i.users

@@ -50,10 +50,19 @@ pub record IsOldSystem (i : Parts) : Type 0 where
   pub users : length i.users ≤ 16
   pub sizes : All (λ u. length u ≤ most_words i.params.pages) i.users
 
--- an image of a form and a size that a file may have
+-- an image of form 1 or 3, of a size that a file may have
 pub record HasSpelling (i : Parts) : Type 0 where
   pub source : length i.source ≤ 1048576
   pub form : IsBare i ⊎ IsSystem i
+
+-- an image of form 2, of a size that a file may have
+pub record HasOldSpelling (i : Parts) : Type 0 where
+  pub source : length i.source ≤ 1048576
+  pub system : IsOldSystem i
+
+-- an image that can be written, in its form
+abbrev pub IsWritable : Parts → Type 0
+IsWritable i = HasSpelling i ⊎ HasOldSpelling i
 
 -- words of 32 bits
 abbrev pub AreWords : List ℕ → Type 0
@@ -67,7 +76,6 @@ pub record IsInRange (i : Parts) : Type 0 where
 
 -- an image that a file of form 2 may be, of words of 32 bits
 pub record IsOldInRange (i : Parts) : Type 0 where
-  pub source : length i.source ≤ 1048576
-  pub system : IsOldSystem i
+  pub spelled : HasOldSpelling i
   pub bits : AreWords i.words
   pub user_bits : All AreWords i.users

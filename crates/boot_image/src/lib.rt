@@ -24,8 +24,8 @@
 //! - k linked words;
 //! - the words of each user.
 //!
-//! Form 2 is what carried a whole system before form 3 did. It is laid out as form 3, with at most 16 users of at most 256 pages, and is read
-//! by a function of its own alone.
+//! Form 2 is what carried a whole system before form 3 did. It is laid out as form 3, with at most 16 users of at most 256 pages. It is
+//! written as the others are, and is read by a function of its own alone.
 #![tactic(auto)]
 
 mod fault;

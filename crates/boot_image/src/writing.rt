@@ -1,21 +1,27 @@
 // An image to bytes.
 
-ghost use Rattle.std.specs.Prelude.{◌≡◌, ◌≤◌, ◌++◌, All, length, map, OnOk, IfOk, Ok};
+ghost use Rattle.std.specs.Prelude.{◌≡◌, ◌≤◌, ◌++◌, All, length, map, OnOk, IfOk, Ok, Err};
 ghost use Rattle.std.specs.List.{flat_map};
 ghost use Rattle.word_bytes.specs.Words.{word};
-ghost use Rattle.boot_image.specs.Format.{spelling, fields, HasSpelling, IsInRange, AreWords};
-ghost use Rattle.boot_image.specs.Reading.{answer};
+ghost use Rattle.boot_image.specs.Format.{spelling, fields, HasSpelling, HasOldSpelling, IsWritable, IsInRange, IsOldInRange, AreWords};
+ghost use Rattle.boot_image.specs.Reading.{answer, old_answer};
+ghost use Rattle.boot_image.specs.declared.fault.ImageFault.TheVariants.{Parameter};
 
 use crate::image::Image;
 use std::alloc::{AllocError, Global};
 use word_bytes::{push_word, push_words};
 
-/// Writes an image: its one spelling, which reads as that image.
+/// Writes an image, in the form that it names: its one spelling, which reads as that image.
 pub fn write(alloc: Global, image: &Image) -> Result<Vec<u8>, AllocError>
-    requires { HasSpelling image.now }
+    requires { IsWritable image.now }
     ensures spelled { IfOk result (λ bytes. bytes.items ≡ spelling image.now) }
-    ensures in_range { IfOk result (λ bytes. IsInRange image.now) }
-    ensures read_back { IfOk result (λ bytes. answer bytes.items ≡ Ok image.now) }
+    // What is written in form 1 or 3 is read back by `read`,
+    ensures in_range { IfOk result (λ bytes. HasSpelling image.now → IsInRange image.now) }
+    ensures read_back { IfOk result (λ bytes. HasSpelling image.now → answer bytes.items ≡ Ok image.now) }
+    // and what is written in form 2 by `read_old` alone.
+    ensures old_in_range { IfOk result (λ bytes. HasOldSpelling image.now → IsOldInRange image.now) }
+    ensures read_old_back { IfOk result (λ bytes. HasOldSpelling image.now → old_answer bytes.items ≡ Ok image.now) }
+    ensures old_refused { IfOk result (λ bytes. HasOldSpelling image.now → answer bytes.items ≡ Err (Parameter 1 2)) }
 {
     let mut bytes = Vec::new(alloc);
     bytes.extend_from_slice(b"CVMI")?;
@@ -28,7 +34,7 @@ pub fn write(alloc: Global, image: &Image) -> Result<Vec<u8>, AllocError>
 
 // Writes the fields at the end.
 fn push_fields(bytes: &mut Vec<u8>, image: &Image) -> Result<(), AllocError>
-    requires { HasSpelling image.now }
+    requires { IsWritable image.now }
     ensures { OnOk result (bytes.new.items ≡ bytes.old.items ++ flat_map word (fields image.now)) }
 {
     let source_length = image.source.len() as u32;

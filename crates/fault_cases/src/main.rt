@@ -1,7 +1,8 @@
 // Runs the page-fault block on the physical machine, as standard input says, a line at a time, and prints each line and what it has to tell:
 //
 //     system USERS PAGES FRAMES SCHEDULE   a new machine, with the map of so many users (1 to 4) of so many pages (1 to 16) and so many
-//                          user frames (2 to 40), no heap and 64 words of stack, and this schedule, in which `;` stands for LF
+//                          user frames (2 to 40), no heap and 64 words of stack, and this schedule, in which `;` stands for LF, and
+//                          `each N` for a line at each of the steps from 0 to N - 1, line T mod 8 at step T
 //     entry PAGE WORD      the page's entry becomes this word
 //     count FRAME COUNT    the count of the user frame, from 1
 //     hand FRAME           the hand becomes this user frame, from 0
@@ -21,6 +22,7 @@ mod driver;
 
 use crate::desk::Desk;
 use std::alloc::{AllocError, Global};
+use std::fmt::Write;
 use std::io;
 
 // The number in the field with this number, from 0, of a line that is cut at spaces; 0 where there is none.
@@ -30,6 +32,18 @@ fn number(line: &str, field: usize) -> u32 {
         .unwrap_or("")
         .parse::<u32>()
         .unwrap_or(0)
+}
+
+// Appends a line of a schedule for each of so many steps.
+fn put_each(lines: &mut String, steps: u32) -> Result<(), AllocError> {
+    for step in 0..steps {
+        let line = step % 8;
+        if step > 0 {
+            lines.push_str("\n")?;
+        }
+        write!(lines, "line {step} {line}")?;
+    }
+    Ok(())
 }
 
 // The schedule that stands behind the fourth space of a line.
@@ -48,7 +62,11 @@ fn schedule(alloc: Global, line: &str) -> Result<String, AllocError> {
         if !lines.is_empty() {
             lines.push_str("\n")?;
         }
-        lines.push_str(part)?;
+        if part.starts_with("each ") {
+            put_each(&mut lines, number(part, 1))?;
+        } else {
+            lines.push_str(part)?;
+        }
     }
     Ok(lines)
 }

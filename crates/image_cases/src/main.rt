@@ -1,6 +1,7 @@
 // Reads the bytes of files of cases, and prints what each holds, or the refusal of docs/REFUSALS.md. `case_file` says how a case is
 // written. Its kind is `image`, a boot image (its parameters, source, words and users, and whether writing it gives the same bytes
-// again), `old`, one of form 2, `params`, the parameters of a system, or `user`, the words of a user.
+// again), `old`, one of form 2 (the same, and how what was written is read back, in form 2 and as the other forms are), `params`, the
+// parameters of a system, or `user`, the words of a user.
 #![tactic(auto)]
 
 use boot_image::{Image, ImageFault, read, read_old, write};
@@ -71,10 +72,34 @@ fn put_answer(alloc: Global, out: &mut String, bytes: &[u8]) -> Result<(), Alloc
     }
 }
 
-// What is printed of bytes that are read as an image of form 2.
+// How bytes that were written in form 2 are read back.
+fn put_reread(alloc: Global, out: &mut String, bytes: &[u8]) -> Result<(), AllocError> {
+    match read_old(alloc, bytes) {
+        Ok(image) => {
+            writeln!(
+                out,
+                "read back: form {}, users {}, pages {}",
+                image.form,
+                image.users.len(),
+                image.params.pages
+            )?;
+            Ok(())
+        }
+        Err(fault) => put_fault(out, fault),
+    }
+}
+
+// What is printed of bytes that are read as an image of form 2: what it holds, whether writing it gives the same bytes again, and what both
+// readings answer of what was written.
 fn put_old(alloc: Global, out: &mut String, bytes: &[u8]) -> Result<(), AllocError> {
     match read_old(alloc, bytes) {
-        Ok(image) => put_image(out, &image),
+        Ok(image) => {
+            put_image(out, &image)?;
+            let written = write(alloc, &image)?;
+            put_written(out, written.as_slice() == bytes)?;
+            put_reread(alloc, out, &written)?;
+            put_answer(alloc, out, &written)
+        }
         Err(fault) => put_fault(out, fault),
     }
 }

@@ -44,14 +44,14 @@ made_anew layer r old new u source given found same is =
 pub written_anew : (layer : Map → List ℕ → List ℕ) (old new : Image) (u : CUnit) → IsOldInRange old → new ≡ anew layer old u → 16384 ≤ length new.words → length new.words ≤ 4194304 → HasSpelling new
 written_anew layer old new u h is least most =
     record {
-      source = subst (λ (s : List ℕ). length s ≤ 1048576) (sym (ap (λ (i : Image). i.source) is)) h.source;
+      source = subst (λ (s : List ℕ). length s ≤ 1048576) (sym (ap (λ (i : Image). i.source) is)) h.spelled.source;
       form = inr (record {
         form = ap (λ (i : Image). i.form) is;
-        params = subst ParamsInRange (sym (ap (λ (i : Image). i.params) is)) h.system.params;
+        params = subst ParamsInRange (sym (ap (λ (i : Image). i.params) is)) h.spelled.system.params;
         least = least;
         most = most;
-        users = subst (λ (us : List (List ℕ)). length us ≤ 64) (sym (ap (λ (i : Image). i.users) is)) (let few = h.system.users in omega arith);
-        sizes = subst (λ (i : Image). All (λ u. length u ≤ most_words i.params.pages) i.users) (sym is) h.system.sizes;
+        users = subst (λ (us : List (List ℕ)). length us ≤ 64) (sym (ap (λ (i : Image). i.users) is)) (let few = h.spelled.system.users in omega arith);
+        sizes = subst (λ (i : Image). All (λ u. length u ≤ most_words i.params.pages) i.users) (sym is) h.spelled.system.sizes;
       });
     }
 

@@ -249,6 +249,16 @@ impl Board {
         self.frames.get(word)
     }
 
+    /// The words of a frame of memory, to be read in place.
+    pub(crate) fn frame(&self, frame: u32) -> &[u32; 1024]
+        requires { 1024 * frame + 1024 ≤ length self.now.memory }
+        ensures whole { length result.now ≡ 1024 }
+        ensures words { (i : ℕ) → i < 1024 → slice_index result.now i ≡ slice_index self.now.memory (1024 * frame + i) }
+    {
+        a_frame_is_its_part();
+        self.frames.lend(frame)
+    }
+
     /// Sets a word of memory.
     pub(crate) fn set_word(&mut self, word: u32, value: u32)
         requires { word < length self.old.memory }
@@ -383,5 +393,14 @@ impl Board {
         ensures { result ≡ slice_index self.now.viewed word }
     {
         self.frames.lend(self.words / 1024 + 1)[word as usize]
+    }
+
+    /// The words of the frame that is viewed, to be read in place.
+    pub(crate) fn viewed_page(&self) -> &[u32; 1024]
+        ensures value { result.now ≡ self.now.viewed }
+        ensures whole { length result.now ≡ 1024 }
+    {
+        a_frame_is_its_part();
+        self.frames.lend(self.words / 1024 + 1)
     }
 }

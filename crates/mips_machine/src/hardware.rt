@@ -235,6 +235,15 @@ impl Hardware {
         self.board.word(word)
     }
 
+    /// The words of a frame of memory, to be read in place.
+    pub(crate) fn frame(&self, frame: u32) -> &[u32; 1024]
+        requires { 1024 * frame + 1024 ≤ length self.now.memory }
+        ensures whole { length result.now ≡ 1024 }
+        ensures words { (i : ℕ) → i < 1024 → slice_index result.now i ≡ slice_index self.now.memory (1024 * frame + i) }
+    {
+        self.board.frame(frame)
+    }
+
     /// Sets a word of memory.
     pub(crate) fn set_word(&mut self, word: u32, value: u32)
         requires { word < length self.old.memory }
@@ -285,5 +294,13 @@ impl Hardware {
         ensures { result ≡ slice_index self.now.viewed word }
     {
         self.board.viewed(word)
+    }
+
+    /// The words of the frame that is viewed, to be read in place.
+    pub(crate) fn viewed_page(&self) -> &[u32; 1024]
+        ensures value { result.now ≡ self.now.viewed }
+        ensures whole { length result.now ≡ 1024 }
+    {
+        self.board.viewed_page()
     }
 }

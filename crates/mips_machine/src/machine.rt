@@ -118,6 +118,15 @@ impl Machine {
         self.hardware.word(address / 4)
     }
 
+    /// The 1,024 words of the frame of memory with this number, which is inside memory, to be read in place.
+    pub fn frame(&self, frame: u32) -> &[u32; 1024]
+        requires { 1024 * frame + 1024 ≤ length self.now.hardware.memory }
+        ensures whole { length result.now ≡ 1024 }
+        ensures words { (i : ℕ) → i < 1024 → slice_index result.now i ≡ slice_index self.now.hardware.memory (1024 * frame + i) }
+    {
+        self.hardware.frame(frame)
+    }
+
     /// Sets the word of memory at an address in bytes, which is a multiple of 4 inside memory, and no other.
     pub fn set_word(&mut self, address: u32, value: u32)
         requires aligned { address % 4 ≡ 0 }
@@ -201,5 +210,13 @@ impl Machine {
         ensures { result ≡ slice_index self.now.hardware.viewed word }
     {
         self.hardware.viewed(word)
+    }
+
+    /// The 1,024 words of the sector that was viewed last, to be read in place.
+    pub fn viewed_page(&self) -> &[u32; 1024]
+        ensures value { result.now ≡ self.now.hardware.viewed }
+        ensures whole { length result.now ≡ 1024 }
+    {
+        self.hardware.viewed_page()
     }
 }

@@ -60,7 +60,7 @@ module _ (w : World) (f : Sound w) (laws : Laws w) (p : Places) (b : ℕ) (si : 
   passes_done : (c : Contents) (d : Behind) → Same c d → Passes before q store → PageDone p v q store c0 d0 c d
   passes_done c d s pass =
       let eq : view p c.memory d.sectors ≡ before = ap₂ (view p) s.memory (ap (λ d. d.sectors) s.disk) in
-      let i : InPlace p.layout q store before before = record { was = pass.valid; passes = pass; entries = λ x lt ne. refl; hand = refl } in
+      let i : InPlace p.layout q store before before = record { was = pass.valid; passes = pass; entries = λ x lt ne. refl; frames = λ y is j lt. refl; sectors = λ x lx j lt. refl; hand = refl } in
       let br : Brought p.layout q store before before = record { handled = inl i; idle = λ k. i } in record {
         stands = subst (PagesStand p.layout v) (sym eq) a.stands;
         brought = subst (Brought p.layout q store before) (sym eq) br;
@@ -98,6 +98,8 @@ module _ (w : World) (f : Sound w) (laws : Laws w) (p : Places) (b : ℕ) (si : 
         was = val;
         passes = record { valid = ap (λ y. y / 2048 % 2) here ∙ omega arith; unprotected = λ st pr. let z : (e - 1024) / 1024 % 2 ≡ 1 = sym (ap (λ y. y / 1024 % 2) here) ∙ pr in omega arith };
         entries = r.entries;
+        frames = r.frames;
+        sectors = λ x lx j lt. secs x j;
         hand = r.hand;
       } in
       from_straight w laws.runs laws.straight open_code open_says c d Verdict refl (idle_same c d s)

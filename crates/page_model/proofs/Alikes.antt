@@ -31,6 +31,8 @@ brought_on l q store a b c d lq k m h = record { handled = ⊎_elim (λ i. inl (
       was = ap (λ u. u / 2048 % 2) (sym (k.entries q lq)) ∙ i.was;
       passes = passes_on c d q store (m.entries q lq) i.passes;
       entries = λ x lt ne. m.entries x lt ∙ i.entries x lt ne ∙ k.entries x lt;
+      frames = λ f is j lt. m.frames f is j lt ∙ i.frames f is j lt ∙ k.frames f is j lt;
+      sectors = λ x lx j lt. m.sectors x lx j lt ∙ i.sectors x lx j lt ∙ k.sectors x lx j lt;
       hand = m.hand ∙ i.hand ∙ k.hand;
     }
 
@@ -44,4 +46,4 @@ brought_on l q store a b c d lq k m h = record { handled = ⊎_elim (λ i. inl (
 
 -- what was done to store serves a read
 pub handled_read : (l : Layout) (q : ℕ) (s : Bool) (a b : Paged) → Handled l q true a b → Handled l q s a b
-handled_read l q s a b h = ⊎_elim (λ i. inl (record { was = i.was; passes = record { valid = i.passes.valid; unprotected = λ e. i.passes.unprotected refl }; entries = i.entries; hand = i.hand })) (λ f. inr f) h
+handled_read l q s a b h = ⊎_elim (λ i. inl (record { was = i.was; passes = record { valid = i.passes.valid; unprotected = λ e. i.passes.unprotected refl }; entries = i.entries; frames = i.frames; sectors = i.sectors; hand = i.hand })) (λ f. inr f) h

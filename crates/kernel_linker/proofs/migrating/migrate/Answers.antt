@@ -38,13 +38,13 @@ returns-in_err-joined-clause-is g c =
 pub link_words-requires-clause-params : goal.link_words-requires-clause-params
 link_words-requires-clause-params g c =
     let params : c.in_ok-old.old.params ≡ c.old.inside.params = cc (ap (λ (i : Image). i.params) c.old.view_is) in
-    subst ParamsInRange params c.in_ok-old.ensures.spelled.0.system.params
+    subst ParamsInRange params c.in_ok-old.ensures.spelled.0.spelled.system.params
 
 pub link_words-requires-clause-few : goal.link_words-requires-clause-few
 link_words-requires-clause-few g c =
     let users : map (λ (u : Vec ℕ Global). u.items) c.old.inside.users.items ≡ c.in_ok-old.old.users = cc (ap (λ (i : Image). i.users) c.old.view_is) in
     let lent : map (λ (u : Vec ℕ Global). u.items) c.deref-3.result.now ≡ c.in_ok-old.old.users = ap (map (λ (u : Vec ℕ Global). u.items)) c.deref-3.ensures.value ∙ users in
-    let few : length c.in_ok-old.old.users ≤ 16 = c.in_ok-old.ensures.spelled.0.system.users in
+    let few : length c.in_ok-old.old.users ≤ 16 = c.in_ok-old.ensures.spelled.0.spelled.system.users in
     let len : length (map (λ (u : Vec ℕ Global). u.items) c.deref-3.result.now) ≡ length c.deref-3.result.now = length-map c.deref-3.result.now (λ (u : Vec ℕ Global). u.items) in
     omega (arith, ap (λ (us : List (List ℕ)). length us) lent)
 
@@ -54,7 +54,7 @@ link_words-requires-clause-short g c =
     let users : map (λ (u : Vec ℕ Global). u.items) c.old.inside.users.items ≡ c.in_ok-old.old.users = cc (ap (λ (i : Image). i.users) c.old.view_is) in
     let lent : map (λ (u : Vec ℕ Global). u.items) c.deref-3.result.now ≡ c.in_ok-old.old.users = ap (map (λ (u : Vec ℕ Global). u.items)) c.deref-3.ensures.value ∙ users in
     subst (λ (p : Params). All (λ u. length u ≤ most_words p.pages) (map (λ (u : Vec ℕ Global). u.items) c.deref-3.result.now)) params
-    (subst (λ (us : List (List ℕ)). All (λ u. length u ≤ most_words c.in_ok-old.old.params.pages) us) (sym lent) c.in_ok-old.ensures.spelled.0.system.sizes)
+    (subst (λ (us : List (List ℕ)). All (λ u. length u ≤ most_words c.in_ok-old.old.params.pages) us) (sym lent) c.in_ok-old.ensures.spelled.0.spelled.system.sizes)
 
 pub returns-clause-is : goal.returns-clause-is
 returns-clause-is g c =
