@@ -260,7 +260,7 @@ abbrev pub Tracks : Outside → Map → (start now : Option State) → (before a
 Tracks x m start now before after = (b : Booted x m start before.tracer before.text) → Tracked x b.y b.old b.u b.t b.base now before.budget after.budget after.tracer after.text
 
 -- the clause on a loop is of each boot
-each_run : (count : ℕ) (m : Map) (held new : Held) (told retold : Option (List (List ℕ))) (before after : Tracing) (result : Result Begun RunFault) →
+each_run : (count : ℕ) (m : Map) (held new : Held) (told retold : Option (List (List ℕ))) (before after : Tracing) (result : Result (ℕ × Begun) RunFault) →
     ((b : Booted (outside_of held.rows count) m (seen told held) before.tracer before.text) →
     MatchResult result (λ _. TracedOn (outside_of held.rows count) b.y b.old b.u b.t b.base before.budget after.budget after.tracer after.text)
     (TraceStops (outside_of held.rows count) b.y b.old b.u b.t b.base (seen retold new) before.budget after.budget after.tracer after.text)) →
@@ -281,7 +281,7 @@ module _ (count : ℕ) (m : Map) (held mid : Held) (told midtold : Option (List 
   tracks_limit new retold = each_run count m held new told retold before now (Err StepLimit) (λ b. traced_on _ b.y b.old b.u b.t b.base (seen midtold mid) _ _ _ _ (so_far b))
 
   -- the turn is complete
-  pub tracks_whole : (new : Held) (retold : Option (List (List ℕ))) (begun : Begun) → TraceRuns count m held new told retold before now (Ok begun)
+  pub tracks_whole : (new : Held) (retold : Option (List (List ℕ))) (begun : ℕ × Begun) → TraceRuns count m held new told retold before now (Ok begun)
   tracks_whole new retold begun = each_run count m held new told retold before now (Ok begun) (λ b. traced_on _ b.y b.old b.u b.t b.base (seen midtold mid) _ _ _ _ (so_far b))
 
   -- one step more, by which the budget is less

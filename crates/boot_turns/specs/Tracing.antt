@@ -116,7 +116,7 @@ pub record Tracing : Type 0 where
   pub budget : ℕ
 
 -- THE TRACE OF A LOOP that steps a machine, over a disk of so many sectors: for every boot whose run stands there, of one of its users
-abbrev pub TraceRuns : (count : ℕ) → Map → (old new : Held) → (told retold : Option (List (List ℕ))) → (before after : Tracing) → Result Begun RunFault → Type 0
+abbrev pub TraceRuns : (count : ℕ) → Map → (old new : Held) → (told retold : Option (List (List ℕ))) → (before after : Tracing) → Result (ℕ × Begun) RunFault → Type 0
 TraceRuns count m held new told retold before after result =
     (c : CUnit) (lines busy : ℕ → ℕ) (y : System) (old : List (List ℕ)) (image sizes : List ℕ) (made_for : Map) (u t : ℕ) (base : Option (List ℕ)) →
     Boots (IsTypedState c) lines busy (outside_of held.rows count) y old image sizes made_for → Laws (site_of y.boot) sizes → m ≡ (site_of y.boot).map → 1 ≤ u → u ≤ length y.boot.users →

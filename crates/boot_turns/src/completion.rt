@@ -6,7 +6,7 @@ ghost use Rattle.mips_table.specs.Fits.{NamesSector};
 ghost use Rattle.layer_map.specs.Map.{current_at};
 ghost use Rattle.mips_machine.specs.Steps.{outside_of};
 ghost use Rattle.boot_turns.specs.Advances.{Advances};
-ghost use Rattle.boot_turns.specs.Completes.{begun_by, noted, shown, is_at_rest, StepRan, StepBegan, StepTorn, Completes};
+ghost use Rattle.boot_turns.specs.Completes.{begun_by, noted, shown, is_at_rest, is_going, StepRan, StepBegan, StepTorn, Completes};
 ghost use Rattle.boot_turns.specs.Tracing.{CanTrace, TraceRuns};
 ghost use Rattle.boot_turns.specs.TraceSteps.{StepTraces};
 
@@ -157,8 +157,16 @@ fn at_rest(machine: &Machine) -> bool
     machine.special(MODE) == 1 || machine.off().is_some()
 }
 
-/// Steps the machine until the next turn is complete, a step from the budget each. Where a user is traced, its rows are printed as their
-/// entries end; else nothing is.
+/// Whether the machine is on and in user mode.
+fn in_user_now(machine: &Machine) -> bool
+    ensures { result ≡ is_going machine.now }
+{
+    machine.special(MODE) == 1 && machine.off().is_none()
+}
+
+/// Steps the machine until so many turns at most are complete, a step from the budget each: turns that are one step of a user, which keeps
+/// user mode, as long as they come, and then one turn more. The answer is how many of the first there were, and what was noted of the last
+/// turn. Where a user is traced, its rows are printed as their entries end; else nothing is.
 ///
 /// # Errors
 ///
@@ -167,16 +175,18 @@ fn at_rest(machine: &Machine) -> bool
 pub fn complete<D: Sectors, O: Sink>(
     machine: &mut Machine,
     budget: &mut u64,
+    most: u32,
     tracer: &mut Option<Tracer>,
     map: &Map,
     disk: &mut D,
     out: &mut O,
-) -> Result<Begun, RunFault>
+) -> Result<(u32, Begun), RunFault>
+    requires some { 1 ≤ most }
     requires steps { machine.old.time + budget.old < 2 ^ 64 }
     requires sector { NamesSector (D.size disk.old) machine.old.hardware.ports.pending }
     requires room { 1024 < length machine.old.hardware.memory }
     requires can { IfSome tracer.old (CanTrace map.now (length machine.old.hardware.memory) machine.old.time (D.size disk.old)) }
-    ensures ends { Completes (D.size disk.old) machine.old machine.new (D.sectors disk.old) (D.sectors disk.new) budget.old budget.new result }
+    ensures ends { Completes (D.size disk.old) machine.old machine.new (D.sectors disk.old) (D.sectors disk.new) budget.old budget.new most result }
     ensures traced { TraceRuns (D.size disk.old) map.now machine.old machine.new (D.sectors disk.old) (D.sectors disk.new) (record { tracer = tracer.old; text = O.text out.old; budget = budget.old }) (record { tracer = tracer.new; text = O.text out.new; budget = budget.new }) result }
     ensures untraced { tracer.old ≡ None → (tracer.new ≡ None) × (out.new ≡ out.old) }
     ensures no_sink { tracer.old ≡ None → result ≢ Err RunFault.Sink }
@@ -192,6 +202,7 @@ pub fn complete<D: Sectors, O: Sink>(
     ensures sink_same { result ≢ Err RunFault.Sink → O.faults out.new ≡ O.faults out.old }
     ensures spent { machine.new.time + budget.new ≡ machine.old.time + budget.old }
 {
+    let mut skipped: u32 = 0;
     let mut begun: Option<Begun> = None;
     while *budget > 0 {
         if machine.off().is_some() {
@@ -199,36 +210,43 @@ pub fn complete<D: Sectors, O: Sink>(
         }
         *budget -= 1;
         let began = step_traced(machine, tracer, map, disk, out)?;
-        begun = noted(machine, begun, began);
-        if let Some(b) = begun {
-            if at_rest(machine) {
-                return Ok(b);
+        if began && begun.is_none() && skipped + 1 < most && in_user_now(machine) {
+            skipped += 1;
+        } else {
+            begun = noted(machine, begun, began);
+            if let Some(b) = begun {
+                if at_rest(machine) {
+                    return Ok((skipped, b));
+                }
             }
         }
     }
     Err(RunFault::StepLimit)
 }
 
-/// Runs one turn of the machine of a boot, a step from the budget each. Where a user is traced, its rows are printed as their entries end;
-/// else nothing is.
+/// Runs turns of the machine of a boot, so many at most, a step from the budget each: untrapped steps of the current user as long as they
+/// come, and then one turn more. The answer is how many of the first there were, and what was noted of the last turn. Where a user is
+/// traced, its rows are printed as their entries end; else nothing is.
 ///
 /// # Errors
 ///
-/// `StepLimit`, where the budget is spent before the turn is complete; `Disk`, where the disk failed, in a step or in its rows; `Sink`,
-/// where the sink failed.
+/// `StepLimit`, where the budget is spent before the last turn is complete; `Disk`, where the disk failed, in a step or in its rows;
+/// `Sink`, where the sink failed.
 pub fn advance<D: Sectors, O: Sink>(
     machine: &mut Machine,
     budget: &mut u64,
+    most: u32,
     tracer: &mut Option<Tracer>,
     map: &Map,
     disk: &mut D,
     out: &mut O,
-) -> Result<Begun, RunFault>
+) -> Result<(u32, Begun), RunFault>
+    requires some { 1 ≤ most }
     requires steps { machine.old.time + budget.old < 2 ^ 64 }
     requires sector { NamesSector (D.size disk.old) machine.old.hardware.ports.pending }
     requires room { 1024 < length machine.old.hardware.memory }
     requires can { IfSome tracer.old (CanTrace map.now (length machine.old.hardware.memory) machine.old.time (D.size disk.old)) }
-    ensures ends { Advances (D.size disk.old) machine.old machine.new (D.sectors disk.old) (D.sectors disk.new) budget.old budget.new result }
+    ensures ends { Advances (D.size disk.old) machine.old machine.new (D.sectors disk.old) (D.sectors disk.new) budget.old budget.new most result }
     ensures traced { TraceRuns (D.size disk.old) map.now machine.old machine.new (D.sectors disk.old) (D.sectors disk.new) (record { tracer = tracer.old; text = O.text out.old; budget = budget.old }) (record { tracer = tracer.new; text = O.text out.new; budget = budget.new }) result }
     ensures untraced { tracer.old ≡ None → (tracer.new ≡ None) × (out.new ≡ out.old) }
     ensures no_sink { tracer.old ≡ None → result ≢ Err RunFault.Sink }
@@ -245,5 +263,5 @@ pub fn advance<D: Sectors, O: Sink>(
     ensures spent { machine.new.time + budget.new ≡ machine.old.time + budget.old }
 {
     machines_run();
-    complete(machine, budget, tracer, map, disk, out)
+    complete(machine, budget, most, tracer, map, disk, out)
 }
