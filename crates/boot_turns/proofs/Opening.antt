@@ -10,6 +10,7 @@ use Rattle.mips_machine.specs.Machine.{Held, state_of}
 use Rattle.mips_machine.specs.Steps.{outside_of}
 use Rattle.boot_turns.specs.Completes.{seen, note, shown, noted, is_at_rest, Open, Progress, StepRan, StepTorn, CompleteErr}
 use Rattle.boot_turns.specs.declared.completion.Begun.{Begun}
+use Rattle.boot_turns.specs.declared.completion.Stepped.{Stepped}
 use Rattle.boot_turns.specs.declared.answers.RunFault.{RunFault}
 use Rattle.boot_turns.specs.declared.answers.RunFault.TheVariants.{StepLimit, Disk, Sink}
 use Rattle.boot_turns.proofs.Events.{step_torn}
@@ -80,7 +81,7 @@ one_step x y s t u told retold old new b out began same le is p ran bg note_is =
     (there, subst (Opened x s t (suc u)) (sym note_is) (opened_more x s t u b began (shown new) le p bg2 (seen_note retold new _ there)))
 
 -- the answer of a step that failed, or whose rows did
-abbrev failing : RunFault → Result Bool RunFault
+abbrev failing : RunFault → Result Stepped RunFault
 failing f = Err f
 
 -- the step at u failed, or its rows
