@@ -270,7 +270,6 @@ pub fn complete<D: Sectors, O: Sink>(
     ensures spent { machine.new.time + budget.new ≡ machine.old.time + budget.old }
 {
     let mut skipped: u32 = 0;
-    // so many turns may be passed; none once a turn has begun that is not
     let mut limit: u32 = most - 1;
     let mut begun: Option<Begun> = None;
     while *budget > 0 {
@@ -285,12 +284,13 @@ pub fn complete<D: Sectors, O: Sink>(
                 continue;
             }
         }
+        // a turn that takes more than one step is the last
+        limit = 0;
         note(machine, &mut begun, stepped.began());
         if let Some(b) = begun {
             if at_rest(machine) {
                 return Ok((skipped, b));
             }
-            limit = 0;
         }
     }
     Err(RunFault::StepLimit)

@@ -36,7 +36,7 @@ returns-in_err-follow-clause-traced g c =
       | in_default w ↦ sym w.tracer-is ∙ c.in-Some.is
     ] in
     let began : StepBegan (g.D.Sectors.size c.args.disk.now) c.args.machine.now (g.D.Sectors.sectors c.args.disk.now) c.began-began.result =
-        subst (λ (b : Bool). StepBegan (g.D.Sectors.size c.args.disk.now) c.args.machine.now (g.D.Sectors.sectors c.args.disk.now) b) (sym c.began-began.ensures) c.in_ok-stepped.ensures.began in
+    subst (λ (b : Bool). StepBegan (g.D.Sectors.size c.args.disk.now) c.args.machine.now (g.D.Sectors.sectors c.args.disk.now) b) (sym c.began-began.ensures) c.in_ok-stepped.ensures.began in
     let w = err_from_is_err_and c.from_residual-in_err-follow.result c.from_residual-in_err-follow.ensures.1 in
     let x = outside_of c.args.machine.now.rows (g.D.Sectors.size c.args.disk.now) in
     step_stops c.traces_grow.ensures c.journal_rows_follow.ensures c.the_words_tell.ensures x c.args.map.now c.args.machine.now (g.D.Sectors.sectors c.args.disk.now) c.in-Some.kept (g.O.Sink.text c.args.out.now) c.requires.on
@@ -51,7 +51,7 @@ returns-in-Some-clause-traced g c =
       | in_default w ↦ sym w.tracer-is ∙ c.in-Some.is
     ] in
     let began : StepBegan (g.D.Sectors.size c.args.disk.now) c.args.machine.now (g.D.Sectors.sectors c.args.disk.now) c.began-began.result =
-        subst (λ (b : Bool). StepBegan (g.D.Sectors.size c.args.disk.now) c.args.machine.now (g.D.Sectors.sectors c.args.disk.now) b) (sym c.began-began.ensures) c.in_ok-stepped.ensures.began in
+    subst (λ (b : Bool). StepBegan (g.D.Sectors.size c.args.disk.now) c.args.machine.now (g.D.Sectors.sectors c.args.disk.now) b) (sym c.began-began.ensures) c.in_ok-stepped.ensures.began in
     let x = outside_of c.args.machine.now.rows (g.D.Sectors.size c.args.disk.now) in
     step_goes c.traces_grow.ensures c.journal_rows_follow.ensures c.the_words_tell.ensures x c.args.map.now c.args.machine.now (g.D.Sectors.sectors c.args.disk.now) c.in-Some.kept (g.O.Sink.text c.args.out.now) c.requires.on
     c.step_once.new.machine (g.D.Sectors.sectors c.step_once.new.disk) c.in_ok-stepped.ensures.ran c.traced_current-current.result (current_read c.args.tracer.now c.in-Some.kept c.traced_current-current.result (slice_index c.args.machine.now.hardware.memory 1024) c.traced_current-current.ensures here) c.began-began.result began
@@ -66,4 +66,3 @@ returns-then-counts-clause-traced g c =
     step_counted c.traces_grow.ensures c.journal_rows_follow.ensures c.the_words_tell.ensures x c.args.map.now c.args.machine.now (g.D.Sectors.sectors c.args.disk.now) c.args.tracer.now c.counts.new.tracer (g.O.Sink.text c.args.out.now)
     c.requires.on c.step_once.new.machine (g.D.Sectors.sectors c.step_once.new.disk) c.in_ok-stepped.ensures.ran c.traced_current-current.result c.traced_current-current.ensures began kept.0 (c.counts.ensures.free c.if-counts.true)
     (c.counts.ensures.counted c.if-counts.true) Kept
-
