@@ -16,9 +16,6 @@ use cvm_outside::{DiskFault, Sectors, Sink, SinkFault};
 use layer_map::Map;
 use mips_machine::Machine;
 
-/// How many words are looked at together.
-const LINE: usize = 64;
-
 /// The words of a page that is in this frame, or in the sector that was viewed, to be read in place.
 fn words_of_page(machine: &Machine, frame: Option<u32>) -> &[u32; 1024]
     requires inside { IfSome frame (λ f. 1024 * f + 1024 ≤ length machine.now.hardware.memory) }
@@ -75,8 +72,8 @@ fn put_page<O: Sink>(
 {
     let words = words_of_page(machine, frame);
     for i in 0..16u32 {
-        let at = LINE * i as usize;
-        put_line(&words[at..at + LINE], 1024 * page + 64 * i, out)?;
+        let at = 64 * i as usize;
+        put_line(&words[at..at + 64], 1024 * page + 64 * i, out)?;
     }
     Ok(())
 }
