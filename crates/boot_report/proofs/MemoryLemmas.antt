@@ -1,4 +1,4 @@
--- One page of a user's memory, put after the pages before it.
+-- One page of a user's memory, put after the pages before it, and line by line.
 use Rattle.std.proofs.Common.{◌≡◌, ℕ, ◌+◌, ◌*◌, ◌<◌, Bool, List, Option, take, drop, sym, ap, ap₂, ◌∙◌, subst, arith}
 use Rattle.std.specs.Prelude.{slice_index}
 use Rattle.std.proofs.lemmas.List.{get_or-take, get_or-drop}

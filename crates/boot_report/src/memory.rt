@@ -28,7 +28,7 @@ fn words_of_page(machine: &Machine, frame: Option<u32>) -> &[u32; 1024]
     }
 }
 
-/// Whether all these words are 0. Each is looked at, so that many are at once.
+/// Whether all these words are 0. The loop has no way out before the end, so that the compiler takes many words at once.
 fn are_zero(words: &[u32]) -> bool
     ensures zero { result ≡ true → (i : ℕ) → i < length words.now → slice_index words.now i ≡ 0 }
     ensures other { ((i : ℕ) → i < length words.now → slice_index words.now i ≡ 0) → result ≡ true }
