@@ -10,7 +10,7 @@ ghost use Rattle.boot_run.specs.Whole.{Bootable, end_of_fault, CloseRuns, GoRuns
 use crate::load::LoadFault;
 use crate::next::has_faulted;
 use crate::run::Run;
-use boot_turns::{RunFault, Turn, View, journal_rows_follow, machines_run, traces_grow};
+use boot_turns::{RunFault, View, journal_rows_follow, machines_run, traces_grow};
 use cvm_model::units_replay;
 use cvm_outside::{Sectors, Sink};
 use layer_contract::{Boot, Layer};
@@ -93,10 +93,11 @@ fn go<L: Layer + Drop, D: Sectors, O: Sink>(
     turns_are_counted();
     let mut left = turns;
     while left > 0 {
-        match run.turns(left, budget, disk, out)? {
-            (_, Turn::Over) => return Ok(()),
-            (made, _) => left -= made,
+        let (made, _) = run.turns(left, budget, disk, out)?;
+        if made == 0 {
+            return Ok(());
         }
+        left -= made;
     }
     Ok(())
 }
