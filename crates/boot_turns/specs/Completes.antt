@@ -11,6 +11,8 @@ use Rattle.mips_machine.specs.declared.event.Event.{Event}
 use Rattle.mips_machine.specs.declared.event.Event.TheVariants.{Taken, Off}
 use Rattle.cvm_model.specs.Cvm.{Begin, Steps, Traps, Interrupts}
 use Rattle.boot_turns.specs.declared.completion.Begun.{Begun}
+use Rattle.boot_turns.specs.declared.completion.Stepped.{Stepped}
+use Rattle.boot_turns.specs.declared.completion.Stepped.TheVariants.{Kept, Began, On}
 use Rattle.boot_turns.specs.declared.answers.RunFault.{RunFault}
 use Rattle.boot_turns.specs.declared.answers.RunFault.TheVariants.{StepLimit, Disk, Sink}
 
@@ -50,6 +52,21 @@ begun_by reset in_user pages edata (Taken FetchFault) = reset || (in_user && not
 begun_by reset in_user pages edata (Taken DataFault) = reset || (in_user && not (nat_lt (edata / 4096) pages))
 begun_by reset in_user pages edata other = reset || in_user
 
+-- whether a step was one that began a turn
+abbrev pub turn_began : Stepped → Bool
+turn_began Kept = true
+turn_began Began = true
+turn_began On = false
+
+abbrev pub stepped_as : Bool → Stepped
+stepped_as true = Began
+stepped_as false = On
+
+-- where it kept user mode, the machine is in user mode and on
+abbrev pub KeptUser : Held → Stepped → Type 0
+KeptUser held Kept = (slice_index held.hardware.special MODE ≡ 1) × (held.hardware.off ≡ None)
+KeptUser held other = Unit {0}
+
 -- what a state shows after the step that begins a turn: the mode, the cause, what it concerns, and the current user's word
 abbrev pub note : State → Begun
 note s = record {
@@ -72,10 +89,6 @@ noted None false now = None
 -- whether a machine is in user mode or off
 abbrev pub is_at_rest : Held → Bool
 is_at_rest held = slice_index held.hardware.special MODE == 1 || is_some held.hardware.off
-
--- whether it is on and in user mode
-abbrev pub is_going : Held → Bool
-is_going held = slice_index held.hardware.special MODE == 1 && not (is_some held.hardware.off)
 
 -- from step t on a turn began at `start`, before u, and the machine hasn't come to rest since
 pub record Open (x : Outside) (s : State) (t u : ℕ) (b : Begun) : Type 0 where

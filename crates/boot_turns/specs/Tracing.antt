@@ -1,5 +1,5 @@
 -- What a trace has printed, and what is kept of it, while the machine steps.
-use Rattle.std.specs.Prelude.{◌≡◌, ℕ, suc, ◌+◌, ◌*◌, ◌≤◌, Bool, false, if◌then◌else◌, Option, Some, None, List, [], length, slice_index, Result, MatchResult}
+use Rattle.std.specs.Prelude.{◌≡◌, ℕ, suc, ◌+◌, ◌*◌, ◌≤◌, ◌==◌, Bool, false, if◌then◌else◌, Option, Some, None, List, [], length, slice_index, Result, MatchResult}
 use Rattle.std.specs.Io.KnownBytes.{append_known}
 use Rattle.mips_table.specs.Device.{Outside}
 use Rattle.mips_table.specs.Machine.{State}
@@ -58,6 +58,10 @@ followed_rows s kept current began words = journal_rows_after false kept.steps (
 
 abbrev pub kept_after : State → Tracer → (current : ℕ) → (began : Bool) → (words : List ℕ) → Tracer
 kept_after s kept current began words = record { user = kept.user; steps = steps_after kept.steps (followed s kept current began words); call = notes_on s kept.call }
+
+-- an untrapped step under this current user is counted, and has no rows
+abbrev pub counted : (current : ℕ) → Tracer → Tracer
+counted current kept = record kept { steps = if current == kept.user then kept.steps + 1 else kept.steps }
 
 -- of every words of the traced user that the pages tell, where those that a primitive with this answer copied to it lie
 abbrev pub WhereCopied : Option (List (List ℕ)) → Held → Map → Tracer → Entered → (answer : ℕ) → (List ℕ → Type 0) → Type 0
