@@ -34,10 +34,6 @@ beyond_of : (b : Booted) (rows : Rows) (old now : List (List ℕ)) → StaysFrom
 beyond_of b rows old now h = λ q le.
     one_list (sector_of now q) (sector_of old q) (h q (subst (λ n. n * b.params.pages ≤ q) (length-map b.users.items (λ words. words.items)) le))
 
--- one of the users
-pub users_of : (b : Booted) (u : ℕ) → u ≤ length b.users.items → u ≤ length (boot_of b).users
-users_of b u h = subst (λ n. u ≤ n) (sym (length-map b.users.items (λ words. words.items))) h
-
 -- where it isn't loaded
 pub whole_refused : (b : Booted) (rows : Rows) (count : ℕ) (v : View) (turns steps : ℕ) (told retold : Option (List (List ℕ))) (before after : Option (List ℕ)) (f : LoadFault) → after ≡ before →
     (f ≡ Memory → retold ≡ told) → StaysFrom (pages_needed b) told retold → WholeEnds b rows count v turns steps told retold before after (Err f)

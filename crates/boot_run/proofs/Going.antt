@@ -1,5 +1,5 @@
 -- From turn to turn, and how the loop over turns ends.
-use Rattle.std.proofs.Common.{◌≡◌, ◌≢◌, ◌⊎◌, inl, inr, ℕ, zero, suc, ◌+◌, ◌<◌, ◌≤◌, Bool, true, false, not, Option, Some, None, List, [], ◌∷◌, ◌++◌, refl, sym, ap, ap₂, ◌∙◌, subst, ⊎_elim, arith, eq-eqb, ne_eqb}
+use Rattle.std.proofs.Common.{◌≡◌, ◌≢◌, ◌⊎◌, inl, inr, ℕ, zero, suc, ◌+◌, ◌-◌, ◌<◌, ◌≤◌, Bool, true, false, not, Option, Some, None, Ok, Err, List, [], ◌∷◌, ◌++◌, refl, sym, ap, ap₂, ◌∙◌, subst, ⊎_elim, arith, eq-eqb, ne_eqb}
 use Rattle.std.specs.Prelude.{◌==◌, ◌||◌, is_some, IsSome, if◌then◌else◌}
 use Rattle.std.specs.Option.{option_map}
 use Rattle.std.specs.Io.KnownBytes.{append_known}
@@ -13,27 +13,49 @@ use Rattle.cvm_model.specs.Cvm.{System, Status, Running, Halted, Faulted, Cvm, f
 use Rattle.layer_contract.specs.Layer.{Rests}
 use Rattle.layer_contract.specs.Follows.{loaded, machine}
 use Rattle.boot_turns.specs.Headline.{Machines, StepBroken, RowBroken, end_of}
-use Rattle.boot_turns.specs.TurnEnds.{Printed, Whole}
+use Rattle.boot_turns.specs.Advances.{Skipped}
+use Rattle.boot_turns.specs.TurnEnds.{Stood, Printed, Whole}
 use Rattle.boot_turns.specs.declared.answers.View.{View}
 use Rattle.boot_turns.specs.declared.answers.View.TheVariants.{Boot, Trace}
 use Rattle.boot_turns.specs.declared.answers.Turn.{Turn}
 use Rattle.boot_turns.specs.declared.answers.RunFault.{RunFault}
 use Rattle.boot_turns.specs.declared.answers.RunFault.TheVariants.{StepLimit, Disk, Sink}
-use Rattle.boot_run.specs.TurnCalls.{ended_of, Around, Ready, Turned, Limited, DiskFailed, PutBroken, SinkFailed, TurnFails}
+use Rattle.boot_run.specs.TurnCalls.{ended_of, Around, Ready, Turned, Limited, DiskFailed, PutBroken, SinkFailed, TurnFails, TurnsEnd}
 use Rattle.boot_run.specs.Whole.{Gone, Late, TraceBroken, PutFails, GoFails}
 
--- after i turns, at step t, the next call finds the run so, and no end came before
-pub record Going (x : Outside) (y : System) (old : List (List ℕ)) (v : View) (base : Option (List ℕ)) (steps i t : ℕ) (c : Cvm) (now : Around) : Type 0 where
-  pub ready : Ready x y old v base i t c now
+-- after i turns the machine came to step t, and no end came before
+pub record Came (x : Outside) (y : System) (old : List (List ℕ)) (steps i t : ℕ) (c : Cvm) (budget : ℕ) : Type 0 where
+  pub stood : Stood x y old i t c
   pub before : (j : ℕ) → j < t → complete x (loaded y old) j < i
   pub on : (j : ℕ) → j < t → (machine x y old j).off ≡ None
-  pub budget : now.budget + t ≡ steps
+  pub spent : budget + t ≡ steps
+
+-- and the next call finds the run so
+pub record Going (x : Outside) (y : System) (old : List (List ℕ)) (v : View) (base : Option (List ℕ)) (steps i t : ℕ) (c : Cvm) (now : Around) : Type 0 where
+  pub ready : Ready x y old v base i t c now
+  pub came : Came x y old steps i t c now.budget
 
 abbrev pub Goes : Outside → System → List (List ℕ) → View → Option (List ℕ) → (steps i : ℕ) → Around → Type 0
 Goes x y old v base steps i now = (t : ℕ) × (c : Cvm) × Going x y old v base steps i t c now
 
 pub going_first : (x : Outside) (y : System) (old : List (List ℕ)) (v : View) (base : Option (List ℕ)) (now : Around) → Ready x y old v base 0 0 (first_cvm y) now → Goes x y old v base now.budget 0 now
-going_first x y old v base now ready = (0, first_cvm y, record { ready = ready; before = λ j h. absurd (omega arith); on = λ j h. absurd (omega arith); budget = omega arith })
+going_first x y old v base now ready =
+    (0, first_cvm y, record { ready = ready; came = record { stood = ready.stood; before = λ j h. absurd (omega arith); on = λ j h. absurd (omega arith); spent = omega arith } })
+
+-- turns that were passed
+came_on : (x : Outside) (y : System) (old : List (List ℕ)) (steps i t : ℕ) (c : Cvm) (budget : ℕ) → Came x y old steps i t c budget → (n : ℕ) → n ≤ budget → (w : Skipped x y old i t c n) → Came x y old steps (i + n) (t + n) w.after (budget - n)
+came_on x y old steps i t c budget g n le w = record {
+  stood = w.stood;
+  before = λ j h. ⊎_elim
+      (λ (lt : j < t). let e = g.before j lt in omega (arith, e))
+      (λ (ge : t ≤ j).
+      let there : t + (j - t) ≡ j = omega (arith, ge) in
+      let e : complete x (loaded y old) j ≡ i + (j - t) = subst (λ a. complete x (loaded y old) a ≡ i + (j - t)) there (w.done (j - t) (omega (arith, h, ge))) in
+      omega (arith, e, h, ge))
+      (cases_lt j t);
+  on = λ j h. w.on j (omega (arith, h));
+  spent = let e = g.spent in omega (arith, e, le);
+}
 
 -- how a run ended tells its status
 pub running_of : (s : Status) → ended_of s ≡ None → s ≡ Running
@@ -65,33 +87,43 @@ no_end : (x : Outside) (s : State) (k t : ℕ) → complete x s t ≢ k → (run
 no_end x s k t e o = ap₂ (λ (b : Bool) (o : Option ℕ). b || not (not (is_some o))) (ne_eqb (complete x s t) k e) o
 
 -- the next turn is complete
-pub going_next : (x : Outside) (y : System) (old : List (List ℕ)) (v : View) (base : Option (List ℕ)) (steps i t : ℕ) (c : Cvm) (before after : Around) (answer : Turn) →
-    Going x y old v base steps i t c before → Turned x y old v base i t c before after answer → Goes x y old v base steps (i + 1) after
-going_next x y old v base steps i t c before after answer g w =
+going_next : (x : Outside) (y : System) (old : List (List ℕ)) (v : View) (base : Option (List ℕ)) (steps i next t : ℕ) (c : Cvm) (before after : Around) (answer : Turn) → suc i ≡ next →
+    Came x y old steps i t c before.budget → Turned x y old v base i t c before after answer → Goes x y old v base steps next after
+going_next x y old v base steps i next t c before after answer is g w =
     let a = w.ahead in
-    let next : suc i ≡ i + 1 = omega arith in
-    let b0 = g.budget in
+    let ready = subst (λ n. Ready x y old v base n a.end a.after after) is w.ready in
+    let b0 = g.spent in
     let b1 = w.budget in (
       a.end,
       a.after,
       record {
-        ready = subst (λ n. Ready x y old v base n a.end a.after after) next w.ready;
-        before = λ j h. ⊎_elim
-            (λ (lt : j < t). let e = g.before j lt in omega (arith, e))
-            (λ (ge : t ≤ j). let e = a.between j ge h in omega (arith, e))
-            (cases_lt j t);
-        on = a.on;
-        budget = omega (arith, b0, b1);
+        ready = ready;
+        came = record {
+          stood = ready.stood;
+          before = λ j h. ⊎_elim
+              (λ (lt : j < t). let e = g.before j lt in omega (arith, e, is))
+              (λ (ge : t ≤ j). let e = a.between j ge h in omega (arith, e, is))
+              (cases_lt j t);
+          on = a.on;
+          spent = omega (arith, b0, b1);
+        };
       },
     )
 
--- no end comes before t
-not_before : (x : Outside) (y : System) (old : List (List ℕ)) (v : View) (base : Option (List ℕ)) (turns steps i t : ℕ) (c : Cvm) (now : Around) → i ≤ turns → Going x y old v base steps i t c now →
-    (j : ℕ) → j < t → is_end x (loaded y old) turns j ≡ false
-not_before x y old v base turns steps i t c now le g j h = let b = g.before j h in no_end x (loaded y old) turns j (λ e. omega (arith, b, e)) (g.on j h)
+-- so many turns were made in one call
+pub going_turns : (x : Outside) (y : System) (old : List (List ℕ)) (v : View) (base : Option (List ℕ)) (steps i t : ℕ) (c : Cvm) (most : ℕ) (before after : Around) (made : ℕ) (answer : Turn) →
+    Going x y old v base steps i t c before → TurnsEnd x y old v base i t c most before after (Ok (made, answer)) → Goes x y old v base steps (i + made) after
+going_turns x y old v base steps i t c most before after made answer g (n, lt, le, s, (is, w)) =
+    let next : suc (i + n) ≡ i + made = omega (arith, is) in
+    going_next x y old v base steps (i + n) (i + made) (t + n) s.after (record before { budget = before.budget - n }) after answer next
+    (came_on x y old steps i t c before.budget g.came n le s) w
 
-within : (x : Outside) (y : System) (old : List (List ℕ)) (v : View) (base : Option (List ℕ)) (steps i t : ℕ) (c : Cvm) (now : Around) → Going x y old v base steps i t c now → t ≤ steps
-within x y old v base steps i t c now g = let b = g.budget in omega (arith, b)
+-- no end comes before t
+not_before : (x : Outside) (y : System) (old : List (List ℕ)) (turns steps i t : ℕ) (c : Cvm) (budget : ℕ) → i ≤ turns → Came x y old steps i t c budget → (j : ℕ) → j < t → is_end x (loaded y old) turns j ≡ false
+not_before x y old turns steps i t c budget le g j h = let b = g.before j h in no_end x (loaded y old) turns j (λ e. omega (arith, b, e)) (g.on j h)
+
+within : (x : Outside) (y : System) (old : List (List ℕ)) (steps i t : ℕ) (c : Cvm) (budget : ℕ) → Came x y old steps i t c budget → t ≤ steps
+within x y old steps i t c budget g = let b = g.spent in omega (arith, b)
 
 -- so many turns are complete
 pub go_done : (x : Outside) (y : System) (old : List (List ℕ)) (v : View) (base : Option (List ℕ)) (turns steps i : ℕ) (now : Around) → 1 ≤ turns → i ≡ turns → Goes x y old v base steps i now → Gone x y old v base turns steps now
@@ -101,8 +133,8 @@ go_done x y old v base turns steps (suc k) now some same (t, c, g) = record {
   at = t;
   past = c;
   ready = g.ready;
-  end = record { here = end_at x (loaded y old) turns t (g.ready.stood.all ∙ same); first = not_before x y old v base turns steps (suc k) t c now (omega arith) g };
-  within = within x y old v base steps (suc k) t c now g;
+  end = record { here = end_at x (loaded y old) turns t (g.ready.stood.all ∙ same); first = not_before x y old turns steps (suc k) t c now.budget (omega arith) g.came };
+  within = within x y old steps (suc k) t c now.budget g.came;
 }
 
 some_none : (o : Option Next) → o ≡ None → IsSome o → ⊥
@@ -128,8 +160,8 @@ go_over x y old m v base turns steps (suc k) now le over (t, c, g) =
       at = t;
       past = c;
       ready = g.ready;
-      end = record { here = end_off x (loaded y old) turns t off.0 off.1; first = not_before x y old v base turns steps (suc k) t c now le g };
-      within = within x y old v base steps (suc k) t c now g;
+      end = record { here = end_off x (loaded y old) turns t off.0 off.1; first = not_before x y old turns steps (suc k) t c now.budget le g.came };
+      within = within x y old steps (suc k) t c now.budget g.came;
     }
 
 -- the search for the end stops within the steps
@@ -148,18 +180,18 @@ true_false b e f = cc
 pub none_within : TurnLaws → (x : Outside) (s : State) (k n : ℕ) → ((j : ℕ) → j ≤ n → is_end x s k j ≡ false) → (is_end x s k (end_within x s k n) ≡ false) × (end_within x s k n ≡ n)
 none_within counts x s k n h = let e = h (end_within x s k n) (end_most x s k n) in (e, (counts.none x s k n e).0)
 
-module _ (counts : TurnLaws) (x : Outside) (y : System) (old : List (List ℕ)) (v : View) (base : Option (List ℕ)) (turns steps i t : ℕ) (c : Cvm) (before after : Around) (lt : i < turns) (g : Going x y old v base steps i t c before) where
+module _ (counts : TurnLaws) (x : Outside) (y : System) (old : List (List ℕ)) (v : View) (base : Option (List ℕ)) (turns steps i t : ℕ) (c : Cvm) (before after : Around) (lt : i < turns) (g : Came x y old steps i t c before.budget) where
   -- where turn i isn't complete at a step, and the machine is on, the run hasn't ended there
   goes_on_to : (j : ℕ) → (t ≤ j → complete x (loaded y old) j ≡ i) → (machine x y old j).off ≡ None → is_end x (loaded y old) turns j ≡ false
   goes_on_to j between on = ⊎_elim
-      (λ (l : j < t). not_before x y old v base turns steps i t c before (omega arith) g j l)
+      (λ (l : j < t). not_before x y old turns steps i t c before.budget (omega arith) g j l)
       (λ (ge : t ≤ j). let e = between ge in no_end x (loaded y old) turns j (λ f. omega (arith, e, f)) on)
       (cases_lt j t)
 
   -- the steps were run
   late : Limited x y old v base i t before after → Late x y old v base turns steps after
   late w =
-      let b = g.budget in
+      let b = g.spent in
       let same : t + before.budget ≡ steps = omega (arith, b) in
       let none : (j : ℕ) → j ≤ steps → is_end x (loaded y old) turns j ≡ false = λ j h. goes_on_to j (λ ge. w.between j ge (omega (arith, same))) (w.on j (omega (arith, same))) in
       let e = none_within counts x (loaded y old) turns steps none in
@@ -175,7 +207,7 @@ module _ (counts : TurnLaws) (x : Outside) (y : System) (old : List (List ℕ)) 
   -- the disk failed in a step
   step_broken : (w : DiskFailed x y old v base i t before after) → StepBroken x y old w.torn.0 v turns steps w.shown
   step_broken w =
-      let b0 = g.budget in
+      let b0 = g.spent in
       let b1 = w.budget in
       record {
         at = w.at;
@@ -194,7 +226,7 @@ module _ (counts : TurnLaws) (x : Outside) (y : System) (old : List (List ℕ)) 
   row_broken w p =
       let a = p.0 in
       let at : w.at ≡ a.end = p.1 in
-      let b0 = g.budget in
+      let b0 = g.spent in
       let b1 = w.budget in
       record {
         count = i;
@@ -202,7 +234,7 @@ module _ (counts : TurnLaws) (x : Outside) (y : System) (old : List (List ℕ)) 
         end = a.end;
         most = omega (arith, b0, b1, at);
         past = c;
-        cvm = g.ready.stood.cvm;
+        cvm = g.stood.cvm;
         after = a.after;
         first = record {
           here = end_at x (loaded y old) (suc i) a.end a.stood.all;
@@ -220,7 +252,7 @@ module _ (counts : TurnLaws) (x : Outside) (y : System) (old : List (List ℕ)) 
   -- of a trace in what is printed at some step
   trace_broken : (u : ℕ) (w : SinkFailed x y old v base i t c before after) → PutBroken x y old (Trace u) i t c w.at w.shown → TraceBroken x y old (sink_sectors w) u turns steps w.shown
   trace_broken u w (whole, from, is, part) =
-      let b0 = g.budget in
+      let b0 = g.spent in
       let b1 = w.budget in
       record {
         at = w.at;
@@ -239,7 +271,13 @@ module _ (counts : TurnLaws) (x : Outside) (y : System) (old : List (List ℕ)) 
   put_fails w Boot p = row_broken w p
   put_fails w (Trace u) p = trace_broken u w p
 
-  pub go_fails : (f : RunFault) → TurnFails x y old v base i t c before after f → GoFails x y old v base turns steps after f
-  go_fails StepLimit w = late w
-  go_fails Disk w = (w.shown, w.torn.0, w.torn.1, step_broken w, w.text)
-  go_fails Sink w = (w.shown, sink_sectors w, ap (option_map (λ (s : State). s.device.sectors)) w.state, put_fails w v w.printed, w.text)
+  turn_fails : (f : RunFault) → TurnFails x y old v base i t c before after f → GoFails x y old v base turns steps after f
+  turn_fails StepLimit w = late w
+  turn_fails Disk w = (w.shown, w.torn.0, w.torn.1, step_broken w, w.text)
+  turn_fails Sink w = (w.shown, sink_sectors w, ap (option_map (λ (s : State). s.device.sectors)) w.state, put_fails w v w.printed, w.text)
+
+-- a call that makes so many turns at most fails in one of them
+pub go_fails : (counts : TurnLaws) (x : Outside) (y : System) (old : List (List ℕ)) (v : View) (base : Option (List ℕ)) (turns steps i t : ℕ) (c : Cvm) (most : ℕ) (before after : Around) → i + most ≤ turns → Going x y old v base steps i t c before →
+    (f : RunFault) → TurnsEnd x y old v base i t c most before after (Err f) → GoFails x y old v base turns steps after f
+go_fails counts x y old v base turns steps i t c most before after room g f (n, lt, le, s, w) =
+    turn_fails counts x y old v base turns steps (i + n) (t + n) s.after (record before { budget = before.budget - n }) after (omega (arith, room, lt)) (came_on x y old steps i t c before.budget g.came n le s) f w

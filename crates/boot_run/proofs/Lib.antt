@@ -21,5 +21,6 @@ pub mod TraceReports
 pub mod FirstPages
 pub mod TwoRows
 pub mod TracedTurn
+pub mod Skipping
 pub mod Fitting
 pub mod Making

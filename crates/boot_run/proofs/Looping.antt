@@ -1,4 +1,4 @@
--- The loop over turns, by what each call of `turn` comes to.
+-- The loop over turns, by what each call of `turns` comes to.
 use Rattle.std.proofs.Common.{◌≡◌, ℕ, suc, ◌+◌, ◌<◌, ◌≤◌, Option, Some, None, List, Result, Ok, Err, refl, sym, ap, ap₂, ◌∙◌, subst, arith}
 use Rattle.std.specs.Prelude.{IsSome, MatchResult}
 use Rattle.mips_table.specs.Turns.{TurnLaws}
@@ -21,58 +21,60 @@ use Rattle.boot_turns.specs.declared.answers.Turn.{Turn}
 use Rattle.boot_turns.specs.declared.answers.Turn.TheVariants.{Over}
 use Rattle.boot_turns.specs.declared.answers.RunFault.{RunFault}
 use Rattle.boot_run.specs.LoadEnds.{Kept}
-use Rattle.boot_run.specs.TurnCalls.{Around, Ready, TurnEnds, TurnRuns, KeepsLoad}
+use Rattle.boot_run.specs.TurnCalls.{Around, Ready, TurnsEnd, TurnsRun, KeepsLoad}
 use Rattle.boot_run.specs.Whole.{Bootable, Gone, GoRuns}
-use Rattle.boot_run.proofs.Going.{Going, Goes, going_first, going_next, goes_on, go_done, go_over, go_fails}
+use Rattle.boot_run.proofs.Going.{Going, Goes, going_first, going_turns, goes_on, go_done, go_over, go_fails}
 
 pub machines : ((u : CUnit) → MachinesRun (IsTypedState u)) → (b : Booted) (rows : Rows) (count : ℕ) (y : System) (old : List (List ℕ)) → Bootable b rows count y old → Machines (outside_of rows count) y old
 machines run b rows count y old p = run (unit_view b.unit) p.lines p.busy (outside_of rows count) y old p.image p.sizes p.made_for p.boots p.laws p.replays
 
--- what a call of `turn` comes to, of this boot, over these rows and this view
-abbrev TurnAt : Booted → Rows → View → (count : ℕ) → (before after : Around) → Result Turn RunFault → Type 0
-TurnAt b rows v count before after result =
+-- what a call of `turns` comes to, of this boot, over these rows and this view
+abbrev TurnsAt : Booted → Rows → View → (count most : ℕ) → (before after : Around) → Result (ℕ × Turn) RunFault → Type 0
+TurnsAt b rows v count most before after result =
     (u : CUnit) (lines busy : ℕ → ℕ) (y : System) (old : List (List ℕ)) (image sizes : List ℕ) (made_for : Map) (base : Option (List ℕ)) (k t : ℕ) (c : Cvm) →
     y.boot ≡ boot_of b → Boots (IsTypedState u) lines busy (outside_of rows count) y old image sizes made_for → Laws (site_of y.boot) sizes → KernelReplays y.boot.meaning →
-    Ready (outside_of rows count) y old v base k t c before → c.status ≡ Running → TurnEnds (outside_of rows count) y old v base k t c before after result
+    Ready (outside_of rows count) y old v base k t c before → c.status ≡ Running → TurnsEnd (outside_of rows count) y old v base k t c most before after result
 
 -- after i turns of a run that was found as r
 abbrev pub KeepsGoing : {L : Type 0} → (count : ℕ) → Kept L → (before : Around) → ℕ → Around → Type 0
 KeepsGoing count r before i now = (y : System) (old : List (List ℕ)) (base : Option (List ℕ)) → Bootable r.boot r.machine.rows count y old →
     Ready (outside_of r.machine.rows count) y old r.view base 0 0 (first_cvm y) before → Goes (outside_of r.machine.rows count) y old r.view base before.budget i now
 
-pub keeps_first : {L : Type 0} (count : ℕ) (r : Kept L) (before : Around) → KeepsGoing count r before 0 before
-keeps_first count r before = λ y old base p ready. going_first (outside_of r.machine.rows count) y old r.view base before ready
+pub keeps_first : {L : Type 0} (count : ℕ) (r : Kept L) (before : Around) (i : ℕ) → i ≡ 0 → KeepsGoing count r before i before
+keeps_first count r before i none = λ y old base p ready.
+    subst (λ n. Goes (outside_of r.machine.rows count) y old r.view base before.budget n before) (sym none) (going_first (outside_of r.machine.rows count) y old r.view base before ready)
 
-module _ {L : Type 0} (count size : ℕ) (r now : Kept L) (kept : KeepsLoad r now) (same : size ≡ count) (mid after : Around) (result : Result Turn RunFault) (runs : TurnRuns size now mid after result) where
-  at_load : TurnAt r.boot r.machine.rows r.view count mid after result
+module _ {L : Type 0} (count size : ℕ) (r now : Kept L) (kept : KeepsLoad r now) (same : size ≡ count) (most : ℕ) (mid after : Around) (result : Result (ℕ × Turn) RunFault) (runs : TurnsRun size now most mid after result) where
+  at_load : TurnsAt r.boot r.machine.rows r.view count most mid after result
   at_load =
-      subst (λ (n : ℕ). TurnAt r.boot r.machine.rows r.view n mid after result) same
-      (subst (λ (v : View). TurnAt r.boot r.machine.rows v size mid after result) kept.view_is
-      (subst (λ (rows : Rows). TurnAt r.boot rows now.view size mid after result) kept.rows_are
-      (subst (λ (b : Booted). TurnAt b now.machine.rows now.view size mid after result) kept.boot_is runs)))
+      subst (λ (n : ℕ). TurnsAt r.boot r.machine.rows r.view n most mid after result) same
+      (subst (λ (v : View). TurnsAt r.boot r.machine.rows v size most mid after result) kept.view_is
+      (subst (λ (rows : Rows). TurnsAt r.boot rows now.view size most mid after result) kept.rows_are
+      (subst (λ (b : Booted). TurnsAt b now.machine.rows now.view size most mid after result) kept.boot_is runs)))
 
-  turn_ends : (y : System) (old : List (List ℕ)) (base : Option (List ℕ)) (k t : ℕ) (c : Cvm) → Bootable r.boot r.machine.rows count y old → Ready (outside_of r.machine.rows count) y old r.view base k t c mid → c.status ≡ Running →
-      TurnEnds (outside_of r.machine.rows count) y old r.view base k t c mid after result
-  turn_ends y old base k t c p ready running =
+  turns_end : (y : System) (old : List (List ℕ)) (base : Option (List ℕ)) (k t : ℕ) (c : Cvm) → Bootable r.boot r.machine.rows count y old → Ready (outside_of r.machine.rows count) y old r.view base k t c mid → c.status ≡ Running →
+      TurnsEnd (outside_of r.machine.rows count) y old r.view base k t c most mid after result
+  turns_end y old base k t c p ready running =
       at_load (unit_view r.boot.unit) p.lines p.busy y old p.image p.sizes p.made_for base k t c p.same p.boots p.laws p.replays ready running
 
--- the turn is complete
-pub keeps_next : {L : Type 0} (count size : ℕ) (r now : Kept L) (before mid after : Around) (i : ℕ) (answer : Turn) → KeepsLoad r now → size ≡ count → mid.ended ≡ None → TurnRuns size now mid after (Ok answer) →
-    KeepsGoing count r before i mid → KeepsGoing count r before (i + 1) after
-keeps_next count size r now before mid after i answer kept same on runs k = λ y old base p ready.
+-- so many turns are made
+pub keeps_next : {L : Type 0} (count size : ℕ) (r now : Kept L) (before mid after : Around) (i next most made : ℕ) (answer : Turn) → KeepsLoad r now → size ≡ count → mid.ended ≡ None → TurnsRun size now most mid after (Ok (made, answer)) →
+    i + made ≡ next → KeepsGoing count r before i mid → KeepsGoing count r before next after
+keeps_next count size r now before mid after i next most made answer kept same on runs is k = λ y old base p ready.
     let g = k y old base p ready in
     let x = outside_of r.machine.rows count in
-    going_next x y old r.view base before.budget i g.0 g.1 mid after answer g.2
-    (turn_ends count size r now kept same mid after (Ok answer) runs y old base i g.0 g.1 p g.2.ready (goes_on x y old r.view base i g.0 g.1 mid g.2.ready on))
+    subst (λ n. Goes x y old r.view base before.budget n after) is
+    (going_turns x y old r.view base before.budget i g.0 g.1 most mid after made answer g.2
+    (turns_end count size r now kept same most mid after (Ok (made, answer)) runs y old base i g.0 g.1 p g.2.ready (goes_on x y old r.view base i g.0 g.1 mid g.2.ready on)))
 
--- it fails
-pub go_failed : {L : Type 0} (counts : TurnLaws) (count size : ℕ) (r now : Kept L) (turns : ℕ) (before mid after : Around) (i : ℕ) (f e : RunFault) (result : Result (Unit {0}) RunFault) → KeepsLoad r now → size ≡ count → i < turns →
-    mid.ended ≡ None → TurnRuns size now mid after (Err f) → KeepsGoing count r before i mid → result ≡ Err e → f ≡ e → GoRuns count r turns before after result
-go_failed counts count size r now turns before mid after i f e result kept same lt on runs k is fault = λ y old base p ready.
+-- one fails
+pub go_failed : {L : Type 0} (counts : TurnLaws) (count size : ℕ) (r now : Kept L) (turns : ℕ) (before mid after : Around) (i most : ℕ) (f e : RunFault) (result : Result (Unit {0}) RunFault) → KeepsLoad r now → size ≡ count → i + most ≤ turns →
+    mid.ended ≡ None → TurnsRun size now most mid after (Err f) → KeepsGoing count r before i mid → result ≡ Err e → f ≡ e → GoRuns count r turns before after result
+go_failed counts count size r now turns before mid after i most f e result kept same room on runs k is fault = λ y old base p ready.
     let g = k y old base p ready in
     let x = outside_of r.machine.rows count in
-    let w = go_fails counts x y old r.view base turns before.budget i g.0 g.1 mid after lt g.2 f
-    (turn_ends count size r now kept same mid after (Err f) runs y old base i g.0 g.1 p g.2.ready (goes_on x y old r.view base i g.0 g.1 mid g.2.ready on)) in
+    let w = go_fails counts x y old r.view base turns before.budget i g.0 g.1 most mid after room g.2 f
+    (turns_end count size r now kept same most mid after (Err f) runs y old base i g.0 g.1 p g.2.ready (goes_on x y old r.view base i g.0 g.1 mid g.2.ready on)) in
     rw (is, sym fault) w
 
 -- the run has ended
@@ -86,11 +88,22 @@ went_over run count r turns before mid after i le over same k = λ y old base p 
 pub went : {L : Type 0} (count : ℕ) (r : Kept L) (turns : ℕ) (before after : Around) (i : ℕ) → 1 ≤ turns → i ≡ turns → KeepsGoing count r before i after → GoRuns count r turns before after (Ok tt)
 went count r turns before after i some same k = λ y old base p ready. go_done (outside_of r.machine.rows count) y old r.view base turns before.budget i after some same (k y old base p ready)
 
--- a run that answers other than that it is over has not ended
-pub not_over : (ended : Option Next) (answer : Turn) → (IsSome ended → ◌≡◌ {A = Result Turn RunFault} (Ok answer) (Ok Over)) → (answer ≡ Over → ⊥) → ended ≡ None
-not_over None answer h n = refl
-not_over (Some e) answer h n = absurd (n (let w = h refl in cc))
+-- a run that makes turns, or fails, had not ended
+pub not_over : (ended : Option Next) (made : ℕ) (answer : Turn) → (IsSome ended → ◌≡◌ {A = Result (ℕ × Turn) RunFault} (Ok (made, answer)) (Ok (0, Over))) → 1 ≤ made → ended ≡ None
+not_over None made answer h some = refl
+not_over (Some e) made answer h some = absurd (let w = first made answer (h refl) in omega (arith, w, some))
+  where
+    one : (a b : ℕ × Turn) → ◌≡◌ {A = Result (ℕ × Turn) RunFault} (Ok a) (Ok b) → a ≡ b
+    one a b e = cc
 
-pub not_failed : (ended : Option Next) (f : RunFault) → (IsSome ended → ◌≡◌ {A = Result Turn RunFault} (Err f) (Ok Over)) → ended ≡ None
+    first : (made : ℕ) (answer : Turn) → ◌≡◌ {A = Result (ℕ × Turn) RunFault} (Ok (made, answer)) (Ok (0, Over)) → made ≡ 0
+    first made answer e = ap (λ (p : ℕ × Turn). p.0) (one (made, answer) (0, Over) e)
+
+pub not_failed : (ended : Option Next) (f : RunFault) → (IsSome ended → ◌≡◌ {A = Result (ℕ × Turn) RunFault} (Err f) (Ok (0, Over))) → ended ≡ None
 not_failed None f h = refl
 not_failed (Some e) f h = absurd (let w = h refl in cc)
+
+-- and one that makes none had
+pub was_over : (ended : Option Next) (made : ℕ) → (ended ≡ None → 1 ≤ made) → made ≡ 0 → IsSome ended
+was_over None made h none = absurd (let w = h refl in omega (arith, w, none))
+was_over (Some e) made h none = refl

@@ -1,5 +1,5 @@
 -- One turn of a run as its code has it, from what the call that steps the machine says.
-use Rattle.std.proofs.Common.{◌≡◌, ℕ, Bool, true, false, not, Option, List, Result, Ok, Err, refl, sym, ap, ◌∙◌, subst}
+use Rattle.std.proofs.Common.{◌≡◌, ℕ, ◌+◌, Bool, true, false, not, Option, List, Result, Ok, Err, refl, sym, ap, ◌∙◌, subst}
 use Rattle.std.specs.Prelude.{if◌then◌else◌}
 use Rattle.layer_map.specs.Map.{Map}
 use Rattle.cvm_model.specs.Cvm.{map_of}
@@ -25,30 +25,32 @@ is_true false e = sym e
 pub step_is : (k user : ℕ) (b : Begun) (n : Next) → b.dispatched ≡ false → Step user ≡ answer_of k user b n
 step_is k user b n e = sym (ap (λ (d : Bool). if d then Dispatch (record { turn = k; cause = b.cause; edata = b.edata; user = user; next = n }) else Step user) e)
 
-pub row_is : (k user : ℕ) (b : Begun) (n next : Next) → n ≡ next → b.dispatched ≡ true → Dispatch (record { turn = k; cause = b.cause; edata = b.edata; user = user; next = n }) ≡ answer_of k user b next
-row_is k user b n next same e =
-    ap (λ (p : Next). Dispatch (record { turn = k; cause = b.cause; edata = b.edata; user = user; next = p })) same
-    ∙ sym (ap (λ (d : Bool). if d then Dispatch (record { turn = k; cause = b.cause; edata = b.edata; user = user; next = next }) else Step user) e)
+pub row_is : (k turn user : ℕ) (b : Begun) (n next : Next) → k ≡ turn → n ≡ next → b.dispatched ≡ true →
+    Dispatch (record { turn = k; cause = b.cause; edata = b.edata; user = user; next = n }) ≡ answer_of turn user b next
+row_is k turn user b n next count same e =
+    ap (λ i. Dispatch (record { turn = i; cause = b.cause; edata = b.edata; user = user; next = n })) count
+    ∙ ap (λ (p : Next). Dispatch (record { turn = turn; cause = b.cause; edata = b.edata; user = user; next = p })) same
+    ∙ sym (ap (λ (d : Bool). if d then Dispatch (record { turn = turn; cause = b.cause; edata = b.edata; user = user; next = next }) else Step user) e)
 
 -- of the run as the call found it
-module _ {L : Type 0} (now r : Kept L) (same : r ≡ now) (count : ℕ) (new : Kept L) (told retold : Option (List (List ℕ))) (text retext : Option (List ℕ)) (budget left : ℕ) (m : Map) (placed : m ≡ map_of (boot_of r.boot)) where
-  moved : (result : Result Begun RunFault) → Advances count r.machine new.machine told retold budget left result →
+module _ {L : Type 0} (now r : Kept L) (same : r ≡ now) (count : ℕ) (new : Kept L) (most : ℕ) (told retold : Option (List (List ℕ))) (text retext : Option (List ℕ)) (budget left : ℕ) (m : Map) (placed : m ≡ map_of (boot_of r.boot)) where
+  moved : (result : Result (ℕ × Begun) RunFault) → Advances count r.machine new.machine told retold budget left most result →
       TraceRuns count m r.machine new.machine told retold (record { tracer = r.tracer; text = text; budget = budget }) (record { tracer = new.tracer; text = retext; budget = left }) result →
-      Moved count now new told retold text retext budget left result
-  moved result a t = subst (λ (q : Kept L). Moved count q new told retold text retext budget left result) same
+      Moved count now new most told retold text retext budget left result
+  moved result a t = subst (λ (q : Kept L). Moved count q new most told retold text retext budget left result) same
       (record {
         advances = a;
         traces = subst (λ (m : Map). TraceRuns count m r.machine new.machine told retold (record { tracer = r.tracer; text = text; budget = budget }) (record { tracer = new.tracer; text = retext; budget = left }) result) placed t;
       })
 
-  pub made_err : (f e : RunFault) (result : Result Turn RunFault) → result ≡ Err e → f ≡ e → Advances count r.machine new.machine told retold budget left (Err f) →
+  pub made_err : (f e : RunFault) (result : Result (ℕ × Turn) RunFault) → result ≡ Err e → f ≡ e → Advances count r.machine new.machine told retold budget left most (Err f) →
       TraceRuns count m r.machine new.machine told retold (record { tracer = r.tracer; text = text; budget = budget }) (record { tracer = new.tracer; text = retext; budget = left }) (Err f) → new.ended ≡ r.ended →
-      MakesTurn count now new told retold text retext budget left result
+      MakesTurn count now new most told retold text retext budget left result
   made_err f e result is fault a t ended =
-      subst (λ (q : Result Turn RunFault). MakesTurn count now new told retold text retext budget left q) (ap (λ g. Err g) fault ∙ sym is)
+      subst (λ (q : Result (ℕ × Turn) RunFault). MakesTurn count now new most told retold text retext budget left q) (ap (λ g. Err g) fault ∙ sym is)
       (moved (Err f) a t, ended ∙ ap (λ (q : Kept L). q.ended) same)
 
-  pub made : (b : Begun) (answer : Turn) → Advances count r.machine new.machine told retold budget left (Ok b) →
-      TraceRuns count m r.machine new.machine told retold (record { tracer = r.tracer; text = text; budget = budget }) (record { tracer = new.tracer; text = retext; budget = left }) (Ok b) → Counted r new b answer →
-      MakesTurn count now new told retold text retext budget left (Ok answer)
-  made b answer a t c = (b, moved (Ok b) a t, subst (λ (q : Kept L). Counted q new b answer) same c)
+  pub made : (skipped number : ℕ) (b : Begun) (answer : Turn) → Advances count r.machine new.machine told retold budget left most (Ok (skipped, b)) →
+      TraceRuns count m r.machine new.machine told retold (record { tracer = r.tracer; text = text; budget = budget }) (record { tracer = new.tracer; text = retext; budget = left }) (Ok (skipped, b)) →
+      number ≡ skipped + 1 → Counted r new skipped b answer → MakesTurn count now new most told retold text retext budget left (Ok (number, answer))
+  made skipped number b answer a t is c = (skipped, b, is, moved (Ok (skipped, b)) a t, subst (λ (q : Kept L). Counted q new skipped b answer) same c)

@@ -306,7 +306,7 @@ module _ (x : Outside) (y : System) (old : List (List ℕ)) (m : Machines x y ol
 -- of a boot
 module _ (x : Outside) (y : System) (old : List (List ℕ)) (m : Machines x y old) (base : Option (List ℕ)) (k t : ℕ) (c : Cvm) (before after : Around) (r : Ready x y old Boot base k t c before) (running : c.status ≡ Running) where
   -- the text so far is the rows of the complete turns
-  so_far : r.shown ≡ rows_text c.rows
+  pub so_far : r.shown ≡ rows_text c.rows
   so_far = text_before x y old m k t c r.stood.cvm r.stood.all r.shown (subst (λ st. TextBefore x y old Boot k t st r.shown) running r.printed)
 
   printed_at : (u : ℕ) → complete x (loaded y old) u ≡ k → Printed x y old Boot u r.shown

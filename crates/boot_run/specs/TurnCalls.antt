@@ -1,5 +1,5 @@
--- What the calls `turn`, `report` and `ended` of a loaded run come to, on the run of the machine.
-use Rattle.std.specs.Prelude.{◌≡◌, ◌≢◌, ℕ, suc, ◌+◌, ◌<◌, ◌≤◌, ◌⊎◌, Option, Some, None, IsSome, List, [], ◌∷◌, ◌++◌, Result, MatchResult}
+-- What the calls `turn`, `turns`, `report` and `ended` of a loaded run come to, on the run of the machine.
+use Rattle.std.specs.Prelude.{◌≡◌, ◌≢◌, ℕ, suc, ◌+◌, ◌-◌, ◌<◌, ◌≤◌, ◌⊎◌, Option, Some, None, IsSome, List, [], ◌∷◌, ◌++◌, Result, MatchResult}
 use Rattle.std.specs.Io.KnownBytes.{append_known}
 use Rattle.mips_table.specs.Device.{Outside}
 use Rattle.mips_table.specs.Machine.{State}
@@ -18,6 +18,7 @@ use Rattle.cvm_model.specs.Text.{rows_text}
 use Rattle.layer_contract.specs.Boots.{boot_of}
 use Rattle.layer_contract.specs.Layer.{Laws}
 use Rattle.layer_contract.specs.Follows.{site_of, machine, loaded}
+use Rattle.boot_turns.specs.Advances.{Skipped}
 use Rattle.boot_turns.specs.Completes.{seen, SeenTorn}
 use Rattle.boot_turns.specs.Headline.{Boots}
 use Rattle.boot_turns.specs.Trace.{Shown}
@@ -163,6 +164,20 @@ TurnRuns count r before after result =
     Boots (IsTypedState u) lines busy (outside_of r.machine.rows count) y old image sizes made_for → Laws (site_of y.boot) sizes → KernelReplays y.boot.meaning →
     Ready (outside_of r.machine.rows count) y old r.view base k t c before → c.status ≡ Running →
     TurnEnds (outside_of r.machine.rows count) y old r.view base k t c before after result
+
+-- TURNS, so many at most, of a run that goes on: the first n were untrapped steps of the current user, and then one turn went as `turn` says of one
+abbrev pub TurnsEnd : Outside → System → List (List ℕ) → View → Option (List ℕ) → (k t : ℕ) → Cvm → (most : ℕ) → (before after : Around) → Result (ℕ × Turn) RunFault → Type 0
+TurnsEnd x y old v base k t c most before after result = (n : ℕ) × (n < most) × (n ≤ before.budget) × (w : Skipped x y old k t c n) ×
+    MatchResult result (λ r. (r.0 ≡ n + 1) × Turned x y old v base (k + n) (t + n) w.after (record before { budget = before.budget - n }) after r.1)
+    (TurnFails x y old v base (k + n) (t + n) w.after (record before { budget = before.budget - n }) after)
+
+-- for every boot of this kernel whose run stands there and goes on, as for one turn
+abbrev pub TurnsRun : {L : Type 0} → (count : ℕ) → Kept L → (most : ℕ) → (before after : Around) → Result (ℕ × Turn) RunFault → Type 0
+TurnsRun count r most before after result =
+    (u : CUnit) (lines busy : ℕ → ℕ) (y : System) (old : List (List ℕ)) (image sizes : List ℕ) (made_for : Map) (base : Option (List ℕ)) (k t : ℕ) (c : Cvm) → y.boot ≡ boot_of r.boot →
+    Boots (IsTypedState u) lines busy (outside_of r.machine.rows count) y old image sizes made_for → Laws (site_of y.boot) sizes → KernelReplays y.boot.meaning →
+    Ready (outside_of r.machine.rows count) y old r.view base k t c before → c.status ≡ Running →
+    TurnsEnd (outside_of r.machine.rows count) y old r.view base k t c most before after result
 
 -- a call keeps what the run was loaded with
 pub record KeepsLoad {L : Type 0} (old new : Kept L) : Type 0 where

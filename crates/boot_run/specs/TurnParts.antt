@@ -1,4 +1,4 @@
--- The parts of a call of `turn`: what is printed before the machine goes on, the turn itself, and what is printed after it.
+-- The parts of a call of `turns`: what is printed before the machine goes on, the turn itself, and what is printed after it.
 use Rattle.std.specs.Prelude.{◌≡◌, ℕ, zero, suc, ◌+◌, ◌-◌, ◌^◌, min, if◌then◌else◌, Option, Some, None, List, [], ◌∷◌, ◌++◌, length, map, slice_index, codes, Result, Ok, Err, MatchResult}
 use Rattle.mips_table.specs.Flat.{Flat}
 use Rattle.mips_machine.specs.Machine.{Held}
@@ -54,27 +54,31 @@ rows_after (Some kept) ended answer = fault_rows kept.steps ended
 abbrev pub next_of_held : Held → Next
 next_of_held held = next_shown held.hardware.off (slice_index held.hardware.memory 1024)
 
+-- turns are counted up to the end of the counter's type
+abbrev pub count_on : ℕ → ℕ → ℕ
+count_on turns n = min (turns + n) (2 ^ 64 - 1)
+
 -- what turn k was, by what was noted of its begin, the user and who is next
 abbrev pub answer_of : ℕ → (user : ℕ) → Begun → Next → Turn
 answer_of k user b next = if b.dispatched then Dispatch (record { turn = k; cause = b.cause; edata = b.edata; user = user; next = next }) else Step user
 
--- a turn is counted that began so, and answered
-pub record Counted {L : Type 0} (old new : Kept L) (b : Begun) (answer : Turn) : Type 0 where
-  pub turns : new.turns ≡ min (old.turns + 1) (2 ^ 64 - 1)
+-- a turn is counted that came after so many untrapped steps, began so, and answered
+pub record Counted {L : Type 0} (old new : Kept L) (skipped : ℕ) (b : Begun) (answer : Turn) : Type 0 where
+  pub turns : new.turns ≡ count_on (count_on old.turns skipped) 1
   pub current : new.current ≡ slice_index new.machine.hardware.memory 1024
   pub ended : new.ended ≡ end_of_next (next_of_held new.machine)
-  pub is : answer ≡ answer_of old.turns old.current b (next_of_held new.machine)
+  pub is : answer ≡ answer_of (count_on old.turns skipped) old.current b (next_of_held new.machine)
 
 -- what the machine did, and what a trace printed, over a disk of so many sectors, with these texts and budgets
-pub record Moved {L : Type 0} (count : ℕ) (old new : Kept L) (told retold : Option (List (List ℕ))) (text retext : Option (List ℕ)) (budget left : ℕ)
-    (result : Result Begun RunFault) : Type 0 where
-  pub advances : Advances count old.machine new.machine told retold budget left result
+pub record Moved {L : Type 0} (count : ℕ) (old new : Kept L) (most : ℕ) (told retold : Option (List (List ℕ))) (text retext : Option (List ℕ)) (budget left : ℕ)
+    (result : Result (ℕ × Begun) RunFault) : Type 0 where
+  pub advances : Advances count old.machine new.machine told retold budget left most result
   pub traces : TraceRuns count (map_of (boot_of old.boot)) old.machine new.machine told retold
       (record { tracer = old.tracer; text = text; budget = budget }) (record { tracer = new.tracer; text = retext; budget = left }) result
 
--- THE TURN: it is complete and counted, or was broken off
-abbrev pub MakesTurn : {L : Type 0} → (count : ℕ) → (old new : Kept L) → (told retold : Option (List (List ℕ))) → (text retext : Option (List ℕ)) →
-    (budget left : ℕ) → Result Turn RunFault → Type 0
-MakesTurn count old new told retold text retext budget left result = MatchResult result
-    (λ answer. (b : Begun) × Moved count old new told retold text retext budget left (Ok b) × Counted old new b answer)
-    (λ fault. Moved count old new told retold text retext budget left (Err fault) × (new.ended ≡ old.ended))
+-- THE TURNS: the last is complete and all are counted, or it was broken off
+abbrev pub MakesTurn : {L : Type 0} → (count : ℕ) → (old new : Kept L) → (most : ℕ) → (told retold : Option (List (List ℕ))) → (text retext : Option (List ℕ)) →
+    (budget left : ℕ) → Result (ℕ × Turn) RunFault → Type 0
+MakesTurn count old new most told retold text retext budget left result = MatchResult result
+    (λ r. (n : ℕ) × (b : Begun) × (r.0 ≡ n + 1) × Moved count old new most told retold text retext budget left (Ok (n, b)) × Counted old new n b r.1)
+    (λ fault. Moved count old new most told retold text retext budget left (Err fault) × (new.ended ≡ old.ended))

@@ -18,7 +18,7 @@ use Rattle.layer_contract.specs.Layer.{Laws}
 use Rattle.layer_contract.specs.Follows.{site_of, machine, loaded}
 use Rattle.boot_turns.specs.TurnEnds.{Printed, Whole, Prefix}
 use Rattle.boot_turns.specs.Headline as headline
-use Rattle.boot_turns.specs.Headline.{Boots, Ending, Ends, GoesOn, TraceReplays, StepBroken, RowBroken, end_of, ending_of}
+use Rattle.boot_turns.specs.Headline.{Boots, Ending, Ends, GoesOn, StepBroken, RowBroken, end_of, ending_of}
 use Rattle.boot_turns.specs.declared.answers.View.{View}
 use Rattle.boot_turns.specs.declared.answers.View.TheVariants.{Boot, Trace}
 use Rattle.boot_turns.specs.declared.answers.RunFault.{RunFault}
@@ -59,12 +59,6 @@ WholeEnds b rows count v turns steps told retold before after result = (old now 
 -- the machine goes on, over each disk of so many sectors that are enough
 abbrev pub WholeGoesOn : Booted → Rows → ℕ → Option (List (List ℕ)) → Type 0
 WholeGoesOn b rows count told = (old : List (List ℕ)) → told ≡ Some old → pages_needed b ≤ count → GoesOn (outside_of rows count) (system_of b rows) old
-
--- ISOLATION, over each disk of so many sectors that are enough: where the turns are complete, the replay of the journal that a trace of a user
--- shows, over that user's first machine, gives its last one
-abbrev pub WholeReplays : Booted → Rows → ℕ → Option (List (List ℕ)) → Type 0
-WholeReplays b rows count told = (old : List (List ℕ)) → told ≡ Some old → pages_needed b ≤ count → (u turns steps : ℕ) → 1 ≤ u → u ≤ length b.users.items →
-    TraceReplays (outside_of rows count) (system_of b rows) old u turns steps
 
 -- whether an answer is a fault of the disk, or of the sink
 abbrev pub IsDiskFault : Result RunEnd LoadFault → Type 0

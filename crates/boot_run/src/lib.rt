@@ -1,4 +1,4 @@
-//! Loaded runs: `load`, `turn`, `report`, `ended` and `steps` over any layer.
+//! Loaded runs: `load`, `turn`, `turns`, `report`, `ended` and `steps` over any layer.
 #![tactic(auto)]
 
 mod load;

@@ -1,5 +1,5 @@
 // A loaded run.
-ghost use Rattle.std.specs.Prelude.{false, ◌≡◌, ◌≢◌, [], ◌∷◌, List, Option, ℕ, ◌+◌, ◌<◌, ◌≤◌, ◌^◌, length, IfOk, IfErr, IfSome, IsSome, OnOk, OnErr, Err, Ok, Some, None};
+ghost use Rattle.std.specs.Prelude.{false, ◌≡◌, ◌≢◌, [], ◌∷◌, List, Option, ℕ, ◌+◌, ◌<◌, ◌≤◌, ◌⊎◌, ◌^◌, length, IfOk, IfErr, IfSome, IsSome, OnOk, OnErr, Err, Ok, Some, None};
 ghost use Rattle.std.specs.Result.{result_err};
 ghost use Rattle.std.specs.Io.KnownBytes.{append_known};
 ghost use Rattle.cvm_outside.specs.Causes.{Counts, Rose};
@@ -11,7 +11,7 @@ ghost use Rattle.boot_run.specs.LoadEnds.{pages_needed, IsFresh, StandsLoaded, L
 ghost use Rattle.boot_report.specs.Texts.{SameButViewed};
 ghost use Rattle.boot_run.specs.Shown.{has_faulted};
 ghost use Rattle.boot_run.specs.Report.{ReportRuns};
-ghost use Rattle.boot_run.specs.TurnCalls.{around, rows_of, IsOver, IsReady, KeepsLoad, TurnRuns};
+ghost use Rattle.boot_run.specs.TurnCalls.{around, rows_of, IsOver, IsReady, KeepsLoad, TurnRuns, TurnsRun};
 ghost use Rattle.boot_run.specs.TurnParts.{rows_before, rows_after, MakesTurn, Views};
 ghost use Rattle.cvm_model.specs.declared.row.Row.{Row as OneRow};
 
@@ -136,18 +136,21 @@ impl<L: Layer + Drop> Run<L> {
         Ok(())
     }
 
-    /// Runs the machine to the end of the next turn, and counts it. Of a trace it prints the rows whose entries end.
+    /// Runs the machine through so many turns at most, and counts them: untrapped steps of the current user, as long as they come, and then
+    /// one turn more. The answer is how many were made, and the last of them. Of a trace it prints the rows whose entries end.
     fn make_turn<D: Sectors, O: Sink>(
         &mut self,
+        most: u32,
         budget: &mut u64,
         disk: &mut D,
         out: &mut O,
-    ) -> Result<Turn, RunFault>
+    ) -> Result<(u32, Turn), RunFault>
+        requires some { 1 ≤ most }
         requires disk { D.size disk.old ≡ self.old.count }
         requires steps { self.old.machine.time + budget.old < 2 ^ 64 }
         ensures kept { KeepsLoad self.old self.new }
         ensures fault { self.new.fault ≡ self.old.fault }
-        ensures ends { MakesTurn (D.size disk.old) self.old self.new (D.sectors disk.old) (D.sectors disk.new) (O.text out.old) (O.text out.new) budget.old budget.new result }
+        ensures ends { MakesTurn (D.size disk.old) self.old self.new most (D.sectors disk.old) (D.sectors disk.new) (O.text out.old) (O.text out.new) budget.old budget.new result }
         ensures untraced { self.old.tracer ≡ None → (self.new.tracer ≡ None) × (out.new ≡ out.old) }
         ensures no_sink { self.old.tracer ≡ None → result ≢ Err RunFault.Sink }
         ensures size { D.size disk.new ≡ D.size disk.old }
@@ -156,33 +159,38 @@ impl<L: Layer + Drop> Run<L> {
         ensures sink { result ≡ Err RunFault.Sink → Rose (O.faults out.old) (O.faults out.new) }
         ensures sink_same { result ≢ Err RunFault.Sink → O.faults out.new ≡ O.faults out.old }
         ensures spent { self.new.machine.time + budget.new ≡ self.old.machine.time + budget.old }
-        ensures never { result ≢ Ok Turn.Over }
+        ensures limit { result ≡ Err RunFault.StepLimit → (budget.new ≡ 0) ⊎ IsSome self.new.machine.hardware.off }
+        ensures made { IfOk result (λ r. (1 ≤ r.0) × (r.0 ≤ most) × (r.1 ≢ Turn.Over)) }
     {
         memory_is_whole();
-        let begun = advance(
+        let (skipped, begun) = advance(
             &mut self.machine,
             budget,
+            most,
             &mut self.tracer,
             &self.places.map,
             disk,
             out,
         )?;
         let next = seen_next(&self.machine);
-        let turn = self.turns;
+        let turn = self.turns.saturating_add(u64::from(skipped));
         let user = self.current;
         self.turns = turn.saturating_add(1);
         self.current = self.machine.word(CURRENT);
         self.ended = ended_by(next);
         if !begun.dispatched {
-            return Ok(Turn::Step(user));
+            return Ok((skipped + 1, Turn::Step(user)));
         }
-        Ok(Turn::Dispatch(Row {
-            turn,
-            cause: begun.cause,
-            edata: begun.edata,
-            user,
-            next,
-        }))
+        Ok((
+            skipped + 1,
+            Turn::Dispatch(Row {
+                turn,
+                cause: begun.cause,
+                edata: begun.edata,
+                user,
+                next,
+            }),
+        ))
     }
 
     /// Prints what stands behind a turn: of a boot the row of its dispatch, and of a trace the kernel's fault.
@@ -198,33 +206,87 @@ impl<L: Layer + Drop> Run<L> {
         }
     }
 
-    /// Runs the machine to the end of the next turn, and prints what is to be seen of it.
+    /// Runs the machine through so many turns at most, and prints what is to be seen of them.
     fn proceed<D: Sectors, O: Sink>(
         &mut self,
+        most: u32,
         budget: &mut u64,
         disk: &mut D,
         out: &mut O,
-    ) -> Result<Turn, RunFault>
+    ) -> Result<(u32, Turn), RunFault>
+        requires some { 1 ≤ most }
         requires disk { D.size disk.old ≡ self.old.count }
         requires steps { self.old.machine.time + budget.old < 2 ^ 64 }
         ensures kept { KeepsLoad self.old self.new }
         ensures fault { self.new.fault ≡ self.old.fault }
         ensures size { D.size disk.new ≡ D.size disk.old }
-        ensures ends { self.old.fault ≡ None → TurnRuns (D.size disk.old) self.old (around self.old (D.sectors disk.old) budget.old (O.text out.old)) (around self.new (D.sectors disk.new) budget.new (O.text out.new)) result }
+        ensures ends { self.old.fault ≡ None → TurnsRun (D.size disk.old) self.old most (around self.old (D.sectors disk.old) budget.old (O.text out.old)) (around self.new (D.sectors disk.new) budget.new (O.text out.new)) result }
         ensures disk { result ≡ Err RunFault.Disk → Rose (D.faults disk.old) (D.faults disk.new) }
         ensures disk_same { result ≢ Err RunFault.Disk → D.faults disk.new ≡ D.faults disk.old }
         ensures sink { result ≡ Err RunFault.Sink → Rose (O.faults out.old) (O.faults out.new) }
         ensures sink_same { result ≢ Err RunFault.Sink → O.faults out.new ≡ O.faults out.old }
-        ensures spent { self.new.machine.time + budget.new ≤ self.old.machine.time + budget.old }
-        ensures never { result ≢ Ok Turn.Over }
+        ensures spent { self.new.machine.time + budget.new ≡ self.old.machine.time + budget.old }
+        ensures limit { result ≡ Err RunFault.StepLimit → (budget.new ≡ 0) ⊎ IsSome self.new.machine.hardware.off }
+        ensures made { IfOk result (λ r. (1 ≤ r.0) × (r.0 ≤ most) × (r.1 ≢ Turn.Over)) }
     {
         machines_run();
         traces_grow();
         journal_rows_follow();
         self.put_before(out)?;
-        let answer = self.make_turn(budget, disk, out)?;
+        let (made, answer) = self.make_turn(most, budget, disk, out)?;
         self.put_after(answer, out)?;
-        Ok(answer)
+        Ok((made, answer))
+    }
+
+    /// Runs the machine, a step from the budget each, until so many turns at most are complete: untrapped steps of the current user, as
+    /// long as they come, and then one turn more. The answer is how many were made, and the last of them. What is to be seen is printed: of a
+    /// boot the row of a dispatch; of a trace the rows of its user as they end, the start row before the first turn, and the kernel's fault.
+    /// A run that has ended answers that none was made and `Over`, and touches nothing.
+    ///
+    /// # Errors
+    ///
+    /// `StepLimit`, where the budget is spent and the last turn isn't complete; `Disk` and `Sink`, only where the count of faults of that
+    /// object rose. After a fault each call answers it again, and touches nothing.
+    pub fn turns<D: Sectors, O: Sink>(
+        &mut self,
+        most: u32,
+        budget: &mut u64,
+        disk: &mut D,
+        out: &mut O,
+    ) -> Result<(u32, Turn), RunFault>
+        requires some { 1 ≤ most }
+        requires disk { D.size disk.old ≡ self.old.count }
+        requires steps { self.old.machine.time + budget.old < 2 ^ 64 }
+        ensures kept { KeepsLoad self.old self.new }
+        ensures size { D.size disk.new ≡ D.size disk.old }
+        ensures again { IfSome self.old.fault (λ f. result ≡ Err f) }
+        ensures over { self.old.fault ≡ None → IsSome self.old.ended → result ≡ Ok (0, Turn.Over) }
+        ensures only { IfOk result (λ r. r.1 ≡ Turn.Over → IsSome self.old.ended) }
+        ensures made { IfOk result (λ r. (r.0 ≤ most) × (self.old.ended ≡ None → 1 ≤ r.0)) }
+        ensures still { IsOver self.old → (self.new ≡ self.old) × (budget.new ≡ budget.old) × (disk.new ≡ disk.old) × (out.new ≡ out.old) }
+        ensures keeps { IfErr result (λ f. self.new.fault ≡ Some f) }
+        ensures fine { OnOk result (self.new.fault ≡ None) }
+        ensures ends { self.old.fault ≡ None → self.old.ended ≡ None → TurnsRun (D.size disk.old) self.old most (around self.old (D.sectors disk.old) budget.old (O.text out.old)) (around self.new (D.sectors disk.new) budget.new (O.text out.new)) result }
+        ensures disk { result ≡ Err RunFault.Disk → self.old.fault ≡ None → Rose (D.faults disk.old) (D.faults disk.new) }
+        ensures disk_same { result ≢ Err RunFault.Disk → D.faults disk.new ≡ D.faults disk.old }
+        ensures sink { result ≡ Err RunFault.Sink → self.old.fault ≡ None → Rose (O.faults out.old) (O.faults out.new) }
+        ensures sink_same { result ≢ Err RunFault.Sink → O.faults out.new ≡ O.faults out.old }
+        ensures spent { self.new.machine.time + budget.new ≡ self.old.machine.time + budget.old }
+        ensures limit { result ≡ Err RunFault.StepLimit → self.old.fault ≡ None → (budget.new ≡ 0) ⊎ IsSome self.new.machine.hardware.off }
+    {
+        if let Some(fault) = self.fault {
+            return Err(fault);
+        }
+        if self.ended.is_some() {
+            return Ok((0, Turn::Over));
+        }
+        match self.proceed(most, budget, disk, out) {
+            Ok((made, turn)) => Ok((made, turn)),
+            Err(fault) => {
+                self.fault = Some(fault);
+                Err(fault)
+            }
+        }
     }
 
     /// Runs the machine, a step from the budget each, until the next turn is complete, and prints what is to be seen of it: of a boot the
@@ -256,21 +318,12 @@ impl<L: Layer + Drop> Run<L> {
         ensures disk_same { result ≢ Err RunFault.Disk → D.faults disk.new ≡ D.faults disk.old }
         ensures sink { result ≡ Err RunFault.Sink → self.old.fault ≡ None → Rose (O.faults out.old) (O.faults out.new) }
         ensures sink_same { result ≢ Err RunFault.Sink → O.faults out.new ≡ O.faults out.old }
-        ensures spent { self.new.machine.time + budget.new ≤ self.old.machine.time + budget.old }
+        ensures spent { self.new.machine.time + budget.new ≡ self.old.machine.time + budget.old }
+        ensures limit { result ≡ Err RunFault.StepLimit → self.old.fault ≡ None → (budget.new ≡ 0) ⊎ IsSome self.new.machine.hardware.off }
     {
-        if let Some(fault) = self.fault {
-            return Err(fault);
-        }
-        if self.ended.is_some() {
-            return Ok(Turn::Over);
-        }
-        match self.proceed(budget, disk, out) {
-            Ok(turn) => Ok(turn),
-            Err(fault) => {
-                self.fault = Some(fault);
-                Err(fault)
-            }
-        }
+        machines_run();
+        let (_, turn) = self.turns(1, budget, disk, out)?;
+        Ok(turn)
     }
 
     /// Prints the end and the report of a run that halted, or goes on: of a trace its last steps, the end, and the rows of its user.

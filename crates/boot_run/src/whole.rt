@@ -5,12 +5,12 @@ ghost use Rattle.layer_contract.specs.Boots.{BootFollows};
 ghost use Rattle.boot_run.specs.Loading.{system_of};
 ghost use Rattle.boot_run.specs.LoadEnds.{pages_needed, HasRoom, LoadFails};
 ghost use Rattle.boot_run.specs.TurnCalls.{around, KeepsLoad};
-ghost use Rattle.boot_run.specs.Whole.{Bootable, end_of_fault, CloseRuns, GoRuns, IsDiskFault, IsSinkFault, RunsToEnd, WholeEnds, WholeGoesOn, WholeReplays};
+ghost use Rattle.boot_run.specs.Whole.{Bootable, end_of_fault, CloseRuns, GoRuns, IsDiskFault, IsSinkFault, RunsToEnd, WholeEnds, WholeGoesOn};
 
 use crate::load::LoadFault;
 use crate::next::has_faulted;
 use crate::run::Run;
-use boot_turns::{RunFault, Turn, View, journal_rows_follow, machines_run, traces_grow};
+use boot_turns::{RunFault, View, journal_rows_follow, machines_run, traces_grow};
 use cvm_model::units_replay;
 use cvm_outside::{Sectors, Sink};
 use layer_contract::{Boot, Layer};
@@ -91,12 +91,13 @@ fn go<L: Layer + Drop, D: Sectors, O: Sink>(
 {
     machines_run();
     turns_are_counted();
-    for k in 0..turns {
-        match run.turn(budget, disk, out)? {
-            Turn::Over => return Ok(()),
-            Turn::Step(_) => {}
-            Turn::Dispatch(_) => {}
+    let mut left = turns;
+    while left > 0 {
+        let (made, _) = run.turns(left, budget, disk, out)?;
+        if made == 0 {
+            return Ok(());
         }
+        left -= made;
     }
     Ok(())
 }
@@ -178,7 +179,6 @@ pub fn run_whole<L: Layer + Drop, D: Sectors, O: Sink>(
     requires some { 1 ≤ turns }
     ensures ends { WholeEnds boot schedule (D.size disk.old) view turns steps (D.sectors disk.old) (D.sectors disk.new) (O.text out.old) (O.text out.new) result }
     ensures goes_on { WholeGoesOn boot schedule (D.size disk.old) (D.sectors disk.old) }
-    ensures replays { WholeReplays boot schedule (D.size disk.old) (D.sectors disk.old) }
     ensures told { IsSome (D.sectors disk.old) → IsSome (D.sectors disk.new) }
     ensures refused { IfErr result (LoadFails boot view (D.size disk.old) (D.faults disk.old) (D.faults disk.new)) }
     ensures loaded { IfOk result (λ _. HasRoom boot view (D.size disk.old)) }

@@ -1,49 +1,52 @@
-use Rattle.std.proofs.Common.{◌≡◌, ℕ, ◌+◌, None, Ok, inr, refl, sym, ap, ◌∙◌, subst, arith}
+use Rattle.std.proofs.Common.{◌≡◌, ◌+◌, ◌-◌, ◌≤◌, None, inr, refl, sym, ◌∙◌, arith}
 use Rattle.std.specs.Prelude.{IsSome}
 use Rattle.std.proofs.lemmas.Result.{err_from_is_err_and}
-use Rattle.boot_turns.specs.declared.answers.Turn.TheVariants.{Over}
 use Rattle.boot_run.specs.TurnCalls.{Around, around}
-use Rattle.boot_run.proofs.Looping.{keeps_first, keeps_next, go_failed, went_over, went, not_over, not_failed}
-use Rattle.boot_run.proofs.whole.go.Goals.{in-Step, in-Dispatch}
+use Rattle.boot_run.proofs.Looping.{keeps_first, keeps_next, go_failed, went_over, went, not_over, not_failed, was_over}
 use Rattle.boot_run.proofs.whole.go.Goals as goal
 
-pub loop-k-init : goal.loop-k-init
-loop-k-init g c = record {
+pub loop-left-init : goal.loop-left-init
+loop-left-init g c = record {
   kept = record { layer_is = refl; boot_is = refl; view_is = refl; rows_are = refl; count_is = refl };
   fault = c.requires.fine;
   size = refl;
-  time = omega arith;
+  time = refl;
   disk = refl;
   sink = refl;
-  going = keeps_first (g.D.Sectors.size c.args.disk.now) c.args.run.now (around c.args.run.now (g.D.Sectors.sectors c.args.disk.now) c.args.budget.now (g.O.Sink.text c.args.out.now));
+  few = omega arith;
+  going = keeps_first (g.D.Sectors.size c.args.disk.now) c.args.run.now (around c.args.run.now (g.D.Sectors.sectors c.args.disk.now) c.args.budget.now (g.O.Sink.text c.args.out.now)) _ (omega arith);
 }
 
-pub returns-in_err-turn-clause-ends : goal.returns-in_err-turn-clause-ends
-returns-in_err-turn-clause-ends g c =
+pub returns-in_err-made-clause-ends : goal.returns-in_err-made-clause-ends
+returns-in_err-made-clause-ends g c =
     let w = err_from_is_err_and c.from_residual.result c.from_residual.ensures.1 in
-    let on = not_failed c.loop-k.run.ended c.in_err-turn.field-0.0 (λ o. c.in_err-turn.ensures.over c.loop-k.invariant.fault o) in
-    go_failed c.turns_are_counted.ensures (g.D.Sectors.size c.args.disk.now) (g.D.Sectors.size c.loop-k.disk) c.args.run.now c.loop-k.run c.args.turns _ _ _ c.loop-k.k c.in_err-turn.field-0.0 w.0 c.from_residual.result
-    c.loop-k.invariant.kept c.loop-k.invariant.size c.loop-k-test.true on (c.in_err-turn.ensures.ends c.loop-k.invariant.fault on) c.loop-k.invariant.going w.1 (sym w.2)
+    let on = not_failed c.loop-left.run.ended c.in_err-made.field-0.0 (λ o. c.in_err-made.ensures.over c.loop-left.invariant.fault o) in
+    let few = c.loop-left.invariant.few in
+    go_failed c.turns_are_counted.ensures (g.D.Sectors.size c.args.disk.now) (g.D.Sectors.size c.loop-left.disk) c.args.run.now c.loop-left.run c.args.turns _ _ _ _ c.loop-left.left c.in_err-made.field-0.0 w.0 c.from_residual.result
+    c.loop-left.invariant.kept c.loop-left.invariant.size (omega (arith, few)) on (c.in_err-made.ensures.ends c.loop-left.invariant.fault on) c.loop-left.invariant.going w.1 (sym w.2)
 
-pub returns-in-Over-clause-ends : goal.returns-in-Over-clause-ends
-returns-in-Over-clause-ends g c =
-    let over : IsSome c.loop-k.run.ended = c.in_ok-turn.ensures.only (ap (λ v. Ok v) c.in-Over.is) in
-    let st = c.in_ok-turn.ensures.still (inr over) in
+pub returns-then-made-eq0-clause-ends : goal.returns-then-made-eq0-clause-ends
+returns-then-made-eq0-clause-ends g c =
+    let over : IsSome c.loop-left.run.ended = was_over c.loop-left.run.ended c.in_ok-made.made c.in_ok-made.ensures.made.1 c.if-made-eq0.true in
+    let st = c.in_ok-made.ensures.still (inr over) in
     let s0 = st.0 in
     let s1 = st.1 in
     let s2 = st.2 in
     let s3 = st.3 in
-    let mid : Around = around c.loop-k.run (g.D.Sectors.sectors c.loop-k.disk) c.loop-k.budget (g.O.Sink.text c.loop-k.out) in
-    let after : Around = around c.turn.new.self (g.D.Sectors.sectors c.turn.new.disk) c.turn.new.budget (g.O.Sink.text c.turn.new.out) in
+    let mid : Around = around c.loop-left.run (g.D.Sectors.sectors c.loop-left.disk) c.loop-left.budget (g.O.Sink.text c.loop-left.out) in
+    let after : Around = around c.turns.new.self (g.D.Sectors.sectors c.turns.new.disk) c.turns.new.budget (g.O.Sink.text c.turns.new.out) in
     let same : mid ≡ after = cc in
-    went_over c.machines_run.ensures (g.D.Sectors.size c.args.disk.now) c.args.run.now c.args.turns _ mid after c.loop-k.k (omega arith) over same c.loop-k.invariant.going
+    went_over c.machines_run.ensures (g.D.Sectors.size c.args.disk.now) c.args.run.now c.args.turns _ mid after (c.args.turns - c.loop-left.left) (omega arith) over same c.loop-left.invariant.going
 
-pub loop-k-preserved : goal.loop-k-preserved
-loop-k-preserved g c =
-    let no : c.in_ok-turn.field-0 ≡ Over → ⊥ = λ v. elim c.match-branch-2.branch [ in-Step w ↦ (let a = w.in-Step.is in absurd (cc)) | in-Dispatch w ↦ (let a = w.in-Dispatch.is in absurd (cc)) ] in
-    let on = not_over c.loop-k.run.ended c.in_ok-turn.field-0 (λ o. c.in_ok-turn.ensures.over c.loop-k.invariant.fault o) no in
-    let kept = c.in_ok-turn.ensures.kept in
-    let was = c.loop-k.invariant.kept in
+pub loop-left-preserved : goal.loop-left-preserved
+loop-left-preserved g c =
+    let not_none = c.if-made-eq0.false in
+    let some : 1 ≤ c.in_ok-made.made = omega (arith, not_none) in
+    let on = not_over c.loop-left.run.ended c.in_ok-made.made c.in_ok-made.field-0-1 (λ o. c.in_ok-made.ensures.over c.loop-left.invariant.fault o) some in
+    let kept = c.in_ok-made.ensures.kept in
+    let was = c.loop-left.invariant.kept in
+    let few = c.loop-left.invariant.few in
+    let most = c.in_ok-made.ensures.made.0 in
     record {
       kept = record {
         layer_is = kept.layer_is ∙ was.layer_is;
@@ -52,14 +55,17 @@ loop-k-preserved g c =
         rows_are = kept.rows_are ∙ was.rows_are;
         count_is = kept.count_is ∙ was.count_is;
       };
-      fault = c.in_ok-turn.ensures.fine;
-      size = c.in_ok-turn.ensures.size ∙ c.loop-k.invariant.size;
-      time = let a = c.in_ok-turn.ensures.spent in let b = c.loop-k.invariant.time in omega (arith, a, b);
-      disk = c.in_ok-turn.ensures.disk_same (λ v. absurd (cc)) ∙ c.loop-k.invariant.disk;
-      sink = c.in_ok-turn.ensures.sink_same (λ v. absurd (cc)) ∙ c.loop-k.invariant.sink;
-      going = keeps_next (g.D.Sectors.size c.args.disk.now) (g.D.Sectors.size c.loop-k.disk) c.args.run.now c.loop-k.run _ _ _ c.loop-k.k c.in_ok-turn.field-0
-          c.loop-k.invariant.kept c.loop-k.invariant.size on (c.in_ok-turn.ensures.ends c.loop-k.invariant.fault on) c.loop-k.invariant.going;
+      fault = c.in_ok-made.ensures.fine;
+      size = c.in_ok-made.ensures.size ∙ c.loop-left.invariant.size;
+      time = c.in_ok-made.ensures.spent ∙ c.loop-left.invariant.time;
+      disk = c.in_ok-made.ensures.disk_same (λ v. absurd (cc)) ∙ c.loop-left.invariant.disk;
+      sink = c.in_ok-made.ensures.sink_same (λ v. absurd (cc)) ∙ c.loop-left.invariant.sink;
+      few = omega (arith, few);
+      going = keeps_next (g.D.Sectors.size c.args.disk.now) (g.D.Sectors.size c.loop-left.disk) c.args.run.now c.loop-left.run _ _ _ (c.args.turns - c.loop-left.left) _ c.loop-left.left c.in_ok-made.made c.in_ok-made.field-0-1
+          c.loop-left.invariant.kept c.loop-left.invariant.size on (c.in_ok-made.ensures.ends c.loop-left.invariant.fault on) (omega (arith, few, most)) c.loop-left.invariant.going;
     }
 
 pub returns-clause-ends : goal.returns-clause-ends
-returns-clause-ends g c = went (g.D.Sectors.size c.args.disk.now) c.args.run.now c.args.turns _ _ c.loop-k.k c.requires.some (omega arith) c.loop-k.invariant.going
+returns-clause-ends g c =
+    let none = c.loop-left-test.false in
+    went (g.D.Sectors.size c.args.disk.now) c.args.run.now c.args.turns _ _ (c.args.turns - c.loop-left.left) c.requires.some (omega (arith, none)) c.loop-left.invariant.going

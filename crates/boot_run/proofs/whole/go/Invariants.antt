@@ -1,16 +1,20 @@
-use Rattle.std.proofs.Common.{◌≡◌, ◌+◌, ◌≤◌, None}
+use Rattle.std.proofs.Common.{◌≡◌, ℕ, ◌+◌, ◌-◌, ◌≤◌, None}
 use Rattle.boot_run.specs.TurnCalls.{around, KeepsLoad}
 use Rattle.boot_run.proofs.Looping.{KeepsGoing}
 use Rattle.boot_run.proofs.whole.go.Given as goal
 
-abbrev pub invariant-loop-k : goal.invariant-loop-k
-invariant-loop-k g l = record {
+abbrev pub invariant-loop-left : goal.invariant-loop-left
+invariant-loop-left g l = record {
   kept : KeepsLoad l.fn.run l.run;
   fault : l.run.fault ≡ None;
   size : g.D.Sectors.size l.disk ≡ g.D.Sectors.size l.fn.disk;
-  time : l.run.machine.time + l.budget ≤ l.fn.run.machine.time + l.fn.budget;
+  time : l.run.machine.time + l.budget ≡ l.fn.run.machine.time + l.fn.budget;
   disk : g.D.Sectors.faults l.disk ≡ g.D.Sectors.faults l.fn.disk;
   sink : g.O.Sink.faults l.out ≡ g.O.Sink.faults l.fn.out;
-  going : KeepsGoing (g.D.Sectors.size l.fn.disk) l.fn.run (around l.fn.run (g.D.Sectors.sectors l.fn.disk) l.fn.budget (g.O.Sink.text l.fn.out)) l.k
+  few : l.left ≤ l.fn.turns;
+  going : KeepsGoing (g.D.Sectors.size l.fn.disk) l.fn.run (around l.fn.run (g.D.Sectors.sectors l.fn.disk) l.fn.budget (g.O.Sink.text l.fn.out)) (l.fn.turns - l.left)
       (around l.run (g.D.Sectors.sectors l.disk) l.budget (g.O.Sink.text l.out));
 }
+
+abbrev pub decreases-loop-left : goal.decreases-loop-left
+decreases-loop-left g l = l.left

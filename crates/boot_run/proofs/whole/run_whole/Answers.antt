@@ -4,7 +4,7 @@ use Rattle.cvm_outside.specs.Causes.{Rose}
 use Rattle.boot_run.specs.Loading.{system_of}
 use Rattle.boot_run.specs.LoadEnds.{pages_needed}
 use Rattle.boot_run.proofs.Looping.{machines}
-use Rattle.boot_run.proofs.Booting.{users_of, memory_not_disk, whole_refused, whole_ends, whole_told, stays_told, end_disk, end_sink, disk_end, sink_end}
+use Rattle.boot_run.proofs.Booting.{memory_not_disk, whole_refused, whole_ends, whole_told, stays_told, end_disk, end_sink, disk_end, sink_end}
 use Rattle.boot_run.proofs.whole.run_whole.Goals as goal
 
 pub returns-in_err-run-clause-ends : goal.returns-in_err-run-clause-ends
@@ -17,11 +17,6 @@ returns-in_err-run-clause-ends g c =
 pub returns-in_err-run-clause-goes_on : goal.returns-in_err-run-clause-goes_on
 returns-in_err-run-clause-goes_on g c = λ old is room.
     (machines c.machines_run.ensures c.args.boot c.args.schedule (g.D.Sectors.size c.args.disk.now) (system_of c.args.boot c.args.schedule) old (c.premises_hold.ensures old is room)).goes_on
-
-pub returns-in_err-run-clause-replays : goal.returns-in_err-run-clause-replays
-returns-in_err-run-clause-replays g c = λ old is room u turns steps some most.
-    (machines c.machines_run.ensures c.args.boot c.args.schedule (g.D.Sectors.size c.args.disk.now) (system_of c.args.boot c.args.schedule) old (c.premises_hold.ensures old is room)).replays u turns steps some
-    (users_of c.args.boot u most)
 
 pub returns-in_err-run-clause-told : goal.returns-in_err-run-clause-told
 returns-in_err-run-clause-told g c = stays_told (pages_needed c.args.boot) (g.D.Sectors.sectors c.args.disk.now) (g.D.Sectors.sectors c.load.new.disk) c.in_err-run.ensures.torn
@@ -36,11 +31,6 @@ returns-clause-ends g c =
 pub returns-clause-goes_on : goal.returns-clause-goes_on
 returns-clause-goes_on g c = λ old is room.
     (machines c.machines_run.ensures c.args.boot c.args.schedule (g.D.Sectors.size c.args.disk.now) (system_of c.args.boot c.args.schedule) old (c.premises_hold.ensures old is room)).goes_on
-
-pub returns-clause-replays : goal.returns-clause-replays
-returns-clause-replays g c = λ old is room u turns steps some most.
-    (machines c.machines_run.ensures c.args.boot c.args.schedule (g.D.Sectors.size c.args.disk.now) (system_of c.args.boot c.args.schedule) old (c.premises_hold.ensures old is room)).replays u turns steps some
-    (users_of c.args.boot u most)
 
 pub returns-clause-told : goal.returns-clause-told
 returns-clause-told g c =

@@ -1,11 +1,12 @@
-use Rattle.std.proofs.Common.{Some, Err}
-use Rattle.boot_run.proofs.Proceeding.{runs_faulted, runs_after}
+use Rattle.std.proofs.Common.{sym}
+use Rattle.std.proofs.lemmas.Result.{err_from_is_err_and}
+use Rattle.boot_run.proofs.Proceeding.{one_failed_run, one_turn_run}
 use Rattle.boot_run.proofs.run.Run.turn.Goals as goal
 
-pub returns-in-Ok-clause-ends : goal.returns-in-Ok-clause-ends
-returns-in-Ok-clause-ends g c = λ f e. c.in-Ok.ensures.ends f
+pub returns-in_err-turn-clause-ends : goal.returns-in_err-turn-clause-ends
+returns-in_err-turn-clause-ends g c = λ f e.
+    let h = err_from_is_err_and c.from_residual.result c.from_residual.ensures.1 in
+    one_failed_run c.machines_run.ensures (g.D.Sectors.size c.args.disk.now) c.args.self.now _ _ c.in_err-turn.field-0.0 h.0 c.from_residual.result h.1 (sym h.2) (c.in_err-turn.ensures.ends f e)
 
-pub returns-in-Err-clause-ends : goal.returns-in-Err-clause-ends
-returns-in-Err-clause-ends g c = λ f e.
-    runs_faulted (g.D.Sectors.size c.args.disk.now) c.args.self.now _ _ c.in-Err.fault (Some c.in-Err.fault)
-    (runs_after _ _ c.self-2.view_is (g.D.Sectors.size c.args.disk.now) c.args.self.now _ (g.D.Sectors.sectors c.proceed.new.disk) c.proceed.new.budget (g.O.Sink.text c.proceed.new.out) (Err c.in-Err.fault) (c.in-Err.ensures.ends f))
+pub returns-clause-ends : goal.returns-clause-ends
+returns-clause-ends g c = λ f e. one_turn_run c.machines_run.ensures (g.D.Sectors.size c.args.disk.now) c.args.self.now _ _ _ c.in_ok-turn.turn (c.in_ok-turn.ensures.ends f e)
