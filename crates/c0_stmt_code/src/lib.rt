@@ -3,7 +3,7 @@
 
 mod acts;
 mod calling;
-mod emit_laws;
+pub mod emit_laws;
 mod function;
 pub mod laws;
 mod prologue;
