@@ -13,6 +13,7 @@ pub mod accepted;
 pub mod assembly;
 pub mod boot;
 pub mod command;
+pub mod laws;
 pub mod linking;
 pub mod migration;
 pub mod object;
