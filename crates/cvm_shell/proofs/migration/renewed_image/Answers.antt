@@ -14,4 +14,4 @@ returns-in-Ok-clause-comes g c = λ m.
 
 pub returns-in-Ok-clause-accepted : goal.returns-in-Ok-clause-accepted
 returns-in-Ok-clause-accepted g c =
-    migrated_accepted c.migrated_images_are_accepted.ensures g.M.LayerMaker.made c.args.old.now _ _ c.in_ok-image.ensures.is c.in-Ok.ensures.read_back
+    migrated_accepted c.migrated_images_are_accepted.ensures g.M.LayerMaker.made c.args.old.now _ _ c.in_ok-image.ensures.is (c.in-Ok.ensures.read_back c.in_ok-image.ensures.spelled)
