@@ -1,13 +1,13 @@
 #!/usr/bin/env python3
-"""Writes cases of whole commands for shell_cases, with what each prints: lines at chosen steps, calls that fail, steps that are spent, the examples.
+"""Writes cases of whole commands for shell_cases, with what each prints: lines at chosen steps, calls that fail, steps that are spent.
 
 usage: gen_lines.py CASES STDOUT [PRINTED]   writes the cases to CASES, and to STDOUT what the program prints of them; PRINTED is what the
                                              program printed of them before
 
-Which turn takes a line, how many rows stand printed when a call fails, and at which steps turns begin hangs on the physical machine alone. The
-steps are given below, as measured. The turns of lines and the numbers of rows are taken from PRINTED, and all else of these texts is worked
-out by the abstract machine of boot.py with these turns, and compared: a text that breaks a rule ends this script. Where PRINTED does not have
-such a case yet, `(not printed)` stands for its text.
+Which turn takes a line and at which steps turns begin hangs on the physical machine alone. The steps are given below, as measured. The turns of
+lines are taken from PRINTED, and all else of these texts is worked out by the abstract machine of boot.py with these turns, and compared: a text
+that breaks a rule ends this script. Where PRINTED does not have such a case yet, `(not printed)` stands for its text. What stands printed when a
+call fails is worked out from the calls, which are stated.
 """
 import os
 import re
@@ -30,8 +30,6 @@ CALLED_BACK = 361      # and user mode is back after turn 1
 PRODUCTS_LEFT = 144    # the user of products and quotients
 PRODUCTS_BEGINS = 3010 # and its turn 1
 MESSAGES_STEPS = 9779  # messages: the whole run
-DISK_CALLS = 12        # four pages over two frames: calls of the disk in the whole run
-SINK_CALLS = 34        # messages: calls of the sink in the whole run
 
 
 def printed_runs(path):
@@ -56,8 +54,8 @@ def lines_of(text):
     return re.findall(r'^turn (\d+) cause 1 data ([0-9a-f]{8}) ', text, re.M)
 
 
-def model_lines(kernel, users, par, schedule, turns, taken):
-    """What the abstract machine prints where each of these turns takes these lines."""
+def model_lines(kernel, users, par, schedule, turns, taken, traced=None):
+    """What the abstract machine prints, of a boot or of the trace of a user, where each of these turns takes these lines."""
     with tempfile.TemporaryDirectory() as d:
         put = lambda n, t: open(os.path.join(d, n), 'w').write(t)
         put('kernel.c0', kernel)
@@ -65,7 +63,7 @@ def model_lines(kernel, users, par, schedule, turns, taken):
         put('schedule', schedule)
         for i, u in enumerate(users):
             put('user%d.s' % (i + 1), u)
-        words = [sys.executable, os.path.join(HERE, 'boot.py'), d, str(turns)] + ['%d:%d' % (int(turn), int(mask, 16)) for turn, mask in taken]
+        words = [sys.executable, os.path.join(HERE, 'boot.py'), d, str(turns)] + (['trace', str(traced)] if traced else []) + ['%d:%d' % (int(turn), int(mask, 16)) for turn, mask in taken]
         return subprocess.run(words, capture_output=True, text=True, check=True).stdout
 
 
@@ -96,11 +94,58 @@ def line_at(step, line, text, turns=TURNS):
     run('boot img l %d %d' % (turns, STEPS), text)
 
 
+def begun(text):
+    """The bytes of a text that was cut off, which is shown with ` ..` behind where it ends within a row."""
+    return text[:-3] if text.endswith(' ..') else text + '\n' if text else ''
+
+
+def prefix(whole):
+    """The first rows of this text, or the first rows and a part of the next, behind which ` ..` stands."""
+    return lambda text: whole.startswith(begun(text)) and begun(text) != whole
+
+
+def before_each(puts):
+    """What stands printed before each of these puts."""
+    return [''.join(puts[:n]) for n in range(len(puts))]
+
+
+def until(whole, *rows):
+    """The text up to each of these rows."""
+    return [whole[:whole.index('\n' + row) + 1] for row in rows]
+
+
+def failing(name, what, lefts, kernel, users, par, whole, status, words='boot img s %d %d' % (TURNS, STEPS)):
+    """Runs in one world, of which each fails at the next of its own calls and leaves the next of these texts, and a last one that would fail
+    at one call more, and makes no such call."""
+    numbers, before = [], 0
+    for call in range(len(lefts) + 1):
+        numbers.append(str(before + call))
+        before += call + 1
+    schedules(name, kernel, users, par, 'sectors 64\nroom 1000000\n%s %s' % (what, ' '.join(numbers)))
+    for left in lefts:
+        assert whole.startswith(left) and left != whole, (name, left)
+        run(words, left + (' ..' if left[-1:] not in ('', '\n') else ''), status)
+    run(words, whole)
+
+
+def taking(name, takes, calls, puts, kernel, users, par, words='boot img s %d %d' % (TURNS, STEPS)):
+    """Runs in one world over a sink that takes so many bytes of a put that fails; each fails at one of these calls, the last at none."""
+    numbers, before = [], 0
+    for call in calls:
+        numbers.append(str(before + call))
+        before += call + 2
+    schedules(name, kernel, users, par, 'sectors 64\nroom 1000000\ntakes %d\nsink %s' % (takes, ' '.join(numbers)))
+    for call in calls:
+        left = before_each(puts)[call] + puts[call][:takes]
+        run(words, left + (' ..' if left[-1:] not in ('', '\n') else ''), 7)
+    run(words, ''.join(puts))
+
+
 # ---- a line at each part of turn 0 and of the first page fault
 TAKEN = RESET + ' 1\nturn 1 cause 1 data 00000008 user 1 next 0\nhalted\nuser 1 pages 1 pc 00000000\nmem 00000000 0000000c\n'
 LATE = TAKEN.replace('cause 1 data 00000008', 'cause 6 data 0000000c').replace('pc 00000000', 'pc 00000004')
 schedules('a line at each part of turn 0 and of the first page fault', K1, ['syscall'])
-for step in sorted(set(range(1, ONE_BEGINS, 2 * 97)) | {ONE_LEFT, ONE_LEFT + 1, ONE_BEGINS}):
+for step in sorted(set(range(1, ONE_BEGINS, 97)) | {ONE_LEFT, ONE_LEFT + 1, ONE_BEGINS}):
     line_at(step, 3, TAKEN)
 line_at(ONE_BEGINS + 1, 3, LATE)
 run('boot img s 1 %d' % (ONE_LEFT - 1), '', 4)
@@ -111,8 +156,8 @@ CALLED = ('int n; int m; ' + HEAD
 TWICE = (RESET + ' 1\nturn 1 cause 1 data 00000002 user 1 next 1\nturn 2 cause 1 data 00000004 user 1 next 0\nhalted\nglobal n 2\nglobal m 20\n'
          + 'user 1 pages 1 pc 00000000\nmem 00000000 0000000c\n')
 schedules('a second line while the first is handled', CALLED, ['syscall'])
-for i in range(3):
-    part('file l', 'line 1 1\nline %d 2\n' % (CALLED_LEFT + 1 + (CALLED_BACK - CALLED_LEFT - 1) * i // 2))
+for step in sorted(set(range(CALLED_LEFT + 1, CALLED_BACK, 97)) | {CALLED_BACK}):
+    part('file l', 'line 1 1\nline %d 2\n' % step)
     run('boot img l %d %d' % (TURNS, STEPS), TWICE)
 
 # ---- messages: steps to the last, lines, and a sink that fails
@@ -144,33 +189,19 @@ part('file l', FORTY)
 checked('forty lines', 0, 'boot img l 100000 %d' % STEPS, WHOLE, fair, 0)
 
 
-def prefix(whole):
-    """The first rows of this text, or the first rows and a part of the next, behind which ` ..` stands."""
-    def holds(text):
-        begun = text[:-3] if text.endswith(' ..') else text + '\n' if text else ''
-        return whole.startswith(begun) and begun != whole
-    return holds
-
-
-def failing(name, what, calls, kernel, users, par, whole, status):
-    """Boots in one world, of which each fails at the next of these calls of its own, and a last one that doesn't fail."""
-    numbers, before = [], 0
-    for call in calls:
-        numbers.append(str(before + call))
-        before += call + 1
-    schedules(name, kernel, users, par, 'sectors 64\nroom 1000000\n%s %s' % (what, ' '.join(numbers)))
-    for at in range(len(calls)):
-        checked(name, at, 'boot img s %d %d' % (TURNS, STEPS), whole, prefix(whole), status)
-    run('boot img s %d %d' % (TURNS, STEPS), whole)
-
-
-failing('calls of the sink fail in turn', 'sink', [c for c in range(SINK_CALLS) if c in (0, 1, 4, 5, 6, 7, 8, 20, SINK_CALLS - 1)], MESSAGES[0], MESSAGES[1:], PARAMS, WHOLE, 7)
+# a row is one put, but for that of a global: its name is put by itself
+PUTS = [p for row in WHOLE.splitlines(True) for p in (re.findall('^global |[^ ]+(?= )|.*\n', row) if row.startswith('global') else [row])]
+failing('each call of the sink fails in turn', 'sink', before_each(PUTS), MESSAGES[0], MESSAGES[1:], PARAMS, WHOLE, 7)
+taking('a sink that takes four bytes of a put that fails', 4, (0, 1, 4, 5, 6, 7, 8, 20, 33), PUTS, MESSAGES[0], MESSAGES[1:], PARAMS)
 
 # ---- four pages over two frames, and a disk that fails
 FOUR = 'bool b; ' + HEAD + ' { int next; if (cause == 0) { b = vm_resize(1, 4); next = 1; } return next; }'
 PAGES = ['lw r1, 4096(r0)\nlw r2, 8192(r0)\nsw r2, 12288(r0)\nsyscall\n.zero 1020\n.word 11\n.zero 1023\n.word 12\n']
 FOUR_TEXT = model(FOUR, PAGES, params(frames=2), '', TURNS)
-failing('each call of the disk fails in turn', 'disk', range(DISK_CALLS), FOUR, PAGES, params(frames=2), FOUR_TEXT, 5)
+
+# three pages are loaded. Pages 0 and 1 are read; 0 is written and 2 read, 1 is written and 0 read, 2 is written and its frame given to page 3, which
+# is fresh; and the report reads pages 1 and 2
+failing('each call of the disk fails in turn', 'disk', [''] * 3 + [RESET + ' 1\n'] * 7 + until(FOUR_TEXT, 'mem 00001000', 'mem 00002000'), FOUR, PAGES, params(frames=2), FOUR_TEXT, 5)
 
 # ---- a line at steps of products and quotients
 KEPT = 'int x; ' + HEAD + ' { int next; x = 100 / (cause + 3); if (cause < 2) { next = 1; } return next; }'
@@ -182,29 +213,11 @@ for turn in range(1, 8):
     line_at(PRODUCTS_BEGINS + turn - 1, 5, model_lines(KEPT, PRODUCTS, PARAMS, '', TURNS, [(str(turn), '20')]))
 line_at(PRODUCTS_BEGINS + 7, 5, model(KEPT, PRODUCTS, PARAMS, '', TURNS))
 
+NOTE = '''Lines at chosen steps, steps that are spent, and calls that fail. Written by bench/models/gen_lines.py.
 
-# ---- the examples
-def as_modeled(kernel, users, par, schedule):
-    return lambda text: text.rstrip('\n') == model_lines(kernel, users, par, schedule, 100000, lines_of(text)).rstrip('\n')
-
-
-for name in ('adder', 'faults', 'round_robin', 'sharing'):
-    names = sorted((n for n in os.listdir(os.path.join(EXAMPLES, name)) if re.fullmatch(r'user\d+\.s', n)), key=lambda n: int(n[4:-2]))
-    kernel, users, par, schedule = read(name, 'kernel.c0'), [read(name, n) for n in names], read(name, 'params'), read(name, 'schedule')
-    begin('the example ' + name, 'sectors 64')
-    system(kernel, users, par, schedule)
-    words = 'boot img s 100000 %d' % STEPS
-    if 'line' in schedule:
-        checked('the example ' + name, 0, words, '', as_modeled(kernel, users, par, schedule), 0)
-    else:
-        run(words, model(kernel, users, par, schedule, 100000))
-
-NOTE = '''Lines at chosen steps, steps that are spent, calls that fail, and the examples. Written by bench/models/gen_lines.py.
-
-Three kinds of texts hang on the physical machine alone: at which turns lines are taken (forty lines, the example round_robin), and how many
-rows stand printed when a call fails. These are the program's own, checked by that script: with the turns of the lines as printed the model
-gives the same text, and what a failing call leaves is the first rows of the whole text. The steps of lines and of the last step of a run are
-measured. All else is worked out apart.
+At which turns lines are taken (forty lines) hangs on the physical machine alone. This text is the program's own, checked by that script: with
+the turns of the lines as printed the model gives the same text. The steps of lines and of the last step of a run are measured. All else is worked
+out apart.
 
 '''
 with open(sys.argv[1], 'w') as f:

@@ -71,12 +71,31 @@ def system(kernel, users=(), par=PARAMS, schedule='', image='img'):
     part('file s', schedule)
     for i, u in enumerate(users):
         part('file a%d' % (i + 1), u)
-    for n in ['o', image] + ['u%d' % (i + 1) for i in range(len(users))]:
+    build(len(users), image)
+
+
+def build(users, image='img'):
+    """Compiles and links the system whose files are placed."""
+    for n in ['o', image] + ['u%d' % (i + 1) for i in range(users)]:
         raw('zeros ' + n, str(ROOM))
     run('compile kernel k o')
-    for i in range(len(users)):
+    for i in range(users):
         run('compile user a%d u%d' % (i + 1, i + 1))
-    run('link o p %s%s' % (image, ''.join(' u%d' % (i + 1) for i in range(len(users)))))
+    run('link o p %s%s' % (image, ''.join(' u%d' % (i + 1) for i in range(users))))
+
+
+def sectors(held):
+    """Shows sectors: of each its number and the first words, behind which all are 0."""
+    for n, words in held:
+        part('sector %d' % n)
+        told.extend('%d: %08x' % (i, w) for i, w in enumerate(words) if w)
+
+
+def unchanged(name, room=ROOM):
+    """Shows the first and the last bytes of a file of zeros."""
+    for at, count in ((0, 16), (room - 4, 8)):
+        part('part %s %d %d' % (name, at, count))
+        told.append('\\x00' * min(count, room - at))
 
 
 def boots(name, kernel, users=(), par=PARAMS, schedule='', turns=TURNS, steps=STEPS, text=None, status=0, options='sectors 64'):
@@ -122,6 +141,7 @@ raw('zeros o', '1000')
 run('compile kernel big o', 'refused 11 57', 2)
 run('compile kernel true o', 'refused 22 57 61', 2)
 run('compile kernel none o', 'refused 31 0 6', 2)
+unchanged('o', 1000)
 boots('quotients round towards zero', 'int a; int b; int c; int d; ' + HEAD
       + ' { a = (-2147483647 - 1) / -1; b = (-2147483647 - 1) % -1; c = -7 / 2; d = -7 % 2; return 0; }',
       text=RESET + ' 0\nhalted\nglobal a -2147483648\nglobal b 0\nglobal c -3\nglobal d -1\n')
@@ -190,8 +210,8 @@ boots('bad calls and a memory cut away', 'int g; int w; bool s; bool t; ' + HEAD
       + ' { g = vm_get(9, 1); w = vm_word(1, 2); s = vm_set(1, 0, 5); t = vm_resize(1, 5); t = vm_resize(1, 0); t = vm_resize(1, 1); return 0; }',
       ['syscall\n'], text=RESET + ' 0\nhalted\nglobal g -1\nglobal w -1\nglobal s false\nglobal t true\nuser 1 pages 1 pc 00000000\n')
 FOUR = 'bool b; ' + HEAD + ' { int next; if (cause == 0) { b = vm_resize(1, 4); next = 1; } return next; }'
-boots('four pages over two frames', FOUR, ['lw r1, 4096(r0)\nlw r2, 8192(r0)\nsw r2, 12288(r0)\nsyscall\n.zero 1020\n.word 11\n.zero 1023\n.word 12\n'],
-      params(frames=2), text='''turn 0 cause 0 data 00000000 user 0 next 1
+FOUR_USER = 'lw r1, 4096(r0)\nlw r2, 8192(r0)\nsw r2, 12288(r0)\nsyscall\n.zero 1020\n.word 11\n.zero 1023\n.word 12\n'
+boots('four pages over two frames', FOUR, [FOUR_USER], params(frames=2), text='''turn 0 cause 0 data 00000000 user 0 next 1
 turn 4 cause 6 data 0000000c user 1 next 0
 halted
 global b true
@@ -206,6 +226,36 @@ mem 00001000 0000000b
 mem 00002000 0000000c
 mem 00003000 0000000c
 ''')
+# the frames take pages in turn: page 0 and 1; page 2, and 0 again; and the stored page 3, which stays in its frame to the end
+FOUR_SECTORS = [(0, [0x8c011000, 0x8c022000, 0xac023000, 0x0000000c]), (1, [11]), (2, [12]), (3, []), (4, [])]
+sectors(FOUR_SECTORS)
+# the pages are on the disk before the first step, and where the first row can't be printed
+boots('four pages, of which no step is made', FOUR, [FOUR_USER], params(frames=2), text='', status=4, steps=0)
+sectors(FOUR_SECTORS)
+boots('four pages, and a sink whose first call fails', FOUR, [FOUR_USER], params(frames=2), text='', status=7, options='sectors 64\nsink 0')
+sectors(FOUR_SECTORS)
+# the second user's pages begin at sector 4, one page that is stored to is written when its frame is taken, and what is beyond stays
+boots('two users, and a page whose frame is taken', K1.replace('return', 'if (cause == 6 && user == 1) { next = 2; } return'),
+      ['ori r1, r0, 7\nsw r1, 4092(r0)\nsyscall\n', 'lw r1, 0(r0)\nlw r2, 4096(r0)\nsyscall\n.zero 1021\n.word 9\n'], params(frames=2),
+      text='''turn 0 cause 0 data 00000000 user 0 next 1
+turn 3 cause 6 data 0000000c user 1 next 2
+turn 6 cause 6 data 0000000c user 2 next 0
+halted
+user 1 pages 1 pc 0000000c
+reg 1 00000007
+mem 00000000 34010007
+mem 00000004 ac010ffc
+mem 00000008 0000000c
+mem 00000ffc 00000007
+user 2 pages 2 pc 0000000c
+reg 1 8c010000
+reg 2 00000009
+mem 00000000 8c010000
+mem 00000004 8c021000
+mem 00000008 0000000c
+mem 00001000 00000009
+''')
+sectors([(0, [0x34010007, 0xac010ffc, 0x0000000c] + [0] * 1020 + [7]), (1, []), (4, [0x8c010000, 0x8c021000, 0x0000000c]), (5, [9]), (6, []), (8, [])])
 boots('three pages that fight for two frames', FOUR.replace('4)', '3)'), ['sw r1, 4096(r0)\nsw r2, 8192(r0)\nj 0\n'], params(frames=2), turns=301,
       steps=150000000, text=RESET + ' 1\nstopped\nglobal b true\nuser 1 pages 3 pc 00000000\nmem 00000000 ac011000\nmem 00000004 ac022000\nmem 00000008 08000000\n')
 boots('products and quotients', 'int x; ' + HEAD + ' { int next; x = 100 / (cause + 3); if (cause == 0) { next = 1; } return next; }',
@@ -286,9 +336,11 @@ run('boot img wide 1000 1000', 'refused 72 1 4294967296', 2)
 begin('a disk that is too small', 'sectors 7')
 system(NINE, [OVERFLOW, OVERFLOW])
 run('boot img s 1000 1000000', 'refused 90 8 7', 5)
+sectors([(0, []), (4, []), (6, [])])
 begin('a disk whose third call fails', 'sectors 64\ndisk 2')
 system(K1, ['syscall', 'syscall', 'syscall'])
 run('boot img s 1000 1000000', '', 5)
+sectors([(12, []), (63, [])])
 begin('a sink whose first call fails', 'sink 0')
 raw('file img', FIRST_IMAGE)
 part('file s')
@@ -305,7 +357,22 @@ part('flip img', str(36 + 4 + len(NINE) + 4 * 20))
 made = 0x2b << 26 | 21 << 16 | 4 * (1030 + 21)
 run('boot img s 1000 1000000', 'refused 56 20 %d %d' % (made ^ 1, made), 2)
 part('flip o', str(16 + len(NINE)))
+raw('zeros img', str(ROOM))
 run('link o p img u1', 'refused 63 0 %d %d' % (0x3c1c0001 ^ 1, 0x3c1c0001), 2)
+unchanged('img')
+begin('an object whose first word is another one, without users')
+part('file k', FIRST)
+part('file p', PARAMS)
+for n in ('o', 'img'):
+    raw('zeros ' + n, str(ROOM))
+run('compile kernel k o')
+part('flip o', str(16 + len(FIRST)))
+run('link o p img', 'refused 63 0 %d %d' % (0x3c1c0001 ^ 1, 0x3c1c0001), 2)
+unchanged('img')
+part('flip o', str(16 + len(FIRST)))
+run('link o p img')
+part('part img 0 12')
+told.append('CVMI\\x03\\x00\\x00\\x00\\x00\\x00\\x00\\x00')
 begin('an object of another form')
 raw('file form', 'CVMO\\x02\\0\\0\\0\\0\\0\\0\\0\\0\\0\\0\\0')
 raw('file long', 'CVMO\\x01\\0\\0\\0\\x01\\0\\x10\\0\\0\\0\\0\\0')
@@ -313,10 +380,15 @@ part('file p', PARAMS)
 raw('zeros img', str(ROOM))
 run('link form p img', 'refused 43 4 2', 2)
 run('link long p img', 'refused 43 8 1048577', 2)
+unchanged('img')
 begin('the shelf fails when the object is put', 'shelf 1')
 part('file k', FIRST)
 raw('zeros o', str(ROOM))
 run('compile kernel k o', '', 6)
+unchanged('o')
+run('compile kernel k o')
+part('part o 0 12')
+told.append('CVMO\\x01\\x00\\x00\\x00K\\x00\\x00\\x00')
 begin('words that are no boot')
 run('boot a b 0 5', 'bad words', 1)
 run('boot a b 4294967296 5', 'bad words', 1)
@@ -327,10 +399,12 @@ system(K1, ['syscall'])
 part('file few', params(frames=1))
 part('file short', 'pages 4\nframes 8\nheap 64\n')
 part('file torn', 'syscal')
+raw('zeros img', str(ROOM))
 run('link o few img u1', 'refused 62 2 1', 2)
 run('link o short img u1', 'refused 66 4', 2)
 run('link o p img u1 torn', 'refused 65 2 6', 2)
 run('link o p img' + ' u1' * 65, 'refused 60 65', 2)
+unchanged('img')
 
 with open(sys.argv[1], 'w') as f:
     f.write('Whole systems: compiled, linked and booted, and what is refused. Written by bench/models/gen_rows.py.\n\n' + '\n'.join(cases) + '\n')

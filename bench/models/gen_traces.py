@@ -4,8 +4,8 @@
 usage: gen_traces.py CASES STDOUT [PRINTED]   as gen_lines.py, whose rules for PRINTED hold here too
 
 The texts are the abstract machine's of boot.py. Under lines it needs the turns that took them: for `sample N` these come from PRINTED, and
-the text that it then works out must be the one printed. How much of a trace stands where a call fails or the steps are spent hangs on the
-physical machine alone, and is taken from PRINTED after the check that it is a beginning of the whole text.
+the text that it then works out must be the one printed. How much of a trace stands where the steps are spent hangs on the physical machine alone, and
+is taken from PRINTED after the check that it is a beginning of the whole text.
 """
 import os
 import sys
@@ -87,6 +87,19 @@ traces('a bad next user', HEAD + ' { int next; bool b; next = 1; if (cause == 6)
        ['ori r1, r0, 1\nsyscall\n', ''], status=3)
 traces('a fault in turn 0', HEAD + ' { return 5; }', ['syscall'], status=3)
 
+# ---- a kernel that faults where a line is taken: the steps that no trap has ended stand before the fault
+SPIN, SPINNER = 'int x; ' + HEAD + ' { int next; next = 1; if (cause == 1) { x = 1 / x; } return next; }', ['loop: addiu r1, r1, 1\nj 0\n']
+SPINS = 'a kernel that faults in the turn of a line'
+schedules(SPINS, SPIN, SPINNER)
+part('file l', 'line %d 0\n' % (ONE_BEGINS + 50))
+checked(SPINS, 0, 'boot img l %d %d' % (TURNS, STEPS), '', lambda text: text.rstrip('\n') == model_lines(SPIN, SPINNER, PARAMS, '', TURNS, lines_of(text)).rstrip('\n'), 3)
+if had(SPINS, 0):
+    turn, _ = taken = lines_of(had(SPINS, 0)[1])[0]
+    assert had(SPINS, 0)[1] == RESET + ' 1\nturn %s cause 1 data 00000001 user 1 fault DivZero' % turn and int(turn) > 2
+    spun = model_lines(SPIN, SPINNER, PARAMS, '', TURNS, [taken], 1)
+    assert spun == 'start 1 pages 1\nsteps %d\nfault DivZero\n' % (int(turn) - 1)
+run('trace img l %d %d 1' % (TURNS, STEPS), spun if had(SPINS, 0) else '(not printed)', 3)
+
 # ---- words and refusals
 begin('words that are no trace, sample or migration')
 for words in ('trace a b 1 2', 'trace a b 0 2 1', 'trace a b 1 2 0', 'trace a b 1 2 65', 'trace a b 1 2 01', 'trace a b 1 2 3 4', 'trace a b 1 18446744073709551616 1',
@@ -106,16 +119,6 @@ run('trace img s 1000 1000000 1', 'refused 96 1 0', 2)
 # ---- steps that are spent, and calls that fail
 MESSAGES_TRACE = trace_of(MESSAGES[0], MESSAGES[1:], PARAMS, TURNS, 3)
 MESSAGES_FIRST = trace_of(MESSAGES[0], MESSAGES[1:], PARAMS, TURNS, 1)
-
-
-def prefix(whole):
-    """The whole text's first rows, or the first rows and a part of the next, behind which ` ..` stands."""
-    def holds(text):
-        begun = text[:-3] if text.endswith(' ..') else text + '\n' if text else ''
-        return whole.startswith(begun) and begun != whole
-    return holds
-
-
 schedules('the steps of a trace are spent', MESSAGES[0], MESSAGES[1:], read('messages', 'params'))
 run('trace img s %d 0 3' % TURNS, 'start 3 pages 1', 4)
 run('trace img s %d %d 3' % (TURNS, MESSAGES_STEPS), MESSAGES_TRACE)
@@ -123,24 +126,35 @@ for at, (u, whole, steps) in enumerate([(3, MESSAGES_TRACE, MESSAGES_STEPS - 1),
     checked('the steps of a trace are spent', at + 2, 'trace img s %d %d %d' % (TURNS, steps, u), whole, prefix(whole), 4)
 
 
-def failing_traces(name, what, calls, kernel, users, par, user, whole, status):
-    """Traces in one world, of which each fails at the next of these calls of its own, and a last one that doesn't fail."""
-    numbers, before = [], 0
-    for call in calls:
-        numbers.append(str(before + call))
-        before += call + 1
-    schedules(name, kernel, users, par, 'sectors 64\nroom 1000000\n%s %s' % (what, ' '.join(numbers)))
-    for at in range(len(calls)):
-        checked(name, at, 'trace img s %d %d %d' % (TURNS, STEPS, user), whole, prefix(whole), status)
-    run('trace img s %d %d %d' % (TURNS, STEPS, user), whole)
+def failing_traces(name, what, lefts, kernel, users, par, user, whole, status):
+    failing(name, what, lefts, kernel, users, par, whole, status, 'trace img s %d %d %d' % (TURNS, STEPS, user))
 
 
+# the calls are those of the boot in lines.cases
 FOUR = 'bool b; ' + HEAD + ' { int next; if (cause == 0) { b = vm_resize(1, 4); next = 1; } return next; }'
 PAGES = ['lw r1, 4096(r0)\nlw r2, 8192(r0)\nsw r2, 12288(r0)\nsyscall\n.zero 1020\n.word 11\n.zero 1023\n.word 12\n']
 FOUR_TRACE = trace_of(FOUR, PAGES, params(frames=2), TURNS, 1)
-failing_traces('each call of the disk fails in a trace', 'disk', range(DISK_CALLS), FOUR, PAGES, params(frames=2), 1, FOUR_TRACE, 5)
-SINK_CALLS_TRACED = 18  # messages, user 3: calls of the sink, the last rows' among them, that are made to fail
-failing_traces('each call of the sink fails in a trace', 'sink', range(SINK_CALLS_TRACED), MESSAGES[0], MESSAGES[1:], PARAMS, 3, MESSAGES_TRACE, 7)
+failing_traces('each call of the disk fails in a trace', 'disk', [''] * 3 + ['start 1 pages 3\nsize 4\n'] * 7 + until(FOUR_TRACE, 'mem 00001000', 'mem 00002000'),
+               FOUR, PAGES, params(frames=2), 1, FOUR_TRACE, 5)
+
+begin('the sectors after a trace', 'sectors 64')
+system(FOUR, PAGES, params(frames=2))
+run('trace img s %d %d 1' % (TURNS, STEPS), FOUR_TRACE)
+sectors([(0, [0x8c011000, 0x8c022000, 0xac023000, 0x0000000c]), (1, [11]), (2, [12]), (3, []), (4, [])])
+
+# four pages are loaded. Page 0 of both users is read, then for page 1 of each a page is written and one read. Behind the copy the journal reads each of
+# the two words on page 0 of user 2 from its sector, and so does the report
+ENDS = 'bool b; ' + HEAD + ' { b = vm_copy(1, 4088, 2, 4088, 4); return 0; }', ['syscall\n.zero 1021\n.word 11\n.word 12\n.word 13\n.word 14\n', 'syscall\n.zero 1025\n']
+ENDS_TRACE = trace_of(*ENDS, params(frames=2), TURNS, 2)
+ENDS_START = 'start 2 pages 2\n'
+assert ENDS_TRACE.startswith(ENDS_START + 'put 00000ff8 0000000b\nput 00000ffc 0000000c\nput 00001000 0000000d\nput 00001004 0000000e\nhalted\n')
+failing_traces('each call of the disk fails where words are copied over the end of a page', 'disk',
+               [''] * 4 + [ENDS_START] * 6 + until(ENDS_TRACE, 'put 00000ff8', 'put 00000ffc', 'mem 00000000'), *ENDS, params(frames=2), 2, ENDS_TRACE, 5)
+
+# before each row of the journal but a trap, and before the end, the steps so far are put, here no bytes
+PUTS_TRACED = [p for row in MESSAGES_TRACE.splitlines(True) for p in ([''] if row.startswith('put') or row == 'halted\n' else []) + [row]]
+failing_traces('each call of the sink fails in a trace', 'sink', before_each(PUTS_TRACED), MESSAGES[0], MESSAGES[1:], PARAMS, 3, MESSAGES_TRACE, 7)
+taking('a sink that takes seven bytes of a put of a trace that fails', 7, (0, 1, 2, 5, 6, 7, 9, 20), PUTS_TRACED, MESSAGES[0], MESSAGES[1:], PARAMS, 'trace img s %d %d 3' % (TURNS, STEPS))
 
 # ---- isolation: another kernel, other users and another schedule, and the same journal of user 1
 OTHER = ('int a; int b; ' + HEAD + ' { int next; next = user; if (cause == 0) { next = 2; } if (cause == 6) { if (user == 2) { next = 1; } else { next = 0; } } return next; }')
@@ -270,7 +284,8 @@ run('sample 0', 'refused 90 48 47', 5)
 NOTE = '''Traces, samples, and images made anew. Written by bench/models/gen_traces.py.
 
 As in lines.cases, two kinds of texts hang on the physical machine alone and are the program's own, checked by that script: at which turns the
-lines of a sample are taken, and how much of a trace stands printed when a call fails or the steps are spent. All else is worked out apart.
+lines of a sample and of a kernel that faults are taken, and how much of a trace stands printed when the steps are spent. All else is worked out
+apart.
 
 '''
 with open(sys.argv[1], 'w') as f:

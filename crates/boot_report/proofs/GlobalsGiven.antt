@@ -1,10 +1,10 @@
 -- The rows of all globals, one behind another.
-use Rattle.std.proofs.Common.{◌≡◌, ◌≢◌, ℕ, zero, suc, ◌+◌, ◌*◌, ◌<◌, ◌≤◌, List, [], ◌∷◌, ◌++◌, length, map, Some, refl, sym, ap, ap₂, ◌∙◌, subst, arith, length-append}
-use Rattle.std.specs.Prelude.{slice_get, replicate, slice_index}
+use Rattle.std.proofs.Common.{◌≡◌, ◌≢◌, ℕ, zero, suc, ◌+◌, ◌*◌, ◌<◌, List, [], ◌∷◌, ◌++◌, length, map, Some, refl, sym, ap, ap₂, ◌∙◌, subst, arith, length-append}
+use Rattle.std.specs.Prelude.{replicate, slice_index}
 use Rattle.std.proofs.lemmas.List.{get_or_append_left, get_or-append-add}
 use Rattle.c0_tree.specs.declared.tree.Decl.{Decl}
 use Rattle.c0_tree.specs.declared.tree.Unit.{Unit as Source}
-use Rattle.c0_tree.specs.Tree.{CDecl, CUnit}
+use Rattle.c0_tree.specs.Tree.{CUnit}
 use Rattle.c0_tree.specs.View.{decl_view, unit_view}
 use Rattle.c0_tree.specs.Primitives.{kernel_primitives}
 use Rattle.c0_meaning.specs.Ty.{Ty}
@@ -21,11 +21,11 @@ use Rattle.c0_meaning.specs.Value.{Region, Location, Value, int, bool, null, at,
 use Rattle.c0_meaning.specs.TypedState.{Layout, layout_of, types_of, PointsTo, Fits, AllFit, AreParts}
 use Rattle.c0_meaning.specs.Unit.{IsWellFormed}
 use Rattle.c0_meaning.proofs.OpenTy.{well_formed_loose}
-use Rattle.layer_map.specs.Map.{Map, globals_at, heap_at}
+use Rattle.layer_map.specs.Map.{Map, globals_at}
 use Rattle.cvm_model.specs.Kernel.{offset, flat, flats, parts_of}
 use Rattle.cvm_model.specs.Stands.{region_at, address_of, HoldsWords}
 use Rattle.cvm_model.specs.Text.{global_row, globals_text}
-use Rattle.boot_report.specs.Globals.{value_end, named_row, global_word_row, globals_rows, GlobalsTell}
+use Rattle.boot_report.specs.Globals.{value_end, named_row, globals_rows, GlobalsTell}
 use Rattle.boot_report.specs.Given.{places_of, GlobalRowsTell}
 
 -- the words of types one after another

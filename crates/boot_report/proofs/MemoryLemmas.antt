@@ -1,5 +1,7 @@
 -- One page of a user's memory, put after the pages before it.
-use Rattle.std.proofs.Common.{◌≡◌, ℕ, ◌+◌, ◌*◌, ◌<◌, Bool, List, Option, sym, ap, ◌∙◌, subst}
+use Rattle.std.proofs.Common.{◌≡◌, ℕ, ◌+◌, ◌*◌, ◌<◌, Bool, List, Option, take, drop, sym, ap, ap₂, ◌∙◌, subst, arith}
+use Rattle.std.specs.Prelude.{slice_index}
+use Rattle.std.proofs.lemmas.List.{get_or-take, get_or-drop}
 use Rattle.mips_machine.specs.Machine.{Held, state_of}
 use Rattle.layer_map.specs.Map.{Map}
 use Rattle.page_model.specs.Paging.{shown_word}
@@ -27,3 +29,12 @@ fits_before m first before ss same h = subst (EntriesFit m) (sym (same_state fir
 pub same_user : (m : Map) (first before : Held) (ss : List (List ℕ)) (u : ℕ) (b : Bool) → SameButViewed first before →
     user_rows m (paged_of m (state_of before ss)) u (pages_in m before.hardware.memory u) (cpu_of before b u) ≡ user_rows m (paged_of m (state_of first ss)) u (pages_in m first.hardware.memory u) (cpu_of first b u)
 same_user m first before ss u b same = ap (λ (h : Held). user_rows m (paged_of m (state_of h ss)) u (pages_in m h.hardware.memory u) (cpu_of h b u)) same
+
+-- a line of 64 words of a page has the rows of their numbers
+pub line_is : (held : Held) (o : Option ℕ) (page i n : ℕ) (words : List ℕ) → n ≡ 64 → i < 16 → ((k : ℕ) → k < 1024 → slice_index words k ≡ page_word held o k) →
+    texts (λ j. memory_row (1024 * page + 64 * i + j) (slice_index (take n (drop (64 * i) words)) j)) 64 ≡ texts (λ j. memory_row (1024 * page + (64 * i + j)) (page_word held o (64 * i + j))) 64
+line_is held o page i n words e lt h = texts-same _ _ 64 (λ j l.
+    let place : 1024 * page + 64 * i + j ≡ 1024 * page + (64 * i + j) = omega arith in
+    let inside : j < n = omega (arith, e, l) in
+    let below : 64 * i + j < 1024 = omega (arith, lt, l) in
+    ap₂ memory_row place (get_or-take n (drop (64 * i) words) j 0 inside ∙ get_or-drop (64 * i) words j 0 ∙ h (64 * i + j) below))

@@ -1,5 +1,5 @@
 -- Texts that are put one after another.
-use Rattle.std.proofs.Common.{◌≡◌, ℕ, zero, suc, ◌+◌, ◌-◌, ◌<◌, ◌≤◌, List, [], ◌∷◌, ◌++◌, length, get_or, Option, Result, Ok, Err, OnOk, OnErr, take, refl, sym, ap, ◌∙◌, subst, arith, append-nil, append_assoc}
+use Rattle.std.proofs.Common.{◌≡◌, ℕ, zero, suc, ◌+◌, ◌-◌, ◌*◌, ◌<◌, ◌≤◌, List, [], ◌∷◌, ◌++◌, length, get_or, Option, Result, Ok, Err, OnOk, OnErr, take, refl, sym, ap, ap₂, ◌∙◌, subst, arith, append-nil, append_assoc}
 use Rattle.std.specs.Io.KnownBytes.{append_known}
 use Rattle.cvm_outside.specs.Told.{AppendsPart}
 use Rattle.cvm_outside.proofs.Parts.{append_known-nil, puts-both, part-front, part-back}
@@ -21,6 +21,18 @@ texts-add f m (suc n) =
     let e : m + suc n ≡ suc (m + n) = omega arith in
     ap (texts f) e ∙ texts-suc f (m + n) ∙ ap (λ l. l ++ f (m + n)) (texts-add f m n) ∙ append_assoc (texts f m) (texts (λ i. f (m + i)) n) (f (m + n))
     ∙ ap (λ l. texts f m ++ l) (sym (texts-suc (λ i. f (m + i)) n))
+
+-- the texts of n lines of 64 numbers each
+pub texts-lines : (f : ℕ → List ℕ) (n : ℕ) → texts (λ l. texts (λ i. f (64 * l + i)) 64) n ≡ texts f (64 * n)
+texts-lines f zero = texts-none (λ l. texts (λ i. f (64 * l + i)) 64) ∙ sym (texts-none f)
+texts-lines f (suc n) =
+    let e : 64 * n + 64 ≡ 64 * suc n = omega arith in
+    texts-suc (λ l. texts (λ i. f (64 * l + i)) 64) n ∙ ap (λ t. t ++ texts (λ i. f (64 * n + i)) 64) (texts-lines f n) ∙ sym (texts-add f (64 * n) 64) ∙ ap (texts f) e
+
+-- texts that are empty
+texts-empty : (f : ℕ → List ℕ) (n : ℕ) → ((i : ℕ) → i < n → f i ≡ []) → texts f n ≡ []
+texts-empty f zero h = texts-none f
+texts-empty f (suc n) h = texts-suc f n ∙ ap₂ (λ a b. a ++ b) (texts-empty f n (λ i l. h i (omega arith))) (h n (omega arith))
 
 -- equal texts
 pub texts-same : (f g : ℕ → List ℕ) (n : ℕ) → ((i : ℕ) → i < n → f i ≡ g i) → texts f n ≡ texts g n
@@ -52,6 +64,10 @@ is_err (Err e) h = h
 -- nothing is put at first
 pub put_none : (f : ℕ → List ℕ) (old : Option (List ℕ)) → old ≡ append_known old (texts f 0)
 put_none f old = sym (append_known-nil old) ∙ ap (append_known old) (sym (texts-none f))
+
+-- nor where each text is empty
+pub put_empty : (f : ℕ → List ℕ) (n : ℕ) (old : Option (List ℕ)) → ((i : ℕ) → i < n → f i ≡ []) → old ≡ append_known old (texts f n)
+put_empty f n old h = sym (append_known-nil old) ∙ ap (append_known old) (sym (texts-empty f n h))
 
 pub no_ok : {T E : Type 0} (r : Result T E) (P : Type 0) (e : E) → r ≡ Err e → OnOk r P
 no_ok r P e h = subst (λ r. OnOk r P) (sym h) tt

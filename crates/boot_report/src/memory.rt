@@ -1,5 +1,5 @@
 // The rows of a user's memory.
-ghost use Rattle.std.specs.Prelude.{◌≡◌, ◌≢◌, ℕ, ◌+◌, ◌*◌, ◌/◌, ◌%◌, ◌<◌, ◌≤◌, ◌^◌, List, length, Some, IfSome, IfOk, Err, OnOk, OnErr};
+ghost use Rattle.std.specs.Prelude.{◌≡◌, ◌≢◌, ℕ, ◌+◌, ◌*◌, ◌/◌, ◌%◌, ◌<◌, ◌≤◌, ◌^◌, List, length, slice_index, true, Some, IfSome, IfOk, Err, OnOk, OnErr};
 ghost use Rattle.std.specs.Io.KnownBytes.{append_known};
 ghost use Rattle.cvm_outside.specs.Causes.{Counts, Rose};
 ghost use Rattle.cvm_outside.specs.Told.{AppendsPart};
@@ -16,17 +16,45 @@ use cvm_outside::{DiskFault, Sectors, Sink, SinkFault};
 use layer_map::Map;
 use mips_machine::Machine;
 
-/// A word of a page that is in this frame, or in the sector that was viewed.
-fn word_of_page(machine: &Machine, frame: Option<u32>, i: u32) -> u32
-    requires small { i < 1024 }
+/// The words of a page that is in this frame, or in the sector that was viewed, to be read in place.
+fn words_of_page(machine: &Machine, frame: Option<u32>) -> &[u32; 1024]
     requires inside { IfSome frame (λ f. 1024 * f + 1024 ≤ length machine.now.hardware.memory) }
-    requires few { IfSome frame (λ f. f < 2 ^ 20) }
-    ensures { result ≡ page_word machine.now frame i }
+    ensures whole { length result.now ≡ 1024 }
+    ensures words { (i : ℕ) → i < 1024 → slice_index result.now i ≡ page_word machine.now frame i }
 {
     match frame {
-        Some(frame) => machine.word(4 * (1024 * frame + i)),
-        None => machine.viewed(i),
+        Some(frame) => machine.frame(frame),
+        None => machine.viewed_page(),
     }
+}
+
+/// Whether all these words are 0. Each is looked at, so that many are at once.
+fn are_zero(words: &[u32]) -> bool
+    ensures zero { result ≡ true → (i : ℕ) → i < length words.now → slice_index words.now i ≡ 0 }
+    ensures other { ((i : ℕ) → i < length words.now → slice_index words.now i ≡ 0) → result ≡ true }
+{
+    let mut seen = 0;
+    for i in 0..words.len() {
+        seen |= words[i];
+    }
+    seen == 0
+}
+
+/// Prints the rows of 64 words of a user's memory, the first of which has this number.
+fn put_line<O: Sink>(words: &[u32], first: u32, out: &mut O) -> Result<(), SinkFault>
+    requires whole { length words.now ≡ 64 }
+    requires numbers { first + 64 ≤ 2 ^ 30 }
+    ensures ok { OnOk result (O.text out.new ≡ append_known (O.text out.old) (texts (λ i. memory_row (first + i) (slice_index words.now i)) 64)) }
+    ensures err { OnErr result (AppendsPart (O.text out.old) (O.text out.new) (texts (λ i. memory_row (first + i) (slice_index words.now i)) 64)) }
+    ensures count { Counts (O.faults out.old) (O.faults out.new) result }
+{
+    if are_zero(words) {
+        return Ok(());
+    }
+    for i in 0..64u32 {
+        put_word(first + i, words[i as usize], out)?;
+    }
+    Ok(())
 }
 
 /// Prints the rows of a page that is in this frame, or in the sector that was viewed.
@@ -38,13 +66,14 @@ fn put_page<O: Sink>(
 ) -> Result<(), SinkFault>
     requires page { page < 1024 }
     requires inside { IfSome frame (λ f. 1024 * f + 1024 ≤ length machine.now.hardware.memory) }
-    requires few { IfSome frame (λ f. f < 2 ^ 20) }
     ensures ok { OnOk result (O.text out.new ≡ append_known (O.text out.old) (texts (λ i. memory_row (1024 * page + i) (page_word machine.now frame i)) 1024)) }
     ensures err { OnErr result (AppendsPart (O.text out.old) (O.text out.new) (texts (λ i. memory_row (1024 * page + i) (page_word machine.now frame i)) 1024)) }
     ensures count { Counts (O.faults out.old) (O.faults out.new) result }
 {
-    for i in 0..1024u32 {
-        put_word(1024 * page + i, word_of_page(machine, frame, i), out)?;
+    let words = words_of_page(machine, frame);
+    for i in 0..16u32 {
+        let at = 64 * i as usize;
+        put_line(&words[at..at + 64], 1024 * page + 64 * i, out)?;
     }
     Ok(())
 }
@@ -108,7 +137,7 @@ pub fn read_user_word<D: Sectors>(
 {
     let page = (user - 1) * map.params().pages + k / 1024;
     let frame = find_page(machine, map, page, disk)?;
-    Ok(word_of_page(machine, frame, k % 1024))
+    Ok(words_of_page(machine, frame)[(k % 1024) as usize])
 }
 
 /// Prints the rows of so many pages of a user, the first of which has this number of all pages.

@@ -141,7 +141,10 @@ pub(crate) fn put_word<O: Sink>(number: u32, word: u32, out: &mut O) -> Result<(
     ensures err { OnErr result (AppendsPart (O.text out.old) (O.text out.new) (memory_row number word)) }
     ensures count { Counts (O.faults out.old) (O.faults out.new) result }
 {
-    put_nonzero(word, mem_row(number, word).as_str().as_bytes(), out)
+    if word == 0 {
+        return Ok(());
+    }
+    out.put(mem_row(number, word).as_str().as_bytes())
 }
 
 /// Prints the first row of a user.

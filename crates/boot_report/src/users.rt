@@ -222,7 +222,7 @@ pub fn put_users<D: Sectors, O: Sink>(
     ensures sink_same { result ≢ Err ReportFault.Sink → O.faults out.new ≡ O.faults out.old }
 {
     for i in 0..map.users() {
-        put_one(machine, map, i + 1 == running, i + 1, disk, out)?;
+        put_user_rows(machine, map, running, i + 1, disk, out)?;
     }
     Ok(())
 }

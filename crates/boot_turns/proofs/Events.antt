@@ -2,12 +2,14 @@
 use Rattle.std.proofs.Common.{◌≡◌, ℕ, zero, suc, ◌+◌, ◌&&◌, ◌||◌, not, Bool, true, false, Option, Some, None, List, [], refl, sym, ap, ◌∙◌, subst, slice_index, slice_set}
 use Rattle.std.specs.Prelude.{IfSome, is_some, ◌==◌}
 use Rattle.std.specs.Option.{option_map}
+use Rattle.mips_table.specs.declared.cause.Cause.{Cause}
 use Rattle.mips_table.specs.declared.cause.Cause.TheVariants as causes
 use Rattle.mips_table.specs.Device.{Device, Outside, Pending, Idle, Reading, Writing}
 use Rattle.mips_table.specs.Machine.{State, MODE, PTL, EDATA, Coming, Interrupt, Done, coming, latched, come_to, ended, if_on, step}
 use Rattle.mips_table.specs.Turns.{in_user, is_handled, handled, begins}
 use Rattle.sector_disk.specs.Ports.{TransferFails}
 use Rattle.mips_machine.specs.declared.event.Event.{Event}
+use Rattle.mips_machine.specs.declared.event.Event.TheVariants.{Ran, Taken, Off, Power}
 use Rattle.mips_machine.specs.Hardware.{told_as, event_by}
 use Rattle.mips_machine.specs.Machine.{Held, state_of}
 use Rattle.mips_machine.specs.Steps.{outside_of, event_if, event_of, before_count, after_step, Steps, Fails}
@@ -92,6 +94,48 @@ event_told count old new told retold e b reset mode pages edata h hr hm hp hd is
     ∙ (ap (λ m. begun_by old.hardware.reset (m == 1) pages edata e) hm
     ∙ (ap (λ p. begun_by old.hardware.reset (slice_index old.hardware.special MODE == 1) p edata e) hp
     ∙ ap (λ d. begun_by old.hardware.reset (slice_index old.hardware.special MODE == 1) (slice_index old.hardware.special PTL) d e) hd))))
+
+-- a step that is told as an instruction leaves the machine on
+event_on : (off : Option ℕ) → event_by off ≡ Ran → off ≡ None
+event_on None e = refl
+event_on (Some word) e = absurd (cc)
+
+coming_on : (o : Coming) → told_as o ≡ Ran → (ended (come_to o)).off ≡ None
+coming_on (Interrupt before cause edata epc) e = absurd (cc)
+coming_on (Done after) e = event_on after.off e
+
+on_by : (x : Outside) (s : State) (o : Option ℕ) → event_if x s o ≡ Ran → (if_on x s o).off ≡ None
+on_by x s (Some word) e = absurd (cc)
+on_by x s None e = coming_on (coming x (latched x s)) e
+
+ran_on : (x : Outside) (s : State) → event_of x s ≡ Ran → (step x s).off ≡ None
+unfolding step event_of
+ran_on x s e = on_by x s s.off e
+
+pub steps_on : (count : ℕ) (old new : Held) (told retold : Option (List (List ℕ))) (e : Event) → Steps count old new told retold e → e ≡ Ran → new.hardware.off ≡ None
+steps_on count old new told retold e h is = ap (λ (s : State). s.off) h.state ∙ ran_on (outside_of old.rows count) (state_of old h.sectors) (sym h.event ∙ is)
+
+-- an instruction of a user begins a turn; in system mode nothing does but the reset
+or_true : (r : Bool) → true ≡ r || true
+or_true true = refl
+or_true false = refl
+
+pub user_begins : (reset user : Bool) (pages edata : ℕ) (e : Event) → user ≡ true → e ≡ Ran → true ≡ begun_by reset user pages edata e
+user_begins reset user pages edata e hu he = or_true reset ∙ ap (λ u. reset || u) (sym hu) ∙ ap (begun_by reset user pages edata) (sym he)
+
+none_taken : (pages edata : ℕ) (c : Cause) → false ≡ begun_by false false pages edata (Taken c)
+none_taken pages edata causes.FetchFault = refl
+none_taken pages edata causes.DataFault = refl
+none_taken pages edata other = refl
+
+none_begins : (pages edata : ℕ) (e : Event) → false ≡ begun_by false false pages edata e
+none_begins pages edata (Off word) = refl
+none_begins pages edata (Taken c) = none_taken pages edata c
+none_begins pages edata Ran = refl
+none_begins pages edata (Power word) = refl
+
+pub system_begins : (reset user : Bool) (pages edata : ℕ) (e : Event) → user ≡ false → reset ≡ false → false ≡ begun_by reset user pages edata e
+system_begins reset user pages edata e hu hr = none_begins pages edata e ∙ ap (λ u. begun_by false u pages edata e) (sym hu) ∙ ap (λ r. begun_by r user pages edata e) (sym hr)
 
 -- a transfer that fails leaves all sectors but the one that it names
 torn_by : (p : Pending) (buffer after : List ℕ) (ss : List (List ℕ)) (retold : Option (List (List ℕ))) → TransferFails p buffer after (Some ss) retold →

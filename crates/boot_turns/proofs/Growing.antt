@@ -1,15 +1,17 @@
--- The rows of a turn.
-use Rattle.std.proofs.Common.{◌≡◌, ℕ, Option, Some, None, List, refl, sym, ap, ◌∙◌, subst}
-use Rattle.std.specs.Prelude.{bit_or, length}
+-- The rows of a turn, and its current user.
+use Rattle.std.proofs.Common.{◌≡◌, ℕ, zero, suc, Bool, true, false, Option, Some, None, List, refl, sym, ap, ◌∙◌, subst}
+use Rattle.std.specs.Prelude.{◌==◌, if◌then◌else◌, bit_or, length}
 use Rattle.mips_table.specs.Device.{Outside}
 use Rattle.mips_table.specs.Turns.{lines_of}
 use Rattle.c0_meaning.specs.State.{State as C0}
 use Rattle.cvm_model.specs.declared.row.Next.TheVariants.{User, Fault}
 use Rattle.cvm_model.specs.declared.kernel_fault.KernelFault.{KernelFault}
-use Rattle.cvm_model.specs.Kernel.{Outcome, End, Answers, Faults, NotYet}
-use Rattle.cvm_model.specs.Cvm.{System, Running, Cvm, Begin, Steps, Traps, Interrupts, begin, begun, next_of, core_of, after_dispatch, dispatch_of, turn, turn_by, cvm}
+use Rattle.mips_table.specs.Flat.{VStep, Next as Goes, Trap, vstep}
+use Rattle.cvm_model.specs.Primitives.{user_of}
+use Rattle.cvm_model.specs.Kernel.{Core, Outcome, End, Answers, Faults, NotYet}
+use Rattle.cvm_model.specs.Cvm.{System, Running, Cvm, IsCvm, Begin, Steps, Traps, Interrupts, begin, user_step, begun, next_of, core_of, after_dispatch, dispatch_of, turn, turn_by, cvm}
 use Rattle.layer_contract.specs.Follows.{loaded}
-use Rattle.boot_turns.specs.Headline.{RowAdded, RowsGrow, TurnRows}
+use Rattle.boot_turns.specs.Headline.{RowAdded, RowsGrow, TurnRows, UserStays}
 use Rattle.boot_turns.proofs.Units.{one_cvm}
 use Rattle.boot_turns.proofs.Turning.{Given}
 
@@ -36,14 +38,40 @@ begun_rows y n k c after (Steps at) h = ap (λ (w : Cvm). w.rows) (sym (same_cvm
 begun_rows y n k c after (Traps cause edata at) h = dispatch_rows y c after k cause edata at.current 0 (dispatch_of y n cause edata at) (dispatch_of y n cause edata at).end h
 begun_rows y n k c after (Interrupts cause edata at pending) h = dispatch_rows y c after k cause edata at.current pending (dispatch_of y n cause edata at) (dispatch_of y n cause edata at).end h
 
-pub rows_grow : (x : Outside) (y : System) (old : List (List ℕ)) (Typed : C0 → Type 0) → Given x y old Typed → TurnRows x y old
-rows_grow x y old Typed g k c after is running i = by (cvm y (lines_of x (loaded y old)) i.units k) refl
+-- where turn k of a run goes on, it is as it begins
+turn_is : (x : Outside) (y : System) (old : List (List ℕ)) (Typed : C0 → Type 0) → Given x y old Typed → (k : ℕ) (c after : Cvm) → IsCvm y (lines_of x (loaded y old)) k c → c.status ≡ Running →
+    (i : IsCvm y (lines_of x (loaded y old)) (suc k) after) → begun y i.units k c (begin k c.core (bit_or c.pending (lines_of x (loaded y old) k))) ≡ Some after
+turn_is x y old Typed g k c after is running i = by (cvm y (lines_of x (loaded y old)) i.units k) refl
   where
-    by : (o : Option Cvm) → cvm y (lines_of x (loaded y old)) i.units k ≡ o → RowsGrow k c after (begin k c.core (bit_or c.pending (lines_of x (loaded y old) k)))
+    by : (o : Option Cvm) → cvm y (lines_of x (loaded y old)) i.units k ≡ o → begun y i.units k c (begin k c.core (bit_or c.pending (lines_of x (loaded y old) k))) ≡ Some after
     by None eq = absurd (none_some after (sym (ap (turn y i.units k (lines_of x (loaded y old) k)) eq) ∙ i.is))
     by (Some q) eq =
         let d : q ≡ c = one_cvm y g.meaning (lines_of x (loaded y old)) k q c (record { units = i.units; is = eq }) is in
         let h : turn_by y i.units k (lines_of x (loaded y old) k) q q.status ≡ Some after = sym (ap (turn y i.units k (lines_of x (loaded y old) k)) eq) ∙ i.is in
         let h2 : turn_by y i.units k (lines_of x (loaded y old) k) c c.status ≡ Some after = subst (λ (w : Cvm). turn_by y i.units k (lines_of x (loaded y old) k) w w.status ≡ Some after) d h in
-        let h3 : turn_by y i.units k (lines_of x (loaded y old) k) c Running ≡ Some after = sym (ap (turn_by y i.units k (lines_of x (loaded y old) k) c) running) ∙ h2 in
-        begun_rows y i.units k c after (begin k c.core (bit_or c.pending (lines_of x (loaded y old) k))) h3
+        sym (ap (turn_by y i.units k (lines_of x (loaded y old) k) c) running) ∙ h2
+
+pub rows_grow : (x : Outside) (y : System) (old : List (List ℕ)) (Typed : C0 → Type 0) → Given x y old Typed → TurnRows x y old
+rows_grow x y old Typed g k c after is running i =
+    begun_rows y i.units k c after (begin k c.core (bit_or c.pending (lines_of x (loaded y old) k))) (turn_is x y old Typed g k c after is running i)
+
+-- a step keeps the current user
+same_steps : (a b : Core) → Steps a ≡ Steps b → a ≡ b
+same_steps a b h = cc
+
+step_current : (c : Core) (v : VStep) (at : Core) → user_step c v ≡ Steps at → at.current ≡ c.current
+step_current c (Goes f) at e = ap (λ (w : Core). w.current) (sym (same_steps _ at e))
+step_current c (Trap f cause edata) at e = absurd (cc)
+
+begin_current : (k : ℕ) (c : Core) (lines : ℕ) (at : Core) → begin k c lines ≡ Steps at → at.current ≡ c.current
+begin_current zero c lines at e = absurd (cc)
+begin_current (suc k) c lines at e = by (lines == 0) e
+  where
+    by : (b : Bool) → (if b then user_step c (vstep (user_of c.users c.current)) else Interrupts 1 lines c 0) ≡ Steps at → at.current ≡ c.current
+    by true h = step_current c (vstep (user_of c.users c.current)) at h
+    by false h = absurd (cc)
+
+pub user_stays : (x : Outside) (y : System) (old : List (List ℕ)) (Typed : C0 → Type 0) → Given x y old Typed → UserStays x y old
+user_stays x y old Typed g k c after at is running i e =
+    let h : begun y i.units k c (Steps at) ≡ Some after = subst (λ (b : Begin). begun y i.units k c b ≡ Some after) e (turn_is x y old Typed g k c after is running i) in
+    ap (λ (w : Cvm). w.core.current) (sym (same_cvm _ after h)) ∙ begin_current k c.core (bit_or c.pending (lines_of x (loaded y old) k)) at e

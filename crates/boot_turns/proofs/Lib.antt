@@ -26,3 +26,4 @@ pub mod Copying
 pub mod Tearing
 pub mod Tracking
 pub mod Followed
+pub mod Counted

@@ -22,7 +22,7 @@ use Rattle.boot_turns.proofs.Stepping.{off_rests}
 use Rattle.boot_turns.proofs.Counting.{completes, complete_small}
 use Rattle.boot_turns.proofs.Units.{one_cvm}
 use Rattle.boot_turns.proofs.Turning.{Given}
-use Rattle.boot_turns.proofs.Growing.{rows_grow}
+use Rattle.boot_turns.proofs.Growing.{rows_grow, user_stays}
 use Rattle.boot_turns.proofs.Joining.{finished, unfinished, shown}
 use Rattle.boot_turns.proofs.Whole.{forward, goes_on, two_faults, ahead, defined, beyond, torn}
 
@@ -121,6 +121,7 @@ machines_run resets users counts isolated Typed lines busy x y old image sizes m
       unfound = unfinished x y old Typed g;
       shows = shown x y old Typed g;
       rows = rows_grow x y old Typed g;
+      stays = user_stays x y old Typed g;
       few = complete_small x (loaded y old);
       same = λ k c d. one_cvm y g.meaning (lines_of x (loaded y old)) k c d;
       replays = trace_replays counts isolated x y old Typed g replays;

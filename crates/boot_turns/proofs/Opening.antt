@@ -1,18 +1,19 @@
 -- One more step of the loop to the end of a turn.
 use Rattle.std.proofs.Common.{◌≡◌, ℕ, suc, ◌+◌, ◌<◌, ◌≤◌, Result, Err, ◌||◌, not, Bool, true, false, Option, Some, None, List, refl, sym, ap, ◌∙◌, subst, subst₂, ⊎_elim, arith}
-use Rattle.std.specs.Prelude.{IfSome, is_some}
+use Rattle.std.specs.Prelude.{IfSome, is_some, slice_index}
 use Rattle.std.specs.Option.{option_map}
 use Rattle.std.proofs.lemmas.Bool.{cases_lt}
 use Rattle.mips_table.specs.Device.{Outside}
-use Rattle.mips_table.specs.Machine.{State, run, step}
+use Rattle.mips_table.specs.Machine.{State, MODE, run, step}
 use Rattle.mips_table.specs.Turns.{begins, rests, in_user}
 use Rattle.mips_machine.specs.Machine.{Held, state_of}
 use Rattle.mips_machine.specs.Steps.{outside_of}
-use Rattle.boot_turns.specs.Completes.{seen, note, shown, noted, is_at_rest, Open, Progress, StepRan, StepTorn, CompleteErr}
+use Rattle.boot_turns.specs.Completes.{seen, note, shown, noted, is_at_rest, Open, Progress, Skips, StepRan, StepTorn, CompleteErr}
 use Rattle.boot_turns.specs.declared.completion.Begun.{Begun}
+use Rattle.boot_turns.specs.declared.completion.Stepped.{Stepped}
 use Rattle.boot_turns.specs.declared.answers.RunFault.{RunFault}
 use Rattle.boot_turns.specs.declared.answers.RunFault.TheVariants.{StepLimit, Disk, Sink}
-use Rattle.boot_turns.proofs.Events.{step_torn}
+use Rattle.boot_turns.proofs.Events.{step_torn, told_as_some}
 
 same_state : (a b : State) → Some a ≡ Some b → a ≡ b
 same_state a b h = cc
@@ -80,7 +81,7 @@ one_step x y s t u told retold old new b out began same le is p ran bg note_is =
     (there, subst (Opened x s t (suc u)) (sym note_is) (opened_more x s t u b began (shown new) le p bg2 (seen_note retold new _ there)))
 
 -- the answer of a step that failed, or whose rows did
-abbrev failing : RunFault → Result Bool RunFault
+abbrev failing : RunFault → Result Stepped RunFault
 failing f = Err f
 
 -- the step at u failed, or its rows
@@ -92,3 +93,27 @@ step_stops count x s t u before after told retold old new b Disk same le spent i
 step_stops count x s t u before after told retold old new b Sink same le spent is p limit torn ran =
     let ran_x : seen retold new ≡ option_map (step x) (seen told old) = subst (λ (z : Outside). seen retold new ≡ option_map (step z) (seen told old)) same (ran (λ e. cc)) in
     (u, le, spent, (b, p), seen_more x (seen told old) (seen retold new) (run x s u) ran_x is)
+
+-- a turn that is passed: the step at u, after n of them, began it and kept user mode
+pub skips_more : (x y : Outside) (s : State) (t n m u : ℕ) (told retold : Option (List (List ℕ))) (old new : Held) → y ≡ x → u ≡ t + n → m ≡ n + 1 → Skips x s t n →
+    seen told old ≡ Some (run x s u) → seen retold new ≡ option_map (step y) (seen told old) → IfSome (seen told old) (λ s. true ≡ begins y s) → slice_index new.hardware.special MODE ≡ 1 → new.hardware.off ≡ None →
+    (seen retold new ≡ Some (run x s (suc u))) × Skips x s t m
+skips_more x y s t n m u told retold old new same at more skips is ran bg mode on =
+    let ran2 : seen retold new ≡ option_map (step x) (seen told old) = subst (λ y. seen retold new ≡ option_map (step y) (seen told old)) same ran in
+    let bg2 : IfSome (Some (run x s u)) (λ s. true ≡ begins x s) = subst₂ (λ y o. IfSome o (λ s. true ≡ begins y s)) same is bg in
+    let there : seen retold new ≡ Some (run x s (suc u)) = seen_more x _ _ _ ran2 is in
+    let w = told_as_some retold new (run x s (suc u)) there in
+    let mode_there : slice_index (run x s (suc u)).special MODE ≡ 1 = ap (λ (z : State). slice_index z.special MODE) (sym w.2) ∙ mode in
+    let on_there : (run x s (suc u)).off ≡ None = ap (λ (z : State). z.off) (sym w.2) ∙ on in (
+      there,
+      λ j l. ⊎_elim
+          (λ (lt : j < n). skips j lt)
+          (λ (ge : n ≤ j).
+          let here : u ≡ t + j = omega (arith, at, more, l, ge) in
+          let next : suc u ≡ t + suc j = omega (arith, at, more, l, ge) in (
+            subst (λ i. begins x (run x s i) ≡ true) here (sym bg2),
+            subst (λ i. slice_index (run x s i).special MODE ≡ 1) next mode_there,
+            subst (λ i. (run x s i).off ≡ None) next on_there,
+          ))
+          (cases_lt j n),
+    )

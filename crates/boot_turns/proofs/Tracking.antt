@@ -21,6 +21,7 @@ use Rattle.layer_contract.specs.Layer.{Laws}
 use Rattle.layer_contract.specs.Follows.{site_of, machine, loaded}
 use Rattle.boot_report.specs.Told.{WordsAreTold, WordsTell}
 use Rattle.boot_turns.specs.declared.completion.Begun.{Begun}
+use Rattle.boot_turns.specs.declared.completion.Stepped.{Stepped}
 use Rattle.boot_turns.specs.declared.tracer.Entered.{Entered}
 use Rattle.boot_turns.specs.declared.tracer.Tracer.{Tracer}
 use Rattle.boot_turns.specs.declared.answers.RunFault.{RunFault}
@@ -142,7 +143,7 @@ pub record Booted (x : Outside) (m : Map) (now : Option State) (kept : Option Tr
   pub traced : Traced x y old u t base kept text
 
 -- the clause on a step is of each such boot
-pub each_step : (x : Outside) (m : Map) (held : Held) (told : Option (List (List ℕ))) (before after : Option Tracer) (text retext : Option (List ℕ)) (result : Result Bool RunFault) →
+pub each_step : (x : Outside) (m : Map) (held : Held) (told : Option (List (List ℕ))) (before after : Option Tracer) (text retext : Option (List ℕ)) (result : Result Stepped RunFault) →
     ((b : Booted x m (seen told held) before text) → MatchResult result (λ _. Traced x b.y b.old b.u (suc b.t) b.base after retext) (StepStops x b.y b.old b.u b.t b.base retext)) →
     StepTraces x m held told before after text retext result
 each_step x m held told before after text retext result f = λ unit lines busy y old image sizes made_for u t base boots laws map_is low high at traced.
@@ -166,7 +167,7 @@ module _ (grow : (c : CUnit) → TracesGrow (IsTypedState c)) (f : RowsFollow) (
   keeps_at b = same_some k (tracer_at x (loaded b.y b.old) b.u b.t b.traced.journal) b.traced.keeps
 
   -- the disk failed in the step
-  step_fails : (before after : Option Tracer) (result : Result Bool RunFault) (e : RunFault) → before ≡ Some k → result ≡ Err e → e ≡ Disk → StepTraces x m held told before after text text result
+  step_fails : (before after : Option Tracer) (result : Result Stepped RunFault) (e : RunFault) → before ≡ Some k → result ≡ Err e → e ≡ Disk → StepTraces x m held told before after text text result
   step_fails before after result e hb hr he = rw (hb, hr, he) (each_step x m held told (Some k) after text text (Err Disk) (λ (b : Here).
       step_torn_rows f x b.y b.old b.u b.t b.base text (Some k) b.traced (more_at b) text (part-none text _)))
 
@@ -212,18 +213,18 @@ module _ (grow : (c : CUnit) → TracesGrow (IsTypedState c)) (f : RowsFollow) (
         ∙ ap (λ (d : List JournalEntry). tracer_of kt.user (steps_after kt.steps d) (notes_on s kt.call)) (entries_at b)
         ∙ ap (λ (s : State). tracer_of kt.user (steps_after kt.steps (step_entries x (loaded b.y b.old) b.u b.t (more_at b).words)) (notes_on s kt.call)) (told_at b).2
 
-    pub step_goes : (before : Option Tracer) (after : Tracer) (retext : Option (List ℕ)) → before ≡ Some k →
+    pub step_goes : (stepped : Stepped) (before : Option Tracer) (after : Tracer) (retext : Option (List ℕ)) → before ≡ Some k →
         ((ss : List (List ℕ)) (words : List ℕ) → midtold ≡ Some ss → ReturnTold m (state_of mid ss) k.user words (returned (state_of mid ss) k.call) →
         retext ≡ append_known text (journal_rows_after false k.steps (followed (state_of mid ss) k current began words))) →
         ((ss : List (List ℕ)) (words : List ℕ) → midtold ≡ Some ss → ReturnTold m (state_of mid ss) k.user words (returned (state_of mid ss) k.call) →
         after ≡ tracer_of k.user (steps_after k.steps (followed (state_of mid ss) k current began words)) (notes_on (state_of mid ss) k.call)) →
-        StepTraces x m held told before (Some after) text retext (Ok began)
-    step_goes before after retext hb says keeps = rw hb (each_step x m held told (Some k) (Some after) text retext (Ok began) (λ (b : Here).
+        StepTraces x m held told before (Some after) text retext (Ok stepped)
+    step_goes stepped before after retext hb says keeps = rw hb (each_step x m held told (Some k) (Some after) text retext (Ok stepped) (λ (b : Here).
         let put = says (told_at b).0 (more_at b).words (told_at b).1 (returns_at b) in
         let is = keeps (told_at b).0 (more_at b).words (told_at b).1 (returns_at b) in
         step_done_rows f x b.y b.old b.u b.t b.base text (Some k) b.traced (more_at b) retext after (put ∙ ap (append_known text) (rows_at b)) (is ∙ kept_at b)))
 
-    pub step_stops : (before after : Option Tracer) (retext : Option (List ℕ)) (result : Result Bool RunFault) (e fault : RunFault) → before ≡ Some k → result ≡ Err e → e ≡ fault → (fault ≡ StepLimit → ⊥) →
+    pub step_stops : (before after : Option Tracer) (retext : Option (List ℕ)) (result : Result Stepped RunFault) (e fault : RunFault) → before ≡ Some k → result ≡ Err e → e ≡ fault → (fault ≡ StepLimit → ⊥) →
         ((ss : List (List ℕ)) (words : List ℕ) → midtold ≡ Some ss → ReturnTold m (state_of mid ss) k.user words (returned (state_of mid ss) k.call) →
         AppendsPart text retext (journal_rows_after false k.steps (followed (state_of mid ss) k current began words))) →
         StepTraces x m held told before after text retext result
@@ -238,12 +239,12 @@ module _ (grow : (c : CUnit) → TracesGrow (IsTypedState c)) (f : RowsFollow) (
         by_fault b Sink limit = step_cut_rows f x b.y b.old b.u b.t b.base text (Some k) b.traced (more_at b) retext (part b)
 
 -- where none is printed there is nothing to be said
-pub step_untraced : (x : Outside) (m : Map) (held : Held) (told : Option (List (List ℕ))) (after : Option Tracer) (text retext : Option (List ℕ)) (result : Result Bool RunFault) → StepTraces x m held told None after text retext result
+pub step_untraced : (x : Outside) (m : Map) (held : Held) (told : Option (List (List ℕ))) (after : Option Tracer) (text retext : Option (List ℕ)) (result : Result Stepped RunFault) → StepTraces x m held told None after text retext result
 step_untraced x m held told after text retext result = each_step x m held told None after text retext result (λ (b : Booted x m (seen told held) None text).
     absurd (let e : ◌≡◌ {A = Option Tracer} None (Some (tracer_at x (loaded b.y b.old) b.u b.t b.traced.journal)) = b.traced.keeps in cc))
 
 -- the disk failed in the step
-pub step_breaks : (grow : (c : CUnit) → TracesGrow (IsTypedState c)) (f : RowsFollow) (tell : WordsTell) (x : Outside) (m : Map) (held : Held) (told : Option (List (List ℕ))) (before after : Option Tracer) (text : Option (List ℕ)) (result : Result Bool RunFault) (e : RunFault) →
+pub step_breaks : (grow : (c : CUnit) → TracesGrow (IsTypedState c)) (f : RowsFollow) (tell : WordsTell) (x : Outside) (m : Map) (held : Held) (told : Option (List (List ℕ))) (before after : Option Tracer) (text : Option (List ℕ)) (result : Result Stepped RunFault) (e : RunFault) →
     held.hardware.off ≡ None → result ≡ Err e → e ≡ Disk → StepTraces x m held told before after text text result
 step_breaks grow f tell x m held told None after text result e on hr he = step_untraced x m held told after text text result
 step_breaks grow f tell x m held told (Some k) after text result e on hr he = step_fails grow f tell x m held told k text on (Some k) after result e refl hr he
@@ -260,7 +261,7 @@ abbrev pub Tracks : Outside → Map → (start now : Option State) → (before a
 Tracks x m start now before after = (b : Booted x m start before.tracer before.text) → Tracked x b.y b.old b.u b.t b.base now before.budget after.budget after.tracer after.text
 
 -- the clause on a loop is of each boot
-each_run : (count : ℕ) (m : Map) (held new : Held) (told retold : Option (List (List ℕ))) (before after : Tracing) (result : Result Begun RunFault) →
+each_run : (count : ℕ) (m : Map) (held new : Held) (told retold : Option (List (List ℕ))) (before after : Tracing) (result : Result (ℕ × Begun) RunFault) →
     ((b : Booted (outside_of held.rows count) m (seen told held) before.tracer before.text) →
     MatchResult result (λ _. TracedOn (outside_of held.rows count) b.y b.old b.u b.t b.base before.budget after.budget after.tracer after.text)
     (TraceStops (outside_of held.rows count) b.y b.old b.u b.t b.base (seen retold new) before.budget after.budget after.tracer after.text)) →
@@ -281,17 +282,17 @@ module _ (count : ℕ) (m : Map) (held mid : Held) (told midtold : Option (List 
   tracks_limit new retold = each_run count m held new told retold before now (Err StepLimit) (λ b. traced_on _ b.y b.old b.u b.t b.base (seen midtold mid) _ _ _ _ (so_far b))
 
   -- the turn is complete
-  pub tracks_whole : (new : Held) (retold : Option (List (List ℕ))) (begun : Begun) → TraceRuns count m held new told retold before now (Ok begun)
+  pub tracks_whole : (new : Held) (retold : Option (List (List ℕ))) (begun : ℕ × Begun) → TraceRuns count m held new told retold before now (Ok begun)
   tracks_whole new retold begun = each_run count m held new told retold before now (Ok begun) (λ b. traced_on _ b.y b.old b.u b.t b.base (seen midtold mid) _ _ _ _ (so_far b))
 
   -- one step more, by which the budget is less
   module _ (z : Outside) (same : z ≡ outside_of held.rows count) (after : Tracing) (less : now.budget ≡ after.budget + 1) where
-    pub tracks_more : (next : Option State) (began : Bool) → StepTraces z m mid midtold now.tracer after.tracer now.text after.text (Ok began) → next ≡ option_map (step z) (seen midtold mid) → Tracks (outside_of held.rows count) m (seen told held) next before after
-    tracks_more next began done ran = λ b.
+    pub tracks_more : (next : Option State) (stepped : Stepped) → StepTraces z m mid midtold now.tracer after.tracer now.text after.text (Ok stepped) → next ≡ option_map (step z) (seen midtold mid) → Tracks (outside_of held.rows count) m (seen told held) next before after
+    tracks_more next stepped done ran = λ b.
         let x : Outside = outside_of held.rows count in
         let w = so_far b in
         let here : seen midtold mid ≡ Some (machine x b.y b.old w.at) = w.state in
-        let of_x : StepTraces x m mid midtold now.tracer after.tracer now.text after.text (Ok began) = subst (λ (z : Outside). StepTraces z m mid midtold now.tracer after.tracer now.text after.text (Ok began)) same done in
+        let of_x : StepTraces x m mid midtold now.tracer after.tracer now.text after.text (Ok stepped) = subst (λ (z : Outside). StepTraces z m mid midtold now.tracer after.tracer now.text after.text (Ok stepped)) same done in
         let ran_x : next ≡ option_map (step x) (seen midtold mid) = subst (λ (z : Outside). next ≡ option_map (step z) (seen midtold mid)) same ran in
         let from = w.from in
         let spent = w.spent in

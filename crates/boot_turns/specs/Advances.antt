@@ -1,5 +1,5 @@
 -- What the run of one turn does to the machine of a boot.
-use Rattle.std.specs.Prelude.{◌≡◌, ℕ, suc, ◌+◌, ◌≤◌, Option, Some, None, List, Result, MatchResult}
+use Rattle.std.specs.Prelude.{◌≡◌, ℕ, suc, ◌+◌, ◌-◌, ◌<◌, ◌≤◌, Option, Some, None, List, Result, MatchResult}
 use Rattle.mips_table.specs.Device.{Outside}
 use Rattle.mips_table.specs.Machine.{State}
 use Rattle.mips_table.specs.Turns.{complete}
@@ -14,7 +14,7 @@ use Rattle.cvm_model.specs.Journal.{KernelReplays}
 use Rattle.layer_contract.specs.Layer.{Laws}
 use Rattle.layer_contract.specs.Follows.{site_of, loaded, machine}
 use Rattle.boot_turns.specs.TurnEnds.{Stood, Ahead}
-use Rattle.boot_turns.specs.Completes.{seen, note, SeenTorn}
+use Rattle.boot_turns.specs.Completes.{seen, note, SeenTorn, Skips}
 use Rattle.boot_turns.specs.Headline.{Boots}
 use Rattle.boot_turns.specs.declared.completion.Begun.{Begun}
 use Rattle.boot_turns.specs.declared.answers.RunFault.{RunFault}
@@ -60,17 +60,29 @@ Stops x y old k t now budget left StepLimit = BudgetStops x y old k t now budget
 Stops x y old k t now budget left Disk = DiskStops x y old k t now budget left
 Stops x y old k t now budget left Sink = SinkStops x y old k t now budget left
 
--- how the run of turn k ends
-abbrev pub AdvanceEnds : Outside → System → List (List ℕ) → (k t : ℕ) → Cvm → Option State → (budget left : ℕ) → Result Begun RunFault → Type 0
-AdvanceEnds x y old k t c now budget left result = MatchResult result (Advanced x y old k t c now budget left) (Stops x y old k t now budget left)
+-- turns k to k + n - 1, from step t on, were untrapped steps of the current user, one step each
+pub record Skipped (x : Outside) (y : System) (old : List (List ℕ)) (k t : ℕ) (c : Cvm) (n : ℕ) : Type 0 where
+  pub after : Cvm
+  pub stood : Stood x y old (k + n) (t + n) after
+  pub running : after.status ≡ Running
+  pub rows : after.rows ≡ c.rows
+  pub current : after.core.current ≡ c.core.current
+  pub done : (j : ℕ) → j ≤ n → complete x (loaded y old) (t + j) ≡ k + j
+  pub on : (j : ℕ) → j ≤ t + n → (machine x y old j).off ≡ None
+  pub steps : Skips x (loaded y old) t n
 
--- one turn of the machine, for every boot whose run stands there and goes on
-abbrev pub AdvancesTyped : (C0 → Type 0) → Outside → (before now : Option State) → (budget left : ℕ) → Result Begun RunFault → Type 0
-AdvancesTyped Typed x before now budget left result = (lines busy : ℕ → ℕ) (y : System) (old : List (List ℕ)) (image sizes : List ℕ) (made_for : Map) →
+-- how the run of turns ends, so many at most: after n of them, with a turn as `Advanced` says or before its end
+abbrev pub AdvanceEnds : Outside → System → List (List ℕ) → (k t : ℕ) → Cvm → Option State → (budget left most : ℕ) → Result (ℕ × Begun) RunFault → Type 0
+AdvanceEnds x y old k t c now budget left most result = (n : ℕ) × (n < most) × (n ≤ budget) × (w : Skipped x y old k t c n) ×
+    MatchResult result (λ r. (r.0 ≡ n) × Advanced x y old (k + n) (t + n) w.after now (budget - n) left r.1) (Stops x y old (k + n) (t + n) now (budget - n) left)
+
+-- turns of the machine, for every boot whose run stands there and goes on
+abbrev pub AdvancesTyped : (C0 → Type 0) → Outside → (before now : Option State) → (budget left most : ℕ) → Result (ℕ × Begun) RunFault → Type 0
+AdvancesTyped Typed x before now budget left most result = (lines busy : ℕ → ℕ) (y : System) (old : List (List ℕ)) (image sizes : List ℕ) (made_for : Map) →
     Boots Typed lines busy x y old image sizes made_for → Laws (site_of y.boot) sizes → KernelReplays y.boot.meaning → (k t : ℕ) (c : Cvm) → Stood x y old k t c →
-    c.status ≡ Running → before ≡ Some (machine x y old t) → AdvanceEnds x y old k t c now budget left result
+    c.status ≡ Running → before ≡ Some (machine x y old t) → AdvanceEnds x y old k t c now budget left most result
 
--- ONE TURN, over a disk of so many sectors, whatever unit the kernel is
-abbrev pub Advances : (count : ℕ) → (old new : Held) → (told retold : Option (List (List ℕ))) → (budget left : ℕ) → Result Begun RunFault → Type 0
-Advances count old new told retold budget left result =
-    (u : CUnit) → AdvancesTyped (IsTypedState u) (outside_of old.rows count) (seen told old) (seen retold new) budget left result
+-- TURNS, over a disk of so many sectors, whatever unit the kernel is
+abbrev pub Advances : (count : ℕ) → (old new : Held) → (told retold : Option (List (List ℕ))) → (budget left most : ℕ) → Result (ℕ × Begun) RunFault → Type 0
+Advances count old new told retold budget left most result =
+    (u : CUnit) → AdvancesTyped (IsTypedState u) (outside_of old.rows count) (seen told old) (seen retold new) budget left most result

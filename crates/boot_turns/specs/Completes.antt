@@ -1,5 +1,5 @@
 -- What a loop that steps a machine to the end of a turn has done.
-use Rattle.std.specs.Prelude.{◌≡◌, ◌≢◌, ◌⊎◌, ℕ, suc, ◌+◌, ◌/◌, ◌<◌, ◌≤◌, ◌==◌, ◌&&◌, ◌||◌, not, nat_lt, is_some, IfSome, Option, Some, None, Bool, true, false, List, [], slice_index, slice_set, Result, MatchResult}
+use Rattle.std.specs.Prelude.{◌≡◌, ◌≢◌, ◌⊎◌, ℕ, suc, ◌+◌, ◌-◌, ◌/◌, ◌<◌, ◌≤◌, ◌==◌, ◌&&◌, ◌||◌, not, nat_lt, is_some, IfSome, Option, Some, None, Bool, true, false, List, [], slice_index, slice_set, Result, MatchResult}
 use Rattle.std.specs.Option.{option_map}
 use Rattle.mips_table.specs.declared.cause.Cause.TheVariants.{FetchFault, DataFault}
 use Rattle.mips_table.specs.Device.{Outside, Pending, Writing}
@@ -11,6 +11,8 @@ use Rattle.mips_machine.specs.declared.event.Event.{Event}
 use Rattle.mips_machine.specs.declared.event.Event.TheVariants.{Taken, Off}
 use Rattle.cvm_model.specs.Cvm.{Begin, Steps, Traps, Interrupts}
 use Rattle.boot_turns.specs.declared.completion.Begun.{Begun}
+use Rattle.boot_turns.specs.declared.completion.Stepped.{Stepped}
+use Rattle.boot_turns.specs.declared.completion.Stepped.TheVariants.{Kept, Began, On}
 use Rattle.boot_turns.specs.declared.answers.RunFault.{RunFault}
 use Rattle.boot_turns.specs.declared.answers.RunFault.TheVariants.{StepLimit, Disk, Sink}
 
@@ -49,6 +51,21 @@ begun_by reset in_user pages edata (Off word) = false
 begun_by reset in_user pages edata (Taken FetchFault) = reset || (in_user && not (nat_lt (edata / 4096) pages))
 begun_by reset in_user pages edata (Taken DataFault) = reset || (in_user && not (nat_lt (edata / 4096) pages))
 begun_by reset in_user pages edata other = reset || in_user
+
+-- whether a step was one that began a turn
+abbrev pub turn_began : Stepped → Bool
+turn_began Kept = true
+turn_began Began = true
+turn_began On = false
+
+abbrev pub stepped_as : Bool → Stepped
+stepped_as true = Began
+stepped_as false = On
+
+-- where it kept user mode, the machine is in user mode and on
+abbrev pub KeptUser : Held → Stepped → Type 0
+KeptUser held Kept = (slice_index held.hardware.special MODE ≡ 1) × (held.hardware.off ≡ None)
+KeptUser held other = Unit {0}
 
 -- what a state shows after the step that begins a turn: the mode, the cause, what it concerns, and the current user's word
 abbrev pub note : State → Begun
@@ -103,14 +120,19 @@ CompleteErr x new before after s t StepLimit = (u : ℕ) × (t ≤ u) × (after 
 CompleteErr x new before after s t Disk = (u : ℕ) × (t ≤ u) × (after + (u + 1) ≡ before + t) × ((b : Option Begun) × Progress x s t u b) × SeenTorn x (run x s u) new
 CompleteErr x new before after s t Sink = (u : ℕ) × (t ≤ u) × (after + (u + 1) ≡ before + t) × ((b : Option Begun) × Progress x s t u b) × (new ≡ Some (run x s (suc u)))
 
--- how the loop ends
-abbrev pub CompleteEnds : Outside → Option State → ℕ → ℕ → State → ℕ → Result Begun RunFault → Type 0
-CompleteEnds x new before after s t result = MatchResult result (CompleteOk x new before after s t) (CompleteErr x new before after s t)
+-- n turns from step t on were one step each, after which the machine was on and in user mode
+abbrev pub Skips : Outside → State → (t n : ℕ) → Type 0
+Skips x s t n = (j : ℕ) → j < n → (begins x (run x s (t + j)) ≡ true) × (slice_index (run x s (t + suc j)).special MODE ≡ 1) × ((run x s (t + suc j)).off ≡ None)
+
+-- how the loop ends, after n such turns of so many at most
+abbrev pub CompleteEnds : Outside → Option State → ℕ → ℕ → State → ℕ → (most : ℕ) → Result (ℕ × Begun) RunFault → Type 0
+CompleteEnds x new before after s t most result = (n : ℕ) × (n < most) × (n ≤ before) × Skips x s t n ×
+    MatchResult result (λ r. (r.0 ≡ n) × CompleteOk x new (before - n) after s (t + n) r.1) (CompleteErr x new (before - n) after s (t + n))
 
 -- THE LOOP, over a disk of so many sectors: from any step of any run in which the machine stands
-abbrev pub Completes : (count : ℕ) → (old new : Held) → (told retold : Option (List (List ℕ))) → (before after : ℕ) → Result Begun RunFault → Type 0
-Completes count old new told retold before after result = (s : State) (t : ℕ) → seen told old ≡ Some (run (outside_of old.rows count) s t) →
-    CompleteEnds (outside_of old.rows count) (seen retold new) before after s t result
+abbrev pub Completes : (count : ℕ) → (old new : Held) → (told retold : Option (List (List ℕ))) → (before after most : ℕ) → Result (ℕ × Begun) RunFault → Type 0
+Completes count old new told retold before after most result = (s : State) (t : ℕ) → seen told old ≡ Some (run (outside_of old.rows count) s t) →
+    CompleteEnds (outside_of old.rows count) (seen retold new) before after s t most result
 
 -- what the machine shows once a turn has begun: a user's step, or the cause of its dispatch and what that concerns
 abbrev pub ShownAs : Begin → Begun → Type 0

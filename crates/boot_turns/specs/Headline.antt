@@ -6,7 +6,7 @@ use Rattle.mips_table.specs.Turns.{begins}
 use Rattle.mips_table.specs.Machine.{run}
 use Rattle.layer_map.specs.Map.{Map}
 use Rattle.c0_meaning.specs.State.{State as C0}
-use Rattle.cvm_model.specs.Kernel.{JournalEntry}
+use Rattle.cvm_model.specs.Kernel.{Core, JournalEntry}
 use Rattle.cvm_model.specs.Primitives.{user_of}
 use Rattle.cvm_model.specs.Cvm.{System, Status, Running, Faulted, Cvm, IsCvm, Begin, Steps, Traps, Interrupts, status_of, begin}
 use Rattle.cvm_model.specs.declared.row.Next.{Next}
@@ -191,6 +191,11 @@ abbrev pub TurnRows : Outside → System → List (List ℕ) → Type 0
 TurnRows x y old = (k : ℕ) (c after : Cvm) → IsCvm y (lines_of x (loaded y old)) k c → c.status ≡ Running → IsCvm y (lines_of x (loaded y old)) (suc k) after →
     RowsGrow k c after (begin k c.core (bit_or c.pending (lines_of x (loaded y old) k)))
 
+-- an untrapped step of turn k keeps the current user
+abbrev pub UserStays : Outside → System → List (List ℕ) → Type 0
+UserStays x y old = (k : ℕ) (c after : Cvm) (at : Core) → IsCvm y (lines_of x (loaded y old)) k c → c.status ≡ Running → IsCvm y (lines_of x (loaded y old)) (suc k) after →
+    begin k c.core (bit_or c.pending (lines_of x (loaded y old) k)) ≡ Steps at → after.core.current ≡ c.core.current
+
 -- what holds of each boot under the premises, whatever is printed
 pub record Machines (x : Outside) (y : System) (old : List (List ℕ)) : Type 0 where
   pub goes_on : GoesOn x y old
@@ -201,6 +206,7 @@ pub record Machines (x : Outside) (y : System) (old : List (List ℕ)) : Type 0 
   pub unfound : TurnGoesOn x y old
   pub shows : TurnShows x y old
   pub rows : TurnRows x y old
+  pub stays : UserStays x y old
   pub beyond : (t : ℕ) → Beyond y old (machine x y old t).device.sectors
   pub torn : (now : List (List ℕ)) (v : View) (turns steps : ℕ) (text : List ℕ) → StepBroken x y old now v turns steps text → Beyond y old now
   pub few : (t : ℕ) → complete x (loaded y old) t ≤ t

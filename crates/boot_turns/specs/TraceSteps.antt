@@ -1,5 +1,5 @@
 -- What one step of a loop does to a trace.
-use Rattle.std.specs.Prelude.{◌≡◌, ℕ, suc, ◌≤◌, Bool, Option, Some, List, length, Result, MatchResult}
+use Rattle.std.specs.Prelude.{◌≡◌, ℕ, suc, ◌≤◌, Option, Some, List, length, Result, MatchResult}
 use Rattle.mips_table.specs.Device.{Outside}
 use Rattle.mips_machine.specs.Machine.{Held}
 use Rattle.layer_map.specs.Map.{Map}
@@ -8,6 +8,7 @@ use Rattle.c0_meaning.specs.TypedState.{IsTypedState}
 use Rattle.cvm_model.specs.Cvm.{System}
 use Rattle.layer_contract.specs.Layer.{Laws}
 use Rattle.layer_contract.specs.Follows.{site_of, machine}
+use Rattle.boot_turns.specs.declared.completion.Stepped.{Stepped}
 use Rattle.boot_turns.specs.declared.tracer.Tracer.{Tracer}
 use Rattle.boot_turns.specs.declared.answers.RunFault.{RunFault}
 use Rattle.boot_turns.specs.declared.answers.RunFault.TheVariants.{StepLimit, Disk, Sink}
@@ -22,7 +23,7 @@ StepStops x y old u t base text Disk = RowsTorn x y old u t base text
 StepStops x y old u t base text Sink = RowsCut x y old u (suc t) base text
 
 -- ONE STEP OF A TRACE: for every boot whose run stands there, of one of its users
-abbrev pub StepTraces : Outside → Map → (held : Held) → (told : Option (List (List ℕ))) → (before after : Option Tracer) → (text retext : Option (List ℕ)) → Result Bool RunFault → Type 0
+abbrev pub StepTraces : Outside → Map → (held : Held) → (told : Option (List (List ℕ))) → (before after : Option Tracer) → (text retext : Option (List ℕ)) → Result Stepped RunFault → Type 0
 StepTraces x m held told before after text retext result =
     (c : CUnit) (lines busy : ℕ → ℕ) (y : System) (old : List (List ℕ)) (image sizes : List ℕ) (made_for : Map) (u t : ℕ) (base : Option (List ℕ)) →
     Boots (IsTypedState c) lines busy x y old image sizes made_for → Laws (site_of y.boot) sizes → m ≡ (site_of y.boot).map → 1 ≤ u → u ≤ length y.boot.users →

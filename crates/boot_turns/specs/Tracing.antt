@@ -1,5 +1,5 @@
 -- What a trace has printed, and what is kept of it, while the machine steps.
-use Rattle.std.specs.Prelude.{◌≡◌, ℕ, suc, ◌+◌, ◌*◌, ◌≤◌, Bool, false, if◌then◌else◌, Option, Some, None, List, [], length, slice_index, Result, MatchResult}
+use Rattle.std.specs.Prelude.{◌≡◌, ℕ, suc, ◌+◌, ◌*◌, ◌≤◌, ◌==◌, Bool, false, if◌then◌else◌, Option, Some, None, List, [], length, slice_index, Result, MatchResult}
 use Rattle.std.specs.Io.KnownBytes.{append_known}
 use Rattle.mips_table.specs.Device.{Outside}
 use Rattle.mips_table.specs.Machine.{State}
@@ -59,6 +59,10 @@ followed_rows s kept current began words = journal_rows_after false kept.steps (
 abbrev pub kept_after : State → Tracer → (current : ℕ) → (began : Bool) → (words : List ℕ) → Tracer
 kept_after s kept current began words = record { user = kept.user; steps = steps_after kept.steps (followed s kept current began words); call = notes_on s kept.call }
 
+-- an untrapped step under this current user is counted, and has no rows
+abbrev pub counted : (current : ℕ) → Tracer → Tracer
+counted current kept = record kept { steps = if current == kept.user then kept.steps + 1 else kept.steps }
+
 -- of every words of the traced user that the pages tell, where those that a primitive with this answer copied to it lie
 abbrev pub WhereCopied : Option (List (List ℕ)) → Held → Map → Tracer → Entered → (answer : ℕ) → (List ℕ → Type 0) → Type 0
 WhereCopied told held m kept e answer P = (ss : List (List ℕ)) (words : List ℕ) → told ≡ Some ss → WordsAreTold m (state_of held ss) kept.user words → IsPlaced kept.user e answer words → P words
@@ -116,7 +120,7 @@ pub record Tracing : Type 0 where
   pub budget : ℕ
 
 -- THE TRACE OF A LOOP that steps a machine, over a disk of so many sectors: for every boot whose run stands there, of one of its users
-abbrev pub TraceRuns : (count : ℕ) → Map → (old new : Held) → (told retold : Option (List (List ℕ))) → (before after : Tracing) → Result Begun RunFault → Type 0
+abbrev pub TraceRuns : (count : ℕ) → Map → (old new : Held) → (told retold : Option (List (List ℕ))) → (before after : Tracing) → Result (ℕ × Begun) RunFault → Type 0
 TraceRuns count m held new told retold before after result =
     (c : CUnit) (lines busy : ℕ → ℕ) (y : System) (old : List (List ℕ)) (image sizes : List ℕ) (made_for : Map) (u t : ℕ) (base : Option (List ℕ)) →
     Boots (IsTypedState c) lines busy (outside_of held.rows count) y old image sizes made_for → Laws (site_of y.boot) sizes → m ≡ (site_of y.boot).map → 1 ≤ u → u ≤ length y.boot.users →

@@ -1,13 +1,13 @@
 // The machine runs until its next turn is complete.
-ghost use Rattle.std.specs.Prelude.{◌≡◌, ◌≢◌, ◌+◌, ◌-◌, ◌<◌, ◌≤◌, ◌^◌, length, slice_index, IfOk, IfSome, OnOk, OnErr, Err, None};
+ghost use Rattle.std.specs.Prelude.{◌≡◌, ◌≢◌, ◌⊎◌, ◌+◌, ◌-◌, ◌<◌, ◌≤◌, ◌^◌, length, slice_index, IfOk, IfSome, IsSome, OnOk, OnErr, Err, None, true, false};
 ghost use Rattle.std.specs.Option.{option_map};
 ghost use Rattle.cvm_outside.specs.Causes.{Counts, Rose};
 ghost use Rattle.mips_table.specs.Fits.{NamesSector};
 ghost use Rattle.layer_map.specs.Map.{current_at};
 ghost use Rattle.mips_machine.specs.Steps.{outside_of};
 ghost use Rattle.boot_turns.specs.Advances.{Advances};
-ghost use Rattle.boot_turns.specs.Completes.{begun_by, noted, shown, is_at_rest, StepRan, StepBegan, StepTorn, Completes};
-ghost use Rattle.boot_turns.specs.Tracing.{CanTrace, TraceRuns};
+ghost use Rattle.boot_turns.specs.Completes.{begun_by, turn_began, stepped_as, noted, shown, is_at_rest, KeptUser, StepRan, StepBegan, StepTorn, Completes};
+ghost use Rattle.boot_turns.specs.Tracing.{CanTrace, counted, TraceRuns};
 ghost use Rattle.boot_turns.specs.TraceSteps.{StepTraces};
 
 use crate::answers::RunFault;
@@ -39,8 +39,41 @@ pub struct Begun {
     pub user: u32,
 }
 
+/// What a step was for the turns of the machine.
+#[derive(Clone, Copy, Debug, PartialEq, Eq)]
+pub enum Stepped {
+    /// It began a turn and kept user mode, so that the turn is complete, on a machine that is on.
+    Kept,
+    /// It began a turn.
+    Began,
+    /// It began none.
+    On,
+}
+
+impl Stepped {
+    /// Whether it began a turn.
+    fn began(self) -> bool
+        ensures { result ≡ turn_began self }
+    {
+        match self {
+            Stepped::Kept => true,
+            Stepped::Began => true,
+            Stepped::On => false,
+        }
+    }
+}
+
+/// A step that began a turn, of which no more is to be known, or that began none.
+fn stepped_as(began: bool) -> Stepped
+    ensures { result ≡ stepped_as began }
+{
+    if began { Stepped::Began } else { Stepped::On }
+}
+
 /// Whether a step began a turn: by the reset latch, the mode and the number of pages before it, what it was, and the special register
-/// that says what an interrupt concerns after it.
+/// that says what an interrupt concerns after it. Most steps are told without this one.
+#[cold]
+#[inline(never)]
 fn has_begun(reset: bool, in_user: bool, pages: u32, event: Event, edata: u32) -> bool
     ensures { result ≡ begun_by reset in_user pages edata event }
 {
@@ -54,17 +87,18 @@ fn has_begun(reset: bool, in_user: bool, pages: u32, event: Event, edata: u32) -
     }
 }
 
-/// One step. The answer is whether it begins a turn.
+/// One step. The answer is what it was for the turns.
 ///
 /// # Errors
 ///
 /// A fault of the disk.
-fn step_once<D: Sectors>(machine: &mut Machine, disk: &mut D) -> Result<bool, DiskFault>
+fn step_once<D: Sectors>(machine: &mut Machine, disk: &mut D) -> Result<Stepped, DiskFault>
     requires steps { machine.old.time < 2 ^ 64 - 1 }
     requires sector { NamesSector (D.size disk.old) machine.old.hardware.ports.pending }
     ensures ran { OnOk result (StepRan (D.size disk.old) machine.old machine.new (D.sectors disk.old) (D.sectors disk.new)) }
     ensures torn { OnErr result (StepTorn (D.size disk.old) machine.old (D.sectors disk.old) (D.sectors disk.new)) }
-    ensures began { IfOk result (λ began. StepBegan (D.size disk.old) machine.old (D.sectors disk.old) began) }
+    ensures began { IfOk result (λ stepped. StepBegan (D.size disk.old) machine.old (D.sectors disk.old) (turn_began stepped)) }
+    ensures kept { IfOk result (KeptUser machine.new) }
     ensures time { machine.old.hardware.off ≡ None → machine.new.time ≡ machine.old.time + 1 }
     ensures rows { machine.new.rows ≡ machine.old.rows }
     ensures memory { length machine.new.hardware.memory ≡ length machine.old.hardware.memory }
@@ -76,7 +110,16 @@ fn step_once<D: Sectors>(machine: &mut Machine, disk: &mut D) -> Result<bool, Di
     let in_user = machine.special(MODE) == 1;
     let pages = machine.special(PAGES);
     let event = machine.step(disk)?;
-    Ok(has_begun(reset, in_user, pages, event, machine.special(CONCERN)))
+    if in_user {
+        if let Event::Ran = event {
+            if machine.special(MODE) == 1 {
+                return Ok(Stepped::Kept);
+            }
+        }
+    } else if !reset {
+        return Ok(Stepped::On);
+    }
+    Ok(stepped_as(has_begun(reset, in_user, pages, event, machine.special(CONCERN))))
 }
 
 /// The current user, which is read only where a user is traced.
@@ -90,7 +133,21 @@ fn traced_current(machine: &Machine, tracer: &Option<Tracer>) -> u32
     }
 }
 
-/// One step, and what a trace prints of it. The answer is whether it begins a turn.
+/// Counts a step under this current user that kept user mode, where no primitive is under way: it has no rows. The answer is whether none
+/// is, or no user is traced.
+fn counts(tracer: &mut Option<Tracer>, current: u32) -> bool
+    requires few { IfSome tracer.old (λ kept. kept.steps < 2 ^ 64 - 1) }
+    ensures free { result ≡ true → IfSome tracer.old (λ kept. kept.call ≡ None) }
+    ensures counted { result ≡ true → tracer.new ≡ option_map (counted current) tracer.old }
+    ensures same { result ≡ false → tracer.new ≡ tracer.old }
+{
+    match tracer {
+        Some(kept) => kept.count(current),
+        None => true,
+    }
+}
+
+/// One step, and what a trace prints of it. The answer is what it was for the turns.
 ///
 /// # Errors
 ///
@@ -101,7 +158,7 @@ fn step_traced<D: Sectors, O: Sink>(
     map: &Map,
     disk: &mut D,
     out: &mut O,
-) -> Result<bool, RunFault>
+) -> Result<Stepped, RunFault>
     requires steps { machine.old.time < 2 ^ 64 - 1 }
     requires sector { NamesSector (D.size disk.old) machine.old.hardware.ports.pending }
     requires room { 1024 < length machine.old.hardware.memory }
@@ -109,7 +166,8 @@ fn step_traced<D: Sectors, O: Sink>(
     requires can { IfSome tracer.old (CanTrace map.now (length machine.old.hardware.memory) machine.old.time (D.size disk.old)) }
     ensures ran { result ≢ Err RunFault.Disk → StepRan (D.size disk.old) machine.old machine.new (D.sectors disk.old) (D.sectors disk.new) }
     ensures torn { result ≡ Err RunFault.Disk → StepTorn (D.size disk.old) machine.old (D.sectors disk.old) (D.sectors disk.new) }
-    ensures began { IfOk result (λ began. StepBegan (D.size disk.old) machine.old (D.sectors disk.old) began) }
+    ensures began { IfOk result (λ stepped. StepBegan (D.size disk.old) machine.old (D.sectors disk.old) (turn_began stepped)) }
+    ensures kept { IfOk result (KeptUser machine.new) }
     ensures traced { StepTraces (outside_of machine.old.rows (D.size disk.old)) map.now machine.old (D.sectors disk.old) tracer.old tracer.new (O.text out.old) (O.text out.new) result }
     ensures untraced { tracer.old ≡ None → (tracer.new ≡ None) × (out.new ≡ out.old) }
     ensures no_sink { tracer.old ≡ None → result ≢ Err RunFault.Sink }
@@ -130,23 +188,37 @@ fn step_traced<D: Sectors, O: Sink>(
     journal_rows_follow();
     the_words_tell();
     let current = traced_current(machine, tracer);
-    let began = step_once(machine, disk)?;
+    let stepped = step_once(machine, disk)?;
+    if let Stepped::Kept = stepped {
+        if counts(tracer, current) {
+            return Ok(Stepped::Kept);
+        }
+    }
+    let began = stepped.began();
     if let Some(kept) = tracer {
         kept.follow(machine, map, current, began, disk, out)?;
-        return Ok(began);
+        return Ok(stepped_as(began));
     }
-    Ok(began)
+    Ok(stepped_as(began))
 }
 
-/// What the machine shows now, unless a turn was noted before or none began.
-fn noted(machine: &Machine, begun: Option<Begun>, began: bool) -> Option<Begun>
+/// Notes what the machine shows now.
+#[cold]
+#[inline(never)]
+fn note_now(machine: &Machine, begun: &mut Option<Begun>)
     requires room { 1024 < length machine.now.hardware.memory }
-    ensures { result ≡ noted begun began (shown machine.now) }
+    ensures { begun.new ≡ Some (shown machine.now) }
 {
-    match begun {
-        Some(b) => Some(b),
-        None if began => Some(begun_now(machine)),
-        None => None,
+    *begun = Some(begun_now(machine));
+}
+
+/// Notes what the machine shows now, unless a turn was noted before or none began.
+fn note(machine: &Machine, begun: &mut Option<Begun>, began: bool)
+    requires room { 1024 < length machine.now.hardware.memory }
+    ensures { begun.new ≡ noted begun.old began (shown machine.now) }
+{
+    if began && begun.is_none() {
+        note_now(machine, begun);
     }
 }
 
@@ -157,8 +229,9 @@ fn at_rest(machine: &Machine) -> bool
     machine.special(MODE) == 1 || machine.off().is_some()
 }
 
-/// Steps the machine until the next turn is complete, a step from the budget each. Where a user is traced, its rows are printed as their
-/// entries end; else nothing is.
+/// Steps the machine until so many turns at most are complete, a step from the budget each: turns that are one step of a user, which keeps
+/// user mode, as long as they come, and then one turn more. The answer is how many of the first there were, and what was noted of the last
+/// turn. Where a user is traced, its rows are printed as their entries end; else nothing is.
 ///
 /// # Errors
 ///
@@ -167,18 +240,22 @@ fn at_rest(machine: &Machine) -> bool
 pub fn complete<D: Sectors, O: Sink>(
     machine: &mut Machine,
     budget: &mut u64,
+    most: u32,
     tracer: &mut Option<Tracer>,
     map: &Map,
     disk: &mut D,
     out: &mut O,
-) -> Result<Begun, RunFault>
+) -> Result<(u32, Begun), RunFault>
+    requires some { 1 ≤ most }
     requires steps { machine.old.time + budget.old < 2 ^ 64 }
     requires sector { NamesSector (D.size disk.old) machine.old.hardware.ports.pending }
     requires room { 1024 < length machine.old.hardware.memory }
     requires can { IfSome tracer.old (CanTrace map.now (length machine.old.hardware.memory) machine.old.time (D.size disk.old)) }
-    ensures ends { Completes (D.size disk.old) machine.old machine.new (D.sectors disk.old) (D.sectors disk.new) budget.old budget.new result }
+    ensures ends { Completes (D.size disk.old) machine.old machine.new (D.sectors disk.old) (D.sectors disk.new) budget.old budget.new most result }
     ensures traced { TraceRuns (D.size disk.old) map.now machine.old machine.new (D.sectors disk.old) (D.sectors disk.new) (record { tracer = tracer.old; text = O.text out.old; budget = budget.old }) (record { tracer = tracer.new; text = O.text out.new; budget = budget.new }) result }
     ensures untraced { tracer.old ≡ None → (tracer.new ≡ None) × (out.new ≡ out.old) }
+    ensures few { IfOk result (λ r. r.0 < most) }
+    ensures limit { result ≡ Err RunFault.StepLimit → (budget.new ≡ 0) ⊎ IsSome machine.new.hardware.off }
     ensures no_sink { tracer.old ≡ None → result ≢ Err RunFault.Sink }
     ensures can { IfSome tracer.new (CanTrace map.now (length machine.new.hardware.memory) machine.new.time (D.size disk.new)) }
     ensures user { option_map (λ k. k.user) tracer.new ≡ option_map (λ k. k.user) tracer.old }
@@ -192,45 +269,60 @@ pub fn complete<D: Sectors, O: Sink>(
     ensures sink_same { result ≢ Err RunFault.Sink → O.faults out.new ≡ O.faults out.old }
     ensures spent { machine.new.time + budget.new ≡ machine.old.time + budget.old }
 {
+    let mut skipped: u32 = 0;
+    let mut limit: u32 = most - 1;
     let mut begun: Option<Begun> = None;
     while *budget > 0 {
         if machine.off().is_some() {
             return Err(RunFault::StepLimit);
         }
         *budget -= 1;
-        let began = step_traced(machine, tracer, map, disk, out)?;
-        begun = noted(machine, begun, began);
+        let stepped = step_traced(machine, tracer, map, disk, out)?;
+        if let Stepped::Kept = stepped {
+            if skipped < limit {
+                skipped += 1;
+                continue;
+            }
+        }
+        // a turn that takes more than one step is the last
+        limit = 0;
+        note(machine, &mut begun, stepped.began());
         if let Some(b) = begun {
             if at_rest(machine) {
-                return Ok(b);
+                return Ok((skipped, b));
             }
         }
     }
     Err(RunFault::StepLimit)
 }
 
-/// Runs one turn of the machine of a boot, a step from the budget each. Where a user is traced, its rows are printed as their entries end;
-/// else nothing is.
+/// Runs turns of the machine of a boot, so many at most, a step from the budget each: untrapped steps of the current user as long as they
+/// come, and then one turn more. The answer is how many of the first there were, and what was noted of the last turn. Where a user is
+/// traced, its rows are printed as their entries end; else nothing is.
 ///
 /// # Errors
 ///
-/// `StepLimit`, where the budget is spent before the turn is complete; `Disk`, where the disk failed, in a step or in its rows; `Sink`,
-/// where the sink failed.
+/// `StepLimit`, where the budget is spent before the last turn is complete; `Disk`, where the disk failed, in a step or in its rows;
+/// `Sink`, where the sink failed.
 pub fn advance<D: Sectors, O: Sink>(
     machine: &mut Machine,
     budget: &mut u64,
+    most: u32,
     tracer: &mut Option<Tracer>,
     map: &Map,
     disk: &mut D,
     out: &mut O,
-) -> Result<Begun, RunFault>
+) -> Result<(u32, Begun), RunFault>
+    requires some { 1 ≤ most }
     requires steps { machine.old.time + budget.old < 2 ^ 64 }
     requires sector { NamesSector (D.size disk.old) machine.old.hardware.ports.pending }
     requires room { 1024 < length machine.old.hardware.memory }
     requires can { IfSome tracer.old (CanTrace map.now (length machine.old.hardware.memory) machine.old.time (D.size disk.old)) }
-    ensures ends { Advances (D.size disk.old) machine.old machine.new (D.sectors disk.old) (D.sectors disk.new) budget.old budget.new result }
+    ensures ends { Advances (D.size disk.old) machine.old machine.new (D.sectors disk.old) (D.sectors disk.new) budget.old budget.new most result }
     ensures traced { TraceRuns (D.size disk.old) map.now machine.old machine.new (D.sectors disk.old) (D.sectors disk.new) (record { tracer = tracer.old; text = O.text out.old; budget = budget.old }) (record { tracer = tracer.new; text = O.text out.new; budget = budget.new }) result }
     ensures untraced { tracer.old ≡ None → (tracer.new ≡ None) × (out.new ≡ out.old) }
+    ensures few { IfOk result (λ r. r.0 < most) }
+    ensures limit { result ≡ Err RunFault.StepLimit → (budget.new ≡ 0) ⊎ IsSome machine.new.hardware.off }
     ensures no_sink { tracer.old ≡ None → result ≢ Err RunFault.Sink }
     ensures can { IfSome tracer.new (CanTrace map.now (length machine.new.hardware.memory) machine.new.time (D.size disk.new)) }
     ensures user { option_map (λ k. k.user) tracer.new ≡ option_map (λ k. k.user) tracer.old }
@@ -245,5 +337,5 @@ pub fn advance<D: Sectors, O: Sink>(
     ensures spent { machine.new.time + budget.new ≡ machine.old.time + budget.old }
 {
     machines_run();
-    complete(machine, budget, tracer, map, disk, out)
+    complete(machine, budget, most, tracer, map, disk, out)
 }

@@ -1,5 +1,5 @@
 // The rows of one step of a trace, and what is kept after it.
-ghost use Rattle.std.specs.Prelude.{◌≡◌, ◌≢◌, ◌*◌, ◌≤◌, ◌<◌, List, [], length, Err, OnOk, OnErr};
+ghost use Rattle.std.specs.Prelude.{◌≡◌, ◌≢◌, ◌*◌, ◌≤◌, ◌<◌, ◌-◌, ◌^◌, List, [], length, true, false, None, Err, OnOk, OnErr};
 ghost use Rattle.std.specs.Io.KnownBytes.{append_known};
 ghost use Rattle.cvm_outside.specs.Causes.{Rose};
 ghost use Rattle.cvm_outside.specs.Told.{AppendsPart};
@@ -9,7 +9,7 @@ ghost use Rattle.boot_report.specs.Texts.{SameButViewed};
 ghost use Rattle.boot_turns.specs.Completes.{shown};
 ghost use Rattle.boot_turns.specs.Entries.{notes_on, returned, call_ends};
 ghost use Rattle.boot_turns.specs.JournalText.{steps_after};
-ghost use Rattle.boot_turns.specs.Tracing.{CanTrace, WhereTold, WhereCopied, followed_rows, ended_rows, kept_after};
+ghost use Rattle.boot_turns.specs.Tracing.{CanTrace, counted, WhereTold, WhereCopied, followed_rows, ended_rows, kept_after};
 
 use crate::answers::RunFault;
 use crate::completion::Begun;
@@ -143,12 +143,30 @@ impl Tracer {
         Ok(())
     }
 
+    /// Counts a step under this current user that kept user mode, where no primitive is under way. The answer is whether none is.
+    pub(crate) fn count(&mut self, current: u32) -> bool
+        requires few { self.old.steps < 2 ^ 64 - 1 }
+        ensures free { result ≡ true → self.old.call ≡ None }
+        ensures counted { result ≡ true → self.new ≡ counted current self.old }
+        ensures same { result ≡ false → self.new ≡ self.old }
+    {
+        if self.call.is_some() {
+            return false;
+        }
+        if current == self.user {
+            self.steps += 1;
+        }
+        true
+    }
+
     /// Prints the rows of what the user's journal grew by in the step that led here: it began a turn under this current user, or a
     /// primitive returned. A step of the user that was not trapped is counted.
     ///
     /// # Errors
     ///
     /// A fault of the disk, from which a page may have to be read, or of the sink.
+    #[cold]
+    #[inline(never)]
     pub fn follow<D: Sectors, O: Sink>(
         &mut self,
         machine: &mut Machine,

@@ -11,3 +11,4 @@ pub mod Known
 pub mod Scene
 pub mod Patch
 pub mod Opened
+pub mod Ahead

@@ -1,18 +1,21 @@
 // Constants.
 
-ghost use Rattle.std.specs.Prelude.{◌≡◌, ◌/◌, ◌%◌, ◌^◌, ◌<◌, ◌++◌, ◌∷◌, [], map, OnOk};
+ghost use Rattle.std.specs.Prelude.{◌≡◌, ◌/◌, ◌%◌, ◌^◌, ◌<◌, ◌++◌, ◌∷◌, [], map, OnErr, OnOk};
 ghost use Rattle.mips_table.specs.declared.inst.Inst.TheVariants.{Lui, Ori};
 ghost use Rattle.mips_table.specs.Encoding.{encoding};
 ghost use Rattle.c0_expr_code.specs.Code.{constant_code};
 
 use crate::word::{emit, is_near, low};
-use mips_table::Inst;
+use mips_table::{Inst, encode};
 use std::alloc::AllocError;
 
 /// Appends the code that brings a word into a register.
+///
+/// Want of memory leaves `code` as it was.
 pub fn emit_constant(code: &mut Vec<u32>, target: u32, word: u32) -> Result<(), AllocError>
     requires { target < 32 }
-    ensures { OnOk result (code.new.items ≡ code.old.items ++ map encoding (constant_code target word)) }
+    ensures appended { OnOk result (code.new.items ≡ code.old.items ++ map encoding (constant_code target word)) }
+    ensures unchanged { OnErr result (code.new.items ≡ code.old.items) }
 {
     if word < 0x1_0000 {
         emit(
@@ -40,21 +43,17 @@ pub fn emit_constant(code: &mut Vec<u32>, target: u32, word: u32) -> Result<(), 
 // The two halves of a word.
 fn emit_halves(code: &mut Vec<u32>, target: u32, word: u32) -> Result<(), AllocError>
     requires { target < 32 }
-    ensures { OnOk result (code.new.items ≡ code.old.items ++ map encoding (Lui target (word / 2 ^ 16) ∷ Ori target target (word % 2 ^ 16) ∷ [])) }
+    ensures appended { OnOk result (code.new.items ≡ code.old.items ++ map encoding (Lui target (word / 2 ^ 16) ∷ Ori target target (word % 2 ^ 16) ∷ [])) }
+    ensures unchanged { OnErr result (code.new.items ≡ code.old.items) }
 {
-    emit(
-        code,
-        Inst::Lui {
-            rt: target,
-            imm: word / 0x1_0000,
-        },
-    )?;
-    emit(
-        code,
-        Inst::Ori {
-            rt: target,
-            rs: target,
-            imm: low(word),
-        },
-    )
+    let upper = Inst::Lui {
+        rt: target,
+        imm: word / 0x1_0000,
+    };
+    let lower = Inst::Ori {
+        rt: target,
+        rs: target,
+        imm: low(word),
+    };
+    code.extend_from_slice(&[encode(&upper), encode(&lower)])
 }

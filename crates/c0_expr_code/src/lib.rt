@@ -4,6 +4,7 @@
 mod bytes;
 mod constant;
 mod element;
+mod expression;
 mod known;
 pub mod laws;
 mod layout;
@@ -20,14 +21,13 @@ mod variable;
 mod word;
 
 pub use constant::emit_constant;
+pub use expression::{emit_operand, emit_spot, emit_test, emit_value};
 pub use known::{known_of, stands_in};
 pub use layout::Layout;
 pub use leaf::keeps_registers;
-pub use node::{emit_operand, emit_spot, emit_value};
 pub use patching::{patch, patch_all};
 pub use scene::Scene;
 pub use scene_of::begun_scene;
 pub use spot::{Access, Spot, emit_access};
-pub use test::emit_test;
 pub use variable::frame_shift;
 pub use word::emit;

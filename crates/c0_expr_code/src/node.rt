@@ -1,6 +1,6 @@
-// Expressions.
+// Expressions. Where memory is wanting, a part of an expression's code may stand behind what stood before.
 
-ghost use Rattle.std.specs.Prelude.{◌≡◌, ◌+◌, ◌≤◌, ◌<◌, ◌++◌, map, true, IfOk, IfSome, OnOk};
+ghost use Rattle.std.specs.Prelude.{◌≡◌, ◌+◌, ◌≤◌, ◌<◌, ◌++◌, map, true, IfOk, IfSome, OnErr, OnOk};
 ghost use Rattle.mips_table.specs.Encoding.{InRange, encoding};
 ghost use Rattle.c0_tree.specs.Size.{need, binary_need};
 ghost use Rattle.c0_tree.specs.View.{expr_view};
@@ -13,6 +13,7 @@ ghost use Rattle.c0_expr_code.specs.Code.{binary_made, immediate, immediate_of, 
 ghost use Rattle.c0_expr_code.specs.Code.{operand_register, operator_code, operator_made, sum_made, target_spot, to_code, two_code, unary_made, value_code};
 ghost use Rattle.c0_expr_code.specs.Emit.{IsSpot, access_inst, code_with, held_code, index_spot, is_immediate, logic_skip, quotient_code, right_code, tested_code};
 ghost use Rattle.c0_expr_code.specs.Scene.{HasNumbers, scope_in, unit_in};
+ghost use Rattle.c0_expr_code.specs.Ahead.{StandAhead};
 
 use crate::constant::emit_constant;
 use crate::element::{Elements, emit_element, emit_guard};
@@ -37,7 +38,7 @@ fn type_of<'a>(scene: &Scene<'a>, expr: &Expr) -> Found<'a>
     type_at(scene.layout.unit, scene.function, expr)
 }
 
-/// Appends the code of an operand, with free registers from `free` on, and answers the register where it stands.
+// Appends the code of an operand, with free registers from `free` on, and answers the register where it stands.
 #[cycle(node)]
 pub fn emit_operand(
     scene: &Scene<'_>,
@@ -48,6 +49,7 @@ pub fn emit_operand(
     requires room { free + need (expr_view expr.now) ≤ 20 }
     requires numbers { HasNumbers (scope_in scene.now).env (expr_view expr.now) }
     ensures code { OnOk result (code.new.items ≡ code.old.items ++ map encoding (operand_code (made (scope_in scene.now) (expr_view expr.now)) free)) }
+    ensures ahead { OnErr result (StandAhead code.old.items code.new.items) }
     ensures register { IfOk result (λ q. q ≡ operand_register (made (scope_in scene.now) (expr_view expr.now)) free) }
     ensures small { IfOk result (λ q. q < 32) }
 {
@@ -58,8 +60,8 @@ pub fn emit_operand(
     Ok(free)
 }
 
-/// Appends the code of a place, with free registers from `free` on, and answers where the place is then; no code and no place where the
-/// expression is none.
+// Appends the code of a place, with free registers from `free` on, and answers where the place is then; no code and no place where the
+// expression is none.
 #[cycle(node)]
 pub fn emit_spot(
     scene: &Scene<'_>,
@@ -70,6 +72,7 @@ pub fn emit_spot(
     requires room { free + need (expr_view expr.now) ≤ 20 }
     requires numbers { HasNumbers (scope_in scene.now).env (expr_view expr.now) }
     ensures code { OnOk result (code.new.items ≡ code.old.items ++ map encoding ((made (scope_in scene.now) (expr_view expr.now)).place free).code) }
+    ensures ahead { OnErr result (StandAhead code.old.items code.new.items) }
     ensures place { IfOk result (λ x. IsSpot x ((made (scope_in scene.now) (expr_view expr.now)).place free)) }
     ensures small { IfOk result (λ x. x.base < 32) }
 {
@@ -107,6 +110,7 @@ fn emit_target(
     requires room { free + need (expr_view part.now) ≤ 20 }
     requires numbers { HasNumbers (scope_in scene.now).env (expr_view part.now) }
     ensures code { OnOk result (code.new.items ≡ code.old.items ++ map encoding (target_spot (scope_in scene.now) (made (scope_in scene.now) (expr_view part.now)) free).code) }
+    ensures ahead { OnErr result (StandAhead code.old.items code.new.items) }
     ensures place { IfOk result (λ x. IsSpot x (target_spot (scope_in scene.now) (made (scope_in scene.now) (expr_view part.now)) free)) }
     ensures small { IfOk result (λ x. x.base < 32) }
 {
@@ -129,6 +133,7 @@ fn emit_index(
     requires part { HasNumbers (scope_in scene.now).env (expr_view part.now) }
     requires index { HasNumbers (scope_in scene.now).env (expr_view index.now) }
     ensures code { OnOk result (code.new.items ≡ code.old.items ++ map encoding (index_spot (scope_in scene.now) (expr_view part.now) (expr_view index.now) free).code) }
+    ensures ahead { OnErr result (StandAhead code.old.items code.new.items) }
     ensures place { IfOk result (λ x. IsSpot x (index_spot (scope_in scene.now) (expr_view part.now) (expr_view index.now) free)) }
     ensures small { IfOk result (λ x. x.base < 32) }
 {
@@ -155,6 +160,7 @@ fn emit_tested(
     requires base { spot.base < 32 }
     requires shift { IfSome elements.shift (λ by. by < 32) }
     ensures code { OnOk result (code.new.items ≡ code.old.items ++ map encoding (tested_code (scope_in scene.now) elements spot.base (made (scope_in scene.now) (expr_view index.now)) free)) }
+    ensures ahead { OnErr result (StandAhead code.old.items code.new.items) }
     ensures base { IfOk result (λ x. x.base ≡ free) }
     ensures shift { IfOk result (λ x. x.shift ≡ spot.shift) }
 {
@@ -166,7 +172,7 @@ fn emit_tested(
     })
 }
 
-/// Appends the code of a value, into register `target`, with free registers from `free` on.
+// Appends the code of a value, into register `target`, with free registers from `free` on.
 #[cycle(node)]
 pub fn emit_value(
     scene: &Scene<'_>,
@@ -178,7 +184,8 @@ pub fn emit_value(
     requires room { free + need (expr_view expr.now) ≤ 20 }
     requires target { target < 32 }
     requires numbers { HasNumbers (scope_in scene.now).env (expr_view expr.now) }
-    ensures { OnOk result (code.new.items ≡ code.old.items ++ map encoding (value_code (scope_in scene.now) (expr_view expr.now) target free)) }
+    ensures appended { OnOk result (code.new.items ≡ code.old.items ++ map encoding (value_code (scope_in scene.now) (expr_view expr.now) target free)) }
+    ensures ahead { OnErr result (StandAhead code.old.items code.new.items) }
 {
     match expr {
         Expr::Num(_, number) => emit_constant(code, target, *number),
@@ -211,7 +218,8 @@ fn emit_held(
     requires room { free + need (expr_view expr.now) ≤ 20 }
     requires target { target < 32 }
     requires numbers { HasNumbers (scope_in scene.now).env (expr_view expr.now) }
-    ensures { OnOk result (code.new.items ≡ code.old.items ++ map encoding (on_spot (access_inst access target) free ((made (scope_in scene.now) (expr_view expr.now)).place free))) }
+    ensures appended { OnOk result (code.new.items ≡ code.old.items ++ map encoding (on_spot (access_inst access target) free ((made (scope_in scene.now) (expr_view expr.now)).place free))) }
+    ensures ahead { OnErr result (StandAhead code.old.items code.new.items) }
 {
     let spot = emit_spot(scene, expr, free, code)?;
     emit_access(code, access, target, free, spot)
@@ -229,7 +237,8 @@ fn emit_variable(
     requires room { free + need (expr_view expr.now) ≤ 20 }
     requires target { target < 32 }
     requires numbers { HasNumbers (scope_in scene.now).env (expr_view expr.now) }
-    ensures { OnOk result (code.new.items ≡ code.old.items ++ map encoding (held_code (made (scope_in scene.now) (expr_view expr.now)).stands ((made (scope_in scene.now) (expr_view expr.now)).place free) target free)) }
+    ensures appended { OnOk result (code.new.items ≡ code.old.items ++ map encoding (held_code (made (scope_in scene.now) (expr_view expr.now)).stands ((made (scope_in scene.now) (expr_view expr.now)).place free) target free)) }
+    ensures ahead { OnErr result (StandAhead code.old.items code.new.items) }
 {
     if let Some(source) = stands_in(scene, expr) {
         return emit(
@@ -257,7 +266,8 @@ fn emit_unary(
     requires room { free + need (expr_view part.now) ≤ 20 }
     requires target { target < 32 }
     requires numbers { HasNumbers (scope_in scene.now).env (expr_view part.now) }
-    ensures { OnOk result (code.new.items ≡ code.old.items ++ map encoding ((unary_made op (made (scope_in scene.now) (expr_view part.now))).value target free)) }
+    ensures appended { OnOk result (code.new.items ≡ code.old.items ++ map encoding ((unary_made op (made (scope_in scene.now) (expr_view part.now))).value target free)) }
+    ensures ahead { OnErr result (StandAhead code.old.items code.new.items) }
 {
     match op {
         UnaryOp::Negate => emit_negative(scene, part, target, free, code),
@@ -287,7 +297,8 @@ fn emit_negative(
     requires room { free + need (expr_view part.now) ≤ 20 }
     requires target { target < 32 }
     requires numbers { HasNumbers (scope_in scene.now).env (expr_view part.now) }
-    ensures { OnOk result (code.new.items ≡ code.old.items ++ map encoding ((negative_made (made (scope_in scene.now) (expr_view part.now)).literal (made (scope_in scene.now) (expr_view part.now))).value target free)) }
+    ensures appended { OnOk result (code.new.items ≡ code.old.items ++ map encoding ((negative_made (made (scope_in scene.now) (expr_view part.now)).literal (made (scope_in scene.now) (expr_view part.now))).value target free)) }
+    ensures ahead { OnErr result (StandAhead code.old.items code.new.items) }
 {
     if let Some(number) = literal_of(part) {
         return emit_constant(code, target, number.wrapping_neg());
@@ -318,7 +329,8 @@ fn emit_binary(
     requires target { target < 32 }
     requires left { HasNumbers (scope_in scene.now).env (expr_view left.now) }
     requires right { HasNumbers (scope_in scene.now).env (expr_view right.now) }
-    ensures { OnOk result (code.new.items ≡ code.old.items ++ map encoding ((binary_made (scope_in scene.now) op (made (scope_in scene.now) (expr_view left.now)) (made (scope_in scene.now) (expr_view right.now))).value target free)) }
+    ensures appended { OnOk result (code.new.items ≡ code.old.items ++ map encoding ((binary_made (scope_in scene.now) op (made (scope_in scene.now) (expr_view left.now)) (made (scope_in scene.now) (expr_view right.now))).value target free)) }
+    ensures ahead { OnErr result (StandAhead code.old.items code.new.items) }
 {
     match op {
         BinaryOp::Add => emit_addition(scene, left, right, target, free, code),
@@ -352,7 +364,8 @@ fn emit_constant_side(
     requires target { target < 32 }
     requires numbers { HasNumbers (scope_in scene.now).env (expr_view side.now) }
     requires takes { is_immediate (immediate op word) ≡ true }
-    ensures { OnOk result (code.new.items ≡ code.old.items ++ map encoding (one_code (λ q. code_with (immediate op word) target q) (made (scope_in scene.now) (expr_view side.now)) free)) }
+    ensures appended { OnOk result (code.new.items ≡ code.old.items ++ map encoding (one_code (λ q. code_with (immediate op word) target q) (made (scope_in scene.now) (expr_view side.now)) free)) }
+    ensures ahead { OnErr result (StandAhead code.old.items code.new.items) }
 {
     let source = emit_operand(scene, side, free, code)?;
     emit_with_constant(code, op, target, source, word)
@@ -374,7 +387,8 @@ fn emit_both_sides(
     requires target { target < 32 }
     requires left { HasNumbers (scope_in scene.now).env (expr_view left.now) }
     requires right { HasNumbers (scope_in scene.now).env (expr_view right.now) }
-    ensures { OnOk result (code.new.items ≡ code.old.items ++ map encoding (two_code (λ q t. operator_code op target q t) (made (scope_in scene.now) (expr_view left.now)) (made (scope_in scene.now) (expr_view right.now)) free)) }
+    ensures appended { OnOk result (code.new.items ≡ code.old.items ++ map encoding (two_code (λ q t. operator_code op target q t) (made (scope_in scene.now) (expr_view left.now)) (made (scope_in scene.now) (expr_view right.now)) free)) }
+    ensures ahead { OnErr result (StandAhead code.old.items code.new.items) }
 {
     let first = emit_operand(scene, left, free, code)?;
     let second = emit_operand(scene, right, free + 1, code)?;
@@ -397,7 +411,8 @@ fn emit_plain(
     requires target { target < 32 }
     requires left { HasNumbers (scope_in scene.now).env (expr_view left.now) }
     requires right { HasNumbers (scope_in scene.now).env (expr_view right.now) }
-    ensures { OnOk result (code.new.items ≡ code.old.items ++ map encoding ((operator_made (immediate_of op (made (scope_in scene.now) (expr_view right.now)).known) op (made (scope_in scene.now) (expr_view left.now)) (made (scope_in scene.now) (expr_view right.now))).value target free)) }
+    ensures appended { OnOk result (code.new.items ≡ code.old.items ++ map encoding ((operator_made (immediate_of op (made (scope_in scene.now) (expr_view right.now)).known) op (made (scope_in scene.now) (expr_view left.now)) (made (scope_in scene.now) (expr_view right.now))).value target free)) }
+    ensures ahead { OnErr result (StandAhead code.old.items code.new.items) }
 {
     if let Some(word) = known_of(right) {
         if takes_constant(op, word) {
@@ -422,7 +437,8 @@ fn emit_addition(
     requires target { target < 32 }
     requires left { HasNumbers (scope_in scene.now).env (expr_view left.now) }
     requires right { HasNumbers (scope_in scene.now).env (expr_view right.now) }
-    ensures { OnOk result (code.new.items ≡ code.old.items ++ map encoding ((sum_made (immediate_of Add (made (scope_in scene.now) (expr_view right.now)).known) (immediate_of Add (made (scope_in scene.now) (expr_view left.now)).known) (made (scope_in scene.now) (expr_view left.now)) (made (scope_in scene.now) (expr_view right.now))).value target free)) }
+    ensures appended { OnOk result (code.new.items ≡ code.old.items ++ map encoding ((sum_made (immediate_of Add (made (scope_in scene.now) (expr_view right.now)).known) (immediate_of Add (made (scope_in scene.now) (expr_view left.now)).known) (made (scope_in scene.now) (expr_view left.now)) (made (scope_in scene.now) (expr_view right.now))).value target free)) }
+    ensures ahead { OnErr result (StandAhead code.old.items code.new.items) }
 {
     if let Some(word) = known_of(right) {
         if takes_constant(BinaryOp::Add, word) {
@@ -463,7 +479,8 @@ fn emit_quotient(
     requires target { target < 32 }
     requires left { HasNumbers (scope_in scene.now).env (expr_view left.now) }
     requires right { HasNumbers (scope_in scene.now).env (expr_view right.now) }
-    ensures { OnOk result (code.new.items ≡ code.old.items ++ map encoding (quotient_code (scope_in scene.now) is_quotient (spec.is_sure (made (scope_in scene.now) (expr_view right.now)).known) (made (scope_in scene.now) (expr_view left.now)) (made (scope_in scene.now) (expr_view right.now)) target free)) }
+    ensures appended { OnOk result (code.new.items ≡ code.old.items ++ map encoding (quotient_code (scope_in scene.now) is_quotient (spec.is_sure (made (scope_in scene.now) (expr_view right.now)).known) (made (scope_in scene.now) (expr_view left.now)) (made (scope_in scene.now) (expr_view right.now)) target free)) }
+    ensures ahead { OnErr result (StandAhead code.old.items code.new.items) }
 {
     let first = emit_operand(scene, left, free, code)?;
     let second = emit_operand(scene, right, free + 1, code)?;
@@ -496,7 +513,8 @@ fn skip(is_or: bool, register: u32) -> Inst
 fn emit_to(code: &mut Vec<u32>, target: u32, source: u32) -> Result<(), AllocError>
     requires target { target < 32 }
     requires source { source < 32 }
-    ensures { OnOk result (code.new.items ≡ code.old.items ++ map encoding (to_code target source)) }
+    ensures appended { OnOk result (code.new.items ≡ code.old.items ++ map encoding (to_code target source)) }
+    ensures ahead { OnErr result (StandAhead code.old.items code.new.items) }
 {
     if target == source {
         return Ok(());
@@ -522,7 +540,8 @@ fn emit_right(
 ) -> Result<(), AllocError>
     requires room { free + need (expr_view right.now) ≤ 20 }
     requires numbers { HasNumbers (scope_in scene.now).env (expr_view right.now) }
-    ensures { OnOk result (code.new.items ≡ code.old.items ++ map encoding (right_code is_or free (value_code (scope_in scene.now) (expr_view right.now) free free))) }
+    ensures appended { OnOk result (code.new.items ≡ code.old.items ++ map encoding (right_code is_or free (value_code (scope_in scene.now) (expr_view right.now) free free))) }
+    ensures ahead { OnErr result (StandAhead code.old.items code.new.items) }
 {
     let at = code.len();
     emit(code, skip(is_or, free))?;
@@ -548,7 +567,8 @@ fn emit_logic(
     requires target { target < 32 }
     requires left { HasNumbers (scope_in scene.now).env (expr_view left.now) }
     requires right { HasNumbers (scope_in scene.now).env (expr_view right.now) }
-    ensures { OnOk result (code.new.items ≡ code.old.items ++ map encoding (logic_code (λ k. logic_skip is_or free k) (made (scope_in scene.now) (expr_view left.now)) (made (scope_in scene.now) (expr_view right.now)) target free)) }
+    ensures appended { OnOk result (code.new.items ≡ code.old.items ++ map encoding (logic_code (λ k. logic_skip is_or free k) (made (scope_in scene.now) (expr_view left.now)) (made (scope_in scene.now) (expr_view right.now)) target free)) }
+    ensures ahead { OnErr result (StandAhead code.old.items code.new.items) }
 {
     emit_value(scene, left, free, free, code)?;
     emit_right(scene, is_or, right, free, code)?;

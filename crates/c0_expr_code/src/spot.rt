@@ -1,13 +1,13 @@
 // Places: a register and bytes from it on.
 
-ghost use Rattle.std.specs.Prelude.{◌≡◌, ◌+◌, ◌%◌, ◌^◌, ◌<◌, ◌++◌, map, OnOk};
+ghost use Rattle.std.specs.Prelude.{◌≡◌, ◌+◌, ◌%◌, ◌^◌, ◌<◌, ◌++◌, map, OnErr, OnOk};
 ghost use Rattle.mips_table.specs.Encoding.{InRange, encoding};
 ghost use Rattle.c0_expr_code.specs.Code.{high, on_spot};
 ghost use Rattle.c0_expr_code.specs.Emit.{access_inst, far_code, spot_at};
 
 use crate::word::{emit, is_near, low};
 use masm::registers::SCRATCH;
-use mips_table::Inst;
+use mips_table::{Inst, encode};
 use std::alloc::AllocError;
 
 /// A place: its address is that in the register `base`, and `shift` bytes, modulo 2^32.
@@ -89,28 +89,26 @@ fn emit_far(
     requires register { register < 32 }
     requires free { free < 32 }
     requires base { spot.base < 32 }
-    ensures { OnOk result (code.new.items ≡ code.old.items ++ map encoding (far_code (access_inst access register) free (spot_at spot))) }
+    ensures appended { OnOk result (code.new.items ≡ code.old.items ++ map encoding (far_code (access_inst access register) free (spot_at spot))) }
+    ensures unchanged { OnErr result (code.new.items ≡ code.old.items) }
 {
-    emit(
-        code,
-        Inst::Lui {
-            rt: SCRATCH,
-            imm: upper(spot.shift),
-        },
-    )?;
-    emit(
-        code,
-        Inst::Addu {
-            rd: free,
-            rs: spot.base,
-            rt: SCRATCH,
-        },
-    )?;
-    emit(code, access_of(access, register, free, low(spot.shift)))
+    let half = Inst::Lui {
+        rt: SCRATCH,
+        imm: upper(spot.shift),
+    };
+    let sum = Inst::Addu {
+        rd: free,
+        rs: spot.base,
+        rt: SCRATCH,
+    };
+    let last = access_of(access, register, free, low(spot.shift));
+    code.extend_from_slice(&[encode(&half), encode(&sum), encode(&last)])
 }
 
 /// Appends the code that loads the word of a place into a register, stores the register there, or puts the place's address into the
 /// register; where the place is too far for an immediate, `free` holds its address.
+///
+/// Want of memory leaves `code` as it was.
 pub fn emit_access(
     code: &mut Vec<u32>,
     access: Access,
@@ -121,7 +119,8 @@ pub fn emit_access(
     requires register { register < 32 }
     requires free { free < 32 }
     requires base { spot.base < 32 }
-    ensures { OnOk result (code.new.items ≡ code.old.items ++ map encoding (on_spot (access_inst access register) free (spot_at spot))) }
+    ensures appended { OnOk result (code.new.items ≡ code.old.items ++ map encoding (on_spot (access_inst access register) free (spot_at spot))) }
+    ensures unchanged { OnErr result (code.new.items ≡ code.old.items) }
 {
     if is_near(spot.shift) {
         emit(

@@ -1,6 +1,7 @@
-// Tests: code that goes to a place where an expression is true, or where it is false, and else falls through.
+// Tests: code that goes to a place where an expression is true, or where it is false, and else falls through. Where memory is wanting,
+// a part of a test's code and of its branches' places may stand behind what stood before.
 
-ghost use Rattle.std.specs.Prelude.{◌≡◌, ◌+◌, ◌-◌, ◌≤◌, ◌<◌, ◌∷◌, [], ◌++◌, length, map, not, true, OnOk};
+ghost use Rattle.std.specs.Prelude.{◌≡◌, ◌+◌, ◌-◌, ◌≤◌, ◌<◌, ◌∷◌, [], ◌++◌, length, map, not, true, OnErr, OnOk};
 ghost use Rattle.mips_table.specs.declared.inst.Inst.TheVariants.{Slt};
 ghost use Rattle.mips_table.specs.Encoding.{InRange, encoding};
 ghost use Rattle.masm.specs.declared.registers.TheConstants.{SCRATCH as R1};
@@ -11,6 +12,7 @@ ghost use Rattle.c0_expr_code.specs.Opened.{IsOpened, bool_code, bool_open, eith
 ghost use Rattle.c0_expr_code.specs.Opened.{is_test_immediate, logic_open, lower_code, operation_open, order_code, order_open, over_open, side_code, test_with};
 ghost use Rattle.c0_expr_code.specs.Scene.{HasNumbers, scope_in};
 ghost use Rattle.c0_expr_code.specs.Test.{below_code, branch_code, compare_code, immediate_test, negative_branch, positive_branch};
+ghost use Rattle.c0_expr_code.specs.Ahead.{StandAhead};
 
 use crate::known::known_of;
 use crate::node::emit_operand;
@@ -92,7 +94,8 @@ fn emit_less_test(
 ) -> Result<(), AllocError>
     requires left { left < 32 }
     requires right { right < 32 }
-    ensures { OnOk result (code.new.items ≡ code.old.items ++ map encoding (Slt R1 left right ∷ branch_code is_not R1 0 0 ∷ [])) }
+    ensures appended { OnOk result (code.new.items ≡ code.old.items ++ map encoding (Slt R1 left right ∷ branch_code is_not R1 0 0 ∷ [])) }
+    ensures ahead { OnErr result (StandAhead code.old.items code.new.items) }
 {
     emit(code, less(SCRATCH, left, right))?;
     emit(code, branch(is_not, SCRATCH, 0))
@@ -108,7 +111,8 @@ fn emit_comparison(
 ) -> Result<(), AllocError>
     requires left { left < 32 }
     requires right { right < 32 }
-    ensures { OnOk result (code.new.items ≡ code.old.items ++ map encoding (compare_code op wanted 0 left right)) }
+    ensures appended { OnOk result (code.new.items ≡ code.old.items ++ map encoding (compare_code op wanted 0 left right)) }
+    ensures ahead { OnErr result (StandAhead code.old.items code.new.items) }
 {
     match op {
         BinaryOp::Add => Ok(()),
@@ -135,7 +139,8 @@ fn emit_below_test(
     word: u32,
 ) -> Result<(), AllocError>
     requires { left < 32 }
-    ensures { OnOk result (code.new.items ≡ code.old.items ++ map encoding (below_code word wanted 0 left)) }
+    ensures appended { OnOk result (code.new.items ≡ code.old.items ++ map encoding (below_code word wanted 0 left)) }
+    ensures ahead { OnErr result (StandAhead code.old.items code.new.items) }
 {
     emit_below(code, SCRATCH, left, word)?;
     emit(code, branch(!wanted, SCRATCH, 0))
@@ -165,7 +170,8 @@ fn tests_constant(op: BinaryOp, word: u32) -> bool
 // Appends the test of whether a register is below a constant, by its sign where that is 0.
 fn emit_lower(code: &mut Vec<u32>, wanted: bool, left: u32, word: u32) -> Result<(), AllocError>
     requires { left < 32 }
-    ensures { OnOk result (code.new.items ≡ code.old.items ++ map encoding (lower_code word wanted left)) }
+    ensures appended { OnOk result (code.new.items ≡ code.old.items ++ map encoding (lower_code word wanted left)) }
+    ensures ahead { OnErr result (StandAhead code.old.items code.new.items) }
 {
     if word == 0 {
         return emit(code, branch_negative(wanted, left));
@@ -176,7 +182,8 @@ fn emit_lower(code: &mut Vec<u32>, wanted: bool, left: u32, word: u32) -> Result
 // Appends the test of whether a register is above a constant.
 fn emit_higher(code: &mut Vec<u32>, wanted: bool, left: u32, word: u32) -> Result<(), AllocError>
     requires { left < 32 }
-    ensures { OnOk result (code.new.items ≡ code.old.items ++ map encoding (higher_code word wanted left)) }
+    ensures appended { OnOk result (code.new.items ≡ code.old.items ++ map encoding (higher_code word wanted left)) }
+    ensures ahead { OnErr result (StandAhead code.old.items code.new.items) }
 {
     if word == 0 {
         return emit(code, branch_positive(wanted, left));
@@ -194,7 +201,8 @@ fn emit_constant_test(
 ) -> Result<(), AllocError>
     requires left { left < 32 }
     requires takes { is_test_immediate (immediate_test op word) ≡ true }
-    ensures { OnOk result (code.new.items ≡ code.old.items ++ map encoding (test_with (immediate_test op word) wanted 0 left)) }
+    ensures appended { OnOk result (code.new.items ≡ code.old.items ++ map encoding (test_with (immediate_test op word) wanted 0 left)) }
+    ensures ahead { OnErr result (StandAhead code.old.items code.new.items) }
 {
     match op {
         BinaryOp::Add => unreachable!(),
@@ -216,7 +224,8 @@ fn emit_constant_test(
 // Notes the place of the last word.
 fn note_last(code: &[u32], jumps: &mut Vec<usize>) -> Result<(), AllocError>
     requires { 0 < length code.now }
-    ensures { OnOk result (jumps.new.items ≡ jumps.old.items ++ (length code.now - 1) ∷ []) }
+    ensures noted { OnOk result (jumps.new.items ≡ jumps.old.items ++ (length code.now - 1) ∷ []) }
+    ensures marked { OnErr result (StandAhead jumps.old.items jumps.new.items) }
 {
     jumps.push(code.len() - 1)?;
     Ok(())
@@ -232,7 +241,8 @@ fn emit_bool_code(
 ) -> Result<(), AllocError>
     requires room { free + need (expr_view expr.now) ≤ 20 }
     requires numbers { HasNumbers (scope_in scene.now).env (expr_view expr.now) }
-    ensures { OnOk result (code.new.items ≡ code.old.items ++ map encoding (bool_code (scope_in scene.now) (expr_view expr.now) wanted free)) }
+    ensures appended { OnOk result (code.new.items ≡ code.old.items ++ map encoding (bool_code (scope_in scene.now) (expr_view expr.now) wanted free)) }
+    ensures ahead { OnErr result (StandAhead code.old.items code.new.items) }
 {
     let register = emit_operand(scene, expr, free, code)?;
     emit(code, branch(!wanted, register, 0))
@@ -251,7 +261,8 @@ fn emit_one_side(
     requires room { free + need (expr_view side.now) ≤ 20 }
     requires numbers { HasNumbers (scope_in scene.now).env (expr_view side.now) }
     requires takes { is_test_immediate (immediate_test op word) ≡ true }
-    ensures { OnOk result (code.new.items ≡ code.old.items ++ map encoding (side_code (scope_in scene.now) op word (expr_view side.now) wanted free)) }
+    ensures appended { OnOk result (code.new.items ≡ code.old.items ++ map encoding (side_code (scope_in scene.now) op word (expr_view side.now) wanted free)) }
+    ensures ahead { OnErr result (StandAhead code.old.items code.new.items) }
 {
     let register = emit_operand(scene, side, free, code)?;
     emit_constant_test(code, op, wanted, register, word)
@@ -271,7 +282,8 @@ fn emit_two_sides(
     requires second { free + 1 + need (expr_view right.now) ≤ 20 }
     requires left { HasNumbers (scope_in scene.now).env (expr_view left.now) }
     requires right { HasNumbers (scope_in scene.now).env (expr_view right.now) }
-    ensures { OnOk result (code.new.items ≡ code.old.items ++ map encoding (equality_code (scope_in scene.now) op (expr_view left.now) (expr_view right.now) wanted free)) }
+    ensures appended { OnOk result (code.new.items ≡ code.old.items ++ map encoding (equality_code (scope_in scene.now) op (expr_view left.now) (expr_view right.now) wanted free)) }
+    ensures ahead { OnErr result (StandAhead code.old.items code.new.items) }
 {
     let first = emit_operand(scene, left, free, code)?;
     let second = emit_operand(scene, right, free + 1, code)?;
@@ -292,7 +304,8 @@ fn emit_order(
     requires second { free + 1 + need (expr_view right.now) ≤ 20 }
     requires left { HasNumbers (scope_in scene.now).env (expr_view left.now) }
     requires right { HasNumbers (scope_in scene.now).env (expr_view right.now) }
-    ensures { OnOk result (code.new.items ≡ code.old.items ++ map encoding (order_code (scope_in scene.now) op (expr_view left.now) (expr_view right.now) wanted free)) }
+    ensures appended { OnOk result (code.new.items ≡ code.old.items ++ map encoding (order_code (scope_in scene.now) op (expr_view left.now) (expr_view right.now) wanted free)) }
+    ensures ahead { OnErr result (StandAhead code.old.items code.new.items) }
 {
     if let Some(word) = known_of(right) {
         if tests_constant(op, word) {
@@ -313,7 +326,9 @@ fn emit_bool(
 ) -> Result<(), AllocError>
     requires room { free + need (expr_view expr.now) ≤ 20 }
     requires numbers { HasNumbers (scope_in scene.now).env (expr_view expr.now) }
-    ensures { OnOk result (IsOpened code.old.items code.new.items jumps.old.items jumps.new.items (bool_open (scope_in scene.now) (expr_view expr.now) wanted free)) }
+    ensures opened { OnOk result (IsOpened code.old.items code.new.items jumps.old.items jumps.new.items (bool_open (scope_in scene.now) (expr_view expr.now) wanted free)) }
+    ensures ahead { OnErr result (StandAhead code.old.items code.new.items) }
+    ensures marked { OnErr result (StandAhead jumps.old.items jumps.new.items) }
 {
     emit_bool_code(scene, expr, wanted, free, code)?;
     note_last(code, jumps)
@@ -335,7 +350,9 @@ fn emit_order_test(
     requires second { free + 1 + need (expr_view right.now) ≤ 20 }
     requires left { HasNumbers (scope_in scene.now).env (expr_view left.now) }
     requires right { HasNumbers (scope_in scene.now).env (expr_view right.now) }
-    ensures { OnOk result (IsOpened code.old.items code.new.items jumps.old.items jumps.new.items (order_open (scope_in scene.now) op (expr_view left.now) (expr_view right.now) wanted free)) }
+    ensures opened { OnOk result (IsOpened code.old.items code.new.items jumps.old.items jumps.new.items (order_open (scope_in scene.now) op (expr_view left.now) (expr_view right.now) wanted free)) }
+    ensures ahead { OnErr result (StandAhead code.old.items code.new.items) }
+    ensures marked { OnErr result (StandAhead jumps.old.items jumps.new.items) }
 {
     emit_order(scene, op, left, right, wanted, free, code)?;
     note_last(code, jumps)
@@ -357,14 +374,16 @@ fn emit_equality_test(
     requires second { free + 1 + need (expr_view right.now) ≤ 20 }
     requires left { HasNumbers (scope_in scene.now).env (expr_view left.now) }
     requires right { HasNumbers (scope_in scene.now).env (expr_view right.now) }
-    ensures { OnOk result (IsOpened code.old.items code.new.items jumps.old.items jumps.new.items (equality_open (scope_in scene.now) op (expr_view left.now) (expr_view right.now) wanted free)) }
+    ensures opened { OnOk result (IsOpened code.old.items code.new.items jumps.old.items jumps.new.items (equality_open (scope_in scene.now) op (expr_view left.now) (expr_view right.now) wanted free)) }
+    ensures ahead { OnErr result (StandAhead code.old.items code.new.items) }
+    ensures marked { OnErr result (StandAhead jumps.old.items jumps.new.items) }
 {
     emit_two_sides(scene, op, left, right, wanted, free, code)?;
     note_last(code, jumps)
 }
 
-/// Appends the code of a test: it goes to a place where the expression is `wanted`, and else falls through. Its branches to the place
-/// lead nowhere yet, and where they stand is appended to `jumps`: `patch_all` lets them lead to the place.
+// Appends the code of a test: it goes to a place where the expression is `wanted`, and else falls through. Its branches to the place
+// lead nowhere yet, and where they stand is appended to `jumps`.
 #[cycle(testing)]
 pub fn emit_test(
     alloc: Global,
@@ -377,7 +396,9 @@ pub fn emit_test(
 ) -> Result<(), AllocError>
     requires room { free + need (expr_view expr.now) ≤ 20 }
     requires numbers { HasNumbers (scope_in scene.now).env (expr_view expr.now) }
-    ensures { OnOk result (IsOpened code.old.items code.new.items jumps.old.items jumps.new.items (test_open (scope_in scene.now) (expr_view expr.now) wanted free)) }
+    ensures opened { OnOk result (IsOpened code.old.items code.new.items jumps.old.items jumps.new.items (test_open (scope_in scene.now) (expr_view expr.now) wanted free)) }
+    ensures ahead { OnErr result (StandAhead code.old.items code.new.items) }
+    ensures marked { OnErr result (StandAhead jumps.old.items jumps.new.items) }
 {
     match expr {
         Expr::Num(_, _) => emit_bool(scene, expr, wanted, free, code, jumps),
@@ -421,7 +442,9 @@ fn emit_operation(
     requires numbers { HasNumbers (scope_in scene.now).env (expr_view whole.now) }
     requires left { HasNumbers (scope_in scene.now).env (expr_view left.now) }
     requires right { HasNumbers (scope_in scene.now).env (expr_view right.now) }
-    ensures { OnOk result (IsOpened code.old.items code.new.items jumps.old.items jumps.new.items (operation_open (scope_in scene.now) (expr_view whole.now) op (expr_view left.now) (expr_view right.now) wanted free)) }
+    ensures opened { OnOk result (IsOpened code.old.items code.new.items jumps.old.items jumps.new.items (operation_open (scope_in scene.now) (expr_view whole.now) op (expr_view left.now) (expr_view right.now) wanted free)) }
+    ensures ahead { OnErr result (StandAhead code.old.items code.new.items) }
+    ensures marked { OnErr result (StandAhead jumps.old.items jumps.new.items) }
 {
     match op {
         BinaryOp::Add => emit_bool(scene, whole, wanted, free, code, jumps),
@@ -457,7 +480,9 @@ fn emit_both(
     requires second { free + need (expr_view right.now) ≤ 20 }
     requires left { HasNumbers (scope_in scene.now).env (expr_view left.now) }
     requires right { HasNumbers (scope_in scene.now).env (expr_view right.now) }
-    ensures { OnOk result (IsOpened code.old.items code.new.items jumps.old.items jumps.new.items (logic_open (scope_in scene.now) decides (expr_view left.now) (expr_view right.now) wanted free)) }
+    ensures opened { OnOk result (IsOpened code.old.items code.new.items jumps.old.items jumps.new.items (logic_open (scope_in scene.now) decides (expr_view left.now) (expr_view right.now) wanted free)) }
+    ensures ahead { OnErr result (StandAhead code.old.items code.new.items) }
+    ensures marked { OnErr result (StandAhead jumps.old.items jumps.new.items) }
 {
     if decides == wanted {
         emit_joined(alloc, scene, left, right, wanted, free, code, jumps)
@@ -482,7 +507,9 @@ fn emit_joined(
     requires second { free + need (expr_view right.now) ≤ 20 }
     requires left { HasNumbers (scope_in scene.now).env (expr_view left.now) }
     requires right { HasNumbers (scope_in scene.now).env (expr_view right.now) }
-    ensures { OnOk result (IsOpened code.old.items code.new.items jumps.old.items jumps.new.items (either_open (scope_in scene.now) (expr_view left.now) (expr_view right.now) wanted free)) }
+    ensures opened { OnOk result (IsOpened code.old.items code.new.items jumps.old.items jumps.new.items (either_open (scope_in scene.now) (expr_view left.now) (expr_view right.now) wanted free)) }
+    ensures ahead { OnErr result (StandAhead code.old.items code.new.items) }
+    ensures marked { OnErr result (StandAhead jumps.old.items jumps.new.items) }
 {
     emit_test(alloc, scene, left, wanted, free, code, jumps)?;
     emit_test(alloc, scene, right, wanted, free, code, jumps)
@@ -504,7 +531,9 @@ fn emit_over(
     requires second { free + need (expr_view right.now) ≤ 20 }
     requires left { HasNumbers (scope_in scene.now).env (expr_view left.now) }
     requires right { HasNumbers (scope_in scene.now).env (expr_view right.now) }
-    ensures { OnOk result (IsOpened code.old.items code.new.items jumps.old.items jumps.new.items (over_open (scope_in scene.now) (expr_view left.now) (expr_view right.now) wanted free)) }
+    ensures opened { OnOk result (IsOpened code.old.items code.new.items jumps.old.items jumps.new.items (over_open (scope_in scene.now) (expr_view left.now) (expr_view right.now) wanted free)) }
+    ensures ahead { OnErr result (StandAhead code.old.items code.new.items) }
+    ensures marked { OnErr result (StandAhead jumps.old.items jumps.new.items) }
 {
     let mut over = Vec::new(alloc);
     emit_test(alloc, scene, left, !wanted, free, code, &mut over)?;

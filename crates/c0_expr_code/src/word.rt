@@ -1,6 +1,6 @@
 // Words of code.
 
-ghost use Rattle.std.specs.Prelude.{◌≡◌, ◌%◌, ◌^◌, ◌<◌, ◌++◌, ◌∷◌, [], OnOk};
+ghost use Rattle.std.specs.Prelude.{◌≡◌, ◌%◌, ◌^◌, ◌<◌, ◌++◌, ◌∷◌, [], OnErr, OnOk};
 ghost use Rattle.mips_table.specs.Encoding.{InRange, encoding};
 ghost use Rattle.c0_expr_code.specs.Code as spec;
 
@@ -8,9 +8,12 @@ use mips_table::{Inst, encode};
 use std::alloc::AllocError;
 
 /// Appends the word of an instruction.
+///
+/// Want of memory leaves `code` as it was.
 pub fn emit(code: &mut Vec<u32>, inst: Inst) -> Result<(), AllocError>
     requires { InRange inst }
-    ensures { OnOk result (code.new.items ≡ code.old.items ++ encoding inst ∷ []) }
+    ensures appended { OnOk result (code.new.items ≡ code.old.items ++ encoding inst ∷ []) }
+    ensures unchanged { OnErr result (code.new.items ≡ code.old.items) }
 {
     code.push(encode(&inst))?;
     Ok(())

@@ -15,7 +15,7 @@ ghost use Rattle.c0_stmt_code.specs.EmitLeaf.{CanStand, HasFrame};
 use crate::calling::are_calling;
 use crate::emit_laws::functions_are_emittable;
 use crate::prologue::{emit_entry, emit_exit, emit_stack_test, frames_are_those};
-use crate::statement::emit_statements;
+use crate::sequence::emit_statements;
 use c0_asm_body::{emit_arguments, emit_asm};
 use c0_expr_code::{Layout, Scene, begun_scene, emit, emit_value};
 use c0_tree::{AsmText, Body, Code, Expr};

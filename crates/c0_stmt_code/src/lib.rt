@@ -7,7 +7,9 @@ mod emit_laws;
 mod function;
 pub mod laws;
 mod prologue;
+mod sequence;
 pub mod sizes;
 mod statement;
 
 pub use function::emit_function;
+pub use sequence::emit_statements;

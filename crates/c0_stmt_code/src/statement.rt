@@ -1,4 +1,4 @@
-// The code of statements.
+// The code of statements. Where memory is wanting, a part of it may stand behind what stood before.
 
 ghost use Rattle.std.specs.Prelude.{◌≡◌, ◌+◌, ◌^◌, ◌<◌, ◌++◌, map, OnOk};
 ghost use Rattle.mips_table.specs.Encoding.{encoding};
@@ -52,7 +52,7 @@ fn emit_statement(
     }
 }
 
-/// Appends the code of statements one after another.
+// Appends the code of statements one after another.
 #[cycle(statement)]
 pub fn emit_statements(
     alloc: Global,

@@ -21,7 +21,7 @@ use Rattle.cvm_primitives.specs.Code.{piece_code, copies_code, pieces_code, vm_c
 use Rattle.cvm_primitives.proofs.Basics.{held_to}
 use Rattle.cvm_primitives.proofs.Pieces.{Fits, fits}
 use Rattle.cvm_primitives.proofs.Loop.{Copying, held_on, nothing_copied, copied_on, whole_cost, rest_good, turn, pays}
-use Rattle.cvm_primitives.proofs.Piece.{piece_law, piece_shares, piece_short, run_short}
+use Rattle.cvm_primitives.proofs.Piece.{piece_law, piece_paid, piece_short, run_short}
 use Rattle.cvm_primitives.proofs.Copies.{numbers_apart, live_range, range_below, copy_asked_from}
 
 -- before the last page a piece copies no word of it
@@ -141,7 +141,7 @@ module _ (w : World) (f : RoutineLaws w) (p : Places) (b : ℕ) (si : Sited p w)
       let marks = a.left.marks in let left = marks.left in
       let fit = fits (x + (n - 1024)) (y + (n - 1024)) (n - (n - 1024)) (omega arith) in
       let is : size (n - 1024) ≡ 1024 = whole_last x y n (n - (n - 1024)) (size (n - 1024)) whole refl fit in
-      let run = (piece_shares w f p b si page g (copied v x y (n - 1024)) (x + (n - 1024)) (y + (n - 1024)) (n - (n - 1024)) (size (n - 1024)) refl (omega arith) (rest_good w f p b body body_short g law v x y n good (n - 1024) (omega arith)) fit a.last a.disk a.left.held marks).by (k + 0 + 1) a.last a.disk (laws.body_stands k at) (refl, refl) in
+      let run = (piece_paid w f p b si page g (copied v x y (n - 1024)) (x + (n - 1024)) (y + (n - 1024)) (n - (n - 1024)) (size (n - 1024)) refl (omega arith) (rest_good w f p b body body_short g law v x y n good (n - 1024) (omega arith)) fit a.last a.disk a.left.held marks).by (k + 0 + 1) a.last a.disk (laws.body_stands k at) (refl, refl) in
       let held : Held p (copied v x y n) g run.0 run.1 = subst (λ k. Held p (copied v x y k) g run.0 run.1) (omega arith) (held_on p _ _ g run.0 run.1 (copied_on p.layout v x y n (n - 1024) (size (n - 1024)) good.apart (omega arith)) run.2.0) in
       let gone = run.2.1.left in
       let price = pays w f p b body body_short g law v x y n good (n - 1024) (omega arith) in

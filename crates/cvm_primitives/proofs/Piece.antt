@@ -162,11 +162,15 @@ module _ (w : World) (f : RoutineLaws w) (p : Places) (b : ℕ) (si : Sited p w)
         (λ z. absurd (omega arith)))
         k.out
 
-  -- a piece from one state; after a whole page the target names the source's frame, unless that is a user frame that four other pages named before
+  -- what a piece leads to; after a whole page the target names the source's frame, unless that is a user frame that four other pages named before
+  abbrev pub Pieced : Pages → (x y n l : ℕ) → Contents → Contents → Behind → Type 0
+  Pieced u x y n l c c' d' = Held p (copied u x y l) g c' d' × Marks (x + l) (y + l) (n - l) c' × (l ≡ 1024 → (SharesFrame p (x / 1024) (y / 1024) c') ⊎ (FourOthers p (x / 1024) (y / 1024) c.memory))
+
+  -- a piece from one state: three page blocks, and seven steps a word
   pub piece_shares : (u : Pages) (x y n l : ℕ) → l ≡ piece x y n → 0 < n → CopyGood p.layout u x y n → Fits x y n l → (c : Contents) (d : Behind) → Held p u g c d → Marks x y n c
-      → From w (piece_code p page.code) (3 * page_steps p.layout.pages b + 600 * l - 2) c d (λ c' d'. Held p (copied u x y l) g c' d' × Marks (x + l) (y + l) (n - l) c' × (l ≡ 1024 → (SharesFrame p (x / 1024) (y / 1024) c') ⊎ (FourOthers p (x / 1024) (y / 1024) c.memory)))
+      → From w (piece_code p page.code) (3 * page.steps + 7 * l + 128) c d (Pieced u x y n l c)
   piece_shares u x y n l is pos good fit c d h marks =
-      let some = fit.some in let most = fit.most in let within = page.within in let pages = si.pages in let gs = good.source in let gt = good.target in
+      let some = fit.some in let most = fit.most in let pages = si.pages in let gs = good.source in let gt = good.target in
       let from = marks.from in let to = marks.to in let left = marks.left in
       let l1 = lx u x y n l good fit pos in let l2 = ly u x y n l good fit pos in
       from_later w f (piece_code p page.code) (5 + (3 + (4 + 3)) + (2 + page.steps + (3 + 70 + (2 + (page.steps + (4 + page.steps)) + (7 * l + 28) + 1 + 3)))) _ c d _ _ (omega arith) (λ c d k. k)
@@ -190,12 +194,19 @@ module _ (w : World) (f : RoutineLaws w) (p : Places) (b : ℕ) (si : Sited p w)
         ),
       )))))))
 
+  -- the same within what its pages and words are worth
+  pub piece_paid : (u : Pages) (x y n l : ℕ) → l ≡ piece x y n → 0 < n → CopyGood p.layout u x y n → Fits x y n l → (c : Contents) (d : Behind) → Held p u g c d → Marks x y n c
+      → From w (piece_code p page.code) (3 * page_steps p.layout.pages b + 600 * l - 2) c d (Pieced u x y n l c)
+  piece_paid u x y n l is pos good fit c d h marks =
+      let within = page.within in
+      from_later w f (piece_code p page.code) (3 * page.steps + 7 * l + 128) _ c d _ _ (omega arith) (λ c' d' k. k) (piece_shares u x y n l is pos good fit c d h marks)
+
   -- THE PIECE
   pub piece_law : PieceLaw w p b (piece_code p page.code) g
   piece_law u x y n pos good =
       let fit = fits x y n pos in
       let l : ℕ = piece x y n in
-      does_from w f (piece_code p page.code) _ _ _ (λ c d a. from_later w f (piece_code p page.code) (3 * page_steps p.layout.pages b + 600 * piece x y n - 2) _ c d _ _ (omega arith) (λ c' d' k. (k.0, k.1)) (piece_shares u x y n (piece x y n) refl pos good fit c d a.0 a.1))
+      does_from w f (piece_code p page.code) _ _ _ (λ c d a. from_later w f (piece_code p page.code) (3 * page_steps p.layout.pages b + 600 * piece x y n - 2) _ c d _ _ (omega arith) (λ c' d' k. (k.0, k.1)) (piece_paid u x y n (piece x y n) refl pos good fit c d a.0 a.1))
 
 -- its code is short
 pub piece_short : (w : World) (p : Places) (b : ℕ) (page : PageBlock w p b) → length (piece_code p page.code) ≤ 9000

@@ -7,6 +7,7 @@ use Rattle.page_model.specs.Paging.{Pages}
 use Rattle.page_model.specs.Places.{Places}
 use Rattle.frame_table.specs.View.{Sited, Ported}
 use Rattle.page_fault.specs.Code.{page_code}
+use Rattle.page_fault.specs.Asked.{fault_steps}
 use Rattle.cvm_primitives.specs.Copy.{word_at, with_word, copied, resized, pieces, piece}
 use Rattle.cvm_primitives.specs.View.{page_steps, Start, start, Held, Marks, CopyGood, UsersIn, WordGood, CopyArgs, ResizeGood, number, size_at, Fresh, SharesFrame, FourOthers}
 use Rattle.cvm_primitives.specs.Code.{vm_word_code, vm_put_code, vm_copy_code, vm_resize_code, piece_code}
@@ -120,9 +121,9 @@ PieceDone p v g x y n c d = Held p (copied v x y (piece x y n)) g c d × Marks (
 abbrev pub Shared : Places → (x y l : ℕ) → Contents → Contents → Type 0
 Shared p x y l c c' = l ≡ 1024 → (SharesFrame p (x / 1024) (y / 1024) c') ⊎ (FourOthers p (x / 1024) (y / 1024) c.memory)
 
--- PIECE: one turn of vm_copy's loop
+-- PIECE: one turn of vm_copy's loop, within seven steps a word, three page faults and 128 more
 abbrev pub PieceShares : World → Type 0
 PieceShares w = (p : Places) (b : ℕ) (v : Pages) (g : Start) (x y n : ℕ) (c : Contents) (d : Behind) →
     Sited p w → Ported p w b → 0 < n → CopyGood p.layout v x y n → Held p v g c d → Marks x y n c →
-    From w (piece_code p (page_code p)) (3 * page_steps p.layout.pages b + 600 * piece x y n) c d
+    From w (piece_code p (page_code p)) (3 * fault_steps p b + 7 * piece x y n + 128) c d
     (λ c' d'. PieceDone p v g x y n c' d' × Shared p x y (piece x y n) c c')

@@ -1,5 +1,6 @@
 // The parts of `vm_copy`.
 ghost use Rattle.std.specs.Prelude.{◌≡◌, ◌<◌, ◌≤◌, ◌+◌, ◌*◌, ◌∷◌, [], map as each, length, ◌++◌};
+ghost use Rattle.mips_table.specs.declared.inst.Inst.TheVariants.{Addiu, Subu};
 ghost use Rattle.mips_table.specs.Encoding.{encoding};
 ghost use Rattle.page_model.specs.Places.{places_of};
 ghost use Rattle.cvm_primitives.specs.Code.{protect_code, copy_code, least_code, to_end_code, length_code, room_code, share_code, whole_code, both_code};
@@ -347,10 +348,34 @@ fn advance() -> Block<3>
         rs: 27,
         rt: 13,
     });
+    code.then(&lower_left(13));
+    code
+}
+
+// The number of words that are left falls by that in register `by`.
+fn lower_left(by: u32) -> Block<1>
+    requires { by < 32 }
+    ensures { result ≡ each encoding (Subu 14 14 by ∷ []) }
+{
+    let mut code = Block::<1>::new();
     code.push(Inst::Subu {
         rd: 14,
         rs: 14,
-        rt: 13,
+        rt: by,
+    });
+    code
+}
+
+/// The answer: 1 for true, 0 for false.
+pub fn answer(value: u32) -> Block<1>
+    requires { value < 65536 }
+    ensures { result ≡ each encoding (Addiu 2 0 value ∷ []) }
+{
+    let mut code = Block::<1>::new();
+    code.push(Inst::Addiu {
+        rt: 2,
+        rs: 0,
+        imm: value,
     });
     code
 }

@@ -7,7 +7,7 @@ ghost use Rattle.cvm_primitives.specs.Code.{apart_code, pieces_code, next_range_
 ghost use Rattle.page_fault.specs.Code.{page_code};
 ghost use Rattle.masm.specs.Blocks.{when_words, when_code};
 
-use crate::copy_parts::piece;
+use crate::copy_parts::{answer, piece};
 use crate::parts::{first_page, size_place};
 use layer_map::Map;
 use masm::Block;
@@ -214,11 +214,7 @@ fn pieces(map: &Map) -> Block<620>
     let test = Block::<0>::new();
     let mut code = Block::<620>::new();
     code.loop_while(&test, 14, &piece(map));
-    code.push(Inst::Addiu {
-        rt: 2,
-        rs: 0,
-        imm: 1,
-    });
+    code.then(&answer(1));
     code
 }
 

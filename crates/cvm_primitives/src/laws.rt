@@ -61,8 +61,8 @@ pub fn a_memory_is_resized()
     routines_have_laws();
 }
 
-/// One piece of a copy, and how a whole page is copied: the target's page names the source's frame, unless that was a user frame that four
-/// other pages named.
+/// One piece of a copy, within seven steps a word, three page faults and 128 more, and how a whole page is copied: the target's page names the
+/// source's frame, unless that was a user frame that four other pages named.
 pub fn a_piece_shares()
     ensures { (w : World) → Sound w → PieceShares w }
 {

@@ -1,10 +1,17 @@
-// The words of a few blocks.
+// The words of a few blocks, and what the routines of a kernel answer, run by the processor's step.
 #![tactic(auto)]
 
+use c0_asm_body::emit_asm;
+use c0_runtime::emit_runtime;
+use c0_runtime::runtime::{DIVIDE, MULTIPLY, REMAINDER, RUNTIME_WORDS};
+use c0_tree::{AsmText, Span};
 use masm::Block;
 use masm::copying::copy_words;
+use masm::registers::{ANSWER, ARGUMENTS, Places, RETURN};
 use masm::waiting::wait_for_disk;
+use mips_step::{Cpu, Flat, step};
 use mips_table::Inst;
+use std::alloc::{AllocError, Global};
 use std::io;
 
 // Prints the words of a block under its name.
@@ -56,10 +63,75 @@ fn count() -> Block<4> {
     code
 }
 
+// What the routine that stands at a word answers on two operands: it is run until it returns, behind the routines, or for eight steps.
+fn answer(alloc: Global, routine: u32, left: u32, right: u32) -> Result<u32, AllocError> {
+    let places = Places {
+        globals: 0,
+        faults: [0, 0, 0, 0],
+        multiply: 0,
+        divide: 0,
+        remainder: 0,
+        new_object: 0,
+        functions: Vec::new(alloc),
+        primitives: Vec::new(alloc),
+    };
+    let mut words = Vec::new(alloc);
+    emit_runtime(alloc, &places, &mut words)?;
+    let mut memory = Flat { words };
+    let mut cpu = Cpu {
+        pc: routine.wrapping_mul(4),
+        regs: [0; 32],
+        hi: 0,
+        lo: 0,
+    };
+    cpu.write(ARGUMENTS, left);
+    cpu.write(ARGUMENTS + 1, right);
+    cpu.write(RETURN, 4 * RUNTIME_WORDS);
+    for _ in 0..8 {
+        if cpu.pc != 4 * RUNTIME_WORDS {
+            let _ = step(&mut cpu, &mut memory);
+        }
+    }
+    Ok(cpu.regs[ANSWER as usize])
+}
+
+// Prints what a routine answers on two operands.
+fn print_answer(
+    rt: &impl Print,
+    alloc: Global,
+    name: &str,
+    routine: u32,
+    left: u32,
+    right: u32,
+) -> io::Result<()> {
+    let answer = answer(alloc, routine, left, right)?;
+    println!(rt; "{name} {:08x} {:08x} {:08x}", left, right, answer)
+}
+
+// Prints the word of an asm text.
+fn print_asm(rt: &impl Print, alloc: Global) -> io::Result<()> {
+    let text = AsmText {
+        bytes: Vec::from_slice(alloc, b"addu r2, r4, r5")?,
+        span: Span { start: 0, end: 17 },
+        words: Vec::from_slice(alloc, &[0x0085_1021])?,
+    };
+    let mut code = Vec::new(alloc);
+    emit_asm(alloc, &text, &mut code)?;
+    print_words(rt, "asm", &code)
+}
+
 fn main(rt: HostRuntime) -> io::Result<()> {
     print_words(&rt, "nothing", Block::<0>::new().words())?;
     print_words(&rt, "condition", condition().words())?;
     print_words(&rt, "count", count().words())?;
     print_words(&rt, "copy", copy_words().words())?;
-    print_words(&rt, "wait", wait_for_disk().words())
+    print_words(&rt, "wait", wait_for_disk().words())?;
+    let least = 0x8000_0000;
+    let alloc = rt.alloc();
+    print_answer(&rt, alloc, "product", MULTIPLY, least, 0xffff_ffff)?;
+    print_answer(&rt, alloc, "quotient", DIVIDE, least, 0xffff_ffff)?;
+    print_answer(&rt, alloc, "remainder", REMAINDER, least, 0xffff_ffff)?;
+    print_answer(&rt, alloc, "quotient", DIVIDE, 0xffff_fff9, 2)?;
+    print_answer(&rt, alloc, "remainder", REMAINDER, 0xffff_fff9, 2)?;
+    print_asm(&rt, alloc)
 }

@@ -2,22 +2,26 @@
 // that are asked for. `case_file` says how a case is written. The kinds, in the order in which they stand:
 //
 // - `case NAME` begins with a new outside. Lines below it may say `shelf N ..`, `sink N ..` or `disk N ..`, the numbers of the calls of
-//   that object that fail, from 0; `room N`, how many bytes the sink has room for; `sectors N`, how many sectors the disk has; `alter S P W`,
-//   that the disk answers each read of sector S with the word W in place of word P;
-// - `file NAME` places a file with these bytes, and `zeros NAME` one with so many bytes 0. A put to it has room for as many;
+//   that object that fail, from 0; `room N`, how many bytes the sink has room for; `takes N`, that it takes the first N bytes of a put that
+//   fails, which is a call of its own; `sectors N`, how many sectors the disk has; `alter S P W`, that the disk answers each read of sector S
+//   with the word W in place of word P;
+// - `file NAME` places a file with these bytes, `zeros NAME` one with so many bytes 0, and `host NAME` one with the bytes of a file of the
+//   folder in which the program runs, whose path stands below it. A put to it has room for as many;
 // - `flip NAME` turns the lowest bit of a byte of a file, whose place from 0 stands below it;
-// - `run WORD ..` runs the command of these words;
+// - `run WORD ..` runs the command of these words, and `as PATH` says whether its text is that of a file of the folder;
 // - `show NAME` gets a file and prints its bytes, `part NAME AT COUNT` so many of its bytes from a place on, `object NAME` reads it as an
 //   object and prints its source and how many words it has, and `sector N` prints the words of a sector that aren't 0.
 #![tactic(auto)]
 
 mod altered;
+mod partial;
 
 use altered::Altered;
 use case_file::{Case, cases};
 use cvm_outside::{MemSectors, MemShelf, MemSink, Sectors, Shelf};
 use cvm_shell::run;
 use object_file::read;
+use partial::Partial;
 use std::alloc::{AllocError, Global};
 use std::fmt::Write;
 use std::{env, fs, io, str};
@@ -29,8 +33,10 @@ const ROOM: usize = 65_536;
 #[derive(Drop)]
 struct World {
     shelf: MemShelf,
-    sink: MemSink,
+    sink: Partial,
     disk: Altered,
+    /// How many bytes of the sink were there before the last command.
+    before: usize,
     /// How many bytes of the sink were shown.
     shown: usize,
 }
@@ -42,6 +48,7 @@ struct Options {
     sink: Vec<u64>,
     disk: Vec<u64>,
     room: usize,
+    takes: usize,
     sectors: u32,
     alter: Vec<u64>,
 }
@@ -64,6 +71,7 @@ fn read_options(alloc: Global, lines: &str) -> Result<Options, AllocError> {
         sink: Vec::new(alloc),
         disk: Vec::new(alloc),
         room: ROOM,
+        takes: 0,
         sectors: 2,
         alter: Vec::new(alloc),
     };
@@ -75,6 +83,7 @@ fn read_options(alloc: Global, lines: &str) -> Result<Options, AllocError> {
             "disk" => options.disk = numbers(alloc, rest)?,
             "alter" => options.alter = numbers(alloc, rest)?,
             "room" => options.room = rest.parse::<usize>().unwrap_or(ROOM),
+            "takes" => options.takes = rest.parse::<usize>().unwrap_or(0),
             _ => options.sectors = rest.parse::<u32>().unwrap_or(2),
         }
     }
@@ -86,11 +95,15 @@ fn world_of(alloc: Global, lines: &[u8]) -> Result<World, AllocError> {
     let options = read_options(alloc, str::from_utf8(lines).unwrap_or(""))?;
     Ok(World {
         shelf: MemShelf::new(alloc, options.shelf)?,
-        sink: MemSink::with_room(alloc, options.room, options.sink)?,
+        sink: Partial::new(
+            MemSink::with_room(alloc, options.room, options.sink)?,
+            options.takes,
+        ),
         disk: Altered::new(
             MemSectors::new(alloc, options.sectors, options.disk)?,
             &options.alter,
         ),
+        before: 0,
         shown: 0,
     })
 }
@@ -138,6 +151,7 @@ fn run_words(
     );
     let text = world.sink.bytes();
     put_text(out, text.get(world.shown..).unwrap_or(b""))?;
+    world.before = world.shown;
     world.shown = text.len();
     writeln!(out, "status {}", status.code())
 }
@@ -236,6 +250,27 @@ fn flip_bit(alloc: Global, world: &mut World, name: &str, place: &[u8]) -> Resul
     world.shelf.place(alloc, name, &bytes)
 }
 
+/// Places a file with the bytes of a file of the folder.
+fn place_host(rt: &HostRuntime, world: &mut World, part: &Case) -> io::Result<()> {
+    let text = fs::read_to_string(rt, str::from_utf8(&part.source).unwrap_or(""))?;
+    world
+        .shelf
+        .place(rt.alloc(), part.name.as_str(), text.as_bytes())?;
+    Ok(())
+}
+
+/// Says whether the text of the last command is that of a file of the folder.
+fn put_same(rt: &HostRuntime, world: &World, out: &mut String, path: &str) -> io::Result<()> {
+    let text = fs::read_to_string(rt, path)?;
+    let same = world.sink.bytes().get(world.before..world.shown) == Some(text.as_bytes());
+    writeln!(
+        out,
+        "== as {path}\n{}",
+        if same { "the same" } else { "another" }
+    )?;
+    Ok(())
+}
+
 /// Does what a part of a case says.
 fn do_part(
     alloc: Global,
@@ -275,7 +310,11 @@ fn main(rt: HostRuntime) -> io::Result<()> {
     for file in env::args(&rt)?.skip(1) {
         let text = fs::read_to_string(&rt, file.as_str())?;
         for part in &cases(alloc, text.as_str())? {
-            do_part(alloc, &mut world, &mut out, part)?;
+            match part.kind.as_str() {
+                "host" => place_host(&rt, &mut world, part)?,
+                "as" => put_same(&rt, &world, &mut out, part.name.as_str())?,
+                _ => do_part(alloc, &mut world, &mut out, part)?,
+            }
         }
     }
     rt.print(out)

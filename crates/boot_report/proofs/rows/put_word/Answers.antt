@@ -1,8 +1,16 @@
-use Rattle.std.proofs.Common.{[], ◌∙◌, subst}
-use Rattle.std.specs.Prelude.{◌==◌, if◌then◌else◌}
+use Rattle.std.proofs.Common.{[], ◌++◌, ◌*◌, ◌∙◌, sym, subst, codes, ne_eqb}
+use Rattle.std.specs.Prelude.{◌==◌}
+use Rattle.std.proofs.lemmas.Bool.{cond-false}
+use Rattle.cvm_text.specs.Hex.{hex8}
 use Rattle.cvm_outside.specs.Told.{AppendsPart}
+use Rattle.cvm_model.specs.Text.{hex_row}
 use Rattle.boot_report.proofs.Texts.{on_err}
 use Rattle.boot_report.proofs.rows.put_word.Goals as goal
 
 pub returns-clause-err : goal.returns-clause-err
-returns-clause-err g c = on_err c.put_nonzero.result (subst (λ row. AppendsPart (g.O.Sink.text c.args.out.now) (g.O.Sink.text c.put_nonzero.new.out) (if c.args.word == 0 then [] else row)) (c.as_bytes.ensures.value ∙ c.as_str.ensures.value ∙ c.mem_row.ensures)) c.put_nonzero.ensures.err
+returns-clause-err g c =
+    on_err c.put.result
+    (subst (AppendsPart (g.O.Sink.text c.args.out.now) (g.O.Sink.text c.put.new.self))
+    (c.as_bytes.ensures.value ∙ c.as_str.ensures.value ∙ c.mem_row.ensures
+    ∙ sym (cond-false (c.args.word == 0) [] (hex_row (codes "mem " ++ hex8 (4 * c.args.number)) c.args.word) (ne_eqb c.args.word 0 c.if-word-eq0.false))))
+    c.put.ensures.part

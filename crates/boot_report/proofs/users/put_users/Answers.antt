@@ -19,26 +19,26 @@ loop-i-init g c = record {
   text = λ ss e f. put_none (λ i. user_rows c.args.map.now (paged_of c.args.map.now (state_of c.args.machine.now ss)) (i + 1) (pages_in c.args.map.now c.args.machine.now.hardware.memory (i + 1)) (cpu_of c.args.machine.now (i + 1 == c.args.running) (i + 1))) (g.O.Sink.text c.args.out.now);
 }
 
-pub returns-in_err-put_one-clause-err : goal.returns-in_err-put_one-clause-err
-returns-in_err-put_one-clause-err g c = λ ss e f.
+pub returns-in_err-put_user_rows-clause-err : goal.returns-in_err-put_user_rows-clause-err
+returns-in_err-put_user_rows-clause-err g c = λ ss e f.
     let most : c.users-i-end.result ≡ c.args.map.now.users = c.users-i-end.ensures.value in
     let lt : c.loop-i.i < c.args.map.now.users = subst (λ n. c.loop-i.i < n) most c.loop-i-test.true in
     is_err c.from_residual.result
     (put_part (λ i. user_rows c.args.map.now (paged_of c.args.map.now (state_of c.args.machine.now ss)) (i + 1) (pages_in c.args.map.now c.args.machine.now.hardware.memory (i + 1)) (cpu_of c.args.machine.now (i + 1 == c.args.running) (i + 1)))
     c.loop-i.i c.args.map.now.users _ _ _ lt (c.loop-i.invariant.text ss e f)
-    (subst (AppendsPart (g.O.Sink.text c.loop-i.out) (g.O.Sink.text c.put_one.new.out)) (same_user c.args.map.now c.args.machine.now c.loop-i.machine ss (c.loop-i.i + 1) (c.loop-i.i + 1 == c.args.running) c.loop-i.invariant.same)
-    (c.in_err-put_one.ensures.err ss (c.loop-i.invariant.sectors ∙ e) (fits_before c.args.map.now c.args.machine.now c.loop-i.machine ss c.loop-i.invariant.same f))))
+    (subst (AppendsPart (g.O.Sink.text c.loop-i.out) (g.O.Sink.text c.put_user_rows.new.out)) (same_user c.args.map.now c.args.machine.now c.loop-i.machine ss (c.loop-i.i + 1) (c.loop-i.i + 1 == c.args.running) c.loop-i.invariant.same)
+    (c.in_err-put_user_rows.ensures.err ss (c.loop-i.invariant.sectors ∙ e) (fits_before c.args.map.now c.args.machine.now c.loop-i.machine ss c.loop-i.invariant.same f))))
 
 pub loop-i-preserved : goal.loop-i-preserved
 loop-i-preserved g c = record {
-  same = same_twice c.args.machine.now c.loop-i.machine c.put_one.new.machine c.loop-i.invariant.same c.in_ok-put_one.ensures.same;
-  sectors = c.in_ok-put_one.ensures.sectors ∙ c.loop-i.invariant.sectors;
-  size = c.in_ok-put_one.ensures.size ∙ c.loop-i.invariant.size;
-  disk_faults = c.in_ok-put_one.ensures.disk_same (λ h. absurd (cc)) ∙ c.loop-i.invariant.disk_faults;
-  faults = c.in_ok-put_one.ensures.sink_same (λ h. absurd (cc)) ∙ c.loop-i.invariant.faults;
+  same = same_twice c.args.machine.now c.loop-i.machine c.put_user_rows.new.machine c.loop-i.invariant.same c.in_ok-put_user_rows.ensures.same;
+  sectors = c.in_ok-put_user_rows.ensures.sectors ∙ c.loop-i.invariant.sectors;
+  size = c.in_ok-put_user_rows.ensures.size ∙ c.loop-i.invariant.size;
+  disk_faults = c.in_ok-put_user_rows.ensures.disk_same (λ h. absurd (cc)) ∙ c.loop-i.invariant.disk_faults;
+  faults = c.in_ok-put_user_rows.ensures.sink_same (λ h. absurd (cc)) ∙ c.loop-i.invariant.faults;
   text = λ ss e f.
       put_more (λ i. user_rows c.args.map.now (paged_of c.args.map.now (state_of c.args.machine.now ss)) (i + 1) (pages_in c.args.map.now c.args.machine.now.hardware.memory (i + 1)) (cpu_of c.args.machine.now (i + 1 == c.args.running) (i + 1)))
       c.loop-i.i (c.loop-i.i + 1) _ _ _ refl (c.loop-i.invariant.text ss e f)
-      (c.in_ok-put_one.ensures.ok ss (c.loop-i.invariant.sectors ∙ e) (fits_before c.args.map.now c.args.machine.now c.loop-i.machine ss c.loop-i.invariant.same f)
+      (c.in_ok-put_user_rows.ensures.ok ss (c.loop-i.invariant.sectors ∙ e) (fits_before c.args.map.now c.args.machine.now c.loop-i.machine ss c.loop-i.invariant.same f)
       ∙ ap (append_known (g.O.Sink.text c.loop-i.out)) (same_user c.args.map.now c.args.machine.now c.loop-i.machine ss (c.loop-i.i + 1) (c.loop-i.i + 1 == c.args.running) c.loop-i.invariant.same));
 }

@@ -7,4 +7,4 @@ use Rattle.boot_turns.proofs.completion.advance.Goals as goal
 pub returns-clause-ends : goal.returns-clause-ends
 returns-clause-ends g c = λ u.
     advances (IsTypedState u) (c.machines_run.ensures u) (outside_of c.args.machine.now.rows (g.D.Sectors.size c.args.disk.now)) (seen (g.D.Sectors.sectors c.args.disk.now) c.args.machine.now)
-    (seen (g.D.Sectors.sectors c.complete.new.disk) c.complete.new.machine) c.args.budget.now c.complete.new.budget c.complete.result c.complete.ensures.ends
+    (seen (g.D.Sectors.sectors c.complete.new.disk) c.complete.new.machine) c.args.budget.now c.complete.new.budget c.args.most c.complete.result c.complete.ensures.ends

@@ -1,10 +1,10 @@
-use Rattle.std.proofs.Common.{◌≡◌, ℕ, ◌+◌, ◌≤◌, Some, None}
+use Rattle.std.proofs.Common.{◌≡◌, ℕ, ◌+◌, ◌<◌, ◌≤◌, Some, None}
 use Rattle.std.specs.Prelude.{length, IfSome}
 use Rattle.std.specs.Option.{option_map}
 use Rattle.mips_table.specs.Fits.{NamesSector}
 use Rattle.mips_table.specs.Machine.{State, run}
 use Rattle.mips_machine.specs.Steps.{outside_of}
-use Rattle.boot_turns.specs.Completes.{seen, Progress}
+use Rattle.boot_turns.specs.Completes.{seen, Progress, Skips}
 use Rattle.boot_turns.specs.Tracing.{CanTrace}
 use Rattle.boot_turns.proofs.Tracking.{Tracks}
 use Rattle.boot_turns.proofs.completion.complete.Given as goal
@@ -17,9 +17,13 @@ invariant-loop-budget g l = record {
   size : g.D.Sectors.size l.disk ≡ g.D.Sectors.size l.fn.disk;
   faults : g.D.Sectors.faults l.disk ≡ g.D.Sectors.faults l.fn.disk;
   time : l.machine.time + l.budget ≡ l.fn.machine.time + l.fn.budget;
+  few : l.skipped < l.fn.most;
+  limit : l.limit < l.fn.most;
+  fresh : l.skipped < l.limit → l.begun ≡ None;
   ran : (s : State) (t : ℕ) → seen (g.D.Sectors.sectors l.fn.disk) l.fn.machine ≡ Some (run (outside_of l.fn.machine.rows (g.D.Sectors.size l.fn.disk)) s t) →
-      (u : ℕ) × (t ≤ u) × (l.budget + u ≡ l.fn.budget + t) × (seen (g.D.Sectors.sectors l.disk) l.machine ≡ Some (run (outside_of l.fn.machine.rows (g.D.Sectors.size l.fn.disk)) s u))
-      × Progress (outside_of l.fn.machine.rows (g.D.Sectors.size l.fn.disk)) s t u l.begun;
+      (u : ℕ) × (t + l.skipped ≤ u) × (l.budget + u ≡ l.fn.budget + t) × (seen (g.D.Sectors.sectors l.disk) l.machine ≡ Some (run (outside_of l.fn.machine.rows (g.D.Sectors.size l.fn.disk)) s u))
+      × Progress (outside_of l.fn.machine.rows (g.D.Sectors.size l.fn.disk)) s (t + l.skipped) u l.begun × Skips (outside_of l.fn.machine.rows (g.D.Sectors.size l.fn.disk)) s t l.skipped
+      × (l.skipped < l.limit → u ≡ t + l.skipped);
   can : IfSome l.tracer (CanTrace l.map (length l.machine.hardware.memory) l.machine.time (g.D.Sectors.size l.disk));
   user : option_map (λ k. k.user) l.tracer ≡ option_map (λ k. k.user) l.fn.tracer;
   untraced : l.fn.tracer ≡ None → (l.tracer ≡ None) × (l.out ≡ l.fn.out);

@@ -1,17 +1,23 @@
-use Rattle.std.proofs.Common.{Result, Ok, Err}
-use Rattle.std.specs.Prelude.{OnErr}
-use Rattle.boot_turns.proofs.Events.{event_told, steps_seen, steps_time, fails_time, fails_torn}
+use Rattle.std.proofs.Common.{◌≡◌, Bool, true, false, Result, Ok, Err, slice_index, refl, sym, ap, ◌∙◌, subst, eq-eqb, ne_eqb}
+use Rattle.std.specs.Prelude.{◌==◌, OnErr}
+use Rattle.boot_turns.specs.Completes.{turn_began, stepped_as, StepBegan}
+use Rattle.boot_turns.proofs.Events.{event_told, user_begins, system_begins, steps_on, steps_seen, steps_time, fails_time, fails_torn}
 use Rattle.boot_turns.proofs.completion.step_once.Goals as goal
 
 on_err : {T E P : Type 0} (r : Result T E) → P → OnErr r P
 on_err (Ok v) h = tt
 on_err (Err e) h = h
 
+as_told : (b : Bool) → turn_began (stepped_as b) ≡ b
+as_told true = refl
+as_told false = refl
+
 pub returns-clause-began : goal.returns-clause-began
 returns-clause-began g c =
-    event_told (g.D.Sectors.size c.args.disk.now) c.args.machine.now c.step.new.self (g.D.Sectors.sectors c.args.disk.now) (g.D.Sectors.sectors c.step.new.disk)
-    c.in_ok-event.event c.has_begun.result c.is_reset-reset.result c.special-in_user.result c.special-pages.result c.special.result c.in_ok-event.ensures.ok
-    c.is_reset-reset.ensures c.special-in_user.ensures c.special-pages.ensures c.special.ensures c.has_begun.ensures
+    subst (λ (b : Bool). StepBegan (g.D.Sectors.size c.args.disk.now) c.args.machine.now (g.D.Sectors.sectors c.args.disk.now) b) (sym (ap turn_began c.stepped_as.ensures ∙ as_told c.has_begun.result))
+    (event_told (g.D.Sectors.size c.args.disk.now) c.args.machine.now c.step.new.self (g.D.Sectors.sectors c.args.disk.now) (g.D.Sectors.sectors c.step.new.disk)
+    c.in_ok-event.event c.has_begun.result c.is_reset-reset.result c.special-in_user.result c.special-pages.result c.special-2.result c.in_ok-event.ensures.ok
+    c.is_reset-reset.ensures c.special-in_user.ensures c.special-pages.ensures c.special-2.ensures c.has_begun.ensures)
 
 pub returns-clause-time : goal.returns-clause-time
 returns-clause-time g c =
@@ -31,3 +37,34 @@ pub returns-in_err-event-clause-torn : goal.returns-in_err-event-clause-torn
 returns-in_err-event-clause-torn g c =
     on_err c.from_residual.result
     (fails_torn (g.D.Sectors.size c.args.disk.now) c.args.machine.now c.step.new.self (g.D.Sectors.sectors c.args.disk.now) (g.D.Sectors.sectors c.step.new.disk) c.in_err-event.ensures.fault)
+
+pub returns-then-special-eq1-clause-began : goal.returns-then-special-eq1-clause-began
+returns-then-special-eq1-clause-began g c =
+    event_told (g.D.Sectors.size c.args.disk.now) c.args.machine.now c.step.new.self (g.D.Sectors.sectors c.args.disk.now) (g.D.Sectors.sectors c.step.new.disk)
+    c.in_ok-event.event true c.is_reset-reset.result c.special-in_user.result c.special-pages.result (slice_index c.step.new.self.hardware.special 4) c.in_ok-event.ensures.ok
+    c.is_reset-reset.ensures c.special-in_user.ensures c.special-pages.ensures refl
+    (user_begins c.is_reset-reset.result (c.special-in_user.result == 1) c.special-pages.result (slice_index c.step.new.self.hardware.special 4) c.in_ok-event.event (eq-eqb c.special-in_user.result 1 c.if-in_user.true) c.in-Ran.is)
+
+pub returns-then-special-eq1-clause-kept : goal.returns-then-special-eq1-clause-kept
+returns-then-special-eq1-clause-kept g c = (
+  sym c.special.ensures ∙ c.if-special-eq1.true,
+  steps_on (g.D.Sectors.size c.args.disk.now) c.args.machine.now c.step.new.self (g.D.Sectors.sectors c.args.disk.now) (g.D.Sectors.sectors c.step.new.disk)
+      c.in_ok-event.event c.in_ok-event.ensures.ok c.in-Ran.is,
+)
+
+pub returns-then-special-eq1-clause-time : goal.returns-then-special-eq1-clause-time
+returns-then-special-eq1-clause-time g c =
+    steps_time (g.D.Sectors.size c.args.disk.now) c.args.machine.now c.step.new.self (g.D.Sectors.sectors c.args.disk.now) (g.D.Sectors.sectors c.step.new.disk)
+    c.in_ok-event.event c.in_ok-event.ensures.ok
+
+pub returns-then-not-reset-clause-began : goal.returns-then-not-reset-clause-began
+returns-then-not-reset-clause-began g c =
+    event_told (g.D.Sectors.size c.args.disk.now) c.args.machine.now c.step.new.self (g.D.Sectors.sectors c.args.disk.now) (g.D.Sectors.sectors c.step.new.disk)
+    c.in_ok-event.event false c.is_reset-reset.result c.special-in_user.result c.special-pages.result (slice_index c.step.new.self.hardware.special 4) c.in_ok-event.ensures.ok
+    c.is_reset-reset.ensures c.special-in_user.ensures c.special-pages.ensures refl
+    (system_begins c.is_reset-reset.result (c.special-in_user.result == 1) c.special-pages.result (slice_index c.step.new.self.hardware.special 4) c.in_ok-event.event (ne_eqb c.special-in_user.result 1 c.if-in_user.false) c.if-not-reset.true)
+
+pub returns-then-not-reset-clause-time : goal.returns-then-not-reset-clause-time
+returns-then-not-reset-clause-time g c =
+    steps_time (g.D.Sectors.size c.args.disk.now) c.args.machine.now c.step.new.self (g.D.Sectors.sectors c.args.disk.now) (g.D.Sectors.sectors c.step.new.disk)
+    c.in_ok-event.event c.in_ok-event.ensures.ok

@@ -1,10 +1,15 @@
-use Rattle.std.proofs.Common.{◌≡◌, ℕ, Option, Some, None, slice_index, ap, Err}
+use Rattle.std.proofs.Common.{◌≡◌, ℕ, Option, Some, None, slice_index, ap, sym, ◌∙◌, subst, Bool, true, Err}
 use Rattle.std.specs.Prelude.{IfSome}
+use Rattle.boot_turns.specs.declared.completion.Stepped.{Stepped}
+use Rattle.boot_turns.specs.declared.completion.Stepped.TheVariants.{Kept}
+use Rattle.boot_turns.specs.Completes.{KeptUser, StepBegan, turn_began}
+use Rattle.boot_turns.proofs.Counted.{step_counted}
 use Rattle.std.proofs.lemmas.Result.{err_from_is_err_and}
 use Rattle.mips_machine.specs.Steps.{outside_of}
 use Rattle.boot_turns.proofs.Tearing.{step_done_torn}
 use Rattle.boot_turns.specs.declared.tracer.Tracer.{Tracer}
 use Rattle.boot_turns.proofs.Tracking.{step_breaks, step_goes, step_stops}
+use Rattle.boot_turns.proofs.completion.step_traced.Goals.{in-Kept+else-counts, in_default}
 use Rattle.boot_turns.proofs.completion.step_traced.Goals as goal
 
 -- what is read where a user is traced
@@ -12,8 +17,8 @@ current_read : (o : Option Tracer) (k : Tracer) (n v : ℕ) → IfSome o (λ _. 
 current_read None k n v h e = absurd (cc)
 current_read (Some j) k n v h e = h
 
-pub returns-in_err-began-clause-traced : goal.returns-in_err-began-clause-traced
-returns-in_err-began-clause-traced g c =
+pub returns-in_err-stepped-clause-traced : goal.returns-in_err-stepped-clause-traced
+returns-in_err-stepped-clause-traced g c =
     let w = err_from_is_err_and c.from_residual.result c.from_residual.ensures.1 in
     let x = outside_of c.args.machine.now.rows (g.D.Sectors.size c.args.disk.now) in
     step_breaks c.traces_grow.ensures c.journal_rows_follow.ensures c.the_words_tell.ensures x c.args.map.now c.args.machine.now (g.D.Sectors.sectors c.args.disk.now) c.args.tracer.now _ (g.O.Sink.text c.args.out.now)
@@ -22,20 +27,42 @@ returns-in_err-began-clause-traced g c =
 pub returns-in_err-follow-clause-torn : goal.returns-in_err-follow-clause-torn
 returns-in_err-follow-clause-torn g c = λ _.
     step_done_torn (g.D.Sectors.size c.args.disk.now) c.args.machine.now c.step_once.new.machine (g.D.Sectors.sectors c.args.disk.now) (g.D.Sectors.sectors c.step_once.new.disk) (g.D.Sectors.sectors c.follow.new.disk)
-    c.in_ok-began.ensures.ran c.in_err-follow.ensures.sectors
+    c.in_ok-stepped.ensures.ran c.in_err-follow.ensures.sectors
 
 pub returns-in_err-follow-clause-traced : goal.returns-in_err-follow-clause-traced
 returns-in_err-follow-clause-traced g c =
+    let here : c.args.tracer.now ≡ Some c.in-Some.kept = elim c.match-stepped.branch [
+      | in-Kept+else-counts w ↦ sym (w.tracer-is ∙ w.counts.ensures.same w.if-counts.false) ∙ c.in-Some.is
+      | in_default w ↦ sym w.tracer-is ∙ c.in-Some.is
+    ] in
+    let began : StepBegan (g.D.Sectors.size c.args.disk.now) c.args.machine.now (g.D.Sectors.sectors c.args.disk.now) c.began-began.result =
+    subst (λ (b : Bool). StepBegan (g.D.Sectors.size c.args.disk.now) c.args.machine.now (g.D.Sectors.sectors c.args.disk.now) b) (sym c.began-began.ensures) c.in_ok-stepped.ensures.began in
     let w = err_from_is_err_and c.from_residual-in_err-follow.result c.from_residual-in_err-follow.ensures.1 in
     let x = outside_of c.args.machine.now.rows (g.D.Sectors.size c.args.disk.now) in
     step_stops c.traces_grow.ensures c.journal_rows_follow.ensures c.the_words_tell.ensures x c.args.map.now c.args.machine.now (g.D.Sectors.sectors c.args.disk.now) c.in-Some.kept (g.O.Sink.text c.args.out.now) c.requires.on
-    c.step_once.new.machine (g.D.Sectors.sectors c.step_once.new.disk) c.in_ok-began.ensures.ran c.traced_current-current.result (current_read c.args.tracer.now c.in-Some.kept c.traced_current-current.result (slice_index c.args.machine.now.hardware.memory 1024) c.traced_current-current.ensures c.in-Some.is) c.in_ok-began.began c.in_ok-began.ensures.began
-    c.args.tracer.now _ (g.O.Sink.text c.follow.new.out) c.from_residual-in_err-follow.result w.0 c.in_err-follow.field-0.0 c.in-Some.is w.1 w.2
+    c.step_once.new.machine (g.D.Sectors.sectors c.step_once.new.disk) c.in_ok-stepped.ensures.ran c.traced_current-current.result (current_read c.args.tracer.now c.in-Some.kept c.traced_current-current.result (slice_index c.args.machine.now.hardware.memory 1024) c.traced_current-current.ensures here) c.began-began.result began
+    c.args.tracer.now _ (g.O.Sink.text c.follow.new.out) c.from_residual-in_err-follow.result w.0 c.in_err-follow.field-0.0 here w.1 w.2
     (λ e. c.in_err-follow.ensures.no_limit (ap (λ f. Err f) e)) c.in_err-follow.ensures.err
 
 pub returns-in-Some-clause-traced : goal.returns-in-Some-clause-traced
 returns-in-Some-clause-traced g c =
+    let here : c.args.tracer.now ≡ Some c.in-Some.kept = elim c.match-stepped.branch [
+      | in-Kept+else-counts w ↦ sym (w.tracer-is ∙ w.counts.ensures.same w.if-counts.false) ∙ c.in-Some.is
+      | in_default w ↦ sym w.tracer-is ∙ c.in-Some.is
+    ] in
+    let began : StepBegan (g.D.Sectors.size c.args.disk.now) c.args.machine.now (g.D.Sectors.sectors c.args.disk.now) c.began-began.result =
+    subst (λ (b : Bool). StepBegan (g.D.Sectors.size c.args.disk.now) c.args.machine.now (g.D.Sectors.sectors c.args.disk.now) b) (sym c.began-began.ensures) c.in_ok-stepped.ensures.began in
     let x = outside_of c.args.machine.now.rows (g.D.Sectors.size c.args.disk.now) in
     step_goes c.traces_grow.ensures c.journal_rows_follow.ensures c.the_words_tell.ensures x c.args.map.now c.args.machine.now (g.D.Sectors.sectors c.args.disk.now) c.in-Some.kept (g.O.Sink.text c.args.out.now) c.requires.on
-    c.step_once.new.machine (g.D.Sectors.sectors c.step_once.new.disk) c.in_ok-began.ensures.ran c.traced_current-current.result (current_read c.args.tracer.now c.in-Some.kept c.traced_current-current.result (slice_index c.args.machine.now.hardware.memory 1024) c.traced_current-current.ensures c.in-Some.is) c.in_ok-began.began c.in_ok-began.ensures.began
-    c.args.tracer.now c.follow.new.self (g.O.Sink.text c.follow.new.out) c.in-Some.is c.in_ok-follow.ensures.ok c.in_ok-follow.ensures.kept
+    c.step_once.new.machine (g.D.Sectors.sectors c.step_once.new.disk) c.in_ok-stepped.ensures.ran c.traced_current-current.result (current_read c.args.tracer.now c.in-Some.kept c.traced_current-current.result (slice_index c.args.machine.now.hardware.memory 1024) c.traced_current-current.ensures here) c.began-began.result began
+    c.stepped_as.result c.args.tracer.now c.follow.new.self (g.O.Sink.text c.follow.new.out) here c.in_ok-follow.ensures.ok c.in_ok-follow.ensures.kept
+
+pub returns-then-counts-clause-traced : goal.returns-then-counts-clause-traced
+returns-then-counts-clause-traced g c =
+    let x = outside_of c.args.machine.now.rows (g.D.Sectors.size c.args.disk.now) in
+    let kept : KeptUser c.step_once.new.machine Kept = subst (KeptUser c.step_once.new.machine) c.in-Kept.is c.in_ok-stepped.ensures.kept in
+    let began : StepBegan (g.D.Sectors.size c.args.disk.now) c.args.machine.now (g.D.Sectors.sectors c.args.disk.now) true =
+    subst (λ (s : Stepped). StepBegan (g.D.Sectors.size c.args.disk.now) c.args.machine.now (g.D.Sectors.sectors c.args.disk.now) (turn_began s)) c.in-Kept.is c.in_ok-stepped.ensures.began in
+    step_counted c.traces_grow.ensures c.journal_rows_follow.ensures c.the_words_tell.ensures x c.args.map.now c.args.machine.now (g.D.Sectors.sectors c.args.disk.now) c.args.tracer.now c.counts.new.tracer (g.O.Sink.text c.args.out.now)
+    c.requires.on c.step_once.new.machine (g.D.Sectors.sectors c.step_once.new.disk) c.in_ok-stepped.ensures.ran c.traced_current-current.result c.traced_current-current.ensures began kept.0 (c.counts.ensures.free c.if-counts.true)
+    (c.counts.ensures.counted c.if-counts.true) Kept

@@ -10,11 +10,11 @@ note_last-requires c =
     let sc = scope_in c.args.scene.now in
     not_none c.args.code.now.items c.emit_order.new.code.items c.deref.result.now
     (order_code sc c.args.op (expr_view c.args.left.now) (expr_view c.args.right.now) c.args.wanted c.args.free) (some_order sc c.args.op (expr_view c.args.left.now) (expr_view c.args.right.now) c.args.wanted c.args.free c.requires.op)
-    (c.in_ok-emit_order.ensures) c.deref.ensures.value
+    c.in_ok-emit_order.ensures.appended c.deref.ensures.value
 
-pub returns : goal.returns
-returns c =
+pub returns-clause-opened : goal.returns-clause-opened
+returns-clause-opened c =
     let sc = scope_in c.args.scene.now in
     last c.note_last.result c.args.code.now.items c.emit_order.new.code.items c.deref.result.now c.args.jumps.now.items c.note_last.new.jumps.items
     (order_code sc c.args.op (expr_view c.args.left.now) (expr_view c.args.right.now) c.args.wanted c.args.free) (some_order sc c.args.op (expr_view c.args.left.now) (expr_view c.args.right.now) c.args.wanted c.args.free c.requires.op)
-    (c.in_ok-emit_order.ensures) c.deref.ensures.value c.note_last.ensures
+    c.in_ok-emit_order.ensures.appended c.deref.ensures.value c.note_last.ensures.noted

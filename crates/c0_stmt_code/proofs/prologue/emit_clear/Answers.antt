@@ -9,4 +9,4 @@ pub loop-i-preserved : goal.loop-i-preserved
 loop-i-preserved c =
     let piece = Addu (register_of (c.args.first + c.loop-i.i)) 0 0 ∷ [] in
     appended c.loop-i.code.items c.emit.new.code.items _ _ piece _ (clear_next c.args.count c.args.first c.loop-i.i c.loop-i-test.true)
-    (c.in_ok-emit.ensures ∙ ap (λ (r : ℕ). c.loop-i.code.items ++ (encoding (Addu r 0 0) ∷ [])) c.register_behind.ensures.value) c.loop-i.invariant
+    (c.in_ok-emit.ensures.appended ∙ ap (λ (r : ℕ). c.loop-i.code.items ++ (encoding (Addu r 0 0) ∷ [])) c.register_behind.ensures.value) c.loop-i.invariant

@@ -1,0 +1,58 @@
+#!/usr/bin/env python3
+"""Writes the cases of the examples for shell_cases, with what each command prints.
+
+usage: gen_examples.py CASES STDOUT [PRINTED]   as gen_lines.py, whose rules for PRINTED hold here too
+
+The cases name the files of the examples and hold none of their bytes, so the program prints what the files as they stand come to, and says whether
+this is what is stored beside them.
+"""
+import os
+import re
+import sys
+
+HERE = os.path.dirname(os.path.abspath(__file__))
+source = open(os.path.join(HERE, 'gen_lines.py')).read()
+exec(compile(source[:source.index('# ---- a line at each part of turn 0')].replace("name.startswith('boot ')", "name.split(' ')[0] in ('boot', 'trace')"), 'gen_lines.py', 'exec'))
+
+
+def same(words, text, path):
+    """A run that prints this text, which a file of the example holds."""
+    run(words, text)
+    part('as examples/' + path)
+    told.append('the same' if text.rstrip('\n') == read(path).rstrip('\n') else 'another')
+
+
+def modeled(name, kernel, users, par, schedule):
+    """What a boot of an example prints: the model's text, with the turns of the lines from PRINTED."""
+    if 'line' not in schedule:
+        return model(kernel, users, par, schedule, 100000)
+    seen = had('the example ' + name, 0)
+    return model_lines(kernel, users, par, schedule, 100000, lines_of(seen[1])) if seen else '(not printed)'
+
+
+def example(name):
+    names = sorted((n for n in os.listdir(os.path.join(EXAMPLES, name)) if re.fullmatch(r'user\d+\.s', n)), key=lambda n: int(n[4:-2]))
+    kernel, users, par, schedule = read(name, 'kernel.c0'), [read(name, n) for n in names], read(name, 'params'), read(name, 'schedule')
+    begin('the example ' + name, 'sectors 64')
+    for given, n in [('k', 'kernel.c0'), ('p', 'params'), ('s', 'schedule')] + [('a%d' % (i + 1), n) for i, n in enumerate(names)]:
+        raw('host ' + given, 'examples/%s/%s' % (name, n))
+    build(len(users))
+    same('boot img s 100000 %d' % STEPS, modeled(name, kernel, users, par, schedule), name + '/printed')
+    for u in range(1, len(users) + 1):
+        if os.path.exists(os.path.join(EXAMPLES, name, 'trace%d' % u)):
+            same('trace img s 100000 %d %d' % (STEPS, u), model(kernel, users, par, schedule, 100000, u), '%s/trace%d' % (name, u))
+
+
+for name in ('adder', 'faults', 'messages', 'round_robin', 'sharing'):
+    example(name)
+
+NOTE = '''The examples, from the files as they stand: examples/NAME is the folder data/examples/NAME of this crate. Written by bench/models/gen_examples.py.
+
+At which turns the lines of round_robin are taken hangs on the physical machine alone: as in lines.cases that text is the program's own, checked by
+that script. All others are worked out apart.
+
+'''
+with open(sys.argv[1], 'w') as f:
+    f.write(NOTE + '\n'.join(cases) + '\n')
+with open(sys.argv[2], 'w') as f:
+    f.write('\n'.join(told) + '\n')

@@ -1,0 +1,103 @@
+-- An untrapped step that keeps user mode is counted where a trace is printed, and has no rows.
+use Rattle.std.proofs.Common.{◌≡◌, ℕ, zero, suc, ◌+◌, ◌≤◌, ◌&&◌, Bool, true, false, Option, Some, None, Ok, List, [], ◌∷◌, slice_index, refl, sym, ap, ap₂, ◌∙◌, subst, arith}
+use Rattle.std.specs.Prelude.{◌==◌, not, if◌then◌else◌, nat_lt, IfSome}
+use Rattle.std.specs.Option.{option_map}
+use Rattle.std.specs.Io.KnownBytes.{append_known}
+use Rattle.std.proofs.lemmas.Bool.{cond-false}
+use Rattle.cvm_outside.proofs.Parts.{append_known-nil}
+use Rattle.mips_table.specs.Device.{Outside}
+use Rattle.mips_table.specs.Machine.{State, MODE, in_system, step}
+use Rattle.mips_table.specs.Turns.{is_on, begins}
+use Rattle.mips_machine.specs.Machine.{Held, state_of}
+use Rattle.layer_map.specs.Map.{Map, current_at}
+use Rattle.c0_tree.specs.Tree.{CUnit}
+use Rattle.c0_meaning.specs.TypedState.{IsTypedState}
+use Rattle.cvm_model.specs.Kernel.{JournalEntry, Trapped, Stepped as Untrapped}
+use Rattle.cvm_model.specs.Text.{journal_rows_after}
+use Rattle.layer_contract.specs.declared.entry.Entry.TheVariants.{Primitive}
+use Rattle.layer_contract.specs.Layer.{entry_address}
+use Rattle.boot_report.specs.Told.{WordsTell}
+use Rattle.boot_turns.specs.declared.completion.Stepped.{Stepped}
+use Rattle.boot_turns.specs.declared.tracer.Entered.{Entered}
+use Rattle.boot_turns.specs.declared.tracer.Tracer.{Tracer}
+use Rattle.boot_turns.specs.Completes.{seen, note}
+use Rattle.boot_turns.specs.Entries.{entry_note, noted_at, notes_on, turn_begins, TracesGrow}
+use Rattle.boot_turns.specs.JournalText.{steps_after, RowsFollow}
+use Rattle.boot_turns.specs.Tracing.{CanTrace, counted, followed, kept_after}
+use Rattle.boot_turns.specs.TraceSteps.{StepTraces}
+use Rattle.boot_turns.proofs.Entering.{is_at}
+use Rattle.boot_turns.proofs.Tracking.{step_goes, step_untraced}
+
+-- what is known of a tracer stays
+pub counted_can : (m : Map) (words time count current : ℕ) (o : Option Tracer) → IfSome o (CanTrace m words time count) → IfSome (option_map (counted current) o) (CanTrace m words (time + 1) count)
+counted_can m words time count current None h = tt
+counted_can m words time count current (Some k) h = record {
+  some = h.some;
+  user = h.user;
+  few = by (current == k.user);
+  pages = h.pages;
+  memory = h.memory;
+  small = h.small;
+  all = h.all;
+  room = h.room;
+}
+  where
+    by : (b : Bool) → (if b then k.steps + 1 else k.steps) ≤ time + 1
+    by true = let f = h.few in omega (arith, f)
+    by false = let f = h.few in omega (arith, f)
+
+pub counted_user : (current : ℕ) (o : Option Tracer) → option_map (λ k. k.user) (option_map (counted current) o) ≡ option_map (λ k. k.user) o
+counted_user current None = refl
+counted_user current (Some k) = refl
+
+-- in user mode no primitive is entered
+no_entry : (n : ℕ) (s : State) → slice_index s.special MODE ≡ 1 → noted_at n s ≡ None
+no_entry zero s h = refl
+no_entry (suc k) s h =
+    cond-false (is_at k s) (Some (entry_note k s)) (noted_at k s) (second_false (is_on s) (in_system s.special) (s.cpu.pc == entry_address (Primitive k)) (ap (λ m. m == 0) h)) ∙ no_entry k s h
+  where
+    second_false : (a b c : Bool) → b ≡ false → (a && b && c) ≡ false
+    second_false true b c e = ap (λ b. b && c) e
+    second_false false b c e = refl
+
+-- the entries of such a step are none, or one that has no row yet
+begins_as : (s : State) (u current : ℕ) → slice_index s.special MODE ≡ 1 → turn_begins u current (note s) ≡ (if current == u then Untrapped ∷ [] else [])
+begins_as s u current h =
+    let trapped : List JournalEntry = if nat_lt 1 (note s).cause then Trapped (note s).cause (note s).edata ∷ [] else [] in
+    ap (λ (m : ℕ). if current == u then (if not (m == 1) then trapped else Untrapped ∷ []) else []) h
+
+no_rows : (n : ℕ) (b : Bool) → journal_rows_after false n (if b then Untrapped ∷ [] else []) ≡ []
+no_rows n true = refl
+no_rows n false = refl
+
+one_more : (n : ℕ) (b : Bool) → steps_after n (if b then Untrapped ∷ [] else []) ≡ (if b then n + 1 else n)
+one_more n true = refl
+one_more n false = refl
+
+abbrev tracer_of : ℕ → ℕ → Option Entered → Tracer
+tracer_of u n c = record { user = u; steps = n; call = c }
+
+module _ (s : State) (k : Tracer) (current : ℕ) (words : List ℕ) (user : slice_index s.special MODE ≡ 1) (free : k.call ≡ None) where
+  pub counted_rows : journal_rows_after false k.steps (followed s k current true words) ≡ []
+  counted_rows = ap (journal_rows_after false k.steps) (begins_as s k.user current user) ∙ no_rows k.steps (current == k.user)
+
+  pub counted_kept : counted current k ≡ kept_after s k current true words
+  counted_kept = ap₂ (λ (n : ℕ) (c : Option Entered). tracer_of k.user n c) (sym counted_steps) called
+    where
+      counted_steps : steps_after k.steps (followed s k current true words) ≡ (if current == k.user then k.steps + 1 else k.steps)
+      counted_steps = ap (steps_after k.steps) (begins_as s k.user current user) ∙ one_more k.steps (current == k.user)
+
+      called : k.call ≡ notes_on s k.call
+      called = free ∙ sym (ap (notes_on s) free ∙ no_entry 10 s user)
+
+-- THE STEP of a trace that is counted
+pub step_counted : (grow : (c : CUnit) → TracesGrow (IsTypedState c)) (f : RowsFollow) (tell : WordsTell) (x : Outside) (m : Map) (held : Held) (told : Option (List (List ℕ))) (before after : Option Tracer) (text : Option (List ℕ)) → held.hardware.off ≡ None →
+    (mid : Held) (midtold : Option (List (List ℕ))) → seen midtold mid ≡ option_map (step x) (seen told held) → (current : ℕ) → IfSome before (λ _. current ≡ slice_index held.hardware.memory current_at) →
+    IfSome (seen told held) (λ s. true ≡ begins x s) → slice_index mid.hardware.special MODE ≡ 1 → IfSome before (λ k. k.call ≡ None) → after ≡ option_map (counted current) before → (stepped : Stepped) →
+    StepTraces x m held told before after text text (Ok stepped)
+step_counted grow f tell x m held told None after text on mid midtold ran current is began user free counts stepped = step_untraced x m held told after text text (Ok stepped)
+step_counted grow f tell x m held told (Some k) after text on mid midtold ran current is began user free counts stepped =
+    subst (λ (t : Option Tracer). StepTraces x m held told (Some k) t text text (Ok stepped)) (sym counts)
+    (step_goes grow f tell x m held told k text on mid midtold ran current is true began stepped (Some k) (counted current k) text refl
+    (λ ss words e t. sym (ap (append_known text) (counted_rows (state_of mid ss) k current words user free) ∙ append_known-nil text))
+    (λ ss words e t. counted_kept (state_of mid ss) k current words user free))

@@ -1,0 +1,47 @@
+// A sink that takes the first bytes of a put that fails.
+ghost use Rattle.std.specs.Prelude.{None};
+
+use cvm_outside::{MemSink, Sink, SinkFault};
+
+/// A sink that tells no contents, and takes at most so many bytes of each put that fails. Where it takes any, this is a call
+/// of the sink within it, too.
+#[derive(Drop)]
+pub struct Partial {
+    inner: MemSink,
+    takes: usize,
+    faults: u64,
+}
+
+impl Partial {
+    /// Over a sink in memory.
+    pub fn new(inner: MemSink, takes: usize) -> Partial {
+        Partial {
+            inner,
+            takes,
+            faults: 0,
+        }
+    }
+
+    /// The bytes that were put.
+    pub fn bytes(&self) -> &[u8] {
+        self.inner.bytes()
+    }
+}
+
+impl Sink for Partial {
+    ghost text = { λ _. None };
+
+    ghost faults = { λ s. s.faults };
+
+    fn put(&mut self, bytes: &[u8]) -> Result<(), SinkFault> {
+        if self.inner.put(bytes).is_ok() {
+            return Ok(());
+        }
+        if self.takes > 0 {
+            let first = bytes.get(..self.takes).unwrap_or(bytes);
+            self.inner.put(first).unwrap_or(());
+        }
+        self.faults = self.faults.saturating_add(1);
+        Err(SinkFault::Failed)
+    }
+}
