@@ -1,6 +1,7 @@
 -- Isolation of a trace, from its headline: at the end of a run no turn is under way, so what is shown of the user is its journal, whose replay is its machine.
-use Rattle.std.proofs.Common.{◌≡◌, ◌⊎◌, inl, inr, Bool, true, false, ◌||◌, not, nat_lt, ℕ, zero, suc, ◌<◌, ◌≤◌, List, [], ◌++◌, refl, sym, ap, ◌∙◌, length, subst, Some, arith, append-nil}
-use Rattle.std.specs.Prelude.{if◌then◌else◌, ◌==◌}
+-- And two such traces of equal starts and journals tell the same.
+use Rattle.std.proofs.Common.{◌≡◌, ◌⊎◌, inl, inr, Bool, true, false, ◌||◌, not, nat_lt, ℕ, zero, suc, ◌<◌, ◌≤◌, List, [], ◌++◌, refl, sym, ap, ◌∙◌, length, subst, Some, None, arith, append-nil}
+use Rattle.std.specs.Prelude.{if◌then◌else◌, ◌==◌, Option}
 use Rattle.std.specs.Option.{option_map}
 use Rattle.std.proofs.lemmas.Bool.Decides.{nat_tests}
 use Rattle.mips_table.specs.Device.{Outside as Surroundings}
@@ -28,7 +29,7 @@ use Rattle.cvm_shell.specs.declared.status.Status.TheVariants.{Done, KernelFault
 use Rattle.cvm_shell.specs.declared.boot.Session.{Session}
 use Rattle.cvm_shell.specs.Outside.{Outside}
 use Rattle.cvm_shell.specs.Boot.{booted, around, ended_as, Headline}
-use Rattle.cvm_shell.specs.Isolation.{replayed_text, Isolated}
+use Rattle.cvm_shell.specs.Isolation.{replayed_text, Isolated, TellTheSame, EqualJournalsTellTheSame}
 use Rattle.cvm_shell.specs.Stages.{JournalsReplay}
 
 -- the law of every system, from those of the model
@@ -147,11 +148,44 @@ isolated laws law session u s rows before old new status h sees traced ends =
       units = shown.units;
       turns = complete x m t;
       last = shown.past;
+      entries = journal y (lines_of x m) shown.units u (complete x m t);
       text = h.text;
       turns_are = refl;
       run = shown.cvm;
       status_is = h.status_is ∙ ap ended_as (over.1 ∙ ap (λ (d : Cvm). ending_of d.status) (sym theirs.0));
+      entries_are = refl;
       text_is = replayed u (first_of y u) (journal y (lines_of x m) shown.units u (complete x m t)) j shown.past c h.text mine.1
           (shown_journal x m y u session.turns t j shown (laws.found x m session.turns session.steps over.0)) mine.0 text;
       printed = h.printed;
     }
+
+-- TWO TRACES of one start and one journal.
+
+some_is : (a b : List ℕ) → Some a ≡ Some b → b ≡ a
+some_is a b e = cc
+
+-- by what the replay comes to
+told_by : (u : ℕ) (first : Flat) (j : List JournalEntry) (status ended : CvmStatus) (text other : List ℕ) (r : Option Flat) → replay first j ≡ r
+    → option_map (λ last. trace_text u first j last status) r ≡ Some text → option_map (λ last. trace_text u first j last ended) r ≡ Some other → TellTheSame u first j status text ended other
+told_by u first j status ended text other None e is so = absurd cc
+told_by u first j status ended text other (Some last) e is so =
+    let one : text ≡ trace_text u first j last status = some_is _ _ is in
+    let two : other ≡ trace_text u first j last ended = some_is _ _ so in
+    record {
+      last = last;
+      replayed = e;
+      text_is = one;
+      other_is = two;
+      alike = λ same. one ∙ ap (trace_text u first j last) same ∙ sym two;
+    }
+
+-- the second text, said of the first one's start and journal
+told_alike : (u : ℕ) (first start : Flat) (j k : List JournalEntry) (status ended : CvmStatus) (text other : List ℕ) → first ≡ start → j ≡ k
+    → replayed_text u first j status ≡ Some text → replayed_text u start k ended ≡ Some other → TellTheSame u first j status text ended other
+told_alike u first start j k status ended text other starts journals is so =
+    let from_start = subst (λ (f : Flat). replayed_text u f k ended ≡ Some other) (sym starts) so in
+    told_by u first j status ended text other (replay first j) refl is (subst (λ (xs : List JournalEntry). replayed_text u first xs ended ≡ Some other) (sym journals) from_start)
+
+pub equal_journals : EqualJournalsTellTheSame
+equal_journals session another u s r rows inputs before present old new past now status ended a b starts journals =
+    told_alike u (first_of (booted s rows) u) (first_of (booted r inputs) u) a.entries b.entries a.last.status b.last.status a.text b.text starts journals a.text_is b.text_is

@@ -29,9 +29,26 @@ pub record Isolated (session : Session) (u : ℕ) (s : System) (rows : Rows) (be
   pub units : ℕ
   pub turns : ℕ
   pub last : Cvm
+  pub entries : List JournalEntry
   pub text : List ℕ
   pub turns_are : turns ≡ complete (around rows old) (loaded (booted s rows) before) (end_of (around rows old) (booted s rows) before session.turns session.steps)
   pub run : cvm (booted s rows) (lines_of (around rows old) (loaded (booted s rows) before)) units turns ≡ Some last
   pub status_is : status ≡ ended_as (ending_of last.status)
-  pub text_is : replayed_text u (first_of (booted s rows) u) (journal (booted s rows) (lines_of (around rows old) (loaded (booted s rows) before)) units u turns) last.status ≡ Some text
+  pub entries_are : entries ≡ journal (booted s rows) (lines_of (around rows old) (loaded (booted s rows) before)) units u turns
+  pub text_is : replayed_text u (first_of (booted s rows) u) entries last.status ≡ Some text
   pub printed : new.sink.text ≡ append_known old.sink.text text
+
+-- TWO TEXTS TELL THE SAME of user u: the start row and the rows of one journal, and the rows of one machine behind `halted` or `stopped`. Only which of
+-- these words, or which `fault NAME` in place of word and machine, may differ, as the runs ended; where they ended alike, the texts are the same
+pub record TellTheSame (u : ℕ) (first : Flat) (entries : List JournalEntry) (status : CvmStatus) (text : List ℕ) (ended : CvmStatus) (other : List ℕ) : Type 0 where
+  pub last : Flat
+  pub replayed : replay first entries ≡ Some last
+  pub text_is : text ≡ trace_text u first entries last status
+  pub other_is : other ≡ trace_text u first entries last ended
+  pub alike : status ≡ ended → text ≡ other
+
+-- A LAW: two traces of a user that starts alike and has the same journal tell the same of it, whatever else is in the two systems, their schedules and disks
+abbrev pub EqualJournalsTellTheSame : Type 0
+EqualJournalsTellTheSame = (session another : Session) (u : ℕ) (s r : System) (rows inputs : Rows) (before present : List (List ℕ)) (old new past now : Outside) (status ended : Status)
+    (a : Isolated session u s rows before old new status) (b : Isolated another u r inputs present past now ended) → first_of (booted s rows) u ≡ first_of (booted r inputs) u → a.entries ≡ b.entries
+    → TellTheSame u (first_of (booted s rows) u) a.entries a.last.status a.text b.last.status b.text

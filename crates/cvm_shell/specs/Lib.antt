@@ -8,3 +8,4 @@ pub mod Isolation
 pub mod Outcome
 pub mod Views
 pub mod Stages
+pub mod Linked

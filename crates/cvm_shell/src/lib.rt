@@ -13,6 +13,7 @@ pub mod accepted;
 pub mod assembly;
 pub mod boot;
 pub mod command;
+pub mod laws;
 pub mod linking;
 pub mod migration;
 pub mod object;
@@ -55,7 +56,7 @@ use std::alloc::Global;
 /// one that a `compile user`, a `compile kernel`, a `link` or a `migrate` names to be put, and no sector but those of the users' pages of
 /// a `boot`, a `trace` or a `sample`.
 ///
-/// What a `trace` that is done prints of its user depends on nothing but the user's own words, its journal and whether the run halted:
+/// What a `trace` that is done prints of its user depends on nothing but the user's own words, its journal and how the run ended:
 /// the machine that it shows is the replay of that journal.
 pub fn run<S: Shelf, O: Sink, D: Sectors>(
     alloc: Global,

@@ -3,6 +3,7 @@ ghost use Rattle.std.specs.Prelude.{◌≡◌, ◌≢◌, ◌↔◌, ⊤, ℕ, L
 ghost use Rattle.cvm_outside.specs.Told.{TOO_LONG};
 ghost use Rattle.cvm_shell.specs.Command as Command;
 ghost use Rattle.cvm_shell.specs.Command.{texts};
+ghost use Rattle.cvm_shell.specs.Linked.{IsAcceptedAs, AreAcceptedAs, LinkIsAccepted};
 ghost use Rattle.cvm_shell.specs.Plan.{AfterParts, AfterSystem, IsPlan};
 ghost use Rattle.cvm_shell.specs.Stages.{object_stop, file_stop, link_stop, Fetched, NotFetched, AreWordsOf, PlanCounts, linked_to, IsLinkPlan};
 ghost use Rattle.cvm_shell.specs.Views.{link_view, IfPlan};
@@ -13,6 +14,7 @@ use crate::refusal::Refusal;
 use boot_image::write;
 use c0_types::laws::sources_have_one_answer;
 use cvm_outside::Shelf;
+use kernel_linker::laws::linked_images_are_accepted;
 use kernel_linker::{LinkFault, link};
 use layer_contract::LayerMaker;
 use layer_map::Params;
@@ -60,6 +62,8 @@ pub fn system_image<M: LayerMaker, S: Shelf>(
     shelf: &mut S,
 ) -> Result<Vec<u8>, Stop>
     ensures comes { IfPlan (linked_to (link_view names.now)) (IsLinkPlan M.made (S.file shelf.old) (link_view names.now)) result }
+    // These bytes are those of an image that is accepted, over the same layer: as the system of the files that were got.
+    ensures accepted { IfOk result (λ v. LinkIsAccepted M.made (S.file shelf.old) (link_view names.now) v.items) }
     ensures long { IsErrOf result (Stop.Refused Refusal.TooLong) ↔ (S.taken shelf.new ≡ TOO_LONG) }
     ensures count { PlanCounts (S.faults shelf.old) (S.faults shelf.new) result }
     ensures files { (n : List ℕ) → S.file shelf.new n ≡ S.file shelf.old n }
@@ -97,6 +101,7 @@ fn linked_image<M: LayerMaker>(
     users: &[Vec<u8>],
 ) -> Result<Vec<u8>, Stop>
     ensures comes { (l : Command.Link) → IfPlan (linked_to l) (IsPlan ⊤ (AfterSystem M.made l.image object.now params.now (map (λ b. b.items) users.now))) result }
+    ensures accepted { IfOk result (λ v. AreAcceptedAs M.made object.now params.now (map (λ b. b.items) users.now) v.items) }
     ensures inside { IfErr result (λ s. s ≢ Stop.Shelf) }
     ensures short { IsErrOf result (Stop.Refused Refusal.TooLong) → ⊥ }
 {
@@ -131,10 +136,12 @@ fn image_of<M: LayerMaker>(
     users: &[Vec<u32>],
 ) -> Result<Vec<u8>, Stop>
     ensures comes { (l : Command.Link) → IfPlan (linked_to l) (IsPlan ⊤ (AfterParts M.made l.image object.now params.now (map (λ u. u.items) users.now))) result }
+    ensures accepted { IfOk result (λ v. IsAcceptedAs M.made object.now params.now (map (λ u. u.items) users.now) v.items) }
     ensures inside { IfErr result (λ s. s ≢ Stop.Shelf) }
     ensures short { IsErrOf result (Stop.Refused Refusal.TooLong) → ⊥ }
 {
     sources_have_one_answer();
+    linked_images_are_accepted();
     let image = link::<M>(alloc, object, params, users)?;
     match write(alloc, &image) {
         Ok(bytes) => Ok(bytes),

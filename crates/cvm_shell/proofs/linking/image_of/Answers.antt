@@ -1,5 +1,5 @@
 use Rattle.std.proofs.lemmas.Result.{err_from_is_err_and}
-use Rattle.cvm_shell.proofs.LinkPlans.{linked_fault, linked_whole}
+use Rattle.cvm_shell.proofs.LinkPlans.{linked_fault, linked_whole, linked_accepted}
 use Rattle.cvm_shell.proofs.linking.image_of.Goals as goal
 
 pub returns-in_err-image-clause-comes : goal.returns-in_err-image-clause-comes
@@ -12,3 +12,8 @@ pub returns-in-Ok-clause-comes : goal.returns-in-Ok-clause-comes
 returns-in-Ok-clause-comes g c = λ l.
     let is = c.in_ok-image.ensures.is in
     linked_whole c.sources_have_one_answer.ensures g.M.LayerMaker.made l.image _ _ _ _ _ is.0 is.1 is.2 c.in-Ok.ensures.spelled
+
+pub returns-in-Ok-clause-accepted : goal.returns-in-Ok-clause-accepted
+returns-in-Ok-clause-accepted g c =
+    let is = c.in_ok-image.ensures.is in
+    linked_accepted c.linked_images_are_accepted.ensures g.M.LayerMaker.made _ _ _ _ is.0 _ is.1 is.2 (c.in-Ok.ensures.read_back c.in_ok-image.ensures.spelled)

@@ -4,12 +4,13 @@ use Rattle.std.specs.Option.{IsSome}
 use Rattle.std.proofs.lemmas.Result.{err_from_is_err_and}
 use Rattle.cvm_outside.specs.Told.{TOO_LONG, Tells}
 use Rattle.cvm_outside.specs.declared.shelf.ShelfFault.{ShelfFault}
+use Rattle.cvm_shell.specs.Linked.{AreAcceptedAs, LinkIsAccepted}
 use Rattle.cvm_shell.specs.Plan.{GotAll, AreTold, AfterSystem}
 use Rattle.cvm_shell.specs.Stages.{linked_to}
 use Rattle.cvm_shell.specs.Views.{link_view}
 use Rattle.cvm_shell.proofs.Plans.{got_fault}
 use Rattle.cvm_shell.proofs.GotFiles.{fetched_moved, not_fetched_moved, unfetched_plan}
-use Rattle.cvm_shell.proofs.LinkPlans.{object_got, params_got, system_got}
+use Rattle.cvm_shell.proofs.LinkPlans.{object_got, params_got, system_got, if_ok}
 use Rattle.cvm_shell.proofs.linking.system_image.Goals as goal
 
 pub returns-in_err-object-clause-comes : goal.returns-in_err-object-clause-comes
@@ -63,3 +64,25 @@ returns-clause-comes g c =
     system_got (linked_to l) g.M.LayerMaker.made told l object params users c.linked_image.result c.in_ok-object.ensures.bytes short tells few
     (fetched_moved told _ (λ n. c.in_ok-params.ensures.files n ∙ c.in_ok-object.ensures.files n) l.users users c.in_ok-users.ensures.got)
     (rw (c.deref.ensures.value, c.deref-2.ensures.value, c.deref-3.ensures.value) at (c.linked_image.ensures.comes l))
+
+pub returns-clause-accepted : goal.returns-clause-accepted
+returns-clause-accepted g c =
+    let made = g.M.LayerMaker.made in
+    let l = link_view c.args.names.now in
+    let told = g.S.Shelf.file c.args.shelf.now in
+    let object = c.in_ok-object.object.items in
+    let params = c.in_ok-params.params.items in
+    let users = map (λ (b : Vec ℕ Global). b.items) c.in_ok-users.users.items in
+    let tells : Tells (told l.params) params =
+    let P : Option (List ℕ) → Type 0 = λ o. Tells o params in
+    subst P (c.in_ok-object.ensures.files c.args.names.now.params.now) c.in_ok-params.ensures.bytes in
+    if_ok (λ (v : Vec ℕ Global). AreAcceptedAs made object params users v.items) (λ (v : Vec ℕ Global). LinkIsAccepted made told l v.items)
+    (λ v is. record {
+      object = object;
+      params = params;
+      users = users;
+      object_told = c.in_ok-object.ensures.bytes;
+      params_told = tells;
+      users_told = fetched_moved told _ (λ n. c.in_ok-params.ensures.files n ∙ c.in_ok-object.ensures.files n) l.users users c.in_ok-users.ensures.got;
+      accepted = is;
+    }) c.linked_image.result (rw (c.deref.ensures.value, c.deref-2.ensures.value, c.deref-3.ensures.value) at c.linked_image.ensures.accepted)
