@@ -165,8 +165,6 @@ impl Tracer {
     /// # Errors
     ///
     /// A fault of the disk, from which a page may have to be read, or of the sink.
-    #[cold]
-    #[inline(never)]
     pub fn follow<D: Sectors, O: Sink>(
         &mut self,
         machine: &mut Machine,
