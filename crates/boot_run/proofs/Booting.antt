@@ -1,16 +1,13 @@
 -- A whole boot, by what load and the run come to.
-use Rattle.std.proofs.Common.{◌≡◌, ◌≢◌, ℕ, ◌*◌, ◌≤◌, Option, Some, None, List, [], Result, Ok, Err, map, length, inl, inr, arith, refl, sym, ap, ◌∙◌, subst, append-nil}
+use Rattle.std.proofs.Common.{◌≡◌, ◌≢◌, ℕ, ◌*◌, ◌≤◌, Option, Some, None, List, [], Ok, Err, length, inl, inr, arith, refl, sym, ap, ◌∙◌, subst, append-nil}
 use Rattle.std.proofs.lemmas.List.{length-map}
-use Rattle.std.specs.Prelude.{IfSome, IsSome}
-use Rattle.std.specs.Option.{option_map}
+use Rattle.std.specs.Prelude.{IsSome}
 use Rattle.std.specs.Io.KnownBytes.{append_known}
 use Rattle.mips_table.specs.Device.{Outside, sector_of}
 use Rattle.schedule_file.specs.Rows.{Rows}
 use Rattle.mips_machine.specs.Steps.{outside_of}
 use Rattle.cvm_model.specs.Cvm.{System, first_cvm}
 use Rattle.layer_contract.specs.declared.boot.Boot.{Boot as Booted}
-use Rattle.layer_contract.specs.Boots.{boot_of}
-use Rattle.boot_turns.specs.Headline as headline
 use Rattle.boot_turns.specs.Headline.{Beyond}
 use Rattle.boot_turns.specs.declared.answers.View.{View}
 use Rattle.boot_run.specs.Loading.{system_of, StaysFrom}

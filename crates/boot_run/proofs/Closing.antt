@@ -1,8 +1,7 @@
 -- How a loaded run ends, by what its turns and its report came to.
-use Rattle.std.proofs.Common.{◌≡◌, ◌⊎◌, inl, inr, ℕ, suc, Bool, true, false, Option, Some, List, refl, sym, ap, ◌∙◌, subst}
+use Rattle.std.proofs.Common.{◌≡◌, inl, inr, ℕ, Bool, true, false, Option, Some, List, refl, sym, ap, ◌∙◌, subst}
 use Rattle.std.specs.Prelude.{if◌then◌else◌}
 use Rattle.std.specs.Option.{option_map}
-use Rattle.std.specs.Io.KnownBytes.{append_known}
 use Rattle.mips_table.specs.Device.{Outside}
 use Rattle.mips_table.specs.Machine.{State}
 use Rattle.mips_table.specs.Turns.{complete, lines_of, is_end, TurnLaws}

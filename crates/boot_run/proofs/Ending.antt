@@ -1,5 +1,5 @@
 -- What closes a run, by what its report comes to; and a loaded run to its end.
-use Rattle.std.proofs.Common.{◌≡◌, ℕ, suc, length, Bool, true, false, Option, Some, None, List, Result, Ok, Err, refl, sym, ap, ◌∙◌, subst}
+use Rattle.std.proofs.Common.{◌≡◌, ℕ, suc, length, true, false, Option, Some, None, List, Ok, Err, refl, sym, ap, ◌∙◌, subst}
 use Rattle.std.specs.Option.{option_map}
 use Rattle.mips_table.specs.Machine.{State}
 use Rattle.mips_table.specs.Turns.{TurnLaws}
@@ -9,8 +9,7 @@ use Rattle.mips_machine.specs.Steps.{outside_of}
 use Rattle.c0_tree.specs.Tree.{CUnit}
 use Rattle.c0_tree.specs.View.{unit_view}
 use Rattle.c0_meaning.specs.TypedState.{IsTypedState}
-use Rattle.cvm_model.specs.Cvm.{System, Status, Running, Halted, Faulted, Cvm, first_cvm}
-use Rattle.cvm_model.specs.declared.row.Next.{Next}
+use Rattle.cvm_model.specs.Cvm.{System, Status, Running, Halted, Faulted, Cvm}
 use Rattle.layer_contract.specs.declared.boot.Boot.{Boot as Booted}
 use Rattle.boot_turns.specs.Completes.{seen}
 use Rattle.boot_turns.specs.Entries.{TracesGrow}
@@ -25,8 +24,8 @@ use Rattle.boot_run.specs.declared.whole.RunEnd.{RunEnd}
 use Rattle.boot_run.specs.declared.whole.RunEnd.TheVariants as run
 use Rattle.boot_run.specs.TurnCalls.{ended_of, Around, around, Ready, KeepsLoad}
 use Rattle.boot_run.specs.Shown.{has_faulted}
-use Rattle.boot_run.specs.Report.{ReportBroken, ReportRuns}
-use Rattle.boot_run.specs.Whole.{Bootable, CloseEnds, CloseRuns, GoRuns, BootEnds, RunsToEnd, ending_of_end, end_of_fault}
+use Rattle.boot_run.specs.Report.{ReportRuns}
+use Rattle.boot_run.specs.Whole.{Bootable, CloseEnds, CloseRuns, GoRuns, RunsToEnd, end_of_fault}
 use Rattle.boot_run.proofs.Looping.{machines}
 use Rattle.boot_run.proofs.Prefixes.{GrowsFor, grows_for}
 use Rattle.boot_run.proofs.Closing.{fails_end, closed}

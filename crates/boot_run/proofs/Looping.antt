@@ -1,6 +1,6 @@
 -- The loop over turns, by what each call of `turns` comes to.
-use Rattle.std.proofs.Common.{◌≡◌, ℕ, suc, ◌+◌, ◌<◌, ◌≤◌, Option, Some, None, List, Result, Ok, Err, refl, sym, ap, ap₂, ◌∙◌, subst, arith}
-use Rattle.std.specs.Prelude.{IsSome, MatchResult}
+use Rattle.std.proofs.Common.{◌≡◌, ℕ, ◌+◌, ◌≤◌, Option, Some, None, List, Result, Ok, Err, refl, sym, ap, subst, arith}
+use Rattle.std.specs.Prelude.{IsSome}
 use Rattle.mips_table.specs.Turns.{TurnLaws}
 use Rattle.schedule_file.specs.Rows.{Rows}
 use Rattle.mips_machine.specs.Steps.{outside_of}
@@ -23,7 +23,7 @@ use Rattle.boot_turns.specs.declared.answers.RunFault.{RunFault}
 use Rattle.boot_run.specs.LoadEnds.{Kept}
 use Rattle.boot_run.specs.TurnCalls.{Around, Ready, TurnsEnd, TurnsRun, KeepsLoad}
 use Rattle.boot_run.specs.Whole.{Bootable, Gone, GoRuns}
-use Rattle.boot_run.proofs.Going.{Going, Goes, going_first, going_turns, goes_on, go_done, go_over, go_fails}
+use Rattle.boot_run.proofs.Going.{Goes, going_first, going_turns, goes_on, go_done, go_over, go_fails}
 
 pub machines : ((u : CUnit) → MachinesRun (IsTypedState u)) → (b : Booted) (rows : Rows) (count : ℕ) (y : System) (old : List (List ℕ)) → Bootable b rows count y old → Machines (outside_of rows count) y old
 machines run b rows count y old p = run (unit_view b.unit) p.lines p.busy (outside_of rows count) y old p.image p.sizes p.made_for p.boots p.laws p.replays

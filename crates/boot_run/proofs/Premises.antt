@@ -1,5 +1,5 @@
 -- The premises of a boot, from what a layer, what is booted, a schedule and a disk promise.
-use Rattle.std.proofs.Common.{◌≡◌, ℕ, ◌+◌, ◌-◌, ◌*◌, ◌≤◌, List, ◌++◌, length, map, drop, refl, sym, ap, ap₂, ◌∙◌, subst, arith, length-append, length-drop}
+use Rattle.std.proofs.Common.{◌≡◌, ℕ, ◌-◌, ◌*◌, ◌≤◌, List, ◌++◌, length, drop, refl, sym, ap, ap₂, ◌∙◌, subst, arith, length-append, length-drop}
 use Rattle.std.proofs.lemmas.List.{length-map}
 use Rattle.std.proofs.lemmas.List.Elements.{All-weaker}
 use Rattle.std.specs.Prelude.{All}
@@ -11,7 +11,7 @@ use Rattle.mips_machine.specs.Steps.{outside_of}
 use Rattle.layer_map.specs.Map.{Map, MapInRange, layer_words}
 use Rattle.c0_tree.specs.View.{unit_view}
 use Rattle.cvm_model.specs.KernelMeaning.{UnitsReplay}
-use Rattle.cvm_model.specs.Cvm.{first_core, map_of}
+use Rattle.cvm_model.specs.Cvm.{first_core}
 use Rattle.cvm_model.specs.Stands.{Site, input_room, CoreFits}
 use Rattle.layer_contract.specs.declared.boot.Boot.{Boot as Booted}
 use Rattle.layer_contract.specs.Boots.{boot_of, BootFollows}

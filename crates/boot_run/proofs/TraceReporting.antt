@@ -1,6 +1,6 @@
 -- What the rows of a trace's report are, where the machine of a run stands between turns: the row of the last steps closes the journal, and the
 -- end and the user's rows follow.
-use Rattle.std.proofs.Common.{◌≡◌, ℕ, suc, ◌≤◌, false, refl, Option, Some, List, ◌++◌, length, map, sym, ap, ap₂, ◌∙◌, subst, append_assoc, arith}
+use Rattle.std.proofs.Common.{◌≡◌, ℕ, suc, ◌≤◌, false, refl, Option, Some, List, ◌++◌, length, sym, ap, ap₂, ◌∙◌, subst, append_assoc, arith}
 use Rattle.std.specs.Prelude.{is_some}
 use Rattle.mips_table.specs.Device.{Outside}
 use Rattle.mips_table.specs.Flat.{Flat}

@@ -1,4 +1,4 @@
-use Rattle.std.proofs.Common.{◌≡◌, ℕ, ◌+◌, ◌-◌, ◌≤◌, None}
+use Rattle.std.proofs.Common.{◌≡◌, ◌+◌, ◌-◌, ◌≤◌, None}
 use Rattle.boot_run.specs.TurnCalls.{around, KeepsLoad}
 use Rattle.boot_run.proofs.Looping.{KeepsGoing}
 use Rattle.boot_run.proofs.whole.go.Given as goal

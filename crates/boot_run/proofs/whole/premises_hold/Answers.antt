@@ -1,7 +1,6 @@
-use Rattle.std.proofs.Common.{◌≡◌, ◌<◌, ◌^◌, ℕ, List, Some, sym, ap, ◌∙◌, subst}
+use Rattle.std.proofs.Common.{◌≡◌, ◌<◌, ◌^◌, subst}
 use Rattle.std.specs.Prelude.{All, IfSome, length}
 use Rattle.cvm_outside.specs.Told.{IsSector}
-use Rattle.mips_table.specs.Fits.{IsPage}
 use Rattle.boot_run.proofs.Premises.{bootable, are_pages}
 use Rattle.boot_run.proofs.whole.premises_hold.Goals as goal
 

@@ -1,4 +1,4 @@
-use Rattle.std.proofs.Common.{◌≡◌, sym, subst}
+use Rattle.std.proofs.Common.{sym, subst}
 use Rattle.boot_run.specs.TurnCalls.{around}
 use Rattle.boot_run.specs.declared.whole.RunEnd.{RunEnd}
 use Rattle.boot_run.specs.Whole.{RunsToEnd}
