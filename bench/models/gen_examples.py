@@ -46,7 +46,7 @@ def example(name):
 for name in ('adder', 'faults', 'messages', 'round_robin', 'sharing'):
     example(name)
 
-NOTE = '''The examples, from the files as they stand: examples/NAME is the folder data/examples/NAME of this crate. Written by bench/models/gen_examples.py.
+NOTE = '''The examples, from copies of their files: data/examples/NAME has those of examples/NAME, but for the pages. Written by bench/models/gen_examples.py.
 
 At which turns the lines of round_robin are taken hangs on the physical machine alone: as in lines.cases that text is the program's own, checked by
 that script. All others are worked out apart.

@@ -1,0 +1,2 @@
+# a word that is no instruction
+      .word 0xffffffff

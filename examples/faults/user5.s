@@ -1,0 +1,2 @@
+# a system call with a code
+      syscall 7
