@@ -1,11 +1,11 @@
--- What a step was says whether it began a turn.
-use Rattle.std.proofs.Common.{◌≡◌, ℕ, zero, suc, ◌+◌, ◌&&◌, ◌||◌, not, Bool, true, false, Option, Some, None, List, [], refl, sym, ap, ◌∙◌, subst, slice_index, slice_set}
-use Rattle.std.specs.Prelude.{IfSome, is_some, ◌==◌}
+-- What a step was, and the special registers after it, say whether it began a turn.
+use Rattle.std.proofs.Common.{◌≡◌, ℕ, zero, suc, ◌+◌, ◌&&◌, ◌||◌, not, Bool, true, false, Option, Some, None, List, [], refl, sym, ap, ap₂, ◌∙◌, subst, slice_index, slice_set, ◌/◌}
+use Rattle.std.specs.Prelude.{IfSome, is_some, nat_lt, ◌==◌}
 use Rattle.std.specs.Option.{option_map}
 use Rattle.mips_table.specs.declared.cause.Cause.{Cause}
 use Rattle.mips_table.specs.declared.cause.Cause.TheVariants as causes
 use Rattle.mips_table.specs.Device.{Device, Outside, Pending, Idle, Reading, Writing}
-use Rattle.mips_table.specs.Machine.{State, MODE, PTL, EDATA, Coming, Interrupt, Done, coming, latched, come_to, ended, if_on, step}
+use Rattle.mips_table.specs.Machine.{State, MODE, PTL, ECA, EDATA, number_of, Coming, Interrupt, Done, coming, latched, come_to, ended, if_on, step}
 use Rattle.mips_table.specs.Turns.{in_user, is_handled, handled, begins}
 use Rattle.sector_disk.specs.Ports.{TransferFails}
 use Rattle.mips_machine.specs.declared.event.Event.{Event}
@@ -13,8 +13,15 @@ use Rattle.mips_machine.specs.declared.event.Event.TheVariants.{Ran, Taken, Off,
 use Rattle.mips_machine.specs.Hardware.{told_as, event_by}
 use Rattle.mips_machine.specs.Machine.{Held, state_of}
 use Rattle.mips_machine.specs.Steps.{outside_of, event_if, event_of, before_count, after_step, Steps, Fails}
-use Rattle.boot_turns.specs.Completes.{seen, begun_by, TornBy, Torn, StepTorn, SeenTorn}
+use Rattle.boot_turns.specs.Completes.{seen, was_off, was_taken, begun_at, TornBy, Torn, StepTorn, SeenTorn}
 use Rattle.boot_turns.proofs.Stepping.{on_time}
+
+-- by the event as a whole
+abbrev pub begun_by : (reset in_user : Bool) (pages edata : ℕ) → Event → Bool
+begun_by reset in_user pages edata (Off word) = false
+begun_by reset in_user pages edata (Taken causes.FetchFault) = reset || (in_user && not (nat_lt (edata / 4096) pages))
+begun_by reset in_user pages edata (Taken causes.DataFault) = reset || (in_user && not (nat_lt (edata / 4096) pages))
+begun_by reset in_user pages edata other = reset || in_user
 
 fault_begins : (r u h : Bool) → r || (u && not (u && h)) ≡ r || (u && not h)
 fault_begins r true h = refl
@@ -94,6 +101,66 @@ event_told count old new told retold e b reset mode pages edata h hr hm hp hd is
     ∙ (ap (λ m. begun_by old.hardware.reset (m == 1) pages edata e) hm
     ∙ (ap (λ p. begun_by old.hardware.reset (slice_index old.hardware.special MODE == 1) p edata e) hp
     ∙ ap (λ d. begun_by old.hardware.reset (slice_index old.hardware.special MODE == 1) (slice_index old.hardware.special PTL) d e) hd))))
+
+-- the cause of an interrupt is in its special register after it
+register_cause : (before : State) (cause : Cause) (edata epc : ℕ) → slice_index (ended (come_to (Interrupt before cause edata epc))).special ECA ≡ number_of cause
+register_cause before causes.Reset edata epc = refl
+register_cause before causes.External edata epc = refl
+register_cause before causes.FetchAlign edata epc = refl
+register_cause before causes.FetchFault edata epc = refl
+register_cause before causes.Illegal edata epc = refl
+register_cause before causes.Overflow edata epc = refl
+register_cause before causes.Syscall edata epc = refl
+register_cause before causes.DataAlign edata epc = refl
+register_cause before causes.DataFault edata epc = refl
+
+same_cause : (c d : Cause) → ◌≡◌ {A = Event} (Taken c) (Taken d) → c ≡ d
+same_cause c d e = cc
+
+never_taken : (off : Option ℕ) (c : Cause) → event_by off ≡ Taken c → ⊥
+never_taken None c e = cc
+never_taken (Some word) c e = cc
+
+coming_cause : (o : Coming) (c : Cause) → told_as o ≡ Taken c → slice_index (ended (come_to o)).special ECA ≡ number_of c
+coming_cause (Interrupt before cause edata epc) c e = register_cause before cause edata epc ∙ ap number_of (same_cause cause c e)
+coming_cause (Done after) c e = absurd (never_taken after.off c e)
+
+cause_by : (x : Outside) (s : State) (o : Option ℕ) (c : Cause) → event_if x s o ≡ Taken c → slice_index (if_on x s o).special ECA ≡ number_of c
+cause_by x s (Some word) c e = absurd (cc)
+cause_by x s None c e = coming_cause (coming x (latched x s)) c e
+
+taken_cause : (x : Outside) (s : State) (c : Cause) → event_of x s ≡ Taken c → slice_index (step x s).special ECA ≡ number_of c
+unfolding step event_of
+taken_cause x s c e = cause_by x s s.off c e
+
+steps_cause : (count : ℕ) (old new : Held) (told retold : Option (List (List ℕ))) (e : Event) → Steps count old new told retold e → (c : Cause) → e ≡ Taken c → slice_index new.hardware.special ECA ≡ number_of c
+steps_cause count old new told retold e h c is = ap (λ (s : State). slice_index s.special ECA) h.state ∙ taken_cause (outside_of old.rows count) (state_of old h.sectors) c (sym h.event ∙ is)
+
+-- so the kind of the event and that register tell as much as the event
+on_true : (r u : Bool) → r || (u && true) ≡ r || u
+on_true r true = refl
+on_true r false = refl
+
+begun_as : (r u : Bool) (pages edata cause : ℕ) (e : Event) → ((c : Cause) → e ≡ Taken c → cause ≡ number_of c) → begun_at r u pages (was_off e) (was_taken e) cause edata ≡ begun_by r u pages edata e
+begun_as r u pages edata cause (Off word) h = refl
+begun_as r u pages edata cause (Taken causes.FetchFault) h = ap (λ n. begun_at r u pages false true n edata) (h causes.FetchFault refl)
+begun_as r u pages edata cause (Taken causes.DataFault) h = ap (λ n. begun_at r u pages false true n edata) (h causes.DataFault refl)
+begun_as r u pages edata cause (Taken causes.Reset) h = ap (λ n. begun_at r u pages false true n edata) (h causes.Reset refl) ∙ on_true r u
+begun_as r u pages edata cause (Taken causes.External) h = ap (λ n. begun_at r u pages false true n edata) (h causes.External refl) ∙ on_true r u
+begun_as r u pages edata cause (Taken causes.FetchAlign) h = ap (λ n. begun_at r u pages false true n edata) (h causes.FetchAlign refl) ∙ on_true r u
+begun_as r u pages edata cause (Taken causes.Illegal) h = ap (λ n. begun_at r u pages false true n edata) (h causes.Illegal refl) ∙ on_true r u
+begun_as r u pages edata cause (Taken causes.Overflow) h = ap (λ n. begun_at r u pages false true n edata) (h causes.Overflow refl) ∙ on_true r u
+begun_as r u pages edata cause (Taken causes.Syscall) h = ap (λ n. begun_at r u pages false true n edata) (h causes.Syscall refl) ∙ on_true r u
+begun_as r u pages edata cause (Taken causes.DataAlign) h = ap (λ n. begun_at r u pages false true n edata) (h causes.DataAlign refl) ∙ on_true r u
+begun_as r u pages edata cause Ran h = on_true r u
+begun_as r u pages edata cause (Power word) h = on_true r u
+
+pub event_told_at : (count : ℕ) (old new : Held) (told retold : Option (List (List ℕ))) (e : Event) (b reset off taken : Bool) (mode pages cause edata : ℕ) → Steps count old new told retold e →
+    reset ≡ old.hardware.reset → mode ≡ slice_index old.hardware.special MODE → pages ≡ slice_index old.hardware.special PTL → cause ≡ slice_index new.hardware.special ECA → edata ≡ slice_index new.hardware.special EDATA →
+    off ≡ was_off e → taken ≡ was_taken e → b ≡ begun_at reset (mode == 1) pages off taken cause edata → IfSome (seen told old) (λ s. b ≡ begins (outside_of old.rows count) s)
+event_told_at count old new told retold e b reset off taken mode pages cause edata h hr hm hp hc hd ho ht is =
+    event_told count old new told retold e b reset mode pages edata h hr hm hp hd
+    (is ∙ ap₂ (λ o t. begun_at reset (mode == 1) pages o t cause edata) ho ht ∙ begun_as reset (mode == 1) pages edata cause e (λ c same. hc ∙ steps_cause count old new told retold e h c same))
 
 -- a step that is told as an instruction leaves the machine on
 event_on : (off : Option ℕ) → event_by off ≡ Ran → off ≡ None

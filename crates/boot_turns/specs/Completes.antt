@@ -1,7 +1,6 @@
 -- What a loop that steps a machine to the end of a turn has done.
 use Rattle.std.specs.Prelude.{◌≡◌, ◌≢◌, ◌⊎◌, ℕ, suc, ◌+◌, ◌-◌, ◌/◌, ◌<◌, ◌≤◌, ◌==◌, ◌&&◌, ◌||◌, not, nat_lt, is_some, IfSome, Option, Some, None, Bool, true, false, List, [], slice_index, slice_set, Result, MatchResult}
 use Rattle.std.specs.Option.{option_map}
-use Rattle.mips_table.specs.declared.cause.Cause.TheVariants.{FetchFault, DataFault}
 use Rattle.mips_table.specs.Device.{Outside, Pending, Writing}
 use Rattle.mips_table.specs.Machine.{State, MODE, ECA, EDATA, step, run}
 use Rattle.mips_table.specs.Turns.{begins, rests}
@@ -45,12 +44,18 @@ SeenTorn x s new = (now : List (List ℕ)) × (option_map (λ (z : State). z.dev
 abbrev pub StepBegan : (count : ℕ) → Held → Option (List (List ℕ)) → Bool → Type 0
 StepBegan count old told answer = IfSome (seen told old) (λ s. answer ≡ begins (outside_of old.rows count) s)
 
--- whether a step began a turn, by what the machine shows before and after it and by what the step was
-abbrev pub begun_by : (reset in_user : Bool) (pages edata : ℕ) → Event → Bool
-begun_by reset in_user pages edata (Off word) = false
-begun_by reset in_user pages edata (Taken FetchFault) = reset || (in_user && not (nat_lt (edata / 4096) pages))
-begun_by reset in_user pages edata (Taken DataFault) = reset || (in_user && not (nat_lt (edata / 4096) pages))
-begun_by reset in_user pages edata other = reset || in_user
+-- whether a step was the answer of a machine that was off, and whether it took an interrupt
+abbrev pub was_off : Event → Bool
+was_off (Off word) = true
+was_off other = false
+
+abbrev pub was_taken : Event → Bool
+was_taken (Taken cause) = true
+was_taken other = false
+
+-- whether a step began a turn, by what the machine shows before and after it and by what the step was: it does but for page faults that are handled
+abbrev pub begun_at : (reset in_user : Bool) (pages : ℕ) (off taken : Bool) (cause edata : ℕ) → Bool
+begun_at reset in_user pages off taken cause edata = not off && (reset || (in_user && not ((taken && (cause == 3 || cause == 8)) && nat_lt (edata / 4096) pages)))
 
 -- whether a step was one that began a turn
 abbrev pub turn_began : Stepped → Bool

@@ -6,7 +6,7 @@ ghost use Rattle.mips_table.specs.Fits.{NamesSector};
 ghost use Rattle.layer_map.specs.Map.{current_at};
 ghost use Rattle.mips_machine.specs.Steps.{outside_of};
 ghost use Rattle.boot_turns.specs.Advances.{Advances};
-ghost use Rattle.boot_turns.specs.Completes.{begun_by, turn_began, stepped_as, noted, shown, is_at_rest, KeptUser, StepRan, StepBegan, StepTorn, Completes};
+ghost use Rattle.boot_turns.specs.Completes.{begun_at, was_off, was_taken, turn_began, stepped_as, noted, shown, is_at_rest, KeptUser, StepRan, StepBegan, StepTorn, Completes};
 ghost use Rattle.boot_turns.specs.Tracing.{CanTrace, counted, TraceRuns};
 ghost use Rattle.boot_turns.specs.TraceSteps.{StepTraces};
 
@@ -19,7 +19,9 @@ use cvm_outside::{DiskFault, Sectors, Sink};
 use layer_map::{CURRENT, Map};
 use mips_machine::{Cause, Event, Machine};
 
-/// The numbers of special registers: what the last interrupt concerns, the number of pages, and the mode.
+/// The numbers of special registers: the cause of the last interrupt, what it concerns, the number of pages, and the mode.
+const CAUSE: u32 = 2;
+
 const CONCERN: u32 = 4;
 
 const PAGES: u32 = 6;
@@ -70,21 +72,44 @@ fn stepped_as(began: bool) -> Stepped
     if began { Stepped::Began } else { Stepped::On }
 }
 
-/// Whether a step began a turn: by the reset latch, the mode and the number of pages before it, what it was, and the special register
-/// that says what an interrupt concerns after it. Most steps are told without this one.
-#[cold]
-#[inline(never)]
-fn has_begun(reset: bool, in_user: bool, pages: u32, event: Event, edata: u32) -> bool
-    ensures { result ≡ begun_by reset in_user pages edata event }
+/// Whether a step was the answer of a machine that was off.
+fn was_off(event: Event) -> bool
+    ensures { result ≡ was_off event }
 {
     match event {
-        Event::Off(_) => false,
-        Event::Taken(Cause::FetchFault) => reset || in_user && !(edata / 4096 < pages),
-        Event::Taken(Cause::DataFault) => reset || in_user && !(edata / 4096 < pages),
-        Event::Taken(_) => reset || in_user,
-        Event::Ran => reset || in_user,
-        Event::Power(_) => reset || in_user,
+        Event::Off(_) => true,
+        Event::Taken(_) | Event::Ran | Event::Power(_) => false,
     }
+}
+
+/// Whether a step took an interrupt.
+fn was_taken(event: Event) -> bool
+    ensures { result ≡ was_taken event }
+{
+    match event {
+        Event::Taken(_) => true,
+        Event::Off(_) | Event::Ran | Event::Power(_) => false,
+    }
+}
+
+/// Whether a step began a turn: by the reset latch, the mode and the number of pages before it, what it was, and the special registers that
+/// say the cause of an interrupt and what it concerns after it. Most steps are told without this one.
+#[cold]
+#[inline(never)]
+fn has_begun(
+    reset: bool,
+    in_user: bool,
+    pages: u32,
+    off: bool,
+    taken: bool,
+    cause: u32,
+    edata: u32,
+) -> bool
+    ensures { result ≡ begun_at reset in_user pages off taken cause edata }
+{
+    let faulted = taken && (cause == 3 || cause == 8);
+    let handled = faulted && edata / 4096 < pages;
+    !off && (reset || in_user && !handled)
 }
 
 /// One step. The answer is what it was for the turns.
@@ -119,7 +144,12 @@ fn step_once<D: Sectors>(machine: &mut Machine, disk: &mut D) -> Result<Stepped,
     } else if !reset {
         return Ok(Stepped::On);
     }
-    Ok(stepped_as(has_begun(reset, in_user, pages, event, machine.special(CONCERN))))
+    // the cause is taken from its special register: a load of the whole event waits for the store of its first byte
+    let off = was_off(event);
+    let taken = was_taken(event);
+    let cause = machine.special(CAUSE);
+    let edata = machine.special(CONCERN);
+    Ok(stepped_as(has_begun(reset, in_user, pages, off, taken, cause, edata)))
 }
 
 /// The current user, which is read only where a user is traced.

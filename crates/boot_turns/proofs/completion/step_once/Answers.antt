@@ -1,7 +1,7 @@
 use Rattle.std.proofs.Common.{◌≡◌, Bool, true, false, Result, Ok, Err, slice_index, refl, sym, ap, ◌∙◌, subst, eq-eqb, ne_eqb}
 use Rattle.std.specs.Prelude.{◌==◌, OnErr}
 use Rattle.boot_turns.specs.Completes.{turn_began, stepped_as, StepBegan}
-use Rattle.boot_turns.proofs.Events.{event_told, user_begins, system_begins, steps_on, steps_seen, steps_time, fails_time, fails_torn}
+use Rattle.boot_turns.proofs.Events.{event_told, event_told_at, user_begins, system_begins, steps_on, steps_seen, steps_time, fails_time, fails_torn}
 use Rattle.boot_turns.proofs.completion.step_once.Goals as goal
 
 on_err : {T E P : Type 0} (r : Result T E) → P → OnErr r P
@@ -15,9 +15,9 @@ as_told false = refl
 pub returns-clause-began : goal.returns-clause-began
 returns-clause-began g c =
     subst (λ (b : Bool). StepBegan (g.D.Sectors.size c.args.disk.now) c.args.machine.now (g.D.Sectors.sectors c.args.disk.now) b) (sym (ap turn_began c.stepped_as.ensures ∙ as_told c.has_begun.result))
-    (event_told (g.D.Sectors.size c.args.disk.now) c.args.machine.now c.step.new.self (g.D.Sectors.sectors c.args.disk.now) (g.D.Sectors.sectors c.step.new.disk)
-    c.in_ok-event.event c.has_begun.result c.is_reset-reset.result c.special-in_user.result c.special-pages.result c.special-2.result c.in_ok-event.ensures.ok
-    c.is_reset-reset.ensures c.special-in_user.ensures c.special-pages.ensures c.special-2.ensures c.has_begun.ensures)
+    (event_told_at (g.D.Sectors.size c.args.disk.now) c.args.machine.now c.step.new.self (g.D.Sectors.sectors c.args.disk.now) (g.D.Sectors.sectors c.step.new.disk)
+    c.in_ok-event.event c.has_begun.result c.is_reset-reset.result c.was_off-off.result c.was_taken-taken.result c.special-in_user.result c.special-pages.result c.special-cause.result c.special-edata.result c.in_ok-event.ensures.ok
+    c.is_reset-reset.ensures c.special-in_user.ensures c.special-pages.ensures c.special-cause.ensures c.special-edata.ensures c.was_off-off.ensures c.was_taken-taken.ensures c.has_begun.ensures)
 
 pub returns-clause-time : goal.returns-clause-time
 returns-clause-time g c =
