@@ -48,15 +48,15 @@ module _ {L : Type 0} (count : ℕ) (r : Kept L) (told : Option (List (List ℕ)
   module _ (new : Kept L) (retold : Option (List (List ℕ))) (retext : Option (List ℕ)) (e : has_faulted r.ended ≡ false) where
     pub closes_done : ReportRuns count r new told retold text retext (Ok tt) → CloseRuns count r (around r told budget text) (around new retold budget retext) run.Done
     closes_done w = λ y old base k t c p ready.
-        (other_end c.status (ap has_faulted (sym ready.ended) ∙ e), w budget p.lines p.busy y old p.image p.sizes p.made_for base k t c p.same p.boots p.laws p.replays ready)
+        (other_end c.status (ap has_faulted (sym ready.ended) ∙ e), w budget p.lines p.busy y old p.image p.sizes p.made_for base k t c p.same p.boots p.laws ready)
 
     pub closes_failed : (f : RunFault) → ReportRuns count r new told retold text retext (Err f) → CloseRuns count r (around r told budget text) (around new retold budget retext) (end_of_fault f)
     closes_failed StepLimit w = λ y old base k t c p ready.
-        absurd ((w budget p.lines p.busy y old p.image p.sizes p.made_for base k t c p.same p.boots p.laws p.replays ready).limit refl)
+        absurd ((w budget p.lines p.busy y old p.image p.sizes p.made_for base k t c p.same p.boots p.laws ready).limit refl)
     closes_failed Disk w = λ y old base k t c p ready.
-        (other_end c.status (ap has_faulted (sym ready.ended) ∙ e), w budget p.lines p.busy y old p.image p.sizes p.made_for base k t c p.same p.boots p.laws p.replays ready)
+        (other_end c.status (ap has_faulted (sym ready.ended) ∙ e), w budget p.lines p.busy y old p.image p.sizes p.made_for base k t c p.same p.boots p.laws ready)
     closes_failed Sink w = λ y old base k t c p ready.
-        (other_end c.status (ap has_faulted (sym ready.ended) ∙ e), w budget p.lines p.busy y old p.image p.sizes p.made_for base k t c p.same p.boots p.laws p.replays ready)
+        (other_end c.status (ap has_faulted (sym ready.ended) ∙ e), w budget p.lines p.busy y old p.image p.sizes p.made_for base k t c p.same p.boots p.laws ready)
 
 -- what stands in a machine is what the disk tells
 pub stand_told : (told : Option (List (List ℕ))) (held : Held) (now : List (List ℕ)) → option_map (λ (s : State). s.device.sectors) (seen told held) ≡ Some now → told ≡ Some now

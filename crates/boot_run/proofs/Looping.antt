@@ -9,7 +9,6 @@ use Rattle.c0_tree.specs.Tree.{CUnit}
 use Rattle.c0_tree.specs.View.{unit_view}
 use Rattle.c0_meaning.specs.TypedState.{IsTypedState}
 use Rattle.cvm_model.specs.Cvm.{System, Running, Cvm, first_cvm}
-use Rattle.cvm_model.specs.Journal.{KernelReplays}
 use Rattle.cvm_model.specs.declared.row.Next.{Next}
 use Rattle.layer_contract.specs.declared.boot.Boot.{Boot as Booted}
 use Rattle.layer_contract.specs.Boots.{boot_of}
@@ -26,13 +25,13 @@ use Rattle.boot_run.specs.Whole.{Bootable, Gone, GoRuns}
 use Rattle.boot_run.proofs.Going.{Goes, going_first, going_turns, goes_on, go_done, go_over, go_fails}
 
 pub machines : ((u : CUnit) → MachinesRun (IsTypedState u)) → (b : Booted) (rows : Rows) (count : ℕ) (y : System) (old : List (List ℕ)) → Bootable b rows count y old → Machines (outside_of rows count) y old
-machines run b rows count y old p = run (unit_view b.unit) p.lines p.busy (outside_of rows count) y old p.image p.sizes p.made_for p.boots p.laws p.replays
+machines run b rows count y old p = run (unit_view b.unit) p.lines p.busy (outside_of rows count) y old p.image p.sizes p.made_for p.boots p.laws
 
 -- what a call of `turns` comes to, of this boot, over these rows and this view
 abbrev TurnsAt : Booted → Rows → View → (count most : ℕ) → (before after : Around) → Result (ℕ × Turn) RunFault → Type 0
 TurnsAt b rows v count most before after result =
     (u : CUnit) (lines busy : ℕ → ℕ) (y : System) (old : List (List ℕ)) (image sizes : List ℕ) (made_for : Map) (base : Option (List ℕ)) (k t : ℕ) (c : Cvm) →
-    y.boot ≡ boot_of b → Boots (IsTypedState u) lines busy (outside_of rows count) y old image sizes made_for → Laws (site_of y.boot) sizes → KernelReplays y.boot.meaning →
+    y.boot ≡ boot_of b → Boots (IsTypedState u) lines busy (outside_of rows count) y old image sizes made_for → Laws (site_of y.boot) sizes →
     Ready (outside_of rows count) y old v base k t c before → c.status ≡ Running → TurnsEnd (outside_of rows count) y old v base k t c most before after result
 
 -- after i turns of a run that was found as r
@@ -55,7 +54,7 @@ module _ {L : Type 0} (count size : ℕ) (r now : Kept L) (kept : KeepsLoad r no
   turns_end : (y : System) (old : List (List ℕ)) (base : Option (List ℕ)) (k t : ℕ) (c : Cvm) → Bootable r.boot r.machine.rows count y old → Ready (outside_of r.machine.rows count) y old r.view base k t c mid → c.status ≡ Running →
       TurnsEnd (outside_of r.machine.rows count) y old r.view base k t c most mid after result
   turns_end y old base k t c p ready running =
-      at_load (unit_view r.boot.unit) p.lines p.busy y old p.image p.sizes p.made_for base k t c p.same p.boots p.laws p.replays ready running
+      at_load (unit_view r.boot.unit) p.lines p.busy y old p.image p.sizes p.made_for base k t c p.same p.boots p.laws ready running
 
 -- so many turns are made
 pub keeps_next : {L : Type 0} (count size : ℕ) (r now : Kept L) (before mid after : Around) (i next most made : ℕ) (answer : Turn) → KeepsLoad r now → size ≡ count → mid.ended ≡ None → TurnsRun size now most mid after (Ok (made, answer)) →

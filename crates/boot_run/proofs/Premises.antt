@@ -9,8 +9,6 @@ use Rattle.mips_table.specs.Device.{HasEightLines, LinesEnd}
 use Rattle.mips_table.specs.Fits.{IsWord, IsPage}
 use Rattle.mips_machine.specs.Steps.{outside_of}
 use Rattle.layer_map.specs.Map.{Map, MapInRange, layer_words}
-use Rattle.c0_tree.specs.View.{unit_view}
-use Rattle.cvm_model.specs.KernelMeaning.{UnitsReplay}
 use Rattle.cvm_model.specs.Cvm.{first_core}
 use Rattle.cvm_model.specs.Stands.{Site, input_room, CoreFits}
 use Rattle.layer_contract.specs.declared.boot.Boot.{Boot as Booted}
@@ -51,9 +49,9 @@ module _ (image sizes : List ℕ) (made_for : Map) (b : Booted) (follows : BootF
       subst (λ (s : Site). Laws s sizes) site_is
       (laws (drop layer_words b.words.items) follows.made.range (many ∙ sym (ap (λ (m : Map). m.code_words) follows.made.same_map)))
 
-  pub bootable : ((code : List ℕ) → MapInRange made_for → length code ≡ made_for.code_words → Laws (site_with made_for image code) sizes) → UnitsReplay → (rows : Rows) (count : ℕ) (old : List (List ℕ)) → RowsFit rows count →
+  pub bootable : ((code : List ℕ) → MapInRange made_for → length code ≡ made_for.code_words → Laws (site_with made_for image code) sizes) → (rows : Rows) (count : ℕ) (old : List (List ℕ)) → RowsFit rows count →
       All IsWord b.words.items → length old ≡ count → All IsPage old → pages_needed b ≤ count → Bootable b rows count (system_of b rows) old
-  bootable laws replays rows count old fit words sized pages room =
+  bootable laws rows count old fit words sized pages room =
       record {
         lines = lines_at rows;
         busy = busy_of rows;
@@ -77,6 +75,5 @@ module _ (image sizes : List ℕ) (made_for : Map) (b : Booted) (follows : BootF
           follows = follows;
         };
         laws = its_laws laws;
-        replays = replays (unit_view b.unit) b.params;
         same = refl;
       }

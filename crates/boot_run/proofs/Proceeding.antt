@@ -12,7 +12,6 @@ use Rattle.mips_machine.specs.Steps.{outside_of}
 use Rattle.cvm_model.specs.Primitives.{user_of}
 use Rattle.cvm_model.specs.Text.{rows_text, start_row}
 use Rattle.cvm_model.specs.declared.row.Row.{Row}
-use Rattle.cvm_model.specs.Journal.{KernelReplays}
 use Rattle.mips_table.specs.Device.{Outside}
 use Rattle.cvm_model.specs.Cvm.{Boot as CvmBoot, System, Running, Cvm, first_flat, map_of}
 use Rattle.layer_contract.specs.declared.boot.Boot.{Boot as Booted}
@@ -64,7 +63,7 @@ module _ {L : Type 0} (r new : Kept L) (count most : ℕ) (some : 1 ≤ most) (t
   -- what a boot shows of each exit, and what a trace does
   abbrev EndsAs : Around → Result (ℕ × Turn) RunFault → View → Type 0
   EndsAs after result v = (u : CUnit) (lines busy : ℕ → ℕ) (y : System) (old : List (List ℕ)) (image sizes : List ℕ) (made_for : Map) (base : Option (List ℕ)) (k t : ℕ) (c : Cvm) → y.boot ≡ boot_of r.boot →
-      Boots (IsTypedState u) lines busy (outside_of r.machine.rows count) y old image sizes made_for → Laws (site_of y.boot) sizes → KernelReplays y.boot.meaning →
+      Boots (IsTypedState u) lines busy (outside_of r.machine.rows count) y old image sizes made_for → Laws (site_of y.boot) sizes →
       Ready (outside_of r.machine.rows count) y old v base k t c (around r told budget text) → c.status ≡ Running →
       TurnsEnd (outside_of r.machine.rows count) y old v base k t c most (around r told budget text) after result
 
@@ -80,8 +79,8 @@ module _ {L : Type 0} (r new : Kept L) (count most : ℕ) (some : 1 ≤ most) (t
   pub cut_before : IsSome r.tracer → r.turns ≡ 0 → AppendsPart text retext (rows_before r.boot r.tracer r.turns) → TurnsRun count r most (around r told budget text) (around r told budget retext) (Err Sink)
   cut_before traced first part = both (around r told budget retext) (Err Sink)
       (λ e. absurd (is_some r.tracer e traced))
-      (λ kept e low high. λ u lines busy y old image sizes made_for base k t c same boots laws replays ready running.
-      let m = run u lines busy x y old image sizes made_for boots laws replays in
+      (λ kept e low high. λ u lines busy y old image sizes made_for base k t c same boots laws ready running.
+      let m = run u lines busy x y old image sizes made_for boots laws in
       failed_first x y old m (Trace kept.user) base k t c most (around r told budget text) (around r told budget retext) ready.stood running some Sink
       (start_cut x y old m kept.user (grow u lines busy x y old image sizes made_for kept.user boots laws low (few y kept.user same high)) follow base k t c
       (around r told budget text) (around r told budget retext) ready running first
@@ -93,13 +92,13 @@ module _ {L : Type 0} (r new : Kept L) (count most : ℕ) (some : 1 ≤ most) (t
     none_put e = still e ∙ put ∙ ap (λ o. append_known text (rows_before r.boot o r.turns)) e ∙ append_known-nil text
 
     module _ (kept : Tracer) (e : r.tracer ≡ Some kept) (u : CUnit) (lines busy : ℕ → ℕ) (y : System) (old : List (List ℕ)) (image sizes : List ℕ) (made_for : Map) (base : Option (List ℕ)) (k t : ℕ) (c : Cvm) (same : y.boot ≡ boot_of r.boot)
-        (boots : Boots (IsTypedState u) lines busy x y old image sizes made_for) (laws : Laws (site_of y.boot) sizes) (replays : KernelReplays y.boot.meaning) (low : 1 ≤ kept.user) (high : kept.user ≤ length r.boot.users.items)
+        (boots : Boots (IsTypedState u) lines busy x y old image sizes made_for) (laws : Laws (site_of y.boot) sizes) (low : 1 ≤ kept.user) (high : kept.user ≤ length r.boot.users.items)
         (ready : Ready x y old (Trace kept.user) base k t c (around r told budget text)) (running : c.status ≡ Running) where
       grows : TraceGrows x y old kept.user
       grows = grow u lines busy x y old image sizes made_for kept.user boots laws low (few y kept.user same high)
 
       machines : Machines x y old
-      machines = run u lines busy x y old image sizes made_for boots laws replays
+      machines = run u lines busy x y old image sizes made_for boots laws
 
       traced : Traced x y old kept.user t (append_known base (start_at y kept.user 0)) r.tracer mid
       traced = traced_mid x y old machines kept.user grows follow base k t c (around r told budget text) (around r told budget text) ready running mid
@@ -108,15 +107,15 @@ module _ {L : Type 0} (r new : Kept L) (count most : ℕ) (some : 1 ≤ most) (t
     -- the turns were broken off
     pub broke_off : (f : RunFault) → Moved count r new most told retold mid late budget left (Err f) → (r.tracer ≡ None → f ≡ Sink → ⊥) → new.ended ≡ r.ended → TurnsRun count r most (around r told budget text) (around new retold left late) (Err f)
     broke_off f w no_sink ended = both (around new retold left late) (Err f)
-        (λ e. λ u lines busy y old image sizes made_for base k t c same boots laws replays ready running.
-        boot_failed x y old (run u lines busy x y old image sizes made_for boots laws replays) base k t c most (around r told budget text) (around new retold left late) ready running f (no_sink e)
-        (w.advances u lines busy y old image sizes made_for boots laws replays k t c ready.stood running ready.state) spent (none_put e) ended)
-        (λ kept e low high. λ u lines busy y old image sizes made_for base k t c same boots laws replays ready running.
-        turns_failed x y old (machines kept e u lines busy y old image sizes made_for base k t c same boots laws replays low high ready running) kept.user
-        (grows kept e u lines busy y old image sizes made_for base k t c same boots laws replays low high ready running) follow base k t c most (around r told budget text) (around new retold left late) ready running f
-        (w.advances u lines busy y old image sizes made_for boots laws replays k t c ready.stood running ready.state)
+        (λ e. λ u lines busy y old image sizes made_for base k t c same boots laws ready running.
+        boot_failed x y old (run u lines busy x y old image sizes made_for boots laws) base k t c most (around r told budget text) (around new retold left late) ready running f (no_sink e)
+        (w.advances u lines busy y old image sizes made_for boots laws k t c ready.stood running ready.state) spent (none_put e) ended)
+        (λ kept e low high. λ u lines busy y old image sizes made_for base k t c same boots laws ready running.
+        turns_failed x y old (machines kept e u lines busy y old image sizes made_for base k t c same boots laws low high ready running) kept.user
+        (grows kept e u lines busy y old image sizes made_for base k t c same boots laws low high ready running) follow base k t c most (around r told budget text) (around new retold left late) ready running f
+        (w.advances u lines busy y old image sizes made_for boots laws k t c ready.stood running ready.state)
         (w.traces u lines busy y old image sizes made_for kept.user t (append_known base (start_at y kept.user 0)) boots laws (ap map_of (sym same)) low (few y kept.user same high) ready.state
-        (traced kept e u lines busy y old image sizes made_for base k t c same boots laws replays low high ready running))
+        (traced kept e u lines busy y old image sizes made_for base k t c same boots laws low high ready running))
         spent ended)
 
     module _ (made skipped : ℕ) (b : Begun) (answer : Turn) (number : made ≡ skipped + 1) (w : Moved count r new most told retold mid late budget left (Ok (skipped, b))) (counted : Counted r new skipped b answer)
@@ -130,31 +129,31 @@ module _ {L : Type 0} (r new : Kept L) (count most : ℕ) (some : 1 ≤ most) (t
       -- the last turn is complete, and all is printed
       pub went : retext ≡ append_known late (rows_after new.tracer new.ended answer) → TurnsRun count r most (around r told budget text) (around new retold left retext) (Ok (made, answer))
       went printed = both (around new retold left retext) (Ok (made, answer))
-          (λ e. λ u lines busy y old image sizes made_for base k t c same boots laws replays ready running.
-          boot_turned x y old (run u lines busy x y old image sizes made_for boots laws replays) base k t c most (around r told budget text) (around new retold left retext) ready running retold new.machine skipped b refl
-          (w.advances u lines busy y old image sizes made_for boots laws replays k t c ready.stood running ready.state) answer wrote made number (none e)
+          (λ e. λ u lines busy y old image sizes made_for base k t c same boots laws ready running.
+          boot_turned x y old (run u lines busy x y old image sizes made_for boots laws) base k t c most (around r told budget text) (around new retold left retext) ready running retold new.machine skipped b refl
+          (w.advances u lines busy y old image sizes made_for boots laws k t c ready.stood running ready.state) answer wrote made number (none e)
           (printed ∙ ap (append_known late) (rows_are e) ∙ ap (λ o. append_known o (rows_text (rows_of answer))) (none_put e)))
-          (λ kept e low high. λ u lines busy y old image sizes made_for base k t c same boots laws replays ready running.
-          turns_turned x y old (machines kept e u lines busy y old image sizes made_for base k t c same boots laws replays low high ready running) kept.user
-          (grows kept e u lines busy y old image sizes made_for base k t c same boots laws replays low high ready running) follow base k t c most (around r told budget text) (around new retold left retext) ready running
-          retold new.machine skipped b refl (w.advances u lines busy y old image sizes made_for boots laws replays k t c ready.stood running ready.state) answer wrote late
+          (λ kept e low high. λ u lines busy y old image sizes made_for base k t c same boots laws ready running.
+          turns_turned x y old (machines kept e u lines busy y old image sizes made_for base k t c same boots laws low high ready running) kept.user
+          (grows kept e u lines busy y old image sizes made_for base k t c same boots laws low high ready running) follow base k t c most (around r told budget text) (around new retold left retext) ready running
+          retold new.machine skipped b refl (w.advances u lines busy y old image sizes made_for boots laws k t c ready.stood running ready.state) answer wrote late
           (w.traces u lines busy y old image sizes made_for kept.user t (append_known base (start_at y kept.user 0)) boots laws (ap map_of (sym same)) low (few y kept.user same high) ready.state
-          (traced kept e u lines busy y old image sizes made_for base k t c same boots laws replays low high ready running))
+          (traced kept e u lines busy y old image sizes made_for base k t c same boots laws low high ready running))
           made number printed)
 
       -- or it is cut off behind the turn
       pub cut_after : (r.tracer ≡ None → (row : Row) × (rows_of answer ≡ row ∷ [])) → AppendsPart late retext (rows_after new.tracer new.ended answer) → TurnsRun count r most (around r told budget text) (around new retold left retext) (Err Sink)
       cut_after one part = both (around new retold left retext) (Err Sink)
-          (λ e. λ u lines busy y old image sizes made_for base k t c same boots laws replays ready running.
-          boot_cut x y old (run u lines busy x y old image sizes made_for boots laws replays) base k t c most (around r told budget text) (around new retold left retext) ready running retold new.machine skipped b refl
-          (w.advances u lines busy y old image sizes made_for boots laws replays k t c ready.stood running ready.state) answer wrote (one e).0 (one e).1
+          (λ e. λ u lines busy y old image sizes made_for base k t c same boots laws ready running.
+          boot_cut x y old (run u lines busy x y old image sizes made_for boots laws) base k t c most (around r told budget text) (around new retold left retext) ready running retold new.machine skipped b refl
+          (w.advances u lines busy y old image sizes made_for boots laws k t c ready.stood running ready.state) answer wrote (one e).0 (one e).1
           (subst (λ (o : Option (List ℕ)). AppendsPart o retext (rows_text (rows_of answer))) (none_put e) (subst (AppendsPart late retext) (rows_are e) part)))
-          (λ kept e low high. λ u lines busy y old image sizes made_for base k t c same boots laws replays ready running.
-          turns_cut x y old (machines kept e u lines busy y old image sizes made_for base k t c same boots laws replays low high ready running) kept.user
-          (grows kept e u lines busy y old image sizes made_for base k t c same boots laws replays low high ready running) follow base k t c most (around r told budget text) (around new retold left retext) ready running
-          retold new.machine skipped b refl (w.advances u lines busy y old image sizes made_for boots laws replays k t c ready.stood running ready.state) answer wrote late
+          (λ kept e low high. λ u lines busy y old image sizes made_for base k t c same boots laws ready running.
+          turns_cut x y old (machines kept e u lines busy y old image sizes made_for base k t c same boots laws low high ready running) kept.user
+          (grows kept e u lines busy y old image sizes made_for base k t c same boots laws low high ready running) follow base k t c most (around r told budget text) (around new retold left retext) ready running
+          retold new.machine skipped b refl (w.advances u lines busy y old image sizes made_for boots laws k t c ready.stood running ready.state) answer wrote late
           (w.traces u lines busy y old image sizes made_for kept.user t (append_known base (start_at y kept.user 0)) boots laws (ap map_of (sym same)) low (few y kept.user same high) ready.state
-          (traced kept e u lines busy y old image sizes made_for base k t c same boots laws replays low high ready running))
+          (traced kept e u lines busy y old image sizes made_for base k t c same boots laws low high ready running))
           part)
 
 -- a fault that is passed on
@@ -172,8 +171,8 @@ faulted x y old v base k t c before after Sink kept w =
     record { at = w.at; state = w.state; steps = w.steps; budget = w.budget; between = w.between; on = w.on; past = w.past; cvm = w.cvm; ended = w.ended; shown = w.shown; printed = w.printed; text = w.text }
 
 pub runs_faulted : {L : Type 0} (count : ℕ) (r : Kept L) (most : ℕ) (before after : Around) (f : RunFault) (kept : Option RunFault) → TurnsRun count r most before after (Err f) → TurnsRun count r most before (record after { fault = kept }) (Err f)
-runs_faulted count r most before after f kept w = λ u lines busy y old image sizes made_for base k t c same boots laws replays ready running.
-    let h = w u lines busy y old image sizes made_for base k t c same boots laws replays ready running in
+runs_faulted count r most before after f kept w = λ u lines busy y old image sizes made_for base k t c same boots laws ready running.
+    let h = w u lines busy y old image sizes made_for base k t c same boots laws ready running in
     (h.0, h.1, h.2, h.3, faulted (outside_of r.machine.rows count) y old r.view base (k + h.0) (t + h.0) h.3.after (record before { budget = before.budget - h.0 }) after f kept h.4)
 
 pub runs_after : {L : Type 0} (a b : Kept L) → a ≡ b → (count : ℕ) (r : Kept L) (most : ℕ) (before : Around) (told : Option (List (List ℕ))) (budget : ℕ) (text : Option (List ℕ)) (result : Result (ℕ × Turn) RunFault) →
@@ -184,11 +183,11 @@ runs_after a b e count r most before told budget text result w = subst (λ (q : 
 module _ {L : Type 0} (run : (u : CUnit) → MachinesRun (IsTypedState u)) (count : ℕ) (r : Kept L) (before after : Around) where
   pub one_failed_run : (f e : RunFault) (result : Result Turn RunFault) → result ≡ Err e → f ≡ e → TurnsRun count r 1 before after (Err f) → TurnRuns count r before after result
   one_failed_run f e result is same w = subst (TurnRuns count r before after) (ap (λ g. Err g) same ∙ sym is)
-      (λ u lines busy y old image sizes made_for base k t c same_boot boots laws replays ready running.
-      one_failed (outside_of r.machine.rows count) y old (run u lines busy (outside_of r.machine.rows count) y old image sizes made_for boots laws replays) r.view base k t c before after ready.stood f
-      (w u lines busy y old image sizes made_for base k t c same_boot boots laws replays ready running))
+      (λ u lines busy y old image sizes made_for base k t c same_boot boots laws ready running.
+      one_failed (outside_of r.machine.rows count) y old (run u lines busy (outside_of r.machine.rows count) y old image sizes made_for boots laws) r.view base k t c before after ready.stood f
+      (w u lines busy y old image sizes made_for base k t c same_boot boots laws ready running))
 
   pub one_turn_run : (made : ℕ) (answer : Turn) → TurnsRun count r 1 before after (Ok (made, answer)) → TurnRuns count r before after (Ok answer)
-  one_turn_run made answer w = λ u lines busy y old image sizes made_for base k t c same_boot boots laws replays ready running.
-      one_turned (outside_of r.machine.rows count) y old (run u lines busy (outside_of r.machine.rows count) y old image sizes made_for boots laws replays) r.view base k t c before after ready.stood made answer
-      (w u lines busy y old image sizes made_for base k t c same_boot boots laws replays ready running)
+  one_turn_run made answer w = λ u lines busy y old image sizes made_for base k t c same_boot boots laws ready running.
+      one_turned (outside_of r.machine.rows count) y old (run u lines busy (outside_of r.machine.rows count) y old image sizes made_for boots laws) r.view base k t c before after ready.stood made answer
+      (w u lines busy y old image sizes made_for base k t c same_boot boots laws ready running)

@@ -28,7 +28,7 @@ use Rattle.boot_run.proofs.Reporting.{its_told, nothing_more, boot_rows, prefix_
 
 -- where the kernel faulted
 pub faulted_before : {L : Type 0} (now : Kept L) (count : ℕ) (told : Option (List (List ℕ))) (text : Option (List ℕ)) → has_faulted now.ended ≡ true → ReportRuns count now now told told text text (Ok tt)
-faulted_before now count told text faulted = λ budget lines busy y old image sizes made_for base k t c same_boot boots laws replays ready.
+faulted_before now count told text faulted = λ budget lines busy y old image sizes made_for base k t c same_boot boots laws ready.
     nothing_more (outside_of now.machine.rows count) y old now.view base k t budget c now told text ready faulted
 
 module _ {L : Type 0} (r : Kept L) (count : ℕ) (told retold : Option (List (List ℕ))) (text retext : Option (List ℕ)) (view : r.view ≡ OfBoot) (fine : has_faulted r.ended ≡ false)
@@ -36,8 +36,8 @@ module _ {L : Type 0} (r : Kept L) (count : ℕ) (told retold : Option (List (Li
     (map : Map) (places : List ℕ) (placed : IsPlaced r.boot map places r.machine.hardware.memory r.count) (held : Held) (same_machine : SameButViewed r.machine held) (retold_is : retold ≡ told) where
   pub all_printed : ((ss : List (List ℕ)) → told ≡ Some ss → EntriesFit map (state_of r.machine ss) → retext ≡ append_known text (closing_rows (is_some r.ended) r.current r.machine ss map places r.boot.unit.globals.items)) →
       ReportRuns count r (record r { machine = held; fault = None }) told retold text retext (Ok tt)
-  all_printed put = λ budget lines busy y old image sizes made_for base k t c same_boot boots laws replays ready.
-      let m = run (unit_view r.boot.unit) lines busy (outside_of r.machine.rows count) y old image sizes made_for boots laws replays in
+  all_printed put = λ budget lines busy y old image sizes made_for base k t c same_boot boots laws ready.
+      let m = run (unit_view r.boot.unit) lines busy (outside_of r.machine.rows count) y old image sizes made_for boots laws in
       let stays = typed (unit_view r.boot.unit) lines busy (outside_of r.machine.rows count) y old image sizes made_for boots laws in
       let seen = its_told (outside_of r.machine.rows count) y old r.view base k t budget c r told text ready in
       let fit = entries (outside_of r.machine.rows count) y old r.view base k t budget c r told text ready same_boot map places placed fine m stays rows globals formed in
@@ -48,8 +48,8 @@ module _ {L : Type 0} (r : Kept L) (count : ℕ) (told retold : Option (List (Li
   pub broken_off : (f : RunFault) → f ≢ StepLimit →
       ((ss : List (List ℕ)) → told ≡ Some ss → EntriesFit map (state_of r.machine ss) → AppendsPart text retext (closing_rows (is_some r.ended) r.current r.machine ss map places r.boot.unit.globals.items)) →
       ReportRuns count r (record r { machine = held; fault = Some f }) told retold text retext (Err f)
-  broken_off f limit put = λ budget lines busy y old image sizes made_for base k t c same_boot boots laws replays ready.
-      let m = run (unit_view r.boot.unit) lines busy (outside_of r.machine.rows count) y old image sizes made_for boots laws replays in
+  broken_off f limit put = λ budget lines busy y old image sizes made_for base k t c same_boot boots laws ready.
+      let m = run (unit_view r.boot.unit) lines busy (outside_of r.machine.rows count) y old image sizes made_for boots laws in
       let stays = typed (unit_view r.boot.unit) lines busy (outside_of r.machine.rows count) y old image sizes made_for boots laws in
       let seen = its_told (outside_of r.machine.rows count) y old r.view base k t budget c r told text ready in
       let fit = entries (outside_of r.machine.rows count) y old r.view base k t budget c r told text ready same_boot map places placed fine m stays rows globals formed in

@@ -59,7 +59,7 @@ module _ {L : Type 0} (r : Kept L) (count : ℕ) (told retold : Option (List (Li
   pub trace_printed :
       ((ss : List (List ℕ)) → told ≡ Some ss → EntriesFit map (state_of r.machine ss) → retext ≡ append_known text (steps_row kept.steps ++ trace_rows (is_some r.ended) r.current r.machine ss map kept.user)) →
       ReportRuns count r (record r { machine = held; fault = None }) told retold text retext (Ok tt)
-  trace_printed put = λ budget lines busy y old image sizes made_for base k t c same_boot boots laws replays ready.
+  trace_printed put = λ budget lines busy y old image sizes made_for base k t c same_boot boots laws ready.
       let grows = grow (unit_view r.boot.unit) lines busy (outside_of r.machine.rows count) y old image sizes made_for kept.user boots laws some (within_boot y r same_boot map places placed kept.user most) in
       let seen = its_told (outside_of r.machine.rows count) y old r.view base k t budget c r told text ready in
       let fit = trace_entries (outside_of r.machine.rows count) y old r.view base k t budget c r told text ready same_boot map places placed fine rows kept.user some most in
@@ -71,7 +71,7 @@ module _ {L : Type 0} (r : Kept L) (count : ℕ) (told retold : Option (List (Li
   pub trace_disk_failed :
       ((ss : List (List ℕ)) → told ≡ Some ss → EntriesFit map (state_of r.machine ss) → AppendsPart (append_known text (steps_row kept.steps)) retext (trace_rows (is_some r.ended) r.current r.machine ss map kept.user)) →
       ReportRuns count r (record r { machine = held; fault = Some Disk }) told retold text retext (Err Disk)
-  trace_disk_failed put = λ budget lines busy y old image sizes made_for base k t c same_boot boots laws replays ready.
+  trace_disk_failed put = λ budget lines busy y old image sizes made_for base k t c same_boot boots laws ready.
       let grows = grow (unit_view r.boot.unit) lines busy (outside_of r.machine.rows count) y old image sizes made_for kept.user boots laws some (within_boot y r same_boot map places placed kept.user most) in
       let seen = its_told (outside_of r.machine.rows count) y old r.view base k t budget c r told text ready in
       let fit = trace_entries (outside_of r.machine.rows count) y old r.view base k t budget c r told text ready same_boot map places placed fine rows kept.user some most in
@@ -91,7 +91,7 @@ module _ {L : Type 0} (r : Kept L) (count : ℕ) (told retold : Option (List (Li
   pub trace_sink_failed :
       ((ss : List (List ℕ)) → told ≡ Some ss → EntriesFit map (state_of r.machine ss) → AppendsPart text retext (steps_row kept.steps ++ trace_rows (is_some r.ended) r.current r.machine ss map kept.user)) →
       ReportRuns count r (record r { machine = held; fault = Some Sink }) told retold text retext (Err Sink)
-  trace_sink_failed put = λ budget lines busy y old image sizes made_for base k t c same_boot boots laws replays ready.
+  trace_sink_failed put = λ budget lines busy y old image sizes made_for base k t c same_boot boots laws ready.
       let grows = grow (unit_view r.boot.unit) lines busy (outside_of r.machine.rows count) y old image sizes made_for kept.user boots laws some (within_boot y r same_boot map places placed kept.user most) in
       let seen = its_told (outside_of r.machine.rows count) y old r.view base k t budget c r told text ready in
       let fit = trace_entries (outside_of r.machine.rows count) y old r.view base k t budget c r told text ready same_boot map places placed fine rows kept.user some most in

@@ -9,7 +9,6 @@ use Rattle.c0_tree.specs.declared.tree.Decl.{Decl}
 use Rattle.c0_tree.specs.View.{unit_view}
 use Rattle.c0_meaning.specs.TypedState.{IsTypedState}
 use Rattle.cvm_model.specs.Cvm.{System, Cvm}
-use Rattle.cvm_model.specs.Journal.{KernelReplays}
 use Rattle.cvm_model.specs.Paged.{paged_of}
 use Rattle.layer_contract.specs.Layer.{Laws}
 use Rattle.layer_contract.specs.Follows.{site_of}
@@ -73,5 +72,5 @@ abbrev pub ReportRuns : {L : Type 0} → (count : ℕ) → (r new : Kept L) → 
 ReportRuns count r new told retold text retext result =
     (budget : ℕ) (lines busy : ℕ → ℕ) (y : System) (old : List (List ℕ)) (image sizes : List ℕ) (made_for : Map) (base : Option (List ℕ)) (k t : ℕ) (c : Cvm) →
     y.boot ≡ boot_of r.boot → Boots (IsTypedState (unit_view r.boot.unit)) lines busy (outside_of r.machine.rows count) y old image sizes made_for →
-    Laws (site_of y.boot) sizes → KernelReplays y.boot.meaning → Ready (outside_of r.machine.rows count) y old r.view base (suc k) t c (around r told budget text) →
+    Laws (site_of y.boot) sizes → Ready (outside_of r.machine.rows count) y old r.view base (suc k) t c (around r told budget text) →
     ReportEnds (outside_of r.machine.rows count) y old r.view base t (around r told budget text) (around new retold budget retext) result

@@ -10,7 +10,6 @@ use Rattle.c0_tree.specs.Tree.{CUnit}
 use Rattle.c0_meaning.specs.TypedState.{IsTypedState}
 use Rattle.cvm_model.specs.Kernel.{JournalEntry}
 use Rattle.cvm_model.specs.Cvm.{System, Status, Running, Halted, Faulted, Cvm, IsCvm, first_cvm}
-use Rattle.cvm_model.specs.Journal.{KernelReplays}
 use Rattle.cvm_model.specs.declared.row.Next.{Next}
 use Rattle.cvm_model.specs.declared.row.Next.TheVariants.{Halt, Fault}
 use Rattle.cvm_model.specs.declared.row.Row.{Row}
@@ -161,7 +160,7 @@ TurnEnds x y old v base k t c before after result = MatchResult result (Turned x
 abbrev pub TurnRuns : {L : Type 0} → (count : ℕ) → Kept L → (before after : Around) → Result Turn RunFault → Type 0
 TurnRuns count r before after result =
     (u : CUnit) (lines busy : ℕ → ℕ) (y : System) (old : List (List ℕ)) (image sizes : List ℕ) (made_for : Map) (base : Option (List ℕ)) (k t : ℕ) (c : Cvm) → y.boot ≡ boot_of r.boot →
-    Boots (IsTypedState u) lines busy (outside_of r.machine.rows count) y old image sizes made_for → Laws (site_of y.boot) sizes → KernelReplays y.boot.meaning →
+    Boots (IsTypedState u) lines busy (outside_of r.machine.rows count) y old image sizes made_for → Laws (site_of y.boot) sizes →
     Ready (outside_of r.machine.rows count) y old r.view base k t c before → c.status ≡ Running →
     TurnEnds (outside_of r.machine.rows count) y old r.view base k t c before after result
 
@@ -175,7 +174,7 @@ TurnsEnd x y old v base k t c most before after result = (n : ℕ) × (n < most)
 abbrev pub TurnsRun : {L : Type 0} → (count : ℕ) → Kept L → (most : ℕ) → (before after : Around) → Result (ℕ × Turn) RunFault → Type 0
 TurnsRun count r most before after result =
     (u : CUnit) (lines busy : ℕ → ℕ) (y : System) (old : List (List ℕ)) (image sizes : List ℕ) (made_for : Map) (base : Option (List ℕ)) (k t : ℕ) (c : Cvm) → y.boot ≡ boot_of r.boot →
-    Boots (IsTypedState u) lines busy (outside_of r.machine.rows count) y old image sizes made_for → Laws (site_of y.boot) sizes → KernelReplays y.boot.meaning →
+    Boots (IsTypedState u) lines busy (outside_of r.machine.rows count) y old image sizes made_for → Laws (site_of y.boot) sizes →
     Ready (outside_of r.machine.rows count) y old r.view base k t c before → c.status ≡ Running →
     TurnsEnd (outside_of r.machine.rows count) y old r.view base k t c most before after result
 

@@ -11,7 +11,6 @@ use Rattle.layer_map.specs.Map.{Map}
 use Rattle.c0_tree.specs.View.{unit_view}
 use Rattle.c0_meaning.specs.TypedState.{IsTypedState}
 use Rattle.cvm_model.specs.Cvm.{System, Cvm, first_cvm}
-use Rattle.cvm_model.specs.Journal.{KernelReplays}
 use Rattle.layer_contract.specs.declared.boot.Boot.{Boot as Booted}
 use Rattle.layer_contract.specs.Boots.{boot_of}
 use Rattle.layer_contract.specs.Layer.{Laws}
@@ -76,7 +75,6 @@ pub record Bootable (b : Booted) (rows : Rows) (count : ℕ) (y : System) (old :
   pub made_for : Map
   pub boots : Boots (IsTypedState (unit_view b.unit)) lines busy (outside_of rows count) y old image sizes made_for
   pub laws : Laws (site_of y.boot) sizes
-  pub replays : KernelReplays y.boot.meaning
   pub same : y.boot ≡ boot_of b
 
 -- sectors that stand in a machine

@@ -11,7 +11,6 @@ use crate::load::LoadFault;
 use crate::next::has_faulted;
 use crate::run::Run;
 use boot_turns::{RunFault, View, journal_rows_follow, machines_run, traces_grow};
-use cvm_model::units_replay;
 use cvm_outside::{Sectors, Sink};
 use layer_contract::{Boot, Layer};
 use mips_machine::laws::schedules_end;
@@ -44,7 +43,6 @@ fn premises_hold<L: Layer, D: Sectors>(layer: &L, boot: &Boot, schedule: &Schedu
     requires { BootFollows (L.image layer.now) (L.sizes layer.now) (L.map layer.now) boot.now }
     ensures { (old : List (List ℕ)) → D.sectors disk.now ≡ Some old → pages_needed boot.now ≤ D.size disk.now → Bootable boot.now schedule.now (D.size disk.now) (system_of boot.now schedule.now) old }
 {
-    units_replay();
     layer.keeps_laws();
     disk.are_sectors();
     are_words(boot.words.as_slice());

@@ -149,5 +149,5 @@ by_result x y old m k t c st r now budget left most (Err f) (n, few, small, skip
 
 pub advances : (Typed : C0 → Type 0) → MachinesRun Typed → (x : Outside) (before now : Option State) (budget left most : ℕ) (result : Result (ℕ × Begun) RunFault) →
     ((s : State) (t : ℕ) → before ≡ Some (run x s t) → CompleteEnds x now budget left s t most result) → AdvancesTyped Typed x before now budget left most result
-advances Typed m x before now budget left most result ends = λ lines busy y old image sizes made_for boots laws replays k t c st r is.
-    by_result x y old (m lines busy x y old image sizes made_for boots laws replays) k t c st r now budget left most result (ends (loaded y old) t is)
+advances Typed m x before now budget left most result ends = λ lines busy y old image sizes made_for boots laws k t c st r is.
+    by_result x y old (m lines busy x y old image sizes made_for boots laws) k t c st r now budget left most result (ends (loaded y old) t is)

@@ -10,7 +10,6 @@ use Rattle.c0_tree.specs.Tree.{CUnit}
 use Rattle.c0_meaning.specs.TypedState.{IsTypedState}
 use Rattle.c0_meaning.specs.State.{State as C0}
 use Rattle.cvm_model.specs.Cvm.{System, Running, Cvm}
-use Rattle.cvm_model.specs.Journal.{KernelReplays}
 use Rattle.layer_contract.specs.Layer.{Laws}
 use Rattle.layer_contract.specs.Follows.{site_of, loaded, machine}
 use Rattle.boot_turns.specs.TurnEnds.{Stood, Ahead}
@@ -79,7 +78,7 @@ AdvanceEnds x y old k t c now budget left most result = (n : ℕ) × (n < most) 
 -- turns of the machine, for every boot whose run stands there and goes on
 abbrev pub AdvancesTyped : (C0 → Type 0) → Outside → (before now : Option State) → (budget left most : ℕ) → Result (ℕ × Begun) RunFault → Type 0
 AdvancesTyped Typed x before now budget left most result = (lines busy : ℕ → ℕ) (y : System) (old : List (List ℕ)) (image sizes : List ℕ) (made_for : Map) →
-    Boots Typed lines busy x y old image sizes made_for → Laws (site_of y.boot) sizes → KernelReplays y.boot.meaning → (k t : ℕ) (c : Cvm) → Stood x y old k t c →
+    Boots Typed lines busy x y old image sizes made_for → Laws (site_of y.boot) sizes → (k t : ℕ) (c : Cvm) → Stood x y old k t c →
     c.status ≡ Running → before ≡ Some (machine x y old t) → AdvanceEnds x y old k t c now budget left most result
 
 -- TURNS, over a disk of so many sectors, whatever unit the kernel is

@@ -1,28 +1,25 @@
 -- What is to be proved of a boot and of a trace, over these definitions.
-use Rattle.std.specs.Prelude.{◌≡◌, ℕ, suc, ◌+◌, ◌*◌, ◌<◌, ◌≤◌, ◌⊎◌, true, false, if◌then◌else◌, bit_or, Option, Some, None, IsSome, List, [], ◌∷◌, ◌++◌, length}
+use Rattle.std.specs.Prelude.{◌≡◌, ℕ, suc, ◌+◌, ◌*◌, ◌<◌, ◌≤◌, ◌⊎◌, false, if◌then◌else◌, bit_or, Option, None, IsSome, List, [], ◌∷◌, ◌++◌, length}
 use Rattle.cvm_outside.specs.Causes.{Rose}
 use Rattle.mips_table.specs.Device.{Outside, HasEightLines, LinesEnd, sector_of}
 use Rattle.mips_table.specs.Turns.{begins}
 use Rattle.mips_table.specs.Machine.{run}
 use Rattle.layer_map.specs.Map.{Map}
 use Rattle.c0_meaning.specs.State.{State as C0}
-use Rattle.cvm_model.specs.Kernel.{Core, JournalEntry}
-use Rattle.cvm_model.specs.Primitives.{user_of}
+use Rattle.cvm_model.specs.Kernel.{Core}
 use Rattle.cvm_model.specs.Cvm.{System, Status, Running, Faulted, Cvm, IsCvm, Begin, Steps, Traps, Interrupts, status_of, begin}
 use Rattle.cvm_model.specs.declared.row.Next.{Next}
 use Rattle.cvm_model.specs.declared.row.Next.TheVariants.{User}
 use Rattle.cvm_model.specs.declared.row.Row.{Row}
-use Rattle.cvm_model.specs.Journal.{replay, KernelReplays}
 use Rattle.cvm_model.specs.Text.{rows_text}
 use Rattle.mips_table.specs.Turns.{complete, lines_of, is_end, IsEnd, end_within, faults_before}
 use Rattle.layer_contract.specs.Layer.{BusyWithin, Laws}
 use Rattle.layer_contract.specs.Follows.{site_of, machine, loaded, SystemFits, Follows}
-use Rattle.boot_turns.specs.Trace.{Shown}
 use Rattle.boot_turns.specs.Completes.{note, ShownAs, Progress, Completed, Torn}
 use Rattle.boot_turns.specs.declared.completion.Begun.{Begun}
 use Rattle.boot_turns.specs.declared.answers.View.{View}
 use Rattle.boot_turns.specs.declared.answers.View.TheVariants.{Boot, Trace}
-use Rattle.boot_turns.specs.TurnEnds.{Stood, Ahead, Printed, PrintedBroken, Rows, Whole, Prefix, first_of}
+use Rattle.boot_turns.specs.TurnEnds.{Stood, Ahead, Printed, PrintedBroken, Rows, Whole, Prefix}
 
 -- a disk is honest in a call: its sectors are told, and the call doesn't fail
 pub record Honest (told : Option (List (List ℕ))) (before now : ℕ) : Type 0 where
@@ -139,12 +136,6 @@ Ends x y old now v turns steps text SinkFault = Beyond y old now × SinkBroken x
 Ends x y old now v turns steps text NoMemory = (text ≡ []) × (now ≡ old)
 Ends x y old now v turns steps text e = Ran x y old now v turns steps e text
 
--- ISOLATION of a trace: where the turns are complete, the replay of the journal that is printed gives the machine that is printed
-abbrev pub TraceReplays : Outside → System → List (List ℕ) → ℕ → (turns steps : ℕ) → Type 0
-TraceReplays x y old u turns steps = (c : Cvm) (j : List JournalEntry) → is_end x (loaded y old) turns (end_of x y old turns steps) ≡ true →
-    IsCvm y (lines_of x (loaded y old)) (complete x (loaded y old) (end_of x y old turns steps)) c → Shown x (loaded y old) y u (end_of x y old turns steps) j →
-    replay (first_of y u) j ≡ Some (user_of c.core.users u)
-
 -- the machine goes on where the CVM run is defined, within its bound
 abbrev pub GoesOn : Outside → System → List (List ℕ) → Type 0
 GoesOn x y old = (k : ℕ) (c : Cvm) → IsCvm y (lines_of x (loaded y old)) k c → (t : ℕ) × IsEnd x (loaded y old) k t × (t ≤ c.bound)
@@ -211,8 +202,7 @@ pub record Machines (x : Outside) (y : System) (old : List (List ℕ)) : Type 0 
   pub torn : (now : List (List ℕ)) (v : View) (turns steps : ℕ) (text : List ℕ) → StepBroken x y old now v turns steps text → Beyond y old now
   pub few : (t : ℕ) → complete x (loaded y old) t ≤ t
   pub same : (k : ℕ) (c d : Cvm) → IsCvm y (lines_of x (loaded y old)) k c → IsCvm y (lines_of x (loaded y old)) k d → c ≡ d
-  pub replays : (u turns steps : ℕ) → 1 ≤ u → u ≤ length y.boot.users → TraceReplays x y old u turns steps
 
 abbrev pub MachinesRun : (C0 → Type 0) → Type 0
 MachinesRun Typed = (lines busy : ℕ → ℕ) (x : Outside) (y : System) (old : List (List ℕ)) (image sizes : List ℕ) (made_for : Map) →
-    Boots Typed lines busy x y old image sizes made_for → Laws (site_of y.boot) sizes → KernelReplays y.boot.meaning → Machines x y old
+    Boots Typed lines busy x y old image sizes made_for → Laws (site_of y.boot) sizes → Machines x y old

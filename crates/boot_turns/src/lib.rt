@@ -20,20 +20,18 @@ mod rows;
 pub mod tracer;
 
 pub use answers::{RunFault, Turn, View};
-use cvm_model::users_are_isolated;
 use layer_contract::{the_loaded_machine_resets, users_follow_linked};
 use mips_table::runs::turns_are_counted;
 pub use rows::{a_line_at_each_step, machine_rows};
 
 /// A law: over a layer that meets its laws the machine goes on where the CVM run is defined, within its bound; the run is defined for
-/// the turns that are complete; at most two page faults are handled before a turn; and a trace replays.
+/// the turns that are complete; and at most two page faults are handled before a turn.
 pub fn machines_run()
     ensures { (u : CUnit) → MachinesRun (IsTypedState u) }
 {
     the_loaded_machine_resets();
     users_follow_linked();
     turns_are_counted();
-    users_are_isolated();
 }
 
 /// A law: the kernel's data is typed after every number of turns for which the CVM run of a boot is defined.

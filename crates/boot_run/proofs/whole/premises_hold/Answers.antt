@@ -6,7 +6,7 @@ use Rattle.boot_run.proofs.whole.premises_hold.Goals as goal
 
 pub returns : goal.returns
 returns g c = λ old is room.
-    bootable (g.L.Layer.image c.args.layer.now) (g.L.Layer.sizes c.args.layer.now) (g.L.Layer.map c.args.layer.now) c.args.boot.now c.requires c.keeps_laws.ensures.linked c.keeps_laws.ensures.laws c.units_replay.ensures
+    bootable (g.L.Layer.image c.args.layer.now) (g.L.Layer.sizes c.args.layer.now) (g.L.Layer.map c.args.layer.now) c.args.boot.now c.requires c.keeps_laws.ensures.linked c.keeps_laws.ensures.laws
     c.args.schedule.now (g.D.Sectors.size c.args.disk.now) old
     (record {
       eight = c.schedules_end.ensures.eight (g.D.Sectors.size c.args.disk.now);
