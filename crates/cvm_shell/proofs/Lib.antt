@@ -1,3 +1,4 @@
+mod AcceptedAs
 mod Answered
 mod BootEndings
 mod BootPlans

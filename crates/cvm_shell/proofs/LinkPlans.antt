@@ -1,12 +1,12 @@
 -- What the files of a system come to: each is got, read and linked, or the first fault is refused, and nothing else. What is put is accepted.
 use Rattle.std.proofs.Common.{◌≡◌, ◌≢◌, ◌⊎◌, inl, inr, ℕ, ◌<◌, List, length, refl, sym, ap, ◌∙◌, subst, Ok, Err}
-use Rattle.std.specs.Prelude.{Option, Result, ⊤, IfOk}
+use Rattle.std.specs.Prelude.{Option, Result, ⊤}
 use Rattle.std.specs.Option.{IsSome}
 use Rattle.cvm_outside.specs.Told.{TOO_LONG, Tells}
 use Rattle.layer_map.specs.Map.{Map}
 use Rattle.layer_map.specs.declared.params.Params.{Params}
 use Rattle.c0_tree.specs.Tree.{CUnit}
-use Rattle.c0_types.specs.Front.{IsAnswer, IsUnitOf, IsFaultOf, IsFirstFault}
+use Rattle.c0_types.specs.Front.{IsAnswer, IsFaultOf, IsFirstFault}
 use Rattle.c0_types.specs.declared.source_fault.SourceFault.{SourceFault}
 use Rattle.c0_types.specs.declared.source_fault.SourceFault.TheVariants.{Reading, Typing}
 use Rattle.c0_parser.specs.declared.fault.ReadFault.TheVariants as read
@@ -14,7 +14,6 @@ use Rattle.c0_types.specs.declared.fault.TypeFault.TheVariants as typing
 use Rattle.boot_image.specs.Parts.{Parts as Image}
 use Rattle.boot_image.specs.Format.{spelling as image_bytes}
 use Rattle.boot_image.specs.Reading.{answer as image_of}
-use Rattle.boot_image.specs.declared.fault.ImageFault.{ImageFault}
 use Rattle.object_file.specs.Parts.{Parts as Object}
 use Rattle.object_file.specs.Answer.{IsAnswer as IsObject, UnlessMemory}
 use Rattle.object_file.specs.declared.fault.ObjectFault.{ObjectFault}
@@ -24,8 +23,7 @@ use Rattle.system_files.specs.declared.fault.FileFault.{FileFault}
 use Rattle.system_files.specs.declared.fault.FileFault.TheVariants as system
 use Rattle.kernel_linker.specs.Answers.{Comes}
 use Rattle.kernel_linker.specs.Link.{fitting, link_answer}
-use Rattle.kernel_linker.specs.Linked.{linked, sizes_of}
-use Rattle.kernel_linker.specs.Accept.{System, accept_answer}
+use Rattle.kernel_linker.specs.Accept.{accept_answer}
 use Rattle.kernel_linker.specs.Laws.{LinkedAreAccepted}
 use Rattle.kernel_linker.specs.Fault.{link_source_fault}
 use Rattle.kernel_linker.specs.declared.fault.LinkFault.{LinkFault}
@@ -36,10 +34,11 @@ use Rattle.cvm_shell.specs.declared.refusal.Refusal.TheVariants as by
 use Rattle.cvm_shell.specs.Command.{Link, link}
 use Rattle.cvm_shell.specs.Refusal.{bad_object, bad_file, unlinked}
 use Rattle.cvm_shell.specs.Linked.{IsAcceptedAs}
-use Rattle.cvm_shell.specs.Plan.{Plan, refuses, puts, Accepts, Got, GotAll, words_from, linked_plan, AfterParts, unfit, answered, AfterUsers, AfterParams, AfterSystem, no_object, has_object, AreTold, GetsTold, IsPlan}
+use Rattle.cvm_shell.specs.Plan.{Plan, refuses, puts, Got, GotAll, words_from, linked_plan, AfterParts, unfit, answered, AfterUsers, AfterParams, AfterSystem, no_object, has_object, AreTold, GetsTold, IsPlan}
 use Rattle.cvm_shell.specs.Stages.{object_stop, file_stop, link_stop, Fetched, IsLinkPlan}
 use Rattle.cvm_shell.specs.Views.{IfRefused, IfPlan}
 use Rattle.cvm_shell.proofs.Plans.{got_whole, if_refused, if_plan}
+use Rattle.cvm_shell.proofs.AcceptedAs.{linked_system, accepted_as}
 use Rattle.cvm_shell.proofs.GotFiles.{fetched_plan}
 
 -- LINKING: a source has one answer.
@@ -161,22 +160,11 @@ linked_whole one layer name bytes o p us i front comes a e =
 
 -- IT IS ACCEPTED
 pub linked_accepted : LinkedAreAccepted → (layer : Layers) (o : Object) (p : Params) (us : List (List ℕ)) (i : Image) (front : Result CUnit SourceFault) (bytes : List ℕ)
-    → Comes o.source front → link_answer layer o p us front ≡ Ok i → image_of bytes ≡ Ok i → IsAcceptedAs layer o p us bytes
+    → Comes o.source front → link_answer layer o p us front ≡ Ok i → image_of bytes ≡ Ok i → IsAcceptedAs layer o.source p us bytes
 linked_accepted law layer o p us i front bytes comes a e =
     let found = law layer o p us front i a in
-    let system : System = record { params = p; unit = found.unit; words = linked layer found.unit p (sizes_of us); users = us } in
-    let is : IsUnitOf o.source found.unit = subst (Comes o.source) found.read comes in
-    let so : accept_answer layer i (Ok found.unit) ≡ Ok system = subst (λ (x : Result CUnit SourceFault). accept_answer layer i x ≡ Ok system) found.read found.accepted in
-    record {
-      unit = found.unit;
-      typed = is;
-      accepted = subst (λ (x : Result Image ImageFault). Accepts layer x (Ok system)) (sym e) (Ok found.unit, subst (λ (source : List ℕ). IsAnswer source (Ok found.unit)) (sym found.source) is, sym so);
-    }
-
--- what is so of a value is so of what was answered
-pub if_ok : {A E : Type 0} (P Q : A → Type 0) → ((x : A) → P x → Q x) → (r : Result A E) → IfOk r P → IfOk r Q
-if_ok P Q next (Ok x) h = next x h
-if_ok P Q next (Err e) h = tt
+    accepted_as layer o.source p us found.unit i bytes (subst (Comes o.source) found.read comes) found.source
+    (subst (λ (x : Result CUnit SourceFault). accept_answer layer i x ≡ Ok (linked_system layer found.unit p us)) found.read found.accepted) e
 
 -- THE STAGES BEFORE: the object, the parameters, the users.
 

@@ -4,20 +4,24 @@ use Rattle.std.specs.Prelude.{Option, Result, ⊤}
 use Rattle.std.specs.Option.{IsSome}
 use Rattle.cvm_outside.specs.Told.{TOO_LONG, Tells}
 use Rattle.layer_map.specs.Map.{Map}
+use Rattle.c0_tree.specs.Tree.{CUnit}
 use Rattle.c0_types.specs.Front.{IsAnswer}
+use Rattle.c0_types.specs.declared.source_fault.SourceFault.{SourceFault}
 use Rattle.boot_image.specs.Parts.{Parts as Image}
 use Rattle.boot_image.specs.Format.{spelling as image_bytes}
 use Rattle.boot_image.specs.Reading.{answer as image_of, old_answer as old_image_of}
 use Rattle.boot_image.specs.declared.fault.ImageFault.{ImageFault}
-use Rattle.kernel_linker.specs.Accept.{System}
+use Rattle.kernel_linker.specs.Accept.{accept_answer}
 use Rattle.kernel_linker.specs.Migrate.{migrate_answer, Migrates, MigratedAreAccepted}
 use Rattle.kernel_linker.specs.declared.fault.AcceptFault.{AcceptFault}
 use Rattle.cvm_shell.specs.declared.boot.Stop.{Stop}
 use Rattle.cvm_shell.specs.Command.{Migrate}
-use Rattle.cvm_shell.specs.Plan.{Plan, puts, Accepts, Renews, renewed_plan, AfterOld, IsPlan}
+use Rattle.cvm_shell.specs.Linked.{IsAcceptedAs, IsAcceptedAsOld}
+use Rattle.cvm_shell.specs.Plan.{Plan, puts, Renews, renewed_plan, AfterOld, IsPlan}
 use Rattle.cvm_shell.specs.Stages.{accept_stop, IsMigratePlan}
 use Rattle.cvm_shell.specs.Views.{IfRefused, IfPlan}
 use Rattle.cvm_shell.proofs.Plans.{got_whole, if_plan}
+use Rattle.cvm_shell.proofs.AcceptedAs.{linked_system, accepted_as}
 use Rattle.cvm_shell.proofs.Answered.{OneAnswer, Faulty, only_answered, image_answered, image_refused, accept_stops}
 
 abbrev Layers : Type 0
@@ -51,16 +55,19 @@ migrated_whole one layer name old bytes i answers e =
     (plan_renewed one layer name old (Ok i) (image_answered (migrate_answer layer) (no_unit layer) (λ x. x) (old_image_of old) i answers))
 
 -- it is accepted
-accepted_anew : MigratedAreAccepted → (layer : Layers) (old : Result Image ImageFault) (i : Image) → Renews layer old (Ok i) → (s : System) × Accepts layer (Ok i) (Ok s)
-accepted_anew law layer (Err f) i h = absurd cc
-accepted_anew law layer (Ok old) i (front, is, e) =
+accepted_anew : MigratedAreAccepted → (layer : Layers) (old : Image) (i : Image) (bytes : List ℕ) → Renews layer (Ok old) (Ok i) → image_of bytes ≡ Ok i → IsAcceptedAs layer old.source old.params old.users bytes
+accepted_anew law layer old i bytes (front, is, e) read =
     let anew = law layer old front i (sym e) in
-    (record { params = old.params; unit = anew.unit; words = _; users = old.users }, (front, subst (λ (source : List ℕ). IsAnswer source front) (sym anew.source) is, sym anew.accepted))
+    accepted_as layer old.source old.params old.users anew.unit i bytes (subst (IsAnswer old.source) anew.read is) anew.source
+    (subst (λ (x : Result CUnit SourceFault). accept_answer layer i x ≡ Ok (linked_system layer anew.unit old.params old.users)) anew.read anew.accepted) read
 
-pub migrated_accepted : MigratedAreAccepted → (layer : Layers) (old bytes : List ℕ) (i : Image) → Migrates layer (old_image_of old) (Ok i) → image_of bytes ≡ Ok i → (s : System) × Accepts layer (image_of bytes) (Ok s)
+accepted_old : MigratedAreAccepted → (layer : Layers) (old bytes : List ℕ) (i : Image) (image : Result Image ImageFault) → old_image_of old ≡ image → Renews layer image (Ok i) → image_of bytes ≡ Ok i → IsAcceptedAsOld layer old bytes
+accepted_old law layer old bytes i (Err f) same h e = absurd cc
+accepted_old law layer old bytes i (Ok image) same h e = record { image = image; image_is = same; accepted = accepted_anew law layer image i bytes h e }
+
+pub migrated_accepted : MigratedAreAccepted → (layer : Layers) (old bytes : List ℕ) (i : Image) → Migrates layer (old_image_of old) (Ok i) → image_of bytes ≡ Ok i → IsAcceptedAsOld layer old bytes
 migrated_accepted law layer old bytes i answers e =
-    let found = accepted_anew law layer (old_image_of old) i (image_answered (migrate_answer layer) (no_unit layer) (λ x. x) (old_image_of old) i answers) in
-    (found.0, subst (λ (image : Result Image ImageFault). Accepts layer image (Ok found.0)) (sym e) found.1)
+    accepted_old law layer old bytes i (old_image_of old) refl (image_answered (migrate_answer layer) (no_unit layer) (λ x. x) (old_image_of old) i answers) e
 
 -- An image of form 2 was got.
 pub old_got : {A : Type 0} (made : A → Plan) (layer : Layers) (file : List ℕ → Option (List ℕ)) (m : Migrate) (old : List ℕ) (r : Result A Stop) → Tells (file m.old) old → length old < TOO_LONG

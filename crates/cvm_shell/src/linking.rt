@@ -136,7 +136,7 @@ fn image_of<M: LayerMaker>(
     users: &[Vec<u32>],
 ) -> Result<Vec<u8>, Stop>
     ensures comes { (l : Command.Link) → IfPlan (linked_to l) (IsPlan ⊤ (AfterParts M.made l.image object.now params.now (map (λ u. u.items) users.now))) result }
-    ensures accepted { IfOk result (λ v. IsAcceptedAs M.made object.now params.now (map (λ u. u.items) users.now) v.items) }
+    ensures accepted { IfOk result (λ v. IsAcceptedAs M.made object.now.source params.now (map (λ u. u.items) users.now) v.items) }
     ensures inside { IfErr result (λ s. s ≢ Stop.Shelf) }
     ensures short { IsErrOf result (Stop.Refused Refusal.TooLong) → ⊥ }
 {

@@ -1,10 +1,9 @@
 // An image of form 2, read and made anew.
-ghost use Rattle.std.specs.Prelude.{◌≡◌, ◌≢◌, ◌↔◌, ⊤, ℕ, List, IfOk, IfErr, IsErrOf, Ok};
-ghost use Rattle.boot_image.specs.Reading.{answer};
+ghost use Rattle.std.specs.Prelude.{◌≡◌, ◌≢◌, ◌↔◌, ⊤, ℕ, List, IfOk, IfErr, IsErrOf};
 ghost use Rattle.cvm_outside.specs.Told.{TOO_LONG};
-ghost use Rattle.kernel_linker.specs.Accept.{System};
 ghost use Rattle.cvm_shell.specs.Command as Command;
-ghost use Rattle.cvm_shell.specs.Plan.{Accepts, AfterOld, IsPlan};
+ghost use Rattle.cvm_shell.specs.Linked.{IsAcceptedAsOld, MigrateIsAccepted};
+ghost use Rattle.cvm_shell.specs.Plan.{AfterOld, IsPlan};
 ghost use Rattle.cvm_shell.specs.Stages.{PlanCounts, renewed, IsMigratePlan};
 ghost use Rattle.cvm_shell.specs.Views.{migrate_view, IfPlan};
 
@@ -26,8 +25,8 @@ pub fn migrated_image<M: LayerMaker, S: Shelf>(
     shelf: &mut S,
 ) -> Result<Vec<u8>, Stop>
     ensures comes { IfPlan (renewed (migrate_view names.now)) (IsMigratePlan M.made (S.file shelf.old) (migrate_view names.now)) result }
-    // These bytes are those of an image that is accepted, over the same layer.
-    ensures accepted { IfOk result (λ v. (s : System) × Accepts M.made (answer v.items) (Ok s)) }
+    // These bytes are those of an image that is accepted, over the same layer: as the system of the old image's source, parameters and users.
+    ensures accepted { IfOk result (λ v. MigrateIsAccepted M.made (S.file shelf.old) (migrate_view names.now) v.items) }
     ensures long { IsErrOf result (Stop.Refused Refusal.TooLong) ↔ (S.taken shelf.new ≡ TOO_LONG) }
     ensures count { PlanCounts (S.faults shelf.old) (S.faults shelf.new) result }
     ensures files { (n : List ℕ) → S.file shelf.new n ≡ S.file shelf.old n }
@@ -39,7 +38,7 @@ pub fn migrated_image<M: LayerMaker, S: Shelf>(
 // The bytes of the image that is made of an old one.
 fn renewed_image<M: LayerMaker>(alloc: Global, old: &[u8]) -> Result<Vec<u8>, Stop>
     ensures comes { (m : Command.Migrate) → IfPlan (renewed m) (IsPlan ⊤ (AfterOld M.made m.image old.now)) result }
-    ensures accepted { IfOk result (λ v. (s : System) × Accepts M.made (answer v.items) (Ok s)) }
+    ensures accepted { IfOk result (λ v. IsAcceptedAsOld M.made old.now v.items) }
     ensures inside { IfErr result (λ s. s ≢ Stop.Shelf) }
     ensures short { IsErrOf result (Stop.Refused Refusal.TooLong) → ⊥ }
 {

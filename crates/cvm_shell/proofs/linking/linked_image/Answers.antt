@@ -3,7 +3,8 @@ use Rattle.std.proofs.lemmas.Result.{err_from_is_err_and}
 use Rattle.cvm_shell.specs.Linked.{IsAcceptedAs, AreAcceptedAs}
 use Rattle.cvm_shell.specs.Stages.{linked_to}
 use Rattle.cvm_shell.proofs.Plans.{if_refused, if_plan}
-use Rattle.cvm_shell.proofs.LinkPlans.{object_fault, fault_unless, plan_object, params_fault, plan_params, users_fault, plan_users, if_ok}
+use Rattle.cvm_shell.proofs.AcceptedAs.{if_ok}
+use Rattle.cvm_shell.proofs.LinkPlans.{object_fault, fault_unless, plan_object, params_fault, plan_params, users_fault, plan_users}
 use Rattle.cvm_shell.proofs.linking.linked_image.Goals as goal
 
 pub returns-in_err-object-clause-comes : goal.returns-in_err-object-clause-comes
@@ -44,7 +45,7 @@ returns-clause-accepted g c =
     let made = g.M.LayerMaker.made in
     let files = map (λ (b : Vec ℕ Global). b.items) c.args.users.now in
     let users = map (λ (u : Vec ℕ Global). u.items) c.in_ok-users.users.items in
-    if_ok (λ (v : Vec ℕ Global). IsAcceptedAs made c.in_ok-object.object c.in_ok-params.params users v.items) (λ (v : Vec ℕ Global). AreAcceptedAs made c.args.object.now c.args.params.now files v.items)
+    if_ok (λ (v : Vec ℕ Global). IsAcceptedAs made c.in_ok-object.object.source c.in_ok-params.params users v.items) (λ (v : Vec ℕ Global). AreAcceptedAs made c.args.object.now c.args.params.now files v.items)
     (λ v is. record {
       kernel = c.in_ok-object.object;
       limits = c.in_ok-params.params;

@@ -10,7 +10,8 @@ use Rattle.cvm_shell.specs.Stages.{linked_to}
 use Rattle.cvm_shell.specs.Views.{link_view}
 use Rattle.cvm_shell.proofs.Plans.{got_fault}
 use Rattle.cvm_shell.proofs.GotFiles.{fetched_moved, not_fetched_moved, unfetched_plan}
-use Rattle.cvm_shell.proofs.LinkPlans.{object_got, params_got, system_got, if_ok}
+use Rattle.cvm_shell.proofs.AcceptedAs.{if_ok}
+use Rattle.cvm_shell.proofs.LinkPlans.{object_got, params_got, system_got}
 use Rattle.cvm_shell.proofs.linking.system_image.Goals as goal
 
 pub returns-in_err-object-clause-comes : goal.returns-in_err-object-clause-comes

@@ -1,10 +1,12 @@
-use Rattle.std.proofs.Common.{ap, Err, length, ◌<◌, rules}
+use Rattle.std.proofs.Common.{ap, Err, length, ◌<◌, rules, ℕ, Vec, Global}
 use Rattle.cvm_outside.specs.Told.{TOO_LONG}
+use Rattle.cvm_shell.specs.Linked.{IsAcceptedAsOld, MigrateIsAccepted}
 use Rattle.cvm_shell.specs.Stages.{renewed}
 use Rattle.cvm_shell.specs.Views.{migrate_view}
 use Rattle.std.proofs.lemmas.Result.{err_from_is_err_and}
 use Rattle.cvm_outside.specs.declared.shelf.ShelfFault.{ShelfFault}
 use Rattle.cvm_shell.proofs.Plans.{got_fault}
+use Rattle.cvm_shell.proofs.AcceptedAs.{if_ok}
 use Rattle.cvm_shell.proofs.MigratePlans.{old_got}
 use Rattle.cvm_shell.proofs.migration.migrated_image.Goals as goal
 
@@ -20,3 +22,12 @@ returns-clause-comes g c =
     let short : length c.in_ok-old.old.items < TOO_LONG = search rules in
     old_got (renewed (migrate_view c.args.names.now)) g.M.LayerMaker.made (g.S.Shelf.file c.args.shelf.now) (migrate_view c.args.names.now) c.in_ok-old.old.items c.renewed_image.result c.in_ok-old.ensures.bytes short
     (rw c.deref.ensures.value at (c.renewed_image.ensures.comes (migrate_view c.args.names.now)))
+
+pub returns-clause-accepted : goal.returns-clause-accepted
+returns-clause-accepted g c =
+    let made = g.M.LayerMaker.made in
+    let m = migrate_view c.args.names.now in
+    let told = g.S.Shelf.file c.args.shelf.now in
+    let old = c.in_ok-old.old.items in
+    if_ok (λ (v : Vec ℕ Global). IsAcceptedAsOld made old v.items) (λ (v : Vec ℕ Global). MigrateIsAccepted made told m v.items)
+    (λ v is. record { old = old; old_told = c.in_ok-old.ensures.bytes; accepted = is }) c.renewed_image.result (rw c.deref.ensures.value at c.renewed_image.ensures.accepted)
