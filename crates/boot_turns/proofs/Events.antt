@@ -2,10 +2,11 @@
 use Rattle.std.proofs.Common.{◌≡◌, ℕ, zero, suc, ◌+◌, ◌&&◌, ◌||◌, not, Bool, true, false, Option, Some, None, List, [], refl, sym, ap, ap₂, ◌∙◌, subst, slice_index, slice_set, ◌/◌}
 use Rattle.std.specs.Prelude.{IfSome, is_some, nat_lt, ◌==◌}
 use Rattle.std.specs.Option.{option_map}
+use Rattle.std.proofs.lemmas.Bool.{cond_both}
 use Rattle.mips_table.specs.declared.cause.Cause.{Cause}
 use Rattle.mips_table.specs.declared.cause.Cause.TheVariants as causes
 use Rattle.mips_table.specs.Device.{Device, Outside, Pending, Idle, Reading, Writing}
-use Rattle.mips_table.specs.Machine.{State, MODE, PTL, ECA, EDATA, number_of, Coming, Interrupt, Done, coming, latched, come_to, ended, if_on, step}
+use Rattle.mips_table.specs.Machine.{State, SR, MODE, PTL, ECA, EDATA, number_of, Coming, Interrupt, Done, coming, latched, come_to, ended, if_on, step}
 use Rattle.mips_table.specs.Turns.{in_user, is_handled, handled, begins}
 use Rattle.sector_disk.specs.Ports.{TransferFails}
 use Rattle.mips_machine.specs.declared.event.Event.{Event}
@@ -14,7 +15,7 @@ use Rattle.mips_machine.specs.Hardware.{told_as, event_by}
 use Rattle.mips_machine.specs.Machine.{Held, state_of}
 use Rattle.mips_machine.specs.Steps.{outside_of, event_if, event_of, before_count, after_step, Steps, Fails}
 use Rattle.boot_turns.specs.Completes.{seen, was_off, was_taken, begun_at, TornBy, Torn, StepTorn, SeenTorn}
-use Rattle.boot_turns.proofs.Stepping.{on_time}
+use Rattle.boot_turns.proofs.Stepping.{on_time, instruction, Plain, instruction_plain}
 
 -- by the event as a whole
 abbrev pub begun_by : (reset in_user : Bool) (pages edata : ℕ) → Event → Bool
@@ -136,31 +137,77 @@ taken_cause x s c e = cause_by x s s.off c e
 steps_cause : (count : ℕ) (old new : Held) (told retold : Option (List (List ℕ))) (e : Event) → Steps count old new told retold e → (c : Cause) → e ≡ Taken c → slice_index new.hardware.special ECA ≡ number_of c
 steps_cause count old new told retold e h c is = ap (λ (s : State). slice_index s.special ECA) h.state ∙ taken_cause (outside_of old.rows count) (state_of old h.sectors) c (sym h.event ∙ is)
 
--- so the kind of the event and that register tell as much as the event
-on_true : (r u : Bool) → r || (u && true) ≡ r || u
-on_true r true = refl
-on_true r false = refl
+-- the reset latch was set where the reset is taken, and else on a machine that is on it was not
+abbrev pub ResetTold : Bool → Event → Type 0
+ResetTold r (Off word) = Unit {0}
+ResetTold r (Taken causes.Reset) = r ≡ true
+ResetTold r other = r ≡ false
 
-begun_as : (r u : Bool) (pages edata cause : ℕ) (e : Event) → ((c : Cause) → e ≡ Taken c → cause ≡ number_of c) → begun_at r u pages (was_off e) (was_taken e) cause edata ≡ begun_by r u pages edata e
-begun_as r u pages edata cause (Off word) h = refl
-begun_as r u pages edata cause (Taken causes.FetchFault) h = ap (λ n. begun_at r u pages false true n edata) (h causes.FetchFault refl)
-begun_as r u pages edata cause (Taken causes.DataFault) h = ap (λ n. begun_at r u pages false true n edata) (h causes.DataFault refl)
-begun_as r u pages edata cause (Taken causes.Reset) h = ap (λ n. begun_at r u pages false true n edata) (h causes.Reset refl) ∙ on_true r u
-begun_as r u pages edata cause (Taken causes.External) h = ap (λ n. begun_at r u pages false true n edata) (h causes.External refl) ∙ on_true r u
-begun_as r u pages edata cause (Taken causes.FetchAlign) h = ap (λ n. begun_at r u pages false true n edata) (h causes.FetchAlign refl) ∙ on_true r u
-begun_as r u pages edata cause (Taken causes.Illegal) h = ap (λ n. begun_at r u pages false true n edata) (h causes.Illegal refl) ∙ on_true r u
-begun_as r u pages edata cause (Taken causes.Overflow) h = ap (λ n. begun_at r u pages false true n edata) (h causes.Overflow refl) ∙ on_true r u
-begun_as r u pages edata cause (Taken causes.Syscall) h = ap (λ n. begun_at r u pages false true n edata) (h causes.Syscall refl) ∙ on_true r u
-begun_as r u pages edata cause (Taken causes.DataAlign) h = ap (λ n. begun_at r u pages false true n edata) (h causes.DataAlign refl) ∙ on_true r u
-begun_as r u pages edata cause Ran h = on_true r u
-begun_as r u pages edata cause (Power word) h = on_true r u
+done_told : (r : Bool) (off : Option ℕ) → r ≡ false → ResetTold r (event_by off)
+done_told r None h = h
+done_told r (Some word) h = h
 
-pub event_told_at : (count : ℕ) (old new : Held) (told retold : Option (List (List ℕ))) (e : Event) (b reset off taken : Bool) (mode pages cause edata : ℕ) → Steps count old new told retold e →
-    reset ≡ old.hardware.reset → mode ≡ slice_index old.hardware.special MODE → pages ≡ slice_index old.hardware.special PTL → cause ≡ slice_index new.hardware.special ECA → edata ≡ slice_index new.hardware.special EDATA →
-    off ≡ was_off e → taken ≡ was_taken e → b ≡ begun_at reset (mode == 1) pages off taken cause edata → IfSome (seen told old) (λ s. b ≡ begins (outside_of old.rows count) s)
-event_told_at count old new told retold e b reset off taken mode pages cause edata h hr hm hp hc hd ho ht is =
-    event_told count old new told retold e b reset mode pages edata h hr hm hp hd
-    (is ∙ ap₂ (λ o t. begun_at reset (mode == 1) pages o t cause edata) ho ht ∙ begun_as reset (mode == 1) pages edata cause e (λ c same. hc ∙ steps_cause count old new told retold e h c same))
+plain_told : (r : Bool) (o : Coming) → Plain o → r ≡ false → ResetTold r (told_as o)
+plain_told r (Interrupt before causes.Reset edata epc) p h = absurd p
+plain_told r (Interrupt before causes.External edata epc) p h = absurd p
+plain_told r (Interrupt before causes.FetchAlign edata epc) p h = h
+plain_told r (Interrupt before causes.FetchFault edata epc) p h = h
+plain_told r (Interrupt before causes.Illegal edata epc) p h = h
+plain_told r (Interrupt before causes.Overflow edata epc) p h = h
+plain_told r (Interrupt before causes.Syscall edata epc) p h = h
+plain_told r (Interrupt before causes.DataAlign edata epc) p h = h
+plain_told r (Interrupt before causes.DataFault edata epc) p h = h
+plain_told r (Done after) p h = done_told r after.off h
+
+reset_coming : (x : Outside) (s : State) → ResetTold s.reset (told_as (coming x s))
+reset_coming x s =
+    cond_both s.reset (Interrupt s causes.Reset 0 s.cpu.pc) _ (λ o. ResetTold s.reset (told_as o)) (λ e. e)
+    (λ e. cond_both (slice_index s.special SR == 1 && not (s.mask == 0)) (Interrupt s causes.External s.mask s.cpu.pc) (instruction x s) (λ o. ResetTold s.reset (told_as o)) (λ _. e)
+    (λ _. plain_told s.reset (instruction x s) (instruction_plain x s) e))
+
+reset_by : (x : Outside) (s : State) (o : Option ℕ) → ResetTold s.reset (event_if x s o)
+reset_by x s (Some word) = tt
+reset_by x s None = reset_coming x (latched x s)
+
+reset_of : (x : Outside) (s : State) → ResetTold s.reset (event_of x s)
+unfolding event_of
+reset_of x s = reset_by x s s.off
+
+pub steps_reset : (count : ℕ) (old new : Held) (told retold : Option (List (List ℕ))) (e : Event) → Steps count old new told retold e → ResetTold old.hardware.reset e
+steps_reset count old new told retold e h = subst (ResetTold old.hardware.reset) (sym h.event) (reset_of (outside_of old.rows count) (state_of old h.sectors))
+
+-- so the kind of the event and the cause's register tell as much as the event
+and_true : (u : Bool) → u && true ≡ u
+and_true true = refl
+and_true false = refl
+
+no_reset : (r u : Bool) → r ≡ false → u && true ≡ r || u
+no_reset r u h = and_true u ∙ sym (ap (λ b. b || u) h)
+
+fault_told : (r u l : Bool) → r ≡ false → u && not l ≡ r || (u && not l)
+fault_told r u l h = sym (ap (λ b. b || (u && not l)) h)
+
+begun_as : (r u : Bool) (pages edata cause : ℕ) (e : Event) → ((c : Cause) → e ≡ Taken c → cause ≡ number_of c) → ResetTold r e → begun_at u pages (was_off e) (was_taken e) cause edata ≡ begun_by r u pages edata e
+begun_as r u pages edata cause (Off word) n h = refl
+begun_as r u pages edata cause (Taken causes.Reset) n h = ap (λ k. begun_at u pages false true k edata) (n causes.Reset refl) ∙ sym (ap (λ b. b || u) h)
+begun_as r u pages edata cause (Taken causes.FetchFault) n h = ap (λ k. begun_at u pages false true k edata) (n causes.FetchFault refl) ∙ fault_told r u (nat_lt (edata / 4096) pages) h
+begun_as r u pages edata cause (Taken causes.DataFault) n h = ap (λ k. begun_at u pages false true k edata) (n causes.DataFault refl) ∙ fault_told r u (nat_lt (edata / 4096) pages) h
+begun_as r u pages edata cause (Taken causes.External) n h = ap (λ k. begun_at u pages false true k edata) (n causes.External refl) ∙ no_reset r u h
+begun_as r u pages edata cause (Taken causes.FetchAlign) n h = ap (λ k. begun_at u pages false true k edata) (n causes.FetchAlign refl) ∙ no_reset r u h
+begun_as r u pages edata cause (Taken causes.Illegal) n h = ap (λ k. begun_at u pages false true k edata) (n causes.Illegal refl) ∙ no_reset r u h
+begun_as r u pages edata cause (Taken causes.Overflow) n h = ap (λ k. begun_at u pages false true k edata) (n causes.Overflow refl) ∙ no_reset r u h
+begun_as r u pages edata cause (Taken causes.Syscall) n h = ap (λ k. begun_at u pages false true k edata) (n causes.Syscall refl) ∙ no_reset r u h
+begun_as r u pages edata cause (Taken causes.DataAlign) n h = ap (λ k. begun_at u pages false true k edata) (n causes.DataAlign refl) ∙ no_reset r u h
+begun_as r u pages edata cause Ran n h = no_reset r u h
+begun_as r u pages edata cause (Power word) n h = no_reset r u h
+
+pub event_told_at : (count : ℕ) (old new : Held) (told retold : Option (List (List ℕ))) (e : Event) (b off taken : Bool) (mode pages cause edata : ℕ) → Steps count old new told retold e →
+    mode ≡ slice_index old.hardware.special MODE → pages ≡ slice_index old.hardware.special PTL → cause ≡ slice_index new.hardware.special ECA → edata ≡ slice_index new.hardware.special EDATA →
+    off ≡ was_off e → taken ≡ was_taken e → b ≡ begun_at (mode == 1) pages off taken cause edata → IfSome (seen told old) (λ s. b ≡ begins (outside_of old.rows count) s)
+event_told_at count old new told retold e b off taken mode pages cause edata h hm hp hc hd ho ht is =
+    event_told count old new told retold e b old.hardware.reset mode pages edata h refl hm hp hd
+    (is ∙ ap₂ (λ o t. begun_at (mode == 1) pages o t cause edata) ho ht
+    ∙ begun_as old.hardware.reset (mode == 1) pages edata cause e (λ c same. hc ∙ steps_cause count old new told retold e h c same) (steps_reset count old new told retold e h))
 
 -- a step that is told as an instruction leaves the machine on
 event_on : (off : Option ℕ) → event_by off ≡ Ran → off ≡ None
@@ -190,19 +237,14 @@ or_true false = refl
 pub user_begins : (reset user : Bool) (pages edata : ℕ) (e : Event) → user ≡ true → e ≡ Ran → true ≡ begun_by reset user pages edata e
 user_begins reset user pages edata e hu he = or_true reset ∙ ap (λ u. reset || u) (sym hu) ∙ ap (begun_by reset user pages edata) (sym he)
 
-none_taken : (pages edata : ℕ) (c : Cause) → false ≡ begun_by false false pages edata (Taken c)
-none_taken pages edata causes.FetchFault = refl
-none_taken pages edata causes.DataFault = refl
-none_taken pages edata other = refl
+neither : (r u : Bool) → r ≡ false → u ≡ false → false ≡ r || u
+neither r u hr hu = sym (ap₂ (λ (a b : Bool). a || b) hr hu)
 
-none_begins : (pages edata : ℕ) (e : Event) → false ≡ begun_by false false pages edata e
-none_begins pages edata (Off word) = refl
-none_begins pages edata (Taken c) = none_taken pages edata c
-none_begins pages edata Ran = refl
-none_begins pages edata (Power word) = refl
-
-pub system_begins : (reset user : Bool) (pages edata : ℕ) (e : Event) → user ≡ false → reset ≡ false → false ≡ begun_by reset user pages edata e
-system_begins reset user pages edata e hu hr = none_begins pages edata e ∙ ap (λ u. begun_by false u pages edata e) (sym hu) ∙ ap (λ r. begun_by r user pages edata e) (sym hr)
+pub untaken_begins : (reset user : Bool) (pages edata : ℕ) (e : Event) → user ≡ false → was_taken e ≡ false → ResetTold reset e → false ≡ begun_by reset user pages edata e
+untaken_begins reset user pages edata (Off word) hu ht hr = refl
+untaken_begins reset user pages edata (Taken c) hu ht hr = absurd (let g : true ≡ false = ht in cc)
+untaken_begins reset user pages edata Ran hu ht hr = neither reset user hr hu
+untaken_begins reset user pages edata (Power word) hu ht hr = neither reset user hr hu
 
 -- a transfer that fails leaves all sectors but the one that it names
 torn_by : (p : Pending) (buffer after : List ℕ) (ss : List (List ℕ)) (retold : Option (List (List ℕ))) → TransferFails p buffer after (Some ss) retold →

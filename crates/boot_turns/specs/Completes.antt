@@ -53,9 +53,11 @@ abbrev pub was_taken : Event → Bool
 was_taken (Taken cause) = true
 was_taken other = false
 
--- whether a step began a turn, by what the machine shows before and after it and by what the step was: it does but for page faults that are handled
-abbrev pub begun_at : (reset in_user : Bool) (pages : ℕ) (off taken : Bool) (cause edata : ℕ) → Bool
-begun_at reset in_user pages off taken cause edata = not off && (reset || (in_user && not ((taken && (cause == 3 || cause == 8)) && nat_lt (edata / 4096) pages)))
+-- whether a step began a turn, by the mode and the pages before it, by what it was, and by the special registers after it: it is the reset, or a user's
+-- step other than a page fault that is handled
+abbrev pub begun_at : (in_user : Bool) (pages : ℕ) (off taken : Bool) (cause edata : ℕ) → Bool
+begun_at in_user pages off taken cause edata =
+    not off && ((taken && cause == 0) || (in_user && not ((taken && (cause == 3 || cause == 8)) && nat_lt (edata / 4096) pages)))
 
 -- whether a step was one that began a turn
 abbrev pub turn_began : Stepped → Bool

@@ -92,21 +92,14 @@ fn was_taken(event: Event) -> bool
     }
 }
 
-/// Whether a step began a turn: by the reset latch, the mode and the number of pages before it, what it was, and the special registers that
-/// say the cause of an interrupt and what it concerns after it. Most steps are told without this one.
+/// Whether a step began a turn: by the mode and the number of pages before it, what it was, and the special registers that say the cause of
+/// an interrupt and what it concerns after it. Most steps are told without this one.
 #[cold]
 #[inline(never)]
-fn has_begun(
-    reset: bool,
-    in_user: bool,
-    pages: u32,
-    off: bool,
-    taken: bool,
-    cause: u32,
-    edata: u32,
-) -> bool
-    ensures { result ≡ begun_at reset in_user pages off taken cause edata }
+fn has_begun(in_user: bool, pages: u32, off: bool, taken: bool, cause: u32, edata: u32) -> bool
+    ensures { result ≡ begun_at in_user pages off taken cause edata }
 {
+    let reset = taken && cause == 0;
     let faulted = taken && (cause == 3 || cause == 8);
     let handled = faulted && edata / 4096 < pages;
     !off && (reset || in_user && !handled)
@@ -131,36 +124,32 @@ fn step_once<D: Sectors>(machine: &mut Machine, disk: &mut D) -> Result<Stepped,
     ensures size { D.size disk.new ≡ D.size disk.old }
     ensures count { Counts (D.faults disk.old) (D.faults disk.new) result }
 {
-    let reset = machine.is_reset();
     let in_user = machine.special(MODE) == 1;
     let pages = machine.special(PAGES);
     let event = machine.step(disk)?;
+    let taken = was_taken(event);
     if in_user {
         if let Event::Ran = event {
             if machine.special(MODE) == 1 {
                 return Ok(Stepped::Kept);
             }
         }
-    } else if !reset {
+    } else if !taken {
         return Ok(Stepped::On);
     }
     // the cause is taken from its special register: a load of the whole event waits for the store of its first byte
     let off = was_off(event);
-    let taken = was_taken(event);
     let cause = machine.special(CAUSE);
     let edata = machine.special(CONCERN);
-    Ok(stepped_as(has_begun(reset, in_user, pages, off, taken, cause, edata)))
+    Ok(stepped_as(has_begun(in_user, pages, off, taken, cause, edata)))
 }
 
-/// The current user, which is read only where a user is traced.
-fn traced_current(machine: &Machine, tracer: &Option<Tracer>) -> u32
+/// The current user. It is read without a look whether a user is traced, since a load costs less than a branch.
+fn current_user(machine: &Machine) -> u32
     requires room { 1024 < length machine.now.hardware.memory }
-    ensures { IfSome tracer.now (λ kept. result ≡ slice_index machine.now.hardware.memory current_at) }
+    ensures { result ≡ slice_index machine.now.hardware.memory current_at }
 {
-    match tracer {
-        Some(_) => machine.word(CURRENT),
-        None => 0,
-    }
+    machine.word(CURRENT)
 }
 
 /// Counts a step under this current user that kept user mode, where no primitive is under way: it has no rows. The answer is whether none
@@ -217,7 +206,7 @@ fn step_traced<D: Sectors, O: Sink>(
     traces_grow();
     journal_rows_follow();
     the_words_tell();
-    let current = traced_current(machine, tracer);
+    let current = current_user(machine);
     let stepped = step_once(machine, disk)?;
     if let Stepped::Kept = stepped {
         if counts(tracer, current) {

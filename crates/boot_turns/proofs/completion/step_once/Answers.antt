@@ -1,7 +1,7 @@
 use Rattle.std.proofs.Common.{◌≡◌, Bool, true, false, Result, Ok, Err, slice_index, refl, sym, ap, ◌∙◌, subst, eq-eqb, ne_eqb}
 use Rattle.std.specs.Prelude.{◌==◌, OnErr}
 use Rattle.boot_turns.specs.Completes.{turn_began, stepped_as, StepBegan}
-use Rattle.boot_turns.proofs.Events.{event_told, event_told_at, user_begins, system_begins, steps_on, steps_seen, steps_time, fails_time, fails_torn}
+use Rattle.boot_turns.proofs.Events.{event_told, event_told_at, user_begins, untaken_begins, steps_reset, steps_on, steps_seen, steps_time, fails_time, fails_torn}
 use Rattle.boot_turns.proofs.completion.step_once.Goals as goal
 
 on_err : {T E P : Type 0} (r : Result T E) → P → OnErr r P
@@ -16,8 +16,8 @@ pub returns-clause-began : goal.returns-clause-began
 returns-clause-began g c =
     subst (λ (b : Bool). StepBegan (g.D.Sectors.size c.args.disk.now) c.args.machine.now (g.D.Sectors.sectors c.args.disk.now) b) (sym (ap turn_began c.stepped_as.ensures ∙ as_told c.has_begun.result))
     (event_told_at (g.D.Sectors.size c.args.disk.now) c.args.machine.now c.step.new.self (g.D.Sectors.sectors c.args.disk.now) (g.D.Sectors.sectors c.step.new.disk)
-    c.in_ok-event.event c.has_begun.result c.is_reset-reset.result c.was_off-off.result c.was_taken-taken.result c.special-in_user.result c.special-pages.result c.special-cause.result c.special-edata.result c.in_ok-event.ensures.ok
-    c.is_reset-reset.ensures c.special-in_user.ensures c.special-pages.ensures c.special-cause.ensures c.special-edata.ensures c.was_off-off.ensures c.was_taken-taken.ensures c.has_begun.ensures)
+    c.in_ok-event.event c.has_begun.result c.was_off-off.result c.was_taken-taken.result c.special-in_user.result c.special-pages.result c.special-cause.result c.special-edata.result c.in_ok-event.ensures.ok
+    c.special-in_user.ensures c.special-pages.ensures c.special-cause.ensures c.special-edata.ensures c.was_off-off.ensures c.was_taken-taken.ensures c.has_begun.ensures)
 
 pub returns-clause-time : goal.returns-clause-time
 returns-clause-time g c =
@@ -41,9 +41,9 @@ returns-in_err-event-clause-torn g c =
 pub returns-then-special-eq1-clause-began : goal.returns-then-special-eq1-clause-began
 returns-then-special-eq1-clause-began g c =
     event_told (g.D.Sectors.size c.args.disk.now) c.args.machine.now c.step.new.self (g.D.Sectors.sectors c.args.disk.now) (g.D.Sectors.sectors c.step.new.disk)
-    c.in_ok-event.event true c.is_reset-reset.result c.special-in_user.result c.special-pages.result (slice_index c.step.new.self.hardware.special 4) c.in_ok-event.ensures.ok
-    c.is_reset-reset.ensures c.special-in_user.ensures c.special-pages.ensures refl
-    (user_begins c.is_reset-reset.result (c.special-in_user.result == 1) c.special-pages.result (slice_index c.step.new.self.hardware.special 4) c.in_ok-event.event (eq-eqb c.special-in_user.result 1 c.if-in_user.true) c.in-Ran.is)
+    c.in_ok-event.event true c.args.machine.now.hardware.reset c.special-in_user.result c.special-pages.result (slice_index c.step.new.self.hardware.special 4) c.in_ok-event.ensures.ok
+    refl c.special-in_user.ensures c.special-pages.ensures refl
+    (user_begins c.args.machine.now.hardware.reset (c.special-in_user.result == 1) c.special-pages.result (slice_index c.step.new.self.hardware.special 4) c.in_ok-event.event (eq-eqb c.special-in_user.result 1 c.if-in_user.true) c.in-Ran.is)
 
 pub returns-then-special-eq1-clause-kept : goal.returns-then-special-eq1-clause-kept
 returns-then-special-eq1-clause-kept g c = (
@@ -57,14 +57,15 @@ returns-then-special-eq1-clause-time g c =
     steps_time (g.D.Sectors.size c.args.disk.now) c.args.machine.now c.step.new.self (g.D.Sectors.sectors c.args.disk.now) (g.D.Sectors.sectors c.step.new.disk)
     c.in_ok-event.event c.in_ok-event.ensures.ok
 
-pub returns-then-not-reset-clause-began : goal.returns-then-not-reset-clause-began
-returns-then-not-reset-clause-began g c =
+pub returns-then-not-taken-clause-began : goal.returns-then-not-taken-clause-began
+returns-then-not-taken-clause-began g c =
     event_told (g.D.Sectors.size c.args.disk.now) c.args.machine.now c.step.new.self (g.D.Sectors.sectors c.args.disk.now) (g.D.Sectors.sectors c.step.new.disk)
-    c.in_ok-event.event false c.is_reset-reset.result c.special-in_user.result c.special-pages.result (slice_index c.step.new.self.hardware.special 4) c.in_ok-event.ensures.ok
-    c.is_reset-reset.ensures c.special-in_user.ensures c.special-pages.ensures refl
-    (system_begins c.is_reset-reset.result (c.special-in_user.result == 1) c.special-pages.result (slice_index c.step.new.self.hardware.special 4) c.in_ok-event.event (ne_eqb c.special-in_user.result 1 c.if-in_user.false) c.if-not-reset.true)
+    c.in_ok-event.event false c.args.machine.now.hardware.reset c.special-in_user.result c.special-pages.result (slice_index c.step.new.self.hardware.special 4) c.in_ok-event.ensures.ok
+    refl c.special-in_user.ensures c.special-pages.ensures refl
+    (untaken_begins c.args.machine.now.hardware.reset (c.special-in_user.result == 1) c.special-pages.result (slice_index c.step.new.self.hardware.special 4) c.in_ok-event.event (ne_eqb c.special-in_user.result 1 c.if-in_user.false)
+    (sym c.was_taken-taken.ensures ∙ c.if-not-taken.true) (steps_reset (g.D.Sectors.size c.args.disk.now) c.args.machine.now c.step.new.self (g.D.Sectors.sectors c.args.disk.now) (g.D.Sectors.sectors c.step.new.disk) c.in_ok-event.event c.in_ok-event.ensures.ok))
 
-pub returns-then-not-reset-clause-time : goal.returns-then-not-reset-clause-time
-returns-then-not-reset-clause-time g c =
+pub returns-then-not-taken-clause-time : goal.returns-then-not-taken-clause-time
+returns-then-not-taken-clause-time g c =
     steps_time (g.D.Sectors.size c.args.disk.now) c.args.machine.now c.step.new.self (g.D.Sectors.sectors c.args.disk.now) (g.D.Sectors.sectors c.step.new.disk)
     c.in_ok-event.event c.in_ok-event.ensures.ok

@@ -1,4 +1,4 @@
-use Rattle.std.proofs.Common.{◌≡◌, ℕ, Option, Some, None, slice_index, ap, sym, ◌∙◌, subst, Bool, true, Err}
+use Rattle.std.proofs.Common.{◌≡◌, Option, Some, None, ap, sym, ◌∙◌, subst, Bool, true, Err}
 use Rattle.std.specs.Prelude.{IfSome}
 use Rattle.boot_turns.specs.declared.completion.Stepped.{Stepped}
 use Rattle.boot_turns.specs.declared.completion.Stepped.TheVariants.{Kept}
@@ -12,10 +12,10 @@ use Rattle.boot_turns.proofs.Tracking.{step_breaks, step_goes, step_stops}
 use Rattle.boot_turns.proofs.completion.step_traced.Goals.{in-Kept+else-counts, in_default}
 use Rattle.boot_turns.proofs.completion.step_traced.Goals as goal
 
--- what is read where a user is traced
-current_read : (o : Option Tracer) (k : Tracer) (n v : ℕ) → IfSome o (λ _. n ≡ v) → o ≡ Some k → n ≡ v
-current_read None k n v h e = absurd (cc)
-current_read (Some j) k n v h e = h
+-- so it is where a user is traced
+if_traced : (o : Option Tracer) (P : Type 0) → P → IfSome o (λ _. P)
+if_traced None P h = tt
+if_traced (Some k) P h = h
 
 pub returns-in_err-stepped-clause-traced : goal.returns-in_err-stepped-clause-traced
 returns-in_err-stepped-clause-traced g c =
@@ -40,7 +40,7 @@ returns-in_err-follow-clause-traced g c =
     let w = err_from_is_err_and c.from_residual-in_err-follow.result c.from_residual-in_err-follow.ensures.1 in
     let x = outside_of c.args.machine.now.rows (g.D.Sectors.size c.args.disk.now) in
     step_stops c.traces_grow.ensures c.journal_rows_follow.ensures c.the_words_tell.ensures x c.args.map.now c.args.machine.now (g.D.Sectors.sectors c.args.disk.now) c.in-Some.kept (g.O.Sink.text c.args.out.now) c.requires.on
-    c.step_once.new.machine (g.D.Sectors.sectors c.step_once.new.disk) c.in_ok-stepped.ensures.ran c.traced_current-current.result (current_read c.args.tracer.now c.in-Some.kept c.traced_current-current.result (slice_index c.args.machine.now.hardware.memory 1024) c.traced_current-current.ensures here) c.began-began.result began
+    c.step_once.new.machine (g.D.Sectors.sectors c.step_once.new.disk) c.in_ok-stepped.ensures.ran c.current_user-current.result c.current_user-current.ensures c.began-began.result began
     c.args.tracer.now _ (g.O.Sink.text c.follow.new.out) c.from_residual-in_err-follow.result w.0 c.in_err-follow.field-0.0 here w.1 w.2
     (λ e. c.in_err-follow.ensures.no_limit (ap (λ f. Err f) e)) c.in_err-follow.ensures.err
 
@@ -54,7 +54,7 @@ returns-in-Some-clause-traced g c =
     subst (λ (b : Bool). StepBegan (g.D.Sectors.size c.args.disk.now) c.args.machine.now (g.D.Sectors.sectors c.args.disk.now) b) (sym c.began-began.ensures) c.in_ok-stepped.ensures.began in
     let x = outside_of c.args.machine.now.rows (g.D.Sectors.size c.args.disk.now) in
     step_goes c.traces_grow.ensures c.journal_rows_follow.ensures c.the_words_tell.ensures x c.args.map.now c.args.machine.now (g.D.Sectors.sectors c.args.disk.now) c.in-Some.kept (g.O.Sink.text c.args.out.now) c.requires.on
-    c.step_once.new.machine (g.D.Sectors.sectors c.step_once.new.disk) c.in_ok-stepped.ensures.ran c.traced_current-current.result (current_read c.args.tracer.now c.in-Some.kept c.traced_current-current.result (slice_index c.args.machine.now.hardware.memory 1024) c.traced_current-current.ensures here) c.began-began.result began
+    c.step_once.new.machine (g.D.Sectors.sectors c.step_once.new.disk) c.in_ok-stepped.ensures.ran c.current_user-current.result c.current_user-current.ensures c.began-began.result began
     c.stepped_as.result c.args.tracer.now c.follow.new.self (g.O.Sink.text c.follow.new.out) here c.in_ok-follow.ensures.ok c.in_ok-follow.ensures.kept
 
 pub returns-then-counts-clause-traced : goal.returns-then-counts-clause-traced
@@ -64,5 +64,5 @@ returns-then-counts-clause-traced g c =
     let began : StepBegan (g.D.Sectors.size c.args.disk.now) c.args.machine.now (g.D.Sectors.sectors c.args.disk.now) true =
     subst (λ (s : Stepped). StepBegan (g.D.Sectors.size c.args.disk.now) c.args.machine.now (g.D.Sectors.sectors c.args.disk.now) (turn_began s)) c.in-Kept.is c.in_ok-stepped.ensures.began in
     step_counted c.traces_grow.ensures c.journal_rows_follow.ensures c.the_words_tell.ensures x c.args.map.now c.args.machine.now (g.D.Sectors.sectors c.args.disk.now) c.args.tracer.now c.counts.new.tracer (g.O.Sink.text c.args.out.now)
-    c.requires.on c.step_once.new.machine (g.D.Sectors.sectors c.step_once.new.disk) c.in_ok-stepped.ensures.ran c.traced_current-current.result c.traced_current-current.ensures began kept.0 (c.counts.ensures.free c.if-counts.true)
+    c.requires.on c.step_once.new.machine (g.D.Sectors.sectors c.step_once.new.disk) c.in_ok-stepped.ensures.ran c.current_user-current.result (if_traced c.args.tracer.now _ c.current_user-current.ensures) began kept.0 (c.counts.ensures.free c.if-counts.true)
     (c.counts.ensures.counted c.if-counts.true) Kept
