@@ -78,7 +78,7 @@ pub fn emit_operand(
 /// expression is none.
 ///
 /// Want of memory leaves `code` as it was.
-pub fn emit_spot(
+pub fn emit_place(
     scene: &Scene<'_>,
     expr: &Expr,
     free: u32,
@@ -92,7 +92,7 @@ pub fn emit_spot(
     ensures unchanged { OnErr result (code.new.items ≡ code.old.items) }
 {
     let start = code.len();
-    let answer = node::emit_spot(scene, expr, free, code);
+    let answer = node::emit_place(scene, expr, free, code);
     all_or_none(code, start, answer)
 }
 

@@ -21,7 +21,7 @@ mod variable;
 mod word;
 
 pub use constant::emit_constant;
-pub use expression::{emit_operand, emit_spot, emit_test, emit_value};
+pub use expression::{emit_operand, emit_place, emit_test, emit_value};
 pub use known::{known_of, stands_in};
 pub use layout::Layout;
 pub use leaf::keeps_registers;

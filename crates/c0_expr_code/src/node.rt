@@ -63,7 +63,7 @@ pub fn emit_operand(
 // Appends the code of a place, with free registers from `free` on, and answers where the place is then; no code and no place where the
 // expression is none.
 #[cycle(node)]
-pub fn emit_spot(
+pub fn emit_place(
     scene: &Scene<'_>,
     expr: &Expr,
     free: u32,
@@ -79,7 +79,7 @@ pub fn emit_spot(
     match expr {
         Expr::Var(name) => Ok(variable_spot(scene, name.kind, name.number)),
         Expr::Field(_, part, name) => {
-            let spot = emit_spot(scene, part, free, code)?;
+            let spot = emit_place(scene, part, free, code)?;
             Ok(spot.moved(field_bytes(scene, type_of(scene, part), name.number)))
         }
         Expr::Arrow(_, part, name) => {
@@ -137,7 +137,7 @@ fn emit_index(
     ensures place { IfOk result (λ x. IsSpot x (index_spot (scope_in scene.now) (expr_view part.now) (expr_view index.now) free)) }
     ensures small { IfOk result (λ x. x.base < 32) }
 {
-    let spot = emit_spot(scene, part, free, code)?;
+    let spot = emit_place(scene, part, free, code)?;
     let elements = elements_of(scene, type_of(scene, part));
     match constant_below(index, elements.count) {
         Some(number) => Ok(spot.moved(elements.bytes.wrapping_mul(number))),
@@ -221,7 +221,7 @@ fn emit_held(
     ensures appended { OnOk result (code.new.items ≡ code.old.items ++ map encoding (on_spot (access_inst access target) free ((made (scope_in scene.now) (expr_view expr.now)).place free))) }
     ensures ahead { OnErr result (StandAhead code.old.items code.new.items) }
 {
-    let spot = emit_spot(scene, expr, free, code)?;
+    let spot = emit_place(scene, expr, free, code)?;
     emit_access(code, access, target, free, spot)
 }
 

@@ -4,7 +4,7 @@
 ghost use Rattle.std.specs.Prelude.{◌≡◌, ◌+◌, ◌-◌, ◌≤◌, ◌<◌, ◌∷◌, [], ◌++◌, length, map, not, true, OnErr, OnOk};
 ghost use Rattle.mips_table.specs.declared.inst.Inst.TheVariants.{Slt};
 ghost use Rattle.mips_table.specs.Encoding.{InRange, encoding};
-ghost use Rattle.masm.specs.declared.registers.TheConstants.{SCRATCH as R1};
+ghost use Rattle.masm.specs.declared.registers.TheConstants.{SCRATCH as scratch};
 ghost use Rattle.c0_tree.specs.Size.{need, binary_need};
 ghost use Rattle.c0_tree.specs.View.{expr_view};
 ghost use Rattle.c0_expr_code.specs.Jumps.{test_open};
@@ -94,7 +94,7 @@ fn emit_less_test(
 ) -> Result<(), AllocError>
     requires left { left < 32 }
     requires right { right < 32 }
-    ensures appended { OnOk result (code.new.items ≡ code.old.items ++ map encoding (Slt R1 left right ∷ branch_code is_not R1 0 0 ∷ [])) }
+    ensures appended { OnOk result (code.new.items ≡ code.old.items ++ map encoding (Slt scratch left right ∷ branch_code is_not scratch 0 0 ∷ [])) }
     ensures ahead { OnErr result (StandAhead code.old.items code.new.items) }
 {
     emit(code, less(SCRATCH, left, right))?;

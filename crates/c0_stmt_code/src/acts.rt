@@ -18,7 +18,7 @@ ghost use Rattle.c0_stmt_code.specs.EmitLeaf.{CanStand};
 
 use crate::prologue::register_behind;
 use c0_expr_code::{
-    Access, Scene, emit, emit_access, emit_constant, emit_operand, emit_spot, emit_value, stands_in,
+    Access, Scene, emit, emit_access, emit_constant, emit_operand, emit_place, emit_value, stands_in,
 };
 use c0_meaning::words_of;
 use c0_tree::{CType, Expr, Kind};
@@ -65,7 +65,7 @@ fn emit_stored(
     requires numbers { HasNumbers (scope_in scene.now).env (expr_view place.now) }
     ensures { OnOk result (code.new.items ≡ code.old.items ++ map encoding (on_spot (access_inst Store register) free ((made (scope_in scene.now) (expr_view place.now)).place free))) }
 {
-    let spot = emit_spot(scene, place, free, code)?;
+    let spot = emit_place(scene, place, free, code)?;
     emit_access(code, Access::Store, register, free, spot)
 }
 

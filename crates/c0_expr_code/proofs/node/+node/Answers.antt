@@ -9,16 +9,16 @@ use Rattle.c0_expr_code.proofs.Emitted.{binary_spot, view_binary, near_place, fa
 use Rattle.c0_expr_code.proofs.Patched.{patched}
 use Rattle.c0_expr_code.proofs.node.+node.Goals as goal
 
-pub emit_spot-field_bytes-requires-in-Arrow-clause-resolved : goal.emit_spot-field_bytes-requires-in-Arrow-clause-resolved
-emit_spot-field_bytes-requires-in-Arrow-clause-resolved t c = c.target_of-found.ensures.resolved _ c.type_of-in-Arrow.ensures.resolved
+pub emit_place-field_bytes-requires-in-Arrow-clause-resolved : goal.emit_place-field_bytes-requires-in-Arrow-clause-resolved
+emit_place-field_bytes-requires-in-Arrow-clause-resolved t c = c.target_of-found.ensures.resolved _ c.type_of-in-Arrow.ensures.resolved
 
-pub emit_spot-returns-in-Binary-clause-code : goal.emit_spot-returns-in-Binary-clause-code
-emit_spot-returns-in-Binary-clause-code t c =
+pub emit_place-returns-in-Binary-clause-code : goal.emit_place-returns-in-Binary-clause-code
+emit_place-returns-in-Binary-clause-code t c =
     let e = binary_spot (scope_in c.args.scene.now) (expr_view c.args.expr.now) _ _ _ _ c.args.free (ap expr_view c.in-Binary.is ∙ view_binary _ _ _ _) in
     sym (append-nil c.args.code.now.items) ∙ sym (ap (λ (x : Spot). c.args.code.now.items ++ map encoding x.code) e)
 
-pub emit_spot-returns-in-Binary-clause-place : goal.emit_spot-returns-in-Binary-clause-place
-emit_spot-returns-in-Binary-clause-place t c =
+pub emit_place-returns-in-Binary-clause-place : goal.emit_place-returns-in-Binary-clause-place
+emit_place-returns-in-Binary-clause-place t c =
     let e = binary_spot (scope_in c.args.scene.now) (expr_view c.args.expr.now) _ _ _ _ c.args.free (ap expr_view c.in-Binary.is ∙ view_binary _ _ _ _) in
     (sym (ap (λ (x : Spot). x.base) e), sym (ap (λ (x : Spot). x.shift) e))
 
@@ -39,5 +39,5 @@ emit_index-returns-in-Some-clause-place t c =
 pub emit_index-returns-in-None-clause-code : goal.emit_index-returns-in-None-clause-code
 emit_index-returns-in-None-clause-code t c =
     let sc = scope_in c.args.scene.now in
-    far_code sc (expr_view c.args.part.now) (expr_view c.args.index.now) c.args.free c.elements_of-elements.result c.in_ok-spot.spot c.emit_tested.result c.args.code.now.items c.emit_spot.new.code.items c.emit_tested.new.code.items
+    far_code sc (expr_view c.args.part.now) (expr_view c.args.index.now) c.args.free c.elements_of-elements.result c.in_ok-spot.spot c.emit_tested.result c.args.code.now.items c.emit_place.new.code.items c.emit_tested.new.code.items
     (c.elements_of-elements.ensures.words) (c.elements_of-elements.ensures.count) (c.type_of.ensures.gives) (sym (c.constant_below.ensures sc) ∙ c.in-None.is) c.in_ok-spot.ensures.place c.in_ok-spot.ensures.code c.emit_tested.ensures.code

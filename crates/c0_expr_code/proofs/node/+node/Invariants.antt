@@ -4,8 +4,8 @@ use Rattle.c0_tree.specs.Size.{nodes}
 use Rattle.c0_tree.specs.View.{expr_view}
 use Rattle.c0_expr_code.proofs.node.+node.Given as goal
 
-abbrev pub decreases-emit_spot : goal.decreases-emit_spot
-decreases-emit_spot l = 8 * nodes (expr_view l.expr.now)
+abbrev pub decreases-emit_place : goal.decreases-emit_place
+decreases-emit_place l = 8 * nodes (expr_view l.expr.now)
 
 abbrev pub decreases-emit_held : goal.decreases-emit_held
 decreases-emit_held l = 8 * nodes (expr_view l.expr.now) + 1
