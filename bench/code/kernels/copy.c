@@ -26,10 +26,10 @@ int same(int (*a)[64], int (*b)[64], int n) {
 }
 
 int dispatch(int cause, int data, int user) {
-  int i = 0;
+  int i;
   int turn = 0;
   int found = 0;
-  int ok = 0;
+  int ok;
   while (turn < 4) {
     i = 0;
     while (i < 64) {

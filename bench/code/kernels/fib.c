@@ -1,6 +1,6 @@
 int fib(int n) {
   int a = n;
-  int b = 0;
+  int b;
   if (n > 1) {
     a = fib(n - 1);
     b = fib(n - 2);
@@ -10,7 +10,7 @@ int fib(int n) {
 }
 
 int dispatch(int cause, int data, int user) {
-  int r = 0;
+  int r;
   r = fib(data);
   return r;
 }

@@ -1,6 +1,6 @@
 #include "exits.h"
 int gcd(int a, int b) {
-  int kept = 0;
+  int kept;
   while (b != 0) {
     if (b == 0) division();
     kept = a % b;
@@ -12,7 +12,7 @@ int gcd(int a, int b) {
 
 int dispatch(int cause, int data, int user) {
   int i = 0;
-  int r = 0;
+  int r;
   int sum = 0;
   while (i < 50) {
     r = gcd(data * i + 1071, 462 + i);

@@ -9,16 +9,14 @@ struct node *new_node(void) {
   if (used < 64) {
     n = &room[used];
     used = used + 1;
-    n->value = 0;
-    n->next = 0;
   }
   return n;
 }
 
 int insert(int value) {
-  struct node *n = 0;
+  struct node *n;
   struct node *before = 0;
-  struct node *at = 0;
+  struct node *at;
   n = new_node();
   if (!n) null_use();
   n->value = value;
@@ -32,9 +30,9 @@ int insert(int value) {
 int dispatch(int cause, int data, int user) {
   int i = 0;
   int seed = data;
-  int ignored = 0;
+  int ignored;
   int sum = 0;
-  struct node *at = 0;
+  struct node *at;
   while (i < 50) {
     seed = (seed * 1103 + 12345) % 65536;
     ignored = insert(seed);

@@ -4,7 +4,7 @@ struct box boxes[4];
 int sent;
 
 int put(struct box *b, int word) {
-  int fits = 0;
+  int fits;
   if (!b) null_use();
   fits = b->count < 4;
   if (fits) {
@@ -28,10 +28,10 @@ int take(struct box *b) {
 }
 
 int dispatch(int cause, int data, int user) {
-  int what = 0;
-  int to = 0;
-  int word = 0;
-  int ok = 0;
+  int what;
+  int to;
+  int word;
+  int ok;
   if (cause == 9) {
     what = vm_get(user, 4);
     if (what == 1) {

@@ -19,7 +19,7 @@ int pick(int from) {
 }
 
 int dispatch(int cause, int data, int user) {
-  int next = 0;
+  int next;
   int i = 0;
   if (cause == 0) {
     while (i < 8) {

@@ -3,8 +3,8 @@ int a[50];
 
 int dispatch(int cause, int data, int user) {
   int i = 0;
-  int j = 0;
-  int kept = 0;
+  int j;
+  int kept;
   int seed = data;
   while (i < 50) {
     seed = (seed * 1103 + 12345) % 65536;

@@ -3,8 +3,8 @@ struct row { int key; int cells[3]; int used; };
 struct row rows[30];
 
 int dispatch(int cause, int data, int user) {
-  int i = 0;
-  int j = 0;
+  int i;
+  int j;
   int sum = 0;
   int turn = 0;
   while (turn < 10) {

@@ -17,8 +17,8 @@ int first(int from) {
 
 int dispatch(int cause, int data, int user) {
   int i = 0;
-  int said = 0;
-  int next = 0;
+  int said;
+  int next;
   if (cause == 0) {
     while (i < 16) {
       if ((unsigned) i >= 16) bounds();
