@@ -86,7 +86,7 @@ module _ (runs : RunLaws) (compose : RunsCompose) (W E : Type 0) (Outer : W → 
     low = end_of W E Outer Passes z fs
 
     -- the answer is handed over, and the caller goes on where it waits
-    handed : (l m j : ℕ) (cost : Cost) (h0 : Configuration W E) (s0 : Machine) (v : Value) (t : Ty) (c' : Contents) → Path runs compose W E Outer Passes z jumps l m j s0 (at_with to c' d) → cost.own ≤ 2048 * l → m ≤ 60 * cost.own → length calls ≡ ended h0 + j
+    handed : (l m j : ℕ) (cost : Cost) (h0 : Configuration W E) (s0 : Machine) (v : Value) (t : Ty) (c' : Contents) → Path runs compose W E Outer Passes z jumps l m j s0 (at_with to c' d) → cost.own ≤ 2048 * l → m ≤ 30 * cost.own → length calls ≡ ended h0 + j
         → c'.memory ≡ c.memory → c'.special ≡ c.special → ((x : ℕ) → 28 ≤ x → c'.regs x ≡ c.regs x) → Fits (shapes z.p.unit) (layout_of z.p.unit objects) t v → c'.regs 2 ≡ word_of_value W E Outer Passes z objects v → ty_of f.answer ≡ t
         → StepIs W E Outer Passes z debt h0 s0 (deliver cost target v work here)
     handed l m j cost h0 s0 v t c' path low_paid high_paid en memory special high fits is2 types = by_target acts fs waits target work ahead refl
@@ -147,7 +147,7 @@ module _ (runs : RunLaws) (compose : RunsCompose) (W E : Type 0) (Outer : W → 
 
     pub enters_asm : (l m j k : ℕ) (cost : Cost) (h0 : Configuration W E) (s0 : Machine) (bytes : List ℕ) (span : Span) (words : List ℕ) → f.body ≡ asm bytes span words → AreInts (types_of (map typed_of f.params)) → length (types_of (map typed_of f.params)) ≤ 4 → length (types_of (map typed_of f.params)) ≡ length f.params
         → ty_of f.answer ≡ ty.int → IsTrue (are_allowed_words words)
-        → Path runs compose W E Outer Passes z jumps l m j s0 (at_with k c d) → CodeAt z.w k (function_code sc (text W E Outer Passes z).links f) → cost.own + 9 ≤ 2048 * (l + 1) → m ≤ 60 * cost.own + 20 → length calls ≡ ended h0 + j
+        → Path runs compose W E Outer Passes z jumps l m j s0 (at_with k c d) → CodeAt z.w k (function_code sc (text W E Outer Passes z).links f) → cost.own + 9 ≤ 2048 * (l + 1) → m ≤ 30 * cost.own → length calls ≡ ended h0 + j
         → StepIs W E Outer Passes z debt h0 s0 (call_function z.p cost n args target work here)
     enters_asm l m j k cost h0 s0 bytes span words e ints_ few count_is result allowed path there low_paid high_paid en =
         subst (λ o. StepIs W E Outer Passes z debt h0 s0 (then_go (plus cost (units 1)) here (at_no_cost (ok_or o stuck)) (λ cost g. if nat_lt z.p.stack (stack_words z.p.unit fs + frame (shapes z.p.unit) g) then Stop cost (faulted StackOut) here else enter z.p cost n g.body args target work here))) (sym is)
@@ -199,8 +199,8 @@ module _ (runs : RunLaws) (compose : RunsCompose) (W E : Type 0) (Outer : W → 
             let keep : (x : ℕ) → 28 ≤ x → r.0.regs x ≡ c.regs x = λ x le. r.1.regs x (inr (omega (arith, le))) ∙ t.1.others x (λ q. absurd (omega (arith, q, le))) (λ q. absurd (omega (arith, q, le))) in
             let jump_back = led compose z.w z.sound straight jumps 31 k2 to r.0 d st.idle (read_is r.0.regs 31 (λ q. absurd (omega (arith, q))) ∙ keep 31 (omega arith) ∙ return_at) last_at.0 in
             let body_way : Way runs z.w Passes (length words) (6 + length words) 0 (at_with k1 t.0 d) (at_with k2 r.0 d) = record { own = r.2.steps; low = r.3; high = r.2.within; run = r.2.run } in
-            let way1 = on runs z.w Passes l m j 1 7 0 s0 (at_with k c d) (at_with k1 t.0 d) path (away runs z.w Passes 7 (at_with k c d) (at_with k1 t.0 d) (λ q. let ts = test_some in absurd (omega (arith, q, ts))) t.2) in
-            let way2 = on runs z.w Passes (l + 1) (m + 7) (j + 0) (length words) (6 + length words) 0 s0 (at_with k1 t.0 d) (at_with k2 r.0 d) way1 body_way in
-            let way3 = on runs z.w Passes (l + 1 + length words) (m + 7 + (6 + length words)) (j + 0 + 0) 0 1 0 s0 (at_with k2 r.0 d) (at_with to r.0 d) way2 (of runs z.w Passes 1 _ _ jump_back) in
-            handed (l + 1 + length words + 0) (m + 7 + (6 + length words) + 1) (j + 0 + 0 + 0) (plus cost2 (units (length words))) h0 s0 (int (asm_result words args)) ty.int r.0 way3 (omega (arith, low_paid)) (omega (arith, high_paid)) (omega (arith, en))
+            let way1 = on runs z.w Passes l m j 1 5 0 s0 (at_with k c d) (at_with k1 t.0 d) path (away runs z.w Passes 5 (at_with k c d) (at_with k1 t.0 d) (λ q. let ts = test_some in absurd (omega (arith, q, ts))) t.2) in
+            let way2 = on runs z.w Passes (l + 1) (m + 5) (j + 0) (length words) (6 + length words) 0 s0 (at_with k1 t.0 d) (at_with k2 r.0 d) way1 body_way in
+            let way3 = on runs z.w Passes (l + 1 + length words) (m + 5 + (6 + length words)) (j + 0 + 0) 0 1 0 s0 (at_with k2 r.0 d) (at_with to r.0 d) way2 (of runs z.w Passes 1 _ _ jump_back) in
+            handed (l + 1 + length words + 0) (m + 5 + (6 + length words) + 1) (j + 0 + 0 + 0) (plus cost2 (units (length words))) h0 s0 (int (asm_result words args)) ty.int r.0 way3 (omega (arith, low_paid)) (omega (arith, high_paid)) (omega (arith, en))
             (r.1.memory ∙ t.1.memory) (r.1.special ∙ t.1.special) keep (int_of_fits _) r.1.answer result

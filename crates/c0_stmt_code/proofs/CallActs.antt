@@ -80,7 +80,7 @@ module _ (runs : RunLaws) (compose : RunsCompose) (W E : Type 0) (Outer : W → 
 
   -- an evaluation on the way of a step, whose code may leave something in the registers of arguments
   pub then_soft : {A : Type 0} (l n j debt lo hi : ℕ) (cost : Cost) (h h0 : Configuration W E) (s : Machine) (f : CFunction) (from to : ℕ) (c : Contents) (d : Behind) (objects : List Ty) (Q : A → Contents → Type 0) (e : Costed A) (go : Cost → A → Step W E)
-      → Path runs compose W E Outer Passes z jumps l n j s (at_with from c d) → n ≤ 60 * cost.own + debt → ended h ≡ ended h0 + j → Stands W E Outer Passes z objects h c d → Within lo hi e → SoftComes z.w (scope W E Outer Passes z f) from to c d Q e
+      → Path runs compose W E Outer Passes z jumps l n j s (at_with from c d) → n ≤ 30 * cost.own + debt → ended h ≡ ended h0 + j → Stands W E Outer Passes z objects h c d → Within lo hi e → SoftComes z.w (scope W E Outer Passes z f) from to c d Q e
       → ((k : ℕ) (x : A) (c' : Contents) → lo ≤ k → k ≤ hi → Q x c' → Path runs compose W E Outer Passes z jumps l (n + 16 * k) j s (at_with to c' d) → StepIs W E Outer Passes z debt h0 s (go (plus cost (units k)) x)) → StepIs W E Outer Passes z debt h0 s (then_go cost h e go)
   then_soft l n j debt lo hi cost h h0 s f from to c d objects Q (costs k (Ok x)) go path high en st bounds comes next =
       next k x comes.0 bounds.0 bounds.1 comes.1 (within runs z.w Passes (l + 0) (n + 16 * k) (j + 0) l (n + 16 * k) j s (at_with to comes.0 d) (omega arith) (omega arith) (omega arith) (on runs z.w Passes l n j 0 (16 * k) 0 s (at_with from c d) (at_with to comes.0 d) path (of runs z.w Passes (16 * k) _ _ comes.2)))
@@ -125,7 +125,7 @@ module _ (runs : RunLaws) (compose : RunsCompose) (W E : Type 0) (Outer : W → 
     Enters n f target work = (c' : Contents) (vs : Values) (l m j : ℕ) (cost : Cost) → Stands W E Outer Passes z objects here c' d → Waiting W E Outer Passes z objects c'.memory (a ∷ others) (g ∷ fs) → c'.regs 29 ≡ 4 * end_of W E Outer Passes z (g ∷ fs)
         → (to : ℕ) → c'.regs 31 ≡ 4 * to → AllFit (shapes z.p.unit) (layout_of z.p.unit objects) (types_of (map typed_of f.params)) vs → AreIn (unit_scope z.p.unit) (bases W E Outer Passes z objects []) c'.regs 20 vs
         → Awaits (text W E Outer Passes z) (a ∷ others) to debt (ty_of f.answer) target work (λ acts at left. Ahead (text W E Outer Passes z) acts at left work)
-        → Path runs compose W E Outer Passes z jumps l m j (at_with k c d) (at_with ((text W E Outer Passes z).links.function n) c' d) → cost.own + 9 ≤ 2048 * (l + 1) → m ≤ 60 * cost.own + 20 → length calls ≡ ended here + j
+        → Path runs compose W E Outer Passes z jumps l m j (at_with k c d) (at_with ((text W E Outer Passes z).links.function n) c' d) → cost.own + 9 ≤ 2048 * (l + 1) → m ≤ 30 * cost.own → length calls ≡ ended here + j
         → StepIs W E Outer Passes z debt here (at_with k c d) (call_function z.p cost n vs target work here)
 
     -- words of values for every function

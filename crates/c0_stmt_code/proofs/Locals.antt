@@ -166,7 +166,7 @@ module _ (runs : RunLaws) (compose : RunsCompose) (W E : Type 0) (Outer : W → 
     pub special : c1.special ≡ c.special
 
   pub stores_light : (p : CExpr) (t : Ty) (x : ℕ) (w : Value) (l n k1 : ℕ) (cost : Cost) (s : Machine) (c1 : Contents) → IsVariable (env_in (text W E Outer Passes z) a.function) sc p x t → IsTrue (is_scalar t) → Fits (shapes z.p.unit) (layout_of z.p.unit objects) t w → Moved x w c1
-      → Path runs compose W E Outer Passes z jumps l n 0 s (at_with k1 c1 d) → cost.own + 1 ≤ 2048 * l → n ≤ 60 * (cost.own + 1) → Block (text W E Outer Passes z) a.function k1 debt rest (λ to left. Ahead (text W E Outer Passes z) (a ∷ others) to left work)
+      → Path runs compose W E Outer Passes z jumps l n 0 s (at_with k1 c1 d) → cost.own + 1 ≤ 2048 * l → n ≤ 30 * (cost.own + 1) → Block (text W E Outer Passes z) a.function k1 debt rest (λ to left. Ahead (text W E Outer Passes z) (a ∷ others) to left work)
       → StepIs W E Outer Passes z debt here s (store cost p w rest work here)
   stores_light p t x w l n k1 cost s c1 y scalar fits moved path low high block =
       let place = its_place p t x y in

@@ -36,7 +36,7 @@ use Rattle.c0_stmt_code.proofs.Costs.{value_within}
 use Rattle.c0_stmt_code.proofs.Held.{word_same}
 use Rattle.c0_stmt_code.proofs.Places.{its_exprs, its_ready, store_in}
 use Rattle.c0_stmt_code.proofs.State.{rest_of, state_of, standing_at, Exprs}
-use Rattle.c0_stmt_code.proofs.Spots.{other_reg, same_reg, read_is, like_read, on_place}
+use Rattle.c0_stmt_code.proofs.Spots.{other_reg, same_reg, read_is, like_read, place_steps, few_steps, on_place}
 use Rattle.c0_stmt_code.proofs.Rooms.{frame_words, frame_on, variables_same}
 use Rattle.c0_stmt_code.proofs.Frames.{frame_address, ends}
 use Rattle.c0_stmt_code.proofs.Sim.{Path, stands_on, then_splits}
@@ -76,7 +76,7 @@ module _ (compose : RunsCompose) (w : World) (sound : Sound w) (straight : Strai
           straight.next (Lw 31 y (low ((frame_back sc + 4 * 0) % 2 ^ 32))) (Reads (e - sc.frame) (4 * to)) m a d there refl idle
               (address ∙ ap (λ v. (v + (frame_back sc + 4 * 0) % 2 ^ 32) % 2 ^ 32) at ∙ frame_address sc e 0 inside small (omega arith) ∙ omega arith, omega (arith, inside, some, fits), ap (λ f. f (e - sc.frame)) near.memory ∙ is),
         )) in
-        (r.0, r.1, subst (λ m. Reaches w 3 (at_with m c d) (at_with (k + length (restore_code sc true)) r.0 d)) (omega arith) r.2)
+        (r.0, r.1, subst (λ m. Reaches w 3 (at_with m c d) (at_with (k + length (restore_code sc true)) r.0 d)) (omega arith) (compose.later w (place_steps (frame_spot sc 0)) 3 _ _ (few_steps (frame_spot sc 0)) r.2))
 
     pub returns : (calling : Bool) (to k : ℕ) (c : Contents) (d : Behind) → d.pending ≡ Idle → c.regs 29 ≡ 4 * e → (if calling then c.memory (e - sc.frame) else c.regs 31) ≡ 4 * to → CodeAt w k (frame_return sc calling)
         → (c' : Contents) × Returned (e - sc.frame) c c' × Reaches w 7 (at_with k c d) (at_with to c' d)
@@ -180,7 +180,7 @@ module _ (runs : RunLaws) (compose : RunsCompose) (W E : Type 0) (Outer : W → 
   )
 
   -- the answer is handed over
-  delivers : (l m j : ℕ) (cost : Cost) (h0 : Configuration W E) (s0 : Machine) (target : Target) (v : Value) (work : List Work) (t : Ty) (c' : Contents) → Path runs compose W E Outer Passes z jumps l m j s0 (at_with a.to c' d) → cost.own ≤ 2048 * l → m ≤ 60 * cost.own → length calls ≡ ended h0 + j
+  delivers : (l m j : ℕ) (cost : Cost) (h0 : Configuration W E) (s0 : Machine) (target : Target) (v : Value) (work : List Work) (t : Ty) (c' : Contents) → Path runs compose W E Outer Passes z jumps l m j s0 (at_with a.to c' d) → cost.own ≤ 2048 * l → m ≤ 30 * cost.own → length calls ≡ ended h0 + j
       → c'.memory ≡ c.memory → c'.special ≡ c.special → c'.regs 28 ≡ c.regs 28 → c'.regs 30 ≡ c.regs 30 → c'.regs 29 ≡ 4 * end_of W E Outer Passes z fs → Fits (shapes z.p.unit) (layout_of z.p.unit objects) t v → c'.regs 2 ≡ word_of_value W E Outer Passes z objects v
       → Awaits (text W E Outer Passes z) others a.to debt t target work (λ acts at left. Ahead (text W E Outer Passes z) acts at left work) → StepIs W E Outer Passes z debt h0 s0 (deliver cost target v work there)
   delivers l m j cost h0 s0 target v work t c' path low high en memory special r28 r30 r29 fits is ahead = by_target others fs waits target work ahead refl

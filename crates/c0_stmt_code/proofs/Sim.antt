@@ -60,7 +60,7 @@ module _ (runs : RunLaws) (compose : RunsCompose) (W E : Type 0) (Outer : W → 
 
   -- a step is done where the next statements stand
   pub arrives : (l n j debt debt' : ℕ) (cost : Cost) (h h' : Configuration W E) (s : Machine) (k : ℕ) (c : Contents) (d : Behind) (objects : List Ty) (a : Activation) (others : List Activation) (rest : CStmts) (work : List Work)
-      → Path l n j s (at_with k c d) → cost.own ≤ 2048 * l → n + debt' ≤ 60 * cost.own + debt → ended h' ≡ ended h + j → Standing objects h' c d → UnderWay W E Outer Passes z objects c (a ∷ others) h'.state.frames
+      → Path l n j s (at_with k c d) → cost.own ≤ 2048 * l → n + debt' ≤ 30 * cost.own + debt → ended h' ≡ ended h + j → Standing objects h' c d → UnderWay W E Outer Passes z objects c (a ∷ others) h'.state.frames
       → Block (text W E Outer Passes z) a.function k debt' rest (λ to left. Ahead (text W E Outer Passes z) (a ∷ others) to left work) → StepIs W E Outer Passes z debt h s (Go cost (push rest work) h')
   arrives l n j debt debt' cost h h' s k c d objects a others rest work path low high en st under block =
       let b = behind (text W E Outer Passes z) a others k debt' rest work block in
@@ -73,7 +73,7 @@ module _ (runs : RunLaws) (compose : RunsCompose) (W E : Type 0) (Outer : W → 
 
   -- an evaluation on the way of a step: it leads on, or the step stops at its fault's exit
   pub then_comes : {A : Type 0} (l n j own debt lo hi : ℕ) (cost : Cost) (h h0 : Configuration W E) (s : Machine) (f : CFunction) (from to : ℕ) (c : Contents) (d : Behind) (objects : List Ty) (Q : A → Contents → Type 0) (e : Costed A) (go : Cost → A → Step W E)
-      → Path l n j s (at_with from c d) → n + own ≤ 60 * cost.own + debt → ended h ≡ ended h0 + j → Standing objects h c d → Within lo hi e → Comes z.w (scope W E Outer Passes z f) own from to c d Q e
+      → Path l n j s (at_with from c d) → n + own ≤ 30 * cost.own + debt → ended h ≡ ended h0 + j → Standing objects h c d → Within lo hi e → Comes z.w (scope W E Outer Passes z f) own from to c d Q e
       → ((k : ℕ) (x : A) (c' : Contents) → lo ≤ k → k ≤ hi → Q x c' → Path l (n + (own + 16 * k)) j s (at_with to c' d) → StepIs W E Outer Passes z debt h0 s (go (plus cost (units k)) x)) → StepIs W E Outer Passes z debt h0 s (then_go cost h e go)
   then_comes l n j own debt lo hi cost h h0 s f from to c d objects Q (costs k (Ok x)) go path high en st bounds comes next =
       next k x comes.0 bounds.0 bounds.1 comes.1 (within runs z.w Passes (l + 0) (n + (own + 16 * k)) (j + 0) l (n + (own + 16 * k)) j s (at_with to comes.0 d) (omega arith) (omega arith) (omega arith) (on runs z.w Passes l n j 0 (own + 16 * k) 0 s (at_with from c d) (at_with to comes.0 d) path (of runs z.w Passes (own + 16 * k) _ _ comes.2)))
@@ -86,7 +86,7 @@ module _ (runs : RunLaws) (compose : RunsCompose) (W E : Type 0) (Outer : W → 
 
   -- a test on the way of a step
   pub then_splits : {A : Type 0} (l n j own debt lo hi : ℕ) (cost : Cost) (h h0 : Configuration W E) (s : Machine) (f : CFunction) (from : ℕ) (to : A → ℕ) (c : Contents) (d : Behind) (objects : List Ty) (Q : A → Contents → Type 0) (e : Costed A) (go : Cost → A → Step W E) → ((x : A) → from ≢ to x)
-      → Path l n j s (at_with from c d) → n + own ≤ 60 * cost.own + debt → ended h ≡ ended h0 + j → Standing objects h c d → Within lo hi e → Splits z.w (scope W E Outer Passes z f) own from to c d Q e
+      → Path l n j s (at_with from c d) → n + own ≤ 30 * cost.own + debt → ended h ≡ ended h0 + j → Standing objects h c d → Within lo hi e → Splits z.w (scope W E Outer Passes z f) own from to c d Q e
       → ((k : ℕ) (x : A) (c' : Contents) → lo ≤ k → k ≤ hi → Q x c' → Path (l + 1) (n + (own + 16 * k)) j s (at_with (to x) c' d) → StepIs W E Outer Passes z debt h0 s (go (plus cost (units k)) x)) → StepIs W E Outer Passes z debt h0 s (then_go cost h e go)
   then_splits l n j own debt lo hi cost h h0 s f from to c d objects Q (costs k (Ok x)) go apart path high en st bounds comes next =
       next k x comes.0 bounds.0 bounds.1 comes.1 (within runs z.w Passes (l + 1) (n + (own + 16 * k)) (j + 0) (l + 1) (n + (own + 16 * k)) j s (at_with (to x) comes.0 d) (omega arith) (omega arith) (omega arith) (on runs z.w Passes l n j 1 (own + 16 * k) 0 s (at_with from c d) (at_with (to x) comes.0 d) path (away runs z.w Passes (own + 16 * k) (at_with from c d) (at_with (to x) comes.0 d) (apart x) comes.2)))

@@ -100,7 +100,7 @@ module _ (runs : RunLaws) (compose : RunsCompose) (W E : Type 0) (Outer : W → 
       → (n to debt : ℕ) (f : CFunction) → slice_get z.p.unit.functions n ≡ Some f → (args : Values) (target : Target) (work : List Work) → c.regs 31 ≡ 4 * to
       → AllFit (shapes z.p.unit) (layout_of z.p.unit objects) (types_of (map typed_of f.params)) args → AreIn (unit_scope z.p.unit) (bases W E Outer Passes z objects []) c.regs 20 args
       → Awaits (text W E Outer Passes z) acts to debt (ty_of f.answer) target work (λ others at left. Ahead (text W E Outer Passes z) others at left work)
-      → (l m j : ℕ) (cost : Cost) (h0 : Configuration W E) (s0 : Machine) → Path runs compose W E Outer Passes z jumps l m j s0 (at_with ((text W E Outer Passes z).links.function n) c d) → cost.own + 9 ≤ 2048 * (l + 1) → m ≤ 60 * cost.own + 20 → length calls ≡ ended h0 + j
+      → (l m j : ℕ) (cost : Cost) (h0 : Configuration W E) (s0 : Machine) → Path runs compose W E Outer Passes z jumps l m j s0 (at_with ((text W E Outer Passes z).links.function n) c d) → cost.own + 9 ≤ 2048 * (l + 1) → m ≤ 30 * cost.own → length calls ≡ ended h0 + j
       → StepIs W E Outer Passes z debt h0 s0 (call_function z.p cost n args target work (standing_at gv hv hw fs world calls answer))
   begins objects gv hv hw fs world calls answer c d acts st waits at_end n to debt f is args target work return_at fits arguments ahead l m j cost h0 s0 path low high en =
       by_body f.body refl

@@ -181,7 +181,7 @@ module _ (W E : Type 0) (Outer : W → Contents → Behind → Type 0) (Passes :
     pub own : ℕ
     pub entry : Machine
     pub is : slice_get z.table number ≡ Some row
-    pub high : own ≤ 60 * cost.own
+    pub high : own ≤ 30 * cost.own
     pub low : cost.own ≤ 2048 * own
     pub run : Steps z.w own s entry
     pub called : Called z.w text.links row number args to entry

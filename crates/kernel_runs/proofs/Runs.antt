@@ -87,7 +87,7 @@ module _ (simulates : MachineSimulates) (joins : RunsJoin) (fitting : StaysFitti
   -- what the machine's steps have to do with the units that were used
   pub record Progress (base k debt : ℕ) (used : Cost) : Type 0 where
     pub own : ℕ
-    pub high : own + debt ≤ 60 * used.own
+    pub high : own + debt ≤ 30 * used.own
     pub low : used.own ≤ 2048 * own
     pub calls_low : used.primitive ≤ 4194305 * own
     pub own_steps : own ≤ k
@@ -106,7 +106,7 @@ module _ (simulates : MachineSimulates) (joins : RunsJoin) (fitting : StaysFitti
   abbrev pub RunTo : (base limit : ℕ) → Outcome Machines Changes → Type 0
   RunTo base limit (Done cost h) = (k : ℕ) × (s : Machine) × Here k s × Ended Machines Changes (Outer y current) (λ s t. ⊥) z h s × (debt : ℕ) × Progress base k debt cost × (1 ≤ cost.own) × Tells k (journal h)
   RunTo base limit (Failed cost (faulted f) h) = (k : ℕ) × (s : Machine) × Here k s × AtExit Machines Changes (Outer y current) (λ s t. ⊥) z f h s
-      × (own : ℕ) × (own ≤ 60 * cost.own) × (k ≤ base + own + run_steps y.map longest cost.primitive cost.pages) × (1 ≤ cost.own) × Tells k (journal h)
+      × (own : ℕ) × (own ≤ 30 * cost.own) × (k ≤ base + own + run_steps y.map longest cost.primitive cost.pages) × (1 ≤ cost.own) × Tells k (journal h)
   RunTo base limit (Failed cost stuck h) = ⊥
   RunTo base limit (NotYet cost h) = (k : ℕ) × (s : Machine) × Here k s × (limit < 8388608 * (k + 1)) × Tells k (journal h)
 
