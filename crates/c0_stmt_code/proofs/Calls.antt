@@ -26,7 +26,7 @@ use Rattle.c0_expr_code.specs.Bases.{Bases, words_of_all, AllHeld, RegionHeld}
 use Rattle.c0_stmt_code.specs.Code.{large_code, end_code, body_code, register_entry, clear_code, are_calling, calls_in, stack_test, save_code, params_code, locals_code, frame_entry, return_code, stmts_code, function_code}
 use Rattle.c0_stmt_code.specs.Setup.{Setup}
 use Rattle.c0_stmt_code.specs.Ahead.{Activation, Awaits, Ahead}
-use Rattle.c0_stmt_code.specs.Standing.{text, scope, bases, end_of, unit_scope, AreIn, VariablesHeld, Waiting, Runs, Stands, StepIs}
+use Rattle.c0_stmt_code.specs.Standing.{text, scope, bases, end_of, unit_scope, AreIn, VariablesHeld, Waiting, Runs, Stands}
 use Rattle.c0_stmt_code.proofs.Needs.{HeldStays, TypedStays, FunctionsAre, AllScalar}
 use Rattle.c0_stmt_code.proofs.Ways.{Way, on, of, away}
 use Rattle.c0_stmt_code.proofs.Blocks.{front, back, block_of}
@@ -36,7 +36,7 @@ use Rattle.c0_stmt_code.proofs.Rooms.{frame_words, frame_on, words_by_types, wai
 use Rattle.c0_stmt_code.proofs.Variables.{zeros_zero, zeros_held, joined_held, scalars_words, args_held}
 use Rattle.c0_stmt_code.proofs.Frames.{tested}
 use Rattle.c0_stmt_code.proofs.Entry.{frames}
-use Rattle.c0_stmt_code.proofs.Sim.{Path, arrives}
+use Rattle.c0_stmt_code.proofs.Sim.{GoesOn, Path, arrives}
 
 -- what is paid for an entry: a unit for the call, and one for each word of the locals
 entry_price : (params locals most : ℕ) → params ≤ 8 → most ≤ 3 + 3 * params + 3 * locals + 3 → (locals ≡ 0 → most ≤ 1 + 3 * params) → most ≤ 25 + 30 * locals
@@ -165,13 +165,13 @@ module _ (runs : RunLaws) (compose : RunsCompose) (W E : Type 0) (Outer : W → 
 
     pub enters : (l m j k : ℕ) (cost : Cost) (h0 : Configuration W E) (s0 : Machine) (locals : List CDecl) (stmts : CStmts) (result : CExpr) → f.body ≡ code locals stmts result → sc.in_registers ≡ false
         → Path runs compose W E Outer Passes z jumps l m j s0 (at_with k c d) → CodeAt z.w k (function_code sc (text W E Outer Passes z).links f) → cost.own + 9 ≤ 2048 * (l + 1) → m ≤ 30 * cost.own → length calls ≡ ended h0 + j
-        → StepIs W E Outer Passes z debt h0 s0 (call_function z.p cost n args target work here)
+        → GoesOn W E Outer Passes z debt h0 s0 (call_function z.p cost n args target work here)
     enters l m j k cost h0 s0 locals stmts result e form path there low_paid high_paid en =
-        subst (λ o. StepIs W E Outer Passes z debt h0 s0 (then_go (plus cost (units 1)) here (at_no_cost (ok_or o stuck)) (λ cost g. if nat_lt z.p.stack (stack_words z.p.unit fs + frame (shapes z.p.unit) g) then Stop cost (faulted StackOut) here else enter z.p cost n g.body args target work here))) (sym is)
+        subst (λ o. GoesOn W E Outer Passes z debt h0 s0 (then_go (plus cost (units 1)) here (at_no_cost (ok_or o stuck)) (λ cost g. if nat_lt z.p.stack (stack_words z.p.unit fs + frame (shapes z.p.unit) g) then Stop cost (faulted StackOut) here else enter z.p cost n g.body args target work here))) (sym is)
         (elim (cases_Bool (nat_lt z.p.stack (stack_words z.p.unit fs + frame (shapes z.p.unit) f))) [
-          | inl over ↦ subst (λ t. StepIs W E Outer Passes z debt h0 s0 t) (sym (cond-true (nat_lt z.p.stack (stack_words z.p.unit fs + frame (shapes z.p.unit) f)) (Stop cost2 (faulted StackOut) here) (enter z.p cost2 n f.body args target work here) over)) (fails (ltb-true z.p.stack (stack_words z.p.unit fs + frame (shapes z.p.unit) f) over))
-          | inr fine ↦ subst (λ t. StepIs W E Outer Passes z debt h0 s0 t) (sym (cond-false (nat_lt z.p.stack (stack_words z.p.unit fs + frame (shapes z.p.unit) f)) (Stop cost2 (faulted StackOut) here) (enter z.p cost2 n f.body args target work here) fine))
-              (subst (λ b. StepIs W E Outer Passes z debt h0 s0 (enter z.p cost2 n b args target work here)) (sym e) (goes (ltb-false z.p.stack (stack_words z.p.unit fs + frame (shapes z.p.unit) f) fine)))
+          | inl over ↦ subst (λ t. GoesOn W E Outer Passes z debt h0 s0 t) (sym (cond-true (nat_lt z.p.stack (stack_words z.p.unit fs + frame (shapes z.p.unit) f)) (Stop cost2 (faulted StackOut) here) (enter z.p cost2 n f.body args target work here) over)) (fails (ltb-true z.p.stack (stack_words z.p.unit fs + frame (shapes z.p.unit) f) over))
+          | inr fine ↦ subst (λ t. GoesOn W E Outer Passes z debt h0 s0 t) (sym (cond-false (nat_lt z.p.stack (stack_words z.p.unit fs + frame (shapes z.p.unit) f)) (Stop cost2 (faulted StackOut) here) (enter z.p cost2 n f.body args target work here) fine))
+              (subst (λ b. GoesOn W E Outer Passes z debt h0 s0 (enter z.p cost2 n b args target work here)) (sym e) (goes (ltb-false z.p.stack (stack_words z.p.unit fs + frame (shapes z.p.unit) f) fine)))
         ])
       where
         cost2 : Cost
@@ -183,7 +183,7 @@ module _ (runs : RunLaws) (compose : RunsCompose) (W E : Type 0) (Outer : W → 
         test_at : CodeAt z.w k (stack_test sc 29)
         test_at = front z.w k (stack_test sc 29) (its_entry locals stmts) (front z.w k (stack_test sc 29 ++ its_entry locals stmts) (its_body stmts result) code_at)
 
-        fails : z.p.stack < stack_words z.p.unit fs + frame (shapes z.p.unit) f → StepIs W E Outer Passes z debt h0 s0 (Stop cost2 (faulted StackOut) here)
+        fails : z.p.stack < stack_words z.p.unit fs + frame (shapes z.p.unit) f → GoesOn W E Outer Passes z debt h0 s0 (Stop cost2 (faulted StackOut) here)
         fails over =
             let sf = z.stack_fits in
             let sm = z.stack_small in
@@ -197,7 +197,7 @@ module _ (runs : RunLaws) (compose : RunsCompose) (W E : Type 0) (Outer : W → 
               record { objects = objects; stands = stands_in here r.0 refl st.typed refl refl refl st.stack_room (λ x side. ap (λ m. m x) r.1.memory) r.1.special (r.1.others 28 (λ q. absurd (omega (arith, q))) (λ q. absurd (omega (arith, q)))) (r.1.others 30 (λ q. absurd (omega (arith, q))) (λ q. absurd (omega (arith, q)))); at = refl },
             )
 
-        goes : stack_words z.p.unit fs + frame (shapes z.p.unit) f ≤ z.p.stack → StepIs W E Outer Passes z debt h0 s0 (Go (plus cost2 (units (all_words (shapes z.p.unit) (map typed_of locals)))) (push stmts (leave result target ∷ work)) (with_state here (pushed (frame_of locals) (state_of gv hv hw fs))))
+        goes : stack_words z.p.unit fs + frame (shapes z.p.unit) f ≤ z.p.stack → GoesOn W E Outer Passes z debt h0 s0 (Go (plus cost2 (units (all_words (shapes z.p.unit) (map typed_of locals)))) (push stmts (leave result target ∷ work)) (with_state here (pushed (frame_of locals) (state_of gv hv hw fs))))
         goes fine =
             let sf = z.stack_fits in
             let sm = z.stack_small in
@@ -303,13 +303,13 @@ module _ (runs : RunLaws) (compose : RunsCompose) (W E : Type 0) (Outer : W → 
 
     pub enters_light : (l m j k : ℕ) (cost : Cost) (h0 : Configuration W E) (s0 : Machine) (locals : List CDecl) (stmts : CStmts) (result : CExpr) → f.body ≡ code locals stmts result → sc.in_registers ≡ true
         → Path runs compose W E Outer Passes z jumps l m j s0 (at_with k c d) → CodeAt z.w k (function_code sc (text W E Outer Passes z).links f) → cost.own + 9 ≤ 2048 * (l + 1) → m ≤ 30 * cost.own → length calls ≡ ended h0 + j
-        → StepIs W E Outer Passes z debt h0 s0 (call_function z.p cost n args target work here)
+        → GoesOn W E Outer Passes z debt h0 s0 (call_function z.p cost n args target work here)
     enters_light l m j k cost h0 s0 locals stmts result e form path there low_paid high_paid en =
-        subst (λ o. StepIs W E Outer Passes z debt h0 s0 (then_go (plus cost (units 1)) here (at_no_cost (ok_or o stuck)) (λ cost g. if nat_lt z.p.stack (stack_words z.p.unit fs + frame (shapes z.p.unit) g) then Stop cost (faulted StackOut) here else enter z.p cost n g.body args target work here))) (sym is)
+        subst (λ o. GoesOn W E Outer Passes z debt h0 s0 (then_go (plus cost (units 1)) here (at_no_cost (ok_or o stuck)) (λ cost g. if nat_lt z.p.stack (stack_words z.p.unit fs + frame (shapes z.p.unit) g) then Stop cost (faulted StackOut) here else enter z.p cost n g.body args target work here))) (sym is)
         (elim (cases_Bool (nat_lt z.p.stack (stack_words z.p.unit fs + frame (shapes z.p.unit) f))) [
-          | inl over ↦ subst (λ t. StepIs W E Outer Passes z debt h0 s0 t) (sym (cond-true (nat_lt z.p.stack (stack_words z.p.unit fs + frame (shapes z.p.unit) f)) (Stop cost2 (faulted StackOut) here) (enter z.p cost2 n f.body args target work here) over)) (fails (ltb-true z.p.stack (stack_words z.p.unit fs + frame (shapes z.p.unit) f) over))
-          | inr fine ↦ subst (λ t. StepIs W E Outer Passes z debt h0 s0 t) (sym (cond-false (nat_lt z.p.stack (stack_words z.p.unit fs + frame (shapes z.p.unit) f)) (Stop cost2 (faulted StackOut) here) (enter z.p cost2 n f.body args target work here) fine))
-              (subst (λ b. StepIs W E Outer Passes z debt h0 s0 (enter z.p cost2 n b args target work here)) (sym e) (goes (ltb-false z.p.stack (stack_words z.p.unit fs + frame (shapes z.p.unit) f) fine)))
+          | inl over ↦ subst (λ t. GoesOn W E Outer Passes z debt h0 s0 t) (sym (cond-true (nat_lt z.p.stack (stack_words z.p.unit fs + frame (shapes z.p.unit) f)) (Stop cost2 (faulted StackOut) here) (enter z.p cost2 n f.body args target work here) over)) (fails (ltb-true z.p.stack (stack_words z.p.unit fs + frame (shapes z.p.unit) f) over))
+          | inr fine ↦ subst (λ t. GoesOn W E Outer Passes z debt h0 s0 t) (sym (cond-false (nat_lt z.p.stack (stack_words z.p.unit fs + frame (shapes z.p.unit) f)) (Stop cost2 (faulted StackOut) here) (enter z.p cost2 n f.body args target work here) fine))
+              (subst (λ b. GoesOn W E Outer Passes z debt h0 s0 (enter z.p cost2 n b args target work here)) (sym e) (goes (ltb-false z.p.stack (stack_words z.p.unit fs + frame (shapes z.p.unit) f) fine)))
         ])
       where
         cost2 : Cost
@@ -321,7 +321,7 @@ module _ (runs : RunLaws) (compose : RunsCompose) (W E : Type 0) (Outer : W → 
         test_at : CodeAt z.w k (stack_test sc 1)
         test_at = front z.w k (stack_test sc 1) (light_entry locals stmts) (front z.w k (stack_test sc 1 ++ light_entry locals stmts) (its_body stmts result) code_at)
 
-        fails : z.p.stack < stack_words z.p.unit fs + frame (shapes z.p.unit) f → StepIs W E Outer Passes z debt h0 s0 (Stop cost2 (faulted StackOut) here)
+        fails : z.p.stack < stack_words z.p.unit fs + frame (shapes z.p.unit) f → GoesOn W E Outer Passes z debt h0 s0 (Stop cost2 (faulted StackOut) here)
         fails over =
             let sf = z.stack_fits in
             let sm = z.stack_small in
@@ -335,7 +335,7 @@ module _ (runs : RunLaws) (compose : RunsCompose) (W E : Type 0) (Outer : W → 
               record { objects = objects; stands = stands_in here r.0 refl st.typed refl refl refl st.stack_room (λ x side. ap (λ m. m x) r.1.memory) r.1.special (r.1.others 28 (λ q. absurd (omega (arith, q))) (λ q. absurd (omega (arith, q)))) (r.1.others 30 (λ q. absurd (omega (arith, q))) (λ q. absurd (omega (arith, q)))); at = refl },
             )
 
-        goes : stack_words z.p.unit fs + frame (shapes z.p.unit) f ≤ z.p.stack → StepIs W E Outer Passes z debt h0 s0 (Go (plus cost2 (units (all_words (shapes z.p.unit) (map typed_of locals)))) (push stmts (leave result target ∷ work)) (with_state here (pushed (frame_of locals) (state_of gv hv hw fs))))
+        goes : stack_words z.p.unit fs + frame (shapes z.p.unit) f ≤ z.p.stack → GoesOn W E Outer Passes z debt h0 s0 (Go (plus cost2 (units (all_words (shapes z.p.unit) (map typed_of locals)))) (push stmts (leave result target ∷ work)) (with_state here (pushed (frame_of locals) (state_of gv hv hw fs))))
         goes fine =
             let sf = z.stack_fits in
             let sm = z.stack_small in

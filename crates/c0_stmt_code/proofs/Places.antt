@@ -21,14 +21,14 @@ use Rattle.c0_expr_code.specs.Bases.{Bases, types_in, word_at, word}
 use Rattle.c0_expr_code.specs.Relation.{Ready, Keeps, Leads, Source, nought, its, far}
 use Rattle.c0_stmt_code.specs.Setup.{Setup}
 use Rattle.c0_stmt_code.specs.Ahead.{Activation, env_in, Block, Ahead}
-use Rattle.c0_stmt_code.specs.Standing.{text, scope, bases, Waiting, Runs, Stands, StepIs}
+use Rattle.c0_stmt_code.specs.Standing.{text, scope, bases, Waiting, Runs, Stands}
 use Rattle.c0_stmt_code.proofs.Needs.{ExpressionsDo, HeldStays, TypedStays, types_for}
 use Rattle.c0_stmt_code.proofs.Ways.{on, away}
 use Rattle.c0_stmt_code.proofs.Costs.{place_within}
 use Rattle.c0_stmt_code.proofs.Spots.{spot_front, spot_longer, place_steps, few_steps, writes}
 use Rattle.c0_stmt_code.proofs.State.{state_of, standing_at, Exprs, ready}
 use Rattle.c0_stmt_code.proofs.Stores.{spot, stored}
-use Rattle.c0_stmt_code.proofs.Sim.{Path, arrives, then_comes}
+use Rattle.c0_stmt_code.proofs.Sim.{GoesOn, Path, arrives, then_comes}
 
 pub source_not_one : (r q : ℕ) → 8 ≤ r → Source r q → q ≢ 1
 source_not_one r _ le nought = λ e. absurd (omega (arith, e))
@@ -68,7 +68,7 @@ module _ (runs : RunLaws) (compose : RunsCompose) (W E : Type 0) (Outer : W → 
       → Fits (shapes z.p.unit) (layout_of z.p.unit objects) t v → IsNumberedLeft (env_in (text W E Outer Passes z) a.function) p t → (made sc p).stands ≡ None
       → CodeAt z.w k (on_spot (λ y x. Sw q y x) free ((made sc p).place free))
       → Block (text W E Outer Passes z) a.function (k + length (on_spot (λ y x. Sw q y x) free ((made sc p).place free))) debt' rest (λ to left. Ahead (text W E Outer Passes z) (a ∷ others) to left work)
-      → StepIs W E Outer Passes z debt h0 s (store cost p v rest work here)
+      → GoesOn W E Outer Passes z debt h0 s (store cost p v rest work here)
   store_in n j debt debt' free q k cost h0 s p t v rest work path high early low few en lo need_fits hi qz qr kept holds fits left stands code block =
       let x : Spot = (made sc p).place free in
       let b : Bases = bases W E Outer Passes z objects (g ∷ fs) in

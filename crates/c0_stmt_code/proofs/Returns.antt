@@ -1,6 +1,6 @@
 -- A function that has a frame returns, and an answer is stored.
 use Rattle.std.specs.Prelude.{map, Some, None, Ok, Err, if◌then◌else◌}
-use Rattle.std.proofs.Common.{◌≡◌, ◌≢◌, ℕ, ◌+◌, ◌-◌, ◌*◌, ◌%◌, ◌^◌, ◌<◌, ◌≤◌, Bool, true, false, Option, List, [], ◌∷◌, ◌++◌, length, refl, sym, ap, ap₂, ◌∙◌, subst, arith, inl}
+use Rattle.std.proofs.Common.{◌≡◌, ◌≢◌, ℕ, ◌+◌, ◌-◌, ◌*◌, ◌%◌, ◌^◌, ◌<◌, ◌≤◌, Bool, true, false, Option, List, [], ◌∷◌, ◌++◌, length, refl, sym, ap, ap₂, ◌∙◌, subst, arith}
 use Rattle.std.proofs.lemmas.Bool.{cond-true, cond-false}
 use Rattle.mips_table.specs.declared.inst.Inst.{Inst}
 use Rattle.mips_table.specs.declared.inst.Inst.TheVariants.{Lw, Sw, Jr}
@@ -28,7 +28,7 @@ use Rattle.c0_stmt_code.specs.Code.{calls_in, frame_spot, end_code, restore_code
 use Rattle.c0_stmt_code.specs.Setup.{Setup}
 use Rattle.c0_stmt_code.specs.Journey.{Led}
 use Rattle.c0_stmt_code.specs.Ahead.{Activation, IsAnswered, Block, Awaits, ReturnStands, Ahead}
-use Rattle.c0_stmt_code.specs.Standing.{text, scope, bases, end_of, unit_scope, word_of_value, Waiting, Runs, UnderWay, Stands, StepIs}
+use Rattle.c0_stmt_code.specs.Standing.{text, scope, bases, end_of, unit_scope, word_of_value, Waiting, Runs, UnderWay, Stands}
 use Rattle.c0_stmt_code.proofs.Needs.{HeldStays, TypedStays, FunctionsAre, LengthsFit}
 use Rattle.c0_stmt_code.proofs.Ways.{none, on, of}
 use Rattle.c0_stmt_code.proofs.Blocks.{front, back}
@@ -39,7 +39,7 @@ use Rattle.c0_stmt_code.proofs.State.{rest_of, state_of, standing_at, Exprs}
 use Rattle.c0_stmt_code.proofs.Spots.{other_reg, same_reg, read_is, like_read, place_steps, few_steps, on_place}
 use Rattle.c0_stmt_code.proofs.Rooms.{frame_words, frame_on, variables_same}
 use Rattle.c0_stmt_code.proofs.Frames.{frame_address, ends}
-use Rattle.c0_stmt_code.proofs.Sim.{Path, stands_on, then_splits}
+use Rattle.c0_stmt_code.proofs.Sim.{GoesOn, Path, stands_on, then_splits}
 
 -- the way back of a function that has a frame
 module _ (compose : RunsCompose) (w : World) (sound : Sound w) (straight : StraightRuns w) (jumps : JumpsLead w) where
@@ -182,15 +182,15 @@ module _ (runs : RunLaws) (compose : RunsCompose) (W E : Type 0) (Outer : W → 
   -- the answer is handed over
   delivers : (l m j : ℕ) (cost : Cost) (h0 : Configuration W E) (s0 : Machine) (target : Target) (v : Value) (work : List Work) (t : Ty) (c' : Contents) → Path runs compose W E Outer Passes z jumps l m j s0 (at_with a.to c' d) → cost.own ≤ 2048 * l → m ≤ 30 * cost.own → length calls ≡ ended h0 + j
       → c'.memory ≡ c.memory → c'.special ≡ c.special → c'.regs 28 ≡ c.regs 28 → c'.regs 30 ≡ c.regs 30 → c'.regs 29 ≡ 4 * end_of W E Outer Passes z fs → Fits (shapes z.p.unit) (layout_of z.p.unit objects) t v → c'.regs 2 ≡ word_of_value W E Outer Passes z objects v
-      → Awaits (text W E Outer Passes z) others a.to debt t target work (λ acts at left. Ahead (text W E Outer Passes z) acts at left work) → StepIs W E Outer Passes z debt h0 s0 (deliver cost target v work there)
+      → Awaits (text W E Outer Passes z) others a.to debt t target work (λ acts at left. Ahead (text W E Outer Passes z) acts at left work) → GoesOn W E Outer Passes z debt h0 s0 (deliver cost target v work there)
   delivers l m j cost h0 s0 target v work t c' path low high en memory special r28 r30 r29 fits is ahead = by_target others fs waits target work ahead refl
     where
       led_to : (h' : Configuration W E) → h'.calls ≡ calls → Led z.w Passes cost.own debt debt h0 h' s0 (at_with a.to c' d)
       led_to h' e = let le = path.high in let ge = path.low in let n = ap length e in record { own = path.own; passes = j; high = omega (arith, le, high); low = omega (arith, ge, low); ended_so = n ∙ en; run = path.run }
 
       by_target : (acts : List Activation) (frames : List Frame) → Waiting W E Outer Passes z objects c.memory acts frames → (target : Target) (work : List Work) → Awaits (text W E Outer Passes z) acts a.to debt t target work (λ acts at left. Ahead (text W E Outer Passes z) acts at left work) → frames ≡ fs
-          → StepIs W E Outer Passes z debt h0 s0 (deliver cost target v work there)
-      by_target (b ∷ more) (q ∷ frames) w (into place rest) work ah e = inl (
+          → GoesOn W E Outer Passes z debt h0 s0 (deliver cost target v work there)
+      by_target (b ∷ more) (q ∷ frames) w (into place rest) work ah e = (
         at_with a.to c' d,
         debt,
         led_to there refl,
@@ -205,7 +205,7 @@ module _ (runs : RunLaws) (compose : RunsCompose) (W E : Type 0) (Outer : W → 
           ahead = ah;
         },
       )
-      by_target [] [] w outward [] ah e = inl (
+      by_target [] [] w outward [] ah e = (
         at_with a.to c' d,
         debt,
         led_to (record there { answer = Some v }) refl,
@@ -228,7 +228,7 @@ module _ (runs : RunLaws) (compose : RunsCompose) (W E : Type 0) (Outer : W → 
   -- a return from a function that has a frame
   pub leaves : (result : CExpr) (target : Target) (work : List Work) → sc.in_registers ≡ false → ReturnStands (text W E Outer Passes z) a.function k result
       → Awaits (text W E Outer Passes z) others a.to debt (ty_of a.function.answer) target work (λ acts at left. Ahead (text W E Outer Passes z) acts at left work)
-      → StepIs W E Outer Passes z debt here (at_with k c d) (then_go (units 0) here (value_of result here.state) (λ cost v. deliver cost target v work there))
+      → GoesOn W E Outer Passes z debt here (at_with k c d) (then_go (units 0) here (value_of result here.state) (λ cost v. deliver cost target v work there))
   leaves result target work form stands ahead =
       let t : Ty = ty_of a.function.answer in
       let ex = its_exprs runs compose W E Outer Passes z jumps straight held typing exprs objects gv hv hw g fs world calls answer c d a others st r waits in
@@ -273,7 +273,7 @@ module _ (runs : RunLaws) (compose : RunsCompose) (W E : Type 0) (Outer : W → 
   -- a return from a function whose variables stand in registers
   pub leaves_light : (result : CExpr) (target : Target) (work : List Work) → sc.in_registers ≡ true → ReturnStands (text W E Outer Passes z) a.function k result
       → Awaits (text W E Outer Passes z) others a.to debt (ty_of a.function.answer) target work (λ acts at left. Ahead (text W E Outer Passes z) acts at left work)
-      → StepIs W E Outer Passes z debt here (at_with k c d) (then_go (units 0) here (value_of result here.state) (λ cost v. deliver cost target v work there))
+      → GoesOn W E Outer Passes z debt here (at_with k c d) (then_go (units 0) here (value_of result here.state) (λ cost v. deliver cost target v work there))
   leaves_light result target work form stands ahead =
       let t : Ty = ty_of a.function.answer in
       let ex = its_exprs runs compose W E Outer Passes z jumps straight held typing exprs objects gv hv hw g fs world calls answer c d a others st r waits in
@@ -317,7 +317,7 @@ module _ (runs : RunLaws) (compose : RunsCompose) (W E : Type 0) (Outer : W → 
   -- an answer goes to a place in memory
   pub finishes : (place : CExpr) (v : Value) (rest : CStmts) (work : List Work) (t : Ty) → Fits (shapes z.p.unit) (layout_of z.p.unit objects) t v → c.regs 2 ≡ word_of_value W E Outer Passes z objects v → (made sc place).stands ≡ None
       → IsAnswered (text W E Outer Passes z) a.function place t → CodeAt z.w k (answer_code sc place) → Block (text W E Outer Passes z) a.function (k + length (answer_code sc place)) debt rest (λ to left. Ahead (text W E Outer Passes z) (a ∷ others) to left work)
-      → StepIs W E Outer Passes z debt here (at_with k c d) (store (units 0) place v rest work here)
+      → GoesOn W E Outer Passes z debt here (at_with k c d) (store (units 0) place v rest work here)
   finishes place v rest work t fits is stands answered code block =
       let same : answer_code sc place ≡ on_spot (λ b y. Sw 2 b y) 8 ((made sc place).place 8) = ap (λ o. stored_code 2 8 o (made sc place).place) stands in
       let shallow = answered.shallow in
