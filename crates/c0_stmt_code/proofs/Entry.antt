@@ -1,6 +1,6 @@
 -- The begin of a function that has a frame, whole.
 use Rattle.std.specs.Prelude.{None, nat_le}
-use Rattle.std.proofs.Common.{◌≡◌, ◌≢◌, inl, inr, ℕ, zero, suc, ◌+◌, ◌-◌, ◌*◌, ◌%◌, ◌^◌, ◌<◌, ◌≤◌, ◌⊎◌, Bool, true, false, List, [], ◌∷◌, ◌++◌, length, refl, sym, ap, ◌∙◌, subst, arith, length-append}
+use Rattle.std.proofs.Common.{◌≡◌, ◌≢◌, inl, inr, ℕ, zero, suc, ◌+◌, ◌-◌, ◌*◌, ◌%◌, ◌^◌, ◌<◌, ◌≤◌, Bool, true, false, List, [], ◌∷◌, ◌++◌, length, refl, sym, ap, ◌∙◌, subst, arith, length-append}
 use Rattle.std.proofs.lemmas.Bool.{cases_Bool, cond-true, cond-false, leb-true}
 use Rattle.mips_table.specs.declared.inst.Inst.{Inst}
 use Rattle.mips_table.specs.declared.inst.Inst.TheVariants.{Addiu, Bne, Sw}
@@ -11,6 +11,7 @@ use Rattle.masm.specs.Laws.{RunsCompose, StraightRuns, JumpsLead}
 use Rattle.c0_expr_code.specs.Scope.{Scope}
 use Rattle.c0_expr_code.specs.Code.{is_near, low, frame_back, on_spot}
 use Rattle.c0_stmt_code.specs.Code.{frame_spot, save_code, params_code, zeros_code, zeros_loop, locals_code}
+use Rattle.c0_stmt_code.specs.Frames.{FrameMade, FramesAreMade}
 use Rattle.c0_stmt_code.proofs.Ways.{Way, on, of, within}
 use Rattle.c0_stmt_code.proofs.Blocks.{front, back}
 use Rattle.c0_stmt_code.proofs.Rooms.{put_same, put_other}
@@ -92,18 +93,10 @@ module _ (compose : RunsCompose) (w : World) (sound : Sound w) (straight : Strai
       by_loop zero many sum code = absurd (cc)
       by_loop (suc n) many sum code = loop_begins i n k c d idle sum at code
 
-  -- the frame as it is made, behind the stack's test
-  pub record FrameMade (calling : Bool) (params locals : ℕ) (c c' : Contents) : Type 0 where
-    pub saved : calling ≡ true → c'.memory (e - sc.frame) ≡ c.regs 31
-    pub arguments : (j : ℕ) → j < params → c'.memory ((e - sc.frame) + 3 + j) ≡ c.regs (20 + j)
-    pub zeros : (j : ℕ) → j < locals → c'.memory ((e - sc.frame) + (3 + params) + j) ≡ 0
-    pub others : (x : ℕ) → (x < e - sc.frame) ⊎ (e ≤ x) → c'.memory x ≡ c.memory x
-    pub special : c'.special ≡ c.special
-    pub regs : (x : ℕ) → x ≢ 1 → x ≢ 2 → c'.regs x ≡ c.regs x
-
+  -- the frame is made, in so many steps; where there are no locals it is near, and its first word takes one
   pub record Framed (calling : Bool) (params locals k to : ℕ) (c : Contents) (d : Behind) : Type 0 where
     pub contents : Contents
-    pub made : FrameMade calling params locals c contents
+    pub made : FrameMade sc e calling params locals c contents
     pub least : ℕ
     pub paid : locals ≤ 8 + least
     pub most : ℕ
@@ -181,3 +174,11 @@ module _ (compose : RunsCompose) (w : World) (sound : Sound w) (straight : Strai
         way = within runs w P (0 + 0 + three.least) (one.most + 3 * params + three.most) (0 + 0 + 0) three.least (one.most + 3 * params + three.most) 0 (at_with k c d) (at_with to three.contents d) (omega arith) (omega arith) refl
             (subst (λ m. Way runs w P (0 + 0 + three.least) (one.most + 3 * params + three.most) (0 + 0 + 0) (at_with k c d) (at_with m three.contents d)) len way);
       }
+
+-- the law of the frames' begin
+pub frames_made : (compose : RunsCompose) (w : World) (sound : Sound w) (straight : StraightRuns w) (jumps : JumpsLead w) (runs : RunLaws) → FramesAreMade w
+frames_made compose w sound straight jumps runs sc e has calling params locals k c d idle sum few at code =
+    let fr = frames compose w sound straight jumps runs (λ s t. ⊥) sc e has.inside has.small has.fits has.free calling params locals k c d idle sum few at code in
+    let le = fr.way.high in
+    let most = fr.few in
+    (fr.contents, fr.made, record { steps = fr.way.own; within = omega (arith, le, most); run = fr.way.run })
