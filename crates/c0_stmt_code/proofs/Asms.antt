@@ -31,7 +31,7 @@ use Rattle.c0_stmt_code.specs.Code.{large_code, end_code, stack_test, body_code,
 use Rattle.c0_stmt_code.specs.Setup.{Setup}
 use Rattle.c0_stmt_code.specs.Journey.{Led}
 use Rattle.c0_stmt_code.specs.Ahead.{Activation, Awaits, Ahead}
-use Rattle.c0_stmt_code.specs.Standing.{text, scope, bases, end_of, unit_scope, word_of_value, AreIn, Waiting, UnderWay, Stands, StepIs}
+use Rattle.c0_stmt_code.specs.Standing.{text, scope, bases, end_of, unit_scope, word_of_value, AreIn, Waiting, UnderWay, Stands}
 use Rattle.c0_stmt_code.proofs.Needs.{HeldStays, AreInts}
 use Rattle.c0_stmt_code.proofs.Ways.{Way, on, of, away}
 use Rattle.c0_stmt_code.proofs.Blocks.{front, back}
@@ -41,7 +41,7 @@ use Rattle.c0_stmt_code.proofs.Rooms.{variables_same}
 use Rattle.c0_stmt_code.proofs.Frames.{tested}
 use Rattle.c0_stmt_code.proofs.Returns.{led}
 use Rattle.c0_stmt_code.proofs.CallActs.{stands_soft}
-use Rattle.c0_stmt_code.proofs.Sim.{Path}
+use Rattle.c0_stmt_code.proofs.Sim.{GoesOn, Path}
 
 int_of_fits : (n : ℕ) → FitsSigned w32 (int_of n)
 int_of_fits n = by_test (nat_lt n (2 ^ 31)) refl
@@ -86,9 +86,9 @@ module _ (runs : RunLaws) (compose : RunsCompose) (W E : Type 0) (Outer : W → 
     low = end_of W E Outer Passes z fs
 
     -- the answer is handed over, and the caller goes on where it waits
-    handed : (l m j : ℕ) (cost : Cost) (h0 : Configuration W E) (s0 : Machine) (v : Value) (t : Ty) (c' : Contents) → Path runs compose W E Outer Passes z jumps l m j s0 (at_with to c' d) → cost.own ≤ 2048 * l → m ≤ 60 * cost.own → length calls ≡ ended h0 + j
+    handed : (l m j : ℕ) (cost : Cost) (h0 : Configuration W E) (s0 : Machine) (v : Value) (t : Ty) (c' : Contents) → Path runs compose W E Outer Passes z jumps l m j s0 (at_with to c' d) → cost.own ≤ 2048 * l → m ≤ 30 * cost.own → length calls ≡ ended h0 + j
         → c'.memory ≡ c.memory → c'.special ≡ c.special → ((x : ℕ) → 28 ≤ x → c'.regs x ≡ c.regs x) → Fits (shapes z.p.unit) (layout_of z.p.unit objects) t v → c'.regs 2 ≡ word_of_value W E Outer Passes z objects v → ty_of f.answer ≡ t
-        → StepIs W E Outer Passes z debt h0 s0 (deliver cost target v work here)
+        → GoesOn W E Outer Passes z debt h0 s0 (deliver cost target v work here)
     handed l m j cost h0 s0 v t c' path low_paid high_paid en memory special high fits is2 types = by_target acts fs waits target work ahead refl
       where
         st2 : Stands W E Outer Passes z objects here c' d
@@ -98,8 +98,8 @@ module _ (runs : RunLaws) (compose : RunsCompose) (W E : Type 0) (Outer : W → 
         led_to h' e = let le = path.high in let ge = path.low in let n = ap length e in record { own = path.own; passes = j; high = omega (arith, le, high_paid); low = omega (arith, ge, low_paid); ended_so = n ∙ en; run = path.run }
 
         by_target : (acts : List Activation) (frames : List Frame) → Waiting W E Outer Passes z objects c.memory acts frames → (target : Target) (work : List Work) → Awaits (text W E Outer Passes z) acts to debt (ty_of f.answer) target work (λ acts at left. Ahead (text W E Outer Passes z) acts at left work) → frames ≡ fs
-            → StepIs W E Outer Passes z debt h0 s0 (deliver cost target v work here)
-        by_target (b ∷ more) (q ∷ frames) w (into place rest) work ah e = inl (
+            → GoesOn W E Outer Passes z debt h0 s0 (deliver cost target v work here)
+        by_target (b ∷ more) (q ∷ frames) w (into place rest) work ah e = (
           at_with to c' d,
           debt,
           led_to here refl,
@@ -122,7 +122,7 @@ module _ (runs : RunLaws) (compose : RunsCompose) (W E : Type 0) (Outer : W → 
             ahead = subst (λ y. Awaits (text W E Outer Passes z) (b ∷ more) to debt y (into place rest) work (λ acts at left. Ahead (text W E Outer Passes z) acts at left work)) types ah;
           },
         )
-        by_target [] [] w outward [] ah e = inl (
+        by_target [] [] w outward [] ah e = (
           at_with to c' d,
           debt,
           led_to (record here { answer = Some v }) refl,
@@ -147,14 +147,14 @@ module _ (runs : RunLaws) (compose : RunsCompose) (W E : Type 0) (Outer : W → 
 
     pub enters_asm : (l m j k : ℕ) (cost : Cost) (h0 : Configuration W E) (s0 : Machine) (bytes : List ℕ) (span : Span) (words : List ℕ) → f.body ≡ asm bytes span words → AreInts (types_of (map typed_of f.params)) → length (types_of (map typed_of f.params)) ≤ 4 → length (types_of (map typed_of f.params)) ≡ length f.params
         → ty_of f.answer ≡ ty.int → IsTrue (are_allowed_words words)
-        → Path runs compose W E Outer Passes z jumps l m j s0 (at_with k c d) → CodeAt z.w k (function_code sc (text W E Outer Passes z).links f) → cost.own + 9 ≤ 2048 * (l + 1) → m ≤ 60 * cost.own + 20 → length calls ≡ ended h0 + j
-        → StepIs W E Outer Passes z debt h0 s0 (call_function z.p cost n args target work here)
+        → Path runs compose W E Outer Passes z jumps l m j s0 (at_with k c d) → CodeAt z.w k (function_code sc (text W E Outer Passes z).links f) → cost.own + 9 ≤ 2048 * (l + 1) → m ≤ 30 * cost.own → length calls ≡ ended h0 + j
+        → GoesOn W E Outer Passes z debt h0 s0 (call_function z.p cost n args target work here)
     enters_asm l m j k cost h0 s0 bytes span words e ints_ few count_is result allowed path there low_paid high_paid en =
-        subst (λ o. StepIs W E Outer Passes z debt h0 s0 (then_go (plus cost (units 1)) here (at_no_cost (ok_or o stuck)) (λ cost g. if nat_lt z.p.stack (stack_words z.p.unit fs + frame (shapes z.p.unit) g) then Stop cost (faulted StackOut) here else enter z.p cost n g.body args target work here))) (sym is)
+        subst (λ o. GoesOn W E Outer Passes z debt h0 s0 (then_go (plus cost (units 1)) here (at_no_cost (ok_or o stuck)) (λ cost g. if nat_lt z.p.stack (stack_words z.p.unit fs + frame (shapes z.p.unit) g) then Stop cost (faulted StackOut) here else enter z.p cost n g.body args target work here))) (sym is)
         (elim (cases_Bool (nat_lt z.p.stack (stack_words z.p.unit fs + frame (shapes z.p.unit) f))) [
-          | inl over ↦ subst (λ t. StepIs W E Outer Passes z debt h0 s0 t) (sym (cond-true (nat_lt z.p.stack (stack_words z.p.unit fs + frame (shapes z.p.unit) f)) (Stop cost2 (faulted StackOut) here) (enter z.p cost2 n f.body args target work here) over)) (fails (ltb-true z.p.stack (stack_words z.p.unit fs + frame (shapes z.p.unit) f) over))
-          | inr fine ↦ subst (λ t. StepIs W E Outer Passes z debt h0 s0 t) (sym (cond-false (nat_lt z.p.stack (stack_words z.p.unit fs + frame (shapes z.p.unit) f)) (Stop cost2 (faulted StackOut) here) (enter z.p cost2 n f.body args target work here) fine))
-              (subst (λ b. StepIs W E Outer Passes z debt h0 s0 (enter z.p cost2 n b args target work here)) (sym e) (goes (ltb-false z.p.stack (stack_words z.p.unit fs + frame (shapes z.p.unit) f) fine)))
+          | inl over ↦ subst (λ t. GoesOn W E Outer Passes z debt h0 s0 t) (sym (cond-true (nat_lt z.p.stack (stack_words z.p.unit fs + frame (shapes z.p.unit) f)) (Stop cost2 (faulted StackOut) here) (enter z.p cost2 n f.body args target work here) over)) (fails (ltb-true z.p.stack (stack_words z.p.unit fs + frame (shapes z.p.unit) f) over))
+          | inr fine ↦ subst (λ t. GoesOn W E Outer Passes z debt h0 s0 t) (sym (cond-false (nat_lt z.p.stack (stack_words z.p.unit fs + frame (shapes z.p.unit) f)) (Stop cost2 (faulted StackOut) here) (enter z.p cost2 n f.body args target work here) fine))
+              (subst (λ b. GoesOn W E Outer Passes z debt h0 s0 (enter z.p cost2 n b args target work here)) (sym e) (goes (ltb-false z.p.stack (stack_words z.p.unit fs + frame (shapes z.p.unit) f) fine)))
         ])
       where
         cost2 : Cost
@@ -166,7 +166,7 @@ module _ (runs : RunLaws) (compose : RunsCompose) (W E : Type 0) (Outer : W → 
         test_at : CodeAt z.w k (stack_test sc 1)
         test_at = front z.w k (stack_test sc 1) (asm_code (length f.params) words ++ (Jr 31 ∷ [])) code_at
 
-        fails : z.p.stack < stack_words z.p.unit fs + frame (shapes z.p.unit) f → StepIs W E Outer Passes z debt h0 s0 (Stop cost2 (faulted StackOut) here)
+        fails : z.p.stack < stack_words z.p.unit fs + frame (shapes z.p.unit) f → GoesOn W E Outer Passes z debt h0 s0 (Stop cost2 (faulted StackOut) here)
         fails over =
             let sf = z.stack_fits in
             let sm = z.stack_small in
@@ -180,7 +180,7 @@ module _ (runs : RunLaws) (compose : RunsCompose) (W E : Type 0) (Outer : W → 
               record { objects = objects; stands = stands_soft runs compose W E Outer Passes z jumps objects here c r.0 d r.1.memory r.1.special (r.1.others 28 (λ q. absurd (omega (arith, q))) (λ q. absurd (omega (arith, q)))) (r.1.others 30 (λ q. absurd (omega (arith, q))) (λ q. absurd (omega (arith, q)))) st; at = refl },
             )
 
-        goes : stack_words z.p.unit fs + frame (shapes z.p.unit) f ≤ z.p.stack → StepIs W E Outer Passes z debt h0 s0 (deliver (plus cost2 (units (length words))) target (int (asm_result words args)) work here)
+        goes : stack_words z.p.unit fs + frame (shapes z.p.unit) f ≤ z.p.stack → GoesOn W E Outer Passes z debt h0 s0 (deliver (plus cost2 (units (length words))) target (int (asm_result words args)) work here)
         goes fine =
             let sf = z.stack_fits in
             let sm = z.stack_small in
@@ -199,8 +199,8 @@ module _ (runs : RunLaws) (compose : RunsCompose) (W E : Type 0) (Outer : W → 
             let keep : (x : ℕ) → 28 ≤ x → r.0.regs x ≡ c.regs x = λ x le. r.1.regs x (inr (omega (arith, le))) ∙ t.1.others x (λ q. absurd (omega (arith, q, le))) (λ q. absurd (omega (arith, q, le))) in
             let jump_back = led compose z.w z.sound straight jumps 31 k2 to r.0 d st.idle (read_is r.0.regs 31 (λ q. absurd (omega (arith, q))) ∙ keep 31 (omega arith) ∙ return_at) last_at.0 in
             let body_way : Way runs z.w Passes (length words) (6 + length words) 0 (at_with k1 t.0 d) (at_with k2 r.0 d) = record { own = r.2.steps; low = r.3; high = r.2.within; run = r.2.run } in
-            let way1 = on runs z.w Passes l m j 1 7 0 s0 (at_with k c d) (at_with k1 t.0 d) path (away runs z.w Passes 7 (at_with k c d) (at_with k1 t.0 d) (λ q. let ts = test_some in absurd (omega (arith, q, ts))) t.2) in
-            let way2 = on runs z.w Passes (l + 1) (m + 7) (j + 0) (length words) (6 + length words) 0 s0 (at_with k1 t.0 d) (at_with k2 r.0 d) way1 body_way in
-            let way3 = on runs z.w Passes (l + 1 + length words) (m + 7 + (6 + length words)) (j + 0 + 0) 0 1 0 s0 (at_with k2 r.0 d) (at_with to r.0 d) way2 (of runs z.w Passes 1 _ _ jump_back) in
-            handed (l + 1 + length words + 0) (m + 7 + (6 + length words) + 1) (j + 0 + 0 + 0) (plus cost2 (units (length words))) h0 s0 (int (asm_result words args)) ty.int r.0 way3 (omega (arith, low_paid)) (omega (arith, high_paid)) (omega (arith, en))
+            let way1 = on runs z.w Passes l m j 1 5 0 s0 (at_with k c d) (at_with k1 t.0 d) path (away runs z.w Passes 5 (at_with k c d) (at_with k1 t.0 d) (λ q. let ts = test_some in absurd (omega (arith, q, ts))) t.2) in
+            let way2 = on runs z.w Passes (l + 1) (m + 5) (j + 0) (length words) (6 + length words) 0 s0 (at_with k1 t.0 d) (at_with k2 r.0 d) way1 body_way in
+            let way3 = on runs z.w Passes (l + 1 + length words) (m + 5 + (6 + length words)) (j + 0 + 0) 0 1 0 s0 (at_with k2 r.0 d) (at_with to r.0 d) way2 (of runs z.w Passes 1 _ _ jump_back) in
+            handed (l + 1 + length words + 0) (m + 5 + (6 + length words) + 1) (j + 0 + 0 + 0) (plus cost2 (units (length words))) h0 s0 (int (asm_result words args)) ty.int r.0 way3 (omega (arith, low_paid)) (omega (arith, high_paid)) (omega (arith, en))
             (r.1.memory ∙ t.1.memory) (r.1.special ∙ t.1.special) keep (int_of_fits _) r.1.answer result

@@ -16,10 +16,10 @@ use Rattle.c0_meaning.specs.Value.{Value, Values, empty, part}
 use Rattle.c0_meaning.specs.State.{Frame}
 use Rattle.c0_meaning.specs.Statement.{MAX_NEED, call_need}
 use Rattle.c0_meaning.specs.Numbered.{IsNumberedLeft, AreNumberedGiven}
-use Rattle.c0_meaning.specs.Operators.{faulted, stuck}
+use Rattle.c0_meaning.specs.Operators.{KernelFault, faulted, stuck}
 use Rattle.c0_meaning.specs.Evaluation.{Costed, costs, values_of}
 use Rattle.c0_meaning.specs.World.{Cost, units, plus, Configuration, ended}
-use Rattle.c0_meaning.specs.Running.{Target, into, Work, Step, then_go, call_function}
+use Rattle.c0_meaning.specs.Running.{Target, into, Work, Step, Stop, then_go, call_function}
 use Rattle.c0_meaning.specs.TypedState.{Layout, types_of, AllFit, layout_of}
 use Rattle.c0_expr_code.specs.Scope.{Scope}
 use Rattle.c0_expr_code.specs.Bases.{Bases}
@@ -27,7 +27,7 @@ use Rattle.c0_expr_code.specs.Relation.{Keeps}
 use Rattle.c0_stmt_code.specs.Code.{calls_in, args_code, answer_code}
 use Rattle.c0_stmt_code.specs.Setup.{Setup}
 use Rattle.c0_stmt_code.specs.Ahead.{Activation, env_in, Block, Awaits, Ahead}
-use Rattle.c0_stmt_code.specs.Standing.{text, scope, bases, end_of, unit_scope, AreIn, Waiting, Runs, Stands, StepIs}
+use Rattle.c0_stmt_code.specs.Standing.{text, scope, bases, end_of, unit_scope, AreIn, Waiting, Runs, Stands}
 use Rattle.c0_stmt_code.proofs.Needs.{HeldStays, TypedStays, FunctionsAre}
 use Rattle.c0_stmt_code.proofs.Ways.{none, on, of, within}
 use Rattle.c0_stmt_code.proofs.Blocks.{front, back}
@@ -38,7 +38,7 @@ use Rattle.c0_stmt_code.proofs.Spots.{other_reg, same_reg}
 use Rattle.c0_stmt_code.proofs.Rooms.{variables_same}
 use Rattle.c0_stmt_code.proofs.Places.{its_exprs, its_ready}
 use Rattle.c0_stmt_code.proofs.Args.{SoftComes, InRegisters, args_run}
-use Rattle.c0_stmt_code.proofs.Sim.{Path, stands_on}
+use Rattle.c0_stmt_code.proofs.Sim.{GoesOn, Path, stands_on}
 
 -- words of registers that stay
 pub are_moved : (sc : Scope) (b : Bases) (m m' : ℕ → ℕ) (r : ℕ) (ts : List Ty) (structs : List Shape) (lay : Layout) (vs : Values) → AllFit structs lay ts vs → r + length ts ≤ 28 → ((x : ℕ) → x < 28 → m' x ≡ m x) → AreIn sc b m r vs → AreIn sc b m' r vs
@@ -78,18 +78,19 @@ module _ (runs : RunLaws) (compose : RunsCompose) (W E : Type 0) (Outer : W → 
         idle = st.idle;
       }
 
-  -- an evaluation on the way of a step, whose code may leave something in the registers of arguments
-  pub then_soft : {A : Type 0} (l n j debt lo hi : ℕ) (cost : Cost) (h h0 : Configuration W E) (s : Machine) (f : CFunction) (from to : ℕ) (c : Contents) (d : Behind) (objects : List Ty) (Q : A → Contents → Type 0) (e : Costed A) (go : Cost → A → Step W E)
-      → Path runs compose W E Outer Passes z jumps l n j s (at_with from c d) → n ≤ 60 * cost.own + debt → ended h ≡ ended h0 + j → Stands W E Outer Passes z objects h c d → Within lo hi e → SoftComes z.w (scope W E Outer Passes z f) from to c d Q e
-      → ((k : ℕ) (x : A) (c' : Contents) → lo ≤ k → k ≤ hi → Q x c' → Path runs compose W E Outer Passes z jumps l (n + 16 * k) j s (at_with to c' d) → StepIs W E Outer Passes z debt h0 s (go (plus cost (units k)) x)) → StepIs W E Outer Passes z debt h0 s (then_go cost h e go)
-  then_soft l n j debt lo hi cost h h0 s f from to c d objects Q (costs k (Ok x)) go path high en st bounds comes next =
-      next k x comes.0 bounds.0 bounds.1 comes.1 (within runs z.w Passes (l + 0) (n + 16 * k) (j + 0) l (n + 16 * k) j s (at_with to comes.0 d) (omega arith) (omega arith) (omega arith) (on runs z.w Passes l n j 0 (16 * k) 0 s (at_with from c d) (at_with to comes.0 d) path (of runs z.w Passes (16 * k) _ _ comes.2)))
-  then_soft l n j debt lo hi cost h h0 s f from to c d objects Q (costs k (Err (faulted x))) go path high en st bounds comes next =
+  -- an evaluation on the way of a step, whose code may leave something in the registers of arguments; a fault ends the step
+  pub then_soft : {A : Type 0} (Is : Step W E → Type 0) (l n j debt lo hi : ℕ) (cost : Cost) (h h0 : Configuration W E) (s : Machine) (f : CFunction) (from to : ℕ) (c : Contents) (d : Behind) (objects : List Ty) (Q : A → Contents → Type 0) (e : Costed A) (go : Cost → A → Step W E)
+      → Path runs compose W E Outer Passes z jumps l n j s (at_with from c d) → n ≤ 30 * cost.own + debt → ended h ≡ ended h0 + j → Stands W E Outer Passes z objects h c d → Within lo hi e → SoftComes z.w (scope W E Outer Passes z f) from to c d Q e
+      → ((cost : Cost) (f : KernelFault) (h : Configuration W E) → GoesOn W E Outer Passes z debt h0 s (Stop cost (faulted f) h) → Is (Stop cost (faulted f) h))
+      → ((k : ℕ) (x : A) (c' : Contents) → e ≡ costs k (Ok x) → lo ≤ k → k ≤ hi → Q x c' → Path runs compose W E Outer Passes z jumps l (n + 16 * k) j s (at_with to c' d) → Is (go (plus cost (units k)) x)) → Is (then_go cost h e go)
+  then_soft Is l n j debt lo hi cost h h0 s f from to c d objects Q (costs k (Ok x)) go path high en st bounds comes stops next =
+      next k x comes.0 refl bounds.0 bounds.1 comes.1 (within runs z.w Passes (l + 0) (n + 16 * k) (j + 0) l (n + 16 * k) j s (at_with to comes.0 d) (omega arith) (omega arith) (omega arith) (on runs z.w Passes l n j 0 (16 * k) 0 s (at_with from c d) (at_with to comes.0 d) path (of runs z.w Passes (16 * k) _ _ comes.2)))
+  then_soft Is l n j debt lo hi cost h h0 s f from to c d objects Q (costs k (Err (faulted x))) go path high en st bounds comes stops next =
       let exit = (scope W E Outer Passes z f).exit x in
       let way = on runs z.w Passes l n j 0 (16 * k) 0 s (at_with from c d) (at_with exit comes.0 d) path (of runs z.w Passes (16 * k) _ _ comes.2) in
       let le = way.high in
-      (at_with exit comes.0 d, record { own = way.own; passes = j + 0; high = omega (arith, le, high); ended_so = omega (arith, en); run = way.run }, record { objects = objects; stands = stands_soft objects h c comes.0 d comes.1.memory comes.1.special (comes.1.high 28 (omega arith)) (comes.1.high 30 (omega arith)) st; at = refl })
-  then_soft l n j debt lo hi cost h h0 s f from to c d objects Q (costs k (Err stuck)) go path high en st bounds comes next = absurd comes
+      stops (plus cost (units k)) x h (at_with exit comes.0 d, record { own = way.own; passes = j + 0; high = omega (arith, le, high); ended_so = omega (arith, en); run = way.run }, record { objects = objects; stands = stands_soft objects h c comes.0 d comes.1.memory comes.1.special (comes.1.high 28 (omega arith)) (comes.1.high 30 (omega arith)) st; at = refl })
+  then_soft Is l n j debt lo hi cost h h0 s f from to c d objects Q (costs k (Err stuck)) go path high en st bounds comes stops next = absurd comes
 
   -- a jump that leaves the next word's address
   pub calls_to : (k index : ℕ) (c : Contents) (d : Behind) → d.pending ≡ Idle → z.w.code k ≡ Some (Jal index) → Reaches z.w 1 (at_with k c d) (at_with index (with_reg c 31 (4 * (k + 1))) d)
@@ -125,8 +126,8 @@ module _ (runs : RunLaws) (compose : RunsCompose) (W E : Type 0) (Outer : W → 
     Enters n f target work = (c' : Contents) (vs : Values) (l m j : ℕ) (cost : Cost) → Stands W E Outer Passes z objects here c' d → Waiting W E Outer Passes z objects c'.memory (a ∷ others) (g ∷ fs) → c'.regs 29 ≡ 4 * end_of W E Outer Passes z (g ∷ fs)
         → (to : ℕ) → c'.regs 31 ≡ 4 * to → AllFit (shapes z.p.unit) (layout_of z.p.unit objects) (types_of (map typed_of f.params)) vs → AreIn (unit_scope z.p.unit) (bases W E Outer Passes z objects []) c'.regs 20 vs
         → Awaits (text W E Outer Passes z) (a ∷ others) to debt (ty_of f.answer) target work (λ acts at left. Ahead (text W E Outer Passes z) acts at left work)
-        → Path runs compose W E Outer Passes z jumps l m j (at_with k c d) (at_with ((text W E Outer Passes z).links.function n) c' d) → cost.own + 9 ≤ 2048 * (l + 1) → m ≤ 60 * cost.own + 20 → length calls ≡ ended here + j
-        → StepIs W E Outer Passes z debt here (at_with k c d) (call_function z.p cost n vs target work here)
+        → Path runs compose W E Outer Passes z jumps l m j (at_with k c d) (at_with ((text W E Outer Passes z).links.function n) c' d) → cost.own + 9 ≤ 2048 * (l + 1) → m ≤ 30 * cost.own → length calls ≡ ended here + j
+        → GoesOn W E Outer Passes z debt here (at_with k c d) (call_function z.p cost n vs target work here)
 
     -- words of values for every function
     are_out : (regs : ℕ → ℕ) (i : ℕ) (ts : List Ty) (vs : Values) → AllFit (shapes z.p.unit) (layout_of z.p.unit objects) ts vs → AreIn sc (bases W E Outer Passes z objects (g ∷ fs)) regs i vs → AreIn (unit_scope z.p.unit) (bases W E Outer Passes z objects []) regs i vs
@@ -141,7 +142,7 @@ module _ (runs : RunLaws) (compose : RunsCompose) (W E : Type 0) (Outer : W → 
         → AreNumberedGiven (env_in (text W E Outer Passes z) a.function) args (types_of (map typed_of f.params)) → length args ≤ 8 → length (types_of (map typed_of f.params)) ≤ 8 → IsNumberedLeft (env_in (text W E Outer Passes z) a.function) p (ty_of f.answer) → call_need p args ≤ MAX_NEED → nodes p + args_nodes args + 1 ≤ 2000
         → CodeAt z.w k (args_code sc args 0 ++ (Jal ((text W E Outer Passes z).links.function n) ∷ answer_code sc p))
         → Block (text W E Outer Passes z) a.function (k + length (args_code sc args 0 ++ (Jal ((text W E Outer Passes z).links.function n) ∷ answer_code sc p))) debt rest (λ to left. Ahead (text W E Outer Passes z) (a ∷ others) to left work)
-        → StepIs W E Outer Passes z debt here (at_with k c d) (then_go (units 1) here (values_of args here.state) (λ cost vs. call_function z.p cost n vs (into p rest) work here))
+        → GoesOn W E Outer Passes z debt here (at_with k c d) (then_go (units 1) here (values_of args here.state) (λ cost vs. call_function z.p cost n vs (into p rest) work here))
     calls_function n f args p rest work is enters given count types left deep few code block =
         let ex = its_exprs runs compose W E Outer Passes z jumps straight held typing exprs objects gv hv hw g fs world calls answer c d a others st r waits in
         let rd = its_ready runs compose W E Outer Passes z jumps straight held typing exprs objects gv hv hw g fs world calls answer c d a others st r waits in
@@ -151,9 +152,9 @@ module _ (runs : RunLaws) (compose : RunsCompose) (W E : Type 0) (Outer : W → 
         let run = args_run compose z.w sc (env_in (text W E Outer Passes z) a.function) (bases W E Outer Passes z objects (g ∷ fs)) (state_of gv hv hw (g ∷ fs)) d ex form st.idle args (types_of (map typed_of f.params)) 0 k c rd given (functions.scalars n f is) (omega (arith, deep)) (omega (arith, few)) (omega (arith, count))
         (front z.w k (args_code sc args 0) (Jal ((text W E Outer Passes z).links.function n) ∷ answer_code sc p) code) in
         let len : k + length (args_code sc args 0 ++ (Jal ((text W E Outer Passes z).links.function n) ∷ answer_code sc p)) ≡ k1 + 1 + length (answer_code sc p) = omega (arith, length-append (args_code sc args 0) (Jal ((text W E Outer Passes z).links.function n) ∷ answer_code sc p)) in
-        then_soft 0 0 0 debt 0 (args_nodes args) (units 1) here here (at_with k c d) a.function k k1 c d objects (InRegisters compose z.w sc (bases W E Outer Passes z objects (g ∷ fs)) 0 (types_of (map typed_of f.params)) c) (values_of args here.state) (λ cost vs. call_function z.p cost n vs (into p rest) work here)
-        (none runs z.w Passes (at_with k c d)) (omega arith) (omega arith) st (values_within args here.state) run
-        (λ u vs c1 least most q path.
+        then_soft (GoesOn W E Outer Passes z debt here (at_with k c d)) 0 0 0 debt 0 (args_nodes args) (units 1) here here (at_with k c d) a.function k k1 c d objects (InRegisters compose z.w sc (bases W E Outer Passes z objects (g ∷ fs)) 0 (types_of (map typed_of f.params)) c) (values_of args here.state) (λ cost vs. call_function z.p cost n vs (into p rest) work here)
+        (none runs z.w Passes (at_with k c d)) (omega arith) (omega arith) st (values_within args here.state) run (λ cost f h stop. stop)
+        (λ u vs c1 same least most q path.
         let c2 : Contents = with_reg c1 31 (4 * (k1 + 1)) in
         let jump_there = calls_to k1 index c1 d st.idle jal_at.0 in
         let way = on runs z.w Passes 0 (0 + 16 * u) 0 0 1 0 (at_with k c d) (at_with k1 c1 d) (at_with index (with_reg c1 31 (4 * (k1 + 1))) d) path (of runs z.w Passes 1 _ _ jump_there) in

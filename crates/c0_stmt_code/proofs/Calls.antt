@@ -1,6 +1,6 @@
 -- A function that has a frame is entered.
 use Rattle.std.specs.Prelude.{map, slice_get, IsTrue, Some, ok_or, if◌then◌else◌, nat_lt, nat_le, ◌&&◌}
-use Rattle.std.proofs.Common.{◌≡◌, ◌≢◌, inl, inr, ℕ, suc, ◌+◌, ◌-◌, ◌*◌, ◌<◌, ◌≤◌, ◌⊎◌, Bool, true, false, Option, List, [], ◌∷◌, ◌++◌, length, refl, sym, ap, ◌∙◌, subst, arith, length-append}
+use Rattle.std.proofs.Common.{◌≡◌, ◌≢◌, inl, inr, ℕ, zero, suc, ◌+◌, ◌-◌, ◌*◌, ◌<◌, ◌≤◌, ◌⊎◌, Bool, true, false, Option, List, [], ◌∷◌, ◌++◌, length, refl, sym, ap, ◌∙◌, subst, arith, length-append}
 use Rattle.std.proofs.lemmas.Bool.{cases_Bool, cond-true, cond-false, ltb-true, ltb-false, leb-true, and_parts}
 use Rattle.mips_table.specs.declared.inst.Inst.{Inst}
 use Rattle.mips_table.specs.declared.inst.Inst.TheVariants.{Sltu, Beq, J, Sw}
@@ -26,7 +26,7 @@ use Rattle.c0_expr_code.specs.Bases.{Bases, words_of_all, AllHeld, RegionHeld}
 use Rattle.c0_stmt_code.specs.Code.{large_code, end_code, body_code, register_entry, clear_code, are_calling, calls_in, stack_test, save_code, params_code, locals_code, frame_entry, return_code, stmts_code, function_code}
 use Rattle.c0_stmt_code.specs.Setup.{Setup}
 use Rattle.c0_stmt_code.specs.Ahead.{Activation, Awaits, Ahead}
-use Rattle.c0_stmt_code.specs.Standing.{text, scope, bases, end_of, unit_scope, AreIn, VariablesHeld, Waiting, Runs, Stands, StepIs}
+use Rattle.c0_stmt_code.specs.Standing.{text, scope, bases, end_of, unit_scope, AreIn, VariablesHeld, Waiting, Runs, Stands}
 use Rattle.c0_stmt_code.proofs.Needs.{HeldStays, TypedStays, FunctionsAre, AllScalar}
 use Rattle.c0_stmt_code.proofs.Ways.{Way, on, of, away}
 use Rattle.c0_stmt_code.proofs.Blocks.{front, back, block_of}
@@ -36,7 +36,12 @@ use Rattle.c0_stmt_code.proofs.Rooms.{frame_words, frame_on, words_by_types, wai
 use Rattle.c0_stmt_code.proofs.Variables.{zeros_zero, zeros_held, joined_held, scalars_words, args_held}
 use Rattle.c0_stmt_code.proofs.Frames.{tested}
 use Rattle.c0_stmt_code.proofs.Entry.{frames}
-use Rattle.c0_stmt_code.proofs.Sim.{Path, arrives}
+use Rattle.c0_stmt_code.proofs.Sim.{GoesOn, Path, arrives}
+
+-- what is paid for an entry: a unit for the call, and one for each word of the locals
+entry_price : (params locals most : ℕ) → params ≤ 8 → most ≤ 3 + 3 * params + 3 * locals + 3 → (locals ≡ 0 → most ≤ 1 + 3 * params) → most ≤ 25 + 30 * locals
+entry_price params zero most few high none = let h = none refl in omega (arith, h, few)
+entry_price params (suc locals) most few high none = omega (arith, high, few)
 
 module _ (runs : RunLaws) (compose : RunsCompose) (W E : Type 0) (Outer : W → Contents → Behind → Type 0) (Passes : Machine → Machine → Type 0) (z : Setup W E Outer Passes) (jumps : JumpsLead z.w) (straight : StraightRuns z.w)
     (held : HeldStays (shapes z.p.unit)) (typing : TypedStays z.p.unit) (functions : FunctionsAre z.table z.p.unit) (opened : (x : List ℕ) → words (shapes z.p.unit) (named x) ≡ words_of_all (shapes z.p.unit) (types_of (fields_named (shapes z.p.unit) x))) where
@@ -159,14 +164,14 @@ module _ (runs : RunLaws) (compose : RunsCompose) (W E : Type 0) (Outer : W → 
     test_some = omega (arith, length-append (large_code sc) (end_code 29 (4 * sc.frame) ++ (Sltu 1 30 29 ∷ Beq 1 0 1 ∷ J (sc.exit StackOut) ∷ [])), length-append (end_code 29 (4 * sc.frame)) (Sltu 1 30 29 ∷ Beq 1 0 1 ∷ J (sc.exit StackOut) ∷ []))
 
     pub enters : (l m j k : ℕ) (cost : Cost) (h0 : Configuration W E) (s0 : Machine) (locals : List CDecl) (stmts : CStmts) (result : CExpr) → f.body ≡ code locals stmts result → sc.in_registers ≡ false
-        → Path runs compose W E Outer Passes z jumps l m j s0 (at_with k c d) → CodeAt z.w k (function_code sc (text W E Outer Passes z).links f) → cost.own + 9 ≤ 2048 * (l + 1) → m ≤ 60 * cost.own + 20 → length calls ≡ ended h0 + j
-        → StepIs W E Outer Passes z debt h0 s0 (call_function z.p cost n args target work here)
+        → Path runs compose W E Outer Passes z jumps l m j s0 (at_with k c d) → CodeAt z.w k (function_code sc (text W E Outer Passes z).links f) → cost.own + 9 ≤ 2048 * (l + 1) → m ≤ 30 * cost.own → length calls ≡ ended h0 + j
+        → GoesOn W E Outer Passes z debt h0 s0 (call_function z.p cost n args target work here)
     enters l m j k cost h0 s0 locals stmts result e form path there low_paid high_paid en =
-        subst (λ o. StepIs W E Outer Passes z debt h0 s0 (then_go (plus cost (units 1)) here (at_no_cost (ok_or o stuck)) (λ cost g. if nat_lt z.p.stack (stack_words z.p.unit fs + frame (shapes z.p.unit) g) then Stop cost (faulted StackOut) here else enter z.p cost n g.body args target work here))) (sym is)
+        subst (λ o. GoesOn W E Outer Passes z debt h0 s0 (then_go (plus cost (units 1)) here (at_no_cost (ok_or o stuck)) (λ cost g. if nat_lt z.p.stack (stack_words z.p.unit fs + frame (shapes z.p.unit) g) then Stop cost (faulted StackOut) here else enter z.p cost n g.body args target work here))) (sym is)
         (elim (cases_Bool (nat_lt z.p.stack (stack_words z.p.unit fs + frame (shapes z.p.unit) f))) [
-          | inl over ↦ subst (λ t. StepIs W E Outer Passes z debt h0 s0 t) (sym (cond-true (nat_lt z.p.stack (stack_words z.p.unit fs + frame (shapes z.p.unit) f)) (Stop cost2 (faulted StackOut) here) (enter z.p cost2 n f.body args target work here) over)) (fails (ltb-true z.p.stack (stack_words z.p.unit fs + frame (shapes z.p.unit) f) over))
-          | inr fine ↦ subst (λ t. StepIs W E Outer Passes z debt h0 s0 t) (sym (cond-false (nat_lt z.p.stack (stack_words z.p.unit fs + frame (shapes z.p.unit) f)) (Stop cost2 (faulted StackOut) here) (enter z.p cost2 n f.body args target work here) fine))
-              (subst (λ b. StepIs W E Outer Passes z debt h0 s0 (enter z.p cost2 n b args target work here)) (sym e) (goes (ltb-false z.p.stack (stack_words z.p.unit fs + frame (shapes z.p.unit) f) fine)))
+          | inl over ↦ subst (λ t. GoesOn W E Outer Passes z debt h0 s0 t) (sym (cond-true (nat_lt z.p.stack (stack_words z.p.unit fs + frame (shapes z.p.unit) f)) (Stop cost2 (faulted StackOut) here) (enter z.p cost2 n f.body args target work here) over)) (fails (ltb-true z.p.stack (stack_words z.p.unit fs + frame (shapes z.p.unit) f) over))
+          | inr fine ↦ subst (λ t. GoesOn W E Outer Passes z debt h0 s0 t) (sym (cond-false (nat_lt z.p.stack (stack_words z.p.unit fs + frame (shapes z.p.unit) f)) (Stop cost2 (faulted StackOut) here) (enter z.p cost2 n f.body args target work here) fine))
+              (subst (λ b. GoesOn W E Outer Passes z debt h0 s0 (enter z.p cost2 n b args target work here)) (sym e) (goes (ltb-false z.p.stack (stack_words z.p.unit fs + frame (shapes z.p.unit) f) fine)))
         ])
       where
         cost2 : Cost
@@ -178,7 +183,7 @@ module _ (runs : RunLaws) (compose : RunsCompose) (W E : Type 0) (Outer : W → 
         test_at : CodeAt z.w k (stack_test sc 29)
         test_at = front z.w k (stack_test sc 29) (its_entry locals stmts) (front z.w k (stack_test sc 29 ++ its_entry locals stmts) (its_body stmts result) code_at)
 
-        fails : z.p.stack < stack_words z.p.unit fs + frame (shapes z.p.unit) f → StepIs W E Outer Passes z debt h0 s0 (Stop cost2 (faulted StackOut) here)
+        fails : z.p.stack < stack_words z.p.unit fs + frame (shapes z.p.unit) f → GoesOn W E Outer Passes z debt h0 s0 (Stop cost2 (faulted StackOut) here)
         fails over =
             let sf = z.stack_fits in
             let sm = z.stack_small in
@@ -192,7 +197,7 @@ module _ (runs : RunLaws) (compose : RunsCompose) (W E : Type 0) (Outer : W → 
               record { objects = objects; stands = stands_in here r.0 refl st.typed refl refl refl st.stack_room (λ x side. ap (λ m. m x) r.1.memory) r.1.special (r.1.others 28 (λ q. absurd (omega (arith, q))) (λ q. absurd (omega (arith, q)))) (r.1.others 30 (λ q. absurd (omega (arith, q))) (λ q. absurd (omega (arith, q)))); at = refl },
             )
 
-        goes : stack_words z.p.unit fs + frame (shapes z.p.unit) f ≤ z.p.stack → StepIs W E Outer Passes z debt h0 s0 (Go (plus cost2 (units (all_words (shapes z.p.unit) (map typed_of locals)))) (push stmts (leave result target ∷ work)) (with_state here (pushed (frame_of locals) (state_of gv hv hw fs))))
+        goes : stack_words z.p.unit fs + frame (shapes z.p.unit) f ≤ z.p.stack → GoesOn W E Outer Passes z debt h0 s0 (Go (plus cost2 (units (all_words (shapes z.p.unit) (map typed_of locals)))) (push stmts (leave result target ∷ work)) (with_state here (pushed (frame_of locals) (state_of gv hv hw fs))))
         goes fine =
             let sf = z.stack_fits in
             let sm = z.stack_small in
@@ -233,11 +238,12 @@ module _ (runs : RunLaws) (compose : RunsCompose) (W E : Type 0) (Outer : W → 
             let block = block_of (text W E Outer Passes z) f (λ at left. Ahead (text W E Outer Passes z) (record { function = f; to = to } ∷ acts) at left (leave result target ∷ work)) stmts kb 0 (kb + length (stmts_code sc (text W E Outer Passes z).links stmts)) debt debt bodies.0 (omega (arith, count)) (λ q. let w : true ≡ false = sym q ∙ form in absurd (cc)) (λ q. ap calls_in e ∙ q)
             (front z.w kb (stmts_code sc (text W E Outer Passes z).links stmts) (return_code sc (are_calling stmts) result) body_at) refl (omega arith)
             (record { test = bodies.1; few = omega (arith, count); code = subst (λ b. CodeAt z.w (kb + length (stmts_code sc (text W E Outer Passes z).links stmts)) (return_code sc b result)) calling result_at }, ahead) in
-            let way1 = on runs z.w Passes l m j 1 7 0 s0 (at_with k c d) (at_with k1 t.0 d) path (away runs z.w Passes 7 (at_with k c d) (at_with k1 t.0 d) (λ q. let ts = test_some in absurd (omega (arith, q, ts))) t.2) in
-            let way2 = on runs z.w Passes (l + 1) (m + 7) (j + 0) fr.least (3 + 3 * length f.params + 3 * all_words (shapes z.p.unit) (map typed_of locals) + 3) 0 s0 (at_with k1 t.0 d) (at_with kb fr.contents d) way1 (subst (λ y. Way runs z.w Passes fr.least (3 + 3 * length f.params + 3 * all_words (shapes z.p.unit) (map typed_of locals) + 3) 0 (at_with k1 t.0 d) (at_with y fr.contents d)) len fr.way) in
+            let way1 = on runs z.w Passes l m j 1 5 0 s0 (at_with k c d) (at_with k1 t.0 d) path (away runs z.w Passes 5 (at_with k c d) (at_with k1 t.0 d) (λ q. let ts = test_some in absurd (omega (arith, q, ts))) t.2) in
+            let way2 = on runs z.w Passes (l + 1) (m + 5) (j + 0) fr.least fr.most 0 s0 (at_with k1 t.0 d) (at_with kb fr.contents d) way1 (subst (λ y. Way runs z.w Passes fr.least fr.most 0 (at_with k1 t.0 d) (at_with y fr.contents d)) len fr.way) in
             let paid = fr.paid in
-            arrives runs compose W E Outer Passes z jumps (l + 1 + fr.least) (m + 7 + (3 + 3 * length f.params + 3 * all_words (shapes z.p.unit) (map typed_of locals) + 3)) (j + 0 + 0) debt debt (plus cost2 (units (all_words (shapes z.p.unit) (map typed_of locals)))) h0 (with_state here (pushed (frame_of locals) (state_of gv hv hw fs))) s0 kb fr.contents d objects
-            (record { function = f; to = to }) acts stmts (leave result target ∷ work) way2 (omega (arith, paid, low_paid)) (omega (arith, high_paid, few)) (omega (arith, en)) st2 (runs_new, waits2) block
+            let price : fr.most ≤ 25 + 30 * all_words (shapes z.p.unit) (map typed_of locals) = entry_price (length f.params) (all_words (shapes z.p.unit) (map typed_of locals)) fr.most few fr.few fr.none in
+            arrives runs compose W E Outer Passes z jumps (l + 1 + fr.least) (m + 5 + fr.most) (j + 0 + 0) debt debt (plus cost2 (units (all_words (shapes z.p.unit) (map typed_of locals)))) h0 (with_state here (pushed (frame_of locals) (state_of gv hv hw fs))) s0 kb fr.contents d objects
+            (record { function = f; to = to }) acts stmts (leave result target ∷ work) way2 (omega (arith, paid, low_paid)) (omega (arith, high_paid, price)) (omega (arith, en)) st2 (runs_new, waits2) block
           where
             returns : (b : Bool) → calls_in f.body ≡ b → (c2 : Contents) → (b ≡ true → c2.memory low ≡ 4 * to) → c2.regs 31 ≡ 4 * to → (if calls_in f.body then c2.memory low else c2.regs 31) ≡ 4 * to
             returns true q c2 h g = ap (λ b. if b then c2.memory low else c2.regs 31) q ∙ h refl
@@ -296,14 +302,14 @@ module _ (runs : RunLaws) (compose : RunsCompose) (W E : Type 0) (Outer : W → 
             (joined_held sc (bases W E Outer Passes z objects (frame_of locals ∷ fs)) (layout_of z.p.unit objects) opened regs 20 (types_of (map typed_of f.params)) (types_of (map typed_of locals)) args (zeros_of (shapes z.p.unit) (map typed_of locals)) first second)
 
     pub enters_light : (l m j k : ℕ) (cost : Cost) (h0 : Configuration W E) (s0 : Machine) (locals : List CDecl) (stmts : CStmts) (result : CExpr) → f.body ≡ code locals stmts result → sc.in_registers ≡ true
-        → Path runs compose W E Outer Passes z jumps l m j s0 (at_with k c d) → CodeAt z.w k (function_code sc (text W E Outer Passes z).links f) → cost.own + 9 ≤ 2048 * (l + 1) → m ≤ 60 * cost.own + 20 → length calls ≡ ended h0 + j
-        → StepIs W E Outer Passes z debt h0 s0 (call_function z.p cost n args target work here)
+        → Path runs compose W E Outer Passes z jumps l m j s0 (at_with k c d) → CodeAt z.w k (function_code sc (text W E Outer Passes z).links f) → cost.own + 9 ≤ 2048 * (l + 1) → m ≤ 30 * cost.own → length calls ≡ ended h0 + j
+        → GoesOn W E Outer Passes z debt h0 s0 (call_function z.p cost n args target work here)
     enters_light l m j k cost h0 s0 locals stmts result e form path there low_paid high_paid en =
-        subst (λ o. StepIs W E Outer Passes z debt h0 s0 (then_go (plus cost (units 1)) here (at_no_cost (ok_or o stuck)) (λ cost g. if nat_lt z.p.stack (stack_words z.p.unit fs + frame (shapes z.p.unit) g) then Stop cost (faulted StackOut) here else enter z.p cost n g.body args target work here))) (sym is)
+        subst (λ o. GoesOn W E Outer Passes z debt h0 s0 (then_go (plus cost (units 1)) here (at_no_cost (ok_or o stuck)) (λ cost g. if nat_lt z.p.stack (stack_words z.p.unit fs + frame (shapes z.p.unit) g) then Stop cost (faulted StackOut) here else enter z.p cost n g.body args target work here))) (sym is)
         (elim (cases_Bool (nat_lt z.p.stack (stack_words z.p.unit fs + frame (shapes z.p.unit) f))) [
-          | inl over ↦ subst (λ t. StepIs W E Outer Passes z debt h0 s0 t) (sym (cond-true (nat_lt z.p.stack (stack_words z.p.unit fs + frame (shapes z.p.unit) f)) (Stop cost2 (faulted StackOut) here) (enter z.p cost2 n f.body args target work here) over)) (fails (ltb-true z.p.stack (stack_words z.p.unit fs + frame (shapes z.p.unit) f) over))
-          | inr fine ↦ subst (λ t. StepIs W E Outer Passes z debt h0 s0 t) (sym (cond-false (nat_lt z.p.stack (stack_words z.p.unit fs + frame (shapes z.p.unit) f)) (Stop cost2 (faulted StackOut) here) (enter z.p cost2 n f.body args target work here) fine))
-              (subst (λ b. StepIs W E Outer Passes z debt h0 s0 (enter z.p cost2 n b args target work here)) (sym e) (goes (ltb-false z.p.stack (stack_words z.p.unit fs + frame (shapes z.p.unit) f) fine)))
+          | inl over ↦ subst (λ t. GoesOn W E Outer Passes z debt h0 s0 t) (sym (cond-true (nat_lt z.p.stack (stack_words z.p.unit fs + frame (shapes z.p.unit) f)) (Stop cost2 (faulted StackOut) here) (enter z.p cost2 n f.body args target work here) over)) (fails (ltb-true z.p.stack (stack_words z.p.unit fs + frame (shapes z.p.unit) f) over))
+          | inr fine ↦ subst (λ t. GoesOn W E Outer Passes z debt h0 s0 t) (sym (cond-false (nat_lt z.p.stack (stack_words z.p.unit fs + frame (shapes z.p.unit) f)) (Stop cost2 (faulted StackOut) here) (enter z.p cost2 n f.body args target work here) fine))
+              (subst (λ b. GoesOn W E Outer Passes z debt h0 s0 (enter z.p cost2 n b args target work here)) (sym e) (goes (ltb-false z.p.stack (stack_words z.p.unit fs + frame (shapes z.p.unit) f) fine)))
         ])
       where
         cost2 : Cost
@@ -315,7 +321,7 @@ module _ (runs : RunLaws) (compose : RunsCompose) (W E : Type 0) (Outer : W → 
         test_at : CodeAt z.w k (stack_test sc 1)
         test_at = front z.w k (stack_test sc 1) (light_entry locals stmts) (front z.w k (stack_test sc 1 ++ light_entry locals stmts) (its_body stmts result) code_at)
 
-        fails : z.p.stack < stack_words z.p.unit fs + frame (shapes z.p.unit) f → StepIs W E Outer Passes z debt h0 s0 (Stop cost2 (faulted StackOut) here)
+        fails : z.p.stack < stack_words z.p.unit fs + frame (shapes z.p.unit) f → GoesOn W E Outer Passes z debt h0 s0 (Stop cost2 (faulted StackOut) here)
         fails over =
             let sf = z.stack_fits in
             let sm = z.stack_small in
@@ -329,7 +335,7 @@ module _ (runs : RunLaws) (compose : RunsCompose) (W E : Type 0) (Outer : W → 
               record { objects = objects; stands = stands_in here r.0 refl st.typed refl refl refl st.stack_room (λ x side. ap (λ m. m x) r.1.memory) r.1.special (r.1.others 28 (λ q. absurd (omega (arith, q))) (λ q. absurd (omega (arith, q)))) (r.1.others 30 (λ q. absurd (omega (arith, q))) (λ q. absurd (omega (arith, q)))); at = refl },
             )
 
-        goes : stack_words z.p.unit fs + frame (shapes z.p.unit) f ≤ z.p.stack → StepIs W E Outer Passes z debt h0 s0 (Go (plus cost2 (units (all_words (shapes z.p.unit) (map typed_of locals)))) (push stmts (leave result target ∷ work)) (with_state here (pushed (frame_of locals) (state_of gv hv hw fs))))
+        goes : stack_words z.p.unit fs + frame (shapes z.p.unit) f ≤ z.p.stack → GoesOn W E Outer Passes z debt h0 s0 (Go (plus cost2 (units (all_words (shapes z.p.unit) (map typed_of locals)))) (push stmts (leave result target ∷ work)) (with_state here (pushed (frame_of locals) (state_of gv hv hw fs))))
         goes fine =
             let sf = z.stack_fits in
             let sm = z.stack_small in
@@ -373,10 +379,10 @@ module _ (runs : RunLaws) (compose : RunsCompose) (W E : Type 0) (Outer : W → 
             let block = block_of (text W E Outer Passes z) f (λ at left. Ahead (text W E Outer Passes z) (record { function = f; to = to } ∷ acts) at left (leave result target ∷ work)) stmts kb 0 (kb + length (stmts_code sc (text W E Outer Passes z).links stmts)) debt debt bodies.0 (omega (arith, count)) (λ q. light.free) (λ q. ap calls_in e ∙ q)
             (front z.w kb (stmts_code sc (text W E Outer Passes z).links stmts) (return_code sc (are_calling stmts) result) body_at) refl (omega arith)
             (record { test = bodies.1; few = omega (arith, count); code = subst (λ b. CodeAt z.w (kb + length (stmts_code sc (text W E Outer Passes z).links stmts)) (return_code sc b result)) calling result_at }, ahead) in
-            let way1 = on runs z.w Passes l m j 1 7 0 s0 (at_with k c d) (at_with k1 t.0 d) path (away runs z.w Passes 7 (at_with k c d) (at_with k1 t.0 d) (λ q. let ts = light_test_some in absurd (omega (arith, q, ts))) t.2) in
-            let way2 = on runs z.w Passes (l + 1) (m + 7) (j + 0) 0 1 0 s0 (at_with k1 t.0 d) (at_with k15 save.0 d) way1 (of runs z.w Passes 1 _ _ save.2) in
-            let way3 = on runs z.w Passes (l + 1 + 0) (m + 7 + 1) (j + 0 + 0) 0 (length locals) 0 s0 (at_with k15 save.0 d) (at_with kb clear.0 d) way2 (of runs z.w Passes (length locals) _ _ (subst (λ y. Reaches z.w (length locals) (at_with k15 save.0 d) (at_with y clear.0 d)) len clear.2)) in
-            arrives runs compose W E Outer Passes z jumps (l + 1 + 0 + 0) (m + 7 + 1 + length locals) (j + 0 + 0 + 0) debt debt (plus cost2 (units (all_words (shapes z.p.unit) (map typed_of locals)))) h0 (with_state here (pushed (frame_of locals) (state_of gv hv hw fs))) s0 kb clear.0 d objects
+            let way1 = on runs z.w Passes l m j 1 5 0 s0 (at_with k c d) (at_with k1 t.0 d) path (away runs z.w Passes 5 (at_with k c d) (at_with k1 t.0 d) (λ q. let ts = light_test_some in absurd (omega (arith, q, ts))) t.2) in
+            let way2 = on runs z.w Passes (l + 1) (m + 5) (j + 0) 0 1 0 s0 (at_with k1 t.0 d) (at_with k15 save.0 d) way1 (of runs z.w Passes 1 _ _ save.2) in
+            let way3 = on runs z.w Passes (l + 1 + 0) (m + 5 + 1) (j + 0 + 0) 0 (length locals) 0 s0 (at_with k15 save.0 d) (at_with kb clear.0 d) way2 (of runs z.w Passes (length locals) _ _ (subst (λ y. Reaches z.w (length locals) (at_with k15 save.0 d) (at_with y clear.0 d)) len clear.2)) in
+            arrives runs compose W E Outer Passes z jumps (l + 1 + 0 + 0) (m + 5 + 1 + length locals) (j + 0 + 0 + 0) debt debt (plus cost2 (units (all_words (shapes z.p.unit) (map typed_of locals)))) h0 (with_state here (pushed (frame_of locals) (state_of gv hv hw fs))) s0 kb clear.0 d objects
             (record { function = f; to = to }) acts stmts (leave result target ∷ work) way3 (omega (arith, low_paid, few, k2, t2, w2)) (omega (arith, high_paid, few, k2, t2, w2)) (omega (arith, en)) st2 (runs_new, waits2) block
           where
             light_returns : (b : Bool) → calls_in f.body ≡ b → (c2 : Contents) → (b ≡ true → c2.memory low ≡ 4 * to) → c2.regs 31 ≡ 4 * to → (if calls_in f.body then c2.memory low else c2.regs 31) ≡ 4 * to

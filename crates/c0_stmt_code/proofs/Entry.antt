@@ -1,6 +1,6 @@
 -- The begin of a function that has a frame, whole.
 use Rattle.std.specs.Prelude.{None, nat_le}
-use Rattle.std.proofs.Common.{◌≡◌, ◌≢◌, inl, inr, ℕ, zero, suc, ◌+◌, ◌-◌, ◌*◌, ◌%◌, ◌^◌, ◌<◌, ◌≤◌, ◌⊎◌, Bool, true, false, List, [], ◌∷◌, ◌++◌, length, refl, sym, ap, ◌∙◌, subst, arith, length-append}
+use Rattle.std.proofs.Common.{◌≡◌, ◌≢◌, inl, inr, ℕ, zero, suc, ◌+◌, ◌-◌, ◌*◌, ◌%◌, ◌^◌, ◌<◌, ◌≤◌, Bool, true, false, List, [], ◌∷◌, ◌++◌, length, refl, sym, ap, ◌∙◌, subst, arith, length-append}
 use Rattle.std.proofs.lemmas.Bool.{cases_Bool, cond-true, cond-false, leb-true}
 use Rattle.mips_table.specs.declared.inst.Inst.{Inst}
 use Rattle.mips_table.specs.declared.inst.Inst.TheVariants.{Addiu, Bne, Sw}
@@ -9,13 +9,14 @@ use Rattle.mips_table.specs.Code.{Contents, reg, with_reg, Behind, World, Sound,
 use Rattle.masm.specs.Says.{Gives}
 use Rattle.masm.specs.Laws.{RunsCompose, StraightRuns, JumpsLead}
 use Rattle.c0_expr_code.specs.Scope.{Scope}
-use Rattle.c0_expr_code.specs.Code.{low, frame_back, on_spot}
+use Rattle.c0_expr_code.specs.Code.{is_near, low, frame_back, on_spot}
 use Rattle.c0_stmt_code.specs.Code.{frame_spot, save_code, params_code, zeros_code, zeros_loop, locals_code}
+use Rattle.c0_stmt_code.specs.Frames.{FrameMade, FramesAreMade}
 use Rattle.c0_stmt_code.proofs.Ways.{Way, on, of, within}
 use Rattle.c0_stmt_code.proofs.Blocks.{front, back}
 use Rattle.c0_stmt_code.proofs.Rooms.{put_same, put_other}
-use Rattle.c0_stmt_code.proofs.Spots.{other_reg, on_place}
-use Rattle.c0_stmt_code.proofs.Frames.{frame_address, Filled, to_frame, params_run, zeros_run, loop_run}
+use Rattle.c0_stmt_code.proofs.Spots.{other_reg, place_steps, few_steps, on_place}
+use Rattle.c0_stmt_code.proofs.Frames.{frame_address, frame_is_near, Filled, to_frame, params_run, zeros_run, loop_run}
 
 module _ (compose : RunsCompose) (w : World) (sound : Sound w) (straight : StraightRuns w) (jumps : JumpsLead w) (runs : RunLaws) (P : Configuration → Configuration → Type 0) (sc : Scope) (e : ℕ) (inside : sc.frame ≤ e) (small : 4 * e < 2 ^ 32) (fits : e ≤ w.words) (free : (x : ℕ) → e - sc.frame ≤ x → x < e → w.kept x ≡ None) where
   abbrev Cleared : (at count : ℕ) → Contents → Contents → Type 0
@@ -27,7 +28,10 @@ module _ (compose : RunsCompose) (w : World) (sound : Sound w) (straight : Strai
     pub cleared : Cleared at count c contents
     pub least : ℕ
     pub paid : count ≤ 8 + least
-    pub way : Way runs w P least (3 * count + 3) 0 (at_with k c d) (at_with to contents d)
+    pub most : ℕ
+    pub few : most ≤ 3 * count + 3
+    pub none : count ≡ 0 → most ≡ 0
+    pub way : Way runs w P least most 0 (at_with k c d) (at_with to contents d)
 
   loop_begins : (i n k : ℕ) (c : Contents) (d : Behind) → d.pending ≡ Idle → i + suc n ≡ sc.frame → c.regs 29 ≡ 4 * e → CodeAt w k (zeros_loop sc i) → LocalsDone ((e - sc.frame) + i) (suc n) k (k + length (zeros_loop sc i)) c d
   loop_begins i n k c d idle sum at code =
@@ -45,7 +49,7 @@ module _ (compose : RunsCompose) (w : World) (sound : Sound w) (straight : Strai
       (first.1.3 29 (λ z. absurd (omega (arith, z))) (λ z. absurd (omega (arith, z))) ∙ at) (back w k (on_spot (λ y x. Addiu 2 y x) 2 (frame_spot sc i)) (Sw 0 2 0 ∷ Addiu 2 2 4 ∷ Bne 2 29 65533 ∷ []) code) in
       let len : k + length (on_spot (λ y x. Addiu 2 y x) 2 (frame_spot sc i)) + 3 ≡ k + length (zeros_loop sc i) = omega (arith, length-append (on_spot (λ y x. Addiu 2 y x) 2 (frame_spot sc i)) (Sw 0 2 0 ∷ Addiu 2 2 4 ∷ Bne 2 29 65533 ∷ [])) in
       let here : k + 0 ≡ k = omega arith in
-      let go : Way runs w P 0 3 0 (at_with k c d) (at_with (k + length (on_spot (λ y x. Addiu 2 y x) 2 (frame_spot sc i))) first.0 d) = of runs w P 3 _ _ (subst (λ m. Reaches w 3 (at_with m c d) (at_with (k + length (on_spot (λ y x. Addiu 2 y x) 2 (frame_spot sc i))) first.0 d)) here first.2) in
+      let go : Way runs w P 0 3 0 (at_with k c d) (at_with (k + length (on_spot (λ y x. Addiu 2 y x) 2 (frame_spot sc i))) first.0 d) = of runs w P 3 _ _ (subst (λ m. Reaches w 3 (at_with m c d) (at_with (k + length (on_spot (λ y x. Addiu 2 y x) 2 (frame_spot sc i))) first.0 d)) here (compose.later w (place_steps (frame_spot sc i)) 3 _ _ (few_steps (frame_spot sc i)) first.2)) in
       record {
         contents = rest.0;
         cleared = record {
@@ -56,6 +60,9 @@ module _ (compose : RunsCompose) (w : World) (sound : Sound w) (straight : Strai
         };
         least = suc n;
         paid = omega arith;
+        most = 3 * suc n + 3;
+        few = omega arith;
+        none = λ e. absurd (omega (arith, e));
         way = within runs w P (0 + suc n) (3 + 3 * suc n) (0 + 0) (suc n) (3 * suc n + 3) 0 (at_with k c d) (at_with (k + length (zeros_loop sc i)) rest.0 d) (omega arith) (omega arith) refl
             (on runs w P 0 3 0 (suc n) (3 * suc n) 0 (at_with k c d) (at_with (k + length (on_spot (λ y x. Addiu 2 y x) 2 (frame_spot sc i))) first.0 d) (at_with (k + length (zeros_loop sc i)) rest.0 d) go (subst (λ m. Way runs w P (suc n) (3 * suc n) 0 (at_with (k + length (on_spot (λ y x. Addiu 2 y x) 2 (frame_spot sc i))) first.0 d) (at_with m rest.0 d)) len rest.2));
       }
@@ -71,7 +78,10 @@ module _ (compose : RunsCompose) (w : World) (sound : Sound w) (straight : Strai
           cleared = r.1;
           least = 0;
           paid = omega (arith, le);
-          way = within runs w P 0 (3 * n) 0 0 (3 * n + 3) 0 (at_with k c d) (at_with (k + length (locals_code sc n i)) r.0 d) (omega arith) (omega arith) refl (of runs w P (3 * n) _ _ (subst (λ is. Reaches w (3 * n) (at_with k c d) (at_with (k + length is) r.0 d)) (sym same) r.2));
+          most = 3 * n;
+          few = omega arith;
+          none = λ e. omega (arith, e);
+          way = of runs w P (3 * n) _ _ (subst (λ is. Reaches w (3 * n) (at_with k c d) (at_with (k + length is) r.0 d)) (sym same) r.2);
         }
     | inr many ↦
         let same : locals_code sc n i ≡ zeros_loop sc i = cond-false (nat_le n 8) (zeros_code sc n i) (zeros_loop sc i) many in
@@ -83,21 +93,16 @@ module _ (compose : RunsCompose) (w : World) (sound : Sound w) (straight : Strai
       by_loop zero many sum code = absurd (cc)
       by_loop (suc n) many sum code = loop_begins i n k c d idle sum at code
 
-  -- the frame as it is made, behind the stack's test
-  pub record FrameMade (calling : Bool) (params locals : ℕ) (c c' : Contents) : Type 0 where
-    pub saved : calling ≡ true → c'.memory (e - sc.frame) ≡ c.regs 31
-    pub arguments : (j : ℕ) → j < params → c'.memory ((e - sc.frame) + 3 + j) ≡ c.regs (20 + j)
-    pub zeros : (j : ℕ) → j < locals → c'.memory ((e - sc.frame) + (3 + params) + j) ≡ 0
-    pub others : (x : ℕ) → (x < e - sc.frame) ⊎ (e ≤ x) → c'.memory x ≡ c.memory x
-    pub special : c'.special ≡ c.special
-    pub regs : (x : ℕ) → x ≢ 1 → x ≢ 2 → c'.regs x ≡ c.regs x
-
+  -- the frame is made, in so many steps; where there are no locals it is near, and its first word takes one
   pub record Framed (calling : Bool) (params locals k to : ℕ) (c : Contents) (d : Behind) : Type 0 where
     pub contents : Contents
-    pub made : FrameMade calling params locals c contents
+    pub made : FrameMade sc e calling params locals c contents
     pub least : ℕ
     pub paid : locals ≤ 8 + least
-    pub way : Way runs w P least (3 + 3 * params + 3 * locals + 3) 0 (at_with k c d) (at_with to contents d)
+    pub most : ℕ
+    pub few : most ≤ 3 + 3 * params + 3 * locals + 3
+    pub none : locals ≡ 0 → most ≤ 1 + 3 * params
+    pub way : Way runs w P least most 0 (at_with k c d) (at_with to contents d)
 
   -- the return address is saved, where that is asked
   record Saved (calling : Bool) (k to : ℕ) (c : Contents) (d : Behind) : Type 0 where
@@ -106,10 +111,13 @@ module _ (compose : RunsCompose) (w : World) (sound : Sound w) (straight : Strai
     others : (x : ℕ) → x ≢ e - sc.frame → contents.memory x ≡ c.memory x
     special : contents.special ≡ c.special
     regs : (x : ℕ) → x ≢ 1 → contents.regs x ≡ c.regs x
-    run : Reaches w 3 (at_with k c d) (at_with to contents d)
+    most : ℕ
+    few : most ≤ 3
+    near : sc.frame ≤ 8192 → most ≤ 1
+    run : Reaches w most (at_with k c d) (at_with to contents d)
 
   saves : (calling : Bool) (k : ℕ) (c : Contents) (d : Behind) → d.pending ≡ Idle → 0 < sc.frame → c.regs 29 ≡ 4 * e → CodeAt w k (save_code sc calling) → Saved calling k (k + length (save_code sc calling)) c d
-  saves false k c d idle some at code = record { contents = c; is = λ q. absurd (cc); others = λ x ne. refl; special = refl; regs = λ x ne. refl; run = subst (λ m. Reaches w 3 (at_with k c d) (at_with m c d)) (omega arith) (compose.later w 0 3 _ _ (omega arith) (compose.none w (at_with k c d))) }
+  saves false k c d idle some at code = record { contents = c; is = λ q. absurd (cc); others = λ x ne. refl; special = refl; regs = λ x ne. refl; most = 0; few = omega arith; near = λ small. omega arith; run = subst (λ m. Reaches w 0 (at_with k c d) (at_with m c d)) (omega arith) (compose.none w (at_with k c d)) }
   saves true k c d idle some at code =
       let r = to_frame compose w sound straight jumps sc e inside small fits free 31 0 k c d idle (λ z. absurd (omega (arith, z))) some at code in
       let here : (e - sc.frame) + 0 ≡ e - sc.frame = omega arith in
@@ -119,6 +127,9 @@ module _ (compose : RunsCompose) (w : World) (sound : Sound w) (straight : Strai
         others = λ x ne. ap (λ m. m x) r.1.memory ∙ put_other c.memory ((e - sc.frame) + 0) (reg c.regs 31) x (λ q. ne (q ∙ here));
         special = r.1.special;
         regs = λ x ne. r.1.others x ne ne;
+        most = place_steps (frame_spot sc 0);
+        few = few_steps (frame_spot sc 0);
+        near = λ small. let one : place_steps (frame_spot sc 0) ≡ 1 = cond-true (is_near (frame_spot sc 0).shift) 1 3 (frame_is_near sc 0 some small) in omega (arith, one);
         run = r.2;
       }
 
@@ -136,8 +147,10 @@ module _ (compose : RunsCompose) (w : World) (sound : Sound w) (straight : Strai
       let three = locals_run locals (3 + params) k2 two.0 d idle sum (two.1.regs 29 (λ z. absurd (omega (arith, z))) (λ z. absurd (omega (arith, z))) ∙ one.regs 29 (λ z. absurd (omega (arith, z))) ∙ at) (back w k1 (params_code sc params 0) (locals_code sc locals (3 + params)) behind) in
       let to : ℕ = k + length (save_code sc calling ++ (params_code sc params 0 ++ locals_code sc locals (3 + params))) in
       let len : k2 + length (locals_code sc locals (3 + params)) ≡ to = omega (arith, length-append (save_code sc calling) (params_code sc params 0 ++ locals_code sc locals (3 + params)), length-append (params_code sc params 0) (locals_code sc locals (3 + params))) in
-      let way12 = on runs w P 0 3 0 0 (3 * params) 0 (at_with k c d) (at_with k1 one.contents d) (at_with k2 two.0 d) (of runs w P 3 _ _ one.run) (of runs w P (3 * params) _ _ two.2) in
-      let way = on runs w P (0 + 0) (3 + 3 * params) (0 + 0) three.least (3 * locals + 3) 0 (at_with k c d) (at_with k2 two.0 d) (at_with (k2 + length (locals_code sc locals (3 + params))) three.contents d) way12 three.way in
+      let way12 = on runs w P 0 one.most 0 0 (3 * params) 0 (at_with k c d) (at_with k1 one.contents d) (at_with k2 two.0 d) (of runs w P one.most _ _ one.run) (of runs w P (3 * params) _ _ two.2) in
+      let few1 = one.few in
+      let few3 = three.few in
+      let way = on runs w P (0 + 0) (one.most + 3 * params) (0 + 0) three.least three.most 0 (at_with k c d) (at_with k2 two.0 d) (at_with (k2 + length (locals_code sc locals (3 + params))) three.contents d) way12 three.way in
       record {
         contents = three.contents;
         made = record {
@@ -155,6 +168,17 @@ module _ (compose : RunsCompose) (w : World) (sound : Sound w) (straight : Strai
         };
         least = three.least;
         paid = three.paid;
-        way = within runs w P (0 + 0 + three.least) (3 + 3 * params + (3 * locals + 3)) (0 + 0 + 0) three.least (3 + 3 * params + 3 * locals + 3) 0 (at_with k c d) (at_with to three.contents d) (omega arith) (omega arith) refl
-            (subst (λ m. Way runs w P (0 + 0 + three.least) (3 + 3 * params + (3 * locals + 3)) (0 + 0 + 0) (at_with k c d) (at_with m three.contents d)) len way);
+        most = one.most + 3 * params + three.most;
+        few = omega (arith, few1, few3);
+        none = λ e. let near = one.near (omega (arith, e, sum, few)) in let nothing = three.none e in omega (arith, near, nothing);
+        way = within runs w P (0 + 0 + three.least) (one.most + 3 * params + three.most) (0 + 0 + 0) three.least (one.most + 3 * params + three.most) 0 (at_with k c d) (at_with to three.contents d) (omega arith) (omega arith) refl
+            (subst (λ m. Way runs w P (0 + 0 + three.least) (one.most + 3 * params + three.most) (0 + 0 + 0) (at_with k c d) (at_with m three.contents d)) len way);
       }
+
+-- the law of the frames' begin
+pub frames_made : (compose : RunsCompose) (w : World) (sound : Sound w) (straight : StraightRuns w) (jumps : JumpsLead w) (runs : RunLaws) → FramesAreMade w
+frames_made compose w sound straight jumps runs sc e has calling params locals k c d idle sum few at code =
+    let fr = frames compose w sound straight jumps runs (λ s t. ⊥) sc e has.inside has.small has.fits has.free calling params locals k c d idle sum few at code in
+    let le = fr.way.high in
+    let most = fr.few in
+    (fr.contents, fr.made, record { steps = fr.way.own; within = omega (arith, le, most); run = fr.way.run })

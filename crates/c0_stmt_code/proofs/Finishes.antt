@@ -24,7 +24,7 @@ use Rattle.c0_expr_code.specs.Bases.{words_of_all, word_at}
 use Rattle.c0_stmt_code.specs.Code.{answer_code, stored_code}
 use Rattle.c0_stmt_code.specs.Setup.{Setup}
 use Rattle.c0_stmt_code.specs.Ahead.{Activation, env_in, IsAnswered, Block, Ahead}
-use Rattle.c0_stmt_code.specs.Standing.{text, scope, bases, end_of, unit_scope, word_of_value, Waiting, Runs, Stands, StepIs}
+use Rattle.c0_stmt_code.specs.Standing.{text, scope, bases, end_of, unit_scope, word_of_value, Waiting, Runs, Stands}
 use Rattle.c0_stmt_code.proofs.Needs.{HeldStays, TypedStays, LengthsFit}
 use Rattle.c0_stmt_code.proofs.Given.{room_from}
 use Rattle.c0_stmt_code.proofs.Held.{word_same}
@@ -33,6 +33,7 @@ use Rattle.c0_stmt_code.proofs.Rooms.{words_by_types}
 use Rattle.c0_stmt_code.proofs.Spots.{same_reg, other_reg}
 use Rattle.c0_stmt_code.proofs.State.{rest_of, standing_at, Exprs}
 use Rattle.c0_stmt_code.proofs.Locals.{IsVariable, its_place, stores_light}
+use Rattle.c0_stmt_code.proofs.Sim.{GoesOn}
 
 module _ (runs : RunLaws) (compose : RunsCompose) (W E : Type 0) (Outer : W → Contents → Behind → Type 0) (Passes : Machine → Machine → Type 0) (z : Setup W E Outer Passes) (jumps : JumpsLead z.w) (straight : StraightRuns z.w)
     (held : HeldStays (shapes z.p.unit)) (typing : TypedStays z.p.unit) (exprs : Exprs W E Outer Passes z) (fit : (f : CFunction) → LengthsFit (scope W E Outer Passes z f))
@@ -79,7 +80,7 @@ module _ (runs : RunLaws) (compose : RunsCompose) (W E : Type 0) (Outer : W → 
 
   pub finishes_light : (place : CExpr) (v : Value) (t : Ty) (x : ℕ) → Fits (shapes z.p.unit) (layout_of z.p.unit objects) t v → c.regs 2 ≡ word_of_value W E Outer Passes z objects v → IsVariable (env_in (text W E Outer Passes z) a.function) sc place x t → (made sc place).stands ≡ Some x
       → IsAnswered (text W E Outer Passes z) a.function place t → CodeAt z.w k (answer_code sc place) → Block (text W E Outer Passes z) a.function (k + length (answer_code sc place)) debt rest (λ to left. Ahead (text W E Outer Passes z) (a ∷ others) to left work)
-      → StepIs W E Outer Passes z debt here (at_with k c d) (store (units 0) place v rest work here)
+      → GoesOn W E Outer Passes z debt here (at_with k c d) (store (units 0) place v rest work here)
   finishes_light place v t x fits is y stands answered code block =
       let at = (its_place runs compose W E Outer Passes z jumps straight held typing exprs fit objects gv hv hw g fs world calls answer c d a others st r waits k debt rest work place t x y).at in
       let nz : x ≢ 0 = λ q. absurd (omega (arith, q, at)) in

@@ -10,16 +10,20 @@ use Rattle.masm.specs.Says.{Gives, Writes}
 use Rattle.masm.specs.Laws.{RunsCompose, StraightRuns, JumpsLead}
 use Rattle.c0_meaning.specs.Operators.{StackOut}
 use Rattle.c0_expr_code.specs.Scope.{Scope}
-use Rattle.c0_expr_code.specs.Code.{low, frame_back, register_of, on_spot}
+use Rattle.c0_expr_code.specs.Code.{is_near, low, frame_back, register_of, on_spot}
 use Rattle.c0_stmt_code.specs.Code.{MAX_STACK, frame_spot, end_code, stack_test, params_code, zeros_code}
 use Rattle.c0_stmt_code.proofs.Ways.{Way, on, of, away, within}
 use Rattle.c0_stmt_code.proofs.Blocks.{front, back}
 use Rattle.c0_stmt_code.proofs.Rooms.{put_same, put_other}
-use Rattle.c0_stmt_code.proofs.Spots.{other_reg, same_read, read_is, on_place, Wrote, writes}
+use Rattle.c0_stmt_code.proofs.Spots.{other_reg, same_read, read_is, place_steps, few_steps, back_is_near, on_place, Wrote, writes}
 
 -- a word of the frame, by its address
 pub frame_address : (sc : Scope) (e i : ℕ) → sc.frame ≤ e → 4 * e < 2 ^ 32 → i ≤ sc.frame → (4 * e + (frame_back sc + 4 * i) % 2 ^ 32) % 2 ^ 32 ≡ 4 * ((e - sc.frame) + i)
 frame_address sc e i inside small le = omega (arith, inside, small, le)
+
+-- the words of a frame that isn't large are near its end
+pub frame_is_near : (sc : Scope) (i : ℕ) → i < sc.frame → sc.frame ≤ 8192 → is_near ((frame_back sc + 4 * i) % 2 ^ 32) ≡ true
+frame_is_near sc i lt few = back_is_near ((frame_back sc + 4 * i) % 2 ^ 32) (omega (arith, lt, few)) (omega arith)
 
 module _ (compose : RunsCompose) (w : World) (sound : Sound w) (straight : StraightRuns w) (jumps : JumpsLead w) where
   -- a jump
@@ -49,7 +53,7 @@ module _ (compose : RunsCompose) (w : World) (sound : Sound w) (straight : Strai
         },
         straight.next (Addiu q y (low (bytes % 2 ^ 32))) (Gives ((4 * e + bytes % 2 ^ 32) % 2 ^ 32)) m a d there refl idle (address ∙ ap (λ v. (v + bytes % 2 ^ 32) % 2 ^ 32) at),
       )) in
-      (r.0, r.1, subst (λ m. Reaches w 3 (at_with m c d) (at_with (k + length (end_code q bytes)) r.0 d)) (omega arith) r.2)
+      (r.0, r.1, subst (λ m. Reaches w 3 (at_with m c d) (at_with (k + length (end_code q bytes)) r.0 d)) (omega arith) (compose.later w (place_steps (record { code = []; base = 29; shift = bytes % 2 ^ 32 })) 3 _ _ (few_steps (record { code = []; base = 29; shift = bytes % 2 ^ 32 })) r.2))
 
   -- the stack's test: it leaves by the exit, or goes on with register q as the new frame's end
   pub record Entered (sc : Scope) (e q : ℕ) (b c : Contents) : Type 0 where
@@ -60,7 +64,7 @@ module _ (compose : RunsCompose) (w : World) (sound : Sound w) (straight : Strai
 
   -- the comparison, in register 1 of which the frame's end may have been
   compared : (sc : Scope) (e s q k : ℕ) (c c1 : Contents) (d : Behind) → d.pending ≡ Idle → q ≢ 0 → q ≢ 30 → c1.regs 30 ≡ 4 * s → e ≤ s → s < 2 ^ 27 → sc.frame ≤ MAX_STACK → Moved e (4 * sc.frame) q c c1 → CodeAt w k (Sltu 1 30 q ∷ Beq 1 0 1 ∷ J (sc.exit StackOut) ∷ [])
-      → ((s < e + sc.frame) → Reaches w 3 (at_with k c1 d) (at_with (sc.exit StackOut) (with_reg c1 1 1) d)) × ((e + sc.frame ≤ s) → Reaches w 3 (at_with k c1 d) (at_with (k + 3) (with_reg c1 1 0) d))
+      → ((s < e + sc.frame) → Reaches w 3 (at_with k c1 d) (at_with (sc.exit StackOut) (with_reg c1 1 1) d)) × ((e + sc.frame ≤ s) → Reaches w 2 (at_with k c1 d) (at_with (k + 3) (with_reg c1 1 0) d))
   compared sc e s q k c c1 d idle qz qs stack_end room small fits moved code =
       let value : reg c1.regs q ≡ 4 * (e + sc.frame) = let i = moved.is in omega (arith, i, room, small, fits) in (
         λ over.
@@ -74,7 +78,7 @@ module _ (compose : RunsCompose) (w : World) (sound : Sound w) (straight : Strai
             let test : flag (nat_lt (reg c1.regs 30) (reg c1.regs q)) ≡ 0 = ap (λ v. flag v) (le-ltb (reg c1.regs 30) (reg c1.regs q) (omega (arith, value, fine, stack_end))) in
             let one = straight.next (Sltu 1 30 q) (Gives 0) k c1 d code.0 refl idle test in
             let two = compose.settled w 1 (k + 1 + 1 + 1) (at_with (k + 1) b d) b d idle (jumps.taken (Beq 1 0 1) (k + 1) 1 true b d code.1.0 refl refl (omega arith)) in
-            compose.later w 2 3 _ _ (omega arith) (compose.joined w 1 1 _ _ _ one (subst (λ m. Reaches w 1 (at_with (k + 1) b d) (at_with m b d)) (omega arith) two)),
+            compose.joined w 1 1 _ _ _ one (subst (λ m. Reaches w 1 (at_with (k + 1) b d) (at_with m b d)) (omega arith) two),
       )
 
   -- what a fault leaves
@@ -84,7 +88,7 @@ module _ (compose : RunsCompose) (w : World) (sound : Sound w) (straight : Strai
     pub others : (x : ℕ) → x ≢ 1 → x ≢ q → c.regs x ≡ b.regs x
 
   pub tested : (sc : Scope) (e s q k : ℕ) (c : Contents) (d : Behind) → d.pending ≡ Idle → q ≢ 0 → q ≢ 30 → c.regs 29 ≡ 4 * e → c.regs 30 ≡ 4 * s → e ≤ s → s < 2 ^ 27 → s ≤ e + MAX_STACK → CodeAt w k (stack_test sc q)
-      → ((s < e + sc.frame) → (c' : Contents) × Left q c c' × Reaches w 7 (at_with k c d) (at_with (sc.exit StackOut) c' d)) × ((e + sc.frame ≤ s) → (c' : Contents) × Entered sc e q c c' × Reaches w 7 (at_with k c d) (at_with (k + length (stack_test sc q)) c' d))
+      → ((s < e + sc.frame) → (c' : Contents) × Left q c c' × Reaches w 7 (at_with k c d) (at_with (sc.exit StackOut) c' d)) × ((e + sc.frame ≤ s) → (c' : Contents) × Entered sc e q c c' × Reaches w 5 (at_with k c d) (at_with (k + length (stack_test sc q)) c' d))
   tested sc e s q k c d idle qz qs at stack_end room small most code = elim (cases_Bool (nat_lt MAX_STACK sc.frame)) [
     | inl large ↦
         let lt = ltb-true MAX_STACK sc.frame large in
@@ -110,7 +114,7 @@ module _ (compose : RunsCompose) (w : World) (sound : Sound w) (straight : Strai
               special = m.1.special;
               others = λ x ne me. other_reg m.0.regs 1 0 x ne ∙ m.1.others x ne me;
             },
-            compose.later w 6 7 _ _ (omega arith) (compose.joined w 3 3 _ _ _ m.2 (subst (λ n. Reaches w 3 (at_with (k + length (end_code q (4 * sc.frame))) m.0 d) (at_with n (with_reg m.0 1 0) d)) len (go.1 fine))),
+            compose.joined w 3 2 _ _ _ m.2 (subst (λ n. Reaches w 2 (at_with (k + length (end_code q (4 * sc.frame))) m.0 d) (at_with n (with_reg m.0 1 0) d)) len (go.1 fine)),
           ),
         )
   ]
@@ -149,11 +153,11 @@ module _ (compose : RunsCompose) (w : World) (sound : Sound w) (straight : Strai
   module _ (sc : Scope) (e : ℕ) (inside : sc.frame ≤ e) (small : 4 * e < 2 ^ 32) (fits : e ≤ w.words) (free : (x : ℕ) → e - sc.frame ≤ x → x < e → w.kept x ≡ None) where
     -- a register goes to a word of the frame
     pub to_frame : (q i k : ℕ) (c : Contents) (d : Behind) → d.pending ≡ Idle → q ≢ 1 → i < sc.frame → c.regs 29 ≡ 4 * e → CodeAt w k (on_spot (λ y x. Sw q y x) 1 (frame_spot sc i))
-        → (c' : Contents) × Wrote compose w straight 1 ((e - sc.frame) + i) (reg c.regs q) c c' × Reaches w 3 (at_with k c d) (at_with (k + length (on_spot (λ y x. Sw q y x) 1 (frame_spot sc i))) c' d)
+        → (c' : Contents) × Wrote compose w straight 1 ((e - sc.frame) + i) (reg c.regs q) c c' × Reaches w (place_steps (frame_spot sc i)) (at_with k c d) (at_with (k + length (on_spot (λ y x. Sw q y x) 1 (frame_spot sc i))) c' d)
     to_frame q i k c d idle qz lt at code =
         let r = writes compose w straight q (frame_spot sc i) 1 k ((e - sc.frame) + i) (reg c.regs q) c d idle (λ z. absurd (omega (arith, z))) (λ z. absurd (omega (arith, z))) qz qz code
         (ap (λ v. (v + (frame_back sc + 4 * i) % 2 ^ 32) % 2 ^ 32) at ∙ frame_address sc e i inside small (omega (arith, lt))) (omega (arith, lt, inside, fits)) (free ((e - sc.frame) + i) (omega arith) (omega (arith, lt, inside))) refl in
-        (r.0, r.1, subst (λ m. Reaches w 3 (at_with m c d) (at_with (k + length (on_spot (λ y x. Sw q y x) 1 (frame_spot sc i))) r.0 d)) (omega arith) r.2)
+        (r.0, r.1, subst (λ m. Reaches w (place_steps (frame_spot sc i)) (at_with m c d) (at_with (k + length (on_spot (λ y x. Sw q y x) 1 (frame_spot sc i))) r.0 d)) (omega arith) r.2)
 
     -- the parameters go to the frame
     pub params_run : (n i k : ℕ) (c : Contents) (d : Behind) → d.pending ≡ Idle → 3 + i + n ≤ sc.frame → i + n ≤ 8 → c.regs 29 ≡ 4 * e → CodeAt w k (params_code sc n i)
@@ -172,7 +176,7 @@ module _ (compose : RunsCompose) (w : World) (sound : Sound w) (straight : Strai
           rest.0,
           subst (λ m. Filled m (suc n) (λ j. c.regs (20 + i + j)) c rest.0) place0 (filled_on ((e - sc.frame) + (3 + i)) n (reg c.regs (register_of i)) (λ j. c.regs (20 + i + j)) c first.0 rest.0 first.1
               (params_moved n i c first.0 rest.0 first.1 few (subst (λ m. Filled m n (λ j. first.0.regs (20 + suc i + j)) first.0 rest.0) place rest.1)) (sym value)),
-          compose.later w (3 + 3 * n) (3 * suc n) _ _ (omega arith) (compose.joined w 3 (3 * n) _ _ _ first.2 (subst (λ m. Reaches w (3 * n) (at_with (k + length (on_spot (λ y x. Sw (register_of i) y x) 1 (frame_spot sc (3 + i)))) first.0 d) (at_with m rest.0 d)) len rest.2)),
+          compose.later w (3 + 3 * n) (3 * suc n) _ _ (omega arith) (compose.joined w 3 (3 * n) _ _ _ (compose.later w (place_steps (frame_spot sc (3 + i))) 3 _ _ (few_steps (frame_spot sc (3 + i))) first.2) (subst (λ m. Reaches w (3 * n) (at_with (k + length (on_spot (λ y x. Sw (register_of i) y x) 1 (frame_spot sc (3 + i)))) first.0 d) (at_with m rest.0 d)) len rest.2)),
         )
       where
         params_moved : (n i : ℕ) (c b r : Contents) → Wrote compose w straight 1 ((e - sc.frame) + (3 + i)) (reg c.regs (register_of i)) c b → i + suc n ≤ 8 → Filled ((e - sc.frame) + (3 + i) + 1) n (λ j. b.regs (20 + suc i + j)) b r → Filled ((e - sc.frame) + (3 + i) + 1) n (λ j. c.regs (20 + i + suc j)) b r
@@ -195,7 +199,7 @@ module _ (compose : RunsCompose) (w : World) (sound : Sound w) (straight : Strai
         let place : (e - sc.frame) + suc i ≡ (e - sc.frame) + i + 1 = omega arith in (
           rest.0,
           filled_on ((e - sc.frame) + i) n 0 (λ j. 0) c first.0 rest.0 first.1 (subst (λ m. Filled m n (λ j. 0) first.0 rest.0) place rest.1) refl,
-          compose.later w (3 + 3 * n) (3 * suc n) _ _ (omega arith) (compose.joined w 3 (3 * n) _ _ _ first.2 (subst (λ m. Reaches w (3 * n) (at_with (k + length (on_spot (λ y x. Sw 0 y x) 1 (frame_spot sc i))) first.0 d) (at_with m rest.0 d)) len rest.2)),
+          compose.later w (3 + 3 * n) (3 * suc n) _ _ (omega arith) (compose.joined w 3 (3 * n) _ _ _ (compose.later w (place_steps (frame_spot sc i)) 3 _ _ (few_steps (frame_spot sc i)) first.2) (subst (λ m. Reaches w (3 * n) (at_with (k + length (on_spot (λ y x. Sw 0 y x) 1 (frame_spot sc i))) first.0 d) (at_with m rest.0 d)) len rest.2)),
         )
 
     -- the locals' words become 0, in a loop: a turn for each

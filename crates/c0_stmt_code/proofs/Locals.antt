@@ -34,7 +34,7 @@ use Rattle.c0_expr_code.specs.Relation.{Gives}
 use Rattle.c0_stmt_code.specs.Code.{calls_in, assign_code, assigned_code}
 use Rattle.c0_stmt_code.specs.Setup.{Setup}
 use Rattle.c0_stmt_code.specs.Ahead.{Activation, env_in, Block, Ahead}
-use Rattle.c0_stmt_code.specs.Standing.{text, scope, bases, end_of, VariablesHeld, Waiting, Runs, UnderWay, Stands, StepIs}
+use Rattle.c0_stmt_code.specs.Standing.{text, scope, bases, end_of, VariablesHeld, Waiting, Runs, UnderWay, Stands}
 use Rattle.c0_stmt_code.proofs.Needs.{HeldStays, TypedStays, LengthsFit, AllScalar}
 use Rattle.c0_stmt_code.proofs.Ways.{none}
 use Rattle.c0_stmt_code.proofs.Rooms.{put_same, put_other}
@@ -45,7 +45,7 @@ use Rattle.c0_stmt_code.proofs.Places.{its_exprs, its_ready}
 use Rattle.c0_stmt_code.proofs.Lights.{each_scalar}
 use Rattle.c0_stmt_code.proofs.CallActs.{stands_soft}
 use Rattle.c0_stmt_code.proofs.Returns.{comes_splits}
-use Rattle.c0_stmt_code.proofs.Sim.{Path, arrives, then_splits}
+use Rattle.c0_stmt_code.proofs.Sim.{GoesOn, Path, arrives, then_splits}
 
 -- a place that stands in a register is a local of a function that keeps its variables there
 pub record IsVariable (env : Env) (sc : Scope) (p : CExpr) (x : ℕ) (t : Ty) : Type 0 where
@@ -166,8 +166,8 @@ module _ (runs : RunLaws) (compose : RunsCompose) (W E : Type 0) (Outer : W → 
     pub special : c1.special ≡ c.special
 
   pub stores_light : (p : CExpr) (t : Ty) (x : ℕ) (w : Value) (l n k1 : ℕ) (cost : Cost) (s : Machine) (c1 : Contents) → IsVariable (env_in (text W E Outer Passes z) a.function) sc p x t → IsTrue (is_scalar t) → Fits (shapes z.p.unit) (layout_of z.p.unit objects) t w → Moved x w c1
-      → Path runs compose W E Outer Passes z jumps l n 0 s (at_with k1 c1 d) → cost.own + 1 ≤ 2048 * l → n ≤ 60 * (cost.own + 1) → Block (text W E Outer Passes z) a.function k1 debt rest (λ to left. Ahead (text W E Outer Passes z) (a ∷ others) to left work)
-      → StepIs W E Outer Passes z debt here s (store cost p w rest work here)
+      → Path runs compose W E Outer Passes z jumps l n 0 s (at_with k1 c1 d) → cost.own + 1 ≤ 2048 * l → n ≤ 30 * (cost.own + 1) → Block (text W E Outer Passes z) a.function k1 debt rest (λ to left. Ahead (text W E Outer Passes z) (a ∷ others) to left work)
+      → GoesOn W E Outer Passes z debt here s (store cost p w rest work here)
   stores_light p t x w l n k1 cost s c1 y scalar fits moved path low high block =
       let place = its_place p t x y in
       let at = place.at in
@@ -202,12 +202,12 @@ module _ (runs : RunLaws) (compose : RunsCompose) (W E : Type 0) (Outer : W → 
         subst (λ m. Waiting W E Outer Passes z objects m others fs) (sym moved.memory) waits,
       ) in
       let go = arrives runs compose W E Outer Passes z jumps l n 0 debt debt (plus cost (units 1)) here (with_state here (write here.state (record { region = locals; path = y.name.number ∷ [] }) w)) s k1 c1 d objects a others rest work path (omega (arith, low)) (omega (arith, high)) (omega arith) st2 under block in
-      subst (λ e. StepIs W E Outer Passes z debt here s (store cost e w rest work here)) (sym y.is)
-      (subst (λ kd. StepIs W E Outer Passes z debt here s (then_go cost here (paying 1 (at_no_cost (variable_location kd y.name.number))) (λ cost l. Go cost (push rest work) (with_state here (write here.state l w))))) (sym y.kind) go)
+      subst (λ e. GoesOn W E Outer Passes z debt here s (store cost e w rest work here)) (sym y.is)
+      (subst (λ kd. GoesOn W E Outer Passes z debt here s (then_go cost here (paying 1 (at_no_cost (variable_location kd y.name.number))) (λ cost l. Go cost (push rest work) (with_state here (write here.state l w))))) (sym y.kind) go)
 
   pub assigns_light : (p v : CExpr) (t : Ty) (x : ℕ) → IsVariable (env_in (text W E Outer Passes z) a.function) sc p x t → IsNumberedLeft (env_in (text W E Outer Passes z) a.function) p t → IsNumberedGiven (env_in (text W E Outer Passes z) a.function) v t → assign_need p v ≤ MAX_NEED
       → nodes p + nodes v + 1 ≤ 2000 → (made sc p).stands ≡ Some x → CodeAt z.w k (assign_code sc p v) → Block (text W E Outer Passes z) a.function (k + length (assign_code sc p v)) debt rest (λ to left. Ahead (text W E Outer Passes z) (a ∷ others) to left work)
-      → StepIs W E Outer Passes z debt here (at_with k c d) (then_go (units 1) here (value_of v here.state) (λ cost w. store cost p w rest work here))
+      → GoesOn W E Outer Passes z debt here (at_with k c d) (then_go (units 1) here (value_of v here.state) (λ cost w. store cost p w rest work here))
   assigns_light p v t x y left given deep few stands code block =
       let at = (its_place p t x y).at in
       let ex = its_exprs runs compose W E Outer Passes z jumps straight held typing exprs objects gv hv hw g fs world calls answer c d a others st r waits in

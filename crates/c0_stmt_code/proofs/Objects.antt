@@ -30,7 +30,7 @@ use Rattle.c0_runtime.specs.Laws.{IsCalled, HeapIs, IsAsked, NewRuns}
 use Rattle.c0_stmt_code.specs.Code.{calls_in, new_code, answer_code}
 use Rattle.c0_stmt_code.specs.Setup.{Setup}
 use Rattle.c0_stmt_code.specs.Ahead.{Activation, env_in, Block, Awaits, Ahead}
-use Rattle.c0_stmt_code.specs.Standing.{text, scope, word_of_value, Waiting, Runs, Stands, StepIs}
+use Rattle.c0_stmt_code.specs.Standing.{text, scope, word_of_value, Waiting, Runs, Stands}
 use Rattle.c0_stmt_code.proofs.Needs.{HeldStays, TypedStays}
 use Rattle.c0_stmt_code.proofs.Ways.{Way, on, of, away}
 use Rattle.c0_stmt_code.proofs.Blocks.{front, back}
@@ -39,6 +39,7 @@ use Rattle.c0_stmt_code.proofs.Spots.{other_reg, same_reg, read_is}
 use Rattle.c0_stmt_code.proofs.Places.{its_exprs, its_ready}
 use Rattle.c0_stmt_code.proofs.CallActs.{stands_soft, calls_to}
 use Rattle.c0_stmt_code.proofs.Grows.{last_there, last_behind, parts_count, under_kept, under_more, stands_more}
+use Rattle.c0_stmt_code.proofs.Sim.{GoesOn}
 
 module _ (runs : RunLaws) (compose : RunsCompose) (W E : Type 0) (Outer : W → Contents → Behind → Type 0) (Passes : Machine → Machine → Type 0) (z : Setup W E Outer Passes) (jumps : JumpsLead z.w) (straight : StraightRuns z.w)
     (held : HeldStays (shapes z.p.unit)) (typing : TypedStays z.p.unit) (exprs : Exprs W E Outer Passes z) (new_runs : NewRuns z.w) (some_words : (t : CTy) → IsDeclarable (shapes z.p.unit) t → 1 ≤ words (shapes z.p.unit) (ty_of t))
@@ -121,7 +122,7 @@ module _ (runs : RunLaws) (compose : RunsCompose) (W E : Type 0) (Outer : W → 
 
   -- there is no room
   refuses : (s : Span) (p : CExpr) (rest : CStmts) (work : List Work) → z.p.heap < hw + size → CodeAt z.w k (new_code sc (text W E Outer Passes z).links size p)
-      → Awaits (text W E Outer Passes z) (a ∷ others) (from + 1) debt (ty.pointer (ty_of t)) (into p rest) work (λ acts to left. Ahead (text W E Outer Passes z) acts to left work) → StepIs W E Outer Passes z debt here (at_with k c d) (Go (units 1) (finish p null rest ∷ work) here)
+      → Awaits (text W E Outer Passes z) (a ∷ others) (from + 1) debt (ty.pointer (ty_of t)) (into p rest) work (λ acts to left. Ahead (text W E Outer Passes z) acts to left work) → GoesOn W E Outer Passes z debt here (at_with k c d) (Go (units 1) (finish p null rest ∷ work) here)
   refuses s p rest work over code ahead =
       let one = asks s p code in
       let two = new_runs.refuses (text W E Outer Passes z).links.new_object (from + 1) hw z.p.heap z.a.heap size one.0 d z.new_object (called one.0 one.1) (heap_is one.0 one.1) (is_asked one.0 one.1) over in
@@ -130,7 +131,7 @@ module _ (runs : RunLaws) (compose : RunsCompose) (W E : Type 0) (Outer : W → 
       let le = way.high in
       let ge = way.low in
       let memory = two.1.words ∙ one.1.memory in
-      let regs : (x : ℕ) → 20 ≤ x → x < 31 → two.0.regs x ≡ c.regs x = λ x l h. keeps.regs x (omega (arith, l)) ∙ one.1.regs x l h in inl (
+      let regs : (x : ℕ) → 20 ≤ x → x < 31 → two.0.regs x ≡ c.regs x = λ x l h. keeps.regs x (omega (arith, l)) ∙ one.1.regs x l h in (
         at_with (from + 1) two.0 d,
         debt,
         record { own = way.own; passes = 0; high = omega (arith, le); low = omega (arith, ge); ended_so = omega arith; run = way.run },
@@ -169,7 +170,7 @@ module _ (runs : RunLaws) (compose : RunsCompose) (W E : Type 0) (Outer : W → 
       omega (arith, before)
 
   makes : (s : Span) (p : CExpr) (rest : CStmts) (work : List Work) → hw + size ≤ z.p.heap → CodeAt z.w k (new_code sc (text W E Outer Passes z).links size p)
-      → Awaits (text W E Outer Passes z) (a ∷ others) (from + 1) debt (ty.pointer (ty_of t)) (into p rest) work (λ acts to left. Ahead (text W E Outer Passes z) acts to left work) → StepIs W E Outer Passes z debt here (at_with k c d) (Go (units (1 + size)) (finish p new_one rest ∷ work) made_here)
+      → Awaits (text W E Outer Passes z) (a ∷ others) (from + 1) debt (ty.pointer (ty_of t)) (into p rest) work (λ acts to left. Ahead (text W E Outer Passes z) acts to left work) → GoesOn W E Outer Passes z debt here (at_with k c d) (Go (units (1 + size)) (finish p new_one rest ∷ work) made_here)
   makes s p rest work room code ahead =
       let one = asks s p code in
       let two = new_runs.makes (text W E Outer Passes z).links.new_object (from + 1) hw z.p.heap z.a.heap size one.0 d z.new_object (called one.0 one.1) (heap_is one.0 one.1) (is_asked one.0 one.1) room in
@@ -185,7 +186,7 @@ module _ (runs : RunLaws) (compose : RunsCompose) (W E : Type 0) (Outer : W → 
       let regs : (x : ℕ) → 20 ≤ x → x < 31 → two.0.regs x ≡ c.regs x = λ x l h. keeps.regs x (omega (arith, l)) ∙ one.1.regs x l h in
       let words_same : (x : ℕ) → x ≢ 1026 → (x < z.a.heap + hw) ⊎ (z.a.heap + hw + size ≤ x) → two.0.memory x ≡ c.memory x = λ x ne side. two.1.others x ne side ∙ ap (λ m. m x) one.1.memory in
       let st2 = stands_more W E Outer Passes z held typing opened objects t declarable gv hv hw (g ∷ fs) world calls answer c two.0 d st room two.1.zeros two.1.used_word words_same (keeps.special ∙ one.1.special) (regs 28 (omega arith) (omega arith)) (regs 30 (omega arith) (omega arith)) in
-      let under = under_kept W E Outer Passes z held typing opened objects c two.0 a others g fs its_calls regs (λ x l. words_same x (λ q. absurd (omega (arith, q, l, hf, gf, lo))) (inr (omega (arith, l, room, hf)))) r waits in inl (
+      let under = under_kept W E Outer Passes z held typing opened objects c two.0 a others g fs its_calls regs (λ x l. words_same x (λ q. absurd (omega (arith, q, l, hf, gf, lo))) (inr (omega (arith, l, room, hf)))) r waits in (
         at_with (from + 1) two.0 d,
         debt,
         record { own = way.own; passes = 0; high = omega (arith, le); low = omega (arith, ge, some); ended_so = omega arith; run = way.run },
@@ -203,10 +204,10 @@ module _ (runs : RunLaws) (compose : RunsCompose) (W E : Type 0) (Outer : W → 
 
   -- the statement
   pub makes_object : (s : Span) (p : CExpr) (rest : CStmts) (work : List Work) → IsNumberedLeft (env_in (text W E Outer Passes z) a.function) p (ty.pointer (ty_of t)) → new_need p ≤ MAX_NEED → nodes p ≤ 2000 → CodeAt z.w k (new_code sc (text W E Outer Passes z).links size p)
-      → Block (text W E Outer Passes z) a.function (k + length (new_code sc (text W E Outer Passes z).links size p)) debt rest (λ to left. Ahead (text W E Outer Passes z) (a ∷ others) to left work) → StepIs W E Outer Passes z debt here (at_with k c d) (allocate z.p (ty_of t) (into p rest) work here)
+      → Block (text W E Outer Passes z) a.function (k + length (new_code sc (text W E Outer Passes z).links size p)) debt rest (λ to left. Ahead (text W E Outer Passes z) (a ∷ others) to left work) → GoesOn W E Outer Passes z debt here (at_with k c d) (allocate z.p (ty_of t) (into p rest) work here)
   makes_object s p rest work left shallow few code block = elim (cases_Bool (nat_lt z.p.heap (hw + size))) [
-    | inl over ↦ subst (λ q. StepIs W E Outer Passes z debt here (at_with k c d) q) (sym (cond-true (nat_lt z.p.heap (hw + size)) refused granted over)) (refuses s p rest work (ltb-true z.p.heap (hw + size) over) code ahead)
-    | inr fine ↦ subst (λ q. StepIs W E Outer Passes z debt here (at_with k c d) q) (sym (cond-false (nat_lt z.p.heap (hw + size)) refused granted fine)) (makes s p rest work (ltb-false z.p.heap (hw + size) fine) code ahead)
+    | inl over ↦ subst (λ q. GoesOn W E Outer Passes z debt here (at_with k c d) q) (sym (cond-true (nat_lt z.p.heap (hw + size)) refused granted over)) (refuses s p rest work (ltb-true z.p.heap (hw + size) over) code ahead)
+    | inr fine ↦ subst (λ q. GoesOn W E Outer Passes z debt here (at_with k c d) q) (sym (cond-false (nat_lt z.p.heap (hw + size)) refused granted fine)) (makes s p rest work (ltb-false z.p.heap (hw + size) fine) code ahead)
   ]
     where
       refused : Step W E

@@ -21,14 +21,14 @@ use Rattle.c0_expr_code.specs.Bases.{Bases, types_in, word_at, word}
 use Rattle.c0_expr_code.specs.Relation.{Ready, Keeps, Leads, Source, nought, its, far}
 use Rattle.c0_stmt_code.specs.Setup.{Setup}
 use Rattle.c0_stmt_code.specs.Ahead.{Activation, env_in, Block, Ahead}
-use Rattle.c0_stmt_code.specs.Standing.{text, scope, bases, Waiting, Runs, Stands, StepIs}
+use Rattle.c0_stmt_code.specs.Standing.{text, scope, bases, Waiting, Runs, Stands}
 use Rattle.c0_stmt_code.proofs.Needs.{ExpressionsDo, HeldStays, TypedStays, types_for}
 use Rattle.c0_stmt_code.proofs.Ways.{on, away}
 use Rattle.c0_stmt_code.proofs.Costs.{place_within}
-use Rattle.c0_stmt_code.proofs.Spots.{spot_front, spot_longer, writes}
+use Rattle.c0_stmt_code.proofs.Spots.{spot_front, spot_longer, place_steps, few_steps, writes}
 use Rattle.c0_stmt_code.proofs.State.{state_of, standing_at, Exprs, ready}
 use Rattle.c0_stmt_code.proofs.Stores.{spot, stored}
-use Rattle.c0_stmt_code.proofs.Sim.{Path, arrives, then_comes}
+use Rattle.c0_stmt_code.proofs.Sim.{GoesOn, Path, arrives, then_comes}
 
 pub source_not_one : (r q : ℕ) → 8 ≤ r → Source r q → q ≢ 1
 source_not_one r _ le nought = λ e. absurd (omega (arith, e))
@@ -63,12 +63,12 @@ module _ (runs : RunLaws) (compose : RunsCompose) (W E : Type 0) (Outer : W → 
 
   -- the store: the place is found with free registers from `free` on, and the value waits in register q
   pub store_in : (n j debt debt' free q k : ℕ) (cost : Cost) (h0 : Configuration W E) (s : Machine) (p : CExpr) (t : Ty) (v : Value) (rest : CStmts) (work : List Work)
-      → Path runs compose W E Outer Passes z jumps 0 n j s (at_with k c d) → n + 3 + debt' ≤ 60 * cost.own + 44 + debt → n ≤ 60 * cost.own + debt → cost.own + nodes p ≤ 2048 → nodes p ≤ 2000 → length calls ≡ ended h0 + j → 8 ≤ free → free + need p ≤ 20 → free < 20
+      → Path runs compose W E Outer Passes z jumps 0 n j s (at_with k c d) → n + 3 + debt' ≤ 30 * cost.own + 14 + debt → n ≤ 30 * cost.own + debt → cost.own + nodes p ≤ 2048 → nodes p ≤ 2000 → length calls ≡ ended h0 + j → 8 ≤ free → free + need p ≤ 20 → free < 20
       → q ≢ 1 → q ≢ free → ((b : Contents) → Keeps free free c b → reg b.regs q ≡ reg c.regs q) → reg c.regs q ≡ word sc (bases W E Outer Passes z objects (g ∷ fs)) v
       → Fits (shapes z.p.unit) (layout_of z.p.unit objects) t v → IsNumberedLeft (env_in (text W E Outer Passes z) a.function) p t → (made sc p).stands ≡ None
       → CodeAt z.w k (on_spot (λ y x. Sw q y x) free ((made sc p).place free))
       → Block (text W E Outer Passes z) a.function (k + length (on_spot (λ y x. Sw q y x) free ((made sc p).place free))) debt' rest (λ to left. Ahead (text W E Outer Passes z) (a ∷ others) to left work)
-      → StepIs W E Outer Passes z debt h0 s (store cost p v rest work here)
+      → GoesOn W E Outer Passes z debt h0 s (store cost p v rest work here)
   store_in n j debt debt' free q k cost h0 s p t v rest work path high early low few en lo need_fits hi qz qr kept holds fits left stands code block =
       let x : Spot = (made sc p).place free in
       let b : Bases = bases W E Outer Passes z objects (g ∷ fs) in
@@ -85,7 +85,7 @@ module _ (runs : RunLaws) (compose : RunsCompose) (W E : Type 0) (Outer : W → 
       let stack = z.stack_fits in
       let wrote = writes compose z.w straight q x free k at its c1 d st.idle (λ e. absurd (omega (arith, e, lo))) (source_not_one free x.base lo runs_p.0) qz qr code found.is (omega (arith, to, stack)) (z.ours at (inl (from, to))) (kept c1 found.keeps ∙ holds) in
       let longer = spot_longer (λ y x. Sw q y x) free x in
-      let go = away runs z.w Passes 3 (at_with (k + length x.code) c1 d) (at_with (k + length (on_spot (λ y x. Sw q y x) free x)) wrote.0 d) (λ e. absurd (omega (arith, e, longer))) wrote.2 in
+      let go = away runs z.w Passes 3 (at_with (k + length x.code) c1 d) (at_with (k + length (on_spot (λ y x. Sw q y x) free x)) wrote.0 d) (λ e. absurd (omega (arith, e, longer))) (compose.later z.w (place_steps x) 3 _ _ (few_steps x) wrote.2) in
       let way = on runs z.w Passes 0 (n + (0 + 16 * u)) j 1 3 0 s _ _ path1 go in
       let done = stored W E Outer Passes z held typing objects gv hv hw g fs world calls answer c d a others st r waits wrote.0 t v (wrote.1.special ∙ found.keeps.special)
       (λ y ge. wrote.1.others y (λ e. absurd (omega (arith, e, ge))) (λ e. absurd (omega (arith, e, ge, hi))) ∙ found.keeps.above y (λ e. absurd (omega (arith, e, ge, hi))) ge) left.scalar fits l.region l.path leads found.standing

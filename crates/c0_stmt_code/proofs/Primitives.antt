@@ -1,5 +1,5 @@
 -- A call of a primitive: the arguments, the jump, the pass, and the answer that waits for its place.
-use Rattle.std.specs.Prelude.{map, slice_get, Option, Some, if◌then◌else◌}
+use Rattle.std.specs.Prelude.{map, slice_get, Option, Some, Ok, if◌then◌else◌}
 use Rattle.std.proofs.Common.{◌≡◌, inl, inr, ℕ, suc, ◌+◌, ◌*◌, ◌<◌, ◌≤◌, true, false, List, [], ◌∷◌, ◌++◌, length, refl, sym, ap, ◌∙◌, subst, arith, length-append}
 use Rattle.mips_table.specs.declared.inst.Inst.{Inst}
 use Rattle.mips_table.specs.declared.inst.Inst.TheVariants.{Jal}
@@ -18,7 +18,7 @@ use Rattle.c0_meaning.specs.Value.{Value, int, bool, null, at, group, Values, em
 use Rattle.c0_meaning.specs.State.{Frame, stack_words}
 use Rattle.c0_meaning.specs.Statement.{MAX_NEED, call_need}
 use Rattle.c0_meaning.specs.Numbered.{IsNumberedLeft, AreNumberedGiven}
-use Rattle.c0_meaning.specs.Evaluation.{values_of}
+use Rattle.c0_meaning.specs.Evaluation.{costs, values_of}
 use Rattle.c0_meaning.specs.World.{units, Configuration, after_call}
 use Rattle.c0_meaning.specs.Running.{into, Work, then_go, call_with}
 use Rattle.c0_meaning.specs.TypedState.{Layout, types_of, Fits, AllFit, layout_of, IsTypedWith, AreScalars}
@@ -27,7 +27,7 @@ use Rattle.c0_expr_code.specs.Bases.{Bases, word, RegionHeld}
 use Rattle.c0_stmt_code.specs.Code.{calls_in, args_code, answer_code}
 use Rattle.c0_stmt_code.specs.Setup.{Setup, ArePassed, scalar_word, Called, Back}
 use Rattle.c0_stmt_code.specs.Ahead.{Activation, env_in, Block, Awaits, Ahead}
-use Rattle.c0_stmt_code.specs.Standing.{text, scope, bases, end_of, unit_scope, AreIn, Waiting, Runs, UnderWay, Stands, StepIs}
+use Rattle.c0_stmt_code.specs.Standing.{text, scope, bases, end_of, unit_scope, AreIn, Waiting, Runs, UnderWay, IsCallOf, Stands, StepIs}
 use Rattle.c0_stmt_code.proofs.Needs.{HeldStays, TypedStays, AllScalar}
 use Rattle.c0_stmt_code.proofs.Ways.{none, on, away}
 use Rattle.c0_stmt_code.proofs.Blocks.{front, back}
@@ -140,11 +140,11 @@ module _ (runs : RunLaws) (compose : RunsCompose) (W E : Type 0) (Outer : W → 
       )
 
   pub calls_primitive : (n : ℕ) (row : CPrimitive) (args : List CExpr) (p : CExpr) (rest : CStmts) (work : List Work) → slice_get z.table n ≡ Some row → AreNumberedGiven (env_in (text W E Outer Passes z) a.function) args (map scalar_ty row.args) → length args ≤ 8
-      → IsNumberedLeft (env_in (text W E Outer Passes z) a.function) p (scalar_ty row.answer) → call_need p args ≤ MAX_NEED → nodes p + args_nodes args + 1 ≤ 2000 → 1 ≤ length (answer_code sc p)
+      → (item : Work) → ((u : ℕ) (vs : Values) → values_of args here.state ≡ costs u (Ok vs) → IsCallOf here item n vs) → IsNumberedLeft (env_in (text W E Outer Passes z) a.function) p (scalar_ty row.answer) → call_need p args ≤ MAX_NEED → nodes p + args_nodes args + 1 ≤ 2000 → 1 ≤ length (answer_code sc p)
       → CodeAt z.w k (args_code sc args 0 ++ (Jal ((text W E Outer Passes z).links.primitive n) ∷ answer_code sc p))
       → Block (text W E Outer Passes z) a.function (k + length (args_code sc args 0 ++ (Jal ((text W E Outer Passes z).links.primitive n) ∷ answer_code sc p))) debt rest (λ to left. Ahead (text W E Outer Passes z) (a ∷ others) to left work)
-      → StepIs W E Outer Passes z debt here (at_with k c d) (then_go (units 1) here (values_of args here.state) (λ cost vs. call_with z.p cost Primitive n vs (into p rest) work here))
-  calls_primitive n row args p rest work is given count left deep few some code block =
+      → StepIs W E Outer Passes z debt item here (at_with k c d) (then_go (units 1) here (values_of args here.state) (λ cost vs. call_with z.p cost Primitive n vs (into p rest) work here))
+  calls_primitive n row args p rest work is given count item its_call left deep few some code block =
       let ex = its_exprs runs compose W E Outer Passes z jumps straight held typing exprs objects gv hv hw g fs world calls answer c d a others st r waits in
       let rd = its_ready runs compose W E Outer Passes z jumps straight held typing exprs objects gv hv hw g fs world calls answer c d a others st r waits in
       let index : ℕ = (text W E Outer Passes z).links.primitive n in
@@ -155,9 +155,9 @@ module _ (runs : RunLaws) (compose : RunsCompose) (W E : Type 0) (Outer : W → 
       (front z.w k (args_code sc args 0) (Jal ((text W E Outer Passes z).links.primitive n) ∷ answer_code sc p) code) in
       let len : k + length (args_code sc args 0 ++ (Jal ((text W E Outer Passes z).links.primitive n) ∷ answer_code sc p)) ≡ k1 + 1 + length (answer_code sc p) = omega (arith, length-append (args_code sc args 0) (Jal ((text W E Outer Passes z).links.primitive n) ∷ answer_code sc p)) in
       let first = first_of z.w (k1 + 1) (answer_code sc p) some jal_at.1 in
-      then_soft runs compose W E Outer Passes z jumps 0 0 0 debt 0 (args_nodes args) (units 1) here here (at_with k c d) a.function k k1 c d objects (InRegisters compose z.w sc (bases W E Outer Passes z objects (g ∷ fs)) 0 (map scalar_ty row.args) c) (values_of args here.state) (λ cost vs. call_with z.p cost Primitive n vs (into p rest) work here)
-      (none runs z.w Passes (at_with k c d)) (omega arith) (omega arith) st (values_within args here.state) run
-      (λ u vs c1 least most q path.
+      then_soft runs compose W E Outer Passes z jumps (StepIs W E Outer Passes z debt item here (at_with k c d)) 0 0 0 debt 0 (args_nodes args) (units 1) here here (at_with k c d) a.function k k1 c d objects (InRegisters compose z.w sc (bases W E Outer Passes z objects (g ∷ fs)) 0 (map scalar_ty row.args) c) (values_of args here.state) (λ cost vs. call_with z.p cost Primitive n vs (into p rest) work here)
+      (none runs z.w Passes (at_with k c d)) (omega arith) (omega arith) st (values_within args here.state) run (λ cost f h stop. stop)
+      (λ u vs c1 same least most q path.
       let c2 : Contents = with_reg c1 31 (4 * (k1 + 1)) in
       let soft = q.soft in
       let keep : (x : ℕ) → 28 ≤ x → x < 31 → (with_reg c1 31 (4 * (k1 + 1))).regs x ≡ c.regs x = λ x le lt. other_reg c1.regs 31 (4 * (k1 + 1)) x (λ e. absurd (omega (arith, e, lt))) ∙ soft.high x le in
@@ -181,6 +181,7 @@ module _ (runs : RunLaws) (compose : RunsCompose) (W E : Type 0) (Outer : W → 
         to = k1 + 1;
         own = way1.own;
         entry = at_with index (with_reg c1 31 (4 * (k1 + 1))) d;
+        calls = its_call u vs same;
         is = is;
         high = omega (arith, le);
         low = omega (arith, ge, most, few);

@@ -1,6 +1,6 @@
 -- A function that has a frame returns, and an answer is stored.
 use Rattle.std.specs.Prelude.{map, Some, None, Ok, Err, if◌then◌else◌}
-use Rattle.std.proofs.Common.{◌≡◌, ◌≢◌, ℕ, ◌+◌, ◌-◌, ◌*◌, ◌%◌, ◌^◌, ◌<◌, ◌≤◌, Bool, true, false, Option, List, [], ◌∷◌, ◌++◌, length, refl, sym, ap, ap₂, ◌∙◌, subst, arith, inl}
+use Rattle.std.proofs.Common.{◌≡◌, ◌≢◌, ℕ, ◌+◌, ◌-◌, ◌*◌, ◌%◌, ◌^◌, ◌<◌, ◌≤◌, Bool, true, false, Option, List, [], ◌∷◌, ◌++◌, length, refl, sym, ap, ap₂, ◌∙◌, subst, arith}
 use Rattle.std.proofs.lemmas.Bool.{cond-true, cond-false}
 use Rattle.mips_table.specs.declared.inst.Inst.{Inst}
 use Rattle.mips_table.specs.declared.inst.Inst.TheVariants.{Lw, Sw, Jr}
@@ -28,7 +28,7 @@ use Rattle.c0_stmt_code.specs.Code.{calls_in, frame_spot, end_code, restore_code
 use Rattle.c0_stmt_code.specs.Setup.{Setup}
 use Rattle.c0_stmt_code.specs.Journey.{Led}
 use Rattle.c0_stmt_code.specs.Ahead.{Activation, IsAnswered, Block, Awaits, ReturnStands, Ahead}
-use Rattle.c0_stmt_code.specs.Standing.{text, scope, bases, end_of, unit_scope, word_of_value, Waiting, Runs, UnderWay, Stands, StepIs}
+use Rattle.c0_stmt_code.specs.Standing.{text, scope, bases, end_of, unit_scope, word_of_value, Waiting, Runs, UnderWay, Stands}
 use Rattle.c0_stmt_code.proofs.Needs.{HeldStays, TypedStays, FunctionsAre, LengthsFit}
 use Rattle.c0_stmt_code.proofs.Ways.{none, on, of}
 use Rattle.c0_stmt_code.proofs.Blocks.{front, back}
@@ -36,10 +36,10 @@ use Rattle.c0_stmt_code.proofs.Costs.{value_within}
 use Rattle.c0_stmt_code.proofs.Held.{word_same}
 use Rattle.c0_stmt_code.proofs.Places.{its_exprs, its_ready, store_in}
 use Rattle.c0_stmt_code.proofs.State.{rest_of, state_of, standing_at, Exprs}
-use Rattle.c0_stmt_code.proofs.Spots.{other_reg, same_reg, read_is, like_read, on_place}
+use Rattle.c0_stmt_code.proofs.Spots.{other_reg, same_reg, read_is, like_read, place_steps, few_steps, on_place}
 use Rattle.c0_stmt_code.proofs.Rooms.{frame_words, frame_on, variables_same}
 use Rattle.c0_stmt_code.proofs.Frames.{frame_address, ends}
-use Rattle.c0_stmt_code.proofs.Sim.{Path, stands_on, then_splits}
+use Rattle.c0_stmt_code.proofs.Sim.{GoesOn, Path, stands_on, then_splits}
 
 -- the way back of a function that has a frame
 module _ (compose : RunsCompose) (w : World) (sound : Sound w) (straight : StraightRuns w) (jumps : JumpsLead w) where
@@ -76,7 +76,7 @@ module _ (compose : RunsCompose) (w : World) (sound : Sound w) (straight : Strai
           straight.next (Lw 31 y (low ((frame_back sc + 4 * 0) % 2 ^ 32))) (Reads (e - sc.frame) (4 * to)) m a d there refl idle
               (address ∙ ap (λ v. (v + (frame_back sc + 4 * 0) % 2 ^ 32) % 2 ^ 32) at ∙ frame_address sc e 0 inside small (omega arith) ∙ omega arith, omega (arith, inside, some, fits), ap (λ f. f (e - sc.frame)) near.memory ∙ is),
         )) in
-        (r.0, r.1, subst (λ m. Reaches w 3 (at_with m c d) (at_with (k + length (restore_code sc true)) r.0 d)) (omega arith) r.2)
+        (r.0, r.1, subst (λ m. Reaches w 3 (at_with m c d) (at_with (k + length (restore_code sc true)) r.0 d)) (omega arith) (compose.later w (place_steps (frame_spot sc 0)) 3 _ _ (few_steps (frame_spot sc 0)) r.2))
 
     pub returns : (calling : Bool) (to k : ℕ) (c : Contents) (d : Behind) → d.pending ≡ Idle → c.regs 29 ≡ 4 * e → (if calling then c.memory (e - sc.frame) else c.regs 31) ≡ 4 * to → CodeAt w k (frame_return sc calling)
         → (c' : Contents) × Returned (e - sc.frame) c c' × Reaches w 7 (at_with k c d) (at_with to c' d)
@@ -180,17 +180,17 @@ module _ (runs : RunLaws) (compose : RunsCompose) (W E : Type 0) (Outer : W → 
   )
 
   -- the answer is handed over
-  delivers : (l m j : ℕ) (cost : Cost) (h0 : Configuration W E) (s0 : Machine) (target : Target) (v : Value) (work : List Work) (t : Ty) (c' : Contents) → Path runs compose W E Outer Passes z jumps l m j s0 (at_with a.to c' d) → cost.own ≤ 2048 * l → m ≤ 60 * cost.own → length calls ≡ ended h0 + j
+  delivers : (l m j : ℕ) (cost : Cost) (h0 : Configuration W E) (s0 : Machine) (target : Target) (v : Value) (work : List Work) (t : Ty) (c' : Contents) → Path runs compose W E Outer Passes z jumps l m j s0 (at_with a.to c' d) → cost.own ≤ 2048 * l → m ≤ 30 * cost.own → length calls ≡ ended h0 + j
       → c'.memory ≡ c.memory → c'.special ≡ c.special → c'.regs 28 ≡ c.regs 28 → c'.regs 30 ≡ c.regs 30 → c'.regs 29 ≡ 4 * end_of W E Outer Passes z fs → Fits (shapes z.p.unit) (layout_of z.p.unit objects) t v → c'.regs 2 ≡ word_of_value W E Outer Passes z objects v
-      → Awaits (text W E Outer Passes z) others a.to debt t target work (λ acts at left. Ahead (text W E Outer Passes z) acts at left work) → StepIs W E Outer Passes z debt h0 s0 (deliver cost target v work there)
+      → Awaits (text W E Outer Passes z) others a.to debt t target work (λ acts at left. Ahead (text W E Outer Passes z) acts at left work) → GoesOn W E Outer Passes z debt h0 s0 (deliver cost target v work there)
   delivers l m j cost h0 s0 target v work t c' path low high en memory special r28 r30 r29 fits is ahead = by_target others fs waits target work ahead refl
     where
       led_to : (h' : Configuration W E) → h'.calls ≡ calls → Led z.w Passes cost.own debt debt h0 h' s0 (at_with a.to c' d)
       led_to h' e = let le = path.high in let ge = path.low in let n = ap length e in record { own = path.own; passes = j; high = omega (arith, le, high); low = omega (arith, ge, low); ended_so = n ∙ en; run = path.run }
 
       by_target : (acts : List Activation) (frames : List Frame) → Waiting W E Outer Passes z objects c.memory acts frames → (target : Target) (work : List Work) → Awaits (text W E Outer Passes z) acts a.to debt t target work (λ acts at left. Ahead (text W E Outer Passes z) acts at left work) → frames ≡ fs
-          → StepIs W E Outer Passes z debt h0 s0 (deliver cost target v work there)
-      by_target (b ∷ more) (q ∷ frames) w (into place rest) work ah e = inl (
+          → GoesOn W E Outer Passes z debt h0 s0 (deliver cost target v work there)
+      by_target (b ∷ more) (q ∷ frames) w (into place rest) work ah e = (
         at_with a.to c' d,
         debt,
         led_to there refl,
@@ -205,7 +205,7 @@ module _ (runs : RunLaws) (compose : RunsCompose) (W E : Type 0) (Outer : W → 
           ahead = ah;
         },
       )
-      by_target [] [] w outward [] ah e = inl (
+      by_target [] [] w outward [] ah e = (
         at_with a.to c' d,
         debt,
         led_to (record there { answer = Some v }) refl,
@@ -228,7 +228,7 @@ module _ (runs : RunLaws) (compose : RunsCompose) (W E : Type 0) (Outer : W → 
   -- a return from a function that has a frame
   pub leaves : (result : CExpr) (target : Target) (work : List Work) → sc.in_registers ≡ false → ReturnStands (text W E Outer Passes z) a.function k result
       → Awaits (text W E Outer Passes z) others a.to debt (ty_of a.function.answer) target work (λ acts at left. Ahead (text W E Outer Passes z) acts at left work)
-      → StepIs W E Outer Passes z debt here (at_with k c d) (then_go (units 0) here (value_of result here.state) (λ cost v. deliver cost target v work there))
+      → GoesOn W E Outer Passes z debt here (at_with k c d) (then_go (units 0) here (value_of result here.state) (λ cost v. deliver cost target v work there))
   leaves result target work form stands ahead =
       let t : Ty = ty_of a.function.answer in
       let ex = its_exprs runs compose W E Outer Passes z jumps straight held typing exprs objects gv hv hw g fs world calls answer c d a others st r waits in
@@ -273,7 +273,7 @@ module _ (runs : RunLaws) (compose : RunsCompose) (W E : Type 0) (Outer : W → 
   -- a return from a function whose variables stand in registers
   pub leaves_light : (result : CExpr) (target : Target) (work : List Work) → sc.in_registers ≡ true → ReturnStands (text W E Outer Passes z) a.function k result
       → Awaits (text W E Outer Passes z) others a.to debt (ty_of a.function.answer) target work (λ acts at left. Ahead (text W E Outer Passes z) acts at left work)
-      → StepIs W E Outer Passes z debt here (at_with k c d) (then_go (units 0) here (value_of result here.state) (λ cost v. deliver cost target v work there))
+      → GoesOn W E Outer Passes z debt here (at_with k c d) (then_go (units 0) here (value_of result here.state) (λ cost v. deliver cost target v work there))
   leaves_light result target work form stands ahead =
       let t : Ty = ty_of a.function.answer in
       let ex = its_exprs runs compose W E Outer Passes z jumps straight held typing exprs objects gv hv hw g fs world calls answer c d a others st r waits in
@@ -317,7 +317,7 @@ module _ (runs : RunLaws) (compose : RunsCompose) (W E : Type 0) (Outer : W → 
   -- an answer goes to a place in memory
   pub finishes : (place : CExpr) (v : Value) (rest : CStmts) (work : List Work) (t : Ty) → Fits (shapes z.p.unit) (layout_of z.p.unit objects) t v → c.regs 2 ≡ word_of_value W E Outer Passes z objects v → (made sc place).stands ≡ None
       → IsAnswered (text W E Outer Passes z) a.function place t → CodeAt z.w k (answer_code sc place) → Block (text W E Outer Passes z) a.function (k + length (answer_code sc place)) debt rest (λ to left. Ahead (text W E Outer Passes z) (a ∷ others) to left work)
-      → StepIs W E Outer Passes z debt here (at_with k c d) (store (units 0) place v rest work here)
+      → GoesOn W E Outer Passes z debt here (at_with k c d) (store (units 0) place v rest work here)
   finishes place v rest work t fits is stands answered code block =
       let same : answer_code sc place ≡ on_spot (λ b y. Sw 2 b y) 8 ((made sc place).place 8) = ap (λ o. stored_code 2 8 o (made sc place).place) stands in
       let shallow = answered.shallow in

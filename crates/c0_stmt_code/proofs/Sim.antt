@@ -9,16 +9,30 @@ use Rattle.c0_meaning.specs.Env.{typed_of}
 use Rattle.c0_meaning.specs.Operators.{faulted, stuck}
 use Rattle.c0_meaning.specs.Evaluation.{Costed, costs}
 use Rattle.c0_meaning.specs.World.{Cost, units, plus, Configuration, ended}
-use Rattle.c0_meaning.specs.Running.{Work, act_on, finish, again, leave, begin, push, Step, Go, then_go}
+use Rattle.c0_meaning.specs.Running.{Work, act_on, finish, again, leave, begin, push, Step, Go, Stop, then_go}
 use Rattle.c0_meaning.specs.TypedState.{types_of}
 use Rattle.c0_expr_code.specs.Bases.{RegionHeld}
 use Rattle.c0_expr_code.specs.Relation.{Keeps, Comes, Splits}
 use Rattle.c0_stmt_code.specs.Setup.{Setup}
+use Rattle.c0_stmt_code.specs.Journey.{Stopped}
 use Rattle.c0_stmt_code.specs.Ahead.{Activation, Block, Ahead}
-use Rattle.c0_stmt_code.specs.Standing.{text, scope, bases, unit_scope, UnderWay, Stands, Simulated, StepIs}
+use Rattle.c0_stmt_code.specs.Standing.{text, scope, bases, unit_scope, UnderWay, Stands, Simulated, AtExit, IsGone, StepIs}
 use Rattle.c0_stmt_code.proofs.Ways.{Way, on, of, away, within}
 use Rattle.c0_stmt_code.proofs.Costs.{Within}
 use Rattle.c0_stmt_code.proofs.Blocks.{taken, behind}
+
+module _ (W E : Type 0) (Outer : W → Contents → Behind → Type 0) (Passes : Machine → Machine → Type 0) (z : Setup W E Outer Passes) where
+  -- what a step comes to that calls no primitive
+  abbrev pub GoesOn : (debt : ℕ) → Configuration W E → Machine → Step W E → Type 0
+  GoesOn debt h s (Go cost work h') = IsGone W E Outer Passes z debt h s cost work h'
+  GoesOn debt h s (Stop cost (faulted f) h') = (t : Machine) × Stopped z.w Passes cost.own debt h h' s t × AtExit W E Outer Passes z f h' t
+  GoesOn debt h s (Stop cost stuck h') = ⊥
+
+  -- it is what the law says of a step, whatever the work item is
+  pub goes_on : (debt : ℕ) (item : Work) (h : Configuration W E) (s : Machine) (step : Step W E) → GoesOn debt h s step → StepIs W E Outer Passes z debt item h s step
+  goes_on debt item h s (Go cost work h') g = inl g
+  goes_on debt item h s (Stop cost (faulted f) h') g = g
+  goes_on debt item h s (Stop cost stuck h') g = absurd g
 
 module _ (runs : RunLaws) (compose : RunsCompose) (W E : Type 0) (Outer : W → Contents → Behind → Type 0) (Passes : Machine → Machine → Type 0) (z : Setup W E Outer Passes) (jumps : JumpsLead z.w) where
   abbrev pub Path : (least most passes : ℕ) → Machine → Machine → Type 0
@@ -60,8 +74,8 @@ module _ (runs : RunLaws) (compose : RunsCompose) (W E : Type 0) (Outer : W → 
 
   -- a step is done where the next statements stand
   pub arrives : (l n j debt debt' : ℕ) (cost : Cost) (h h' : Configuration W E) (s : Machine) (k : ℕ) (c : Contents) (d : Behind) (objects : List Ty) (a : Activation) (others : List Activation) (rest : CStmts) (work : List Work)
-      → Path l n j s (at_with k c d) → cost.own ≤ 2048 * l → n + debt' ≤ 60 * cost.own + debt → ended h' ≡ ended h + j → Standing objects h' c d → UnderWay W E Outer Passes z objects c (a ∷ others) h'.state.frames
-      → Block (text W E Outer Passes z) a.function k debt' rest (λ to left. Ahead (text W E Outer Passes z) (a ∷ others) to left work) → StepIs W E Outer Passes z debt h s (Go cost (push rest work) h')
+      → Path l n j s (at_with k c d) → cost.own ≤ 2048 * l → n + debt' ≤ 30 * cost.own + debt → ended h' ≡ ended h + j → Standing objects h' c d → UnderWay W E Outer Passes z objects c (a ∷ others) h'.state.frames
+      → Block (text W E Outer Passes z) a.function k debt' rest (λ to left. Ahead (text W E Outer Passes z) (a ∷ others) to left work) → GoesOn W E Outer Passes z debt h s (Go cost (push rest work) h')
   arrives l n j debt debt' cost h h' s k c d objects a others rest work path low high en st under block =
       let b = behind (text W E Outer Passes z) a others k debt' rest work block in
       let owed : debt' ≡ b.count + b.left = b.owed in
@@ -69,12 +83,12 @@ module _ (runs : RunLaws) (compose : RunsCompose) (W E : Type 0) (Outer : W → 
       let way = within runs z.w Passes (l + 0) (n + b.count) (j + 0) l (n + b.count) j s (at_with b.to c d) (omega arith) (omega arith) (omega arith) (on runs z.w Passes l n j 0 b.count 0 s (at_with k c d) (at_with b.to c d) path go) in
       let le = way.high in
       let ge = way.low in
-      inl (at_with b.to c d, b.left, record { own = way.own; passes = j; high = omega (arith, le, high, owed); low = omega (arith, ge, low); ended_so = en; run = way.run }, simulated b.left (push rest work) h' b.to c d objects a others st under b.ahead)
+      (at_with b.to c d, b.left, record { own = way.own; passes = j; high = omega (arith, le, high, owed); low = omega (arith, ge, low); ended_so = en; run = way.run }, simulated b.left (push rest work) h' b.to c d objects a others st under b.ahead)
 
   -- an evaluation on the way of a step: it leads on, or the step stops at its fault's exit
   pub then_comes : {A : Type 0} (l n j own debt lo hi : ℕ) (cost : Cost) (h h0 : Configuration W E) (s : Machine) (f : CFunction) (from to : ℕ) (c : Contents) (d : Behind) (objects : List Ty) (Q : A → Contents → Type 0) (e : Costed A) (go : Cost → A → Step W E)
-      → Path l n j s (at_with from c d) → n + own ≤ 60 * cost.own + debt → ended h ≡ ended h0 + j → Standing objects h c d → Within lo hi e → Comes z.w (scope W E Outer Passes z f) own from to c d Q e
-      → ((k : ℕ) (x : A) (c' : Contents) → lo ≤ k → k ≤ hi → Q x c' → Path l (n + (own + 16 * k)) j s (at_with to c' d) → StepIs W E Outer Passes z debt h0 s (go (plus cost (units k)) x)) → StepIs W E Outer Passes z debt h0 s (then_go cost h e go)
+      → Path l n j s (at_with from c d) → n + own ≤ 30 * cost.own + debt → ended h ≡ ended h0 + j → Standing objects h c d → Within lo hi e → Comes z.w (scope W E Outer Passes z f) own from to c d Q e
+      → ((k : ℕ) (x : A) (c' : Contents) → lo ≤ k → k ≤ hi → Q x c' → Path l (n + (own + 16 * k)) j s (at_with to c' d) → GoesOn W E Outer Passes z debt h0 s (go (plus cost (units k)) x)) → GoesOn W E Outer Passes z debt h0 s (then_go cost h e go)
   then_comes l n j own debt lo hi cost h h0 s f from to c d objects Q (costs k (Ok x)) go path high en st bounds comes next =
       next k x comes.0 bounds.0 bounds.1 comes.1 (within runs z.w Passes (l + 0) (n + (own + 16 * k)) (j + 0) l (n + (own + 16 * k)) j s (at_with to comes.0 d) (omega arith) (omega arith) (omega arith) (on runs z.w Passes l n j 0 (own + 16 * k) 0 s (at_with from c d) (at_with to comes.0 d) path (of runs z.w Passes (own + 16 * k) _ _ comes.2)))
   then_comes l n j own debt lo hi cost h h0 s f from to c d objects Q (costs k (Err (faulted x))) go path high en st bounds comes next =
@@ -86,8 +100,8 @@ module _ (runs : RunLaws) (compose : RunsCompose) (W E : Type 0) (Outer : W → 
 
   -- a test on the way of a step
   pub then_splits : {A : Type 0} (l n j own debt lo hi : ℕ) (cost : Cost) (h h0 : Configuration W E) (s : Machine) (f : CFunction) (from : ℕ) (to : A → ℕ) (c : Contents) (d : Behind) (objects : List Ty) (Q : A → Contents → Type 0) (e : Costed A) (go : Cost → A → Step W E) → ((x : A) → from ≢ to x)
-      → Path l n j s (at_with from c d) → n + own ≤ 60 * cost.own + debt → ended h ≡ ended h0 + j → Standing objects h c d → Within lo hi e → Splits z.w (scope W E Outer Passes z f) own from to c d Q e
-      → ((k : ℕ) (x : A) (c' : Contents) → lo ≤ k → k ≤ hi → Q x c' → Path (l + 1) (n + (own + 16 * k)) j s (at_with (to x) c' d) → StepIs W E Outer Passes z debt h0 s (go (plus cost (units k)) x)) → StepIs W E Outer Passes z debt h0 s (then_go cost h e go)
+      → Path l n j s (at_with from c d) → n + own ≤ 30 * cost.own + debt → ended h ≡ ended h0 + j → Standing objects h c d → Within lo hi e → Splits z.w (scope W E Outer Passes z f) own from to c d Q e
+      → ((k : ℕ) (x : A) (c' : Contents) → lo ≤ k → k ≤ hi → Q x c' → Path (l + 1) (n + (own + 16 * k)) j s (at_with (to x) c' d) → GoesOn W E Outer Passes z debt h0 s (go (plus cost (units k)) x)) → GoesOn W E Outer Passes z debt h0 s (then_go cost h e go)
   then_splits l n j own debt lo hi cost h h0 s f from to c d objects Q (costs k (Ok x)) go apart path high en st bounds comes next =
       next k x comes.0 bounds.0 bounds.1 comes.1 (within runs z.w Passes (l + 1) (n + (own + 16 * k)) (j + 0) (l + 1) (n + (own + 16 * k)) j s (at_with (to x) comes.0 d) (omega arith) (omega arith) (omega arith) (on runs z.w Passes l n j 1 (own + 16 * k) 0 s (at_with from c d) (at_with (to x) comes.0 d) path (away runs z.w Passes (own + 16 * k) (at_with from c d) (at_with (to x) comes.0 d) (apart x) comes.2)))
   then_splits l n j own debt lo hi cost h h0 s f from to c d objects Q (costs k (Err (faulted x))) go apart path high en st bounds comes next =

@@ -1,6 +1,6 @@
 -- An instruction on a place, near or far, and what instructions do to registers.
 use Rattle.std.specs.Prelude.{if◌then◌else◌}
-use Rattle.std.proofs.Common.{◌≡◌, ◌≢◌, inl, inr, ℕ, ◌+◌, ◌-◌, ◌*◌, ◌/◌, ◌%◌, ◌^◌, ◌<◌, nat_lt, nat_eq, Some, None, [], ◌∷◌, ◌++◌, length, refl, ap, ◌∙◌, subst, arith, eq-eqb, ne_eqb, eqb-true, length-append}
+use Rattle.std.proofs.Common.{◌≡◌, ◌≢◌, inl, inr, ℕ, ◌+◌, ◌-◌, ◌*◌, ◌/◌, ◌%◌, ◌^◌, ◌<◌, ◌≤◌, true, nat_lt, nat_eq, Some, None, [], ◌∷◌, ◌++◌, length, refl, sym, ap, ◌∙◌, subst, arith, le-ltb, eq-eqb, ne_eqb, eqb-true, length-append}
 use Rattle.std.proofs.lemmas.Bool.{cases_Bool, cases_eq, cond-true, cond-false, ltb-true, ltb-false}
 use Rattle.mips_table.specs.declared.inst.Inst.{Inst}
 use Rattle.mips_table.specs.declared.inst.Inst.TheVariants.{Lui, Addu, Sw}
@@ -54,18 +54,33 @@ spot_longer i r x = elim (cases_Bool (is_near x.shift)) [
 pub spot_front : (w : World) (n : ℕ) (i : ℕ → ℕ → Inst) (r : ℕ) (x : Spot) → CodeAt w n (on_spot i r x) → CodeAt w n x.code
 spot_front w n i r x code = front w n x.code (if is_near x.shift then i x.base (low x.shift) ∷ [] else Lui 1 (high x.shift) ∷ Addu r x.base 1 ∷ i r (low x.shift) ∷ []) code
 
+-- how many steps an instruction on a place takes, behind the place's own code
+abbrev pub place_steps : Spot → ℕ
+place_steps x = if is_near x.shift then 1 else 3
+
+pub few_steps : (x : Spot) → place_steps x ≤ 3
+few_steps x = elim (cases_Bool (is_near x.shift)) [
+  | inl e ↦ let one : place_steps x ≡ 1 = cond-true (is_near x.shift) 1 3 e in omega (arith, one)
+  | inr e ↦ let three : place_steps x ≡ 3 = cond-false (is_near x.shift) 1 3 e in omega (arith, three)
+]
+
+-- a distance of few bytes back is near
+pub back_is_near : (k : ℕ) → 2 ^ 32 - 2 ^ 15 ≤ k → k < 2 ^ 32 → is_near k ≡ true
+back_is_near k le lt = eq-eqb (extended (low k)) k (cond-false (nat_lt (k % 2 ^ 16) (2 ^ 15)) (k % 2 ^ 16) (k % 2 ^ 16 + (2 ^ 32 - 2 ^ 16)) (le-ltb (k % 2 ^ 16) (2 ^ 15) (omega (arith, le, lt))) ∙ omega (arith, le, lt))
+
 module _ (compose : RunsCompose) (w : World) (straight : StraightRuns w) where
   -- an instruction on a place, where it is known what it does at the place's address
   pub on_place : (P : Contents → Type 0) (i : ℕ → ℕ → Inst) (x : Spot) (r n : ℕ) (b : Contents) (k : Behind) → k.pending ≡ Idle → r ≢ 0 → x.base ≢ 1 → CodeAt w n (on_spot i r x)
       → ((q m : ℕ) (a : Contents) → w.code m ≡ Some (i q (low x.shift)) → Near r b a → sum (reg a.regs q) (extended (low x.shift)) ≡ (reg b.regs x.base + x.shift) % 2 ^ 32 → (c : Contents) × P c × Reaches w 1 (at_with m a k) (at_with (m + 1) c k))
-      → (c : Contents) × P c × Reaches w 3 (at_with (n + length x.code) b k) (at_with (n + length (on_spot i r x)) c k)
+      → (c : Contents) × P c × Reaches w (place_steps x) (at_with (n + length x.code) b k) (at_with (n + length (on_spot i r x)) c k)
   on_place P i x r n b k idle rz bz code law = elim (cases_Bool (is_near x.shift)) [
     | inl e ↦
         let same : on_spot i r x ≡ x.code ++ (i x.base (low x.shift) ∷ []) = ap (λ is. x.code ++ is) (cond-true (is_near x.shift) (i x.base (low x.shift) ∷ []) (Lui 1 (high x.shift) ∷ Addu r x.base 1 ∷ i r (low x.shift) ∷ []) e) in
         let there = back w n x.code (i x.base (low x.shift) ∷ []) (subst (CodeAt w n) same code) in
         let run = law x.base (n + length x.code) b there.0 (record { memory = refl; special = refl; others = λ y ne me. refl }) (ap (sum (reg b.regs x.base)) (eqb-true (extended (low x.shift)) x.shift e)) in
         let len : n + length x.code + 1 ≡ n + length (on_spot i r x) = omega (arith, ap length same, length-append x.code (i x.base (low x.shift) ∷ [])) in
-        (run.0, run.1, subst (λ t. Reaches w 3 (at_with (n + length x.code) b k) (at_with t run.0 k)) len (compose.later w 1 3 _ _ (omega arith) run.2))
+        let one : place_steps x ≡ 1 = cond-true (is_near x.shift) 1 3 e in
+        (run.0, run.1, subst (λ t. Reaches w (place_steps x) (at_with (n + length x.code) b k) (at_with t run.0 k)) len (subst (λ y. Reaches w y (at_with (n + length x.code) b k) (at_with (n + length x.code + 1) run.0 k)) (sym one) run.2))
     | inr e ↦
         let same : on_spot i r x ≡ x.code ++ (Lui 1 (high x.shift) ∷ Addu r x.base 1 ∷ i r (low x.shift) ∷ []) = ap (λ is. x.code ++ is) (cond-false (is_near x.shift) (i x.base (low x.shift) ∷ []) (Lui 1 (high x.shift) ∷ Addu r x.base 1 ∷ i r (low x.shift) ∷ []) e) in
         let there = back w n x.code (Lui 1 (high x.shift) ∷ Addu r x.base 1 ∷ i r (low x.shift) ∷ []) (subst (CodeAt w n) same code) in
@@ -78,7 +93,8 @@ module _ (compose : RunsCompose) (w : World) (straight : StraightRuns w) where
         let address : sum (reg b2.regs r) (extended (low x.shift)) ≡ (reg b.regs x.base + x.shift) % 2 ^ 32 = ap (λ y. sum y (extended (low x.shift))) (same_read b1.regs r (sum (reg b.regs x.base) (high x.shift * 2 ^ 16)) rz) ∙ far_is x.shift (reg b.regs x.base) in
         let run = law r (n + length x.code + 1 + 1) b2 there.1.1.0 (record { memory = refl; special = refl; others = λ y ne me. other_reg b1.regs r (sum (reg b.regs x.base) (high x.shift * 2 ^ 16)) y me ∙ other_reg b.regs 1 (high x.shift * 2 ^ 16) y ne }) address in
         let len : n + length x.code + 1 + 1 + 1 ≡ n + length (on_spot i r x) = omega (arith, ap length same, length-append x.code (Lui 1 (high x.shift) ∷ Addu r x.base 1 ∷ i r (low x.shift) ∷ [])) in
-        (run.0, run.1, subst (λ t. Reaches w 3 (at_with (n + length x.code) b k) (at_with t run.0 k)) len (compose.joined w 1 2 _ _ _ one (compose.joined w 1 1 _ _ _ two run.2)))
+        let three : place_steps x ≡ 3 = cond-false (is_near x.shift) 1 3 e in
+        (run.0, run.1, subst (λ t. Reaches w (place_steps x) (at_with (n + length x.code) b k) (at_with t run.0 k)) len (compose.later w 3 (place_steps x) _ _ (omega (arith, three)) (compose.joined w 1 2 _ _ _ one (compose.joined w 1 1 _ _ _ two run.2))))
   ]
 
   -- a word is stored at a place, and a register and register 1 are changed
@@ -88,7 +104,7 @@ module _ (compose : RunsCompose) (w : World) (straight : StraightRuns w) where
     pub others : (x : ℕ) → x ≢ 1 → x ≢ r → c.regs x ≡ b.regs x
 
   pub writes : (q : ℕ) (x : Spot) (r n a v : ℕ) (b : Contents) (k : Behind) → k.pending ≡ Idle → r ≢ 0 → x.base ≢ 1 → q ≢ 1 → q ≢ r → CodeAt w n (on_spot (λ y z. Sw q y z) r x) → (reg b.regs x.base + x.shift) % 2 ^ 32 ≡ 4 * a → a < w.words → w.kept a ≡ None → reg b.regs q ≡ v
-      → (c : Contents) × Wrote r a v b c × Reaches w 3 (at_with (n + length x.code) b k) (at_with (n + length (on_spot (λ y z. Sw q y z) r x)) c k)
+      → (c : Contents) × Wrote r a v b c × Reaches w (place_steps x) (at_with (n + length x.code) b k) (at_with (n + length (on_spot (λ y z. Sw q y z) r x)) c k)
   writes q x r n a v b k idle rz bz qz qr code is inside kept holds =
       on_place (Wrote r a v b) (λ y z. Sw q y z) x r n b k idle rz bz code
       (λ y m e there near address. (

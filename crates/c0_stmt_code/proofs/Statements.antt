@@ -25,7 +25,7 @@ use Rattle.c0_expr_code.specs.Relation.{Ready, Keeps, Gives, Source, nought, its
 use Rattle.c0_stmt_code.specs.Code.{Links, are_calling, calls_in, skip, assigned_code, assign_code, otherwise, otherwise_at, choice_code, back, turn_code, while_code, stmt_code, stmts_code}
 use Rattle.c0_stmt_code.specs.Setup.{Setup}
 use Rattle.c0_stmt_code.specs.Ahead.{Activation, env_in, Skips, Block, LoopStands, Ahead}
-use Rattle.c0_stmt_code.specs.Standing.{text, scope, bases, Waiting, Runs, Stands, StepIs}
+use Rattle.c0_stmt_code.specs.Standing.{text, scope, bases, Waiting, Runs, Stands}
 use Rattle.c0_stmt_code.proofs.Needs.{ExpressionsDo, HeldStays, TypedStays, LengthsFit}
 use Rattle.c0_stmt_code.proofs.Ways.{none}
 use Rattle.c0_stmt_code.proofs.Blocks.{or_left, or_right, front, skipped, Follows, behind, block_of}
@@ -35,7 +35,7 @@ use Rattle.c0_stmt_code.proofs.Lengths.{stmts_length, stmt_some}
 use Rattle.c0_stmt_code.proofs.Places.{source_not_one, keeps_low, its_exprs, its_ready, store_in}
 use Rattle.c0_stmt_code.proofs.State.{state_of, standing_at, Exprs, under_on}
 use Rattle.c0_stmt_code.proofs.Spots.{like_read}
-use Rattle.c0_stmt_code.proofs.Sim.{Path, stands_on, arrives, then_comes, then_splits}
+use Rattle.c0_stmt_code.proofs.Sim.{GoesOn, Path, stands_on, arrives, then_comes, then_splits}
 
 -- the greater of two
 max_left : (a b c : ℕ) → max a b ≤ c → a ≤ c
@@ -98,7 +98,7 @@ module _ (runs : RunLaws) (compose : RunsCompose) (W E : Type 0) (Outer : W → 
   -- an assignment to a place in memory
   pub assigns : (p v : CExpr) (t : Ty) → IsNumberedLeft (env_in (text W E Outer Passes z) a.function) p t → IsNumberedGiven (env_in (text W E Outer Passes z) a.function) v t → assign_need p v ≤ MAX_NEED → nodes p + nodes v + 1 ≤ 2000
       → (made sc p).stands ≡ None → CodeAt z.w k (assign_code sc p v) → Behind_it (k + length (assign_code sc p v)) debt
-      → StepIs W E Outer Passes z debt here s (then_go (units 1) here (value_of v here.state) (λ cost x. store cost p x rest work here))
+      → GoesOn W E Outer Passes z debt here s (then_go (units 1) here (value_of v here.state) (λ cost x. store cost p x rest work here))
   assigns p v t left given need_fits few stands code block =
       let op : List Inst = operand_code (made sc v) 8 in
       let q : ℕ = operand_register (made sc v) 8 in
@@ -136,7 +136,7 @@ module _ (runs : RunLaws) (compose : RunsCompose) (W E : Type 0) (Outer : W → 
 
   pub chooses : (t : CExpr) (x y : CStmts) → IsNumberedTest (env_in (text W E Outer Passes z) a.function) t bool → AreNumbered (env_in (text W E Outer Passes z) a.function) x → AreNumbered (env_in (text W E Outer Passes z) a.function) y
       → nodes t + stmts_nodes x + stmts_nodes y + 1 ≤ 2000 → (sc.in_registers ≡ true → IsTrue (are_free_of_calls x && are_free_of_calls y)) → (IsTrue (are_calling x || are_calling y) → calls_in a.function.body ≡ true) → CodeAt z.w k (choice_code sc t y (its_stmts x) (its_stmts y)) → Behind_it (k + length (choice_code sc t y (its_stmts x) (its_stmts y))) debt
-      → StepIs W E Outer Passes z debt here s (then_go (units 1) here (truth (value_of t here.state)) (λ cost b. Go cost (push (if b then x else y) (push rest work)) here))
+      → GoesOn W E Outer Passes z debt here s (then_go (units 1) here (truth (value_of t here.state)) (λ cost b. Go cost (push (if b then x else y) (push rest work)) here))
   chooses t x y test tx ty few free its_calls code block =
       let end : ℕ = k + length (its_test t false (far_of x y)) in
       let f = fit a.function in
@@ -168,7 +168,7 @@ module _ (runs : RunLaws) (compose : RunsCompose) (W E : Type 0) (Outer : W → 
           → Path runs compose W E Outer Passes z jumps (0 + 1) (0 + (1 + 16 * u)) 0 s (at_with (ends false (k + length (its_test t false (far_of x y)) + (yes_words x + otherwise_at y)) (k + length (its_test t false (far_of x y))) b) c1 d)
           → CodeAt z.w (k + length (its_test t false (far_of x y))) (its_stmts x ++ otherwise y (its_stmts y))
           → length (its_test t false (far_of x y)) ≤ 15 * nodes t → length (its_stmts x) ≤ 16 * stmts_nodes x → otherwise_at y ≤ 1
-          → StepIs W E Outer Passes z debt here s (Go (plus (units 1) (units u)) (push (if b then x else y) (push rest work)) here)
+          → GoesOn W E Outer Passes z debt here s (Go (plus (units 1) (units u)) (push (if b then x else y) (push rest work)) here)
       branches true u c1 least most kept path1 there l1 l2 at =
           let end : ℕ = k + length (its_test t false (far_of x y)) in
           let keeps = keeps_low 8 c c1 (omega arith) kept in
@@ -207,7 +207,7 @@ module _ (runs : RunLaws) (compose : RunsCompose) (W E : Type 0) (Outer : W → 
   body_at (next q w) from = from + 1
 
   pub turns : (from first extra : ℕ) (s0 : Machine) (t : CExpr) (x : CStmts) → LoopStands (text W E Outer Passes z) a.function from t x → Behind_it (from + length (its_loop t x)) debt → 1 ≤ extra → extra ≤ 2 → first ≤ 1
-      → Path runs compose W E Outer Passes z jumps 0 first 0 s0 (at_with (turn_at t x from) c d) → StepIs W E Outer Passes z debt here s0 (test_loop (units extra) t x rest work here)
+      → Path runs compose W E Outer Passes z jumps 0 first 0 s0 (at_with (turn_at t x from) c d) → GoesOn W E Outer Passes z debt here s0 (test_loop (units extra) t x rest work here)
   turns from first extra s0 t x stands block paid few_units le path =
       let f = fit a.function in
       let n = stands.few in
@@ -251,7 +251,7 @@ module _ (runs : RunLaws) (compose : RunsCompose) (W E : Type 0) (Outer : W → 
 
       branches : (b : Bool) (u : ℕ) (c1 : Contents) → 1 ≤ u → u ≤ nodes t → Keeps 8 8 c c1
           → Path runs compose W E Outer Passes z jumps (0 + 1) (first + (1 + 16 * u)) 0 s0 (at_with (ends true (body_at x from) (turn_at t x from + length (turn_code sc t (its_stmts x))) b) c1 d)
-          → StepIs W E Outer Passes z debt here s0 (Go (plus (units extra) (units u)) (if b then push x (again t x rest ∷ work) else push rest work) here)
+          → GoesOn W E Outer Passes z debt here s0 (Go (plus (units extra) (units u)) (if b then push x (again t x rest ∷ work) else push rest work) here)
       branches true u c1 least most kept path1 =
           let n = stands.few in
           let keeps = keeps_low 8 c c1 (omega arith) kept in

@@ -2,6 +2,7 @@ pub mod Ahead
 pub mod Code
 pub mod Emit
 pub mod EmitLeaf
+pub mod Frames
 pub mod Journey
 pub mod Lengths
 pub mod Ranges

@@ -1,9 +1,10 @@
 -- How a configuration of C0 with what is left to do stands in the machine.
-use Rattle.std.specs.Prelude.{◌≡◌, ℕ, suc, ◌+◌, ◌*◌, ◌≤◌, ◌⊎◌, true, false, if◌then◌else◌, List, [], ◌∷◌, map, Some, slice_get}
+use Rattle.std.specs.Prelude.{◌≡◌, ℕ, suc, ◌+◌, ◌*◌, ◌≤◌, ◌⊎◌, true, false, if◌then◌else◌, List, [], ◌∷◌, map, Some, Ok, slice_get}
 use Rattle.mips_table.specs.Device.{Idle}
 use Rattle.mips_table.specs.Code.{Contents, Behind, Configuration as Machine, Steps}
 use Rattle.c0_tree.specs.Primitives.{CPrimitive}
-use Rattle.c0_tree.specs.Tree.{CTy, CFunction, CUnit}
+use Rattle.c0_tree.specs.declared.tree.Kind.TheVariants.{Primitive}
+use Rattle.c0_tree.specs.Tree.{CTy, call, CFunction, CUnit}
 use Rattle.c0_meaning.specs.Ty.{Ty, ty_of}
 use Rattle.c0_meaning.specs.Env.{Shape, typed_of, env_of}
 use Rattle.c0_meaning.specs.Typed.{IsDeclarable}
@@ -12,6 +13,7 @@ use Rattle.c0_meaning.specs.Value.{Value, Values, empty, part}
 use Rattle.c0_meaning.specs.State.{Frame, variables_of, stack_words}
 use Rattle.c0_meaning.specs.World.{Cost, total, Configuration, ended, after_call, call_cost}
 use Rattle.c0_meaning.specs.Operators.{KernelFault, faulted, stuck}
+use Rattle.c0_meaning.specs.Evaluation.{costs, values_of}
 use Rattle.c0_meaning.specs.Running.{Target, into, outward, Work, act_on, finish, again, leave, begin, Step, Go, Stop, act}
 use Rattle.c0_meaning.specs.TypedState.{types_of, Fits, AllFit, layout_of, IsTypedWith, IsScalar}
 use Rattle.c0_expr_code.specs.Scope.{Scope, scope_of, exit_of}
@@ -29,6 +31,12 @@ unit_scope u = record { env = env_of [] u []; in_registers = false; frame = 0; e
 abbrev pub AreIn : Scope → Bases → (ℕ → ℕ) → ℕ → Values → Type 0
 AreIn sc b regs r empty = Unit {0}
 AreIn sc b regs r (part v vs) = (regs r ≡ word sc b v) × AreIn sc b regs (suc r) vs
+
+-- A work item is a call statement of the primitive of this number, and these are the values of its arguments.
+abbrev pub IsCallOf : {W E : Type 0} → Configuration W E → Work → (number : ℕ) → Values → Type 0
+IsCallOf h (act_on (call span place call_span callee args) rest) number values =
+    (callee.kind ≡ Primitive) × (callee.number ≡ number) × ((cost : ℕ) × (values_of args h.state ≡ costs cost (Ok values)))
+IsCallOf h item number values = ⊥
 
 -- each of these types is one that may be declared
 abbrev pub AreDeclared : List Shape → List Ty → Type 0
@@ -171,17 +179,18 @@ module _ (W E : Type 0) (Outer : W → Contents → Behind → Type 0) (Passes :
   abbrev pub IsGone : (debt : ℕ) → Configuration W E → Machine → Cost → List Work → Configuration W E → Type 0
   IsGone debt h s cost work h' = (t : Machine) × (left : ℕ) × Led z.w Passes cost.own debt left h h' s t × Simulated left work h' t
 
-  -- A step calls a primitive: its own units have led the machine to the primitive's entry, with its arguments and the word to which it returns, and no more than the heap is used. And
+  -- A step is a call statement of a primitive: its own units have led the machine to the primitive's entry, with its arguments and the word to which it returns, and no more than the heap is used. And
   -- wherever it comes back, with its answer in register 2, while the rest of the machine stands for the world's value after it, the step is done.
-  pub record IsCalling (debt : ℕ) (h : Configuration W E) (s : Machine) (cost : Cost) (work : List Work) (h' : Configuration W E) : Type 0 where
+  pub record IsCalling (debt : ℕ) (item : Work) (h : Configuration W E) (s : Machine) (cost : Cost) (work : List Work) (h' : Configuration W E) : Type 0 where
     pub number : ℕ
     pub row : CPrimitive
     pub args : Values
     pub to : ℕ
     pub own : ℕ
     pub entry : Machine
+    pub calls : IsCallOf h item number args
     pub is : slice_get z.table number ≡ Some row
-    pub high : own ≤ 60 * cost.own
+    pub high : own ≤ 30 * cost.own
     pub low : cost.own ≤ 2048 * own
     pub run : Steps z.w own s entry
     pub called : Called z.w text.links row number args to entry
@@ -193,11 +202,11 @@ module _ (W E : Type 0) (Outer : W → Contents → Behind → Type 0) (Passes :
     pub returns : (t : Machine) → Back z.p.unit z.a z.p.stack to entry t → IsScalar row.answer (z.p.meaning number args h.world).answer
         → t.contents.regs 2 ≡ scalar_word (z.p.meaning number args h.world).answer → Outer h'.world t.contents t.behind → Simulated debt work h' t
 
-  -- what a step of the meaning comes to in the machine
-  abbrev pub StepIs : (debt : ℕ) → Configuration W E → Machine → Step W E → Type 0
-  StepIs debt h s (Go cost work h') = IsGone debt h s cost work h' ⊎ IsCalling debt h s cost work h'
-  StepIs debt h s (Stop cost (faulted f) h') = (t : Machine) × Stopped z.w Passes cost.own debt h h' s t × AtExit f h' t
-  StepIs debt h s (Stop cost stuck h') = ⊥
+  -- what a step of the meaning comes to in the machine: the step of this work item
+  abbrev pub StepIs : (debt : ℕ) → Work → Configuration W E → Machine → Step W E → Type 0
+  StepIs debt item h s (Go cost work h') = IsGone debt h s cost work h' ⊎ IsCalling debt item h s cost work h'
+  StepIs debt item h s (Stop cost (faulted f) h') = (t : Machine) × Stopped z.w Passes cost.own debt h h' s t × AtExit f h' t
+  StepIs debt item h s (Stop cost stuck h') = ⊥
 
 -- A step costs a unit of its own at least; it costs none of a primitive, unless a call of one has ended. One that faults costs few.
 abbrev pub CostsSome : {W E : Type 0} → Configuration W E → Step W E → Type 0
@@ -212,4 +221,4 @@ StepsCostSome W E Outer Passes = (z : Setup W E Outer Passes) (debt : ℕ) (item
 -- A law: where what is left to do stands in the machine, a step of C0's meaning is a run of the code, over any machine with primitives.
 abbrev pub StepsRun : (W E : Type 0) (Outer : W → Contents → Behind → Type 0) (Passes : Machine → Machine → Type 0) → Type 0
 StepsRun W E Outer Passes = (z : Setup W E Outer Passes) (debt : ℕ) (item : Work) (work : List Work) (h : Configuration W E) (s : Machine)
-    → Simulated W E Outer Passes z debt (item ∷ work) h s → StepIs W E Outer Passes z debt h s (act z.p item work h)
+    → Simulated W E Outer Passes z debt (item ∷ work) h s → StepIs W E Outer Passes z debt item h s (act z.p item work h)

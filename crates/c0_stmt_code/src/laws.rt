@@ -2,7 +2,8 @@
 
 ghost use Rattle.c0_stmt_code.specs.Rows.{AreCodes};
 ghost use Rattle.c0_stmt_code.specs.Standing.{StepsCostSome, StepsRun};
-ghost use Rattle.mips_table.specs.Code.{Contents, Behind, Configuration};
+ghost use Rattle.c0_stmt_code.specs.Frames.{FramesAreMade};
+ghost use Rattle.mips_table.specs.Code.{Contents, Behind, World, Sound, Configuration};
 
 use c0_asm_body::laws::asm_bodies_run;
 use c0_expr_code::laws::{
@@ -56,6 +57,16 @@ pub fn steps_run<M: Outside>()
 pub fn steps_cost_some<M: Outside>()
     ensures { (fixed : M.Fixed) → StepsCostSome M.Standing M.Entry (M.outer fixed) M.passes }
 {}
+
+/// A function's frame is made behind the stack's test: a parameter takes at most 3 steps, and so does a word of the locals.
+pub fn frames_are_made()
+    ensures { (w : World) → Sound w → FramesAreMade w }
+{
+    runs_compose();
+    straight_code_runs();
+    jumps_lead();
+    code_runs_join();
+}
 
 /// The code of two small functions, instruction by instruction.
 pub fn worked_rows()

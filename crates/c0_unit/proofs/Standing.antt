@@ -16,7 +16,7 @@ use Rattle.c0_meaning.specs.Operators.{KernelFault, NullUse, Bounds, DivZero, St
 use Rattle.c0_meaning.specs.Typed.{UnitsAreFaultless}
 use Rattle.c0_meaning.specs.Unit.{IsChecked}
 use Rattle.c0_runtime.specs.declared.runtime.TheConstants.{NEW_OBJECT, MULTIPLY, DIVIDE, REMAINDER}
-use Rattle.c0_runtime.specs.Code.{entry_code, multiply_code, divide_code, remainder_code}
+use Rattle.c0_runtime.specs.Code.{entry_code, new_code, multiply_code, divide_code, remainder_code}
 use Rattle.c0_expr_code.specs.Scope.{exit_number, scope_of}
 use Rattle.c0_stmt_code.specs.Code.{links_of, function_code}
 use Rattle.c0_stmt_code.specs.Lengths.{FunctionsAreShort, LengthsAreFixed}
@@ -140,6 +140,27 @@ module _ (faultless : UnitsAreFaultless) (short : FunctionsAreShort) (u : CUnit)
       after = (multiply_code ++ (divide_code (slice_index fault_exits 2) ++ remainder_code (slice_index fault_exits 2))) ++ functions_code u (function_starts u) u.functions;
       is = refl;
       from = ap (λ (n : ℕ). n / 4) h.new_object;
+      behind = omega arith;
+    };
+    multiply = record {
+      before = entry_code (globals_start u) (dispatch_start u) ++ new_code;
+      after = (divide_code (slice_index fault_exits 2) ++ remainder_code (slice_index fault_exits 2)) ++ functions_code u (function_starts u) u.functions;
+      is = refl;
+      from = ap (λ (n : ℕ). n / 4) h.multiply;
+      behind = omega arith;
+    };
+    divide = record {
+      before = entry_code (globals_start u) (dispatch_start u) ++ (new_code ++ multiply_code);
+      after = remainder_code (slice_index fault_exits 2) ++ functions_code u (function_starts u) u.functions;
+      is = ap (λ (ns : List ℕ). (entry_code (globals_start u) (dispatch_start u) ++ (new_code ++ multiply_code)) ++ (divide_code (slice_index ns 2) ++ (remainder_code (slice_index fault_exits 2) ++ functions_code u (function_starts u) u.functions))) (sym h.faults);
+      from = ap (λ (n : ℕ). n / 4) h.divide;
+      behind = omega arith;
+    };
+    remainder = record {
+      before = entry_code (globals_start u) (dispatch_start u) ++ (new_code ++ (multiply_code ++ divide_code (slice_index fault_exits 2)));
+      after = functions_code u (function_starts u) u.functions;
+      is = ap (λ (ns : List ℕ). (entry_code (globals_start u) (dispatch_start u) ++ (new_code ++ (multiply_code ++ divide_code (slice_index fault_exits 2)))) ++ (remainder_code (slice_index ns 2) ++ functions_code u (function_starts u) u.functions)) (sym h.faults);
+      from = ap (λ (n : ℕ). n / 4) h.remainder;
       behind = omega arith;
     };
     functions = λ n f is. its_place n f is;

@@ -1,5 +1,5 @@
 -- What is known of the code of a unit.
-use Rattle.std.specs.Prelude.{◌≡◌, ℕ, ◌+◌, ◌*◌, ◌<◌, ◌≤◌, All, List, ◌++◌, length, Some, slice_get}
+use Rattle.std.specs.Prelude.{◌≡◌, ℕ, ◌+◌, ◌*◌, ◌/◌, ◌<◌, ◌≤◌, All, List, ◌++◌, length, Some, slice_get}
 use Rattle.mips_table.specs.declared.inst.Inst.{Inst}
 use Rattle.mips_table.specs.Encoding.{InRange}
 use Rattle.masm.specs.declared.registers.Places.{Places}
@@ -12,7 +12,7 @@ use Rattle.c0_meaning.specs.Limits.{all_nodes}
 use Rattle.c0_meaning.specs.Operators.{KernelFault}
 use Rattle.c0_meaning.specs.Unit.{IsChecked}
 use Rattle.c0_runtime.specs.declared.runtime.TheConstants.{NEW_OBJECT, MULTIPLY, DIVIDE, REMAINDER}
-use Rattle.c0_runtime.specs.Code.{entry_code, new_code}
+use Rattle.c0_runtime.specs.Code.{entry_code, new_code, multiply_code, divide_code, remainder_code, zero_exit}
 use Rattle.c0_expr_code.specs.Scope.{exit_number, exit_of, scope_of}
 use Rattle.c0_stmt_code.specs.Code.{links_of, function_code}
 use Rattle.c0_unit.specs.Code.{fault_exits, primitive_entries, routines_at, function_starts, code_words, globals_start, dispatch_number, unit_code}
@@ -40,12 +40,15 @@ pub record StandsIn (u : CUnit) (at : ℕ) (code : List Inst) : Type 0 where
   pub from : at ≡ layer_words + length before
   pub behind : 1 ≤ length before
 
--- Where the parts of a unit's code stand, by its places: the entry first, and the routine `new` and each function where calls go. All of its
--- instructions are in range.
+-- Where the parts of a unit's code stand, by its places: the entry first, the routines at their addresses, and the routine `new` and each function
+-- where calls go. All of its instructions are in range.
 pub record UnitStands (u : CUnit) (p : Places) : Type 0 where
   pub rest : List Inst
   pub entry : unit_code u ≡ entry_code p.globals (4 * (links_of p).function (dispatch_number u)) ++ rest
   pub new_object : StandsIn u (links_of p).new_object new_code
+  pub multiply : StandsIn u (p.multiply / 4) multiply_code
+  pub divide : StandsIn u (p.divide / 4) (divide_code (zero_exit p))
+  pub remainder : StandsIn u (p.remainder / 4) (remainder_code (zero_exit p))
   pub functions : (n : ℕ) (f : CFunction) → slice_get u.functions n ≡ Some f → StandsIn u ((links_of p).function n) (function_code (scope_of u f p) (links_of p) f)
   pub words : length (unit_code u) ≡ code_words u
   pub in_range : All InRange (unit_code u)

@@ -87,7 +87,7 @@ module _ (simulates : MachineSimulates) (joins : RunsJoin) (fitting : StaysFitti
   -- what the machine's steps have to do with the units that were used
   pub record Progress (base k debt : ℕ) (used : Cost) : Type 0 where
     pub own : ℕ
-    pub high : own + debt ≤ 60 * used.own
+    pub high : own + debt ≤ 30 * used.own
     pub low : used.own ≤ 2048 * own
     pub calls_low : used.primitive ≤ 4194305 * own
     pub own_steps : own ≤ k
@@ -106,7 +106,7 @@ module _ (simulates : MachineSimulates) (joins : RunsJoin) (fitting : StaysFitti
   abbrev pub RunTo : (base limit : ℕ) → Outcome Machines Changes → Type 0
   RunTo base limit (Done cost h) = (k : ℕ) × (s : Machine) × Here k s × Ended Machines Changes (Outer y current) (λ s t. ⊥) z h s × (debt : ℕ) × Progress base k debt cost × (1 ≤ cost.own) × Tells k (journal h)
   RunTo base limit (Failed cost (faulted f) h) = (k : ℕ) × (s : Machine) × Here k s × AtExit Machines Changes (Outer y current) (λ s t. ⊥) z f h s
-      × (own : ℕ) × (own ≤ 60 * cost.own) × (k ≤ base + own + run_steps y.map longest cost.primitive cost.pages) × (1 ≤ cost.own) × Tells k (journal h)
+      × (own : ℕ) × (own ≤ 30 * cost.own) × (k ≤ base + own + run_steps y.map longest cost.primitive cost.pages) × (1 ≤ cost.own) × Tells k (journal h)
   RunTo base limit (Failed cost stuck h) = ⊥
   RunTo base limit (NotYet cost h) = (k : ℕ) × (s : Machine) × Here k s × (limit < 8388608 * (k + 1)) × Tells k (journal h)
 
@@ -188,9 +188,9 @@ module _ (simulates : MachineSimulates) (joins : RunsJoin) (fitting : StaysFitti
         by_passes (suc n) run same = absurd run.6
 
     -- after a primitive
-    called : (k debt : ℕ) (used cost : Cost) (h h' : H) (work : List Work) (s : Machine) → Here k s → Progress base k debt used → IsCalling Machines Changes (Outer y current) (λ s t. ⊥) z debt h s cost work h'
+    called : (k debt : ℕ) (used cost : Cost) (item : Work) (h h' : H) (work : List Work) (s : Machine) → Here k s → Progress base k debt used → IsCalling Machines Changes (Outer y current) (λ s t. ⊥) z debt item h s cost work h'
         → CostsSome h (Go cost work h') → Tells k (journal h) → Stepped k used cost work h h'
-    called k debt used cost h h' work s here pr c f told =
+    called k debt used cost item h h' work s here pr c f told =
         let entry = goes_on simulates joins x y code words sound s0 k c.own s c.entry here c.run in
         let pd = passed (k + c.own) c.entry c.to c.number c.row c.args h.world entry c.is c.called c.outer c.room in
         let counts : Counts x s0 (k + c.own) (length (journal h)) = counts_on simulates joins x y code words sound s0 k c.own s c.entry here c.run (length (journal h)) told.counts in
@@ -223,10 +223,10 @@ module _ (simulates : MachineSimulates) (joins : RunsJoin) (fitting : StaysFitti
           as_before = record { counts = counts; ends = told.ends };
         }
 
-    stepped : (k debt : ℕ) (used cost : Cost) (h h' : H) (work : List Work) (s : Machine) → Here k s → Progress base k debt used
-        → IsGone Machines Changes (Outer y current) (λ s t. ⊥) z debt h s cost work h' ⊎ IsCalling Machines Changes (Outer y current) (λ s t. ⊥) z debt h s cost work h' → CostsSome h (Go cost work h') → Extends Machines Changes h h' → Tells k (journal h) → Stepped k used cost work h h'
-    stepped k debt used cost h h' work s here pr (inl r) f more told = gone k debt used cost h h' work s here pr r f more told
-    stepped k debt used cost h h' work s here pr (inr r) f more told = called k debt used cost h h' work s here pr r f told
+    stepped : (k debt : ℕ) (used cost : Cost) (item : Work) (h h' : H) (work : List Work) (s : Machine) → Here k s → Progress base k debt used
+        → IsGone Machines Changes (Outer y current) (λ s t. ⊥) z debt h s cost work h' ⊎ IsCalling Machines Changes (Outer y current) (λ s t. ⊥) z debt item h s cost work h' → CostsSome h (Go cost work h') → Extends Machines Changes h h' → Tells k (journal h) → Stepped k used cost work h h'
+    stepped k debt used cost item h h' work s here pr (inl r) f more told = gone k debt used cost h h' work s here pr r f more told
+    stepped k debt used cost item h h' work s here pr (inr r) f more told = called k debt used cost item h h' work s here pr r f told
 
     -- a unit was used, unless anything is left to do
     abbrev Begun : Cost → List Work → Type 0
@@ -244,13 +244,13 @@ module _ (simulates : MachineSimulates) (joins : RunsJoin) (fitting : StaysFitti
         by_step (act z.p item work h) (each z debt item work h s sim) (fine debt item work h s sim) (acts Machines Changes z.p item work h)
         (λ u w d t j left here pr enough within some sim told. whole fuel limit u w d t j left here pr enough within (begun_by u w some) sim told)
       where
-        by_step : (t : Step Machines Changes) → StepIs Machines Changes (Outer y current) (λ s t. ⊥) z debt h s t → CostsSome h t → Grows Machines Changes h t
+        by_step : (t : Step Machines Changes) → StepIs Machines Changes (Outer y current) (λ s t. ⊥) z debt item h s t → CostsSome h t → Grows Machines Changes h t
             → ((u : Cost) (w : List Work) (d : H) (t : Machine) (j left : ℕ) → Here j t → Progress base j left u → limit < fuel + total u → total u ≤ limit → 1 ≤ u.own → Sim left w d t → Tells j (journal d) → RunTo base limit (run z.p fuel limit u w d))
             → RunTo base limit (then_run t limit used h (run z.p fuel limit))
         by_step (Go cost w d) r f more rest = by_test (nat_lt limit (total (plus used cost))) refl
           where
             next : Stepped k used cost w h d
-            next = stepped k debt used cost h d w s here pr r f more told
+            next = stepped k debt used cost item h d w s here pr r f more told
 
             by_test : (b : Bool) → nat_lt limit (total (plus used cost)) ≡ b → RunTo base limit (if b then NotYet used h else run z.p fuel limit (plus used cost) w d)
             by_test true e =
