@@ -18,7 +18,8 @@ ghost use Rattle.c0_stmt_code.specs.EmitLeaf.{CanStand};
 
 use crate::prologue::register_behind;
 use c0_expr_code::{
-    Access, Scene, emit, emit_access, emit_constant, emit_operand, emit_place, emit_value, stands_in,
+    Access, Scene, emit, emit_access, emit_constant, emit_operand, emit_place, emit_value,
+    stands_in,
 };
 use c0_meaning::words_of;
 use c0_tree::{CType, Expr, Kind};
