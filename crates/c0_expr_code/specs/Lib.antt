@@ -8,6 +8,7 @@ pub mod Jumps
 pub mod Rows
 pub mod Emit
 pub mod Known
+pub mod Layout
 pub mod Scene
 pub mod Patch
 pub mod Opened

@@ -1,19 +1,27 @@
 -- What the emitters say of a test's code, whose branches lead nowhere yet.
-use Rattle.std.specs.Prelude.{◌≡◌, ℕ, ◌+◌, ◌%◌, ◌^◌, Bool, true, false, not, ◌==◌, if◌then◌else◌, List, [], ◌∷◌, ◌++◌, length, map, Some, None}
+use Rattle.std.specs.Prelude.{◌≡◌, ℕ, ◌+◌, ◌%◌, ◌^◌, Bool, true, false, not, ◌==◌, if◌then◌else◌, List, [], ◌∷◌, ◌++◌, length, map, Some, None, Result, OnOk, Vec}
 use Rattle.mips_table.specs.declared.inst.Inst.{Inst}
 use Rattle.mips_table.specs.Encoding.{encoding}
 use Rattle.c0_tree.specs.declared.tree.BinaryOp.{BinaryOp}
 use Rattle.c0_tree.specs.declared.tree.BinaryOp.TheVariants.{Add, Sub, Mul, Div, Rem, Lt, Le, Gt, Ge, Eq, Ne, And, Or}
+use Rattle.c0_tree.specs.declared.tree.Expr.{Expr}
 use Rattle.c0_tree.specs.Tree.{CExpr}
+use Rattle.c0_tree.specs.View.{expr_view}
+use Rattle.c0_expr_code.specs.declared.scene.Scene.{Scene}
 use Rattle.c0_expr_code.specs.Scope.{Scope}
+use Rattle.c0_expr_code.specs.Scene.{made_in, scope_in}
 use Rattle.c0_expr_code.specs.Code.{made, one_code}
 use Rattle.c0_expr_code.specs.Test.{ImmediateTest, immediate_test, immediate_test_of, compare_test, plain_test, test_code, negative_branch, positive_branch, below_code}
-use Rattle.c0_expr_code.specs.Jumps.{Open, last_open, behind_open, joined_open, both_open, binary_open, test_open}
+use Rattle.c0_expr_code.specs.Jumps.{Open, Opening, last_open, behind_open, joined_open, both_open, binary_open, test_open}
 
 -- open code stands behind other words, and its branches' places behind other places
 pub record IsOpened (old new marked marks : List ℕ) (x : Open) : Type 0 where
   pub words : new ≡ old ++ map encoding x.code
   pub places : marks ≡ marked ++ map (λ j. length old + j) x.jumps
+
+-- open code was appended to the code, and its branches' places to the places of others, unless memory was wanting
+abbrev pub AppendsOpen : {A B T E : Type 0} → (old new : Vec ℕ A) → (marked marks : Vec ℕ B) → Open → Result T E → Type 0
+AppendsOpen old new marked marks x result = OnOk result (IsOpened old.items new.items marked.items marks.items x)
 
 -- the test of a register against a constant, where there is one
 abbrev pub test_with : ImmediateTest → Bool → (far q : ℕ) → List Inst
@@ -81,29 +89,44 @@ order_code sc o a b s r = compare_test (immediate_test_of o (made sc b).known) o
 abbrev pub equality_code : Scope → BinaryOp → CExpr → CExpr → Bool → ℕ → List Inst
 equality_code sc o a b s r = compare_test None o (made sc a) (made sc b) s 0 r
 
--- the code of a test whose last instruction is its branch, of these three
-abbrev pub bool_open : Scope → CExpr → Bool → ℕ → Open
-bool_open sc e s r = last_open (bool_code sc e s r)
+-- these comparisons of expressions in a scene
+abbrev pub order_in : Scene → BinaryOp → Expr → Expr → Bool → ℕ → List Inst
+order_in scene o a b s r = order_code (scope_in scene) o (expr_view a) (expr_view b) s r
 
-abbrev pub order_open : Scope → BinaryOp → CExpr → CExpr → Bool → ℕ → Open
-order_open sc o a b s r = last_open (order_code sc o a b s r)
+abbrev pub equality_in : Scene → BinaryOp → Expr → Expr → Bool → ℕ → List Inst
+equality_in scene o a b s r = equality_code (scope_in scene) o (expr_view a) (expr_view b) s r
 
-abbrev pub equality_open : Scope → BinaryOp → CExpr → CExpr → Bool → ℕ → Open
-equality_open sc o a b s r = last_open (equality_code sc o a b s r)
+-- the test of an expression in a scene
+abbrev pub open_in : Scene → Expr → Opening
+open_in scene e s r = test_open (scope_in scene) (expr_view e) s r
+
+-- the code of a test whose last instruction is its branch: of a bool, and of these two comparisons
+abbrev pub bool_open : Scene → Expr → Bool → ℕ → Open
+bool_open scene e s r = last_open (bool_code (scope_in scene) (expr_view e) s r)
+
+abbrev pub order_open : Scene → BinaryOp → Expr → Expr → Bool → ℕ → Open
+order_open scene o a b s r = last_open (order_in scene o a b s r)
+
+abbrev pub equality_open : Scene → BinaryOp → Expr → Expr → Bool → ℕ → Open
+equality_open scene o a b s r = last_open (equality_in scene o a b s r)
 
 -- both tests go to the place where they are s
-abbrev pub either_open : Scope → CExpr → CExpr → Bool → ℕ → Open
-either_open sc a b s r = joined_open (test_open sc a s r) (test_open sc b s r)
+abbrev pub either_open : Scene → Expr → Expr → Bool → ℕ → Open
+either_open scene a b s r = joined_open (open_in scene a s r) (open_in scene b s r)
 
 -- the first test goes over the second where it isn't s
 abbrev pub over_open : Scope → CExpr → CExpr → Bool → ℕ → Open
 over_open sc a b s r = behind_open (test_code sc a (not s) (length (test_open sc b s r).code % 2 ^ 16) r) (test_open sc b s r)
 
+-- these tests of expressions in a scene
+abbrev pub over_in : Scene → Expr → Expr → Bool → ℕ → Open
+over_in scene a b s r = over_open (scope_in scene) (expr_view a) (expr_view b) s r
+
 -- `||` and `&&`: where the first test alone decides for s both go to the place, and else the first goes over the second
-abbrev pub logic_open : Scope → (decides : Bool) → CExpr → CExpr → Bool → ℕ → Open
-logic_open sc decides a b s r = both_open decides s (test_code sc a) (test_open sc a) (test_open sc b) r
+abbrev pub logic_open : Scene → (decides : Bool) → Expr → Expr → Bool → ℕ → Open
+logic_open scene decides a b s r = both_open decides s (test_code (scope_in scene) (expr_view a)) (open_in scene a) (open_in scene b) r
 
 -- an operator between two operands, where the whole is an expression too
-abbrev pub operation_open : Scope → CExpr → BinaryOp → CExpr → CExpr → Bool → ℕ → Open
-operation_open sc e o a b s r =
-    binary_open o (made sc e) (made sc a) (made sc b) (test_code sc a) (test_open sc a) (test_open sc b) s r
+abbrev pub operation_open : Scene → Expr → BinaryOp → Expr → Expr → Bool → ℕ → Open
+operation_open scene e o a b s r =
+    binary_open o (made_in scene e) (made_in scene a) (made_in scene b) (test_code (scope_in scene) (expr_view a)) (open_in scene a) (open_in scene b) s r

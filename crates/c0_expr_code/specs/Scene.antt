@@ -1,7 +1,8 @@
 -- The scope that a scene stands for.
 use Rattle.std.specs.Prelude.{ℕ, ◌++◌, ◌/◌, ◌<◌, [], length, Option, Some, None, slice_get, slice_index, List}
 use Rattle.c0_tree.specs.Tree.{CExpr, num, true_, false_, null, var, field, arrow, index, deref, address, unary, binary, CFunction, CUnit}
-use Rattle.c0_tree.specs.View.{unit_view}
+use Rattle.c0_tree.specs.View.{expr_view, unit_view}
+use Rattle.c0_tree.specs.declared.tree.Expr.{Expr}
 use Rattle.c0_tree.specs.declared.tree.Kind.{Kind}
 use Rattle.c0_tree.specs.declared.tree.Kind.TheVariants.{Unresolved, Struct, Field, Global, Local, Function, Primitive}
 use Rattle.c0_meaning.specs.Ty.{Ty}
@@ -13,7 +14,7 @@ use Rattle.c0_meaning.specs.Expression.{target}
 use Rattle.c0_meaning.specs.TypeAt.{env_in, type_at}
 use Rattle.c0_expr_code.specs.declared.scene.Scene.{Scene}
 use Rattle.c0_expr_code.specs.Scope.{Scope, exit_number}
-use Rattle.c0_expr_code.specs.Code.{fields_in}
+use Rattle.c0_expr_code.specs.Code.{Made, fields_in, made}
 
 -- what names stand for in a function of a unit, if it is there
 abbrev pub env_at : CUnit → Option CFunction → Env
@@ -32,6 +33,10 @@ scope_in s = record {
   frame = s.frame;
   exit = λ fault. slice_index s.faults (exit_number fault) / 4;
 }
+
+-- the code, place and constant of an expression in a scene
+abbrev pub made_in : Scene → Expr → Made
+made_in scene e = made (scope_in scene) (expr_view e)
 
 -- a variable is among the globals, or among the parameters and locals
 abbrev pub IsThere : Env → Kind → ℕ → Type 0

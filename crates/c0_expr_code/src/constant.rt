@@ -1,9 +1,9 @@
 // Constants.
 
-ghost use Rattle.std.specs.Prelude.{◌≡◌, ◌/◌, ◌%◌, ◌^◌, ◌<◌, ◌++◌, ◌∷◌, [], map, OnErr, OnOk};
+ghost use Rattle.std.specs.Prelude.{◌≡◌, ◌/◌, ◌%◌, ◌^◌, ◌<◌, ◌∷◌, [], OnErr};
 ghost use Rattle.mips_table.specs.declared.inst.Inst.TheVariants.{Lui, Ori};
-ghost use Rattle.mips_table.specs.Encoding.{encoding};
 ghost use Rattle.c0_expr_code.specs.Code.{constant_code};
+ghost use Rattle.c0_expr_code.specs.Emit.{Appends};
 
 use crate::word::{emit, is_near, low};
 use mips_table::{Inst, encode};
@@ -14,7 +14,7 @@ use std::alloc::AllocError;
 /// Want of memory leaves `code` as it was.
 pub fn emit_constant(code: &mut Vec<u32>, target: u32, word: u32) -> Result<(), AllocError>
     requires { target < 32 }
-    ensures appended { OnOk result (code.new.items ≡ code.old.items ++ map encoding (constant_code target word)) }
+    ensures appended { Appends code.old.items code.new.items (constant_code target word) result }
     ensures unchanged { OnErr result (code.new.items ≡ code.old.items) }
 {
     if word < 0x1_0000 {
@@ -43,7 +43,7 @@ pub fn emit_constant(code: &mut Vec<u32>, target: u32, word: u32) -> Result<(), 
 // The two halves of a word.
 fn emit_halves(code: &mut Vec<u32>, target: u32, word: u32) -> Result<(), AllocError>
     requires { target < 32 }
-    ensures appended { OnOk result (code.new.items ≡ code.old.items ++ map encoding (Lui target (word / 2 ^ 16) ∷ Ori target target (word % 2 ^ 16) ∷ [])) }
+    ensures appended { Appends code.old.items code.new.items (Lui target (word / 2 ^ 16) ∷ Ori target target (word % 2 ^ 16) ∷ []) result }
     ensures unchanged { OnErr result (code.new.items ≡ code.old.items) }
 {
     let upper = Inst::Lui {

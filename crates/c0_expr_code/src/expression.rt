@@ -1,14 +1,12 @@
 // The emitters of expressions: all of an expression's code is appended, or none of it.
 
-ghost use Rattle.std.specs.Prelude.{◌≡◌, ◌+◌, ◌≤◌, ◌<◌, ◌++◌, map, take, IfOk, OnErr, OnOk};
-ghost use Rattle.mips_table.specs.Encoding.{encoding};
+ghost use Rattle.std.specs.Prelude.{◌≡◌, ◌+◌, ◌≤◌, ◌<◌, take, IfOk, OnErr, OnOk};
 ghost use Rattle.c0_tree.specs.Size.{need};
 ghost use Rattle.c0_tree.specs.View.{expr_view};
-ghost use Rattle.c0_expr_code.specs.Code.{made, operand_code, operand_register, value_code};
-ghost use Rattle.c0_expr_code.specs.Emit.{IsSpot};
-ghost use Rattle.c0_expr_code.specs.Jumps.{test_open};
-ghost use Rattle.c0_expr_code.specs.Opened.{IsOpened};
-ghost use Rattle.c0_expr_code.specs.Scene.{HasNumbers, scope_in};
+ghost use Rattle.c0_expr_code.specs.Code.{operand_code, operand_register, value_code};
+ghost use Rattle.c0_expr_code.specs.Emit.{Appends, IsSpot};
+ghost use Rattle.c0_expr_code.specs.Opened.{AppendsOpen, open_in};
+ghost use Rattle.c0_expr_code.specs.Scene.{HasNumbers, made_in, scope_in};
 
 use crate::scene::Scene;
 use crate::spot::Spot;
@@ -45,7 +43,7 @@ pub fn emit_value(
     requires room { free + need (expr_view expr.now) ≤ 20 }
     requires target { target < 32 }
     requires numbers { HasNumbers (scope_in scene.now).env (expr_view expr.now) }
-    ensures appended { OnOk result (code.new.items ≡ code.old.items ++ map encoding (value_code (scope_in scene.now) (expr_view expr.now) target free)) }
+    ensures appended { Appends code.old.items code.new.items (value_code (scope_in scene.now) (expr_view expr.now) target free) result }
     ensures unchanged { OnErr result (code.new.items ≡ code.old.items) }
 {
     let start = code.len();
@@ -64,8 +62,8 @@ pub fn emit_operand(
 ) -> Result<u32, AllocError>
     requires room { free + need (expr_view expr.now) ≤ 20 }
     requires numbers { HasNumbers (scope_in scene.now).env (expr_view expr.now) }
-    ensures code { OnOk result (code.new.items ≡ code.old.items ++ map encoding (operand_code (made (scope_in scene.now) (expr_view expr.now)) free)) }
-    ensures register { IfOk result (λ q. q ≡ operand_register (made (scope_in scene.now) (expr_view expr.now)) free) }
+    ensures code { Appends code.old.items code.new.items (operand_code (made_in scene.now expr.now) free) result }
+    ensures register { IfOk result (λ q. q ≡ operand_register (made_in scene.now expr.now) free) }
     ensures small { IfOk result (λ q. q < 32) }
     ensures unchanged { OnErr result (code.new.items ≡ code.old.items) }
 {
@@ -86,8 +84,8 @@ pub fn emit_place(
 ) -> Result<Spot, AllocError>
     requires room { free + need (expr_view expr.now) ≤ 20 }
     requires numbers { HasNumbers (scope_in scene.now).env (expr_view expr.now) }
-    ensures code { OnOk result (code.new.items ≡ code.old.items ++ map encoding ((made (scope_in scene.now) (expr_view expr.now)).place free).code) }
-    ensures place { IfOk result (λ x. IsSpot x ((made (scope_in scene.now) (expr_view expr.now)).place free)) }
+    ensures code { Appends code.old.items code.new.items ((made_in scene.now expr.now).place free).code result }
+    ensures place { IfOk result (λ x. IsSpot x ((made_in scene.now expr.now).place free)) }
     ensures small { IfOk result (λ x. x.base < 32) }
     ensures unchanged { OnErr result (code.new.items ≡ code.old.items) }
 {
@@ -111,7 +109,7 @@ pub fn emit_test(
 ) -> Result<(), AllocError>
     requires room { free + need (expr_view expr.now) ≤ 20 }
     requires numbers { HasNumbers (scope_in scene.now).env (expr_view expr.now) }
-    ensures opened { OnOk result (IsOpened code.old.items code.new.items jumps.old.items jumps.new.items (test_open (scope_in scene.now) (expr_view expr.now) wanted free)) }
+    ensures opened { AppendsOpen code.old code.new jumps.old jumps.new (open_in scene.now expr.now wanted free) result }
     ensures unchanged { OnErr result (code.new.items ≡ code.old.items) }
     ensures unmarked { OnErr result (jumps.new.items ≡ jumps.old.items) }
 {

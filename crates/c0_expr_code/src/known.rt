@@ -6,7 +6,7 @@ ghost use Rattle.c0_expr_code.specs.Code as code;
 ghost use Rattle.c0_expr_code.specs.Code.{made};
 ghost use Rattle.c0_expr_code.specs.Scope.{Scope};
 ghost use Rattle.c0_expr_code.specs.Emit.{below_of};
-ghost use Rattle.c0_expr_code.specs.Scene.{scope_in};
+ghost use Rattle.c0_expr_code.specs.Scene.{made_in};
 ghost use Rattle.c0_expr_code.specs.Known as spec;
 
 use crate::scene::Scene;
@@ -144,7 +144,7 @@ pub fn known_of(expr: &Expr) -> Option<u32>
 
 /// The register in which an expression stands with no code.
 pub fn stands_in(scene: &Scene<'_>, expr: &Expr) -> Option<u32>
-    ensures value { result ≡ (made (scope_in scene.now) (expr_view expr.now)).stands }
+    ensures value { result ≡ (made_in scene.now expr.now).stands }
     ensures small { IfSome result (λ q. q < 32) }
 {
     stands(scene.in_registers, expr)

@@ -1,18 +1,19 @@
 // Expressions. Where memory is wanting, a part of an expression's code may stand behind what stood before.
 
-ghost use Rattle.std.specs.Prelude.{◌≡◌, ◌+◌, ◌≤◌, ◌<◌, ◌++◌, map, true, IfOk, IfSome, OnErr, OnOk};
-ghost use Rattle.mips_table.specs.Encoding.{InRange, encoding};
+ghost use Rattle.std.specs.Prelude.{◌≡◌, ◌+◌, ◌≤◌, ◌<◌, true, IfOk, IfSome, OnErr};
+ghost use Rattle.mips_table.specs.Encoding.{InRange};
 ghost use Rattle.c0_tree.specs.Size.{need, binary_need};
 ghost use Rattle.c0_tree.specs.View.{expr_view};
 ghost use Rattle.c0_meaning.specs.Form.{found_view};
 ghost use Rattle.c0_meaning.specs.Sound.{shapes};
 ghost use Rattle.c0_meaning.specs.TypeAt as types;
 ghost use Rattle.c0_tree.specs.declared.tree.BinaryOp.TheVariants.{Add};
+ghost use Rattle.c0_tree.specs.declared.tree.UnaryOp.TheVariants.{Negate};
 ghost use Rattle.c0_expr_code.specs.Code as spec;
-ghost use Rattle.c0_expr_code.specs.Code.{binary_made, immediate, immediate_of, logic_code, made, negative_made, on_spot, one_code, operand_code};
-ghost use Rattle.c0_expr_code.specs.Code.{operand_register, operator_code, operator_made, sum_made, target_spot, to_code, two_code, unary_made, value_code};
-ghost use Rattle.c0_expr_code.specs.Emit.{IsSpot, access_inst, code_with, held_code, index_spot, is_immediate, logic_skip, quotient_code, right_code, tested_code};
-ghost use Rattle.c0_expr_code.specs.Scene.{HasNumbers, scope_in, unit_in};
+ghost use Rattle.c0_expr_code.specs.Code.{immediate, on_spot, operand_code, operand_register, target_spot, to_code, unary_made, value_code};
+ghost use Rattle.c0_expr_code.specs.Emit.{Appends, IsSpot, access_inst, binary_in, held_in, index_spot, is_immediate, logic_in, logic_skip};
+ghost use Rattle.c0_expr_code.specs.Emit.{operator_in, quotient_in, right_code, side_in, sides_in, tested_code};
+ghost use Rattle.c0_expr_code.specs.Scene.{HasNumbers, made_in, scope_in, unit_in};
 ghost use Rattle.c0_expr_code.specs.Ahead.{StandAhead};
 
 use crate::constant::emit_constant;
@@ -48,9 +49,9 @@ pub fn emit_operand(
 ) -> Result<u32, AllocError>
     requires room { free + need (expr_view expr.now) ≤ 20 }
     requires numbers { HasNumbers (scope_in scene.now).env (expr_view expr.now) }
-    ensures code { OnOk result (code.new.items ≡ code.old.items ++ map encoding (operand_code (made (scope_in scene.now) (expr_view expr.now)) free)) }
+    ensures code { Appends code.old.items code.new.items (operand_code (made_in scene.now expr.now) free) result }
     ensures ahead { OnErr result (StandAhead code.old.items code.new.items) }
-    ensures register { IfOk result (λ q. q ≡ operand_register (made (scope_in scene.now) (expr_view expr.now)) free) }
+    ensures register { IfOk result (λ q. q ≡ operand_register (made_in scene.now expr.now) free) }
     ensures small { IfOk result (λ q. q < 32) }
 {
     if let Some(register) = stands_in(scene, expr) {
@@ -71,9 +72,9 @@ pub fn emit_place(
 ) -> Result<Spot, AllocError>
     requires room { free + need (expr_view expr.now) ≤ 20 }
     requires numbers { HasNumbers (scope_in scene.now).env (expr_view expr.now) }
-    ensures code { OnOk result (code.new.items ≡ code.old.items ++ map encoding ((made (scope_in scene.now) (expr_view expr.now)).place free).code) }
+    ensures code { Appends code.old.items code.new.items ((made_in scene.now expr.now).place free).code result }
     ensures ahead { OnErr result (StandAhead code.old.items code.new.items) }
-    ensures place { IfOk result (λ x. IsSpot x ((made (scope_in scene.now) (expr_view expr.now)).place free)) }
+    ensures place { IfOk result (λ x. IsSpot x ((made_in scene.now expr.now).place free)) }
     ensures small { IfOk result (λ x. x.base < 32) }
 {
     match expr {
@@ -109,9 +110,9 @@ fn emit_target(
 ) -> Result<Spot, AllocError>
     requires room { free + need (expr_view part.now) ≤ 20 }
     requires numbers { HasNumbers (scope_in scene.now).env (expr_view part.now) }
-    ensures code { OnOk result (code.new.items ≡ code.old.items ++ map encoding (target_spot (scope_in scene.now) (made (scope_in scene.now) (expr_view part.now)) free).code) }
+    ensures code { Appends code.old.items code.new.items (target_spot (scope_in scene.now) (made_in scene.now part.now) free).code result }
     ensures ahead { OnErr result (StandAhead code.old.items code.new.items) }
-    ensures place { IfOk result (λ x. IsSpot x (target_spot (scope_in scene.now) (made (scope_in scene.now) (expr_view part.now)) free)) }
+    ensures place { IfOk result (λ x. IsSpot x (target_spot (scope_in scene.now) (made_in scene.now part.now) free)) }
     ensures small { IfOk result (λ x. x.base < 32) }
 {
     let base = emit_operand(scene, part, free, code)?;
@@ -132,7 +133,7 @@ fn emit_index(
     requires second { free + 1 + need (expr_view index.now) ≤ 20 }
     requires part { HasNumbers (scope_in scene.now).env (expr_view part.now) }
     requires index { HasNumbers (scope_in scene.now).env (expr_view index.now) }
-    ensures code { OnOk result (code.new.items ≡ code.old.items ++ map encoding (index_spot (scope_in scene.now) (expr_view part.now) (expr_view index.now) free).code) }
+    ensures code { Appends code.old.items code.new.items (index_spot (scope_in scene.now) (expr_view part.now) (expr_view index.now) free).code result }
     ensures ahead { OnErr result (StandAhead code.old.items code.new.items) }
     ensures place { IfOk result (λ x. IsSpot x (index_spot (scope_in scene.now) (expr_view part.now) (expr_view index.now) free)) }
     ensures small { IfOk result (λ x. x.base < 32) }
@@ -159,7 +160,7 @@ fn emit_tested(
     requires numbers { HasNumbers (scope_in scene.now).env (expr_view index.now) }
     requires base { spot.base < 32 }
     requires shift { IfSome elements.shift (λ by. by < 32) }
-    ensures code { OnOk result (code.new.items ≡ code.old.items ++ map encoding (tested_code (scope_in scene.now) elements spot.base (made (scope_in scene.now) (expr_view index.now)) free)) }
+    ensures code { Appends code.old.items code.new.items (tested_code (scope_in scene.now) elements spot.base (made_in scene.now index.now) free) result }
     ensures ahead { OnErr result (StandAhead code.old.items code.new.items) }
     ensures base { IfOk result (λ x. x.base ≡ free) }
     ensures shift { IfOk result (λ x. x.shift ≡ spot.shift) }
@@ -184,7 +185,7 @@ pub fn emit_value(
     requires room { free + need (expr_view expr.now) ≤ 20 }
     requires target { target < 32 }
     requires numbers { HasNumbers (scope_in scene.now).env (expr_view expr.now) }
-    ensures appended { OnOk result (code.new.items ≡ code.old.items ++ map encoding (value_code (scope_in scene.now) (expr_view expr.now) target free)) }
+    ensures appended { Appends code.old.items code.new.items (value_code (scope_in scene.now) (expr_view expr.now) target free) result }
     ensures ahead { OnErr result (StandAhead code.old.items code.new.items) }
 {
     match expr {
@@ -218,7 +219,7 @@ fn emit_held(
     requires room { free + need (expr_view expr.now) ≤ 20 }
     requires target { target < 32 }
     requires numbers { HasNumbers (scope_in scene.now).env (expr_view expr.now) }
-    ensures appended { OnOk result (code.new.items ≡ code.old.items ++ map encoding (on_spot (access_inst access target) free ((made (scope_in scene.now) (expr_view expr.now)).place free))) }
+    ensures appended { Appends code.old.items code.new.items (on_spot (access_inst access target) free ((made_in scene.now expr.now).place free)) result }
     ensures ahead { OnErr result (StandAhead code.old.items code.new.items) }
 {
     let spot = emit_place(scene, expr, free, code)?;
@@ -237,7 +238,7 @@ fn emit_variable(
     requires room { free + need (expr_view expr.now) ≤ 20 }
     requires target { target < 32 }
     requires numbers { HasNumbers (scope_in scene.now).env (expr_view expr.now) }
-    ensures appended { OnOk result (code.new.items ≡ code.old.items ++ map encoding (held_code (made (scope_in scene.now) (expr_view expr.now)).stands ((made (scope_in scene.now) (expr_view expr.now)).place free) target free)) }
+    ensures appended { Appends code.old.items code.new.items (held_in scene.now expr.now target free) result }
     ensures ahead { OnErr result (StandAhead code.old.items code.new.items) }
 {
     if let Some(source) = stands_in(scene, expr) {
@@ -266,7 +267,7 @@ fn emit_unary(
     requires room { free + need (expr_view part.now) ≤ 20 }
     requires target { target < 32 }
     requires numbers { HasNumbers (scope_in scene.now).env (expr_view part.now) }
-    ensures appended { OnOk result (code.new.items ≡ code.old.items ++ map encoding ((unary_made op (made (scope_in scene.now) (expr_view part.now))).value target free)) }
+    ensures appended { Appends code.old.items code.new.items ((unary_made op (made_in scene.now part.now)).value target free) result }
     ensures ahead { OnErr result (StandAhead code.old.items code.new.items) }
 {
     match op {
@@ -297,7 +298,7 @@ fn emit_negative(
     requires room { free + need (expr_view part.now) ≤ 20 }
     requires target { target < 32 }
     requires numbers { HasNumbers (scope_in scene.now).env (expr_view part.now) }
-    ensures appended { OnOk result (code.new.items ≡ code.old.items ++ map encoding ((negative_made (made (scope_in scene.now) (expr_view part.now)).literal (made (scope_in scene.now) (expr_view part.now))).value target free)) }
+    ensures appended { Appends code.old.items code.new.items ((unary_made Negate (made_in scene.now part.now)).value target free) result }
     ensures ahead { OnErr result (StandAhead code.old.items code.new.items) }
 {
     if let Some(number) = literal_of(part) {
@@ -329,7 +330,7 @@ fn emit_binary(
     requires target { target < 32 }
     requires left { HasNumbers (scope_in scene.now).env (expr_view left.now) }
     requires right { HasNumbers (scope_in scene.now).env (expr_view right.now) }
-    ensures appended { OnOk result (code.new.items ≡ code.old.items ++ map encoding ((binary_made (scope_in scene.now) op (made (scope_in scene.now) (expr_view left.now)) (made (scope_in scene.now) (expr_view right.now))).value target free)) }
+    ensures appended { Appends code.old.items code.new.items ((binary_in scene.now op left.now right.now).value target free) result }
     ensures ahead { OnErr result (StandAhead code.old.items code.new.items) }
 {
     match op {
@@ -364,7 +365,7 @@ fn emit_constant_side(
     requires target { target < 32 }
     requires numbers { HasNumbers (scope_in scene.now).env (expr_view side.now) }
     requires takes { is_immediate (immediate op word) ≡ true }
-    ensures appended { OnOk result (code.new.items ≡ code.old.items ++ map encoding (one_code (λ q. code_with (immediate op word) target q) (made (scope_in scene.now) (expr_view side.now)) free)) }
+    ensures appended { Appends code.old.items code.new.items (side_in scene.now (immediate op word) side.now target free) result }
     ensures ahead { OnErr result (StandAhead code.old.items code.new.items) }
 {
     let source = emit_operand(scene, side, free, code)?;
@@ -387,7 +388,7 @@ fn emit_both_sides(
     requires target { target < 32 }
     requires left { HasNumbers (scope_in scene.now).env (expr_view left.now) }
     requires right { HasNumbers (scope_in scene.now).env (expr_view right.now) }
-    ensures appended { OnOk result (code.new.items ≡ code.old.items ++ map encoding (two_code (λ q t. operator_code op target q t) (made (scope_in scene.now) (expr_view left.now)) (made (scope_in scene.now) (expr_view right.now)) free)) }
+    ensures appended { Appends code.old.items code.new.items (sides_in scene.now op left.now right.now target free) result }
     ensures ahead { OnErr result (StandAhead code.old.items code.new.items) }
 {
     let first = emit_operand(scene, left, free, code)?;
@@ -411,7 +412,7 @@ fn emit_plain(
     requires target { target < 32 }
     requires left { HasNumbers (scope_in scene.now).env (expr_view left.now) }
     requires right { HasNumbers (scope_in scene.now).env (expr_view right.now) }
-    ensures appended { OnOk result (code.new.items ≡ code.old.items ++ map encoding ((operator_made (immediate_of op (made (scope_in scene.now) (expr_view right.now)).known) op (made (scope_in scene.now) (expr_view left.now)) (made (scope_in scene.now) (expr_view right.now))).value target free)) }
+    ensures appended { Appends code.old.items code.new.items ((operator_in scene.now op left.now right.now).value target free) result }
     ensures ahead { OnErr result (StandAhead code.old.items code.new.items) }
 {
     if let Some(word) = known_of(right) {
@@ -437,7 +438,7 @@ fn emit_addition(
     requires target { target < 32 }
     requires left { HasNumbers (scope_in scene.now).env (expr_view left.now) }
     requires right { HasNumbers (scope_in scene.now).env (expr_view right.now) }
-    ensures appended { OnOk result (code.new.items ≡ code.old.items ++ map encoding ((sum_made (immediate_of Add (made (scope_in scene.now) (expr_view right.now)).known) (immediate_of Add (made (scope_in scene.now) (expr_view left.now)).known) (made (scope_in scene.now) (expr_view left.now)) (made (scope_in scene.now) (expr_view right.now))).value target free)) }
+    ensures appended { Appends code.old.items code.new.items ((binary_in scene.now Add left.now right.now).value target free) result }
     ensures ahead { OnErr result (StandAhead code.old.items code.new.items) }
 {
     if let Some(word) = known_of(right) {
@@ -479,7 +480,7 @@ fn emit_quotient(
     requires target { target < 32 }
     requires left { HasNumbers (scope_in scene.now).env (expr_view left.now) }
     requires right { HasNumbers (scope_in scene.now).env (expr_view right.now) }
-    ensures appended { OnOk result (code.new.items ≡ code.old.items ++ map encoding (quotient_code (scope_in scene.now) is_quotient (spec.is_sure (made (scope_in scene.now) (expr_view right.now)).known) (made (scope_in scene.now) (expr_view left.now)) (made (scope_in scene.now) (expr_view right.now)) target free)) }
+    ensures appended { Appends code.old.items code.new.items (quotient_in scene.now is_quotient left.now right.now target free) result }
     ensures ahead { OnErr result (StandAhead code.old.items code.new.items) }
 {
     let first = emit_operand(scene, left, free, code)?;
@@ -513,7 +514,7 @@ fn skip(is_or: bool, register: u32) -> Inst
 fn emit_to(code: &mut Vec<u32>, target: u32, source: u32) -> Result<(), AllocError>
     requires target { target < 32 }
     requires source { source < 32 }
-    ensures appended { OnOk result (code.new.items ≡ code.old.items ++ map encoding (to_code target source)) }
+    ensures appended { Appends code.old.items code.new.items (to_code target source) result }
     ensures ahead { OnErr result (StandAhead code.old.items code.new.items) }
 {
     if target == source {
@@ -540,7 +541,7 @@ fn emit_right(
 ) -> Result<(), AllocError>
     requires room { free + need (expr_view right.now) ≤ 20 }
     requires numbers { HasNumbers (scope_in scene.now).env (expr_view right.now) }
-    ensures appended { OnOk result (code.new.items ≡ code.old.items ++ map encoding (right_code is_or free (value_code (scope_in scene.now) (expr_view right.now) free free))) }
+    ensures appended { Appends code.old.items code.new.items (right_code is_or free (value_code (scope_in scene.now) (expr_view right.now) free free)) result }
     ensures ahead { OnErr result (StandAhead code.old.items code.new.items) }
 {
     let at = code.len();
@@ -567,7 +568,7 @@ fn emit_logic(
     requires target { target < 32 }
     requires left { HasNumbers (scope_in scene.now).env (expr_view left.now) }
     requires right { HasNumbers (scope_in scene.now).env (expr_view right.now) }
-    ensures appended { OnOk result (code.new.items ≡ code.old.items ++ map encoding (logic_code (λ k. logic_skip is_or free k) (made (scope_in scene.now) (expr_view left.now)) (made (scope_in scene.now) (expr_view right.now)) target free)) }
+    ensures appended { Appends code.old.items code.new.items (logic_in scene.now is_or left.now right.now target free) result }
     ensures ahead { OnErr result (StandAhead code.old.items code.new.items) }
 {
     emit_value(scene, left, free, free, code)?;

@@ -1,11 +1,11 @@
 // Operators between registers and constants.
 
-ghost use Rattle.std.specs.Prelude.{◌≡◌, ◌∷◌, [], ◌++◌, ◌+◌, ◌%◌, ◌^◌, ◌<◌, map, true, OnErr, OnOk};
-ghost use Rattle.mips_table.specs.declared.inst.Inst.TheVariants.{Addiu, Div, Mflo, Mult, Slt, Slti, Xor, Xori};
-ghost use Rattle.mips_table.specs.Encoding.{InRange, encoding};
+ghost use Rattle.std.specs.Prelude.{◌≡◌, ◌∷◌, [], ◌%◌, ◌^◌, ◌<◌, true, OnErr};
+ghost use Rattle.mips_table.specs.declared.inst.Inst.TheVariants.{Addiu, Mflo, Mult, Slt, Slti, Xor, Xori};
+ghost use Rattle.mips_table.specs.Encoding.{InRange};
 ghost use Rattle.c0_expr_code.specs.Scene.{scope_in};
 ghost use Rattle.c0_expr_code.specs.Code.{divisor_code, immediate, operator_code, negated, low as lower};
-ghost use Rattle.c0_expr_code.specs.Emit.{code_with, equality_code, is_immediate, taken_inst, zero_test};
+ghost use Rattle.c0_expr_code.specs.Emit.{Appends, code_with, division_code, equality_code, is_immediate, taken_inst, zero_test};
 ghost use Rattle.c0_expr_code.specs.Ahead.{StandAhead};
 
 use crate::element::emit_guard;
@@ -41,7 +41,7 @@ fn zero_test_of(is_equal: bool, target: u32, source: u32) -> Inst
 fn emit_sum(code: &mut Vec<u32>, target: u32, left: u32, word: u32) -> Result<(), AllocError>
     requires target { target < 32 }
     requires left { left < 32 }
-    ensures appended { OnOk result (code.new.items ≡ code.old.items ++ map encoding (Addiu target left (lower word) ∷ [])) }
+    ensures appended { Appends code.old.items code.new.items (Addiu target left (lower word) ∷ []) result }
     ensures ahead { OnErr result (StandAhead code.old.items code.new.items) }
 {
     emit(
@@ -58,7 +58,7 @@ fn emit_sum(code: &mut Vec<u32>, target: u32, left: u32, word: u32) -> Result<()
 pub fn emit_below(code: &mut Vec<u32>, target: u32, left: u32, word: u32) -> Result<(), AllocError>
     requires target { target < 32 }
     requires left { left < 32 }
-    ensures appended { OnOk result (code.new.items ≡ code.old.items ++ map encoding (Slti target left (lower word) ∷ [])) }
+    ensures appended { Appends code.old.items code.new.items (Slti target left (lower word) ∷ []) result }
     ensures ahead { OnErr result (StandAhead code.old.items code.new.items) }
 {
     emit(
@@ -75,7 +75,7 @@ pub fn emit_below(code: &mut Vec<u32>, target: u32, left: u32, word: u32) -> Res
 fn emit_not_below(code: &mut Vec<u32>, target: u32, left: u32, word: u32) -> Result<(), AllocError>
     requires target { target < 32 }
     requires left { left < 32 }
-    ensures appended { OnOk result (code.new.items ≡ code.old.items ++ map encoding (Slti target left (lower word) ∷ Xori target target 1 ∷ [])) }
+    ensures appended { Appends code.old.items code.new.items (Slti target left (lower word) ∷ Xori target target 1 ∷ []) result }
     ensures ahead { OnErr result (StandAhead code.old.items code.new.items) }
 {
     emit_below(code, target, left, word)?;
@@ -100,7 +100,7 @@ fn emit_equality_with(
     requires target { target < 32 }
     requires left { left < 32 }
     requires word { word < 2 ^ 16 }
-    ensures appended { OnOk result (code.new.items ≡ code.old.items ++ map encoding (equality_code is_equal word target left)) }
+    ensures appended { Appends code.old.items code.new.items (equality_code is_equal word target left) result }
     ensures ahead { OnErr result (StandAhead code.old.items code.new.items) }
 {
     if word == 0 {
@@ -149,7 +149,7 @@ pub fn emit_with_constant(
     requires target { target < 32 }
     requires left { left < 32 }
     requires takes { is_immediate (immediate op word) ≡ true }
-    ensures appended { OnOk result (code.new.items ≡ code.old.items ++ map encoding (code_with (immediate op word) target left)) }
+    ensures appended { Appends code.old.items code.new.items (code_with (immediate op word) target left) result }
     ensures ahead { OnErr result (StandAhead code.old.items code.new.items) }
 {
     match op {
@@ -189,7 +189,7 @@ fn emit_not_less(code: &mut Vec<u32>, target: u32, left: u32, right: u32) -> Res
     requires target { target < 32 }
     requires left { left < 32 }
     requires right { right < 32 }
-    ensures appended { OnOk result (code.new.items ≡ code.old.items ++ map encoding (Slt target left right ∷ Xori target target 1 ∷ [])) }
+    ensures appended { Appends code.old.items code.new.items (Slt target left right ∷ Xori target target 1 ∷ []) result }
     ensures ahead { OnErr result (StandAhead code.old.items code.new.items) }
 {
     emit(code, less(target, left, right))?;
@@ -214,7 +214,7 @@ fn emit_equality(
     requires target { target < 32 }
     requires left { left < 32 }
     requires right { right < 32 }
-    ensures appended { OnOk result (code.new.items ≡ code.old.items ++ map encoding (Xor target left right ∷ zero_test is_equal target target ∷ [])) }
+    ensures appended { Appends code.old.items code.new.items (Xor target left right ∷ zero_test is_equal target target ∷ []) result }
     ensures ahead { OnErr result (StandAhead code.old.items code.new.items) }
 {
     emit(
@@ -233,7 +233,7 @@ fn emit_product(code: &mut Vec<u32>, target: u32, left: u32, right: u32) -> Resu
     requires target { target < 32 }
     requires left { left < 32 }
     requires right { right < 32 }
-    ensures appended { OnOk result (code.new.items ≡ code.old.items ++ map encoding (Mult left right ∷ Mflo target ∷ [])) }
+    ensures appended { Appends code.old.items code.new.items (Mult left right ∷ Mflo target ∷ []) result }
     ensures ahead { OnErr result (StandAhead code.old.items code.new.items) }
 {
     emit(
@@ -257,7 +257,7 @@ pub fn emit_operator(
     requires target { target < 32 }
     requires left { left < 32 }
     requires right { right < 32 }
-    ensures appended { OnOk result (code.new.items ≡ code.old.items ++ map encoding (operator_code op target left right)) }
+    ensures appended { Appends code.old.items code.new.items (operator_code op target left right) result }
     ensures ahead { OnErr result (StandAhead code.old.items code.new.items) }
 {
     match op {
@@ -299,7 +299,7 @@ fn emit_divisor(
     divisor: u32,
 ) -> Result<(), AllocError>
     requires { divisor < 32 }
-    ensures appended { OnOk result (code.new.items ≡ code.old.items ++ map encoding (divisor_code (scope_in scene.now) is_sure divisor)) }
+    ensures appended { Appends code.old.items code.new.items (divisor_code (scope_in scene.now) is_sure divisor) result }
     ensures ahead { OnErr result (StandAhead code.old.items code.new.items) }
 {
     if is_sure {
@@ -335,7 +335,7 @@ pub fn emit_division(
     requires target { target < 32 }
     requires left { left < 32 }
     requires right { right < 32 }
-    ensures appended { OnOk result (code.new.items ≡ code.old.items ++ map encoding (divisor_code (scope_in scene.now) is_sure right ++ (Div left right ∷ taken_inst is_quotient target ∷ []))) }
+    ensures appended { Appends code.old.items code.new.items (division_code (scope_in scene.now) is_quotient is_sure target left right) result }
     ensures ahead { OnErr result (StandAhead code.old.items code.new.items) }
 {
     emit_divisor(code, scene, is_sure, right)?;

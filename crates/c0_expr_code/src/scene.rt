@@ -1,13 +1,13 @@
 // What the code of a function is made for.
 
-ghost use Rattle.std.specs.Prelude.{◌≡◌, ◌<◌, ◌+◌, ◌*◌, ◌%◌, ◌^◌, Some, length, map, slice_get, slice_index, IfOk};
-ghost use Rattle.c0_tree.specs.Tree.{CFunction};
+ghost use Rattle.std.specs.Prelude.{◌≡◌, ◌<◌, ◌+◌, ◌*◌, ◌%◌, ◌^◌, length, slice_index, IfOk};
 ghost use Rattle.c0_tree.specs.View.{unit_view};
 ghost use Rattle.masm.specs.Places.{ArePlaces};
 ghost use Rattle.c0_meaning.specs.Limits.{frame as frame_of};
 ghost use Rattle.c0_meaning.specs.Offsets.{offsets};
 ghost use Rattle.c0_meaning.specs.Sound.{shapes};
 ghost use Rattle.c0_meaning.specs.TypedState.{variable_types};
+ghost use Rattle.c0_expr_code.specs.Layout.{OfFunction, unit_of};
 ghost use Rattle.c0_expr_code.specs.Scope as spec;
 
 use crate::layout::Layout;
@@ -33,7 +33,7 @@ pub struct Scene<'a> {
     /// The addresses of the exits of faults, in the order of their power words.
     pub faults: [u32; 4],
     ghost there: { function < length (unit_view layout.now.unit.now).functions },
-    ghost variables_are: { (f : CFunction) → slice_get (unit_view layout.now.unit.now).functions function ≡ Some f → variables.items ≡ offsets (shapes (unit_view layout.now.unit.now)) (variable_types f) },
+    ghost variables_are: { OfFunction layout.now function (λ f. variables.items ≡ offsets (shapes (unit_of layout.now)) (variable_types f)) },
     ghost exits: { (slice_index faults 0 < 2 ^ 28) × (slice_index faults 1 < 2 ^ 28) × (slice_index faults 2 < 2 ^ 28) × (slice_index faults 3 < 2 ^ 28) },
 }
 
@@ -50,8 +50,8 @@ impl<'a> Scene<'a> {
         ensures layout { IfOk result (λ x. x.layout.now ≡ layout.now) }
         ensures function { IfOk result (λ x. x.function ≡ function) }
         ensures faults { IfOk result (λ x. x.faults ≡ places.now.faults) }
-        ensures frame { (f : CFunction) → slice_get (unit_view layout.now.unit.now).functions function ≡ Some f → IfOk result (λ x. x.frame ≡ frame_of (shapes (unit_view layout.now.unit.now)) f) }
-        ensures registers { (f : CFunction) → slice_get (unit_view layout.now.unit.now).functions function ≡ Some f → IfOk result (λ x. x.in_registers ≡ spec.keeps_registers f) }
+        ensures frame { OfFunction layout.now function (λ f. IfOk result (λ x. x.frame ≡ frame_of (shapes (unit_of layout.now)) f)) }
+        ensures registers { OfFunction layout.now function (λ f. IfOk result (λ x. x.in_registers ≡ spec.keeps_registers f)) }
     {
         Ok(Scene {
             layout,

@@ -1,9 +1,9 @@
 // The scene of a function.
 
-ghost use Rattle.std.specs.Prelude.{◌≡◌, ◌<◌, Some, length, slice_get, IfOk};
-ghost use Rattle.c0_tree.specs.Tree.{CFunction};
+ghost use Rattle.std.specs.Prelude.{◌≡◌, ◌<◌, length, IfOk};
 ghost use Rattle.c0_tree.specs.View.{unit_view};
 ghost use Rattle.masm.specs.Places.{ArePlaces};
+ghost use Rattle.c0_expr_code.specs.Layout.{OfFunction, unit_of};
 ghost use Rattle.c0_expr_code.specs.Scene.{scope_in};
 ghost use Rattle.c0_expr_code.specs.Scope.{scope_of};
 
@@ -21,7 +21,7 @@ pub fn begun_scene<'a>(
 ) -> Result<Scene<'a>, AllocError>
     requires function { function < length (unit_view layout.now.unit.now).functions }
     requires places { ArePlaces places.now }
-    ensures { (f : CFunction) → slice_get (unit_view layout.now.unit.now).functions function ≡ Some f → IfOk result (λ x. scope_in x ≡ scope_of (unit_view layout.now.unit.now) f places.now) }
+    ensures { OfFunction layout.now function (λ f. IfOk result (λ x. scope_in x ≡ scope_of (unit_of layout.now) f places.now)) }
 {
     Scene::new(alloc, layout, function, places)
 }

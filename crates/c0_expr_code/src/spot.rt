@@ -1,9 +1,9 @@
 // Places: a register and bytes from it on.
 
-ghost use Rattle.std.specs.Prelude.{◌≡◌, ◌+◌, ◌%◌, ◌^◌, ◌<◌, ◌++◌, map, OnErr, OnOk};
-ghost use Rattle.mips_table.specs.Encoding.{InRange, encoding};
+ghost use Rattle.std.specs.Prelude.{◌≡◌, ◌+◌, ◌%◌, ◌^◌, ◌<◌, OnErr};
+ghost use Rattle.mips_table.specs.Encoding.{InRange};
 ghost use Rattle.c0_expr_code.specs.Code.{high, on_spot};
-ghost use Rattle.c0_expr_code.specs.Emit.{access_inst, far_code, spot_at};
+ghost use Rattle.c0_expr_code.specs.Emit.{Appends, access_inst, far_code, spot_at};
 
 use crate::word::{emit, is_near, low};
 use masm::registers::SCRATCH;
@@ -89,7 +89,7 @@ fn emit_far(
     requires register { register < 32 }
     requires free { free < 32 }
     requires base { spot.base < 32 }
-    ensures appended { OnOk result (code.new.items ≡ code.old.items ++ map encoding (far_code (access_inst access register) free (spot_at spot))) }
+    ensures appended { Appends code.old.items code.new.items (far_code (access_inst access register) free (spot_at spot)) result }
     ensures unchanged { OnErr result (code.new.items ≡ code.old.items) }
 {
     let half = Inst::Lui {
@@ -119,7 +119,7 @@ pub fn emit_access(
     requires register { register < 32 }
     requires free { free < 32 }
     requires base { spot.base < 32 }
-    ensures appended { OnOk result (code.new.items ≡ code.old.items ++ map encoding (on_spot (access_inst access register) free (spot_at spot))) }
+    ensures appended { Appends code.old.items code.new.items (on_spot (access_inst access register) free (spot_at spot)) result }
     ensures unchanged { OnErr result (code.new.items ≡ code.old.items) }
 {
     if is_near(spot.shift) {

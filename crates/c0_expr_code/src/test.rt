@@ -1,15 +1,16 @@
 // Tests: code that goes to a place where an expression is true, or where it is false, and else falls through. Where memory is wanting,
 // a part of a test's code and of its branches' places may stand behind what stood before.
 
-ghost use Rattle.std.specs.Prelude.{◌≡◌, ◌+◌, ◌-◌, ◌≤◌, ◌<◌, ◌∷◌, [], ◌++◌, length, map, not, true, OnErr, OnOk};
+ghost use Rattle.std.specs.Prelude.{◌≡◌, ◌+◌, ◌-◌, ◌≤◌, ◌<◌, ◌∷◌, [], ◌++◌, length, not, true, OnErr, OnOk};
 ghost use Rattle.mips_table.specs.declared.inst.Inst.TheVariants.{Slt};
-ghost use Rattle.mips_table.specs.Encoding.{InRange, encoding};
+ghost use Rattle.mips_table.specs.Encoding.{InRange};
 ghost use Rattle.masm.specs.declared.registers.TheConstants.{SCRATCH as scratch};
 ghost use Rattle.c0_tree.specs.Size.{need, binary_need};
 ghost use Rattle.c0_tree.specs.View.{expr_view};
-ghost use Rattle.c0_expr_code.specs.Jumps.{test_open};
-ghost use Rattle.c0_expr_code.specs.Opened.{IsOpened, bool_code, bool_open, either_open, equality_code, equality_open, higher_code, is_equality, is_order};
-ghost use Rattle.c0_expr_code.specs.Opened.{is_test_immediate, logic_open, lower_code, operation_open, order_code, order_open, over_open, side_code, test_with};
+ghost use Rattle.c0_expr_code.specs.Emit.{Appends};
+ghost use Rattle.c0_expr_code.specs.Opened.{AppendsOpen, bool_code, bool_open, either_open, equality_in, equality_open, higher_code, is_equality, is_order};
+ghost use Rattle.c0_expr_code.specs.Opened.{is_test_immediate, logic_open, lower_code, open_in, operation_open, order_in, order_open, over_in, side_code};
+ghost use Rattle.c0_expr_code.specs.Opened.{test_with};
 ghost use Rattle.c0_expr_code.specs.Scene.{HasNumbers, scope_in};
 ghost use Rattle.c0_expr_code.specs.Test.{below_code, branch_code, compare_code, immediate_test, negative_branch, positive_branch};
 ghost use Rattle.c0_expr_code.specs.Ahead.{StandAhead};
@@ -94,7 +95,7 @@ fn emit_less_test(
 ) -> Result<(), AllocError>
     requires left { left < 32 }
     requires right { right < 32 }
-    ensures appended { OnOk result (code.new.items ≡ code.old.items ++ map encoding (Slt scratch left right ∷ branch_code is_not scratch 0 0 ∷ [])) }
+    ensures appended { Appends code.old.items code.new.items (Slt scratch left right ∷ branch_code is_not scratch 0 0 ∷ []) result }
     ensures ahead { OnErr result (StandAhead code.old.items code.new.items) }
 {
     emit(code, less(SCRATCH, left, right))?;
@@ -111,7 +112,7 @@ fn emit_comparison(
 ) -> Result<(), AllocError>
     requires left { left < 32 }
     requires right { right < 32 }
-    ensures appended { OnOk result (code.new.items ≡ code.old.items ++ map encoding (compare_code op wanted 0 left right)) }
+    ensures appended { Appends code.old.items code.new.items (compare_code op wanted 0 left right) result }
     ensures ahead { OnErr result (StandAhead code.old.items code.new.items) }
 {
     match op {
@@ -139,7 +140,7 @@ fn emit_below_test(
     word: u32,
 ) -> Result<(), AllocError>
     requires { left < 32 }
-    ensures appended { OnOk result (code.new.items ≡ code.old.items ++ map encoding (below_code word wanted 0 left)) }
+    ensures appended { Appends code.old.items code.new.items (below_code word wanted 0 left) result }
     ensures ahead { OnErr result (StandAhead code.old.items code.new.items) }
 {
     emit_below(code, SCRATCH, left, word)?;
@@ -170,7 +171,7 @@ fn tests_constant(op: BinaryOp, word: u32) -> bool
 // Appends the test of whether a register is below a constant, by its sign where that is 0.
 fn emit_lower(code: &mut Vec<u32>, wanted: bool, left: u32, word: u32) -> Result<(), AllocError>
     requires { left < 32 }
-    ensures appended { OnOk result (code.new.items ≡ code.old.items ++ map encoding (lower_code word wanted left)) }
+    ensures appended { Appends code.old.items code.new.items (lower_code word wanted left) result }
     ensures ahead { OnErr result (StandAhead code.old.items code.new.items) }
 {
     if word == 0 {
@@ -182,7 +183,7 @@ fn emit_lower(code: &mut Vec<u32>, wanted: bool, left: u32, word: u32) -> Result
 // Appends the test of whether a register is above a constant.
 fn emit_higher(code: &mut Vec<u32>, wanted: bool, left: u32, word: u32) -> Result<(), AllocError>
     requires { left < 32 }
-    ensures appended { OnOk result (code.new.items ≡ code.old.items ++ map encoding (higher_code word wanted left)) }
+    ensures appended { Appends code.old.items code.new.items (higher_code word wanted left) result }
     ensures ahead { OnErr result (StandAhead code.old.items code.new.items) }
 {
     if word == 0 {
@@ -201,7 +202,7 @@ fn emit_constant_test(
 ) -> Result<(), AllocError>
     requires left { left < 32 }
     requires takes { is_test_immediate (immediate_test op word) ≡ true }
-    ensures appended { OnOk result (code.new.items ≡ code.old.items ++ map encoding (test_with (immediate_test op word) wanted 0 left)) }
+    ensures appended { Appends code.old.items code.new.items (test_with (immediate_test op word) wanted 0 left) result }
     ensures ahead { OnErr result (StandAhead code.old.items code.new.items) }
 {
     match op {
@@ -241,7 +242,7 @@ fn emit_bool_code(
 ) -> Result<(), AllocError>
     requires room { free + need (expr_view expr.now) ≤ 20 }
     requires numbers { HasNumbers (scope_in scene.now).env (expr_view expr.now) }
-    ensures appended { OnOk result (code.new.items ≡ code.old.items ++ map encoding (bool_code (scope_in scene.now) (expr_view expr.now) wanted free)) }
+    ensures appended { Appends code.old.items code.new.items (bool_code (scope_in scene.now) (expr_view expr.now) wanted free) result }
     ensures ahead { OnErr result (StandAhead code.old.items code.new.items) }
 {
     let register = emit_operand(scene, expr, free, code)?;
@@ -261,7 +262,7 @@ fn emit_one_side(
     requires room { free + need (expr_view side.now) ≤ 20 }
     requires numbers { HasNumbers (scope_in scene.now).env (expr_view side.now) }
     requires takes { is_test_immediate (immediate_test op word) ≡ true }
-    ensures appended { OnOk result (code.new.items ≡ code.old.items ++ map encoding (side_code (scope_in scene.now) op word (expr_view side.now) wanted free)) }
+    ensures appended { Appends code.old.items code.new.items (side_code (scope_in scene.now) op word (expr_view side.now) wanted free) result }
     ensures ahead { OnErr result (StandAhead code.old.items code.new.items) }
 {
     let register = emit_operand(scene, side, free, code)?;
@@ -282,7 +283,7 @@ fn emit_two_sides(
     requires second { free + 1 + need (expr_view right.now) ≤ 20 }
     requires left { HasNumbers (scope_in scene.now).env (expr_view left.now) }
     requires right { HasNumbers (scope_in scene.now).env (expr_view right.now) }
-    ensures appended { OnOk result (code.new.items ≡ code.old.items ++ map encoding (equality_code (scope_in scene.now) op (expr_view left.now) (expr_view right.now) wanted free)) }
+    ensures appended { Appends code.old.items code.new.items (equality_in scene.now op left.now right.now wanted free) result }
     ensures ahead { OnErr result (StandAhead code.old.items code.new.items) }
 {
     let first = emit_operand(scene, left, free, code)?;
@@ -304,7 +305,7 @@ fn emit_order(
     requires second { free + 1 + need (expr_view right.now) ≤ 20 }
     requires left { HasNumbers (scope_in scene.now).env (expr_view left.now) }
     requires right { HasNumbers (scope_in scene.now).env (expr_view right.now) }
-    ensures appended { OnOk result (code.new.items ≡ code.old.items ++ map encoding (order_code (scope_in scene.now) op (expr_view left.now) (expr_view right.now) wanted free)) }
+    ensures appended { Appends code.old.items code.new.items (order_in scene.now op left.now right.now wanted free) result }
     ensures ahead { OnErr result (StandAhead code.old.items code.new.items) }
 {
     if let Some(word) = known_of(right) {
@@ -326,7 +327,7 @@ fn emit_bool(
 ) -> Result<(), AllocError>
     requires room { free + need (expr_view expr.now) ≤ 20 }
     requires numbers { HasNumbers (scope_in scene.now).env (expr_view expr.now) }
-    ensures opened { OnOk result (IsOpened code.old.items code.new.items jumps.old.items jumps.new.items (bool_open (scope_in scene.now) (expr_view expr.now) wanted free)) }
+    ensures opened { AppendsOpen code.old code.new jumps.old jumps.new (bool_open scene.now expr.now wanted free) result }
     ensures ahead { OnErr result (StandAhead code.old.items code.new.items) }
     ensures marked { OnErr result (StandAhead jumps.old.items jumps.new.items) }
 {
@@ -350,7 +351,7 @@ fn emit_order_test(
     requires second { free + 1 + need (expr_view right.now) ≤ 20 }
     requires left { HasNumbers (scope_in scene.now).env (expr_view left.now) }
     requires right { HasNumbers (scope_in scene.now).env (expr_view right.now) }
-    ensures opened { OnOk result (IsOpened code.old.items code.new.items jumps.old.items jumps.new.items (order_open (scope_in scene.now) op (expr_view left.now) (expr_view right.now) wanted free)) }
+    ensures opened { AppendsOpen code.old code.new jumps.old jumps.new (order_open scene.now op left.now right.now wanted free) result }
     ensures ahead { OnErr result (StandAhead code.old.items code.new.items) }
     ensures marked { OnErr result (StandAhead jumps.old.items jumps.new.items) }
 {
@@ -374,7 +375,7 @@ fn emit_equality_test(
     requires second { free + 1 + need (expr_view right.now) ≤ 20 }
     requires left { HasNumbers (scope_in scene.now).env (expr_view left.now) }
     requires right { HasNumbers (scope_in scene.now).env (expr_view right.now) }
-    ensures opened { OnOk result (IsOpened code.old.items code.new.items jumps.old.items jumps.new.items (equality_open (scope_in scene.now) op (expr_view left.now) (expr_view right.now) wanted free)) }
+    ensures opened { AppendsOpen code.old code.new jumps.old jumps.new (equality_open scene.now op left.now right.now wanted free) result }
     ensures ahead { OnErr result (StandAhead code.old.items code.new.items) }
     ensures marked { OnErr result (StandAhead jumps.old.items jumps.new.items) }
 {
@@ -396,7 +397,7 @@ pub fn emit_test(
 ) -> Result<(), AllocError>
     requires room { free + need (expr_view expr.now) ≤ 20 }
     requires numbers { HasNumbers (scope_in scene.now).env (expr_view expr.now) }
-    ensures opened { OnOk result (IsOpened code.old.items code.new.items jumps.old.items jumps.new.items (test_open (scope_in scene.now) (expr_view expr.now) wanted free)) }
+    ensures opened { AppendsOpen code.old code.new jumps.old jumps.new (open_in scene.now expr.now wanted free) result }
     ensures ahead { OnErr result (StandAhead code.old.items code.new.items) }
     ensures marked { OnErr result (StandAhead jumps.old.items jumps.new.items) }
 {
@@ -442,7 +443,7 @@ fn emit_operation(
     requires numbers { HasNumbers (scope_in scene.now).env (expr_view whole.now) }
     requires left { HasNumbers (scope_in scene.now).env (expr_view left.now) }
     requires right { HasNumbers (scope_in scene.now).env (expr_view right.now) }
-    ensures opened { OnOk result (IsOpened code.old.items code.new.items jumps.old.items jumps.new.items (operation_open (scope_in scene.now) (expr_view whole.now) op (expr_view left.now) (expr_view right.now) wanted free)) }
+    ensures opened { AppendsOpen code.old code.new jumps.old jumps.new (operation_open scene.now whole.now op left.now right.now wanted free) result }
     ensures ahead { OnErr result (StandAhead code.old.items code.new.items) }
     ensures marked { OnErr result (StandAhead jumps.old.items jumps.new.items) }
 {
@@ -480,7 +481,7 @@ fn emit_both(
     requires second { free + need (expr_view right.now) ≤ 20 }
     requires left { HasNumbers (scope_in scene.now).env (expr_view left.now) }
     requires right { HasNumbers (scope_in scene.now).env (expr_view right.now) }
-    ensures opened { OnOk result (IsOpened code.old.items code.new.items jumps.old.items jumps.new.items (logic_open (scope_in scene.now) decides (expr_view left.now) (expr_view right.now) wanted free)) }
+    ensures opened { AppendsOpen code.old code.new jumps.old jumps.new (logic_open scene.now decides left.now right.now wanted free) result }
     ensures ahead { OnErr result (StandAhead code.old.items code.new.items) }
     ensures marked { OnErr result (StandAhead jumps.old.items jumps.new.items) }
 {
@@ -507,7 +508,7 @@ fn emit_joined(
     requires second { free + need (expr_view right.now) ≤ 20 }
     requires left { HasNumbers (scope_in scene.now).env (expr_view left.now) }
     requires right { HasNumbers (scope_in scene.now).env (expr_view right.now) }
-    ensures opened { OnOk result (IsOpened code.old.items code.new.items jumps.old.items jumps.new.items (either_open (scope_in scene.now) (expr_view left.now) (expr_view right.now) wanted free)) }
+    ensures opened { AppendsOpen code.old code.new jumps.old jumps.new (either_open scene.now left.now right.now wanted free) result }
     ensures ahead { OnErr result (StandAhead code.old.items code.new.items) }
     ensures marked { OnErr result (StandAhead jumps.old.items jumps.new.items) }
 {
@@ -531,7 +532,7 @@ fn emit_over(
     requires second { free + need (expr_view right.now) ≤ 20 }
     requires left { HasNumbers (scope_in scene.now).env (expr_view left.now) }
     requires right { HasNumbers (scope_in scene.now).env (expr_view right.now) }
-    ensures opened { OnOk result (IsOpened code.old.items code.new.items jumps.old.items jumps.new.items (over_open (scope_in scene.now) (expr_view left.now) (expr_view right.now) wanted free)) }
+    ensures opened { AppendsOpen code.old code.new jumps.old jumps.new (over_in scene.now left.now right.now wanted free) result }
     ensures ahead { OnErr result (StandAhead code.old.items code.new.items) }
     ensures marked { OnErr result (StandAhead jumps.old.items jumps.new.items) }
 {

@@ -9,8 +9,8 @@ ghost use Rattle.c0_meaning.specs.TypeAt.{IsFoundResolved};
 ghost use Rattle.c0_meaning.specs.Sound.{shapes};
 ghost use Rattle.c0_meaning.specs.TypedState.{types_of};
 ghost use Rattle.c0_expr_code.specs.Code as spec;
-ghost use Rattle.c0_expr_code.specs.Code.{element_words, fields_in, length_in, local_made, variable_made};
-ghost use Rattle.c0_expr_code.specs.Emit.{HasWords, IsSpot};
+ghost use Rattle.c0_expr_code.specs.Code.{element_words, length_in, local_made, variable_made};
+ghost use Rattle.c0_expr_code.specs.Emit.{HasWords, IsSpot, bytes_to_field};
 ghost use Rattle.c0_expr_code.specs.Scene.{IsFieldThere, IsThere, scope_in, unit_in};
 
 use crate::bytes::{bytes_of, words_to_field};
@@ -88,7 +88,7 @@ pub fn variable_spot(scene: &Scene<'_>, kind: Kind, number: u32) -> Spot
 pub fn field_bytes(scene: &Scene<'_>, found: Found<'_>, number: u32) -> u32
     requires resolved { IsFoundResolved (shapes (unit_in scene.now)) found }
     requires there { IsFieldThere (scope_in scene.now).env (found_view found) number }
-    ensures { result ≡ 4 * words_before (scope_in scene.now).env.structs (fields_in (scope_in scene.now).env.structs (found_view found.entry)) number % 2 ^ 32 }
+    ensures { result ≡ bytes_to_field (scope_in scene.now).env.structs (found_view found.entry) number % 2 ^ 32 }
 {
     match found {
         Found::Nothing => 0,

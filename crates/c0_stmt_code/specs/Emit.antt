@@ -6,19 +6,22 @@ use Rattle.c0_tree.specs.Tree.{CStmt, assign, call, new, choice, loop, CStmts, d
 use Rattle.c0_meaning.specs.Asm.{are_allowed_words}
 use Rattle.c0_meaning.specs.Env.{Env}
 use Rattle.c0_meaning.specs.Sound.{IsSized}
+use Rattle.c0_meaning.specs.Ty.{ty_of}
 use Rattle.c0_meaning.specs.TypeAt.{env_in}
 use Rattle.c0_meaning.specs.Unit.{IsWellFormed}
+use Rattle.c0_meaning.specs.Words.{words}
 use Rattle.mips_table.specs.declared.inst.Inst.{Inst}
-use Rattle.mips_table.specs.Encoding.{encoding}
 use Rattle.masm.specs.declared.registers.Places.{Places}
+use Rattle.c0_tree.specs.declared.tree.CType.{CType}
 use Rattle.c0_tree.specs.declared.tree.Code.{Code}
 use Rattle.c0_tree.specs.declared.tree.Expr.{Expr}
+use Rattle.c0_tree.specs.declared.tree.Kind.{Kind}
 use Rattle.c0_tree.specs.declared.tree.Stmt.{Stmt}
-use Rattle.c0_tree.specs.View.{decl_view, expr_view, stmts_view}
+use Rattle.c0_tree.specs.View.{decl_view, expr_view, stmts_view, type_view}
 use Rattle.c0_expr_code.specs.declared.scene.Scene.{Scene}
 use Rattle.c0_expr_code.specs.Scene.{scope_in}
 use Rattle.c0_expr_code.specs.Scope.{scope_of}
-use Rattle.c0_stmt_code.specs.Code.{skip, otherwise, choice_code, while_code, stmts_code, statements_function, function_code, links_of}
+use Rattle.c0_stmt_code.specs.Code.{skip, otherwise, call_code, new_code, choice_code, while_code, stmts_code, statements_function, function_code, links_of}
 use Rattle.c0_stmt_code.specs.EmitLeaf.{CanStand}
 
 -- The expressions of a statement can stand in the 12 registers of expressions: a place stands beside an assigned value. And so of statements.
@@ -57,6 +60,14 @@ skipped_code is = skip (length is) ∷ is
 abbrev pub stmts_at : Scene → Places → List Stmt → List Inst
 stmts_at scene places ss = stmts_code (scope_in scene) (links_of places) (stmts_view ss)
 
+-- of a call, whose answer goes to a place
+abbrev pub call_in : Scene → Places → Kind → (number : ℕ) → List Expr → Expr → List Inst
+call_in scene places kind n args p = call_code (scope_in scene) (links_of places) kind n (map expr_view args) (expr_view p)
+
+-- of `new` of a type, whose object's address goes to a place
+abbrev pub new_in : Scene → Places → CType → Expr → List Inst
+new_in scene places t p = new_code (scope_in scene) (links_of places) (words (scope_in scene).env.structs (ty_of (type_view t))) (expr_view p)
+
 -- of the other branch of an `if`
 abbrev pub otherwise_in : Scene → Places → List Stmt → List Inst
 otherwise_in scene places ss = otherwise (stmts_view ss) (stmts_at scene places ss)
@@ -74,6 +85,6 @@ abbrev pub function_in : Scene → Places → ℕ → Code → List Inst
 function_in scene places params body =
     statements_function (scope_in scene) (links_of places) params (map decl_view body.locals.items) (stmts_view body.stmts.items) (expr_view body.answer)
 
--- the words of a function's code, where what it names has these places
-abbrev pub function_words : CUnit → Places → CFunction → List ℕ
-function_words u places f = map encoding (function_code (scope_of u f places) (links_of places) f)
+-- of a function of a unit
+abbrev pub function_at : CUnit → Places → CFunction → List Inst
+function_at u places f = function_code (scope_of u f places) (links_of places) f

@@ -1,5 +1,7 @@
--- What the emitters of a function's begin and of statements that hold no others ask of their callers.
-use Rattle.std.specs.Prelude.{◌≡◌, ℕ, ◌+◌, ◌≤◌, List, length, map, Some, slice_get}
+-- What the emitters of a function's begin and of statements that hold no others say, and what they ask of their callers.
+use Rattle.std.specs.Prelude.{◌≡◌, ℕ, ◌+◌, ◌≤◌, Bool, if◌then◌else◌, List, [], length, map, Some, slice_get}
+use Rattle.mips_table.specs.declared.inst.Inst.{Inst}
+use Rattle.masm.specs.declared.registers.TheConstants.{RETURN, SCRATCH}
 use Rattle.masm.specs.declared.registers.Places.{Places}
 use Rattle.c0_tree.specs.Primitives.{CPrimitive}
 use Rattle.c0_tree.specs.Size.{need}
@@ -8,13 +10,21 @@ use Rattle.c0_meaning.specs.Env.{Env, typed_of}
 use Rattle.c0_meaning.specs.Limits.{locals_of}
 use Rattle.c0_meaning.specs.Unit.{IsWellFormed}
 use Rattle.c0_meaning.specs.Words.{all_words}
+use Rattle.c0_expr_code.specs.declared.spot.Access.{Access}
+use Rattle.c0_expr_code.specs.Code.{on_spot}
+use Rattle.c0_expr_code.specs.Emit.{access_inst}
 use Rattle.c0_expr_code.specs.Scene.{HasNumbers}
 use Rattle.c0_expr_code.specs.Scope.{Scope, scope_of}
+use Rattle.c0_stmt_code.specs.Code.{frame_spot}
 
 -- an expression whose variables and fields there are, and that needs at most so many registers
 pub record CanStand (env : Env) (registers : ℕ) (e : CExpr) : Type 0 where
   pub room : need e ≤ registers
   pub numbers : HasNumbers env e
+
+-- the access to the frame's first word, which keeps the return address where something is called
+abbrev pub kept_code : Scope → Access → (calling : Bool) → List Inst
+kept_code sc access calling = if calling then on_spot (access_inst access RETURN) SCRATCH (frame_spot sc 0) else []
 
 -- a frame has three words of its own, one for each parameter, and those of the locals
 abbrev pub HasFrame : Scope → (params : ℕ) → List CDecl → Type 0

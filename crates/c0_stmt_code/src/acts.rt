@@ -1,19 +1,19 @@
 // Statements that hold no others: assignments, calls and `new`.
 
-ghost use Rattle.std.specs.Prelude.{◌≡◌, ◌+◌, ◌/◌, ◌%◌, ◌^◌, ◌<◌, ◌≤◌, ◌++◌, map, slice_index, OnOk};
+ghost use Rattle.std.specs.Prelude.{◌≡◌, ◌+◌, ◌/◌, ◌%◌, ◌^◌, ◌<◌, ◌≤◌, map, slice_index};
 ghost use Rattle.std.specs.List.{All};
-ghost use Rattle.mips_table.specs.Encoding.{encoding};
 ghost use Rattle.masm.specs.Places.{ArePlaces, IsPlace};
 ghost use Rattle.c0_tree.specs.Size.{need};
 ghost use Rattle.c0_tree.specs.View.{expr_view, type_view};
 ghost use Rattle.c0_meaning.specs.Sound.{IsSized};
 ghost use Rattle.c0_meaning.specs.Ty.{ty_of};
 ghost use Rattle.c0_meaning.specs.Words.{words};
-ghost use Rattle.c0_expr_code.specs.Code.{made, on_spot};
-ghost use Rattle.c0_expr_code.specs.Emit.{access_inst};
-ghost use Rattle.c0_expr_code.specs.Scene.{HasNumbers, scope_in};
+ghost use Rattle.c0_expr_code.specs.Code.{on_spot};
+ghost use Rattle.c0_expr_code.specs.Emit.{Appends, access_inst};
+ghost use Rattle.c0_expr_code.specs.Scene.{HasNumbers, made_in, scope_in};
 ghost use Rattle.c0_expr_code.specs.declared.spot.Access.TheVariants.{Store};
-ghost use Rattle.c0_stmt_code.specs.Code.{answer_code, args_code, assign_code, call_code, callee_index, links_of, new_code};
+ghost use Rattle.c0_stmt_code.specs.Code.{answer_code, args_code, assign_code, callee_index, links_of};
+ghost use Rattle.c0_stmt_code.specs.Emit.{call_in, new_in};
 ghost use Rattle.c0_stmt_code.specs.EmitLeaf.{CanStand};
 
 use crate::prologue::register_behind;
@@ -64,7 +64,7 @@ fn emit_stored(
     requires register { register < 32 }
     requires room { free + need (expr_view place.now) ≤ 20 }
     requires numbers { HasNumbers (scope_in scene.now).env (expr_view place.now) }
-    ensures { OnOk result (code.new.items ≡ code.old.items ++ map encoding (on_spot (access_inst Store register) free ((made (scope_in scene.now) (expr_view place.now)).place free))) }
+    ensures { Appends code.old.items code.new.items (on_spot (access_inst Store register) free ((made_in scene.now place.now).place free)) result }
 {
     let spot = emit_place(scene, place, free, code)?;
     emit_access(code, Access::Store, register, free, spot)
@@ -73,7 +73,7 @@ fn emit_stored(
 // Appends the code that takes an answer to its place.
 fn emit_answer(scene: &Scene<'_>, place: &Expr, code: &mut Vec<u32>) -> Result<(), AllocError>
     requires { CanStand (scope_in scene.now).env 12 (expr_view place.now) }
-    ensures { OnOk result (code.new.items ≡ code.old.items ++ map encoding (answer_code (scope_in scene.now) (expr_view place.now))) }
+    ensures { Appends code.old.items code.new.items (answer_code (scope_in scene.now) (expr_view place.now)) result }
 {
     if let Some(target) = stands_in(scene, place) {
         return emit(
@@ -97,7 +97,7 @@ pub fn emit_assign(
 ) -> Result<(), AllocError>
     requires value { CanStand (scope_in scene.now).env 12 (expr_view value.now) }
     requires place { CanStand (scope_in scene.now).env 11 (expr_view place.now) }
-    ensures { OnOk result (code.new.items ≡ code.old.items ++ map encoding (assign_code (scope_in scene.now) (expr_view place.now) (expr_view value.now))) }
+    ensures { Appends code.old.items code.new.items (assign_code (scope_in scene.now) (expr_view place.now) (expr_view value.now)) result }
 {
     if let Some(target) = stands_in(scene, place) {
         return emit_value(scene, value, target, EXPRESSIONS, code);
@@ -109,7 +109,7 @@ pub fn emit_assign(
 // Appends the code that takes arguments to their registers.
 fn emit_args(scene: &Scene<'_>, args: &[Expr], code: &mut Vec<u32>) -> Result<(), AllocError>
     requires { All (λ x. CanStand (scope_in scene.now).env 12 (expr_view x)) args.now }
-    ensures { OnOk result (code.new.items ≡ code.old.items ++ map encoding (args_code (scope_in scene.now) (map expr_view args.now) 0)) }
+    ensures { Appends code.old.items code.new.items (args_code (scope_in scene.now) (map expr_view args.now) 0) result }
 {
     for (i, arg) in args.iter().enumerate() {
         let register = register_behind(0, i as u64);
@@ -131,7 +131,7 @@ pub fn emit_call(
     requires places { ArePlaces places.now }
     requires args { All (λ x. CanStand (scope_in scene.now).env 12 (expr_view x)) args.now }
     requires place { CanStand (scope_in scene.now).env 12 (expr_view place.now) }
-    ensures { OnOk result (code.new.items ≡ code.old.items ++ map encoding (call_code (scope_in scene.now) (links_of places.now) kind number (map expr_view args.now) (expr_view place.now))) }
+    ensures { Appends code.old.items code.new.items (call_in scene.now places.now kind number args.now place.now) result }
 {
     emit_args(scene, args, code)?;
     emit(
@@ -162,7 +162,7 @@ pub fn emit_new(
     requires places { ArePlaces places.now }
     requires ty { IsSized (scope_in scene.now).env.structs (type_view ty.now) }
     requires place { CanStand (scope_in scene.now).env 12 (expr_view place.now) }
-    ensures { OnOk result (code.new.items ≡ code.old.items ++ map encoding (new_code (scope_in scene.now) (links_of places.now) (words (scope_in scene.now).env.structs (ty_of (type_view ty.now))) (expr_view place.now))) }
+    ensures { Appends code.old.items code.new.items (new_in scene.now places.now ty.now place.now) result }
 {
     emit_constant(code, ANSWER, words_in(scene, ty))?;
     emit(

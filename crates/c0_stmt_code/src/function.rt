@@ -1,15 +1,15 @@
 // The code of functions.
 
-ghost use Rattle.std.specs.Prelude.{◌≡◌, ◌≤◌, ◌<◌, ◌++◌, map, length, slice_get, Some, IsTrue, OnOk, OnErr};
-ghost use Rattle.mips_table.specs.Encoding.{encoding};
+ghost use Rattle.std.specs.Prelude.{◌≡◌, ◌≤◌, ◌<◌, map, length, IsTrue, OnErr};
 ghost use Rattle.masm.specs.Places.{ArePlaces};
-ghost use Rattle.c0_tree.specs.Tree.{CFunction};
 ghost use Rattle.c0_tree.specs.View.{body_view, decl_view, expr_view, stmts_view, unit_view};
 ghost use Rattle.c0_meaning.specs.Asm.{are_allowed_words};
 ghost use Rattle.c0_meaning.specs.Limits.{locals_of};
+ghost use Rattle.c0_expr_code.specs.Emit.{Appends};
+ghost use Rattle.c0_expr_code.specs.Layout.{OfFunction, unit_of};
 ghost use Rattle.c0_expr_code.specs.Scene.{scope_in};
 ghost use Rattle.c0_stmt_code.specs.Code.{asm_function, body_code, links_of, return_code};
-ghost use Rattle.c0_stmt_code.specs.Emit.{AreEmittable, IsEmittableBody, function_in, function_words};
+ghost use Rattle.c0_stmt_code.specs.Emit.{AreEmittable, IsEmittableBody, function_at, function_in};
 ghost use Rattle.c0_stmt_code.specs.EmitLeaf.{CanStand, HasFrame};
 
 use crate::calling::are_calling;
@@ -31,7 +31,7 @@ fn emit_return(
     code: &mut Vec<u32>,
 ) -> Result<(), AllocError>
     requires { CanStand (scope_in scene.now).env 12 (expr_view answer.now) }
-    ensures { OnOk result (code.new.items ≡ code.old.items ++ map encoding (return_code (scope_in scene.now) calling (expr_view answer.now))) }
+    ensures { Appends code.old.items code.new.items (return_code (scope_in scene.now) calling (expr_view answer.now)) result }
 {
     emit_value(scene, answer, ANSWER, EXPRESSIONS, code)?;
     emit_exit(scene, calling, code)
@@ -50,7 +50,7 @@ fn emit_code(
     requires frame { HasFrame (scope_in scene.now) params (map decl_view body.now.locals.items) }
     requires stmts { AreEmittable (scope_in scene.now).env (stmts_view body.now.stmts.items) }
     requires answer { CanStand (scope_in scene.now).env 12 (expr_view body.now.answer) }
-    ensures { OnOk result (code.new.items ≡ code.old.items ++ map encoding (function_in scene.now places.now params body.now)) }
+    ensures { Appends code.old.items code.new.items (function_in scene.now places.now params body.now) result }
 {
     let calling = are_calling(&body.stmts);
     emit_entry(scene, params, &body.locals, calling, code)?;
@@ -68,7 +68,7 @@ fn emit_asm_function(
 ) -> Result<(), AllocError>
     requires few { params ≤ 4 }
     requires allowed { IsTrue (are_allowed_words text.now.words.items) }
-    ensures { OnOk result (code.new.items ≡ code.old.items ++ map encoding (asm_function (scope_in scene.now) params text.now.words.items)) }
+    ensures { Appends code.old.items code.new.items (asm_function (scope_in scene.now) params text.now.words.items) result }
 {
     emit_stack_test(scene, SCRATCH, code)?;
     emit_arguments(alloc, params, code)?;
@@ -88,7 +88,7 @@ fn emit_body(
     requires places { ArePlaces places.now }
     requires frame { HasFrame (scope_in scene.now) params (locals_of (body_view body.now)) }
     requires body { IsEmittableBody (scope_in scene.now).env params (body_view body.now) }
-    ensures { OnOk result (code.new.items ≡ code.old.items ++ map encoding (body_code (scope_in scene.now) (links_of places.now) params (body_view body.now))) }
+    ensures { Appends code.old.items code.new.items (body_code (scope_in scene.now) (links_of places.now) params (body_view body.now)) result }
 {
     match body {
         Body::Code(stmts) => emit_code(alloc, scene, places, params, stmts, code),
@@ -106,7 +106,7 @@ fn emit_whole(
 ) -> Result<(), AllocError>
     requires number { number < length (unit_view layout.now.unit.now).functions }
     requires places { ArePlaces places.now }
-    ensures { (f : CFunction) → slice_get (unit_view layout.now.unit.now).functions number ≡ Some f → OnOk result (code.new.items ≡ code.old.items ++ function_words (unit_view layout.now.unit.now) places.now f) }
+    ensures { OfFunction layout.now number (λ f. Appends code.old.items code.new.items (function_at (unit_of layout.now) places.now f) result) }
 {
     functions_are_emittable();
     frames_are_those();
@@ -128,7 +128,7 @@ pub fn emit_function(
 ) -> Result<(), AllocError>
     requires number { number < length (unit_view layout.now.unit.now).functions }
     requires places { ArePlaces places.now }
-    ensures appended { (f : CFunction) → slice_get (unit_view layout.now.unit.now).functions number ≡ Some f → OnOk result (code.new.items ≡ code.old.items ++ function_words (unit_view layout.now.unit.now) places.now f) }
+    ensures appended { OfFunction layout.now number (λ f. Appends code.old.items code.new.items (function_at (unit_of layout.now) places.now f) result) }
     ensures unchanged { OnErr result (code.new.items ≡ code.old.items) }
 {
     let mut own = Vec::new(alloc);

@@ -1,19 +1,18 @@
 // How functions begin and return.
 
-ghost use Rattle.std.specs.Prelude.{◌≡◌, ◌+◌, ◌*◌, ◌%◌, ◌^◌, ◌<◌, ◌++◌, ◌∷◌, [], map, OnOk, if◌then◌else◌};
+ghost use Rattle.std.specs.Prelude.{◌≡◌, ◌+◌, ◌*◌, ◌%◌, ◌^◌, ◌<◌, ◌∷◌, [], map, if◌then◌else◌};
 ghost use Rattle.mips_table.specs.declared.inst.Inst.TheVariants.{Addiu, Beq, Bne, J, Sltu, Sw};
-ghost use Rattle.mips_table.specs.Encoding.{encoding};
 ghost use Rattle.c0_tree.specs.View.{decl_view};
 ghost use Rattle.c0_meaning.specs.Env.{typed_of};
 ghost use Rattle.c0_meaning.specs.Operators.{StackOut};
 ghost use Rattle.c0_meaning.specs.Words.{all_words};
 ghost use Rattle.c0_expr_code.specs.Code as expressions;
 ghost use Rattle.c0_expr_code.specs.Code.{on_spot};
-ghost use Rattle.c0_expr_code.specs.Emit.{access_inst};
+ghost use Rattle.c0_expr_code.specs.Emit.{Appends, access_inst};
 ghost use Rattle.c0_expr_code.specs.Scene.{scope_in};
 ghost use Rattle.c0_stmt_code.specs.Code.{clear_code, end_code, entry_code, exit_code, frame_entry, frame_return, frame_spot, large_code, locals_code};
 ghost use Rattle.c0_stmt_code.specs.Code.{params_code, register_entry, register_return, stack_test, zeros_code, zeros_loop};
-ghost use Rattle.c0_stmt_code.specs.EmitLeaf.{FramesAreThose, HasFrame};
+ghost use Rattle.c0_stmt_code.specs.EmitLeaf.{FramesAreThose, HasFrame, kept_code};
 
 use c0_expr_code::{Access, Scene, Spot, emit, emit_access, frame_shift};
 use c0_meaning::laws::{numbers_tell, units_are_typed_or_faulty};
@@ -47,7 +46,7 @@ fn emit_word(
 ) -> Result<(), AllocError>
     requires register { register < 32 }
     requires free { free < 32 }
-    ensures { OnOk result (code.new.items ≡ code.old.items ++ map encoding (on_spot (access_inst access register) free (frame_spot (scope_in scene.now) word))) }
+    ensures { Appends code.old.items code.new.items (on_spot (access_inst access register) free (frame_spot (scope_in scene.now) word)) result }
 {
     let spot = Spot {
         base: FRAME_END,
@@ -66,7 +65,7 @@ fn bytes(words: u64) -> u32
 // Appends the code that brings the end of the next frame into a register.
 fn emit_end(scene: &Scene<'_>, target: u32, code: &mut Vec<u32>) -> Result<(), AllocError>
     requires { target < 32 }
-    ensures { OnOk result (code.new.items ≡ code.old.items ++ map encoding (end_code target (4 * (scope_in scene.now).frame))) }
+    ensures { Appends code.old.items code.new.items (end_code target (4 * (scope_in scene.now).frame)) result }
 {
     let spot = Spot {
         base: FRAME_END,
@@ -77,7 +76,7 @@ fn emit_end(scene: &Scene<'_>, target: u32, code: &mut Vec<u32>) -> Result<(), A
 
 // Appends a jump to the exit of a want of stack, where no stack has room for the frame.
 fn emit_large(scene: &Scene<'_>, code: &mut Vec<u32>) -> Result<(), AllocError>
-    ensures { OnOk result (code.new.items ≡ code.old.items ++ map encoding (large_code (scope_in scene.now))) }
+    ensures { Appends code.old.items code.new.items (large_code (scope_in scene.now)) result }
 {
     if LARGEST_STACK < scene.frame {
         return emit(
@@ -93,7 +92,7 @@ fn emit_large(scene: &Scene<'_>, code: &mut Vec<u32>) -> Result<(), AllocError>
 // Appends a jump to the exit of a want of stack, and a branch over it where a register is not behind the stack's end.
 fn emit_limit(scene: &Scene<'_>, end: u32, code: &mut Vec<u32>) -> Result<(), AllocError>
     requires { end < 32 }
-    ensures { OnOk result (code.new.items ≡ code.old.items ++ map encoding (Sltu SCRATCH STACK_END end ∷ Beq SCRATCH 0 1 ∷ J ((scope_in scene.now).exit StackOut) ∷ [])) }
+    ensures { Appends code.old.items code.new.items (Sltu SCRATCH STACK_END end ∷ Beq SCRATCH 0 1 ∷ J ((scope_in scene.now).exit StackOut) ∷ []) result }
 {
     emit(
         code,
@@ -126,7 +125,7 @@ pub fn emit_stack_test(
     code: &mut Vec<u32>,
 ) -> Result<(), AllocError>
     requires { register < 32 }
-    ensures { OnOk result (code.new.items ≡ code.old.items ++ map encoding (stack_test (scope_in scene.now) register)) }
+    ensures { Appends code.old.items code.new.items (stack_test (scope_in scene.now) register) result }
 {
     emit_large(scene, code)?;
     emit_end(scene, register, code)?;
@@ -140,7 +139,7 @@ fn emit_kept(
     calling: bool,
     code: &mut Vec<u32>,
 ) -> Result<(), AllocError>
-    ensures { OnOk result (code.new.items ≡ code.old.items ++ map encoding (if calling then on_spot (access_inst access RETURN) SCRATCH (frame_spot (scope_in scene.now) 0) else [])) }
+    ensures { Appends code.old.items code.new.items (kept_code (scope_in scene.now) access calling) result }
 {
     if calling {
         return emit_word(scene, access, RETURN, SCRATCH, 0, code);
@@ -158,7 +157,7 @@ pub fn register_behind(first: u32, i: u64) -> u32
 
 // Appends the stores of the arguments to the frame.
 fn emit_params(scene: &Scene<'_>, count: u32, code: &mut Vec<u32>) -> Result<(), AllocError>
-    ensures { OnOk result (code.new.items ≡ code.old.items ++ map encoding (params_code (scope_in scene.now) count 0)) }
+    ensures { Appends code.old.items code.new.items (params_code (scope_in scene.now) count 0) result }
 {
     for i in 0..count {
         let register = register_behind(i, 0);
@@ -182,7 +181,7 @@ fn emit_zeros(
     code: &mut Vec<u32>,
 ) -> Result<(), AllocError>
     requires { first + count < 2 ^ 64 }
-    ensures { OnOk result (code.new.items ≡ code.old.items ++ map encoding (zeros_code (scope_in scene.now) count first)) }
+    ensures { Appends code.old.items code.new.items (zeros_code (scope_in scene.now) count first) result }
 {
     for i in 0..count {
         emit_word(scene, Access::Store, 0, SCRATCH, first + i, code)?;
@@ -192,7 +191,7 @@ fn emit_zeros(
 
 // Appends a loop that stores 0 from a word of the frame to its end.
 fn emit_zeros_loop(scene: &Scene<'_>, first: u64, code: &mut Vec<u32>) -> Result<(), AllocError>
-    ensures { OnOk result (code.new.items ≡ code.old.items ++ map encoding (zeros_loop (scope_in scene.now) first)) }
+    ensures { Appends code.old.items code.new.items (zeros_loop (scope_in scene.now) first) result }
 {
     emit_word(scene, Access::Address, ANSWER, ANSWER, first, code)?;
     emit_turns(code)
@@ -200,7 +199,7 @@ fn emit_zeros_loop(scene: &Scene<'_>, first: u64, code: &mut Vec<u32>) -> Result
 
 // Appends the turns of that loop, whose branch leads back to the store.
 fn emit_turns(code: &mut Vec<u32>) -> Result<(), AllocError>
-    ensures { OnOk result (code.new.items ≡ code.old.items ++ map encoding (Sw 0 ANSWER 0 ∷ Addiu ANSWER ANSWER 4 ∷ Bne ANSWER FRAME_END 65533 ∷ [])) }
+    ensures { Appends code.old.items code.new.items (Sw 0 ANSWER 0 ∷ Addiu ANSWER ANSWER 4 ∷ Bne ANSWER FRAME_END 65533 ∷ []) result }
 {
     emit(
         code,
@@ -236,7 +235,7 @@ fn emit_locals(
     code: &mut Vec<u32>,
 ) -> Result<(), AllocError>
     requires { first + count < 2 ^ 64 }
-    ensures { OnOk result (code.new.items ≡ code.old.items ++ map encoding (locals_code (scope_in scene.now) count first)) }
+    ensures { Appends code.old.items code.new.items (locals_code (scope_in scene.now) count first) result }
 {
     if count <= FEW_WORDS {
         return emit_zeros(scene, count, first, code);
@@ -246,7 +245,7 @@ fn emit_locals(
 
 // Appends the code that sets the registers of variables to 0.
 fn emit_clear(count: usize, first: u32, code: &mut Vec<u32>) -> Result<(), AllocError>
-    ensures { OnOk result (code.new.items ≡ code.old.items ++ map encoding (clear_code count first)) }
+    ensures { Appends code.old.items code.new.items (clear_code count first) result }
 {
     for i in 0..count {
         emit(
@@ -263,7 +262,7 @@ fn emit_clear(count: usize, first: u32, code: &mut Vec<u32>) -> Result<(), Alloc
 
 // Appends the access to the word behind the caller's frame, which keeps the return address where something is called.
 fn emit_kept_behind(access: Access, calling: bool, code: &mut Vec<u32>) -> Result<(), AllocError>
-    ensures { OnOk result (code.new.items ≡ code.old.items ++ map encoding (if calling then access_inst access RETURN FRAME_END 0 ∷ [] else [])) }
+    ensures { Appends code.old.items code.new.items (if calling then access_inst access RETURN FRAME_END 0 ∷ [] else []) result }
 {
     if calling {
         let spot = Spot {
@@ -284,7 +283,7 @@ fn emit_frame_entry(
     code: &mut Vec<u32>,
 ) -> Result<(), AllocError>
     requires { 3 + params + words < 2 ^ 64 }
-    ensures { OnOk result (code.new.items ≡ code.old.items ++ map encoding (frame_entry (scope_in scene.now) params words calling)) }
+    ensures { Appends code.old.items code.new.items (frame_entry (scope_in scene.now) params words calling) result }
 {
     emit_stack_test(scene, FRAME_END, code)?;
     emit_kept(scene, Access::Store, calling, code)?;
@@ -300,7 +299,7 @@ fn emit_register_entry(
     calling: bool,
     code: &mut Vec<u32>,
 ) -> Result<(), AllocError>
-    ensures { OnOk result (code.new.items ≡ code.old.items ++ map encoding (register_entry (scope_in scene.now) params locals calling)) }
+    ensures { Appends code.old.items code.new.items (register_entry (scope_in scene.now) params locals calling) result }
 {
     emit_stack_test(scene, SCRATCH, code)?;
     emit_kept_behind(Access::Store, calling, code)?;
@@ -316,7 +315,7 @@ pub fn emit_entry(
     code: &mut Vec<u32>,
 ) -> Result<(), AllocError>
     requires { HasFrame (scope_in scene.now) params (map decl_view locals.now) }
-    ensures { OnOk result (code.new.items ≡ code.old.items ++ map encoding (entry_code (scope_in scene.now) params (map decl_view locals.now) calling)) }
+    ensures { Appends code.old.items code.new.items (entry_code (scope_in scene.now) params (map decl_view locals.now) calling) result }
 {
     if scene.in_registers {
         return emit_register_entry(scene, params, locals.len(), calling, code);
@@ -331,7 +330,7 @@ fn emit_frame_return(
     calling: bool,
     code: &mut Vec<u32>,
 ) -> Result<(), AllocError>
-    ensures { OnOk result (code.new.items ≡ code.old.items ++ map encoding (frame_return (scope_in scene.now) calling)) }
+    ensures { Appends code.old.items code.new.items (frame_return (scope_in scene.now) calling) result }
 {
     emit_kept(scene, Access::Load, calling, code)?;
     emit_word(scene, Access::Address, FRAME_END, FRAME_END, 0, code)?;
@@ -340,7 +339,7 @@ fn emit_frame_return(
 
 // Appends the return from a function whose variables stand in registers.
 fn emit_register_return(calling: bool, code: &mut Vec<u32>) -> Result<(), AllocError>
-    ensures { OnOk result (code.new.items ≡ code.old.items ++ map encoding (register_return calling)) }
+    ensures { Appends code.old.items code.new.items (register_return calling) result }
 {
     emit_kept_behind(Access::Load, calling, code)?;
     emit(code, Inst::Jr { rs: RETURN })
@@ -348,7 +347,7 @@ fn emit_register_return(calling: bool, code: &mut Vec<u32>) -> Result<(), AllocE
 
 /// Appends the return from a function, whose answer is in register 2.
 pub fn emit_exit(scene: &Scene<'_>, calling: bool, code: &mut Vec<u32>) -> Result<(), AllocError>
-    ensures { OnOk result (code.new.items ≡ code.old.items ++ map encoding (exit_code (scope_in scene.now) calling)) }
+    ensures { Appends code.old.items code.new.items (exit_code (scope_in scene.now) calling) result }
 {
     if scene.in_registers {
         return emit_register_return(calling, code);

@@ -1,9 +1,9 @@
 // Statements one after another: all of their code is appended, or none of it.
 
-ghost use Rattle.std.specs.Prelude.{◌≡◌, ◌++◌, map, OnErr, OnOk};
-ghost use Rattle.mips_table.specs.Encoding.{encoding};
+ghost use Rattle.std.specs.Prelude.{◌≡◌, OnErr};
 ghost use Rattle.masm.specs.Places.{ArePlaces};
 ghost use Rattle.c0_tree.specs.View.{stmts_view};
+ghost use Rattle.c0_expr_code.specs.Emit.{Appends};
 ghost use Rattle.c0_expr_code.specs.Scene.{scope_in};
 ghost use Rattle.c0_stmt_code.specs.Emit.{AreEmittable, stmts_at};
 
@@ -25,7 +25,7 @@ pub fn emit_statements(
 ) -> Result<(), AllocError>
     requires places { ArePlaces places.now }
     requires stmts { AreEmittable (scope_in scene.now).env (stmts_view stmts.now) }
-    ensures appended { OnOk result (code.new.items ≡ code.old.items ++ map encoding (stmts_at scene.now places.now stmts.now)) }
+    ensures appended { Appends code.old.items code.new.items (stmts_at scene.now places.now stmts.now) result }
     ensures unchanged { OnErr result (code.new.items ≡ code.old.items) }
 {
     let mut own = Vec::new(alloc);

@@ -1,9 +1,9 @@
 // The code of statements. Where memory is wanting, a part of it may stand behind what stood before.
 
-ghost use Rattle.std.specs.Prelude.{◌≡◌, ◌+◌, ◌^◌, ◌<◌, ◌++◌, map, OnOk};
-ghost use Rattle.mips_table.specs.Encoding.{encoding};
+ghost use Rattle.std.specs.Prelude.{◌≡◌, ◌+◌, ◌^◌, ◌<◌};
 ghost use Rattle.masm.specs.Places.{ArePlaces};
 ghost use Rattle.c0_tree.specs.View.{expr_view, stmt_view, stmts_view};
+ghost use Rattle.c0_expr_code.specs.Emit.{Appends};
 ghost use Rattle.c0_expr_code.specs.Scene.{scope_in};
 ghost use Rattle.c0_stmt_code.specs.Code.{links_of, otherwise_at, stmt_code};
 ghost use Rattle.c0_stmt_code.specs.Emit.{AreEmittable, IsEmittable, choice_in, otherwise_in, skipped_code, stmts_at, while_in};
@@ -28,7 +28,7 @@ fn emit_statement(
 ) -> Result<(), AllocError>
     requires places { ArePlaces places.now }
     requires stmt { IsEmittable (scope_in scene.now).env (stmt_view stmt.now) }
-    ensures { OnOk result (code.new.items ≡ code.old.items ++ map encoding (stmt_code (scope_in scene.now) (links_of places.now) (stmt_view stmt.now))) }
+    ensures { Appends code.old.items code.new.items (stmt_code (scope_in scene.now) (links_of places.now) (stmt_view stmt.now)) result }
 {
     match stmt {
         Stmt::Assign { place, value, .. } => emit_assign(scene, place, value, code),
@@ -63,7 +63,7 @@ pub fn emit_statements(
 ) -> Result<(), AllocError>
     requires places { ArePlaces places.now }
     requires stmts { AreEmittable (scope_in scene.now).env (stmts_view stmts.now) }
-    ensures { OnOk result (code.new.items ≡ code.old.items ++ map encoding (stmts_at scene.now places.now stmts.now)) }
+    ensures { Appends code.old.items code.new.items (stmts_at scene.now places.now stmts.now) result }
 {
     for stmt in stmts {
         emit_statement(alloc, scene, places, stmt, code)?;
@@ -82,7 +82,7 @@ fn emit_skipped(
 ) -> Result<(), AllocError>
     requires places { ArePlaces places.now }
     requires stmts { AreEmittable (scope_in scene.now).env (stmts_view stmts.now) }
-    ensures { OnOk result (code.new.items ≡ code.old.items ++ map encoding (skipped_code (stmts_at scene.now places.now stmts.now))) }
+    ensures { Appends code.old.items code.new.items (skipped_code (stmts_at scene.now places.now stmts.now)) result }
 {
     let at = code.len();
     emit(
@@ -110,7 +110,7 @@ fn emit_otherwise(
 ) -> Result<(), AllocError>
     requires places { ArePlaces places.now }
     requires no { AreEmittable (scope_in scene.now).env (stmts_view no.now) }
-    ensures { OnOk result (code.new.items ≡ code.old.items ++ map encoding (otherwise_in scene.now places.now no.now)) }
+    ensures { Appends code.old.items code.new.items (otherwise_in scene.now places.now no.now) result }
 {
     if no.is_empty() {
         return Ok(());
@@ -141,7 +141,7 @@ fn emit_if(
     requires test { CanStand (scope_in scene.now).env 12 (expr_view test.now) }
     requires yes { AreEmittable (scope_in scene.now).env (stmts_view yes.now) }
     requires no { AreEmittable (scope_in scene.now).env (stmts_view no.now) }
-    ensures { OnOk result (code.new.items ≡ code.old.items ++ map encoding (choice_in scene.now places.now test.now yes.now no.now)) }
+    ensures { Appends code.old.items code.new.items (choice_in scene.now places.now test.now yes.now no.now) result }
 {
     patches_aim();
     jumps_are_within();
@@ -168,7 +168,7 @@ fn emit_while(
     requires places { ArePlaces places.now }
     requires test { CanStand (scope_in scene.now).env 12 (expr_view test.now) }
     requires body { AreEmittable (scope_in scene.now).env (stmts_view body.now) }
-    ensures { OnOk result (code.new.items ≡ code.old.items ++ map encoding (while_in scene.now places.now test.now body.now)) }
+    ensures { Appends code.old.items code.new.items (while_in scene.now places.now test.now body.now) result }
 {
     patches_aim();
     jumps_are_within();
