@@ -34,7 +34,7 @@ GlobalsTell = (structs : List Shape) (layout : Layout) (t : Ty) (v : Value) (nam
     ((l : Location) (u : Ty) → PointsTo structs layout l.region l.path u → address l ≢ 0) →
     named_row name (value_end (Some t) (slice_index (flat address v) 0)) ≡ global_row name v
 
--- the globals begin in the memory, each so many words behind the first
+-- the globals begin inside the memory, each so many words behind the first
 abbrev pub AreInside : Map → (places : List ℕ) → Type 0
 AreInside m places = (i : ℕ) → i < length places → globals_at m + slice_index places i < memory_words m
 

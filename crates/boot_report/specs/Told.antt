@@ -13,19 +13,19 @@ use Rattle.cvm_model.specs.Stands.{Site, Stands, IsUser, runs_user}
 use Rattle.cvm_model.specs.Text.{user_text, users_text, log_text}
 use Rattle.boot_report.specs.Texts.{rows_of_one, rows_of_user, users_rows, log_rows, EntriesFit}
 
--- of the sectors, where they are told and valid entries of page tables name frames of the memory
+-- P of the sectors, where they are told and valid entries of page tables name frames of the memory
 abbrev pub WhereSectors : (told : Option (List (List ℕ))) → Held → Map → (List (List ℕ) → Type 0) → Type 0
 WhereSectors told held m P = (ss : List (List ℕ)) → told ≡ Some ss → EntriesFit m (state_of held ss) → P ss
 
--- of the pages, where they are
+-- P of the pages, where the sectors are told so
 abbrev pub WherePaged : (told : Option (List (List ℕ))) → Held → Map → (Paged → Type 0) → Type 0
 WherePaged told held m P = WhereSectors told held m (λ ss. P (paged_of m (state_of held ss)))
 
--- of the rows of user u, who runs or not, and an answer
+-- P of the rows of user u, who runs or not, and a result
 abbrev pub ForUser : {R : Type 0} → (told : Option (List (List ℕ))) → Held → Map → (runs : Bool) → (u : ℕ) → (List ℕ → R → Type 0) → R → Type 0
 ForUser told held m runs u P result = WherePaged told held m (λ a. P (rows_of_one m held a runs u) result)
 
--- of those of all users, of whom one may run
+-- P of the rows of all users, of whom one may run, and a result
 abbrev pub ForUsers : {R : Type 0} → (told : Option (List (List ℕ))) → Held → Map → (running : ℕ) → (List ℕ → R → Type 0) → R → Type 0
 ForUsers told held m running P result = WherePaged told held m (λ a. P (users_rows m held a running m.users) result)
 

@@ -19,7 +19,7 @@ system_of b rows = record { boot = boot_of b; input = rows.inputs; longest = lon
 abbrev pub first_pages : ℕ → List (List ℕ) → Pages
 first_pages per users = pages_by per (map first_flat users)
 
--- of users whose words these are
+-- and of users with these vectors of words
 abbrev pub pages_of_users : {A : Type 0} → ℕ → List (Vec ℕ A) → Pages
 pages_of_users per users = first_pages per (map (λ words. words.items) users)
 

@@ -48,7 +48,7 @@ abbrev pub closing_rows : Bool → (current : ℕ) → Held → List (List ℕ) 
 closing_rows halted current held ss m places decls =
     kernel_rows halted held m places decls ++ users_rows m held (paged_of m (state_of held ss)) (runs_now halted current) m.users
 
--- of these rows, where the sectors are told, and a result
+-- P of these rows, where the sectors are told, and a result
 abbrev pub ForClosing : {R : Type 0} → (told : Option (List (List ℕ))) → Held → Bool → (current : ℕ) → Places → List Decl → (List ℕ → R → Type 0) → R → Type 0
 ForClosing told held halted current places decls P result =
     WhereSectors told held places.map (λ ss. P (closing_rows halted current held ss places.map places.offsets.items decls) result)
@@ -57,7 +57,7 @@ ForClosing told held halted current places decls P result =
 abbrev pub trace_rows : Bool → (current : ℕ) → Held → List (List ℕ) → Map → (u : ℕ) → List ℕ
 trace_rows halted current held ss m u = end_row halted ++ rows_of_user m held (paged_of m (state_of held ss)) (runs_now halted current) u
 
--- of the row of its last steps and these rows, where the sectors are told, and a result
+-- P of the row of the last steps and of these rows, where the sectors are told, and a result
 abbrev pub ForTraceClosing : {R : Type 0} → (told : Option (List (List ℕ))) → Held → Bool → (current : ℕ) → Map → Tracer → (List ℕ → R → Type 0) → R → Type 0
 ForTraceClosing told held halted current m kept P result =
     WhereSectors told held m (λ ss. P (steps_row kept.steps ++ trace_rows halted current held ss m kept.user) result)

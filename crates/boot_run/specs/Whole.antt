@@ -78,7 +78,7 @@ pub record Bootable (b : Booted) (rows : Rows) (count : ℕ) (y : System) (old :
   pub laws : Laws (site_of y.boot) sizes
   pub same : y.boot ≡ boot_of b
 
--- of each disk of so many sectors that are enough, where they are told
+-- so it is with each disk of so many sectors that are enough, where they are told
 abbrev pub AreBootable : Booted → Rows → (count : ℕ) → (told : Option (List (List ℕ))) → Type 0
 AreBootable b rows count told = (old : List (List ℕ)) → told ≡ Some old → pages_needed b ≤ count → Bootable b rows count (system_of b rows) old
 
@@ -151,7 +151,8 @@ CloseRuns count r before after result = (y : System) (old : List (List ℕ)) (ba
 abbrev pub RunsToEnd : {L : Type 0} → (count : ℕ) → Kept L → (turns steps : ℕ) → (before : Around) → (retold : Option (List (List ℕ))) →
     (after : Option (List ℕ)) → RunEnd → Type 0
 RunsToEnd count r turns steps before retold after result = (y : System) (old : List (List ℕ)) (base : Option (List ℕ)) →
-    Bootable r.boot r.machine.rows count y old → SeesUser r.view (length y.boot.users) → Ready (outside_of r.machine.rows count) y old r.view base 0 0 (first_cvm y) before →
+    Bootable r.boot r.machine.rows count y old → SeesUser r.view (length y.boot.users) →
+    Ready (outside_of r.machine.rows count) y old r.view base 0 0 (first_cvm y) before →
     (now : List (List ℕ)) × (retold ≡ Some now) × BootEnds (outside_of r.machine.rows count) y old now r.view turns steps base after (ending_of_end result)
 
 -- how an ended run is told, and a fault

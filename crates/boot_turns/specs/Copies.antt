@@ -19,7 +19,7 @@ user_words m a u k (suc n) = user_words m a u k n ++ user_word m a u (k + n) ∷
 abbrev pub copy_rows : Map → Paged → (u steps address n : ℕ) → List ℕ
 copy_rows m a u steps address n = journal_rows_after false steps (puts address (user_words m a u (address / 4) n))
 
--- of those of the traced user, where the pages are told, and a result
+-- P of those rows of the traced user, where the pages are told, and a result
 abbrev pub ForCopied : {R : Type 0} → (told : Option (List (List ℕ))) → Held → Map → Tracer → (address n : ℕ) → (List ℕ → R → Type 0) → R → Type 0
 ForCopied told held m kept address n P result = WherePaged told held m (λ a. P (copy_rows m a kept.user kept.steps address n) result)
 

@@ -69,7 +69,7 @@ kept_after s kept current began words = record {
   call = notes_on s kept.call;
 }
 
--- of those rows in every such state, and a result; and that this is kept where it is no error
+-- P of the rows of what follows, in every such state, and a result; and that `new` is what is kept then, where it is no error
 abbrev pub ForFollowed : {R : Type 0} → (told : Option (List (List ℕ))) → Held → Map → Tracer → (current : ℕ) → (began : Bool) →
     (List ℕ → R → Type 0) → R → Type 0
 ForFollowed told held m kept current began P result = WhereTold told held m kept (λ s words. P (followed_rows s kept current began words) result)
@@ -91,7 +91,7 @@ WhereCopied told held m kept e answer P = (ss : List (List ℕ)) (words : List �
 abbrev pub ended_rows : Tracer → Entered → (answer : ℕ) → (words : List ℕ) → List ℕ
 ended_rows kept e answer words = journal_rows_after false kept.steps (call_ends kept.user e answer words)
 
--- of those rows for all such words, and a result; and that this is kept where it is no error
+-- P of those rows, for all such words, and a result; and that `new` has the steps that have no row then, where it is no error
 abbrev pub ForEnded : {R : Type 0} → (told : Option (List (List ℕ))) → Held → Map → Tracer → Entered → (answer : ℕ) → (List ℕ → R → Type 0) → R → Type 0
 ForEnded told held m kept e answer P result = WhereCopied told held m kept e answer (λ words. P (ended_rows kept e answer words) result)
 
