@@ -24,4 +24,5 @@ places_of u = offsets (shapes u) (types_of (map typed_of u.globals))
 abbrev pub GlobalRowsTell : Type 0
 GlobalRowsTell = (u : Source) (m : Map) (memory : List ℕ) (s : C0) → IsWellFormed kernel_primitives (unit_view u) → IsTypedState (unit_view u) s →
     HoldsWords memory (globals_at m) (flat (address_of m s) s.global_values) →
-    globals_rows u.globals.items memory (globals_at m) (places_of (unit_view u)) ≡ globals_text (map (λ d. d.name.text) (unit_view u).globals) (parts_of s.global_values)
+    globals_rows u.globals.items memory (globals_at m) (places_of (unit_view u))
+    ≡ globals_text (map (λ d. d.name.text) (unit_view u).globals) (parts_of s.global_values)

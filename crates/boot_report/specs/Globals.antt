@@ -1,5 +1,5 @@
 -- The rows of the globals, by the words that stand for them.
-use Rattle.std.specs.Prelude.{◌≡◌, ◌≢◌, ℕ, ◌+◌, ◌==◌, if◌then◌else◌, Option, Some, List, [], ◌∷◌, ◌++◌, codes, slice_index}
+use Rattle.std.specs.Prelude.{◌≡◌, ◌≢◌, ℕ, ◌+◌, ◌<◌, ◌==◌, if◌then◌else◌, Option, Some, List, [], ◌∷◌, ◌++◌, codes, slice_index, length}
 use Rattle.std.specs.Fmt.{signed_decimal}
 use Rattle.mips_table.specs.Arith.{signed}
 use Rattle.c0_tree.specs.declared.tree.Decl.{Decl}
@@ -8,6 +8,7 @@ use Rattle.c0_meaning.specs.Form.{ty_view}
 use Rattle.c0_meaning.specs.Env.{Shape}
 use Rattle.c0_meaning.specs.Value.{Value, Location}
 use Rattle.c0_meaning.specs.TypedState.{Layout, PointsTo, Fits}
+use Rattle.layer_map.specs.Map.{Map, globals_at, memory_words}
 use Rattle.cvm_model.specs.Kernel.{flat}
 use Rattle.cvm_model.specs.Text.{global_row}
 
@@ -32,6 +33,10 @@ abbrev pub GlobalsTell : Type 0
 GlobalsTell = (structs : List Shape) (layout : Layout) (t : Ty) (v : Value) (name : List ℕ) (address : Location → ℕ) → Fits structs layout t v →
     ((l : Location) (u : Ty) → PointsTo structs layout l.region l.path u → address l ≢ 0) →
     named_row name (value_end (Some t) (slice_index (flat address v) 0)) ≡ global_row name v
+
+-- the globals begin inside the memory, each so many words behind the first
+abbrev pub AreInside : Map → (places : List ℕ) → Type 0
+AreInside m places = (i : ℕ) → i < length places → globals_at m + slice_index places i < memory_words m
 
 -- the rows of the globals, each of which begins so many words behind the first
 abbrev pub globals_rows : List Decl → List ℕ → ℕ → List ℕ → List ℕ

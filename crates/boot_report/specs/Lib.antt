@@ -1,3 +1,4 @@
+pub mod Prints
 pub mod Texts
 pub mod Told
 pub mod Globals

@@ -1,5 +1,6 @@
 -- The parts of a report, as they are printed one after another.
-use Rattle.std.specs.Prelude.{◌≡◌, ℕ, zero, suc, ◌+◌, ◌-◌, ◌*◌, ◌/◌, ◌%◌, ◌<◌, ◌==◌, min, Bool, if◌then◌else◌, Option, Some, None, List, [], ◌++◌, codes, decimal, slice_index, length}
+use Rattle.std.specs.Prelude.{◌≡◌, ℕ, zero, suc, ◌+◌, ◌-◌, ◌*◌, ◌/◌, ◌%◌, ◌<◌, ◌==◌, min, Bool, if◌then◌else◌, Option, Some, None}
+use Rattle.std.specs.Prelude.{List, [], ◌++◌, codes, decimal, slice_index, length}
 use Rattle.cvm_text.specs.Hex.{hex8}
 use Rattle.mips_table.specs.Processor.{Cpu}
 use Rattle.mips_table.specs.Machine.{State}
@@ -43,6 +44,10 @@ abbrev pub page_word : Held → Option ℕ → ℕ → ℕ
 page_word held None i = slice_index held.hardware.viewed i
 page_word held (Some f) i = slice_index held.hardware.memory (1024 * f + i)
 
+-- the words of a page there are those that page q of all shows
+abbrev pub ShowsPage : Held → Option ℕ → Paged → (q : ℕ) → Type 0
+ShowsPage held o a q = (i : ℕ) → i < 1024 → page_word held o i ≡ shown_word a q i
+
 -- entries of page tables that are valid name frames of the memory
 abbrev pub EntriesFit : Map → State → Type 0
 EntriesFit m s = (q : ℕ) → q < m.users * m.params.pages → (paged_of m s).entry q / 2048 % 2 ≡ 1 → (paged_of m s).entry q / 4096 < memory_frames m
@@ -67,9 +72,13 @@ processor_rows u pages cpu =
 abbrev pub user_rows : Map → Paged → ℕ → ℕ → Cpu → List ℕ
 user_rows m a u pages cpu = processor_rows u pages cpu ++ pages_rows a ((u - 1) * m.params.pages) pages
 
--- the rows of user u, where one of all users may run
+-- the rows of user u as a machine has it, where it runs or not
+abbrev pub rows_of_one : Map → Held → Paged → (runs : Bool) → (u : ℕ) → List ℕ
+rows_of_one m held a runs u = user_rows m a u (pages_in m held.hardware.memory u) (cpu_of held runs u)
+
+-- and where one of all users may run
 abbrev pub rows_of_user : Map → Held → Paged → (running u : ℕ) → List ℕ
-rows_of_user m held a running u = user_rows m a u (pages_in m held.hardware.memory u) (cpu_of held (u == running) u)
+rows_of_user m held a running u = rows_of_one m held a (u == running) u
 
 -- and those of users 1 to n
 abbrev pub users_rows : Map → Held → Paged → (running : ℕ) → ℕ → List ℕ

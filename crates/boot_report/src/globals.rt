@@ -1,11 +1,10 @@
 // The rows of the globals.
-ghost use Rattle.std.specs.Prelude.{◌≡◌, ◌+◌, ◌<◌, ◌≤◌, ℕ, length, slice_index, OnOk, OnErr, Some};
-ghost use Rattle.std.specs.Io.KnownBytes.{append_known};
+ghost use Rattle.std.specs.Prelude.{◌≡◌, ◌≤◌, length, Some};
 ghost use Rattle.cvm_outside.specs.Causes.{Counts};
-ghost use Rattle.cvm_outside.specs.Told.{AppendsPart};
 ghost use Rattle.c0_meaning.specs.Form.{form_view, ty_view};
 ghost use Rattle.layer_map.specs.Map.{globals_at, memory_words};
-ghost use Rattle.boot_report.specs.Globals.{value_end as end_of_value, named_row, global_word_row, globals_rows};
+ghost use Rattle.boot_report.specs.Prints.{Prints, PrintsPart};
+ghost use Rattle.boot_report.specs.Globals.{value_end as end_of_value, named_row, global_word_row, globals_rows, AreInside};
 
 use arrayvec::ArrayString;
 use c0_meaning::form::{Form, form_of};
@@ -41,8 +40,8 @@ fn value_end(form: Form<'_>, word: u32) -> ArrayString<24>
 
 /// Prints the row of a global with this name, if it has an end.
 fn put_named<O: Sink>(name: &[u8], end: &[u8], out: &mut O) -> Result<(), SinkFault>
-    ensures ok { OnOk result (O.text out.new ≡ append_known (O.text out.old) (named_row name.now end.now)) }
-    ensures err { OnErr result (AppendsPart (O.text out.old) (O.text out.new) (named_row name.now end.now)) }
+    ensures ok { Prints (O.text out.old) (O.text out.new) (named_row name.now end.now) result }
+    ensures err { PrintsPart (O.text out.old) (O.text out.new) (named_row name.now end.now) result }
     ensures count { Counts (O.faults out.old) (O.faults out.new) result }
 {
     if end.is_empty() {
@@ -60,8 +59,8 @@ fn put_named<O: Sink>(name: &[u8], end: &[u8], out: &mut O) -> Result<(), SinkFa
 ///
 /// A fault of the sink.
 pub fn put_global<O: Sink>(decl: &Decl, word: u32, out: &mut O) -> Result<(), SinkFault>
-    ensures ok { OnOk result (O.text out.new ≡ append_known (O.text out.old) (global_word_row decl.now word)) }
-    ensures err { OnErr result (AppendsPart (O.text out.old) (O.text out.new) (global_word_row decl.now word)) }
+    ensures ok { Prints (O.text out.old) (O.text out.new) (global_word_row decl.now word) result }
+    ensures err { PrintsPart (O.text out.old) (O.text out.new) (global_word_row decl.now word) result }
     ensures count { Counts (O.faults out.old) (O.faults out.new) result }
 {
     let end = value_end(form_of(&decl.ty), word);
@@ -83,9 +82,9 @@ pub fn put_globals<O: Sink>(
     requires many { length offsets.now ≡ length decls.now }
     requires memory { memory_words map.now ≤ length machine.now.hardware.memory }
     requires small { memory_words map.now ≤ 30000000 }
-    requires inside { (i : ℕ) → i < length offsets.now → globals_at map.now + slice_index offsets.now i < memory_words map.now }
-    ensures ok { OnOk result (O.text out.new ≡ append_known (O.text out.old) (globals_rows decls.now machine.now.hardware.memory (globals_at map.now) offsets.now)) }
-    ensures err { OnErr result (AppendsPart (O.text out.old) (O.text out.new) (globals_rows decls.now machine.now.hardware.memory (globals_at map.now) offsets.now)) }
+    requires inside { AreInside map.now offsets.now }
+    ensures ok { Prints (O.text out.old) (O.text out.new) (globals_rows decls.now machine.now.hardware.memory (globals_at map.now) offsets.now) result }
+    ensures err { PrintsPart (O.text out.old) (O.text out.new) (globals_rows decls.now machine.now.hardware.memory (globals_at map.now) offsets.now) result }
     ensures count { Counts (O.faults out.old) (O.faults out.new) result }
 {
     let first = map.globals() / 4;

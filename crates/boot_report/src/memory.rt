@@ -1,14 +1,11 @@
 // The rows of a user's memory.
-ghost use Rattle.std.specs.Prelude.{◌≡◌, ◌≢◌, ℕ, ◌+◌, ◌*◌, ◌/◌, ◌%◌, ◌<◌, ◌≤◌, ◌^◌, List, length, slice_index, true, Some, IfSome, IfOk, Err, OnOk, OnErr};
-ghost use Rattle.std.specs.Io.KnownBytes.{append_known};
+ghost use Rattle.std.specs.Prelude.{◌≡◌, ◌≢◌, ◌+◌, ◌*◌, ◌/◌, ◌%◌, ◌<◌, ◌≤◌, ◌^◌};
+ghost use Rattle.std.specs.Prelude.{ℕ, length, slice_index, true, IfSome, IfOk, Err};
 ghost use Rattle.cvm_outside.specs.Causes.{Counts, Rose};
-ghost use Rattle.cvm_outside.specs.Told.{AppendsPart};
 ghost use Rattle.layer_map.specs.Map.{memory_words, memory_frames};
-ghost use Rattle.mips_machine.specs.Machine.{state_of};
-ghost use Rattle.page_model.specs.Paging.{shown_word};
-ghost use Rattle.cvm_model.specs.Paged.{paged_of};
-ghost use Rattle.boot_report.specs.Told.{user_word};
-ghost use Rattle.boot_report.specs.Texts.{texts, memory_row, page_word, pages_rows, EntriesFit, SameButViewed};
+ghost use Rattle.boot_report.specs.Prints.{Prints, PrintsPart};
+ghost use Rattle.boot_report.specs.Told.{user_word, WherePaged};
+ghost use Rattle.boot_report.specs.Texts.{texts, memory_row, page_word, pages_rows, ShowsPage, SameButViewed};
 
 use crate::fault::ReportFault;
 use crate::rows::put_word;
@@ -44,8 +41,8 @@ fn are_zero(words: &[u32]) -> bool
 fn put_line<O: Sink>(words: &[u32], first: u32, out: &mut O) -> Result<(), SinkFault>
     requires whole { length words.now ≡ 64 }
     requires numbers { first + 64 ≤ 2 ^ 30 }
-    ensures ok { OnOk result (O.text out.new ≡ append_known (O.text out.old) (texts (λ i. memory_row (first + i) (slice_index words.now i)) 64)) }
-    ensures err { OnErr result (AppendsPart (O.text out.old) (O.text out.new) (texts (λ i. memory_row (first + i) (slice_index words.now i)) 64)) }
+    ensures ok { Prints (O.text out.old) (O.text out.new) (texts (λ i. memory_row (first + i) (slice_index words.now i)) 64) result }
+    ensures err { PrintsPart (O.text out.old) (O.text out.new) (texts (λ i. memory_row (first + i) (slice_index words.now i)) 64) result }
     ensures count { Counts (O.faults out.old) (O.faults out.new) result }
 {
     if are_zero(words) {
@@ -66,8 +63,8 @@ fn put_page<O: Sink>(
 ) -> Result<(), SinkFault>
     requires page { page < 1024 }
     requires inside { IfSome frame (λ f. 1024 * f + 1024 ≤ length machine.now.hardware.memory) }
-    ensures ok { OnOk result (O.text out.new ≡ append_known (O.text out.old) (texts (λ i. memory_row (1024 * page + i) (page_word machine.now frame i)) 1024)) }
-    ensures err { OnErr result (AppendsPart (O.text out.old) (O.text out.new) (texts (λ i. memory_row (1024 * page + i) (page_word machine.now frame i)) 1024)) }
+    ensures ok { Prints (O.text out.old) (O.text out.new) (texts (λ i. memory_row (1024 * page + i) (page_word machine.now frame i)) 1024) result }
+    ensures err { PrintsPart (O.text out.old) (O.text out.new) (texts (λ i. memory_row (1024 * page + i) (page_word machine.now frame i)) 1024) result }
     ensures count { Counts (O.faults out.old) (O.faults out.new) result }
 {
     let words = words_of_page(machine, frame);
@@ -95,7 +92,7 @@ fn find_page<D: Sectors>(
     requires all { map.now.users * map.now.params.pages ≤ 65536 }
     requires room { map.now.users * map.now.params.pages ≤ D.size disk.old }
     ensures frame { IfOk result (λ o. IfSome o (λ f. f < memory_frames map.now)) }
-    ensures shown { (ss : List (List ℕ)) → D.sectors disk.old ≡ Some ss → EntriesFit map.now (state_of machine.old ss) → IfOk result (λ o. (i : ℕ) → i < 1024 → page_word machine.new o i ≡ shown_word (paged_of map.now (state_of machine.old ss)) q i) }
+    ensures shown { WherePaged (D.sectors disk.old) machine.old map.now (λ a. IfOk result (λ o. ShowsPage machine.new o a q)) }
     ensures same { SameButViewed machine.old machine.new }
     ensures sectors { D.sectors disk.new ≡ D.sectors disk.old }
     ensures size { D.size disk.new ≡ D.size disk.old }
@@ -129,7 +126,7 @@ pub fn read_user_word<D: Sectors>(
     requires small { memory_words map.now ≤ 30000000 }
     requires all { map.now.users * map.now.params.pages ≤ 65536 }
     requires room { map.now.users * map.now.params.pages ≤ D.size disk.old }
-    ensures shown { (ss : List (List ℕ)) → D.sectors disk.old ≡ Some ss → EntriesFit map.now (state_of machine.old ss) → IfOk result (λ w. w ≡ user_word map.now (paged_of map.now (state_of machine.old ss)) user k) }
+    ensures shown { WherePaged (D.sectors disk.old) machine.old map.now (λ a. IfOk result (λ w. w ≡ user_word map.now a user k)) }
     ensures same { SameButViewed machine.old machine.new }
     ensures sectors { D.sectors disk.new ≡ D.sectors disk.old }
     ensures size { D.size disk.new ≡ D.size disk.old }
@@ -159,8 +156,8 @@ pub(crate) fn put_memory<D: Sectors, O: Sink>(
     requires small { memory_words map.now ≤ 30000000 }
     requires all { map.now.users * map.now.params.pages ≤ 65536 }
     requires room { map.now.users * map.now.params.pages ≤ D.size disk.old }
-    ensures ok { (ss : List (List ℕ)) → D.sectors disk.old ≡ Some ss → EntriesFit map.now (state_of machine.old ss) → OnOk result (O.text out.new ≡ append_known (O.text out.old) (pages_rows (paged_of map.now (state_of machine.old ss)) first pages)) }
-    ensures err { (ss : List (List ℕ)) → D.sectors disk.old ≡ Some ss → EntriesFit map.now (state_of machine.old ss) → OnErr result (AppendsPart (O.text out.old) (O.text out.new) (pages_rows (paged_of map.now (state_of machine.old ss)) first pages)) }
+    ensures ok { WherePaged (D.sectors disk.old) machine.old map.now (λ a. Prints (O.text out.old) (O.text out.new) (pages_rows a first pages) result) }
+    ensures err { WherePaged (D.sectors disk.old) machine.old map.now (λ a. PrintsPart (O.text out.old) (O.text out.new) (pages_rows a first pages) result) }
     ensures same { SameButViewed machine.old machine.new }
     ensures sectors { D.sectors disk.new ≡ D.sectors disk.old }
     ensures size { D.size disk.new ≡ D.size disk.old }

@@ -1,11 +1,10 @@
 // Single rows, which take no memory.
-ghost use Rattle.std.specs.Prelude.{◌≡◌, ◌++◌, ◌*◌, ◌<◌, ◌^◌, ◌==◌, if◌then◌else◌, [], codes, decimal, OnOk, OnErr};
-ghost use Rattle.std.specs.Io.KnownBytes.{append_known};
+ghost use Rattle.std.specs.Prelude.{◌≡◌, ◌++◌, ◌*◌, ◌<◌, ◌^◌, ◌==◌, if◌then◌else◌, [], codes, decimal};
 ghost use Rattle.cvm_outside.specs.Causes.{Counts};
-ghost use Rattle.cvm_outside.specs.Told.{AppendsPart};
 ghost use Rattle.cvm_text.specs.Hex.{hex8 as hex8_of};
 ghost use Rattle.cvm_model.specs.Text.{hex_row, nonzero_row};
-ghost use Rattle.boot_report.specs.Texts.{register_row, memory_row};
+ghost use Rattle.boot_report.specs.Prints.{Prints, PrintsPart};
+ghost use Rattle.boot_report.specs.Texts.{register_row, memory_row, user_head};
 
 use arrayvec::ArrayString;
 use cvm_outside::{Sink, SinkFault};
@@ -73,7 +72,7 @@ fn mem_row(number: u32, word: u32) -> ArrayString<32>
 
 /// The first row of a user.
 fn user_row(user: u32, pages: u32, pc: u32) -> ArrayString<80>
-    ensures { result.bytes ≡ hex_row (codes "user " ++ decimal user ++ codes " pages " ++ decimal pages ++ codes " pc") pc }
+    ensures { result.bytes ≡ user_head user pages pc }
 {
     let mut text = ArrayString::new();
     text.push_str("user ");
@@ -88,8 +87,8 @@ fn user_row(user: u32, pages: u32, pc: u32) -> ArrayString<80>
 
 /// Prints the row of a word of the console's log.
 pub(crate) fn put_log_word<O: Sink>(word: u32, out: &mut O) -> Result<(), SinkFault>
-    ensures ok { OnOk result (O.text out.new ≡ append_known (O.text out.old) (hex_row (codes "con") word)) }
-    ensures err { OnErr result (AppendsPart (O.text out.old) (O.text out.new) (hex_row (codes "con") word)) }
+    ensures ok { Prints (O.text out.old) (O.text out.new) (hex_row (codes "con") word) result }
+    ensures err { PrintsPart (O.text out.old) (O.text out.new) (hex_row (codes "con") word) result }
     ensures count { Counts (O.faults out.old) (O.faults out.new) result }
 {
     out.put(log_row(word).as_str().as_bytes())
@@ -97,8 +96,8 @@ pub(crate) fn put_log_word<O: Sink>(word: u32, out: &mut O) -> Result<(), SinkFa
 
 /// Prints the row of a word that isn't 0.
 fn put_nonzero<O: Sink>(word: u32, row: &[u8], out: &mut O) -> Result<(), SinkFault>
-    ensures ok { OnOk result (O.text out.new ≡ append_known (O.text out.old) (if word == 0 then [] else row.now)) }
-    ensures err { OnErr result (AppendsPart (O.text out.old) (O.text out.new) (if word == 0 then [] else row.now)) }
+    ensures ok { Prints (O.text out.old) (O.text out.new) (if word == 0 then [] else row.now) result }
+    ensures err { PrintsPart (O.text out.old) (O.text out.new) (if word == 0 then [] else row.now) result }
     ensures count { Counts (O.faults out.old) (O.faults out.new) result }
 {
     if word == 0 {
@@ -109,8 +108,8 @@ fn put_nonzero<O: Sink>(word: u32, row: &[u8], out: &mut O) -> Result<(), SinkFa
 
 /// Prints the row of a register that isn't 0.
 pub(crate) fn put_register<O: Sink>(register: u32, word: u32, out: &mut O) -> Result<(), SinkFault>
-    ensures ok { OnOk result (O.text out.new ≡ append_known (O.text out.old) (register_row register word)) }
-    ensures err { OnErr result (AppendsPart (O.text out.old) (O.text out.new) (register_row register word)) }
+    ensures ok { Prints (O.text out.old) (O.text out.new) (register_row register word) result }
+    ensures err { PrintsPart (O.text out.old) (O.text out.new) (register_row register word) result }
     ensures count { Counts (O.faults out.old) (O.faults out.new) result }
 {
     put_nonzero(word, reg_row(register, word).as_str().as_bytes(), out)
@@ -118,8 +117,8 @@ pub(crate) fn put_register<O: Sink>(register: u32, word: u32, out: &mut O) -> Re
 
 /// Prints the row of hi, if it isn't 0.
 pub(crate) fn put_hi<O: Sink>(word: u32, out: &mut O) -> Result<(), SinkFault>
-    ensures ok { OnOk result (O.text out.new ≡ append_known (O.text out.old) (nonzero_row (codes "hi") word)) }
-    ensures err { OnErr result (AppendsPart (O.text out.old) (O.text out.new) (nonzero_row (codes "hi") word)) }
+    ensures ok { Prints (O.text out.old) (O.text out.new) (nonzero_row (codes "hi") word) result }
+    ensures err { PrintsPart (O.text out.old) (O.text out.new) (nonzero_row (codes "hi") word) result }
     ensures count { Counts (O.faults out.old) (O.faults out.new) result }
 {
     put_nonzero(word, hi_row(word).as_str().as_bytes(), out)
@@ -127,8 +126,8 @@ pub(crate) fn put_hi<O: Sink>(word: u32, out: &mut O) -> Result<(), SinkFault>
 
 /// Prints the row of lo, if it isn't 0.
 pub(crate) fn put_lo<O: Sink>(word: u32, out: &mut O) -> Result<(), SinkFault>
-    ensures ok { OnOk result (O.text out.new ≡ append_known (O.text out.old) (nonzero_row (codes "lo") word)) }
-    ensures err { OnErr result (AppendsPart (O.text out.old) (O.text out.new) (nonzero_row (codes "lo") word)) }
+    ensures ok { Prints (O.text out.old) (O.text out.new) (nonzero_row (codes "lo") word) result }
+    ensures err { PrintsPart (O.text out.old) (O.text out.new) (nonzero_row (codes "lo") word) result }
     ensures count { Counts (O.faults out.old) (O.faults out.new) result }
 {
     put_nonzero(word, lo_row(word).as_str().as_bytes(), out)
@@ -137,8 +136,8 @@ pub(crate) fn put_lo<O: Sink>(word: u32, out: &mut O) -> Result<(), SinkFault>
 /// Prints the row of a word of memory that isn't 0, by its number.
 pub(crate) fn put_word<O: Sink>(number: u32, word: u32, out: &mut O) -> Result<(), SinkFault>
     requires { number < 2 ^ 30 }
-    ensures ok { OnOk result (O.text out.new ≡ append_known (O.text out.old) (memory_row number word)) }
-    ensures err { OnErr result (AppendsPart (O.text out.old) (O.text out.new) (memory_row number word)) }
+    ensures ok { Prints (O.text out.old) (O.text out.new) (memory_row number word) result }
+    ensures err { PrintsPart (O.text out.old) (O.text out.new) (memory_row number word) result }
     ensures count { Counts (O.faults out.old) (O.faults out.new) result }
 {
     if word == 0 {
@@ -154,8 +153,8 @@ pub(crate) fn put_user<O: Sink>(
     pc: u32,
     out: &mut O,
 ) -> Result<(), SinkFault>
-    ensures ok { OnOk result (O.text out.new ≡ append_known (O.text out.old) (hex_row (codes "user " ++ decimal user ++ codes " pages " ++ decimal pages ++ codes " pc") pc)) }
-    ensures err { OnErr result (AppendsPart (O.text out.old) (O.text out.new) (hex_row (codes "user " ++ decimal user ++ codes " pages " ++ decimal pages ++ codes " pc") pc)) }
+    ensures ok { Prints (O.text out.old) (O.text out.new) (user_head user pages pc) result }
+    ensures err { PrintsPart (O.text out.old) (O.text out.new) (user_head user pages pc) result }
     ensures count { Counts (O.faults out.old) (O.faults out.new) result }
 {
     out.put(user_row(user, pages, pc).as_str().as_bytes())

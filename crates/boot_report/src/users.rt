@@ -1,12 +1,11 @@
 // The rows of the users.
-ghost use Rattle.std.specs.Prelude.{◌≡◌, ◌≢◌, ℕ, ◌+◌, ◌-◌, ◌*◌, ◌/◌, ◌<◌, ◌≤◌, ◌^◌, ◌==◌, List, length, min, slice_index, Some, Err, OnOk, OnErr};
-ghost use Rattle.std.specs.Io.KnownBytes.{append_known};
+ghost use Rattle.std.specs.Prelude.{◌≡◌, ◌≢◌, ◌+◌, ◌-◌, ◌*◌, ◌/◌, ◌<◌, ◌≤◌, ◌^◌, ◌==◌};
+ghost use Rattle.std.specs.Prelude.{length, min, slice_index, Err};
 ghost use Rattle.cvm_outside.specs.Causes.{Counts, Rose};
-ghost use Rattle.cvm_outside.specs.Told.{AppendsPart};
 ghost use Rattle.layer_map.specs.Map.{block_at, memory_words};
-ghost use Rattle.mips_machine.specs.Machine.{state_of};
-ghost use Rattle.cvm_model.specs.Paged.{paged_of};
-ghost use Rattle.boot_report.specs.Texts.{cpu_of, pages_in, register_rows, processor_rows, user_rows, rows_of_user, users_rows, log_rows, EntriesFit, SameButViewed};
+ghost use Rattle.boot_report.specs.Prints.{Prints, PrintsPart};
+ghost use Rattle.boot_report.specs.Texts.{cpu_of, register_rows, processor_rows, log_rows, SameButViewed};
+ghost use Rattle.boot_report.specs.Told.{ForUser, ForUsers};
 
 use crate::fault::ReportFault;
 use crate::memory::put_memory;
@@ -90,8 +89,8 @@ fn put_registers<O: Sink>(
     requires user { 1 ≤ user }
     requires most { user ≤ 64 }
     requires memory { 16384 ≤ length machine.now.hardware.memory }
-    ensures ok { OnOk result (O.text out.new ≡ append_known (O.text out.old) (register_rows (cpu_of machine.now runs user) 31)) }
-    ensures err { OnErr result (AppendsPart (O.text out.old) (O.text out.new) (register_rows (cpu_of machine.now runs user) 31)) }
+    ensures ok { Prints (O.text out.old) (O.text out.new) (register_rows (cpu_of machine.now runs user) 31) result }
+    ensures err { PrintsPart (O.text out.old) (O.text out.new) (register_rows (cpu_of machine.now runs user) 31) result }
     ensures count { Counts (O.faults out.old) (O.faults out.new) result }
 {
     for i in 0..31u32 {
@@ -111,8 +110,8 @@ fn put_processor<O: Sink>(
     requires user { 1 ≤ user }
     requires most { user ≤ 64 }
     requires memory { 16384 ≤ length machine.now.hardware.memory }
-    ensures ok { OnOk result (O.text out.new ≡ append_known (O.text out.old) (processor_rows user pages (cpu_of machine.now runs user))) }
-    ensures err { OnErr result (AppendsPart (O.text out.old) (O.text out.new) (processor_rows user pages (cpu_of machine.now runs user))) }
+    ensures ok { Prints (O.text out.old) (O.text out.new) (processor_rows user pages (cpu_of machine.now runs user)) result }
+    ensures err { PrintsPart (O.text out.old) (O.text out.new) (processor_rows user pages (cpu_of machine.now runs user)) result }
     ensures count { Counts (O.faults out.old) (O.faults out.new) result }
 {
     put_user(user, pages, pc_of(machine, runs, user), out)?;
@@ -143,8 +142,8 @@ fn put_one<D: Sectors, O: Sink>(
     requires small { memory_words map.now ≤ 30000000 }
     requires all { map.now.users * map.now.params.pages ≤ 65536 }
     requires room { map.now.users * map.now.params.pages ≤ D.size disk.old }
-    ensures ok { (ss : List (List ℕ)) → D.sectors disk.old ≡ Some ss → EntriesFit map.now (state_of machine.old ss) → OnOk result (O.text out.new ≡ append_known (O.text out.old) (user_rows map.now (paged_of map.now (state_of machine.old ss)) user (pages_in map.now machine.old.hardware.memory user) (cpu_of machine.old runs user))) }
-    ensures err { (ss : List (List ℕ)) → D.sectors disk.old ≡ Some ss → EntriesFit map.now (state_of machine.old ss) → OnErr result (AppendsPart (O.text out.old) (O.text out.new) (user_rows map.now (paged_of map.now (state_of machine.old ss)) user (pages_in map.now machine.old.hardware.memory user) (cpu_of machine.old runs user))) }
+    ensures ok { ForUser (D.sectors disk.old) machine.old map.now runs user (Prints (O.text out.old) (O.text out.new)) result }
+    ensures err { ForUser (D.sectors disk.old) machine.old map.now runs user (PrintsPart (O.text out.old) (O.text out.new)) result }
     ensures same { SameButViewed machine.old machine.new }
     ensures sectors { D.sectors disk.new ≡ D.sectors disk.old }
     ensures size { D.size disk.new ≡ D.size disk.old }
@@ -180,8 +179,8 @@ pub fn put_user_rows<D: Sectors, O: Sink>(
     requires small { memory_words map.now ≤ 30000000 }
     requires all { map.now.users * map.now.params.pages ≤ 65536 }
     requires room { map.now.users * map.now.params.pages ≤ D.size disk.old }
-    ensures ok { (ss : List (List ℕ)) → D.sectors disk.old ≡ Some ss → EntriesFit map.now (state_of machine.old ss) → OnOk result (O.text out.new ≡ append_known (O.text out.old) (rows_of_user map.now machine.old (paged_of map.now (state_of machine.old ss)) running user)) }
-    ensures err { (ss : List (List ℕ)) → D.sectors disk.old ≡ Some ss → EntriesFit map.now (state_of machine.old ss) → OnErr result (AppendsPart (O.text out.old) (O.text out.new) (rows_of_user map.now machine.old (paged_of map.now (state_of machine.old ss)) running user)) }
+    ensures ok { ForUser (D.sectors disk.old) machine.old map.now (user == running) user (Prints (O.text out.old) (O.text out.new)) result }
+    ensures err { ForUser (D.sectors disk.old) machine.old map.now (user == running) user (PrintsPart (O.text out.old) (O.text out.new)) result }
     ensures same { SameButViewed machine.old machine.new }
     ensures sectors { D.sectors disk.new ≡ D.sectors disk.old }
     ensures size { D.size disk.new ≡ D.size disk.old }
@@ -211,8 +210,8 @@ pub fn put_users<D: Sectors, O: Sink>(
     requires small { memory_words map.now ≤ 30000000 }
     requires all { map.now.users * map.now.params.pages ≤ 65536 }
     requires room { map.now.users * map.now.params.pages ≤ D.size disk.old }
-    ensures ok { (ss : List (List ℕ)) → D.sectors disk.old ≡ Some ss → EntriesFit map.now (state_of machine.old ss) → OnOk result (O.text out.new ≡ append_known (O.text out.old) (users_rows map.now machine.old (paged_of map.now (state_of machine.old ss)) running map.now.users)) }
-    ensures err { (ss : List (List ℕ)) → D.sectors disk.old ≡ Some ss → EntriesFit map.now (state_of machine.old ss) → OnErr result (AppendsPart (O.text out.old) (O.text out.new) (users_rows map.now machine.old (paged_of map.now (state_of machine.old ss)) running map.now.users)) }
+    ensures ok { ForUsers (D.sectors disk.old) machine.old map.now running (Prints (O.text out.old) (O.text out.new)) result }
+    ensures err { ForUsers (D.sectors disk.old) machine.old map.now running (PrintsPart (O.text out.old) (O.text out.new)) result }
     ensures same { SameButViewed machine.old machine.new }
     ensures sectors { D.sectors disk.new ≡ D.sectors disk.old }
     ensures size { D.size disk.new ≡ D.size disk.old }
@@ -233,8 +232,8 @@ pub fn put_users<D: Sectors, O: Sink>(
 ///
 /// A fault of the sink.
 pub fn put_log<O: Sink>(log: &[u32], out: &mut O) -> Result<(), SinkFault>
-    ensures ok { OnOk result (O.text out.new ≡ append_known (O.text out.old) (log_rows log.now)) }
-    ensures err { OnErr result (AppendsPart (O.text out.old) (O.text out.new) (log_rows log.now)) }
+    ensures ok { Prints (O.text out.old) (O.text out.new) (log_rows log.now) result }
+    ensures err { PrintsPart (O.text out.old) (O.text out.new) (log_rows log.now) result }
     ensures count { Counts (O.faults out.old) (O.faults out.new) result }
 {
     for i in 0..log.len() {

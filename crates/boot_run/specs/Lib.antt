@@ -6,3 +6,4 @@ pub mod Shown
 pub mod Placed
 pub mod Report
 pub mod Whole
+pub mod Calls

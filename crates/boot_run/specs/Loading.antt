@@ -1,5 +1,5 @@
 -- What a call of `load` writes: the linked words into memory, and the users' pages to their sectors.
-use Rattle.std.specs.Prelude.{◌≡◌, ℕ, zero, suc, ◌≤◌, if◌then◌else◌, Option, List, ◌++◌, map, drop, length, slice_set}
+use Rattle.std.specs.Prelude.{◌≡◌, ℕ, zero, suc, ◌≤◌, if◌then◌else◌, Option, List, Vec, ◌++◌, map, drop, length, slice_set}
 use Rattle.std.specs.Option.{option_map}
 use Rattle.std.specs.List.{range_with_len}
 use Rattle.mips_table.specs.Device.{sector_of}
@@ -18,6 +18,10 @@ system_of b rows = record { boot = boot_of b; input = rows.inputs; longest = lon
 -- the pages of users with these words at the start, with up to so many pages each
 abbrev pub first_pages : ℕ → List (List ℕ) → Pages
 first_pages per users = pages_by per (map first_flat users)
+
+-- and of users with these vectors of words
+abbrev pub pages_of_users : {A : Type 0} → ℕ → List (Vec ℕ A) → Pages
+pages_of_users per users = first_pages per (map (λ words. words.items) users)
 
 -- the words of a page
 abbrev pub words_of_page : Pages → ℕ → List ℕ

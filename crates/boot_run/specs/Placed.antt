@@ -1,12 +1,14 @@
 -- Where the parts of what is booted stand, as a loaded run keeps it.
-use Rattle.std.specs.Prelude.{◌≡◌, ℕ, ◌*◌, ◌≤◌, All, List, length}
+use Rattle.std.specs.Prelude.{◌≡◌, ℕ, ◌*◌, ◌<◌, ◌≤◌, All, IsTrue, Option, List, length}
 use Rattle.c0_tree.specs.View.{unit_view}
 use Rattle.layer_map.specs.Map.{Map, MapInRange, memory_words}
 use Rattle.cvm_model.specs.Cvm.{map_of}
 use Rattle.layer_contract.specs.declared.boot.Boot.{Boot as Booted}
 use Rattle.layer_contract.specs.Boots.{boot_of}
 use Rattle.boot_report.specs.Given.{places_of}
-use Rattle.boot_run.specs.LoadEnds.{pages_needed}
+use Rattle.mips_machine.specs.Machine.{Held}
+use Rattle.boot_turns.specs.declared.tracer.Tracer.{Tracer}
+use Rattle.boot_run.specs.LoadEnds.{pages_needed, names_sector, tracer_fits}
 
 -- the map of what is booted, and the places of its globals; the memory has room for the map, and the disk for the users' pages, in which their
 -- words have room
@@ -17,3 +19,9 @@ pub record IsPlaced (b : Booted) (m : Map) (places words : List ℕ) (count : �
   pub memory : memory_words m ≤ length words
   pub sectors : pages_needed b ≤ count
   pub users : All (λ words. length words ≤ 1024 * b.params.pages) (boot_of b).users
+
+-- so it can go on, over a disk of so many sectors: the command under way names one of them, memory holds the current user's word, the parts
+-- are placed, and what is kept of a trace fits
+abbrev pub CanGoOn : Booted → Held → Map → (places : List ℕ) → (count : ℕ) → Option Tracer → Type 0
+CanGoOn b held m places count tracer = IsTrue (names_sector count held.hardware.ports.pending) × (1024 < length held.hardware.memory)
+    × IsPlaced b m places held.hardware.memory count × IsTrue (tracer_fits tracer (length b.users.items) held.time)

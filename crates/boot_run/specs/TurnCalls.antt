@@ -91,7 +91,8 @@ pub record Ready (x : Outside) (y : System) (old : List (List ℕ)) (v : View) (
   pub text : a.text ≡ append_known base shown
 
 -- turn k is complete, its rows are printed, and the next call finds the run so
-pub record Turned (x : Outside) (y : System) (old : List (List ℕ)) (v : View) (base : Option (List ℕ)) (k t : ℕ) (c : Cvm) (before after : Around) (answer : Turn) : Type 0 where
+pub record Turned (x : Outside) (y : System) (old : List (List ℕ)) (v : View) (base : Option (List ℕ)) (k t : ℕ) (c : Cvm) (before after : Around)
+    (answer : Turn) : Type 0 where
   pub ahead : Ahead x y old k t c
   pub ready : Ready x y old v base (suc k) ahead.end ahead.after after
   pub budget : after.budget + ahead.end ≡ before.budget + t
@@ -128,11 +129,14 @@ pub record DiskFailed (x : Outside) (y : System) (old : List (List ℕ)) (v : Vi
 -- what of turn k was printed where the sink failed after so many steps: of a boot its row, when it was complete; of a trace any part of what is
 -- to be printed there, the kernel's fault too where the machine is off
 abbrev pub PutBroken : Outside → System → List (List ℕ) → View → (k t : ℕ) → Cvm → ℕ → List ℕ → Type 0
-PutBroken x y old Boot k t c at text = (ahead : Ahead x y old k t c) × (at ≡ ahead.end) × Prefix (rows_text c.rows) (rows_text ahead.after.rows) text × ((row : Row) × (ahead.after.rows ≡ c.rows ++ row ∷ []))
-PutBroken x y old (Trace u) k t c at text = (whole : List ℕ) × (t ≤ at) × (Printed x y old (Trace u) at whole ⊎ (Whole x y old (Trace u) at whole × IsSome (machine x y old at).off)) × Prefix [] whole text
+PutBroken x y old Boot k t c at text = (ahead : Ahead x y old k t c) × (at ≡ ahead.end) × Prefix (rows_text c.rows) (rows_text ahead.after.rows) text
+    × ((row : Row) × (ahead.after.rows ≡ c.rows ++ row ∷ []))
+PutBroken x y old (Trace u) k t c at text = (whole : List ℕ) × (t ≤ at)
+    × (Printed x y old (Trace u) at whole ⊎ (Whole x y old (Trace u) at whole × IsSome (machine x y old at).off)) × Prefix [] whole text
 
 -- the sink failed in turn k, which wasn't complete before step number `at`
-pub record SinkFailed (x : Outside) (y : System) (old : List (List ℕ)) (v : View) (base : Option (List ℕ)) (k t : ℕ) (c : Cvm) (before after : Around) : Type 0 where
+pub record SinkFailed (x : Outside) (y : System) (old : List (List ℕ)) (v : View) (base : Option (List ℕ)) (k t : ℕ) (c : Cvm)
+    (before after : Around) : Type 0 where
   pub at : ℕ
   pub state : after.state ≡ Some (machine x y old at)
   pub steps : after.steps ≡ at
@@ -159,13 +163,15 @@ TurnEnds x y old v base k t c before after result = MatchResult result (Turned x
 -- for every boot of this kernel whose run stands there and goes on, whatever unit the kernel is, over a disk of so many sectors
 abbrev pub TurnRuns : {L : Type 0} → (count : ℕ) → Kept L → (before after : Around) → Result Turn RunFault → Type 0
 TurnRuns count r before after result =
-    (u : CUnit) (lines busy : ℕ → ℕ) (y : System) (old : List (List ℕ)) (image sizes : List ℕ) (made_for : Map) (base : Option (List ℕ)) (k t : ℕ) (c : Cvm) → y.boot ≡ boot_of r.boot →
+    (u : CUnit) (lines busy : ℕ → ℕ) (y : System) (old : List (List ℕ)) (image sizes : List ℕ) (made_for : Map) (base : Option (List ℕ)) (k t : ℕ)
+    (c : Cvm) → y.boot ≡ boot_of r.boot →
     Boots (IsTypedState u) lines busy (outside_of r.machine.rows count) y old image sizes made_for → Laws (site_of y.boot) sizes →
     Ready (outside_of r.machine.rows count) y old r.view base k t c before → c.status ≡ Running →
     TurnEnds (outside_of r.machine.rows count) y old r.view base k t c before after result
 
 -- TURNS, so many at most, of a run that goes on: the first n were untrapped steps of the current user, and then one turn went as `turn` says of one
-abbrev pub TurnsEnd : Outside → System → List (List ℕ) → View → Option (List ℕ) → (k t : ℕ) → Cvm → (most : ℕ) → (before after : Around) → Result (ℕ × Turn) RunFault → Type 0
+abbrev pub TurnsEnd : Outside → System → List (List ℕ) → View → Option (List ℕ) → (k t : ℕ) → Cvm → (most : ℕ) → (before after : Around) →
+    Result (ℕ × Turn) RunFault → Type 0
 TurnsEnd x y old v base k t c most before after result = (n : ℕ) × (n < most) × (n ≤ before.budget) × (w : Skipped x y old k t c n) ×
     MatchResult result (λ r. (r.0 ≡ n + 1) × Turned x y old v base (k + n) (t + n) w.after (record before { budget = before.budget - n }) after r.1)
     (TurnFails x y old v base (k + n) (t + n) w.after (record before { budget = before.budget - n }) after)
@@ -173,7 +179,8 @@ TurnsEnd x y old v base k t c most before after result = (n : ℕ) × (n < most)
 -- for every boot of this kernel whose run stands there and goes on, as for one turn
 abbrev pub TurnsRun : {L : Type 0} → (count : ℕ) → Kept L → (most : ℕ) → (before after : Around) → Result (ℕ × Turn) RunFault → Type 0
 TurnsRun count r most before after result =
-    (u : CUnit) (lines busy : ℕ → ℕ) (y : System) (old : List (List ℕ)) (image sizes : List ℕ) (made_for : Map) (base : Option (List ℕ)) (k t : ℕ) (c : Cvm) → y.boot ≡ boot_of r.boot →
+    (u : CUnit) (lines busy : ℕ → ℕ) (y : System) (old : List (List ℕ)) (image sizes : List ℕ) (made_for : Map) (base : Option (List ℕ)) (k t : ℕ)
+    (c : Cvm) → y.boot ≡ boot_of r.boot →
     Boots (IsTypedState u) lines busy (outside_of r.machine.rows count) y old image sizes made_for → Laws (site_of y.boot) sizes →
     Ready (outside_of r.machine.rows count) y old r.view base k t c before → c.status ≡ Running →
     TurnsEnd (outside_of r.machine.rows count) y old r.view base k t c most before after result
@@ -193,3 +200,8 @@ IsOver r = IsSome r.fault ⊎ IsSome r.ended
 -- a loaded run is ready for its first turn, over a sink that has this text
 abbrev pub IsReady : {L : Type 0} → Outside → System → List (List ℕ) → Option (List ℕ) → Kept L → Option (List (List ℕ)) → ℕ → Type 0
 IsReady x y old text r retold budget = Ready x y old r.view text 0 0 (first_cvm y) (around r retold budget text)
+
+-- whatever is around it, where the sectors were told before
+abbrev pub StandsReady : {L : Type 0} → System → (told retold : Option (List (List ℕ))) → Kept L → Type 0
+StandsReady y told retold r = (x : Outside) (old : List (List ℕ)) (budget : ℕ) (text : Option (List ℕ)) → told ≡ Some old →
+    IsReady x y old text r retold budget

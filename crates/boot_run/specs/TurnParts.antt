@@ -1,5 +1,6 @@
 -- The parts of a call of `turns`: what is printed before the machine goes on, the turn itself, and what is printed after it.
-use Rattle.std.specs.Prelude.{◌≡◌, ℕ, zero, suc, ◌+◌, ◌-◌, ◌^◌, min, if◌then◌else◌, Option, Some, None, List, [], ◌∷◌, ◌++◌, length, map, slice_index, codes, Result, Ok, Err, MatchResult}
+use Rattle.std.specs.Prelude.{◌≡◌, ℕ, zero, suc, ◌+◌, ◌-◌, ◌^◌, min, if◌then◌else◌, Option, Some, None, List, [], ◌∷◌, ◌++◌, length, map, slice_index}
+use Rattle.std.specs.Prelude.{codes, Result, Ok, Err, MatchResult}
 use Rattle.mips_table.specs.Flat.{Flat}
 use Rattle.mips_machine.specs.Machine.{Held}
 use Rattle.cvm_model.specs.Primitives.{user_of}

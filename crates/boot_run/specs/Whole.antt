@@ -51,7 +51,8 @@ abbrev pub BootEnds : Outside → System → (old now : List (List ℕ)) → Vie
 BootEnds x y old now v turns steps before after e = (text : List ℕ) × Ends x y old now v turns steps text e × (after ≡ append_known before text)
 
 -- for what is booted, a schedule's rows and a disk of so many sectors, where it tells them before and after
-abbrev pub WholeEnds : Booted → Rows → ℕ → View → (turns steps : ℕ) → (told retold : Option (List (List ℕ))) → (before after : Option (List ℕ)) → Result RunEnd LoadFault → Type 0
+abbrev pub WholeEnds : Booted → Rows → ℕ → View → (turns steps : ℕ) → (told retold : Option (List (List ℕ))) → (before after : Option (List ℕ)) →
+    Result RunEnd LoadFault → Type 0
 WholeEnds b rows count v turns steps told retold before after result = (old now : List (List ℕ)) → told ≡ Some old → retold ≡ Some now →
     IfSome (ending_of_answer result) (BootEnds (outside_of rows count) (system_of b rows) old now v turns steps before after)
 
@@ -76,6 +77,10 @@ pub record Bootable (b : Booted) (rows : Rows) (count : ℕ) (y : System) (old :
   pub boots : Boots (IsTypedState (unit_view b.unit)) lines busy (outside_of rows count) y old image sizes made_for
   pub laws : Laws (site_of y.boot) sizes
   pub same : y.boot ≡ boot_of b
+
+-- so it is with each disk of so many sectors that are enough, where they are told
+abbrev pub AreBootable : Booted → Rows → (count : ℕ) → (told : Option (List (List ℕ))) → Type 0
+AreBootable b rows count told = (old : List (List ℕ)) → told ≡ Some old → pages_needed b ≤ count → Bootable b rows count (system_of b rows) old
 
 -- sectors that stand in a machine
 abbrev pub Stand : Around → List (List ℕ) → Type 0
@@ -117,14 +122,17 @@ PutFails x y old now (Trace u) turns steps text = TraceBroken x y old now u turn
 -- a fault of a turn
 abbrev pub GoFails : Outside → System → List (List ℕ) → View → Option (List ℕ) → (turns steps : ℕ) → Around → RunFault → Type 0
 GoFails x y old v base turns steps after StepLimit = Late x y old v base turns steps after
-GoFails x y old v base turns steps after Disk = (shown : List ℕ) × (now : List (List ℕ)) × Stand after now × StepBroken x y old now v turns steps shown × (after.text ≡ append_known base shown)
-GoFails x y old v base turns steps after Sink = (shown : List ℕ) × (now : List (List ℕ)) × Stand after now × PutFails x y old now v turns steps shown × (after.text ≡ append_known base shown)
+GoFails x y old v base turns steps after Disk = (shown : List ℕ) × (now : List (List ℕ)) × Stand after now × StepBroken x y old now v turns steps shown
+    × (after.text ≡ append_known base shown)
+GoFails x y old v base turns steps after Sink = (shown : List ℕ) × (now : List (List ℕ)) × Stand after now × PutFails x y old now v turns steps shown
+    × (after.text ≡ append_known base shown)
 
 -- THE LOOP over turns
 abbrev pub GoRuns : {L : Type 0} → (count : ℕ) → Kept L → ℕ → (before after : Around) → Result (Unit {0}) RunFault → Type 0
 GoRuns count r turns before after result = (y : System) (old : List (List ℕ)) (base : Option (List ℕ)) → Bootable r.boot r.machine.rows count y old →
     Ready (outside_of r.machine.rows count) y old r.view base 0 0 (first_cvm y) before →
-    MatchResult result (λ _. Gone (outside_of r.machine.rows count) y old r.view base turns before.budget after) (GoFails (outside_of r.machine.rows count) y old r.view base turns before.budget after)
+    MatchResult result (λ _. Gone (outside_of r.machine.rows count) y old r.view base turns before.budget after)
+    (GoFails (outside_of r.machine.rows count) y old r.view base turns before.budget after)
 
 -- what closes a run at step t: the report, or where the kernel faulted nothing
 abbrev pub CloseEnds : Outside → System → List (List ℕ) → View → Option (List ℕ) → ℕ → Cvm → (before after : Around) → RunEnd → Type 0
@@ -135,13 +143,16 @@ CloseEnds x y old v base t c before after run.DiskFault = (ending_of c.status �
 CloseEnds x y old v base t c before after run.SinkFault = (ending_of c.status ≡ headline.Done) × ReportBroken x y old v base t before after Sink
 
 abbrev pub CloseRuns : {L : Type 0} → (count : ℕ) → Kept L → (before after : Around) → RunEnd → Type 0
-CloseRuns count r before after result = (y : System) (old : List (List ℕ)) (base : Option (List ℕ)) (k t : ℕ) (c : Cvm) → Bootable r.boot r.machine.rows count y old →
-    Ready (outside_of r.machine.rows count) y old r.view base (suc k) t c before → CloseEnds (outside_of r.machine.rows count) y old r.view base t c before after result
+CloseRuns count r before after result = (y : System) (old : List (List ℕ)) (base : Option (List ℕ)) (k t : ℕ) (c : Cvm) →
+    Bootable r.boot r.machine.rows count y old → Ready (outside_of r.machine.rows count) y old r.view base (suc k) t c before →
+    CloseEnds (outside_of r.machine.rows count) y old r.view base t c before after result
 
 -- a loaded run to its end, of one of the users where it is traced
-abbrev pub RunsToEnd : {L : Type 0} → (count : ℕ) → Kept L → (turns steps : ℕ) → (before : Around) → (retold : Option (List (List ℕ))) → (after : Option (List ℕ)) → RunEnd → Type 0
-RunsToEnd count r turns steps before retold after result = (y : System) (old : List (List ℕ)) (base : Option (List ℕ)) → Bootable r.boot r.machine.rows count y old →
-    SeesUser r.view (length y.boot.users) → Ready (outside_of r.machine.rows count) y old r.view base 0 0 (first_cvm y) before →
+abbrev pub RunsToEnd : {L : Type 0} → (count : ℕ) → Kept L → (turns steps : ℕ) → (before : Around) → (retold : Option (List (List ℕ))) →
+    (after : Option (List ℕ)) → RunEnd → Type 0
+RunsToEnd count r turns steps before retold after result = (y : System) (old : List (List ℕ)) (base : Option (List ℕ)) →
+    Bootable r.boot r.machine.rows count y old → SeesUser r.view (length y.boot.users) →
+    Ready (outside_of r.machine.rows count) y old r.view base 0 0 (first_cvm y) before →
     (now : List (List ℕ)) × (retold ≡ Some now) × BootEnds (outside_of r.machine.rows count) y old now r.view turns steps base after (ending_of_end result)
 
 -- how an ended run is told, and a fault

@@ -1,5 +1,6 @@
 // The machine of a boot, loaded.
-ghost use Rattle.std.specs.Prelude.{◌≡◌, ◌≢◌, ℕ, ◌*◌, ◌/◌, ◌^◌, ◌<◌, ◌≤◌, All, List, length, map, IfOk, IfErr, OnOk, OnErr, Err, Ok};
+ghost use Rattle.std.specs.Prelude.{◌≡◌, ◌≢◌, ◌*◌, ◌/◌, ◌^◌, ◌<◌, ◌≤◌};
+ghost use Rattle.std.specs.Prelude.{ℕ, All, List, length, map, IfOk, IfErr, OnOk, OnErr, Err, Ok};
 ghost use Rattle.cvm_outside.specs.Causes.{Counts};
 ghost use Rattle.layer_map.specs.Map.{MapInRange, memory_frames};
 ghost use Rattle.cvm_model.specs.Cvm.{map_of};

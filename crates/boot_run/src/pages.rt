@@ -1,8 +1,8 @@
 // The users' pages, written to their sectors, and the linked words, written into memory.
-ghost use Rattle.std.specs.Prelude.{◌≡◌, ℕ, ◌+◌, ◌*◌, ◌<◌, ◌≤◌, ◌^◌, map, length, slice_index, vec_len, OnOk, OnErr, All};
+ghost use Rattle.std.specs.Prelude.{◌≡◌, ℕ, ◌+◌, ◌*◌, ◌<◌, ◌≤◌, ◌^◌, length, slice_index, vec_len, OnOk, OnErr, All};
 ghost use Rattle.std.specs.Option.{option_map};
 ghost use Rattle.cvm_outside.specs.Causes.{Counts};
-ghost use Rattle.boot_run.specs.Loading.{first_pages, with_page, written, with_words, StaysFrom};
+ghost use Rattle.boot_run.specs.Loading.{pages_of_users, with_page, written, with_words, StaysFrom};
 
 use cvm_outside::{DiskFault, Sectors};
 use mips_machine::Machine;
@@ -41,7 +41,7 @@ fn write_page<D: Sectors>(
     requires some { 1 ≤ per }
     requires inside { q < length users.now * per }
     requires room { length users.now * per ≤ D.size disk.old }
-    ensures ok { OnOk result (D.sectors disk.new ≡ option_map (λ ss. with_page (first_pages per (map (λ words. words.items) users.now)) ss q) (D.sectors disk.old)) }
+    ensures ok { OnOk result (D.sectors disk.new ≡ option_map (λ ss. with_page (pages_of_users per users.now) ss q) (D.sectors disk.old)) }
     ensures torn { OnErr result (StaysFrom (length users.now * per) (D.sectors disk.old) (D.sectors disk.new)) }
     ensures size { D.size disk.new ≡ D.size disk.old }
     ensures count { Counts (D.faults disk.old) (D.faults disk.new) result }
@@ -67,7 +67,7 @@ pub(crate) fn write_pages<D: Sectors>(
     requires some { 1 ≤ per }
     requires few { length users.now * per < 2 ^ 32 }
     requires room { length users.now * per ≤ D.size disk.old }
-    ensures ok { OnOk result (D.sectors disk.new ≡ option_map (written (first_pages per (map (λ words. words.items) users.now)) (length users.now * per)) (D.sectors disk.old)) }
+    ensures ok { OnOk result (D.sectors disk.new ≡ option_map (written (pages_of_users per users.now) (length users.now * per)) (D.sectors disk.old)) }
     ensures torn { OnErr result (StaysFrom (length users.now * per) (D.sectors disk.old) (D.sectors disk.new)) }
     ensures size { D.size disk.new ≡ D.size disk.old }
     ensures count { Counts (D.faults disk.old) (D.faults disk.new) result }

@@ -1,13 +1,12 @@
 // The end and the report of a run, printed from its machine.
-ghost use Rattle.std.specs.Prelude.{◌≡◌, ◌≢◌, ℕ, ◌+◌, ◌*◌, ◌<◌, ◌≤◌, ◌++◌, List, length, slice_index, Some, Err, OnOk, OnErr};
-ghost use Rattle.std.specs.Io.KnownBytes.{append_known};
+ghost use Rattle.std.specs.Prelude.{◌≡◌, ◌≢◌, ◌*◌, ◌≤◌, ◌++◌, length, Err};
 ghost use Rattle.cvm_outside.specs.Causes.{Counts, Rose};
-ghost use Rattle.cvm_outside.specs.Told.{AppendsPart};
-ghost use Rattle.layer_map.specs.Map.{globals_at, memory_words};
-ghost use Rattle.mips_machine.specs.Machine.{state_of};
+ghost use Rattle.layer_map.specs.Map.{memory_words};
 ghost use Rattle.cvm_model.specs.Text.{steps_row as steps_text};
-ghost use Rattle.boot_report.specs.Texts.{EntriesFit, SameButViewed};
-ghost use Rattle.boot_run.specs.Report.{end_row, kernel_rows, runs_now, closing_rows, trace_rows};
+ghost use Rattle.boot_report.specs.Globals.{AreInside};
+ghost use Rattle.boot_report.specs.Prints.{Prints, PrintsPart};
+ghost use Rattle.boot_report.specs.Texts.{SameButViewed};
+ghost use Rattle.boot_run.specs.Report.{end_row, kernel_rows, runs_now, ForClosing, ForTraceClosing, StepsStand};
 
 use crate::places::Places;
 use boot_report::{ReportFault, put_globals, put_log, put_user_rows, put_users};
@@ -20,8 +19,8 @@ use mips_machine::Machine;
 
 /// Prints whether a run halted or goes on.
 fn put_end<O: Sink>(halted: bool, out: &mut O) -> Result<(), SinkFault>
-    ensures ok { OnOk result (O.text out.new ≡ append_known (O.text out.old) (end_row halted)) }
-    ensures err { OnErr result (AppendsPart (O.text out.old) (O.text out.new) (end_row halted)) }
+    ensures ok { Prints (O.text out.old) (O.text out.new) (end_row halted) result }
+    ensures err { PrintsPart (O.text out.old) (O.text out.new) (end_row halted) result }
     ensures count { Counts (O.faults out.old) (O.faults out.new) result }
 {
     if halted {
@@ -41,9 +40,9 @@ fn put_kernel<O: Sink>(
     requires many { length places.now.offsets.items ≡ length decls.now }
     requires memory { memory_words places.now.map ≤ length machine.now.hardware.memory }
     requires small { memory_words places.now.map ≤ 30000000 }
-    requires inside { (i : ℕ) → i < length places.now.offsets.items → globals_at places.now.map + slice_index places.now.offsets.items i < memory_words places.now.map }
-    ensures ok { OnOk result (O.text out.new ≡ append_known (O.text out.old) (kernel_rows halted machine.now places.now.map places.now.offsets.items decls.now)) }
-    ensures err { OnErr result (AppendsPart (O.text out.old) (O.text out.new) (kernel_rows halted machine.now places.now.map places.now.offsets.items decls.now)) }
+    requires inside { AreInside places.now.map places.now.offsets.items }
+    ensures ok { Prints (O.text out.old) (O.text out.new) (kernel_rows halted machine.now places.now.map places.now.offsets.items decls.now) result }
+    ensures err { PrintsPart (O.text out.old) (O.text out.new) (kernel_rows halted machine.now places.now.map places.now.offsets.items decls.now) result }
     ensures count { Counts (O.faults out.old) (O.faults out.new) result }
 {
     put_end(halted, out)?;
@@ -77,11 +76,11 @@ pub(crate) fn put_closing<D: Sectors, O: Sink>(
     requires users { places.now.map.users ≤ 64 }
     requires memory { memory_words places.now.map ≤ length machine.old.hardware.memory }
     requires small { memory_words places.now.map ≤ 30000000 }
-    requires inside { (i : ℕ) → i < length places.now.offsets.items → globals_at places.now.map + slice_index places.now.offsets.items i < memory_words places.now.map }
+    requires inside { AreInside places.now.map places.now.offsets.items }
     requires all { places.now.map.users * places.now.map.params.pages ≤ 65536 }
     requires room { places.now.map.users * places.now.map.params.pages ≤ D.size disk.old }
-    ensures ok { (ss : List (List ℕ)) → D.sectors disk.old ≡ Some ss → EntriesFit places.now.map (state_of machine.old ss) → OnOk result (O.text out.new ≡ append_known (O.text out.old) (closing_rows halted current machine.old ss places.now.map places.now.offsets.items decls.now)) }
-    ensures err { (ss : List (List ℕ)) → D.sectors disk.old ≡ Some ss → EntriesFit places.now.map (state_of machine.old ss) → OnErr result (AppendsPart (O.text out.old) (O.text out.new) (closing_rows halted current machine.old ss places.now.map places.now.offsets.items decls.now)) }
+    ensures ok { ForClosing (D.sectors disk.old) machine.old halted current places.now decls.now (Prints (O.text out.old) (O.text out.new)) result }
+    ensures err { ForClosing (D.sectors disk.old) machine.old halted current places.now decls.now (PrintsPart (O.text out.old) (O.text out.new)) result }
     ensures same { SameButViewed machine.old machine.new }
     ensures sectors { D.sectors disk.new ≡ D.sectors disk.old }
     ensures size { D.size disk.new ≡ D.size disk.old }
@@ -97,8 +96,8 @@ pub(crate) fn put_closing<D: Sectors, O: Sink>(
 
 /// Prints the row of a trace's last steps, where there are any, and the end.
 fn put_last<O: Sink>(steps: u64, halted: bool, out: &mut O) -> Result<(), SinkFault>
-    ensures ok { OnOk result (O.text out.new ≡ append_known (O.text out.old) (steps_text steps ++ end_row halted)) }
-    ensures err { OnErr result (AppendsPart (O.text out.old) (O.text out.new) (steps_text steps ++ end_row halted)) }
+    ensures ok { Prints (O.text out.old) (O.text out.new) (steps_text steps ++ end_row halted) result }
+    ensures err { PrintsPart (O.text out.old) (O.text out.new) (steps_text steps ++ end_row halted) result }
     ensures count { Counts (O.faults out.old) (O.faults out.new) result }
 {
     out.put(steps_row(steps).as_str().as_bytes())?;
@@ -128,9 +127,9 @@ pub(crate) fn put_trace_closing<D: Sectors, O: Sink>(
     requires small { memory_words map.now ≤ 30000000 }
     requires all { map.now.users * map.now.params.pages ≤ 65536 }
     requires room { map.now.users * map.now.params.pages ≤ D.size disk.old }
-    ensures ok { (ss : List (List ℕ)) → D.sectors disk.old ≡ Some ss → EntriesFit map.now (state_of machine.old ss) → OnOk result (O.text out.new ≡ append_known (O.text out.old) (steps_text tracer.steps ++ trace_rows halted current machine.old ss map.now tracer.user)) }
-    ensures err { (ss : List (List ℕ)) → D.sectors disk.old ≡ Some ss → EntriesFit map.now (state_of machine.old ss) → OnErr result (AppendsPart (O.text out.old) (O.text out.new) (steps_text tracer.steps ++ trace_rows halted current machine.old ss map.now tracer.user)) }
-    ensures rows { (ss : List (List ℕ)) → D.sectors disk.old ≡ Some ss → EntriesFit map.now (state_of machine.old ss) → result ≡ Err ReportFault.Disk → AppendsPart (append_known (O.text out.old) (steps_text tracer.steps)) (O.text out.new) (trace_rows halted current machine.old ss map.now tracer.user) }
+    ensures ok { ForTraceClosing (D.sectors disk.old) machine.old halted current map.now tracer (Prints (O.text out.old) (O.text out.new)) result }
+    ensures err { ForTraceClosing (D.sectors disk.old) machine.old halted current map.now tracer (PrintsPart (O.text out.old) (O.text out.new)) result }
+    ensures rows { StepsStand (D.sectors disk.old) machine.old halted current map.now tracer (O.text out.old) (O.text out.new) result }
     ensures same { SameButViewed machine.old machine.new }
     ensures sectors { D.sectors disk.new ≡ D.sectors disk.old }
     ensures size { D.size disk.new ≡ D.size disk.old }

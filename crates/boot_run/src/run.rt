@@ -1,18 +1,17 @@
 // A loaded run.
-ghost use Rattle.std.specs.Prelude.{false, ◌≡◌, ◌≢◌, [], ◌∷◌, List, Option, ℕ, ◌+◌, ◌<◌, ◌≤◌, ◌⊎◌, ◌^◌, length, IfOk, IfErr, IfSome, IsSome, OnOk, OnErr, Err, Ok, Some, None};
+ghost use Rattle.std.specs.Prelude.{◌≡◌, ◌≢◌, ◌∷◌, ◌+◌, ◌<◌, ◌≤◌, ◌⊎◌, ◌^◌};
+ghost use Rattle.std.specs.Prelude.{false, [], IfOk, IfErr, IfSome, IsSome, OnOk, OnErr, Err, Ok, Some, None};
 ghost use Rattle.std.specs.Result.{result_err};
-ghost use Rattle.std.specs.Io.KnownBytes.{append_known};
 ghost use Rattle.cvm_outside.specs.Causes.{Counts, Rose};
-ghost use Rattle.cvm_outside.specs.Told.{AppendsPart};
 ghost use Rattle.layer_contract.specs.Boots.{BootFollows};
-ghost use Rattle.mips_table.specs.Device.{Outside};
 ghost use Rattle.boot_run.specs.Loading.{system_of, StaysFrom};
 ghost use Rattle.boot_run.specs.LoadEnds.{pages_needed, IsFresh, StandsLoaded, LoadFails};
+ghost use Rattle.boot_report.specs.Prints.{Prints, PrintsPart};
 ghost use Rattle.boot_report.specs.Texts.{SameButViewed};
+ghost use Rattle.boot_run.specs.Calls.{MakesTurns, Proceeds, TakesTurns, TakesTurn, Reports};
 ghost use Rattle.boot_run.specs.Shown.{has_faulted};
-ghost use Rattle.boot_run.specs.Report.{ReportRuns};
-ghost use Rattle.boot_run.specs.TurnCalls.{around, rows_of, IsOver, IsReady, KeepsLoad, TurnRuns, TurnsRun};
-ghost use Rattle.boot_run.specs.TurnParts.{rows_before, rows_after, MakesTurn, Views};
+ghost use Rattle.boot_run.specs.TurnCalls.{rows_of, IsOver, KeepsLoad, StandsReady};
+ghost use Rattle.boot_run.specs.TurnParts.{rows_before, rows_after, Views};
 ghost use Rattle.cvm_model.specs.declared.row.Row.{Row as OneRow};
 
 use crate::load::{LoadFault, check_view, first_tracer, loaded_machine};
@@ -52,9 +51,8 @@ pub struct Run<L> {
 }
 
 impl<L> Model for Run<L> {
-    ghost use Rattle.std.specs.Prelude.{◌<◌, length, IsTrue};
-    ghost use Rattle.boot_run.specs.LoadEnds.{Kept, names_sector, tracer_fits, viewed};
-    ghost use Rattle.boot_run.specs.Placed.{IsPlaced};
+    ghost use Rattle.boot_run.specs.LoadEnds.{Kept, viewed};
+    ghost use Rattle.boot_run.specs.Placed.{CanGoOn};
     ghost use Rattle.std.specs.Coded.{codes};
     ghost use Rattle.layer_contract.specs.contracts.boot.Boot as booted;
 
@@ -62,9 +60,20 @@ impl<L> Model for Run<L> {
 
     ghost coded = { Prim.hlevel (codes, booted.the_row.coded) };
 
-    ghost view = { λ r. record { layer = r.layer; boot = r.boot; view = viewed r.tracer; count = r.count; machine = r.machine; turns = r.turns; current = r.current; ended = r.ended; fault = r.fault; tracer = r.tracer } };
+    ghost view = { λ r. record {
+      layer = r.layer;
+      boot = r.boot;
+      view = viewed r.tracer;
+      count = r.count;
+      machine = r.machine;
+      turns = r.turns;
+      current = r.current;
+      ended = r.ended;
+      fault = r.fault;
+      tracer = r.tracer;
+    } };
 
-    ghost invariant = { λ r. IsTrue (names_sector r.count r.machine.hardware.ports.pending) × (1024 < length r.machine.hardware.memory) × IsPlaced r.boot r.places.map r.places.offsets.items r.machine.hardware.memory r.count × IsTrue (tracer_fits r.tracer (length r.boot.users.items) r.machine.time) };
+    ghost invariant = { λ r. CanGoOn r.boot r.machine r.places.map r.places.offsets.items r.count r.tracer };
 }
 
 impl<L: Layer + Drop> Run<L> {
@@ -86,7 +95,7 @@ impl<L: Layer + Drop> Run<L> {
         requires { BootFollows (L.image layer) (L.sizes layer) (L.map layer) boot }
         ensures fresh { IfOk result (λ r. IsFresh layer boot view schedule (D.size disk.old) r) }
         ensures stands { IfOk result (λ r. StandsLoaded r (D.sectors disk.old) (D.sectors disk.new)) }
-        ensures ready { IfOk result (λ r. (x : Outside) (old : List (List ℕ)) (budget : ℕ) (text : Option (List ℕ)) → D.sectors disk.old ≡ Some old → IsReady x (system_of boot schedule) old text r (D.sectors disk.new) budget) }
+        ensures ready { IfOk result (StandsReady (system_of boot schedule) (D.sectors disk.old) (D.sectors disk.new)) }
         ensures fault { IfErr result (LoadFails boot view (D.size disk.old) (D.faults disk.old) (D.faults disk.new)) }
         ensures torn { OnErr result (StaysFrom (pages_needed boot) (D.sectors disk.old) (D.sectors disk.new)) }
         ensures still { result ≢ Err LoadFault.Disk → OnErr result (disk.new ≡ disk.old) }
@@ -121,8 +130,8 @@ impl<L: Layer + Drop> Run<L> {
 
     /// Prints what stands before the next turn: the first row of a trace, before its first turn.
     fn put_before<O: Sink>(&self, out: &mut O) -> Result<(), SinkFault>
-        ensures ok { OnOk result (O.text out.new ≡ append_known (O.text out.old) (rows_before self.now.boot self.now.tracer self.now.turns)) }
-        ensures err { OnErr result (AppendsPart (O.text out.old) (O.text out.new) (rows_before self.now.boot self.now.tracer self.now.turns)) }
+        ensures ok { Prints (O.text out.old) (O.text out.new) (rows_before self.now.boot self.now.tracer self.now.turns) result }
+        ensures err { PrintsPart (O.text out.old) (O.text out.new) (rows_before self.now.boot self.now.tracer self.now.turns) result }
         ensures first { OnErr result (IsSome self.now.tracer × (self.now.turns ≡ 0)) }
         ensures count { Counts (O.faults out.old) (O.faults out.new) result }
         ensures views { Views self.now }
@@ -150,7 +159,7 @@ impl<L: Layer + Drop> Run<L> {
         requires steps { self.old.machine.time + budget.old < 2 ^ 64 }
         ensures kept { KeepsLoad self.old self.new }
         ensures fault { self.new.fault ≡ self.old.fault }
-        ensures ends { MakesTurn (D.size disk.old) self.old self.new most (D.sectors disk.old) (D.sectors disk.new) (O.text out.old) (O.text out.new) budget.old budget.new result }
+        ensures ends { MakesTurns D.size D.sectors O.text most self.old disk.old budget.old out.old self.new disk.new budget.new out.new result }
         ensures untraced { self.old.tracer ≡ None → (self.new.tracer ≡ None) × (out.new ≡ out.old) }
         ensures no_sink { self.old.tracer ≡ None → result ≢ Err RunFault.Sink }
         ensures size { D.size disk.new ≡ D.size disk.old }
@@ -195,8 +204,8 @@ impl<L: Layer + Drop> Run<L> {
 
     /// Prints what stands behind a turn: of a boot the row of its dispatch, and of a trace the kernel's fault.
     fn put_after<O: Sink>(&self, answer: Turn, out: &mut O) -> Result<(), SinkFault>
-        ensures ok { OnOk result (O.text out.new ≡ append_known (O.text out.old) (rows_after self.now.tracer self.now.ended answer)) }
-        ensures err { OnErr result (AppendsPart (O.text out.old) (O.text out.new) (rows_after self.now.tracer self.now.ended answer)) }
+        ensures ok { Prints (O.text out.old) (O.text out.new) (rows_after self.now.tracer self.now.ended answer) result }
+        ensures err { PrintsPart (O.text out.old) (O.text out.new) (rows_after self.now.tracer self.now.ended answer) result }
         ensures dispatch { self.now.tracer ≡ None → OnErr result ((row : OneRow) × (rows_of answer ≡ row ∷ [])) }
         ensures count { Counts (O.faults out.old) (O.faults out.new) result }
     {
@@ -220,7 +229,7 @@ impl<L: Layer + Drop> Run<L> {
         ensures kept { KeepsLoad self.old self.new }
         ensures fault { self.new.fault ≡ self.old.fault }
         ensures size { D.size disk.new ≡ D.size disk.old }
-        ensures ends { self.old.fault ≡ None → TurnsRun (D.size disk.old) self.old most (around self.old (D.sectors disk.old) budget.old (O.text out.old)) (around self.new (D.sectors disk.new) budget.new (O.text out.new)) result }
+        ensures ends { Proceeds D.size D.sectors O.text most self.old disk.old budget.old out.old self.new disk.new budget.new out.new result }
         ensures disk { result ≡ Err RunFault.Disk → Rose (D.faults disk.old) (D.faults disk.new) }
         ensures disk_same { result ≢ Err RunFault.Disk → D.faults disk.new ≡ D.faults disk.old }
         ensures sink { result ≡ Err RunFault.Sink → Rose (O.faults out.old) (O.faults out.new) }
@@ -266,7 +275,7 @@ impl<L: Layer + Drop> Run<L> {
         ensures still { IsOver self.old → (self.new ≡ self.old) × (budget.new ≡ budget.old) × (disk.new ≡ disk.old) × (out.new ≡ out.old) }
         ensures keeps { IfErr result (λ f. self.new.fault ≡ Some f) }
         ensures fine { OnOk result (self.new.fault ≡ None) }
-        ensures ends { self.old.fault ≡ None → self.old.ended ≡ None → TurnsRun (D.size disk.old) self.old most (around self.old (D.sectors disk.old) budget.old (O.text out.old)) (around self.new (D.sectors disk.new) budget.new (O.text out.new)) result }
+        ensures ends { TakesTurns D.size D.sectors O.text most self.old disk.old budget.old out.old self.new disk.new budget.new out.new result }
         ensures disk { result ≡ Err RunFault.Disk → self.old.fault ≡ None → Rose (D.faults disk.old) (D.faults disk.new) }
         ensures disk_same { result ≢ Err RunFault.Disk → D.faults disk.new ≡ D.faults disk.old }
         ensures sink { result ≡ Err RunFault.Sink → self.old.fault ≡ None → Rose (O.faults out.old) (O.faults out.new) }
@@ -313,7 +322,7 @@ impl<L: Layer + Drop> Run<L> {
         ensures still { IsOver self.old → (self.new ≡ self.old) × (budget.new ≡ budget.old) × (disk.new ≡ disk.old) × (out.new ≡ out.old) }
         ensures keeps { IfErr result (λ f. self.new.fault ≡ Some f) }
         ensures fine { OnOk result (self.new.fault ≡ None) }
-        ensures ends { self.old.fault ≡ None → self.old.ended ≡ None → TurnRuns (D.size disk.old) self.old (around self.old (D.sectors disk.old) budget.old (O.text out.old)) (around self.new (D.sectors disk.new) budget.new (O.text out.new)) result }
+        ensures ends { TakesTurn D.size D.sectors O.text self.old disk.old budget.old out.old self.new disk.new budget.new out.new result }
         ensures disk { result ≡ Err RunFault.Disk → self.old.fault ≡ None → Rose (D.faults disk.old) (D.faults disk.new) }
         ensures disk_same { result ≢ Err RunFault.Disk → D.faults disk.new ≡ D.faults disk.old }
         ensures sink { result ≡ Err RunFault.Sink → self.old.fault ≡ None → Rose (O.faults out.old) (O.faults out.new) }
@@ -334,7 +343,7 @@ impl<L: Layer + Drop> Run<L> {
         ensures machine { SameButViewed self.old.machine self.new.machine }
         ensures sectors { D.sectors disk.new ≡ D.sectors disk.old }
         ensures size { D.size disk.new ≡ D.size disk.old }
-        ensures ends { ReportRuns (D.size disk.old) self.old (record self.new { fault = result_err result }) (D.sectors disk.old) (D.sectors disk.new) (O.text out.old) (O.text out.new) result }
+        ensures ends { Reports D.size D.sectors O.text self.old disk.old out.old (record self.new { fault = result_err result }) disk.new out.new result }
         ensures limit { result ≢ Err RunFault.StepLimit }
         ensures disk { result ≡ Err RunFault.Disk → Rose (D.faults disk.old) (D.faults disk.new) }
         ensures disk_same { result ≢ Err RunFault.Disk → D.faults disk.new ≡ D.faults disk.old }
@@ -400,7 +409,7 @@ impl<L: Layer + Drop> Run<L> {
         ensures still { IsSome self.old.fault → (self.new ≡ self.old) × (disk.new ≡ disk.old) × (out.new ≡ out.old) }
         ensures keeps { IfErr result (λ f. self.new.fault ≡ Some f) }
         ensures fine { OnOk result (self.new.fault ≡ None) }
-        ensures ends { self.old.fault ≡ None → ReportRuns (D.size disk.old) self.old self.new (D.sectors disk.old) (D.sectors disk.new) (O.text out.old) (O.text out.new) result }
+        ensures ends { self.old.fault ≡ None → Reports D.size D.sectors O.text self.old disk.old out.old self.new disk.new out.new result }
         ensures limit { result ≡ Err RunFault.StepLimit → self.old.fault ≡ Some RunFault.StepLimit }
         ensures disk { result ≡ Err RunFault.Disk → self.old.fault ≡ None → Rose (D.faults disk.old) (D.faults disk.new) }
         ensures disk_same { result ≢ Err RunFault.Disk → D.faults disk.new ≡ D.faults disk.old }

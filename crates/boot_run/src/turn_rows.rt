@@ -1,12 +1,11 @@
 // What a call of `turn` prints beside the rows of a journal: the first row of a trace, a dispatch's row, and the kernel's fault.
-ghost use Rattle.std.specs.Prelude.{◌≡◌, ◌≤◌, ◌∷◌, ◌++◌, All, [], length, OnOk, OnErr};
-ghost use Rattle.std.specs.Io.KnownBytes.{append_known};
+ghost use Rattle.std.specs.Prelude.{◌≡◌, ◌≤◌, ◌∷◌, ◌++◌, All, [], length, OnErr};
 ghost use Rattle.cvm_outside.specs.Causes.{Counts};
-ghost use Rattle.cvm_outside.specs.Told.{AppendsPart};
 ghost use Rattle.cvm_model.specs.Primitives.{pages_of};
 ghost use Rattle.cvm_model.specs.Text.{rows_text, start_row as start_text, steps_row as steps_text};
 ghost use Rattle.cvm_model.specs.declared.row.Row.{Row as OneRow};
 ghost use Rattle.layer_contract.specs.Boots.{boot_of};
+ghost use Rattle.boot_report.specs.Prints.{Prints, PrintsPart};
 ghost use Rattle.boot_run.specs.TurnCalls.{rows_of};
 ghost use Rattle.boot_run.specs.TurnParts.{first_machine, fault_row, fault_rows};
 
@@ -38,8 +37,8 @@ pub(crate) fn put_start<O: Sink>(boot: &Boot, user: u32, out: &mut O) -> Result<
     requires some { 1 ≤ user }
     requires there { user ≤ length boot.now.users.items }
     requires fits { All (λ words. length words ≤ 1048576) (boot_of boot.now).users }
-    ensures ok { OnOk result (O.text out.new ≡ append_known (O.text out.old) (start_text user (first_machine boot.now user))) }
-    ensures err { OnErr result (AppendsPart (O.text out.old) (O.text out.new) (start_text user (first_machine boot.now user))) }
+    ensures ok { Prints (O.text out.old) (O.text out.new) (start_text user (first_machine boot.now user)) result }
+    ensures err { PrintsPart (O.text out.old) (O.text out.new) (start_text user (first_machine boot.now user)) result }
     ensures count { Counts (O.faults out.old) (O.faults out.new) result }
 {
     let pages = first_pages(boot, user);
@@ -52,8 +51,8 @@ pub(crate) fn put_start<O: Sink>(boot: &Boot, user: u32, out: &mut O) -> Result<
 ///
 /// A fault of the sink.
 pub(crate) fn put_row<O: Sink>(answer: Turn, out: &mut O) -> Result<(), SinkFault>
-    ensures ok { OnOk result (O.text out.new ≡ append_known (O.text out.old) (rows_text (rows_of answer))) }
-    ensures err { OnErr result (AppendsPart (O.text out.old) (O.text out.new) (rows_text (rows_of answer))) }
+    ensures ok { Prints (O.text out.old) (O.text out.new) (rows_text (rows_of answer)) result }
+    ensures err { PrintsPart (O.text out.old) (O.text out.new) (rows_text (rows_of answer)) result }
     ensures dispatch { OnErr result ((row : OneRow) × (rows_of answer ≡ row ∷ [])) }
     ensures count { Counts (O.faults out.old) (O.faults out.new) result }
 {
@@ -80,8 +79,8 @@ fn fault_row(fault: KernelFault) -> ArrayString<64>
 ///
 /// A fault of the sink.
 fn put_both<O: Sink>(steps: u64, fault: KernelFault, out: &mut O) -> Result<(), SinkFault>
-    ensures ok { OnOk result (O.text out.new ≡ append_known (O.text out.old) (steps_text steps ++ fault_row fault)) }
-    ensures err { OnErr result (AppendsPart (O.text out.old) (O.text out.new) (steps_text steps ++ fault_row fault)) }
+    ensures ok { Prints (O.text out.old) (O.text out.new) (steps_text steps ++ fault_row fault) result }
+    ensures err { PrintsPart (O.text out.old) (O.text out.new) (steps_text steps ++ fault_row fault) result }
     ensures count { Counts (O.faults out.old) (O.faults out.new) result }
 {
     out.put(steps_row(steps).as_str().as_bytes())?;
@@ -98,8 +97,8 @@ pub(crate) fn put_fault<O: Sink>(
     ended: Option<Next>,
     out: &mut O,
 ) -> Result<(), SinkFault>
-    ensures ok { OnOk result (O.text out.new ≡ append_known (O.text out.old) (fault_rows steps ended)) }
-    ensures err { OnErr result (AppendsPart (O.text out.old) (O.text out.new) (fault_rows steps ended)) }
+    ensures ok { Prints (O.text out.old) (O.text out.new) (fault_rows steps ended) result }
+    ensures err { PrintsPart (O.text out.old) (O.text out.new) (fault_rows steps ended) result }
     ensures count { Counts (O.faults out.old) (O.faults out.new) result }
 {
     match ended {

@@ -1,11 +1,11 @@
 // A whole boot or trace: load, turns until the wanted number is complete, and the report.
-ghost use Rattle.std.specs.Prelude.{◌≡◌, ◌≢◌, All, List, ℕ, ◌+◌, ◌<◌, ◌≤◌, ◌^◌, IfOk, IfErr, IsSome, OnErr, Err, Ok, Some, None};
+ghost use Rattle.std.specs.Prelude.{◌≡◌, ◌≢◌, All, ◌+◌, ◌<◌, ◌≤◌, ◌^◌, IfOk, IfErr, IsSome, OnErr, Err, Ok, None};
 ghost use Rattle.cvm_outside.specs.Causes.{Rose};
 ghost use Rattle.layer_contract.specs.Boots.{BootFollows};
-ghost use Rattle.boot_run.specs.Loading.{system_of};
-ghost use Rattle.boot_run.specs.LoadEnds.{pages_needed, HasRoom, LoadFails};
-ghost use Rattle.boot_run.specs.TurnCalls.{around, KeepsLoad};
-ghost use Rattle.boot_run.specs.Whole.{Bootable, end_of_fault, CloseRuns, GoRuns, IsDiskFault, IsSinkFault, RunsToEnd, WholeEnds, WholeGoesOn};
+ghost use Rattle.boot_run.specs.Calls.{Closes, Finishes, Goes, RunsWhole};
+ghost use Rattle.boot_run.specs.LoadEnds.{HasRoom, LoadFails};
+ghost use Rattle.boot_run.specs.TurnCalls.{KeepsLoad};
+ghost use Rattle.boot_run.specs.Whole.{AreBootable, end_of_fault, IsDiskFault, IsSinkFault, WholeGoesOn};
 
 use crate::load::LoadFault;
 use crate::next::has_faulted;
@@ -41,7 +41,7 @@ fn are_words(words: &[u32])
 /// A law: what a layer, what is booted over it, a schedule and a disk promise are the premises of a boot.
 fn premises_hold<L: Layer, D: Sectors>(layer: &L, boot: &Boot, schedule: &Schedule, disk: &D)
     requires { BootFollows (L.image layer.now) (L.sizes layer.now) (L.map layer.now) boot.now }
-    ensures { (old : List (List ℕ)) → D.sectors disk.now ≡ Some old → pages_needed boot.now ≤ D.size disk.now → Bootable boot.now schedule.now (D.size disk.now) (system_of boot.now schedule.now) old }
+    ensures { AreBootable boot.now schedule.now (D.size disk.now) (D.sectors disk.now) }
 {
     layer.keeps_laws();
     disk.are_sectors();
@@ -81,7 +81,7 @@ fn go<L: Layer + Drop, D: Sectors, O: Sink>(
     ensures kept { KeepsLoad run.old run.new }
     ensures fine { result ≡ Ok tt → run.new.fault ≡ None }
     ensures size { D.size disk.new ≡ D.size disk.old }
-    ensures ends { GoRuns (D.size disk.old) run.old turns (around run.old (D.sectors disk.old) budget.old (O.text out.old)) (around run.new (D.sectors disk.new) budget.new (O.text out.new)) result }
+    ensures ends { Goes D.size D.sectors O.text turns run.old disk.old budget.old out.old run.new disk.new budget.new out.new result }
     ensures disk { result ≡ Err RunFault.Disk → Rose (D.faults disk.old) (D.faults disk.new) }
     ensures disk_same { result ≢ Err RunFault.Disk → D.faults disk.new ≡ D.faults disk.old }
     ensures sink { result ≡ Err RunFault.Sink → Rose (O.faults out.old) (O.faults out.new) }
@@ -109,7 +109,7 @@ fn close<L: Layer + Drop, D: Sectors, O: Sink>(
     requires disk { D.size disk.old ≡ run.old.count }
     requires fine { run.old.fault ≡ None }
     ensures size { D.size disk.new ≡ D.size disk.old }
-    ensures ends { (budget : ℕ) → CloseRuns (D.size disk.old) run.old (around run.old (D.sectors disk.old) budget (O.text out.old)) (around run.new (D.sectors disk.new) budget (O.text out.new)) result }
+    ensures ends { Closes D.size D.sectors O.text run.old disk.old out.old run.new disk.new out.new result }
     ensures sectors { D.sectors disk.new ≡ D.sectors disk.old }
     ensures in_steps { result ≢ RunEnd.OutOfSteps }
     ensures disk { result ≡ RunEnd.DiskFault → Rose (D.faults disk.old) (D.faults disk.new) }
@@ -139,7 +139,7 @@ fn run_to_end<L: Layer + Drop, D: Sectors, O: Sink>(
     requires fine { run.old.fault ≡ None }
     requires some { 1 ≤ turns }
     ensures size { D.size disk.new ≡ D.size disk.old }
-    ensures ends { RunsToEnd (D.size disk.old) run.old turns steps (around run.old (D.sectors disk.old) steps (O.text out.old)) (D.sectors disk.new) (O.text out.new) result }
+    ensures ends { Finishes D.size D.sectors O.text turns steps run.old disk.old out.old disk.new out.new result }
     ensures disk { result ≡ RunEnd.DiskFault → Rose (D.faults disk.old) (D.faults disk.new) }
     ensures disk_same { result ≢ RunEnd.DiskFault → D.faults disk.new ≡ D.faults disk.old }
     ensures sink { result ≡ RunEnd.SinkFault → Rose (O.faults out.old) (O.faults out.new) }
@@ -175,7 +175,7 @@ pub fn run_whole<L: Layer + Drop, D: Sectors, O: Sink>(
 ) -> Result<RunEnd, LoadFault>
     requires follows { BootFollows (L.image layer) (L.sizes layer) (L.map layer) boot }
     requires some { 1 ≤ turns }
-    ensures ends { WholeEnds boot schedule (D.size disk.old) view turns steps (D.sectors disk.old) (D.sectors disk.new) (O.text out.old) (O.text out.new) result }
+    ensures ends { RunsWhole D.size D.sectors O.text boot schedule view turns steps disk.old out.old disk.new out.new result }
     ensures goes_on { WholeGoesOn boot schedule (D.size disk.old) (D.sectors disk.old) }
     ensures told { IsSome (D.sectors disk.old) → IsSome (D.sectors disk.new) }
     ensures refused { IfErr result (LoadFails boot view (D.size disk.old) (D.faults disk.old) (D.faults disk.new)) }

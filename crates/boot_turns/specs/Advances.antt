@@ -73,7 +73,8 @@ pub record Skipped (x : Outside) (y : System) (old : List (List ℕ)) (k t : ℕ
 -- how the run of turns ends, so many at most: after n of them, with a turn as `Advanced` says or before its end
 abbrev pub AdvanceEnds : Outside → System → List (List ℕ) → (k t : ℕ) → Cvm → Option State → (budget left most : ℕ) → Result (ℕ × Begun) RunFault → Type 0
 AdvanceEnds x y old k t c now budget left most result = (n : ℕ) × (n < most) × (n ≤ budget) × (w : Skipped x y old k t c n) ×
-    MatchResult result (λ r. (r.0 ≡ n) × Advanced x y old (k + n) (t + n) w.after now (budget - n) left r.1) (Stops x y old (k + n) (t + n) now (budget - n) left)
+    MatchResult result (λ r. (r.0 ≡ n) × Advanced x y old (k + n) (t + n) w.after now (budget - n) left r.1)
+    (Stops x y old (k + n) (t + n) now (budget - n) left)
 
 -- turns of the machine, for every boot whose run stands there and goes on
 abbrev pub AdvancesTyped : (C0 → Type 0) → Outside → (before now : Option State) → (budget left most : ℕ) → Result (ℕ × Begun) RunFault → Type 0

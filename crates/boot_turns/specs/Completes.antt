@@ -1,5 +1,6 @@
 -- What a loop that steps a machine to the end of a turn has done.
-use Rattle.std.specs.Prelude.{◌≡◌, ◌≢◌, ◌⊎◌, ℕ, suc, ◌+◌, ◌-◌, ◌/◌, ◌<◌, ◌≤◌, ◌==◌, ◌&&◌, ◌||◌, not, nat_lt, is_some, IfSome, Option, Some, None, Bool, true, false, List, [], slice_index, slice_set, Result, MatchResult}
+use Rattle.std.specs.Prelude.{◌≡◌, ◌≢◌, ◌⊎◌, ℕ, suc, ◌+◌, ◌-◌, ◌/◌, ◌<◌, ◌≤◌, ◌==◌, ◌&&◌, ◌||◌, not, nat_lt, is_some, IfSome, Option, Some, None}
+use Rattle.std.specs.Prelude.{Bool, true, false, List, [], slice_index, slice_set, Result, MatchResult}
 use Rattle.std.specs.Option.{option_map}
 use Rattle.mips_table.specs.Device.{Outside, Pending, Writing}
 use Rattle.mips_table.specs.Machine.{State, MODE, ECA, EDATA, step, run}
@@ -34,7 +35,8 @@ Torn x s now = TornBy (before_count x s).pending s.device.sectors now
 
 -- over a disk of so many sectors, where they are told
 abbrev pub StepTorn : (count : ℕ) → Held → (told retold : Option (List (List ℕ))) → Type 0
-StepTorn count old told retold = (ss : List (List ℕ)) → told ≡ Some ss → (now : List (List ℕ)) × (retold ≡ Some now) × Torn (outside_of old.rows count) (state_of old ss) now
+StepTorn count old told retold = (ss : List (List ℕ)) → told ≡ Some ss → (now : List (List ℕ)) × (retold ≡ Some now)
+    × Torn (outside_of old.rows count) (state_of old ss) now
 
 -- and in a machine that is seen afterwards
 abbrev pub SeenTorn : Outside → State → Option State → Type 0
@@ -123,13 +125,17 @@ CompleteOk x new before after s t b = (u : ℕ) × Completed x s t u b × (new �
 
 -- the budget was spent; or the disk failed in step number u or in its rows; or the sink failed in the rows of step number u, which is done
 abbrev pub CompleteErr : Outside → Option State → ℕ → ℕ → State → ℕ → RunFault → Type 0
-CompleteErr x new before after s t StepLimit = (u : ℕ) × (t ≤ u) × (after + u ≡ before + t) × (new ≡ Some (run x s u)) × ((after ≡ 0) ⊎ ((run x s u).off ≢ None)) × ((b : Option Begun) × Progress x s t u b)
-CompleteErr x new before after s t Disk = (u : ℕ) × (t ≤ u) × (after + (u + 1) ≡ before + t) × ((b : Option Begun) × Progress x s t u b) × SeenTorn x (run x s u) new
-CompleteErr x new before after s t Sink = (u : ℕ) × (t ≤ u) × (after + (u + 1) ≡ before + t) × ((b : Option Begun) × Progress x s t u b) × (new ≡ Some (run x s (suc u)))
+CompleteErr x new before after s t StepLimit = (u : ℕ) × (t ≤ u) × (after + u ≡ before + t) × (new ≡ Some (run x s u))
+    × ((after ≡ 0) ⊎ ((run x s u).off ≢ None)) × ((b : Option Begun) × Progress x s t u b)
+CompleteErr x new before after s t Disk = (u : ℕ) × (t ≤ u) × (after + (u + 1) ≡ before + t) × ((b : Option Begun) × Progress x s t u b)
+    × SeenTorn x (run x s u) new
+CompleteErr x new before after s t Sink = (u : ℕ) × (t ≤ u) × (after + (u + 1) ≡ before + t) × ((b : Option Begun) × Progress x s t u b)
+    × (new ≡ Some (run x s (suc u)))
 
 -- n turns from step t on were one step each, after which the machine was on and in user mode
 abbrev pub Skips : Outside → State → (t n : ℕ) → Type 0
-Skips x s t n = (j : ℕ) → j < n → (begins x (run x s (t + j)) ≡ true) × (slice_index (run x s (t + suc j)).special MODE ≡ 1) × ((run x s (t + suc j)).off ≡ None)
+Skips x s t n = (j : ℕ) → j < n → (begins x (run x s (t + j)) ≡ true) × (slice_index (run x s (t + suc j)).special MODE ≡ 1)
+    × ((run x s (t + suc j)).off ≡ None)
 
 -- how the loop ends, after n such turns of so many at most
 abbrev pub CompleteEnds : Outside → Option State → ℕ → ℕ → State → ℕ → (most : ℕ) → Result (ℕ × Begun) RunFault → Type 0

@@ -1,12 +1,14 @@
 -- The rows of words that were copied to a user, as its pages show them.
-use Rattle.std.specs.Prelude.{◌≡◌, ℕ, zero, suc, ◌+◌, ◌/◌, ◌==◌, ◌≤◌, if◌then◌else◌, false, List, [], ◌∷◌, ◌++◌, length, take, drop}
+use Rattle.std.specs.Prelude.{◌≡◌, ℕ, zero, suc, ◌+◌, ◌/◌, ◌==◌, ◌≤◌, if◌then◌else◌, false, Option, List, [], ◌∷◌, ◌++◌, length, take, drop}
 use Rattle.mips_table.specs.Machine.{State}
+use Rattle.mips_machine.specs.Machine.{Held}
 use Rattle.layer_map.specs.Map.{Map}
 use Rattle.page_model.specs.Paging.{Paged}
 use Rattle.cvm_model.specs.Primitives.{puts}
 use Rattle.cvm_model.specs.Text.{journal_rows_after}
 use Rattle.cvm_model.specs.Paged.{paged_of}
-use Rattle.boot_report.specs.Told.{user_word, WordsAreTold}
+use Rattle.boot_report.specs.Told.{user_word, WordsAreTold, WherePaged}
+use Rattle.boot_turns.specs.declared.tracer.Tracer.{Tracer}
 
 -- n words of user u from word k on
 abbrev pub user_words : Map → Paged → (u k n : ℕ) → List ℕ
@@ -17,10 +19,15 @@ user_words m a u k (suc n) = user_words m a u k n ++ user_word m a u (k + n) ∷
 abbrev pub copy_rows : Map → Paged → (u steps address n : ℕ) → List ℕ
 copy_rows m a u steps address n = journal_rows_after false steps (puts address (user_words m a u (address / 4) n))
 
+-- P of those rows of the traced user, where the pages are told, and a result
+abbrev pub ForCopied : {R : Type 0} → (told : Option (List (List ℕ))) → Held → Map → Tracer → (address n : ℕ) → (List ℕ → R → Type 0) → R → Type 0
+ForCopied told held m kept address n P result = WherePaged told held m (λ a. P (copy_rows m a kept.user kept.steps address n) result)
+
 -- the steps with no row after so many puts
 abbrev pub steps_left : (steps n : ℕ) → ℕ
 steps_left steps n = if n == 0 then steps else 0
 
 -- where a user's words are told, n of them from word k on are those of its pages
 abbrev pub CopiesTell : Type 0
-CopiesTell = (m : Map) (s : State) (u k n : ℕ) (words : List ℕ) → WordsAreTold m s u words → k + n ≤ length words → user_words m (paged_of m s) u k n ≡ take n (drop k words)
+CopiesTell = (m : Map) (s : State) (u k n : ℕ) (words : List ℕ) → WordsAreTold m s u words → k + n ≤ length words →
+    user_words m (paged_of m s) u k n ≡ take n (drop k words)

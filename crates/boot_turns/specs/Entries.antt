@@ -1,5 +1,6 @@
 -- The entries that a step of the machine adds to what is shown of a user, by what the machine shows.
-use Rattle.std.specs.Prelude.{◌≡◌, ◌≢◌, ℕ, zero, suc, ◌+◌, ◌/◌, ◌≤◌, ◌&&◌, ◌==◌, nat_lt, if◌then◌else◌, List, [], ◌∷◌, ◌++◌, length, take, drop, slice_index, Option, Some, None}
+use Rattle.std.specs.Prelude.{◌≡◌, ◌≢◌, ℕ, zero, suc, ◌+◌, ◌/◌, ◌≤◌, ◌&&◌, ◌==◌, nat_lt, if◌then◌else◌, List, [], ◌∷◌, ◌++◌, length, take, drop}
+use Rattle.std.specs.Prelude.{slice_index, Option, Some, None}
 use Rattle.mips_table.specs.Device.{Outside}
 use Rattle.mips_table.specs.Machine.{State, in_system, run}
 use Rattle.mips_table.specs.Turns.{is_on, begins}
@@ -76,16 +77,19 @@ return_entries u s words (Some e) = call_ends u e (slice_index s.cpu.regs ANSWER
 -- the entries of user u that step number t adds; `words` are that user's after it
 abbrev pub step_entries : Outside → State → (u t : ℕ) → List ℕ → List JournalEntry
 step_entries x s u t words =
-    if begins x (run x s t) then turn_begins u (slice_index (run x s t).memory current_at) (note (run x s (suc t))) else return_entries u (run x s (suc t)) words (returned (run x s (suc t)) (noted_call x s t))
+    if begins x (run x s t) then turn_begins u (slice_index (run x s t).memory current_at) (note (run x s (suc t)))
+    else return_entries u (run x s (suc t)) words (returned (run x s (suc t)) (noted_call x s t))
 
 -- the words that a primitive copied to user u lie in its memory
 abbrev pub IsPlaced : ℕ → Entered → (answer : ℕ) → (words : List ℕ) → Type 0
-IsPlaced u e answer words = answer ≡ 1 → e.primitive ≡ 6 → slice_index e.arguments 2 ≡ u → slice_index e.arguments 3 / 4 + slice_index e.arguments 4 ≤ length words
+IsPlaced u e answer words = answer ≡ 1 → e.primitive ≡ 6 → slice_index e.arguments 2 ≡ u →
+    slice_index e.arguments 3 / 4 + slice_index e.arguments 4 ≤ length words
 
 -- where a primitive returns, the machine stands for a state with these words of user u, and what was copied to it lies there
 abbrev pub WordsAt : Outside → System → (u : ℕ) → State → List ℕ → Option Entered → Type 0
 WordsAt x y u s words None = Unit {0}
-WordsAt x y u s words (Some e) = (core : Core) × Stands x (site_of y.boot) s Running core × (words ≡ (user_of core.users u).words) × IsPlaced u e (slice_index s.cpu.regs ANSWER) words
+WordsAt x y u s words (Some e) = (core : Core) × Stands x (site_of y.boot) s Running core × (words ≡ (user_of core.users u).words)
+    × IsPlaced u e (slice_index s.cpu.regs ANSWER) words
 
 -- what is shown after step number t, where j was shown before it
 pub record ShowsMore (x : Outside) (y : System) (old : List (List ℕ)) (u t : ℕ) (j : List JournalEntry) : Type 0 where

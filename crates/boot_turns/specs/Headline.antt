@@ -36,7 +36,8 @@ pub record Happens (lines busy : ℕ → ℕ) (count : ℕ) (x : Outside) : Type
 
 -- THE PREMISES of a boot: the outside has the schedule's lines and busy times, none above the longest, and a disk with the sectors `old`; and
 -- what is booted fits, over a layer of these words that was made for it
-pub record Boots (Typed : C0 → Type 0) (lines busy : ℕ → ℕ) (x : Outside) (y : System) (old : List (List ℕ)) (image sizes : List ℕ) (made_for : Map) : Type 0 where
+pub record Boots (Typed : C0 → Type 0) (lines busy : ℕ → ℕ) (x : Outside) (y : System) (old : List (List ℕ)) (image sizes : List ℕ)
+    (made_for : Map) : Type 0 where
   pub happens : Happens lines busy (length old) x
   pub within : BusyWithin x y.longest
   pub fits : SystemFits x y old
@@ -131,7 +132,8 @@ SinkBroken x y old now (Trace u) turns steps text =
 
 -- THE HEADLINE of a boot or a trace, by its ending
 abbrev pub Ends : Outside → System → (old now : List (List ℕ)) → View → (turns steps : ℕ) → List ℕ → Ending → Type 0
-Ends x y old now v turns steps text DiskFault = Beyond y old now × (StepBroken x y old now v turns steps text ⊎ (LoadBroken text ⊎ EndsBroken x y old now v turns steps text))
+Ends x y old now v turns steps text DiskFault = Beyond y old now
+    × (StepBroken x y old now v turns steps text ⊎ (LoadBroken text ⊎ EndsBroken x y old now v turns steps text))
 Ends x y old now v turns steps text SinkFault = Beyond y old now × SinkBroken x y old now v turns steps text
 Ends x y old now v turns steps text NoMemory = (text ≡ []) × (now ≡ old)
 Ends x y old now v turns steps text e = Ran x y old now v turns steps e text
@@ -184,7 +186,8 @@ TurnRows x y old = (k : ℕ) (c after : Cvm) → IsCvm y (lines_of x (loaded y o
 
 -- an untrapped step of turn k keeps the current user
 abbrev pub UserStays : Outside → System → List (List ℕ) → Type 0
-UserStays x y old = (k : ℕ) (c after : Cvm) (at : Core) → IsCvm y (lines_of x (loaded y old)) k c → c.status ≡ Running → IsCvm y (lines_of x (loaded y old)) (suc k) after →
+UserStays x y old = (k : ℕ) (c after : Cvm) (at : Core) → IsCvm y (lines_of x (loaded y old)) k c → c.status ≡ Running →
+    IsCvm y (lines_of x (loaded y old)) (suc k) after →
     begin k c.core (bit_or c.pending (lines_of x (loaded y old) k)) ≡ Steps at → after.core.current ≡ c.core.current
 
 -- what holds of each boot under the premises, whatever is printed

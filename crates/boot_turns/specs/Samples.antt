@@ -8,7 +8,8 @@ use Rattle.mips_table.specs.Machine.{State, start}
 -- A handler: after the reset it gives the user the page table at 40 (hexadecimal) with one page, and enters user mode; after another
 -- cause it switches the power off.
 abbrev pub handler : List ℕ
-handler = encoding (Mfc0 26 2) ∷ encoding (Bne 26 0 8) ∷ encoding (Ori 1 0 1) ∷ encoding (Ori 2 0 64) ∷ encoding (Mtc0 2 5) ∷ encoding (Mtc0 1 6) ∷ encoding (Mtc0 1 8) ∷ encoding (Mtc0 1 1)
+handler = encoding (Mfc0 26 2) ∷ encoding (Bne 26 0 8) ∷ encoding (Ori 1 0 1) ∷ encoding (Ori 2 0 64) ∷ encoding (Mtc0 2 5) ∷ encoding (Mtc0 1 6)
+    ∷ encoding (Mtc0 1 8) ∷ encoding (Mtc0 1 1)
     ∷ encoding Eret ∷ 0 ∷ encoding (Sw 0 0 (2 ^ 16 - 4088)) ∷ replicate 5 0 ++ 0x1800 ∷ []
 
 -- a user of two steps: the second is a system call
@@ -29,7 +30,8 @@ raising at = record { lines = line_at at; busy = λ _. 0; count = 0; last = at }
 -- A machine of 21 words, whose one page is the memory itself. After the reset it enters user mode at 40 (hexadecimal); after a system
 -- call, cause 6, it switches the power off, and after a line it goes back.
 abbrev pub entering : List ℕ
-entering = encoding (Mfc0 26 2) ∷ encoding (Bne 26 0 9) ∷ encoding (Ori 1 0 1) ∷ encoding (Ori 2 0 80) ∷ encoding (Mtc0 2 5) ∷ encoding (Mtc0 1 6) ∷ encoding (Mtc0 1 8)
+entering = encoding (Mfc0 26 2) ∷ encoding (Bne 26 0 9) ∷ encoding (Ori 1 0 1) ∷ encoding (Ori 2 0 80) ∷ encoding (Mtc0 2 5) ∷ encoding (Mtc0 1 6)
+    ∷ encoding (Mtc0 1 8)
     ∷ encoding (Mtc0 1 1) ∷ encoding (Ori 3 0 64) ∷ encoding (Mtc0 3 3) ∷ encoding Eret ∷ []
 
 abbrev pub returning : List ℕ

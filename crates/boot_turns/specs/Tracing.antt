@@ -1,5 +1,6 @@
 -- What a trace has printed, and what is kept of it, while the machine steps.
-use Rattle.std.specs.Prelude.{◌≡◌, ℕ, suc, ◌+◌, ◌*◌, ◌≤◌, ◌==◌, Bool, false, if◌then◌else◌, Option, Some, None, List, [], length, slice_index, Result, MatchResult}
+use Rattle.std.specs.Prelude.{◌≡◌, ℕ, suc, ◌+◌, ◌*◌, ◌≤◌, ◌==◌, Bool, false, if◌then◌else◌}
+use Rattle.std.specs.Prelude.{Option, Some, None, List, [], length, slice_index, Result, MatchResult, OnOk}
 use Rattle.std.specs.Io.KnownBytes.{append_known}
 use Rattle.mips_table.specs.Device.{Outside}
 use Rattle.mips_table.specs.Machine.{State}
@@ -50,14 +51,32 @@ ReturnTold m s u words (Some e) = WordsAreTold m s u words × IsPlaced u e (slic
 
 -- of every state in which a machine stands, with words of the traced user that it tells where a primitive has returned
 abbrev pub WhereTold : Option (List (List ℕ)) → Held → Map → Tracer → (State → List ℕ → Type 0) → Type 0
-WhereTold told held m kept P = (ss : List (List ℕ)) (words : List ℕ) → told ≡ Some ss → ReturnTold m (state_of held ss) kept.user words (returned (state_of held ss) kept.call) → P (state_of held ss) words
+WhereTold told held m kept P = (ss : List (List ℕ)) (words : List ℕ) → told ≡ Some ss →
+    ReturnTold m (state_of held ss) kept.user words (returned (state_of held ss) kept.call) → P (state_of held ss) words
+
+-- the rows of a turn that begins under this current user, by what is noted after its first step
+abbrev pub begun_rows : Tracer → (current : ℕ) → Begun → List ℕ
+begun_rows kept current b = journal_rows_after false kept.steps (turn_begins kept.user current b)
 
 -- the rows of what follows, and what is kept then
 abbrev pub followed_rows : State → Tracer → (current : ℕ) → (began : Bool) → (words : List ℕ) → List ℕ
 followed_rows s kept current began words = journal_rows_after false kept.steps (followed s kept current began words)
 
 abbrev pub kept_after : State → Tracer → (current : ℕ) → (began : Bool) → (words : List ℕ) → Tracer
-kept_after s kept current began words = record { user = kept.user; steps = steps_after kept.steps (followed s kept current began words); call = notes_on s kept.call }
+kept_after s kept current began words = record {
+  user = kept.user;
+  steps = steps_after kept.steps (followed s kept current began words);
+  call = notes_on s kept.call;
+}
+
+-- P of the rows of what follows, in every such state, and a result; and that `new` is what is kept then, where it is no error
+abbrev pub ForFollowed : {R : Type 0} → (told : Option (List (List ℕ))) → Held → Map → Tracer → (current : ℕ) → (began : Bool) →
+    (List ℕ → R → Type 0) → R → Type 0
+ForFollowed told held m kept current began P result = WhereTold told held m kept (λ s words. P (followed_rows s kept current began words) result)
+
+abbrev pub FollowedKeeps : {T E : Type 0} → (told : Option (List (List ℕ))) → Held → Map → (kept new : Tracer) → (current : ℕ) → (began : Bool) →
+    Result T E → Type 0
+FollowedKeeps told held m kept new current began result = WhereTold told held m kept (λ s words. OnOk result (new ≡ kept_after s kept current began words))
 
 -- an untrapped step under this current user is counted, and has no rows
 abbrev pub counted : (current : ℕ) → Tracer → Tracer
@@ -65,18 +84,28 @@ counted current kept = record kept { steps = if current == kept.user then kept.s
 
 -- of every words of the traced user that the pages tell, where those that a primitive with this answer copied to it lie
 abbrev pub WhereCopied : Option (List (List ℕ)) → Held → Map → Tracer → Entered → (answer : ℕ) → (List ℕ → Type 0) → Type 0
-WhereCopied told held m kept e answer P = (ss : List (List ℕ)) (words : List ℕ) → told ≡ Some ss → WordsAreTold m (state_of held ss) kept.user words → IsPlaced kept.user e answer words → P words
+WhereCopied told held m kept e answer P = (ss : List (List ℕ)) (words : List ℕ) → told ≡ Some ss → WordsAreTold m (state_of held ss) kept.user words →
+    IsPlaced kept.user e answer words → P words
 
 -- the rows of a primitive that has given this answer
 abbrev pub ended_rows : Tracer → Entered → (answer : ℕ) → (words : List ℕ) → List ℕ
 ended_rows kept e answer words = journal_rows_after false kept.steps (call_ends kept.user e answer words)
+
+-- P of those rows, for all such words, and a result; and that `new` has the steps that have no row then, where it is no error
+abbrev pub ForEnded : {R : Type 0} → (told : Option (List (List ℕ))) → Held → Map → Tracer → Entered → (answer : ℕ) → (List ℕ → R → Type 0) → R → Type 0
+ForEnded told held m kept e answer P result = WhereCopied told held m kept e answer (λ words. P (ended_rows kept e answer words) result)
+
+abbrev pub EndedKeeps : {T E : Type 0} → (told : Option (List (List ℕ))) → Held → Map → (kept new : Tracer) → Entered → (answer : ℕ) → Result T E → Type 0
+EndedKeeps told held m kept new e answer result = WhereCopied told held m kept e answer
+    (λ words. OnOk result (new ≡ record kept { steps = steps_after kept.steps (call_ends kept.user e answer words) }))
 
 -- what is kept at step t, where j is shown
 abbrev pub tracer_at : Outside → State → (u t : ℕ) → List JournalEntry → Tracer
 tracer_at x s u t j = record { user = u; steps = pending_steps j; call = noted_call x s t }
 
 -- AT STEP t, over a sink that had `base` before the first row of the journal: the rows of what is shown are printed, but for a last row of steps
-pub record Traced (x : Outside) (y : System) (old : List (List ℕ)) (u t : ℕ) (base : Option (List ℕ)) (kept : Option Tracer) (text : Option (List ℕ)) : Type 0 where
+pub record Traced (x : Outside) (y : System) (old : List (List ℕ)) (u t : ℕ) (base : Option (List ℕ)) (kept : Option Tracer)
+    (text : Option (List ℕ)) : Type 0 where
   pub journal : List JournalEntry
   pub shown : Shown x (loaded y old) y u t journal
   pub keeps : kept ≡ Some (tracer_at x (loaded y old) u t journal)
@@ -101,17 +130,20 @@ pub record RowsCut (x : Outside) (y : System) (old : List (List ℕ)) (u at : �
   pub printed : text ≡ append_known base rows
 
 -- steps were made from step t on, each taken from the budget
-pub record TracedOn (x : Outside) (y : System) (old : List (List ℕ)) (u t : ℕ) (base : Option (List ℕ)) (before after : ℕ) (kept : Option Tracer) (text : Option (List ℕ)) : Type 0 where
+pub record TracedOn (x : Outside) (y : System) (old : List (List ℕ)) (u t : ℕ) (base : Option (List ℕ)) (before after : ℕ) (kept : Option Tracer)
+    (text : Option (List ℕ)) : Type 0 where
   pub at : ℕ
   pub from : t ≤ at
   pub spent : after + at ≡ before + t
   pub traced : Traced x y old u at base kept text
 
 -- how they end by a fault
-abbrev pub TraceStops : Outside → System → List (List ℕ) → (u t : ℕ) → (base : Option (List ℕ)) → (now : Option State) → (before after : ℕ) → (kept : Option Tracer) → (text : Option (List ℕ)) → RunFault → Type 0
+abbrev pub TraceStops : Outside → System → List (List ℕ) → (u t : ℕ) → (base : Option (List ℕ)) → (now : Option State) → (before after : ℕ) →
+    (kept : Option Tracer) → (text : Option (List ℕ)) → RunFault → Type 0
 TraceStops x y old u t base now before after kept text StepLimit = TracedOn x y old u t base before after kept text
 TraceStops x y old u t base now before after kept text Disk = (at : ℕ) × (t ≤ at) × (after + suc at ≡ before + t) × RowsTorn x y old u at base text
-TraceStops x y old u t base now before after kept text Sink = (at : ℕ) × (t ≤ at) × (after + at ≡ before + t) × (now ≡ Some (machine x y old at)) × RowsCut x y old u at base text
+TraceStops x y old u t base now before after kept text Sink = (at : ℕ) × (t ≤ at) × (after + at ≡ before + t) × (now ≡ Some (machine x y old at))
+    × RowsCut x y old u at base text
 
 -- what is kept of a trace, the sink's text, and the budget, before and after
 pub record Tracing : Type 0 where
@@ -119,11 +151,16 @@ pub record Tracing : Type 0 where
   pub text : Option (List ℕ)
   pub budget : ℕ
 
+abbrev pub tracing : Option Tracer → Option (List ℕ) → ℕ → Tracing
+tracing tracer text budget = record { tracer = tracer; text = text; budget = budget }
+
 -- THE TRACE OF A LOOP that steps a machine, over a disk of so many sectors: for every boot whose run stands there, of one of its users
-abbrev pub TraceRuns : (count : ℕ) → Map → (old new : Held) → (told retold : Option (List (List ℕ))) → (before after : Tracing) → Result (ℕ × Begun) RunFault → Type 0
+abbrev pub TraceRuns : (count : ℕ) → Map → (old new : Held) → (told retold : Option (List (List ℕ))) → (before after : Tracing) →
+    Result (ℕ × Begun) RunFault → Type 0
 TraceRuns count m held new told retold before after result =
     (c : CUnit) (lines busy : ℕ → ℕ) (y : System) (old : List (List ℕ)) (image sizes : List ℕ) (made_for : Map) (u t : ℕ) (base : Option (List ℕ)) →
-    Boots (IsTypedState c) lines busy (outside_of held.rows count) y old image sizes made_for → Laws (site_of y.boot) sizes → m ≡ (site_of y.boot).map → 1 ≤ u → u ≤ length y.boot.users →
+    Boots (IsTypedState c) lines busy (outside_of held.rows count) y old image sizes made_for → Laws (site_of y.boot) sizes → m ≡ (site_of y.boot).map →
+    1 ≤ u → u ≤ length y.boot.users →
     seen told held ≡ Some (machine (outside_of held.rows count) y old t) → Traced (outside_of held.rows count) y old u t base before.tracer before.text →
     MatchResult result (λ _. TracedOn (outside_of held.rows count) y old u t base before.budget after.budget after.tracer after.text)
     (TraceStops (outside_of held.rows count) y old u t base (seen retold new) before.budget after.budget after.tracer after.text)

@@ -59,7 +59,8 @@ Rows x y old (Trace u) t text = (j : List JournalEntry) × Shown x (loaded y old
 -- THE WHOLE TEXT, with the end and the report
 abbrev pub Whole : Outside → System → List (List ℕ) → View → ℕ → List ℕ → Type 0
 Whole x y old Boot t text = (c : Cvm) × IsCvm y (lines_of x (loaded y old)) (complete x (loaded y old) t) c × (text ≡ boot_text y c)
-Whole x y old (Trace u) t text = (c : Cvm) × (j : List JournalEntry) × IsCvm y (lines_of x (loaded y old)) (complete x (loaded y old) t) c × Shown x (loaded y old) y u t j
+Whole x y old (Trace u) t text = (c : Cvm) × (j : List JournalEntry) × IsCvm y (lines_of x (loaded y old)) (complete x (loaded y old) t) c
+    × Shown x (loaded y old) y u t j
     × (text ≡ trace_text u (first_of y u) j (user_of c.core.users u) c.status)
 
 -- the text after a turn: where the kernel faulted it is whole
@@ -81,4 +82,5 @@ pub record Prefix (part whole text : List ℕ) : Type 0 where
 -- what was printed where step number `at` failed: the text there; or one that holds it, of which the rows of that step may have begun
 abbrev pub PrintedBroken : Outside → System → List (List ℕ) → View → ℕ → List ℕ → Type 0
 PrintedBroken x y old Boot at text = Printed x y old Boot at text
-PrintedBroken x y old (Trace u) at text = (part : List ℕ) × (whole : List ℕ) × Printed x y old (Trace u) at part × Rows x y old (Trace u) (suc at) whole × Prefix part whole text
+PrintedBroken x y old (Trace u) at text = (part : List ℕ) × (whole : List ℕ) × Printed x y old (Trace u) at part × Rows x y old (Trace u) (suc at) whole
+    × Prefix part whole text

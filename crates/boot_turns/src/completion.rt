@@ -1,14 +1,15 @@
 // The machine runs until its next turn is complete.
-ghost use Rattle.std.specs.Prelude.{◌≡◌, ◌≢◌, ◌⊎◌, ◌+◌, ◌-◌, ◌<◌, ◌≤◌, ◌^◌, length, slice_index, IfOk, IfSome, IsSome, OnOk, OnErr, Err, None, true, false};
+ghost use Rattle.std.specs.Prelude.{◌≡◌, ◌≢◌, ◌⊎◌, ◌+◌, ◌-◌, ◌<◌, ◌≤◌, ◌^◌, length, slice_index};
+ghost use Rattle.std.specs.Prelude.{IfOk, IfSome, IsSome, OnOk, OnErr, Err, None, true, false};
 ghost use Rattle.std.specs.Option.{option_map};
 ghost use Rattle.cvm_outside.specs.Causes.{Counts, Rose};
 ghost use Rattle.mips_table.specs.Fits.{NamesSector};
 ghost use Rattle.layer_map.specs.Map.{current_at};
-ghost use Rattle.mips_machine.specs.Steps.{outside_of};
 ghost use Rattle.boot_turns.specs.Advances.{Advances};
-ghost use Rattle.boot_turns.specs.Completes.{begun_at, was_off, was_taken, turn_began, stepped_as, noted, shown, is_at_rest, KeptUser, StepRan, StepBegan, StepTorn, Completes};
-ghost use Rattle.boot_turns.specs.Tracing.{CanTrace, counted, TraceRuns};
-ghost use Rattle.boot_turns.specs.TraceSteps.{StepTraces};
+ghost use Rattle.boot_turns.specs.Completes.{begun_at, was_off, was_taken, turn_began, stepped_as, noted, shown, is_at_rest};
+ghost use Rattle.boot_turns.specs.Completes.{KeptUser, StepRan, StepBegan, StepTorn, Completes};
+ghost use Rattle.boot_turns.specs.Tracing.{CanTrace, counted, tracing, TraceRuns};
+ghost use Rattle.boot_turns.specs.TraceSteps.{StepTracesOver};
 
 use crate::answers::RunFault;
 use crate::following::begun_now;
@@ -187,7 +188,7 @@ fn step_traced<D: Sectors, O: Sink>(
     ensures torn { result ≡ Err RunFault.Disk → StepTorn (D.size disk.old) machine.old (D.sectors disk.old) (D.sectors disk.new) }
     ensures began { IfOk result (λ stepped. StepBegan (D.size disk.old) machine.old (D.sectors disk.old) (turn_began stepped)) }
     ensures kept { IfOk result (KeptUser machine.new) }
-    ensures traced { StepTraces (outside_of machine.old.rows (D.size disk.old)) map.now machine.old (D.sectors disk.old) tracer.old tracer.new (O.text out.old) (O.text out.new) result }
+    ensures traced { StepTracesOver (D.size disk.old) map.now machine.old (D.sectors disk.old) tracer.old tracer.new (O.text out.old) (O.text out.new) result }
     ensures untraced { tracer.old ≡ None → (tracer.new ≡ None) × (out.new ≡ out.old) }
     ensures no_sink { tracer.old ≡ None → result ≢ Err RunFault.Sink }
     ensures no_limit { result ≢ Err RunFault.StepLimit }
@@ -271,7 +272,8 @@ pub fn complete<D: Sectors, O: Sink>(
     requires room { 1024 < length machine.old.hardware.memory }
     requires can { IfSome tracer.old (CanTrace map.now (length machine.old.hardware.memory) machine.old.time (D.size disk.old)) }
     ensures ends { Completes (D.size disk.old) machine.old machine.new (D.sectors disk.old) (D.sectors disk.new) budget.old budget.new most result }
-    ensures traced { TraceRuns (D.size disk.old) map.now machine.old machine.new (D.sectors disk.old) (D.sectors disk.new) (record { tracer = tracer.old; text = O.text out.old; budget = budget.old }) (record { tracer = tracer.new; text = O.text out.new; budget = budget.new }) result }
+    ensures traced { TraceRuns (D.size disk.old) map.now machine.old machine.new (D.sectors disk.old) (D.sectors disk.new)
+        (tracing tracer.old (O.text out.old) budget.old) (tracing tracer.new (O.text out.new) budget.new) result }
     ensures untraced { tracer.old ≡ None → (tracer.new ≡ None) × (out.new ≡ out.old) }
     ensures few { IfOk result (λ r. r.0 < most) }
     ensures limit { result ≡ Err RunFault.StepLimit → (budget.new ≡ 0) ⊎ IsSome machine.new.hardware.off }
@@ -338,7 +340,8 @@ pub fn advance<D: Sectors, O: Sink>(
     requires room { 1024 < length machine.old.hardware.memory }
     requires can { IfSome tracer.old (CanTrace map.now (length machine.old.hardware.memory) machine.old.time (D.size disk.old)) }
     ensures ends { Advances (D.size disk.old) machine.old machine.new (D.sectors disk.old) (D.sectors disk.new) budget.old budget.new most result }
-    ensures traced { TraceRuns (D.size disk.old) map.now machine.old machine.new (D.sectors disk.old) (D.sectors disk.new) (record { tracer = tracer.old; text = O.text out.old; budget = budget.old }) (record { tracer = tracer.new; text = O.text out.new; budget = budget.new }) result }
+    ensures traced { TraceRuns (D.size disk.old) map.now machine.old machine.new (D.sectors disk.old) (D.sectors disk.new)
+        (tracing tracer.old (O.text out.old) budget.old) (tracing tracer.new (O.text out.new) budget.new) result }
     ensures untraced { tracer.old ≡ None → (tracer.new ≡ None) × (out.new ≡ out.old) }
     ensures few { IfOk result (λ r. r.0 < most) }
     ensures limit { result ≡ Err RunFault.StepLimit → (budget.new ≡ 0) ⊎ IsSome machine.new.hardware.off }

@@ -1,15 +1,13 @@
 // The rows of one step of a trace, and what is kept after it.
-ghost use Rattle.std.specs.Prelude.{◌≡◌, ◌≢◌, ◌*◌, ◌≤◌, ◌<◌, ◌-◌, ◌^◌, List, [], length, true, false, None, Err, OnOk, OnErr};
-ghost use Rattle.std.specs.Io.KnownBytes.{append_known};
+ghost use Rattle.std.specs.Prelude.{◌≡◌, ◌≢◌, ◌*◌, ◌≤◌, ◌<◌, ◌-◌, ◌^◌, List, [], length, true, false, None, Err};
 ghost use Rattle.cvm_outside.specs.Causes.{Rose};
-ghost use Rattle.cvm_outside.specs.Told.{AppendsPart};
 ghost use Rattle.mips_machine.specs.Machine.{state_of};
 ghost use Rattle.layer_map.specs.Map.{memory_words};
+ghost use Rattle.boot_report.specs.Prints.{Prints, PrintsPart};
 ghost use Rattle.boot_report.specs.Texts.{SameButViewed};
 ghost use Rattle.boot_turns.specs.Completes.{shown};
-ghost use Rattle.boot_turns.specs.Entries.{notes_on, returned, call_ends};
-ghost use Rattle.boot_turns.specs.JournalText.{steps_after};
-ghost use Rattle.boot_turns.specs.Tracing.{CanTrace, counted, WhereTold, WhereCopied, followed_rows, ended_rows, kept_after};
+ghost use Rattle.boot_turns.specs.Entries.{notes_on, returned};
+ghost use Rattle.boot_turns.specs.Tracing.{CanTrace, counted, ForEnded, EndedKeeps, ForFollowed, FollowedKeeps};
 
 use crate::answers::RunFault;
 use crate::completion::Begun;
@@ -84,9 +82,9 @@ impl Tracer {
     ) -> Result<(), RunFault>
         requires copy { call.now.primitive ≡ 6 }
         requires can { CanTrace map.now (length machine.old.hardware.memory) machine.old.time (D.size disk.old) self.old }
-        ensures ok { WhereCopied (D.sectors disk.old) machine.old map.now self.old call.now answer (λ words. OnOk result (O.text out.new ≡ append_known (O.text out.old) (ended_rows self.old call.now answer words))) }
-        ensures err { WhereCopied (D.sectors disk.old) machine.old map.now self.old call.now answer (λ words. OnErr result (AppendsPart (O.text out.old) (O.text out.new) (ended_rows self.old call.now answer words))) }
-        ensures steps { WhereCopied (D.sectors disk.old) machine.old map.now self.old call.now answer (λ words. OnOk result (self.new ≡ record self.old { steps = steps_after self.old.steps (call_ends self.old.user call.now answer words) })) }
+        ensures ok { ForEnded (D.sectors disk.old) machine.old map.now self.old call.now answer (Prints (O.text out.old) (O.text out.new)) result }
+        ensures err { ForEnded (D.sectors disk.old) machine.old map.now self.old call.now answer (PrintsPart (O.text out.old) (O.text out.new)) result }
+        ensures steps { EndedKeeps (D.sectors disk.old) machine.old map.now self.old self.new call.now answer result }
         ensures user { self.new.user ≡ self.old.user }
         ensures few { self.new.steps ≤ self.old.steps }
         ensures same { SameButViewed machine.old machine.new }
@@ -122,9 +120,9 @@ impl Tracer {
         out: &mut O,
     ) -> Result<(), RunFault>
         requires can { CanTrace map.now (length machine.old.hardware.memory) machine.old.time (D.size disk.old) self.old }
-        ensures ok { WhereCopied (D.sectors disk.old) machine.old map.now self.old call.now answer (λ words. OnOk result (O.text out.new ≡ append_known (O.text out.old) (ended_rows self.old call.now answer words))) }
-        ensures err { WhereCopied (D.sectors disk.old) machine.old map.now self.old call.now answer (λ words. OnErr result (AppendsPart (O.text out.old) (O.text out.new) (ended_rows self.old call.now answer words))) }
-        ensures steps { WhereCopied (D.sectors disk.old) machine.old map.now self.old call.now answer (λ words. OnOk result (self.new ≡ record self.old { steps = steps_after self.old.steps (call_ends self.old.user call.now answer words) })) }
+        ensures ok { ForEnded (D.sectors disk.old) machine.old map.now self.old call.now answer (Prints (O.text out.old) (O.text out.new)) result }
+        ensures err { ForEnded (D.sectors disk.old) machine.old map.now self.old call.now answer (PrintsPart (O.text out.old) (O.text out.new)) result }
+        ensures steps { EndedKeeps (D.sectors disk.old) machine.old map.now self.old self.new call.now answer result }
         ensures user { self.new.user ≡ self.old.user }
         ensures few { self.new.steps ≤ self.old.steps }
         ensures same { SameButViewed machine.old machine.new }
@@ -177,9 +175,9 @@ impl Tracer {
         requires can { CanTrace map.now (length machine.old.hardware.memory) machine.old.time (D.size disk.old) self.old }
         requires few { self.old.steps < machine.old.time }
         requires room { 1024 < length machine.old.hardware.memory }
-        ensures ok { WhereTold (D.sectors disk.old) machine.old map.now self.old (λ s words. OnOk result (O.text out.new ≡ append_known (O.text out.old) (followed_rows s self.old current began words))) }
-        ensures err { WhereTold (D.sectors disk.old) machine.old map.now self.old (λ s words. OnErr result (AppendsPart (O.text out.old) (O.text out.new) (followed_rows s self.old current began words))) }
-        ensures kept { WhereTold (D.sectors disk.old) machine.old map.now self.old (λ s words. OnOk result (self.new ≡ kept_after s self.old current began words)) }
+        ensures ok { ForFollowed (D.sectors disk.old) machine.old map.now self.old current began (Prints (O.text out.old) (O.text out.new)) result }
+        ensures err { ForFollowed (D.sectors disk.old) machine.old map.now self.old current began (PrintsPart (O.text out.old) (O.text out.new)) result }
+        ensures kept { FollowedKeeps (D.sectors disk.old) machine.old map.now self.old self.new current began result }
         ensures can { CanTrace map.now (length machine.new.hardware.memory) machine.new.time (D.size disk.new) self.new }
         ensures user { self.new.user ≡ self.old.user }
         ensures same { SameButViewed machine.old machine.new }

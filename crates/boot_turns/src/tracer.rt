@@ -1,16 +1,15 @@
 // What a trace keeps between two steps, and the rows that it prints.
-ghost use Rattle.std.specs.Prelude.{◌≡◌, ◌≢◌, ◌*◌, ◌/◌, ◌≤◌, List, length, Some, Err, ℕ, ◌+◌, ◌-◌, ◌<◌, ◌^◌, ◌++◌, [], false, OnOk, OnErr};
-ghost use Rattle.std.specs.Io.KnownBytes.{append_known};
+ghost use Rattle.std.specs.Prelude.{◌≡◌, ◌≢◌, ◌*◌, ◌/◌, ◌≤◌, length, Err, ◌+◌, ◌-◌, ◌<◌, ◌^◌, ◌++◌, [], OnOk};
 ghost use Rattle.cvm_outside.specs.Causes.{Counts, Rose};
-ghost use Rattle.cvm_outside.specs.Told.{AppendsPart};
 ghost use Rattle.mips_machine.specs.Machine.{state_of};
-ghost use Rattle.cvm_model.specs.Text.{steps_row as steps_text, journal_rows_after};
+ghost use Rattle.cvm_model.specs.Text.{steps_row as steps_text};
 ghost use Rattle.boot_turns.specs.Entries.{noted_at, turn_begins, call_ends, IsNoCopy};
 ghost use Rattle.layer_map.specs.Map.{memory_words};
-ghost use Rattle.cvm_model.specs.Paged.{paged_of};
-ghost use Rattle.boot_report.specs.Texts.{EntriesFit, SameButViewed};
-ghost use Rattle.boot_turns.specs.Copies.{copy_rows, steps_left};
+ghost use Rattle.boot_report.specs.Prints.{Prints, PrintsPart};
+ghost use Rattle.boot_report.specs.Texts.{SameButViewed};
+ghost use Rattle.boot_turns.specs.Copies.{steps_left, ForCopied};
 ghost use Rattle.boot_turns.specs.JournalText.{steps_after};
+ghost use Rattle.boot_turns.specs.Tracing.{begun_rows, ended_rows};
 
 use crate::answers::RunFault;
 use crate::completion::Begun;
@@ -63,8 +62,8 @@ pub fn note_entry(machine: &Machine) -> Option<Entered>
 
 /// Prints the row of the steps that have none yet, and then this one.
 fn put_after<O: Sink>(steps: u64, row: &[u8], out: &mut O) -> Result<(), SinkFault>
-    ensures ok { OnOk result (O.text out.new ≡ append_known (O.text out.old) (steps_text steps ++ row.now)) }
-    ensures err { OnErr result (AppendsPart (O.text out.old) (O.text out.new) (steps_text steps ++ row.now)) }
+    ensures ok { Prints (O.text out.old) (O.text out.new) (steps_text steps ++ row.now) result }
+    ensures err { PrintsPart (O.text out.old) (O.text out.new) (steps_text steps ++ row.now) result }
     ensures count { Counts (O.faults out.old) (O.faults out.new) result }
 {
     out.put(steps_row(steps).as_str().as_bytes())?;
@@ -95,8 +94,8 @@ impl Tracer {
         out: &mut O,
     ) -> Result<(), SinkFault>
         requires few { self.old.steps < 2 ^ 64 - 1 }
-        ensures ok { OnOk result (O.text out.new ≡ append_known (O.text out.old) (journal_rows_after false self.old.steps (turn_begins self.old.user current begun.now))) }
-        ensures err { OnErr result (AppendsPart (O.text out.old) (O.text out.new) (journal_rows_after false self.old.steps (turn_begins self.old.user current begun.now))) }
+        ensures ok { Prints (O.text out.old) (O.text out.new) (begun_rows self.old current begun.now) result }
+        ensures err { PrintsPart (O.text out.old) (O.text out.new) (begun_rows self.old current begun.now) result }
         ensures steps { OnOk result (self.new ≡ record self.old { steps = steps_after self.old.steps (turn_begins self.old.user current begun.now) }) }
         ensures user { self.new.user ≡ self.old.user }
         ensures few { self.new.steps ≤ self.old.steps + 1 }
@@ -121,8 +120,8 @@ impl Tracer {
     ///
     /// A fault of the sink.
     fn put<O: Sink>(&mut self, row: &[u8], out: &mut O) -> Result<(), SinkFault>
-        ensures ok { OnOk result (O.text out.new ≡ append_known (O.text out.old) (steps_text self.old.steps ++ row.now)) }
-        ensures err { OnErr result (AppendsPart (O.text out.old) (O.text out.new) (steps_text self.old.steps ++ row.now)) }
+        ensures ok { Prints (O.text out.old) (O.text out.new) (steps_text self.old.steps ++ row.now) result }
+        ensures err { PrintsPart (O.text out.old) (O.text out.new) (steps_text self.old.steps ++ row.now) result }
         ensures steps { OnOk result (self.new ≡ record self.old { steps = 0 }) }
         ensures user { self.new.user ≡ self.old.user }
         ensures few { self.new.steps ≤ self.old.steps }
@@ -146,8 +145,8 @@ impl Tracer {
         out: &mut O,
     ) -> Result<(), SinkFault>
         requires no_copy { IsNoCopy call.now }
-        ensures ok { OnOk result (O.text out.new ≡ append_known (O.text out.old) (journal_rows_after false self.old.steps (call_ends self.old.user call.now answer []))) }
-        ensures err { OnErr result (AppendsPart (O.text out.old) (O.text out.new) (journal_rows_after false self.old.steps (call_ends self.old.user call.now answer []))) }
+        ensures ok { Prints (O.text out.old) (O.text out.new) (ended_rows self.old call.now answer []) result }
+        ensures err { PrintsPart (O.text out.old) (O.text out.new) (ended_rows self.old call.now answer []) result }
         ensures steps { OnOk result (self.new ≡ record self.old { steps = steps_after self.old.steps (call_ends self.old.user call.now answer []) }) }
         ensures user { self.new.user ≡ self.old.user }
         ensures few { self.new.steps ≤ self.old.steps }
@@ -191,8 +190,8 @@ impl Tracer {
         requires small { memory_words map.now ≤ 30000000 }
         requires all { map.now.users * map.now.params.pages ≤ 65536 }
         requires room { map.now.users * map.now.params.pages ≤ D.size disk.old }
-        ensures ok { (ss : List (List ℕ)) → D.sectors disk.old ≡ Some ss → EntriesFit map.now (state_of machine.old ss) → OnOk result (O.text out.new ≡ append_known (O.text out.old) (copy_rows map.now (paged_of map.now (state_of machine.old ss)) self.old.user self.old.steps address count)) }
-        ensures err { (ss : List (List ℕ)) → D.sectors disk.old ≡ Some ss → EntriesFit map.now (state_of machine.old ss) → OnErr result (AppendsPart (O.text out.old) (O.text out.new) (copy_rows map.now (paged_of map.now (state_of machine.old ss)) self.old.user self.old.steps address count)) }
+        ensures ok { ForCopied (D.sectors disk.old) machine.old map.now self.old address count (Prints (O.text out.old) (O.text out.new)) result }
+        ensures err { ForCopied (D.sectors disk.old) machine.old map.now self.old address count (PrintsPart (O.text out.old) (O.text out.new)) result }
         ensures steps { OnOk result (self.new ≡ record self.old { steps = steps_left self.old.steps count }) }
         ensures user { self.new.user ≡ self.old.user }
         ensures few { self.new.steps ≤ self.old.steps }

@@ -1,15 +1,18 @@
 use Rattle.std.proofs.lemmas.Result.{err_from_is_err_and}
 use Rattle.std.specs.Prelude.{is_some}
 use Rattle.std.proofs.Common.{ℕ, ◌+◌, ◌-◌, ◌≤◌, Bool, true, false, Option, Some, Result, Ok, Err, suc, ◌≡◌, None, refl, sym, ap₂, ◌∙◌, subst, arith}
+use Rattle.mips_table.specs.Machine.{State, run}
 use Rattle.mips_machine.specs.Steps.{outside_of}
 use Rattle.boot_turns.specs.declared.completion.Stepped.{Stepped}
 use Rattle.boot_turns.specs.declared.completion.Stepped.TheVariants.{Kept}
 use Rattle.boot_turns.specs.declared.answers.RunFault.{RunFault}
 use Rattle.boot_turns.specs.declared.answers.RunFault.TheVariants.{StepLimit, Disk, Sink}
 use Rattle.boot_turns.specs.Completes.{seen, Open, Progress, turn_began, KeptUser, StepBegan}
-use Rattle.boot_turns.specs.Tracing.{Tracing}
+use Rattle.boot_turns.specs.Tracing.{tracing}
 use Rattle.boot_turns.proofs.Opening.{one_step, step_stops, skips_more, Opened, seen_rests}
-use Rattle.boot_turns.proofs.Tracking.{tracks_none, tracks_limit, tracks_whole, tracks_more, tracks_stop}
+use Rattle.boot_turns.proofs.Tracking.{Tracks, tracks_none, tracks_limit, tracks_whole, tracks_more, tracks_stop}
+use Rattle.boot_turns.proofs.completion.complete.Given.{Over}
+use Rattle.boot_turns.proofs.completion.complete.Goals.{In_ok-stepped, After-note}
 use Rattle.boot_turns.proofs.completion.complete.Goals as goal
 
 off_none : (o r : Option ℕ) (b : Bool) → o ≡ r → b ≡ is_some o → b ≡ false → r ≡ None
@@ -24,6 +27,32 @@ at_sink : (f : RunFault) → f ≡ Sink → ◌≡◌ {A = Result Stepped RunFau
 at_sink StepLimit h e = cc
 at_sink Disk h e = absurd (let k : ◌≡◌ {A = RunFault} Disk Sink = h in cc)
 at_sink Sink h e = cc
+
+-- the trace goes on through the step
+tracked : (g : Over) (c : In_ok-stepped g) → Tracks (outside_of c.args.machine.now.rows (g.D.Sectors.size c.args.disk.now)) c.args.map.now
+    (seen (g.D.Sectors.sectors c.args.disk.now) c.args.machine.now) (seen (g.D.Sectors.sectors c.step_traced.new.disk) c.step_traced.new.machine)
+    (tracing c.args.tracer.now (g.O.Sink.text c.args.out.now) c.args.budget.now)
+    (tracing c.step_traced.new.tracer (g.O.Sink.text c.step_traced.new.out) (c.loop-budget.budget - 1))
+tracked g c =
+    let p = c.loop-budget-test.true in
+    tracks_more (g.D.Sectors.size c.args.disk.now) c.args.map.now c.args.machine.now c.loop-budget.machine (g.D.Sectors.sectors c.args.disk.now) (g.D.Sectors.sectors c.loop-budget.disk)
+    (tracing c.args.tracer.now (g.O.Sink.text c.args.out.now) c.args.budget.now) (tracing c.loop-budget.tracer (g.O.Sink.text c.loop-budget.out) c.loop-budget.budget)
+    c.loop-budget.invariant.tracks (outside_of c.loop-budget.machine.rows (g.D.Sectors.size c.loop-budget.disk)) (ap₂ outside_of c.loop-budget.invariant.rows c.loop-budget.invariant.size)
+    (tracing c.step_traced.new.tracer (g.O.Sink.text c.step_traced.new.out) (c.loop-budget.budget - 1)) (omega (arith, p))
+    (seen (g.D.Sectors.sectors c.step_traced.new.disk) c.step_traced.new.machine) c.in_ok-stepped.stepped c.in_ok-stepped.ensures.traced (c.in_ok-stepped.ensures.ran (is_done c.in_ok-stepped.stepped Disk))
+
+-- the step is the next of a run, and what is noted then says how far the turn is
+opened : (g : Over) (c : After-note g) (s : State) (t u : ℕ) → t ≤ u →
+    seen (g.D.Sectors.sectors c.loop-budget.disk) c.loop-budget.machine ≡ Some (run (outside_of c.args.machine.now.rows (g.D.Sectors.size c.args.disk.now)) s u) →
+    Progress (outside_of c.args.machine.now.rows (g.D.Sectors.size c.args.disk.now)) s t u c.loop-budget.begun →
+    (seen (g.D.Sectors.sectors c.step_traced.new.disk) c.step_traced.new.machine ≡ Some (run (outside_of c.args.machine.now.rows (g.D.Sectors.size c.args.disk.now)) s (suc u)))
+    × Opened (outside_of c.args.machine.now.rows (g.D.Sectors.size c.args.disk.now)) s t (suc u) c.note.new.begun
+opened g c s t u le is so_far =
+    let began : StepBegan (g.D.Sectors.size c.loop-budget.disk) c.loop-budget.machine (g.D.Sectors.sectors c.loop-budget.disk) c.began.result =
+    subst (λ (b : Bool). StepBegan (g.D.Sectors.size c.loop-budget.disk) c.loop-budget.machine (g.D.Sectors.sectors c.loop-budget.disk) b) (sym c.began.ensures) c.in_ok-stepped.ensures.began in
+    one_step (outside_of c.args.machine.now.rows (g.D.Sectors.size c.args.disk.now)) (outside_of c.loop-budget.machine.rows (g.D.Sectors.size c.loop-budget.disk)) s t u
+    (g.D.Sectors.sectors c.loop-budget.disk) (g.D.Sectors.sectors c.step_traced.new.disk) c.loop-budget.machine c.step_traced.new.machine c.loop-budget.begun c.note.new.begun c.began.result
+    (ap₂ outside_of c.loop-budget.invariant.rows c.loop-budget.invariant.size) le is so_far (c.in_ok-stepped.ensures.ran (is_done c.in_ok-stepped.stepped Disk)) began c.note.ensures
 
 pub loop-budget-init : goal.loop-budget-init
 loop-budget-init g c = record {
@@ -42,19 +71,19 @@ loop-budget-init g c = record {
   untraced = λ e. (e, refl);
   sink_faults = refl;
   tracks = tracks_none (outside_of c.args.machine.now.rows (g.D.Sectors.size c.args.disk.now)) c.args.map.now (seen (g.D.Sectors.sectors c.args.disk.now) c.args.machine.now)
-      (record { tracer = c.args.tracer.now; text = g.O.Sink.text c.args.out.now; budget = c.args.budget.now });
+      (tracing c.args.tracer.now (g.O.Sink.text c.args.out.now) c.args.budget.now);
 }
 
 pub returns-then-is_some-clause-traced : goal.returns-then-is_some-clause-traced
 returns-then-is_some-clause-traced g c =
     tracks_limit (g.D.Sectors.size c.args.disk.now) c.args.map.now c.args.machine.now c.loop-budget.machine (g.D.Sectors.sectors c.args.disk.now) (g.D.Sectors.sectors c.loop-budget.disk)
-    (record { tracer = c.args.tracer.now; text = g.O.Sink.text c.args.out.now; budget = c.args.budget.now }) (record { tracer = c.loop-budget.tracer; text = g.O.Sink.text c.loop-budget.out; budget = c.loop-budget.budget })
+    (tracing c.args.tracer.now (g.O.Sink.text c.args.out.now) c.args.budget.now) (tracing c.loop-budget.tracer (g.O.Sink.text c.loop-budget.out) c.loop-budget.budget)
     c.loop-budget.invariant.tracks c.loop-budget.machine (g.D.Sectors.sectors c.loop-budget.disk)
 
 pub returns-clause-traced : goal.returns-clause-traced
 returns-clause-traced g c =
     tracks_limit (g.D.Sectors.size c.args.disk.now) c.args.map.now c.args.machine.now c.loop-budget.machine (g.D.Sectors.sectors c.args.disk.now) (g.D.Sectors.sectors c.loop-budget.disk)
-    (record { tracer = c.args.tracer.now; text = g.O.Sink.text c.args.out.now; budget = c.args.budget.now }) (record { tracer = c.loop-budget.tracer; text = g.O.Sink.text c.loop-budget.out; budget = c.loop-budget.budget })
+    (tracing c.args.tracer.now (g.O.Sink.text c.args.out.now) c.args.budget.now) (tracing c.loop-budget.tracer (g.O.Sink.text c.loop-budget.out) c.loop-budget.budget)
     c.loop-budget.invariant.tracks c.loop-budget.machine (g.D.Sectors.sectors c.loop-budget.disk)
 
 pub returns-in_err-stepped-clause-ends : goal.returns-in_err-stepped-clause-ends
@@ -83,22 +112,17 @@ returns-in_err-stepped-clause-traced g c =
     let p = c.loop-budget-test.true in
     let same : outside_of c.loop-budget.machine.rows (g.D.Sectors.size c.loop-budget.disk) ≡ outside_of c.args.machine.now.rows (g.D.Sectors.size c.args.disk.now) = ap₂ outside_of c.loop-budget.invariant.rows c.loop-budget.invariant.size in
     rw (w.1, w.2) (tracks_stop (g.D.Sectors.size c.args.disk.now) c.args.map.now c.args.machine.now c.loop-budget.machine (g.D.Sectors.sectors c.args.disk.now) (g.D.Sectors.sectors c.loop-budget.disk)
-    (record { tracer = c.args.tracer.now; text = g.O.Sink.text c.args.out.now; budget = c.args.budget.now }) (record { tracer = c.loop-budget.tracer; text = g.O.Sink.text c.loop-budget.out; budget = c.loop-budget.budget })
+    (tracing c.args.tracer.now (g.O.Sink.text c.args.out.now) c.args.budget.now) (tracing c.loop-budget.tracer (g.O.Sink.text c.loop-budget.out) c.loop-budget.budget)
     c.loop-budget.invariant.tracks (outside_of c.loop-budget.machine.rows (g.D.Sectors.size c.loop-budget.disk)) same
-    (record { tracer = c.step_traced.new.tracer; text = g.O.Sink.text c.step_traced.new.out; budget = c.loop-budget.budget - 1 }) (omega (arith, p))
+    (tracing c.step_traced.new.tracer (g.O.Sink.text c.step_traced.new.out) (c.loop-budget.budget - 1)) (omega (arith, p))
     c.step_traced.new.machine (g.D.Sectors.sectors c.step_traced.new.disk) c.in_err-stepped.field-0.0 c.in_err-stepped.ensures.traced (λ e. c.in_err-stepped.ensures.ran (at_sink c.in_err-stepped.field-0.0 e)))
 
 pub returns-then-at_rest-clause-ends : goal.returns-then-at_rest-clause-ends
 returns-then-at_rest-clause-ends g c = λ s t h.
     let i = c.loop-budget.invariant.ran s t h in
     let x = outside_of c.args.machine.now.rows (g.D.Sectors.size c.args.disk.now) in
-    let y = outside_of c.loop-budget.machine.rows (g.D.Sectors.size c.loop-budget.disk) in
-    let same : y ≡ x = ap₂ outside_of c.loop-budget.invariant.rows c.loop-budget.invariant.size in
     let n : ℕ = c.loop-budget.skipped in
-    let began : StepBegan (g.D.Sectors.size c.loop-budget.disk) c.loop-budget.machine (g.D.Sectors.sectors c.loop-budget.disk) c.began.result =
-    subst (λ (b : Bool). StepBegan (g.D.Sectors.size c.loop-budget.disk) c.loop-budget.machine (g.D.Sectors.sectors c.loop-budget.disk) b) (sym c.began.ensures) c.in_ok-stepped.ensures.began in
-    let r = one_step x y s (t + n) i.0 (g.D.Sectors.sectors c.loop-budget.disk) (g.D.Sectors.sectors c.step_traced.new.disk) c.loop-budget.machine c.step_traced.new.machine c.loop-budget.begun c.note.new.begun c.began.result
-    same i.1 i.3 i.4 (c.in_ok-stepped.ensures.ran (is_done c.in_ok-stepped.stepped Disk)) began c.note.ensures in
+    let r = opened g (goal.at.returns-then-at_rest-clause-ends g c).After-note s (t + n) i.0 i.1 i.3 i.4 in
     let o : Open x s (t + n) (suc i.0) c.in-Some.b = subst (Opened x s (t + n) (suc i.0)) c.in-Some.is r.1 in
     let le = i.1 in
     let b = i.2 in
@@ -114,15 +138,8 @@ returns-then-at_rest-clause-ends g c = λ s t h.
 
 pub returns-then-at_rest-clause-traced : goal.returns-then-at_rest-clause-traced
 returns-then-at_rest-clause-traced g c =
-    let p = c.loop-budget-test.true in
-    let same : outside_of c.loop-budget.machine.rows (g.D.Sectors.size c.loop-budget.disk) ≡ outside_of c.args.machine.now.rows (g.D.Sectors.size c.args.disk.now) = ap₂ outside_of c.loop-budget.invariant.rows c.loop-budget.invariant.size in
-    let before : Tracing = record { tracer = c.args.tracer.now; text = g.O.Sink.text c.args.out.now; budget = c.args.budget.now } in
-    let after : Tracing = record { tracer = c.step_traced.new.tracer; text = g.O.Sink.text c.step_traced.new.out; budget = c.loop-budget.budget - 1 } in
-    tracks_whole (g.D.Sectors.size c.args.disk.now) c.args.map.now c.args.machine.now c.step_traced.new.machine (g.D.Sectors.sectors c.args.disk.now) (g.D.Sectors.sectors c.step_traced.new.disk) before after
-    (tracks_more (g.D.Sectors.size c.args.disk.now) c.args.map.now c.args.machine.now c.loop-budget.machine (g.D.Sectors.sectors c.args.disk.now) (g.D.Sectors.sectors c.loop-budget.disk) before
-    (record { tracer = c.loop-budget.tracer; text = g.O.Sink.text c.loop-budget.out; budget = c.loop-budget.budget }) c.loop-budget.invariant.tracks (outside_of c.loop-budget.machine.rows (g.D.Sectors.size c.loop-budget.disk)) same
-    after (omega (arith, p)) (seen (g.D.Sectors.sectors c.step_traced.new.disk) c.step_traced.new.machine) c.in_ok-stepped.stepped c.in_ok-stepped.ensures.traced (c.in_ok-stepped.ensures.ran (is_done c.in_ok-stepped.stepped Disk)))
-    c.step_traced.new.machine (g.D.Sectors.sectors c.step_traced.new.disk) (c.loop-budget.skipped, c.in-Some.b)
+    tracks_whole (g.D.Sectors.size c.args.disk.now) c.args.map.now c.args.machine.now c.step_traced.new.machine (g.D.Sectors.sectors c.args.disk.now) (g.D.Sectors.sectors c.step_traced.new.disk) _ _
+    (tracked g (goal.at.returns-then-at_rest-clause-traced g c).In_ok-stepped) c.step_traced.new.machine (g.D.Sectors.sectors c.step_traced.new.disk) (c.loop-budget.skipped, c.in-Some.b)
 
 pub loop-budget-preserved-else-at_rest : goal.loop-budget-preserved-else-at_rest
 loop-budget-preserved-else-at_rest g c = record {
@@ -138,13 +155,8 @@ loop-budget-preserved-else-at_rest g c = record {
   ran = λ s t h.
       let i = c.loop-budget.invariant.ran s t h in
       let x = outside_of c.args.machine.now.rows (g.D.Sectors.size c.args.disk.now) in
-      let y = outside_of c.loop-budget.machine.rows (g.D.Sectors.size c.loop-budget.disk) in
-      let same : y ≡ x = ap₂ outside_of c.loop-budget.invariant.rows c.loop-budget.invariant.size in
       let n : ℕ = c.loop-budget.skipped in
-      let began : StepBegan (g.D.Sectors.size c.loop-budget.disk) c.loop-budget.machine (g.D.Sectors.sectors c.loop-budget.disk) c.began.result =
-      subst (λ (b : Bool). StepBegan (g.D.Sectors.size c.loop-budget.disk) c.loop-budget.machine (g.D.Sectors.sectors c.loop-budget.disk) b) (sym c.began.ensures) c.in_ok-stepped.ensures.began in
-      let r = one_step x y s (t + n) i.0 (g.D.Sectors.sectors c.loop-budget.disk) (g.D.Sectors.sectors c.step_traced.new.disk) c.loop-budget.machine c.step_traced.new.machine c.loop-budget.begun c.note.new.begun c.began.result
-      same i.1 i.3 i.4 (c.in_ok-stepped.ensures.ran (is_done c.in_ok-stepped.stepped Disk)) began c.note.ensures in
+      let r = opened g (goal.at.loop-budget-preserved-else-at_rest g c).After-note s (t + n) i.0 i.1 i.3 i.4 in
       let le = i.1 in
       let b = i.2 in
       let p = c.loop-budget-test.true in
@@ -154,14 +166,7 @@ loop-budget-preserved-else-at_rest g c = record {
   user = c.in_ok-stepped.ensures.user ∙ c.loop-budget.invariant.user;
   untraced = λ e. let i = c.loop-budget.invariant.untraced e in let n = c.in_ok-stepped.ensures.untraced i.0 in (n.0, n.1 ∙ i.1);
   sink_faults = c.in_ok-stepped.ensures.sink_same (is_done c.in_ok-stepped.stepped Sink) ∙ c.loop-budget.invariant.sink_faults;
-  tracks =
-      let p = c.loop-budget-test.true in
-      let same : outside_of c.loop-budget.machine.rows (g.D.Sectors.size c.loop-budget.disk) ≡ outside_of c.args.machine.now.rows (g.D.Sectors.size c.args.disk.now) = ap₂ outside_of c.loop-budget.invariant.rows c.loop-budget.invariant.size in
-      tracks_more (g.D.Sectors.size c.args.disk.now) c.args.map.now c.args.machine.now c.loop-budget.machine (g.D.Sectors.sectors c.args.disk.now) (g.D.Sectors.sectors c.loop-budget.disk)
-      (record { tracer = c.args.tracer.now; text = g.O.Sink.text c.args.out.now; budget = c.args.budget.now })
-      (record { tracer = c.loop-budget.tracer; text = g.O.Sink.text c.loop-budget.out; budget = c.loop-budget.budget }) c.loop-budget.invariant.tracks (outside_of c.loop-budget.machine.rows (g.D.Sectors.size c.loop-budget.disk)) same
-      (record { tracer = c.step_traced.new.tracer; text = g.O.Sink.text c.step_traced.new.out; budget = c.loop-budget.budget - 1 }) (omega (arith, p))
-      (seen (g.D.Sectors.sectors c.step_traced.new.disk) c.step_traced.new.machine) c.in_ok-stepped.stepped c.in_ok-stepped.ensures.traced (c.in_ok-stepped.ensures.ran (is_done c.in_ok-stepped.stepped Disk));
+  tracks = tracked g (goal.at.loop-budget-preserved-else-at_rest g c).In_ok-stepped;
 }
 
 pub loop-budget-preserved : goal.loop-budget-preserved
@@ -178,13 +183,8 @@ loop-budget-preserved g c = record {
   ran = λ s t h.
       let i = c.loop-budget.invariant.ran s t h in
       let x = outside_of c.args.machine.now.rows (g.D.Sectors.size c.args.disk.now) in
-      let y = outside_of c.loop-budget.machine.rows (g.D.Sectors.size c.loop-budget.disk) in
-      let same : y ≡ x = ap₂ outside_of c.loop-budget.invariant.rows c.loop-budget.invariant.size in
       let n : ℕ = c.loop-budget.skipped in
-      let began : StepBegan (g.D.Sectors.size c.loop-budget.disk) c.loop-budget.machine (g.D.Sectors.sectors c.loop-budget.disk) c.began.result =
-      subst (λ (b : Bool). StepBegan (g.D.Sectors.size c.loop-budget.disk) c.loop-budget.machine (g.D.Sectors.sectors c.loop-budget.disk) b) (sym c.began.ensures) c.in_ok-stepped.ensures.began in
-      let r = one_step x y s (t + n) i.0 (g.D.Sectors.sectors c.loop-budget.disk) (g.D.Sectors.sectors c.step_traced.new.disk) c.loop-budget.machine c.step_traced.new.machine c.loop-budget.begun c.note.new.begun c.began.result
-      same i.1 i.3 i.4 (c.in_ok-stepped.ensures.ran (is_done c.in_ok-stepped.stepped Disk)) began c.note.ensures in
+      let r = opened g (goal.at.loop-budget-preserved g c).After-note s (t + n) i.0 i.1 i.3 i.4 in
       let le = i.1 in
       let b = i.2 in
       let p = c.loop-budget-test.true in
@@ -194,14 +194,7 @@ loop-budget-preserved g c = record {
   user = c.in_ok-stepped.ensures.user ∙ c.loop-budget.invariant.user;
   untraced = λ e. let i = c.loop-budget.invariant.untraced e in let n = c.in_ok-stepped.ensures.untraced i.0 in (n.0, n.1 ∙ i.1);
   sink_faults = c.in_ok-stepped.ensures.sink_same (is_done c.in_ok-stepped.stepped Sink) ∙ c.loop-budget.invariant.sink_faults;
-  tracks =
-      let p = c.loop-budget-test.true in
-      let same : outside_of c.loop-budget.machine.rows (g.D.Sectors.size c.loop-budget.disk) ≡ outside_of c.args.machine.now.rows (g.D.Sectors.size c.args.disk.now) = ap₂ outside_of c.loop-budget.invariant.rows c.loop-budget.invariant.size in
-      tracks_more (g.D.Sectors.size c.args.disk.now) c.args.map.now c.args.machine.now c.loop-budget.machine (g.D.Sectors.sectors c.args.disk.now) (g.D.Sectors.sectors c.loop-budget.disk)
-      (record { tracer = c.args.tracer.now; text = g.O.Sink.text c.args.out.now; budget = c.args.budget.now })
-      (record { tracer = c.loop-budget.tracer; text = g.O.Sink.text c.loop-budget.out; budget = c.loop-budget.budget }) c.loop-budget.invariant.tracks (outside_of c.loop-budget.machine.rows (g.D.Sectors.size c.loop-budget.disk)) same
-      (record { tracer = c.step_traced.new.tracer; text = g.O.Sink.text c.step_traced.new.out; budget = c.loop-budget.budget - 1 }) (omega (arith, p))
-      (seen (g.D.Sectors.sectors c.step_traced.new.disk) c.step_traced.new.machine) c.in_ok-stepped.stepped c.in_ok-stepped.ensures.traced (c.in_ok-stepped.ensures.ran (is_done c.in_ok-stepped.stepped Disk));
+  tracks = tracked g (goal.at.loop-budget-preserved g c).In_ok-stepped;
 }
 
 pub loop-budget-preserved-then-skipped-limit : goal.loop-budget-preserved-then-skipped-limit
@@ -235,12 +228,5 @@ loop-budget-preserved-then-skipped-limit g c = record {
   user = c.in_ok-stepped.ensures.user ∙ c.loop-budget.invariant.user;
   untraced = λ e. let i = c.loop-budget.invariant.untraced e in let n = c.in_ok-stepped.ensures.untraced i.0 in (n.0, n.1 ∙ i.1);
   sink_faults = c.in_ok-stepped.ensures.sink_same (is_done c.in_ok-stepped.stepped Sink) ∙ c.loop-budget.invariant.sink_faults;
-  tracks =
-      let p = c.loop-budget-test.true in
-      let same : outside_of c.loop-budget.machine.rows (g.D.Sectors.size c.loop-budget.disk) ≡ outside_of c.args.machine.now.rows (g.D.Sectors.size c.args.disk.now) = ap₂ outside_of c.loop-budget.invariant.rows c.loop-budget.invariant.size in
-      tracks_more (g.D.Sectors.size c.args.disk.now) c.args.map.now c.args.machine.now c.loop-budget.machine (g.D.Sectors.sectors c.args.disk.now) (g.D.Sectors.sectors c.loop-budget.disk)
-      (record { tracer = c.args.tracer.now; text = g.O.Sink.text c.args.out.now; budget = c.args.budget.now })
-      (record { tracer = c.loop-budget.tracer; text = g.O.Sink.text c.loop-budget.out; budget = c.loop-budget.budget }) c.loop-budget.invariant.tracks (outside_of c.loop-budget.machine.rows (g.D.Sectors.size c.loop-budget.disk)) same
-      (record { tracer = c.step_traced.new.tracer; text = g.O.Sink.text c.step_traced.new.out; budget = c.loop-budget.budget - 1 }) (omega (arith, p))
-      (seen (g.D.Sectors.sectors c.step_traced.new.disk) c.step_traced.new.machine) c.in_ok-stepped.stepped c.in_ok-stepped.ensures.traced (c.in_ok-stepped.ensures.ran (is_done c.in_ok-stepped.stepped Disk));
+  tracks = tracked g (goal.at.loop-budget-preserved-then-skipped-limit g c).In_ok-stepped;
 }

@@ -9,13 +9,25 @@ use Rattle.mips_machine.specs.Steps.{outside_of}
 use Rattle.boot_turns.proofs.Tearing.{step_done_torn}
 use Rattle.boot_turns.specs.declared.tracer.Tracer.{Tracer}
 use Rattle.boot_turns.proofs.Tracking.{step_breaks, step_goes, step_stops}
-use Rattle.boot_turns.proofs.completion.step_traced.Goals.{in-Kept+else-counts, in_default}
+use Rattle.boot_turns.proofs.completion.step_traced.Given.{Over}
+use Rattle.boot_turns.proofs.completion.step_traced.Goals.{In-Some, in-Kept+else-counts, in_default}
 use Rattle.boot_turns.proofs.completion.step_traced.Goals as goal
 
 -- so it is where a user is traced
 if_traced : (o : Option Tracer) (P : Type 0) → P → IfSome o (λ _. P)
 if_traced None P h = tt
 if_traced (Some k) P h = h
+
+-- what is kept is still what was kept before the step
+here : (g : Over) (c : In-Some g) → c.args.tracer.now ≡ Some c.in-Some.kept
+here g c = elim c.match-stepped.branch [
+  | in-Kept+else-counts w ↦ sym (w.tracer-is ∙ w.counts.ensures.same w.if-counts.false) ∙ c.in-Some.is
+  | in_default w ↦ sym w.tracer-is ∙ c.in-Some.is
+]
+
+-- whether the step began a turn
+began : (g : Over) (c : In-Some g) → StepBegan (g.D.Sectors.size c.args.disk.now) c.args.machine.now (g.D.Sectors.sectors c.args.disk.now) c.began-began.result
+began g c = subst (λ (b : Bool). StepBegan (g.D.Sectors.size c.args.disk.now) c.args.machine.now (g.D.Sectors.sectors c.args.disk.now) b) (sym c.began-began.ensures) c.in_ok-stepped.ensures.began
 
 pub returns-in_err-stepped-clause-traced : goal.returns-in_err-stepped-clause-traced
 returns-in_err-stepped-clause-traced g c =
@@ -31,31 +43,19 @@ returns-in_err-follow-clause-torn g c = λ _.
 
 pub returns-in_err-follow-clause-traced : goal.returns-in_err-follow-clause-traced
 returns-in_err-follow-clause-traced g c =
-    let here : c.args.tracer.now ≡ Some c.in-Some.kept = elim c.match-stepped.branch [
-      | in-Kept+else-counts w ↦ sym (w.tracer-is ∙ w.counts.ensures.same w.if-counts.false) ∙ c.in-Some.is
-      | in_default w ↦ sym w.tracer-is ∙ c.in-Some.is
-    ] in
-    let began : StepBegan (g.D.Sectors.size c.args.disk.now) c.args.machine.now (g.D.Sectors.sectors c.args.disk.now) c.began-began.result =
-    subst (λ (b : Bool). StepBegan (g.D.Sectors.size c.args.disk.now) c.args.machine.now (g.D.Sectors.sectors c.args.disk.now) b) (sym c.began-began.ensures) c.in_ok-stepped.ensures.began in
     let w = err_from_is_err_and c.from_residual-in_err-follow.result c.from_residual-in_err-follow.ensures.1 in
     let x = outside_of c.args.machine.now.rows (g.D.Sectors.size c.args.disk.now) in
     step_stops c.traces_grow.ensures c.journal_rows_follow.ensures c.the_words_tell.ensures x c.args.map.now c.args.machine.now (g.D.Sectors.sectors c.args.disk.now) c.in-Some.kept (g.O.Sink.text c.args.out.now) c.requires.on
-    c.step_once.new.machine (g.D.Sectors.sectors c.step_once.new.disk) c.in_ok-stepped.ensures.ran c.current_user-current.result c.current_user-current.ensures c.began-began.result began
-    c.args.tracer.now _ (g.O.Sink.text c.follow.new.out) c.from_residual-in_err-follow.result w.0 c.in_err-follow.field-0.0 here w.1 w.2
+    c.step_once.new.machine (g.D.Sectors.sectors c.step_once.new.disk) c.in_ok-stepped.ensures.ran c.current_user-current.result c.current_user-current.ensures c.began-began.result (began g (goal.at.returns-in_err-follow-clause-traced g c).In-Some)
+    c.args.tracer.now _ (g.O.Sink.text c.follow.new.out) c.from_residual-in_err-follow.result w.0 c.in_err-follow.field-0.0 (here g (goal.at.returns-in_err-follow-clause-traced g c).In-Some) w.1 w.2
     (λ e. c.in_err-follow.ensures.no_limit (ap (λ f. Err f) e)) c.in_err-follow.ensures.err
 
 pub returns-in-Some-clause-traced : goal.returns-in-Some-clause-traced
 returns-in-Some-clause-traced g c =
-    let here : c.args.tracer.now ≡ Some c.in-Some.kept = elim c.match-stepped.branch [
-      | in-Kept+else-counts w ↦ sym (w.tracer-is ∙ w.counts.ensures.same w.if-counts.false) ∙ c.in-Some.is
-      | in_default w ↦ sym w.tracer-is ∙ c.in-Some.is
-    ] in
-    let began : StepBegan (g.D.Sectors.size c.args.disk.now) c.args.machine.now (g.D.Sectors.sectors c.args.disk.now) c.began-began.result =
-    subst (λ (b : Bool). StepBegan (g.D.Sectors.size c.args.disk.now) c.args.machine.now (g.D.Sectors.sectors c.args.disk.now) b) (sym c.began-began.ensures) c.in_ok-stepped.ensures.began in
     let x = outside_of c.args.machine.now.rows (g.D.Sectors.size c.args.disk.now) in
     step_goes c.traces_grow.ensures c.journal_rows_follow.ensures c.the_words_tell.ensures x c.args.map.now c.args.machine.now (g.D.Sectors.sectors c.args.disk.now) c.in-Some.kept (g.O.Sink.text c.args.out.now) c.requires.on
-    c.step_once.new.machine (g.D.Sectors.sectors c.step_once.new.disk) c.in_ok-stepped.ensures.ran c.current_user-current.result c.current_user-current.ensures c.began-began.result began
-    c.stepped_as.result c.args.tracer.now c.follow.new.self (g.O.Sink.text c.follow.new.out) here c.in_ok-follow.ensures.ok c.in_ok-follow.ensures.kept
+    c.step_once.new.machine (g.D.Sectors.sectors c.step_once.new.disk) c.in_ok-stepped.ensures.ran c.current_user-current.result c.current_user-current.ensures c.began-began.result (began g (goal.at.returns-in-Some-clause-traced g c).In-Some)
+    c.stepped_as.result c.args.tracer.now c.follow.new.self (g.O.Sink.text c.follow.new.out) (here g (goal.at.returns-in-Some-clause-traced g c).In-Some) c.in_ok-follow.ensures.ok c.in_ok-follow.ensures.kept
 
 pub returns-then-counts-clause-traced : goal.returns-then-counts-clause-traced
 returns-then-counts-clause-traced g c =

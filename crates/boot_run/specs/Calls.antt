@@ -1,0 +1,60 @@
+-- What the calls of a loaded run come to, by the run, the disk, the budget and the sink before, and then by those after. The first three
+-- words of each tell the disk's size, its sectors and the sink's text.
+use Rattle.std.specs.Prelude.{◌≡◌, ℕ, Option, None, List, Result}
+use Rattle.schedule_file.specs.Rows.{Rows}
+use Rattle.layer_contract.specs.declared.boot.Boot.{Boot as Booted}
+use Rattle.boot_turns.specs.declared.answers.Turn.{Turn}
+use Rattle.boot_turns.specs.declared.answers.View.{View}
+use Rattle.boot_turns.specs.declared.answers.RunFault.{RunFault}
+use Rattle.boot_run.specs.declared.load.LoadFault.{LoadFault}
+use Rattle.boot_run.specs.declared.whole.RunEnd.{RunEnd}
+use Rattle.boot_run.specs.LoadEnds.{Kept}
+use Rattle.boot_run.specs.Report.{ReportRuns}
+use Rattle.boot_run.specs.TurnCalls.{around, TurnRuns, TurnsRun}
+use Rattle.boot_run.specs.TurnParts.{MakesTurn}
+use Rattle.boot_run.specs.Whole.{CloseRuns, GoRuns, RunsToEnd, WholeEnds}
+
+module _ {D O : Type 0} (size : D → ℕ) (sectors : D → Option (List (List ℕ))) (text : O → Option (List ℕ)) where
+  -- the machine makes turns, so many at most
+  abbrev pub MakesTurns : {L : Type 0} → (most : ℕ) → Kept L → D → ℕ → O → Kept L → D → ℕ → O → Result (ℕ × Turn) RunFault → Type 0
+  MakesTurns most run disk budget out new retold left printed result =
+      MakesTurn (size disk) run new most (sectors disk) (sectors retold) (text out) (text printed) budget left result
+
+  -- turns are made, so many at most, and what is to be seen of them is printed, of a run that kept no fault
+  abbrev pub Proceeds : {L : Type 0} → (most : ℕ) → Kept L → D → ℕ → O → Kept L → D → ℕ → O → Result (ℕ × Turn) RunFault → Type 0
+  Proceeds most run disk budget out new retold left printed result = run.fault ≡ None →
+      TurnsRun (size disk) run most (around run (sectors disk) budget (text out)) (around new (sectors retold) left (text printed)) result
+
+  -- and of one that hasn't ended, either
+  abbrev pub TakesTurns : {L : Type 0} → (most : ℕ) → Kept L → D → ℕ → O → Kept L → D → ℕ → O → Result (ℕ × Turn) RunFault → Type 0
+  TakesTurns most run disk budget out new retold left printed result = run.fault ≡ None → run.ended ≡ None →
+      TurnsRun (size disk) run most (around run (sectors disk) budget (text out)) (around new (sectors retold) left (text printed)) result
+
+  -- one turn is
+  abbrev pub TakesTurn : {L : Type 0} → Kept L → D → ℕ → O → Kept L → D → ℕ → O → Result Turn RunFault → Type 0
+  TakesTurn run disk budget out new retold left printed result = run.fault ≡ None → run.ended ≡ None →
+      TurnRuns (size disk) run (around run (sectors disk) budget (text out)) (around new (sectors retold) left (text printed)) result
+
+  -- the report is printed
+  abbrev pub Reports : {L : Type 0} → Kept L → D → O → Kept L → D → O → Result (Unit {0}) RunFault → Type 0
+  Reports run disk out new retold printed result = ReportRuns (size disk) run new (sectors disk) (sectors retold) (text out) (text printed) result
+
+  -- turns are made until so many are complete or the run has ended
+  abbrev pub Goes : {L : Type 0} → (turns : ℕ) → Kept L → D → ℕ → O → Kept L → D → ℕ → O → Result (Unit {0}) RunFault → Type 0
+  Goes turns run disk budget out new retold left printed result =
+      GoRuns (size disk) run turns (around run (sectors disk) budget (text out)) (around new (sectors retold) left (text printed)) result
+
+  -- the run is closed, whatever is left of the budget
+  abbrev pub Closes : {L : Type 0} → Kept L → D → O → Kept L → D → O → RunEnd → Type 0
+  Closes run disk out new retold printed result = (budget : ℕ) →
+      CloseRuns (size disk) run (around run (sectors disk) budget (text out)) (around new (sectors retold) budget (text printed)) result
+
+  -- it is run to its end, in so many turns and steps at most
+  abbrev pub Finishes : {L : Type 0} → (turns steps : ℕ) → Kept L → D → O → D → O → RunEnd → Type 0
+  Finishes turns steps run disk out retold printed result =
+      RunsToEnd (size disk) run turns steps (around run (sectors disk) steps (text out)) (sectors retold) (text printed) result
+
+  -- what is booted over such a disk, under a schedule, is run to its end, or refused
+  abbrev pub RunsWhole : Booted → Rows → View → (turns steps : ℕ) → D → O → D → O → Result RunEnd LoadFault → Type 0
+  RunsWhole boot rows view turns steps disk out retold printed result =
+      WholeEnds boot rows (size disk) view turns steps (sectors disk) (sectors retold) (text out) (text printed) result
