@@ -1,10 +1,10 @@
 // The functions of a unit, one behind the other.
 
-ghost use Rattle.std.specs.Prelude.{◌≡◌, ◌+◌, ◌*◌, ◌≤◌, ◌++◌, All, length, map, sum, IfOk, OnOk};
-ghost use Rattle.mips_table.specs.Encoding.{encoding};
+ghost use Rattle.std.specs.Prelude.{◌≡◌, ◌+◌, ◌*◌, ◌≤◌, All, length, sum, IfOk, OnOk};
 ghost use Rattle.layer_map.specs.Map.{layer_words};
 ghost use Rattle.masm.specs.Places.{IsPlace, ArePlaces};
 ghost use Rattle.c0_tree.specs.View.{unit_view};
+ghost use Rattle.c0_expr_code.specs.Emit.{Appends};
 ghost use Rattle.c0_unit.specs.Code.{all_functions, lengths_of, starts_from};
 ghost use Rattle.c0_unit.specs.Laws.{ArePlacedAt};
 
@@ -27,7 +27,7 @@ pub fn emit_functions(
     requires places { ArePlaces places.now }
     requires placed { ArePlacedAt places.now places.now.functions.items places.now.globals }
     requires room { length code.old.items ≤ 39 }
-    ensures appended { OnOk result (code.new.items ≡ code.old.items ++ map encoding (all_functions (unit_view layout.now.unit.now) places.now.functions.items)) }
+    ensures appended { Appends code.old.items code.new.items (all_functions (unit_view layout.now.unit.now) places.now.functions.items) result }
     ensures starts { IfOk result (λ s. s.items ≡ starts_from (layer_words + length code.old.items) (lengths_of (unit_view layout.now.unit.now))) }
     ensures length { OnOk result (length code.new.items ≡ length code.old.items + sum (lengths_of (unit_view layout.now.unit.now))) }
     ensures few { OnOk result (length code.new.items ≤ 3300000) }
