@@ -1,6 +1,6 @@
 -- What is answered of bytes: the fields in the order of the file, then the parts, then the end; the first that isn't as it is to be
 -- answers.
-use Rattle.std.specs.Prelude.{ℕ, zero, suc, ◌≡◌, ◌+◌, ◌*◌, ◌||◌, List, [], ◌∷◌, ◌++◌, length, take, drop, codes, nat_lt, nat_eq, Result, Ok, Err, MatchResult, if◌then◌else◌}
+use Rattle.std.specs.Prelude.{ℕ, zero, suc, ◌≡◌, ◌+◌, ◌*◌, ◌<◌, ◌||◌, slice_index, List, [], ◌∷◌, ◌++◌, length, take, drop, codes, nat_lt, nat_eq, Result, Ok, Err, MatchResult, if◌then◌else◌}
 use Rattle.std.specs.Str.{bytes_eq}
 use Rattle.byteorder.specs.Endian.{little_number}
 use Rattle.layer_map.specs.declared.params.Params.{Params}
@@ -9,7 +9,7 @@ use Rattle.boot_image.specs.declared.fault.ImageFault.{ImageFault}
 use Rattle.boot_image.specs.declared.fault.ImageFault.TheVariants.{Magic, Truncated, Trailing, Parameter, Memory}
 use Rattle.boot_image.specs.declared.reading.Header.{Header}
 use Rattle.boot_image.specs.Parts.{Parts}
-use Rattle.boot_image.specs.Format.{bare_params, most_words}
+use Rattle.boot_image.specs.Format.{bare_params, most_words, spelling}
 
 -- a step, and then another by its value
 infixl 10 ◌>>=◌
@@ -135,3 +135,10 @@ old_answer bytes = do
 abbrev pub Gives : Result Parts ImageFault → Result Parts ImageFault → Type 0
 Gives result (Ok i) = MatchResult result (λ p. p ≡ i) (λ e. e ≡ Memory)
 Gives result (Err fault) = result ≡ Err fault
+
+-- laws of a reading: bytes that are answered by an image are its spelling, and the spelling of each image is answered by it
+abbrev pub AnswersAreSpelled : (List ℕ → Result Parts ImageFault) → (IsFit : Parts → Type 0) → Type 0
+AnswersAreSpelled read IsFit = (bytes : List ℕ) → ((i : ℕ) → slice_index bytes i < 256) → (image : Parts) → read bytes ≡ Ok image → IsFit image × (bytes ≡ spelling image)
+
+abbrev pub SpellingsAreAnswered : (List ℕ → Result Parts ImageFault) → (IsFit : Parts → Type 0) → Type 0
+SpellingsAreAnswered read IsFit = (image : Parts) → IsFit image → read (spelling image) ≡ Ok image

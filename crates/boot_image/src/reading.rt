@@ -4,7 +4,8 @@ ghost use Rattle.std.specs.Prelude.{◌≡◌, ◌+◌, ◌*◌, ◌≤◌, ◌<
 ghost use Rattle.boot_image.specs.Parts.{Parts};
 ghost use Rattle.boot_image.specs.Format.{IsInRange, IsOldInRange, spelling, most_words};
 ghost use Rattle.word_bytes.specs.Words.{words_of};
-ghost use Rattle.boot_image.specs.Reading.{Comes, Gives, mark_at, number_at, form_at, params_at, counts_at, bare_at, system_at, header_of, old_header_of, part_at, users_at, parts_of, users_of, image_at, answer, old_answer};
+ghost use Rattle.boot_image.specs.Reading.{Comes, Gives, AnswersAreSpelled, SpellingsAreAnswered, image_at, answer, old_answer};
+ghost use Rattle.boot_image.specs.Reading.{mark_at, number_at, form_at, params_at, counts_at, bare_at, system_at, header_of, old_header_of, part_at, users_at, parts_of, users_of};
 
 use crate::fault::ImageFault;
 use crate::image::Image;
@@ -53,14 +54,14 @@ pub fn read_old(alloc: Global, bytes: &[u8]) -> Result<Image, ImageFault>
 
 /// A law: bytes are answered by an image exactly where they are its spelling.
 pub fn images_are_their_spellings()
-    ensures spelled { (bytes : List ℕ) → ((i : ℕ) → slice_index bytes i < 256) → (image : Parts) → answer bytes ≡ Ok image → IsInRange image × (bytes ≡ spelling image) }
-    ensures read_back { (image : Parts) → IsInRange image → answer (spelling image) ≡ Ok image }
+    ensures spelled { AnswersAreSpelled answer IsInRange }
+    ensures read_back { SpellingsAreAnswered answer IsInRange }
 {}
 
 /// A law: bytes are answered by an image of form 2 exactly where they are its spelling.
 pub fn old_images_are_their_spellings()
-    ensures spelled { (bytes : List ℕ) → ((i : ℕ) → slice_index bytes i < 256) → (image : Parts) → old_answer bytes ≡ Ok image → IsOldInRange image × (bytes ≡ spelling image) }
-    ensures read_back { (image : Parts) → IsOldInRange image → old_answer (spelling image) ≡ Ok image }
+    ensures spelled { AnswersAreSpelled old_answer IsOldInRange }
+    ensures read_back { SpellingsAreAnswered old_answer IsOldInRange }
 {}
 
 // The image of a header and of the bytes that follow it.

@@ -3,11 +3,8 @@
 use Rattle.std.proofs.Common.{◌≡◌, ◌≢◌, ◌⊎◌, inl, inr, ℕ, List, refl, sym, ap, ◌∙◌, Ok, Err}
 use Rattle.std.specs.Prelude.{Result}
 use Rattle.c0_tree.specs.Tree.{CUnit}
-use Rattle.c0_parser.specs.declared.fault.ReadFault.TheVariants as read
-use Rattle.c0_types.specs.Front.{IsAnswer, IsFaultOf, IsFirstFault}
-use Rattle.c0_types.specs.declared.fault.TypeFault.TheVariants as typing
+use Rattle.c0_types.specs.Front.{IsAnswer}
 use Rattle.c0_types.specs.declared.source_fault.SourceFault.{SourceFault}
-use Rattle.c0_types.specs.declared.source_fault.SourceFault.TheVariants.{Reading, Typing}
 use Rattle.boot_image.specs.Parts.{Parts as Image}
 use Rattle.boot_image.specs.declared.fault.ImageFault.{ImageFault}
 use Rattle.kernel_linker.specs.Answers.{Comes}
@@ -19,10 +16,7 @@ use Rattle.cvm_shell.specs.declared.boot.Stop.TheVariants as Stops
 use Rattle.cvm_shell.specs.declared.refusal.Refusal.TheVariants as by
 use Rattle.cvm_shell.specs.Plan.{Answered}
 use Rattle.cvm_shell.specs.Stages.{accept_stop}
-
--- that a source has one answer
-abbrev pub OneAnswer : Type 0
-OneAnswer = (source : List ℕ) (a b : Result CUnit SourceFault) → IsAnswer source a → IsAnswer source b → a ≡ b
+use Rattle.cvm_shell.proofs.Fronts.{OneAnswer, IsWant, first_or_memory, one_fault, not_both}
 
 -- what is due of an image, by what its source is answered by
 abbrev pub Due : Type 0 → Type 0
@@ -39,37 +33,10 @@ only_answered one due (Ok i) a b (front, is, e) (also, other, d) = e ∙ ap (due
 
 -- THE ANSWER OF A CALL, where it is not want of memory.
 
--- a fault of a source is want of memory, or its first fault
-first_or_memory : (source : List ℕ) (f : SourceFault) → IsFaultOf source f → (accept_source_fault f ≡ accepting.Memory) ⊎ IsFirstFault source f
-first_or_memory source (Reading read.Memory) is = inl refl
-first_or_memory source (Reading (read.BadByte at)) is = inr (record { fault = is; read = λ e. cc; typed = λ e. cc })
-first_or_memory source (Reading (read.BadNumber at)) is = inr (record { fault = is; read = λ e. cc; typed = λ e. cc })
-first_or_memory source (Reading (read.Unexpected at)) is = inr (record { fault = is; read = λ e. cc; typed = λ e. cc })
-first_or_memory source (Reading (read.TooNested at)) is = inr (record { fault = is; read = λ e. cc; typed = λ e. cc })
-first_or_memory source (Reading read.SourceTooLong) is = inr (record { fault = is; read = λ e. cc; typed = λ e. cc })
-first_or_memory source (Typing typing.Memory) is = inl refl
-first_or_memory source (Typing (typing.UnknownName s)) is = inr (record { fault = is; read = λ e. cc; typed = λ e. cc })
-first_or_memory source (Typing (typing.NameTwice s)) is = inr (record { fault = is; read = λ e. cc; typed = λ e. cc })
-first_or_memory source (Typing (typing.WrongType s)) is = inr (record { fault = is; read = λ e. cc; typed = λ e. cc })
-first_or_memory source (Typing (typing.WrongCount s)) is = inr (record { fault = is; read = λ e. cc; typed = λ e. cc })
-first_or_memory source (Typing (typing.NotAPlace s)) is = inr (record { fault = is; read = λ e. cc; typed = λ e. cc })
-first_or_memory source (Typing (typing.LocalAddress s)) is = inr (record { fault = is; read = λ e. cc; typed = λ e. cc })
-first_or_memory source (Typing (typing.StructHoldsItself s)) is = inr (record { fault = is; read = λ e. cc; typed = λ e. cc })
-first_or_memory source (Typing (typing.TooDeep s)) is = inr (record { fault = is; read = λ e. cc; typed = λ e. cc })
-first_or_memory source (Typing (typing.TooManyNodes s)) is = inr (record { fault = is; read = λ e. cc; typed = λ e. cc })
-first_or_memory source (Typing (typing.UnitTooLarge s)) is = inr (record { fault = is; read = λ e. cc; typed = λ e. cc })
-first_or_memory source (Typing (typing.GlobalsTooLarge s)) is = inr (record { fault = is; read = λ e. cc; typed = λ e. cc })
-first_or_memory source (Typing (typing.NoDispatch s)) is = inr (record { fault = is; read = λ e. cc; typed = λ e. cc })
-first_or_memory source (Typing (typing.AsmNotAllowed s line)) is = inr (record { fault = is; read = λ e. cc; typed = λ e. cc })
-first_or_memory source (Typing (typing.TooManyParameters s)) is = inr (record { fault = is; read = λ e. cc; typed = λ e. cc })
-first_or_memory source (Typing (typing.TypeTooLarge s)) is = inr (record { fault = is; read = λ e. cc; typed = λ e. cc })
-first_or_memory source (Typing (typing.EmptyArray s)) is = inr (record { fault = is; read = λ e. cc; typed = λ e. cc })
-
-one_fault : {A : Type 0} (r : Result A AcceptFault) (f g : AcceptFault) → r ≡ Err f → r ≡ Err g → f ≡ g
-one_fault r f g a b = let e = sym a ∙ b in cc
-
-not_both : {A : Type 0} (r : Result A AcceptFault) (x : A) (g : AcceptFault) → r ≡ Ok x → r ≡ Err g → ⊥
-not_both r x g a b = let e = sym a ∙ b in cc
+-- want of memory for a source is that for its image
+memory_of : (f : SourceFault) → IsWant f → accept_source_fault f ≡ accepting.Memory
+memory_of f (inl e) = ap accept_source_fault e
+memory_of f (inr e) = ap accept_source_fault e
 
 -- A GOOD IMAGE
 good_front : {A : Type 0} (due : Due A) → Faulty due → (i : Image) (x : A) (front : Result CUnit SourceFault) → Comes i.source front → due i front ≡ Ok x → Answered due (Ok i) (Ok x)
@@ -84,7 +51,7 @@ image_answered due faulty view (Ok i) x (front, comes, e) = good_front due fault
 refused_front : {A : Type 0} (due : Due A) → Faulty due → (i : Image) (f : AcceptFault) (front : Result CUnit SourceFault) → f ≢ accepting.Memory → Comes i.source front → due i front ≡ Err f → Answered due (Ok i) (Err f)
 refused_front due faulty i f (Ok u) named comes e = (Ok u, comes, sym e)
 refused_front due faulty i f (Err g) named comes e = elim (first_or_memory i.source g comes) [
-  | inl m ↦ absurd (named (one_fault (due i (Err g)) f (accept_source_fault g) e (faulty i g) ∙ m))
+  | inl m ↦ absurd (named (one_fault (due i (Err g)) f (accept_source_fault g) e (faulty i g) ∙ memory_of g m))
   | inr first ↦ (Err g, first, sym e)
 ]
 

@@ -20,7 +20,8 @@ use Rattle.cvm_shell.specs.Plan.{Plan, boots, Got, Accepts, scheduled_plan, acce
 use Rattle.cvm_shell.specs.Stages.{accept_stop, schedule_stop, IsBootPlan}
 use Rattle.cvm_shell.specs.Views.{IfRefused, IfPlan}
 use Rattle.cvm_shell.proofs.Plans.{got_whole, if_refused, if_plan}
-use Rattle.cvm_shell.proofs.Answered.{OneAnswer, Faulty, only_answered, image_answered, image_refused, accept_stops}
+use Rattle.cvm_shell.proofs.Fronts.{OneAnswer}
+use Rattle.cvm_shell.proofs.Answered.{Faulty, only_answered, image_answered, image_refused, accept_stops}
 
 abbrev Layers : Type 0
 Layers = Map → List ℕ → List ℕ

@@ -1,11 +1,10 @@
 -- The exits of a command: what was printed, put or run is how its plan ends, and the counts of faults are as the status says.
-use Rattle.std.proofs.Common.{◌≡◌, ◌≢◌, ◌⊎◌, inl, inr, ℕ, List, [], refl, sym, ap, ◌∙◌, subst, Ok, Err, Bool, true, false}
+use Rattle.std.proofs.Common.{◌≡◌, ◌≢◌, ◌⊎◌, inl, inr, ℕ, List, [], append-nil, refl, sym, ap, ◌∙◌, subst, Ok, Err, Some, None, Bool, true, false}
 use Rattle.std.specs.Prelude.{Option, Result, ◌↔◌, codes, take}
 use Rattle.std.specs.Io.KnownBytes.{append_known}
 use Rattle.std.specs.Str.{bytes_eq}
 use Rattle.std.proofs.lemmas.Slice.Eq.{bytes_eq-Decides}
 use Rattle.cvm_outside.specs.Told.{AppendsPart, TOO_LONG, retold}
-use Rattle.cvm_outside.proofs.Parts.{append_known-nil}
 use Rattle.schedule_file.specs.Rows.{Rows}
 use Rattle.layer_runs.specs.Image.{layer_image}
 use Rattle.kernel_linker.specs.Accept.{System}
@@ -152,11 +151,16 @@ pub record Unchanged (old new : Outside) : Type 0 where
   pub files : (n : List ℕ) → new.shelf.file n ≡ old.shelf.file n
   pub disk : SameSectors old.disk new.disk
 
+-- nothing that is appended leaves a text as it was
+append_nothing : (text : Option (List ℕ)) → append_known text [] ≡ text
+append_nothing None = refl
+append_nothing (Some xs) = ap (λ (l : List ℕ). Some l) (append-nil xs)
+
 leaves : (old new : Outside) (text : List ℕ) → Unchanged old new → new.sink.text ≡ append_known old.sink.text text → Leaves old new text
 leaves old new text same e = record { printed = e; files = same.files; disk = same.disk }
 
 pub nothing : (old new : Outside) → Unchanged old new → new.sink.text ≡ old.sink.text → Leaves old new []
-nothing old new same e = leaves old new [] same (e ∙ sym (append_known-nil old.sink.text))
+nothing old new same e = leaves old new [] same (e ∙ sym (append_nothing old.sink.text))
 
 -- a row was said, as far as the sink took it
 pub row_said : (stated status : Status) (row : List ℕ) (old new : Outside) → Unchanged old new → (status ≡ stated) ⊎ (status ≡ Sink) → (status ≡ stated → new.sink.text ≡ append_known old.sink.text row)

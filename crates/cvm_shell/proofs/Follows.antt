@@ -15,7 +15,7 @@ use Rattle.layer_contract.specs.declared.boot.Boot.{Boot as Booted}
 use Rattle.kernel_linker.specs.Accept.{System, system_of, stored, Answers, ◌>>=◌, accept_answer}
 use Rattle.kernel_linker.specs.Linked.{linked, map_for, pages_for, sizes_of}
 use Rattle.kernel_linker.specs.declared.fault.AcceptFault.{AcceptFault}
-use Rattle.kernel_linker.proofs.AcceptSteps.{spelled_params, spelled_users, spelled_sizes}
+use Rattle.kernel_linker.specs.Laws.{Fits, SpelledImagesFit}
 use Rattle.kernel_runs.specs.Follows.{IsWhole, user_words}
 
 -- a system is that of an image: its parameters and users, and the words that they are linked to with its unit
@@ -52,23 +52,30 @@ joined : (layer : Map → List ℕ → List ℕ) (u : CUnit) (p : Params) (users
 unfolding linked
 joined layer u p users = ap (λ (n : ℕ). layer (map_for u p n) (sizes_of users) ++ unit_words u) (length-map users (λ (words : List ℕ). pages_for (length words)))
 
-pub whole : {X : Type 0} (layer : Map → List ℕ → List ℕ) (view : X → System) (r : Result Image ImageFault) (a : X) (b : Booted) (image sizes : List ℕ) (m : Map)
+-- the users of a system are as short as those of its image
+short_in : (layer : Map → List ℕ → List ℕ) (i : Image) (s : System) → Fits i → IsOf layer i s → All (λ words. length words ≤ min 65536 (1024 * s.params.pages)) s.users
+short_in layer i s fits of_image =
+    subst (λ (p : Params). All (λ words. length words ≤ min 65536 (1024 * p.pages)) s.users) (sym of_image.params)
+    (subst (λ (us : List (List ℕ)). All (λ words. length words ≤ min 65536 (1024 * i.params.pages)) us) (sym of_image.users) fits.short)
+
+pub whole : SpelledImagesFit → {X : Type 0} (layer : Map → List ℕ → List ℕ) (view : X → System) (r : Result Image ImageFault) (a : X) (b : Booted) (image sizes : List ℕ) (m : Map)
     → ((i : Image) → r ≡ Ok i → IsInRange i) → Answers layer view r (Ok a) → view a ≡ system_of b → IsChecked (unit_view b.unit)
     → m ≡ map_for (unit_view b.unit) b.params (length b.users.items) → sizes ≡ sizes_of (user_words b) → image ≡ layer m sizes → IsWhole image sizes m b
-whole layer view r a b image sizes m range h same checked map_is sizes_are image_is =
+whole law layer view r a b image sizes m range h same checked map_is sizes_are image_is =
     let found = answered layer view r a range h in
     let of_image : IsOf layer found.0 (system_of b) = subst (λ (s : System). IsOf layer found.0 s) same found.2 in
-    let users : length found.0.users ≤ 64 = spelled_users found.0 found.1.spelled in
+    let fits : Fits found.0 = law found.0 found.1.spelled in
+    let users : length found.0.users ≤ 64 = fits.few in
     let count : length (user_words b) ≡ length b.users.items = length-map b.users.items (λ u. u.items) in
     let made : layer m sizes ≡ layer (map_for (unit_view b.unit) b.params (length (user_words b))) (sizes_of (user_words b)) =
     ap (λ (n : Map). layer n sizes) (map_is ∙ ap (λ (n : ℕ). map_for (unit_view b.unit) b.params n) (sym count)) ∙ ap (layer (map_for (unit_view b.unit) b.params (length (user_words b)))) sizes_are in
     record {
       checked = checked;
-      params = subst ParamsInRange (sym of_image.params) (spelled_params found.0 found.1.spelled);
+      params = subst ParamsInRange (sym of_image.params) fits.params;
       few_users = let n : length (user_words b) ≡ length found.0.users = ap (λ (us : List (List ℕ)). length us) of_image.users in omega (arith, n, users, count);
       map_is = map_is;
       sizes_are = sizes_are;
       linked = of_image.words ∙ (joined layer (unit_view b.unit) b.params (user_words b) ∙ ap (λ (ws : List ℕ). ws ++ unit_words (unit_view b.unit)) (sym (image_is ∙ made)));
-      short_users = has_room b.params.pages (user_words b) (spelled_sizes found.0 b.params (user_words b) found.1.spelled (sym of_image.params) (sym of_image.users));
+      short_users = has_room b.params.pages (user_words b) (short_in layer found.0 (system_of b) fits of_image);
       words = subst (λ (us : List (List ℕ)). All AreWords us) (sym of_image.users) found.1.user_bits;
     }

@@ -6,11 +6,10 @@ use Rattle.cvm_outside.specs.Told.{TOO_LONG, Tells}
 use Rattle.layer_map.specs.Map.{Map}
 use Rattle.layer_map.specs.declared.params.Params.{Params}
 use Rattle.c0_tree.specs.Tree.{CUnit}
-use Rattle.c0_types.specs.Front.{IsAnswer, IsFaultOf, IsFirstFault}
+use Rattle.c0_types.specs.Front.{IsAnswer}
 use Rattle.c0_types.specs.declared.source_fault.SourceFault.{SourceFault}
-use Rattle.c0_types.specs.declared.source_fault.SourceFault.TheVariants.{Reading, Typing}
+use Rattle.c0_types.specs.declared.source_fault.SourceFault.TheVariants.{Reading}
 use Rattle.c0_parser.specs.declared.fault.ReadFault.TheVariants as read
-use Rattle.c0_types.specs.declared.fault.TypeFault.TheVariants as typing
 use Rattle.boot_image.specs.Parts.{Parts as Image}
 use Rattle.boot_image.specs.Format.{spelling as image_bytes}
 use Rattle.boot_image.specs.Reading.{answer as image_of}
@@ -40,11 +39,9 @@ use Rattle.cvm_shell.specs.Views.{IfRefused, IfPlan}
 use Rattle.cvm_shell.proofs.Plans.{got_whole, if_refused, if_plan}
 use Rattle.cvm_shell.proofs.AcceptedAs.{linked_system, accepted_as}
 use Rattle.cvm_shell.proofs.GotFiles.{fetched_plan}
+use Rattle.cvm_shell.proofs.Fronts.{OneAnswer, IsWant, answer_or_memory, one_fault, not_both}
 
--- LINKING: a source has one answer.
-
-abbrev pub OneAnswer : Type 0
-OneAnswer = (source : List ℕ) (a b : Result CUnit SourceFault) → IsAnswer source a → IsAnswer source b → a ≡ b
+-- LINKING
 
 abbrev pub Layers : Type 0
 Layers = Map → List ℕ → List ℕ
@@ -77,36 +74,10 @@ plan_answered : OneAnswer → (layer : Layers) (name : List ℕ) (o : Object) (p
     → IsPlan ⊤ (AfterParts layer name o p us) (linked_plan name (link_answer layer o p us front))
 plan_answered one layer name o p us front is = record { comes = answered front is; only = λ t q h. only_answered one layer name o p us front is q h }
 
--- a fault of a source is want of memory, or its first fault
-first_or_memory : (source : List ℕ) (f : SourceFault) → IsFaultOf source f → (link_source_fault f ≡ linking.Memory) ⊎ IsFirstFault source f
-first_or_memory source (Reading read.Memory) is = inl refl
-first_or_memory source (Reading (read.BadByte at)) is = inr (record { fault = is; read = λ e. cc; typed = λ e. cc })
-first_or_memory source (Reading (read.BadNumber at)) is = inr (record { fault = is; read = λ e. cc; typed = λ e. cc })
-first_or_memory source (Reading (read.Unexpected at)) is = inr (record { fault = is; read = λ e. cc; typed = λ e. cc })
-first_or_memory source (Reading (read.TooNested at)) is = inr (record { fault = is; read = λ e. cc; typed = λ e. cc })
-first_or_memory source (Reading read.SourceTooLong) is = inr (record { fault = is; read = λ e. cc; typed = λ e. cc })
-first_or_memory source (Typing typing.Memory) is = inl refl
-first_or_memory source (Typing (typing.UnknownName s)) is = inr (record { fault = is; read = λ e. cc; typed = λ e. cc })
-first_or_memory source (Typing (typing.NameTwice s)) is = inr (record { fault = is; read = λ e. cc; typed = λ e. cc })
-first_or_memory source (Typing (typing.WrongType s)) is = inr (record { fault = is; read = λ e. cc; typed = λ e. cc })
-first_or_memory source (Typing (typing.WrongCount s)) is = inr (record { fault = is; read = λ e. cc; typed = λ e. cc })
-first_or_memory source (Typing (typing.NotAPlace s)) is = inr (record { fault = is; read = λ e. cc; typed = λ e. cc })
-first_or_memory source (Typing (typing.LocalAddress s)) is = inr (record { fault = is; read = λ e. cc; typed = λ e. cc })
-first_or_memory source (Typing (typing.StructHoldsItself s)) is = inr (record { fault = is; read = λ e. cc; typed = λ e. cc })
-first_or_memory source (Typing (typing.TooDeep s)) is = inr (record { fault = is; read = λ e. cc; typed = λ e. cc })
-first_or_memory source (Typing (typing.TooManyNodes s)) is = inr (record { fault = is; read = λ e. cc; typed = λ e. cc })
-first_or_memory source (Typing (typing.UnitTooLarge s)) is = inr (record { fault = is; read = λ e. cc; typed = λ e. cc })
-first_or_memory source (Typing (typing.GlobalsTooLarge s)) is = inr (record { fault = is; read = λ e. cc; typed = λ e. cc })
-first_or_memory source (Typing (typing.NoDispatch s)) is = inr (record { fault = is; read = λ e. cc; typed = λ e. cc })
-first_or_memory source (Typing (typing.AsmNotAllowed s line)) is = inr (record { fault = is; read = λ e. cc; typed = λ e. cc })
-first_or_memory source (Typing (typing.TooManyParameters s)) is = inr (record { fault = is; read = λ e. cc; typed = λ e. cc })
-first_or_memory source (Typing (typing.TypeTooLarge s)) is = inr (record { fault = is; read = λ e. cc; typed = λ e. cc })
-first_or_memory source (Typing (typing.EmptyArray s)) is = inr (record { fault = is; read = λ e. cc; typed = λ e. cc })
-
--- what the front came to, where it is not want of memory
-pub answer_or_memory : (source : List ℕ) (front : Result CUnit SourceFault) → Comes source front → ((f : SourceFault) × (front ≡ Err f) × (link_source_fault f ≡ linking.Memory)) ⊎ IsAnswer source front
-answer_or_memory source (Ok u) is = inr is
-answer_or_memory source (Err f) is = elim (first_or_memory source f is) [ inl e ↦ inl (f, refl, e) | inr h ↦ inr h ]
+-- want of memory for a source is that for linking
+pub memory_of : (f : SourceFault) → IsWant f → link_source_fault f ≡ linking.Memory
+memory_of f (inl e) = ap link_source_fault e
+memory_of f (inr e) = ap link_source_fault e
 
 -- a fault of linking is want of memory, or it is refused
 pub link_stops : (f : LinkFault) → (f ≡ linking.Memory) ⊎ ((f ≢ linking.Memory) × (link_stop f ≡ Stops.Refused (by.Unlinked f)))
@@ -119,20 +90,14 @@ link_stops (linking.ObjectForgedCount n m) = inr (λ e. cc, refl)
 link_stops (linking.ObjectForged n m k) = inr (λ e. cc, refl)
 link_stops linking.Memory = inl refl
 
-pub one_link_fault : {A : Type 0} (r : Result A LinkFault) (f g : LinkFault) → r ≡ Err f → r ≡ Err g → f ≡ g
-one_link_fault r f g a b = let e = sym a ∙ b in cc
-
-pub not_both : {A : Type 0} (r : Result A LinkFault) (x : A) (g : LinkFault) → r ≡ Ok x → r ≡ Err g → ⊥
-not_both r x g a b = let e = sym a ∙ b in cc
-
 -- a fault is refused, by whether the parts fit and by what the front came to
 refused_link : OneAnswer → (layer : Layers) (name : List ℕ) (o : Object) (p : Params) (us : List (List ℕ)) (front : Result CUnit SourceFault) (f : LinkFault) (fit : Result (Unit {0}) LinkFault)
     → fitting p us ≡ fit → f ≢ linking.Memory → Comes o.source front → link_answer layer o p us front ≡ Err f → IsPlan ⊤ (AfterParts layer name o p us) (refuses (unlinked f))
 refused_link one layer name o p us front f (Err g) e named comes a =
-    let same : g ≡ f = one_link_fault (link_answer layer o p us front) g f (unfit_answers layer o p us front g e) a in
+    let same : g ≡ f = one_fault (link_answer layer o p us front) g f (unfit_answers layer o p us front g e) a in
     subst (λ (x : LinkFault). IsPlan ⊤ (AfterParts layer name o p us) (refuses (unlinked x))) same (plan_unfit layer name o p us g e)
 refused_link one layer name o p us front f (Ok u) e named comes a = elim (answer_or_memory o.source front comes) [
-  | inl h ↦ absurd (named (sym (one_link_fault (link_answer layer o p us front) (link_source_fault h.0) f (subst (λ (x : Result CUnit SourceFault). link_answer layer o p us x ≡ Err (link_source_fault h.0)) (sym h.1) (no_unit layer o p us h.0 e)) a) ∙ h.2))
+  | inl h ↦ absurd (named (sym (one_fault (link_answer layer o p us front) (link_source_fault h.0) f (subst (λ (x : Result CUnit SourceFault). link_answer layer o p us x ≡ Err (link_source_fault h.0)) (sym h.1) (no_unit layer o p us h.0 e)) a) ∙ memory_of h.0 h.2))
   | inr is ↦ subst (λ (x : Result Image LinkFault). IsPlan ⊤ (AfterParts layer name o p us) (linked_plan name x)) a (plan_answered one layer name o p us front is)
 ]
 

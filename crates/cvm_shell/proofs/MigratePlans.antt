@@ -22,7 +22,8 @@ use Rattle.cvm_shell.specs.Stages.{accept_stop, IsMigratePlan}
 use Rattle.cvm_shell.specs.Views.{IfRefused, IfPlan}
 use Rattle.cvm_shell.proofs.Plans.{got_whole, if_plan}
 use Rattle.cvm_shell.proofs.AcceptedAs.{linked_system, accepted_as}
-use Rattle.cvm_shell.proofs.Answered.{OneAnswer, Faulty, only_answered, image_answered, image_refused, accept_stops}
+use Rattle.cvm_shell.proofs.Fronts.{OneAnswer}
+use Rattle.cvm_shell.proofs.Answered.{Faulty, only_answered, image_answered, image_refused, accept_stops}
 
 abbrev Layers : Type 0
 Layers = Map → List ℕ → List ℕ

@@ -35,7 +35,8 @@ use Rattle.cvm_shell.specs.Stages.{source_stop, link_stop}
 use Rattle.cvm_shell.specs.Views.{IfRefused, IfPlan}
 use Rattle.cvm_shell.proofs.Plans.{if_plan}
 use Rattle.cvm_shell.proofs.SourceStops.{unread_stops, mistyped_stops}
-use Rattle.cvm_shell.proofs.LinkPlans.{OneAnswer, Layers, unfit_answers, no_unit, answer_or_memory, link_stops, one_link_fault, not_both}
+use Rattle.cvm_shell.proofs.Fronts.{OneAnswer, answer_or_memory, one_fault, not_both}
+use Rattle.cvm_shell.proofs.LinkPlans.{Layers, unfit_answers, no_unit, memory_of, link_stops}
 
 -- what comes of a source's one answer is the plan
 front_plan : OneAnswer → (layer : Layers) (session : Session) (parts : Sampled) (front : Result CUnit SourceFault) (p : Plan) → IsAnswer parts.source front
@@ -83,7 +84,7 @@ settled : OneAnswer → (layer : Layers) (o : Object) (p : Params) (us : List (L
     → fitting p us ≡ fit → IsUnitOf o.source u → Comes o.source front → r ≢ Err linking.Memory → link_answer layer o p us front ≡ r → link_answer layer o p us (Ok u) ≡ r
 settled one layer o p us u front r (Err g) e is comes named a = unfit_answers layer o p us (Ok u) g e ∙ sym (unfit_answers layer o p us front g e) ∙ a
 settled one layer o p us u front r (Ok x) e is comes named a = elim (answer_or_memory o.source front comes) [
-  | inl h ↦ absurd (named (sym a ∙ ap (link_answer layer o p us) h.1 ∙ no_unit layer o p us h.0 e ∙ ap (λ (f : LinkFault). Err f) h.2))
+  | inl h ↦ absurd (named (sym a ∙ ap (link_answer layer o p us) h.1 ∙ no_unit layer o p us h.0 e ∙ ap (λ (f : LinkFault). Err f) (memory_of h.0 h.2)))
   | inr answer ↦ ap (link_answer layer o p us) (one o.source (Ok u) front is answer) ∙ a
 ]
 
@@ -116,7 +117,7 @@ parts_link_fault one layer session parts source ps us u o front f is made comes 
 parts_link_fault one layer session parts source ps us u o front f is made comes (inr a) lent = elim (link_stops f) [
   | inl e ↦ subst (λ (x : LinkFault). IfRefused (IsPlan ⊤ (PartsPlan layer session parts)) (link_stop x)) (sym e) tt
   | inr h ↦ subst (IfRefused (IsPlan ⊤ (PartsPlan layer session parts))) (sym h.1)
-      (let e = settled_for one layer parts source ps us u o front (Err f) lent is made comes (λ m. h.0 (one_link_fault (Err f) f linking.Memory refl m)) a in
+      (let e = settled_for one layer parts source ps us u o front (Err f) lent is made comes (λ m. h.0 (one_fault (Err f) f linking.Memory refl m)) a in
       front_plan one layer session parts (Ok u) (refuses (unlinked f)) (own_unit parts source ps us u lent is)
       (subst (λ (r : Result Image LinkFault). IsPlan ⊤ (AfterLinking layer session parts.schedule r) (refuses (unlinked f))) (sym e) (record { comes = refl; only = λ told q d. d })))
 ]

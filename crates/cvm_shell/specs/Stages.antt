@@ -35,8 +35,10 @@ use Rattle.cvm_shell.specs.declared.refusal.Refusal.TheVariants as refusal
 use Rattle.cvm_shell.specs.declared.status.Status.{Status}
 use Rattle.std.specs.Global.{Vec}
 use Rattle.cvm_shell.specs.declared.boot.Session.{Session}
-use Rattle.cvm_shell.specs.Command.{Boot, CompileUser, CompileKernel, Link, Migrate, Command, boot, compile_user, compile_kernel, link as link_command, migrate, IsSample, IsCommand}
+use Rattle.cvm_shell.specs.Command.{Boot, CompileUser, CompileKernel, Link, Migrate, Command, boot, compile_user, compile_kernel, link as link_command, migrate, IsSample, IsCommand, command_of}
 use Rattle.cvm_shell.specs.Plan.{Plan, puts, boots, BootPlan, UserPlan, KernelPlan, LinkPlan, MigratePlan, SamplePlan, GetsTold, IsPlan, words_from}
+use Rattle.boot_turns.specs.declared.answers.View.{View}
+use Rattle.cvm_shell.specs.Views.{IfPlan}
 use Rattle.cvm_shell.specs.Outside.{Drive, Files, Outside}
 use Rattle.cvm_shell.specs.Boot.{booted, RunEnds}
 use Rattle.cvm_shell.specs.Outcome.{CommandEnds}
@@ -119,8 +121,8 @@ abbrev pub EndsAs : {A : Type 0} → Command → (Drive → A → Outside) → S
 EndsAs c see status old new = (words : List (List ℕ)) (disk : Drive) → IsCommand words c → CommandEnds words status (see disk old) (see disk new)
 
 -- how a boot or a trace ends, which may change the disk
-abbrev pub BootEndsAs : {A : Type 0} → Command → (A → Outside) → Status → (old new : A) → Type 0
-BootEndsAs c see status old new = (words : List (List ℕ)) → IsCommand words c → CommandEnds words status (see old) (see new)
+abbrev pub BootEndsAs : {A : Type 0} → Boot → View → (A → Outside) → Status → (old new : A) → Type 0
+BootEndsAs b view see status old new = (words : List (List ℕ)) → IsCommand words (command_of b view) → CommandEnds words status (see old) (see new)
 
 -- how a sample ends, whatever the files, which it leaves alone
 abbrev pub SampleEndsAs : {A : Type 0} → (number : ℕ) → (Files → A → Outside) → Status → (old new : A) → Type 0
@@ -147,6 +149,10 @@ linkable c object = puts c.object object.items
 
 abbrev pub linked_to : Link → Vec ℕ → Plan
 linked_to l image = puts l.image image.items
+
+-- parts of a system come to the plan of every command that links them, where nothing else stopped it
+abbrev pub LinksTo : (Link → Plan → Type 0) → Result (Vec ℕ) Stop → Type 0
+LinksTo Comes result = (l : Link) → IfPlan (linked_to l) (IsPlan ⊤ (Comes l)) result
 
 abbrev pub renewed : Migrate → Vec ℕ → Plan
 renewed m image = puts m.image image.items

@@ -1,5 +1,5 @@
 -- Only for the contracts inside the crate: what they see of the enums and structs of the code, and of a stage that may stop.
-use Rattle.std.specs.Prelude.{ℕ, List, Result, MatchResult, ⊤}
+use Rattle.std.specs.Prelude.{◌≡◌, ◌≤◌, ℕ, List, Option, Result, MatchOption, MatchResult, decimal, ⊤}
 use Rattle.cvm_shell.specs.declared.status.Status.{Status}
 use Rattle.cvm_shell.specs.Command as command
 use Rattle.cvm_shell.specs.Refusal as refusal
@@ -17,6 +17,10 @@ use Rattle.cvm_shell.specs.declared.refusal.Refusal.{Refusal}
 use Rattle.cvm_shell.specs.declared.refusal.Refusal.TheVariants.{BadText, BadSource, BadObject, BadFile, Unlinked, Unaccepted, BadSchedule, SmallDisk, NoSuchUser, TooLong}
 use Rattle.cvm_shell.specs.declared.boot.Stop.{Stop}
 use Rattle.cvm_shell.specs.declared.boot.Stop.TheVariants.{Refused, Shelf, Memory}
+
+-- the number of a user, 1 to 64, that a text is the decimal spelling of, or none
+abbrev pub IsUserNumber : (text : List ℕ) → Option ℕ → Type 0
+IsUserNumber text found = MatchOption found ((n : ℕ) → 1 ≤ n → n ≤ 64 → text ≡ decimal n → ⊥) (λ n. (text ≡ decimal n) × (1 ≤ n) × (n ≤ 64))
 
 -- a boot, with its names as lists of bytes
 abbrev pub boot_view : Boot → command.Boot

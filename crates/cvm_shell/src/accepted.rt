@@ -6,6 +6,7 @@ ghost use Rattle.kernel_linker.specs.Accept.{Answers, system_of};
 ghost use Rattle.layer_contract.specs.Boots.{BootFollows};
 
 use boot_image::images_are_their_spellings;
+use kernel_linker::laws::spelled_images_fit;
 use kernel_linker::{AcceptFault, Accepted, accept};
 use kernel_runs::follows::linked_boots_follow;
 use layer_contract::LayerMaker;
@@ -22,6 +23,7 @@ pub fn accept_image<M: LayerMaker>(alloc: Global, bytes: &[u8]) -> Result<Accept
 {
     linked_boots_follow();
     images_are_their_spellings();
+    spelled_images_fit();
     let accepted = accept::<M>(alloc, bytes)?;
     accepted.layer.keeps_laws();
     let _unit = accepted.boot.unit.unit();

@@ -1,7 +1,7 @@
 // The words of a command.
 ghost use Rattle.std.specs.Prelude.{◌≡◌, ◌<◌, ◌≤◌, ◌^◌, ℕ, IfSome, IfNone, MatchOption, decimal, Some, option_map};
 ghost use Rattle.cvm_shell.specs.Command as command;
-ghost use Rattle.cvm_shell.specs.Views.{boot_view, trace_view, user_view, kernel_view, link_view, migrate_view, sample_view, command_view};
+ghost use Rattle.cvm_shell.specs.Views.{boot_view, trace_view, user_view, kernel_view, link_view, migrate_view, sample_view, command_view, IsUserNumber};
 
 use cvm_text::{read_decimal, spelled_numbers_are_read};
 
@@ -298,7 +298,7 @@ fn read_turns(text: &str) -> Option<u32>
 
 // The number of a user, 1 to 64, that a text is the decimal spelling of.
 fn read_user(text: &str) -> Option<u32>
-    ensures { MatchOption result ((n : ℕ) → 1 ≤ n → n ≤ 64 → text.now ≡ decimal n → ⊥) (λ n. (text.now ≡ decimal n) × (1 ≤ n) × (n ≤ 64)) }
+    ensures { IsUserNumber text.now result }
 {
     let number = read_number(text)?;
     if number == 0 {

@@ -122,7 +122,7 @@ fn run_boot<S: Shelf, O: Sink, D: Sectors>(
     disk: &mut D,
 ) -> Status
     requires { 1 ≤ (boot_view boot.now).turns }
-    ensures ends { BootEndsAs (command.command_of (boot_view boot.now) view) (seen S.Shelf O.Sink D.Sectors) result (shelf.old, out.old, disk.old) (shelf.new, out.new, disk.new) }
+    ensures ends { BootEndsAs (boot_view boot.now) view (seen S.Shelf O.Sink D.Sectors) result (shelf.old, out.old, disk.old) (shelf.new, out.new, disk.new) }
     ensures causes { Causes (seen S.Shelf O.Sink D.Sectors) result (shelf.old, out.old, disk.old) (shelf.new, out.new, disk.new) }
 {
     let session = Session {

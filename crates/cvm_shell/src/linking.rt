@@ -1,11 +1,10 @@
 // The image of a system: its object, parameters and users, read and linked.
-ghost use Rattle.std.specs.Prelude.{◌≡◌, ◌≢◌, ◌↔◌, ⊤, ℕ, List, map, IfOk, IfErr, IsErrOf};
+ghost use Rattle.std.specs.Prelude.{◌≡◌, ◌≢◌, ◌↔◌, ℕ, List, map, IfOk, IfErr, IsErrOf};
 ghost use Rattle.cvm_outside.specs.Told.{TOO_LONG};
-ghost use Rattle.cvm_shell.specs.Command as Command;
 ghost use Rattle.cvm_shell.specs.Command.{texts};
 ghost use Rattle.cvm_shell.specs.Linked.{IsAcceptedAs, AreAcceptedAs, LinkIsAccepted};
-ghost use Rattle.cvm_shell.specs.Plan.{AfterParts, AfterSystem, IsPlan};
-ghost use Rattle.cvm_shell.specs.Stages.{object_stop, file_stop, link_stop, Fetched, NotFetched, AreWordsOf, PlanCounts, linked_to, IsLinkPlan};
+ghost use Rattle.cvm_shell.specs.Plan.{AfterParts, AfterSystem};
+ghost use Rattle.cvm_shell.specs.Stages.{object_stop, file_stop, link_stop, Fetched, NotFetched, AreWordsOf, PlanCounts, LinksTo, linked_to, IsLinkPlan};
 ghost use Rattle.cvm_shell.specs.Views.{link_view, IfPlan};
 
 use crate::boot::Stop;
@@ -100,7 +99,7 @@ fn linked_image<M: LayerMaker>(
     params: &[u8],
     users: &[Vec<u8>],
 ) -> Result<Vec<u8>, Stop>
-    ensures comes { (l : Command.Link) → IfPlan (linked_to l) (IsPlan ⊤ (AfterSystem M.made l.image object.now params.now (map (λ b. b.items) users.now))) result }
+    ensures comes { LinksTo (λ l. AfterSystem M.made l.image object.now params.now (map (λ b. b.items) users.now)) result }
     ensures accepted { IfOk result (λ v. AreAcceptedAs M.made object.now params.now (map (λ b. b.items) users.now) v.items) }
     ensures inside { IfErr result (λ s. s ≢ Stop.Shelf) }
     ensures short { IsErrOf result (Stop.Refused Refusal.TooLong) → ⊥ }
@@ -135,7 +134,7 @@ fn image_of<M: LayerMaker>(
     params: &Params,
     users: &[Vec<u32>],
 ) -> Result<Vec<u8>, Stop>
-    ensures comes { (l : Command.Link) → IfPlan (linked_to l) (IsPlan ⊤ (AfterParts M.made l.image object.now params.now (map (λ u. u.items) users.now))) result }
+    ensures comes { LinksTo (λ l. AfterParts M.made l.image object.now params.now (map (λ u. u.items) users.now)) result }
     ensures accepted { IfOk result (λ v. IsAcceptedAs M.made object.now.source params.now (map (λ u. u.items) users.now) v.items) }
     ensures inside { IfErr result (λ s. s ≢ Stop.Shelf) }
     ensures short { IsErrOf result (Stop.Refused Refusal.TooLong) → ⊥ }

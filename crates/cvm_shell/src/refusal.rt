@@ -1,7 +1,8 @@
 // The refusals, with the row and the status of each.
 ghost use Rattle.std.specs.Prelude.{◌≡◌, ◌≢◌, ◌≤◌, ◌+◌, ◌++◌, [], ◌∷◌, length, codes, decimal};
 ghost use Rattle.c0_types.specs.declared.source_fault.SourceFault.TheVariants.{Reading, Typing};
-ghost use Rattle.cvm_shell.specs.Refusal.{refusal_text, refusal_status, field_text, signed_field_text, start_of, end_of, text_fault_row, source_fault_row, object_fault_row, schedule_fault_row};
+ghost use Rattle.cvm_shell.specs.Refusal.{refusal_text, refusal_status, field_text, signed_field_text, start_of, end_of};
+ghost use Rattle.cvm_shell.specs.Refusal.{text_fault_row, source_fault_row, object_fault_row, schedule_fault_row};
 ghost use Rattle.cvm_shell.specs.Refusal as rows;
 ghost use Rattle.cvm_shell.specs.Views.{refusal_view};
 

@@ -1,7 +1,8 @@
--- What is linked is accepted.
-use Rattle.std.specs.Prelude.{◌≡◌, ℕ, List, Result, Ok}
+-- What is linked is accepted, and what an image that has a spelling is made of.
+use Rattle.std.specs.Prelude.{◌≡◌, ◌≤◌, ℕ, All, List, Result, Ok, length}
 use Rattle.layer_map.specs.declared.params.Params.{Params}
-use Rattle.layer_map.specs.Map.{Map}
+use Rattle.layer_map.specs.Map.{Map, ParamsInRange}
+use Rattle.boot_image.specs.Format.{HasSpelling, most_words}
 use Rattle.boot_image.specs.Parts.{Parts as Image}
 use Rattle.object_file.specs.Parts.{Parts as Object}
 use Rattle.c0_tree.specs.Tree.{CUnit}
@@ -22,3 +23,13 @@ pub record IsAccepted (layer : Map → List ℕ → List ℕ) (o : Object) (p : 
 abbrev pub LinkedAreAccepted : Type 0
 LinkedAreAccepted = (layer : Map → List ℕ → List ℕ) (o : Object) (p : Params) (users : List (List ℕ)) (front : Result CUnit SourceFault) (i : Image) →
     link_answer layer o p users front ≡ Ok i → IsAccepted layer o p users front i
+
+-- parameters in range, and users that are few and short enough
+pub record Fits (i : Image) : Type 0 where
+  pub params : ParamsInRange i.params
+  pub few : length i.users ≤ 64
+  pub short : All (λ words. length words ≤ most_words i.params.pages) i.users
+
+-- a law: an image that has a spelling is of such
+abbrev pub SpelledImagesFit : Type 0
+SpelledImagesFit = (i : Image) → HasSpelling i → Fits i

@@ -10,12 +10,13 @@ use Rattle.object_file.specs.Parts.{Parts as Object}
 use Rattle.c0_tree.specs.Tree.{CUnit}
 use Rattle.c0_unit.specs.Code.{unit_words}
 use Rattle.c0_types.specs.declared.source_fault.SourceFault.{SourceFault}
+use Rattle.kernel_linker.specs.Answers.{Comes, GivesUnless}
 use Rattle.kernel_linker.specs.Linked.{linked, sizes_of}
 use Rattle.kernel_linker.specs.Difference.{compared}
 use Rattle.kernel_linker.specs.declared.difference.Difference.{Difference}
 use Rattle.kernel_linker.specs.Fault.{link_source_fault, link_difference}
 use Rattle.kernel_linker.specs.declared.fault.LinkFault.{LinkFault}
-use Rattle.kernel_linker.specs.declared.fault.LinkFault.TheVariants.{UserCount, UserTooLong, Parameter}
+use Rattle.kernel_linker.specs.declared.fault.LinkFault.TheVariants.{UserCount, UserTooLong, Parameter, Memory}
 
 -- a step, and then another by its value
 infixl 10 ◌>>=◌
@@ -68,3 +69,7 @@ link_answer layer o p users front = do
   u ← unit_in front
   same ← unforged (compared o.words (unit_words u))
   Ok (record { params = p; form = 3; source = o.source; words = linked layer u p (sizes_of users); users = users })
+
+-- a result is the answer that is due, by what the front comes to on the object's source, or want of memory
+abbrev pub LinksBy : (layer : Map → List ℕ → List ℕ) → Object → Params → (users : List (List ℕ)) → Result Image LinkFault → Type 0
+LinksBy layer o p users result = (front : Result CUnit SourceFault) × Comes o.source front × GivesUnless Memory (λ i. i) result (link_answer layer o p users front)

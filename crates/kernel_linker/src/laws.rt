@@ -1,6 +1,6 @@
 //! What is known of linking and accepting: each function says a law, and does nothing.
 
-ghost use Rattle.kernel_linker.specs.Laws.{LinkedAreAccepted};
+ghost use Rattle.kernel_linker.specs.Laws.{LinkedAreAccepted, SpelledImagesFit};
 ghost use Rattle.kernel_linker.specs.Migrate.{MigratedAreAccepted, OldWordsAreIgnored};
 
 /// A law: what is linked is accepted, over the same layer.
@@ -16,4 +16,9 @@ pub fn migrated_images_are_accepted()
 /// A law: what is migrated does not depend on the old linked words.
 pub fn old_words_are_ignored()
     ensures { OldWordsAreIgnored }
+{}
+
+/// A law: an image that has a spelling has parameters in range, and users that are few and short enough.
+pub fn spelled_images_fit()
+    ensures { SpelledImagesFit }
 {}

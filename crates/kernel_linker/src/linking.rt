@@ -1,14 +1,10 @@
 // An object, parameters and users, linked to an image.
 
-ghost use Rattle.std.specs.Prelude.{◌≡◌, ◌+◌, ◌≤◌, All, length, map, Result, Err, IfOk};
+ghost use Rattle.std.specs.Prelude.{◌≡◌, ◌+◌, ◌≤◌, All, length, map, Err, IfOk};
 ghost use Rattle.layer_map.specs.Map.{ParamsInRange};
 ghost use Rattle.boot_image.specs.Format.{HasSpelling, most_words};
-ghost use Rattle.c0_tree.specs.Tree.{CUnit};
-ghost use Rattle.c0_types.specs.declared.source_fault.SourceFault.{SourceFault};
-ghost use Rattle.kernel_linker.specs.Answers.{Comes, GivesUnless};
-ghost use Rattle.kernel_linker.specs.Link.{counted, fitting, in_range, link_answer, measured, ranged};
+ghost use Rattle.kernel_linker.specs.Link.{LinksBy, counted, fitting, in_range, measured, ranged};
 ghost use Rattle.kernel_linker.specs.declared.fault.LinkFault.{LinkFault};
-ghost use Rattle.kernel_linker.specs.declared.fault.LinkFault.TheVariants.{Memory};
 
 use crate::difference::compare;
 use crate::fault::LinkFault;
@@ -116,7 +112,7 @@ pub fn link<M: LayerMaker>(
     users: &[Vec<u32>],
 ) -> Result<Image, LinkFault>
     // The answer that is due by what the front comes to on the source, or want of memory.
-    ensures is { (front : Result CUnit SourceFault) × Comes object.now.source front × GivesUnless Memory (λ i. i) result (link_answer M.made object.now params.now (map (λ u. u.items) users.now) front) }
+    ensures is { LinksBy M.made object.now params.now (map (λ u. u.items) users.now) result }
     // Users or parameters that don't fit are answered by their fault.
     ensures early { (f : LinkFault) → fitting params.now (map (λ u. u.items) users.now) ≡ Err f → result ≡ Err f }
     // The image can be written.
