@@ -5,7 +5,11 @@ usage: c0.py FILE..    prints, for each case of the files, what code_cases print
 
 A case is '== run H S C/D/U .. NAME' and a kernel: words of the heap and of the stack, and the arguments of dispatch for each call of it.
 Kernels are taken to be typed. Values are words; a pointer is ('g', k), ('h', k) or None.
+
+A case '== code NAME' has the kernel whose words stand in docs/COMPILER.md, and these are printed: those of its listing, and in place of its row for the
+routines the words of their instructions, which stand above it. The listing's words and addresses are compared with its instructions.
 """
+import os
 import re
 import sys
 
@@ -481,6 +485,35 @@ def run_case(rest, src):
     return out
 
 
+def page_words(lines):
+    """The words of instructions as docs/COMPILER.md writes them: behind two blanks stands what they do, and jumps name addresses."""
+    models = os.path.dirname(os.path.abspath(__file__))
+    text = open(os.path.join(models, 'cvm.py')).read()
+    names = dict(re=re, M=0xffffffff)
+    exec(compile(text[text.index('# ---- assembler of users'):text.index('# ---- the flat machine')], 'cvm.py', 'exec'), names)
+    rows = []
+    for line in lines:
+        op, rest = re.match(r'(\w+) +(.*?)(?: {2}|$)', line).groups()
+        rows.append('%s %s' % (op, int(rest, 0) // 4 if op in ('j', 'jal') else rest))
+    return names['assemble']('\n'.join(rows))
+
+
+def code_case(src):
+    page = open(os.path.join(os.path.dirname(os.path.abspath(__file__)), '..', '..', 'docs', 'COMPILER.md')).read()
+    blocks = [b.strip('\n').split('\n') for b in page[page.index('\n## A unit\n'):].split('```')[1::2]]
+    assert '\n'.join(blocks[2]) == src, 'no page has the words of this kernel'
+    out, at = [], 0x10000
+    for row in blocks[3]:
+        address, word, line = row[:8], row[9:17], row[19:]
+        assert int(address, 16) == at, row
+        words = page_words([line] if word.strip() else blocks[0] + blocks[1])
+        assert not word.strip() or int(word, 16) == words[0], row
+        for w in words:
+            out.append('%08x %08x' % (at, w))
+            at += 4
+    return out
+
+
 def unescape(text):
     # copies: `N part` and ~N part~ as in case_file
     for mark in '`~':
@@ -503,6 +536,9 @@ def main():
             print('== ' + head)
             if kind == 'run':
                 for line in run_case(rest, unescape(src)):
+                    print(line)
+            if kind == 'code':
+                for line in code_case(unescape(src)):
                     print(line)
 
 

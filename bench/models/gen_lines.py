@@ -114,18 +114,22 @@ def until(whole, *rows):
     return [whole[:whole.index('\n' + row) + 1] for row in rows]
 
 
-def failing(name, what, lefts, kernel, users, par, whole, status, words='boot img s %d %d' % (TURNS, STEPS)):
+def failing(name, what, lefts, kernel, users, par, whole, status, words='boot img s %d %d' % (TURNS, STEPS), after={}):
     """Runs in one world, of which each fails at the next of its own calls and leaves the next of these texts, and a last one that would fail
-    at one call more, and makes no such call."""
+    at one call more, and makes no such call. Behind those that `after` names stand the sectors that they leave; to show one is a call of the disk, too (so none
+    can be shown of a disk behind the last run)."""
     numbers, before = [], 0
     for call in range(len(lefts) + 1):
         numbers.append(str(before + call))
-        before += call + 1
+        before += call + 1 + (len(after.get(call, ())) if what == 'disk' else 0)
     schedules(name, kernel, users, par, 'sectors 64\nroom 1000000\n%s %s' % (what, ' '.join(numbers)))
-    for left in lefts:
+    for call, left in enumerate(lefts):
         assert whole.startswith(left) and left != whole, (name, left)
         run(words, left + (' ..' if left[-1:] not in ('', '\n') else ''), status)
+        sectors(after.get(call, ()))
     run(words, whole)
+    if what != 'disk':
+        sectors(after.get(len(lefts), ()))
 
 
 def taking(name, takes, calls, puts, kernel, users, par, words='boot img s %d %d' % (TURNS, STEPS)):
@@ -142,6 +146,16 @@ def taking(name, takes, calls, puts, kernel, users, par, words='boot img s %d %d
 
 
 # ---- a line at each part of turn 0 and of the first page fault
+FILES = True
+
+
+def kept(kernel, users, par=PARAMS):
+    """Shows that the files are as they were, and the sectors of the first pages, which no frame was taken from."""
+    kept_files(kernel, users, par, '')
+    if 'frames 8\n' in par:
+        first_sectors(users, 4)
+
+
 TAKEN = RESET + ' 1\nturn 1 cause 1 data 00000008 user 1 next 0\nhalted\nuser 1 pages 1 pc 00000000\nmem 00000000 0000000c\n'
 LATE = TAKEN.replace('cause 1 data 00000008', 'cause 6 data 0000000c').replace('pc 00000000', 'pc 00000004')
 schedules('a line at each part of turn 0 and of the first page fault', K1, ['syscall'])
@@ -149,6 +163,7 @@ for step in sorted(set(range(1, ONE_BEGINS, 97)) | {ONE_LEFT, ONE_LEFT + 1, ONE_
     line_at(step, 3, TAKEN)
 line_at(ONE_BEGINS + 1, 3, LATE)
 run('boot img s 1 %d' % (ONE_LEFT - 1), '', 4)
+kept(K1, ['syscall'])
 
 # ---- a second line while the first is handled
 CALLED = ('int n; int m; ' + HEAD
@@ -159,6 +174,7 @@ schedules('a second line while the first is handled', CALLED, ['syscall'])
 for step in sorted(set(range(CALLED_LEFT + 1, CALLED_BACK, 97)) | {CALLED_BACK}):
     part('file l', 'line 1 1\nline %d 2\n' % step)
     run('boot img l %d %d' % (TURNS, STEPS), TWICE)
+kept(CALLED, ['syscall'])
 
 # ---- messages: steps to the last, lines, and a sink that fails
 MESSAGES = [read('messages', n) for n in ('kernel.c0', 'user1.s', 'user2.s', 'user3.s')]
@@ -167,6 +183,7 @@ ROWS = WHOLE.split('\n')
 schedules('the example messages, to its last step', MESSAGES[0], MESSAGES[1:], read('messages', 'params'))
 run('boot img s %d %d' % (TURNS, MESSAGES_STEPS), WHOLE)
 run('boot img s %d %d' % (TURNS, MESSAGES_STEPS - 1), '\n'.join(ROWS[:3]), 4)
+kept(MESSAGES[0], MESSAGES[1:])
 
 FAIR_IF = 'if (!done[3]) { next = pick(user); }'
 assert FAIR_IF in MESSAGES[0]
@@ -187,12 +204,17 @@ def fair(text):
 schedules('forty lines', FAIR, MESSAGES[1:])
 part('file l', FORTY)
 checked('forty lines', 0, 'boot img l 100000 %d' % STEPS, WHOLE, fair, 0)
+kept(FAIR, MESSAGES[1:])
 
 
 # a row is one put, but for that of a global: its name is put by itself
 PUTS = [p for row in WHOLE.splitlines(True) for p in (re.findall('^global |[^ ]+(?= )|.*\n', row) if row.startswith('global') else [row])]
-failing('each call of the sink fails in turn', 'sink', before_each(PUTS), MESSAGES[0], MESSAGES[1:], PARAMS, WHOLE, 7)
+# the pages are written before the first row
+LOADED = [(4 * i, assemble(u)) for i, u in enumerate(MESSAGES[1:])] + [(n, []) for n in (1, 12)]
+failing('each call of the sink fails in turn', 'sink', before_each(PUTS), MESSAGES[0], MESSAGES[1:], PARAMS, WHOLE, 7, after={0: LOADED, 20: LOADED, len(PUTS): LOADED})
+kept(MESSAGES[0], MESSAGES[1:])
 taking('a sink that takes four bytes of a put that fails', 4, (0, 1, 4, 5, 6, 7, 8, 20, 33), PUTS, MESSAGES[0], MESSAGES[1:], PARAMS)
+kept(MESSAGES[0], MESSAGES[1:])
 
 # ---- four pages over two frames, and a disk that fails
 FOUR = 'bool b; ' + HEAD + ' { int next; if (cause == 0) { b = vm_resize(1, 4); next = 1; } return next; }'
@@ -201,7 +223,10 @@ FOUR_TEXT = model(FOUR, PAGES, params(frames=2), '', TURNS)
 
 # three pages are loaded. Pages 0 and 1 are read; 0 is written and 2 read, 1 is written and 0 read, 2 is written and its frame given to page 3, which
 # is fresh; and the report reads pages 1 and 2
-failing('each call of the disk fails in turn', 'disk', [''] * 3 + [RESET + ' 1\n'] * 7 + until(FOUR_TEXT, 'mem 00001000', 'mem 00002000'), FOUR, PAGES, params(frames=2), FOUR_TEXT, 5)
+HELD = [(i, assemble(PAGES[0])[1024 * i:1024 * (i + 1)]) for i in range(4)]
+failing('each call of the disk fails in turn', 'disk', [''] * 3 + [RESET + ' 1\n'] * 7 + until(FOUR_TEXT, 'mem 00001000', 'mem 00002000'), FOUR, PAGES, params(frames=2), FOUR_TEXT, 5,
+        after={n: HELD[:n] + [(i, []) for i in range(n, 4)] for n in range(4)} | {n: HELD for n in (5, 7, 9, 11)})
+kept(FOUR, PAGES, params(frames=2))
 
 # ---- a line at steps of products and quotients
 KEPT = 'int x; ' + HEAD + ' { int next; x = 100 / (cause + 3); if (cause < 2) { next = 1; } return next; }'
@@ -212,6 +237,7 @@ for step in (PRODUCTS_LEFT, (PRODUCTS_LEFT + PRODUCTS_BEGINS) // 2):
 for turn in range(1, 8):
     line_at(PRODUCTS_BEGINS + turn - 1, 5, model_lines(KEPT, PRODUCTS, PARAMS, '', TURNS, [(str(turn), '20')]))
 line_at(PRODUCTS_BEGINS + 7, 5, model(KEPT, PRODUCTS, PARAMS, '', TURNS))
+kept(KEPT, PRODUCTS)
 
 NOTE = '''Lines at chosen steps, steps that are spent, and calls that fail. Written by bench/models/gen_lines.py.
 

@@ -3,10 +3,11 @@
 
 usage: gen_rows.py CASES STDOUT   writes the cases to the file CASES and what the program prints of them to STDOUT
 
-What a boot prints is worked out by hand, or by the abstract machine of boot.py where the row says `model`. Nothing here is taken from the
-program's own answers.
+What a boot prints is worked out by hand, or by the abstract machine of boot.py where the row says `model`. What files hold is worked out from
+docs/FORMATS.md: users' images by the assembler of cvm.py, numbers of words by code_words.py. Nothing here is taken from the program's own answers.
 """
 import os
+import re
 import subprocess
 import sys
 import tempfile
@@ -19,6 +20,15 @@ TURNS, STEPS = 1000, 100000000
 ROOM = 400000
 
 cases, told = [], []
+FILES = False       # whether systems show their files
+
+names = dict(__file__=os.path.join(HERE, 'code_words.py'), re=re)
+source = open(names['__file__']).read()
+exec(compile(source[:source.index('\nif __name__ ==')], 'code_words.py', 'exec'), names)
+code_words = names['code_words']
+source = open(os.path.join(HERE, 'cvm.py')).read()
+exec(compile(source[source.index('# ---- assembler of users'):source.index('# ---- the flat machine')], 'cvm.py', 'exec'), names)
+assemble = names['assemble']
 
 
 def part(head, body=''):
@@ -64,6 +74,66 @@ def begin(name, options=''):
     part('case ' + name, options)
 
 
+def spelled(data):
+    """Bytes as the program shows them."""
+    return ''.join(chr(b) if 0x20 <= b <= 0x7e and b != 0x5c else '\\x%02x' % b for b in data)
+
+
+def placed(text):
+    """The bytes of a file that a case places: its last LF is the case's."""
+    return text.rstrip('\n').encode()
+
+
+def little(words):
+    return b''.join((w & 0xffffffff).to_bytes(4, 'little') for w in words)
+
+
+def head(kernel, users, par):
+    """The fields of an image of form 3: words 0 to 8, and those of each user."""
+    given = [int(line.split()[1]) for line in par.split('\n')[:4]]
+    sizes = [len(assemble(u)) for u in users]
+    return b'CVMI' + little([3, len(users)] + given + [len(placed(kernel)), 16384 + code_words(kernel)] + sizes)
+
+
+def shows(name, data):
+    part('show ' + name)
+    told.append(spelled(data))
+
+
+def parts(name, data, at=0):
+    """Shows bytes of a file, which are these."""
+    part('part %s %d %d' % (name, at, len(data)))
+    told.append(spelled(data))
+
+
+def objects(name, kernel):
+    """Reads an object back, which is that of this kernel."""
+    part('object ' + name)
+    told.extend(['source ' + spelled(placed(kernel)), 'words %d' % code_words(kernel)])
+
+
+def put_files(kernel, users, par, image='img'):
+    """Shows what the commands put: users of few words whole, the first words of others, and the image's fields."""
+    for i, u in enumerate(users):
+        words = assemble(u)
+        if len(words) <= 16:
+            shows('u%d' % (i + 1), little(words))
+        else:
+            parts('u%d' % (i + 1), little(words[:8]))
+    parts(image, head(kernel, users, par))
+
+
+def kept_files(kernel, users, par, schedule, image='img'):
+    """Shows files that a run leaves as they were."""
+    parts(image, head(kernel, users, par))
+    shows('s', placed(schedule))
+
+
+def first_sectors(users, pages, which=None):
+    """Shows the sectors of the first pages of users, or of these, which hold the words that they start with."""
+    sectors([(i * pages, assemble(u)[:1024]) for i, u in enumerate(users) if which is None or i + 1 in which])
+
+
 def system(kernel, users=(), par=PARAMS, schedule='', image='img'):
     """Compiles and links a system."""
     part('file k', kernel)
@@ -72,6 +142,8 @@ def system(kernel, users=(), par=PARAMS, schedule='', image='img'):
     for i, u in enumerate(users):
         part('file a%d' % (i + 1), u)
     build(len(users), image)
+    if FILES:
+        put_files(kernel, users, par, image)
 
 
 def build(users, image='img'):
@@ -98,13 +170,19 @@ def unchanged(name, room=ROOM):
         told.append('\\x00' * min(count, room - at))
 
 
-def boots(name, kernel, users=(), par=PARAMS, schedule='', turns=TURNS, steps=STEPS, text=None, status=0, options='sectors 64'):
-    """A system that is made and booted: it prints this text, or what the model says."""
+def boots(name, kernel, users=(), par=PARAMS, schedule='', turns=TURNS, steps=STEPS, text=None, status=0, options='sectors 64',
+          still=None):
+    """A system that is made and booted: it prints this text, or what the model says. The first sectors of users are shown where they have to stay as
+    they are at the start: of all users where no frame is taken from a page, else of those `still` users whose first page has no store."""
     begin(name, options)
     system(kernel, users, par, schedule)
     if text is None:
         text = model(kernel, users, par, schedule, turns)
     run('boot img s %d %d' % (turns, steps), text, status)
+    kept_files(kernel, users, par, schedule)
+    if still is None and 'alter' not in options and int(re.search(r'frames (\d+)', par).group(1)) >= 4 * len(users):
+        still = range(1, len(users) + 1)
+    first_sectors(users, 4, still or ())
 
 
 RESET = 'turn 0 cause 0 data 00000000 user 0 next'
@@ -125,9 +203,12 @@ def alone(name, source, text, status=0, turns=TURNS, steps=STEPS, options='secto
     raw('file img', source_image(source))
     part('file s')
     run('boot img s %d %d' % (turns, steps), text, status)
+    shows('img', b'CVMI' + little([1, len(source)]) + source.encode())
+    sectors([(0, [])])
 
 
 # ---- kernels with no users
+FILES = True
 alone('a source alone, with one global', FIRST, RESET + ' 0\nhalted\nglobal x -3\n')
 alone('a source alone, with none', HEAD + ' { return 0; }', RESET + ' 0\nhalted\n')
 alone('sums wrap', FIRST.replace('2 - 5', '2147483647 + 1'), RESET + ' 0\nhalted\nglobal x -2147483648\n')
@@ -202,10 +283,11 @@ mem 00001008 0000000c
 for frames in (2, 3, 16384):
     boots('a store into a page that shares its frame, of %d' % frames, 'bool b; ' + HEAD
           + ' { int next; if (cause == 0) { b = vm_resize(1, 2); b = vm_copy(1, 0, 1, 4096, 1024); next = 1; } return next; }',
-          ['ori r1, r0, 5\nsw r1, 4096(r0)\nsyscall\n'], params(frames=frames), text=ALIASED)
+          ['ori r1, r0, 5\nsw r1, 4096(r0)\nsyscall\n'], params(frames=frames), text=ALIASED, still=[1])
 boots('words are copied to another user, and not over themselves', 'bool b; bool c; ' + HEAD
       + ' { b = vm_copy(1, 4088, 2, 0, 4); c = vm_copy(1, 4088, 1, 4096, 4); return 0; }',
-      ['syscall\n.zero 1021\n.word 11\n.word 12\n.word 13\n.word 14\n', 'syscall\n'], params(frames=2))
+      ['syscall\n.zero 1021\n.word 11\n.word 12\n.word 13\n.word 14\n', 'syscall\n'], params(frames=2), still=[1])
+sectors([(1, [13, 14])])
 boots('bad calls and a memory cut away', 'int g; int w; bool s; bool t; ' + HEAD
       + ' { g = vm_get(9, 1); w = vm_word(1, 2); s = vm_set(1, 0, 5); t = vm_resize(1, 5); t = vm_resize(1, 0); t = vm_resize(1, 1); return 0; }',
       ['syscall\n'], text=RESET + ' 0\nhalted\nglobal g -1\nglobal w -1\nglobal s false\nglobal t true\nuser 1 pages 1 pc 00000000\n')
@@ -257,7 +339,7 @@ mem 00001000 00000009
 ''')
 sectors([(0, [0x34010007, 0xac010ffc, 0x0000000c] + [0] * 1020 + [7]), (1, []), (4, [0x8c010000, 0x8c021000, 0x0000000c]), (5, [9]), (6, []), (8, [])])
 boots('three pages that fight for two frames', FOUR.replace('4)', '3)'), ['sw r1, 4096(r0)\nsw r2, 8192(r0)\nj 0\n'], params(frames=2), turns=301,
-      steps=150000000, text=RESET + ' 1\nstopped\nglobal b true\nuser 1 pages 3 pc 00000000\nmem 00000000 ac011000\nmem 00000004 ac022000\nmem 00000008 08000000\n')
+      steps=150000000, still=[1], text=RESET + ' 1\nstopped\nglobal b true\nuser 1 pages 3 pc 00000000\nmem 00000000 ac011000\nmem 00000004 ac022000\nmem 00000008 08000000\n')
 boots('products and quotients', 'int x; ' + HEAD + ' { int next; x = 100 / (cause + 3); if (cause == 0) { next = 1; } return next; }',
       ['ori r1, r0, 7\naddiu r2, r0, -3\nmult r1, r2\nmflo r3\ndiv r1, r2\ndiv r1, r0\nsyscall\n'], text='''turn 0 cause 0 data 00000000 user 0 next 1
 turn 7 cause 6 data 0000000c user 1 next 0
@@ -286,7 +368,10 @@ MESSAGES = [read('messages', n) for n in ('kernel.c0', 'user1.s', 'user2.s', 'us
 WHOLE = model(MESSAGES[0], MESSAGES[1:], PARAMS, '', 1000)
 begin('two sums for a third user', 'sectors 64')
 system(MESSAGES[0], MESSAGES[1:])
+objects('o', MESSAGES[0])
 run('boot img s 1000 100000000', WHOLE)
+kept_files(MESSAGES[0], MESSAGES[1:], PARAMS, '')
+first_sectors(MESSAGES[1:], 4)
 run('boot img s 101 100000000', WHOLE)
 CUT = model(MESSAGES[0], MESSAGES[1:], PARAMS, '', 100)
 assert 'stopped' in CUT and 'user 3 pages 1 pc 00000014' in CUT and 'global total 0' in CUT
@@ -360,6 +445,23 @@ part('flip o', str(16 + len(NINE)))
 raw('zeros img', str(ROOM))
 run('link o p img u1', 'refused 63 0 %d %d' % (0x3c1c0001 ^ 1, 0x3c1c0001), 2)
 unchanged('img')
+# the last linked word becomes the user's first one: the words that the image says to have are one fewer than the kernel's code gives, and one more
+begin('a linked word is taken away, and one is put behind the last')
+ZERO = HEAD + ' { return 0; }'
+assert code_words(ZERO) == 45
+system(ZERO, ['syscall\nsyscall 1'])
+part('flip img', '32')
+part('flip img', '36')
+parts('img', little([16384 + 44, 3]), 32)
+run('boot img s 1000 1000000', 'refused 58 16428 16429', 2)
+run('trace img s 1000 1000000 1', 'refused 58 16428 16429', 2)
+part('flip img', '36')
+parts('img', little([16384 + 44, 2]), 32)
+run('boot img s 1000 1000000', 'refused 52 %d' % (40 + len(ZERO) + 4 * (16384 + 44 + 2)), 2)
+system(FIRST, ['syscall\nsyscall 1\nsyscall 2'], image='more')
+part('flip more', '32')
+part('flip more', '36')
+run('boot more s 1000 1000000', 'refused 58 16433 16432', 2)
 begin('an object whose first word is another one, without users')
 part('file k', FIRST)
 part('file p', PARAMS)
