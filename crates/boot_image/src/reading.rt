@@ -32,7 +32,7 @@ struct Header {
 /// The fields are looked at in the order of the file, then the source, the linked words and each user's words, then the end. The
 /// first that isn't as it is to be answers. Memory is taken once the bytes are known to be an image, and for its lists alone.
 pub fn read(alloc: Global, bytes: &[u8]) -> Result<Image, ImageFault>
-    // The answer is that of the reading from left to right.
+    // The answer is that of the reading from left to right; `bytes_have_one_answer` says of bytes alone which that is.
     ensures is { Gives result (answer bytes.now) }
     // An image is answered where the bytes are its spelling,
     ensures spelled { IfOk result (λ i. IsInRange i × (bytes.now ≡ spelling i)) }
