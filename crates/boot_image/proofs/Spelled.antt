@@ -21,37 +21,37 @@ use Rattle.boot_image.proofs.Loops.{part_short, part_whole, users_go_on, FirstWh
 use Rattle.boot_image.proofs.Steps.{onto, words-onto, number_whole, users_read, bare, system, system_spelling}
 
 -- a step and the next one went on
-record Went (A B : Type 0) (r : Result A ImageFault) (f : A → Result B ImageFault) (y : B) : Type 0 where
-  x : A
-  is : r ≡ Ok x
-  next : f x ≡ Ok y
+pub record Went (A B : Type 0) (r : Result A ImageFault) (f : A → Result B ImageFault) (y : B) : Type 0 where
+  pub x : A
+  pub is : r ≡ Ok x
+  pub next : f x ≡ Ok y
 
-went : {A B : Type 0} (r : Result A ImageFault) (f : A → Result B ImageFault) (y : B) → (r >>= f) ≡ Ok y → Went A B r f y
+pub went : {A B : Type 0} (r : Result A ImageFault) (f : A → Result B ImageFault) (y : B) → (r >>= f) ≡ Ok y → Went A B r f y
 went (Ok x) f y h = record { x = x; is = refl; next = h }
 went (Err e) f y h = absurd cc
 
 -- ---- a number
 
-record NumberIs (least most : ℕ) (bytes : List ℕ) (x : ℕ × List ℕ) : Type 0 where
-  is : bytes ≡ word x.0 ++ x.1
-  low : least ≤ x.0
-  high : x.0 ≤ most
-  fits : IsBytes x.1
+pub record NumberIs (least most : ℕ) (bytes : List ℕ) (x : ℕ × List ℕ) : Type 0 where
+  pub is : bytes ≡ word x.0 ++ x.1
+  pub low : least ≤ x.0
+  pub high : x.0 ≤ most
+  pub fits : IsBytes x.1
 
-number_short : (which least most : ℕ) (bytes : List ℕ) → length bytes < 4 → number_at which least most bytes ≡ Err (Truncated (4 * which))
+pub number_short : (which least most : ℕ) (bytes : List ℕ) → length bytes < 4 → number_at which least most bytes ≡ Err (Truncated (4 * which))
 unfolding number_at
 number_short which least most bytes short = cond-true (ltb (length bytes) 4) _ _ (lt-ltb (length bytes) 4 short)
 
-number_out : (which least most n : ℕ) (rest : List ℕ) → n < 2 ^ 32 → (ltb n least || ltb most n) ≡ true → number_at which least most (word n ++ rest) ≡ Err (Parameter which n)
+pub number_out : (which least most n : ℕ) (rest : List ℕ) → n < 2 ^ 32 → (ltb n least || ltb most n) ≡ true → number_at which least most (word n ++ rest) ≡ Err (Parameter which n)
 unfolding number_at
 number_out which least most n rest small out =
     let long : ltb (length (word n ++ rest)) 4 ≡ false = le-ltb _ _ (omega (arith, length-append (word n) rest, length-word n)) in
     rw (long, number-word n rest small, out) refl
 
-none_is_both : {A : Type 0} (P : Type 0) (r : Result A ImageFault) (e : ImageFault) (x : A) → r ≡ Err e → r ≡ Ok x → P
+pub none_is_both : {A : Type 0} (P : Type 0) (r : Result A ImageFault) (e : ImageFault) (x : A) → r ≡ Err e → r ≡ Ok x → P
 none_is_both P r e x bad good = absurd cc
 
-one_is : {A : Type 0} (r : Result A ImageFault) (x y : A) → r ≡ Ok x → r ≡ Ok y → x ≡ y
+pub one_is : {A : Type 0} (r : Result A ImageFault) (x y : A) → r ≡ Ok x → r ≡ Ok y → x ≡ y
 one_is r x y a b = cc
 
 number_from : (which least most : ℕ) (bytes : List ℕ) (x : ℕ × List ℕ) (f : Front bytes) → number_at which least most bytes ≡ Ok x → NumberIs least most bytes x
@@ -68,7 +68,7 @@ number_from which least most bytes x f h =
           ]
     ]
 
-number_is : (which least most : ℕ) (bytes : List ℕ) (x : ℕ × List ℕ) → IsBytes bytes → number_at which least most bytes ≡ Ok x → NumberIs least most bytes x
+pub number_is : (which least most : ℕ) (bytes : List ℕ) (x : ℕ × List ℕ) → IsBytes bytes → number_at which least most bytes ≡ Ok x → NumberIs least most bytes x
 number_is which least most bytes x fits h =
     elim (cases_lt (length bytes) 4) [
       | inl short ↦ none_is_both _ _ _ x (number_short which least most bytes short) h
@@ -77,7 +77,7 @@ number_is which least most bytes x fits h =
 
 -- ---- the mark and the form
 
-mark_is : (bytes rest : List ℕ) → mark_at bytes ≡ Ok rest → IsBytes bytes → (bytes ≡ codes "CVMI" ++ rest) × IsBytes rest
+pub mark_is : (bytes rest : List ℕ) → mark_at bytes ≡ Ok rest → IsBytes bytes → (bytes ≡ codes "CVMI" ++ rest) × IsBytes rest
 unfolding mark_at
 mark_is bytes rest h fits =
     elim (cases_lt (length bytes) 4) [
@@ -93,19 +93,19 @@ mark_is bytes rest h fits =
           ]
     ]
 
-record FormIs (bytes : List ℕ) (x : ℕ × List ℕ) : Type 0 where
-  is : bytes ≡ word x.0 ++ x.1
-  form : (x.0 ≡ 1) ⊎ (x.0 ≡ 3)
-  fits : IsBytes x.1
+pub record FormIs (bytes : List ℕ) (x : ℕ × List ℕ) : Type 0 where
+  pub is : bytes ≡ word x.0 ++ x.1
+  pub form : (x.0 ≡ 1) ⊎ (x.0 ≡ 3)
+  pub fits : IsBytes x.1
 
-one_or_three : (n : ℕ) → 1 ≤ n → n ≤ 3 → (nat_eq n 2 ≡ false) → (n ≡ 1) ⊎ (n ≡ 3)
+pub one_or_three : (n : ℕ) → 1 ≤ n → n ≤ 3 → (nat_eq n 2 ≡ false) → (n ≡ 1) ⊎ (n ≡ 3)
 one_or_three zero low high other = absurd (omega (arith, low))
 one_or_three (suc zero) low high other = inl refl
 one_or_three (suc (suc zero)) low high other = absurd cc
 one_or_three (suc (suc (suc zero))) low high other = inr refl
 one_or_three (suc (suc (suc (suc n)))) low high other = absurd (omega (arith, high))
 
-form_is : (bytes : List ℕ) (x : ℕ × List ℕ) → form_at bytes ≡ Ok x → IsBytes bytes → FormIs bytes x
+pub form_is : (bytes : List ℕ) (x : ℕ × List ℕ) → form_at bytes ≡ Ok x → IsBytes bytes → FormIs bytes x
 unfolding form_at
 form_is bytes x h fits =
     let w = went (number_at 1 1 3 bytes) _ x h in
@@ -119,13 +119,13 @@ form_is bytes x h fits =
 
 -- ---- the parameters and the numbers of words
 
-record ParamsIs (most : ℕ) (bytes : List ℕ) (x : Params × List ℕ) : Type 0 where
-  is : bytes ≡ onto (x.0.pages ∷ x.0.frames ∷ x.0.heap ∷ x.0.stack ∷ []) x.1
-  range : ParamsInRange x.0
-  pages : x.0.pages ≤ most
-  fits : IsBytes x.1
+pub record ParamsIs (most : ℕ) (bytes : List ℕ) (x : Params × List ℕ) : Type 0 where
+  pub is : bytes ≡ onto (x.0.pages ∷ x.0.frames ∷ x.0.heap ∷ x.0.stack ∷ []) x.1
+  pub range : ParamsInRange x.0
+  pub pages : x.0.pages ≤ most
+  pub fits : IsBytes x.1
 
-params_is : (most : ℕ) → most ≤ 1024 → (bytes : List ℕ) (x : Params × List ℕ) → params_at most bytes ≡ Ok x → IsBytes bytes → ParamsIs most bytes x
+pub params_is : (most : ℕ) → most ≤ 1024 → (bytes : List ℕ) (x : Params × List ℕ) → params_at most bytes ≡ Ok x → IsBytes bytes → ParamsIs most bytes x
 unfolding params_at
 params_is most limit bytes x h fits =
     let a = went (number_at 3 1 most bytes) _ x h in
@@ -257,32 +257,32 @@ parts_are h counts bytes x got fits =
 
 -- ---- the fields
 
-record BareIs (bytes : List ℕ) (x : Header × (List ℕ × List ℕ)) : Type 0 where
-  n : ℕ
-  rest : List ℕ
-  few : n ≤ 1048576
-  found : x ≡ (record { form = 1; params = bare_params; source_length = n; word_count = 0; parts_at = 12 }, ([], rest))
-  is : bytes ≡ codes "CVMI" ++ onto (1 ∷ n ∷ []) rest
-  fits : IsBytes rest
+pub record BareIs (bytes : List ℕ) (x : Header × (List ℕ × List ℕ)) : Type 0 where
+  pub n : ℕ
+  pub rest : List ℕ
+  pub few : n ≤ 1048576
+  pub found : x ≡ (record { form = 1; params = bare_params; source_length = n; word_count = 0; parts_at = 12 }, ([], rest))
+  pub is : bytes ≡ codes "CVMI" ++ onto (1 ∷ n ∷ []) rest
+  pub fits : IsBytes rest
 
-record SystemIs (form most_users most_pages : ℕ) (bytes : List ℕ) (x : Header × (List ℕ × List ℕ)) : Type 0 where
-  params : Params
-  users : ℕ
-  n : ℕ
-  k : ℕ
-  counts : List ℕ
-  rest : List ℕ
-  range : ParamsInRange params
-  pages : params.pages ≤ most_pages
-  few : n ≤ 1048576
-  least : 16384 ≤ k
-  most : k ≤ 4194304
-  many : length counts ≡ users
-  few_users : users ≤ most_users
-  sizes : AllByRecursion (λ c. c ≤ most_words params.pages) counts
-  found : x ≡ (record { form = form; params = params; source_length = n; word_count = k; parts_at = 36 + 4 * users }, (counts, rest))
-  is : bytes ≡ codes "CVMI" ++ (word form ++ (word users ++ onto (params.pages ∷ params.frames ∷ params.heap ∷ params.stack ∷ []) (word n ++ (word k ++ onto counts rest))))
-  fits : IsBytes rest
+pub record SystemIs (form most_users most_pages : ℕ) (bytes : List ℕ) (x : Header × (List ℕ × List ℕ)) : Type 0 where
+  pub params : Params
+  pub users : ℕ
+  pub n : ℕ
+  pub k : ℕ
+  pub counts : List ℕ
+  pub rest : List ℕ
+  pub range : ParamsInRange params
+  pub pages : params.pages ≤ most_pages
+  pub few : n ≤ 1048576
+  pub least : 16384 ≤ k
+  pub most : k ≤ 4194304
+  pub many : length counts ≡ users
+  pub few_users : users ≤ most_users
+  pub sizes : AllByRecursion (λ c. c ≤ most_words params.pages) counts
+  pub found : x ≡ (record { form = form; params = params; source_length = n; word_count = k; parts_at = 36 + 4 * users }, (counts, rest))
+  pub is : bytes ≡ codes "CVMI" ++ (word form ++ (word users ++ onto (params.pages ∷ params.frames ∷ params.heap ∷ params.stack ∷ []) (word n ++ (word k ++ onto counts rest))))
+  pub fits : IsBytes rest
 
 bare_is : (bytes rest : List ℕ) (x : Header × (List ℕ × List ℕ)) → bytes ≡ codes "CVMI" ++ (word 1 ++ rest) → bare_at rest ≡ Ok x → IsBytes rest → BareIs bytes x
 unfolding bare_at
@@ -328,7 +328,7 @@ system_is form users pages limit bytes rest x is h fits =
       fits = s.fits;
     }
 
-header_is : (bytes : List ℕ) (x : Header × (List ℕ × List ℕ)) → header_of bytes ≡ Ok x → IsBytes bytes → BareIs bytes x ⊎ SystemIs 3 64 1024 bytes x
+pub header_is : (bytes : List ℕ) (x : Header × (List ℕ × List ℕ)) → header_of bytes ≡ Ok x → IsBytes bytes → BareIs bytes x ⊎ SystemIs 3 64 1024 bytes x
 unfolding header_of
 header_is bytes x h fits =
     let a = went (mark_at bytes) _ x h in
@@ -342,7 +342,7 @@ header_is bytes x h fits =
       | inr three ↦ inr (system_is 3 64 1024 (omega arith) bytes b.x.1 x (begins 3 three) (subst goes_on three b.next) f.fits)
     ]
 
-old_header_is : (bytes : List ℕ) (x : Header × (List ℕ × List ℕ)) → old_header_of bytes ≡ Ok x → IsBytes bytes → SystemIs 2 16 256 bytes x
+pub old_header_is : (bytes : List ℕ) (x : Header × (List ℕ × List ℕ)) → old_header_of bytes ≡ Ok x → IsBytes bytes → SystemIs 2 16 256 bytes x
 unfolding old_header_of
 old_header_is bytes x h fits =
     let a = went (mark_at bytes) _ x h in
@@ -355,11 +355,11 @@ old_header_is bytes x h fits =
 
 -- ---- the image
 
-nil_of_none : {X : Type 0} (xs : List X) → length xs ≡ 0 → xs ≡ []
+pub nil_of_none : {X : Type 0} (xs : List X) → length xs ≡ 0 → xs ≡ []
 nil_of_none [] none = refl
 nil_of_none (x ∷ xs) none = absurd (omega (arith, none))
 
-sizes_back : (most : ℕ) (users : List (List ℕ)) → AllByRecursion (λ n. n ≤ most) (map length users) → AllByRecursion (λ u. length u ≤ most) users
+pub sizes_back : (most : ℕ) (users : List (List ℕ)) → AllByRecursion (λ n. n ≤ most) (map length users) → AllByRecursion (λ u. length u ≤ most) users
 sizes_back most [] fits = tt
 sizes_back most (u ∷ users) fits = (fits.0, sizes_back most users fits.1)
 

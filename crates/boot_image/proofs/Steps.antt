@@ -21,7 +21,7 @@ use Rattle.boot_image.proofs.Answers.{Found, answered, answer_by, old_answer_by,
 use Rattle.boot_image.proofs.Loops.{counts_suc, part_whole, users_first, users_end}
 
 -- a step that goes on
-step : {A B : Type 0} {r : Result A ImageFault} {x : A} (f : A → Result B ImageFault) {y : Result B ImageFault} → r ≡ Ok x → f x ≡ y → (r >>= f) ≡ y
+pub step : {A B : Type 0} {r : Result A ImageFault} {x : A} (f : A → Result B ImageFault) {y : Result B ImageFault} → r ≡ Ok x → f x ≡ y → (r >>= f) ≡ y
 step f is next = ap (λ q. q >>= f) is ∙ next
 
 -- numbers, and then other bytes
@@ -33,7 +33,7 @@ pub words-onto : (ns rest : List ℕ) → flat_map word ns ++ rest ≡ onto ns r
 words-onto [] rest = refl
 words-onto (n ∷ ns) rest = append_assoc (word n) (flat_map word ns) rest ∙ ap (λ (l : List ℕ). word n ++ l) (words-onto ns rest)
 
-mark_whole : (mark rest : List ℕ) → length mark ≡ 4 → mark ≡ codes "CVMI" → mark_at (mark ++ rest) ≡ Ok rest
+pub mark_whole : (mark rest : List ℕ) → length mark ≡ 4 → mark ≡ codes "CVMI" → mark_at (mark ++ rest) ≡ Ok rest
 unfolding mark_at
 mark_whole mark rest four is =
     let long : ltb (length (mark ++ rest)) 4 ≡ false = le-ltb _ _ (omega (arith, length-append mark rest)) in
@@ -47,19 +47,19 @@ number_whole which least most n rest small low high =
     let fits : (ltb n least || ltb most n) ≡ false = or_from (ltb n least) (ltb most n) (le-ltb n least low) (le-ltb most n high) in
     rw (long, number-word n rest small, drop_at (word n) rest 4 (length-word n), fits) refl
 
-form_one : (rest : List ℕ) → form_at (word 1 ++ rest) ≡ Ok (1, rest)
+pub form_one : (rest : List ℕ) → form_at (word 1 ++ rest) ≡ Ok (1, rest)
 unfolding form_at
 form_one rest = step _ (number_whole 1 1 3 1 rest (omega arith) (omega arith) (omega arith)) refl
 
-form_three : (rest : List ℕ) → form_at (word 3 ++ rest) ≡ Ok (3, rest)
+pub form_three : (rest : List ℕ) → form_at (word 3 ++ rest) ≡ Ok (3, rest)
 unfolding form_at
 form_three rest = step _ (number_whole 1 1 3 3 rest (omega arith) (omega arith) (omega arith)) refl
 
-form_two : (rest : List ℕ) → form_at (word 2 ++ rest) ≡ Err (Parameter 1 2)
+pub form_two : (rest : List ℕ) → form_at (word 2 ++ rest) ≡ Err (Parameter 1 2)
 unfolding form_at
 form_two rest = step _ (number_whole 1 1 3 2 rest (omega arith) (omega arith) (omega arith)) refl
 
-params_whole : (most : ℕ) (p : Params) (rest : List ℕ) → ParamsInRange p → p.pages ≤ most → params_at most (onto (p.pages ∷ p.frames ∷ p.heap ∷ p.stack ∷ []) rest) ≡ Ok (p, rest)
+pub params_whole : (most : ℕ) (p : Params) (rest : List ℕ) → ParamsInRange p → p.pages ≤ most → params_at most (onto (p.pages ∷ p.frames ∷ p.heap ∷ p.stack ∷ []) rest) ≡ Ok (p, rest)
 unfolding params_at
 params_whole most p rest fits pages =
     step _ (number_whole 3 1 most p.pages _ (omega (arith, fits.pages)) fits.a_page pages)
@@ -74,13 +74,13 @@ counts_whole first (n ∷ counts) most rest few fits =
     counts_suc first most (length counts) (length first) (word n ++ onto counts rest) _ refl (number_whole (9 + length first) 0 most n (onto counts rest) (omega (arith, fits.0)) (omega arith) fits.0)
     ∙ counts_whole (first ++ n ∷ []) counts most rest few fits.1 ∙ ap (λ (l : List ℕ). Ok (l, rest)) (append_assoc first (n ∷ []) counts)
 
-bare_whole : (n : ℕ) (rest : List ℕ) → n ≤ 1048576 → header_of (codes "CVMI" ++ onto (1 ∷ n ∷ []) rest) ≡ Ok (record { form = 1; params = bare_params; source_length = n; word_count = 0; parts_at = 12 }, ([], rest))
+pub bare_whole : (n : ℕ) (rest : List ℕ) → n ≤ 1048576 → header_of (codes "CVMI" ++ onto (1 ∷ n ∷ []) rest) ≡ Ok (record { form = 1; params = bare_params; source_length = n; word_count = 0; parts_at = 12 }, ([], rest))
 unfolding header_of bare_at
 bare_whole n rest few =
     step _ (mark_whole (codes "CVMI") _ refl refl) (step _ (form_one _) (step _ (number_whole 2 0 1048576 n rest (omega (arith, few)) (omega arith) few) refl))
 
 -- a system of a form, with so many users and pages at most, behind that form
-system_whole : (form users pages : ℕ) (p : Params) (n k : ℕ) (counts rest : List ℕ) → users ≤ 64 → ParamsInRange p → p.pages ≤ pages → n ≤ 1048576 → 16384 ≤ k → k ≤ 4194304 → length counts ≤ users → AllByRecursion (λ c. c ≤ most_words p.pages) counts → system_at form users pages (word (length counts) ++ onto (p.pages ∷ p.frames ∷ p.heap ∷ p.stack ∷ []) (word n ++ (word k ++ onto counts rest))) ≡ Ok (record { form = form; params = p; source_length = n; word_count = k; parts_at = 36 + 4 * length counts }, (counts, rest))
+pub system_whole : (form users pages : ℕ) (p : Params) (n k : ℕ) (counts rest : List ℕ) → users ≤ 64 → ParamsInRange p → p.pages ≤ pages → n ≤ 1048576 → 16384 ≤ k → k ≤ 4194304 → length counts ≤ users → AllByRecursion (λ c. c ≤ most_words p.pages) counts → system_at form users pages (word (length counts) ++ onto (p.pages ∷ p.frames ∷ p.heap ∷ p.stack ∷ []) (word n ++ (word k ++ onto counts rest))) ≡ Ok (record { form = form; params = p; source_length = n; word_count = k; parts_at = 36 + 4 * length counts }, (counts, rest))
 unfolding system_at
 system_whole form users pages p n k counts rest limit fits low few least most many sizes =
     step _ (number_whole 2 0 users (length counts) _ (omega (arith, many, limit)) (omega arith) many)
@@ -89,16 +89,16 @@ system_whole form users pages p n k counts rest limit fits low few least most ma
     (step _ (number_whole 8 16384 4194304 k _ (omega (arith, most)) least most)
     (step _ (counts_whole [] counts (most_words p.pages) rest (omega arith) sizes) refl))))
 
-header_three : (rest : List ℕ) (r : Found) → system_at 3 64 1024 rest ≡ r → header_of (codes "CVMI" ++ (word 3 ++ rest)) ≡ r
+pub header_three : (rest : List ℕ) (r : Found) → system_at 3 64 1024 rest ≡ r → header_of (codes "CVMI" ++ (word 3 ++ rest)) ≡ r
 unfolding header_of
 header_three rest r is = step _ (mark_whole (codes "CVMI") _ refl refl) (step _ (form_three _) is)
 
-header_two : (rest : List ℕ) (r : Found) → system_at 2 16 256 rest ≡ r → old_header_of (codes "CVMI" ++ (word 2 ++ rest)) ≡ r
+pub header_two : (rest : List ℕ) (r : Found) → system_at 2 16 256 rest ≡ r → old_header_of (codes "CVMI" ++ (word 2 ++ rest)) ≡ r
 unfolding old_header_of
 header_two rest r is = step _ (mark_whole (codes "CVMI") _ refl refl) (step _ (number_whole 1 2 2 2 _ (omega arith) (omega arith) (omega arith)) is)
 
 -- where form 2 isn't read, its header is refused
-header_refused : (rest : List ℕ) → header_of (codes "CVMI" ++ (word 2 ++ rest)) ≡ Err (Parameter 1 2)
+pub header_refused : (rest : List ℕ) → header_of (codes "CVMI" ++ (word 2 ++ rest)) ≡ Err (Parameter 1 2)
 unfolding header_of
 header_refused rest =
     step _ (mark_whole (codes "CVMI") _ refl refl)
@@ -137,14 +137,14 @@ users_read (u ∷ users) fits =
 
 -- ---- the spelling of an image
 
-sizes_of : (most : ℕ) (users : List (List ℕ)) → AllByRecursion (λ u. length u ≤ most) users → AllByRecursion (λ n. n ≤ most) (map length users)
+pub sizes_of : (most : ℕ) (users : List (List ℕ)) → AllByRecursion (λ u. length u ≤ most) users → AllByRecursion (λ n. n ≤ most) (map length users)
 sizes_of most [] fits = tt
 sizes_of most (u ∷ users) fits = (fits.0, sizes_of most users fits.1)
 
 abbrev pub bare : List ℕ → Parts
 bare source = record { params = bare_params; form = 1; source = source; words = []; users = [] }
 
-bare_same : (i : Parts) → IsBare i → i ≡ bare i.source
+pub bare_same : (i : Parts) → IsBare i → i ≡ bare i.source
 bare_same i b =
     ap (λ (p : Params). record { params = p; form = i.form; source = i.source; words = i.words; users = i.users }) b.params
     ∙ ap (λ (n : ℕ). record { params = bare_params; form = n; source = i.source; words = i.words; users = i.users }) b.form
@@ -168,20 +168,20 @@ abbrev pub system_spelling : ℕ → Params → List ℕ → List ℕ → List (
 system_spelling form p source words users =
     codes "CVMI" ++ (flat_map word (form ∷ length users ∷ p.pages ∷ p.frames ∷ p.heap ∷ p.stack ∷ length source ∷ length words ∷ map length users) ++ (source ++ (flat_map word words ++ flat_map (flat_map word) users)))
 
-system_same : (form : ℕ) (i : Parts) → i.form ≡ form → i ≡ system form i.params i.source i.words i.users
+pub system_same : (form : ℕ) (i : Parts) → i.form ≡ form → i ≡ system form i.params i.source i.words i.users
 system_same form i is = ap (λ (n : ℕ). record { params = i.params; form = n; source = i.source; words = i.words; users = i.users }) is
 
 -- what holds of a system with so many users and pages of a user at most
-record Fits (users_most pages_most : ℕ) (p : Params) (text ws : List ℕ) (us : List (List ℕ)) : Type 0 where
-  params : ParamsInRange p
-  pages : p.pages ≤ pages_most
-  least : 16384 ≤ length ws
-  most : length ws ≤ 4194304
-  few : length us ≤ users_most
-  sizes : All (λ u. length u ≤ most_words p.pages) us
-  source : length text ≤ 1048576
-  bits : AreWords ws
-  user_bits : All AreWords us
+pub record Fits (users_most pages_most : ℕ) (p : Params) (text ws : List ℕ) (us : List (List ℕ)) : Type 0 where
+  pub params : ParamsInRange p
+  pub pages : p.pages ≤ pages_most
+  pub least : 16384 ≤ length ws
+  pub most : length ws ≤ 4194304
+  pub few : length us ≤ users_most
+  pub sizes : All (λ u. length u ≤ most_words p.pages) us
+  pub source : length text ≤ 1048576
+  pub bits : AreWords ws
+  pub user_bits : All AreWords us
 
 -- a header that is read as `head` says gives back the system
 system_read : (form users pages : ℕ) (p : Params) (source words : List ℕ) (us : List (List ℕ)) (head : List ℕ → Found) → users ≤ 64 → Fits users pages p source words us → ((rest : List ℕ) (r : Found) → system_at form users pages rest ≡ r → head (codes "CVMI" ++ (word form ++ rest)) ≡ r) → answered (head (system_spelling form p source words us)) ≡ Ok (system form p source words us)

@@ -35,5 +35,8 @@ mod writing;
 
 pub use fault::ImageFault;
 pub use image::Image;
-pub use reading::{images_are_their_spellings, old_images_are_their_spellings, read, read_old};
+pub use reading::{
+    bytes_have_one_answer, images_are_their_spellings, old_bytes_have_one_answer,
+    old_images_are_their_spellings, read, read_old,
+};
 pub use writing::write;

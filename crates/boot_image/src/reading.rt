@@ -1,10 +1,12 @@
 // Bytes to an image.
 
 ghost use Rattle.std.specs.Prelude.{◌≡◌, ◌+◌, ◌*◌, ◌≤◌, ◌<◌, ◌%◌, ◌↔◌, ℕ, [], ◌++◌, List, length, slice_index, map, Result, IfOk, Ok, Err};
+ghost use Rattle.std.specs.List.{concat};
 ghost use Rattle.boot_image.specs.Parts.{Parts};
 ghost use Rattle.boot_image.specs.Format.{IsInRange, IsOldInRange, spelling, most_words};
 ghost use Rattle.word_bytes.specs.Words.{words_of};
 ghost use Rattle.boot_image.specs.Reading.{Comes, Gives, AnswersAreSpelled, SpellingsAreAnswered, image_at, answer, old_answer};
+ghost use Rattle.boot_image.specs.Answer.{AnswersAreSo, NothingElseIsSo, pieces};
 ghost use Rattle.boot_image.specs.Reading.{mark_at, number_at, form_at, params_at, counts_at, bare_at, system_at, header_of, old_header_of, part_at, users_at, parts_of, users_of};
 
 use crate::fault::ImageFault;
@@ -30,7 +32,7 @@ struct Header {
 /// The fields are looked at in the order of the file, then the source, the linked words and each user's words, then the end. The
 /// first that isn't as it is to be answers. Memory is taken once the bytes are known to be an image, and for its lists alone.
 pub fn read(alloc: Global, bytes: &[u8]) -> Result<Image, ImageFault>
-    // The answer is that of the reading from left to right.
+    // The answer is that of the reading from left to right; `bytes_have_one_answer` says of bytes alone which that is.
     ensures is { Gives result (answer bytes.now) }
     // An image is answered where the bytes are its spelling,
     ensures spelled { IfOk result (λ i. IsInRange i × (bytes.now ≡ spelling i)) }
@@ -62,6 +64,20 @@ pub fn images_are_their_spellings()
 pub fn old_images_are_their_spellings()
     ensures spelled { AnswersAreSpelled old_answer IsOldInRange }
     ensures read_back { SpellingsAreAnswered old_answer IsOldInRange }
+{}
+
+/// A law: of each list of bytes there is one answer in the format's own words, and that is what is answered. So each fault comes exactly
+/// where it stands first, with its numbers.
+pub fn bytes_have_one_answer()
+    ensures pieces { (i : Parts) → concat (pieces i) ≡ spelling i }
+    ensures so { AnswersAreSo answer IsInRange }
+    ensures only { NothingElseIsSo answer IsInRange }
+{}
+
+/// The same law where form 2 is read.
+pub fn old_bytes_have_one_answer()
+    ensures so { AnswersAreSo old_answer IsOldInRange }
+    ensures only { NothingElseIsSo old_answer IsOldInRange }
 {}
 
 // The image of a header and of the bytes that follow it.

@@ -15,7 +15,7 @@ use Rattle.system_files.specs.Params.{◌>>=◌, number_in, counted, next_number
 use Rattle.system_files.proofs.Lines.{text_is}
 
 -- a step that went well, and the one behind it
-went : {A B : Type 0} (r : Result A FileFault) (f : A → Result B FileFault) (y : B) → r >>= f ≡ Ok y → (x : A) × (r ≡ Ok x) × (f x ≡ Ok y)
+pub went : {A B : Type 0} (r : Result A FileFault) (f : A → Result B FileFault) (y : B) → r >>= f ≡ Ok y → (x : A) × (r ≡ Ok x) × (f x ≡ Ok y)
 went (Ok x) f y e = (x, refl, e)
 went (Err x) f y e = cc
 
@@ -25,7 +25,7 @@ ranged_is true e value x h = cc
 ranged_is false e value x h = (refl, cc)
 
 -- a number in its range is that number
-in_its_range : (which least most value x : ℕ) → ranged which least most value ≡ Ok x → (value ≡ x) × (least ≤ x) × (x ≤ most)
+pub in_its_range : (which least most value x : ℕ) → ranged which least most value ≡ Ok x → (value ≡ x) × (least ≤ x) × (x ≤ most)
 unfolding ranged
 in_its_range which least most value x h =
     let r = ranged_is (nat_lt value least || nat_lt most value) (Parameter which value) value x h in
@@ -36,16 +36,16 @@ in_its_range which least most value x h =
     bounds value x e h = (grind (arith, nat_tests), grind (arith, nat_tests))
 
 -- the line of a number that was read
-counted_is : (line : ℕ) (rest : List (List ℕ)) (o : Option ℕ) (x : ℕ × List (List ℕ)) → counted line rest o ≡ Ok x → (o ≡ Some x.0) × (rest ≡ x.1)
+pub counted_is : (line : ℕ) (rest : List (List ℕ)) (o : Option ℕ) (x : ℕ × List (List ℕ)) → counted line rest o ≡ Ok x → (o ≡ Some x.0) × (rest ≡ x.1)
 counted_is line rest (Some n) x e = (cc, cc)
 counted_is line rest None x e = cc
 
-next_is : (line : ℕ) (beginning : List ℕ) (lines : List (List ℕ)) (x : ℕ × List (List ℕ)) → next_number line beginning lines ≡ Ok x
+pub next_is : (line : ℕ) (beginning : List ℕ) (lines : List (List ℕ)) (x : ℕ × List (List ℕ)) → next_number line beginning lines ≡ Ok x
     → (text : List ℕ) × (lines ≡ text ∷ x.1) × (number_in beginning text ≡ Some x.0)
 next_is line beginning [] x e = cc
 next_is line beginning (text ∷ rest) x e = let c = counted_is line rest (number_in beginning text) x e in (text, ap (λ r. text ∷ r) c.1, c.0)
 
-end_is : (lines : List (List ℕ)) (n m : Numbers) → at_the_end lines n ≡ Ok m → (lines ≡ []) × (n ≡ m)
+pub end_is : (lines : List (List ℕ)) (n m : Numbers) → at_the_end lines n ≡ Ok m → (lines ≡ []) × (n ≡ m)
 end_is [] n m e = (refl, cc)
 end_is (text ∷ rest) n m e = cc
 
@@ -57,17 +57,31 @@ taken false o y e = cc
 abbrev pub lines_for : Params → List (List ℕ)
 lines_for p = (codes "pages " ++ decimal p.pages) ∷ (codes "frames " ++ decimal p.frames) ∷ (codes "heap " ++ decimal p.heap) ∷ (codes "stack " ++ decimal p.stack) ∷ []
 
+-- a text with the four lines of parameters spells these
+pub spells_of : (text : List ℕ) (p : Params) → lines_of text ≡ lines_for p → Spells text p
+spells_of text p lines =
+    elim (text_is text (lines_for p) lines) [
+      | inl is ↦ inl (is ∙ no_end p)
+      | inr is ↦ inr (is ∙ one_end p)
+    ]
+  where
+    no_end : (p : Params) → join_with_byte 10 (lines_for p) ≡ spelling p []
+    no_end p = ap (λ d. codes "pages " ++ (decimal p.pages ++ 10 ∷ (codes "frames " ++ (decimal p.frames ++ 10 ∷ (codes "heap " ++ (decimal p.heap ++ 10 ∷ (codes "stack " ++ d))))))) (sym (append-nil (decimal p.stack)))
+
+    one_end : (p : Params) → join_with_byte 10 (lines_for p ++ [] ∷ []) ≡ spelling p (10 ∷ [])
+    one_end p = refl
+
 module _ (law : (word : List ℕ) (n : ℕ) → number_of word ≡ Some n → (n < 2 ^ 64) × (word ≡ decimal n)) where
   -- a line whose number was read
-  line_is : (beginning text : List ℕ) (n : ℕ) → number_in beginning text ≡ Some n → text ≡ beginning ++ decimal n
+  pub line_is : (beginning text : List ℕ) (n : ℕ) → number_in beginning text ≡ Some n → (n < 2 ^ 64) × (text ≡ beginning ++ decimal n)
   unfolding number_in
   line_is beginning text n e =
       let t = taken (bytes_eq (take (length beginning) text) beginning) (number_of (drop (length beginning) text)) n e in
       let front = (bytes_eq-Decides (take (length beginning) text) beginning).0 t.0 in
       let back = law (drop (length beginning) text) n t.1 in
-      sym (take-append-drop (length beginning) text) ∙ ap (λ f. f ++ drop (length beginning) text) front ∙ ap (λ b. beginning ++ b) back.1
+      (back.0, sym (take-append-drop (length beginning) text) ∙ ap (λ f. f ++ drop (length beginning) text) front ∙ ap (λ b. beginning ++ b) back.1)
 
-  lines_are : (lines : List (List ℕ)) (n : Numbers) → numbers_of lines ≡ Ok n
+  pub lines_are : (lines : List (List ℕ)) (n : Numbers) → numbers_of lines ≡ Ok n
       → lines ≡ lines_for (record { pages = n.pages; frames = n.frames; heap = n.heap; stack = n.stack })
   unfolding numbers_of
   lines_are lines n e =
@@ -80,15 +94,15 @@ module _ (law : (word : List ℕ) (n : ℕ) → number_of word ≡ Some n → (n
       let l2 = next_is 2 (codes "frames ") a.0.1 b.0 b.1 in
       let l3 = next_is 3 (codes "heap ") b.0.1 c.0 c.1 in
       let l4 = next_is 4 (codes "stack ") c.0.1 d.0 d.1 in
-      l1.1 ∙ ap (λ x. x ∷ a.0.1) (line_is (codes "pages ") l1.0 a.0.0 l1.2)
-      ∙ ap (λ r. (codes "pages " ++ decimal a.0.0) ∷ r) (l2.1 ∙ ap (λ x. x ∷ b.0.1) (line_is (codes "frames ") l2.0 b.0.0 l2.2)
-      ∙ ap (λ r. (codes "frames " ++ decimal b.0.0) ∷ r) (l3.1 ∙ ap (λ x. x ∷ c.0.1) (line_is (codes "heap ") l3.0 c.0.0 l3.2)
-      ∙ ap (λ r. (codes "heap " ++ decimal c.0.0) ∷ r) (l4.1 ∙ ap (λ x. x ∷ d.0.1) (line_is (codes "stack ") l4.0 d.0.0 l4.2)
+      l1.1 ∙ ap (λ x. x ∷ a.0.1) (line_is (codes "pages ") l1.0 a.0.0 l1.2).1
+      ∙ ap (λ r. (codes "pages " ++ decimal a.0.0) ∷ r) (l2.1 ∙ ap (λ x. x ∷ b.0.1) (line_is (codes "frames ") l2.0 b.0.0 l2.2).1
+      ∙ ap (λ r. (codes "frames " ++ decimal b.0.0) ∷ r) (l3.1 ∙ ap (λ x. x ∷ c.0.1) (line_is (codes "heap ") l3.0 c.0.0 l3.2).1
+      ∙ ap (λ r. (codes "heap " ++ decimal c.0.0) ∷ r) (l4.1 ∙ ap (λ x. x ∷ d.0.1) (line_is (codes "stack ") l4.0 d.0.0 l4.2).1
       ∙ ap (λ r. (codes "stack " ++ decimal d.0.0) ∷ r) end.0)))
       ∙ ap (λ (m : Numbers). lines_for (record { pages = m.pages; frames = m.frames; heap = m.heap; stack = m.stack })) end.1
 
   -- the parameters of numbers in their ranges
-  ranges_are : (n : Numbers) (p : Params) → params_in n ≡ Ok p → (record { pages = n.pages; frames = n.frames; heap = n.heap; stack = n.stack } ≡ p) × AreInRange p
+  pub ranges_are : (n : Numbers) (p : Params) → params_in n ≡ Ok p → (record { pages = n.pages; frames = n.frames; heap = n.heap; stack = n.stack } ≡ p) × AreInRange p
   unfolding params_in
   ranges_are n p e =
       let a = went (ranged 1 1 1024 n.pages) _ p e in
@@ -115,16 +129,4 @@ module _ (law : (word : List ℕ) (n : ℕ) → number_of word ≡ Some n → (n
   spelled text p e =
       let n = went (numbers_of (lines_of text)) params_in p e in
       let r = ranges_are n.0 p n.2 in
-      let lines : lines_of text ≡ lines_for p = lines_are (lines_of text) n.0 n.1 ∙ ap lines_for r.0 in (
-        elim (text_is text (lines_for p) lines) [
-          | inl is ↦ inl (is ∙ no_end p)
-          | inr is ↦ inr (is ∙ one_end p)
-        ],
-        r.1,
-      )
-    where
-      no_end : (p : Params) → join_with_byte 10 (lines_for p) ≡ spelling p []
-      no_end p = ap (λ d. codes "pages " ++ (decimal p.pages ++ 10 ∷ (codes "frames " ++ (decimal p.frames ++ 10 ∷ (codes "heap " ++ (decimal p.heap ++ 10 ∷ (codes "stack " ++ d))))))) (sym (append-nil (decimal p.stack)))
-
-      one_end : (p : Params) → join_with_byte 10 (lines_for p ++ [] ∷ []) ≡ spelling p (10 ∷ [])
-      one_end p = refl
+      let lines : lines_of text ≡ lines_for p = lines_are (lines_of text) n.0 n.1 ∙ ap lines_for r.0 in (spells_of text p lines, r.1)

@@ -1,3 +1,4 @@
 pub mod Inverse
 pub mod Lines
 pub mod Read
+mod Faults

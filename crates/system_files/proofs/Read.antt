@@ -52,9 +52,19 @@ behind (c ∷ first) rest all plain = All-cons (λ x. (x == 10) ≡ false) c (fi
     others true more h = h
     others false more h = cc
 
+-- parameters of 64 bits each, in their ranges or not
+pub record Small (p : Params) : Type 0 where
+  pub pages : p.pages < 2 ^ 64
+  pub frames : p.frames < 2 ^ 64
+  pub heap : p.heap < 2 ^ 64
+  pub stack : p.stack < 2 ^ 64
+
+small_of : (p : Params) → AreInRange p → Small p
+small_of p r = record { pages = omega (arith, r.most_pages); frames = omega (arith, r.most_frames); heap = omega (arith, r.most_heap); stack = omega (arith, r.most_stack) }
+
 module _ (law : (n : ℕ) → n < 2 ^ 64 → number_of (decimal n) ≡ Some n) where
   -- the number of a line
-  line_read : (beginning : List ℕ) (n : ℕ) → n < 2 ^ 64 → number_in beginning (beginning ++ decimal n) ≡ Some n
+  pub line_read : (beginning : List ℕ) (n : ℕ) → n < 2 ^ 64 → number_in beginning (beginning ++ decimal n) ≡ Some n
   unfolding number_in
   line_read beginning n small =
       ap (λ b. cond b (number_of (drop (length beginning) (beginning ++ decimal n))) None) (same (take (length beginning) (beginning ++ decimal n)) beginning (take_at beginning (decimal n) (length beginning) refl))
@@ -63,24 +73,24 @@ module _ (law : (n : ℕ) → n < 2 ^ 64 → number_of (decimal n) ≡ Some n) w
       same : (xs ys : List ℕ) → xs ≡ ys → bytes_eq xs ys ≡ true
       same xs ys e = (bytes_eq-Decides xs ys).1 e
 
-  next_read : (line : ℕ) (beginning : List ℕ) (n : ℕ) (rest : List (List ℕ)) → n < 2 ^ 64 → next_number line beginning ((beginning ++ decimal n) ∷ rest) ≡ Ok (n, rest)
+  pub next_read : (line : ℕ) (beginning : List ℕ) (n : ℕ) (rest : List (List ℕ)) → n < 2 ^ 64 → next_number line beginning ((beginning ++ decimal n) ∷ rest) ≡ Ok (n, rest)
   next_read line beginning n rest small = ap (counted line rest) (line_read beginning n small)
 
-  numbers_read : (p : Params) → AreInRange p → numbers_of (lines_for p) ≡ Ok (record { pages = p.pages; frames = p.frames; heap = p.heap; stack = p.stack })
+  pub numbers_read : (p : Params) → Small p → numbers_of (lines_for p) ≡ Ok (record { pages = p.pages; frames = p.frames; heap = p.heap; stack = p.stack })
   unfolding numbers_of
   numbers_read p r =
       let l4 : List (List ℕ) = (codes "stack " ++ decimal p.stack) ∷ [] in
       let l3 : List (List ℕ) = (codes "heap " ++ decimal p.heap) ∷ l4 in
       let l2 : List (List ℕ) = (codes "frames " ++ decimal p.frames) ∷ l3 in
-      bind _ _ (next_read 1 (codes "pages ") p.pages l2 (omega (arith, r.most_pages)))
-      ∙ bind _ _ (next_read 2 (codes "frames ") p.frames l3 (omega (arith, r.most_frames)))
-      ∙ bind _ _ (next_read 3 (codes "heap ") p.heap l4 (omega (arith, r.most_heap)))
-      ∙ bind _ _ (next_read 4 (codes "stack ") p.stack [] (omega (arith, r.most_stack)))
+      bind _ _ (next_read 1 (codes "pages ") p.pages l2 r.pages)
+      ∙ bind _ _ (next_read 2 (codes "frames ") p.frames l3 r.frames)
+      ∙ bind _ _ (next_read 3 (codes "heap ") p.heap l4 r.heap)
+      ∙ bind _ _ (next_read 4 (codes "stack ") p.stack [] r.stack)
     where
       bind : {A B : Type 0} {r : Result A FileFault} (f : A → Result B FileFault) (x : A) → r ≡ Ok x → r >>= f ≡ f x
       bind f x e = ap (λ s. s >>= f) e
 
-  ranged_read : (which least most value : ℕ) → least ≤ value → value ≤ most → ranged which least most value ≡ Ok value
+  pub ranged_read : (which least most value : ℕ) → least ≤ value → value ≤ most → ranged which least most value ≡ Ok value
   unfolding ranged
   ranged_read which least most value low high = ap (λ b. cond b (Err (Parameter which value)) (Ok value)) (in_range value low high)
     where
@@ -114,17 +124,17 @@ module _ (law : (n : ℕ) → n < 2 ^ 64 → number_of (decimal n) ≡ Some n) w
       by_end last (inl e) = ap (λ x. without_empty_end (a ∷ b ∷ c ∷ x)) (ap (λ l. slice_split (λ c. c == 10) (d ++ l)) e ∙ ap (slice_split (λ c. c == 10)) (append-nil d) ∙ slice_split_none (λ c. c == 10) d pd) ∙ ap (λ x. a ∷ b ∷ c ∷ x) (not_empty d some)
       by_end last (inr e) = ap (λ x. without_empty_end (a ∷ b ∷ c ∷ x)) (ap (λ l. slice_split (λ c. c == 10) (d ++ l)) e ∙ slice_split_at (λ c. c == 10) d 10 [] pd refl)
 
-  lines_read : (p : Params) → AreInRange p → (last : List ℕ) → (last ≡ []) ⊎ (last ≡ 10 ∷ []) → lines_of (spelling p last) ≡ lines_for p
+  pub lines_read : (p : Params) → Small p → (last : List ℕ) → (last ≡ []) ⊎ (last ≡ 10 ∷ []) → lines_of (spelling p last) ≡ lines_for p
   lines_read p r last e =
       split (codes "pages " ++ decimal p.pages) (codes "frames " ++ decimal p.frames) (codes "heap " ++ decimal p.heap) (codes "stack " ++ decimal p.stack)
-      (behind (codes "pages ") (decimal p.pages) refl (plain_number p.pages (omega (arith, r.most_pages))))
-      (behind (codes "frames ") (decimal p.frames) refl (plain_number p.frames (omega (arith, r.most_frames))))
-      (behind (codes "heap ") (decimal p.heap) refl (plain_number p.heap (omega (arith, r.most_heap))))
-      (behind (codes "stack ") (decimal p.stack) refl (plain_number p.stack (omega (arith, r.most_stack))))
+      (behind (codes "pages ") (decimal p.pages) refl (plain_number p.pages r.pages))
+      (behind (codes "frames ") (decimal p.frames) refl (plain_number p.frames r.frames))
+      (behind (codes "heap ") (decimal p.heap) refl (plain_number p.heap r.heap))
+      (behind (codes "stack ") (decimal p.stack) refl (plain_number p.stack r.stack))
       (omega arith) last e
 
   text_read : (p : Params) → AreInRange p → (last : List ℕ) → (last ≡ []) ⊎ (last ≡ 10 ∷ []) → params_of (spelling p last) ≡ Ok p
-  text_read p r last e = ap (λ ls. numbers_of ls >>= params_in) (lines_read p r last e) ∙ ap (λ n. n >>= params_in) (numbers_read p r) ∙ params_read p r
+  text_read p r last e = ap (λ ls. numbers_of ls >>= params_in) (lines_read p (small_of p r) last e) ∙ ap (λ n. n >>= params_in) (numbers_read p (small_of p r)) ∙ params_read p r
 
   pub read : (text : List ℕ) (p : Params) → Spells text p → AreInRange p → params_of text ≡ Ok p
   read text p (inl e) r = ap params_of e ∙ text_read p r [] (inl refl)

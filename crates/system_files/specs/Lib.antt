@@ -1,3 +1,4 @@
 pub mod Fault
 pub mod Params
 pub mod User
+pub mod Answer

@@ -15,5 +15,5 @@ mod params;
 mod user;
 
 pub use fault::FileFault;
-pub use params::params_of;
+pub use params::{parameters_are_their_spellings, params_of, texts_have_one_answer};
 pub use user::user_words;

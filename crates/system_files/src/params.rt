@@ -1,8 +1,10 @@
 // The parameters of a system.
 
-ghost use Rattle.std.specs.Prelude.{◌≡◌, ◌≤◌, ◌∷◌, [], List, ℕ, length, Ok, IfOk, IfSome, Option, Some, None};
+ghost use Rattle.std.specs.Prelude.{◌≡◌, ◌≤◌, ◌∷◌, [], List, ℕ, length, Result, Ok, IfOk, IfSome, Option, Some, None};
 ghost use Rattle.cvm_text.specs.Lines.{lines_of};
 ghost use Rattle.layer_map.specs.declared.params.Params.{Params};
+ghost use Rattle.system_files.specs.declared.fault.FileFault.{FileFault};
+ghost use Rattle.system_files.specs.Answer.{IsAnswer};
 ghost use Rattle.system_files.specs.Params as spec;
 ghost use Rattle.system_files.specs.Params.{AreInRange, Comes, Spells, at_the_end, next_number as next_in, number_in, numbers_of, params_in, ranged};
 
@@ -24,7 +26,7 @@ struct Numbers {
 /// The first line that isn't as it is to be answers; where all four are, and there is no fifth, the first parameter out of its range
 /// does. Want of memory is no answer.
 pub fn params_of(bytes: &[u8]) -> Result<Params, FileFault>
-    // The answer is that of the reading line by line.
+    // The answer is that of the reading line by line; `texts_have_one_answer` says of texts alone which that is.
     ensures is { Comes (λ p. p) result (spec.params_of bytes.now) }
     ensures range { IfOk result (λ p. AreInRange p) }
 {
@@ -36,6 +38,15 @@ pub fn params_of(bytes: &[u8]) -> Result<Params, FileFault>
 pub fn parameters_are_their_spellings()
     ensures spelled { (text : List ℕ) (p : Params) → spec.params_of text ≡ Ok p → Spells text p × AreInRange p }
     ensures read { (text : List ℕ) (p : Params) → Spells text p → AreInRange p → spec.params_of text ≡ Ok p }
+{
+    whole_numbers_are_spelled();
+}
+
+/// A law: of each text there is one answer in the format's own words, and that is what is answered. So each fault comes exactly where it
+/// stands first, with its numbers.
+pub fn texts_have_one_answer()
+    ensures so { (text : List ℕ) → IsAnswer text (spec.params_of text) }
+    ensures only { (text : List ℕ) (answer : Result Params FileFault) → IsAnswer text answer → spec.params_of text ≡ answer }
 {
     whole_numbers_are_spelled();
 }
