@@ -9,6 +9,7 @@ mod Five
 pub mod Follows
 mod Four
 mod FourBytes
+mod Fronts
 mod GotFiles
 mod Isolating
 mod KernelPlans
