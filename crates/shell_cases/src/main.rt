@@ -2,9 +2,9 @@
 // that are asked for. `case_file` says how a case is written. The kinds, in the order in which they stand:
 //
 // - `case NAME` begins with a new outside. Lines below it may say `shelf N ..`, `sink N ..` or `disk N ..`, the numbers of the calls of
-//   that object that fail, from 0; `room N`, how many bytes the sink has room for; `takes N`, that it takes the first N bytes of a put that
-//   fails, which is a call of its own; `sectors N`, how many sectors the disk has; `alter S P W`, that the disk answers each read of sector S
-//   with the word W in place of word P;
+//   that object that fail, from 0; `room N`, how many bytes the sink has room for, in place of 1 MiB; `takes N`, that it takes the first N
+//   bytes of a put that fails, which is a call of its own; `sectors N`, how many sectors the disk has; `alter S P W`, that the disk answers
+//   each read of sector S with the word W in place of word P;
 // - `file NAME` places a file with these bytes, `zeros NAME` one with so many bytes 0, and `host NAME` one with the bytes of a file of the
 //   folder in which the program runs, whose path stands below it. A put to it has room for as many;
 // - `flip NAME` turns the lowest bit of a byte of a file, whose place from 0 stands below it;
@@ -16,7 +16,7 @@
 mod altered;
 mod partial;
 
-use altered::Altered;
+use altered::{Alteration, Altered};
 use case_file::{Case, cases};
 use cvm_outside::{MemSectors, MemShelf, MemSink, Sectors, Shelf};
 use cvm_shell::run;
@@ -25,9 +25,6 @@ use partial::Partial;
 use std::alloc::{AllocError, Global};
 use std::fmt::Write;
 use std::{env, fs, io, str};
-
-/// The room of a sink that says none, in bytes.
-const ROOM: usize = 65_536;
 
 /// An outside in memory.
 #[derive(Drop)]
@@ -47,10 +44,10 @@ struct Options {
     shelf: Vec<u64>,
     sink: Vec<u64>,
     disk: Vec<u64>,
-    room: usize,
+    room: Option<usize>,
     takes: usize,
     sectors: u32,
-    alter: Vec<u64>,
+    alter: Option<Alteration>,
 }
 
 /// Reads the numbers of a text that stand between blanks.
@@ -64,16 +61,29 @@ fn numbers(alloc: Global, text: &str) -> Result<Vec<u64>, AllocError> {
     Ok(numbers)
 }
 
+/// The alteration that a text's sector, place and word say.
+fn alteration_in(text: &str) -> Option<Alteration> {
+    let mut words = text.split(' ');
+    let sector = words.next()?.parse::<u32>().ok()?;
+    let place = words.next()?.parse::<usize>().ok()?;
+    let word = words.next()?.parse::<u32>().ok()?;
+    Some(Alteration {
+        sector,
+        place,
+        word,
+    })
+}
+
 /// Reads the lines of a case.
 fn read_options(alloc: Global, lines: &str) -> Result<Options, AllocError> {
     let mut options = Options {
         shelf: Vec::new(alloc),
         sink: Vec::new(alloc),
         disk: Vec::new(alloc),
-        room: ROOM,
+        room: None,
         takes: 0,
         sectors: 2,
-        alter: Vec::new(alloc),
+        alter: None,
     };
     for line in lines.lines() {
         let (what, rest) = line.split_once(' ').unwrap_or((line, ""));
@@ -81,8 +91,8 @@ fn read_options(alloc: Global, lines: &str) -> Result<Options, AllocError> {
             "shelf" => options.shelf = numbers(alloc, rest)?,
             "sink" => options.sink = numbers(alloc, rest)?,
             "disk" => options.disk = numbers(alloc, rest)?,
-            "alter" => options.alter = numbers(alloc, rest)?,
-            "room" => options.room = rest.parse::<usize>().unwrap_or(ROOM),
+            "alter" => options.alter = alteration_in(rest),
+            "room" => options.room = rest.parse::<usize>().ok(),
             "takes" => options.takes = rest.parse::<usize>().unwrap_or(0),
             _ => options.sectors = rest.parse::<u32>().unwrap_or(2),
         }
@@ -93,15 +103,16 @@ fn read_options(alloc: Global, lines: &str) -> Result<Options, AllocError> {
 /// A new outside.
 fn world_of(alloc: Global, lines: &[u8]) -> Result<World, AllocError> {
     let options = read_options(alloc, str::from_utf8(lines).unwrap_or(""))?;
+    let sink = match options.room {
+        Some(room) => MemSink::with_room(alloc, room, options.sink)?,
+        None => MemSink::new(alloc, options.sink)?,
+    };
     Ok(World {
         shelf: MemShelf::new(alloc, options.shelf)?,
-        sink: Partial::new(
-            MemSink::with_room(alloc, options.room, options.sink)?,
-            options.takes,
-        ),
+        sink: Partial::new(sink, options.takes),
         disk: Altered::new(
             MemSectors::new(alloc, options.sectors, options.disk)?,
-            &options.alter,
+            options.alter,
         ),
         before: 0,
         shown: 0,
