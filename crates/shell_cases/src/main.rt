@@ -9,12 +9,14 @@
 //   folder in which the program runs, whose path stands below it. A put to it has room for as many;
 // - `flip NAME` turns the lowest bit of a byte of a file, whose place from 0 stands below it;
 // - `run WORD ..` runs the command of these words, and `as PATH` says whether its text is that of a file of the folder;
+// - `sure WORD ..` runs it over copies of the files that its words name, a sink and a disk where no call fails, and prints the status alone;
 // - `show NAME` gets a file and prints its bytes, `part NAME AT COUNT` so many of its bytes from a place on, `object NAME` reads it as an
 //   object and prints its source and how many words it has, and `sector N` prints the words of a sector that aren't 0.
 #![tactic(auto)]
 
 mod altered;
 mod partial;
+mod sure;
 
 use altered::{Alteration, Altered};
 use case_file::{Case, cases};
@@ -25,6 +27,7 @@ use partial::Partial;
 use std::alloc::{AllocError, Global};
 use std::fmt::Write;
 use std::{env, fs, io, str};
+use sure::run_over_copies;
 
 /// An outside in memory.
 #[derive(Drop)]
@@ -140,6 +143,26 @@ fn put_text(out: &mut String, text: &[u8]) -> Result<(), AllocError> {
     Ok(())
 }
 
+/// The words of a line, between blanks.
+fn words_of(alloc: Global, line: &str) -> Result<Vec<String>, AllocError> {
+    let mut words = Vec::new(alloc);
+    if !line.is_empty() {
+        for word in line.split(' ') {
+            words.push(String::from_str(alloc, word)?)?;
+        }
+    }
+    Ok(words)
+}
+
+/// Prints what the sink took since it was shown.
+fn put_shown(world: &mut World, out: &mut String) -> Result<(), AllocError> {
+    let text = world.sink.bytes();
+    put_text(out, text.get(world.shown..).unwrap_or(b""))?;
+    world.before = world.shown;
+    world.shown = text.len();
+    Ok(())
+}
+
 /// Runs a command.
 fn run_words(
     alloc: Global,
@@ -147,12 +170,7 @@ fn run_words(
     out: &mut String,
     line: &str,
 ) -> Result<(), AllocError> {
-    let mut words = Vec::new(alloc);
-    if !line.is_empty() {
-        for word in line.split(' ') {
-            words.push(String::from_str(alloc, word)?)?;
-        }
-    }
+    let words = words_of(alloc, line)?;
     let status = run(
         alloc,
         &words,
@@ -160,10 +178,20 @@ fn run_words(
         &mut world.sink,
         &mut world.disk,
     );
-    let text = world.sink.bytes();
-    put_text(out, text.get(world.shown..).unwrap_or(b""))?;
-    world.before = world.shown;
-    world.shown = text.len();
+    put_shown(world, out)?;
+    writeln!(out, "status {}", status.code())
+}
+
+/// Runs a command over copies of its files, where no call fails.
+fn run_sure(
+    alloc: Global,
+    world: &mut World,
+    out: &mut String,
+    line: &str,
+) -> Result<(), AllocError> {
+    let words = words_of(alloc, line)?;
+    let sectors = world.disk.count();
+    let status = run_over_copies(alloc, &words, &mut world.shelf, sectors)?;
     writeln!(out, "status {}", status.code())
 }
 
@@ -304,6 +332,7 @@ fn do_part(
     match kind {
         "case" => *world = world_of(alloc, &part.source)?,
         "run" => run_words(alloc, world, out, name)?,
+        "sure" => run_sure(alloc, world, out, name)?,
         "show" => show_file(alloc, world, out, name)?,
         "part" => show_part(alloc, world, out, name)?,
         "object" => show_object(alloc, world, out, name)?,
