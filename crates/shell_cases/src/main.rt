@@ -10,23 +10,28 @@
 // - `flip NAME` turns the lowest bit of a byte of a file, whose place from 0 stands below it;
 // - `run WORD ..` runs the command of these words, and `as PATH` says whether its text is that of a file of the folder;
 // - `sure WORD ..` runs it over copies of the files that its words name, a sink and a disk where no call fails, and prints the status alone;
+// - `turns boot IMAGE SCHEDULE TURNS STEPS` loads the system of these words, asks it for its next turn as often as TURNS says, and prints each
+//   answer with how often it came in succession, how the run ended, its steps, and what was printed of it;
 // - `show NAME` gets a file and prints its bytes, `part NAME AT COUNT` so many of its bytes from a place on, `object NAME` reads it as an
 //   object and prints its source and how many words it has, and `sector N` prints the words of a sector that aren't 0.
 #![tactic(auto)]
 
 mod altered;
 mod partial;
+mod stepping;
 mod sure;
 
 use altered::{Alteration, Altered};
+use boot_run::{Run, View};
 use case_file::{Case, cases};
 use cvm_outside::{MemSectors, MemShelf, MemSink, Sectors, Shelf};
-use cvm_shell::run;
+use cvm_shell::{plan, read_boot, run};
 use object_file::read;
 use partial::Partial;
 use std::alloc::{AllocError, Global};
 use std::fmt::Write;
 use std::{env, fs, io, str};
+use stepping::put_turns;
 use sure::run_over_copies;
 
 /// An outside in memory.
@@ -195,6 +200,42 @@ fn run_sure(
     writeln!(out, "status {}", status.code())
 }
 
+/// Loads the system of a boot, and asks for its turns one by one.
+fn run_turns(
+    alloc: Global,
+    world: &mut World,
+    out: &mut String,
+    line: &str,
+) -> Result<(), AllocError> {
+    let words = words_of(alloc, line)?;
+    let Some(boot) = read_boot(&words) else {
+        return out.push_str("(no boot)\n");
+    };
+    let Ok(ready) = plan(alloc, &boot, &mut world.shelf) else {
+        return out.push_str("(not accepted)\n");
+    };
+    let loaded = Run::load(
+        alloc,
+        ready.layer,
+        ready.boot,
+        ready.schedule,
+        View::Boot,
+        &mut world.disk,
+    );
+    let Ok(mut loaded) = loaded else {
+        return out.push_str("(not loaded)\n");
+    };
+    put_turns(
+        &mut loaded,
+        boot.turns,
+        boot.steps,
+        &mut world.disk,
+        &mut world.sink,
+        out,
+    )?;
+    put_shown(world, out)
+}
+
 /// Prints the bytes of a file.
 fn show_file(
     alloc: Global,
@@ -333,6 +374,7 @@ fn do_part(
         "case" => *world = world_of(alloc, &part.source)?,
         "run" => run_words(alloc, world, out, name)?,
         "sure" => run_sure(alloc, world, out, name)?,
+        "turns" => run_turns(alloc, world, out, name)?,
         "show" => show_file(alloc, world, out, name)?,
         "part" => show_part(alloc, world, out, name)?,
         "object" => show_object(alloc, world, out, name)?,
