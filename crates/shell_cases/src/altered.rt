@@ -1,40 +1,46 @@
 // A disk that does not return what was written.
-ghost use Rattle.std.specs.Prelude.{length, None};
+ghost use Rattle.std.specs.Prelude.{length};
+ghost use Rattle.shell_cases.specs.Telling.{told_unless, told_size};
 
 use cvm_outside::{DiskFault, MemSectors, Sectors};
 
-/// A disk that tells no contents, and may answer the reads of one sector with another word.
+/// What the reads of one sector answer in place of one of its words.
+#[derive(Clone, Copy, Debug, PartialEq, Eq)]
+pub struct Alteration {
+    /// The sector.
+    pub sector: u32,
+    /// The place of the word, below 1,024.
+    pub place: usize,
+    /// What is answered.
+    pub word: u32,
+}
+
+/// A disk that may answer the reads of one sector with another word, and then tells no contents.
 #[derive(Drop)]
 pub struct Altered {
     inner: MemSectors,
-    sector: u64,
-    place: u64,
-    word: u32,
+    alteration: Option<Alteration>,
 }
 
 impl Altered {
-    /// Over a disk in memory: sector, place and word, or none of them.
-    pub fn new(inner: MemSectors, alter: &[u64]) -> Altered {
-        let number = |i: usize| alter.get(i).copied();
-        Altered {
-            inner,
-            sector: number(0).unwrap_or(u64::MAX),
-            place: number(1).unwrap_or(0),
-            word: (number(2).unwrap_or(0) % 0x1_0000_0000) as u32,
-        }
+    /// Over a disk in memory.
+    pub fn new(inner: MemSectors, alteration: Option<Alteration>) -> Altered {
+        Altered { inner, alteration }
     }
 }
 
 impl Sectors for Altered {
-    ghost sectors = { λ _. None };
+    ghost sectors = { λ s. told_unless s.alteration s.inner.sectors };
 
     ghost size = { λ s. length s.inner.sectors };
 
     ghost faults = { λ s. s.inner.calls.faults };
 
-    ghost sized = { λ _. tt };
+    ghost sized = { λ s. told_size s.alteration s.inner.sectors };
 
-    fn are_sectors(&self) {}
+    fn are_sectors(&self) {
+        self.inner.are_sectors();
+    }
 
     fn count(&self) -> u32 {
         self.inner.count()
@@ -42,8 +48,10 @@ impl Sectors for Altered {
 
     fn read(&mut self, i: u32, into: &mut [u32; 1024]) -> Result<(), DiskFault> {
         self.inner.read(i, into)?;
-        if u64::from(i) == self.sector && self.place < 1024 {
-            into[self.place as usize] = self.word;
+        if let Some(alteration) = self.alteration {
+            if i == alteration.sector && alteration.place < 1024 {
+                into[alteration.place] = alteration.word;
+            }
         }
         Ok(())
     }

@@ -2,32 +2,37 @@
 // that are asked for. `case_file` says how a case is written. The kinds, in the order in which they stand:
 //
 // - `case NAME` begins with a new outside. Lines below it may say `shelf N ..`, `sink N ..` or `disk N ..`, the numbers of the calls of
-//   that object that fail, from 0; `room N`, how many bytes the sink has room for; `takes N`, that it takes the first N bytes of a put that
-//   fails, which is a call of its own; `sectors N`, how many sectors the disk has; `alter S P W`, that the disk answers each read of sector S
-//   with the word W in place of word P;
+//   that object that fail, from 0; `room N`, how many bytes the sink has room for, in place of 1 MiB; `takes N`, that it takes the first N
+//   bytes of a put that fails, which is a call of its own; `sectors N`, how many sectors the disk has; `alter S P W`, that the disk answers
+//   each read of sector S with the word W in place of word P;
 // - `file NAME` places a file with these bytes, `zeros NAME` one with so many bytes 0, and `host NAME` one with the bytes of a file of the
 //   folder in which the program runs, whose path stands below it. A put to it has room for as many;
 // - `flip NAME` turns the lowest bit of a byte of a file, whose place from 0 stands below it;
 // - `run WORD ..` runs the command of these words, and `as PATH` says whether its text is that of a file of the folder;
+// - `sure WORD ..` runs it over copies of the files that its words name, a sink and a disk where no call fails, and prints the status alone;
+// - `turns boot IMAGE SCHEDULE TURNS STEPS` loads the system of these words, asks it for its next turn as often as TURNS says, and prints each
+//   answer with how often it came in succession, how the run ended, its steps, and what was printed of it;
 // - `show NAME` gets a file and prints its bytes, `part NAME AT COUNT` so many of its bytes from a place on, `object NAME` reads it as an
 //   object and prints its source and how many words it has, and `sector N` prints the words of a sector that aren't 0.
 #![tactic(auto)]
 
 mod altered;
 mod partial;
+mod stepping;
+mod sure;
 
-use altered::Altered;
+use altered::{Alteration, Altered};
+use boot_run::{Run, View};
 use case_file::{Case, cases};
 use cvm_outside::{MemSectors, MemShelf, MemSink, Sectors, Shelf};
-use cvm_shell::run;
+use cvm_shell::{plan, read_boot, run};
 use object_file::read;
 use partial::Partial;
 use std::alloc::{AllocError, Global};
 use std::fmt::Write;
 use std::{env, fs, io, str};
-
-/// The room of a sink that says none, in bytes.
-const ROOM: usize = 65_536;
+use stepping::put_turns;
+use sure::run_over_copies;
 
 /// An outside in memory.
 #[derive(Drop)]
@@ -47,10 +52,10 @@ struct Options {
     shelf: Vec<u64>,
     sink: Vec<u64>,
     disk: Vec<u64>,
-    room: usize,
+    room: Option<usize>,
     takes: usize,
     sectors: u32,
-    alter: Vec<u64>,
+    alter: Option<Alteration>,
 }
 
 /// Reads the numbers of a text that stand between blanks.
@@ -64,16 +69,29 @@ fn numbers(alloc: Global, text: &str) -> Result<Vec<u64>, AllocError> {
     Ok(numbers)
 }
 
+/// The alteration that a text's sector, place and word say.
+fn alteration_in(text: &str) -> Option<Alteration> {
+    let mut words = text.split(' ');
+    let sector = words.next()?.parse::<u32>().ok()?;
+    let place = words.next()?.parse::<usize>().ok()?;
+    let word = words.next()?.parse::<u32>().ok()?;
+    Some(Alteration {
+        sector,
+        place,
+        word,
+    })
+}
+
 /// Reads the lines of a case.
 fn read_options(alloc: Global, lines: &str) -> Result<Options, AllocError> {
     let mut options = Options {
         shelf: Vec::new(alloc),
         sink: Vec::new(alloc),
         disk: Vec::new(alloc),
-        room: ROOM,
+        room: None,
         takes: 0,
         sectors: 2,
-        alter: Vec::new(alloc),
+        alter: None,
     };
     for line in lines.lines() {
         let (what, rest) = line.split_once(' ').unwrap_or((line, ""));
@@ -81,8 +99,8 @@ fn read_options(alloc: Global, lines: &str) -> Result<Options, AllocError> {
             "shelf" => options.shelf = numbers(alloc, rest)?,
             "sink" => options.sink = numbers(alloc, rest)?,
             "disk" => options.disk = numbers(alloc, rest)?,
-            "alter" => options.alter = numbers(alloc, rest)?,
-            "room" => options.room = rest.parse::<usize>().unwrap_or(ROOM),
+            "alter" => options.alter = alteration_in(rest),
+            "room" => options.room = rest.parse::<usize>().ok(),
             "takes" => options.takes = rest.parse::<usize>().unwrap_or(0),
             _ => options.sectors = rest.parse::<u32>().unwrap_or(2),
         }
@@ -93,15 +111,16 @@ fn read_options(alloc: Global, lines: &str) -> Result<Options, AllocError> {
 /// A new outside.
 fn world_of(alloc: Global, lines: &[u8]) -> Result<World, AllocError> {
     let options = read_options(alloc, str::from_utf8(lines).unwrap_or(""))?;
+    let sink = match options.room {
+        Some(room) => MemSink::with_room(alloc, room, options.sink)?,
+        None => MemSink::new(alloc, options.sink)?,
+    };
     Ok(World {
         shelf: MemShelf::new(alloc, options.shelf)?,
-        sink: Partial::new(
-            MemSink::with_room(alloc, options.room, options.sink)?,
-            options.takes,
-        ),
+        sink: Partial::new(sink, options.takes),
         disk: Altered::new(
             MemSectors::new(alloc, options.sectors, options.disk)?,
-            &options.alter,
+            options.alter,
         ),
         before: 0,
         shown: 0,
@@ -129,6 +148,26 @@ fn put_text(out: &mut String, text: &[u8]) -> Result<(), AllocError> {
     Ok(())
 }
 
+/// The words of a line, between blanks.
+fn words_of(alloc: Global, line: &str) -> Result<Vec<String>, AllocError> {
+    let mut words = Vec::new(alloc);
+    if !line.is_empty() {
+        for word in line.split(' ') {
+            words.push(String::from_str(alloc, word)?)?;
+        }
+    }
+    Ok(words)
+}
+
+/// Prints what the sink took since it was shown.
+fn put_shown(world: &mut World, out: &mut String) -> Result<(), AllocError> {
+    let text = world.sink.bytes();
+    put_text(out, text.get(world.shown..).unwrap_or(b""))?;
+    world.before = world.shown;
+    world.shown = text.len();
+    Ok(())
+}
+
 /// Runs a command.
 fn run_words(
     alloc: Global,
@@ -136,12 +175,7 @@ fn run_words(
     out: &mut String,
     line: &str,
 ) -> Result<(), AllocError> {
-    let mut words = Vec::new(alloc);
-    if !line.is_empty() {
-        for word in line.split(' ') {
-            words.push(String::from_str(alloc, word)?)?;
-        }
-    }
+    let words = words_of(alloc, line)?;
     let status = run(
         alloc,
         &words,
@@ -149,11 +183,57 @@ fn run_words(
         &mut world.sink,
         &mut world.disk,
     );
-    let text = world.sink.bytes();
-    put_text(out, text.get(world.shown..).unwrap_or(b""))?;
-    world.before = world.shown;
-    world.shown = text.len();
+    put_shown(world, out)?;
     writeln!(out, "status {}", status.code())
+}
+
+/// Runs a command over copies of its files, where no call fails.
+fn run_sure(
+    alloc: Global,
+    world: &mut World,
+    out: &mut String,
+    line: &str,
+) -> Result<(), AllocError> {
+    let words = words_of(alloc, line)?;
+    let sectors = world.disk.count();
+    let status = run_over_copies(alloc, &words, &mut world.shelf, sectors)?;
+    writeln!(out, "status {}", status.code())
+}
+
+/// Loads the system of a boot, and asks for its turns one by one.
+fn run_turns(
+    alloc: Global,
+    world: &mut World,
+    out: &mut String,
+    line: &str,
+) -> Result<(), AllocError> {
+    let words = words_of(alloc, line)?;
+    let Some(boot) = read_boot(&words) else {
+        return out.push_str("(no boot)\n");
+    };
+    let Ok(ready) = plan(alloc, &boot, &mut world.shelf) else {
+        return out.push_str("(not accepted)\n");
+    };
+    let loaded = Run::load(
+        alloc,
+        ready.layer,
+        ready.boot,
+        ready.schedule,
+        View::Boot,
+        &mut world.disk,
+    );
+    let Ok(mut loaded) = loaded else {
+        return out.push_str("(not loaded)\n");
+    };
+    put_turns(
+        &mut loaded,
+        boot.turns,
+        boot.steps,
+        &mut world.disk,
+        &mut world.sink,
+        out,
+    )?;
+    put_shown(world, out)
 }
 
 /// Prints the bytes of a file.
@@ -293,6 +373,8 @@ fn do_part(
     match kind {
         "case" => *world = world_of(alloc, &part.source)?,
         "run" => run_words(alloc, world, out, name)?,
+        "sure" => run_sure(alloc, world, out, name)?,
+        "turns" => run_turns(alloc, world, out, name)?,
         "show" => show_file(alloc, world, out, name)?,
         "part" => show_part(alloc, world, out, name)?,
         "object" => show_object(alloc, world, out, name)?,

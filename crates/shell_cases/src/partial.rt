@@ -1,10 +1,9 @@
 // A sink that takes the first bytes of a put that fails.
-ghost use Rattle.std.specs.Prelude.{None};
+ghost use Rattle.std.specs.Prelude.{Some};
 
 use cvm_outside::{MemSink, Sink, SinkFault};
 
-/// A sink that tells no contents, and takes at most so many bytes of each put that fails. Where it takes any, this is a call
-/// of the sink within it, too.
+/// A sink that takes at most so many bytes of each put that fails. Where it takes any, this is a call of the sink within it, too.
 #[derive(Drop)]
 pub struct Partial {
     inner: MemSink,
@@ -29,7 +28,7 @@ impl Partial {
 }
 
 impl Sink for Partial {
-    ghost text = { λ _. None };
+    ghost text = { λ s. Some s.inner.text };
 
     ghost faults = { λ s. s.faults };
 
@@ -38,8 +37,8 @@ impl Sink for Partial {
             return Ok(());
         }
         if self.takes > 0 {
-            let first = bytes.get(..self.takes).unwrap_or(bytes);
-            self.inner.put(first).unwrap_or(());
+            let count = self.takes.min(bytes.len());
+            self.inner.put(&bytes[..count]).unwrap_or(());
         }
         self.faults = self.faults.saturating_add(1);
         Err(SinkFault::Failed)
