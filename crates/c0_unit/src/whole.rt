@@ -1,6 +1,6 @@
 // The words of a unit.
 
-ghost use Rattle.std.specs.Prelude.{◌≡◌, ◌+◌, ◌*◌, ◌≤◌, length, IfOk};
+ghost use Rattle.std.specs.Prelude.{◌≡◌, ◌+◌, ◌*◌, ◌≤◌, List, length, IfOk};
 ghost use Rattle.masm.specs.Places.{ArePlaces};
 ghost use Rattle.c0_tree.specs.Primitives.{CPrimitive};
 ghost use Rattle.c0_tree.specs.View.{unit_view};

@@ -1,13 +1,14 @@
--- A checked kernel has a `dispatch`: else the fault of a missing one would stand in it.
+-- A checked unit has a function with which its run begins: else the fault of a missing one would stand in it.
 use Rattle.std.proofs.Common.{◌≡◌, ℕ, suc, ◌+◌, ◌<◌, List, [], ◌∷◌, length, Bool, true, false, cond, refl, ap, ◌∙◌, arith}
 use Rattle.std.specs.Prelude.{not, ◌||◌, Some, None, slice_get, position}
 use Rattle.std.specs.List.{list_any, prefix_len}
 use Rattle.std.proofs.lemmas.Bool.{lt-ltb}
-use Rattle.c0_tree.specs.Tree.{CFunction}
-use Rattle.c0_meaning.specs.Fault.{NO_DISPATCH}
+use Rattle.c0_tree.specs.declared.primitive.Program.{Program}
+use Rattle.c0_tree.specs.Tree.{CFunction, CUnit}
 use Rattle.c0_meaning.specs.DeclaredTypes.{fault_if}
-use Rattle.c0_meaning.specs.Limits.{is_dispatch, whole}
-use Rattle.c0_meaning.specs.RunLaws.{HasDispatch}
+use Rattle.c0_meaning.specs.Limits.{first_faults, is_first, none_first, whole}
+use Rattle.c0_meaning.specs.RunLaws.{HasFirst}
+use Rattle.c0_meaning.specs.Unit.{IsCheckedAs}
 use Rattle.c0_meaning.proofs.Registers.{is_not}
 
 -- the first of functions that passes a test
@@ -52,14 +53,23 @@ position_found is fs h =
     let e : position is fs ≡ Some n = ap (λ b. cond b (Some n) None) (lt-ltb n (length fs) (omega (arith, r.first, r.inside))) in
     (r, e ∙ ap (λ k. Some k) r.first)
 
--- where the fault isn't, there is a `dispatch`
-present : (b : Bool) (n : ℕ) → fault_if (not b) NO_DISPATCH (whole n) ≡ [] → b ≡ true
-present true n e = refl
-present false n e =
+-- where the fault isn't, there is one
+present : (b : Bool) (number n : ℕ) → fault_if (not b) number (whole n) ≡ [] → b ≡ true
+present true number n e = refl
+present false number n e =
     let q : ◌≡◌ {A = ℕ} 1 0 = ap (λ xs. length xs) e in
     absurd (omega (arith, q))
 
-pub has_dispatch : HasDispatch
-has_dispatch u checked =
-    let p = position_found is_dispatch u.functions (present (list_any is_dispatch u.functions) u.length checked.dispatch) in
+pub some_first : (program : Program) (u : CUnit) → first_faults program u ≡ [] → list_any (is_first program) u.functions ≡ true
+some_first program u e = present (list_any (is_first program) u.functions) (none_first program) u.length e
+
+pub has_first : (program : Program) → HasFirst program
+has_first program u checked =
+    let p = position_found (is_first program) u.functions (some_first program u checked.first) in
     (p.0.number, p.0.function, p.1, p.0.there, p.0.right)
+
+-- and its number is that of one of the functions
+pub first_inside : (program : Program) (u : CUnit) → IsCheckedAs program u → (n : ℕ) × (position (is_first program) u.functions ≡ Some n) × (n < length u.functions)
+first_inside program u checked =
+    let p = position_found (is_first program) u.functions (some_first program u checked.first) in
+    (p.0.number, p.1, p.0.inside)
