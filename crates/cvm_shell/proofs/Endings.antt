@@ -17,13 +17,13 @@ use Rattle.cvm_shell.specs.declared.refusal.Refusal.TheVariants as by
 use Rattle.cvm_shell.specs.declared.boot.Session.{Session}
 use Rattle.boot_turns.specs.declared.answers.View.{View}
 use Rattle.boot_turns.specs.declared.answers.View.TheVariants as view
-use Rattle.cvm_shell.specs.Command.{Boot, Command, boot, trace, compile_user, compile_kernel, link, migrate, sample, IsCommand, IsNoCommand, GetsFiles, boot_session, trace_session, command_of}
+use Rattle.cvm_shell.specs.Command.{Boot, Command, boot, trace, compile_user, compile_kernel, compile_program, link, migrate, sample, IsCommand, IsNoCommand, GetsFiles, boot_session, trace_session, command_of}
 use Rattle.cvm_shell.specs.Outside.{Files, Outside, SameSectors, Leaves, Says, said, broken}
 use Rattle.cvm_shell.specs.Refusal.{Refusal, too_long, refusal_text, refusal_status}
-use Rattle.cvm_shell.specs.Plan.{Plan, bad_words, refuses, puts, boots, BootPlan, UserPlan, KernelPlan, LinkPlan, MigratePlan, SamplePlan, ComesTo, no_command, boot_plan, trace_plan, user_plan, kernel_plan, link_plan, migrate_plan, sample_plan, AllTold, IsPlan}
+use Rattle.cvm_shell.specs.Plan.{Plan, bad_words, refuses, puts, boots, BootPlan, UserPlan, KernelPlan, ProgramPlan, LinkPlan, MigratePlan, SamplePlan, ComesTo, no_command, boot_plan, trace_plan, user_plan, kernel_plan, image_plan, link_plan, migrate_plan, sample_plan, AllTold, IsPlan}
 use Rattle.cvm_shell.specs.Boot.{RunEnds}
 use Rattle.cvm_shell.specs.Outcome.{HasPut, CommandEnds, done, undone}
-use Rattle.cvm_shell.specs.Stages.{IsBootPlan, IsUserPlan, IsKernelPlan, IsLinkPlan, IsMigratePlan, IsSamplePlan}
+use Rattle.cvm_shell.specs.Stages.{IsBootPlan, IsUserPlan, IsKernelPlan, IsProgramPlan, IsLinkPlan, IsMigratePlan, IsSamplePlan}
 use Rattle.cvm_shell.specs.Views.{refusal_view}
 use Rattle.cvm_shell.proofs.OneCommand.{one_command}
 
@@ -35,6 +35,7 @@ CommandPlan file (boot b) = BootPlan layer_image file b (boot_session b)
 CommandPlan file (trace t) = BootPlan layer_image file t.boot (trace_session t)
 CommandPlan file (compile_user c) = UserPlan file c
 CommandPlan file (compile_kernel c) = KernelPlan file c
+CommandPlan file (compile_program c) = ProgramPlan file c
 CommandPlan file (link l) = LinkPlan layer_image file l
 CommandPlan file (migrate m) = MigratePlan layer_image file m
 CommandPlan file (sample x) = SamplePlan layer_image x.number
@@ -45,6 +46,7 @@ FilesPlan file (boot b) p = IsBootPlan layer_image file b (boot_session b) p
 FilesPlan file (trace t) p = IsBootPlan layer_image file t.boot (trace_session t) p
 FilesPlan file (compile_user c) p = IsUserPlan file c p
 FilesPlan file (compile_kernel c) p = IsKernelPlan file c p
+FilesPlan file (compile_program c) p = IsProgramPlan file c p
 FilesPlan file (link l) p = IsLinkPlan layer_image file l p
 FilesPlan file (migrate m) p = IsMigratePlan layer_image file m p
 FilesPlan file (sample x) p = IsSamplePlan layer_image x.number p
@@ -58,6 +60,7 @@ only_plan words file c p is only q (boot_plan b r other got) = only_here words f
 only_plan words file c p is only q (trace_plan t r other got) = only_here words file c (trace t) p r is other only got
 only_plan words file c p is only q (user_plan d r other got) = only_here words file c (compile_user d) p r is other only got
 only_plan words file c p is only q (kernel_plan d r other got) = only_here words file c (compile_kernel d) p r is other only got
+only_plan words file c p is only q (image_plan d r other got) = only_here words file c (compile_program d) p r is other only got
 only_plan words file c p is only q (link_plan l r other got) = only_here words file c (link l) p r is other only got
 only_plan words file c p is only q (migrate_plan m r other got) = only_here words file c (migrate m) p r is other only got
 only_plan words file c p is only q (sample_plan x r other got) = only_here words file c (sample x) p r is other only got
@@ -68,6 +71,7 @@ only_none words file none q (boot_plan b r other got) = absurd (none (boot b) ot
 only_none words file none q (trace_plan t r other got) = absurd (none (trace t) other)
 only_none words file none q (user_plan c r other got) = absurd (none (compile_user c) other)
 only_none words file none q (kernel_plan c r other got) = absurd (none (compile_kernel c) other)
+only_none words file none q (image_plan c r other got) = absurd (none (compile_program c) other)
 only_none words file none q (link_plan l r other got) = absurd (none (link l) other)
 only_none words file none q (migrate_plan m r other got) = absurd (none (migrate m) other)
 only_none words file none q (sample_plan x r other got) = absurd (none (sample x) other)
@@ -77,6 +81,7 @@ plan_of words file (boot b) p is plan = record { comes = boot_plan b p is plan.c
 plan_of words file (trace t) p is plan = record { comes = trace_plan t p is plan.comes; only = λ told q h. only_plan words file (trace t) p is (plan.only (told (trace t) is)) q h }
 plan_of words file (compile_user c) p is plan = record { comes = user_plan c p is plan.comes; only = λ told q h. only_plan words file (compile_user c) p is (plan.only (told (compile_user c) is)) q h }
 plan_of words file (compile_kernel c) p is plan = record { comes = kernel_plan c p is plan.comes; only = λ told q h. only_plan words file (compile_kernel c) p is (plan.only (told (compile_kernel c) is)) q h }
+plan_of words file (compile_program c) p is plan = record { comes = image_plan c p is plan.comes; only = λ told q h. only_plan words file (compile_program c) p is (plan.only (told (compile_program c) is)) q h }
 plan_of words file (link l) p is plan = record { comes = link_plan l p is plan.comes; only = λ told q h. only_plan words file (link l) p is (plan.only (told (link l) is)) q h }
 plan_of words file (migrate m) p is plan = record { comes = migrate_plan m p is plan.comes; only = λ told q h. only_plan words file (migrate m) p is (plan.only (told (migrate m) is)) q h }
 plan_of words file (sample x) p is plan = record { comes = sample_plan x p is plan.comes; only = λ told q h. only_plan words file (sample x) p is (plan.only (told (sample x) is)) q h }
@@ -114,6 +119,7 @@ memory_long s taken e long h = let d : Stops.Memory ≡ Stops.Refused by.TooLong
 which : (r : ByCode) → (r ≡ by.TooLong) ⊎ (refusal_view r ≢ too_long)
 which (by.BadText fault) = inr (λ e. cc)
 which (by.BadSource fault) = inr (λ e. cc)
+which (by.BadProgram fault) = inr (λ e. cc)
 which (by.BadObject fault) = inr (λ e. cc)
 which (by.BadFile fault) = inr (λ e. cc)
 which (by.Unlinked fault) = inr (λ e. cc)

@@ -12,11 +12,12 @@ mod FourBytes
 mod Fronts
 mod GotFiles
 mod Isolating
-mod KernelPlans
+mod CodePlans
 mod LinkPlans
 mod MigratePlans
 mod OneCommand
 mod Plans
+mod ProgramPlans
 mod SampleEndings
 mod SamplePlans
 mod SourceStops

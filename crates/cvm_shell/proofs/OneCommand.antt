@@ -3,7 +3,7 @@ use Rattle.std.proofs.Common.{◌≡◌, ℕ, ◌<◌, ◌^◌, List, [], ◌∷
 use Rattle.std.specs.Prelude.{decimal, slice_index, ◌==◌, if◌then◌else◌}
 use Rattle.std.specs.Str.Parse.{digits_value}
 use Rattle.std.proofs.lemmas.Fmt.{decimal_is_IsNumeral}
-use Rattle.cvm_shell.specs.Command.{Boot, Trace, Command, boot, trace, compile_user, compile_kernel, link, migrate, sample, IsCommand}
+use Rattle.cvm_shell.specs.Command.{Boot, Trace, Command, boot, trace, compile_user, compile_kernel, compile_program, link, migrate, sample, IsCommand}
 
 -- what stands at a place
 abbrev at : List (List ℕ) → ℕ → List ℕ
@@ -29,6 +29,7 @@ meant words =
     if letter (at words 0) == 109 then migrate (record { old = at words 1; image = at words 2 }) else
     if letter (at words 0) == 115 then sample (record { number = number (at words 1) }) else
     if letter (at words 1) == 117 then compile_user (record { text = at words 2; image = at words 3 }) else
+    if letter (at words 1) == 112 then compile_program (record { source = at words 2; image = at words 3 }) else
     compile_kernel (record { source = at words 2; object = at words 3 })
 
 -- a number is read as it was spelled
@@ -51,6 +52,7 @@ is_meant words (trace t) is =
     ap meant is.spelled ∙ trace_back t _ _ (boot_back t.boot is.turns_fit is.steps_fit) (read_back t.user (omega (arith, is.most_users)))
 is_meant words (compile_user c) is = ap meant is.spelled
 is_meant words (compile_kernel c) is = ap meant is.spelled
+is_meant words (compile_program c) is = ap meant is.spelled
 is_meant words (link l) is = ap meant is.spelled
 is_meant words (migrate m) is = ap meant is.spelled
 is_meant words (sample x) is =

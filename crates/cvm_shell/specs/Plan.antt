@@ -1,17 +1,19 @@
 -- What words and the files that they name come to, before anything is put or run: stage by stage, in the order of work.
-use Rattle.std.specs.Prelude.{◌≡◌, ◌≢◌, ⊤, ℕ, suc, nat_eq, ◌%◌, ◌<◌, ◌≤◌, List, [], ◌∷◌, length, flat_map, Option, Result, Ok, Err, if◌then◌else◌}
+use Rattle.std.specs.Prelude.{◌≡◌, ◌≢◌, ⊤, ℕ, suc, nat_eq, nat_lt, ◌%◌, ◌<◌, ◌≤◌, List, [], ◌∷◌, length, flat_map, Option, Result, Ok, Err, if◌then◌else◌}
 use Rattle.std.specs.Int.{to_le_bytes, w32}
 use Rattle.std.specs.Option.{IsSome}
 use Rattle.cvm_outside.specs.Told.{TOO_LONG, Tells}
 use Rattle.mips_asm.specs.Assembled.{assembled}
 use Rattle.mips_asm.specs.declared.fault.AsmFault.{AsmFault}
+use Rattle.c0_tree.specs.declared.primitive.Program.{Program}
+use Rattle.c0_tree.specs.declared.primitive.Program.TheVariants.{Kernel, User}
 use Rattle.c0_tree.specs.Tree.{CUnit as Unit}
 use Rattle.c0_parser.specs.Faults.{FaultIs}
 use Rattle.c0_parser.specs.declared.fault.ReadFault.{ReadFault}
 use Rattle.c0_parser.specs.declared.fault.ReadFault.TheVariants as read
 use Rattle.c0_types.specs.declared.fault.TypeFault.{TypeFault}
 use Rattle.c0_types.specs.declared.fault.TypeFault.TheVariants as typing
-use Rattle.c0_types.specs.Front.{IsUnitOf, IsMistyped, IsAnswer}
+use Rattle.c0_types.specs.Front.{IsUnitOf, IsUnitAs, IsMistypedAs, IsAnswer}
 use Rattle.c0_types.specs.declared.source_fault.SourceFault.TheVariants.{Reading as BadReading, Typing as BadTyping}
 use Rattle.object_file.specs.Format.{spelling}
 use Rattle.kernel_linker.specs.Object.{object_of}
@@ -28,6 +30,9 @@ use Rattle.kernel_linker.specs.Accept.{System, accept_answer}
 use Rattle.kernel_linker.specs.Migrate.{migrate_answer}
 use Rattle.kernel_linker.specs.Fault.{accept_file_fault}
 use Rattle.kernel_linker.specs.declared.fault.AcceptFault.{AcceptFault}
+use Rattle.user_c0.specs.declared.fault.UserFault.TheVariants.{TooLarge}
+use Rattle.user_c0.specs.Image.{image_words}
+use Rattle.user_c0.specs.Program.{MAX_IMAGE}
 use Rattle.schedule_file.specs.Rows.{Rows}
 use Rattle.schedule_file.specs.Schedule.{schedule_of}
 use Rattle.schedule_file.specs.declared.fault.ScheduleFault.{ScheduleFault}
@@ -42,9 +47,10 @@ use Rattle.c0_types.specs.declared.source_fault.SourceFault.{SourceFault}
 use Rattle.sample_maker.specs.Parts.{Parts as Sampled}
 use Rattle.sample_maker.specs.Sample.{sample_of}
 use Rattle.cvm_shell.specs.declared.boot.Session.{Session}
-use Rattle.cvm_shell.specs.Command.{Boot, Trace, CompileUser, CompileKernel, Link, Migrate, Sample, Command, boot, trace, compile_user, compile_kernel, link, migrate, sample}
+use Rattle.cvm_shell.specs.CompileProgram.{CompileProgram, IsCompileProgram}
+use Rattle.cvm_shell.specs.Command.{Boot, Trace, CompileUser, CompileKernel, Link, Migrate, Sample, Command, boot, trace, compile_user, compile_kernel, compile_program, link, migrate, sample}
 use Rattle.cvm_shell.specs.Command.{IsBoot, IsTrace, IsCompileUser, IsCompileKernel, IsLink, IsMigrate, IsSample, IsCommand, IsNoCommand, boot_session, trace_session, sample_session}
-use Rattle.cvm_shell.specs.Refusal.{Refusal, bad_text, bad_source, bad_object, bad_file, unlinked, unaccepted, bad_schedule, too_long}
+use Rattle.cvm_shell.specs.Refusal.{Refusal, bad_text, bad_source, bad_object, bad_file, bad_program, unlinked, unaccepted, bad_schedule, too_long}
 
 -- what is to be done
 pub data Plan : Type 0 where
@@ -110,15 +116,35 @@ UserPlan file c p = Got (file c.text) (AfterText c.image) p
 abbrev pub MOST_SOURCE : ℕ
 MOST_SOURCE = 1048576
 
--- AFTER THE SOURCE of a kernel it is read, its tree is checked, and its unit is compiled
-pub data AfterKernel (name source : List ℕ) : Plan → Type 0 where
-  unread : (f : ReadFault) → f ≢ read.Memory → FaultIs source f → AfterKernel name source (refuses (bad_source (BadReading f)))
-  mistyped : (f : TypeFault) → f ≢ typing.Memory → length source ≤ MOST_SOURCE → IsMistyped source f → AfterKernel name source (refuses (bad_source (BadTyping f)))
-  compiles : (u : Unit) → length source ≤ MOST_SOURCE → IsUnitOf source u → AfterKernel name source (puts name (spelling (object_of source u)))
+-- AFTER THE SOURCE of a kernel or a user program it is read, its tree is checked, and its unit is compiled, which comes to this
+pub data AfterCode (program : Program) (due : Unit → Plan) (source : List ℕ) : Plan → Type 0 where
+  unread : (f : ReadFault) → f ≢ read.Memory → FaultIs source f → AfterCode program due source (refuses (bad_source (BadReading f)))
+  mistyped : (f : TypeFault) → f ≢ typing.Memory → length source ≤ MOST_SOURCE → IsMistypedAs program source f
+      → AfterCode program due source (refuses (bad_source (BadTyping f)))
+  compiles : (u : Unit) → length source ≤ MOST_SOURCE → IsUnitAs program source u → AfterCode program due source (due u)
+
+-- the object of a kernel is put
+abbrev pub object_plan : (name source : List ℕ) → Unit → Plan
+object_plan name source u = puts name (spelling (object_of source u))
+
+abbrev pub AfterKernel : (name source : List ℕ) → Plan → Type 0
+AfterKernel name source = AfterCode Kernel (object_plan name source) source
+
+-- THE IMAGE of a user program is put, unless it has more words than an image may have
+abbrev pub program_plan : (name : List ℕ) → Unit → Plan
+program_plan name u =
+    if nat_lt MAX_IMAGE (length (image_words u)) then refuses (bad_program (TooLarge (length (image_words u)))) else puts name (bytes_of (image_words u))
+
+abbrev pub AfterProgram : (name source : List ℕ) → Plan → Type 0
+AfterProgram name source = AfterCode User (program_plan name) source
 
 -- compile kernel SRC OBJ gets the source
 abbrev pub KernelPlan : (List ℕ → Option (List ℕ)) → CompileKernel → Plan → Type 0
 KernelPlan file c p = Got (file c.source) (AfterKernel c.object) p
+
+-- compile program SRC IMG gets the source
+abbrev pub ProgramPlan : (List ℕ → Option (List ℕ)) → CompileProgram → Plan → Type 0
+ProgramPlan file c p = Got (file c.source) (AfterProgram c.image) p
 
 -- FILES ARE GOT one after the other: the first that is too long is refused, else the bytes of all go on
 abbrev pub GotAll : (List ℕ → Option (List ℕ)) → List (List ℕ) → (List (List ℕ) → Plan → Type 0) → Plan → Type 0
@@ -202,6 +228,7 @@ pub data ComesTo (words : List (List ℕ)) (file : List ℕ → Option (List ℕ
   trace_plan : (t : Trace) (p : Plan) → IsTrace words t → BootPlan layer_image file t.boot (trace_session t) p → ComesTo words file p
   user_plan : (c : CompileUser) (p : Plan) → IsCompileUser words c → UserPlan file c p → ComesTo words file p
   kernel_plan : (c : CompileKernel) (p : Plan) → IsCompileKernel words c → KernelPlan file c p → ComesTo words file p
+  image_plan : (c : CompileProgram) (p : Plan) → IsCompileProgram words c → ProgramPlan file c p → ComesTo words file p
   link_plan : (l : Link) (p : Plan) → IsLink words l → LinkPlan layer_image file l p → ComesTo words file p
   migrate_plan : (m : Migrate) (p : Plan) → IsMigrate words m → MigratePlan layer_image file m p → ComesTo words file p
   sample_plan : (x : Sample) (p : Plan) → IsSample words x → SamplePlan layer_image x.number p → ComesTo words file p
@@ -217,6 +244,7 @@ GetsTold file (boot b) = IsSome (file b.image) × IsSome (file b.schedule)
 GetsTold file (trace t) = IsSome (file t.boot.image) × IsSome (file t.boot.schedule)
 GetsTold file (compile_user c) = IsSome (file c.text)
 GetsTold file (compile_kernel c) = IsSome (file c.source)
+GetsTold file (compile_program c) = IsSome (file c.source)
 GetsTold file (link l) = IsSome (file l.object) × IsSome (file l.params) × AreTold file l.users
 GetsTold file (migrate m) = IsSome (file m.old)
 GetsTold file (sample x) = ⊤

@@ -3,6 +3,7 @@ ghost use Rattle.std.specs.Prelude.{◌≡◌, ◌<◌, ◌≤◌, ◌^◌, ℕ,
 ghost use Rattle.cvm_shell.specs.Command as command;
 ghost use Rattle.cvm_shell.specs.Views.{boot_view, trace_view, user_view, kernel_view, link_view, migrate_view, sample_view, command_view, IsUserNumber};
 
+use crate::program::{CompileProgram, read_compile_program};
 use cvm_text::{read_decimal, spelled_numbers_are_read};
 
 /// The most turns that a command names, and the last sample.
@@ -91,6 +92,8 @@ pub enum Command<'a> {
     CompileUser(CompileUser<'a>),
     /// Compiles the source of a kernel, and puts its object.
     CompileKernel(CompileKernel<'a>),
+    /// Compiles the source of a user program, and puts its image.
+    CompileProgram(CompileProgram<'a>),
     /// Links an object, parameters and users, and puts their image.
     Link(Link<'a>),
     /// Makes an image of form 2 anew, and puts the image of form 3.
@@ -116,6 +119,9 @@ pub fn read_command(words: &Vec<String>) -> Option<Command<'_>>
     }
     if let Some(kernel) = read_compile_kernel(words) {
         return Some(Command::CompileKernel(kernel));
+    }
+    if let Some(program) = read_compile_program(words) {
+        return Some(Command::CompileProgram(program));
     }
     if let Some(link) = read_link(words) {
         return Some(Command::Link(link));

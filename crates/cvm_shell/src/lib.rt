@@ -17,6 +17,7 @@ pub mod laws;
 pub mod linking;
 pub mod migration;
 pub mod object;
+pub mod program;
 pub mod refusal;
 pub mod sampling;
 pub mod saying;
@@ -37,6 +38,8 @@ pub use linking::system_image;
 pub use migration::migrated_image;
 use mips_table::runs::turns_are_counted;
 pub use object::kernel_object;
+use program::compile_program;
+pub use program::{CompileProgram, program_image, read_compile_program};
 pub use refusal::Refusal;
 pub use sampling::sampled;
 use saying::{refuse, say};
@@ -46,14 +49,14 @@ use std::alloc::Global;
 /// Runs the command of these words over a shelf of files, a sink of text and a disk.
 ///
 /// The commands are `boot IMAGE SCHEDULE TURNS STEPS`, `trace IMAGE SCHEDULE TURNS STEPS USER`, `compile user ASM IMG`,
-/// `compile kernel SRC OBJ`, `link OBJ PARAMS OUT USER..`, `migrate IMAGE OUT` and `sample N`. A trace runs the machine as its boot does,
+/// `compile kernel SRC OBJ`, `compile program SRC IMG`, `link OBJ PARAMS OUT USER..`, `migrate IMAGE OUT` and `sample N`. A trace runs the machine as its boot does,
 /// and prints in place of the boot's rows and report the start row, the journal, the end and the registers and memory of one user, of
 /// those of the image, counted from 1. A migration puts the image of form 3 of an image of form 2. A sample is the boot of the system
 /// that is made from its number, for 100,000 turns and at most 4,000,000,000 steps.
 ///
 /// The status says how it ended; `Words`, `Refused`, `Shelf` where a file is too long, and `Disk` where the disk is too small, print a
 /// row of their own, and a sink that fails is `Sink`, also in place of another status whose text it was to take. No file changes but the
-/// one that a `compile user`, a `compile kernel`, a `link` or a `migrate` names to be put, and no sector but those of the users' pages of
+/// one that a `compile user`, a `compile kernel`, a `compile program`, a `link` or a `migrate` names to be put, and no sector but those of the users' pages of
 /// a `boot`, a `trace` or a `sample`.
 ///
 /// What a `trace` that is done prints of its user depends on nothing but the user's own words, its journal and how the run ended:
@@ -106,6 +109,7 @@ fn run_command<S: Shelf, O: Sink, D: Sectors>(
         }
         Some(Command::CompileUser(names)) => compile_user(alloc, &names, shelf, out),
         Some(Command::CompileKernel(names)) => compile_kernel(alloc, &names, shelf, out),
+        Some(Command::CompileProgram(names)) => compile_program(alloc, &names, shelf, out),
         Some(Command::Link(names)) => link_system(alloc, &names, shelf, out),
         Some(Command::Migrate(names)) => migrate_image(alloc, &names, shelf, out),
         Some(Command::Sample(sample)) => run_sample(alloc, sample.number, out, disk),

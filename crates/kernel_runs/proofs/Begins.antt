@@ -45,7 +45,7 @@ use Rattle.cvm_model.specs.Stands.{Site, Stands, address_of}
 use Rattle.kernel_runs.specs.Held.{HoldsAt, IsHeldFlat, HeldIsFlat}
 use Rattle.kernel_runs.specs.Outer.{Outer}
 use Rattle.kernel_runs.specs.Placed.{program, CodeStands}
-use Rattle.c0_unit.specs.Code.{dispatch_number}
+use Rattle.c0_meaning.specs.CallChain.{dispatch_number}
 use Rattle.kernel_runs.proofs.Instructions.{piece_at, not_own, kept_words}
 use Rattle.kernel_runs.proofs.Seen.{space_is}
 use Rattle.kernel_runs.proofs.Standing.{seen, behind, no_user, outer_of}
@@ -90,7 +90,7 @@ module _ (simulates : MachineSimulates) (joins : RunsJoin) (fitting : StaysFitti
     (entry : EntryRuns (on_machine x (program (layer_words + 1) code words))) (entry_all : EntryRuns (on_machine x (program layer_words code words)))
     (sizes : List ℕ) (variables : Linked y.map sizes (take layer_words y.linked))
     (cause edata user : ℤ) (typed : IsTypedState u c.c0) (called : DispatchCalled x y c cause edata user s0) (size : length s0.memory ≡ words) where
-  abbrev z : Setup Machines Changes (Outer y c.current) (λ s t. ⊥)
+  abbrev z : Setup Machines Changes (Outer y c.current)
   z = setup x y u p code words st g.bounds g.big small alikes c.current
 
   abbrev w : World
@@ -208,10 +208,10 @@ module _ (simulates : MachineSimulates) (joins : RunsJoin) (fitting : StaysFitti
     pub end : Machine
     pub come : Here base end
     pub counts : Counts x s0 base 0
-    pub sim : Simulated Machines Changes (Outer y c.current) (λ s t. ⊥) z 0 (begin (dispatch_number u) args ∷ []) started end
+    pub sim : Simulated Machines Changes (Outer y c.current) z 0 (begin (dispatch_number u) args ∷ []) started end
 
   abbrev its_bases : Bases
-  its_bases = bases Machines Changes (Outer y c.current) (λ s t. ⊥) z typed.0 []
+  its_bases = bases Machines Changes (Outer y c.current) z typed.0 []
 
   typed_now : IsTypedWith u typed.0 (record c.c0 { frames = [] })
   typed_now = record { global_values = typed.1.global_values; heap_values = typed.1.heap_values; frames = λ i d lt. absurd (omega (arith, lt)) }
@@ -238,7 +238,7 @@ module _ (simulates : MachineSimulates) (joins : RunsJoin) (fitting : StaysFitti
       (λ j lt. word_there (heap_at y.map + j) (omega (arith, lt, flat_scalars (address_of y.map c.c0) c.c0.heap_values, n, b, e, f, h, i, big)) ∙ standing.kernel.heap j lt)
 
   -- the data, with the registers as the entry left them
-  stands : (c' : Contents) → IsEntered p.globals (stack_at y.map) y.map.params.stack (layer_words + 7) (seen s0) c' → code_run.Stands Machines Changes (Outer y c.current) (λ s t. ⊥) z typed.0 started c' (behind s0)
+  stands : (c' : Contents) → IsEntered p.globals (stack_at y.map) y.map.params.stack (layer_words + 7) (seen s0) c' → code_run.Stands Machines Changes (Outer y c.current) z typed.0 started c' (behind s0)
   stands c' ent =
       let used = standing.whole.used in let room = standing.whole.heap in
       let memory = ent.memory in

@@ -5,7 +5,7 @@ use Rattle.mips_table.specs.declared.inst.Inst.{Inst}
 use Rattle.mips_table.specs.Encoding.{InRange, encoding}
 use Rattle.mips_table.specs.Code.{Program}
 use Rattle.masm.specs.declared.registers.Places.{Places}
-use Rattle.layer_map.specs.Map.{MapInRange, layer_words, globals_at}
+use Rattle.layer_map.specs.Map.{MapInRange, layer_words, primitives_at, exits_at, globals_at}
 use Rattle.c0_tree.specs.Tree.{CFunction, CUnit}
 use Rattle.c0_meaning.specs.Env.{typed_of}
 use Rattle.c0_meaning.specs.Words.{all_words}
@@ -15,7 +15,7 @@ use Rattle.c0_meaning.specs.Unit.{IsChecked}
 use Rattle.c0_runtime.specs.Code as runtime
 use Rattle.c0_expr_code.specs.Scope.{scope_of, exit_of}
 use Rattle.c0_stmt_code.specs.Code.{links_of, function_code}
-use Rattle.c0_unit.specs.Code.{dispatch_number}
+use Rattle.c0_meaning.specs.CallChain.{dispatch_number}
 use Rattle.cvm_model.specs.Kernel.{power_of}
 use Rattle.cvm_model.specs.KernelMeaning.{fault_of}
 use Rattle.cvm_model.specs.Stands.{Site}
@@ -43,8 +43,8 @@ pub record CodeStands (u : CUnit) (p : Places) (y : Site) (code : List Inst) : T
   pub linked : drop layer_words y.linked ≡ map encoding code
   pub in_range : All InRange code
   pub globals : p.globals ≡ 4 * globals_at y.map
-  pub exits : (f : KernelFault) → exit_of p f ≡ 2057 + power_of (fault_of f)
-  pub primitives : (n : ℕ) → n < 10 → (links_of p).primitive n ≡ 2048 + n
+  pub exits : (f : KernelFault) → exit_of p f ≡ exits_at - 1 + power_of (fault_of f)
+  pub primitives : (n : ℕ) → n < 10 → (links_of p).primitive n ≡ primitives_at + n
   pub below : (n : ℕ) → (links_of p).primitive n < layer_words
   pub rest : List Inst
   pub entry : code ≡ runtime.entry_code p.globals (4 * (links_of p).function (dispatch_number u)) ++ rest

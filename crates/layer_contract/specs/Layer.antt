@@ -15,7 +15,7 @@ use Rattle.c0_meaning.specs.Value.{group, empty}
 use Rattle.layer_contract.specs.declared.registers.TheConstants.{ARGUMENT, ANSWER, RETURN, KEPT}
 use Rattle.layer_contract.specs.declared.entry.Entry.{Entry}
 use Rattle.layer_contract.specs.declared.entry.Entry.TheVariants.{Dispatch, Primitive, Fault as Exit, Leave}
-use Rattle.layer_map.specs.Map.{Map, MapInRange, layer_words, current_at, hand_at, heap_used_at, heap_words_at, heap_first_at, stack_first_at, stack_words_at, block_at, code_at, heap_at, stack_at, table_of, memory_words}
+use Rattle.layer_map.specs.Map.{Map, MapInRange, layer_words, current_at, hand_at, heap_used_at, heap_words_at, heap_first_at, stack_first_at, stack_words_at, primitives_at, exits_at, leave_at, block_at, code_at, heap_at, stack_at, table_of, memory_words}
 use Rattle.page_model.specs.Paging.{Passes}
 use Rattle.cvm_model.specs.Kernel.{flat, Core, power_of}
 use Rattle.cvm_model.specs.declared.kernel_fault.KernelFault.{KernelFault}
@@ -30,10 +30,10 @@ use Rattle.cvm_model.specs.Stands.{Site, IsUser, CoreFits, Stands, runs_user}
 -- The address of each entry. A kernel's code is made without a layer, so they are the same for every layer: the code begins with the
 -- entry of `dispatch`, which no call in it reaches, and the other entries begin the layer's second part of code, a word each.
 abbrev pub entry_address : Entry → ℕ
-entry_address Dispatch = 0x10000
-entry_address (Primitive k) = 0x2000 + 4 * k
-entry_address (Exit f) = 0x2024 + 4 * f
-entry_address Leave = 0x2038
+entry_address Dispatch = 4 * layer_words
+entry_address (Primitive k) = 4 * primitives_at + 4 * k
+entry_address (Exit f) = 4 * (exits_at - 1) + 4 * f
+entry_address Leave = 4 * leave_at
 
 -- the entries that there are: ten primitives, and the faults 1 to 4
 abbrev pub IsEntry : Entry → Type 0

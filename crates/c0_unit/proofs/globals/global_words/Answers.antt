@@ -1,3 +1,4 @@
+-- The globals of a well-formed unit are sized, and have few words.
 use Rattle.std.proofs.Common.{◌≡◌, ◌≤◌, List, map, subst, sym, ap, ◌∙◌, arith}
 use Rattle.std.specs.List.{All}
 use Rattle.c0_tree.specs.declared.tree.Decl.{Decl}
@@ -6,9 +7,9 @@ use Rattle.c0_tree.specs.View.{decl_view, unit_view}
 use Rattle.c0_meaning.specs.Env.{typed_of}
 use Rattle.c0_meaning.specs.Sound.{shapes, IsSized}
 use Rattle.c0_meaning.specs.Words.{all_words}
-use Rattle.kernel_linker.specs.Linked.{global_words}
-use Rattle.kernel_linker.proofs.Declared.{few_words}
-use Rattle.kernel_linker.proofs.globals.global_words.Goals as goal
+use Rattle.c0_stmt_code.specs.Setup.{global_words}
+use Rattle.c0_unit.proofs.Declared.{few_words}
+use Rattle.c0_unit.proofs.globals.global_words.Goals as goal
 
 pub decls_words-requires-clause-decls : goal.decls_words-requires-clause-decls
 decls_words-requires-clause-decls c =

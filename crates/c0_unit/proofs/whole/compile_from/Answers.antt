@@ -7,11 +7,11 @@ use Rattle.c0_tree.specs.View.{unit_view}
 use Rattle.c0_meaning.specs.Limits.{all_nodes}
 use Rattle.c0_runtime.specs.Code.{entry_code, runtime_code}
 use Rattle.c0_unit.specs.Code.{code_words, words_of}
-use Rattle.c0_unit.proofs.whole.compile.Goals as goal
+use Rattle.c0_unit.proofs.whole.compile_from.Goals as goal
 
 pub returns-clause-few : goal.returns-clause-few
 returns-clause-few c =
-    let same = c.in_ok-layout.ensures ∙ c.in_ok-sizes.ensures ∙ c.unit-source.ensures.same in
+    let same = c.in_ok-layout.ensures ∙ c.in_ok-sizes.ensures in
     let words = ap (λ (s : Source). sum (words_of (unit_view s) (unit_view s).functions)) same in
     let first : length c.emit_entry.new.code.items ≡ 8 =
     let e : c.emit_entry.new.code.items ≡ c.new-code.result.items ++ map encoding (entry_code c.in_ok-places.places.globals c.unwrap_or.result) = c.in_ok-emit_entry.ensures.appended in

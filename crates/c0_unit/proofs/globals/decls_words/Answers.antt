@@ -1,3 +1,4 @@
+-- A declaration more, by the words of its type.
 use Rattle.std.proofs.Common.{◌≡◌, List, slice_index_or, arith, subst, sym, ap, ◌∙◌}
 use Rattle.c0_tree.specs.declared.tree.Decl.{Decl}
 use Rattle.c0_tree.specs.View.{type_view, unit_view}
@@ -5,8 +6,8 @@ use Rattle.c0_meaning.specs.Ty.{ty_of}
 use Rattle.c0_meaning.specs.Env.{Shape}
 use Rattle.c0_meaning.specs.Sizes.{capped}
 use Rattle.c0_meaning.specs.Sound.{shapes, IsSized}
-use Rattle.kernel_linker.proofs.Declared.{decl_sized, words_left}
-use Rattle.kernel_linker.proofs.globals.decls_words.Goals as goal
+use Rattle.c0_unit.proofs.Declared.{decl_sized, words_left}
+use Rattle.c0_unit.proofs.globals.decls_words.Goals as goal
 
 pub words_of-requires : goal.words_of-requires
 words_of-requires c =

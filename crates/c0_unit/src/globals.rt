@@ -1,4 +1,4 @@
-// How many words the globals of a kernel have.
+// How many words the globals of a unit have.
 
 ghost use Rattle.std.specs.Prelude.{◌≡◌, ◌+◌, ◌*◌, ◌≤◌, ◌<◌, ◌^◌, map, length};
 ghost use Rattle.std.specs.List.{All};
@@ -7,7 +7,7 @@ ghost use Rattle.c0_meaning.specs.Env.{typed_of};
 ghost use Rattle.c0_meaning.specs.Words.{all_words};
 ghost use Rattle.c0_meaning.specs.DeclaredTypes.{MAX_TYPE_WORDS};
 ghost use Rattle.c0_meaning.specs.Sound.{shapes, IsSized};
-ghost use Rattle.kernel_linker.specs.Linked.{global_words as words_of_globals};
+ghost use Rattle.c0_stmt_code.specs.Setup.{global_words as words_of_globals};
 
 use c0_meaning::laws::{units_are_typed_or_faulty, well_formed_units_are_sized};
 use c0_meaning::{Measured, words_of};

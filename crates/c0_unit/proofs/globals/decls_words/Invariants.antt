@@ -1,10 +1,11 @@
+-- The words so far, and those of what is left.
 use Rattle.std.proofs.Common.{◌≡◌, ◌+◌, ◌*◌, ◌≤◌, map, drop}
 use Rattle.c0_tree.specs.View.{decl_view, unit_view}
 use Rattle.c0_meaning.specs.Env.{typed_of}
 use Rattle.c0_meaning.specs.Words.{all_words}
 use Rattle.c0_meaning.specs.DeclaredTypes.{MAX_TYPE_WORDS}
 use Rattle.c0_meaning.specs.Sound.{shapes}
-use Rattle.kernel_linker.proofs.globals.decls_words.Given as goal
+use Rattle.c0_unit.proofs.globals.decls_words.Given as goal
 
 abbrev pub invariant-loop-decl : goal.invariant-loop-decl
 invariant-loop-decl l = record {
