@@ -5,6 +5,7 @@ use Rattle.std.specs.declared.alloc.Global.{Global}
 use Rattle.boot_turns.specs.declared.answers.View.{View}
 use Rattle.boot_turns.specs.declared.answers.View.TheVariants as view
 use Rattle.cvm_shell.specs.declared.boot.Session.{Session}
+use Rattle.cvm_shell.specs.Check.{Check, IsCheck}
 
 -- boot an image under a schedule, for so many turns and at most so many steps
 pub record Boot : Type 0 where
@@ -53,6 +54,7 @@ pub data Command : Type 0 where
   link : Link → Command
   migrate : Migrate → Command
   sample : Sample → Command
+  check : Check → Command
 
 -- the words as texts
 abbrev pub texts : List (String Global) → List (List ℕ)
@@ -104,6 +106,7 @@ IsCommand words (compile_kernel c) = IsCompileKernel words c
 IsCommand words (link l) = IsLink words l
 IsCommand words (migrate m) = IsMigrate words m
 IsCommand words (sample x) = IsSample words x
+IsCommand words (check c) = IsCheck words c
 
 -- no command has these words
 abbrev pub IsNoCommand : List (List ℕ) → Type 0
