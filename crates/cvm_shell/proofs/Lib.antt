@@ -2,6 +2,8 @@ mod AcceptedAs
 mod Answered
 mod BootEndings
 mod BootPlans
+mod CheckPlans
+mod CheckWords
 mod Endings
 mod Few
 mod FirstBad
@@ -21,5 +23,8 @@ mod ProgramPlans
 mod SampleEndings
 mod SamplePlans
 mod SourceStops
+mod StackOut
+mod StackTexts
 mod Spellings
+mod Sufficient
 mod UserWords

@@ -6,6 +6,7 @@ use Rattle.boot_turns.specs.declared.answers.View.{View}
 use Rattle.boot_turns.specs.declared.answers.View.TheVariants as view
 use Rattle.cvm_shell.specs.CompileProgram.{CompileProgram, IsCompileProgram}
 use Rattle.cvm_shell.specs.declared.boot.Session.{Session}
+use Rattle.cvm_shell.specs.Check.{Check, IsCheck}
 
 -- boot an image under a schedule, for so many turns and at most so many steps
 pub record Boot : Type 0 where
@@ -55,6 +56,7 @@ pub data Command : Type 0 where
   link : Link → Command
   migrate : Migrate → Command
   sample : Sample → Command
+  check : Check → Command
 
 -- the words as texts
 abbrev pub texts : List (String Global) → List (List ℕ)
@@ -107,6 +109,7 @@ IsCommand words (compile_program c) = IsCompileProgram words c
 IsCommand words (link l) = IsLink words l
 IsCommand words (migrate m) = IsMigrate words m
 IsCommand words (sample x) = IsSample words x
+IsCommand words (check c) = IsCheck words c
 
 -- no command has these words
 abbrev pub IsNoCommand : List (List ℕ) → Type 0

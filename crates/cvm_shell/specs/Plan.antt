@@ -48,7 +48,8 @@ use Rattle.sample_maker.specs.Parts.{Parts as Sampled}
 use Rattle.sample_maker.specs.Sample.{sample_of}
 use Rattle.cvm_shell.specs.declared.boot.Session.{Session}
 use Rattle.cvm_shell.specs.CompileProgram.{CompileProgram, IsCompileProgram}
-use Rattle.cvm_shell.specs.Command.{Boot, Trace, CompileUser, CompileKernel, Link, Migrate, Sample, Command, boot, trace, compile_user, compile_kernel, compile_program, link, migrate, sample}
+use Rattle.cvm_shell.specs.Command.{Boot, Trace, CompileUser, CompileKernel, Link, Migrate, Sample, Command, boot, trace, compile_user, compile_kernel, compile_program, link, migrate, sample, check}
+use Rattle.cvm_shell.specs.Check.{Check, IsCheck, Told, TellsObject}
 use Rattle.cvm_shell.specs.Command.{IsBoot, IsTrace, IsCompileUser, IsCompileKernel, IsLink, IsMigrate, IsSample, IsCommand, IsNoCommand, boot_session, trace_session, sample_session}
 use Rattle.cvm_shell.specs.Refusal.{Refusal, bad_text, bad_source, bad_object, bad_file, bad_program, unlinked, unaccepted, bad_schedule, too_long}
 
@@ -62,6 +63,8 @@ pub data Plan : Type 0 where
   puts : (name bytes : List ℕ) → Plan
   -- run this system so, under this schedule
   boots : Session → System → Rows → Plan
+  -- print this text
+  prints : (text : List ℕ) → Plan
 
 -- A FILE IS GOT: one with more than 67,108,864 bytes is refused, else its bytes go on
 pub data Got (told : Option (List ℕ)) (next : List ℕ → Plan → Type 0) : Plan → Type 0 where
@@ -221,6 +224,19 @@ PartsPlan layer session parts p = (front : Result Unit SourceFault) × IsAnswer 
 abbrev pub SamplePlan : (layer : Map → List ℕ → List ℕ) → (number : ℕ) → Plan → Type 0
 SamplePlan layer number p = PartsPlan layer sample_session (sample_of number) p
 
+-- what a check tells is printed
+abbrev pub told_plan : Told → Plan
+told_plan (Ok text) = prints text
+told_plan (Err r) = refuses r
+
+-- AFTER THE OBJECT of a check its kernel's stack is told
+abbrev pub AfterChecked : (stack : ℕ) → (bytes : List ℕ) → Plan → Type 0
+AfterChecked stack bytes p = (told : Told) × TellsObject stack bytes told × (p ≡ told_plan told)
+
+-- check OBJ STACK gets the object
+abbrev pub CheckPlan : (List ℕ → Option (List ℕ)) → Check → Plan → Type 0
+CheckPlan file c p = Got (file c.object) (AfterChecked c.stack) p
+
 -- THE PLAN that words and files come to
 pub data ComesTo (words : List (List ℕ)) (file : List ℕ → Option (List ℕ)) : Plan → Type 0 where
   no_command : IsNoCommand words → ComesTo words file bad_words
@@ -232,6 +248,7 @@ pub data ComesTo (words : List (List ℕ)) (file : List ℕ → Option (List ℕ
   link_plan : (l : Link) (p : Plan) → IsLink words l → LinkPlan layer_image file l p → ComesTo words file p
   migrate_plan : (m : Migrate) (p : Plan) → IsMigrate words m → MigratePlan layer_image file m p → ComesTo words file p
   sample_plan : (x : Sample) (p : Plan) → IsSample words x → SamplePlan layer_image x.number p → ComesTo words file p
+  check_plan : (c : Check) (p : Plan) → IsCheck words c → CheckPlan file c p → ComesTo words file p
 
 -- files are told
 abbrev pub AreTold : (List ℕ → Option (List ℕ)) → List (List ℕ) → Type 0
@@ -248,6 +265,7 @@ GetsTold file (compile_program c) = IsSome (file c.source)
 GetsTold file (link l) = IsSome (file l.object) × IsSome (file l.params) × AreTold file l.users
 GetsTold file (migrate m) = IsSome (file m.old)
 GetsTold file (sample x) = ⊤
+GetsTold file (check c) = IsSome (file c.object)
 
 abbrev pub AllTold : List (List ℕ) → (List ℕ → Option (List ℕ)) → Type 0
 AllTold words file = (c : Command) → IsCommand words c → GetsTold file c

@@ -38,8 +38,9 @@ use Rattle.cvm_shell.specs.declared.status.Status.{Status}
 use Rattle.std.specs.Global.{Vec}
 use Rattle.cvm_shell.specs.declared.boot.Session.{Session}
 use Rattle.cvm_shell.specs.CompileProgram.{CompileProgram}
-use Rattle.cvm_shell.specs.Command.{Boot, CompileUser, CompileKernel, Link, Migrate, Command, boot, compile_user, compile_kernel, compile_program, link as link_command, migrate, IsSample, IsCommand, command_of}
-use Rattle.cvm_shell.specs.Plan.{Plan, puts, boots, BootPlan, UserPlan, KernelPlan, ProgramPlan, LinkPlan, MigratePlan, SamplePlan, GetsTold, IsPlan, words_from}
+use Rattle.cvm_shell.specs.Command.{Boot, CompileUser, CompileKernel, Link, Migrate, Command, boot, compile_user, compile_kernel, compile_program, link as link_command, migrate, IsSample, IsCommand, command_of, check}
+use Rattle.cvm_shell.specs.Plan.{Plan, puts, boots, BootPlan, UserPlan, KernelPlan, ProgramPlan, LinkPlan, MigratePlan, SamplePlan, GetsTold, IsPlan, words_from, prints, CheckPlan}
+use Rattle.cvm_shell.specs.Check.{Check}
 use Rattle.boot_turns.specs.declared.answers.View.{View}
 use Rattle.cvm_shell.specs.Views.{IfPlan}
 use Rattle.cvm_shell.specs.Outside.{Drive, Files, Outside}
@@ -168,12 +169,18 @@ LinksTo Comes result = (l : Link) → IfPlan (linked_to l) (IsPlan ⊤ (Comes l)
 abbrev pub renewed : Migrate → Vec ℕ → Plan
 renewed m image = puts m.image image.items
 
+abbrev pub told_text : Vec ℕ → Plan
+told_text text = prints text.items
+
 -- what the files of a command come to
 abbrev pub IsLinkPlan : (layer : Map → List ℕ → List ℕ) → (List ℕ → Option (List ℕ)) → Link → Plan → Type 0
 IsLinkPlan layer told l p = IsPlan (GetsTold told (link_command l)) (LinkPlan layer told l) p
 
 abbrev pub IsMigratePlan : (layer : Map → List ℕ → List ℕ) → (List ℕ → Option (List ℕ)) → Migrate → Plan → Type 0
 IsMigratePlan layer told m p = IsPlan (GetsTold told (migrate m)) (MigratePlan layer told m) p
+
+abbrev pub IsCheckPlan : (List ℕ → Option (List ℕ)) → Check → Plan → Type 0
+IsCheckPlan file c p = IsPlan (GetsTold file (check c)) (CheckPlan file c) p
 
 abbrev pub IsSamplePlan : (layer : Map → List ℕ → List ℕ) → (number : ℕ) → Plan → Type 0
 IsSamplePlan layer number p = IsPlan ⊤ (SamplePlan layer number) p

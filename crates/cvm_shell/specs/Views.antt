@@ -3,6 +3,7 @@ use Rattle.std.specs.Prelude.{◌≡◌, ◌≤◌, ℕ, List, Option, Result, M
 use Rattle.cvm_shell.specs.declared.status.Status.{Status}
 use Rattle.cvm_shell.specs.Command as command
 use Rattle.cvm_shell.specs.CompileProgram as compiling
+use Rattle.cvm_shell.specs.Check as checking
 use Rattle.cvm_shell.specs.Refusal as refusal
 use Rattle.cvm_shell.specs.Plan.{Plan, refuses}
 use Rattle.cvm_shell.specs.declared.command.Boot.{Boot}
@@ -13,6 +14,7 @@ use Rattle.cvm_shell.specs.declared.program.CompileProgram.{CompileProgram}
 use Rattle.cvm_shell.specs.declared.command.Link.{Link}
 use Rattle.cvm_shell.specs.declared.command.Migrate.{Migrate}
 use Rattle.cvm_shell.specs.declared.command.Sample.{Sample}
+use Rattle.cvm_shell.specs.declared.check.Check.{Check}
 use Rattle.cvm_shell.specs.declared.command.Command.{Command}
 use Rattle.cvm_shell.specs.declared.command.Command.TheVariants as command_code
 use Rattle.cvm_shell.specs.declared.refusal.Refusal.{Refusal}
@@ -23,6 +25,10 @@ use Rattle.cvm_shell.specs.declared.boot.Stop.TheVariants.{Refused, Shelf, Memor
 -- the number of a user, 1 to 64, that a text is the decimal spelling of, or none
 abbrev pub IsUserNumber : (text : List ℕ) → Option ℕ → Type 0
 IsUserNumber text found = MatchOption found ((n : ℕ) → 1 ≤ n → n ≤ 64 → text ≡ decimal n → ⊥) (λ n. (text ≡ decimal n) × (1 ≤ n) × (n ≤ 64))
+
+-- the words of stack, 64 to 262,144, that a text is the decimal spelling of, or none
+abbrev pub IsStackNumber : (text : List ℕ) → Option ℕ → Type 0
+IsStackNumber text found = MatchOption found ((n : ℕ) → 64 ≤ n → n ≤ 262144 → text ≡ decimal n → ⊥) (λ n. (text ≡ decimal n) × (64 ≤ n) × (n ≤ 262144))
 
 -- a boot, with its names as lists of bytes
 abbrev pub boot_view : Boot → command.Boot
@@ -56,6 +62,10 @@ migrate_view m = record { old = m.old.now; image = m.image.now }
 abbrev pub sample_view : Sample → command.Sample
 sample_view x = record { number = x.number }
 
+-- a check, with its name as a list of bytes
+abbrev pub check_view : Check → checking.Check
+check_view c = record { object = c.object.now; stack = c.stack }
+
 -- a command
 abbrev pub command_view : Command → command.Command
 command_view (command_code.Boot b) = command.boot (boot_view b)
@@ -66,6 +76,7 @@ command_view (command_code.CompileProgram c) = command.compile_program (program_
 command_view (command_code.Link l) = command.link (link_view l)
 command_view (command_code.Migrate m) = command.migrate (migrate_view m)
 command_view (command_code.Sample x) = command.sample (sample_view x)
+command_view (command_code.Check c) = command.check (check_view c)
 
 -- a refusal
 abbrev pub refusal_view : Refusal → refusal.Refusal
