@@ -83,6 +83,9 @@ def register(line):
 def operands(name, rest):
     """The sentence on operands of a known instruction that have a form of SPIM's."""
     parts = [part.strip() for part in rest.split(',')]
+    spoken = re.search(r'(?<![$\w])(%s)(?!\w)' % '|'.join(REGISTERS), rest)
+    if spoken:
+        return "registers are r0 to r31: '%s' is r%d" % (spoken.group(1), NUMBERS[spoken.group(1)])
     if name in ('lw', 'sw') and len(parts) == 2:
         if re.fullmatch(r'\([^)]*\)', parts[1]):
             return "the distance is written, also where it is 0: '%s %s, 0%s'" % (name, parts[0], parts[1])
@@ -103,9 +106,6 @@ def operands(name, rest):
         return "there are no signs in quotes: write the number, as 65 for 'A'"
     if ';' in rest or '//' in rest:
         return "a comment begins with '#'"
-    if re.search(r'\b(%s)\b' % '|'.join(REGISTERS), rest):
-        name = re.search(r'\b(%s)\b' % '|'.join(REGISTERS), rest).group(1)
-        return "registers are r0 to r31: '%s' is r%d" % (name, NUMBERS[name])
     return None
 
 

@@ -48,6 +48,7 @@ BYTES = {
     b'\\': "C0 has no '\\' at the end of a line",
 }
 TYPES = ('int', 'bool', 'struct')
+RESERVED = TYPES + ('if', 'else', 'while', 'return', 'new', 'true', 'false', 'null', 'asm')
 
 
 def tokens(data):
@@ -100,8 +101,10 @@ def declaration(near, part):
             return "the length stands with the type: 'int[4] a;' in place of 'int a[4];'"
     if here in TYPES:
         return 'declarations stand first in a function, before its first statement; none stands in a block'
-    if part and is_name(part[0]) and len(part) == 1 and is_name(here) and part[0] not in TYPES + ('if', 'while', 'return'):
-        return "a type is 'int', 'bool' or 'struct %s', each with '*' or '[n]' behind it" % part[0]
+    first = part[0] if len(part) == 1 else here if not part else ''
+    second = here if len(part) == 1 else near.here[1]
+    if is_name(first) and is_name(second) and first not in RESERVED:
+        return "a type is 'int', 'bool' or 'struct %s', each with '*' or '[n]' behind it" % first
     return None
 
 
@@ -110,10 +113,11 @@ def statement(near, part):
     here, back = near.here[0], near.back
     if here == '(' and part and is_name(part[-1]) and len(part) == 1:
         return "a call needs its answer taken: 'ok = %s(..);', with a variable of its type" % part[0]
-    if here in ('+', '-') and back[0] == here:
+    behind = near.here[1]
+    if here in ('+', '-') and behind == here and '=' not in part:
         return "C0 has no '%s%s': write 'x = x %s 1;'" % (here, here, here)
-    if here == '=' and back[0] in ('+', '-', '*', '/', '%'):
-        return "C0 has no '%s=': write 'x = x %s ..;'" % (back[0], back[0])
+    if here in ('+', '-', '*', '/', '%') and behind == '=' and '=' not in part:
+        return "C0 has no '%s=': write 'x = x %s ..;'" % (here, here)
     if here == '=' and '=' in part:
         return "an assignment is no expression in C0: write one statement for each"
     if here == 'if' and back[0] == 'else':
@@ -165,7 +169,7 @@ def right_side(near, part):
         return "C0's comments go from '//' to the end of the line: there is no '/* .. */'"
     if back[0] == '=' and here == '{':
         return "C0 has no lists of values: assign each element"
-    if here == '(' and is_name(back[0]) and back[0] not in ('if', 'while'):
+    if here == '(' and is_name(back[0]) and back[0] not in RESERVED and len(part) > 1:
         return "a call stands only as the whole right side of an assignment: 'x = %s(..);' first, then use x" % back[0]
     if '=' in part and '(' in part and back[0] == ')' and here in ('+', '-', '*', '/', '%', '<', '>', '<=', '>=', '==', '!=', '&&', '||', '.', '->', '['):
         return "a call stands only as the whole right side of an assignment: keep its answer in a variable first"
@@ -173,7 +177,7 @@ def right_side(near, part):
         return "comparisons do not chain: write 'a < b && b < c'"
     if here == 'new':
         return "'new T' stands only as the whole right side of an assignment"
-    if here == '&' and '&' in back[0]:
+    if here == '&' and (is_name(back[0]) or back[0].isdigit() or back[0] in (')', ']')):
         return "C0 has '&&' and no '&' of bits: write a function of instructions, as 'int both(int a, int b) asm { and r2, r4, r5 }'"
     if here in TYPES and back[0] == '(':
         return 'C0 has no casts'

@@ -36,7 +36,7 @@ def refusals():
     rows = {}
     for line in page('REFUSALS.md').split('\n'):
         row = cells(line)
-        if len(row) == 5 and re.fullmatch(r'\d+|[A-Z][a-z]+[A-Z]\w+', row[0]):
+        if len(row) == 5 and re.fullmatch(r'\d+|(?!Name$)[A-Z]\w+', row[0]):
             rows[row[0]] = Refusal(row)
     return rows
 

@@ -102,12 +102,12 @@ def run_folder(start, folder, options, put, say_of):
 
 def draw(run, folder, options):
     """Draws a run that was booted, with what each user saw."""
-    from picture import draw as drawing
+    from drawing import draw as drawn
     run.put, run.say = (lambda text: None), (lambda lines: None)
     for user in range(1, len(folder.users) + 1):
         run.trace(options.turns, options.steps, user)
     names = [run.made('trace%d' % user) for user in range(1, len(folder.users) + 1)]
-    drawing.draw_files(run.made('boot'), names, options.picture, title=os.path.basename(os.path.abspath(folder.path)), turns=options.turns)
+    drawn.draw_files(run.made('boot'), names, options.picture, title=os.path.basename(os.path.abspath(folder.path)), turns=options.turns)
 
 
 def start_of(options):
