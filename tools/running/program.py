@@ -1,0 +1,49 @@
+"""Runs the program with words, its standard output going where it is to go, and keeps the last row that it printed."""
+import os
+import subprocess
+
+MOST_OF_A_ROW = 65536
+
+
+def last_row(text):
+    """The last line of bytes, as a text."""
+    rows = text[-MOST_OF_A_ROW:].decode('utf-8', errors='replace').split('\n')
+    return next((row for row in reversed(rows) if row), '')
+
+
+def put(part):
+    """Writes bytes to standard output, all of them or none of the rest."""
+    at = 0
+    while at < len(part):
+        at += os.write(1, part[at:])
+
+
+def run_here(command):
+    """Runs a command and copies its standard output to this process's. Gives its status and the last row.
+
+    Where the copy can't be written, the status is 7, as the program's own is then.
+    """
+    program = subprocess.Popen(command, stdin=subprocess.DEVNULL, stdout=subprocess.PIPE)
+    kept, failed = b'', False
+    while not failed:
+        part = os.read(program.stdout.fileno(), 65536)
+        if not part:
+            break
+        kept = (kept + part)[-MOST_OF_A_ROW:]
+        try:
+            put(part)
+        except OSError:
+            failed = True
+    program.stdout.close()
+    status = program.wait()
+    return (7 if failed else status), last_row(kept)
+
+
+def run_to(command, path, folder=None):
+    """Runs a command in a folder; its standard output goes to a file. Gives its status and the last row."""
+    with open(path, 'wb') as out:
+        status = subprocess.run(command, cwd=folder, stdin=subprocess.DEVNULL, stdout=out).returncode
+    with open(path, 'rb') as out:
+        out.seek(0, os.SEEK_END)
+        out.seek(max(0, out.tell() - MOST_OF_A_ROW))
+        return status, last_row(out.read())
