@@ -1,9 +1,8 @@
 -- A checked unit has the function that is searched for, and its number fits 32 bits.
 use Rattle.std.proofs.Common.{◌≡◌, ◌<◌, ℕ, true, List, length, map, Option, Some, sym, refl, ap, ◌∙◌, subst, arith}
-use Rattle.std.specs.Prelude.{position, unwrap_or, ◌^◌}
+use Rattle.std.specs.Prelude.{IsSome, position, unwrap_or, ◌^◌}
 use Rattle.std.proofs.lemmas.Bool.{and_parts, ltb-true}
 use Rattle.std.proofs.lemmas.List.{length-map}
-use Rattle.core.specs.Option.{IsSome}
 use Rattle.c0_tree.specs.Plain.{is_short, is_plain}
 use Rattle.c0_tree.specs.declared.primitive.Program.{Program}
 use Rattle.c0_tree.specs.declared.tree.Unit.{Unit as Source}
