@@ -1,13 +1,13 @@
 -- What an object comes to in a check: it is read and opened, and how much stack its kernel needs is told, or the first fault is refused; and nothing
 -- else is told.
-use Rattle.std.proofs.Common.{◌≡◌, ◌≢◌, ◌⊎◌, inl, inr, ℕ, ◌<◌, List, length, refl, sym, ap, ◌∙◌, subst, Ok, Err}
+use Rattle.std.proofs.Common.{◌≡◌, ◌≢◌, inl, inr, ℕ, ◌<◌, List, length, refl, sym, ap, ◌∙◌, subst, Ok, Err}
 use Rattle.std.specs.Prelude.{Option, Result, ⊤}
 use Rattle.std.specs.Option.{IsSome}
 use Rattle.cvm_outside.specs.Told.{TOO_LONG, Tells}
 use Rattle.c0_tree.specs.Tree.{CUnit}
 use Rattle.c0_types.specs.Front.{IsAnswer}
 use Rattle.c0_types.specs.declared.source_fault.SourceFault.{SourceFault}
-use Rattle.bound_check.specs.Chains.{IsLongest, IsLeastLoop, AnswersAreOne}
+use Rattle.bound_check.specs.Chains.{AnswersAreOne}
 use Rattle.bound_check.specs.Answer.{IsAnswer as IsBound}
 use Rattle.bound_check.specs.Text.{chain_text, loop_text, answer_text}
 use Rattle.bound_check.specs.declared.answer.Answer.{Answer}
@@ -22,7 +22,6 @@ use Rattle.kernel_linker.specs.Open.{open_answer, OpensTo}
 use Rattle.kernel_linker.specs.declared.fault.LinkFault.{LinkFault}
 use Rattle.kernel_linker.specs.declared.fault.LinkFault.TheVariants as linking
 use Rattle.cvm_shell.specs.declared.boot.Stop.{Stop}
-use Rattle.cvm_shell.specs.declared.refusal.Refusal.TheVariants as by
 use Rattle.cvm_shell.specs.Check.{Check, Told, TellsUnit, has_longest, has_loop, TellsOpened, TellsObject, no_object, has_object}
 use Rattle.cvm_shell.specs.Refusal.{bad_object, unlinked}
 use Rattle.cvm_shell.specs.Plan.{Plan, refuses, prints, told_plan, AfterChecked, IsPlan}

@@ -132,7 +132,6 @@ back_again (AsmNotAllowed s line) = refl
 back_again (TooManyParameters s) = refl
 back_again (TypeTooLarge s) = refl
 back_again (EmptyArray s) = refl
-back_again (NoMain s) = refl
 back_again Memory = refl
 
 is_seen : (f : TypeFault) → f ≢ Memory → type_fault_view f ≢ None

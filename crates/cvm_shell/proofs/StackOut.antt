@@ -1,7 +1,6 @@
 -- No boot and no trace prints `fault StackOut` of a system that is never out of stack.
-use Rattle.std.proofs.Common.{◌≡◌, ◌≢◌, ℕ, List, [], ◌∷◌, ◌++◌, Some, sym, ap, ◌∙◌, subst}
-use Rattle.std.specs.Prelude.{Option, codes}
-use Rattle.std.specs.Io.KnownBytes.{append_known}
+use Rattle.std.proofs.Common.{◌≡◌, ◌≢◌, ℕ, List, ◌++◌, sym, ◌∙◌, subst}
+use Rattle.std.specs.Prelude.{codes}
 use Rattle.mips_table.specs.Device.{Outside as Surroundings}
 use Rattle.cvm_model.specs.declared.kernel_fault.KernelFault.TheVariants.{StackOut}
 use Rattle.cvm_model.specs.Primitives.{user_of}
@@ -36,10 +35,9 @@ module _ (x : Surroundings) (y : System) (old : List (List ℕ)) (never : (k : �
   text_clean v t headline.NoMemory text h = whole_clean v t text h
 
 pub not_printed : StackOutIsNotPrinted
-not_printed see boot words status ended old new before after source stack session s rows sectors enough says has h ends =
-    let x = around rows (boot before) in
+not_printed words status ended old new before after source stack session s rows sectors enough says has h ends =
+    let x = around rows before in
     let y = booted s rows in
-    let never : (k : ℕ) (c : Cvm) → IsCvm y (lines_of x (loaded y sectors)) k c → c.status ≢ Faulted StackOut = λ k c is. enough source stack s says has rows (lines_of x (loaded y sectors)) k c is in
-    let clean : IsClean h.text = text_clean x y sectors never session.view _ h.ending h.text h.ran.text_is in
-    let same : h.text ≡ ends.front ++ codes "fault StackOut\n" = one_text (boot before).sink.text ends.before h.text (ends.front ++ codes "fault StackOut\n") ends.before_told (sym h.printed ∙ ends.printed) in
+    let clean : IsClean h.text = text_clean x y sectors (λ k c is. enough source stack s says has rows (lines_of x (loaded y sectors)) k c is) session.view _ h.ending h.text h.ran.text_is in
+    let same : h.text ≡ ends.front ++ codes "fault StackOut\n" = one_text before.sink.text ends.before h.text (ends.front ++ codes "fault StackOut\n") ends.before_told (sym h.printed ∙ ends.printed) in
     clean_end ends.front (subst IsClean same clean)

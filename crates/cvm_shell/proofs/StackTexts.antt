@@ -1,6 +1,6 @@
 -- A text of a run that never stops for want of stack doesn't end with the row `fault StackOut`. It is gone through with its last three letters in
 -- view, of which only that row's are these: of the other rows that of a pointer alone ends with a `t`.
-use Rattle.std.proofs.Common.{◌≡◌, ◌≢◌, Bool, true, false, ℕ, zero, suc, ◌<◌, ◌+◌, ◌*◌, ◌/◌, ◌%◌, ◌^◌, List, [], ◌∷◌, ◌++◌, Some, None, refl, sym, ap, ◌∙◌, subst, arith}
+use Rattle.std.proofs.Common.{◌≡◌, ◌≢◌, Bool, true, false, ℕ, zero, suc, ◌<◌, ◌+◌, ◌*◌, ◌/◌, ◌%◌, ◌^◌, List, [], ◌∷◌, ◌++◌, Some, None, refl, sym, ◌∙◌, subst, arith}
 use Rattle.std.specs.Prelude.{Option, ℤ, pos, negsuc, ◌==◌, nat_lt, if◌then◌else◌, decimal, codes, bit_or, length, drop}
 use Rattle.std.specs.Fmt.{signed_decimal, digits, digits_onto, digit_glyph}
 use Rattle.cvm_text.specs.Hex.{hex_digit, hex8}
@@ -8,7 +8,6 @@ use Rattle.mips_table.specs.Flat.{Flat}
 use Rattle.c0_meaning.specs.Value.{Value, Values, int, bool, null, at, group, empty, part}
 use Rattle.cvm_model.specs.Kernel.{Core, parts_of, JournalEntry, Stepped, Trapped, Set, Size, Put, End, Answers, Faults, NotYet, Outcome}
 use Rattle.cvm_model.specs.Primitives.{pages_of}
-use Rattle.cvm_model.specs.declared.kernel_fault.KernelFault.{KernelFault}
 use Rattle.cvm_model.specs.declared.kernel_fault.KernelFault.TheVariants.{NullUse, Bounds, DivZero, StackOut, BadUser}
 use Rattle.cvm_model.specs.declared.row.Next.{Next}
 use Rattle.cvm_model.specs.declared.row.Next.TheVariants.{User, Halt, Fault}

@@ -1,6 +1,6 @@
 -- Where a check said `yes`, the words of the longest chain of calls are at most those of the stack; and an accepted image of the object's source has
 -- the unit that was checked. So no run of its system stops for want of stack.
-use Rattle.std.proofs.Common.{◌≡◌, ◌≢◌, ◌⊎◌, inl, inr, Bool, true, false, ℕ, ◌≤◌, List, [], ◌∷◌, ◌++◌, refl, sym, ap, ◌∙◌, subst, arith, Some, Ok, Err}
+use Rattle.std.proofs.Common.{◌≡◌, inl, inr, Bool, true, false, ℕ, ◌≤◌, List, [], ◌∷◌, ◌++◌, refl, sym, ap, ◌∙◌, subst, arith, Some, Ok, Err}
 use Rattle.std.specs.Prelude.{Option, Result, nat_le, if◌then◌else◌, decimal, codes, slice_index}
 use Rattle.std.proofs.lemmas.Bool.Decides.{nat_tests}
 use Rattle.std.specs.Io.KnownBytes.{append_known}
@@ -25,12 +25,12 @@ use Rattle.kernel_linker.specs.declared.fault.AcceptFault.{AcceptFault}
 use Rattle.kernel_linker.specs.declared.fault.LinkFault.{LinkFault}
 use Rattle.cvm_shell.specs.declared.status.Status.{Status}
 use Rattle.cvm_shell.specs.declared.status.Status.TheVariants.{Done, Shelf, Sink, Memory}
-use Rattle.cvm_shell.specs.Check.{Check, Told, TellsUnit, has_longest, has_loop, TellsOpened, TellsObject, no_object, has_object}
+use Rattle.cvm_shell.specs.Check.{Told, TellsUnit, has_longest, has_loop, TellsOpened, TellsObject, no_object, has_object}
 use Rattle.cvm_shell.specs.Command.{check}
-use Rattle.cvm_shell.specs.Outside.{Outside, Leaves, Says, said, broken}
+use Rattle.cvm_shell.specs.Outside.{Outside, Says, said, broken}
 use Rattle.cvm_shell.specs.Refusal as refusal
 use Rattle.cvm_shell.specs.Refusal.{Refusal, refusal_status, refusal_text}
-use Rattle.cvm_shell.specs.Plan.{Plan, Got, long, whole, told_plan, AfterChecked, Accepts}
+use Rattle.cvm_shell.specs.Plan.{Plan, Got, long, whole, told_plan, AfterChecked}
 use Rattle.cvm_shell.specs.Boot.{booted}
 use Rattle.cvm_shell.specs.Outcome.{Ends, CommandEnds, done, undone}
 use Rattle.cvm_shell.specs.Suffices.{SaysYes, HasStack, NeverOut}

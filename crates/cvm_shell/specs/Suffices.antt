@@ -1,13 +1,13 @@
 -- What a `yes` of a check means: no run of a system of the object's source with so much stack stops for want of stack.
-use Rattle.std.specs.Prelude.{◌≡◌, ◌≢◌, ℕ, ◌≤◌, List, [], ◌∷◌, ◌++◌, codes, Some, Ok}
+use Rattle.std.specs.Prelude.{◌≡◌, ℕ, ◌≤◌, List, [], ◌∷◌, ◌++◌, codes, Some, Ok}
 use Rattle.schedule_file.specs.Rows.{Rows}
+use Rattle.bound_check.specs.Kept.{NeverOut as RunsNeverOut}
 use Rattle.object_file.specs.Answer.{IsAnswer as IsObject}
 use Rattle.object_file.specs.Parts.{Parts as Object}
 use Rattle.boot_image.specs.Parts.{Parts as Image}
 use Rattle.layer_runs.specs.Image.{layer_image}
 use Rattle.cvm_model.specs.declared.kernel_fault.KernelFault.{KernelFault}
 use Rattle.cvm_model.specs.declared.kernel_fault.KernelFault.TheVariants.{StackOut}
-use Rattle.cvm_model.specs.Cvm.{Cvm, Faulted, IsCvm}
 use Rattle.cvm_model.specs.Text.{fault_name}
 use Rattle.kernel_linker.specs.Accept.{System}
 use Rattle.cvm_shell.specs.declared.status.Status.{Status}
@@ -43,7 +43,7 @@ pub record HasStack (source : List ℕ) (stack : ℕ) (s : System) : Type 0 wher
 
 -- no run of the system stops for want of stack, whatever the schedule and the lines of its turns are
 abbrev pub NeverOut : System → Type 0
-NeverOut s = (rows : Rows) (lines : ℕ → ℕ) (k : ℕ) (c : Cvm) → IsCvm (booted s rows) lines k c → c.status ≢ Faulted StackOut
+NeverOut s = (rows : Rows) → RunsNeverOut (booted s rows)
 
 -- THE STACK IS ENOUGH where a check said `yes`: for each accepted system of that source with as much, whatever its users and other parameters are
 abbrev pub Suffices : {A : Type 0} → (A → Outside) → List (List ℕ) → Status → (old new : A) → Type 0
@@ -60,8 +60,8 @@ pub record EndsWith (row : List ℕ) (old new : Outside) : Type 0 where
 abbrev pub fault_row : KernelFault → List ℕ
 fault_row f = codes "fault " ++ fault_name f ++ 10 ∷ []
 
--- a law: no boot and no trace of such a system prints `fault StackOut`, which would be the last that it prints
+-- a law: where a check said `yes`, no boot, trace or sample of such a system prints `fault StackOut`, which would be the last that it prints
 abbrev pub StackOutIsNotPrinted : Type 0
-StackOutIsNotPrinted = {A B : Type 0} (check : A → Outside) (boot : B → Outside) (words : List (List ℕ)) (status ended : Status) (old new : A) (before after : B) (source : List ℕ) (stack : ℕ)
-    (session : Session) (s : System) (rows : Rows) (sectors : List (List ℕ)) → Suffices check words status old new → SaysYes words source stack status (check old) (check new) → HasStack source stack s
-    → Headline session s rows sectors (boot before) (boot after) ended → EndsWith (fault_row StackOut) (boot before) (boot after) → ⊥
+StackOutIsNotPrinted = (words : List (List ℕ)) (status ended : Status) (old new before after : Outside) (source : List ℕ) (stack : ℕ) (session : Session) (s : System) (rows : Rows) (sectors : List (List ℕ))
+    → Suffices (λ o. o) words status old new → SaysYes words source stack status old new → HasStack source stack s
+    → Headline session s rows sectors before after ended → EndsWith (fault_row StackOut) before after → ⊥

@@ -1,5 +1,5 @@
 -- What is linked is accepted: its words are compared with themselves.
-use Rattle.std.proofs.Common.{ℕ, ◌≡◌, List, Result, Ok, Err, refl, sym, ap, ◌∙◌, subst}
+use Rattle.std.proofs.Common.{ℕ, ◌≡◌, List, Result, Ok, Err, refl, sym, ap, subst}
 use Rattle.layer_map.specs.declared.params.Params.{Params}
 use Rattle.layer_map.specs.Map.{Map}
 use Rattle.boot_image.specs.Parts.{Parts as Image}
@@ -11,9 +11,9 @@ use Rattle.kernel_linker.specs.Linked.{linked, sizes_of}
 use Rattle.kernel_linker.specs.Difference.{compared}
 use Rattle.kernel_linker.specs.declared.difference.Difference.{Difference}
 use Rattle.kernel_linker.specs.declared.fault.LinkFault.{LinkFault}
-use Rattle.kernel_linker.specs.Open.{◌>>=◌, unit_in, unforged, open_answer}
+use Rattle.kernel_linker.specs.Open.{◌>>=◌, unforged, open_answer}
 use Rattle.kernel_linker.specs.Link.{fitting, link_answer}
-use Rattle.kernel_linker.specs.Accept.{System, accept_answer}
+use Rattle.kernel_linker.specs.Accept.{accept_answer}
 use Rattle.kernel_linker.specs.Laws.{IsAccepted, OpenedUnitsAreTheirSources}
 use Rattle.kernel_linker.proofs.Comparing.{same_all}
 

@@ -1,7 +1,7 @@
 -- What is answered of an object, parameters and users that are to be linked: the users are counted and measured, the parameters are looked
 -- at, and the object is opened. The first fault answers; where none stands, the image of the source, the parameters and the users does, with
 -- its linked words.
-use Rattle.std.specs.Prelude.{◌≡◌, ◌⊎◌, ℕ, suc, ◌||◌, nat_lt, List, [], ◌∷◌, length, Result, Ok, Err, if◌then◌else◌}
+use Rattle.std.specs.Prelude.{ℕ, suc, ◌||◌, nat_lt, List, [], ◌∷◌, length, Result, Ok, Err, if◌then◌else◌}
 use Rattle.layer_map.specs.declared.params.Params.{Params}
 use Rattle.layer_map.specs.Map.{Map}
 use Rattle.boot_image.specs.Format.{most_words}

@@ -1,4 +1,4 @@
-use Rattle.std.proofs.Common.{ℕ, ◌≡◌, ◌≤◌, List, Vec, Global, Ok, Err, length, map, refl, sym, ap, ◌∙◌, subst, arith}
+use Rattle.std.proofs.Common.{ℕ, ◌≡◌, Vec, Global, length, map, ap, arith}
 use Rattle.std.proofs.lemmas.List.{length-map}
 use Rattle.std.proofs.lemmas.Result.{err_from_is_err_and}
 use Rattle.c0_tree.specs.View.{unit_view}
@@ -34,13 +34,13 @@ returns-in_err-copies-clause-is g c =
 
 pub returns-clause-is : goal.returns-clause-is
 returns-clause-is g c =
-    let kept : c.in_ok-from_slice.field-0.items ≡ c.args.object.now.source = cc (c.in_ok-from_slice.ensures.items, c.deref-3.ensures.value, ap (λ (o : Object). o.source) c.object.view_is) in
+    let kept : c.in_ok-from_slice.field-0.items ≡ c.args.object.now.source = cc (c.in_ok-from_slice.ensures.items, c.deref-2.ensures.value, ap (λ (o : Object). o.source) c.object.view_is) in
     made (λ (o : Opened). unit_view o.unit) g.M.LayerMaker.made c.args.object.now c.args.params.now _ c.in_ok-opened.opened _ _ _ c.in_ok-fit.field-0
     c.in_ok-fit.ensures.is c.in_ok-opened.ensures.is kept c.in_ok-joined.ensures.words c.in_ok-copies.ensures
 
 pub returns-clause-spelled : goal.returns-clause-spelled
 returns-clause-spelled g c =
-    let kept : c.in_ok-from_slice.field-0.items ≡ c.args.object.now.source = cc (c.in_ok-from_slice.ensures.items, c.deref-3.ensures.value, ap (λ (o : Object). o.source) c.object.view_is) in
+    let kept : c.in_ok-from_slice.field-0.items ≡ c.args.object.now.source = cc (c.in_ok-from_slice.ensures.items, c.deref-2.ensures.value, ap (λ (o : Object). o.source) c.object.view_is) in
     let len : length (map (λ (u : Vec ℕ Global). u.items) c.args.users.now) ≡ length c.args.users.now = length-map c.args.users.now (λ (u : Vec ℕ Global). u.items) in
     written c.args.params.now _ c.args.object.now.source _ _ (map (λ (u : Vec ℕ Global). u.items) c.args.users.now) c.in_ok-opened.ensures.short kept c.in_ok-fit.ensures.params c.in_ok-joined.ensures.least c.in_ok-joined.ensures.most
     (omega (arith, c.in_ok-fit.ensures.few)) c.in_ok-fit.ensures.short c.in_ok-copies.ensures

@@ -1,5 +1,5 @@
 -- Each way out of the opening gives what is due.
-use Rattle.std.proofs.Common.{◌≡◌, ap}
+use Rattle.std.proofs.Common.{◌≡◌, ◌≤◌, ℕ, List, length, ap, subst}
 use Rattle.std.proofs.lemmas.Result.{err_from_is_err_and}
 use Rattle.c0_tree.specs.View.{unit_view}
 use Rattle.c0_unit.specs.Code.{unit_words}
@@ -33,9 +33,9 @@ returns-clause-is c =
     let same : c.deref.result.now ≡ c.args.object.now.source = cc (c.deref.ensures.value, ap (λ (o : Object). o.source) c.object.view_is) in
     let stored : c.deref-2.result.now ≡ c.args.object.now.words = cc (c.deref-2.ensures.value, ap (λ (o : Object). o.words) c.object.view_is) in
     let code : c.deref-3.result.now ≡ unit_words (unit_view c.in_ok-unit.unit) = cc (c.deref-3.ensures.value, c.in_ok-code.ensures.words) in
-    opened (λ (o : Opened). unit_view o.unit) c.args.object.now _ c.deref.result.now c.deref-2.result.now c.deref-3.result.now c.in_ok-compare.field-0 c.in_ok-unit.ensures.found same c.in_ok-compare.ensures stored code
+    opened (λ (o : Opened). unit_view o.unit) c.args.object.now (record { unit = c.in_ok-unit.unit; code = c.in_ok-code.code }) c.deref.result.now c.deref-2.result.now c.deref-3.result.now c.in_ok-compare.field-0 c.in_ok-unit.ensures.found same c.in_ok-compare.ensures stored code
 
 pub returns-clause-short : goal.returns-clause-short
 returns-clause-short c =
     let same : c.deref.result.now ≡ c.args.object.now.source = cc (c.deref.ensures.value, ap (λ (o : Object). o.source) c.object.view_is) in
-    ?
+    subst (λ (s : List ℕ). length s ≤ 1048576) same c.in_ok-unit.ensures.found.short
