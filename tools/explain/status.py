@@ -11,8 +11,8 @@ MEMORY = {'compile user': '8', 'compile': '15', 'link': '64', 'migrate': '57', '
 class Way:
     """How the one who reads is to give a word again: as a word of the command."""
 
-    def __init__(self, command):
-        self.command = command
+    def __init__(self, command, tool='./cvm'):
+        self.tool = tool
         self.first = command[0] if command else ''
 
     def steps(self, number):
@@ -30,7 +30,7 @@ class FolderWay(Way):
     """The same for a folder that ./try runs: by options, and with the names of its sources."""
 
     def __init__(self, command, names):
-        Way.__init__(self, command)
+        Way.__init__(self, command, './try')
         self.names = names
 
     def steps(self, number):
@@ -241,10 +241,10 @@ def no_memory(command):
     return help_of.split(',')[0] if command[0] == 'sample' else help_of
 
 
-def bad_words(command):
+def bad_words(command, way):
     """Which word is bad, and the forms of the commands."""
     fault = words.fault(command) or 'the words are no command of this program'
-    return ['cvm: %s.' % fault, 'cvm: the commands are:'] + ['  ./cvm ' + ' '.join(form) for form in pages.forms()]
+    return ['cvm: %s.' % fault, 'cvm: the commands are:'] + ['  %s %s' % (way.tool, ' '.join(form)) for form in pages.forms()]
 
 
 def explain(status, command, printed, way=None):
@@ -255,7 +255,7 @@ def explain(status, command, printed, way=None):
         return ['cvm: the program was stopped by the signal %d; nothing of what it printed can be relied on.' % number if 0 < number < 65
                 else 'cvm: the program ended with the status %d, which it never has by itself.' % status]
     if status == 1:
-        return bad_words(command)
+        return bad_words(command, way)
     found = re.fullmatch(r'refused((?: \d+| -\d+)+)', printed)
     if found and status in (2, 5, 6):
         return refusal([int(word) for word in found.group(1).split()], command, way)

@@ -94,10 +94,10 @@ def fault(words):
     many = bool(names) and names[-1].endswith('..')
     least = len(names) - many
     if len(given) < least:
-        return 'word %d, %s, is missing: ./cvm %s' % (len(words) + 1, names[len(given)], ' '.join(form))
+        return 'word %d, %s, is missing: the command is %s' % (len(words) + 1, names[len(given)], ' '.join(form))
     if len(given) > len(names) and not many:
         place = len(head) + len(names)
-        return "word %d, '%s', is one too many: ./cvm %s" % (place + 1, words[place], ' '.join(form))
+        return "word %d, '%s', is one too many: the command is %s" % (place + 1, words[place], ' '.join(form))
     for place, (name, word) in enumerate(named(form, given)):
         bounds = number_range(form, name)
         why = number_fault(word, *bounds) if bounds else None

@@ -12,10 +12,12 @@ class Bad(Exception):
 
 def say(lines):
     """Puts lines to standard error, if it is there."""
+    if sys.stderr is None:
+        return
     try:
         for line in [lines] if isinstance(lines, str) else lines:
             print(line, file=sys.stderr, flush=True)
-    except (OSError, ValueError, AttributeError):
+    except (OSError, ValueError):
         pass
 
 
