@@ -35,7 +35,7 @@ both_pass w f l q r s b c d two lq lr u x y same other z = ⊎_elim
     (cases_eq q r)
 
 module _ (w : World) (f : RoutineLaws w) (p : Places) (b : ℕ) (si : Sited p w) (page : PageBlock w p b) (g : Start) where
-  pub brings : (u : Pages) (q : ℕ) (store : Bool) (c : Contents) (d : Behind) → Held p u g c d → c.regs 16 ≡ q → q < p.layout.pages → u.live q ≡ true → (store ≡ false → c.regs 15 ≡ 0) → (store ≡ true → c.regs 15 ≢ 0) → From w page.code fault_steps b c d (Came p u g q store c d)
+  pub brings : (u : Pages) (q : ℕ) (store : Bool) (c : Contents) (d : Behind) → Held p u g c d → c.regs 16 ≡ q → q < p.layout.pages → u.live q ≡ true → (store ≡ false → c.regs 15 ≡ 0) → (store ≡ true → c.regs 15 ≢ 0) → From w page.code (fault_steps b) c d (Came p u g q store c d)
   brings u q store c d h at lt live load save =
       let asks = page.does u q store c d (record { page = at; inside = lt; live = live; stands = h.stands; small = h.small; idle = h.idle; load = load; save = save }) in
       from_later w f page.code (swap_steps p b c.memory) (fault_steps b) c d _ _ asks.within
@@ -98,16 +98,16 @@ module _ (w : World) (f : RoutineLaws w) (p : Places) (b : ℕ) (si : Sited p w)
     r14 : c.regs 14 ≡ c0.regs 14
 
   pub both_from : (u : Pages) (x y : ℕ) (c : Contents) (d : Behind) → Held p u g c d → c.regs 26 ≡ x → c.regs 27 ≡ y → x < 1024 * p.layout.pages → y < 1024 * p.layout.pages → u.live (x / 1024) ≡ true → u.live (y / 1024) ≡ true
-      → Passes (view p c.memory d.sectors) (x / 1024) false → From w (both_code page.code) (2 + (fault_steps b + (4 + fault_steps b))) c d (BothIn p u g x y c)
+      → Passes (view p c.memory d.sectors) (x / 1024) false → From w (both_code page.code) (2 + (fault_steps b + (4 + (fault_steps b)))) c d (BothIn p u g x y c)
   both_from u x y c d h from to lx ly ax ay pass =
       let pages = si.pages in
-      from_then w f (Srl 16 27 10 ∷ Addiu 15 0 1 ∷ []) _ 2 (fault_steps b + (4 + fault_steps b)) c d (Asks1 u y c d) (BothIn p u g x y c)
+      from_then w f (Srl 16 27 10 ∷ Addiu 15 0 1 ∷ []) _ 2 (fault_steps b + (4 + (fault_steps b))) c d (Asks1 u y c d) (BothIn p u g x y c)
       (from_straight w f (Srl 16 27 10 ∷ Addiu 15 0 1 ∷ []) (Gives (y / 1024) ∷ Gives 1 ∷ []) c d (Asks1 u y c d) refl h.idle
       (λ n. ((ap (λ z. z / 2 ^ 10) to, (refl, tt)), record { held = record { stands = h.stands; small = h.small; low = h.low; above = h.above; special = h.special; r28 = h.r28; r29 = h.r29; r30 = h.r30; r31 = h.r31; behind = h.behind; idle = h.idle }; number = refl; store = refl; same = refl; r13 = refl; r26 = refl; r27 = refl; r14 = refl; disk = refl })))
       (λ c1 d1 a. let store1 = a.store in
-      from_then w f page.code _ fault_steps b (4 + fault_steps b) c1 d1 (Came p u g (y / 1024) true c1 d1) (BothIn p u g x y c)
+      from_then w f page.code _ (fault_steps b) (4 + (fault_steps b)) c1 d1 (Came p u g (y / 1024) true c1 d1) (BothIn p u g x y c)
       (brings u (y / 1024) true c1 d1 a.held a.number (omega arith) ay (λ e. absurd (cc)) (λ e. omega arith))
-      (λ c2 d2 k. from_then w f (Addiu 9 16 0 ∷ Srl 16 26 10 ∷ Subu 15 16 9 ∷ Sltiu 15 15 1 ∷ []) page.code 4 fault_steps b c2 d2 (Asks2 u x y c d) (BothIn p u g x y c)
+      (λ c2 d2 k. from_then w f (Addiu 9 16 0 ∷ Srl 16 26 10 ∷ Subu 15 16 9 ∷ Sltiu 15 15 1 ∷ []) page.code 4 (fault_steps b) c2 d2 (Asks2 u x y c d) (BothIn p u g x y c)
       (from_straight w f (Addiu 9 16 0 ∷ Srl 16 26 10 ∷ Subu 15 16 9 ∷ Sltiu 15 15 1 ∷ []) (Gives (y / 1024) ∷ Gives (x / 1024) ∷ Gives ((x / 1024 + (2 ^ 32 - y / 1024)) % 2 ^ 32) ∷ Gives (flag (nat_lt ((x / 1024 + (2 ^ 32 - y / 1024)) % 2 ^ 32) 1)) ∷ []) c2 d2 (Asks2 u x y c d) refl k.held.idle
       (λ n. let r16 = k.keeps.r16 in let page1 = a.number in (
         (omega arith, (ap (λ z. z / 2 ^ 10) (k.keeps.r26 ∙ a.r26 ∙ from), (refl, (refl, tt)))),
@@ -130,15 +130,15 @@ module _ (w : World) (f : RoutineLaws w) (p : Places) (b : ℕ) (si : Sited p w)
           let b = both_pass w f p.layout (x / 1024) (y / 1024) s (view p c.memory d.sectors) (view p c3.memory d3.sectors) (view p c4.memory d4.sectors) si.frames (omega arith) (omega arith) h.stands.hand pass t.brought same other k.brought in
           record { held = k.held; source = b.0; target = b.1; r13 = k.keeps.r13 ∙ t.r13; r26 = k.keeps.r26 ∙ t.r26; r27 = k.keeps.r27 ∙ t.r27; r14 = k.keeps.r14 ∙ t.r14 }
 
-      last : (u : Pages) (x y : ℕ) (c : Contents) (d : Behind) (c3 : Contents) (d3 : Behind) → Held p u g c d → x < 1024 * p.layout.pages → y < 1024 * p.layout.pages → u.live (x / 1024) ≡ true → u.live (y / 1024) ≡ true → Passes (view p c.memory d.sectors) (x / 1024) false → Asks2 u x y c d c3 d3 → From w page.code fault_steps b c3 d3 (BothIn p u g x y c)
+      last : (u : Pages) (x y : ℕ) (c : Contents) (d : Behind) (c3 : Contents) (d3 : Behind) → Held p u g c d → x < 1024 * p.layout.pages → y < 1024 * p.layout.pages → u.live (x / 1024) ≡ true → u.live (y / 1024) ≡ true → Passes (view p c.memory d.sectors) (x / 1024) false → Asks2 u x y c d c3 d3 → From w page.code (fault_steps b) c3 d3 (BothIn p u g x y c)
       last u x y c d c3 d3 h lx ly ax ay pass t =
           let pages = si.pages in let store = t.store in
           ⊎_elim
           (λ one. let v = one.0 in let lt = one.1 in let same : x / 1024 ≡ y / 1024 = omega arith in
-          from_later w f page.code fault_steps b fault_steps b c3 d3 _ _ (omega arith) (end u x y c d c3 d3 true h lx ly pass t (λ e. refl) (λ ne. absurd (ne same)))
+          from_later w f page.code (fault_steps b) (fault_steps b) c3 d3 _ _ (omega arith) (end u x y c d c3 d3 true h lx ly pass t (λ e. refl) (λ ne. absurd (ne same)))
           (brings u (x / 1024) true c3 d3 t.held t.number (omega arith) ax (λ e. absurd (cc)) (λ e. omega arith)))
           (λ zero_. let v = zero_.0 in let le = zero_.1 in
-          from_later w f page.code fault_steps b fault_steps b c3 d3 _ _ (omega arith) (end u x y c d c3 d3 false h lx ly pass t (λ e. absurd (omega arith)) (λ ne. refl))
+          from_later w f page.code (fault_steps b) (fault_steps b) c3 d3 _ _ (omega arith) (end u x y c d c3 d3 false h lx ly pass t (λ e. absurd (omega arith)) (λ ne. refl))
           (brings u (x / 1024) false c3 d3 t.held t.number (omega arith) ax (λ e. omega arith) (λ e. absurd (cc))))
           (flag_of ((x / 1024 + (2 ^ 32 - y / 1024)) % 2 ^ 32) 1)
 
