@@ -1,5 +1,5 @@
 -- A call of a primitive, from its entry to its return.
-use Rattle.std.proofs.Common.{◌≡◌, ℕ, ◌+◌, ◌-◌, ◌*◌, ◌/◌, ◌^◌, ◌<◌, ◌≤◌, ℤ, ◌&&◌, true, not, Some, None, List, [], ◌∷◌, ◌++◌, length, slice_index, All, refl, sym, ap, ◌∙◌, subst, ⊎_elim, inr, true≢false, arith, le-ltb}
+use Rattle.std.proofs.Common.{◌≡◌, ℕ, ◌+◌, ◌-◌, ◌*◌, ◌/◌, ◌^◌, ◌<◌, ◌≤◌, ℤ, ◌&&◌, true, not, Some, None, List, [], ◌∷◌, ◌++◌, length, slice_index, All, nat_lt, refl, sym, ap, ◌∙◌, subst, ⊎_elim, inr, true≢false, arith, le-ltb, lt-ltb}
 use Rattle.std.specs.Prelude.{if◌then◌else◌, nat_le}
 use Rattle.std.proofs.lemmas.Bool.{cases_lt, cond_both}
 use Rattle.std.proofs.lemmas.List.{ext_get_or, get_or_past, length-drop}
