@@ -1,5 +1,5 @@
 -- A kernel's code as the code of a machine: what stands where, that it is sound, and that the machine holds its words.
-use Rattle.std.specs.Prelude.{slice_get, slice_index, option_map, nat_lt, nat_le, ◌&&◌, ◌||◌, drop}
+use Rattle.std.specs.Prelude.{slice_get, slice_index, option_map, nat_lt, nat_le, ◌&&◌, ◌||◌, if◌then◌else◌, drop}
 use Rattle.std.specs.List.{All}
 use Rattle.std.proofs.Common.{◌≡◌, ℕ, zero, suc, ◌+◌, ◌-◌, ◌^◌, ◌<◌, ◌≤◌, inl, inr, Bool, true, false, List, [], ◌∷◌, ◌++◌, length, map, Option, Some, None, refl, sym, ap, ap₂, ◌∙◌, subst, arith, append_assoc, length-append, lt-ltb}
 use Rattle.std.proofs.lemmas.Bool.{cases_lt, cond-true, cond-false, le-ltb}
@@ -10,9 +10,9 @@ use Rattle.mips_table.specs.declared.inst.Inst.{Inst}
 use Rattle.mips_table.specs.Encoding.{InRange, encoding}
 use Rattle.mips_table.specs.Device.{Outside}
 use Rattle.mips_table.specs.Code.{on_machine, Sound, CodeAt}
-use Rattle.layer_map.specs.Map.{Map, layer_words, block_at}
+use Rattle.layer_map.specs.Map.{Map, layer_words, block_at, memory_words}
 use Rattle.cvm_model.specs.Stands.{is_own}
-use Rattle.kernel_runs.specs.Placed.{code_from, program, StandsAt}
+use Rattle.kernel_runs.specs.Placed.{code_from, kept_of, program, StandsAt}
 
 pub at_number : {A : Type 0} (P : A → Type 0) (xs : List A) (i : ℕ) (x : A) → All P xs → slice_get xs i ≡ Some x → P x
 at_number P [] i x a e = cc
