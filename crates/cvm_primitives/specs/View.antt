@@ -98,9 +98,10 @@ ResizeGood users per u new = (0 < u) × (u ≤ users) × (new ≤ per)
 abbrev pub Fresh : Places → ℕ → ℕ → Contents → Type 0
 Fresh p q n c = (x : ℕ) → q ≤ x → x < q + n → Names (c.memory (p.tables + x)) p.layout.zeros
 
--- page y names the frame that page x names
-abbrev pub SharesFrame : Places → ℕ → ℕ → Contents → Type 0
-SharesFrame p x y c = Names (c.memory (p.tables + y)) (c.memory (p.tables + x) / 4096)
+-- page y names the frame that page x names, both by valid entries
+pub record SharesFrame (p : Places) (x y : ℕ) (c : Contents) : Type 0 where
+  pub source : Names (c.memory (p.tables + x)) (c.memory (p.tables + x) / 4096)
+  pub target : Names (c.memory (p.tables + y)) (c.memory (p.tables + x) / 4096)
 
 -- page x names a user frame that four pages other than y name
 pub record FourOthers (p : Places) (x y : ℕ) (m : ℕ → ℕ) : Type 0 where

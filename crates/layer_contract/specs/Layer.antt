@@ -1,5 +1,5 @@
 -- What a layer promises: the laws of entering and leaving the kernel, of each primitive, of each fault exit and of a handled fault.
-use Rattle.std.specs.Prelude.{◌≡◌, ◌≢◌, ℕ, zero, suc, ◌+◌, ◌-◌, ◌*◌, ◌/◌, ◌%◌, ◌<◌, ◌≤◌, ℤ, pos, Bool, true, false, List, [], ◌∷◌, ◌++◌, length, map, take, drop, replicate, slice_index, slice_set, All, Option, Some, None}
+use Rattle.std.specs.Prelude.{◌≡◌, ◌≢◌, ℕ, zero, suc, ◌+◌, ◌-◌, ◌*◌, ◌/◌, ◌%◌, ◌<◌, ◌≤◌, ℤ, pos, Bool, true, false, List, [], ◌∷◌, ◌++◌, length, map, take, replicate, slice_index, slice_set, All, Option, Some, None}
 use Rattle.mips_table.specs.declared.cause.Cause.{Cause}
 use Rattle.mips_table.specs.declared.inst.Inst.{Inst}
 use Rattle.mips_table.specs.declared.inst.Inst.TheVariants.{Sw}
@@ -53,8 +53,9 @@ abbrev pub SectorsStay : Map → State → State → Type 0
 SectorsStay m s t = (q : ℕ) → m.users * m.params.pages ≤ q → sector_of t.device.sectors q ≡ sector_of s.device.sectors q
 
 -- the words behind the map's last frame are the same, and as many
-abbrev pub FramesStay : Map → State → State → Type 0
-FramesStay m s t = drop (memory_words m) t.memory ≡ drop (memory_words m) s.memory
+pub record FramesStay (m : Map) (s t : State) : Type 0 where
+  pub size : length t.memory ≡ length s.memory
+  pub words : (k : ℕ) → memory_words m ≤ k → k < length s.memory → slice_index t.memory k ≡ slice_index s.memory k
 
 -- the command that is under way in the step from this state just before the disk counts
 unfoldable pub due : Outside → State → Pending
