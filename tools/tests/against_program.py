@@ -45,9 +45,9 @@ def is_so(start, folder, kind, data, numbers, part):
     with open(name, 'wb') as file:
         file.write(data)
     words = ['compile', kind, name, os.path.join(folder, 'made')]
-    status, row = program.run_to([*start, *words], os.path.join(folder, 'out'))
-    said = explaining.explain(status, words, row)
-    return row.split()[1:3] == [str(number) for number in numbers] and any(part in line for line in said)
+    status, rows = program.run_to([*start, *words], os.path.join(folder, 'out'))
+    said = explaining.explain(status, words, rows)
+    return ''.join(rows).split()[1:3] == [str(number) for number in numbers] and any(part in line for line in said)
 
 
 def main():
