@@ -2,6 +2,8 @@
 import os
 import subprocess
 
+from running.guard import Bad
+
 MOST_OF_A_ROW = 65536
 
 
@@ -11,11 +13,19 @@ def last_rows(text):
     return [row for row in rows if row][-2:]
 
 
-def put(part):
-    """Writes bytes to standard output, all of them or none of the rest."""
+def write(part):
+    """Writes bytes to standard output, all of them."""
     at = 0
     while at < len(part):
         at += os.write(1, part[at:])
+
+
+def put(part):
+    """Writes bytes to standard output; where that fails the tool ends with status 7, as the program does."""
+    try:
+        write(part)
+    except OSError as error:
+        raise Bad('standard output could not be written to the end: %s' % error.strerror, 7) from None
 
 
 def run_here(command):
@@ -31,7 +41,7 @@ def run_here(command):
             break
         kept = (kept + part)[-MOST_OF_A_ROW:]
         try:
-            put(part)
+            write(part)
         except OSError:
             failed = True
     program.stdout.close()
