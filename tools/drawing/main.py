@@ -1,9 +1,9 @@
 """tools/picture: draws stored output, `tools/picture BOOT.txt [TRACE..] [--turns N] > run.svg`."""
 import os
-import sys
 
 from explain import files, words as command_words
 from drawing import draw, rows
+from running import program
 from running.guard import Bad
 
 USAGE = 'tools/picture BOOT.txt [TRACE..] [--turns N] [--title TEXT]: draws what a boot printed, with what traces printed, as an SVG on standard output'
@@ -48,6 +48,5 @@ def main(words):
         except rows.BadText as bad:
             raise Bad("'%s' can't be drawn: %s" % (name, bad)) from None
     title = title or os.path.basename(os.path.dirname(os.path.abspath(names[0]))) + '/' + os.path.basename(names[0])
-    sys.stdout.write(draw.Drawing(made[0], made[1:], title, turns).draw())
-    sys.stdout.flush()
+    program.put(draw.Drawing(made[0], made[1:], title, turns).draw().encode('utf-8', errors='replace'))
     return 0

@@ -67,6 +67,9 @@ class Before:
         found = tokens(data)
         self.back = [text for place, text in found if place < at][::-1] + [''] * 8
         self.here = [text for place, text in found if place >= at] + [''] * 8
+        last = max([place for place, text in found if place < at], default=0)
+        first = min([place for place, text in found if place >= at], default=len(data))
+        self.new_line = b'\n' in data[last:first]
         self.glued = [text for place, text in found if place + len(text.encode()) == at]
 
     def statement(self):
@@ -139,6 +142,17 @@ def statement(near, part):
     return None
 
 
+def missing(near, part):
+    """A mark that is missing: the ';' of the statement before, or the brackets of a condition."""
+    here, last = near.here[0], near.back[0]
+    if last in ('if', 'while') and here != '(':
+        return "the condition of '%s' stands in brackets: '%s (..) { .. }'" % (last, last)
+    ended = last in (')', ']', 'true', 'false', 'null') or is_name(last) and last not in RESERVED or last.isdigit()
+    if ended and part and part[0] not in ('if', 'while') and (here == '}' or near.new_line and (is_name(here) or here == '*')):
+        return "a ';' may be missing behind '%s'" % ' '.join(part[-3:])
+    return None
+
+
 def last_statement(back):
     """The tokens of the statement whose ';' is the first of these, which go backwards."""
     part = []
@@ -202,7 +216,7 @@ def unexpected(data, at):
     if near.here[0] == '/*' or data[at - 1:at + 1] == b'/*' or data[at:at + 2] == b'/*':
         return "C0's comments go from '//' to the end of the line: there is no '/* .. */'"
     word = first_foreign([near.here[0]]) or first_foreign(part)
-    return word or declaration(near, part) or right_side(near, part) or statement(near, part)
+    return word or missing(near, part) or declaration(near, part) or right_side(near, part) or statement(near, part)
 
 
 def bad_byte(data, at):

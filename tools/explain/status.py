@@ -5,7 +5,7 @@ import re
 from explain import asm_habits, c_habits, files, pages, places, steps, words
 
 # The number of docs/REFUSALS.md that says what to do where a command finds no memory.
-MEMORY = {'compile user': '8', 'compile': '15', 'link': '64', 'migrate': '57', 'check': '44'}
+MEMORY = {'compile user': '8', 'compile program': '38', 'compile': '15', 'link': '64', 'check': '64', 'migrate': '57'}
 
 
 class Way:
@@ -58,7 +58,7 @@ def remedy(key):
 
 def source_place(key, fields, name, data):
     """The place of a fault of a source (10 to 14, 20 to 39) and the habit behind it."""
-    if not fields:
+    if not fields or key == 37:
         return []
     start = fields[0]
     end = fields[1] if key >= 20 and len(fields) > 1 else start + 1
@@ -155,6 +155,8 @@ def located(key, fields, command, way):
         return line_of(gets[1], fields[0], way)
     if key in (40, 50) and gets:
         return what_it_is(gets[0], way)
+    if 100 <= key <= 106 and len(gets) > 2:
+        return ['cvm: the saved run is %s.' % way.shown(gets[2])]
     found = [name for name in gets if files.get_fault(name)]
     return ['cvm: %s.' % files.get_fault(found[0])] if key == 81 and found else []
 
@@ -236,9 +238,9 @@ def spent(command, way):
 
 def no_memory(command):
     """What helps where there was no memory for a command."""
-    key = MEMORY.get(' '.join(command[:2])) or MEMORY.get(command[0], '92')
-    help_of = remedy(key)
-    return help_of.split(',')[0] if command[0] == 'sample' else help_of
+    keys = [MEMORY.get(' '.join(command[:2])), MEMORY.get(command[0], '92')]
+    help_of = remedy(next(key for key in keys if key in pages.refusals()))
+    return help_of.split(',')[0] if command[0] in ('sample', 'check') else help_of
 
 
 def bad_words(command, way):
@@ -247,9 +249,27 @@ def bad_words(command, way):
     return ['cvm: %s.' % fault, 'cvm: the commands are:'] + ['  %s %s' % (way.tool, ' '.join(form)) for form in pages.forms()]
 
 
-def explain(status, command, printed, way=None):
-    """The lines that say what a status other than 0 means; `printed` is the last row that the command printed."""
+def check_answer(rows, stack):
+    """What the two rows of a `check` say of so many words of stack."""
+    answer = rows[0] if len(rows) == 2 else ''
+    if answer.startswith('yes '):
+        return ["cvm: %s words of stack are enough: no chain of calls has more than %s, which the one above has. No boot of an image of this source with "
+                "'stack %s' or more ends with 'fault StackOut'." % (stack, answer[4:], stack)]
+    if answer == 'no cycle':
+        return ["cvm: the functions above call one another in a loop, so no number of words is enough for all that the source says. Whether a run goes "
+                "round so often is not told: docs/KERNELS.md, 'How much stack?'."]
+    if answer.startswith('no '):
+        return ["cvm: the chain of calls above has %s words, more than %s. Raise 'stack' in the parameters, or make large locals globals: docs/KERNELS.md, "
+                "'How much stack?'. Whether a run makes these calls is not told." % (answer[3:], stack)]
+    return []
+
+
+def explain(status, command, rows, way=None):
+    """The lines that say what a status means; `rows` are the last two rows that the command printed. Of status 0 only a `check` has more to say."""
     way = way or Way(command)
+    printed = rows[-1] if rows else ''
+    if status == 0:
+        return check_answer(rows, command[-1]) if command[:1] == ['check'] else []
     if status < 0 or status > 8:
         number = -status if status < 0 else status - 128
         return ['cvm: the program was stopped by the signal %d; nothing of what it printed can be relied on.' % number if 0 < number < 65

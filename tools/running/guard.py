@@ -30,8 +30,6 @@ def guarded(name, main, words):
         return bad.status
     except KeyboardInterrupt:
         return 130
-    except BrokenPipeError:
-        return 7
     except OSError as error:
         say("%s: %s%s" % (name, error.strerror or error, ": '%s'" % error.filename if error.filename else ''))
         return 70

@@ -147,7 +147,7 @@ def build(rt, name, say):
         kept = os.path.join(KEPT, name)
         if os.path.isdir(kept):
             return
-        say('try: builds the sources as they are, with no proof: 35 to 45 seconds on four idle processors. The build is kept until a source changes.')
+        say('try: builds the sources as they are, with no proof: less than a minute of a processor. The build is kept until a source changes.')
         new = tempfile.mkdtemp(prefix='new-', dir=KEPT)
         try:
             build_into(rt, new)

@@ -26,11 +26,11 @@ class Run:
 
     def command(self, words, text='text'):
         """Runs a command, puts what it prints, and explains any status but 0."""
-        status, row = program.run_to([*self.start, *words], self.made(text), self.work)
+        status, rows = program.run_to([*self.start, *words], self.made(text), self.work)
         with open(self.made(text), 'rb') as file:
             self.put(file.read())
         if status:
-            self.say(explaining.explain(status, words, row, explaining.FolderWay(words, self.names)))
+            self.say(explaining.explain(status, words, rows, explaining.FolderWay(words, self.names)))
         return status
 
     def build(self):

@@ -165,15 +165,14 @@ def run_command(words):
     """Runs one command. What is wrong with its words and files is said before the toolchain starts, as the program would."""
     if command_words.fault(words):
         program.put(b'bad words\n')
-        say(explaining.explain(1, words, 'bad words', explaining.Way(words, './try')))
+        say(explaining.explain(1, words, ['bad words'], explaining.Way(words, './try')))
         return 1
     fault = next((fault for fault in map(files.get_fault, command_words.files(words)[0]) if fault and 'more than' not in fault), None)
     if fault:
         say('try: a file could not be had: %s.' % fault)
         return 6
-    status, row = program.run_here([*start_of(Options()), *words])
-    if status:
-        say(explaining.explain(status, words, row, explaining.Way(words, './try')))
+    status, rows = program.run_here([*start_of(Options()), *words])
+    say(explaining.explain(status, words, rows, explaining.Way(words, './try')))
     return status if status >= 0 else 128 - status
 
 

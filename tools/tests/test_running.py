@@ -53,6 +53,14 @@ class Rooms(unittest.TestCase):
         self.assertIn('status 2', expected.answer(b'a\n', b'refused 12 5\n', 2, ['cvm: a call needs its answer taken.']))
 
 
+class Full(unittest.TestCase):
+    def test_a_full_output_is_said(self):
+        for words in (['tools/picture', 'examples/adder/printed'],):
+            with open('/dev/full', 'wb') as full:
+                ran = subprocess.run([sys.executable, *words], cwd=pages.TOP, stdout=full, stderr=subprocess.PIPE, text=True)
+            self.assertEqual((ran.returncode, 'Traceback' in ran.stderr, 'standard output could not be written' in ran.stderr), (7, False, True))
+
+
 class BadInput(unittest.TestCase):
     def run_tool(self, *words):
         ran = subprocess.run([sys.executable, *words], cwd=pages.TOP, stdin=subprocess.DEVNULL, capture_output=True, text=True)

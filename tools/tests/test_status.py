@@ -18,7 +18,7 @@ class Status(unittest.TestCase):
         return path
 
     def said(self, number, words, row):
-        return '\n'.join(status.explain(number, words, row))
+        return '\n'.join(status.explain(number, words, [row] if row else []))
 
     def test_a_source(self):
         name = self.put('k.c0', b'int x;\nint f() {\n  x = zz;\n  return 0;\n}\n')
@@ -93,8 +93,8 @@ class Status(unittest.TestCase):
 
     def test_a_folder_has_its_own_words(self):
         way = status.FolderWay(['boot'], {'/w/i': 'the image of x'})
-        self.assertIn('--turns 7', '\n'.join(status.explain(3, ['boot', '/w/i', 's', '10', '10'], 'turn 7 cause 6 data 0000000c user 1 fault Bounds', way)))
-        self.assertIn('--steps 1000000 ', '\n'.join(status.explain(4, ['boot', '/w/i', 's', '10', '10'], '', way)))
+        self.assertIn('--turns 7', '\n'.join(status.explain(3, ['boot', '/w/i', 's', '10', '10'], ['turn 7 cause 6 data 0000000c user 1 fault Bounds'], way)))
+        self.assertIn('--steps 1000000 ', '\n'.join(status.explain(4, ['boot', '/w/i', 's', '10', '10'], [], way)))
 
     def test_steps(self):
         said = self.said(4, ['boot', 'none', 'none', '10', '2000000'], '')
@@ -106,6 +106,13 @@ class Status(unittest.TestCase):
         self.assertIn("there is no file '%s.not'" % there, self.said(6, ['boot', there, there + '.not', '1', '1'], ''))
         self.assertIn('is a folder', self.said(6, ['boot', self.room.name, there, '1', '1'], ''))
         self.assertIn("there is no folder", self.said(6, ['compile', 'kernel', there, there + '.d/o'], ''))
+
+    def test_the_answer_of_a_check(self):
+        said = lambda *rows: '\n'.join(status.explain(0, ['check', 'o', '64'], list(rows)))
+        self.assertIn("'stack 64' or more", said('yes 15', 'chain dispatch pick'))
+        self.assertIn('has 106 words, more than 64', said('no 106', 'chain dispatch'))
+        self.assertIn('in a loop', said('no cycle', 'cycle dispatch down down'))
+        self.assertEqual(status.explain(0, ['boot', 'i', 's', '1', '1'], ['halted']), [])
 
     def test_each_status_says_something(self):
         for number in [*range(1, 9), -11, 139, 77]:
