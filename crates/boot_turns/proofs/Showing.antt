@@ -726,7 +726,7 @@ module _ (x : Outside) (y : System) (s : State) (late held : ℕ) (Typed : C0 �
     busy t on rows = by (rests (run x s (suc t))) refl
       where
         none_there : begins x (run x s t) ≡ false → noted_call x s t ≡ None → ⊥
-        none_there b n = let h : HasRows (run x s (suc t)) None false = subst₂ (HasRows (run x s (suc t))) n b rows in h
+        none_there b n = true_false false (subst₂ (HasRows (run x s (suc t))) n b rows) refl
 
         dispatched : begins x (run x s t) ≡ true → (note (run x s (suc t))).dispatched ≡ true
         dispatched b = let h : HasRows (run x s (suc t)) (noted_call x s t) true = subst (HasRows (run x s (suc t)) (noted_call x s t)) b rows in h

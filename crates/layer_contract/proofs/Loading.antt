@@ -1,5 +1,5 @@
 -- The loaded machine is a start, and the sectors past the users' pages are loaded as they were.
-use Rattle.std.proofs.Common.{◌≡◌, ◌≢◌, ℕ, ◌+◌, ◌-◌, ◌*◌, ◌/◌, ◌%◌, ◌<◌, ◌≤◌, false, List, [], map, length, refl, sym, ap, ◌∙◌, subst, ⊎_elim, arith, le-ltb}
+use Rattle.std.proofs.Common.{◌≡◌, ◌≢◌, ℕ, ◌+◌, ◌-◌, ◌/◌, ◌%◌, ◌<◌, ◌≤◌, false, List, [], map, length, refl, sym, ap, ◌∙◌, subst, ⊎_elim, arith, le-ltb}
 use Rattle.std.specs.Prelude.{nat_lt}
 use Rattle.std.specs.List.{range_with_len}
 use Rattle.std.proofs.lemmas.Bool.{cases_eq, cases_lt, cond-false}

@@ -1,5 +1,5 @@
 -- The loaded machine and its run, and when a layer and a boot belong together.
-use Rattle.std.specs.Prelude.{pos, true, ◌≡◌, ℕ, ◌-◌, ◌*◌, ◌≤◌, ℤ, if◌then◌else◌, List, ◌++◌, length, map, drop, replicate, slice_index, All}
+use Rattle.std.specs.Prelude.{true, ◌≡◌, ℕ, ◌-◌, ◌*◌, ◌≤◌, ℤ, if◌then◌else◌, List, ◌++◌, length, map, drop, replicate, slice_index, All}
 use Rattle.std.specs.List.{range_with_len}
 use Rattle.mips_table.specs.declared.cause.Cause.{Cause}
 use Rattle.mips_table.specs.declared.cause.Cause.TheVariants.{External}
@@ -14,12 +14,12 @@ use Rattle.layer_map.specs.Map.{Map, MapInRange, layer_words, memory_words}
 use Rattle.c0_meaning.specs.State.{State as C0}
 use Rattle.cvm_model.specs.Kernel.{Core, power_of, End, Answers, Faults, NotYet, Outcome, Meaning, MeaningLaws}
 use Rattle.cvm_model.specs.Primitives.{pages_of}
-use Rattle.cvm_model.specs.Cvm.{Boot, System, Running, Begin, Steps, Traps, Interrupts, map_of, first_flat, first_core, reset_steps, run_steps}
+use Rattle.cvm_model.specs.Cvm.{Boot, System, Running, Begin, Steps, Traps, Interrupts, map_of, first_flat, first_core, run_steps}
 use Rattle.cvm_model.specs.Paged.{pages_by}
 use Rattle.cvm_model.specs.TypedKernel.{StaysTyped}
 use Rattle.cvm_model.specs.Stands.{Site, input_room, CoreFits, Stands, runs_user}
 use Rattle.layer_contract.specs.declared.registers.TheConstants.{ANSWER}
-use Rattle.layer_contract.specs.Layer.{DispatchCalled, IsEntry, Inside, Way, Comes, IsAt, with_epc, Starts, AfterReset}
+use Rattle.layer_contract.specs.Layer.{IsEntry, Inside, Way, Comes, IsAt, with_epc, Starts, AfterReset}
 use Rattle.layer_contract.specs.Calls.{KernelCalled, CallsFollow}
 
 -- the map and the linked words of what is booted

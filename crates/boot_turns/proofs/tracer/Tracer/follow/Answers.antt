@@ -1,5 +1,5 @@
 -- What a step adds is what its branch prints: a turn of the user, a turn of another, a primitive that returned, or nothing.
-use Rattle.std.proofs.Common.{◌≡◌, ℕ, List, [], Bool, true, false, Option, Some, Err, slice_index, sym, ap, ap₂, ◌∙◌, subst}
+use Rattle.std.proofs.Common.{◌≡◌, ℕ, List, [], Bool, true, false, Option, Some, Err, slice_index, refl, sym, ap, ap₂, ◌∙◌, subst}
 use Rattle.std.specs.Prelude.{IsSome}
 use Rattle.cvm_outside.proofs.Parts.{append_known-nil}
 use Rattle.mips_table.specs.Machine.{State}
@@ -33,7 +33,7 @@ begun_rows a noted b began is same d = rw is (ap (λ (n : Begun). n.dispatched) 
 
 -- and else a primitive has returned
 returned_rows : (a : Held) (noted o : Option Entered) (e : Entered) (began : Bool) → began ≡ false → o ≡ returned (state_of a []) noted → o ≡ Some e → HasRows (state_of a []) noted began
-returned_rows a noted o e began is same some = rw is (subst IsSome (sym some ∙ same) tt)
+returned_rows a noted o e began is same some = rw is (subst IsSome (sym some ∙ same) refl)
 
 pub returns-in_err-begin-clause-puts : goal.returns-in_err-begin-clause-puts
 returns-in_err-begin-clause-puts g c = λ e. begun_rows c.args.machine.now c.args.self.now.call c.begun_now.result c.args.began c.if-began.true c.begun_now.ensures c.in_err-begin.ensures.puts
