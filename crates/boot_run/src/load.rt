@@ -93,9 +93,9 @@ pub(crate) fn loaded_machine(
 ) -> Result<Machine, AllocError>
     requires range { MapInRange map.now }
     requires map { map.now ≡ map_of (boot_of boot.now) }
-    ensures { IfOk result (λ m. m ≡ with_words (started (memory_frames (map_of (boot_of boot.now))) schedule) boot.now.words.items) }
+    ensures { IfOk result (λ m. m ≡ with_words (started (memory_frames (map_of (boot_of boot.now))) schedule) 0 boot.now.words.items) }
 {
     let mut machine = Machine::new(alloc, map.memory_frames(), schedule)?;
-    put_words(&mut machine, boot.words.as_slice());
+    put_words(&mut machine, 0, boot.words.as_slice());
     Ok(machine)
 }

@@ -111,7 +111,7 @@ impl<L: Layer + Drop> Run<L> {
         }
         let places = places_of(alloc, &boot)?;
         let machine = loaded_machine(alloc, &places.map, &boot, schedule)?;
-        match write_pages(boot.users.as_slice(), boot.params.pages, disk) {
+        match write_pages(boot.users.as_slice(), boot.params.pages, &[], need, disk) {
             Ok(()) => Ok(Run {
                 layer,
                 boot,
