@@ -42,12 +42,13 @@ page_at p (suc n) ss k lt le = ⊎_elim
     (λ (ne : k ≢ n). other_page p (written p n ss) n k ne ∙ page_at p n ss k (omega (arith, ne, lt)) (omega arith))
     (cases_eq k n)
 
--- all at once, where no number from n on is a page's
-pub written_is : (p : Pages) (n : ℕ) (ss : List (List ℕ)) → n ≤ length ss → ((q : ℕ) → n ≤ q → p.live q ≡ false) → written p n ss ≡ map (page_or p ss) (range_with_len 0 (length ss))
-written_is p n ss le none = fill_by_all (page_or p ss) (written p n ss) (length ss) [] (length-written p n ss)
+-- all at once: each sector holds its page, and what it held before where it gets none
+pub written_is : (p : Pages) (n : ℕ) (ss : List (List ℕ)) (f : ℕ → List ℕ) → n ≤ length ss → ((q : ℕ) → q < n → page_or p ss q ≡ f q) → ((q : ℕ) → n ≤ q → sector_of ss q ≡ f q) →
+    written p n ss ≡ map f (range_with_len 0 (length ss))
+written_is p n ss f le pages rest = fill_by_all f (written p n ss) (length ss) [] (length-written p n ss)
     (λ k lt. ⊎_elim
-    (λ (l : k < n). page_at p n ss k l le)
-    (λ (ge : n ≤ k). later_page p n ss k ge ∙ sym (cond-false (p.live k) _ _ (none k ge)))
+    (λ (l : k < n). page_at p n ss k l le ∙ pages k l)
+    (λ (ge : n ≤ k). later_page p n ss k ge ∙ rest k ge)
     (cases_lt k n))
 
 -- a sector whose number is below those that are written

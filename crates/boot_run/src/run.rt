@@ -4,8 +4,9 @@ ghost use Rattle.std.specs.Prelude.{false, [], IfOk, IfErr, IfSome, IsSome, OnOk
 ghost use Rattle.std.specs.Result.{result_err};
 ghost use Rattle.cvm_outside.specs.Causes.{Counts, Rose};
 ghost use Rattle.layer_contract.specs.Boots.{BootFollows};
-ghost use Rattle.boot_run.specs.Loading.{system_of, StaysFrom};
-ghost use Rattle.boot_run.specs.LoadEnds.{pages_needed, IsFresh, StandsLoaded, LoadFails};
+ghost use Rattle.layer_contract.specs.Follows.{loaded};
+ghost use Rattle.boot_run.specs.Loading.{system_of, TornAmong};
+ghost use Rattle.boot_run.specs.LoadEnds.{pages_needed, IsFresh, StandsFrom, LoadFails};
 ghost use Rattle.boot_report.specs.Prints.{Prints, PrintsPart};
 ghost use Rattle.boot_report.specs.Texts.{SameButViewed};
 ghost use Rattle.boot_run.specs.Calls.{MakesTurns, Proceeds, TakesTurns, TakesTurn, Reports};
@@ -83,7 +84,8 @@ impl<L: Layer + Drop> Run<L> {
     /// # Errors
     ///
     /// `NoSuchUser`, where the user of a trace is none of the users; else `SmallDisk`, where the disk has fewer sectors than the
-    /// users' pages take; else `Memory`, for want of memory; else `Disk`, only where the disk's count of faults rose.
+    /// users' pages take; else `Memory`, for want of memory; else `Disk`, only where the disk's count of faults rose. The sectors before the one at
+    /// which the disk failed are written then, that one may hold anything, and the others are as before.
     pub fn load<D: Sectors>(
         alloc: Global,
         layer: L,
@@ -93,11 +95,11 @@ impl<L: Layer + Drop> Run<L> {
         disk: &mut D,
     ) -> Result<Run<L>, LoadFault>
         requires { BootFollows (L.image layer) (L.sizes layer) (L.map layer) boot }
-        ensures fresh { IfOk result (λ r. IsFresh layer boot view schedule (D.size disk.old) r) }
-        ensures stands { IfOk result (λ r. StandsLoaded r (D.sectors disk.old) (D.sectors disk.new)) }
-        ensures ready { IfOk result (StandsReady (system_of boot schedule) (D.sectors disk.old) (D.sectors disk.new)) }
-        ensures fault { IfErr result (LoadFails boot view (D.size disk.old) (D.faults disk.old) (D.faults disk.new)) }
-        ensures torn { OnErr result (StaysFrom (pages_needed boot) (D.sectors disk.old) (D.sectors disk.new)) }
+        ensures fresh { IfOk result (λ r. IsFresh layer boot view schedule (pages_needed boot) (D.size disk.old) r) }
+        ensures stands { IfOk result (StandsFrom (loaded (system_of boot schedule)) (D.sectors disk.old) (D.sectors disk.new)) }
+        ensures ready { IfOk result (StandsReady (system_of boot schedule) (loaded (system_of boot schedule)) (D.sectors disk.old) (D.sectors disk.new)) }
+        ensures fault { IfErr result (LoadFails boot view (pages_needed boot) (D.size disk.old) (D.faults disk.old) (D.faults disk.new)) }
+        ensures torn { result ≡ Err LoadFault.Disk → TornAmong (pages_needed boot) (λ ss. (loaded (system_of boot schedule) ss).device.sectors) (D.sectors disk.old) (D.sectors disk.new) }
         ensures still { result ≢ Err LoadFault.Disk → OnErr result (disk.new ≡ disk.old) }
         ensures size { D.size disk.new ≡ D.size disk.old }
         ensures same { result ≢ Err LoadFault.Disk → D.faults disk.new ≡ D.faults disk.old }
@@ -168,7 +170,7 @@ impl<L: Layer + Drop> Run<L> {
         ensures sink { result ≡ Err RunFault.Sink → Rose (O.faults out.old) (O.faults out.new) }
         ensures sink_same { result ≢ Err RunFault.Sink → O.faults out.new ≡ O.faults out.old }
         ensures spent { self.new.machine.time + budget.new ≡ self.old.machine.time + budget.old }
-        ensures limit { result ≡ Err RunFault.StepLimit → (budget.new ≡ 0) ⊎ IsSome self.new.machine.hardware.off }
+        ensures limit { result ≡ Err RunFault.StepLimit → (budget.new ≡ 0) × (self.new.machine.hardware.off ≡ None) }
         ensures made { IfOk result (λ r. (1 ≤ r.0) × (r.0 ≤ most) × (r.1 ≢ Turn.Over)) }
     {
         memory_is_whole();
@@ -235,7 +237,7 @@ impl<L: Layer + Drop> Run<L> {
         ensures sink { result ≡ Err RunFault.Sink → Rose (O.faults out.old) (O.faults out.new) }
         ensures sink_same { result ≢ Err RunFault.Sink → O.faults out.new ≡ O.faults out.old }
         ensures spent { self.new.machine.time + budget.new ≡ self.old.machine.time + budget.old }
-        ensures limit { result ≡ Err RunFault.StepLimit → (budget.new ≡ 0) ⊎ IsSome self.new.machine.hardware.off }
+        ensures limit { result ≡ Err RunFault.StepLimit → (budget.new ≡ 0) × (self.new.machine.hardware.off ≡ None) }
         ensures made { IfOk result (λ r. (1 ≤ r.0) × (r.0 ≤ most) × (r.1 ≢ Turn.Over)) }
     {
         machines_run();
@@ -281,7 +283,7 @@ impl<L: Layer + Drop> Run<L> {
         ensures sink { result ≡ Err RunFault.Sink → self.old.fault ≡ None → Rose (O.faults out.old) (O.faults out.new) }
         ensures sink_same { result ≢ Err RunFault.Sink → O.faults out.new ≡ O.faults out.old }
         ensures spent { self.new.machine.time + budget.new ≡ self.old.machine.time + budget.old }
-        ensures limit { result ≡ Err RunFault.StepLimit → self.old.fault ≡ None → (budget.new ≡ 0) ⊎ IsSome self.new.machine.hardware.off }
+        ensures limit { result ≡ Err RunFault.StepLimit → self.old.fault ≡ None → (budget.new ≡ 0) × (self.new.machine.hardware.off ≡ None) }
     {
         if let Some(fault) = self.fault {
             return Err(fault);
@@ -328,7 +330,7 @@ impl<L: Layer + Drop> Run<L> {
         ensures sink { result ≡ Err RunFault.Sink → self.old.fault ≡ None → Rose (O.faults out.old) (O.faults out.new) }
         ensures sink_same { result ≢ Err RunFault.Sink → O.faults out.new ≡ O.faults out.old }
         ensures spent { self.new.machine.time + budget.new ≡ self.old.machine.time + budget.old }
-        ensures limit { result ≡ Err RunFault.StepLimit → self.old.fault ≡ None → (budget.new ≡ 0) ⊎ IsSome self.new.machine.hardware.off }
+        ensures limit { result ≡ Err RunFault.StepLimit → self.old.fault ≡ None → (budget.new ≡ 0) × (self.new.machine.hardware.off ≡ None) }
     {
         machines_run();
         let (_, turn) = self.turns(1, budget, disk, out)?;
