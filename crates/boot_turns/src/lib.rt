@@ -25,7 +25,6 @@ use layer_contract::{
     starts_go_on, the_loaded_machine_resets, the_loaded_machine_starts, users_follow_linked,
 };
 use layer_map::memory_is_whole;
-use mips_table::runs::turns_are_counted;
 pub use rows::{a_line_at_each_step, machine_rows};
 
 /// A law: from any start, over a layer that meets its laws, the machine goes on where the CVM run is defined, within its bound and the steps by which
@@ -35,7 +34,6 @@ pub fn machines_run()
 {
     starts_go_on();
     users_follow_linked();
-    turns_are_counted();
 }
 
 /// A law: the kernel's data is typed after every number of turns for which the CVM run from a start is defined.
