@@ -1,5 +1,5 @@
 -- What contracts see of a loaded run, and how a call of `load` ends.
-use Rattle.std.specs.Prelude.{◌≡◌, ℕ, ◌+◌, ◌*◌, ◌<◌, ◌≤◌, ◌&&◌, Bool, true, nat_lt, Option, Some, None, List, length, ⊤}
+use Rattle.std.specs.Prelude.{◌≡◌, ℕ, ◌+◌, ◌*◌, ◌/◌, ◌<◌, ◌≤◌, ◌&&◌, Bool, true, nat_lt, Option, Some, None, List, length, ⊤}
 use Rattle.std.specs.Option.{option_map}
 use Rattle.cvm_outside.specs.Causes.{Rose}
 use Rattle.mips_table.specs.Device.{Pending, Idle, Reading, Writing}
@@ -19,6 +19,10 @@ use Rattle.boot_run.specs.declared.load.LoadFault.TheVariants.{NoSuchUser, Small
 -- the sectors that the users' pages take
 abbrev pub pages_needed : Booted → ℕ
 pages_needed b = length b.users.items * b.params.pages
+
+-- and those that a machine with a boot ROM needs: the linked words' sectors stand behind them
+abbrev pub rom_needed : Booted → ℕ
+rom_needed b = pages_needed b + (length b.words.items + 1023) / 1024
 
 -- what is viewed is a boot, or a user that there is
 abbrev pub SeesUser : View → ℕ → Type 0

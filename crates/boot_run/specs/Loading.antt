@@ -1,5 +1,5 @@
 -- What a call of `load` writes: the linked words into memory, and the users' pages to their sectors.
-use Rattle.std.specs.Prelude.{◌≡◌, ◌≢◌, ℕ, zero, suc, ◌+◌, ◌-◌, ◌*◌, ◌<◌, ◌≤◌, nat_lt, if◌then◌else◌, Option, List, Vec, ◌++◌, map, take, drop, length, slice_index, slice_set}
+use Rattle.std.specs.Prelude.{◌≡◌, ◌≢◌, ℕ, zero, suc, ◌+◌, ◌-◌, ◌*◌, ◌<◌, ◌≤◌, nat_lt, if◌then◌else◌, Option, List, Vec, [], ◌∷◌, ◌++◌, map, take, drop, length, slice_index, slice_set}
 use Rattle.std.specs.Option.{option_map}
 use Rattle.std.specs.List.{range_with_len}
 use Rattle.mips_table.specs.Device.{sector_of}
@@ -7,7 +7,9 @@ use Rattle.page_model.specs.Paging.{Pages}
 use Rattle.schedule_file.specs.Rows.{Rows, longest}
 use Rattle.cvm_model.specs.Cvm.{System, first_flat}
 use Rattle.cvm_model.specs.Paged.{pages_by}
-use Rattle.mips_machine.specs.Machine.{Held}
+use Rattle.mips_table.specs.Encoding.{encoding}
+use Rattle.mips_table.specs.declared.inst.Inst.TheVariants.{J}
+use Rattle.mips_machine.specs.Machine.{Held, started}
 use Rattle.layer_contract.specs.declared.boot.Boot.{Boot as Booted}
 use Rattle.layer_contract.specs.Boots.{boot_of}
 
@@ -64,3 +66,7 @@ pub record TornAmong (most : ℕ) (wanted : List (List ℕ) → List (List ℕ))
 abbrev pub with_words : Held → (at : ℕ) → List ℕ → Held
 with_words held at words =
     record held { hardware = record held.hardware { memory = take at held.hardware.memory ++ (words ++ drop (at + length words) held.hardware.memory) } }
+
+-- the machine with a ROM of these words in the frame behind so many, and at word 0 the jump to it, at its start
+abbrev pub with_rom : (frames : ℕ) → (rom : List ℕ) → Rows → Held
+with_rom frames rom rows = with_words (with_words (started (frames + 1) rows) 0 (encoding (J (1024 * frames)) ∷ [])) (1024 * frames) rom

@@ -1,12 +1,13 @@
 // A loaded run.
 ghost use Rattle.std.specs.Prelude.{◌≡◌, ◌≢◌, ◌∷◌, ◌+◌, ◌<◌, ◌≤◌, ◌⊎◌, ◌^◌};
-ghost use Rattle.std.specs.Prelude.{false, [], IfOk, IfErr, IfSome, IsSome, OnOk, OnErr, Err, Ok, Some, None};
+ghost use Rattle.std.specs.Prelude.{false, [], length, IfOk, IfErr, IfSome, IsSome, OnOk, OnErr, Err, Ok, Some, None};
 ghost use Rattle.std.specs.Result.{result_err};
 ghost use Rattle.cvm_outside.specs.Causes.{Counts, Rose};
 ghost use Rattle.layer_contract.specs.Boots.{BootFollows};
 ghost use Rattle.layer_contract.specs.Follows.{loaded};
+ghost use Rattle.boot_turns.specs.Rom.{rom_loaded};
 ghost use Rattle.boot_run.specs.Loading.{system_of, TornAmong};
-ghost use Rattle.boot_run.specs.LoadEnds.{pages_needed, IsFresh, StandsFrom, LoadFails};
+ghost use Rattle.boot_run.specs.LoadEnds.{pages_needed, rom_needed, IsFresh, StandsFrom, LoadFails};
 ghost use Rattle.boot_report.specs.Prints.{Prints, PrintsPart};
 ghost use Rattle.boot_report.specs.Texts.{SameButViewed};
 ghost use Rattle.boot_run.specs.Calls.{MakesTurns, Proceeds, TakesTurns, TakesTurn, Reports};
@@ -15,7 +16,9 @@ ghost use Rattle.boot_run.specs.TurnCalls.{rows_of, IsOver, KeepsLoad, StandsRea
 ghost use Rattle.boot_run.specs.TurnParts.{rows_before, rows_after, Views};
 ghost use Rattle.cvm_model.specs.declared.row.Row.{Row as OneRow};
 
-use crate::load::{LoadFault, check_view, first_tracer, loaded_machine};
+use crate::load::{
+    LoadFault, check_view, first_tracer, loaded_machine, rom_machine, sectors_of,
+};
 use crate::next::{ended_by, has_faulted, seen_next};
 use crate::pages::write_pages;
 use crate::places::{Places, places_of};
@@ -114,6 +117,65 @@ impl<L: Layer + Drop> Run<L> {
         let places = places_of(alloc, &boot)?;
         let machine = loaded_machine(alloc, &places.map, &boot, schedule)?;
         match write_pages(boot.users.as_slice(), boot.params.pages, &[], need, disk) {
+            Ok(()) => Ok(Run {
+                layer,
+                boot,
+                tracer: first_tracer(view),
+                count: have,
+                machine,
+                turns: 0,
+                current: 0,
+                ended: None,
+                fault: None,
+                places,
+            }),
+            Err(_) => Err(LoadFault::Disk),
+        }
+    }
+
+    /// Loads what is booted under a schedule on a machine with a boot ROM of these words, in one frame more of memory: word 0 is the jump to the ROM,
+    /// all other memory is 0, each user's pages are in their sectors, and the linked words in those behind. It takes all memory of the run before it
+    /// writes to the disk.
+    ///
+    /// # Errors
+    ///
+    /// As [`Run::load`], where the disk needs sectors for the linked words, too.
+    pub fn load_rom<D: Sectors>(
+        alloc: Global,
+        layer: L,
+        boot: Boot,
+        schedule: Schedule,
+        view: View,
+        rom: &Vec<u32>,
+        disk: &mut D,
+    ) -> Result<Run<L>, LoadFault>
+        requires follows { BootFollows (L.image layer) (L.sizes layer) (L.map layer) boot }
+        requires few { length rom.now.items ≤ 1024 }
+        ensures fresh { IfOk result (λ r. IsFresh layer boot view schedule (rom_needed boot) (D.size disk.old) r) }
+        ensures stands { IfOk result (StandsFrom (rom_loaded (system_of boot schedule) rom.now.items) (D.sectors disk.old) (D.sectors disk.new)) }
+        ensures ready { IfOk result (StandsReady (system_of boot schedule) (rom_loaded (system_of boot schedule) rom.now.items) (D.sectors disk.old) (D.sectors disk.new)) }
+        ensures fault { IfErr result (LoadFails boot view (rom_needed boot) (D.size disk.old) (D.faults disk.old) (D.faults disk.new)) }
+        ensures torn { result ≡ Err LoadFault.Disk → TornAmong (rom_needed boot) (λ ss. (rom_loaded (system_of boot schedule) rom.now.items ss).device.sectors) (D.sectors disk.old) (D.sectors disk.new) }
+        ensures still { result ≢ Err LoadFault.Disk → OnErr result (disk.new ≡ disk.old) }
+        ensures size { D.size disk.new ≡ D.size disk.old }
+        ensures same { result ≢ Err LoadFault.Disk → D.faults disk.new ≡ D.faults disk.old }
+    {
+        let users = boot.users.len() as u32;
+        check_view(view, users)?;
+        let need = users * boot.params.pages + sectors_of(boot.words.as_slice());
+        let have = disk.count();
+        if have < need {
+            return Err(LoadFault::SmallDisk { need, have });
+        }
+        let places = places_of(alloc, &boot)?;
+        let machine = rom_machine(alloc, &places.map, rom.as_slice(), schedule)?;
+        match write_pages(
+            boot.users.as_slice(),
+            boot.params.pages,
+            boot.words.as_slice(),
+            need,
+            disk,
+        ) {
             Ok(()) => Ok(Run {
                 layer,
                 boot,
