@@ -1,5 +1,5 @@
 -- What the loop has printed of a trace: what one step adds to it, where the step or its rows fail, and how far it is at each step of the loop.
-use Rattle.std.proofs.Common.{◌≡◌, ℕ, suc, ◌+◌, ◌≤◌, inl, inr, Bool, Option, Some, None, Result, Ok, Err, List, [], ◌++◌, length, take, slice_index, refl, sym, ap, ◌∙◌, subst, arith, append_assoc}
+use Rattle.std.proofs.Common.{◌≡◌, ℕ, suc, ◌+◌, ◌≤◌, inl, inr, Bool, true, Option, Some, None, Result, Ok, Err, List, [], ◌++◌, length, take, slice_index, refl, sym, ap, ◌∙◌, subst, subst₂, arith, append_assoc}
 use Rattle.std.specs.Prelude.{IfSome, MatchResult, false}
 use Rattle.std.specs.Option.{option_map}
 use Rattle.std.specs.Io.KnownBytes.{append_known}
@@ -8,7 +8,7 @@ use Rattle.cvm_outside.specs.Told.{AppendsPart}
 use Rattle.cvm_outside.proofs.Parts.{part-none, puts-both, part-front}
 use Rattle.mips_table.specs.Device.{Outside}
 use Rattle.mips_table.specs.Machine.{State, run, step}
-use Rattle.mips_table.specs.Turns.{begins}
+use Rattle.mips_table.specs.Turns.{begins, rests}
 use Rattle.mips_machine.specs.Machine.{Held, state_of}
 use Rattle.mips_machine.specs.Steps.{outside_of}
 use Rattle.layer_map.specs.Map.{Map, MapInRange, current_at}
@@ -28,7 +28,7 @@ use Rattle.boot_turns.specs.declared.answers.RunFault.TheVariants.{StepLimit, Di
 use Rattle.boot_turns.specs.Completes.{seen, SeenTorn, StepTorn}
 use Rattle.boot_turns.specs.Premises.{StartsFrom}
 use Rattle.boot_turns.specs.TurnEnds.{Prefix}
-use Rattle.boot_turns.specs.Entries.{noted_call, notes_on, returned, step_entries, WordsAt, ShowsMore, CopyEnds, CopyReturns, TracesGrow}
+use Rattle.boot_turns.specs.Entries.{noted_call, notes_on, returned, step_entries, WordsAt, ShowsMore, HasRows, CopyEnds, CopyReturns, TracesGrow}
 use Rattle.boot_turns.specs.JournalText.{steps_after, pending_steps, RowsFollow}
 use Rattle.boot_turns.specs.Tracing.{followed, ReturnTold, tracer_at, Traced, RowsTorn, RowsCut, TracedOn, TraceStops, Tracing, TraceRuns}
 use Rattle.boot_turns.specs.TraceSteps.{StepStops, StepTraces}
@@ -89,10 +89,10 @@ module _ (f : RowsFollow) (x : Outside) (y : System) (s : State) (u t : ℕ) (ba
       let r = rows_torn f base text w.journal entries w.printed retext part in
       inr (record { copy = copy; done = done; before = w.journal; after = w.journal ++ entries; shown_before = w.shown; shown_after = more.shown; rows = r.0; part = r.1; printed = r.2 })
 
-  step_cut_rows : (retext : Option (List ℕ)) → AppendsPart text retext (journal_rows_after false (pending_steps w.journal) entries) → RowsCut x y s u (suc t) base retext
-  step_cut_rows retext part =
+  step_cut_rows : rests (run x s (suc t)) ≡ false → (retext : Option (List ℕ)) → AppendsPart text retext (journal_rows_after false (pending_steps w.journal) entries) → RowsCut x y s u (suc t) base retext
+  step_cut_rows busy retext part =
       let r = rows_cut f base text w.journal entries w.printed retext part in
-      record { after = w.journal ++ entries; shown_after = more.shown; rows = r.0; part = r.1; printed = r.2 }
+      record { busy = busy; after = w.journal ++ entries; shown_after = more.shown; rows = r.0; part = r.1; printed = r.2 }
 
   step_done_rows : (retext : Option (List ℕ)) (after : Tracer) → retext ≡ append_known text (journal_rows_after false (pending_steps w.journal) entries) →
       after ≡ tracer_of u (steps_after (pending_steps w.journal) entries) (notes_on (run x s (suc t)) (noted_call x s t)) → Traced x y s u (suc t) base (Some after) retext
@@ -151,6 +151,12 @@ each_step x m held new told retold before after text retext result f = λ unit y
 copy_seen : (held : Held) (ss : List (List ℕ)) (u : ℕ) (noted : Option Entered) → CopyEnds u (state_of held []) noted → CopyEnds u (state_of held ss) noted
 copy_seen held ss u None c = record { call = c.call; returns = c.returns; copy = c.copy }
 copy_seen held ss u (Some e) c = record { call = c.call; returns = c.returns; copy = c.copy }
+
+-- nor does whether a step has rows
+rows_seen : (held : Held) (ss : List (List ℕ)) (noted : Option Entered) (began : Bool) → HasRows (state_of held []) noted began → HasRows (state_of held ss) noted began
+rows_seen held ss noted true h = h
+rows_seen held ss None false h = h
+rows_seen held ss (Some e) false h = h
 
 same_some : {A : Type 0} (a b : A) → Some a ≡ Some b → a ≡ b
 same_some a b h = cc
@@ -236,22 +242,33 @@ module _ (grow : (c : CUnit) → TracesGrow (IsTypedState c)) (f : RowsFollow) (
         let of_state : CopyEnds k.user (run x b.s (suc b.t)) k.call = subst (λ z. CopyEnds k.user z k.call) (told_at b).2 (copy_seen mid (told_at b).0 k.user k.call c) in
         record { goes_on = sym begun ∙ none; ends = subst (λ (k : Tracer). CopyEnds k.user (run x b.s (suc b.t)) k.call) (keeps_at b) of_state }
 
+    -- a step that has rows completes no turn
+    busy_at : (b : Here) → HasRows (state_of mid []) k.call began → rests (run x b.s (suc b.t)) ≡ false
+    busy_at b h =
+        let w = told_as_some told held (run x b.s b.t) b.at in
+        let is_on : (run x b.s b.t).off ≡ None = ap (λ (s : State). s.off) (sym w.2) ∙ on in
+        let begun : IfSome (Some (run x b.s b.t)) (λ s. began ≡ begins x s) = subst (λ o. IfSome o (λ s. began ≡ begins x s)) b.at began_is in
+        let call : k.call ≡ noted_call x b.s b.t = ap (λ (k : Tracer). k.call) (keeps_at b) in
+        let seen_there : HasRows (run x b.s (suc b.t)) k.call began = subst (λ z. HasRows z k.call began) (told_at b).2 (rows_seen mid (told_at b).0 k.call began h) in
+        (grow b.unit x b.y b.s b.late b.held b.u b.from b.low b.high).busy b.t is_on (subst₂ (HasRows (run x b.s (suc b.t))) call begun seen_there)
+
     pub step_stops : (before after : Option Tracer) (retext : Option (List ℕ)) (result : Result Stepped RunFault) (e fault : RunFault) → before ≡ Some k → result ≡ Err e → e ≡ fault → (fault ≡ StepLimit → ⊥) →
         (fault ≡ Disk → (began ≡ false) × CopyEnds k.user (state_of mid []) k.call) →
+        (fault ≡ Sink → HasRows (state_of mid []) k.call began) →
         ((ss : List (List ℕ)) (words : List ℕ) → midtold ≡ Some ss → ReturnTold m (state_of mid ss) k.user words (returned (state_of mid ss) k.call) →
         AppendsPart text retext (journal_rows_after false k.steps (followed (state_of mid ss) k current began words))) →
         StepTraces x m held new told retold before after text retext result
-    step_stops before after retext result e fault hb hr he limit reads says = rw (hb, hr, he) (each_step x m held new told retold (Some k) after text retext (Err fault) (λ (b : Here). by_fault b fault limit reads))
+    step_stops before after retext result e fault hb hr he limit reads puts says = rw (hb, hr, he) (each_step x m held new told retold (Some k) after text retext (Err fault) (λ (b : Here). by_fault b fault limit reads puts))
       where
         part : (b : Here) → AppendsPart text retext (journal_rows_after false (pending_steps b.traced.journal) (step_entries x b.s b.u b.t (more_at b).words))
         part b = subst (AppendsPart text retext) (rows_at b) (says (told_at b).0 (more_at b).words (told_at b).1 (returns_at b))
 
-        by_fault : (b : Here) (fault : RunFault) → (fault ≡ StepLimit → ⊥) → (fault ≡ Disk → (began ≡ false) × CopyEnds k.user (state_of mid []) k.call) → StepStops x b.y b.s b.u b.t b.base (seen retold new) retext fault
-        by_fault b StepLimit limit reads = limit refl
-        by_fault b Disk limit reads =
+        by_fault : (b : Here) (fault : RunFault) → (fault ≡ StepLimit → ⊥) → (fault ≡ Disk → (began ≡ false) × CopyEnds k.user (state_of mid []) k.call) → (fault ≡ Sink → HasRows (state_of mid []) k.call began) → StepStops x b.y b.s b.u b.t b.base (seen retold new) retext fault
+        by_fault b StepLimit limit reads puts = limit refl
+        by_fault b Disk limit reads puts =
             let done : seen retold new ≡ Some (run x b.s (suc b.t)) = same ∙ seen_more x (seen told held) (seen midtold mid) (run x b.s b.t) ran b.at in
             rows_torn_rows f x b.y b.s b.u b.t b.base text (Some k) b.traced (more_at b) (seen retold new) done (copied_at b (reads refl)) retext (part b)
-        by_fault b Sink limit reads = step_cut_rows f x b.y b.s b.u b.t b.base text (Some k) b.traced (more_at b) retext (part b)
+        by_fault b Sink limit reads puts = step_cut_rows f x b.y b.s b.u b.t b.base text (Some k) b.traced (more_at b) (busy_at b (puts refl)) retext (part b)
 
 -- where none is printed there is nothing to be said
 pub step_untraced : (x : Outside) (m : Map) (held new : Held) (told retold : Option (List (List ℕ))) (after : Option Tracer) (text retext : Option (List ℕ)) (result : Result Stepped RunFault) → StepTraces x m held new told retold None after text retext result

@@ -75,7 +75,8 @@ AdvanceEnds x y s traced k t c now budget left most result = (n : ℕ) × (n < m
     (Stops x y s traced (k + n) (t + n) now (budget - n) left)
 
 -- turns of the machine, for every run from a start that stands there and goes on
-abbrev pub AdvancesTyped : (C0 → Type 0) → Outside → (traced : Bool) → (before now : Option State) → (budget left most : ℕ) → Result (ℕ × Begun) RunFault → Type 0
+abbrev pub AdvancesTyped : (C0 → Type 0) → Outside → (traced : Bool) → (before now : Option State) → (budget left most : ℕ) →
+    Result (ℕ × Begun) RunFault → Type 0
 AdvancesTyped Typed x traced before now budget left most result = (y : System) (s : State) (late held : ℕ) → StartsFrom Typed x y s late held →
     (k t : ℕ) (c : Cvm) → Stood x y s k t c → c.status ≡ Running → before ≡ Some (run x s t) → AdvanceEnds x y s traced k t c now budget left most result
 

@@ -1,9 +1,9 @@
 -- The entries that a step of the machine adds to what is shown of a user, by what the machine shows.
 use Rattle.std.specs.Prelude.{◌≡◌, ◌≢◌, ℕ, zero, suc, ◌+◌, ◌/◌, ◌≤◌, ◌&&◌, ◌==◌, nat_lt, if◌then◌else◌, List, [], ◌∷◌, ◌++◌, length, take, drop}
-use Rattle.std.specs.Prelude.{slice_index, false, Option, Some, None}
+use Rattle.std.specs.Prelude.{slice_index, Bool, true, false, Option, Some, None, IsSome}
 use Rattle.mips_table.specs.Device.{Outside}
 use Rattle.mips_table.specs.Machine.{State, in_system, run}
-use Rattle.mips_table.specs.Turns.{is_on, begins}
+use Rattle.mips_table.specs.Turns.{is_on, begins, rests}
 use Rattle.layer_map.specs.Map.{current_at}
 use Rattle.c0_meaning.specs.State.{State as C0}
 use Rattle.cvm_model.specs.Kernel.{Core, JournalEntry, Stepped, Trapped, Set, Size, Put}
@@ -108,6 +108,11 @@ pub record CopyReturns (x : Outside) (s : State) (u t : ℕ) : Type 0 where
   pub goes_on : begins x (run x s t) ≡ false
   pub ends : CopyEnds u (run x s (suc t)) (noted_call x s t)
 
+-- a step that led to s has rows: it began a turn with a dispatch, or a primitive returned
+abbrev pub HasRows : State → (noted : Option Entered) → (began : Bool) → Type 0
+HasRows s noted true = (note s).dispatched ≡ true
+HasRows s noted false = IsSome (returned s noted)
+
 -- what is shown after step number t, where j was shown before it
 pub record ShowsMore (x : Outside) (y : System) (s : State) (u t : ℕ) (j : List JournalEntry) : Type 0 where
   pub words : List ℕ
@@ -119,7 +124,10 @@ pub record TraceGrows (x : Outside) (y : System) (s : State) (u : ℕ) : Type 0 
   pub one : (t : ℕ) (i j : List JournalEntry) → Shown x s y u t i → Shown x s y u t j → i ≡ j
   pub none : Shown x s y u 0 []
   pub more : (t : ℕ) (j : List JournalEntry) → (run x s t).off ≡ None → Shown x s y u t j → ShowsMore x y s u t j
+  -- and a step that has rows completes no turn
+  pub busy : (t : ℕ) → (run x s t).off ≡ None → HasRows (run x s (suc t)) (noted_call x s t) (begins x (run x s t)) → rests (run x s (suc t)) ≡ false
 
 -- from each start, of each user
 abbrev pub TracesGrow : (C0 → Type 0) → Type 0
-TracesGrow Typed = (x : Outside) (y : System) (s : State) (late held u : ℕ) → StartsFrom Typed x y s late held → 1 ≤ u → u ≤ length y.boot.users → TraceGrows x y s u
+TracesGrow Typed = (x : Outside) (y : System) (s : State) (late held u : ℕ) → StartsFrom Typed x y s late held →
+    1 ≤ u → u ≤ length y.boot.users → TraceGrows x y s u

@@ -4,6 +4,7 @@ use Rattle.std.specs.Prelude.{Option, Some, None, List, [], length, slice_index,
 use Rattle.std.specs.Io.KnownBytes.{append_known}
 use Rattle.mips_table.specs.Device.{Outside}
 use Rattle.mips_table.specs.Machine.{State, run}
+use Rattle.mips_table.specs.Turns.{rests}
 use Rattle.mips_machine.specs.Machine.{Held, state_of}
 use Rattle.mips_machine.specs.Steps.{outside_of}
 use Rattle.layer_map.specs.Map.{Map, memory_words}
@@ -133,8 +134,9 @@ pub record RowsTear (x : Outside) (y : System) (s : State) (u at : ℕ) (base : 
 abbrev pub RowsTorn : Outside → System → State → (u at : ℕ) → (base : Option (List ℕ)) → (now : Option State) → (text : Option (List ℕ)) → Type 0
 RowsTorn x y s u at base now text = StepTears x y s u at base now text ⊎ RowsTear x y s u at base now text
 
--- the sink failed in the rows of the step that led to number `at`
+-- the sink failed in the rows of the step that led to number `at`, which completes no turn
 pub record RowsCut (x : Outside) (y : System) (s : State) (u at : ℕ) (base text : Option (List ℕ)) : Type 0 where
+  pub busy : rests (run x s at) ≡ false
   pub after : List JournalEntry
   pub shown_after : Shown x s y u at after
   pub rows : List ℕ
@@ -171,8 +173,8 @@ tracing tracer text budget = record { tracer = tracer; text = text; budget = bud
 abbrev pub TraceRuns : (count : ℕ) → Map → (old new : Held) → (told retold : Option (List (List ℕ))) → (before after : Tracing) →
     Result (ℕ × Begun) RunFault → Type 0
 TraceRuns count m held new told retold before after result =
-    (c : CUnit) (y : System) (s : State) (late limit u t : ℕ) (base : Option (List ℕ)) → StartsFrom (IsTypedState c) (outside_of held.rows count) y s late limit →
-    m ≡ (site_of y.boot).map → 1 ≤ u → u ≤ length y.boot.users →
+    (c : CUnit) (y : System) (s : State) (late limit u t : ℕ) (base : Option (List ℕ)) →
+    StartsFrom (IsTypedState c) (outside_of held.rows count) y s late limit → m ≡ (site_of y.boot).map → 1 ≤ u → u ≤ length y.boot.users →
     seen told held ≡ Some (run (outside_of held.rows count) s t) → Traced (outside_of held.rows count) y s u t base before.tracer before.text →
     MatchResult result (λ _. TracedOn (outside_of held.rows count) y s u t base before.budget after.budget after.tracer after.text)
     (TraceStops (outside_of held.rows count) y s u t base (seen retold new) before.budget after.budget after.tracer after.text)

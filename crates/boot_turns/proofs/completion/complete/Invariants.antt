@@ -9,8 +9,8 @@ use Rattle.boot_turns.specs.Tracing.{CanTrace}
 use Rattle.boot_turns.proofs.Tracking.{Tracks}
 use Rattle.boot_turns.proofs.completion.complete.Given as goal
 
-abbrev pub invariant-loop-budget : goal.invariant-loop-budget
-invariant-loop-budget g l = record {
+abbrev pub invariant-loop-begun : goal.invariant-loop-begun
+invariant-loop-begun g l = record {
   rows : l.machine.rows ≡ l.fn.machine.rows;
   memory : length l.machine.hardware.memory ≡ length l.fn.machine.hardware.memory;
   sector : NamesSector (g.D.Sectors.size l.disk) l.machine.hardware.ports.pending;
@@ -33,5 +33,5 @@ invariant-loop-budget g l = record {
       (record { tracer = l.fn.tracer; text = g.O.Sink.text l.fn.out; budget = l.fn.budget }) (record { tracer = l.tracer; text = g.O.Sink.text l.out; budget = l.budget });
 }
 
-abbrev pub decreases-loop-budget : goal.decreases-loop-budget
-decreases-loop-budget g l = l.budget
+abbrev pub decreases-loop-begun : goal.decreases-loop-begun
+decreases-loop-begun g l = l.budget

@@ -65,7 +65,7 @@ returns-in_err-follow-clause-traced g c =
     (same_seen c.step_once.new.machine c.follow.new.machine (g.D.Sectors.sectors c.step_once.new.disk) (g.D.Sectors.sectors c.follow.new.disk) c.in_err-follow.ensures.same c.in_err-follow.ensures.sectors)
     c.in_ok-stepped.ensures.ran c.current_user-current.result c.current_user-current.ensures c.began-began.result (began g (goal.at.returns-in_err-follow-clause-traced g c).In-Some)
     c.args.tracer.now _ (g.O.Sink.text c.follow.new.out) c.from_residual-in_err-follow.result w.0 c.in_err-follow.field-0.0 (here g (goal.at.returns-in_err-follow-clause-traced g c).In-Some) w.1 w.2
-    (λ e. c.in_err-follow.ensures.no_limit (ap (λ f. Err f) e)) (λ e. c.in_err-follow.ensures.reads (ap (λ f. Err f) e)) c.in_err-follow.ensures.err
+    (λ e. c.in_err-follow.ensures.no_limit (ap (λ f. Err f) e)) (λ e. c.in_err-follow.ensures.reads (ap (λ f. Err f) e)) (λ e. c.in_err-follow.ensures.puts (ap (λ f. Err f) e)) c.in_err-follow.ensures.err
 
 pub returns-in-Some-clause-traced : goal.returns-in-Some-clause-traced
 returns-in-Some-clause-traced g c =
