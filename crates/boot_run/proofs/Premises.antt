@@ -20,9 +20,11 @@ use Rattle.layer_contract.specs.Layer.{BusyWithin, Linked, Laws, site_with}
 use Rattle.layer_contract.specs.Follows.{site_of, loaded, SystemFits}
 use Rattle.layer_contract.specs.Starts.{Start, LoadedStarts, LoadedKeeps, user_sectors}
 use Rattle.boot_turns.specs.Premises.{StartsFrom}
+use Rattle.boot_turns.specs.Rom.{rom_sectors, RomStarts}
 use Rattle.boot_run.specs.Loading.{system_of}
-use Rattle.boot_run.specs.LoadEnds.{pages_needed}
-use Rattle.boot_run.specs.Whole.{Bootable}
+use Rattle.boot_run.specs.LoadEnds.{pages_needed, rom_needed}
+use Rattle.boot_run.specs.Whole.{Bootable, RomBootable, rom_start_of}
+use Rattle.boot_run.proofs.RomLoads.{rom_needed_is}
 
 -- sectors of words are pages
 pub are_pages : (old : List (List ℕ)) → All IsSector old → All IsPage old
@@ -95,3 +97,21 @@ module _ (image sizes : List ℕ) (made_for : Map) (b : Booted) (follows : BootF
       beyond = keeps (outside_of rows count) (system_of b rows) old fits;
       same = refl;
     }
+
+    -- the machine with its boot ROM
+    pub rom_bootable : RomStarts → rom_needed b ≤ count → RomBootable b rows count old
+    rom_bootable law enough =
+        let start = law (outside_of rows count) (system_of b rows) old (record {
+          system = fits;
+          busy = fit.within;
+          enough = subst (λ n. n ≤ count) (sym (rom_needed_is b rows)) enough;
+        }) in
+        record {
+          late = start.late;
+          within = start.within;
+          bootable = record {
+            starts = starts_from (rom_start_of (system_of b rows) old) start.late (rom_sectors (system_of b rows)) start.start;
+            beyond = start.beyond;
+            same = refl;
+          };
+        }

@@ -1,12 +1,12 @@
 -- The machine that `load_rom` makes is the machine with the ROM, over the disk that it writes.
-use Rattle.std.proofs.Common.{◌≡◌, ℕ, suc, ◌+◌, ◌*◌, ◌/◌, ◌-◌, ◌<◌, ◌≤◌, Bool, true, false, not, ◌&&◌, cond, List, [], ◌∷◌, ◌++◌, map, take, drop, length, replicate, Option, None, Some, refl, sym, ap, ap₂, ◌∙◌, subst, arith, ⊎_elim, length-append, lt-ltb, le-ltb}
+use Rattle.std.proofs.Common.{◌≡◌, ℕ, suc, ◌+◌, ◌*◌, ◌/◌, ◌-◌, ◌<◌, ◌≤◌, Bool, true, false, not, ◌&&◌, cond, List, [], ◌∷◌, ◌++◌, map, take, drop, length, replicate, Option, None, Some, refl, sym, ap, ap₂, ◌∙◌, subst, arith, ⊎_elim, length-append, lt-ltb, le-ltb, Vec, Global}
 use Rattle.std.specs.Prelude.{nat_lt, IfSome, slice_index}
 use Rattle.std.specs.Option.{option_map}
 use Rattle.std.specs.List.{range_with_len}
 use Rattle.std.proofs.lemmas.Bool.{cases_lt, cond-true, cond-false}
 use Rattle.std.proofs.lemmas.List.{drop-replicate, take-replicate, length-replicate}
 use Rattle.schedule_file.specs.Rows.{Rows}
-use Rattle.layer_map.specs.Map.{memory_frames, memory_words}
+use Rattle.layer_map.specs.Map.{Map, memory_frames, memory_words}
 use Rattle.mips_table.specs.Device.{sector_of}
 use Rattle.mips_table.specs.Encoding.{encoding}
 use Rattle.mips_table.specs.declared.inst.Inst.TheVariants.{J}
@@ -19,7 +19,7 @@ use Rattle.layer_contract.specs.Follows.{loaded_sector}
 use Rattle.boot_rom.specs.Boots.{rom_memory}
 use Rattle.boot_turns.specs.Completes.{seen}
 use Rattle.boot_turns.specs.Rom.{page_of, rom_loaded, rom_sector, rom_sectors}
-use Rattle.boot_run.specs.Loading.{system_of, disk_pages, written, with_rom, TornAmong}
+use Rattle.boot_run.specs.Loading.{system_of, disk_pages, pages_of_users, written, with_rom, TornAmong}
 use Rattle.boot_run.specs.LoadEnds.{rom_needed}
 use Rattle.boot_run.proofs.PageLemmas.{page_or, written_is}
 use Rattle.boot_run.proofs.Loads.{lists, needed_is, page_if, page_below, page_behind, kept_behind, torn_becomes, told_many}
@@ -119,3 +119,24 @@ module _ (b : Booted) (rows : Rows) where
       let r = length-replicate {A = ℕ} (1024 * frames - 1) 0 in
       let whole : 1024 * memory_frames (map_of (boot_of b)) ≡ memory_words (map_of (boot_of b)) = omega arith in
       omega (arith, l, h, a, r, whole, some)
+
+-- what the code counted, and wrote from its own lists, as the definitions say it
+pub need_is : (b : Booted) (users behind : ℕ) → users ≡ length b.users.items → behind ≡ (length b.words.items + 1023) / 1024 → users * b.params.pages + behind ≡ rom_needed b
+need_is b users behind e f = ap₂ (λ (n m : ℕ). n * b.params.pages + m) e f
+
+module _ (b : Booted) (rows : Rows) (us : List (Vec ℕ Global)) (ws : List ℕ) (n : ℕ) (told retold : Option (List (List ℕ))) (users : us ≡ b.users.items) (words : ws ≡ b.words.items) (need : n ≡ rom_needed b) where
+  pub written_so : retold ≡ option_map (written (pages_of_users b.params.pages us ws) n) told → retold ≡ option_map (written (disk_pages b.params.pages (lists b rows) b.words.items) (rom_needed b)) told
+  written_so w =
+      subst (λ (vs : List (Vec ℕ Global)). retold ≡ option_map (written (pages_of_users b.params.pages vs b.words.items) (rom_needed b)) told) users
+      (subst (λ (vs : List ℕ). retold ≡ option_map (written (pages_of_users b.params.pages us vs) (rom_needed b)) told) words
+      (subst (λ m. retold ≡ option_map (written (pages_of_users b.params.pages us ws) m) told) need w))
+
+  pub torn_so : TornAmong n (written (pages_of_users b.params.pages us ws) n) told retold → TornAmong (rom_needed b) (written (disk_pages b.params.pages (lists b rows) b.words.items) (rom_needed b)) told retold
+  torn_so w =
+      subst (λ (vs : List (Vec ℕ Global)). TornAmong (rom_needed b) (written (pages_of_users b.params.pages vs b.words.items) (rom_needed b)) told retold) users
+      (subst (λ (vs : List ℕ). TornAmong (rom_needed b) (written (pages_of_users b.params.pages us vs) (rom_needed b)) told retold) words
+      (subst (λ m. TornAmong m (written (pages_of_users b.params.pages us ws) m) told retold) need w))
+
+-- the machine that the code made, of the map that it found
+pub made_so : (b : Booted) (rows : Rows) (m : Map) (rom ws : List ℕ) (held : Held) → m ≡ map_of (boot_of b) → ws ≡ rom → held ≡ with_rom (memory_frames m) ws rows → held ≡ with_rom (memory_frames (map_of (boot_of b))) rom rows
+made_so b rows m rom ws held e f h = h ∙ ap₂ (λ (q : Map) (vs : List ℕ). with_rom (memory_frames q) vs rows) e f

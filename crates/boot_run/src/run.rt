@@ -162,17 +162,20 @@ impl<L: Layer + Drop> Run<L> {
     {
         let users = boot.users.len() as u32;
         check_view(view, users)?;
-        let need = users * boot.params.pages + sectors_of(boot.words.as_slice());
+        let words = boot.words.as_slice();
+        let behind = sectors_of(words);
+        let need = users * boot.params.pages + behind;
         let have = disk.count();
         if have < need {
             return Err(LoadFault::SmallDisk { need, have });
         }
         let places = places_of(alloc, &boot)?;
-        let machine = rom_machine(alloc, &places.map, rom.as_slice(), schedule)?;
+        let rom = rom.as_slice();
+        let machine = rom_machine(alloc, &places.map, rom, schedule)?;
         match write_pages(
             boot.users.as_slice(),
             boot.params.pages,
-            boot.words.as_slice(),
+            words,
             need,
             disk,
         ) {

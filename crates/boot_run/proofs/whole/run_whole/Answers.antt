@@ -33,8 +33,8 @@ pub returns-clause-ends : goal.returns-clause-ends
 returns-clause-ends g c =
     ran_so c.args.layer c.args.boot c.args.schedule (pages_needed c.args.boot) (g.D.Sectors.size c.args.disk.now) (g.D.Sectors.size c.load.new.disk) c.args.view c.args.turns c.args.steps
     (g.D.Sectors.sectors c.args.disk.now) (g.D.Sectors.sectors c.load.new.disk) (g.D.Sectors.sectors c.run_to_end.new.disk) (g.O.Sink.text c.args.out.now) (g.O.Sink.text c.run_to_end.new.out)
-    c.in_ok-run.run' c.run_to_end.result c.in_ok-run.ensures.fresh c.in_ok-run.ensures.size (loaded (system_of c.args.boot c.args.schedule)) (λ old. 1) (λ old. user_sectors (system_of c.args.boot c.args.schedule))
-    (λ old is. c.premises_hold.ensures old is c.in_ok-run.ensures.fresh.has_room.room) c.in_ok-run.ensures.ready c.run_to_end.ensures.ends
+    c.in_ok-run.run' c.run_to_end.result c.in_ok-run.ensures.fresh c.in_ok-run.ensures.size c.requires.some (loaded (system_of c.args.boot c.args.schedule)) (user_sectors (system_of c.args.boot c.args.schedule))
+    (λ old is. (1, c.premises_hold.ensures old is c.in_ok-run.ensures.fresh.has_room.room)) c.in_ok-run.ensures.ready c.run_to_end.ensures.ends
 
 pub returns-clause-goes_on : goal.returns-clause-goes_on
 returns-clause-goes_on g c = λ old is room. within_bound (outside_of c.args.schedule (g.D.Sectors.size c.args.disk.now)) (system_of c.args.boot c.args.schedule) old
@@ -44,8 +44,8 @@ pub returns-clause-told : goal.returns-clause-told
 returns-clause-told g c =
     whole_told c.args.layer c.args.boot c.args.schedule (pages_needed c.args.boot) (g.D.Sectors.size c.args.disk.now) (g.D.Sectors.size c.load.new.disk) c.args.view c.args.turns c.args.steps
     (g.D.Sectors.sectors c.args.disk.now) (g.D.Sectors.sectors c.load.new.disk) (g.D.Sectors.sectors c.run_to_end.new.disk) (g.O.Sink.text c.args.out.now) (g.O.Sink.text c.run_to_end.new.out)
-    c.in_ok-run.run' c.run_to_end.result c.in_ok-run.ensures.fresh c.in_ok-run.ensures.size (loaded (system_of c.args.boot c.args.schedule)) (λ old. 1) (λ old. user_sectors (system_of c.args.boot c.args.schedule))
-    (λ old is. c.premises_hold.ensures old is c.in_ok-run.ensures.fresh.has_room.room) c.in_ok-run.ensures.ready c.run_to_end.ensures.ends
+    c.in_ok-run.run' c.run_to_end.result c.in_ok-run.ensures.fresh c.in_ok-run.ensures.size c.requires.some (loaded (system_of c.args.boot c.args.schedule)) (user_sectors (system_of c.args.boot c.args.schedule))
+    (λ old is. (1, c.premises_hold.ensures old is c.in_ok-run.ensures.fresh.has_room.room)) c.in_ok-run.ensures.ready c.run_to_end.ensures.ends
 
 pub returns-clause-disk : goal.returns-clause-disk
 returns-clause-disk g c = λ h.
