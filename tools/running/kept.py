@@ -174,6 +174,14 @@ def forget():
     shutil.rmtree(KEPT, ignore_errors=True)
 
 
+def is_kept():
+    """Whether the program of these sources is there."""
+    try:
+        return os.path.isdir(os.path.join(KEPT, fingerprint(toolchain()[1])))
+    except NoBuild:
+        return False
+
+
 def program(say):
     """The words that start the program of these sources, which is built where it is not kept."""
     rt, about = toolchain()

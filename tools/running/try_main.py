@@ -167,7 +167,11 @@ def run_command(words):
         program.put(b'bad words\n')
         say(explaining.explain(1, words, ['bad words'], explaining.Way(words, './try')))
         return 1
-    fault = next((fault for fault in map(files.get_fault, command_words.files(words)[0]) if fault and 'more than' not in fault), None)
+    gets, puts = command_words.files(words)
+    fault = next((fault for fault in map(files.get_fault, gets) if fault and 'more than' not in fault), None)
+    if not fault and not kept.is_kept():
+        # a build would be spent on a command whose file can't be put
+        fault = next(filter(None, map(files.put_fault, puts)), None)
     if fault:
         say('try: a file could not be had: %s.' % fault)
         return 6
