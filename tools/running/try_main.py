@@ -95,19 +95,22 @@ def run_folder(start, folder, options, put, say_of):
         if options.trace:
             return run.trace(options.turns, options.steps, options.trace)
         status = run.boot(options.turns, options.steps)
-        if options.picture and status in (0, 3):
+        if options.picture and status in (0, 3, 4):
             draw(run, folder, options)
         return status
 
 
 def draw(run, folder, options):
     """Draws a run that was booted, with what each user saw."""
-    from drawing import draw as drawn
+    from drawing import draw as drawn, rows
     run.put, run.say = (lambda text: None), (lambda lines: None)
     for user in range(1, len(folder.users) + 1):
         run.trace(options.turns, options.steps, user)
     names = [run.made('trace%d' % user) for user in range(1, len(folder.users) + 1)]
-    drawn.draw_files(run.made('boot'), names, options.picture, title=os.path.basename(os.path.abspath(folder.path)), turns=options.turns)
+    try:
+        drawn.draw_files(run.made('boot'), names, options.picture, title=os.path.basename(os.path.abspath(folder.path)), turns=options.turns)
+    except rows.BadText as bad:
+        say("try: '%s' is not drawn: %s" % (options.picture, bad))
 
 
 def start_of(options):
