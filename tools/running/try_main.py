@@ -10,7 +10,7 @@ from running.guard import Bad, say
 HELP = '''./try FOLDER..        compiles, links and boots the system of each folder: kernel.c0, params, schedule, user1.s or user1.c0, user2.s ..
   --trace USER        prints what this user saw in place of the boot
   --turns N           so many turns at most, in place of 100000
-  --steps N           so many steps of the machine at most, in place of 100000000
+  --steps N           so many steps of the machine at most, in place of 1000000 (a quarter of a minute), and of 100000000 with --proved
   --picture FILE      draws the run, too, as an SVG
   --expect FILE       prints of each folder only whether the rows of this file come in what it prints, in this order
   --proved            by the proved program, which ./cvm builds
@@ -22,8 +22,15 @@ class Options:
     """The words of ./try: folders or a command, and the options."""
 
     def __init__(self):
-        self.folders, self.turns, self.steps = [], 100000, 100000000
+        self.folders, self.turns, self.given_steps = [], 100000, None
         self.trace, self.picture, self.expect, self.proved = None, None, None, False
+
+    @property
+    def steps(self):
+        """How many steps are run at most. The program as `rt try` builds it, with its checks, makes some 60,000 in a second; the proved one far more."""
+        if self.given_steps is not None:
+            return self.given_steps
+        return 100000000 if self.proved else 1000000
 
 
 def number_of(word, name, least, most):
@@ -38,7 +45,7 @@ def options_of(words):
     options, left = Options(), list(words)
     taken = {'--trace': lambda word: setattr(options, 'trace', number_of(word, '--trace', 1, 64)),
              '--turns': lambda word: setattr(options, 'turns', number_of(word, '--turns', 1, 2**32 - 1)),
-             '--steps': lambda word: setattr(options, 'steps', number_of(word, '--steps', 0, 2**64 - 1)),
+             '--steps': lambda word: setattr(options, 'given_steps', number_of(word, '--steps', 0, 2**64 - 1)),
              '--picture': lambda word: setattr(options, 'picture', word),
              '--expect': lambda word: setattr(options, 'expect', word)}
     while left:
