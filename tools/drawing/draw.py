@@ -221,9 +221,11 @@ class Drawing:
         found = []
         words = ['%s (%d)' % (word, int(word, 16) - (int(word, 16) >> 31 << 32)) for word in self.boot.console]
         for name, parts in (('console', words), ('globals', self.boot.globals)):
-            if parts:
-                more = ' and {:,} more'.format(len(parts) - 8) if len(parts) > 8 else ''
-                found.append((name, ' \u00b7 '.join(parts[:8]) + more))
+            shown = [parts[at:at + 8] for at in range(0, min(len(parts), 32), 8)]
+            texts = [' \u00b7 '.join(row) for row in shown]
+            if len(parts) > 32:
+                texts[-1] += ' and {:,} more'.format(len(parts) - 32)
+            found += [('' if place else name, text) for place, text in enumerate(texts)]
         return found
 
     def list_facts(self, facts, y):
