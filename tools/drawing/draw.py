@@ -8,7 +8,7 @@ import xml.etree.ElementTree as ElementTree
 
 from drawing import rows, times
 
-LEFT, WIDTH, RIGHT, TOP, BAND = 96, 780, 250, 66, 30
+LEFT, WIDTH, RIGHT, TOP, BAND = 96, 780, 300, 66, 30
 # With more marks than these in one band, marks are thinned out.
 MOST_MARKS = 60
 # The colours of Okabe and Ito, which the colour-blind can tell, yellow darkened on a light ground and all lightened on a dark one; and a shape for each,
