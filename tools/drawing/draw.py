@@ -8,10 +8,11 @@ import xml.etree.ElementTree as ElementTree
 
 from drawing import rows, times
 
-LEFT, WIDTH, RIGHT, TOP, BAND = 96, 780, 250, 66, 30
+LEFT, WIDTH, RIGHT, TOP, BAND = 96, 780, 300, 66, 30
 # With more marks than these in one band, marks are thinned out.
 MOST_MARKS = 60
-# The colours of Okabe and Ito, which the colour-blind can tell, and a shape for each, so that no colour is needed.
+# The colours of Okabe and Ito, which the colour-blind can tell, yellow darkened on a light ground and all lightened on a dark one; and a shape for each,
+# so that no colour is needed.
 CAUSES = {0: ('start', 'c0', 'disc'), 1: ('lines', 'c1', 'up'), 2: ('fetch at no multiple of 4', 'c2', 'square'), 3: ('fetch past the memory', 'c2', 'box'),
           4: ('no instruction', 'c4', 'cross'), 5: ('overflow', 'c5', 'diamond'), 6: ('system call', 'c6', 'disc'),
           7: ('access at no multiple of 4', 'c7', 'down'), 8: ('access past the memory', 'c7', 'bar')}
@@ -21,13 +22,13 @@ text { font: 13px system-ui, "DejaVu Sans", sans-serif; fill: #1a1a1a; }
 .head { font-size: 16px; font-weight: 600; } .small { font-size: 11px; fill: #555555; } .fault { fill: #b0160a; font-weight: 600; }
 .ground { fill: #ffffff; } .band { fill: #f3f3f1; } .grid { stroke: #d9d9d6; } .wait { stroke: #a8a8a4; } .longest { stroke: #55554f; stroke-dasharray: 5 3; stroke-width: 2; }
 .run { fill: #9ec5e0; } .change { fill: none; stroke: #1a1a1a; } .edge { stroke: #1a1a1a; stroke-width: 1.5; } .mark { stroke: #ffffff; stroke-width: 0.7; }
-.c0 { fill: #1a1a1a; } .c1 { fill: #0072b2; } .c2 { fill: #8a7500; } .c4 { fill: #b0160a; } .c5 { fill: #cc79a7; } .c6 { fill: #e69f00; } .c7 { fill: #009e73; }
+.c0 { fill: #1a1a1a; } .c1 { fill: #0072b2; } .c2 { fill: #8a7500; } .c4 { fill: #d55e00; } .c5 { fill: #cc79a7; } .c6 { fill: #e69f00; } .c7 { fill: #009e73; }
 @media (prefers-color-scheme: dark) {
 svg { background: #16181c; }
 text { fill: #ececec; } .small { fill: #b4b4b4; } .fault { fill: #ff8d7a; }
 .ground { fill: #16181c; } .band { fill: #20242a; } .grid { stroke: #3a3f47; } .wait { stroke: #737a85; } .longest { stroke: #c4c9d1; }
 .run { fill: #2f5f80; } .change { stroke: #ececec; } .edge { stroke: #ececec; } .mark { stroke: #16181c; }
-.c0 { fill: #ececec; } .c1 { fill: #56b4e9; } .c2 { fill: #f0e442; } .c4 { fill: #ff8d7a; } .c5 { fill: #e39cc3; } .c6 { fill: #f5b83d; } .c7 { fill: #35c79a; }
+.c0 { fill: #ececec; } .c1 { fill: #56b4e9; } .c2 { fill: #f0e442; } .c4 { fill: #ff7a33; } .c5 { fill: #e39cc3; } .c6 { fill: #f5b83d; } .c7 { fill: #35c79a; }
 }
 '''
 
@@ -220,9 +221,11 @@ class Drawing:
         found = []
         words = ['%s (%d)' % (word, int(word, 16) - (int(word, 16) >> 31 << 32)) for word in self.boot.console]
         for name, parts in (('console', words), ('globals', self.boot.globals)):
-            if parts:
-                more = ' and {:,} more'.format(len(parts) - 8) if len(parts) > 8 else ''
-                found.append((name, ' \u00b7 '.join(parts[:8]) + more))
+            shown = [parts[at:at + 8] for at in range(0, min(len(parts), 32), 8)]
+            texts = [' \u00b7 '.join(row) for row in shown]
+            if len(parts) > 32:
+                texts[-1] += ' and {:,} more'.format(len(parts) - 32)
+            found += [('' if place else name, text) for place, text in enumerate(texts)]
         return found
 
     def list_facts(self, facts, y):

@@ -22,6 +22,6 @@ def answer(wanted, had, status, said):
         return None
     if status == 0:
         return "the row '%s' is missing, or out of its order" % missing
-    last = next((row for row in reversed(rows(had))), '')
-    why = next((line[len('cvm: '):] for line in reversed(said) if line.startswith('cvm: ')), '')
-    return ("status %d, '%s': %s" % (status, last, why.partition('. What to do')[0])) if last or why else 'status %d' % status
+    place = said[0].partition('\n')[0] + ': ' if said and not said[0].startswith('cvm: ') else ''
+    why = next((line[len('cvm: '):].partition('. What to do')[0] for line in said if line.startswith('cvm: ')), '')
+    return 'status %d, %s%s' % (status, place, why.rstrip('.'))

@@ -139,11 +139,20 @@ def build_into(rt, folder):
         shutil.rmtree(room, ignore_errors=True)
 
 
+def take(lock, say):
+    """Takes the lock of those who build, and says so where it has to wait for another call."""
+    try:
+        fcntl.flock(lock, fcntl.LOCK_EX | fcntl.LOCK_NB)
+    except BlockingIOError:
+        say('try: waits for another call, which builds the program.')
+        fcntl.flock(lock, fcntl.LOCK_EX)
+
+
 def build(rt, name, say):
     """Builds the program, unless another call is at it or has done so, and keeps it under a name in place of all earlier ones."""
     os.makedirs(KEPT, exist_ok=True)
     with open(os.path.join(KEPT, 'lock'), 'w', encoding='utf-8') as lock:
-        fcntl.flock(lock, fcntl.LOCK_EX)
+        take(lock, say)
         kept = os.path.join(KEPT, name)
         if os.path.isdir(kept):
             return
@@ -163,6 +172,14 @@ def build(rt, name, say):
 def forget():
     """Removes what is kept, so that the next call builds."""
     shutil.rmtree(KEPT, ignore_errors=True)
+
+
+def is_kept():
+    """Whether the program of these sources is there."""
+    try:
+        return os.path.isdir(os.path.join(KEPT, fingerprint(toolchain()[1])))
+    except NoBuild:
+        return False
 
 
 def program(say):

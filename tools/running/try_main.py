@@ -10,7 +10,7 @@ from running.guard import Bad, say
 HELP = '''./try FOLDER..        compiles, links and boots the system of each folder: kernel.c0, params, schedule, user1.s or user1.c0, user2.s ..
   --trace USER        prints what this user saw in place of the boot
   --turns N           so many turns at most, in place of 100000
-  --steps N           so many steps of the machine at most, in place of 100000000
+  --steps N           so many steps of the machine at most, in place of 1000000 (a quarter of a minute), and of 100000000 with --proved
   --picture FILE      draws the run, too, as an SVG
   --expect FILE       prints of each folder only whether the rows of this file come in what it prints, in this order
   --proved            by the proved program, which ./cvm builds
@@ -22,8 +22,15 @@ class Options:
     """The words of ./try: folders or a command, and the options."""
 
     def __init__(self):
-        self.folders, self.turns, self.steps = [], 100000, 100000000
+        self.folders, self.turns, self.given_steps = [], 100000, None
         self.trace, self.picture, self.expect, self.proved = None, None, None, False
+
+    @property
+    def steps(self):
+        """How many steps are run at most. The program as `rt try` builds it, with its checks, makes some 60,000 in a second; the proved one far more."""
+        if self.given_steps is not None:
+            return self.given_steps
+        return 100000000 if self.proved else 1000000
 
 
 def number_of(word, name, least, most):
@@ -38,7 +45,7 @@ def options_of(words):
     options, left = Options(), list(words)
     taken = {'--trace': lambda word: setattr(options, 'trace', number_of(word, '--trace', 1, 64)),
              '--turns': lambda word: setattr(options, 'turns', number_of(word, '--turns', 1, 2**32 - 1)),
-             '--steps': lambda word: setattr(options, 'steps', number_of(word, '--steps', 0, 2**64 - 1)),
+             '--steps': lambda word: setattr(options, 'given_steps', number_of(word, '--steps', 0, 2**64 - 1)),
              '--picture': lambda word: setattr(options, 'picture', word),
              '--expect': lambda word: setattr(options, 'expect', word)}
     while left:
@@ -95,19 +102,22 @@ def run_folder(start, folder, options, put, say_of):
         if options.trace:
             return run.trace(options.turns, options.steps, options.trace)
         status = run.boot(options.turns, options.steps)
-        if options.picture and status in (0, 3):
+        if options.picture and status in (0, 3, 4):
             draw(run, folder, options)
         return status
 
 
 def draw(run, folder, options):
     """Draws a run that was booted, with what each user saw."""
-    from drawing import draw as drawn
+    from drawing import draw as drawn, rows
     run.put, run.say = (lambda text: None), (lambda lines: None)
     for user in range(1, len(folder.users) + 1):
         run.trace(options.turns, options.steps, user)
     names = [run.made('trace%d' % user) for user in range(1, len(folder.users) + 1)]
-    drawn.draw_files(run.made('boot'), names, options.picture, title=os.path.basename(os.path.abspath(folder.path)), turns=options.turns)
+    try:
+        drawn.draw_files(run.made('boot'), names, options.picture, title=os.path.basename(os.path.abspath(folder.path)), turns=options.turns)
+    except rows.BadText as bad:
+        say("try: '%s' is not drawn: %s" % (options.picture, bad))
 
 
 def start_of(options):
@@ -167,7 +177,11 @@ def run_command(words):
         program.put(b'bad words\n')
         say(explaining.explain(1, words, ['bad words'], explaining.Way(words, './try')))
         return 1
-    fault = next((fault for fault in map(files.get_fault, command_words.files(words)[0]) if fault and 'more than' not in fault), None)
+    gets, puts = command_words.files(words)
+    fault = next((fault for fault in map(files.get_fault, gets) if fault and 'more than' not in fault), None)
+    if not fault and not kept.is_kept():
+        # a build would be spent on a command whose file can't be put
+        fault = next(filter(None, map(files.put_fault, puts)), None)
     if fault:
         say('try: a file could not be had: %s.' % fault)
         return 6

@@ -82,6 +82,11 @@ class Pictures(unittest.TestCase):
         parts = times.stretches(boot, times.end_of(boot, None, []))
         self.assertEqual(times.change_turns(trace, parts[3], boot), [(94, ['put', 'put'])])
 
+    def test_many_words_of_the_console(self):
+        text = example('adder').replace('con 0000002a\n', ''.join('con %08x\n' % word for word in range(40)))
+        found = texts(draw.draw(text, [], 'many'))
+        self.assertTrue(any((row or '').startswith('00000018 (24)') and row.endswith('0000001f (31) and 8 more') for row in found))
+
     def test_texts_that_are_none(self):
         for text in ('', 'hello\n', 'halted\n', FIRST + FIRST, FIRST + 'turn x\n', 'refused 12 5\n', '\x00\xff'):
             with self.assertRaises(rows.BadText):

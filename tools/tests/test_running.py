@@ -50,7 +50,8 @@ class Rooms(unittest.TestCase):
     def test_expected_rows(self):
         self.assertIsNone(expected.answer(b'a\nc\n', b'a\nb\nc\nd\n', 0, []))
         self.assertIn("'c'", expected.answer(b'a\nc\n', b'c\na\n', 0, []))
-        self.assertIn('status 2', expected.answer(b'a\n', b'refused 12 5\n', 2, ['cvm: a call needs its answer taken.']))
+        self.assertEqual(expected.answer(b'a\n', b'refused 12 5\n', 2, ['k.c0:1:2\n  x', 'cvm: a call needs its answer taken.']), 'status 2, k.c0:1:2: a call needs its answer taken')
+        self.assertEqual(expected.answer(b'a\n', b'', 8, []), 'status 8, ')
 
 
 class Full(unittest.TestCase):
