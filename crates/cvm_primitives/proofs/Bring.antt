@@ -12,7 +12,7 @@ use Rattle.masm.specs.Laws.{From}
 use Rattle.cvm_primitives.proofs.Forms.{from_straight, from_then, from_later}
 use Rattle.page_model.specs.Places.{Places, view}
 use Rattle.frame_table.specs.View.{Sited}
-use Rattle.page_fault.specs.Asked.{PageBlock}
+use Rattle.page_fault.specs.Asked.{PageBlock, swap_steps, fault_steps}
 use Rattle.cvm_primitives.specs.View.{Held, FourOthers, Start}
 use Rattle.cvm_primitives.proofs.Between.{Keeps, Came, BothIn}
 use Rattle.cvm_primitives.specs.Code.{both_code}
@@ -35,14 +35,16 @@ both_pass w f l q r s b c d two lq lr u x y same other z = ⊎_elim
     (cases_eq q r)
 
 module _ (w : World) (f : RoutineLaws w) (p : Places) (b : ℕ) (si : Sited p w) (page : PageBlock w p b) (g : Start) where
-  pub brings : (u : Pages) (q : ℕ) (store : Bool) (c : Contents) (d : Behind) → Held p u g c d → c.regs 16 ≡ q → q < p.layout.pages → u.live q ≡ true → (store ≡ false → c.regs 15 ≡ 0) → (store ≡ true → c.regs 15 ≢ 0) → From w page.code page.steps c d (Came p u g q store c d)
+  pub brings : (u : Pages) (q : ℕ) (store : Bool) (c : Contents) (d : Behind) → Held p u g c d → c.regs 16 ≡ q → q < p.layout.pages → u.live q ≡ true → (store ≡ false → c.regs 15 ≡ 0) → (store ≡ true → c.regs 15 ≢ 0) → From w page.code fault_steps b c d (Came p u g q store c d)
   brings u q store c d h at lt live load save =
-      from_later w f page.code page.steps page.steps c d _ _ (omega arith)
+      let asks = page.does u q store c d (record { page = at; inside = lt; live = live; stands = h.stands; small = h.small; idle = h.idle; load = load; save = save }) in
+      from_later w f page.code (swap_steps p b c.memory) (fault_steps b) c d _ _ asks.within
       (λ c' d' k. record {
         held = record {
           stands = k.stands;
           small = k.small;
           low = λ x lx ne. k.low x lx ne ∙ h.low x lx ne;
+          above = λ x le lx. k.above x le lx ∙ h.above x le lx;
           special = k.besides.special ∙ h.special;
           r28 = k.regs 28 (inr (omega arith)) ∙ h.r28;
           r29 = k.regs 29 (inr (omega arith)) ∙ h.r29;
@@ -55,7 +57,7 @@ module _ (w : World) (f : RoutineLaws w) (p : Places) (b : ℕ) (si : Sited p w)
         stays = k.stays;
         keeps = record { r13 = k.regs 13 (inl (omega arith, omega arith)); r14 = k.regs 14 (inl (omega arith, omega arith)); r15 = k.regs 15 (inl (omega arith, omega arith)); r16 = k.regs 16 (inl (omega arith, omega arith)); r26 = k.regs 26 (inr (omega arith)); r27 = k.regs 27 (inr (omega arith)); r28 = k.regs 28 (inr (omega arith)); r29 = k.regs 29 (inr (omega arith)); r30 = k.regs 30 (inr (omega arith)); r31 = k.regs 31 (inr (omega arith)); special = k.besides.special };
       })
-      (page.does u q store c d (record { page = at; inside = lt; live = live; stands = h.stands; small = h.small; idle = h.idle; load = load; save = save }))
+      asks.swaps
 
   -- a core that differs in registers that aren't in hand
   pub held_regs : (u : Pages) (c c' : Contents) (d : Behind) → c'.memory ≡ c.memory → Keeps c c' → Held p u g c d → Held p u g c' d
@@ -63,6 +65,7 @@ module _ (w : World) (f : RoutineLaws w) (p : Places) (b : ℕ) (si : Sited p w)
     stands = subst (λ m. PagesStand p.layout u (view p m d.sectors)) (sym m) h.stands;
     small = λ x lx. subst (λ m. m (p.tables + x) < 2 ^ 32) (sym m) (h.small x lx);
     low = λ x lx ne. ap (λ m. m x) m ∙ h.low x lx ne;
+    above = λ x le lx. ap (λ m. m x) m ∙ h.above x le lx;
     special = k.special ∙ h.special;
     r28 = k.r28 ∙ h.r28;
     r29 = k.r29 ∙ h.r29;
@@ -95,21 +98,21 @@ module _ (w : World) (f : RoutineLaws w) (p : Places) (b : ℕ) (si : Sited p w)
     r14 : c.regs 14 ≡ c0.regs 14
 
   pub both_from : (u : Pages) (x y : ℕ) (c : Contents) (d : Behind) → Held p u g c d → c.regs 26 ≡ x → c.regs 27 ≡ y → x < 1024 * p.layout.pages → y < 1024 * p.layout.pages → u.live (x / 1024) ≡ true → u.live (y / 1024) ≡ true
-      → Passes (view p c.memory d.sectors) (x / 1024) false → From w (both_code page.code) (2 + (page.steps + (4 + page.steps))) c d (BothIn p u g x y c)
+      → Passes (view p c.memory d.sectors) (x / 1024) false → From w (both_code page.code) (2 + (fault_steps b + (4 + fault_steps b))) c d (BothIn p u g x y c)
   both_from u x y c d h from to lx ly ax ay pass =
       let pages = si.pages in
-      from_then w f (Srl 16 27 10 ∷ Addiu 15 0 1 ∷ []) _ 2 (page.steps + (4 + page.steps)) c d (Asks1 u y c d) (BothIn p u g x y c)
+      from_then w f (Srl 16 27 10 ∷ Addiu 15 0 1 ∷ []) _ 2 (fault_steps b + (4 + fault_steps b)) c d (Asks1 u y c d) (BothIn p u g x y c)
       (from_straight w f (Srl 16 27 10 ∷ Addiu 15 0 1 ∷ []) (Gives (y / 1024) ∷ Gives 1 ∷ []) c d (Asks1 u y c d) refl h.idle
-      (λ n. ((ap (λ z. z / 2 ^ 10) to, (refl, tt)), record { held = record { stands = h.stands; small = h.small; low = h.low; special = h.special; r28 = h.r28; r29 = h.r29; r30 = h.r30; r31 = h.r31; behind = h.behind; idle = h.idle }; number = refl; store = refl; same = refl; r13 = refl; r26 = refl; r27 = refl; r14 = refl; disk = refl })))
+      (λ n. ((ap (λ z. z / 2 ^ 10) to, (refl, tt)), record { held = record { stands = h.stands; small = h.small; low = h.low; above = h.above; special = h.special; r28 = h.r28; r29 = h.r29; r30 = h.r30; r31 = h.r31; behind = h.behind; idle = h.idle }; number = refl; store = refl; same = refl; r13 = refl; r26 = refl; r27 = refl; r14 = refl; disk = refl })))
       (λ c1 d1 a. let store1 = a.store in
-      from_then w f page.code _ page.steps (4 + page.steps) c1 d1 (Came p u g (y / 1024) true c1 d1) (BothIn p u g x y c)
+      from_then w f page.code _ fault_steps b (4 + fault_steps b) c1 d1 (Came p u g (y / 1024) true c1 d1) (BothIn p u g x y c)
       (brings u (y / 1024) true c1 d1 a.held a.number (omega arith) ay (λ e. absurd (cc)) (λ e. omega arith))
-      (λ c2 d2 k. from_then w f (Addiu 9 16 0 ∷ Srl 16 26 10 ∷ Subu 15 16 9 ∷ Sltiu 15 15 1 ∷ []) page.code 4 page.steps c2 d2 (Asks2 u x y c d) (BothIn p u g x y c)
+      (λ c2 d2 k. from_then w f (Addiu 9 16 0 ∷ Srl 16 26 10 ∷ Subu 15 16 9 ∷ Sltiu 15 15 1 ∷ []) page.code 4 fault_steps b c2 d2 (Asks2 u x y c d) (BothIn p u g x y c)
       (from_straight w f (Addiu 9 16 0 ∷ Srl 16 26 10 ∷ Subu 15 16 9 ∷ Sltiu 15 15 1 ∷ []) (Gives (y / 1024) ∷ Gives (x / 1024) ∷ Gives ((x / 1024 + (2 ^ 32 - y / 1024)) % 2 ^ 32) ∷ Gives (flag (nat_lt ((x / 1024 + (2 ^ 32 - y / 1024)) % 2 ^ 32) 1)) ∷ []) c2 d2 (Asks2 u x y c d) refl k.held.idle
       (λ n. let r16 = k.keeps.r16 in let page1 = a.number in (
         (omega arith, (ap (λ z. z / 2 ^ 10) (k.keeps.r26 ∙ a.r26 ∙ from), (refl, (refl, tt)))),
         record {
-          held = record { stands = k.held.stands; small = k.held.small; low = k.held.low; special = k.held.special; r28 = k.held.r28; r29 = k.held.r29; r30 = k.held.r30; r31 = k.held.r31; behind = k.held.behind; idle = k.held.idle };
+          held = record { stands = k.held.stands; small = k.held.small; low = k.held.low; above = k.held.above; special = k.held.special; r28 = k.held.r28; r29 = k.held.r29; r30 = k.held.r30; r31 = k.held.r31; behind = k.held.behind; idle = k.held.idle };
           number = refl;
           store = refl;
           brought = subst (λ m. Brought p.layout (y / 1024) true (view p m d.sectors) (view p c2.memory d2.sectors)) a.same (subst (λ t. Brought p.layout (y / 1024) true (view p c1.memory t.sectors) (view p c2.memory d2.sectors)) a.disk k.brought);
@@ -127,15 +130,15 @@ module _ (w : World) (f : RoutineLaws w) (p : Places) (b : ℕ) (si : Sited p w)
           let b = both_pass w f p.layout (x / 1024) (y / 1024) s (view p c.memory d.sectors) (view p c3.memory d3.sectors) (view p c4.memory d4.sectors) si.frames (omega arith) (omega arith) h.stands.hand pass t.brought same other k.brought in
           record { held = k.held; source = b.0; target = b.1; r13 = k.keeps.r13 ∙ t.r13; r26 = k.keeps.r26 ∙ t.r26; r27 = k.keeps.r27 ∙ t.r27; r14 = k.keeps.r14 ∙ t.r14 }
 
-      last : (u : Pages) (x y : ℕ) (c : Contents) (d : Behind) (c3 : Contents) (d3 : Behind) → Held p u g c d → x < 1024 * p.layout.pages → y < 1024 * p.layout.pages → u.live (x / 1024) ≡ true → u.live (y / 1024) ≡ true → Passes (view p c.memory d.sectors) (x / 1024) false → Asks2 u x y c d c3 d3 → From w page.code page.steps c3 d3 (BothIn p u g x y c)
+      last : (u : Pages) (x y : ℕ) (c : Contents) (d : Behind) (c3 : Contents) (d3 : Behind) → Held p u g c d → x < 1024 * p.layout.pages → y < 1024 * p.layout.pages → u.live (x / 1024) ≡ true → u.live (y / 1024) ≡ true → Passes (view p c.memory d.sectors) (x / 1024) false → Asks2 u x y c d c3 d3 → From w page.code fault_steps b c3 d3 (BothIn p u g x y c)
       last u x y c d c3 d3 h lx ly ax ay pass t =
           let pages = si.pages in let store = t.store in
           ⊎_elim
           (λ one. let v = one.0 in let lt = one.1 in let same : x / 1024 ≡ y / 1024 = omega arith in
-          from_later w f page.code page.steps page.steps c3 d3 _ _ (omega arith) (end u x y c d c3 d3 true h lx ly pass t (λ e. refl) (λ ne. absurd (ne same)))
+          from_later w f page.code fault_steps b fault_steps b c3 d3 _ _ (omega arith) (end u x y c d c3 d3 true h lx ly pass t (λ e. refl) (λ ne. absurd (ne same)))
           (brings u (x / 1024) true c3 d3 t.held t.number (omega arith) ax (λ e. absurd (cc)) (λ e. omega arith)))
           (λ zero_. let v = zero_.0 in let le = zero_.1 in
-          from_later w f page.code page.steps page.steps c3 d3 _ _ (omega arith) (end u x y c d c3 d3 false h lx ly pass t (λ e. absurd (omega arith)) (λ ne. refl))
+          from_later w f page.code fault_steps b fault_steps b c3 d3 _ _ (omega arith) (end u x y c d c3 d3 false h lx ly pass t (λ e. absurd (omega arith)) (λ ne. refl))
           (brings u (x / 1024) false c3 d3 t.held t.number (omega arith) ax (λ e. omega arith) (λ e. absurd (cc))))
           (flag_of ((x / 1024 + (2 ^ 32 - y / 1024)) % 2 ^ 32) 1)
 

@@ -20,7 +20,7 @@ mod field;
 
 use crate::desk::Desk;
 use crate::field::{field, hex, number};
-use frame_table::{evict, find, lower_count, move_hand, raise_count};
+use frame_table::{evict, find, leave_list, move_hand, join_list};
 use layer_map::{Map, Params};
 use pcb_layer::{keep_user, restore_registers, resume_user, save_registers};
 use std::alloc::AllocError;
@@ -62,9 +62,9 @@ fn append_frames(desk: &mut Desk, map: &Map, name: &[u8]) {
     } else if name == b"find".as_slice() {
         desk.append(find(map).words());
     } else if name == b"lower".as_slice() {
-        desk.append(lower_count(map).words());
+        desk.append(leave_list(map).words());
     } else if name == b"raise".as_slice() {
-        desk.append(raise_count(map).words());
+        desk.append(join_list(map).words());
     } else if name == b"hand".as_slice() {
         desk.append(move_hand(map).words());
     }

@@ -1,5 +1,5 @@
 -- What a layer promises: the laws of entering and leaving the kernel, of each primitive, of each fault exit and of a handled fault.
-use Rattle.std.specs.Prelude.{◌≡◌, ◌≢◌, ℕ, zero, suc, ◌+◌, ◌-◌, ◌*◌, ◌/◌, ◌%◌, ◌<◌, ◌≤◌, ℤ, pos, Bool, true, false, List, [], ◌∷◌, ◌++◌, length, map, take, replicate, slice_index, slice_set, All, Option, Some, None}
+use Rattle.std.specs.Prelude.{◌≡◌, ◌≢◌, ℕ, zero, suc, ◌+◌, ◌-◌, ◌*◌, ◌/◌, ◌%◌, ◌<◌, ◌≤◌, ℤ, pos, Bool, true, false, List, [], ◌∷◌, ◌++◌, length, map, take, drop, replicate, slice_index, slice_set, All, Option, Some, None}
 use Rattle.mips_table.specs.declared.cause.Cause.{Cause}
 use Rattle.mips_table.specs.declared.inst.Inst.{Inst}
 use Rattle.mips_table.specs.declared.inst.Inst.TheVariants.{Sw}
@@ -52,6 +52,10 @@ pub record Inside (s : State) : Type 0 where
 abbrev pub SectorsStay : Map → State → State → Type 0
 SectorsStay m s t = (q : ℕ) → m.users * m.params.pages ≤ q → sector_of t.device.sectors q ≡ sector_of s.device.sectors q
 
+-- the words behind the map's last frame are the same, and as many
+abbrev pub FramesStay : Map → State → State → Type 0
+FramesStay m s t = drop (memory_words m) t.memory ≡ drop (memory_words m) s.memory
+
 -- the command that is under way in the step from this state just before the disk counts
 unfoldable pub due : Outside → State → Pending
 due x s = (come_to (coming x (latched x s))).device.pending
@@ -65,11 +69,12 @@ abbrev pub NoneIsDue : Type 0
 NoneIsDue = (x : Outside) (s : State) → s.off ≡ None → s.device.pending ≡ Idle → (step x s).device.commands ≡ s.device.commands → due x s ≡ Idle
 
 -- For n steps, whatever lines are raised, the machine is inside, the pc is none of the doors but in the first and the last state, the
--- sectors past the users' pages stay, and no command is for one of them.
+-- sectors past the users' pages and the frames behind the map's last one stay, and no command is for one of those sectors.
 pub record Way (x : Outside) (y : Site) (Door : Entry → Type 0) (n : ℕ) (s : State) : Type 0 where
   pub inside : (j : ℕ) → j < n → Inside (run x s j)
   pub between : (j : ℕ) (e : Entry) → 0 < j → j < n → Door e → (run x s j).cpu.pc ≢ entry_address e
   pub sectors : (j : ℕ) → j ≤ n → SectorsStay y.map s (run x s j)
+  pub frames : (j : ℕ) → j ≤ n → FramesStay y.map s (run x s j)
   pub named : (j : ℕ) → j < n → EndsNamed x y.map (run x s j)
 
 -- within n steps the machine comes by such a way to a state of which Q holds

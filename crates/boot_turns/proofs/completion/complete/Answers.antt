@@ -65,7 +65,7 @@ loop-budget-init g c = record {
   few = let e = c.requires.some in omega (arith, e);
   limit = let e = c.requires.some in omega (arith, e);
   fresh = λ l. refl;
-  ran = λ s t h. (t, omega arith, refl, h, λ j a b. absurd (omega (arith, a, b)), λ j l. absurd (omega (arith, l)), λ l. omega arith);
+  ran = λ s t h. (t, omega arith, refl, h, λ j a b. absurd (omega (arith, a, b)), λ j l. absurd (omega (arith, l)), λ l. omega arith, λ j a b. absurd (omega (arith, a, b)));
   can = c.requires.can;
   user = refl;
   untraced = λ e. (e, refl);
@@ -161,7 +161,7 @@ loop-budget-preserved-else-at_rest g c = record {
       let b = i.2 in
       let p = c.loop-budget-test.true in
       let o : Open x s (t + n) (suc i.0) c.in-Some.b = subst (Opened x s (t + n) (suc i.0)) c.in-Some.is r.1 in
-      (suc i.0, omega (arith, le), omega (arith, b, p), r.0, (o, sym (seen_rests (g.D.Sectors.sectors c.step_traced.new.disk) c.step_traced.new.machine _ r.0) ∙ sym c.at_rest.ensures ∙ c.if-at_rest.false), i.5, λ l. absurd (omega (arith, l)));
+      (suc i.0, omega (arith, le), omega (arith, b, p), r.0, (o, sym (seen_rests (g.D.Sectors.sectors c.step_traced.new.disk) c.step_traced.new.machine _ r.0) ∙ sym c.at_rest.ensures ∙ c.if-at_rest.false), i.5, λ l. absurd (omega (arith, l)), was_on x s t i.0 (here_on GOAL s i.0 i.3) i.7);
   can = c.in_ok-stepped.ensures.can;
   user = c.in_ok-stepped.ensures.user ∙ c.loop-budget.invariant.user;
   untraced = λ e. let i = c.loop-budget.invariant.untraced e in let n = c.in_ok-stepped.ensures.untraced i.0 in (n.0, n.1 ∙ i.1);
@@ -189,7 +189,7 @@ loop-budget-preserved g c = record {
       let b = i.2 in
       let p = c.loop-budget-test.true in
       let o : Progress x s (t + n) (suc i.0) None = subst (Opened x s (t + n) (suc i.0)) c.in_default-begun.is r.1 in
-      (suc i.0, omega (arith, le), omega (arith, b, p), r.0, subst (Progress x s (t + n) (suc i.0)) (sym c.in_default-begun.is) o, i.5, λ l. absurd (omega (arith, l)));
+      (suc i.0, omega (arith, le), omega (arith, b, p), r.0, subst (Progress x s (t + n) (suc i.0)) (sym c.in_default-begun.is) o, i.5, λ l. absurd (omega (arith, l)), was_on x s t i.0 (here_on GOAL s i.0 i.3) i.7);
   can = c.in_ok-stepped.ensures.can;
   user = c.in_ok-stepped.ensures.user ∙ c.loop-budget.invariant.user;
   untraced = λ e. let i = c.loop-budget.invariant.untraced e in let n = c.in_ok-stepped.ensures.untraced i.0 in (n.0, n.1 ∙ i.1);
@@ -223,7 +223,7 @@ loop-budget-preserved-then-skipped-limit g c = record {
       let b = i.2 in
       let p = c.loop-budget-test.true in
       let none : Progress x s (t + (n + 1)) (suc i.0) None = λ j lo hi. absurd (omega (arith, at, lo, hi)) in
-      (suc i.0, omega (arith, at), omega (arith, b, p), r.0, subst (Progress x s (t + (n + 1)) (suc i.0)) (sym (c.loop-budget.invariant.fresh c.if-skipped-limit.true)) none, r.1, λ l. omega (arith, at));
+      (suc i.0, omega (arith, at), omega (arith, b, p), r.0, subst (Progress x s (t + (n + 1)) (suc i.0)) (sym (c.loop-budget.invariant.fresh c.if-skipped-limit.true)) none, r.1, λ l. omega (arith, at), was_on x s t i.0 (here_on GOAL s i.0 i.3) i.7);
   can = c.in_ok-stepped.ensures.can;
   user = c.in_ok-stepped.ensures.user ∙ c.loop-budget.invariant.user;
   untraced = λ e. let i = c.loop-budget.invariant.untraced e in let n = c.in_ok-stepped.ensures.untraced i.0 in (n.0, n.1 ∙ i.1);

@@ -23,7 +23,8 @@ invariant-loop-budget g l = record {
   ran : (s : State) (t : ℕ) → seen (g.D.Sectors.sectors l.fn.disk) l.fn.machine ≡ Some (run (outside_of l.fn.machine.rows (g.D.Sectors.size l.fn.disk)) s t) →
       (u : ℕ) × (t + l.skipped ≤ u) × (l.budget + u ≡ l.fn.budget + t) × (seen (g.D.Sectors.sectors l.disk) l.machine ≡ Some (run (outside_of l.fn.machine.rows (g.D.Sectors.size l.fn.disk)) s u))
       × Progress (outside_of l.fn.machine.rows (g.D.Sectors.size l.fn.disk)) s (t + l.skipped) u l.begun × Skips (outside_of l.fn.machine.rows (g.D.Sectors.size l.fn.disk)) s t l.skipped
-      × (l.skipped < l.limit → u ≡ t + l.skipped);
+      × (l.skipped < l.limit → u ≡ t + l.skipped)
+      × ((j : ℕ) → t ≤ j → j < u → (run (outside_of l.fn.machine.rows (g.D.Sectors.size l.fn.disk)) s j).off ≡ None);
   can : IfSome l.tracer (CanTrace l.map (length l.machine.hardware.memory) l.machine.time (g.D.Sectors.size l.disk));
   user : option_map (λ k. k.user) l.tracer ≡ option_map (λ k. k.user) l.fn.tracer;
   untraced : l.fn.tracer ≡ None → (l.tracer ≡ None) × (l.out ≡ l.fn.out);

@@ -19,6 +19,13 @@ returns-in_err-end-clause-err g c = λ ss words e told.
     (call_begun s c.args.self.now c.args.current c.args.began words c.args.map.now c.returned_call.result c.in-Some.call c.reg.result c.if-began.false c.returned_call.ensures c.in-Some.is c.reg.ensures told
     (g.O.Sink.text c.args.out.now) (g.O.Sink.text c.end.new.out) (c.in_err-end.ensures.err ss words e))
 
+-- where the primitive's rows couldn't be read, it copied words to the user
+copied : (a : Held) (kept : Tracer) (o : Option Entered) (e : Entered) (answer : ℕ) → o ≡ returned (state_of a []) kept.call → o ≡ Some e → answer ≡ slice_index a.hardware.cpu.regs 2 → IsCopyTo kept.user e answer → CopyEnds kept.user (state_of a []) kept.call
+copied a kept o e answer is some reads copy = record { call = e; returns = sym is ∙ some; copy = subst (IsCopyTo kept.user e) reads copy }
+
+pub returns-in_err-end-clause-reads : goal.returns-in_err-end-clause-reads
+returns-in_err-end-clause-reads g c = λ e. (c.if-began.false, copied c.args.machine.now c.args.self.now c.returned_call.result c.in-Some.call c.reg.result c.returned_call.ensures c.in-Some.is c.reg.ensures (c.in_err-end.ensures.reads (at_disk c.from_residual-in_err-end.result c.in_err-end.field-0.0 ? e)))
+
 pub returns-clause-ok : goal.returns-clause-ok
 returns-clause-ok g c = λ ss words e told.
     let s : State = state_of c.args.machine.now ss in
