@@ -127,7 +127,6 @@ back_again (TooManyNodes s) = refl
 back_again (UnitTooLarge s) = refl
 back_again (GlobalsTooLarge s) = refl
 back_again (NoDispatch s) = refl
-back_again (NoMain s) = refl
 back_again (AsmNotAllowed s line) = refl
 back_again (TooManyParameters s) = refl
 back_again (TypeTooLarge s) = refl
