@@ -39,3 +39,5 @@ pub mod Addresses
 pub mod OpenTy
 pub mod Form
 pub mod TypeAt
+pub mod Bare
+pub mod Reasoning

@@ -20,3 +20,4 @@ pub mod PlainSources
 pub mod Shapes
 pub mod ItemsOf
 pub mod OneAnswer
+pub mod Walks

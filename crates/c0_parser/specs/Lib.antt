@@ -12,3 +12,4 @@ pub mod Levels
 pub mod Tails
 pub mod ToEnd
 pub mod Answer
+pub mod Walk

@@ -4,6 +4,7 @@ ghost use Rattle.std.specs.Prelude.{ℕ, ◌≡◌, ◌+◌, List, length, Resul
 ghost use Rattle.c0_tree.specs.Tree.{CUnit};
 ghost use Rattle.c0_parser.specs.Answer.{IsAnswer};
 ghost use Rattle.c0_parser.specs.Faults.{Reads};
+ghost use Rattle.c0_parser.specs.Walk.{ReadByWalks};
 ghost use Rattle.c0_parser.specs.declared.fault.ReadFault.{ReadFault};
 ghost use Rattle.c0_parser.specs.Items.{CItem, IsMadeOf, structs_among, globals_among, functions_among, unit_with};
 
@@ -19,4 +20,9 @@ pub fn unit_has_all_items()
 /// A law: of a source there is one answer. It has no second tree, none beside a first token that cannot be, and no second such token.
 pub fn sources_have_one_answer()
     ensures { (source : List ℕ) (a b : Result CUnit ReadFault) → IsAnswer source a → IsAnswer source b → a ≡ b }
+{}
+
+/// A law: a source that the reading machine reads has the tree that it makes, so the tree of a given text can be computed.
+pub fn sources_read_by_walks()
+    ensures { ReadByWalks }
 {}

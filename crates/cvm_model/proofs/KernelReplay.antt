@@ -35,7 +35,7 @@ granted_count users o (ConPut w) = refl
 granted_count users o ConGet = refl
 granted_count users o ConLeft = refl
 
-prim_count : (most : ℕ) (c : Call) (users : List Flat) (o : Console) → length (prim most c users o).users ≡ length users
+pub prim_count : (most : ℕ) (c : Call) (users : List Flat) (o : Console) → length (prim most c users o).users ≡ length users
 prim_count most c users o = by (is_good most users c)
   where
     by : (b : Bool) → length (cond b (granted users o c) (unchanged users o (refused c) 0 0)).users ≡ length users

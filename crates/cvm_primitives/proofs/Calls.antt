@@ -196,6 +196,7 @@ module _ (w : World) (f : Sound w) (r : RoutineLaws w) (p : Places) (b most : �
     log = h.behind.log ∙ ap (λ o. o.log) (sym console);
     input = h.behind.input ∙ ap (λ o. o.input) (sym console);
     words = λ x lx nx no. h.low x lx nx;
+    above = h.above;
     small = h.small;
     special = h.special;
     regs = four c1 h.r28 h.r29 h.r30 h.r31;
@@ -306,6 +307,7 @@ module _ (w : World) (f : Sound w) (r : RoutineLaws w) (p : Places) (b most : �
         log = h.behind.log;
         input = h.behind.input;
         words = λ x lx nx no. wrote x lx nx (no u o);
+        above = λ x le lx. let first = e.sited.first in let second = e.sited.second in h.above x le lx ∙ cond-false (nat_eq x (size_at u)) n (c.memory x) (ne_eqb x (size_at u) (omega arith));
         small = h.small;
         special = h.special;
         regs = four c1 h.r28 h.r29 h.r30 h.r31;

@@ -1,14 +1,14 @@
 -- Calls of the primitives on memory, as the abstract machine has them: what they are entered with, and what they leave.
 use Rattle.std.specs.Prelude.{◌≡◌, ◌≢◌, ℕ, ◌+◌, ◌*◌, ◌^◌, ◌<◌, ◌≤◌, List, [], ◌∷◌, length, None}
 use Rattle.mips_table.specs.Arith.{signed}
-use Rattle.mips_table.specs.Device.{Idle}
+use Rattle.mips_table.specs.Device.{Idle, BUFFER}
 use Rattle.mips_table.specs.Flat.{Flat}
 use Rattle.mips_table.specs.declared.inst.Inst.{Inst}
 use Rattle.mips_table.specs.Code.{Contents, Behind, World}
 use Rattle.layer_map.specs.Map.{block_at, hand_at}
 use Rattle.masm.specs.Laws.{From}
 use Rattle.page_model.specs.Paging.{PagesStand}
-use Rattle.page_model.specs.Places.{Places, view}
+use Rattle.page_model.specs.Places.{Places, frames_end, view}
 use Rattle.frame_table.specs.View.{Sited, Ported}
 use Rattle.page_fault.specs.Code.{page_code}
 use Rattle.cvm_model.specs.Kernel.{flat}
@@ -34,8 +34,8 @@ pub record CallEntered (w : World) (p : Places) (b most : ℕ) (users : List Fla
   pub free : (u : ℕ) → IsOneOf users u → w.kept (block_at u + 32) ≡ None
   pub regs : (r : ℕ) → c.regs r < 2 ^ 32
 
--- What it leaves: its answer, and the users and the console after it. All words below the page tables but the hand and the users' sizes,
--- the special registers, registers 28 to 31 and the sectors past the pages stay; entries are words; and no command is under way.
+-- What it leaves: its answer, and the users and the console after it. All words below the page tables but the hand and the users' sizes, those behind
+-- the last frame, the special registers, registers 28 to 31 and the sectors past the pages stay; entries are words; and no command is under way.
 pub record CallLeft (p : Places) (per : ℕ) (users : List Flat) (g : Given) (c0 : Contents) (d0 : Behind) (c : Contents) (d : Behind) : Type 0 where
   pub answer : flat (λ _. 0) g.answer ≡ c.regs 2 ∷ []
   pub stands : PagesStand p.layout (pages_by per g.users) (view p c.memory d.sectors)
@@ -43,6 +43,7 @@ pub record CallLeft (p : Places) (per : ℕ) (users : List Flat) (g : Given) (c0
   pub log : d.log ≡ g.console.log
   pub input : d.input ≡ g.console.input
   pub words : (x : ℕ) → x < p.tables → x ≢ hand_at → ((u : ℕ) → IsOneOf users u → x ≢ block_at u + 32) → c.memory x ≡ c0.memory x
+  pub above : (x : ℕ) → frames_end p ≤ x → x < BUFFER → c.memory x ≡ c0.memory x
   pub small : (x : ℕ) → x < p.layout.pages → c.memory (p.tables + x) < 2 ^ 32
   pub special : c.special ≡ c0.special
   pub regs : (r : ℕ) → 28 ≤ r → r ≤ 31 → c.regs r ≡ c0.regs r

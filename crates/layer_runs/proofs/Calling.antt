@@ -1,5 +1,5 @@
 -- A call of a primitive, from its entry to its return.
-use Rattle.std.proofs.Common.{◌≡◌, ℕ, ◌+◌, ◌-◌, ◌*◌, ◌/◌, ◌^◌, ◌<◌, ◌≤◌, ℤ, ◌&&◌, true, not, Some, None, List, [], ◌∷◌, ◌++◌, length, slice_index, All, refl, sym, ap, ◌∙◌, subst, ⊎_elim, inr, true≢false, arith, le-ltb}
+use Rattle.std.proofs.Common.{◌≡◌, ℕ, ◌+◌, ◌-◌, ◌*◌, ◌/◌, ◌^◌, ◌<◌, ◌≤◌, ℤ, ◌&&◌, true, not, Some, None, List, [], ◌∷◌, ◌++◌, length, slice_index, All, nat_lt, refl, sym, ap, ◌∙◌, subst, ⊎_elim, inr, true≢false, arith, le-ltb, lt-ltb}
 use Rattle.std.specs.Prelude.{if◌then◌else◌, nat_le}
 use Rattle.std.proofs.lemmas.Bool.{cases_lt, cond_both}
 use Rattle.std.proofs.lemmas.List.{ext_get_or, get_or_past, length-drop}
@@ -27,7 +27,7 @@ use Rattle.layer_contract.specs.Layer.{Inside, InCode, given, Returned, ComesBac
 use Rattle.register_primitives.specs.Blocks.{BlocksHold}
 use Rattle.layer_runs.specs.Image.{returning, routine_at, image_site, IsMade}
 use Rattle.layer_runs.specs.Runs.{Calm, kept_words, block_world}
-use Rattle.layer_runs.proofs.Shown.{IsKernels, Order, order_of, behind, word_is, stood}
+use Rattle.layer_runs.proofs.Shown.{IsKernels, Order, order_of, behind, word_is, stood, layer_inside}
 use Rattle.layer_runs.proofs.Ways.{way_from}
 use Rattle.layer_runs.proofs.Arrivals.{Below, Arrives, contents}
 use Rattle.layer_runs.proofs.Exits.{Tools, not_user, Routed, arrives_in}
@@ -67,12 +67,19 @@ module _ (m : Map) (sizes code : List ℕ) (made : IsMade m sizes code) where
   abbrev y : Site
   y = image_site m sizes code
 
-  -- words behind the linked ones aren't kept
-  pub free_past : (k : ℕ) → length y.linked ≤ k → kept_words y k ≡ None
-  free_past k le = ap (λ b. if b && not (is_own m k) then Some (slice_index y.linked k) else None) (le-ltb k (length y.linked) le)
+  -- words of the map behind the linked ones aren't kept, and no port is
+  pub free_past : (memory : List ℕ) (k : ℕ) → length y.linked ≤ k → k < memory_words m → kept_words y memory k ≡ None
+  free_past memory k le lt =
+      ap (λ b. if b then (if nat_lt k (length y.linked) && not (is_own m k) then Some (slice_index y.linked k) else None) else if nat_lt k (length memory) then Some (slice_index memory k) else None) (lt-ltb k (memory_words m) lt)
+      ∙ ap (λ b. if b && not (is_own m k) then Some (slice_index y.linked k) else None) (le-ltb k (length y.linked) le)
 
-  pub own_hand : kept_words y hand_at ≡ None
-  own_hand = free_own y hand_at true refl
+  pub free_port : (memory : List ℕ) (k : ℕ) → memory_words m ≤ k → length memory ≤ k → kept_words y memory k ≡ None
+  free_port memory k le past =
+      ap (λ b. if b then (if nat_lt k (length y.linked) && not (is_own m k) then Some (slice_index y.linked k) else None) else if nat_lt k (length memory) then Some (slice_index memory k) else None) (le-ltb k (memory_words m) le)
+      ∙ ap (λ b. if b then Some (slice_index memory k) else None) (le-ltb k (length memory) past)
+
+  pub own_hand : (memory : List ℕ) → kept_words y memory hand_at ≡ None
+  own_hand memory = free_own y memory hand_at (let l = layer_inside m (order_of m made.range) in omega arith) refl
 
   -- THE RETURN: the machine is at the return address, and stands for what the call comes to
   module _ (z : Tools) (x : Outside) (s : State) (c : Core) (call : Call) (st : Stands x y s Running c) (i : Inside s) (word : HasWord call) where
@@ -153,7 +160,7 @@ module _ (m : Map) (sizes code : List ℕ) (made : IsMade m sizes code) where
           comes = record {
             steps = 1 + a.steps;
             within = omega arith;
-            way = way_from b.sum x y a.steps s r.enters.inside r.enters.sectors r.enters.named a.between;
+            way = way_from b.sum x y a.steps s r.enters.inside r.enters.sectors r.enters.frames r.enters.named a.between;
             there = subst (Returned x y g c s) (sym (b.sum x s 1 a.steps)) q;
           };
           apart = λ j less same. ⊎_elim

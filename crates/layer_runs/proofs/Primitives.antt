@@ -31,7 +31,7 @@ use Rattle.layer_runs.proofs.Exits.{Tools, not_user, Routed, routed}
 use Rattle.layer_runs.proofs.Keeping.{free_block}
 use Rattle.layer_runs.proofs.Interrupting.{pages_same}
 use Rattle.layer_runs.proofs.Fitting.{HasWord}
-use Rattle.layer_runs.proofs.Calling.{Came, free_past, own_hand, word_read, as_word, comes_back}
+use Rattle.layer_runs.proofs.Calling.{Came, free_past, free_port, own_hand, word_read, as_word, comes_back}
 
 -- what is left of a block's run is weakened
 pub from_on : (w : World) (is : List Inst) (n : ℕ) (c : Contents) (d : Behind) (P Q : Contents → Behind → Type 0) → ((c' : Contents) (d' : Behind) → P c' d' → Q c' d') → From w is n c d P → From w is n c d Q
@@ -103,9 +103,9 @@ module _ (m : Map) (sizes code : List ℕ) (made : IsMade m sizes code) where
             blocks = sh.blocks;
             whole = λ u is. (whole u is).cpu.regs.size;
             inside = omega arith;
-            free = λ u j is lt. let from = is.0 in let to = is.1 in free_block m sizes code made u j from (omega arith) (omega arith);
+            free = λ u j is lt. let from = is.0 in let to = is.1 in free_block m sizes code made (run x s 1).memory u j from (omega arith) (omega arith);
             system = refl;
-            log = free_past m sizes code made LOG (omega (arith, linked_length m sizes code made));
+            log = let small = r.calm.small in free_port m sizes code made (run x s 1).memory LOG (omega arith) (omega arith);
             regs = regs;
             words = λ j lt. let here = word_is s j (let mem = st.memory in omega arith) in let v = word_read s.memory j st.fits.memory in omega arith;
             input = λ j. word_read s.input j st.fits.console.left;
@@ -141,16 +141,17 @@ module _ (m : Map) (sizes code : List ℕ) (made : IsMade m sizes code) where
           let few : m.users ≤ 64 = made.range.users in
           let mem = st.memory in
           record {
-            sited = z.sited m w made.range long (λ q from to. free_past m sizes code made q (omega (arith, linked_length m sizes code made)));
+            sited = z.sited m w made.range long (λ q from to. free_past m sizes code made (run x s 1).memory q (omega (arith, linked_length m sizes code made)) to);
             ported = record {
-              disk = record { system = refl; free = λ q from to. free_past m sizes code made q (omega (arith, linked_length m sizes code made)); busy = busy };
-              hand = own_hand m sizes code made;
+              disk = record { system = refl; free = λ q from to. let small = r.calm.small in free_port m sizes code made (run x s 1).memory q (omega arith) (omega arith); busy = busy };
+              hand = own_hand m sizes code made (run x s 1).memory;
               sectors = omega arith;
             };
             held = record {
               stands = sh.pages;
               small = λ q lt. let here = word_is s (tables_at m + q) (omega arith) in let v = word_read s.memory (tables_at m + q) st.fits.memory in omega arith;
               low = λ q lt ne. refl;
+              above = λ q le lt. refl;
               special = refl;
               r28 = refl;
               r29 = refl;
@@ -165,7 +166,7 @@ module _ (m : Map) (sizes code : List ℕ) (made : IsMade m sizes code) where
             shape = ap (λ n. n * m.params.pages) (sym count);
             blocks = sh.blocks;
             each = whole;
-            free = λ u is. let from = is.0 in let to = is.1 in free_block m sizes code made u 32 from (omega arith) (omega arith);
+            free = λ u is. let from = is.0 in let to = is.1 in free_block m sizes code made (run x s 1).memory u 32 from (omega arith) (omega arith);
             regs = regs;
           }
 

@@ -1,7 +1,13 @@
 -- The laws of a layer, of the memory that a layer's image makes with any kernel's code behind it.
-use Rattle.std.specs.Prelude.{◌≡◌, ℕ, List, length}
+use Rattle.std.specs.Prelude.{◌≡◌, ℕ, ◌+◌, ◌-◌, ◌*◌, ◌≤◌, true, List, length}
+use Rattle.mips_table.specs.Device.{Outside}
+use Rattle.mips_table.specs.Machine.{State, latched, coming, step}
+use Rattle.mips_table.specs.Turns.{handled}
 use Rattle.layer_map.specs.Map.{Map, MapInRange}
-use Rattle.layer_contract.specs.Layer.{Linked, EntersFirst, Enters, Exits, Leaves, PrimitivesAnswer, FaultsSettle, Laws}
+use Rattle.cvm_model.specs.Kernel.{Core}
+use Rattle.cvm_model.specs.Paged.{paged_of}
+use Rattle.cvm_model.specs.Stands.{Site}
+use Rattle.layer_contract.specs.Layer.{Linked, EntersFirst, Enters, Exits, Leaves, PrimitivesAnswer, FaultsSettle, Laws, IsEntry, Comes, Back, Brought, BusyWithin}
 use Rattle.layer_runs.specs.Image.{layer_image, image_site, IsMade}
 
 -- the exits of the kernel's faults
@@ -28,9 +34,27 @@ ImageEnters = (m : Map) (sizes code : List ℕ) → IsMade m sizes code → Ente
 abbrev pub ImagePrimitives : Type 0
 ImagePrimitives = (m : Map) (sizes code : List ℕ) → IsMade m sizes code → PrimitivesAnswer (image_site m sizes code)
 
--- the handled faults
+-- how many pages name the frame at the hand
+abbrev pub names_at : Map → State → ℕ
+names_at m s = (paged_of m s).count (paged_of m s).hand
+
+-- THE STEPS OF A HANDLED FAULT, from the instruction that meets it back to it: a swap for each page that names the frame at the hand, one more, and those of
+-- the handler. With one such page they are 5,599 and two busy times, with four 13,720 and five, in a system of any size.
+abbrev pub handled_steps : Map → (longest : ℕ) → State → ℕ
+handled_steps m longest s = names_at m s * (longest + 2707) + longest + 2892
+
+-- a handled fault takes no more, the step that meets it among them; and at most four pages name the frame at the hand
+abbrev pub FaultsCost : Site → Type 0
+FaultsCost y = (x : Outside) (longest : ℕ) (s : State) (c : Core) → BusyWithin x longest → Back x y c s → handled x s ≡ true →
+    (names_at y.map s ≤ 4) × Comes x y IsEntry (handled_steps y.map longest s - 1) (step x s) (λ t. Back x y c t × Brought y c s t (coming x (latched x s)))
+
+-- the handled faults: they settle, and what one costs
+pub record FaultsHandled (y : Site) : Type 0 where
+  pub settles : FaultsSettle y
+  pub costs : FaultsCost y
+
 abbrev pub ImageSettles : Type 0
-ImageSettles = (m : Map) (sizes code : List ℕ) → IsMade m sizes code → FaultsSettle (image_site m sizes code)
+ImageSettles = (m : Map) (sizes code : List ℕ) → IsMade m sizes code → FaultsHandled (image_site m sizes code)
 
 -- all of them
 abbrev pub ImageLaws : Type 0

@@ -1,0 +1,44 @@
+-- How properties of C0 code are proved: work that is done within some units, where a property holds then. proofs/Rules has the rules.
+use Rattle.std.specs.Prelude.{ℕ, zero, suc, ◌+◌, ◌≤◌, List, [], ◌∷◌, map}
+use Rattle.c0_tree.specs.Tree.{CDecl}
+use Rattle.c0_meaning.specs.Env.{typed_of}
+use Rattle.c0_meaning.specs.Sound.{shapes}
+use Rattle.c0_meaning.specs.Value.{Values, group, followed_by, zeros_of}
+use Rattle.c0_meaning.specs.State.{pushed}
+use Rattle.c0_meaning.specs.World.{Setting, Cost, units, total, plus, Configuration, with_state}
+use Rattle.c0_meaning.specs.Running.{Work, Step, Go, Stop, act}
+use Rattle.c0_meaning.specs.Execution.{Outcome, Done, Failed, NotYet, run_within}
+
+-- a run is done, and a property holds of where it stands
+abbrev pub Comes : {W E : Type 0} → Outcome W E → (Configuration W E → Type 0) → Type 0
+Comes (Done used c) Q = Q c
+Comes (Failed used f c) Q = ⊥
+Comes (NotYet used c) Q = ⊥
+
+-- WORK IS DONE from here within n units: it doesn't fail, it ends, and then the property holds. Of code without a choice that is open it
+-- computes to the property itself.
+abbrev pub Ends : {W E : Type 0} → Setting W E → (n : ℕ) → List Work → Configuration W E → (Configuration W E → Type 0) → Type 0
+Ends p n work c Q = Comes (run_within p n work c) Q
+
+-- so many steps one after another, as one
+abbrev pub behind : {W E : Type 0} → Cost → Step W E → Step W E
+behind k (Go j w d) = Go (plus k j) w d
+behind k (Stop j f d) = Stop (plus k j) f d
+
+abbrev pub after_step : {W E : Type 0} → Step W E → (List Work → Configuration W E → Step W E) → Step W E
+after_step (Go k w d) further = behind k (further w d)
+after_step (Stop k f d) further = Stop k f d
+
+abbrev pub steps : {W E : Type 0} → Setting W E → ℕ → List Work → Configuration W E → Step W E
+steps p zero w c = Go (units 0) w c
+steps p (suc m) [] c = Go (units 0) [] c
+steps p (suc m) (item ∷ w) c = after_step (act p item w c) (steps p m)
+
+-- they lead within j units, their number counted, to work that is done within n
+abbrev pub LeadTo : {W E : Type 0} → Setting W E → (m j n : ℕ) → Step W E → (Configuration W E → Type 0) → Type 0
+LeadTo p m j n (Go k w d) Q = (total k + m ≤ j) × Ends p n w d Q
+LeadTo p m j n (Stop k f d) Q = ⊥
+
+-- where a function of this number and these locals begins, called with these arguments
+abbrev pub entering : {W E : Type 0} → Setting W E → ℕ → List CDecl → Values → Configuration W E → Configuration W E
+entering p n locals args c = with_state c (pushed (record { function = n; variables = group (followed_by args (zeros_of (shapes p.unit) (map typed_of locals))) }) c.state)
