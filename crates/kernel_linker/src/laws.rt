@@ -2,6 +2,7 @@
 
 ghost use Rattle.kernel_linker.specs.Laws.{LinkedAreAccepted, SpelledImagesFit};
 ghost use Rattle.kernel_linker.specs.Migrate.{MigratedAreAccepted, OldWordsAreIgnored};
+ghost use Rattle.kernel_linker.specs.Sources.{AcceptedAreOfImages};
 
 /// A law: what is linked is accepted, over the same layer.
 pub fn linked_images_are_accepted()
@@ -21,4 +22,9 @@ pub fn old_words_are_ignored()
 /// A law: an image that has a spelling has parameters in range, and users that are few and short enough.
 pub fn spelled_images_fit()
     ensures { SpelledImagesFit }
+{}
+
+/// A law: an accepted system is that of its image, whose own source has its unit.
+pub fn accepted_systems_are_of_their_images()
+    ensures { AcceptedAreOfImages }
 {}
