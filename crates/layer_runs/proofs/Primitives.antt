@@ -208,31 +208,47 @@ module _ (m : Map) (sizes code : List ℕ) (made : IsMade m sizes code) where
         let w : World = block_world x y (run x s 1) (routine_at m k) (returning body) in
         let f : From w body steps (contents s) (behind s) (Left users (prim m.params.pages call users (console_of (behind s))) (contents s) (behind s)) =
         subst (λ q. From w body steps (contents s) (behind s) (Left users (prim m.params.pages q users (console_of (behind s))) (contents s) (behind s))) same (law w r.sound (registers_entered k (returning body) r)) in
-        comes_back m sizes code made z.tools x s c call st i word longest k body steps lt is back pc (few_steps k (returning body) r (given y c call) steps le) (λ w f. z.returns w f body) r
-        (from_on w body steps (contents s) (behind s) (Left users (prim m.params.pages call users (console_of (behind s))) (contents s) (behind s)) (Came y (given y c call) (contents s) (behind s)) (registers_came k (returning body) r call) f)
+        (comes_back m sizes code made z.tools x s c call st i word (λ c'. Unit {0}) longest k body steps lt is back pc (few_steps k (returning body) r (given y c call) steps le) (λ w f. z.returns w f body) r
+        (from_on w body steps (contents s) (behind s) (Left users (prim m.params.pages call users (console_of (behind s))) (contents s) (behind s)) (λ c' d'. Came y (given y c call) (contents s) (behind s) c' d' × Unit {0}) (λ c' d' l. (registers_came k (returning body) r call c' d' l, tt)) f)).0
 
-    by_memory : (call other : Call) (k : ℕ) (body : List Inst) → k < 10 → k ≡ primitive_number call → routine m k ≡ returning body → other ≡ call → HasWord call → s.cpu.pc ≡ 4 * (2048 + k) → InCode m (slice_index s.cpu.regs 31)
+    -- with what else its law says of the end
+    by_memory : (X : Contents → Type 0) (call other : Call) (k : ℕ) (body : List Inst) → k < 10 → k ≡ primitive_number call → routine m k ≡ returning body → other ≡ call → HasWord call → s.cpu.pc ≡ 4 * (2048 + k) → InCode m (slice_index s.cpu.regs 31)
         → ((w : World) → Sound w → CallEntered w (places_of m) longest m.params.pages users (contents s) (behind s) → From w body (call_steps (places_of m) longest (prim m.params.pages other users (console_of (behind s)))) (contents s) (behind s)
-        (CallLeft (places_of m) m.params.pages users (prim m.params.pages other users (console_of (behind s))) (contents s) (behind s)))
-        → ComesBack x y longest c call s
-    by_memory call other k body lt is listed same word pc back law =
+        (λ c' d'. CallLeft (places_of m) m.params.pages users (prim m.params.pages other users (console_of (behind s))) (contents s) (behind s) c' d' × X c'))
+        → (b : ComesBack x y longest c call s) × X (contents (run x s b.comes.steps))
+    by_memory X call other k body lt is listed same word pc back law =
         let r : Routed m sizes code made k (returning body) x s = routed m sizes code made z.tools k (returning body) x s c (omega arith) listed st i pc in
         let w : World = block_world x y (run x s 1) (routine_at m k) (returning body) in
         let g : Given = prim m.params.pages call users (console_of (behind s)) in
         let given_is : g ≡ given y c call = ap (prim m.params.pages call users) console in
-        let f : From w body (call_steps (places_of m) longest g) (contents s) (behind s) (CallLeft (places_of m) m.params.pages users g (contents s) (behind s)) =
-        subst (λ q. From w body (call_steps (places_of m) longest (prim m.params.pages q users (console_of (behind s)))) (contents s) (behind s) (CallLeft (places_of m) m.params.pages users (prim m.params.pages q users (console_of (behind s))) (contents s) (behind s))) same
+        let f : From w body (call_steps (places_of m) longest g) (contents s) (behind s) (λ c' d'. CallLeft (places_of m) m.params.pages users g (contents s) (behind s) c' d' × X c') =
+        subst (λ q. From w body (call_steps (places_of m) longest (prim m.params.pages q users (console_of (behind s)))) (contents s) (behind s) (λ c' d'. CallLeft (places_of m) m.params.pages users (prim m.params.pages q users (console_of (behind s))) (contents s) (behind s) c' d' × X c')) same
         (law w r.sound (memory_entered k (returning body) r)) in
         let enough : call_steps (places_of m) longest g + 2 ≤ run_steps m longest (units_of (given y c call)) (given y c call).pages =
         subst (λ q. call_steps (places_of m) longest q + 2 ≤ run_steps m longest (units_of (given y c call)) (given y c call).pages) (sym given_is) (worth k (returning body) r (given y c call)) in
-        comes_back m sizes code made z.tools x s c call st i word longest k body (call_steps (places_of m) longest g) lt is back pc enough (λ w f. z.returns w f body) r
-        (from_on w body (call_steps (places_of m) longest g) (contents s) (behind s) (CallLeft (places_of m) m.params.pages users g (contents s) (behind s)) (Came y (given y c call) (contents s) (behind s)) (memory_came k (returning body) r call) f)
+        comes_back m sizes code made z.tools x s c call st i word X longest k body (call_steps (places_of m) longest g) lt is back pc enough (λ w f. z.returns w f body) r
+        (from_on w body (call_steps (places_of m) longest g) (contents s) (behind s) (λ c' d'. CallLeft (places_of m) m.params.pages users g (contents s) (behind s) c' d' × X c') (λ c' d'. Came y (given y c call) (contents s) (behind s) c' d' × X c') (λ c' d' l. (memory_came k (returning body) r call c' d' l.0, l.1)) f)
 
     count : length users ≡ m.users
     count = st.whole.users
 
     l : Listed m
     l = listed m
+
+    -- a vm_resize comes back, and the pages by which it makes a memory grow name the zero frame
+    resizes : (u n : ℤ) → PrimitiveCalled x y c (VmResize u n) s → (b : ComesBack x y longest c (VmResize u n) s) × Grown (places_of m) m.params.pages users (contents s) (contents (run x s b.comes.steps))
+    resizes u n p = by_memory (Grown (places_of m) m.params.pages users (contents s)) (VmResize u n) (resize_call (contents s)) 3 (vm_resize_code (places_of m) (length users) m.params.pages) (omega arith) refl (l.resize ∙ ap (λ n. returning (vm_resize_code (places_of m) n m.params.pages)) (sym count))
+        (ap₂ VmResize p.arguments.0 p.arguments.1.0) tt p.at.pc p.back (λ w f e. (z.memory w f (places_of m) longest m.params.pages users (contents s) (behind s) e).resize)
+
+    -- a call on memory of which no more is asked
+    by_memory_alone : (call other : Call) (k : ℕ) (body : List Inst) → k < 10 → k ≡ primitive_number call → routine m k ≡ returning body → other ≡ call → HasWord call → s.cpu.pc ≡ 4 * (2048 + k) → InCode m (slice_index s.cpu.regs 31)
+        → ((w : World) → Sound w → CallEntered w (places_of m) longest m.params.pages users (contents s) (behind s) → From w body (call_steps (places_of m) longest (prim m.params.pages other users (console_of (behind s)))) (contents s) (behind s)
+        (CallLeft (places_of m) m.params.pages users (prim m.params.pages other users (console_of (behind s))) (contents s) (behind s)))
+        → ComesBack x y longest c call s
+    by_memory_alone call other k body lt is listed same word pc back law =
+        (by_memory (λ c'. Unit {0}) call other k body lt is listed same word pc back
+        (λ w f e. from_on w body (call_steps (places_of m) longest (prim m.params.pages other users (console_of (behind s)))) (contents s) (behind s) (CallLeft (places_of m) m.params.pages users (prim m.params.pages other users (console_of (behind s))) (contents s) (behind s))
+        (λ c' d'. CallLeft (places_of m) m.params.pages users (prim m.params.pages other users (console_of (behind s))) (contents s) (behind s) c' d' × Unit {0}) (λ c' d' l. (l, tt)) (law w f e))).0
 
     -- each call
     answers : (call : Call) → PrimitiveCalled x y c call s → ComesBack x y longest c call s
@@ -243,16 +259,15 @@ module _ (m : Map) (sizes code : List ℕ) (made : IsMade m sizes code) where
         (λ w f e. (z.registers w f m.params.pages users (contents s) (behind s) e).set)
     answers (VmSize u) p = by_registers (VmSize u) (size_call (contents s)) 2 (vm_size_code (length users)) 8 (omega arith) refl (l.size ∙ ap (λ n. returning (vm_size_code n)) (sym count)) (ap VmSize p.arguments.0) tt p.at.pc p.back (omega arith)
         (λ w f e. (z.registers w f m.params.pages users (contents s) (behind s) e).size)
-    answers (VmResize u n) p = by_memory (VmResize u n) (resize_call (contents s)) 3 (vm_resize_code (places_of m) (length users) m.params.pages) (omega arith) refl (l.resize ∙ ap (λ n. returning (vm_resize_code (places_of m) n m.params.pages)) (sym count))
-        (ap₂ VmResize p.arguments.0 p.arguments.1.0) tt p.at.pc p.back (λ w f e. (z.memory w f (places_of m) longest m.params.pages users (contents s) (behind s) e).resize)
-    answers (VmWord u a) p = by_memory (VmWord u a) (word_call (contents s)) 4 (vm_word_code (places_of m) (length users) m.params.pages (page_code (places_of m))) (omega arith) refl
+    answers (VmResize u n) p = (resizes u n p).0
+    answers (VmWord u a) p = by_memory_alone (VmWord u a) (word_call (contents s)) 4 (vm_word_code (places_of m) (length users) m.params.pages (page_code (places_of m))) (omega arith) refl
         (l.word ∙ ap (λ n. returning (vm_word_code (places_of m) n m.params.pages (page_code (places_of m)))) (sym count))
         (ap₂ VmWord p.arguments.0 p.arguments.1.0) tt p.at.pc p.back (λ w f e. (z.memory w f (places_of m) longest m.params.pages users (contents s) (behind s) e).word)
-    answers (VmPut u a v) p = by_memory (VmPut u a v) (store_call (contents s)) 5 (vm_put_code (places_of m) (length users) m.params.pages (page_code (places_of m))) (omega arith) refl
+    answers (VmPut u a v) p = by_memory_alone (VmPut u a v) (store_call (contents s)) 5 (vm_put_code (places_of m) (length users) m.params.pages (page_code (places_of m))) (omega arith) refl
         (l.put ∙ ap (λ n. returning (vm_put_code (places_of m) n m.params.pages (page_code (places_of m)))) (sym count))
         (put_is _ _ _ u a v p.arguments.0 p.arguments.1.0 p.arguments.1.1.0) (as_word v (slice_index s.cpu.regs 22) (regs 22) p.arguments.1.1.0) p.at.pc p.back
         (λ w f e. (z.memory w f (places_of m) longest m.params.pages users (contents s) (behind s) e).put)
-    answers (VmCopy u a v b n) p = by_memory (VmCopy u a v b n) (copy_call (contents s)) 6 (vm_copy_code (places_of m) (length users) m.params.pages (page_code (places_of m))) (omega arith) refl
+    answers (VmCopy u a v b n) p = by_memory_alone (VmCopy u a v b n) (copy_call (contents s)) 6 (vm_copy_code (places_of m) (length users) m.params.pages (page_code (places_of m))) (omega arith) refl
         (l.copy ∙ ap (λ n. returning (vm_copy_code (places_of m) n m.params.pages (page_code (places_of m)))) (sym count))
         (copy_is _ _ _ _ _ u a v b n p.arguments.0 p.arguments.1.0 p.arguments.1.1.0 p.arguments.1.1.1.0 p.arguments.1.1.1.1.0) tt p.at.pc p.back
         (λ w f e. (z.memory w f (places_of m) longest m.params.pages users (contents s) (behind s) e).copy)
@@ -263,3 +278,9 @@ module _ (m : Map) (sizes code : List ℕ) (made : IsMade m sizes code) where
 
   pub primitives : Routines → PrimitivesAnswer y
   primitives z x longest s c call busy p = answers z x longest s c busy p.at.stands p.at.inside call p
+
+  -- a word that a machine's user's argument says
+  pub grows : Routines → ResizesShare y
+  grows z x longest s c u n busy p good =
+      let b = resizes z x longest s c busy p.at.stands p.at.inside u n p in
+      (b.0, grown_at z x longest s c u n p (run x s b.0.comes.steps) good b.1)
