@@ -1,5 +1,5 @@
 -- A call of a primitive, from its entry to its return.
-use Rattle.std.proofs.Common.{◌≡◌, ℕ, ◌+◌, ◌-◌, ◌*◌, ◌/◌, ◌^◌, ◌<◌, ◌≤◌, ℤ, ◌&&◌, true, not, Some, None, List, [], ◌∷◌, ◌++◌, length, slice_index, All, nat_lt, refl, sym, ap, ◌∙◌, subst, ⊎_elim, inr, true≢false, arith, le-ltb, lt-ltb}
+use Rattle.std.proofs.Common.{◌≡◌, ℕ, ◌+◌, ◌-◌, ◌*◌, ◌/◌, ◌^◌, ◌<◌, ◌≤◌, ℤ, ◌&&◌, not, Some, None, List, [], ◌∷◌, ◌++◌, length, slice_index, All, nat_lt, refl, sym, ap, ◌∙◌, subst, ⊎_elim, inr, true≢false, arith, le-ltb, lt-ltb}
 use Rattle.std.specs.Prelude.{if◌then◌else◌, nat_le}
 use Rattle.std.proofs.lemmas.Bool.{cases_lt, cond_both}
 use Rattle.std.proofs.lemmas.List.{ext_get_or, get_or_past, length-drop}
@@ -155,8 +155,7 @@ module _ (m : Map) (sizes code : List ℕ) (made : IsMade m sizes code) where
         let at2 : t.cpu.pc / 4 ≡ to = ap (λ (v : Configuration). v.at) a.there in
         let aligned = a.calm.quiet.aligned in
         let within = a.within in
-        let q : Returned x y g c s t = returned t a.calm (a.size ∙ r.enters.size) (omega arith) (subst (λ (v : Configuration). Came y g (contents s) (behind s) v.contents v.behind) (sym a.there) e) in
-        (
+        let q : Returned x y g c s t = returned t a.calm (a.size ∙ r.enters.size) (omega arith) (subst (λ (v : Configuration). Came y g (contents s) (behind s) v.contents v.behind) (sym a.there) e) in (
           record {
             comes = record {
               steps = 1 + a.steps;
