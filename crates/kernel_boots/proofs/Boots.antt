@@ -1,6 +1,6 @@
 -- From a property of each state of a run to what a boot shows. No contract can carry it for any property, since it ranges over types: this file may be
 -- cited from other crates. To be used by `boots_of`: it needs the law on the kernel's runs, that its text means its tree, and the two laws of this crate.
-use Rattle.std.proofs.Common.{◌≡◌, ◌≤◌, ℕ, List, [], length, Bool, true, false, Option, sym, ◌∙◌, subst, append-nil}
+use Rattle.std.proofs.Common.{◌≡◌, ◌≤◌, ℕ, List, length, Bool, true, false, Option, sym, ◌∙◌, subst}
 use Rattle.std.specs.Prelude.{◌≢◌, if◌then◌else◌, Result, Ok}
 use Rattle.schedule_file.specs.Rows.{Rows}
 use Rattle.mips_table.specs.Device.{Outside as Surroundings, HasEightLines}
@@ -10,7 +10,6 @@ use Rattle.boot_turns.specs.declared.answers.View.TheVariants.{Boot}
 use Rattle.boot_turns.specs.Headline.{Ending, Done, KernelFaulted, OutOfSteps, DiskFault, SinkFault, NoMemory, ending_of, TextOf, Ran}
 use Rattle.cvm_model.specs.Cvm.{System as Booted, Cvm, Status, Running, Halted, Faulted, IsCvm}
 use Rattle.cvm_model.specs.Invariant.{HasEight, IsSafe}
-use Rattle.cvm_model.specs.Text.{rows_text, boot_text}
 use Rattle.c0_types.specs.Front.{IsUnitOf}
 use Rattle.layer_runs.specs.Image.{layer_image}
 use Rattle.boot_image.specs.Parts.{Parts as Image}
@@ -24,7 +23,7 @@ use Rattle.cvm_shell.specs.declared.boot.Session.{Session}
 use Rattle.cvm_shell.specs.Outside.{Outside}
 use Rattle.cvm_shell.specs.Plan.{Accepts}
 use Rattle.cvm_shell.specs.Boot.{booted, around, ended_as, AskFor, by_boot, by_trace, by_sample, Headline}
-use Rattle.kernel_boots.specs.Boots.{OfStates, AlwaysHas, Shows, BootsShow, HasSource, AsksSource, RunsItsSource, BootsOf}
+use Rattle.kernel_boots.specs.Boots.{OfStates, AlwaysHas, TextOfState, Shows, BootsShow, HasSource, AsksSource, RunsItsSource, BootsOf}
 use Rattle.kernel_boots.proofs.EightLines.{eight_of, few_of, turns_have_eight}
 
 -- A STATUS without a fault
@@ -56,26 +55,24 @@ other_status NoMemory h = tt
 no_status : (e : Ending) → NoFault e → ended_as e ≢ KernelFault
 no_status e h eq = subst OtherStatus eq (other_status e h)
 
--- WHAT WAS PRINTED begins with the rows of a state
+-- WHAT WAS PRINTED is the text of a state
 module _ (P : OfStates) (x : Surroundings) (y : Booted) (always : AlwaysHas y P) (old now : List (List ℕ)) (eight : HasEight (lines_of x (loaded y old))) (turns steps : ℕ) where
   has : (k : ℕ) (c : Cvm) → IsCvm y (lines_of x (loaded y old)) k c → P (lines_of x (loaded y old)) k c
   has k c is = always (lines_of x (loaded y old)) eight k c is
 
-  shows_whole : (k : ℕ) (text : List ℕ) → (c : Cvm) × IsCvm y (lines_of x (loaded y old)) k c × (text ≡ boot_text y c) → Shows y P text
-  shows_whole k text (c, is, e) = record { lines = lines_of x (loaded y old); turns = k; state = c; is = is; has = has k c is; rest = _; begins = e }
+  -- of a status by which a state has this text
+  shows_as : (status : Shown) (k : ℕ) (c : Cvm) (text : List ℕ) → IsCvm y (lines_of x (loaded y old)) k c → TextOfState y status c text → Shows y P status text
+  shows_as status k c text is e = record { lines = lines_of x (loaded y old); turns = k; state = c; is = is; has = has k c is; text_is = e }
 
-  shows_part : (k : ℕ) (text : List ℕ) → (c : Cvm) × IsCvm y (lines_of x (loaded y old)) k c × (text ≡ rows_text c.rows) → Shows y P text
-  shows_part k text (c, is, e) = record { lines = lines_of x (loaded y old); turns = k; state = c; is = is; has = has k c is; rest = []; begins = e ∙ sym (append-nil (rows_text c.rows)) }
+  shows : (t : ℕ) (e : Ending) (text : List ℕ) → TextOf x y old Boot t e text → Shows y P (ended_as e) text
+  shows t OutOfSteps text (c, is, e) = shows_as (ended_as OutOfSteps) _ c text is e
+  shows t Done text (c, is, e) = shows_as (ended_as Done) _ c text is e
+  shows t KernelFaulted text (c, is, e) = shows_as (ended_as KernelFaulted) _ c text is e
+  shows t DiskFault text (c, is, e) = shows_as (ended_as DiskFault) _ c text is e
+  shows t SinkFault text (c, is, e) = shows_as (ended_as SinkFault) _ c text is e
+  shows t NoMemory text (c, is, e) = shows_as (ended_as NoMemory) _ c text is e
 
-  shows : (t : ℕ) (e : Ending) (text : List ℕ) → TextOf x y old Boot t e text → Shows y P text
-  shows t OutOfSteps text h = shows_part _ text h
-  shows t Done text h = shows_whole _ text h
-  shows t KernelFaulted text h = shows_whole _ text h
-  shows t DiskFault text h = shows_whole _ text h
-  shows t SinkFault text h = shows_whole _ text h
-  shows t NoMemory text h = shows_whole _ text h
-
-  ran_shows : (e : Ending) (text : List ℕ) → Ran x y old now Boot turns steps e text → Shows y P text
+  ran_shows : (e : Ending) (text : List ℕ) → Ran x y old now Boot turns steps e text → Shows y P (ended_as e) text
   ran_shows e text h = shows _ e text h.text_is
 
   ran_safe : (e : Ending) (text : List ℕ) → Ran x y old now Boot turns steps e text → ((lines : ℕ → ℕ) (k : ℕ) (c : Cvm) → P lines k c → IsSafe c.status) → NoFault e
@@ -99,7 +96,7 @@ boots_show P words status old new headlines session s rows before honest some vi
     let eight : HasEight (lines_of (around rows old) (loaded (booted s rows) before)) = turns_have_eight (around rows old) (loaded (booted s rows) before) (asked_eight words old.shelf.file session s rows honest.asked old) in
     let ran = subst (λ v. Ran (around rows old) (booted s rows) before h.after v session.turns session.steps h.ending h.text) view h.ran in
     record {
-      printed = (h.text, h.printed, ran_shows P (around rows old) (booted s rows) always before h.after eight session.turns session.steps h.ending h.text ran);
+      printed = (h.text, h.printed, subst (λ (x : Shown). Shows (booted s rows) P x h.text) (sym h.status_is) (ran_shows P (around rows old) (booted s rows) always before h.after eight session.turns session.steps h.ending h.text ran));
       no_fault = λ safe e. no_status h.ending (ran_safe P (around rows old) (booted s rows) always before h.after eight session.turns session.steps h.ending h.text ran safe) (sym h.status_is ∙ e);
     }
 

@@ -1,5 +1,5 @@
 -- What every boot of an image shows, where each state of the abstract run has a property: over the headline of `run` (cvm_shell/src/lib.rt) as it stands.
-use Rattle.std.specs.Prelude.{◌≡◌, ◌≢◌, ℕ, List, ◌++◌, Option, Ok}
+use Rattle.std.specs.Prelude.{◌≡◌, ◌≢◌, ℕ, List, Option, Ok}
 use Rattle.std.specs.Io.KnownBytes.{append_known}
 use Rattle.schedule_file.specs.Rows.{Rows}
 use Rattle.boot_image.specs.Parts.{Parts as Image}
@@ -8,10 +8,10 @@ use Rattle.boot_turns.specs.declared.answers.View.TheVariants.{Boot}
 use Rattle.c0_types.specs.Front.{IsUnitOf}
 use Rattle.cvm_model.specs.Cvm.{System as Booted, Cvm, IsCvm}
 use Rattle.cvm_model.specs.Invariant.{HasEight, IsSafe}
-use Rattle.cvm_model.specs.Text.{rows_text}
+use Rattle.cvm_model.specs.Text.{rows_text, boot_text}
 use Rattle.kernel_linker.specs.Accept.{System}
 use Rattle.cvm_shell.specs.declared.status.Status.{Status}
-use Rattle.cvm_shell.specs.declared.status.Status.TheVariants.{KernelFault, Memory}
+use Rattle.cvm_shell.specs.declared.status.Status.TheVariants.{KernelFault, StepLimit, Memory}
 use Rattle.cvm_shell.specs.declared.boot.Session.{Session}
 use Rattle.cvm_shell.specs.Outside.{Outside}
 use Rattle.cvm_shell.specs.Boot.{booted, AskFor, by_boot, by_trace, by_sample, IsHonest}
@@ -25,19 +25,23 @@ OfStates = (ℕ → ℕ) → ℕ → Cvm → Type 0
 abbrev pub AlwaysHas : Booted → OfStates → Type 0
 AlwaysHas y P = (lines : ℕ → ℕ) → HasEight lines → (k : ℕ) (c : Cvm) → IsCvm y lines k c → P lines k c
 
--- a text begins with the rows of a state that has it
-pub record Shows (y : Booted) (P : OfStates) (text : List ℕ) : Type 0 where
+-- THE TEXT of a state, by the status: where the steps ran out its rows so far, else the whole report, with its rows in front
+abbrev pub TextOfState : Booted → Status → Cvm → List ℕ → Type 0
+TextOfState y StepLimit c text = text ≡ rows_text c.rows
+TextOfState y other c text = text ≡ boot_text y c
+
+-- a text is that of a state that has the property
+pub record Shows (y : Booted) (P : OfStates) (status : Status) (text : List ℕ) : Type 0 where
   pub lines : ℕ → ℕ
   pub turns : ℕ
   pub state : Cvm
   pub is : IsCvm y lines turns state
   pub has : P lines turns state
-  pub rest : List ℕ
-  pub begins : text ≡ rows_text state.rows ++ rest
+  pub text_is : TextOfState y status state text
 
--- A BOOT SHOWS IT: it printed a text that begins so; and where the property excludes faults, its status is not that of a kernel's fault
+-- A BOOT SHOWS IT: what it printed is the text of such a state; and where the property excludes faults, its status is not that of a kernel's fault
 pub record BootShows (y : Booted) (P : OfStates) (old new : Outside) (status : Status) : Type 0 where
-  pub printed : (text : List ℕ) × (new.sink.text ≡ append_known old.sink.text text) × Shows y P text
+  pub printed : (text : List ℕ) × (new.sink.text ≡ append_known old.sink.text text) × Shows y P status text
   pub no_fault : ((lines : ℕ → ℕ) (k : ℕ) (c : Cvm) → P lines k c → IsSafe c.status) → status ≢ KernelFault
 
 -- THE COROLLARY, for any property of states: by the headline of `run` each boot with no failed call shows it, where the system's run always has it
@@ -66,4 +70,4 @@ RunsItsSource = (source : List ℕ) (words : List (List ℕ)) (session : Session
 abbrev pub BootsOf : (source : List ℕ) → (System → Type 0) → (Booted → OfStates) → Type 0
 BootsOf source Is P = (words : List (List ℕ)) (status : Status) (old new : Outside) → Headlines (λ (o : Outside). o) words status old new
     → (session : Session) (s : System) (rows : Rows) (before : List (List ℕ)) → (h : IsHonest words session s rows before old new) → status ≢ Memory → session.view ≡ Boot
-    → AsksSource source h.asked → Is s → (status ≢ KernelFault) × ((text : List ℕ) × (new.sink.text ≡ append_known old.sink.text text) × Shows (booted s rows) (P (booted s rows)) text)
+    → AsksSource source h.asked → Is s → (status ≢ KernelFault) × ((text : List ℕ) × (new.sink.text ≡ append_known old.sink.text text) × Shows (booted s rows) (P (booted s rows)) status text)

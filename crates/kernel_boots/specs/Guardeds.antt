@@ -10,6 +10,6 @@ pub record HasStack (s : System) : Type 0 where
   pub some : 1 ≤ length s.users
   pub room : 13 ≤ s.params.stack
 
--- EVERY BOOT of an image with this text: its status is no kernel's fault, and what it printed begins with the rows of a state without one
+-- EVERY BOOT of an image with this text: its status is no kernel's fault, and what it printed is the text of a state without one
 abbrev pub GuardedKernelsBoot : Type 0
 GuardedKernelsBoot = BootsOf text HasStack (λ y lines k c. IsSafe c.status)

@@ -17,7 +17,7 @@ pub record IsDelivered (y : Booted) (lines : ℕ → ℕ) (k : ℕ) (c : Cvm) : 
   pub safe : IsSafe c.status
   pub delivers : Delivers (dispatches_of y lines 400 k)
 
--- EVERY BOOT of an image with this text, of two users: its status is no kernel's fault, and it printed a text that begins with the rows of a state up to
--- which what user 2 got is what user 1 put
+-- EVERY BOOT of an image with this text, of two users: its status is no kernel's fault, and what it printed is the text of a state up to which what
+-- user 2 got is what user 1 put
 abbrev pub MailboxesBoot : Type 0
 MailboxesBoot = BootsOf text HasTwo IsDelivered

@@ -17,6 +17,6 @@ pub record IsOrdered (c : Cvm) : Type 0 where
   pub safe : IsSafe c.status
   pub order : InOrder 3 0 c.rows
 
--- EVERY BOOT of an image with this text, of three users: its status is no kernel's fault, and what it printed begins with rows in order
+-- EVERY BOOT of an image with this text, of three users: its status is no kernel's fault, and what it printed is the text of a state whose rows are in order
 abbrev pub RoundRobinsBoot : Type 0
 RoundRobinsBoot = BootsOf text HasThree (λ y lines k c. IsOrdered c)
