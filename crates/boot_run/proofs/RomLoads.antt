@@ -26,24 +26,24 @@ use Rattle.boot_run.proofs.Loads.{lists, needed_is, page_if, page_below, page_be
 
 -- a jump, zeros up to the ROM's frame, and the ROM
 placed : (j k n m : ℕ) (rom : List ℕ) → m ≡ suc k → n ≡ k + 1024 → length rom ≤ 1024 →
-    take m (j ∷ replicate n 0) ++ (rom ++ drop (m + length rom) (j ∷ replicate n 0)) ≡ (j ∷ replicate k 0) ++ (rom ++ replicate (1024 - length rom) 0)
+    take {A = ℕ} m (j ∷ replicate n 0) ++ (rom ++ drop {A = ℕ} (m + length rom) (j ∷ replicate n 0)) ≡ (j ∷ replicate k 0) ++ (rom ++ replicate (1024 - length rom) 0)
 placed j k n m rom e f le =
     let few : k ≤ n = omega (arith, f) in
-    let a : take m (j ∷ replicate n 0) ≡ j ∷ replicate k 0 = ap (λ i. take i (j ∷ replicate n 0)) e ∙ ap (λ l. j ∷ l) (front k n few) in
+    let a : take {A = ℕ} m (j ∷ replicate n 0) ≡ j ∷ replicate k 0 = ap (λ i. take {A = ℕ} i (j ∷ replicate n 0)) e ∙ ap (λ l. j ∷ l) (front k n few) in
     let s : m + length rom ≡ suc (k + length rom) = omega (arith, e) in
     let left : n - (k + length rom) ≡ 1024 - length rom = omega (arith, f, le) in
-    let b : drop (m + length rom) (j ∷ replicate n 0) ≡ replicate (1024 - length rom) 0 =
-    ap (λ i. drop i (j ∷ replicate n 0)) s ∙ drop-replicate (k + length rom) n 0 ∙ ap (λ i. replicate i 0) left in
+    let b : drop {A = ℕ} (m + length rom) (j ∷ replicate n 0) ≡ replicate (1024 - length rom) 0 =
+    ap (λ i. drop {A = ℕ} i (j ∷ replicate n 0)) s ∙ drop-replicate (k + length rom) n 0 ∙ ap (λ i. replicate {A = ℕ} i 0) left in
     ap₂ (λ u v. u ++ (rom ++ v)) a b
   where
-    front : (k n : ℕ) → k ≤ n → take k (replicate n 0) ≡ replicate k 0
+    front : (k n : ℕ) → k ≤ n → take {A = ℕ} k (replicate n 0) ≡ replicate k 0
     front k n few = take-replicate k n 0 few
 
 memory_is : (frames : ℕ) (rom : List ℕ) (rows : Rows) → 1 ≤ frames → length rom ≤ 1024 → (with_rom frames rom rows).hardware.memory ≡ rom_memory rom frames
 memory_is frames rom rows some few =
     let j : ℕ = encoding (J (1024 * frames)) in
     let n : ℕ = 1024 * (frames + 1) - 1 in
-    let first : j ∷ drop 1 (replicate (1024 * (frames + 1)) 0) ≡ j ∷ replicate (1024 * (frames + 1) - 1) 0 = ap (λ l. j ∷ l) (drop-replicate 1 (1024 * (frames + 1)) 0) in
+    let first : j ∷ drop {A = ℕ} 1 (replicate (1024 * (frames + 1)) 0) ≡ j ∷ replicate (1024 * (frames + 1) - 1) 0 = ap (λ l. j ∷ l) (drop-replicate 1 (1024 * (frames + 1)) 0) in
     ap (λ l. take (1024 * frames) l ++ (rom ++ drop (1024 * frames + length rom) l)) first
     ∙ placed j (1024 * frames - 1) (1024 * (frames + 1) - 1) (1024 * frames) rom (omega (arith, some)) (omega (arith, some)) few
 
