@@ -2,11 +2,13 @@
 """Writes cases of user programs in C0 for shell_cases, with what each command prints.
 
 usage: gen_programs.py CASES STDOUT [PRINTED]   as gen_lines.py, whose rules for PRINTED hold here too
+       gen_programs.py all FOLDER               all kernels and 200 random programs, in files of 20: N.cases and N.stdout
 
 Three kinds: worked rows; the kernels of code_cases that call no primitive, as programs that tell the kernel what they come to; and random programs
 under a kernel that answers by a rule. A journal is what the program means, by programs.py, and no code of a program is run here. At which turn a
-program ends is the compiled code's alone, and the program's own; so is nothing else.
+program ends is the compiled code's alone, and the program's own; so is nothing else. The gate tries a few of the last two kinds.
 """
+import itertools
 import os
 import random
 import re
@@ -44,6 +46,7 @@ int dispatch(int cause, int data, int user) {
 TWICE = 'int main() { int a; int b; a = trap(5); b = trap(a + 1); return 0; }'
 INVERSE = 'int main() { int x; x = 1 / x; return 0; }'
 
+ALL = sys.argv[1] == 'all'
 cases, told = [], []
 
 
@@ -85,7 +88,7 @@ def journals(kernel, text):
 
 def printed(name):
     """What the program printed of a boot of this case, as PRINTED has it."""
-    if len(sys.argv) < 4:
+    if ALL or len(sys.argv) < 4:
         return '(not printed)'
     text = open(sys.argv[3]).read()
     at = text.find('== case %s\n' % name)
@@ -197,20 +200,16 @@ def kernels():
                 yield rest, source
 
 
-count = 0
-part('case kernels that call no primitive, as programs', 'sectors 64')
-system(RULE)
-for rest, source in kernels():
-    try:
-        text = as_program(rest, source)
-        if 1024 * pages_of(text) > 65536:
-            continue
-        journal(RULE, [text], PARAMS, 1)
-    except (TooLong, RecursionError, AssertionError, KeyError, TypeError):
-        continue
-    count += 1
-    journals(RULE, text)
-print(count, 'kernels as programs', file=sys.stderr)
+def as_programs():
+    """Those that end, and whose image isn't too large."""
+    for rest, source in kernels():
+        try:
+            text = as_program(rest, source)
+            if 1024 * pages_of(text) <= 65536:
+                journal(RULE, [text], PARAMS, 1)
+                yield text
+        except (TooLong, RecursionError, AssertionError, KeyError, TypeError):
+            pass
 
 
 # ---- random programs
@@ -278,19 +277,30 @@ class Maker:
         return '\n'.join(out) + '\n' + main.replace('p = q; ', 'q = &first; p = q; ' if self.r.randrange(8) else 'p = null; ', 1)
 
 
-made, seed = 0, 0
-part('case random programs', 'sectors 64')
-system(RULE)
-while made < 200:
-    seed += 1
-    text = Maker(seed).text()
-    if '&first' in text.split('int main')[0]:
-        continue
-    rows = journal(RULE, [text], PARAMS, 1, 400)
-    if rows[-1] == 'stopped' or len(rows) < 5:
-        continue
-    made += 1
-    journals(RULE, text)
+def random_programs():
+    """Those that ask at least once, and end."""
+    seed = 0
+    while True:
+        seed += 1
+        text = Maker(seed).text()
+        rows = journal(RULE, [text], PARAMS, 1, 400)
+        if rows[-1] != 'stopped' and len(rows) >= 5:
+            yield text
+
+
+def group(name, texts):
+    part('case ' + name, 'sectors 64')
+    system(RULE)
+    for text in texts:
+        journals(RULE, text)
+
+
+def written(cases_to, told_to, note):
+    with open(cases_to, 'w') as f:
+        f.write(note + '\n'.join(cases) + '\n')
+    with open(told_to, 'w') as f:
+        f.write('\n'.join(told) + '\n')
+
 
 NOTE = '''User programs in C0: worked rows, kernels as programs, and random programs. Written by bench/models/gen_programs.py.
 
@@ -298,7 +308,14 @@ Journals are worked out by the meaning of the programs alone. At which turns the
 these are the program's own, checked by that script.
 
 '''
-with open(sys.argv[1], 'w') as f:
-    f.write(NOTE + '\n'.join(cases) + '\n')
-with open(sys.argv[2], 'w') as f:
-    f.write('\n'.join(told) + '\n')
+if ALL:
+    texts = list(as_programs()) + list(itertools.islice(random_programs(), 200))
+    print(len(texts), 'programs', file=sys.stderr)
+    for n in range(0, len(texts), 20):
+        cases, told = [], []
+        group('programs from %d' % n, texts[n:n + 20])
+        written('%s/%d.cases' % (sys.argv[2], n), '%s/%d.stdout' % (sys.argv[2], n), NOTE)
+else:
+    group('kernels that call no primitive, as programs', list(as_programs())[::12])
+    group('random programs', itertools.islice(random_programs(), 10))
+    written(sys.argv[1], sys.argv[2], NOTE)

@@ -72,28 +72,61 @@ class ProgramUser:
             return FAULTS_OF_PROGRAMS[str(fault)]
 
 
-def journal(kernel, programs, par, user, turns=100000):
-    """The rows of a trace of a user but those that count steps, up to the end of the run."""
-    q, frames, heap, stack = [int(line.split()[1]) for line in par.split('\n')[:4]]
-    users = [ProgramUser(p) for p in programs]
-    k = Journaling(Parser(kernel), heap, stack, users, q, [])
-    out, current, call = ['start %d pages %d' % (user, users[user - 1].pages())], 0, (0, 0, 0)
-    for _ in range(turns):
+class System:
+    """The run of a kernel over programs: a row for each dispatch, without its turn; each user's journal without steps; how it ended; the kernel."""
+    def __init__(self, kernel, programs, par, dispatches=100000):
+        q, frames, heap, stack = [int(line.split()[1]) for line in par.split('\n')[:4]]
+        self.users = [ProgramUser(p) for p in programs]
+        self.unit = Parser(kernel)
+        self.kernel = Journaling(self.unit, heap, stack, self.users, q, [])
+        self.rows, self.end = [], 'stopped'
+        self.journals = {u + 1: ['start %d pages %d' % (u + 1, f.pages())] for u, f in enumerate(self.users)}
+        call = (0, 0, 0)
+        while call and dispatches:
+            dispatches -= 1
+            call = self.turn(*call)
+
+    def answer(self, *call):
+        """Who is next, or the name of the kernel's fault."""
+        k = self.kernel
         k.frames, k.used, k.notes = [], 0, {}
         try:
-            current = k.call('dispatch', [signed(x) for x in call])
+            n = k.call('dispatch', [signed(x) for x in call])
+            return n if 0 <= n <= len(self.users) else 'BadUser'
         except Fault as fault:
-            return out + k.notes.get(user, []) + ['fault ' + FAULTS[str(fault)][0]]
-        out += k.notes.get(user, [])
-        if not 0 <= current <= len(users):
-            return out + ['fault BadUser']
-        if current == 0:
-            return out + ['halted']
-        trap = users[current - 1].step()
-        if current == user:
-            out.append('trap %d %08x' % trap)
-        call = (trap[0], trap[1], current)
-    return out + ['stopped']
+            return FAULTS[str(fault)][0]
+        finally:
+            for u, notes in k.notes.items():
+                self.journals[u] += notes
+
+    def turn(self, cause, data, user):
+        n = self.answer(cause, data, user)
+        row = 'cause %d data %08x user %d ' % (cause, data, user)
+        self.rows.append(row + ('fault %s' % n if isinstance(n, str) else 'next %d' % n))
+        if isinstance(n, str) or n == 0:
+            self.end = 'fault ' + n if n else 'halted'
+            return None
+        trap = self.users[n - 1].step()
+        self.journals[n].append('trap %d %08x' % trap)
+        return trap[0], trap[1], n
+
+
+def journal(kernel, programs, par, user, dispatches=100000):
+    """The rows of a trace of a user but those that count steps, up to the end of the run."""
+    system = System(kernel, programs, par, dispatches)
+    return system.journals[user] + [system.end]
+
+
+def told(text):
+    """Of what a boot prints all that no code has a part in: its dispatches without their turns, its end, globals and console."""
+    rows = [re.sub(r'^turn \d+ ', '', row) for row in text.rstrip('\n').split('\n')]
+    return [row for row in rows if row.split(' ')[0] not in ('user', 'reg', 'hi', 'lo', 'mem')]
+
+
+def tells(kernel, programs, par):
+    """The same by the meaning."""
+    system = System(kernel, programs, par)
+    return system.rows + [system.end] + global_rows(system.kernel, system.unit) + ['con %08x' % w for w in system.kernel.log]
 
 
 if __name__ == '__main__':

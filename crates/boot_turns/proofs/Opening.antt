@@ -8,12 +8,15 @@ use Rattle.mips_table.specs.Machine.{State, MODE, run, step}
 use Rattle.mips_table.specs.Turns.{begins, rests, in_user}
 use Rattle.mips_machine.specs.Machine.{Held, state_of}
 use Rattle.mips_machine.specs.Steps.{outside_of}
-use Rattle.boot_turns.specs.Completes.{seen, note, shown, noted, is_at_rest, Open, Progress, Skips, StepRan, StepFails, DiskLeaves, CompleteErr}
+use Rattle.boot_turns.specs.Completes.{seen, note, shown, noted, is_at_rest, Open, Progress, Skips, StepRan, StepFails, DiskLeaves, CompleteErr, Passes}
 use Rattle.boot_turns.specs.declared.completion.Begun.{Begun}
 use Rattle.boot_turns.specs.declared.completion.Stepped.{Stepped}
 use Rattle.boot_turns.specs.declared.answers.RunFault.{RunFault}
 use Rattle.boot_turns.specs.declared.answers.RunFault.TheVariants.{StepLimit, Disk, Sink}
 use Rattle.boot_turns.proofs.Events.{step_torn, told_as_some}
+use Rattle.boot_turns.proofs.Stretches.{later}
+use Rattle.boot_turns.proofs.Quietly.{skips_stretch}
+use Rattle.mips_machine.specs.Quiet.{Stretch}
 
 same_state : (a b : State) → Some a ≡ Some b → a ≡ b
 same_state a b h = cc
@@ -125,4 +128,17 @@ skips_more x y s t n m u told retold old new same at more skips is ran bg mode o
             subst (λ i. (run x s i).off ≡ None) next on_there,
           ))
           (cases_lt j n),
+    )
+
+-- and so many more are passed by a stretch behind them
+pub skips_passed : (x : Outside) (s : State) (t n m u : ℕ) (told : Option (List (List ℕ))) (mid new : Held) (count : ℕ) → outside_of mid.rows count ≡ x → u ≡ t + n → Skips x s t n → seen told mid ≡ Some (run x s u) →
+    slice_index mid.hardware.special MODE ≡ 1 → Passes mid new m → (seen told new ≡ Some (run x s (u + m))) × Skips x s t (n + m)
+skips_passed x s t n m u told mid new count same at skips is mode passes =
+    let w = told_as_some told mid (run x s u) is in
+    let here : Stretch x (state_of mid w.0) m (state_of new w.0) = subst (λ (z : Outside). Stretch z (state_of mid w.0) m (state_of new w.0)) same (passes.stretch count w.0) in
+    let there : Stretch x (run x s u) m (state_of new w.0) = subst (λ (z : State). Stretch x z m (state_of new w.0)) w.2 here in
+    let next : state_of new w.0 ≡ run x s (u + m) = there.state ∙ later x s u m in
+    let mode_there : slice_index (run x s u).special MODE ≡ 1 = ap (λ (z : State). slice_index z.special MODE) (sym w.2) ∙ mode in (
+      ap (λ (o : Option (List (List ℕ))). seen o new) w.1 ∙ ap (λ (z : State). Some z) next,
+      skips_stretch x s t n m (state_of new w.0) skips (subst (λ i. Stretch x (run x s i) m (state_of new w.0)) at there) (subst (λ i. slice_index (run x s i).special MODE ≡ 1) at mode_there),
     )

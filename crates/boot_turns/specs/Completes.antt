@@ -7,6 +7,7 @@ use Rattle.mips_table.specs.Machine.{State, MODE, ECA, EDATA, step, run}
 use Rattle.mips_table.specs.Turns.{begins, rests}
 use Rattle.mips_machine.specs.Machine.{Held, state_of}
 use Rattle.mips_machine.specs.Steps.{outside_of, before_count}
+use Rattle.mips_machine.specs.Quiet.{Stretch}
 use Rattle.mips_machine.specs.declared.event.Event.{Event}
 use Rattle.mips_machine.specs.declared.event.Event.TheVariants.{Taken, Off}
 use Rattle.cvm_model.specs.Cvm.{Begin, Steps, Traps, Interrupts}
@@ -152,6 +153,11 @@ CompleteErr x traced new before after s t Disk = (u : ℕ) × (t ≤ u) × (afte
     × DiskLeaves x s u traced new
 CompleteErr x traced new before after s t Sink = (u : ℕ) × (t ≤ u) × (after + (u + 1) ≡ before + t) × ((b : Option Begun) × Progress x s t u b)
     × (new ≡ Some (run x s (suc u)))
+
+-- over any disk the machine made so many steps in which nothing comes from outside, and only the processor, the memory and the time changed
+pub record Passes (old new : Held) (n : ℕ) : Type 0 where
+  pub stretch : (count : ℕ) (sectors : List (List ℕ)) → Stretch (outside_of old.rows count) (state_of old sectors) n (state_of new sectors)
+  pub rest : new ≡ record old { hardware = record old.hardware { cpu = new.hardware.cpu; memory = new.hardware.memory }; time = old.time + n }
 
 -- n turns from step t on were one step each, after which the machine was on and in user mode
 abbrev pub Skips : Outside → State → (t n : ℕ) → Type 0

@@ -149,8 +149,9 @@ module _ (w : World) (f : RoutineLaws w) (p : Places) (b : ℕ) (si : Sited p w)
     ready : R c d
 
   pub both_from : (u : Pages) (x y : ℕ) (c : Contents) (d : Behind) → Held p u g c d → c.regs 26 ≡ x → c.regs 27 ≡ y → x < 1024 * p.layout.pages → y < 1024 * p.layout.pages → u.live (x / 1024) ≡ true → u.live (y / 1024) ≡ true
-      → Passes (view p c.memory d.sectors) (x / 1024) false → From w (both_code page.code) (2 + (n + (4 + n))) c d (BothIn p u g x y c)
-  both_from u x y c d h from to lx ly ax ay pass =
+      → Passes (view p c.memory d.sectors) (x / 1024) false
+      → x / 1024 ≡ X → y / 1024 ≡ Y → R c d → From w (both_code page.code) (2 + (n + (4 + n))) c d (BothIn p u g x y c)
+  both_from u x y c d h from to lx ly ax ay pass ex ey r =
       let pages = si.pages in
       from_then w f (Srl 16 27 10 ∷ Addiu 15 0 1 ∷ []) _ 2 (n + (4 + n)) c d (Asks1 u y c d) (BothIn p u g x y c)
       (from_straight w f (Srl 16 27 10 ∷ Addiu 15 0 1 ∷ []) (Gives (y / 1024) ∷ Gives 1 ∷ []) c d (Asks1 u y c d) refl h.idle

@@ -99,9 +99,9 @@ abbrev pub Fresh : Places → ℕ → ℕ → Contents → Type 0
 Fresh p q n c = (x : ℕ) → q ≤ x → x < q + n → Names (c.memory (p.tables + x)) p.layout.zeros
 
 -- page y names the frame that page x names, both by valid entries
-pub record SharesFrame (p : Places) (x y : ℕ) (c : Contents) : Type 0 where
-  pub source : Names (c.memory (p.tables + x)) (c.memory (p.tables + x) / 4096)
-  pub target : Names (c.memory (p.tables + y)) (c.memory (p.tables + x) / 4096)
+pub record SharesFrame (p : Places) (x y : ℕ) (m : ℕ → ℕ) : Type 0 where
+  pub source : Names (m (p.tables + x)) (m (p.tables + x) / 4096)
+  pub target : Names (m (p.tables + y)) (m (p.tables + x) / 4096)
 
 -- page x names a user frame that four pages other than y name
 pub record FourOthers (p : Places) (x y : ℕ) (m : ℕ → ℕ) : Type 0 where

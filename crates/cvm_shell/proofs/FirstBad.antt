@@ -16,7 +16,7 @@ use Rattle.c0_meaning.specs.Fault.{Fault, IsLeast, LeastIsThere}
 use Rattle.c0_types.specs.Source.{source_faults_as}
 use Rattle.c0_types.specs.Answer.{type_fault_view, AnswersLeastAs, FaultAnswersAs}
 use Rattle.c0_types.specs.declared.fault.TypeFault.{TypeFault}
-use Rattle.c0_types.specs.declared.fault.TypeFault.TheVariants.{UnknownName, NameTwice, WrongType, WrongCount, NotAPlace, LocalAddress, StructHoldsItself, TooDeep, TooManyNodes, UnitTooLarge, GlobalsTooLarge, NoDispatch, NoMain, AsmNotAllowed, TooManyParameters, TypeTooLarge, EmptyArray, Memory}
+use Rattle.c0_types.specs.declared.fault.TypeFault.TheVariants.{UnknownName, NameTwice, WrongType, WrongCount, NotAPlace, LocalAddress, StructHoldsItself, TooDeep, TooManyNodes, UnitTooLarge, GlobalsTooLarge, NoDispatch, AsmNotAllowed, TooManyParameters, TypeTooLarge, EmptyArray, NoMain, Memory}
 
 -- Tokens that cannot be.
 
@@ -108,7 +108,7 @@ seen_as number span line =
     if number == 32 then AsmNotAllowed span line else
     if number == 33 then TooManyParameters span else
     if number == 34 then TypeTooLarge span else
-    if number == 36 then NoMain span else EmptyArray span
+    if number == 35 then EmptyArray span else NoMain span
 
 abbrev back : Option Fault → TypeFault
 back None = Memory
@@ -127,11 +127,11 @@ back_again (TooManyNodes s) = refl
 back_again (UnitTooLarge s) = refl
 back_again (GlobalsTooLarge s) = refl
 back_again (NoDispatch s) = refl
-back_again (NoMain s) = refl
 back_again (AsmNotAllowed s line) = refl
 back_again (TooManyParameters s) = refl
 back_again (TypeTooLarge s) = refl
 back_again (EmptyArray s) = refl
+back_again (NoMain s) = refl
 back_again Memory = refl
 
 is_seen : (f : TypeFault) → f ≢ Memory → type_fault_view f ≢ None

@@ -39,7 +39,6 @@ first_or_memory source (Typing (typing.TooManyNodes s)) is = inr (record { fault
 first_or_memory source (Typing (typing.UnitTooLarge s)) is = inr (record { fault = is; read = λ e. cc; typed = λ e. cc })
 first_or_memory source (Typing (typing.GlobalsTooLarge s)) is = inr (record { fault = is; read = λ e. cc; typed = λ e. cc })
 first_or_memory source (Typing (typing.NoDispatch s)) is = inr (record { fault = is; read = λ e. cc; typed = λ e. cc })
-first_or_memory source (Typing (typing.NoMain s)) is = inr (record { fault = is; read = λ e. cc; typed = λ e. cc })
 first_or_memory source (Typing (typing.AsmNotAllowed s line)) is = inr (record { fault = is; read = λ e. cc; typed = λ e. cc })
 first_or_memory source (Typing (typing.TooManyParameters s)) is = inr (record { fault = is; read = λ e. cc; typed = λ e. cc })
 first_or_memory source (Typing (typing.TypeTooLarge s)) is = inr (record { fault = is; read = λ e. cc; typed = λ e. cc })

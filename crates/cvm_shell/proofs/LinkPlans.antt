@@ -21,6 +21,7 @@ use Rattle.system_files.specs.Params.{params_of}
 use Rattle.system_files.specs.declared.fault.FileFault.{FileFault}
 use Rattle.system_files.specs.declared.fault.FileFault.TheVariants as system
 use Rattle.kernel_linker.specs.Answers.{Comes}
+use Rattle.kernel_linker.specs.Open.{open_answer}
 use Rattle.kernel_linker.specs.Link.{fitting, link_answer}
 use Rattle.kernel_linker.specs.Accept.{accept_answer}
 use Rattle.kernel_linker.specs.Laws.{LinkedAreAccepted}
@@ -53,7 +54,7 @@ unfit_answers layer o p us front f e = rw e refl
 
 -- what fits and has no unit is answered by the source's fault
 pub no_unit : (layer : Layers) (o : Object) (p : Params) (us : List (List ℕ)) (f : SourceFault) → fitting p us ≡ Ok tt → link_answer layer o p us (Err f) ≡ Err (link_source_fault f)
-unfolding link_answer
+unfolding link_answer open_answer
 no_unit layer o p us f e = rw e refl
 
 -- the answer is one

@@ -60,26 +60,42 @@ abbrev AreBelow : List ℕ → Type 0
 AreBelow [] = Unit {0}
 AreBelow (c ∷ rest) = (c < 116) × AreBelow rest
 
-row_of : (l : Last) (a : List ℕ) → l.z < 116 → AreBelow a → Fine (after l (a ++ 10 ∷ []))
-row_of l [] low h = record { other = λ x y z. absurd (omega (arith, low, y)) }
-row_of l (c ∷ a) low h = row_of (next_letter l c) a h.0 h.1
+last_low : (l : Last) (a : List ℕ) → l.z < 116 → AreBelow a → (after l a).z < 116
+last_low l [] low h = low
+last_low l (c ∷ a) low h = last_low (next_letter l c) a h.0 h.1
 
--- a row that ends with a blank and a number
-number_row : (a : List ℕ) → AreBelow a → Makes (32 ∷ a ++ 10 ∷ [])
-number_row a h l = row_of (next_letter l 32) a (omega arith) h
+-- a text whose last letter is below `t`, whatever stands before it
+abbrev Low : List ℕ → Type 0
+Low a = (l : Last) → (after l a).z < 116
+
+low_behind : (a b : List ℕ) → Low b → Low (a ++ b)
+low_behind a b h l = subst (λ (m : Last). m.z < 116) (sym (after_append l a b)) (h (after l a))
+
+low_number : (a : List ℕ) → AreBelow a → Low (32 ∷ a)
+low_number a h l = last_low (next_letter l 32) a (let low : 32 < 116 = omega arith in low) h
+
+-- it ends a row as no other does
+new_row : (l : Last) → l.z < 116 → Fine (after l (10 ∷ []))
+new_row l low = record { other = λ x y z. absurd (omega (arith, low, y)) }
+
+makes_row : (a : List ℕ) → Low a → Makes (a ++ 10 ∷ [])
+makes_row a h l = subst Fine (sym (after_append l a (10 ∷ []))) (new_row (after l a) (h l))
 
 either_below : (b : Bool) (d : ℕ) → d < 16 → (if b then 48 + d else 87 + d) < 116
 either_below true d low = omega arith
 either_below false d low = omega arith
 
-mutual
-  digits_below : (k n : ℕ) (acc : List ℕ) → AreBelow acc → AreBelow (digits_onto k 10 false n acc)
-  digits_below zero n acc h = h
-  digits_below (suc k) n acc h = digits_either (n / 10 == 0) k (n / 10) (digit_glyph false (n % 10)) acc (let low : n % 10 < 16 = omega arith in either_below (nat_lt (n % 10) 10) (n % 10) low) h
+both_below : (b : Bool) (x y : List ℕ) → AreBelow x → AreBelow y → AreBelow (if b then x else y)
+both_below true x y h k = h
+both_below false x y h k = k
 
-  digits_either : (b : Bool) (k m d : ℕ) (acc : List ℕ) → d < 116 → AreBelow acc → AreBelow (if b then d ∷ acc else digits_onto k 10 false m (d ∷ acc))
-  digits_either true k m d acc low h = (low, h)
-  digits_either false k m d acc low h = digits_below k m (d ∷ acc) (low, h)
+digits_below : (k n : ℕ) (acc : List ℕ) → AreBelow acc → AreBelow (digits_onto k 10 false n acc)
+digits_below zero n acc h = h
+digits_below (suc k) n acc h =
+    let low : n % 10 < 16 = omega arith in
+    let here : digit_glyph false (n % 10) < 116 = either_below (nat_lt (n % 10) 10) (n % 10) low in
+    both_below (n / 10 == 0) (digit_glyph false (n % 10) ∷ acc) (digits_onto k 10 false (n / 10) (digit_glyph false (n % 10) ∷ acc)) (here, h)
+    (digits_below k (n / 10) (digit_glyph false (n % 10) ∷ acc) (here, h))
 
 decimal_below : (n : ℕ) → AreBelow (decimal n)
 unfolding digits
@@ -96,10 +112,10 @@ word_below : (word : ℕ) → AreBelow (hex8 word)
 word_below word = (hex_below word 7, (hex_below word 6, (hex_below word 5, (hex_below word 4, (hex_below word 3, (hex_below word 2, (hex_below word 1, (hex_below word 0, tt))))))))
 
 hex_row : (a : List ℕ) (word : ℕ) → Makes (text.hex_row a word)
-hex_row a word = makes_behind a (32 ∷ hex8 word ++ 10 ∷ []) (number_row (hex8 word) (word_below word))
+hex_row a word = makes_row (a ++ 32 ∷ hex8 word) (low_behind a (32 ∷ hex8 word) (low_number (hex8 word) (word_below word)))
 
 decimal_row : (a : List ℕ) (n : ℕ) → Makes (text.decimal_row a n)
-decimal_row a n = makes_behind a (32 ∷ decimal n ++ 10 ∷ []) (number_row (decimal n) (decimal_below n))
+decimal_row a n = makes_row (a ++ 32 ∷ decimal n) (low_behind a (32 ∷ decimal n) (low_number (decimal n) (decimal_below n)))
 
 -- A row that may be missing
 keeps_if : (b : Bool) (a : List ℕ) → Makes a → Keeps (if b then [] else a)
@@ -108,11 +124,11 @@ keeps_if false a h l f = h l
 
 -- THE REPORT
 global_row : (name : List ℕ) (v : Value) → Keeps (text.global_row name v)
-global_row name (int n) = keeps_made _ (makes_behind (codes "global ") _ (makes_behind name _ (number_row (signed_decimal n) (signed_below n))))
-global_row name (bool true) = keeps_made _ (makes_behind (codes "global ") _ (makes_behind name _ (λ l. record { other = λ x y z. absurd cc })))
-global_row name (bool false) = keeps_made _ (makes_behind (codes "global ") _ (makes_behind name _ (λ l. record { other = λ x y z. absurd cc })))
-global_row name null = keeps_made _ (makes_behind (codes "global ") _ (makes_behind name _ (λ l. record { other = λ x y z. absurd cc })))
-global_row name (at p) = keeps_made _ (makes_behind (codes "global ") _ (makes_behind name _ (λ l. record { other = λ x y z. absurd cc })))
+global_row name (int n) = keeps_made _ (makes_row (codes "global " ++ name ++ 32 ∷ signed_decimal n) (low_behind (codes "global " ++ name) (32 ∷ signed_decimal n) (low_number (signed_decimal n) (signed_below n))))
+global_row name (bool true) = keeps_made _ (makes_behind (codes "global " ++ name) (codes " true\n") (makes_row (codes " true") (λ l. let low : 101 < 116 = omega arith in low)))
+global_row name (bool false) = keeps_made _ (makes_behind (codes "global " ++ name) (codes " false\n") (makes_row (codes " false") (λ l. let low : 101 < 116 = omega arith in low)))
+global_row name null = keeps_made _ (makes_behind (codes "global " ++ name) (codes " null\n") (makes_row (codes " null") (λ l. let low : 108 < 116 = omega arith in low)))
+global_row name (at p) = keeps_made _ (makes_behind (codes "global " ++ name) (codes " set\n") (λ l. record { other = λ x y z. let e : 101 ≡ 117 = x in absurd (omega arith) }))
 global_row name (group vs) = λ l f. f
 
 globals : (names : List (List ℕ)) (vs : Values) → Keeps (text.globals_text names vs)
@@ -134,21 +150,38 @@ memory k (w ∷ rest) = keeps_both _ (text.memory_text (k + 1) rest) (keeps_if (
 
 user : (u : ℕ) (f : Flat) → Makes (text.user_text u f)
 user u f =
-    makes_before (text.hex_row (codes "user " ++ decimal u ++ codes " pages " ++ decimal (pages_of f) ++ codes " pc") f.cpu.pc) _ (hex_row _ f.cpu.pc)
-    (keeps_both (text.regs_text 1 (drop 1 f.cpu.regs)) _ (registers 1 (drop 1 f.cpu.regs))
-    (keeps_both (text.nonzero_row (codes "hi") f.cpu.hi) _ (keeps_if (f.cpu.hi == 0) _ (hex_row (codes "hi") f.cpu.hi))
-    (keeps_both (text.nonzero_row (codes "lo") f.cpu.lo) (text.memory_text 0 f.words) (keeps_if (f.cpu.lo == 0) _ (hex_row (codes "lo") f.cpu.lo)) (memory 0 f.words))))
+    let head = text.hex_row (codes "user " ++ decimal u ++ codes " pages " ++ decimal (pages_of f) ++ codes " pc") f.cpu.pc in
+    let regs = text.regs_text 1 (drop 1 f.cpu.regs) in
+    let hi = text.nonzero_row (codes "hi") f.cpu.hi in
+    let lo = text.nonzero_row (codes "lo") f.cpu.lo in
+    makes_before (head ++ regs ++ hi ++ lo) (text.memory_text 0 f.words)
+    (makes_before (head ++ regs ++ hi) lo
+    (makes_before (head ++ regs) hi
+    (makes_before head regs (hex_row _ f.cpu.pc) (registers 1 (drop 1 f.cpu.regs)))
+    (keeps_if (f.cpu.hi == 0) (text.hex_row (codes "hi") f.cpu.hi) (hex_row (codes "hi") f.cpu.hi)))
+    (keeps_if (f.cpu.lo == 0) (text.hex_row (codes "lo") f.cpu.lo) (hex_row (codes "lo") f.cpu.lo)))
+    (memory 0 f.words)
 
 users : (u : ℕ) (fs : List Flat) → Keeps (text.users_text u fs)
 users u [] = λ l f. f
 users u (x ∷ rest) = keeps_both (text.user_text u x) (text.users_text (u + 1) rest) (keeps_made _ (user u x)) (users (u + 1) rest)
 
 report : (names : List (List ℕ)) (c : Core) → Keeps (text.report_text names c)
-report names c = keeps_both (text.globals_text names (parts_of c.c0.global_values)) _ (globals names (parts_of c.c0.global_values)) (keeps_both (text.log_text c.console.log) (text.users_text 1 c.users) (console c.console.log) (users 1 c.users))
+report names c =
+    let globals_rows = text.globals_text names (parts_of c.c0.global_values) in
+    keeps_both (globals_rows ++ text.log_text c.console.log) (text.users_text 1 c.users)
+    (keeps_both globals_rows (text.log_text c.console.log) (globals names (parts_of c.c0.global_values)) (console c.console.log)) (users 1 c.users)
+
+-- the end of a run that didn't fault
+stopped : Keeps (codes "stopped\n")
+stopped = keeps_made _ (makes_row (codes "stopped") (λ l. let low : 100 < 116 = omega arith in low))
+
+halted : Keeps (codes "halted\n")
+halted = keeps_made _ (makes_row (codes "halted") (λ l. let low : 100 < 116 = omega arith in low))
 
 closing : (y : System) (c : Cvm) (s : Status) → Keeps (text.closing_text y c s)
-closing y c Running = keeps_both (codes "stopped\n") _ (λ l f. record { other = λ x y z. absurd cc }) (report y.boot.meaning.names c.core)
-closing y c Halted = keeps_both (codes "halted\n") _ (λ l f. record { other = λ x y z. absurd cc }) (report y.boot.meaning.names c.core)
+closing y c Running = keeps_both (codes "stopped\n") _ stopped (report y.boot.meaning.names c.core)
+closing y c Halted = keeps_both (codes "halted\n") _ halted (report y.boot.meaning.names c.core)
 closing y c (Faulted f) = λ l f. f
 
 -- THE ROWS OF TURNS, none of which names the fault
@@ -156,19 +189,23 @@ abbrev IsOut : Next → Type 0
 IsOut (Fault StackOut) = Unit {0}
 IsOut _ = ⊥
 
-next_row : (n : Next) → (IsOut n → ⊥) → Makes (32 ∷ text.next_text n ++ 10 ∷ [])
-next_row (User u) h l = row_of (after l (32 ∷ codes "next ")) (decimal u) (omega arith) (decimal_below u)
-next_row Halt h l = record { other = λ x y z. absurd cc }
-next_row (Fault NullUse) h l = record { other = λ x y z. absurd cc }
-next_row (Fault Bounds) h l = record { other = λ x y z. absurd cc }
-next_row (Fault DivZero) h l = record { other = λ x y z. absurd cc }
-next_row (Fault StackOut) h l = absurd (h tt)
-next_row (Fault BadUser) h l = record { other = λ x y z. absurd cc }
+-- a fault's name ends with a letter below `t`, but for one
+name_low : (f : KernelFault) → (IsOut (Fault f) → ⊥) → Low (codes "fault " ++ text.fault_name f)
+name_low NullUse h l = let low : 101 < 116 = omega arith in low
+name_low Bounds h l = let low : 115 < 116 = omega arith in low
+name_low DivZero h l = let low : 111 < 116 = omega arith in low
+name_low StackOut h l = absurd (h tt)
+name_low BadUser h l = let low : 114 < 116 = omega arith in low
+
+next_low : (n : Next) → (IsOut n → ⊥) → Low (32 ∷ text.next_text n)
+next_low (User u) h l = last_low (after l (32 ∷ codes "next ")) (decimal u) (let low : 32 < 116 = omega arith in low) (decimal_below u)
+next_low Halt h l = let low : 48 < 116 = omega arith in low
+next_low (Fault f) h l = name_low f h (next_letter l 32)
 
 row : (r : Row) → (IsOut r.next → ⊥) → Makes (text.row_text r)
 row r h =
-    makes_behind (codes "turn ") _ (makes_behind (decimal r.turn) _ (makes_behind (codes " cause ") _ (makes_behind (decimal r.cause) _
-    (makes_behind (codes " data ") _ (makes_behind (hex8 r.edata) _ (makes_behind (codes " user ") _ (makes_behind (decimal r.user) _ (next_row r.next h))))))))
+    let front = codes "turn " ++ decimal r.turn ++ codes " cause " ++ decimal r.cause ++ codes " data " ++ hex8 r.edata ++ codes " user " ++ decimal r.user in
+    makes_row (front ++ 32 ∷ text.next_text r.next) (low_behind front (32 ∷ text.next_text r.next) (next_low r.next h))
 
 abbrev AllOther : List Row → Type 0
 AllOther [] = Unit {0}
@@ -238,23 +275,22 @@ entry (Set register value) = keeps_made _ (hex_row (codes "set " ++ decimal regi
 entry (Size pages) = keeps_made _ (decimal_row (codes "size") pages)
 entry (Put address value) = keeps_made _ (hex_row (codes "put " ++ hex8 address) value)
 
+with_row : (n : ℕ) (e : JournalEntry) (more : List ℕ) → Keeps more → Keeps (text.steps_row n ++ text.entry_row e ++ more)
+with_row n e more h = keeps_both (text.steps_row n ++ text.entry_row e) more (keeps_both (text.steps_row n) (text.entry_row e) (steps n) (entry e)) h
+
 journal : (ends : Bool) (n : ℕ) (j : List JournalEntry) → Keeps (text.journal_rows_after ends n j)
 journal true n [] = steps n
 journal false n [] = λ l f. f
 journal ends n (Stepped ∷ rest) = journal ends (n + 1) rest
-journal ends n (Trapped cause edata ∷ rest) = keeps_both (text.steps_row n) _ (steps n) (keeps_both (text.entry_row (Trapped cause edata)) _ (entry (Trapped cause edata)) (journal ends 0 rest))
-journal ends n (Set register value ∷ rest) = keeps_both (text.steps_row n) _ (steps n) (keeps_both (text.entry_row (Set register value)) _ (entry (Set register value)) (journal ends 0 rest))
-journal ends n (Size pages ∷ rest) = keeps_both (text.steps_row n) _ (steps n) (keeps_both (text.entry_row (Size pages)) _ (entry (Size pages)) (journal ends 0 rest))
-journal ends n (Put address value ∷ rest) = keeps_both (text.steps_row n) _ (steps n) (keeps_both (text.entry_row (Put address value)) _ (entry (Put address value)) (journal ends 0 rest))
+journal ends n (Trapped cause edata ∷ rest) = with_row n (Trapped cause edata) _ (journal ends 0 rest)
+journal ends n (Set register value ∷ rest) = with_row n (Set register value) _ (journal ends 0 rest)
+journal ends n (Size pages ∷ rest) = with_row n (Size pages) _ (journal ends 0 rest)
+journal ends n (Put address value ∷ rest) = with_row n (Put address value) _ (journal ends 0 rest)
 
 trace_end : (u : ℕ) (f : Flat) (s : Status) → s ≢ Faulted StackOut → Keeps (text.trace_end u f s)
-trace_end u f Running h = keeps_both (codes "stopped\n") (text.user_text u f) (λ l k. record { other = λ x y z. absurd cc }) (keeps_made _ (user u f))
-trace_end u f Halted h = keeps_both (codes "halted\n") (text.user_text u f) (λ l k. record { other = λ x y z. absurd cc }) (keeps_made _ (user u f))
-trace_end u f (Faulted NullUse) h = λ l k. record { other = λ x y z. absurd cc }
-trace_end u f (Faulted Bounds) h = λ l k. record { other = λ x y z. absurd cc }
-trace_end u f (Faulted DivZero) h = λ l k. record { other = λ x y z. absurd cc }
-trace_end u f (Faulted StackOut) h = λ l k. absurd (h refl)
-trace_end u f (Faulted BadUser) h = λ l k. record { other = λ x y z. absurd cc }
+trace_end u f Running h = keeps_both (codes "stopped\n") (text.user_text u f) stopped (keeps_made _ (user u f))
+trace_end u f Halted h = keeps_both (codes "halted\n") (text.user_text u f) halted (keeps_made _ (user u f))
+trace_end u f (Faulted fault) h = keeps_made _ (makes_row (codes "fault " ++ text.fault_name fault) (name_low fault (λ out. h (status_out (Fault fault) out))))
 
 -- WHAT IS PRINTED: the rows so far, the whole text of a boot, the journal so far, and the whole text of a trace
 pub IsClean : List ℕ → Type 0
@@ -275,8 +311,9 @@ journal_clean u first j = keeps_both (text.start_row u first) (text.open_journal
 pub trace_clean : (u : ℕ) (first : Flat) (j : List JournalEntry) (last : Flat) (s : Status) → s ≢ Faulted StackOut → IsClean (text.trace_text u first j last s)
 unfolding IsClean
 trace_clean u first j last s other =
-    keeps_both (text.start_row u first) _ (keeps_made _ (decimal_row (codes "start " ++ decimal u ++ codes " pages") (pages_of first)))
-    (keeps_both (text.journal_rows j) (text.trace_end u last s) (journal true 0 j) (trace_end u last s other))
+    keeps_both (text.start_row u first ++ text.journal_rows j) (text.trace_end u last s)
+    (keeps_both (text.start_row u first) (text.journal_rows j) (keeps_made _ (decimal_row (codes "start " ++ decimal u ++ codes " pages") (pages_of first))) (journal true 0 j))
+    (trace_end u last s other)
 
 -- a clean text doesn't end with the row
 at_end : (l : Last) → Fine (after l (codes "fault StackOut\n")) → ⊥
@@ -286,4 +323,4 @@ pub clean_end : (front : List ℕ) → IsClean (front ++ codes "fault StackOut\n
 unfolding IsClean
 clean_end front clean =
     let first : Last = record { x = 0; y = 0; z = 0 } in
-    at_end (after first front) (subst Fine (after_append first front (codes "fault StackOut\n")) (clean first (record { other = λ x y z. absurd cc })))
+    at_end (after first front) (subst Fine (after_append first front (codes "fault StackOut\n")) (clean first (record { other = λ x y z. let e : 0 ≡ 10 = z in absurd (omega arith) })))

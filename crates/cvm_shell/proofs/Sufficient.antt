@@ -77,9 +77,10 @@ one_text told before text rest e h =
 other_letter : (a b : List ℕ) → a ≡ b → slice_index a 0 ≡ 110 → slice_index b 0 ≡ 121 → ⊥
 other_letter a b e n y = let same = ap (λ (text : List ℕ). slice_index text 0) e in omega arith
 
-has_room : (b : Bool) (words stack : ℕ) (rest more : List ℕ) → b ≡ nat_le words stack → (if b then codes "yes " else codes "no ") ++ more ≡ codes "yes " ++ rest → words ≤ stack
-has_room true words stack rest more e h = grind (arith, nat_tests)
-has_room false words stack rest more e h = absurd (other_letter (codes "no " ++ more) (codes "yes " ++ rest) h refl refl)
+has_room : (b : Bool) (words stack : ℕ) (rest number names end : List ℕ) → b ≡ nat_le words stack
+    → (if b then codes "yes " else codes "no ") ++ number ++ codes "\nchain" ++ names ++ end ≡ codes "yes " ++ rest → words ≤ stack
+has_room true words stack rest number names end e h = grind (arith, nat_tests)
+has_room false words stack rest number names end e h = absurd (other_letter (codes "no " ++ number ++ codes "\nchain" ++ names ++ end) (codes "yes " ++ rest) h refl refl)
 
 record Roomy (stack : ℕ) (u : CUnit) : Type 0 where
   words : ℕ
@@ -92,7 +93,7 @@ says_room stack u text rest (has_longest words functions l) e = record {
   words = words;
   functions = functions;
   longest = l;
-  room = has_room (nat_le words stack) words stack rest (decimal words ++ codes "\nchain" ++ names_text u functions ++ codes "\n") refl e;
+  room = has_room (nat_le words stack) words stack rest (decimal words) (names_text u functions) (codes "\n") refl e;
 }
 says_room stack u text rest (has_loop functions l) e = absurd (other_letter text (codes "yes " ++ rest) e refl refl)
 
@@ -106,12 +107,12 @@ told_of stack (Err f) (Err r) text e h = absurd cc
 
 told_room : OneObject → OpenedUnitsAreTheirSources → (stack : ℕ) (bytes : List ℕ) (o : Object) (told : Told) (text rest : List ℕ) → IsObject bytes (Ok o) → told ≡ Ok text → text ≡ codes "yes " ++ rest → TellsObject stack bytes told
     → (u : CUnit) × IsAnswer o.source (Ok u) × Roomy stack u
-told_room read law stack bytes o told text rest is e yes (no_object f other) = absurd cc
-told_room read law stack bytes o told text rest is e yes (has_object p front said other of h) =
+told_room read law stack bytes o told text rest is e begun (no_object f other) = absurd cc
+told_room read law stack bytes o told text rest is e begun (has_object p front said other of h) =
     let (u, opened, tells) = told_of stack (open_answer p front) told text e h in
     let same : p ≡ o = let d = read bytes (Ok p) (Ok o) other is in cc in
     let found : front ≡ Ok u = law p front u opened in
-    (u, subst (λ (x : Object). IsAnswer x.source (Ok u)) same (subst (IsAnswer p.source) found of), says_room stack u text rest tells yes)
+    (u, subst (λ (x : Object). IsAnswer x.source (Ok u)) same (subst (IsAnswer p.source) found of), says_room stack u text rest tells begun)
 
 -- the file of the words
 told_bytes : (file : Option (List ℕ)) (bytes other : List ℕ) → file ≡ Some bytes → Tells file other → other ≡ bytes
@@ -124,8 +125,8 @@ room_of read law words source stack status old new y p (long bytes t many) ends 
 room_of read law words source stack status old new y p (whole bytes r t short (told, tells, e)) ends =
     let P : Plan → Type 0 = λ q. Ends q status old new in
     let (text, said_is, print) = printed told status old new y.done (subst P e ends) in
-    let yes : text ≡ codes "yes " ++ y.rest = one_text old.sink.text y.before text (codes "yes " ++ y.rest) y.before_told (sym print ∙ y.printed) in
-    told_room read law y.check.stack y.bytes y.object told text y.rest y.object_is said_is yes (subst (λ (bs : List ℕ). TellsObject y.check.stack bs told) (told_bytes (old.shelf.file y.check.object) y.bytes bytes y.bytes_told t) tells)
+    let begun : text ≡ codes "yes " ++ y.rest = one_text old.sink.text y.before text (codes "yes " ++ y.rest) y.before_told (sym print ∙ y.printed) in
+    told_room read law y.check.stack y.bytes y.object told text y.rest y.object_is said_is begun (subst (λ (bs : List ℕ). TellsObject y.check.stack bs told) (told_bytes (old.shelf.file y.check.object) y.bytes bytes y.bytes_told t) tells)
 
 -- THE SYSTEM of an accepted image has the unit of its source
 

@@ -32,7 +32,7 @@ pub record SaysYes (words : List (List ℕ)) (source : List ℕ) (stack : ℕ) (
   pub before : List ℕ
   pub before_told : old.sink.text ≡ Some before
   pub rest : List ℕ
-  pub printed : new.sink.text ≡ Some (before ++ codes "yes " ++ rest)
+  pub printed : new.sink.text ≡ Some (before ++ (codes "yes " ++ rest))
 
 -- the system of an accepted image with this source and at least so many words of stack
 pub record HasStack (source : List ℕ) (stack : ℕ) (s : System) : Type 0 where
@@ -54,7 +54,7 @@ pub record EndsWith (row : List ℕ) (old new : Outside) : Type 0 where
   pub before : List ℕ
   pub before_told : old.sink.text ≡ Some before
   pub front : List ℕ
-  pub printed : new.sink.text ≡ Some (before ++ front ++ row)
+  pub printed : new.sink.text ≡ Some (before ++ (front ++ row))
 
 -- the words with which the row of a turn, or the end of a trace, names a kernel's fault
 abbrev pub fault_row : KernelFault → List ℕ

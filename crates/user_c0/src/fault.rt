@@ -4,7 +4,6 @@ ghost use Rattle.std.specs.Prelude.{◌≡◌};
 ghost use Rattle.user_c0.specs.Compiled.{fault_fields, fault_number};
 
 use arrayvec::ArrayVec;
-use std::alloc::AllocError;
 use thiserror::Error;
 
 /// Why a user program has no image.
@@ -16,12 +15,6 @@ pub enum UserFault {
     /// Want of memory.
     #[error("out of memory")]
     Memory,
-}
-
-impl From<AllocError> for UserFault {
-    fn from(_error: AllocError) -> UserFault {
-        UserFault::Memory
-    }
 }
 
 impl UserFault {

@@ -1,5 +1,5 @@
 use Rattle.std.proofs.lemmas.Result.{err_from_is_err_and}
-use Rattle.std.specs.Prelude.{is_some, not}
+use Rattle.std.specs.Prelude.{is_some, not, IsSome, IfSome, length}
 use Rattle.std.proofs.Common.{ℕ, ◌+◌, ◌-◌, ◌≤◌, Bool, true, false, Option, Some, Result, Ok, Err, suc, ◌≡◌, ◌<◌, inl, inr, None, List, refl, sym, ap, ap₂, ◌∙◌, subst, ⊎_elim, arith}
 use Rattle.std.specs.Option.{option_map}
 use Rattle.std.proofs.lemmas.Bool.{cases_lt}
@@ -16,9 +16,11 @@ use Rattle.boot_turns.proofs.Events.{told_as_some}
 use Rattle.boot_turns.proofs.Stepping.{off_rests}
 use Rattle.boot_turns.specs.declared.completion.Begun.{Begun}
 use Rattle.mips_table.specs.Turns.{rests}
-use Rattle.boot_turns.specs.Completes.{seen, StepFails, Open, Progress, turn_began, KeptUser, StepBegan}
-use Rattle.boot_turns.specs.Tracing.{tracing}
-use Rattle.boot_turns.proofs.Opening.{one_step, step_stops, skips_more, Opened, seen_rests, seen_note}
+use Rattle.boot_turns.specs.Completes.{seen, Skips, StepFails, Open, Progress, turn_began, KeptUser, StepBegan}
+use Rattle.boot_turns.specs.Tracing.{Tracing, CanTrace, tracer_at, tracing}
+use Rattle.layer_map.specs.Map.{Map}
+use Rattle.mips_table.specs.Fits.{NamesSector}
+use Rattle.boot_turns.proofs.Opening.{one_step, step_stops, skips_more, skips_passed, Opened, seen_rests, seen_note}
 use Rattle.boot_turns.proofs.Tracking.{Tracks, tracks_none, tracks_limit, tracks_whole, tracks_more, tracks_stop}
 use Rattle.boot_turns.proofs.completion.complete.Given.{Over}
 use Rattle.boot_turns.proofs.completion.complete.Goals.{In_ok-stepped, After-note}
@@ -283,36 +285,87 @@ loop-begun-preserved g c = record {
   tracks = tracked g (goal.at.loop-begun-preserved g c).In_ok-stepped;
 }
 
-pub loop-begun-preserved-then-skipped-limit : goal.loop-begun-preserved-then-skipped-limit
-loop-begun-preserved-then-skipped-limit g c = record {
-  rows = c.in_ok-stepped.ensures.rows ∙ c.loop-begun.invariant.rows;
-  memory = c.in_ok-stepped.ensures.memory ∙ c.loop-begun.invariant.memory;
-  sector = c.in_ok-stepped.ensures.sector;
-  size = c.in_ok-stepped.ensures.size ∙ c.loop-begun.invariant.size;
-  faults = c.in_ok-stepped.ensures.same (is_done c.in_ok-stepped.stepped Disk) ∙ c.loop-begun.invariant.faults;
-  time = let a = c.in_ok-stepped.ensures.time in let b = c.loop-begun.invariant.time in let p = c.if-budget-eq0.false in omega (arith, a, b, p);
-  few = let e = c.loop-begun.invariant.limit in let l = c.if-skipped-limit.true in omega (arith, e, l);
-  limit = c.loop-begun.invariant.limit;
-  fresh = λ l. c.loop-begun.invariant.fresh c.if-skipped-limit.true;
-  ran = λ s t h.
-      let i = c.loop-begun.invariant.ran s t h in
-      let x = outside_of c.args.machine.now.rows (g.D.Sectors.size c.args.disk.now) in
-      let y = outside_of c.loop-begun.machine.rows (g.D.Sectors.size c.loop-begun.disk) in
-      let same : y ≡ x = ap₂ outside_of c.loop-begun.invariant.rows c.loop-begun.invariant.size in
-      let n : ℕ = c.loop-begun.skipped in
-      let kept : KeptUser c.step_traced.new.machine Kept = subst (KeptUser c.step_traced.new.machine) c.in-Kept.is c.in_ok-stepped.ensures.kept in
-      let began : StepBegan (g.D.Sectors.size c.loop-begun.disk) c.loop-begun.machine (g.D.Sectors.sectors c.loop-begun.disk) true =
-      subst (λ (z : Stepped). StepBegan (g.D.Sectors.size c.loop-begun.disk) c.loop-begun.machine (g.D.Sectors.sectors c.loop-begun.disk) (turn_began z)) c.in-Kept.is c.in_ok-stepped.ensures.began in
-      let at : i.0 ≡ t + n = i.6 c.if-skipped-limit.true in
-      let r = skips_more x y s t n (n + 1) i.0 (g.D.Sectors.sectors c.loop-begun.disk) (g.D.Sectors.sectors c.step_traced.new.disk) c.loop-begun.machine c.step_traced.new.machine
-      same at refl i.5 i.3 (c.in_ok-stepped.ensures.ran (is_done c.in_ok-stepped.stepped Disk)) began kept.0 kept.1 in
-      let b = i.2 in
-      let p = c.if-budget-eq0.false in
-      let none : Progress x s (t + (n + 1)) (suc i.0) None = λ j lo hi. absurd (omega (arith, at, lo, hi)) in
-      (suc i.0, omega (arith, at), omega (arith, b, p), r.0, subst (Progress x s (t + (n + 1)) (suc i.0)) (sym (c.loop-begun.invariant.fresh c.if-skipped-limit.true)) none, r.1, λ l. omega (arith, at), was_on x s t i.0 (here_on (g.D.Sectors.sectors c.loop-begun.disk) c.loop-begun.machine (run x s i.0) i.3 (off_none _ _ _ c.off.ensures c.is_none.ensures c.loop-begun-test.true)) i.7);
-  can = c.in_ok-stepped.ensures.can;
-  user = c.in_ok-stepped.ensures.user ∙ c.loop-begun.invariant.user;
-  untraced = λ e. let i = c.loop-begun.invariant.untraced e in let n = c.in_ok-stepped.ensures.untraced i.0 in (n.0, n.1 ∙ i.1);
-  sink_faults = c.in_ok-stepped.ensures.sink_same (is_done c.in_ok-stepped.stepped Sink) ∙ c.loop-begun.invariant.sink_faults;
-  tracks = tracked g (goal.at.loop-begun-preserved-then-skipped-limit g c).In_ok-stepped;
+-- with no user traced nothing is to be said of a trace
+none_traced : (x : Outside) (m : Map) (start now : Option State) (before after : Tracing) → before.tracer ≡ None → Tracks x m start now before after
+none_traced x m start now before after e = λ b. absurd (let h : ◌≡◌ {A = Option Tracer} None (Some (tracer_at x b.s b.u b.t b.traced.journal)) = sym e ∙ b.traced.keeps in cc)
+
+-- what is kept of a trace stays through a stretch: none is made where a user is traced
+tracks_passed : (x : Outside) (m : Map) (start : Option State) (before : Tracing) (told : Option (List (List ℕ))) (mid new : Held) (tracer old : Option Tracer) (text : Option (List ℕ)) (budget left n : ℕ) →
+    option_map (λ (k : Tracer). k.user) tracer ≡ option_map (λ (k : Tracer). k.user) old → before.tracer ≡ old → (IsSome tracer → (n ≡ 0) × (new ≡ mid)) → left + n ≡ budget →
+    Tracks x m start (seen told mid) before (tracing tracer text budget) → Tracks x m start (seen told new) before (tracing tracer text left)
+tracks_passed x m start before told mid new None None text budget left n user was none spent so_far = none_traced x m start (seen told new) before (tracing None text left) was
+tracks_passed x m start before told mid new None (Some l) text budget left n user was none spent so_far = absurd (cc)
+tracks_passed x m start before told mid new (Some k) old text budget left n user was none spent so_far =
+    let w = none refl in
+    let zero = w.0 in
+    let same : budget ≡ left = omega (arith, spent, zero) in
+    subst (λ (h : Held). Tracks x m start (seen told h) before (tracing (Some k) text left)) (sym w.1)
+    (subst (λ b. Tracks x m start (seen told mid) before (tracing (Some k) text b)) same so_far)
+
+can_pass : (m : Map) (words time words2 time2 count n : ℕ) (o : Option Tracer) → words2 ≡ words → time2 ≡ time + n → IfSome o (CanTrace m words time count) → IfSome o (CanTrace m words2 time2 count)
+can_pass m words time words2 time2 count n None e f h = tt
+can_pass m words time words2 time2 count n (Some k) e f h = record {
+  some = h.some;
+  user = h.user;
+  few = let a = h.few in omega (arith, a, f);
+  pages = h.pages;
+  memory = let a = h.memory in omega (arith, a, e);
+  small = h.small;
+  all = h.all;
+  room = h.room;
 }
+
+-- the machine was on at each step of turns that were passed
+on_passed : (x : Outside) (s : State) (t u n : ℕ) → u ≡ t + n → Skips x s t n → (run x s t).off ≡ None → (j : ℕ) → t ≤ j → j < u → (run x s j).off ≡ None
+on_passed x s t u n at skips on j a b = ⊎_elim
+    (λ (lt : t < j). let i : ℕ = j - t - 1 in let e : t + suc (j - t - 1) ≡ j = omega (arith, lt) in subst (λ k. (run x s k).off ≡ None) e (skips (j - t - 1) (omega (arith, at, b, lt))).2)
+    (λ (le : j ≤ t). let e : t ≡ j = omega (arith, a, le) in subst (λ k. (run x s k).off ≡ None) e on)
+    (cases_lt t j)
+
+pub loop-begun-preserved-then-skipped-limit : goal.loop-begun-preserved-then-skipped-limit
+loop-begun-preserved-then-skipped-limit g c =
+    let few = c.pass-skipped.ensures.few in
+    let spent = c.pass-skipped.ensures.spent in
+    let less = c.if-skipped-limit.true in
+    let p = c.if-budget-eq0.false in
+    let rest = c.pass-skipped.ensures.passes.rest in record {
+      rows = ap (λ (h : Held). h.rows) rest ∙ c.in_ok-stepped.ensures.rows ∙ c.loop-begun.invariant.rows;
+      memory = c.pass-skipped.ensures.memory ∙ c.in_ok-stepped.ensures.memory ∙ c.loop-begun.invariant.memory;
+      sector = subst (λ (h : Held). NamesSector (g.D.Sectors.size c.step_traced.new.disk) h.hardware.ports.pending) (sym rest) c.in_ok-stepped.ensures.sector;
+      size = c.in_ok-stepped.ensures.size ∙ c.loop-begun.invariant.size;
+      faults = c.in_ok-stepped.ensures.same (is_done c.in_ok-stepped.stepped Disk) ∙ c.loop-begun.invariant.faults;
+      time = let a = c.in_ok-stepped.ensures.time in let b = c.loop-begun.invariant.time in let d = ap (λ (h : Held). h.time) rest in omega (arith, a, b, p, d, spent);
+      few = let e = c.loop-begun.invariant.limit in omega (arith, e, less, few);
+      limit = c.loop-begun.invariant.limit;
+      fresh = λ l. c.loop-begun.invariant.fresh less;
+      ran = λ s t h.
+          let i = c.loop-begun.invariant.ran s t h in
+          let x = outside_of c.args.machine.now.rows (g.D.Sectors.size c.args.disk.now) in
+          let y = outside_of c.loop-begun.machine.rows (g.D.Sectors.size c.loop-begun.disk) in
+          let same : y ≡ x = ap₂ outside_of c.loop-begun.invariant.rows c.loop-begun.invariant.size in
+          let n : ℕ = c.loop-begun.skipped in
+          let m : ℕ = c.pass-skipped.result in
+          let kept : KeptUser c.step_traced.new.machine Kept = subst (KeptUser c.step_traced.new.machine) c.in-Kept.is c.in_ok-stepped.ensures.kept in
+          let began : StepBegan (g.D.Sectors.size c.loop-begun.disk) c.loop-begun.machine (g.D.Sectors.sectors c.loop-begun.disk) true =
+          subst (λ (z : Stepped). StepBegan (g.D.Sectors.size c.loop-begun.disk) c.loop-begun.machine (g.D.Sectors.sectors c.loop-begun.disk) (turn_began z)) c.in-Kept.is c.in_ok-stepped.ensures.began in
+          let at : i.0 ≡ t + n = i.6 less in
+          let r = skips_more x y s t n (n + 1) i.0 (g.D.Sectors.sectors c.loop-begun.disk) (g.D.Sectors.sectors c.step_traced.new.disk) c.loop-begun.machine c.step_traced.new.machine
+          same at refl i.5 i.3 (c.in_ok-stepped.ensures.ran (is_done c.in_ok-stepped.stepped Disk)) began kept.0 kept.1 in
+          let next : suc i.0 ≡ t + (n + 1) = omega (arith, at) in
+          let mid : outside_of c.step_traced.new.machine.rows (g.D.Sectors.size c.args.disk.now) ≡ x = ap (λ rows. outside_of rows (g.D.Sectors.size c.args.disk.now)) (c.in_ok-stepped.ensures.rows ∙ c.loop-begun.invariant.rows) in
+          let q = skips_passed x s t (n + 1) m (suc i.0) (g.D.Sectors.sectors c.step_traced.new.disk) c.step_traced.new.machine c.pass-skipped.new.machine (g.D.Sectors.size c.args.disk.now) mid next r.1 r.0 kept.0 c.pass-skipped.ensures.passes in
+          let b = i.2 in
+          let far : suc i.0 + m ≡ t + (n + 1 + m) = omega (arith, next) in
+          let none : Progress x s (t + (n + 1 + m)) (suc i.0 + m) None = λ j lo hi. absurd (omega (arith, far, lo, hi)) in
+          let on : (run x s t).off ≡ None = was_on x s t i.0 (here_on (g.D.Sectors.sectors c.loop-begun.disk) c.loop-begun.machine (run x s i.0) i.3 (off_none _ _ _ c.off.ensures c.is_none.ensures c.loop-begun-test.true)) i.7 t (omega arith) (omega (arith, at)) in
+          (suc i.0 + m, omega (arith, far), omega (arith, b, p, spent), q.0, subst (Progress x s (t + (n + 1 + m)) (suc i.0 + m)) (sym (c.loop-begun.invariant.fresh less)) none, q.1, λ l. far, on_passed x s t (suc i.0 + m) (n + 1 + m) far q.1 on);
+      can = can_pass c.args.map.now (length c.step_traced.new.machine.hardware.memory) c.step_traced.new.machine.time (length c.pass-skipped.new.machine.hardware.memory) c.pass-skipped.new.machine.time (g.D.Sectors.size c.step_traced.new.disk) c.pass-skipped.result
+          c.step_traced.new.tracer c.pass-skipped.ensures.memory (ap (λ (h : Held). h.time) rest) c.in_ok-stepped.ensures.can;
+      user = c.in_ok-stepped.ensures.user ∙ c.loop-begun.invariant.user;
+      untraced = λ e. let i = c.loop-begun.invariant.untraced e in let n = c.in_ok-stepped.ensures.untraced i.0 in (n.0, n.1 ∙ i.1);
+      sink_faults = c.in_ok-stepped.ensures.sink_same (is_done c.in_ok-stepped.stepped Sink) ∙ c.loop-begun.invariant.sink_faults;
+      tracks = tracks_passed (outside_of c.args.machine.now.rows (g.D.Sectors.size c.args.disk.now)) c.args.map.now (seen (g.D.Sectors.sectors c.args.disk.now) c.args.machine.now)
+          (tracing c.args.tracer.now (g.O.Sink.text c.args.out.now) c.args.budget.now) (g.D.Sectors.sectors c.step_traced.new.disk) c.step_traced.new.machine c.pass-skipped.new.machine c.step_traced.new.tracer c.args.tracer.now (g.O.Sink.text c.step_traced.new.out)
+          (c.loop-begun.budget - 1) c.pass-skipped.new.budget c.pass-skipped.result (c.in_ok-stepped.ensures.user ∙ c.loop-begun.invariant.user) refl c.pass-skipped.ensures.traced spent
+          (tracked g (goal.at.loop-begun-preserved-then-skipped-limit g c).In_ok-stepped);
+    }

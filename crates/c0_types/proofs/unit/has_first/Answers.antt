@@ -7,6 +7,9 @@ use Rattle.c0_tree.specs.View.{function_view}
 use Rattle.c0_meaning.specs.Limits.{is_first}
 use Rattle.c0_types.proofs.unit.has_first.Goals as goal
 
+starts : (n : ℕ) → nat_lt 0 (suc n) ≡ true
+starts n = grind (arith, nat_tests)
+
 further : (k n : ℕ) → nat_lt (1 + k) (suc n) ≡ nat_lt k n
 further k n = grind (arith, nat_tests)
 
@@ -15,7 +18,7 @@ at_head : {A : Type 0} (p : A → Bool) (x : A) (xs : List A) (b : Bool) → p x
     → nat_lt (prefix_len (λ y. not (p y)) (x ∷ xs)) (length (x ∷ xs)) ≡ list_any p (x ∷ xs)
 at_head p x xs true e rest =
     ap (λ (b : Bool). nat_lt (cond (not b) (1 + prefix_len (λ y. not (p y)) xs) 0) (suc (length xs))) e
-    ∙ sym (ap (λ (b : Bool). b || list_any p xs) e)
+    ∙ (starts (length xs) ∙ sym (ap (λ (b : Bool). b || list_any p xs) e))
 at_head p x xs false e rest =
     ap (λ (b : Bool). nat_lt (cond (not b) (1 + prefix_len (λ y. not (p y)) xs) 0) (suc (length xs))) e
     ∙ (further (prefix_len (λ y. not (p y)) xs) (length xs) ∙ (rest ∙ sym (ap (λ (b : Bool). b || list_any p xs) e)))

@@ -1,4 +1,5 @@
-use Rattle.std.proofs.Common.{◌≡◌, ℕ, Vec, Global}
+use Rattle.std.proofs.Common.{◌≡◌, ℕ, Vec, Global, ap, ◌∙◌}
+use Rattle.c0_tree.specs.declared.tree.Unit.{Unit as Source}
 use Rattle.c0_tree.specs.View.{unit_view}
 use Rattle.bound_check.specs.Text.{answer_text}
 use Rattle.cvm_shell.specs.Check.{TellsUnit}
@@ -8,6 +9,7 @@ use Rattle.cvm_shell.proofs.check.unit_text.Goals as goal
 
 pub returns : goal.returns
 returns c =
-    let u = unit_view c.args.unit.now in
-    if_ok (λ (v : Vec ℕ Global). v.items ≡ answer_text u c.args.stack c.in_ok-answer.answer) (λ (v : Vec ℕ Global). TellsUnit c.args.stack u v.items)
-    (λ v e. told_of c.args.stack u c.in_ok-answer.answer v.items c.in_ok-answer.ensures e) c.answer_text.result c.answer_text.ensures
+    let stack = c.args.stack in
+    let answer = c.in_ok-answer.answer in
+    if_ok (λ (v : Vec ℕ Global). v.items ≡ answer_text (unit_view c.unit.result.now) stack answer) (λ (v : Vec ℕ Global). TellsUnit stack (unit_view c.args.unit.now) v.items)
+    (λ v e. told_of stack (unit_view c.args.unit.now) answer v.items c.in_ok-answer.ensures (e ∙ ap (λ (u : Source). answer_text (unit_view u) stack answer) c.unit.ensures.same)) c.answer_text.result c.answer_text.ensures
