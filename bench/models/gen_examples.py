@@ -43,7 +43,7 @@ def example(name):
             same('trace img s 100000 %d %d' % (STEPS, u), model(kernel, users, par, schedule, 100000, u), '%s/trace%d' % (name, u))
 
 
-for name in ('adder', 'faults', 'messages', 'round_robin', 'sharing'):
+for name in ('adder', 'faults', 'mailbox', 'messages', 'round_robin', 'sharing'):
     example(name)
 
 NOTE = '''The examples, from copies of their files: data/examples/NAME has those of examples/NAME, but for the pages. Written by bench/models/gen_examples.py.
