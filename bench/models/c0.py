@@ -501,6 +501,7 @@ def page_words(lines):
 def code_case(src):
     page = open(os.path.join(os.path.dirname(os.path.abspath(__file__)), '..', '..', 'docs', 'COMPILER.md')).read()
     blocks = [b.strip('\n').split('\n') for b in page[page.index('\n## A unit\n'):].split('```')[1::2]]
+    blocks += [b.strip('\n').split('\n') for b in page[page.index('\n## An example\n'):].split('```')[1:4:2]]
     assert '\n'.join(blocks[2]) == src, 'no page has the words of this kernel'
     out, at = [], 0x10000
     for row in blocks[3]:

@@ -297,10 +297,10 @@ def has_steps(name, enter, leave, fault, primitive, pages, busy):
     """Whether the parts of a case that is there for its steps take as many as they may; a trap and a page fault begin with one step more."""
     copy = re.fullmatch(r'vm_copy of (\d+) words between pages that are (not )?there', name)
     if copy:
-        return primitive <= 8 * int(copy.group(1)) + 200 + (2 * (6 * pages + busy + 2800) if copy.group(2) else 0)
+        return primitive <= 8 * int(copy.group(1)) + 200 + (2 * (busy + 2805) if copy.group(2) else 0)
     for begin, holds in (('a trap to dispatch and back', 1 + enter + leave <= 300),
                          ('a vm_get', primitive <= 60),
-                         ('a page fault that writes a sector and reads one', 1 + fault <= 6000 + 6 * pages + 2 * busy),
+                         ('a page fault that writes a sector and reads one', 1 + fault <= 6000 + 2 * busy),
                          ('four pages name a frame', primitive < 3500),
                          ('a fifth page is copied', primitive > 7 * 1024)):
         if name.startswith(begin):

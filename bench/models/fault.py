@@ -14,6 +14,7 @@ MOVE = 128 * 21 + 1  # 1,024 words, eight a turn
 class System:
     def __init__(self, users, pages, frames, schedule):
         self.entries, self.counts, self.hand = [0] * (users * pages), [0] * frames, 0
+        self.slots = [[0] * 4 for _ in range(frames)]   # those below a frame's count hold the pages that name it
         self.frames = {ZERO + f: [0] * 1024 for f in range(frames + 1)}
         self.sectors = [[0] * 1024 for _ in range(users * pages)]
         rows = [r.split() for r in schedule.split(';')]
@@ -42,28 +43,34 @@ class System:
                             self.entries[q] &= ~PROTECTED
         return steps + 1 + (self.fill(q) if fill else 0)
 
+    def leave(self, f, q):
+        """Page q leaves the list of user frame f, from 0: the last page takes each of the four slots that holds q."""
+        self.counts[f] -= 1
+        last, found = self.slots[f][self.counts[f]], [k for k in range(4) if self.slots[f][k] == q]
+        for k in found:
+            self.slots[f][k] = last
+        return 6 + 5 + 4 * 2 + len(found)
+
     def fill(self, q):
         frame = ZERO + 1 + self.hand
-        steps = 7 + 5 + 6 * len(self.entries) + 1 + 5
-        for p, entry in enumerate(self.entries):
-            if entry & VALID and entry >> 12 == frame:
-                steps += 2 + 3 + MOVE + 2 + self.command() + 1
-                self.sectors[p] = list(self.frames[frame])
-                self.entries[p] = 0
+        steps = 5 + 8 + 1 + 1
+        for p in self.slots[self.hand][:self.counts[self.hand]]:
+            steps += 1 + 4 + 3 + MOVE + 2 + self.command() + 2 + 1
+            self.sectors[p] = list(self.frames[frame])
+            self.entries[p] = 0
         self.counts[self.hand] = 0
         entry = self.entries[q]
-        steps += 10 + 2 + 2 + MOVE + 1 + 8 + 6
+        steps += 10 + 2 + 2 + MOVE + 1 + 9 + 6
         if entry & VALID:
             steps += 1 + 3 + 1
             self.frames[frame] = list(self.frames[entry >> 12])
             if entry >> 12 != ZERO:
-                steps += 8
-                self.counts[(entry >> 12) - ZERO - 1] -= 1
+                steps += self.leave((entry >> 12) - ZERO - 1, q)
         else:
             steps += 2 + self.command() + 1
             self.frames[frame] = list(self.sectors[q])
         self.entries[q] = frame << 12 | VALID
-        self.counts[self.hand] = 1
+        self.counts[self.hand], self.slots[self.hand][0] = 1, q
         self.hand += 1
         if self.hand == len(self.counts):
             self.hand, steps = 0, steps + 1
@@ -77,7 +84,8 @@ class System:
 
     def tell(self):
         words = lambda numbers: ''.join(' %08x' % n for n in numbers)
-        print(' hand %d entries%s counts %s' % (self.hand, words(self.entries), ' '.join(map(str, self.counts))))
+        lists = [','.join(map(str, s[:n])) or '-' for s, n in zip(self.slots, self.counts)]
+        print(' hand %d entries%s counts %s lists %s' % (self.hand, words(self.entries), ' '.join(map(str, self.counts)), ' '.join(lists)))
         print(' shown' + words(self.shown(q) for q in range(len(self.entries))))
 
     def obey(self, kind, a=0, b=0, c=0):
@@ -86,6 +94,8 @@ class System:
             self.entries[a] = b
         elif kind == 'count':
             self.counts[a - 1] = b
+        elif kind == 'slot':
+            self.slots[a - 1][b] = c
         elif kind == 'hand':
             self.hand = a
         elif kind == 'frame':

@@ -43,13 +43,47 @@ def example(name):
             same('trace img s 100000 %d %d' % (STEPS, u), model(kernel, users, par, schedule, 100000, u), '%s/trace%d' % (name, u))
 
 
+# ---- users in C0: the texts are the program's own, and all of them that the compiled code has no part in is what the programs mean
+meaning = dict(__file__=os.path.join(HERE, 'programs.py'), __name__='programs')
+exec(compile(open(meaning['__file__']).read(), 'programs.py', 'exec'), meaning)
+
+
+def own(name, at, holds):
+    """What the program printed of this run of the case, where that holds of it."""
+    seen = had('the example ' + name, at)
+    if not seen:
+        return '(not printed)'
+    assert holds(seen[1]), (name, at)
+    return seen[1]
+
+
+def without_steps(text):
+    rows = [row for row in text.split('\n') if not row.startswith('steps ')]
+    return rows[:next(i for i, row in enumerate(rows) if row in ('halted', 'stopped') or row.startswith('fault ')) + 1]
+
+
+def program_example(name):
+    names = sorted((n for n in os.listdir(os.path.join(EXAMPLES, name)) if re.fullmatch(r'user\d+\.c0', n)), key=lambda n: int(n[4:-3]))
+    kernel, users, par = read(name, 'kernel.c0'), [read(name, n) for n in names], read(name, 'params')
+    begin('the example ' + name, 'sectors 128')
+    for given, n in [('k', 'kernel.c0'), ('p', 'params'), ('s', 'schedule')] + [('a%d' % (i + 1), n) for i, n in enumerate(names)]:
+        raw('host ' + given, 'examples/%s/%s' % (name, n))
+    build(len(users), kind='program')
+    same('boot img s 100000 %d' % STEPS, own(name, 0, lambda text: meaning['told'](text) == meaning['tells'](kernel, users, par)), name + '/printed')
+    for u in range(1, len(users) + 1):
+        holds = lambda text: without_steps(text) == meaning['journal'](kernel, users, par, u)
+        same('trace img s 100000 %d %d' % (STEPS, u), own(name, u, holds), '%s/trace%d' % (name, u))
+
+
 for name in ('adder', 'faults', 'mailbox', 'messages', 'round_robin', 'sharing'):
     example(name)
+program_example('services')
 
 NOTE = '''The examples, from copies of their files: data/examples/NAME has those of examples/NAME, but for the pages. Written by bench/models/gen_examples.py.
 
 At which turns the lines of round_robin are taken hangs on the physical machine alone: as in lines.cases that text is the program's own, checked by
-that script. All others are worked out apart.
+that script. So are the texts of services, whose users are compiled: of these the script checks all that the compiled code has no part in. All others
+are worked out apart.
 
 '''
 with open(sys.argv[1], 'w') as f:

@@ -146,13 +146,13 @@ def system(kernel, users=(), par=PARAMS, schedule='', image='img'):
         put_files(kernel, users, par, image)
 
 
-def build(users, image='img'):
+def build(users, image='img', kind='user'):
     """Compiles and links the system whose files are placed."""
     for n in ['o', image] + ['u%d' % (i + 1) for i in range(users)]:
         raw('zeros ' + n, str(ROOM))
     run('compile kernel k o')
     for i in range(users):
-        run('compile user a%d u%d' % (i + 1, i + 1))
+        run('compile %s a%d u%d' % (kind, i + 1, i + 1))
     run('link o p %s%s' % (image, ''.join(' u%d' % (i + 1) for i in range(users))))
 
 

@@ -1,12 +1,14 @@
 -- The machine that `load` makes is the loaded machine.
-use Rattle.std.proofs.Common.{◌≡◌, ℕ, ◌*◌, ◌/◌, ◌-◌, ◌≤◌, false, List, ◌++◌, map, drop, length, replicate, Option, None, Some, refl, sym, ap, ap₂, ◌∙◌, subst, arith, length-append, length-drop}
-use Rattle.std.specs.Prelude.{IfSome}
+use Rattle.std.proofs.Common.{◌≡◌, ℕ, ◌+◌, ◌*◌, ◌/◌, ◌-◌, ◌<◌, ◌≤◌, Bool, true, false, cond, List, [], ◌++◌, map, take, drop, length, replicate, Option, None, Some, refl, sym, ap, ap₂, ◌∙◌, subst, arith, length-append, length-drop, lt-ltb, le-ltb}
+use Rattle.std.specs.Prelude.{nat_lt, IfSome, slice_index}
 use Rattle.std.specs.Option.{option_map}
 use Rattle.std.specs.List.{range_with_len}
+use Rattle.std.proofs.lemmas.Bool.{cond-false}
 use Rattle.std.proofs.lemmas.List.{drop-replicate, length-map, length-replicate}
 use Rattle.std.proofs.Math.Nat.{le-div_iff_mul-le}
 use Rattle.schedule_file.specs.Rows.{Rows}
 use Rattle.layer_map.specs.Map.{memory_frames, memory_words}
+use Rattle.mips_table.specs.Device.{sector_of}
 use Rattle.mips_table.specs.Machine.{start}
 use Rattle.mips_machine.specs.Machine.{Held, started}
 use Rattle.cvm_model.specs.Cvm.{map_of}
@@ -14,54 +16,99 @@ use Rattle.layer_contract.specs.declared.boot.Boot.{Boot as Booted}
 use Rattle.layer_contract.specs.Boots.{boot_of}
 use Rattle.layer_contract.specs.Follows.{loaded, loaded_memory, loaded_sector}
 use Rattle.boot_turns.specs.Completes.{seen}
-use Rattle.boot_run.specs.Loading.{system_of, first_pages, written, with_words}
-use Rattle.boot_run.proofs.PageLemmas.{written_is}
+use Rattle.boot_run.specs.Loading.{system_of, disk_pages, first_pages, written, with_words, TornAmong}
+use Rattle.boot_run.proofs.PageLemmas.{page_or, written_is}
 use Rattle.boot_run.proofs.UserPages.{dead_past}
 
 module _ (b : Booted) (rows : Rows) where
   -- the users' words
-  abbrev lists : List (List ℕ)
+  abbrev pub lists : List (List ℕ)
   lists = map (λ words. words.items) b.users.items
 
   abbrev needed : ℕ
   needed = length b.users.items * b.params.pages
 
+  -- as the definitions say it
+  pub needed_is : length lists * b.params.pages ≡ length b.users.items * b.params.pages
+  needed_is = ap (λ n. n * b.params.pages) (length-map b.users.items (λ words. words.items))
+
   whole : 1024 * memory_frames (map_of (boot_of b)) ≡ memory_words (map_of (boot_of b))
   whole = omega arith
 
-  memory_is : b.words.items ++ drop (length b.words.items) (replicate (1024 * memory_frames (map_of (boot_of b))) 0) ≡ loaded_memory (boot_of b)
-  memory_is = ap (λ l. b.words.items ++ l) (drop-replicate (length b.words.items) (1024 * memory_frames (map_of (boot_of b))) 0 ∙ ap (λ n. replicate (n - length b.words.items) 0) whole)
+  memory_is : take 0 (replicate (1024 * memory_frames (map_of (boot_of b))) 0) ++ (b.words.items ++ drop (0 + length b.words.items) (replicate (1024 * memory_frames (map_of (boot_of b))) 0)) ≡ loaded_memory (boot_of b)
+  memory_is =
+      let none : 0 + length b.words.items ≡ length b.words.items = omega arith in
+      ap (λ n. b.words.items ++ drop n (replicate (1024 * memory_frames (map_of (boot_of b))) 0)) none
+      ∙ ap (λ l. b.words.items ++ l) (drop-replicate (length b.words.items) (1024 * memory_frames (map_of (boot_of b))) 0 ∙ ap (λ n. replicate (n - length b.words.items) 0) whole)
 
-  dead : 1 ≤ b.params.pages → (q : ℕ) → needed ≤ q → (first_pages b.params.pages lists).live q ≡ false
+  -- no number behind the users' pages is one of a user
+  pub dead : 1 ≤ b.params.pages → (q : ℕ) → length lists * b.params.pages ≤ q → (first_pages b.params.pages lists).live q ≡ false
   dead some q h =
-      let e : length lists ≡ length b.users.items = length-map b.users.items (λ words. words.items) in
-      let up : length b.users.items ≤ q / b.params.pages = (le-div_iff_mul-le {k = b.params.pages} {x = length b.users.items} {y = q} some).1 h in
-      dead_past b.params.pages lists q (omega (arith, e, up))
+      let up : length lists ≤ q / b.params.pages = (le-div_iff_mul-le {k = b.params.pages} {x = length lists} {y = q} some).1 h in
+      dead_past b.params.pages lists q up
 
-  sectors_are : 1 ≤ b.params.pages → (old : List (List ℕ)) → needed ≤ length old → written (first_pages b.params.pages lists) needed old ≡ map (loaded_sector (system_of b rows) old) (range_with_len 0 (length old))
-  sectors_are some old le = written_is (first_pages b.params.pages lists) needed old le (dead some)
+  -- what a sector holds once it is written, by whether it is a user's
+  abbrev pub page_if : List ℕ → List (List ℕ) → ℕ → Bool → List ℕ
+  page_if behind old q below =
+      cond (cond below ((first_pages b.params.pages lists).live q) (nat_lt (1024 * (q - length lists * b.params.pages)) (length behind)))
+      (map (λ i. cond below ((first_pages b.params.pages lists).word q i) (slice_index behind (1024 * (q - length lists * b.params.pages) + i))) (range_with_len 0 1024))
+      (sector_of old q)
+
+  pub page_below : (behind : List ℕ) (old : List (List ℕ)) (q : ℕ) → q < length lists * b.params.pages → page_or (disk_pages b.params.pages lists behind) old q ≡ loaded_sector (system_of b rows) old q
+  page_below behind old q lt = ap (page_if behind old q) (lt-ltb q (length lists * b.params.pages) lt)
+
+  pub page_behind : (behind : List ℕ) (old : List (List ℕ)) (q : ℕ) → length lists * b.params.pages ≤ q → page_or (disk_pages b.params.pages lists behind) old q ≡ page_if behind old q false
+  page_behind behind old q ge = ap (page_if behind old q) (le-ltb q (length lists * b.params.pages) ge)
+
+  pub kept_behind : 1 ≤ b.params.pages → (old : List (List ℕ)) (q : ℕ) → length lists * b.params.pages ≤ q → sector_of old q ≡ loaded_sector (system_of b rows) old q
+  kept_behind some old q ge = sym (cond-false ((first_pages b.params.pages lists).live q) _ _ (dead some q ge))
+
+  sectors_are : 1 ≤ b.params.pages → (old : List (List ℕ)) → needed ≤ length old → written (disk_pages b.params.pages lists []) needed old ≡ map (loaded_sector (system_of b rows) old) (range_with_len 0 (length old))
+  sectors_are some old le = written_is (disk_pages b.params.pages lists []) needed old (loaded_sector (system_of b rows) old) le
+      (λ q lt. page_below [] old q (subst (λ n. q < n) (sym needed_is) lt))
+      (λ q ge. kept_behind some old q (subst (λ n. n ≤ q) (sym needed_is) ge))
 
   fresh : 1 ≤ b.params.pages → (told : Option (List (List ℕ))) (count : ℕ) → IfSome told (λ ss. length ss ≡ count) → needed ≤ count →
-      seen (option_map (written (first_pages b.params.pages lists) needed) told) (with_words (started (memory_frames (map_of (boot_of b))) rows) b.words.items) ≡ option_map (loaded (system_of b rows)) told
+      seen (option_map (written (disk_pages b.params.pages lists []) needed) told) (with_words (started (memory_frames (map_of (boot_of b))) rows) 0 b.words.items) ≡ option_map (loaded (system_of b rows)) told
   fresh some None count sized le = refl
   fresh some (Some old) count sized le =
       let le2 : needed ≤ length old = omega (arith, sized, le) in
       ap Some (ap₂ (λ memory sectors. start memory sectors rows.inputs) memory_is (sectors_are some old le2))
 
 -- its memory has room for the map
-pub loaded_long : (b : Booted) (rows : Rows) (held : Held) → held ≡ with_words (started (memory_frames (map_of (boot_of b))) rows) b.words.items → memory_words (map_of (boot_of b)) ≤ length held.hardware.memory
+pub loaded_long : (b : Booted) (rows : Rows) (held : Held) → held ≡ with_words (started (memory_frames (map_of (boot_of b))) rows) 0 b.words.items → memory_words (map_of (boot_of b)) ≤ length held.hardware.memory
 loaded_long b rows held e =
     let zeros : List ℕ = replicate (1024 * memory_frames (map_of (boot_of b))) 0 in
-    let a = length-append b.words.items (drop (length b.words.items) zeros) in
-    let d = length-drop (length b.words.items) zeros in
+    let a = length-append b.words.items (drop (0 + length b.words.items) zeros) in
+    let d = length-drop (0 + length b.words.items) zeros in
     let r = length-replicate {A = ℕ} (1024 * memory_frames (map_of (boot_of b))) 0 in
     let w = whole b rows in
     subst (λ (m : Held). memory_words (map_of (boot_of b)) ≤ length m.hardware.memory) (sym e) (omega (arith, a, d, r, w))
 
 pub stands_loaded : (b : Booted) (rows : Rows) (held : Held) (told retold : Option (List (List ℕ))) (count : ℕ) → 1 ≤ b.params.pages →
-    held ≡ with_words (started (memory_frames (map_of (boot_of b))) rows) b.words.items →
-    retold ≡ option_map (written (first_pages b.params.pages (map (λ words. words.items) b.users.items)) (length b.users.items * b.params.pages)) told →
-    IfSome told (λ ss. length ss ≡ count) → length b.users.items * b.params.pages ≤ count → seen retold held ≡ option_map (loaded (system_of b held.rows)) told
+    held ≡ with_words (started (memory_frames (map_of (boot_of b))) rows) 0 b.words.items →
+    retold ≡ option_map (written (disk_pages b.params.pages (map (λ words. words.items) b.users.items) []) (length b.users.items * b.params.pages)) told →
+    IfSome told (λ ss. length ss ≡ count) → length b.users.items * b.params.pages ≤ count → seen retold held ≡ option_map (loaded (system_of b rows)) told
 stands_loaded b rows held told retold count some e h sized le =
-    subst (λ (m : Held). seen retold m ≡ option_map (loaded (system_of b m.rows)) told) (sym e)
-    (ap (λ r. seen r (with_words (started (memory_frames (map_of (boot_of b))) rows) b.words.items)) h ∙ fresh b rows some told count sized le)
+    subst (λ (m : Held). seen retold m ≡ option_map (loaded (system_of b rows)) told) (sym e)
+    (ap (λ r. seen r (with_words (started (memory_frames (map_of (boot_of b))) rows) 0 b.words.items)) h ∙ fresh b rows some told count sized le)
+
+-- where the writing was broken off, the sectors become those of the start
+pub torn_becomes : (most : ℕ) (f g : List (List ℕ) → List (List ℕ)) (told retold : Option (List (List ℕ))) → ((ss : List (List ℕ)) → told ≡ Some ss → f ss ≡ g ss) → TornAmong most f told retold → TornAmong most g told retold
+torn_becomes most f g told retold same w = record { at = w.at; inside = w.inside; before = λ q lt. w.before q lt ∙ by q told same; behind = w.behind }
+  where
+    by : (q : ℕ) (o : Option (List (List ℕ))) → ((ss : List (List ℕ)) → o ≡ Some ss → f ss ≡ g ss) → option_map (λ ss. sector_of (f ss) q) o ≡ option_map (λ ss. sector_of (g ss) q) o
+    by q None h = refl
+    by q (Some ss) h = ap (λ (l : List (List ℕ)). Some (sector_of l q)) (h ss refl)
+
+-- of sectors that are told there are as many as the disk has
+pub told_many : (told : Option (List (List ℕ))) (ss : List (List ℕ)) (count : ℕ) → told ≡ Some ss → IfSome told (λ ss. length ss ≡ count) → length ss ≡ count
+told_many told ss count e h = subst (λ (o : Option (List (List ℕ))). IfSome o (λ ss. length ss ≡ count)) e h
+
+pub torn_loaded : (b : Booted) (rows : Rows) (told retold : Option (List (List ℕ))) (count : ℕ) → 1 ≤ b.params.pages →
+    TornAmong (length b.users.items * b.params.pages) (written (disk_pages b.params.pages (map (λ words. words.items) b.users.items) []) (length b.users.items * b.params.pages)) told retold →
+    IfSome told (λ ss. length ss ≡ count) → length b.users.items * b.params.pages ≤ count →
+    TornAmong (length b.users.items * b.params.pages) (λ ss. (loaded (system_of b rows) ss).device.sectors) told retold
+torn_loaded b rows told retold count some w sized le =
+    torn_becomes (length b.users.items * b.params.pages) (written (disk_pages b.params.pages (map (λ words. words.items) b.users.items) []) (length b.users.items * b.params.pages)) (λ ss. (loaded (system_of b rows) ss).device.sectors) told retold
+    (λ ss e. let many = told_many told ss count e sized in sectors_are b rows some ss (omega (arith, many, le))) w

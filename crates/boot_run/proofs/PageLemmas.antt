@@ -1,5 +1,6 @@
 -- Pages written one after another: which sector holds what.
 use Rattle.std.proofs.Common.{◌≡◌, ◌≢◌, ℕ, zero, suc, ◌+◌, ◌<◌, ◌≤◌, true, false, cond, List, [], ◌∷◌, ◌++◌, take, drop, map, length, get_or, set, Option, None, Some, refl, sym, ap, ◌∙◌, subst, ⊎_elim, arith, length-set, get_or-set_other, get_or-set_same}
+use Rattle.std.specs.Prelude.{Result, Ok, Err, OnErr}
 use Rattle.std.specs.Option.{option_map}
 use Rattle.std.specs.List.{range_with_len}
 use Rattle.std.proofs.lemmas.Bool.{cases_lt, cases_eq, cases_Bool, cond_both, cond-true, cond-false}
@@ -7,7 +8,7 @@ use Rattle.std.proofs.lemmas.List.FromFn.{fill_by_all}
 use Rattle.mips_table.specs.Device.{sector_of}
 use Rattle.page_model.specs.Paging.{Pages}
 use Rattle.mips_machine.specs.Machine.{Held}
-use Rattle.boot_run.specs.Loading.{with_page, words_of_page, written, StaysFrom}
+use Rattle.boot_run.specs.Loading.{with_page, words_of_page, written, StaysBut, TornAmong}
 
 pub length-with_page : (p : Pages) (ss : List (List ℕ)) (q : ℕ) → length (with_page p ss q) ≡ length ss
 length-with_page p ss q = cond_both (p.live q) (set ss q (words_of_page p q)) ss (λ xs. length xs ≡ length ss) (λ _. length-set ss q (words_of_page p q)) (λ _. refl)
@@ -41,13 +42,43 @@ page_at p (suc n) ss k lt le = ⊎_elim
     (λ (ne : k ≢ n). other_page p (written p n ss) n k ne ∙ page_at p n ss k (omega (arith, ne, lt)) (omega arith))
     (cases_eq k n)
 
--- all at once, where no number from n on is a page's
-pub written_is : (p : Pages) (n : ℕ) (ss : List (List ℕ)) → n ≤ length ss → ((q : ℕ) → n ≤ q → p.live q ≡ false) → written p n ss ≡ map (page_or p ss) (range_with_len 0 (length ss))
-written_is p n ss le none = fill_by_all (page_or p ss) (written p n ss) (length ss) [] (length-written p n ss)
+-- all at once: each sector holds its page, and what it held before where it gets none
+pub written_is : (p : Pages) (n : ℕ) (ss : List (List ℕ)) (f : ℕ → List ℕ) → n ≤ length ss → ((q : ℕ) → q < n → page_or p ss q ≡ f q) → ((q : ℕ) → n ≤ q → sector_of ss q ≡ f q) →
+    written p n ss ≡ map f (range_with_len 0 (length ss))
+written_is p n ss f le pages rest = fill_by_all f (written p n ss) (length ss) [] (length-written p n ss)
     (λ k lt. ⊎_elim
-    (λ (l : k < n). page_at p n ss k l le)
-    (λ (ge : n ≤ k). later_page p n ss k ge ∙ sym (cond-false (p.live k) _ _ (none k ge)))
+    (λ (l : k < n). page_at p n ss k l le ∙ pages k l)
+    (λ (ge : n ≤ k). later_page p n ss k ge ∙ rest k ge)
     (cases_lt k n))
+
+-- a sector whose number is below those that are written
+early_page : (p : Pages) (n m : ℕ) (ss : List (List ℕ)) (k : ℕ) → k < n → n ≤ m → sector_of (written p m ss) k ≡ sector_of (written p n ss) k
+early_page p n zero ss k lt le = absurd (omega arith)
+early_page p n (suc m) ss k lt le = ⊎_elim
+    (λ (e : n ≡ suc m). ap (λ i. sector_of (written p i ss) k) (sym e))
+    (λ (ne : n ≢ suc m). other_page p (written p m ss) m k (λ e. absurd (omega (arith, e, lt, le, ne))) ∙ early_page p n m ss k lt (omega (arith, ne, le)))
+    (cases_eq n (suc m))
+
+-- the page of a number is written
+pub page_written : (p : Pages) (q : ℕ) (told : Option (List (List ℕ))) (page : List ℕ) → p.live q ≡ true → length page ≡ 1024 → ((i : ℕ) → i < 1024 → get_or page i 0 ≡ p.word q i) →
+    option_map (λ ss. set ss q page) told ≡ option_map (λ ss. with_page p ss q) told
+page_written p q None page live long words = refl
+page_written p q (Some ss) page live long words =
+    ap (λ w. Some (set ss q w)) (fill_by_all (p.word q) page 1024 0 long (λ i l. words i l)) ∙ ap Some (sym (cond-true (p.live q) _ _ live))
+
+-- the number is no page
+pub page_left : (p : Pages) (q : ℕ) (told : Option (List (List ℕ))) → p.live q ≡ false → told ≡ option_map (λ ss. with_page p ss q) told
+page_left p q None dead = refl
+page_left p q (Some ss) dead = ap Some (sym (cond-false (p.live q) _ _ dead))
+
+-- a sector that may hold anything
+torn_but : (q : ℕ) (words : List ℕ) (told retold : Option (List (List ℕ))) → retold ≡ option_map (λ ss. set ss q words) told → StaysBut q told retold
+torn_but q words None retold e = λ k ne. ap (option_map (λ ss. sector_of ss k)) e
+torn_but q words (Some ss) retold e = λ k ne. ap (option_map (λ ss. sector_of ss k)) e ∙ ap Some (get_or-set_other ss q k words [] ne)
+
+pub on_torn : {T E : Type 0} (r : Result T E) (q : ℕ) (told retold : Option (List (List ℕ))) → OnErr r ((words : List ℕ) × (retold ≡ option_map (λ ss. set ss q words) told)) → OnErr r (StaysBut q told retold)
+on_torn (Ok v) q told retold h = tt
+on_torn (Err e) q told retold h = torn_but q h.0 told retold h.1
 
 -- one more word is put over the beginning of a list
 put_word : (ws mem : List ℕ) (i w : ℕ) → i < length ws → length ws ≤ length mem → w ≡ get_or ws i 0 → set (take i ws ++ drop i mem) i w ≡ take (suc i) ws ++ drop (suc i) mem
@@ -56,10 +87,23 @@ put_word (a ∷ ws) [] i w lt le e = absurd (omega arith)
 put_word (a ∷ ws) (b ∷ mem) zero w lt le e = ap (λ n. n ∷ mem) e
 put_word (a ∷ ws) (b ∷ mem) (suc i) w lt le e = ap (λ l. a ∷ l) (put_word ws mem i w (omega arith) (omega arith) e)
 
-pub put_more : (ws mem : List ℕ) (i j n w : ℕ) → i < length ws → length ws ≤ length mem → w ≡ get_or ws i 0 → j ≡ i → n ≡ i + 1 → set (take i ws ++ drop i mem) j w ≡ take n ws ++ drop n mem
-put_more ws mem i j n w lt le e f h =
-    let g : n ≡ suc i = omega (arith, h) in
-    ap (λ k. set (take i ws ++ drop i mem) k w) f ∙ put_word ws mem i w lt le e ∙ ap (λ k. take k ws ++ drop k mem) (sym g)
+-- and over a list from a place on
+put_behind : (at : ℕ) (ws mem : List ℕ) (i n m w : ℕ) → n ≡ at + i → m ≡ suc n → i < length ws → at + length ws ≤ length mem → w ≡ get_or ws i 0 →
+    set (take at mem ++ (take i ws ++ drop n mem)) n w ≡ take at mem ++ (take (suc i) ws ++ drop m mem)
+put_behind zero ws mem i n m w e f lt le v =
+    let k : n ≡ i = omega (arith, e) in
+    let h : m ≡ suc i = omega (arith, e, f) in
+    rw (k, h) (put_word ws mem i w lt (omega (arith, le)) v)
+put_behind (suc at) ws [] i n m w e f lt le v = absurd (omega (arith, le))
+put_behind (suc at) ws (b ∷ mem) i zero m w e f lt le v = absurd (omega (arith, e))
+put_behind (suc at) ws (b ∷ mem) i (suc n) zero w e f lt le v = absurd (omega (arith, f))
+put_behind (suc at) ws (b ∷ mem) i (suc n) (suc m) w e f lt le v = ap (λ l. b ∷ l) (put_behind at ws mem i n m w (omega (arith, e)) (omega (arith, f)) lt (omega (arith, le)) v)
+
+pub put_more : (at : ℕ) (ws mem : List ℕ) (i j next w : ℕ) → i < length ws → at + length ws ≤ length mem → w ≡ get_or ws i 0 → j ≡ at + i → next ≡ i + 1 →
+    set (take at mem ++ (take i ws ++ drop (at + i) mem)) j w ≡ take at mem ++ (take next ws ++ drop (at + next) mem)
+put_more at ws mem i j next w lt le e f h =
+    let g : next ≡ suc i = omega (arith, h) in
+    rw (f, g) (put_behind at ws mem i (at + i) (at + suc i) w refl (omega arith) lt le e)
 
 -- a machine with another memory
 abbrev with_memory : Held → List ℕ → Held
@@ -68,10 +112,22 @@ with_memory held memory = record held { hardware = record held.hardware { memory
 pub put_step : (held first : Held) (a b : List ℕ) (j w : ℕ) → held ≡ with_memory first a → set a j w ≡ b → with_memory held (set held.hardware.memory j w) ≡ with_memory first b
 put_step held first a b j w e h = subst (λ m. with_memory m (set m.hardware.memory j w) ≡ with_memory first b) (sym e) (ap (with_memory first) h)
 
--- where the pages so far are written, the sectors behind them are as before
-pub stays_through : (p : Pages) (m n : ℕ) (told mid retold : Option (List (List ℕ))) → m ≤ n → mid ≡ option_map (written p m) told → StaysFrom n mid retold → StaysFrom n told retold
-stays_through p m n None mid retold le e h = λ q l. h q l ∙ ap (option_map (λ ss. sector_of ss q)) e
-stays_through p m n (Some ss) mid retold le e h = λ q l. h q l ∙ ap (option_map (λ ss. sector_of ss q)) e ∙ ap Some (later_page p m ss q (omega arith))
+-- where the pages below a number are written, and the write of that one failed
+pub torn_among : (p : Pages) (q most : ℕ) (told mid retold : Option (List (List ℕ))) → q < most → mid ≡ option_map (written p q) told → StaysBut q mid retold → TornAmong most (written p most) told retold
+torn_among p q most told mid retold lt e h = record {
+  at = q;
+  inside = lt;
+  before = λ k l. h k (λ is. absurd (omega (arith, is, l))) ∙ ap (option_map (λ ss. sector_of ss k)) e ∙ early told k l;
+  behind = λ k l. h k (λ is. absurd (omega (arith, is, l))) ∙ ap (option_map (λ ss. sector_of ss k)) e ∙ late told k l;
+}
+  where
+    early : (o : Option (List (List ℕ))) (k : ℕ) → k < q → option_map (λ ss. sector_of ss k) (option_map (written p q) o) ≡ option_map (λ ss. sector_of (written p most ss) k) o
+    early None k l = refl
+    early (Some ss) k l = ap Some (sym (early_page p q most ss k l (omega (arith, lt))))
+
+    late : (o : Option (List (List ℕ))) (k : ℕ) → q < k → option_map (λ ss. sector_of ss k) (option_map (written p q) o) ≡ option_map (λ ss. sector_of ss k) o
+    late None k l = refl
+    late (Some ss) k l = ap Some (later_page p q ss k (omega (arith, l)))
 
 -- one more page is written
 pub written_more : (p : Pages) (m n : ℕ) (told mid new : Option (List (List ℕ))) → n ≡ m + 1 → mid ≡ option_map (written p m) told → new ≡ option_map (λ ss. with_page p ss m) mid → new ≡ option_map (written p n) told

@@ -4,17 +4,18 @@ use Rattle.std.specs.Prelude.{⊤, ◌||◌, is_some, if◌then◌else◌}
 use Rattle.std.proofs.lemmas.Grind.{common_steps}
 use Rattle.std.proofs.lemmas.Bool.{cases_lt}
 use Rattle.mips_table.specs.Device.{Outside}
-use Rattle.mips_table.specs.Turns.{complete, lines_of, is_end, TurnLaws}
+use Rattle.mips_table.specs.Machine.{State, run}
+use Rattle.mips_table.specs.Turns.{complete, lines_of, is_end, end_within, TurnLaws}
 use Rattle.cvm_model.specs.Kernel.{JournalEntry}
 use Rattle.cvm_model.specs.Primitives.{user_of}
 use Rattle.cvm_model.specs.Cvm.{System, Status, Running, Halted, Faulted, Cvm, IsCvm}
 use Rattle.cvm_model.specs.Text.{steps_row, journal_rows_after, journal_rows, open_journal_rows, start_row, trace_end}
-use Rattle.layer_map.specs.Map.{Map}
 use Rattle.c0_meaning.specs.State.{State as C0}
-use Rattle.layer_contract.specs.Layer.{Laws}
-use Rattle.layer_contract.specs.Follows.{site_of, machine, loaded}
 use Rattle.boot_turns.specs.Headline as headline
-use Rattle.boot_turns.specs.Headline.{Boots, Machines, Beyond, Ending, Ran, TextOf, EndsBroken, SinkBroken, end_of, ending, ending_of}
+use Rattle.layer_contract.specs.Starts.{Beyond}
+use Rattle.boot_turns.specs.Headline.{Ending, RanFrom, TextAt, EndBroken, SinkBroken, ending, ending_of}
+use Rattle.boot_turns.specs.Machines.{Machines}
+use Rattle.boot_turns.specs.Premises.{StartsFrom}
 use Rattle.boot_turns.specs.Trace.{Shown}
 use Rattle.boot_turns.specs.Entries.{TraceGrows, TracesGrow, step_entries}
 use Rattle.boot_turns.specs.JournalText.{RowsFollow, pending_steps}
@@ -41,8 +42,8 @@ on_of true o e = absurd (cc)
 on_of false None e = refl
 on_of false (Some v) e = absurd (cc)
 
-pub on_at : (x : Outside) (y : System) (old : List (List ℕ)) (turns t : ℕ) → is_end x (loaded y old) turns t ≡ false → (machine x y old t).off ≡ None
-on_at x y old turns t e = on_of _ (machine x y old t).off e
+pub on_at : (x : Outside) (y : System) (s0 : State) (turns t : ℕ) → is_end x s0 turns t ≡ false → (run x s0 t).off ≡ None
+on_at x y s0 turns t e = on_of _ (run x s0 t).off e
 
 bool_cases : (b : Bool) → (b ≡ true) ⊎ (b ≡ false)
 bool_cases true = inl refl
@@ -51,38 +52,42 @@ bool_cases false = inr refl
 both : (b : Bool) → b ≡ true → b ≡ false → ⊥
 both b e f = cc
 
-module _ (counts : TurnLaws) (x : Outside) (y : System) (old : List (List ℕ)) (turns steps : ℕ) where
+module _ (counts : TurnLaws) (x : Outside) (y : System) (s0 : State) (turns steps : ℕ) where
   -- the run hasn't ended before the headline's step
-  pub goes_to_end : (j : ℕ) → j < end_of x y old turns steps → is_end x (loaded y old) turns j ≡ false
+  pub goes_to_end : (j : ℕ) → j < end_within x s0 turns steps → is_end x s0 turns j ≡ false
   goes_to_end j h = ⊎_elim
-      (λ (e : is_end x (loaded y old) turns (end_of x y old turns steps) ≡ true). (counts.found x (loaded y old) turns steps e).first j h)
-      (λ (e : is_end x (loaded y old) turns (end_of x y old turns steps) ≡ false). let n = counts.none x (loaded y old) turns steps e in let same = n.0 in n.1 j (omega (arith, same, h)))
-      (bool_cases (is_end x (loaded y old) turns (end_of x y old turns steps)))
+      (λ (e : is_end x s0 turns (end_within x s0 turns steps) ≡ true). (counts.found x s0 turns steps e).first j h)
+      (λ (e : is_end x s0 turns (end_within x s0 turns steps) ≡ false). let n = counts.none x s0 turns steps e in let same = n.0 in n.1 j (omega (arith, same, h)))
+      (bool_cases (is_end x s0 turns (end_within x s0 turns steps)))
 
   -- and so a step up to which it hasn't is at most that step
-  pub before_end : (at : ℕ) → at ≤ steps → ((j : ℕ) → j < at → is_end x (loaded y old) turns j ≡ false) → at ≤ end_of x y old turns steps
+  pub before_end : (at : ℕ) → at ≤ steps → ((j : ℕ) → j < at → is_end x s0 turns j ≡ false) → at ≤ end_within x s0 turns steps
   before_end at most goes = ⊎_elim
-      (λ (past : end_of x y old turns steps < at). let e = goes (end_of x y old turns steps) past in let n = (counts.none x (loaded y old) turns steps e).0 in absurd (omega (arith, n, past, most)))
-      (λ (h : at ≤ end_of x y old turns steps). h)
-      (cases_lt (end_of x y old turns steps) at)
+      (λ (past : end_within x s0 turns steps < at). let e = goes (end_within x s0 turns steps) past in let n = (counts.none x s0 turns steps e).0 in absurd (omega (arith, n, past, most)))
+      (λ (h : at ≤ end_within x s0 turns steps). h)
+      (cases_lt (end_within x s0 turns steps) at)
 
 -- THE JOURNAL of a later step begins with that of an earlier one
-grown : (x : Outside) (y : System) (old : List (List ℕ)) (u : ℕ) → TraceGrows x y old u → (n t end : ℕ) (j : List JournalEntry) → end ≡ t + n → ((i : ℕ) → i < end → (machine x y old i).off ≡ None) →
-    Shown x (loaded y old) y u t j → (d : List JournalEntry) × Shown x (loaded y old) y u end (j ++ d)
-grown x y old u grows zero t end j same on s =
+grown : (x : Outside) (y : System) (s0 : State) (u : ℕ) → TraceGrows x y s0 u → (n t end : ℕ) (j : List JournalEntry) → end ≡ t + n → ((i : ℕ) → i < end → (run x s0 i).off ≡ None) →
+    Shown x s0 y u t j → (d : List JournalEntry) × Shown x s0 y u end (j ++ d)
+grown x y s0 u grows zero t end j same on s =
     let there : t ≡ end = omega (arith, same) in
-    ([], subst (λ e. Shown x (loaded y old) y u e (j ++ [])) there (subst (λ l. Shown x (loaded y old) y u t l) (sym (append-nil j)) s))
-grown x y old u grows (suc n) t end j same on s =
+    ([], subst (λ e. Shown x s0 y u e (j ++ [])) there (subst (λ l. Shown x s0 y u t l) (sym (append-nil j)) s))
+grown x y s0 u grows (suc n) t end j same on s =
     let m = grows.more t j (on t (omega (arith, same))) s in
-    let d = step_entries x (loaded y old) u t m.words in
-    let g = grown x y old u grows n (suc t) end (j ++ d) (omega (arith, same)) on m.shown in
-    (d ++ g.0, subst (λ l. Shown x (loaded y old) y u end l) (append_assoc j d g.0) g.1)
+    let d = step_entries x s0 u t m.words in
+    let g = grown x y s0 u grows n (suc t) end (j ++ d) (omega (arith, same)) on m.shown in
+    (d ++ g.0, subst (λ l. Shown x s0 y u end l) (append_assoc j d g.0) g.1)
+
+-- sectors that stay from a number on
+pub stays_beyond : (bound : ℕ) (old mid now : List (List ℕ)) → Beyond bound old mid → Beyond bound mid now → Beyond bound old now
+stays_beyond bound old mid now h k = λ q le. k q le ∙ h q le
 
 -- a whole text, by the status of the run
-text_whole : (x : Outside) (y : System) (old : List (List ℕ)) (v : View) (t : ℕ) (s : Status) (text : List ℕ) → Whole x y old v t text → TextOf x y old v t (ending_of s) text
-text_whole x y old v t Running text w = w
-text_whole x y old v t Halted text w = w
-text_whole x y old v t (Faulted f) text w = w
+text_whole : (x : Outside) (y : System) (s0 : State) (v : View) (t : ℕ) (s : Status) (text : List ℕ) → Whole x y s0 v t text → TextAt x y s0 v t (ending_of s) text
+text_whole x y s0 v t Running text w = w
+text_whole x y s0 v t Halted text w = w
+text_whole x y s0 v t (Faulted f) text w = w
 
 -- the rows of a journal, and what follows them to the end of the text
 ends_with : RowsFollow → (start last : List ℕ) (j : List JournalEntry) → (start ++ open_journal_rows j) ++ (steps_row (pending_steps j) ++ last) ≡ start ++ journal_rows j ++ last
@@ -103,87 +108,90 @@ front_cut follow start j d rest whole text is p =
     let front : Prefix [] (start ++ open_journal_rows j) text = subst (λ w. Prefix [] w text) is p in
     subst (λ w. Prefix [] w text) (front_is follow start j d rest) (prefix_more (start ++ open_journal_rows j) (journal_rows_after false (pending_steps j) d ++ rest) text front)
 
-module _ (follow : RowsFollow) (x : Outside) (y : System) (old : List (List ℕ)) (m : Machines x y old) (u turns steps : ℕ) where
+module _ (follow : RowsFollow) (x : Outside) (y : System) (s0 : State) (delay bound : ℕ) (old : List (List ℕ)) (m : Machines x y s0 delay bound) (first : Beyond bound old s0.device.sectors)
+    (u turns steps : ℕ) where
   -- what is printed with no failed call, by whether the run has ended
-  text_by : (t : ℕ) (b : Bool) (c : Cvm) (j : List JournalEntry) → IsCvm y (lines_of x (loaded y old)) (complete x (loaded y old) t) c → Shown x (loaded y old) y u t j →
-      (rest : List ℕ) × TextOf x y old (Trace u) t (if b then ending_of c.status else headline.OutOfSteps) ((start_row u (first_of y u) ++ open_journal_rows j) ++ rest)
+  text_by : (t : ℕ) (b : Bool) (c : Cvm) (j : List JournalEntry) → IsCvm y (lines_of x s0) (complete x s0 t) c → Shown x s0 y u t j →
+      (rest : List ℕ) × TextAt x y s0 (Trace u) t (if b then ending_of c.status else headline.OutOfSteps) ((start_row u (first_of y u) ++ open_journal_rows j) ++ rest)
   text_by t true c j cvm s = (
     steps_row (pending_steps j) ++ trace_end u (user_of c.core.users u) c.status,
-    text_whole x y old (Trace u) t c.status _ (c, j, cvm, s, ends_with follow (start_row u (first_of y u)) (trace_end u (user_of c.core.users u) c.status) j),
+    text_whole x y s0 (Trace u) t c.status _ (c, j, cvm, s, ends_with follow (start_row u (first_of y u)) (trace_end u (user_of c.core.users u) c.status) j),
   )
   text_by t false c j cvm s = ([], (j, s, append-nil (start_row u (first_of y u) ++ open_journal_rows j)))
 
   -- with no failed call the text begins with the rows of what is shown at the headline's step
-  clean : (j : List JournalEntry) → Shown x (loaded y old) y u (end_of x y old turns steps) j →
-      (e : Ending) × (rest : List ℕ) × Ran x y old (machine x y old (end_of x y old turns steps)).device.sectors (Trace u) turns steps e ((start_row u (first_of y u) ++ open_journal_rows j) ++ rest)
+  clean : (j : List JournalEntry) → Shown x s0 y u (end_within x s0 turns steps) j →
+      (e : Ending) × (rest : List ℕ) × RanFrom x y s0 bound old (run x s0 (end_within x s0 turns steps)).device.sectors (Trace u) turns steps e ((start_row u (first_of y u) ++ open_journal_rows j) ++ rest)
   clean j s =
-      let d = m.defined (end_of x y old turns steps) in
-      let w = text_by (end_of x y old turns steps) (is_end x (loaded y old) turns (end_of x y old turns steps)) d.0 j d.1 s in
-      (ending x y old turns steps d.0, w.0, record { past = d.0; cvm = d.1; sectors = refl; beyond = m.beyond (end_of x y old turns steps); status = refl; text_is = w.1 })
+      let d = m.defined (end_within x s0 turns steps) in
+      let w = text_by (end_within x s0 turns steps) (is_end x s0 turns (end_within x s0 turns steps)) d.0 j d.1 s in
+      (ending x s0 turns steps d.0, w.0, record { past = d.0; cvm = d.1; sectors = refl; beyond = stays_beyond bound old s0.device.sectors _ first (m.beyond (end_within x s0 turns steps)); status = refl; text_is = w.1 })
 
-  module _ (counts : TurnLaws) (at : ℕ) (most : at ≤ steps) (goes : (j : ℕ) → j < at → is_end x (loaded y old) turns j ≡ false) (now : List (List ℕ)) (whole text : List ℕ) (p : Prefix [] whole text) where
+  module _ (counts : TurnLaws) (at : ℕ) (most : at ≤ steps) (goes : (j : ℕ) → j < at → is_end x s0 turns j ≡ false) (now : List (List ℕ)) (whole text : List ℕ) (p : Prefix [] whole text) where
     -- a part was printed of the text at a step
-    printed_cut : TraceGrows x y old u → Printed x y old (Trace u) at whole → SinkBroken x y old now (Trace u) turns steps text
+    printed_cut : TraceGrows x y s0 u → Printed x y s0 (Trace u) at whole → SinkBroken x y s0 bound old now (Trace u) turns steps text
     printed_cut grows (j, s, is) =
-        let end = end_of x y old turns steps in
-        let le : at ≤ end_of x y old turns steps = before_end counts x y old turns steps at most goes in
-        let g = grown x y old u grows (end - at) at end j (omega arith) (λ i h. on_at x y old turns i (goes_to_end counts x y old turns steps i h)) s in
+        let end = end_within x s0 turns steps in
+        let le : at ≤ end_within x s0 turns steps = before_end counts x y s0 turns steps at most goes in
+        let g = grown x y s0 u grows (end - at) at end j (omega arith) (λ i h. on_at x y s0 turns i (goes_to_end counts x y s0 turns steps i h)) s in
         let c = clean (j ++ g.0) g.1 in
         let start : List ℕ = start_row u (first_of y u) in (
           c.0,
-          (machine x y old end).device.sectors,
+          (run x s0 end).device.sectors,
           (start ++ open_journal_rows (j ++ g.0)) ++ c.1,
           c.2,
           front_cut follow start j g.0 c.1 whole text is p,
         )
 
     -- or of the whole text, where the run has ended
-    whole_cut : Whole x y old (Trace u) at whole → is_end x (loaded y old) turns at ≡ true → SinkBroken x y old now (Trace u) turns steps text
+    whole_cut : Whole x y s0 (Trace u) at whole → is_end x s0 turns at ≡ true → SinkBroken x y s0 bound old now (Trace u) turns steps text
     whole_cut (c, j, cvm, s, is) ended =
-        let here : end_of x y old turns steps ≡ at = counts.ends x (loaded y old) turns steps at (record { here = ended; first = goes }) most in
-        let end_here : is_end x (loaded y old) turns (end_of x y old turns steps) ≡ true = ap (is_end x (loaded y old) turns) here ∙ ended in
-        let w : Whole x y old (Trace u) (end_of x y old turns steps) whole = subst (λ n. Whole x y old (Trace u) n whole) (sym here) (c, j, cvm, s, is) in (
-          ending x y old turns steps c,
-          (machine x y old (end_of x y old turns steps)).device.sectors,
+        let here : end_within x s0 turns steps ≡ at = counts.ends x s0 turns steps at (record { here = ended; first = goes }) most in
+        let end_here : is_end x s0 turns (end_within x s0 turns steps) ≡ true = ap (is_end x s0 turns) here ∙ ended in
+        let w : Whole x y s0 (Trace u) (end_within x s0 turns steps) whole = subst (λ n. Whole x y s0 (Trace u) n whole) (sym here) (c, j, cvm, s, is) in (
+          ending x s0 turns steps c,
+          (run x s0 (end_within x s0 turns steps)).device.sectors,
           whole,
           record {
             past = c;
-            cvm = subst (λ n. IsCvm y (lines_of x (loaded y old)) (complete x (loaded y old) n) c) (sym here) cvm;
+            cvm = subst (λ n. IsCvm y (lines_of x s0) (complete x s0 n) c) (sym here) cvm;
             sectors = refl;
-            beyond = m.beyond (end_of x y old turns steps);
+            beyond = stays_beyond bound old s0.device.sectors _ first (m.beyond (end_within x s0 turns steps));
             status = refl;
-            text_is = subst (λ (b : Bool). TextOf x y old (Trace u) (end_of x y old turns steps) (if b then ending_of c.status else headline.OutOfSteps) whole) (sym end_here)
-                (text_whole x y old (Trace u) (end_of x y old turns steps) c.status whole w);
+            text_is = subst (λ (b : Bool). TextAt x y s0 (Trace u) (end_within x s0 turns steps) (if b then ending_of c.status else headline.OutOfSteps) whole) (sym end_here)
+                (text_whole x y s0 (Trace u) (end_within x s0 turns steps) c.status whole w);
           },
           p,
         )
 
-    pub cut : TraceGrows x y old u → Printed x y old (Trace u) at whole ⊎ (Whole x y old (Trace u) at whole × (is_end x (loaded y old) turns at ≡ true)) → SinkBroken x y old now (Trace u) turns steps text
-    cut grows h = ⊎_elim (λ (w : Printed x y old (Trace u) at whole). printed_cut grows w) (λ (w : Whole x y old (Trace u) at whole × (is_end x (loaded y old) turns at ≡ true)). whole_cut w.0 w.1) h
+    pub cut : TraceGrows x y s0 u → Printed x y s0 (Trace u) at whole ⊎ (Whole x y s0 (Trace u) at whole × (is_end x s0 turns at ≡ true)) → SinkBroken x y s0 bound old now (Trace u) turns steps text
+    cut grows h = ⊎_elim (λ (w : Printed x y s0 (Trace u) at whole). printed_cut grows w) (λ (w : Whole x y s0 (Trace u) at whole × (is_end x s0 turns at ≡ true)). whole_cut w.0 w.1) h
 
 -- THE SINK'S FAULT IN A TURN of a trace
-pub trace_cut : TurnLaws → RowsFollow → (x : Outside) (y : System) (old : List (List ℕ)) → Machines x y old → (u turns steps : ℕ) → TraceGrows x y old u → (now : List (List ℕ)) (text : List ℕ) →
-    TraceBroken x y old now u turns steps text → SinkBroken x y old now (Trace u) turns steps text
-trace_cut counts follow x y old m u turns steps grows now text w = cut follow x y old m u turns steps counts w.at w.most w.goes_on now w.whole text w.printed grows w.is_whole
+pub trace_cut : TurnLaws → RowsFollow → (x : Outside) (y : System) (s0 : State) (delay bound : ℕ) (old : List (List ℕ)) → Machines x y s0 delay bound → Beyond bound old s0.device.sectors → (u turns steps : ℕ) → TraceGrows x y s0 u → (now : List (List ℕ)) (text : List ℕ) →
+    TraceBroken x y s0 now u turns steps text → SinkBroken x y s0 bound old now (Trace u) turns steps text
+trace_cut counts follow x y s0 delay bound old m first u turns steps grows now text w = cut follow x y s0 delay bound old m first u turns steps counts w.at w.most w.goes_on now w.whole text w.printed grows w.is_whole
 
 -- BY THE VIEW: what is known of the journals of what is viewed
-abbrev pub GrowsFor : Outside → System → List (List ℕ) → View → Type 0
-GrowsFor x y old Boot = ⊤
-GrowsFor x y old (Trace u) = TraceGrows x y old u
+abbrev pub GrowsFor : Outside → System → State → View → Type 0
+GrowsFor x y s0 Boot = ⊤
+GrowsFor x y s0 (Trace u) = TraceGrows x y s0 u
 
-pub grows_for : (Typed : C0 → Type 0) → TracesGrow Typed → (lines busy : ℕ → ℕ) (x : Outside) (y : System) (old : List (List ℕ)) (image sizes : List ℕ) (made_for : Map) → Boots Typed lines busy x y old image sizes made_for →
-    Laws (site_of y.boot) sizes → (v : View) → SeesUser v (length y.boot.users) → GrowsFor x y old v
-grows_for Typed law lines busy x y old image sizes made_for boots laws Boot sees = tt
-grows_for Typed law lines busy x y old image sizes made_for boots laws (Trace u) sees = law lines busy x y old image sizes made_for u boots laws sees.0 sees.1
+pub grows_for : (Typed : C0 → Type 0) → TracesGrow Typed → (x : Outside) (y : System) (s0 : State) (delay bound : ℕ) → StartsFrom Typed x y s0 delay bound →
+    (v : View) → SeesUser v (length y.boot.users) → GrowsFor x y s0 v
+grows_for Typed law x y s0 delay bound lawful Boot sees = tt
+grows_for Typed law x y s0 delay bound lawful (Trace u) sees = law x y s0 delay bound u lawful sees.0 sees.1
 
 -- the sink failed in a turn
-pub put_ends : TurnLaws → RowsFollow → (x : Outside) (y : System) (old : List (List ℕ)) → Machines x y old → (v : View) → GrowsFor x y old v → (turns steps : ℕ) (now : List (List ℕ)) (text : List ℕ) → PutFails x y old now v turns steps text →
-    Beyond y old now × SinkBroken x y old now v turns steps text
-put_ends counts follow x y old m Boot grows turns steps now text w = (subst (Beyond y old) (sym w.sectors) (m.beyond w.end), inl w)
-put_ends counts follow x y old m (Trace u) grows turns steps now text w = (subst (Beyond y old) (sym w.sectors) (m.beyond w.at), trace_cut counts follow x y old m u turns steps grows now text w)
+pub put_ends : TurnLaws → RowsFollow → (x : Outside) (y : System) (s0 : State) (delay bound : ℕ) (old : List (List ℕ)) → Machines x y s0 delay bound → Beyond bound old s0.device.sectors → (v : View) → GrowsFor x y s0 v → (turns steps : ℕ) (now : List (List ℕ)) (text : List ℕ) → PutFails x y s0 now v turns steps text →
+    Beyond bound old now × SinkBroken x y s0 bound old now v turns steps text
+put_ends counts follow x y s0 delay bound old m first Boot grows turns steps now text w =
+    (subst (Beyond bound old) (sym w.sectors) (stays_beyond bound old s0.device.sectors _ first (m.beyond w.end)), inl w)
+put_ends counts follow x y s0 delay bound old m first (Trace u) grows turns steps now text w =
+    (subst (Beyond bound old) (sym w.sectors) (stays_beyond bound old s0.device.sectors _ first (m.beyond w.at)), trace_cut counts follow x y s0 delay bound old m first u turns steps grows now text w)
 
 -- or in the report
-pub report_ends : (x : Outside) (y : System) (old now : List (List ℕ)) (v : View) (turns steps : ℕ) (part whole text : List ℕ) → (Rows x y old v (end_of x y old turns steps) part → EndsBroken x y old now v turns steps text) →
-    Printed x y old v (end_of x y old turns steps) part → Ran x y old now v turns steps headline.Done whole → Prefix part whole text → SinkBroken x y old now v turns steps text
-report_ends x y old now Boot turns steps part whole text broken printed ran p = inr (broken printed)
-report_ends x y old now (Trace u) turns steps part whole text broken printed ran p = (headline.Done, now, whole, ran, prefix_any part whole text p)
+pub report_ends : (x : Outside) (y : System) (s0 : State) (bound : ℕ) (old now : List (List ℕ)) (v : View) (turns steps : ℕ) (part whole text : List ℕ) → (Rows x y s0 v (end_within x s0 turns steps) part → EndBroken x y s0 now v turns steps text) →
+    Printed x y s0 v (end_within x s0 turns steps) part → RanFrom x y s0 bound old now v turns steps headline.Done whole → Prefix part whole text → SinkBroken x y s0 bound old now v turns steps text
+report_ends x y s0 bound old now Boot turns steps part whole text broken printed ran p = inr (broken printed)
+report_ends x y s0 bound old now (Trace u) turns steps part whole text broken printed ran p = (headline.Done, now, whole, ran, prefix_any part whole text p)

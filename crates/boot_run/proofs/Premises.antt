@@ -7,6 +7,9 @@ use Rattle.cvm_outside.specs.Told.{IsSector}
 use Rattle.schedule_file.specs.Rows.{Rows, lines_at, busy_of, longest}
 use Rattle.mips_table.specs.Device.{HasEightLines, LinesEnd}
 use Rattle.mips_table.specs.Fits.{IsWord, IsPage}
+use Rattle.mips_table.specs.Machine.{State}
+use Rattle.c0_tree.specs.View.{unit_view}
+use Rattle.c0_meaning.specs.TypedState.{IsTypedState}
 use Rattle.mips_machine.specs.Steps.{outside_of}
 use Rattle.layer_map.specs.Map.{Map, MapInRange, layer_words}
 use Rattle.cvm_model.specs.Cvm.{first_core}
@@ -14,10 +17,14 @@ use Rattle.cvm_model.specs.Stands.{Site, input_room, CoreFits}
 use Rattle.layer_contract.specs.declared.boot.Boot.{Boot as Booted}
 use Rattle.layer_contract.specs.Boots.{boot_of, BootFollows}
 use Rattle.layer_contract.specs.Layer.{BusyWithin, Linked, Laws, site_with}
-use Rattle.layer_contract.specs.Follows.{site_of}
+use Rattle.layer_contract.specs.Follows.{site_of, loaded, SystemFits}
+use Rattle.layer_contract.specs.Starts.{Start, LoadedStarts, LoadedKeeps, user_sectors}
+use Rattle.boot_turns.specs.Premises.{StartsFrom}
+use Rattle.boot_turns.specs.Rom.{rom_sectors, RomStarts}
 use Rattle.boot_run.specs.Loading.{system_of}
-use Rattle.boot_run.specs.LoadEnds.{pages_needed}
-use Rattle.boot_run.specs.Whole.{Bootable}
+use Rattle.boot_run.specs.LoadEnds.{pages_needed, rom_needed}
+use Rattle.boot_run.specs.Whole.{Bootable, RomBootable, rom_start_of}
+use Rattle.boot_run.proofs.RomLoads.{rom_needed_is}
 
 -- sectors of words are pages
 pub are_pages : (old : List (List ℕ)) → All IsSector old → All IsPage old
@@ -49,31 +56,62 @@ module _ (image sizes : List ℕ) (made_for : Map) (b : Booted) (follows : BootF
       subst (λ (s : Site). Laws s sizes) site_is
       (laws (drop layer_words b.words.items) follows.made.range (many ∙ sym (ap (λ (m : Map). m.code_words) follows.made.same_map)))
 
-  pub bootable : ((code : List ℕ) → MapInRange made_for → length code ≡ made_for.code_words → Laws (site_with made_for image code) sizes) → (rows : Rows) (count : ℕ) (old : List (List ℕ)) → RowsFit rows count →
-      All IsWord b.words.items → length old ≡ count → All IsPage old → pages_needed b ≤ count → Bootable b rows count (system_of b rows) old
-  bootable laws rows count old fit words sized pages room =
-      record {
-        lines = lines_at rows;
-        busy = busy_of rows;
-        image = image;
-        sizes = sizes;
-        made_for = made_for;
-        boots = record {
-          happens = record { lines_are = refl; eight = fit.eight; end = fit.end; busy_are = refl; count_is = sym sized };
-          within = fit.within;
-          fits = record {
-            lines = fit.eight;
-            range = subst MapInRange follows.made.same_map follows.made.range;
-            long = long;
-            words = words;
-            input = fit.words;
-            core = subst (λ (m : Map). CoreFits m (first_core (system_of b rows))) follows.made.same_map (follows.made.fits rows.inputs (longest rows) fit.few);
-            count = sized;
-            pages = pages;
-            enough = subst (λ n. n * b.params.pages ≤ count) (sym (length-map b.users.items (λ words. words.items))) room;
+  module _ (laws : (code : List ℕ) → MapInRange made_for → length code ≡ made_for.code_words → Laws (site_with made_for image code) sizes) (rows : Rows) (count : ℕ) (old : List (List ℕ)) (fit : RowsFit rows count)
+      (words : All IsWord b.words.items) (sized : length old ≡ count) (pages : All IsPage old) (room : pages_needed b ≤ count) where
+    pub fits : SystemFits (outside_of rows count) (system_of b rows) old
+    fits = record {
+      lines = fit.eight;
+      range = subst MapInRange follows.made.same_map follows.made.range;
+      long = long;
+      words = words;
+      input = fit.words;
+      core = subst (λ (m : Map). CoreFits m (first_core (system_of b rows))) follows.made.same_map (follows.made.fits rows.inputs (longest rows) fit.few);
+      count = sized;
+      pages = pages;
+      enough = subst (λ n. n * b.params.pages ≤ count) (sym (length-map b.users.items (λ words. words.items))) room;
+    }
+
+    -- a run from any start
+    pub starts_from : (s0 : State) (delay bound : ℕ) → Start (outside_of rows count) (system_of b rows) s0 delay bound → StartsFrom (IsTypedState (unit_view b.unit)) (outside_of rows count) (system_of b rows) s0 delay bound
+    starts_from s0 delay bound start = record {
+      lines = lines_at rows;
+      busy = busy_of rows;
+      old = old;
+      image = image;
+      sizes = sizes;
+      made_for = made_for;
+      boots = record {
+        happens = record { lines_are = refl; eight = fit.eight; end = fit.end; busy_are = refl; count_is = sym sized };
+        within = fit.within;
+        fits = fits;
+        follows = follows;
+      };
+      laws = its_laws laws;
+      start = start;
+    }
+
+    -- the boot
+    pub bootable : LoadedStarts → LoadedKeeps → Bootable b rows count (system_of b rows) (loaded (system_of b rows) old) 1 (user_sectors (system_of b rows)) old
+    bootable law keeps = record {
+      starts = starts_from (loaded (system_of b rows) old) 1 (user_sectors (system_of b rows)) (law (outside_of rows count) (system_of b rows) old fits);
+      beyond = keeps (outside_of rows count) (system_of b rows) old fits;
+      same = refl;
+    }
+
+    -- the machine with its boot ROM
+    pub rom_bootable : RomStarts → rom_needed b ≤ count → RomBootable b rows count old
+    rom_bootable law enough =
+        let start = law (outside_of rows count) (system_of b rows) old (record {
+          system = fits;
+          busy = fit.within;
+          enough = subst (λ n. n ≤ count) (sym (rom_needed_is b rows)) enough;
+        }) in
+        record {
+          late = start.late;
+          within = start.within;
+          bootable = record {
+            starts = starts_from (rom_start_of (system_of b rows) old) start.late (rom_sectors (system_of b rows)) start.start;
+            beyond = start.beyond;
+            same = refl;
           };
-          follows = follows;
-        };
-        laws = its_laws laws;
-        same = refl;
-      }
+        }

@@ -15,8 +15,7 @@ use Rattle.layer_map.specs.Map.{Map}
 use Rattle.boot_report.specs.Texts.{EntriesFit, SameButViewed}
 use Rattle.boot_report.specs.Told.{RowsTell}
 use Rattle.boot_report.specs.Given.{GlobalRowsTell}
-use Rattle.boot_turns.specs.Headline.{MachinesRun}
-use Rattle.boot_turns.specs.TypedRuns.{RunsStayTyped}
+use Rattle.boot_turns.specs.Machines.{MachinesRun, RunsStayTyped}
 use Rattle.boot_turns.specs.declared.answers.View.TheVariants.{Boot as OfBoot}
 use Rattle.boot_turns.specs.declared.answers.RunFault.{RunFault}
 use Rattle.boot_turns.specs.declared.answers.RunFault.TheVariants.{StepLimit}
@@ -28,41 +27,41 @@ use Rattle.boot_run.proofs.Reporting.{its_told, nothing_more, boot_rows, prefix_
 
 -- where the kernel faulted
 pub faulted_before : {L : Type 0} (now : Kept L) (count : ℕ) (told : Option (List (List ℕ))) (text : Option (List ℕ)) → has_faulted now.ended ≡ true → ReportRuns count now now told told text text (Ok tt)
-faulted_before now count told text faulted = λ budget lines busy y old image sizes made_for base k t c same_boot boots laws ready.
-    nothing_more (outside_of now.machine.rows count) y old now.view base k t budget c now told text ready faulted
+faulted_before now count told text faulted = λ budget y s0 delay bound base k t c same_boot lawful ready.
+    nothing_more (outside_of now.machine.rows count) y s0 now.view base k t budget c now told text ready faulted
 
 module _ {L : Type 0} (r : Kept L) (count : ℕ) (told retold : Option (List (List ℕ))) (text retext : Option (List ℕ)) (view : r.view ≡ OfBoot) (fine : has_faulted r.ended ≡ false)
-    (run : (u : CUnit) → MachinesRun (IsTypedState u)) (typed : (u : CUnit) → RunsStayTyped (IsTypedState u)) (rows : RowsTell) (globals : GlobalRowsTell) (formed : IsWellFormed kernel_primitives (unit_view r.boot.unit))
+    (law : (u : CUnit) → MachinesRun (IsTypedState u)) (typed : (u : CUnit) → RunsStayTyped (IsTypedState u)) (rows : RowsTell) (globals : GlobalRowsTell) (formed : IsWellFormed kernel_primitives (unit_view r.boot.unit))
     (map : Map) (places : List ℕ) (placed : IsPlaced r.boot map places r.machine.hardware.memory r.count) (held : Held) (same_machine : SameButViewed r.machine held) (retold_is : retold ≡ told) where
   pub all_printed : ((ss : List (List ℕ)) → told ≡ Some ss → EntriesFit map (state_of r.machine ss) → retext ≡ append_known text (closing_rows (is_some r.ended) r.current r.machine ss map places r.boot.unit.globals.items)) →
       ReportRuns count r (record r { machine = held; fault = None }) told retold text retext (Ok tt)
-  all_printed put = λ budget lines busy y old image sizes made_for base k t c same_boot boots laws ready.
-      let m = run (unit_view r.boot.unit) lines busy (outside_of r.machine.rows count) y old image sizes made_for boots laws in
-      let stays = typed (unit_view r.boot.unit) lines busy (outside_of r.machine.rows count) y old image sizes made_for boots laws in
-      let seen = its_told (outside_of r.machine.rows count) y old r.view base k t budget c r told text ready in
-      let fit = entries (outside_of r.machine.rows count) y old r.view base k t budget c r told text ready same_boot map places placed fine m stays rows globals formed in
-      let whole = whole_boot (outside_of r.machine.rows count) y old r.view base k t budget c r told text ready same_boot map places placed fine m stays rows globals formed view in
-      printed (outside_of r.machine.rows count) y old r.view base k t budget c r told text ready (closing_rows (is_some r.ended) r.current r.machine seen.sectors map places r.boot.unit.globals.items) whole
+  all_printed put = λ budget y s0 delay bound base k t c same_boot lawful ready.
+      let m = law (unit_view r.boot.unit) (outside_of r.machine.rows count) y s0 delay bound lawful in
+      let stays = typed (unit_view r.boot.unit) (outside_of r.machine.rows count) y s0 delay bound lawful in
+      let seen = its_told (outside_of r.machine.rows count) y s0 r.view base k t budget c r told text ready in
+      let fit = entries (outside_of r.machine.rows count) y s0 r.view base k t budget c r told text ready same_boot map places placed fine m stays rows globals formed in
+      let whole = whole_boot (outside_of r.machine.rows count) y s0 r.view base k t budget c r told text ready same_boot map places placed fine m stays rows globals formed view in
+      printed (outside_of r.machine.rows count) y s0 r.view base k t budget c r told text ready (closing_rows (is_some r.ended) r.current r.machine seen.sectors map places r.boot.unit.globals.items) whole
       held same_machine retold retold_is retext (put seen.sectors seen.are fit)
 
   pub broken_off : (f : RunFault) → f ≢ StepLimit →
       ((ss : List (List ℕ)) → told ≡ Some ss → EntriesFit map (state_of r.machine ss) → AppendsPart text retext (closing_rows (is_some r.ended) r.current r.machine ss map places r.boot.unit.globals.items)) →
       ReportRuns count r (record r { machine = held; fault = Some f }) told retold text retext (Err f)
-  broken_off f limit put = λ budget lines busy y old image sizes made_for base k t c same_boot boots laws ready.
-      let m = run (unit_view r.boot.unit) lines busy (outside_of r.machine.rows count) y old image sizes made_for boots laws in
-      let stays = typed (unit_view r.boot.unit) lines busy (outside_of r.machine.rows count) y old image sizes made_for boots laws in
-      let seen = its_told (outside_of r.machine.rows count) y old r.view base k t budget c r told text ready in
-      let fit = entries (outside_of r.machine.rows count) y old r.view base k t budget c r told text ready same_boot map places placed fine m stays rows globals formed in
-      let whole = whole_boot (outside_of r.machine.rows count) y old r.view base k t budget c r told text ready same_boot map places placed fine m stays rows globals formed view in
-      let so = so_far (outside_of r.machine.rows count) y old r.view base k t budget c r told text ready same_boot map places placed fine in
+  broken_off f limit put = λ budget y s0 delay bound base k t c same_boot lawful ready.
+      let m = law (unit_view r.boot.unit) (outside_of r.machine.rows count) y s0 delay bound lawful in
+      let stays = typed (unit_view r.boot.unit) (outside_of r.machine.rows count) y s0 delay bound lawful in
+      let seen = its_told (outside_of r.machine.rows count) y s0 r.view base k t budget c r told text ready in
+      let fit = entries (outside_of r.machine.rows count) y s0 r.view base k t budget c r told text ready same_boot map places placed fine m stays rows globals formed in
+      let whole = whole_boot (outside_of r.machine.rows count) y s0 r.view base k t budget c r told text ready same_boot map places placed fine m stays rows globals formed view in
+      let so = so_far (outside_of r.machine.rows count) y s0 r.view base k t budget c r told text ready same_boot map places placed fine in
       let part = put seen.sectors seen.are fit in
-      cut (outside_of r.machine.rows count) y old r.view base k t budget c r told text ready (closing_rows (is_some r.ended) r.current r.machine seen.sectors map places r.boot.unit.globals.items) whole
+      cut (outside_of r.machine.rows count) y s0 r.view base k t budget c r told text ready (closing_rows (is_some r.ended) r.current r.machine seen.sectors map places r.boot.unit.globals.items) whole
       held same_machine retold retold_is retext so f limit part.0 part.1
-      (λ h. (ready.shown, boot_rows (outside_of r.machine.rows count) y old t r.view view ready.shown so, prefix_of ready.shown (closing_rows (is_some r.ended) r.current r.machine seen.sectors map places r.boot.unit.globals.items) part.0))
+      (λ h. (ready.shown, boot_rows (outside_of r.machine.rows count) y s0 t r.view view ready.shown so, prefix_of ready.shown (closing_rows (is_some r.ended) r.current r.machine seen.sectors map places r.boot.unit.globals.items) part.0))
 
 -- the same of the run as the call found it, by the code's own values
 module _ {L : Type 0} (now r : Kept L) (same : r ≡ now) (count : ℕ) (told retold : Option (List (List ℕ))) (text retext : Option (List ℕ)) (tracer : r.tracer ≡ None) (view : r.view ≡ viewed r.tracer) (fine : has_faulted now.ended ≡ false)
-    (run : (u : CUnit) → MachinesRun (IsTypedState u)) (typed : (u : CUnit) → RunsStayTyped (IsTypedState u)) (rows : RowsTell) (globals : GlobalRowsTell) (formed : IsWellFormed kernel_primitives (unit_view r.boot.unit))
+    (law : (u : CUnit) → MachinesRun (IsTypedState u)) (typed : (u : CUnit) → RunsStayTyped (IsTypedState u)) (rows : RowsTell) (globals : GlobalRowsTell) (formed : IsWellFormed kernel_primitives (unit_view r.boot.unit))
     (map : Map) (places : List ℕ) (placed : IsPlaced r.boot map places r.machine.hardware.memory r.count) (held : Held) (same_machine : SameButViewed r.machine held) (retold_is : retold ≡ told)
     (halted : Bool) (halted_is : halted ≡ is_some r.ended) (decls : List Decl) (decls_are : decls ≡ r.boot.unit.globals.items) where
   its_view : r.view ≡ OfBoot

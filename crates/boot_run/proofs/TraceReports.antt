@@ -59,47 +59,47 @@ module _ {L : Type 0} (r : Kept L) (count : ℕ) (told retold : Option (List (Li
   pub trace_printed :
       ((ss : List (List ℕ)) → told ≡ Some ss → EntriesFit map (state_of r.machine ss) → retext ≡ append_known text (steps_row kept.steps ++ trace_rows (is_some r.ended) r.current r.machine ss map kept.user)) →
       ReportRuns count r (record r { machine = held; fault = None }) told retold text retext (Ok tt)
-  trace_printed put = λ budget lines busy y old image sizes made_for base k t c same_boot boots laws ready.
-      let grows = grow (unit_view r.boot.unit) lines busy (outside_of r.machine.rows count) y old image sizes made_for kept.user boots laws some (within_boot y r same_boot map places placed kept.user most) in
-      let seen = its_told (outside_of r.machine.rows count) y old r.view base k t budget c r told text ready in
-      let fit = trace_entries (outside_of r.machine.rows count) y old r.view base k t budget c r told text ready same_boot map places placed fine rows kept.user some most in
-      let journal = its_journal (outside_of r.machine.rows count) y old r.view base k t budget c r told text ready same_boot map places placed fine rows kept.user some most grows kept tracer view in
-      let whole = whole_trace (outside_of r.machine.rows count) y old r.view base k t budget c r told text ready same_boot map places placed fine rows kept.user some most follow kept.steps journal view in
-      printed (outside_of r.machine.rows count) y old r.view base k t budget c r told text ready (steps_row kept.steps ++ trace_rows (is_some r.ended) r.current r.machine seen.sectors map kept.user) whole
+  trace_printed put = λ budget y s0 delay bound base k t c same_boot lawful ready.
+      let grows = grow (unit_view r.boot.unit) (outside_of r.machine.rows count) y s0 delay bound kept.user lawful some (within_boot y r same_boot map places placed kept.user most) in
+      let seen = its_told (outside_of r.machine.rows count) y s0 r.view base k t budget c r told text ready in
+      let fit = trace_entries (outside_of r.machine.rows count) y s0 r.view base k t budget c r told text ready same_boot map places placed fine rows kept.user some most in
+      let journal = its_journal (outside_of r.machine.rows count) y s0 r.view base k t budget c r told text ready same_boot map places placed fine rows kept.user some most grows kept tracer view in
+      let whole = whole_trace (outside_of r.machine.rows count) y s0 r.view base k t budget c r told text ready same_boot map places placed fine rows kept.user some most follow kept.steps journal view in
+      printed (outside_of r.machine.rows count) y s0 r.view base k t budget c r told text ready (steps_row kept.steps ++ trace_rows (is_some r.ended) r.current r.machine seen.sectors map kept.user) whole
       held same_machine retold retold_is retext (put seen.sectors seen.are fit)
 
   pub trace_disk_failed :
       ((ss : List (List ℕ)) → told ≡ Some ss → EntriesFit map (state_of r.machine ss) → AppendsPart (append_known text (steps_row kept.steps)) retext (trace_rows (is_some r.ended) r.current r.machine ss map kept.user)) →
       ReportRuns count r (record r { machine = held; fault = Some Disk }) told retold text retext (Err Disk)
-  trace_disk_failed put = λ budget lines busy y old image sizes made_for base k t c same_boot boots laws ready.
-      let grows = grow (unit_view r.boot.unit) lines busy (outside_of r.machine.rows count) y old image sizes made_for kept.user boots laws some (within_boot y r same_boot map places placed kept.user most) in
-      let seen = its_told (outside_of r.machine.rows count) y old r.view base k t budget c r told text ready in
-      let fit = trace_entries (outside_of r.machine.rows count) y old r.view base k t budget c r told text ready same_boot map places placed fine rows kept.user some most in
-      let journal = its_journal (outside_of r.machine.rows count) y old r.view base k t budget c r told text ready same_boot map places placed fine rows kept.user some most grows kept tracer view in
-      let whole = whole_trace (outside_of r.machine.rows count) y old r.view base k t budget c r told text ready same_boot map places placed fine rows kept.user some most follow kept.steps journal view in
-      let so = so_far (outside_of r.machine.rows count) y old r.view base k t budget c r told text ready same_boot map places placed fine in
+  trace_disk_failed put = λ budget y s0 delay bound base k t c same_boot lawful ready.
+      let grows = grow (unit_view r.boot.unit) (outside_of r.machine.rows count) y s0 delay bound kept.user lawful some (within_boot y r same_boot map places placed kept.user most) in
+      let seen = its_told (outside_of r.machine.rows count) y s0 r.view base k t budget c r told text ready in
+      let fit = trace_entries (outside_of r.machine.rows count) y s0 r.view base k t budget c r told text ready same_boot map places placed fine rows kept.user some most in
+      let journal = its_journal (outside_of r.machine.rows count) y s0 r.view base k t budget c r told text ready same_boot map places placed fine rows kept.user some most grows kept tracer view in
+      let whole = whole_trace (outside_of r.machine.rows count) y s0 r.view base k t budget c r told text ready same_boot map places placed fine rows kept.user some most follow kept.steps journal view in
+      let so = so_far (outside_of r.machine.rows count) y s0 r.view base k t budget c r told text ready same_boot map places placed fine in
       let part = put seen.sectors seen.are fit in
-      cut (outside_of r.machine.rows count) y old r.view base k t budget c r told text ready (steps_row kept.steps ++ trace_rows (is_some r.ended) r.current r.machine seen.sectors map kept.user) whole
+      cut (outside_of r.machine.rows count) y s0 r.view base k t budget c r told text ready (steps_row kept.steps ++ trace_rows (is_some r.ended) r.current r.machine seen.sectors map kept.user) whole
       held same_machine retold retold_is retext so Disk (λ h. cc) (length (steps_row kept.steps) + part.0)
       (behind ready.shown (steps_row kept.steps) (trace_rows (is_some r.ended) r.current r.machine seen.sectors map kept.user) part.0 text retext part.1)
       (λ h. (
         ready.shown ++ steps_row kept.steps,
-        trace_row_texts (outside_of r.machine.rows count) y old kept.user t ready.shown kept.steps follow journal r.view view,
+        trace_row_texts (outside_of r.machine.rows count) y s0 kept.user t ready.shown kept.steps follow journal r.view view,
         stand ready.shown (steps_row kept.steps) (trace_rows (is_some r.ended) r.current r.machine seen.sectors map kept.user) part.0,
       ))
 
   pub trace_sink_failed :
       ((ss : List (List ℕ)) → told ≡ Some ss → EntriesFit map (state_of r.machine ss) → AppendsPart text retext (steps_row kept.steps ++ trace_rows (is_some r.ended) r.current r.machine ss map kept.user)) →
       ReportRuns count r (record r { machine = held; fault = Some Sink }) told retold text retext (Err Sink)
-  trace_sink_failed put = λ budget lines busy y old image sizes made_for base k t c same_boot boots laws ready.
-      let grows = grow (unit_view r.boot.unit) lines busy (outside_of r.machine.rows count) y old image sizes made_for kept.user boots laws some (within_boot y r same_boot map places placed kept.user most) in
-      let seen = its_told (outside_of r.machine.rows count) y old r.view base k t budget c r told text ready in
-      let fit = trace_entries (outside_of r.machine.rows count) y old r.view base k t budget c r told text ready same_boot map places placed fine rows kept.user some most in
-      let journal = its_journal (outside_of r.machine.rows count) y old r.view base k t budget c r told text ready same_boot map places placed fine rows kept.user some most grows kept tracer view in
-      let whole = whole_trace (outside_of r.machine.rows count) y old r.view base k t budget c r told text ready same_boot map places placed fine rows kept.user some most follow kept.steps journal view in
-      let so = so_far (outside_of r.machine.rows count) y old r.view base k t budget c r told text ready same_boot map places placed fine in
+  trace_sink_failed put = λ budget y s0 delay bound base k t c same_boot lawful ready.
+      let grows = grow (unit_view r.boot.unit) (outside_of r.machine.rows count) y s0 delay bound kept.user lawful some (within_boot y r same_boot map places placed kept.user most) in
+      let seen = its_told (outside_of r.machine.rows count) y s0 r.view base k t budget c r told text ready in
+      let fit = trace_entries (outside_of r.machine.rows count) y s0 r.view base k t budget c r told text ready same_boot map places placed fine rows kept.user some most in
+      let journal = its_journal (outside_of r.machine.rows count) y s0 r.view base k t budget c r told text ready same_boot map places placed fine rows kept.user some most grows kept tracer view in
+      let whole = whole_trace (outside_of r.machine.rows count) y s0 r.view base k t budget c r told text ready same_boot map places placed fine rows kept.user some most follow kept.steps journal view in
+      let so = so_far (outside_of r.machine.rows count) y s0 r.view base k t budget c r told text ready same_boot map places placed fine in
       let part = put seen.sectors seen.are fit in
-      cut (outside_of r.machine.rows count) y old r.view base k t budget c r told text ready (steps_row kept.steps ++ trace_rows (is_some r.ended) r.current r.machine seen.sectors map kept.user) whole
+      cut (outside_of r.machine.rows count) y s0 r.view base k t budget c r told text ready (steps_row kept.steps ++ trace_rows (is_some r.ended) r.current r.machine seen.sectors map kept.user) whole
       held same_machine retold retold_is retext so Sink (λ h. cc) part.0 part.1 (λ h. absurd (cc))
 
 -- the same of the run as the call found it, by the code's own values

@@ -1,16 +1,15 @@
 -- The users' pages at the start: which numbers are pages, and what words they have.
-use Rattle.std.proofs.Common.{◌≡◌, ℕ, zero, suc, ◌+◌, ◌*◌, ◌/◌, ◌%◌, ◌-◌, ◌<◌, ◌≤◌, true, false, List, [], ◌∷◌, ◌++◌, map, length, get_or, set, replicate, Option, None, Some, refl, sym, ap, ◌∙◌, arith, length-append, lt-ltb, le-ltb}
+use Rattle.std.proofs.Common.{◌≡◌, ℕ, zero, suc, ◌+◌, ◌*◌, ◌/◌, ◌%◌, ◌-◌, ◌<◌, ◌≤◌, true, false, List, [], ◌∷◌, ◌++◌, map, length, get_or, set, replicate, Option, None, Some, refl, sym, ap, ◌∙◌, ⊎_elim, arith, length-append, lt-ltb, le-ltb}
 use Rattle.std.specs.Prelude.{nat_lt, Result, Ok, Err, OnOk, OnErr}
 use Rattle.std.proofs.Math.Nat.{div-lt_iff_lt-mul}
 use Rattle.std.specs.Option.{option_map}
-use Rattle.std.proofs.lemmas.Bool.{cond-true, cond-false}
+use Rattle.std.proofs.lemmas.Bool.{cases_lt, cond-true}
 use Rattle.std.proofs.lemmas.List.{get_or-map, length-replicate, get_or_past, length-map}
-use Rattle.std.proofs.lemmas.List.FromFn.{fill_by_all}
 use Rattle.layer_map.specs.Map.{next_page}
 use Rattle.mips_table.specs.Flat.{Flat}
 use Rattle.cvm_model.specs.Primitives.{no_flat, user_of, pages_of}
 use Rattle.cvm_model.specs.Cvm.{first_flat}
-use Rattle.boot_run.specs.Loading.{first_pages, with_page, words_of_page}
+use Rattle.boot_run.specs.Loading.{disk_pages, first_pages}
 
 zeros : (n j : ℕ) → ◌≡◌ {A = ℕ} (get_or (replicate n 0) j 0) 0
 zeros zero j = refl
@@ -37,32 +36,24 @@ module _ (per : ℕ) (users : List (List ℕ)) (q : ℕ) (lt : q / per < length 
   its_user : user_of (map first_flat users) (q / per + 1) ≡ first_flat its_words
   its_user = let e : q / per + 1 - 1 ≡ q / per = omega arith in ap (λ k. get_or (map first_flat users) k no_flat) e ∙ get_or-map first_flat users (q / per) [] no_flat lt
 
-  pub live_if : 1024 * (q % per) < length its_words → (first_pages per users).live q ≡ true
+  live_if : 1024 * (q % per) < length its_words → (first_pages per users).live q ≡ true
   live_if h =
       ap (λ f. nat_lt (q % per) (pages_of f)) its_user
       ∙ lt-ltb (q % per) (pages_of (first_flat its_words)) (let e = pages_of_first its_words in omega (arith, e, h))
 
-  pub dead_if : length its_words ≤ 1024 * (q % per) → (first_pages per users).live q ≡ false
+  dead_if : length its_words ≤ 1024 * (q % per) → (first_pages per users).live q ≡ false
   dead_if h =
       ap (λ f. nat_lt (q % per) (pages_of f)) its_user
       ∙ le-ltb (q % per) (pages_of (first_flat its_words)) (let e = pages_of_first its_words in omega (arith, e, h))
 
-  word_is : (i : ℕ) → (first_pages per users).word q i ≡ get_or its_words (1024 * (q % per) + i) 0
+  pub live_is : (first_pages per users).live q ≡ nat_lt (1024 * (q % per)) (length its_words)
+  live_is = ⊎_elim
+      (λ (h : 1024 * (q % per) < length its_words). live_if h ∙ sym (lt-ltb (1024 * (q % per)) (length its_words) h))
+      (λ (h : length its_words ≤ 1024 * (q % per)). dead_if h ∙ sym (le-ltb (1024 * (q % per)) (length its_words) h))
+      (cases_lt (1024 * (q % per)) (length its_words))
+
+  pub word_is : (i : ℕ) → (first_pages per users).word q i ≡ get_or its_words (1024 * (q % per) + i) 0
   word_is i = ap (λ (f : Flat). get_or f.words (1024 * (q % per) + i) 0) its_user ∙ padded its_words _ _
-
-  page_is : (page : List ℕ) → length page ≡ 1024 → ((i : ℕ) → i < 1024 → get_or page i 0 ≡ get_or its_words (1024 * (q % per) + i) 0) → page ≡ words_of_page (first_pages per users) q
-  page_is page long h = fill_by_all ((first_pages per users).word q) page 1024 0 long (λ i l. h i l ∙ sym (word_is i))
-
-  -- the page of the number is written
-  pub page_written : (told : Option (List (List ℕ))) (page : List ℕ) → 1024 * (q % per) < length its_words → length page ≡ 1024 → ((i : ℕ) → i < 1024 → get_or page i 0 ≡ get_or its_words (1024 * (q % per) + i) 0) →
-      option_map (λ ss. set ss q page) told ≡ option_map (λ ss. with_page (first_pages per users) ss q) told
-  page_written None page h long words = refl
-  page_written (Some ss) page h long words = ap (λ w. Some (set ss q w)) (page_is page long words) ∙ ap Some (sym (cond-true ((first_pages per users).live q) _ _ (live_if h)))
-
-  -- the number is no page
-  pub page_left : (told : Option (List (List ℕ))) → length its_words ≤ 1024 * (q % per) → told ≡ option_map (λ ss. with_page (first_pages per users) ss q) told
-  page_left None h = refl
-  page_left (Some ss) h = ap Some (sym (cond-false ((first_pages per users).live q) _ _ (dead_if h)))
 
 -- a number past all users is no page
 pub dead_past : (per : ℕ) (users : List (List ℕ)) (q : ℕ) → length users ≤ q / per → (first_pages per users).live q ≡ false
@@ -70,6 +61,14 @@ dead_past per users q h =
     let long : length (map first_flat users) ≡ length users = length-map users first_flat in
     let none : user_of (map first_flat users) (q / per + 1) ≡ no_flat = get_or_past (map first_flat users) (q / per + 1 - 1) no_flat (omega (arith, long, h)) in
     ap (λ f. nat_lt (q % per) (pages_of f)) none ∙ le-ltb (q % per) 0 (omega arith)
+
+-- a number below all users' pages is one of these, whatever stands behind them
+module _ (per : ℕ) (users : List (List ℕ)) (behind : List ℕ) (q : ℕ) (lt : q < length users * per) where
+  pub live_below : (disk_pages per users behind).live q ≡ (first_pages per users).live q
+  live_below = cond-true (nat_lt q (length users * per)) _ _ (lt-ltb q (length users * per) lt)
+
+  pub word_below : (i : ℕ) → (disk_pages per users behind).word q i ≡ (first_pages per users).word q i
+  word_below i = cond-true (nat_lt q (length users * per)) _ _ (lt-ltb q (length users * per) lt)
 
 pub on_ok : {T E P Q : Type 0} (r : Result T E) → (P → Q) → OnOk r P → OnOk r Q
 on_ok (Ok v) f h = f h

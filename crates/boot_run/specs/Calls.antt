@@ -12,7 +12,7 @@ use Rattle.boot_run.specs.LoadEnds.{Kept}
 use Rattle.boot_run.specs.Report.{ReportRuns}
 use Rattle.boot_run.specs.TurnCalls.{around, TurnRuns, TurnsRun}
 use Rattle.boot_run.specs.TurnParts.{MakesTurn}
-use Rattle.boot_run.specs.Whole.{CloseRuns, GoRuns, RunsToEnd, WholeEnds}
+use Rattle.boot_run.specs.Whole.{CloseRuns, GoRuns, RomEnds, RunsToEnd, WholeEnds}
 
 module _ {D O : Type 0} (size : D → ℕ) (sectors : D → Option (List (List ℕ))) (text : O → Option (List ℕ)) where
   -- the machine makes turns, so many at most
@@ -58,3 +58,8 @@ module _ {D O : Type 0} (size : D → ℕ) (sectors : D → Option (List (List �
   abbrev pub RunsWhole : Booted → Rows → View → (turns steps : ℕ) → D → O → D → O → Result RunEnd LoadFault → Type 0
   RunsWhole boot rows view turns steps disk out retold printed result =
       WholeEnds boot rows (size disk) view turns steps (sectors disk) (sectors retold) (text out) (text printed) result
+
+  -- and so of the machine with its boot ROM
+  abbrev pub RunsFromRom : Booted → Rows → View → (turns steps : ℕ) → D → O → D → O → Result RunEnd LoadFault → Type 0
+  RunsFromRom boot rows view turns steps disk out retold printed result =
+      RomEnds boot rows (size disk) view turns steps (sectors disk) (sectors retold) (text out) (text printed) result

@@ -1,19 +1,18 @@
 -- What contracts see of a loaded run, and how a call of `load` ends.
-use Rattle.std.specs.Prelude.{◌≡◌, ℕ, ◌+◌, ◌*◌, ◌<◌, ◌≤◌, ◌&&◌, Bool, true, nat_lt, Option, Some, None, List, length, ⊤}
+use Rattle.std.specs.Prelude.{◌≡◌, ℕ, ◌+◌, ◌*◌, ◌/◌, ◌<◌, ◌≤◌, ◌&&◌, Bool, true, nat_lt, Option, Some, None, List, length, ⊤}
 use Rattle.std.specs.Option.{option_map}
 use Rattle.cvm_outside.specs.Causes.{Rose}
 use Rattle.mips_table.specs.Device.{Pending, Idle, Reading, Writing}
+use Rattle.mips_table.specs.Machine.{State}
 use Rattle.schedule_file.specs.Rows.{Rows}
 use Rattle.mips_machine.specs.Machine.{Held}
 use Rattle.cvm_model.specs.declared.row.Next.{Next}
 use Rattle.layer_contract.specs.declared.boot.Boot.{Boot as Booted}
-use Rattle.layer_contract.specs.Follows.{loaded}
 use Rattle.boot_turns.specs.declared.answers.View.{View}
 use Rattle.boot_turns.specs.declared.answers.View.TheVariants.{Boot, Trace}
 use Rattle.boot_turns.specs.declared.answers.RunFault.{RunFault}
 use Rattle.boot_turns.specs.declared.tracer.Tracer.{Tracer}
 use Rattle.boot_turns.specs.Completes.{seen}
-use Rattle.boot_run.specs.Loading.{system_of}
 use Rattle.boot_run.specs.declared.load.LoadFault.{LoadFault}
 use Rattle.boot_run.specs.declared.load.LoadFault.TheVariants.{NoSuchUser, SmallDisk, Memory, Disk}
 
@@ -21,22 +20,26 @@ use Rattle.boot_run.specs.declared.load.LoadFault.TheVariants.{NoSuchUser, Small
 abbrev pub pages_needed : Booted → ℕ
 pages_needed b = length b.users.items * b.params.pages
 
+-- and those that a machine with a boot ROM needs: the linked words' sectors stand behind them
+abbrev pub rom_needed : Booted → ℕ
+rom_needed b = pages_needed b + (length b.words.items + 1023) / 1024
+
 -- what is viewed is a boot, or a user that there is
 abbrev pub SeesUser : View → ℕ → Type 0
 SeesUser Boot users = ⊤
 SeesUser (Trace u) users = (1 ≤ u) × (u ≤ users)
 
--- a run that can be loaded over a disk of so many sectors
-pub record HasRoom (b : Booted) (view : View) (count : ℕ) : Type 0 where
+-- a run that needs so many sectors can be loaded over a disk of so many
+pub record HasRoom (b : Booted) (view : View) (need count : ℕ) : Type 0 where
   pub user : SeesUser view (length b.users.items)
-  pub room : pages_needed b ≤ count
+  pub room : need ≤ count
 
--- why a run is not loaded, over a disk of so many sectors whose count of faults was and is this
-abbrev pub LoadFails : Booted → View → (count before now : ℕ) → LoadFault → Type 0
-LoadFails b view count before now (NoSuchUser u users) = (view ≡ Trace u) × (users ≡ length b.users.items) × (SeesUser view users → ⊥)
-LoadFails b view count before now (SmallDisk need have) = SeesUser view (length b.users.items) × (need ≡ pages_needed b) × (have ≡ count) × (have < need)
-LoadFails b view count before now Memory = HasRoom b view count
-LoadFails b view count before now Disk = HasRoom b view count × Rose before now
+-- why a run that needs so many sectors is not loaded, over a disk of so many whose count of faults was and is this
+abbrev pub LoadFails : Booted → View → (need count before now : ℕ) → LoadFault → Type 0
+LoadFails b view need count before now (NoSuchUser u users) = (view ≡ Trace u) × (users ≡ length b.users.items) × (SeesUser view users → ⊥)
+LoadFails b view need count before now (SmallDisk wanted have) = SeesUser view (length b.users.items) × (wanted ≡ need) × (have ≡ count) × (have < need)
+LoadFails b view need count before now Memory = HasRoom b view need count
+LoadFails b view need count before now Disk = HasRoom b view need count × Rose before now
 
 -- what is kept of a trace before the first step
 abbrev pub first_tracer : View → Option Tracer
@@ -67,8 +70,8 @@ pub record Kept (L : Type 0) : Type 0 where
   pub fault : Option RunFault
   pub tracer : Option Tracer
 
--- a run that was loaded with these, and made no step
-pub record IsFresh {L : Type 0} (layer : L) (boot : Booted) (view : View) (rows : Rows) (count : ℕ) (r : Kept L) : Type 0 where
+-- a run that was loaded with these, over a disk with the sectors that it needs, and made no step
+pub record IsFresh {L : Type 0} (layer : L) (boot : Booted) (view : View) (rows : Rows) (need count : ℕ) (r : Kept L) : Type 0 where
   pub layer_is : r.layer ≡ layer
   pub boot_is : r.boot ≡ boot
   pub view_is : r.view ≡ view
@@ -80,11 +83,11 @@ pub record IsFresh {L : Type 0} (layer : L) (boot : Booted) (view : View) (rows 
   pub goes_on : r.ended ≡ None
   pub no_fault : r.fault ≡ None
   pub tracer_is : r.tracer ≡ first_tracer view
-  pub has_room : HasRoom boot view count
+  pub has_room : HasRoom boot view need count
 
--- where its sectors are told, it stands as the machine that was loaded over the sectors as they were
-abbrev pub StandsLoaded : {L : Type 0} → Kept L → (told retold : Option (List (List ℕ))) → Type 0
-StandsLoaded r told retold = seen retold r.machine ≡ option_map (loaded (system_of r.boot r.machine.rows)) told
+-- where its sectors are told, it stands as the machine that is made of the sectors as they were
+abbrev pub StandsFrom : {L : Type 0} → (start : List (List ℕ) → State) → (told retold : Option (List (List ℕ))) → Kept L → Type 0
+StandsFrom start told retold r = seen retold r.machine ≡ option_map start told
 
 -- whether a command that is under way names one of so many sectors
 abbrev pub names_sector : ℕ → Pending → Bool

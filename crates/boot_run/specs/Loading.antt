@@ -1,5 +1,5 @@
 -- What a call of `load` writes: the linked words into memory, and the users' pages to their sectors.
-use Rattle.std.specs.Prelude.{◌≡◌, ℕ, zero, suc, ◌≤◌, if◌then◌else◌, Option, List, Vec, ◌++◌, map, drop, length, slice_set}
+use Rattle.std.specs.Prelude.{◌≡◌, ◌≢◌, ℕ, zero, suc, ◌+◌, ◌-◌, ◌*◌, ◌<◌, ◌≤◌, nat_lt, if◌then◌else◌, Option, List, Vec, [], ◌∷◌, ◌++◌, map, take, drop, length, slice_index, slice_set}
 use Rattle.std.specs.Option.{option_map}
 use Rattle.std.specs.List.{range_with_len}
 use Rattle.mips_table.specs.Device.{sector_of}
@@ -7,7 +7,9 @@ use Rattle.page_model.specs.Paging.{Pages}
 use Rattle.schedule_file.specs.Rows.{Rows, longest}
 use Rattle.cvm_model.specs.Cvm.{System, first_flat}
 use Rattle.cvm_model.specs.Paged.{pages_by}
-use Rattle.mips_machine.specs.Machine.{Held}
+use Rattle.mips_table.specs.Encoding.{encoding}
+use Rattle.mips_table.specs.declared.inst.Inst.TheVariants.{J}
+use Rattle.mips_machine.specs.Machine.{Held, started}
 use Rattle.layer_contract.specs.declared.boot.Boot.{Boot as Booted}
 use Rattle.layer_contract.specs.Boots.{boot_of}
 
@@ -19,9 +21,17 @@ system_of b rows = record { boot = boot_of b; input = rows.inputs; longest = lon
 abbrev pub first_pages : ℕ → List (List ℕ) → Pages
 first_pages per users = pages_by per (map first_flat users)
 
--- and of users with these vectors of words
-abbrev pub pages_of_users : {A : Type 0} → ℕ → List (Vec ℕ A) → Pages
-pages_of_users per users = first_pages per (map (λ words. words.items) users)
+-- the pages that are written over a disk, each to the sector of its number: the users' pages, and from the number behind these on the pages of
+-- further words
+abbrev pub disk_pages : ℕ → (users : List (List ℕ)) → (behind : List ℕ) → Pages
+disk_pages per users behind = record {
+  live = λ q. if nat_lt q (length users * per) then (first_pages per users).live q else nat_lt (1024 * (q - length users * per)) (length behind);
+  word = λ q i. if nat_lt q (length users * per) then (first_pages per users).word q i else slice_index behind (1024 * (q - length users * per) + i);
+}
+
+-- of users with these vectors of words
+abbrev pub pages_of_users : {A : Type 0} → ℕ → List (Vec ℕ A) → (behind : List ℕ) → Pages
+pages_of_users per users behind = disk_pages per (map (λ words. words.items) users) behind
 
 -- the words of a page
 abbrev pub words_of_page : Pages → ℕ → List ℕ
@@ -40,6 +50,23 @@ written p (suc n) sectors = with_page p (written p n sectors) n
 abbrev pub StaysFrom : ℕ → (told retold : Option (List (List ℕ))) → Type 0
 StaysFrom n told retold = (q : ℕ) → n ≤ q → option_map (λ ss. sector_of ss q) retold ≡ option_map (λ ss. sector_of ss q) told
 
--- a machine whose memory begins with these words, and else is as before
-abbrev pub with_words : Held → List ℕ → Held
-with_words held words = record held { hardware = record held.hardware { memory = words ++ drop (length words) held.hardware.memory } }
+-- and all but that of number n
+abbrev pub StaysBut : ℕ → (told retold : Option (List (List ℕ))) → Type 0
+StaysBut n told retold = (q : ℕ) → q ≢ n → option_map (λ ss. sector_of ss q) retold ≡ option_map (λ ss. sector_of ss q) told
+
+-- the sectors below number `most` were being written, in order, so that they become `wanted`, and the write of one failed: where they are told, those
+-- before it are written, it may hold anything, and those behind it are as before
+pub record TornAmong (most : ℕ) (wanted : List (List ℕ) → List (List ℕ)) (told retold : Option (List (List ℕ))) : Type 0 where
+  pub at : ℕ
+  pub inside : at < most
+  pub before : (q : ℕ) → q < at → option_map (λ ss. sector_of ss q) retold ≡ option_map (λ ss. sector_of (wanted ss) q) told
+  pub behind : (q : ℕ) → at < q → option_map (λ ss. sector_of ss q) retold ≡ option_map (λ ss. sector_of ss q) told
+
+-- a machine whose memory has these words from a place on, and else is as before
+abbrev pub with_words : Held → (at : ℕ) → List ℕ → Held
+with_words held at words =
+    record held { hardware = record held.hardware { memory = take at held.hardware.memory ++ (words ++ drop (at + length words) held.hardware.memory) } }
+
+-- the machine with a ROM of these words in the frame behind so many, and at word 0 the jump to it, at its start
+abbrev pub with_rom : (frames : ℕ) → (rom : List ℕ) → Rows → Held
+with_rom frames rom rows = with_words (with_words (started (frames + 1) rows) 0 (encoding (J (1024 * frames)) ∷ [])) (1024 * frames) rom

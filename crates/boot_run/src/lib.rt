@@ -1,4 +1,4 @@
-//! Loaded runs: `load`, `turn`, `turns`, `report`, `ended` and `steps` over any layer.
+//! Loaded runs: `load`, `load_rom`, `turn`, `turns`, `report`, `ended` and `steps` over any layer.
 #![tactic(auto)]
 
 mod load;
@@ -14,4 +14,4 @@ pub use boot_turns::{RunFault, Turn, View};
 pub use cvm_model::{Next, Row};
 pub use load::LoadFault;
 pub use run::Run;
-pub use whole::{RunEnd, run_whole};
+pub use whole::{RunEnd, run_rom, run_whole};

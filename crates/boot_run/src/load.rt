@@ -1,12 +1,12 @@
 // The machine of a boot, loaded.
-ghost use Rattle.std.specs.Prelude.{◌≡◌, ◌≢◌, ◌*◌, ◌/◌, ◌^◌, ◌<◌, ◌≤◌};
+ghost use Rattle.std.specs.Prelude.{◌≡◌, ◌≢◌, ◌+◌, ◌*◌, ◌/◌, ◌^◌, ◌<◌, ◌≤◌};
 ghost use Rattle.std.specs.Prelude.{ℕ, All, List, length, map, IfOk, IfErr, OnOk, OnErr, Err, Ok};
 ghost use Rattle.cvm_outside.specs.Causes.{Counts};
 ghost use Rattle.layer_map.specs.Map.{MapInRange, memory_frames};
 ghost use Rattle.cvm_model.specs.Cvm.{map_of};
 ghost use Rattle.layer_contract.specs.Boots.{boot_of};
 ghost use Rattle.mips_machine.specs.Machine.{started};
-ghost use Rattle.boot_run.specs.Loading.{with_words};
+ghost use Rattle.boot_run.specs.Loading.{with_words, with_rom};
 ghost use Rattle.boot_run.specs.declared.load.LoadFault.TheVariants.{Memory as NoRoom};
 ghost use Rattle.boot_run.specs.LoadEnds.{pages_needed, SeesUser, HasRoom, LoadFails, first_tracer};
 
@@ -16,6 +16,7 @@ use boot_turns::tracer::Tracer;
 use layer_contract::Boot;
 use layer_map::Map;
 use mips_machine::Machine;
+use mips_table::{Inst, encode};
 use schedule_file::Schedule;
 use std::alloc::{AllocError, Global};
 
@@ -93,9 +94,42 @@ pub(crate) fn loaded_machine(
 ) -> Result<Machine, AllocError>
     requires range { MapInRange map.now }
     requires map { map.now ≡ map_of (boot_of boot.now) }
-    ensures { IfOk result (λ m. m ≡ with_words (started (memory_frames (map_of (boot_of boot.now))) schedule) boot.now.words.items) }
+    ensures { IfOk result (λ m. m ≡ with_words (started (memory_frames (map_of (boot_of boot.now))) schedule) 0 boot.now.words.items) }
 {
     let mut machine = Machine::new(alloc, map.memory_frames(), schedule)?;
-    put_words(&mut machine, boot.words.as_slice());
+    put_words(&mut machine, 0, boot.words.as_slice());
     Ok(machine)
+}
+
+/// The machine of what is booted, with a boot ROM of these words in the frame behind its memory. Word 0 is the jump to it.
+///
+/// # Errors
+///
+/// Want of memory.
+pub(crate) fn rom_machine(
+    alloc: Global,
+    map: &Map,
+    rom: &[u32],
+    schedule: Schedule,
+) -> Result<Machine, AllocError>
+    requires range { MapInRange map.now }
+    requires few { length rom.now ≤ 1024 }
+    ensures { IfOk result (λ m. m ≡ with_rom (memory_frames map.now) rom.now schedule) }
+{
+    let frames = map.memory_frames();
+    let jump = encode(&Inst::J {
+        index: 1024 * frames,
+    });
+    let mut machine = Machine::new(alloc, frames + 1, schedule)?;
+    put_words(&mut machine, 0, &[jump]);
+    put_words(&mut machine, 1024 * frames, rom);
+    Ok(machine)
+}
+
+/// How many sectors words take.
+pub(crate) fn sectors_of(words: &[u32]) -> u32
+    requires { length words.now ≤ 4194304 }
+    ensures { result ≡ (length words.now + 1023) / 1024 }
+{
+    (words.len() as u32 + 1023) / 1024
 }

@@ -1,8 +1,8 @@
 // The users' pages, written to their sectors, and the linked words, written into memory.
-ghost use Rattle.std.specs.Prelude.{◌≡◌, ℕ, ◌+◌, ◌*◌, ◌<◌, ◌≤◌, ◌^◌, length, slice_index, vec_len, OnOk, OnErr, All};
+ghost use Rattle.std.specs.Prelude.{◌≡◌, ℕ, ◌+◌, ◌*◌, ◌<◌, ◌≤◌, ◌^◌, length, nat_lt, slice_index, vec_len, OnOk, OnErr, All};
 ghost use Rattle.std.specs.Option.{option_map};
 ghost use Rattle.cvm_outside.specs.Causes.{Counts};
-ghost use Rattle.boot_run.specs.Loading.{pages_of_users, with_page, written, with_words, StaysFrom};
+ghost use Rattle.boot_run.specs.Loading.{pages_of_users, with_page, written, with_words, StaysBut, TornAmong};
 
 use cvm_outside::{DiskFault, Sectors};
 use mips_machine::Machine;
@@ -27,7 +27,25 @@ fn page_words(words: &[u32], first: usize) -> [u32; 1024]
     page
 }
 
-/// Writes the page of a number to its sector, if a user's words reach into it.
+/// The words of which the sector of a number gets 1,024, and the number of the first one: those of the user whose page it is, and behind all users'
+/// pages further words.
+fn page_source<'a>(users: &'a [Vec<u32>], per: u32, behind: &'a [u32], q: u32) -> (&'a [u32], usize)
+    requires some { 1 ≤ per }
+    requires few { length users.now * per < 2 ^ 32 }
+    ensures live { (pages_of_users per users.now behind.now).live q ≡ nat_lt result.1 (length result.0.now) }
+    ensures words { (i : ℕ) → (pages_of_users per users.now behind.now).word q i ≡ slice_index result.0.now (result.1 + i) }
+{
+    let pages = users.len() as u32 * per;
+    if q < pages {
+        return (
+            users[(q / per) as usize].as_slice(),
+            1024 * (q % per) as usize,
+        );
+    }
+    (behind, 1024 * (q - pages) as usize)
+}
+
+/// Writes the page of a number to its sector, if words reach into it.
 ///
 /// # Errors
 ///
@@ -35,57 +53,58 @@ fn page_words(words: &[u32], first: usize) -> [u32; 1024]
 fn write_page<D: Sectors>(
     users: &[Vec<u32>],
     per: u32,
+    behind: &[u32],
     q: u32,
     disk: &mut D,
 ) -> Result<(), DiskFault>
     requires some { 1 ≤ per }
-    requires inside { q < length users.now * per }
-    requires room { length users.now * per ≤ D.size disk.old }
-    ensures ok { OnOk result (D.sectors disk.new ≡ option_map (λ ss. with_page (pages_of_users per users.now) ss q) (D.sectors disk.old)) }
-    ensures torn { OnErr result (StaysFrom (length users.now * per) (D.sectors disk.old) (D.sectors disk.new)) }
+    requires few { length users.now * per < 2 ^ 32 }
+    requires inside { q < D.size disk.old }
+    ensures ok { OnOk result (D.sectors disk.new ≡ option_map (λ ss. with_page (pages_of_users per users.now behind.now) ss q) (D.sectors disk.old)) }
+    ensures torn { OnErr result (StaysBut q (D.sectors disk.old) (D.sectors disk.new)) }
     ensures size { D.size disk.new ≡ D.size disk.old }
     ensures count { Counts (D.faults disk.old) (D.faults disk.new) result }
 {
-    let words = users[(q / per) as usize].as_slice();
-    let first = 1024 * (q % per) as usize;
+    let (words, first) = page_source(users, per, behind, q);
     if first < words.len() {
         return disk.write(q, &page_words(words, first));
     }
     Ok(())
 }
 
-/// Writes the users' pages to their sectors.
+/// Writes the users' pages to their sectors, and the pages of further words to those behind them, up to sector `most`.
 ///
 /// # Errors
 ///
-/// A fault of the disk. Sectors of pages may then hold anything.
+/// A fault of the disk. The sector at which it failed may then hold anything; those before it are written, and those behind it are as before.
 pub(crate) fn write_pages<D: Sectors>(
     users: &[Vec<u32>],
     per: u32,
+    behind: &[u32],
+    most: u32,
     disk: &mut D,
 ) -> Result<(), DiskFault>
     requires some { 1 ≤ per }
     requires few { length users.now * per < 2 ^ 32 }
-    requires room { length users.now * per ≤ D.size disk.old }
-    ensures ok { OnOk result (D.sectors disk.new ≡ option_map (written (pages_of_users per users.now) (length users.now * per)) (D.sectors disk.old)) }
-    ensures torn { OnErr result (StaysFrom (length users.now * per) (D.sectors disk.old) (D.sectors disk.new)) }
+    requires room { most ≤ D.size disk.old }
+    ensures ok { OnOk result (D.sectors disk.new ≡ option_map (written (pages_of_users per users.now behind.now) most) (D.sectors disk.old)) }
+    ensures torn { OnErr result (TornAmong most (written (pages_of_users per users.now behind.now) most) (D.sectors disk.old) (D.sectors disk.new)) }
     ensures size { D.size disk.new ≡ D.size disk.old }
     ensures count { Counts (D.faults disk.old) (D.faults disk.new) result }
 {
-    let pages = users.len() as u32 * per;
-    for q in 0..pages {
-        write_page(users, per, q, disk)?;
+    for q in 0..most {
+        write_page(users, per, behind, q, disk)?;
     }
     Ok(())
 }
 
-/// Writes words into memory from address 0 on.
-pub(crate) fn put_words(machine: &mut Machine, words: &[u32])
-    requires room { length words.now ≤ length machine.old.hardware.memory }
-    requires small { length words.now < 2 ^ 30 }
-    ensures { machine.new ≡ with_words machine.old words.now }
+/// Writes words into memory from a place on.
+pub(crate) fn put_words(machine: &mut Machine, at: u32, words: &[u32])
+    requires room { at + length words.now ≤ length machine.old.hardware.memory }
+    requires small { at + length words.now < 2 ^ 30 }
+    ensures { machine.new ≡ with_words machine.old at words.now }
 {
     for (i, word) in words.iter().enumerate() {
-        machine.set_word(4 * i as u32, *word);
+        machine.set_word(4 * (at + i as u32), *word);
     }
 }

@@ -1,11 +1,13 @@
 // A loaded run.
 ghost use Rattle.std.specs.Prelude.{◌≡◌, ◌≢◌, ◌∷◌, ◌+◌, ◌<◌, ◌≤◌, ◌⊎◌, ◌^◌};
-ghost use Rattle.std.specs.Prelude.{false, [], IfOk, IfErr, IfSome, IsSome, OnOk, OnErr, Err, Ok, Some, None};
+ghost use Rattle.std.specs.Prelude.{false, [], length, IfOk, IfErr, IfSome, IsSome, OnOk, OnErr, Err, Ok, Some, None};
 ghost use Rattle.std.specs.Result.{result_err};
 ghost use Rattle.cvm_outside.specs.Causes.{Counts, Rose};
 ghost use Rattle.layer_contract.specs.Boots.{BootFollows};
-ghost use Rattle.boot_run.specs.Loading.{system_of, StaysFrom};
-ghost use Rattle.boot_run.specs.LoadEnds.{pages_needed, IsFresh, StandsLoaded, LoadFails};
+ghost use Rattle.layer_contract.specs.Follows.{loaded};
+ghost use Rattle.boot_turns.specs.Rom.{rom_loaded};
+ghost use Rattle.boot_run.specs.Loading.{system_of, TornAmong};
+ghost use Rattle.boot_run.specs.LoadEnds.{pages_needed, rom_needed, IsFresh, StandsFrom, LoadFails};
 ghost use Rattle.boot_report.specs.Prints.{Prints, PrintsPart};
 ghost use Rattle.boot_report.specs.Texts.{SameButViewed};
 ghost use Rattle.boot_run.specs.Calls.{MakesTurns, Proceeds, TakesTurns, TakesTurn, Reports};
@@ -14,7 +16,7 @@ ghost use Rattle.boot_run.specs.TurnCalls.{rows_of, IsOver, KeepsLoad, StandsRea
 ghost use Rattle.boot_run.specs.TurnParts.{rows_before, rows_after, Views};
 ghost use Rattle.cvm_model.specs.declared.row.Row.{Row as OneRow};
 
-use crate::load::{LoadFault, check_view, first_tracer, loaded_machine};
+use crate::load::{LoadFault, check_view, first_tracer, loaded_machine, rom_machine, sectors_of};
 use crate::next::{ended_by, has_faulted, seen_next};
 use crate::pages::write_pages;
 use crate::places::{Places, places_of};
@@ -83,7 +85,8 @@ impl<L: Layer + Drop> Run<L> {
     /// # Errors
     ///
     /// `NoSuchUser`, where the user of a trace is none of the users; else `SmallDisk`, where the disk has fewer sectors than the
-    /// users' pages take; else `Memory`, for want of memory; else `Disk`, only where the disk's count of faults rose.
+    /// users' pages take; else `Memory`, for want of memory; else `Disk`, only where the disk's count of faults rose. The sectors before the one at
+    /// which the disk failed are written then, that one may hold anything, and the others are as before.
     pub fn load<D: Sectors>(
         alloc: Global,
         layer: L,
@@ -93,11 +96,11 @@ impl<L: Layer + Drop> Run<L> {
         disk: &mut D,
     ) -> Result<Run<L>, LoadFault>
         requires { BootFollows (L.image layer) (L.sizes layer) (L.map layer) boot }
-        ensures fresh { IfOk result (λ r. IsFresh layer boot view schedule (D.size disk.old) r) }
-        ensures stands { IfOk result (λ r. StandsLoaded r (D.sectors disk.old) (D.sectors disk.new)) }
-        ensures ready { IfOk result (StandsReady (system_of boot schedule) (D.sectors disk.old) (D.sectors disk.new)) }
-        ensures fault { IfErr result (LoadFails boot view (D.size disk.old) (D.faults disk.old) (D.faults disk.new)) }
-        ensures torn { OnErr result (StaysFrom (pages_needed boot) (D.sectors disk.old) (D.sectors disk.new)) }
+        ensures fresh { IfOk result (λ r. IsFresh layer boot view schedule (pages_needed boot) (D.size disk.old) r) }
+        ensures stands { IfOk result (StandsFrom (loaded (system_of boot schedule)) (D.sectors disk.old) (D.sectors disk.new)) }
+        ensures ready { IfOk result (StandsReady (system_of boot schedule) (loaded (system_of boot schedule)) (D.sectors disk.old) (D.sectors disk.new)) }
+        ensures fault { IfErr result (LoadFails boot view (pages_needed boot) (D.size disk.old) (D.faults disk.old) (D.faults disk.new)) }
+        ensures torn { result ≡ Err LoadFault.Disk → TornAmong (pages_needed boot) (λ ss. (loaded (system_of boot schedule) ss).device.sectors) (D.sectors disk.old) (D.sectors disk.new) }
         ensures still { result ≢ Err LoadFault.Disk → OnErr result (disk.new ≡ disk.old) }
         ensures size { D.size disk.new ≡ D.size disk.old }
         ensures same { result ≢ Err LoadFault.Disk → D.faults disk.new ≡ D.faults disk.old }
@@ -111,7 +114,63 @@ impl<L: Layer + Drop> Run<L> {
         }
         let places = places_of(alloc, &boot)?;
         let machine = loaded_machine(alloc, &places.map, &boot, schedule)?;
-        match write_pages(boot.users.as_slice(), boot.params.pages, disk) {
+        match write_pages(boot.users.as_slice(), boot.params.pages, &[], need, disk) {
+            Ok(()) => Ok(Run {
+                layer,
+                boot,
+                tracer: first_tracer(view),
+                count: have,
+                machine,
+                turns: 0,
+                current: 0,
+                ended: None,
+                fault: None,
+                places,
+            }),
+            Err(_) => Err(LoadFault::Disk),
+        }
+    }
+
+    /// Loads what is booted under a schedule on a machine with a boot ROM of these words, in one frame more of memory: word 0 is the jump to the ROM,
+    /// all other memory is 0, each user's pages are in their sectors, and the linked words in those behind. It takes all memory of the run before it
+    /// writes to the disk.
+    ///
+    /// # Errors
+    ///
+    /// As [`Run::load`], where the disk needs sectors for the linked words, too.
+    pub fn load_rom<D: Sectors>(
+        alloc: Global,
+        layer: L,
+        boot: Boot,
+        schedule: Schedule,
+        view: View,
+        rom: &Vec<u32>,
+        disk: &mut D,
+    ) -> Result<Run<L>, LoadFault>
+        requires follows { BootFollows (L.image layer) (L.sizes layer) (L.map layer) boot }
+        requires few { length rom.now.items ≤ 1024 }
+        ensures fresh { IfOk result (λ r. IsFresh layer boot view schedule (rom_needed boot) (D.size disk.old) r) }
+        ensures stands { IfOk result (StandsFrom (rom_loaded (system_of boot schedule) rom.now.items) (D.sectors disk.old) (D.sectors disk.new)) }
+        ensures ready { IfOk result (StandsReady (system_of boot schedule) (rom_loaded (system_of boot schedule) rom.now.items) (D.sectors disk.old) (D.sectors disk.new)) }
+        ensures fault { IfErr result (LoadFails boot view (rom_needed boot) (D.size disk.old) (D.faults disk.old) (D.faults disk.new)) }
+        ensures torn { result ≡ Err LoadFault.Disk → TornAmong (rom_needed boot) (λ ss. (rom_loaded (system_of boot schedule) rom.now.items ss).device.sectors) (D.sectors disk.old) (D.sectors disk.new) }
+        ensures still { result ≢ Err LoadFault.Disk → OnErr result (disk.new ≡ disk.old) }
+        ensures size { D.size disk.new ≡ D.size disk.old }
+        ensures same { result ≢ Err LoadFault.Disk → D.faults disk.new ≡ D.faults disk.old }
+    {
+        let users = boot.users.len() as u32;
+        check_view(view, users)?;
+        let words = boot.words.as_slice();
+        let behind = sectors_of(words);
+        let need = users * boot.params.pages + behind;
+        let have = disk.count();
+        if have < need {
+            return Err(LoadFault::SmallDisk { need, have });
+        }
+        let places = places_of(alloc, &boot)?;
+        let rom = rom.as_slice();
+        let machine = rom_machine(alloc, &places.map, rom, schedule)?;
+        match write_pages(boot.users.as_slice(), boot.params.pages, words, need, disk) {
             Ok(()) => Ok(Run {
                 layer,
                 boot,
@@ -168,7 +227,7 @@ impl<L: Layer + Drop> Run<L> {
         ensures sink { result ≡ Err RunFault.Sink → Rose (O.faults out.old) (O.faults out.new) }
         ensures sink_same { result ≢ Err RunFault.Sink → O.faults out.new ≡ O.faults out.old }
         ensures spent { self.new.machine.time + budget.new ≡ self.old.machine.time + budget.old }
-        ensures limit { result ≡ Err RunFault.StepLimit → (budget.new ≡ 0) ⊎ IsSome self.new.machine.hardware.off }
+        ensures limit { result ≡ Err RunFault.StepLimit → (budget.new ≡ 0) × (self.new.machine.hardware.off ≡ None) }
         ensures made { IfOk result (λ r. (1 ≤ r.0) × (r.0 ≤ most) × (r.1 ≢ Turn.Over)) }
     {
         memory_is_whole();
@@ -235,7 +294,7 @@ impl<L: Layer + Drop> Run<L> {
         ensures sink { result ≡ Err RunFault.Sink → Rose (O.faults out.old) (O.faults out.new) }
         ensures sink_same { result ≢ Err RunFault.Sink → O.faults out.new ≡ O.faults out.old }
         ensures spent { self.new.machine.time + budget.new ≡ self.old.machine.time + budget.old }
-        ensures limit { result ≡ Err RunFault.StepLimit → (budget.new ≡ 0) ⊎ IsSome self.new.machine.hardware.off }
+        ensures limit { result ≡ Err RunFault.StepLimit → (budget.new ≡ 0) × (self.new.machine.hardware.off ≡ None) }
         ensures made { IfOk result (λ r. (1 ≤ r.0) × (r.0 ≤ most) × (r.1 ≢ Turn.Over)) }
     {
         machines_run();
@@ -281,7 +340,7 @@ impl<L: Layer + Drop> Run<L> {
         ensures sink { result ≡ Err RunFault.Sink → self.old.fault ≡ None → Rose (O.faults out.old) (O.faults out.new) }
         ensures sink_same { result ≢ Err RunFault.Sink → O.faults out.new ≡ O.faults out.old }
         ensures spent { self.new.machine.time + budget.new ≡ self.old.machine.time + budget.old }
-        ensures limit { result ≡ Err RunFault.StepLimit → self.old.fault ≡ None → (budget.new ≡ 0) ⊎ IsSome self.new.machine.hardware.off }
+        ensures limit { result ≡ Err RunFault.StepLimit → self.old.fault ≡ None → (budget.new ≡ 0) × (self.new.machine.hardware.off ≡ None) }
     {
         if let Some(fault) = self.fault {
             return Err(fault);
@@ -328,7 +387,7 @@ impl<L: Layer + Drop> Run<L> {
         ensures sink { result ≡ Err RunFault.Sink → self.old.fault ≡ None → Rose (O.faults out.old) (O.faults out.new) }
         ensures sink_same { result ≢ Err RunFault.Sink → O.faults out.new ≡ O.faults out.old }
         ensures spent { self.new.machine.time + budget.new ≡ self.old.machine.time + budget.old }
-        ensures limit { result ≡ Err RunFault.StepLimit → self.old.fault ≡ None → (budget.new ≡ 0) ⊎ IsSome self.new.machine.hardware.off }
+        ensures limit { result ≡ Err RunFault.StepLimit → self.old.fault ≡ None → (budget.new ≡ 0) × (self.new.machine.hardware.off ≡ None) }
     {
         machines_run();
         let (_, turn) = self.turns(1, budget, disk, out)?;

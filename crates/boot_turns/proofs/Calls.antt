@@ -65,7 +65,7 @@ place_is f (negsuc a) n h = absurd (cc)
 one_value : (a b : ℕ) → a ∷ [] ≡ b ∷ [] → a ≡ b
 one_value a b h = cc
 
-no_change : (u : ℕ) → changes_of u (record { user = 0; entries = [] } ∷ []) ≡ []
+no_change : (u : ℕ) → changes_of u (record { number = 0; arguments = []; user = 0; entries = [] } ∷ []) ≡ []
 no_change u = by (0 == u)
   where
     by : (b : Bool) → ◌≡◌ {A = List JournalEntry} (cond b [] [] ++ []) []
@@ -116,7 +116,7 @@ module _ (regs : List ℕ) (fits : (r : ℕ) → slice_index regs r < 2 ^ 32) (u
 
   -- the entries of what a call comes to are those of the note
   abbrev Agrees : ℕ → Given → Type 0
-  Agrees k g = flat (λ _. 0) g.answer ≡ answer ∷ [] → changes_of u (g.changes ∷ []) ≡ call_ends u (called k) answer (user_of g.users u).words
+  Agrees k g = flat (λ _. 0) g.answer ≡ answer ∷ [] → changes_of u (record { number = 0; arguments = []; user = g.changes.user; entries = g.changes.entries } ∷ []) ≡ call_ends u (called k) answer (user_of g.users u).words
 
   no_call : (k : ℕ) (words : List ℕ) → answer ≡ 0 → [] ≡ call_ends u (called k) answer words
   no_call k words e = sym (ap (λ a. call_ends u (called k) a words) e)

@@ -94,10 +94,10 @@ module _ (s : State) (k : Tracer) (current : ℕ) (words : List ℕ) (user : sli
 pub step_counted : (grow : (c : CUnit) → TracesGrow (IsTypedState c)) (f : RowsFollow) (tell : WordsTell) (x : Outside) (m : Map) (held : Held) (told : Option (List (List ℕ))) (before after : Option Tracer) (text : Option (List ℕ)) → held.hardware.off ≡ None →
     (mid : Held) (midtold : Option (List (List ℕ))) → seen midtold mid ≡ option_map (step x) (seen told held) → (current : ℕ) → IfSome before (λ _. current ≡ slice_index held.hardware.memory current_at) →
     IfSome (seen told held) (λ s. true ≡ begins x s) → slice_index mid.hardware.special MODE ≡ 1 → IfSome before (λ k. k.call ≡ None) → after ≡ option_map (counted current) before → (stepped : Stepped) →
-    StepTraces x m held told before after text text (Ok stepped)
-step_counted grow f tell x m held told None after text on mid midtold ran current is began user free counts stepped = step_untraced x m held told after text text (Ok stepped)
+    StepTraces x m held mid told midtold before after text text (Ok stepped)
+step_counted grow f tell x m held told None after text on mid midtold ran current is began user free counts stepped = step_untraced x m held mid told midtold after text text (Ok stepped)
 step_counted grow f tell x m held told (Some k) after text on mid midtold ran current is began user free counts stepped =
-    subst (λ (t : Option Tracer). StepTraces x m held told (Some k) t text text (Ok stepped)) (sym counts)
-    (step_goes grow f tell x m held told k text on mid midtold ran current is true began stepped (Some k) (counted current k) text refl
+    subst (λ (t : Option Tracer). StepTraces x m held mid told midtold (Some k) t text text (Ok stepped)) (sym counts)
+    (step_goes grow f tell x m held told k text on mid mid midtold midtold refl ran current is true began stepped (Some k) (counted current k) text refl
     (λ ss words e t. sym (ap (append_known text) (counted_rows (state_of mid ss) k current words user free) ∙ append_known-nil text))
     (λ ss words e t. counted_kept (state_of mid ss) k current words user free))

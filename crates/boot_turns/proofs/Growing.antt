@@ -1,5 +1,5 @@
 -- The rows of a turn, and its current user.
-use Rattle.std.proofs.Common.{◌≡◌, ℕ, zero, suc, Bool, true, false, Option, Some, None, List, refl, sym, ap, ◌∙◌, subst}
+use Rattle.std.proofs.Common.{◌≡◌, ℕ, zero, suc, Bool, true, false, Option, Some, None, refl, sym, ap, ◌∙◌, subst}
 use Rattle.std.specs.Prelude.{◌==◌, if◌then◌else◌, bit_or, length}
 use Rattle.mips_table.specs.Device.{Outside}
 use Rattle.mips_table.specs.Turns.{lines_of}
@@ -10,8 +10,8 @@ use Rattle.mips_table.specs.Flat.{VStep, Next as Goes, Trap, vstep}
 use Rattle.cvm_model.specs.Primitives.{user_of}
 use Rattle.cvm_model.specs.Kernel.{Core, Outcome, End, Answers, Faults, NotYet}
 use Rattle.cvm_model.specs.Cvm.{System, Running, Cvm, IsCvm, Begin, Steps, Traps, Interrupts, begin, user_step, begun, next_of, core_of, after_dispatch, dispatch_of, turn, turn_by, cvm}
-use Rattle.layer_contract.specs.Follows.{loaded}
-use Rattle.boot_turns.specs.Headline.{RowAdded, RowsGrow, TurnRows, UserStays}
+use Rattle.mips_table.specs.Machine.{State}
+use Rattle.boot_turns.specs.Machines.{RowAdded, RowsGrow, TurnRows, UserStays}
 use Rattle.boot_turns.proofs.Units.{one_cvm}
 use Rattle.boot_turns.proofs.Turning.{Given}
 
@@ -39,21 +39,21 @@ begun_rows y n k c after (Traps cause edata at) h = dispatch_rows y c after k ca
 begun_rows y n k c after (Interrupts cause edata at pending) h = dispatch_rows y c after k cause edata at.current pending (dispatch_of y n cause edata at) (dispatch_of y n cause edata at).end h
 
 -- where turn k of a run goes on, it is as it begins
-turn_is : (x : Outside) (y : System) (old : List (List ℕ)) (Typed : C0 → Type 0) → Given x y old Typed → (k : ℕ) (c after : Cvm) → IsCvm y (lines_of x (loaded y old)) k c → c.status ≡ Running →
-    (i : IsCvm y (lines_of x (loaded y old)) (suc k) after) → begun y i.units k c (begin k c.core (bit_or c.pending (lines_of x (loaded y old) k))) ≡ Some after
-turn_is x y old Typed g k c after is running i = by (cvm y (lines_of x (loaded y old)) i.units k) refl
+turn_is : (x : Outside) (y : System) (s : State) (late held : ℕ) (Typed : C0 → Type 0) → Given x y s late held Typed → (k : ℕ) (c after : Cvm) → IsCvm y (lines_of x s) k c → c.status ≡ Running →
+    (i : IsCvm y (lines_of x s) (suc k) after) → begun y i.units k c (begin k c.core (bit_or c.pending (lines_of x s k))) ≡ Some after
+turn_is x y s late held Typed g k c after is running i = by (cvm y (lines_of x s) i.units k) refl
   where
-    by : (o : Option Cvm) → cvm y (lines_of x (loaded y old)) i.units k ≡ o → begun y i.units k c (begin k c.core (bit_or c.pending (lines_of x (loaded y old) k))) ≡ Some after
-    by None eq = absurd (none_some after (sym (ap (turn y i.units k (lines_of x (loaded y old) k)) eq) ∙ i.is))
+    by : (o : Option Cvm) → cvm y (lines_of x s) i.units k ≡ o → begun y i.units k c (begin k c.core (bit_or c.pending (lines_of x s k))) ≡ Some after
+    by None eq = absurd (none_some after (sym (ap (turn y i.units k (lines_of x s k)) eq) ∙ i.is))
     by (Some q) eq =
-        let d : q ≡ c = one_cvm y g.meaning (lines_of x (loaded y old)) k q c (record { units = i.units; is = eq }) is in
-        let h : turn_by y i.units k (lines_of x (loaded y old) k) q q.status ≡ Some after = sym (ap (turn y i.units k (lines_of x (loaded y old) k)) eq) ∙ i.is in
-        let h2 : turn_by y i.units k (lines_of x (loaded y old) k) c c.status ≡ Some after = subst (λ (w : Cvm). turn_by y i.units k (lines_of x (loaded y old) k) w w.status ≡ Some after) d h in
-        sym (ap (turn_by y i.units k (lines_of x (loaded y old) k) c) running) ∙ h2
+        let d : q ≡ c = one_cvm y g.meaning (lines_of x s) k q c (record { units = i.units; is = eq }) is in
+        let h : turn_by y i.units k (lines_of x s k) q q.status ≡ Some after = sym (ap (turn y i.units k (lines_of x s k)) eq) ∙ i.is in
+        let h2 : turn_by y i.units k (lines_of x s k) c c.status ≡ Some after = subst (λ (w : Cvm). turn_by y i.units k (lines_of x s k) w w.status ≡ Some after) d h in
+        sym (ap (turn_by y i.units k (lines_of x s k) c) running) ∙ h2
 
-pub rows_grow : (x : Outside) (y : System) (old : List (List ℕ)) (Typed : C0 → Type 0) → Given x y old Typed → TurnRows x y old
-rows_grow x y old Typed g k c after is running i =
-    begun_rows y i.units k c after (begin k c.core (bit_or c.pending (lines_of x (loaded y old) k))) (turn_is x y old Typed g k c after is running i)
+pub rows_grow : (x : Outside) (y : System) (s : State) (late held : ℕ) (Typed : C0 → Type 0) → Given x y s late held Typed → TurnRows x y s
+rows_grow x y s late held Typed g k c after is running i =
+    begun_rows y i.units k c after (begin k c.core (bit_or c.pending (lines_of x s k))) (turn_is x y s late held Typed g k c after is running i)
 
 -- a step keeps the current user
 same_steps : (a b : Core) → Steps a ≡ Steps b → a ≡ b
@@ -71,7 +71,7 @@ begin_current (suc k) c lines at e = by (lines == 0) e
     by true h = step_current c (vstep (user_of c.users c.current)) at h
     by false h = absurd (cc)
 
-pub user_stays : (x : Outside) (y : System) (old : List (List ℕ)) (Typed : C0 → Type 0) → Given x y old Typed → UserStays x y old
-user_stays x y old Typed g k c after at is running i e =
-    let h : begun y i.units k c (Steps at) ≡ Some after = subst (λ (b : Begin). begun y i.units k c b ≡ Some after) e (turn_is x y old Typed g k c after is running i) in
-    ap (λ (w : Cvm). w.core.current) (sym (same_cvm _ after h)) ∙ begin_current k c.core (bit_or c.pending (lines_of x (loaded y old) k)) at e
+pub user_stays : (x : Outside) (y : System) (s : State) (late held : ℕ) (Typed : C0 → Type 0) → Given x y s late held Typed → UserStays x y s
+user_stays x y s late held Typed g k c after at is running i e =
+    let h : begun y i.units k c (Steps at) ≡ Some after = subst (λ (b : Begin). begun y i.units k c b ≡ Some after) e (turn_is x y s late held Typed g k c after is running i) in
+    ap (λ (w : Cvm). w.core.current) (sym (same_cvm _ after h)) ∙ begin_current k c.core (bit_or c.pending (lines_of x s k)) at e

@@ -1,5 +1,5 @@
 -- One more step of the loop to the end of a turn.
-use Rattle.std.proofs.Common.{◌≡◌, ℕ, suc, ◌+◌, ◌<◌, ◌≤◌, Result, Err, ◌||◌, not, Bool, true, false, Option, Some, None, List, refl, sym, ap, ◌∙◌, subst, subst₂, ⊎_elim, arith}
+use Rattle.std.proofs.Common.{◌≡◌, ℕ, suc, ◌+◌, ◌<◌, ◌≤◌, inl, inr, Result, Err, ◌||◌, not, Bool, true, false, Option, Some, None, List, refl, sym, ap, ◌∙◌, subst, subst₂, ⊎_elim, arith}
 use Rattle.std.specs.Prelude.{IfSome, is_some, slice_index}
 use Rattle.std.specs.Option.{option_map}
 use Rattle.std.proofs.lemmas.Bool.{cases_lt}
@@ -8,12 +8,15 @@ use Rattle.mips_table.specs.Machine.{State, MODE, run, step}
 use Rattle.mips_table.specs.Turns.{begins, rests, in_user}
 use Rattle.mips_machine.specs.Machine.{Held, state_of}
 use Rattle.mips_machine.specs.Steps.{outside_of}
-use Rattle.boot_turns.specs.Completes.{seen, note, shown, noted, is_at_rest, Open, Progress, Skips, StepRan, StepTorn, CompleteErr}
+use Rattle.boot_turns.specs.Completes.{seen, note, shown, noted, is_at_rest, Open, Progress, Skips, StepRan, StepFails, DiskLeaves, CompleteErr, Passes}
 use Rattle.boot_turns.specs.declared.completion.Begun.{Begun}
 use Rattle.boot_turns.specs.declared.completion.Stepped.{Stepped}
 use Rattle.boot_turns.specs.declared.answers.RunFault.{RunFault}
 use Rattle.boot_turns.specs.declared.answers.RunFault.TheVariants.{StepLimit, Disk, Sink}
 use Rattle.boot_turns.proofs.Events.{step_torn, told_as_some}
+use Rattle.boot_turns.proofs.Stretches.{later}
+use Rattle.boot_turns.proofs.Quietly.{skips_stretch}
+use Rattle.mips_machine.specs.Quiet.{Stretch}
 
 same_state : (a b : State) → Some a ≡ Some b → a ≡ b
 same_state a b h = cc
@@ -84,13 +87,22 @@ one_step x y s t u told retold old new b out began same le is p ran bg note_is =
 abbrev failing : RunFault → Result Stepped RunFault
 failing f = Err f
 
+-- what a fault of the disk leaves of the step at u
+fails_leave : (count : ℕ) (x : Outside) (s : State) (u : ℕ) (told retold : Option (List (List ℕ))) (old new : Held) → outside_of old.rows count ≡ x → seen told old ≡ Some (run x s u) →
+    (traced : Bool) → StepFails count old new told retold traced → DiskLeaves x s u traced (seen retold new)
+fails_leave count x s u told retold old new same is false h = step_torn count x old new told retold (run x s u) same is h
+fails_leave count x s u told retold old new same is true h = ⊎_elim
+    (λ torn. inl (step_torn count x old new told retold (run x s u) same is torn))
+    (λ (ran : StepRan count old new told retold). inr (seen_more x (seen told old) (seen retold new) (run x s u) (subst (λ (z : Outside). seen retold new ≡ option_map (step z) (seen told old)) same ran) is))
+    h
+
 -- the step at u failed, or its rows
-pub step_stops : (count : ℕ) (x : Outside) (s : State) (t u before after : ℕ) (told retold : Option (List (List ℕ))) (old new : Held) (b : Option Begun) (f : RunFault) → outside_of old.rows count ≡ x → t ≤ u → after + (u + 1) ≡ before + t →
-    seen told old ≡ Some (run x s u) → Progress x s t u b → (failing f ≡ Err StepLimit → ⊥) → (failing f ≡ Err Disk → StepTorn count old told retold) → ((failing f ≡ Err Disk → ⊥) → StepRan count old new told retold) →
-    CompleteErr x (seen retold new) before after s t f
-step_stops count x s t u before after told retold old new b StepLimit same le spent is p limit torn ran = absurd (limit refl)
-step_stops count x s t u before after told retold old new b Disk same le spent is p limit torn ran = (u, le, spent, (b, p), step_torn count x old new told retold (run x s u) same is (torn refl))
-step_stops count x s t u before after told retold old new b Sink same le spent is p limit torn ran =
+pub step_stops : (count : ℕ) (x : Outside) (s : State) (t u before after : ℕ) (told retold : Option (List (List ℕ))) (old new : Held) (traced : Bool) (b : Option Begun) (f : RunFault) → outside_of old.rows count ≡ x → t ≤ u → after + (u + 1) ≡ before + t →
+    seen told old ≡ Some (run x s u) → Progress x s t u b → (failing f ≡ Err StepLimit → ⊥) → (failing f ≡ Err Disk → StepFails count old new told retold traced) → ((failing f ≡ Err Disk → ⊥) → StepRan count old new told retold) →
+    CompleteErr x traced (seen retold new) before after s t f
+step_stops count x s t u before after told retold old new traced b StepLimit same le spent is p limit torn ran = absurd (limit refl)
+step_stops count x s t u before after told retold old new traced b Disk same le spent is p limit torn ran = (u, le, spent, (b, p), fails_leave count x s u told retold old new same is traced (torn refl))
+step_stops count x s t u before after told retold old new traced b Sink same le spent is p limit torn ran =
     let ran_x : seen retold new ≡ option_map (step x) (seen told old) = subst (λ (z : Outside). seen retold new ≡ option_map (step z) (seen told old)) same (ran (λ e. cc)) in
     (u, le, spent, (b, p), seen_more x (seen told old) (seen retold new) (run x s u) ran_x is)
 
@@ -116,4 +128,17 @@ skips_more x y s t n m u told retold old new same at more skips is ran bg mode o
             subst (λ i. (run x s i).off ≡ None) next on_there,
           ))
           (cases_lt j n),
+    )
+
+-- and so many more are passed by a stretch behind them
+pub skips_passed : (x : Outside) (s : State) (t n m u : ℕ) (told : Option (List (List ℕ))) (mid new : Held) (count : ℕ) → outside_of mid.rows count ≡ x → u ≡ t + n → Skips x s t n → seen told mid ≡ Some (run x s u) →
+    slice_index mid.hardware.special MODE ≡ 1 → Passes mid new m → (seen told new ≡ Some (run x s (u + m))) × Skips x s t (n + m)
+skips_passed x s t n m u told mid new count same at skips is mode passes =
+    let w = told_as_some told mid (run x s u) is in
+    let here : Stretch x (state_of mid w.0) m (state_of new w.0) = subst (λ (z : Outside). Stretch z (state_of mid w.0) m (state_of new w.0)) same (passes.stretch count w.0) in
+    let there : Stretch x (run x s u) m (state_of new w.0) = subst (λ (z : State). Stretch x z m (state_of new w.0)) w.2 here in
+    let next : state_of new w.0 ≡ run x s (u + m) = there.state ∙ later x s u m in
+    let mode_there : slice_index (run x s u).special MODE ≡ 1 = ap (λ (z : State). slice_index z.special MODE) (sym w.2) ∙ mode in (
+      ap (λ (o : Option (List (List ℕ))). seen o new) w.1 ∙ ap (λ (z : State). Some z) next,
+      skips_stretch x s t n m (state_of new w.0) skips (subst (λ i. Stretch x (run x s i) m (state_of new w.0)) at there) (subst (λ i. slice_index (run x s i).special MODE ≡ 1) at mode_there),
     )

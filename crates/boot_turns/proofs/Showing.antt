@@ -1,5 +1,5 @@
--- What is shown of a user grows by the entries of a step, on the machine of a boot.
-use Rattle.std.proofs.Common.{◌≡◌, ◌≢◌, ◌⊎◌, inl, inr, ℕ, zero, suc, ◌+◌, ◌-◌, ◌*◌, ◌^◌, ◌<◌, ◌≤◌, ◌||◌, Bool, true, false, not, cond, All, Option, Some, None, List, [], ◌∷◌, ◌++◌, length, slice_index, refl, sym, ap, ap₂, ◌∙◌, subst, ⊎_elim, arith, append-nil, eq-eqb, lt-ltb, le-ltb}
+-- What is shown of a user grows by the entries of a step, in a run from a start.
+use Rattle.std.proofs.Common.{◌≡◌, ◌≢◌, ◌⊎◌, inl, inr, ℕ, zero, suc, ◌+◌, ◌-◌, ◌*◌, ◌^◌, ◌<◌, ◌≤◌, ◌||◌, Bool, true, false, not, cond, All, Option, Some, None, List, [], ◌∷◌, ◌++◌, length, slice_index, refl, sym, ap, ap₂, ◌∙◌, subst, subst₂, ⊎_elim, arith, append-nil, eq-eqb, lt-ltb, le-ltb}
 use Rattle.std.specs.Prelude.{◌==◌, nat_lt, bit_or, pos, ℤ, is_some, slice_get}
 use Rattle.std.proofs.lemmas.Bool.{cases_lt, cond-true, cond-false}
 use Rattle.std.proofs.lemmas.List.Elements.{All-head, All-tail}
@@ -17,21 +17,21 @@ use Rattle.cvm_model.specs.Journal.{changes_of, begin_calls, begin_entries}
 use Rattle.cvm_model.specs.Stands.{Site, Stands, runs_user}
 use Rattle.layer_contract.specs.declared.registers.TheConstants.{ANSWER, RETURN}
 use Rattle.layer_contract.specs.Layer.{Inside, Comes, IsEntry, DispatchCalled, Returned, given}
-use Rattle.layer_contract.specs.Follows.{site_of, loaded, machine}
+use Rattle.layer_contract.specs.Follows.{site_of}
 use Rattle.layer_contract.specs.Calls.{entered, under_way, ends_here, ended_before, KernelCalled, CallsFollow}
 use Rattle.boot_turns.specs.declared.completion.Begun.{Begun}
 use Rattle.boot_turns.specs.Completes.{note, ShownAs}
 use Rattle.boot_turns.specs.Trace.{ended_at_begin, ended_since, Shown}
 use Rattle.boot_turns.specs.TurnEnds.{Stood}
 use Rattle.boot_turns.specs.declared.tracer.Entered.{Entered}
-use Rattle.boot_turns.specs.Entries.{IsPlaced, noted_call, turn_begins, call_ends, returned, return_entries, WordsAt, ShowsMore, TraceGrows}
+use Rattle.boot_turns.specs.Entries.{IsPlaced, noted_call, turn_begins, call_ends, returned, return_entries, WordsAt, HasRows, ShowsMore, TraceGrows}
 use Rattle.boot_turns.proofs.Stepping.{both_right, inside_begins, inside_rests, user_rests}
-use Rattle.boot_turns.proofs.Entering.{entered_none, entered_user, entered_off, not_system, begins_enters}
+use Rattle.boot_turns.proofs.Entering.{entered_none, entered_user, entered_off, not_system}
 use Rattle.boot_turns.proofs.Counting.{turn_same, turn_more, still, completes}
 use Rattle.boot_turns.proofs.Stretches.{later, quietly}
 use Rattle.boot_turns.proofs.Units.{one_cvm, cvm_more, cvm_next}
-use Rattle.boot_turns.proofs.Turning.{Given, Beginning, BegunAs, same_data}
-use Rattle.boot_turns.proofs.Whole.{on_back, OffOn, off_on, ended_off, forward, Going, Covered, covered, defined}
+use Rattle.boot_turns.proofs.Turning.{on_back, Given, Beginning, BegunAs, same_data}
+use Rattle.boot_turns.proofs.Whole.{OffOn, off_on, ended_off, forward, Going, Covered, covered, defined}
 use Rattle.boot_turns.proofs.Joining.{stood_rests}
 use Rattle.boot_turns.proofs.UnderWay.{stays_quiet, next_none, under_way_later, ended_later, ended_grows, note_back, noted_back, noted_none, noted_later}
 use Rattle.boot_turns.proofs.Calling.{over_quiet, CallAt, call_at, its_note, noted_last}
@@ -105,10 +105,7 @@ none_heads u user cause b d c le = sym (
     nothing true = refl
     nothing false = refl
 
-module _ (x : Outside) (y : System) (old : List (List ℕ)) (Typed : C0 → Type 0) (g : Given x y old Typed) (follow : CallsFollow (site_of y.boot) Typed y.boot.meaning) where
-  abbrev s : State
-  s = loaded y old
-
+module _ (x : Outside) (y : System) (s : State) (late held : ℕ) (Typed : C0 → Type 0) (g : Given x y s late held Typed) (follow : CallsFollow (site_of y.boot) Typed y.boot.meaning) where
   abbrev site : Site
   site = site_of y.boot
 
@@ -136,9 +133,9 @@ module _ (x : Outside) (y : System) (old : List (List ℕ)) (Typed : C0 → Type
 
   -- turn k at c, from step `at` on
   pub record Turn (at k : ℕ) (c : Cvm) : Type 0 where
-    pub stood : Stood x y old k at c
+    pub stood : Stood x y s k at c
     pub running : c.status ≡ Running
-    pub beginning : Beginning x y old k at c
+    pub beginning : Beginning x y s (late - 1) held k at c
     pub typed : Typed c.core.c0
 
   -- it goes on at step t
@@ -169,7 +166,7 @@ module _ (x : Outside) (y : System) (old : List (List ℕ)) (Typed : C0 → Type
     pub complete_open : complete x s t ≡ k
     complete_open =
         let lt = o.begun_is in
-        still x s w.beginning.start t (omega (arith, lt)) (λ j a b. inside_rests _ (o.inside j a b)) ∙ w.beginning.between w.beginning.start w.beginning.from (omega arith)
+        still x s w.beginning.start t (omega (arith, lt)) (λ j a b. inside_rests _ (o.inside j a b)) ∙ w.beginning.between w.beginning.start w.beginning.from w.beginning.to
 
   -- the dispatch of a turn that began at step `start`
   pub record Dispatch (k : ℕ) (c : Cvm) (start : ℕ) : Type 0 where
@@ -206,55 +203,63 @@ module _ (x : Outside) (y : System) (old : List (List ℕ)) (Typed : C0 → Type
   kind : (at k : ℕ) (c : Cvm) (w : Turn at k c) → Single k c w.beginning.start ⊎ Dispatch k c w.beginning.start
   kind at k c w = by (begin_of k c) refl w.beginning.shows w.beginning.comes
     where
-      made : (cause edata user : ℤ) (core : Core) → Comes x site IsEntry w.beginning.enter (run x s (suc w.beginning.start)) (DispatchCalled x site core cause edata user) → Typed core.c0 →
+      made : (cause edata user : ℤ) (core : Core) → Comes x site IsEntry w.beginning.enter (run x s w.beginning.at) (DispatchCalled x site core cause edata user) → Typed core.c0 →
           ((u : ℕ) → Cut y g.meaning lines u k c (λ n. (y.boot.meaning.dispatch n core cause edata user).calls) (turn_begins u (slice_index (run x s w.beginning.start).memory current_at) (note (run x s (suc w.beginning.start))))) →
           ((n : ℕ) (p : Cvm) → begun y n k c (begin_of k c) ≡ Some p → (y.boot.meaning.dispatch n core cause edata user).end ≢ NotYet) → Dispatch k c w.beginning.start
       made cause edata user core comes typed cut over =
-          let a = quietly x site s w.beginning.enter (suc w.beginning.start) (DispatchCalled x site core cause edata user) (λ r d. entered_none 10 r (λ i l e. door_apart r.cpu.pc i d.at.pc l e))
-          (begins_enters 10 x (run x s w.beginning.start) w.beginning.begin_here) comes in
+          let a = quietly x site s w.beginning.enter w.beginning.at (DispatchCalled x site core cause edata user) (λ r d. entered_none 10 r (λ i l e. door_apart r.cpu.pc i d.at.pc l e))
+          (w.beginning.apart w.beginning.at w.beginning.to (omega arith)) comes in
+          let to = w.beginning.to in
+          let from = a.1.from in
           record {
             cause = cause;
             edata = edata;
             user = user;
             core = core;
             at = a.0;
-            from = a.1.from;
+            from = omega (arith, to, from);
             called = record { busy = g.busy; typed = typed; called = a.1.there };
-            quiet = λ j l h. a.3 j l h;
+            quiet = λ j l h. ⊎_elim
+                (λ (lt : j < w.beginning.at). w.beginning.apart j l (omega (arith, lt)))
+                (λ (ge : w.beginning.at ≤ j). a.3 j ge h)
+                (cases_lt j w.beginning.at);
             inside = λ j l h. ⊎_elim
-                (λ (lt : j < a.0). a.1.inside j l lt)
-                (λ (ge : a.0 ≤ j). let e : a.0 ≡ j = omega (arith, ge, h) in subst (λ i. Inside (run x s i)) e a.1.there.at.inside)
-                (cases_lt j a.0);
+                (λ (lt : j < w.beginning.at). w.beginning.inside j l lt)
+                (λ (ge : w.beginning.at ≤ j). ⊎_elim
+                (λ (lt : j < a.0). a.1.inside j ge lt)
+                (λ (up : a.0 ≤ j). let e : a.0 ≡ j = omega (arith, up, h) in subst (λ i. Inside (run x s i)) e a.1.there.at.inside)
+                (cases_lt j a.0))
+                (cases_lt j w.beginning.at);
             cut = cut;
             over = over;
           }
 
-      by : (b : Begin) → begin_of k c ≡ b → ShownAs b (note (machine x y old (suc w.beginning.start))) → BegunAs x y (machine x y old (suc w.beginning.start)) w.beginning.enter b →
+      by : (b : Begin) → begin_of k c ≡ b → ShownAs b (note (run x s (suc w.beginning.start))) → BegunAs x y (run x s w.beginning.at) w.beginning.enter b →
           Single k c w.beginning.start ⊎ Dispatch k c w.beginning.start
       by (Steps after) e sh got = inl (record {
         after = after;
         is = e;
-        user = got.1;
+        user = subst (λ i. runs_user (run x s i) ≡ true) (sym (w.beginning.next (first_step k c.core (bit_or c.pending (lines k)) after e))) got.1;
         heads = λ u. step_heads u (slice_index (run x s w.beginning.start).memory current_at) c.core.current (note (run x s (suc w.beginning.start))) (w.beginning.current (first_step k c.core (bit_or c.pending (lines k)) after e)) sh;
       })
       by (Traps cause edata at) e sh got = inr (made (pos cause) (signed edata) (pos at.current) at got.0
-          (subst Typed (sym (same_data x y old Typed g k c.core (bit_or c.pending (lines k)) (Traps cause edata at) e)) w.typed)
+          (subst Typed (sym (same_data x y s late held Typed g k c.core (bit_or c.pending (lines k)) (Traps cause edata at) e)) w.typed)
           (λ u. record {
             running = w.running;
             calls_are = λ n. ap (begin_calls y n) e;
             entries = λ n cut. ap (begin_entries y n cut u c.core) e
                 ∙ ap (λ (h : List JournalEntry). h ++ changes_of u (cut (dispatch_of y n cause edata at).calls))
-                (trap_heads u (slice_index (run x s w.beginning.start).memory current_at) c.core.current cause edata (note (run x s (suc w.beginning.start))) (w.beginning.current (first_trap k c.core (bit_or c.pending (lines k)) cause edata at e)) sh.0 sh.1 sh.2 got.3);
+                (trap_heads u (slice_index (run x s w.beginning.start).memory current_at) c.core.current cause edata (note (run x s (suc w.beginning.start))) (w.beginning.current (first_trap k c.core (bit_or c.pending (lines k)) cause edata at e)) sh.0 sh.1 sh.2 got.2);
           })
           (λ n p h f. none_some p (sym (ap (after_dispatch y c k cause edata at.current 0 (dispatch_of y n cause edata at)) f) ∙ sym (ap (begun y n k c) e) ∙ h)))
       by (Interrupts cause edata at pending) e sh got = inr (made (pos cause) (signed edata) (pos at.current) at got.0
-          (subst Typed (sym (same_data x y old Typed g k c.core (bit_or c.pending (lines k)) (Interrupts cause edata at pending) e)) w.typed)
+          (subst Typed (sym (same_data x y s late held Typed g k c.core (bit_or c.pending (lines k)) (Interrupts cause edata at pending) e)) w.typed)
           (λ u. record {
             running = w.running;
             calls_are = λ n. ap (begin_calls y n) e;
             entries = λ n cut. ap (begin_entries y n cut u c.core) e
                 ∙ ap (λ (h : List JournalEntry). h ++ changes_of u (cut (dispatch_of y n cause edata at).calls))
-                (none_heads u (slice_index (run x s w.beginning.start).memory current_at) cause (note (run x s (suc w.beginning.start))) sh.0 sh.1 got.3);
+                (none_heads u (slice_index (run x s w.beginning.start).memory current_at) cause (note (run x s (suc w.beginning.start))) sh.0 sh.1 got.2);
           })
           (λ n p h f. none_some p (sym (ap (after_dispatch y c k cause edata at.current pending (dispatch_of y n cause edata at)) f) ∙ sym (ap (begun y n k c) e) ∙ h)))
 
@@ -272,21 +277,21 @@ module _ (x : Outside) (y : System) (old : List (List ℕ)) (Typed : C0 → Type
   off_on_not : (o : Option ℕ) (v : ℕ) → o ≡ Some v → o ≡ None → ⊥
   off_on_not o v e f = absurd (let h : ◌≡◌ {A = Option ℕ} (Some v) None = sym e ∙ f in cc)
 
-  runs_on : (at k : ℕ) (c : Cvm) → Stood x y old k at c → (run x s at).off ≡ None → c.status ≡ Running
+  runs_on : (at k : ℕ) (c : Cvm) → Stood x y s k at c → (run x s at).off ≡ None → c.status ≡ Running
   runs_on at k c st on = by c.status refl
     where
       by : (b : Status) → c.status ≡ b → c.status ≡ Running
       by Running e = e
-      by Halted e = let o = ended_off x y old Typed g k at c st (λ w. absurd (let f : Halted ≡ Running = sym e ∙ w in cc)) in absurd (off_on_not _ o.0 o.1 on)
-      by (Faulted f) e = let o = ended_off x y old Typed g k at c st (λ w. absurd (let d : Faulted f ≡ Running = sym e ∙ w in cc)) in absurd (off_on_not _ o.0 o.1 on)
+      by Halted e = let o = ended_off x y s late held Typed g k at c st (λ w. absurd (let f : Halted ≡ Running = sym e ∙ w in cc)) in absurd (off_on_not _ o.0 o.1 on)
+      by (Faulted f) e = let o = ended_off x y s late held Typed g k at c st (λ w. absurd (let d : Faulted f ≡ Running = sym e ∙ w in cc)) in absurd (off_on_not _ o.0 o.1 on)
 
   pub here : (t : ℕ) → (run x s t).off ≡ None → Here t
-  here t on = by (covered x y old Typed g t)
+  here t on = by (covered x y s late held Typed g t)
     where
-      by : Covered x y old Typed g t → Here t
+      by : Covered x y s late held Typed g t → Here t
       by d = ⊎_elim
           (λ (o : (v : ℕ) × OffOn x s d.count v d.at). absurd (off_on_not (run x s t).off o.0 (off_on x s d.count o.0 d.at t d.from o.1).off on))
-          (λ (w : Going x y old Typed g d.count d.at t d.past). record {
+          (λ (w : Going x y s late held Typed g d.count d.at t d.past). record {
             at = d.at;
             k = d.count;
             c = d.past;
@@ -295,7 +300,7 @@ module _ (x : Outside) (y : System) (old : List (List ℕ)) (Typed : C0 → Type
               stood = d.stood;
               running = runs_on d.at d.count d.past d.stood (on_back x s d.at t d.from on);
               beginning = w.beginning;
-              typed = (forward x y old Typed g d.stood.cvm.units d.count d.past d.stood.cvm.is).1.typed;
+              typed = (forward x y s late held Typed g d.stood.cvm.units d.count d.past d.stood.cvm.is).1.typed;
             };
             inside = w.inside;
             before = d.before;
@@ -389,7 +394,7 @@ module _ (x : Outside) (y : System) (old : List (List ℕ)) (Typed : C0 → Type
     complete_closes = completes x s t r ∙ turn_closes
 
     cvm_closes : (p : Cvm) × IsCvm y lines (suc k) p
-    cvm_closes = let d = defined x y old Typed g (suc t) in (d.0, subst (λ i. IsCvm y lines i d.0) complete_closes d.1)
+    cvm_closes = let d = defined x y s late held Typed g (suc t) in (d.0, subst (λ i. IsCvm y lines i d.0) complete_closes d.1)
 
   goes_at : (t : ℕ) (h : Here t) → h.turn.beginning.start < t → Goes h.at h.k h.c h.turn t
   goes_at t h lt = record { begun_is = lt; inside = h.inside }
@@ -441,7 +446,7 @@ module _ (x : Outside) (y : System) (old : List (List ℕ)) (Typed : C0 → Type
     past_is n at k r m c j w v = v.cvm_is ∙ ap (λ c. Some c) (one_cvm y g.meaning lines k v.past c (record { units = n; is = v.cvm_is }) w.stood.cvm)
 
     -- a step that adds nothing
-    quiet_step : (t : ℕ) (j : List JournalEntry) → begins x (run x s t) ≡ false → returned (run x s (suc t)) (noted_call x s t) ≡ None → Shown x s y u (suc t) j → ShowsMore x y old u t j
+    quiet_step : (t : ℕ) (j : List JournalEntry) → begins x (run x s t) ≡ false → returned (run x s (suc t)) (noted_call x s t) ≡ None → Shown x s y u (suc t) j → ShowsMore x y s u t j
     quiet_step t j b e w = record {
       words = [];
       there = subst (WordsAt x y u (run x s (suc t)) []) (sym e) tt;
@@ -453,7 +458,7 @@ module _ (x : Outside) (y : System) (old : List (List ℕ)) (Typed : C0 → Type
 
     -- a step that begins a turn
     begin_step : (t : ℕ) (j : List JournalEntry) → begins x (run x s t) ≡ true → noted_call x s t ≡ None →
-        Shown x s y u (suc t) (j ++ turn_begins u (slice_index (run x s t).memory current_at) (note (run x s (suc t)))) → ShowsMore x y old u t j
+        Shown x s y u (suc t) (j ++ turn_begins u (slice_index (run x s t).memory current_at) (note (run x s (suc t)))) → ShowsMore x y s u t j
     begin_step t j b e w = record {
       words = [];
       there = subst (λ o. WordsAt x y u (run x s (suc t)) [] (returned (run x s (suc t)) o)) (sym e) tt;
@@ -464,7 +469,7 @@ module _ (x : Outside) (y : System) (old : List (List ℕ)) (Typed : C0 → Type
     -- a step in which a primitive returns
     call_step : (t : ℕ) (j : List JournalEntry) (e : Entered) (core : Core) → begins x (run x s t) ≡ false → noted_call x s t ≡ Some e → (run x s (suc t)).cpu.pc ≡ e.back → Stands x site (run x s (suc t)) Running core →
         IsPlaced u e (slice_index (run x s (suc t)).cpu.regs ANSWER) (user_of core.users u).words →
-        Shown x s y u (suc t) (j ++ call_ends u e (slice_index (run x s (suc t)).cpu.regs ANSWER) (user_of core.users u).words) → ShowsMore x y old u t j
+        Shown x s y u (suc t) (j ++ call_ends u e (slice_index (run x s (suc t)).cpu.regs ANSWER) (user_of core.users u).words) → ShowsMore x y s u t j
     call_step t j e core b is pc stands placed w =
         let back : returned (run x s (suc t)) (noted_call x s t) ≡ Some e = ap (returned (run x s (suc t))) is ∙ cond-true ((run x s (suc t)).cpu.pc == e.back) (Some e) None (eq-eqb _ _ pc) in
         record {
@@ -477,15 +482,15 @@ module _ (x : Outside) (y : System) (old : List (List ℕ)) (Typed : C0 → Type
         }
 
     -- before the turn begins
-    before_step : (at k : ℕ) (c : Cvm) (w : Turn at k c) → under_way x s at ≡ None → (t : ℕ) (j : List JournalEntry) → at ≤ t → t < w.beginning.start → Shown x s y u t j → ShowsMore x y old u t j
+    before_step : (at k : ℕ) (c : Cvm) (w : Turn at k c) → under_way x s at ≡ None → (t : ℕ) (j : List JournalEntry) → at ≤ t → t < w.beginning.start → Shown x s y u t j → ShowsMore x y s u t j
     before_step at k c w q t j a b sh =
-        let v = known_from t k k j (w.beginning.between t a (omega (arith, b))) (turn_before at k c w q t a (omega (arith, b))) sh in
+        let v = known_from t k k j (w.beginning.between t a (let to = w.beginning.to in omega (arith, b, to))) (turn_before at k c w q t a (omega (arith, b))) sh in
         quiet_step t j (w.beginning.none t a b) (ap (returned (run x s (suc t))) (noted_none x s t (calm at k c w q t a (omega (arith, b))).0))
-        (shown_from v.0 (suc t) k k (ended_since x s (suc t)) j (w.beginning.between (suc t) (omega (arith, a)) b) (turn_before at k c w q (suc t) (omega (arith, a)) b) refl
+        (shown_from v.0 (suc t) k k (ended_since x s (suc t)) j (w.beginning.between (suc t) (omega (arith, a)) (let to = w.beginning.to in omega (arith, b, to))) (turn_before at k c w q (suc t) (omega (arith, a)) b) refl
         (closed y g.meaning lines u v.0 k (ended_since x s (suc t)) v.1.past j v.1.cvm_is (closed_is y g.meaning lines u v.0 k (ended_since x s t) j v.1)))
 
     -- where it begins
-    start_step : (at k : ℕ) (c : Cvm) (w : Turn at k c) → under_way x s at ≡ None → (j : List JournalEntry) → Shown x s y u w.beginning.start j → ShowsMore x y old u w.beginning.start j
+    start_step : (at k : ℕ) (c : Cvm) (w : Turn at k c) → under_way x s at ≡ None → (j : List JournalEntry) → Shown x s y u w.beginning.start j → ShowsMore x y s u w.beginning.start j
     start_step at k c w q j sh =
         begin_step w.beginning.start j w.beginning.begin_here (noted_none x s w.beginning.start (calm at k c w q w.beginning.start w.beginning.from (omega arith)).0)
         (⊎_elim
@@ -494,7 +499,7 @@ module _ (x : Outside) (y : System) (old : List (List ℕ)) (Typed : C0 → Type
         (kind at k c w))
       where
         known : (n : ℕ) × Knows n k k (ended_since x s w.beginning.start) j
-        known = known_from w.beginning.start k k j (w.beginning.between w.beginning.start w.beginning.from (omega arith)) w.beginning.turn sh
+        known = known_from w.beginning.start k k j (w.beginning.between w.beginning.start w.beginning.from w.beginning.to) w.beginning.turn sh
 
         turn_next : turn_of x s (suc w.beginning.start) ≡ suc k
         turn_next = turn_more x s w.beginning.start w.beginning.begin_here ∙ ap suc w.beginning.turn
@@ -521,7 +526,7 @@ module _ (x : Outside) (y : System) (old : List (List ℕ)) (Typed : C0 → Type
             (begins_open y g.meaning lines u known.0 k (ended_since x s w.beginning.start) c (λ n. (y.boot.meaning.dispatch n d.core d.cause d.edata d.user).calls) (turn_begins u (slice_index (run x s w.beginning.start).memory current_at) (note (run x s (suc w.beginning.start)))) j (d.cut u) h known.1)
 
     -- where it is complete at the next step
-    end_step : (at k : ℕ) (c : Cvm) (w : Turn at k c) → under_way x s at ≡ None → (t : ℕ) (j : List JournalEntry) → Goes at k c w t → rests (run x s (suc t)) ≡ true → Shown x s y u t j → ShowsMore x y old u t j
+    end_step : (at k : ℕ) (c : Cvm) (w : Turn at k c) → under_way x s at ≡ None → (t : ℕ) (j : List JournalEntry) → Goes at k c w t → rests (run x s (suc t)) ≡ true → Shown x s y u t j → ShowsMore x y s u t j
     end_step at k c w q t j o r sh =
         let v = known_from t k (suc k) j (complete_open at k c w t o) (turn_open at k c w t o) sh in
         let p = cvm_closes at k c w t o r in
@@ -555,7 +560,7 @@ module _ (x : Outside) (y : System) (old : List (List ℕ)) (Typed : C0 → Type
           omega (arith, a, b, grows, h)
 
       -- nothing ends
-      same_step : ends_here (run x s (suc t)) (under_way x s t) ≡ 0 → returned (run x s (suc t)) (noted_call x s t) ≡ None → ShowsMore x y old u t j
+      same_step : ends_here (run x s (suc t)) (under_way x s t) ≡ 0 → returned (run x s (suc t)) (noted_call x s t) ≡ None → ShowsMore x y s u t j
       same_step e none =
           let m : ended_since x s (suc t) ≡ ended_since x s t = since_more 0 e ∙ omega arith in
           quiet_step t j no_begin_here none (shown_from known_here.0 (suc t) k (suc k) (ended_since x s t) j (complete_open at k c w (suc t) o2) (turn_open at k c w (suc t) o2) m known_here.1)
@@ -638,7 +643,7 @@ module _ (x : Outside) (y : System) (old : List (List ℕ)) (Typed : C0 → Type
             call_placed entry_state.cpu.regs (λ r. index_word entry_state.cpu.regs r it.ends.called.at.stands.fits.cpu.regs.each) u (slice_index entry_state.cpu.regs RETURN) (slice_index (run x s (suc t)).cpu.regs ANSWER)
             site.map.params.pages it.ends.core.users it.ends.core.console low (omega (arith, high, count)) it.ends.call it.ends.called.arguments back_there.answer
 
-        call_here : ShowsMore x y old u t j
+        call_here : ShowsMore x y s u t j
         call_here = call_step t j (its_note x site y.longest (run x s d.at) (ended_before x (run x s d.at) (t - d.at)) it.changes it.ends d.called.called.at.pc)
             (record it.ends.core { users = (given site it.ends.core it.ends.call).users; console = (given site it.ends.core it.ends.call).console })
             no_begin_here noted_it back_there.pc back_there.stands placed_there
@@ -647,10 +652,10 @@ module _ (x : Outside) (y : System) (old : List (List ℕ)) (Typed : C0 → Type
       none_noted : (e : Entered) → None ≡ Some e → ⊥
       none_noted e h = cc
 
-      going_step : 1 ≤ u → u ≤ length y.boot.users → ShowsMore x y old u t j
+      going_step : 1 ≤ u → u ≤ length y.boot.users → ShowsMore x y s u t j
       going_step low high = by (noted_call x s t) refl
         where
-          ended_one : (e : Entered) → noted_call x s t ≡ Some e → (b : Bool) → ((run x s (suc t)).cpu.pc == e.back) ≡ b → ShowsMore x y old u t j
+          ended_one : (e : Entered) → noted_call x s t ≡ Some e → (b : Bool) → ((run x s (suc t)).cpu.pc == e.back) ≡ b → ShowsMore x y s u t j
           ended_one e is false b = same_step
               (ap (ends_here (run x s (suc t))) (sym (noted_back x s t) ∙ ap note_back is) ∙ cond-false ((run x s (suc t)).cpu.pc == e.back) 1 0 b)
               (ap (returned (run x s (suc t))) is ∙ cond-false ((run x s (suc t)).cpu.pc == e.back) (Some e) None b)
@@ -664,7 +669,7 @@ module _ (x : Outside) (y : System) (old : List (List ℕ)) (Typed : C0 → Type
               (cases_lt t d.at))
               (kind at k c w)
 
-          by : (n : Option Entered) → noted_call x s t ≡ n → ShowsMore x y old u t j
+          by : (n : Option Entered) → noted_call x s t ≡ n → ShowsMore x y s u t j
           by None is = same_step (ap (ends_here (run x s (suc t))) (sym (noted_back x s t) ∙ ap note_back is)) (ap (returned (run x s (suc t))) is)
           by (Some e) is = ended_one e is ((run x s (suc t)).cpu.pc == e.back) refl
 
@@ -678,10 +683,10 @@ module _ (x : Outside) (y : System) (old : List (List ℕ)) (Typed : C0 → Type
         va.is ∙ sym vc.is
 
     -- any step
-    pub grows : 1 ≤ u → u ≤ length y.boot.users → (t : ℕ) (j : List JournalEntry) → (run x s t).off ≡ None → Shown x s y u t j → ShowsMore x y old u t j
+    pub grows : 1 ≤ u → u ≤ length y.boot.users → (t : ℕ) (j : List JournalEntry) → (run x s t).off ≡ None → Shown x s y u t j → ShowsMore x y s u t j
     grows low high t j on sh = by (rests (run x s (suc t))) refl
       where
-        at_rest : rests (run x s (suc t)) ≡ true → (h : Here t) → under_way x s h.at ≡ None → ShowsMore x y old u t j
+        at_rest : rests (run x s (suc t)) ≡ true → (h : Here t) → under_way x s h.at ≡ None → ShowsMore x y s u t j
         at_rest r h q = ⊎_elim
             (λ (lt : t < h.turn.beginning.start). before_step h.at h.k h.c h.turn q t j h.from lt sh)
             (λ (ge : h.turn.beginning.start ≤ t). ⊎_elim
@@ -690,10 +695,10 @@ module _ (x : Outside) (y : System) (old : List (List ℕ)) (Typed : C0 → Type
             (cases_lt h.turn.beginning.start t))
             (cases_lt t h.turn.beginning.start)
           where
-            at_start : (h : Here t) → under_way x s h.at ≡ None → (t2 : ℕ) → t2 ≡ h.turn.beginning.start → Shown x s y u t2 j → ShowsMore x y old u t2 j
-            at_start h q t2 e w = subst (λ i. ShowsMore x y old u i j) (sym e) (start_step h.at h.k h.c h.turn q j (subst (λ i. Shown x s y u i j) e w))
+            at_start : (h : Here t) → under_way x s h.at ≡ None → (t2 : ℕ) → t2 ≡ h.turn.beginning.start → Shown x s y u t2 j → ShowsMore x y s u t2 j
+            at_start h q t2 e w = subst (λ i. ShowsMore x y s u i j) (sym e) (start_step h.at h.k h.c h.turn q j (subst (λ i. Shown x s y u i j) e w))
 
-        inside_on : (h : Here (suc t)) → under_way x s h.at ≡ None → h.at ≤ t → ShowsMore x y old u t j
+        inside_on : (h : Here (suc t)) → under_way x s h.at ≡ None → h.at ≤ t → ShowsMore x y s u t j
         inside_on h q from = ⊎_elim
             (λ (lt : t < h.turn.beginning.start). before_step h.at h.k h.c h.turn q t j from lt sh)
             (λ (ge : h.turn.beginning.start ≤ t). ⊎_elim
@@ -702,23 +707,58 @@ module _ (x : Outside) (y : System) (old : List (List ℕ)) (Typed : C0 → Type
             (cases_lt h.turn.beginning.start t))
             (cases_lt t h.turn.beginning.start)
           where
-            at_start : (h : Here (suc t)) → under_way x s h.at ≡ None → (t2 : ℕ) → t2 ≡ h.turn.beginning.start → Shown x s y u t2 j → ShowsMore x y old u t2 j
-            at_start h q t2 e w = subst (λ i. ShowsMore x y old u i j) (sym e) (start_step h.at h.k h.c h.turn q j (subst (λ i. Shown x s y u i j) e w))
+            at_start : (h : Here (suc t)) → under_way x s h.at ≡ None → (t2 : ℕ) → t2 ≡ h.turn.beginning.start → Shown x s y u t2 j → ShowsMore x y s u t2 j
+            at_start h q t2 e w = subst (λ i. ShowsMore x y s u i j) (sym e) (start_step h.at h.k h.c h.turn q j (subst (λ i. Shown x s y u i j) e w))
 
         early : rests (run x s (suc t)) ≡ false → (h : Here (suc t)) → h.at ≤ t
-        early r h = ⊎_elim (λ (lt : t < h.at). let f = h.from in absurd (late h.at h.k h.c (omega (arith, lt, f)) h.turn.stood)) (λ (le : h.at ≤ t). le) (cases_lt t h.at)
+        early r h = ⊎_elim (λ (lt : t < h.at). let f = h.from in absurd (too_late h.at h.k h.c (omega (arith, lt, f)) h.turn.stood)) (λ (le : h.at ≤ t). le) (cases_lt t h.at)
           where
-            late : (at k : ℕ) (c : Cvm) → at ≡ suc t → Stood x y old k at c → ⊥
-            late at zero c e st = let z : at ≡ 0 = st.rests in omega (arith, e, z)
-            late at (suc k) c e st = true_false _ (subst (λ i. rests (run x s i) ≡ true) e (stood_rests x y old k at c st)) r
+            too_late : (at k : ℕ) (c : Cvm) → at ≡ suc t → Stood x y s k at c → ⊥
+            too_late at zero c e st = let z : at ≡ 0 = st.rests in omega (arith, e, z)
+            too_late at (suc k) c e st = true_false _ (subst (λ i. rests (run x s i) ≡ true) e (stood_rests x y s k at c st)) r
 
-        by : (r : Bool) → rests (run x s (suc t)) ≡ r → ShowsMore x y old u t j
+        by : (r : Bool) → rests (run x s (suc t)) ≡ r → ShowsMore x y s u t j
         by true r = let h = here t on in at_rest r h (quiet_at t t (omega arith) h)
         by false r = let h = here (suc t) (not_rests_on _ r) in inside_on h (quiet_at (suc t) (suc t) (omega arith) h) (early r h)
 
-    pub trace_grows : 1 ≤ u → u ≤ length y.boot.users → TraceGrows x y old u
+    -- a step that has rows completes no turn
+    busy : (t : ℕ) → (run x s t).off ≡ None → HasRows (run x s (suc t)) (noted_call x s t) (begins x (run x s t)) → rests (run x s (suc t)) ≡ false
+    busy t on rows = by (rests (run x s (suc t))) refl
+      where
+        none_there : begins x (run x s t) ≡ false → noted_call x s t ≡ None → ⊥
+        none_there b n = true_false false (subst₂ (HasRows (run x s (suc t))) n b rows) refl
+
+        dispatched : begins x (run x s t) ≡ true → (note (run x s (suc t))).dispatched ≡ true
+        dispatched b = let h : HasRows (run x s (suc t)) (noted_call x s t) true = subst (HasRows (run x s (suc t)) (noted_call x s t)) b rows in h
+
+        at_begin : (h : Here t) → t ≡ h.turn.beginning.start → rests (run x s (suc t)) ≡ true → ⊥
+        at_begin h e r = ⊎_elim
+            (λ (z : Single h.k h.c h.turn.beginning.start).
+            let user : in_user (run x s (suc t)) ≡ true = subst (λ i. in_user (run x s (suc i)) ≡ true) (sym e) (both_right (is_on (run x s (suc h.turn.beginning.start))) (in_user (run x s (suc h.turn.beginning.start))) z.user) in
+            let begun : begins x (run x s t) ≡ true = subst (λ i. begins x (run x s i) ≡ true) (sym e) h.turn.beginning.begin_here in
+            true_false _ (dispatched begun) (ap not user))
+            (λ (d : Dispatch h.k h.c h.turn.beginning.start). let f = d.from in not_inside (suc t) r (d.inside (suc t) (omega (arith, e)) (omega (arith, e, f))))
+            (kind h.at h.k h.c h.turn)
+
+        resting : (h : Here t) → under_way x s h.at ≡ None → rests (run x s (suc t)) ≡ true → ⊥
+        resting h q r = ⊎_elim
+            (λ (lt : t < h.turn.beginning.start). none_there (h.turn.beginning.none t h.from lt) (noted_none x s t (calm h.at h.k h.c h.turn q t h.from (omega (arith, lt))).0))
+            (λ (ge : h.turn.beginning.start ≤ t). ⊎_elim
+            (λ (gt : h.turn.beginning.start < t).
+            let o = goes_at t h gt in
+            none_there (inside_begins x _ (o.inside t gt (omega arith))) (noted_none x s t (over h.at h.k h.c h.turn q t o r (cvm_closes h.at h.k h.c h.turn t o r)).under))
+            (λ (le : t ≤ h.turn.beginning.start). at_begin h (omega (arith, ge, le)) r)
+            (cases_lt h.turn.beginning.start t))
+            (cases_lt t h.turn.beginning.start)
+
+        by : (r : Bool) → rests (run x s (suc t)) ≡ r → r ≡ false
+        by true r = let h = here t on in absurd (resting h (quiet_at t t (omega arith) h) r)
+        by false r = refl
+
+    pub trace_grows : 1 ≤ u → u ≤ length y.boot.users → TraceGrows x y s u
     trace_grows low high = record {
       one = one_shown;
       none = record { units = 0; past = first_cvm y; cvm = refl; enough = λ lt. absurd (omega (arith, lt)); is = refl };
       more = grows low high;
+      busy = busy;
     }

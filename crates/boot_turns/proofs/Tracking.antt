@@ -1,14 +1,14 @@
 -- What the loop has printed of a trace: what one step adds to it, where the step or its rows fail, and how far it is at each step of the loop.
-use Rattle.std.proofs.Common.{◌≡◌, ℕ, suc, ◌+◌, ◌≤◌, Bool, Option, Some, None, Result, Ok, Err, List, [], ◌++◌, length, take, slice_index, refl, sym, ap, ◌∙◌, subst, arith, append_assoc}
+use Rattle.std.proofs.Common.{◌≡◌, ℕ, suc, ◌+◌, ◌≤◌, inl, inr, Bool, true, Option, Some, None, Result, Ok, Err, List, [], ◌++◌, length, take, slice_index, refl, sym, ap, ◌∙◌, subst, subst₂, arith, append_assoc}
 use Rattle.std.specs.Prelude.{IfSome, MatchResult, false}
 use Rattle.std.specs.Option.{option_map}
 use Rattle.std.specs.Io.KnownBytes.{append_known}
 use Rattle.std.proofs.Math.Seq.{take-append-add, take-append_seam}
 use Rattle.cvm_outside.specs.Told.{AppendsPart}
-use Rattle.cvm_outside.proofs.Parts.{part-none, puts-both, part-front}
+use Rattle.cvm_outside.proofs.Parts.{puts-both, part-front}
 use Rattle.mips_table.specs.Device.{Outside}
-use Rattle.mips_table.specs.Machine.{State, step}
-use Rattle.mips_table.specs.Turns.{begins}
+use Rattle.mips_table.specs.Machine.{State, run, step}
+use Rattle.mips_table.specs.Turns.{begins, rests}
 use Rattle.mips_machine.specs.Machine.{Held, state_of}
 use Rattle.mips_machine.specs.Steps.{outside_of}
 use Rattle.layer_map.specs.Map.{Map, MapInRange, current_at}
@@ -17,8 +17,7 @@ use Rattle.c0_meaning.specs.TypedState.{IsTypedState}
 use Rattle.cvm_model.specs.Kernel.{JournalEntry}
 use Rattle.cvm_model.specs.Cvm.{System, Running}
 use Rattle.cvm_model.specs.Text.{steps_row, journal_rows, open_journal_rows, journal_rows_after}
-use Rattle.layer_contract.specs.Layer.{Laws}
-use Rattle.layer_contract.specs.Follows.{site_of, machine, loaded}
+use Rattle.layer_contract.specs.Follows.{site_of}
 use Rattle.boot_report.specs.Told.{WordsAreTold, WordsTell}
 use Rattle.boot_turns.specs.declared.completion.Begun.{Begun}
 use Rattle.boot_turns.specs.declared.completion.Stepped.{Stepped}
@@ -26,14 +25,14 @@ use Rattle.boot_turns.specs.declared.tracer.Entered.{Entered}
 use Rattle.boot_turns.specs.declared.tracer.Tracer.{Tracer}
 use Rattle.boot_turns.specs.declared.answers.RunFault.{RunFault}
 use Rattle.boot_turns.specs.declared.answers.RunFault.TheVariants.{StepLimit, Disk, Sink}
-use Rattle.boot_turns.specs.Completes.{seen}
-use Rattle.boot_turns.specs.Headline.{Boots}
+use Rattle.boot_turns.specs.Completes.{seen, SeenTorn, StepTorn}
+use Rattle.boot_turns.specs.Premises.{StartsFrom}
 use Rattle.boot_turns.specs.TurnEnds.{Prefix}
-use Rattle.boot_turns.specs.Entries.{noted_call, notes_on, returned, step_entries, WordsAt, ShowsMore, TracesGrow}
+use Rattle.boot_turns.specs.Entries.{noted_call, notes_on, returned, step_entries, WordsAt, ShowsMore, HasRows, CopyEnds, CopyReturns, TracesGrow}
 use Rattle.boot_turns.specs.JournalText.{steps_after, pending_steps, RowsFollow}
 use Rattle.boot_turns.specs.Tracing.{followed, ReturnTold, tracer_at, Traced, RowsTorn, RowsCut, TracedOn, TraceStops, Tracing, TraceRuns}
 use Rattle.boot_turns.specs.TraceSteps.{StepStops, StepTraces}
-use Rattle.boot_turns.proofs.Events.{told_as_some}
+use Rattle.boot_turns.proofs.Events.{told_as_some, step_torn}
 use Rattle.boot_turns.proofs.Opening.{seen_more}
 
 -- THE ROWS: those of the entries d follow those of j
@@ -78,39 +77,42 @@ abbrev tracer_of : ℕ → ℕ → Option Entered → Tracer
 tracer_of u n c = record { user = u; steps = n; call = c }
 
 -- ONE STEP of the run, of which j was shown before it
-module _ (f : RowsFollow) (x : Outside) (y : System) (old : List (List ℕ)) (u t : ℕ) (base text : Option (List ℕ)) (kept : Option Tracer) (w : Traced x y old u t base kept text) (more : ShowsMore x y old u t w.journal) where
+module _ (f : RowsFollow) (x : Outside) (y : System) (s : State) (u t : ℕ) (base text : Option (List ℕ)) (kept : Option Tracer) (w : Traced x y s u t base kept text) (more : ShowsMore x y s u t w.journal) where
   abbrev entries : List JournalEntry
-  entries = step_entries x (loaded y old) u t more.words
+  entries = step_entries x s u t more.words
 
-  step_torn_rows : (retext : Option (List ℕ)) → AppendsPart text retext (journal_rows_after false (pending_steps w.journal) entries) → RowsTorn x y old u t base retext
-  step_torn_rows retext part =
+  step_torn_rows : (now : Option State) → SeenTorn x (run x s t) now → RowsTorn x y s u t base now text
+  step_torn_rows now torn = inl (record { before = w.journal; shown_before = w.shown; torn = torn; printed = w.printed })
+
+  rows_torn_rows : (now : Option State) → now ≡ Some (run x s (suc t)) → CopyReturns x s u t → (retext : Option (List ℕ)) → AppendsPart text retext (journal_rows_after false (pending_steps w.journal) entries) → RowsTorn x y s u t base now retext
+  rows_torn_rows now done copy retext part =
       let r = rows_torn f base text w.journal entries w.printed retext part in
-      record { before = w.journal; after = w.journal ++ entries; shown_before = w.shown; shown_after = more.shown; rows = r.0; part = r.1; printed = r.2 }
+      inr (record { copy = copy; done = done; before = w.journal; after = w.journal ++ entries; shown_before = w.shown; shown_after = more.shown; rows = r.0; part = r.1; printed = r.2 })
 
-  step_cut_rows : (retext : Option (List ℕ)) → AppendsPart text retext (journal_rows_after false (pending_steps w.journal) entries) → RowsCut x y old u (suc t) base retext
-  step_cut_rows retext part =
+  step_cut_rows : rests (run x s (suc t)) ≡ false → (retext : Option (List ℕ)) → AppendsPart text retext (journal_rows_after false (pending_steps w.journal) entries) → RowsCut x y s u (suc t) base retext
+  step_cut_rows busy retext part =
       let r = rows_cut f base text w.journal entries w.printed retext part in
-      record { after = w.journal ++ entries; shown_after = more.shown; rows = r.0; part = r.1; printed = r.2 }
+      record { busy = busy; after = w.journal ++ entries; shown_after = more.shown; rows = r.0; part = r.1; printed = r.2 }
 
   step_done_rows : (retext : Option (List ℕ)) (after : Tracer) → retext ≡ append_known text (journal_rows_after false (pending_steps w.journal) entries) →
-      after ≡ tracer_of u (steps_after (pending_steps w.journal) entries) (notes_on (machine x y old (suc t)) (noted_call x (loaded y old) t)) → Traced x y old u (suc t) base (Some after) retext
+      after ≡ tracer_of u (steps_after (pending_steps w.journal) entries) (notes_on (run x s (suc t)) (noted_call x s t)) → Traced x y s u (suc t) base (Some after) retext
   step_done_rows retext after h is =
-      let c : Option Entered = notes_on (machine x y old (suc t)) (noted_call x (loaded y old) t) in
+      let c : Option Entered = notes_on (run x s (suc t)) (noted_call x s t) in
       let counted : ◌≡◌ {A = Option Tracer} (Some (tracer_of u (steps_after (pending_steps w.journal) entries) c)) (Some (tracer_of u (pending_steps (w.journal ++ entries)) c)) =
       ap (λ (n : ℕ). Some (tracer_of u n c)) (sym (f.count w.journal entries)) in
       record { journal = w.journal ++ entries; shown = more.shown; keeps = ap (λ (k : Tracer). Some k) is ∙ counted; printed = rows_done f base text w.journal entries w.printed retext h }
 
 -- what is followed are the entries of the step
-followed_is : (x : Outside) (y : System) (old : List (List ℕ)) (u t : ℕ) (j : List JournalEntry) (k : Tracer) → k ≡ tracer_at x (loaded y old) u t j → (now : State) → now ≡ machine x y old (suc t) →
-    (current : ℕ) → current ≡ slice_index (machine x y old t).memory current_at → (began : Bool) → began ≡ begins x (machine x y old t) → (words : List ℕ) → followed now k current began words ≡ step_entries x (loaded y old) u t words
-followed_is x y old u t j k hk now hn current hc began hb words =
-    let k' : Tracer = tracer_at x (loaded y old) u t j in
-    let s : State = machine x y old (suc t) in
-    let e : ℕ = slice_index (machine x y old t).memory current_at in
+followed_is : (x : Outside) (y : System) (s : State) (u t : ℕ) (j : List JournalEntry) (k : Tracer) → k ≡ tracer_at x s u t j → (now : State) → now ≡ run x s (suc t) →
+    (current : ℕ) → current ≡ slice_index (run x s t).memory current_at → (began : Bool) → began ≡ begins x (run x s t) → (words : List ℕ) → followed now k current began words ≡ step_entries x s u t words
+followed_is x y s u t j k hk now hn current hc began hb words =
+    let k' : Tracer = tracer_at x s u t j in
+    let z : State = run x s (suc t) in
+    let e : ℕ = slice_index (run x s t).memory current_at in
     ap (λ (k : Tracer). followed now k current began words) hk
     ∙ ap (λ (n : State). followed n k' current began words) hn
-    ∙ ap (λ (c : ℕ). followed s k' c began words) hc
-    ∙ ap (λ (b : Bool). followed s k' e b words) hb
+    ∙ ap (λ (c : ℕ). followed z k' c began words) hc
+    ∙ ap (λ (b : Bool). followed z k' e b words) hb
 
 -- where a primitive returns, the words that are shown are told
 words_told : (x : Outside) (y : System) → WordsTell → MapInRange (site_of y.boot).map → (u : ℕ) → 1 ≤ u → u ≤ length y.boot.users → (held : Held) (ss : List (List ℕ)) (words : List ℕ) (o : Option Entered) →
@@ -121,33 +123,40 @@ words_told x y tell range u low high held ss words (Some e) (core, stands, is, p
     let told = tell x (site_of y.boot) held ss Running core u range stands (low, omega (arith, many, high)) in
     (subst (WordsAreTold (site_of y.boot).map (state_of held ss) u) (sym is) told, placed)
 
--- A boot of whose run a machine stands at step t, and one of its users who is traced.
+-- A run from a start in which a machine stands at step t, and one of its users who is traced.
 pub record Booted (x : Outside) (m : Map) (now : Option State) (kept : Option Tracer) (text : Option (List ℕ)) : Type 0 where
   pub unit : CUnit
-  pub lines : ℕ → ℕ
-  pub busy : ℕ → ℕ
   pub y : System
-  pub old : List (List ℕ)
-  pub image : List ℕ
-  pub sizes : List ℕ
-  pub made_for : Map
+  pub s : State
+  pub late : ℕ
+  pub held : ℕ
   pub u : ℕ
   pub t : ℕ
   pub base : Option (List ℕ)
-  pub boots : Boots (IsTypedState unit) lines busy x y old image sizes made_for
-  pub laws : Laws (site_of y.boot) sizes
+  pub from : StartsFrom (IsTypedState unit) x y s late held
   pub map_is : m ≡ (site_of y.boot).map
   pub low : 1 ≤ u
   pub high : u ≤ length y.boot.users
-  pub at : now ≡ Some (machine x y old t)
-  pub traced : Traced x y old u t base kept text
+  pub at : now ≡ Some (run x s t)
+  pub traced : Traced x y s u t base kept text
 
--- the clause on a step is of each such boot
-pub each_step : (x : Outside) (m : Map) (held : Held) (told : Option (List (List ℕ))) (before after : Option Tracer) (text retext : Option (List ℕ)) (result : Result Stepped RunFault) →
-    ((b : Booted x m (seen told held) before text) → MatchResult result (λ _. Traced x b.y b.old b.u (suc b.t) b.base after retext) (StepStops x b.y b.old b.u b.t b.base retext)) →
-    StepTraces x m held told before after text retext result
-each_step x m held told before after text retext result f = λ unit lines busy y old image sizes made_for u t base boots laws map_is low high at traced.
-    f (record { unit = unit; lines = lines; busy = busy; y = y; old = old; image = image; sizes = sizes; made_for = made_for; u = u; t = t; base = base; boots = boots; laws = laws; map_is = map_is; low = low; high = high; at = at; traced = traced })
+-- the clause on a step is of each such run
+pub each_step : (x : Outside) (m : Map) (held new : Held) (told retold : Option (List (List ℕ))) (before after : Option Tracer) (text retext : Option (List ℕ)) (result : Result Stepped RunFault) →
+    ((b : Booted x m (seen told held) before text) → MatchResult result (λ _. Traced x b.y b.s b.u (suc b.t) b.base after retext) (StepStops x b.y b.s b.u b.t b.base (seen retold new) retext)) →
+    StepTraces x m held new told retold before after text retext result
+each_step x m held new told retold before after text retext result f = λ unit y s late limit u t base from map_is low high at traced.
+    f (record { unit = unit; y = y; s = s; late = late; held = limit; u = u; t = t; base = base; from = from; map_is = map_is; low = low; high = high; at = at; traced = traced })
+
+-- what a machine shows of a copy that returns doesn't look at its sectors
+copy_seen : (held : Held) (ss : List (List ℕ)) (u : ℕ) (noted : Option Entered) → CopyEnds u (state_of held []) noted → CopyEnds u (state_of held ss) noted
+copy_seen held ss u None c = record { call = c.call; returns = c.returns; copy = c.copy }
+copy_seen held ss u (Some e) c = record { call = c.call; returns = c.returns; copy = c.copy }
+
+-- nor does whether a step has rows
+rows_seen : (held : Held) (ss : List (List ℕ)) (noted : Option Entered) (began : Bool) → HasRows (state_of held []) noted began → HasRows (state_of held ss) noted began
+rows_seen held ss noted true h = h
+rows_seen held ss None false h = h
+rows_seen held ss (Some e) false h = h
 
 same_some : {A : Type 0} (a b : A) → Some a ≡ Some b → a ≡ b
 same_some a b h = cc
@@ -157,46 +166,47 @@ module _ (grow : (c : CUnit) → TracesGrow (IsTypedState c)) (f : RowsFollow) (
   abbrev Here : Type 0
   Here = Booted x m (seen told held) (Some k) text
 
-  more_at : (b : Here) → ShowsMore x b.y b.old b.u b.t b.traced.journal
+  more_at : (b : Here) → ShowsMore x b.y b.s b.u b.t b.traced.journal
   more_at b =
-      let w = told_as_some told held (machine x b.y b.old b.t) b.at in
-      let is_on : (machine x b.y b.old b.t).off ≡ None = ap (λ (s : State). s.off) (sym w.2) ∙ on in
-      (grow b.unit b.lines b.busy x b.y b.old b.image b.sizes b.made_for b.u b.boots b.laws b.low b.high).more b.t b.traced.journal is_on b.traced.shown
+      let w = told_as_some told held (run x b.s b.t) b.at in
+      let is_on : (run x b.s b.t).off ≡ None = ap (λ (s : State). s.off) (sym w.2) ∙ on in
+      (grow b.unit x b.y b.s b.late b.held b.u b.from b.low b.high).more b.t b.traced.journal is_on b.traced.shown
 
-  keeps_at : (b : Here) → k ≡ tracer_at x (loaded b.y b.old) b.u b.t b.traced.journal
-  keeps_at b = same_some k (tracer_at x (loaded b.y b.old) b.u b.t b.traced.journal) b.traced.keeps
+  keeps_at : (b : Here) → k ≡ tracer_at x b.s b.u b.t b.traced.journal
+  keeps_at b = same_some k (tracer_at x b.s b.u b.t b.traced.journal) b.traced.keeps
 
   -- the disk failed in the step
-  step_fails : (before after : Option Tracer) (result : Result Stepped RunFault) (e : RunFault) → before ≡ Some k → result ≡ Err e → e ≡ Disk → StepTraces x m held told before after text text result
-  step_fails before after result e hb hr he = rw (hb, hr, he) (each_step x m held told (Some k) after text text (Err Disk) (λ (b : Here).
-      step_torn_rows f x b.y b.old b.u b.t b.base text (Some k) b.traced (more_at b) text (part-none text _)))
+  step_fails : (new : Held) (retold : Option (List (List ℕ))) (before after : Option Tracer) (result : Result Stepped RunFault) (e : RunFault) → before ≡ Some k → result ≡ Err e → e ≡ Disk →
+      ((b : Here) → SeenTorn x (run x b.s b.t) (seen retold new)) → StepTraces x m held new told retold before after text text result
+  step_fails new retold before after result e hb hr he torn = rw (hb, hr, he) (each_step x m held new told retold (Some k) after text text (Err Disk) (λ (b : Here).
+      step_torn_rows f x b.y b.s b.u b.t b.base text (Some k) b.traced (more_at b) (seen retold new) (torn b)))
 
   -- the step was done
-  module _ (mid : Held) (midtold : Option (List (List ℕ))) (ran : seen midtold mid ≡ option_map (step x) (seen told held)) (current : ℕ) (current_is : current ≡ slice_index held.hardware.memory current_at)
+  module _ (mid new : Held) (midtold retold : Option (List (List ℕ))) (same : seen retold new ≡ seen midtold mid) (ran : seen midtold mid ≡ option_map (step x) (seen told held)) (current : ℕ) (current_is : current ≡ slice_index held.hardware.memory current_at)
       (began : Bool) (began_is : IfSome (seen told held) (λ s. began ≡ begins x s)) where
-    told_at : (b : Here) → (ss : List (List ℕ)) × (midtold ≡ Some ss) × (state_of mid ss ≡ machine x b.y b.old (suc b.t))
-    told_at b = told_as_some midtold mid (machine x b.y b.old (suc b.t)) (seen_more x (seen told held) (seen midtold mid) (machine x b.y b.old b.t) ran b.at)
+    told_at : (b : Here) → (ss : List (List ℕ)) × (midtold ≡ Some ss) × (state_of mid ss ≡ run x b.s (suc b.t))
+    told_at b = told_as_some midtold mid (run x b.s (suc b.t)) (seen_more x (seen told held) (seen midtold mid) (run x b.s b.t) ran b.at)
 
     returns_at : (b : Here) → ReturnTold m (state_of mid (told_at b).0) k.user (more_at b).words (returned (state_of mid (told_at b).0) k.call)
     returns_at b =
         let ss : List (List ℕ) = (told_at b).0 in
         let words : List ℕ = (more_at b).words in
         let s : State = state_of mid ss in
-        let kt : Tracer = tracer_at x (loaded b.y b.old) b.u b.t b.traced.journal in
+        let kt : Tracer = tracer_at x b.s b.u b.t b.traced.journal in
         let there : WordsAt x b.y b.u s words (returned s kt.call) = subst (λ (s : State). WordsAt x b.y b.u s words (returned s kt.call)) (sym (told_at b).2) (more_at b).there in
-        let of_map : ReturnTold (site_of b.y.boot).map s kt.user words (returned s kt.call) = words_told x b.y tell b.boots.fits.range b.u b.low b.high mid ss words (returned s kt.call) there in
+        let of_map : ReturnTold (site_of b.y.boot).map s kt.user words (returned s kt.call) = words_told x b.y tell b.from.boots.fits.range b.u b.low b.high mid ss words (returned s kt.call) there in
         let of_user : ReturnTold (site_of b.y.boot).map s k.user words (returned s k.call) = subst (λ (k : Tracer). ReturnTold (site_of b.y.boot).map s k.user words (returned s k.call)) (sym (keeps_at b)) of_map in
         subst (λ (m : Map). ReturnTold m s k.user words (returned s k.call)) (sym b.map_is) of_user
 
-    entries_at : (b : Here) → followed (state_of mid (told_at b).0) k current began (more_at b).words ≡ step_entries x (loaded b.y b.old) b.u b.t (more_at b).words
+    entries_at : (b : Here) → followed (state_of mid (told_at b).0) k current began (more_at b).words ≡ step_entries x b.s b.u b.t (more_at b).words
     entries_at b =
-        let w = told_as_some told held (machine x b.y b.old b.t) b.at in
-        let here : current ≡ slice_index (machine x b.y b.old b.t).memory current_at = current_is ∙ ap (λ (s : State). slice_index s.memory current_at) w.2 in
-        let begun : IfSome (Some (machine x b.y b.old b.t)) (λ s. began ≡ begins x s) = subst (λ o. IfSome o (λ s. began ≡ begins x s)) b.at began_is in
-        followed_is x b.y b.old b.u b.t b.traced.journal k (keeps_at b) (state_of mid (told_at b).0) (told_at b).2 current here began begun (more_at b).words
+        let w = told_as_some told held (run x b.s b.t) b.at in
+        let here : current ≡ slice_index (run x b.s b.t).memory current_at = current_is ∙ ap (λ (s : State). slice_index s.memory current_at) w.2 in
+        let begun : IfSome (Some (run x b.s b.t)) (λ s. began ≡ begins x s) = subst (λ o. IfSome o (λ s. began ≡ begins x s)) b.at began_is in
+        followed_is x b.y b.s b.u b.t b.traced.journal k (keeps_at b) (state_of mid (told_at b).0) (told_at b).2 current here began begun (more_at b).words
 
     rows_at : (b : Here) → journal_rows_after false k.steps (followed (state_of mid (told_at b).0) k current began (more_at b).words)
-        ≡ journal_rows_after false (pending_steps b.traced.journal) (step_entries x (loaded b.y b.old) b.u b.t (more_at b).words)
+        ≡ journal_rows_after false (pending_steps b.traced.journal) (step_entries x b.s b.u b.t (more_at b).words)
     rows_at b =
         ap (λ (n : ℕ). journal_rows_after false n (followed (state_of mid (told_at b).0) k current began (more_at b).words)) (ap (λ (k : Tracer). k.steps) (keeps_at b))
         ∙ ap (journal_rows_after false (pending_steps b.traced.journal)) (entries_at b)
@@ -204,120 +214,144 @@ module _ (grow : (c : CUnit) → TracesGrow (IsTypedState c)) (f : RowsFollow) (
     -- what is kept after the step
     kept_at : (b : Here) →
         tracer_of k.user (steps_after k.steps (followed (state_of mid (told_at b).0) k current began (more_at b).words)) (notes_on (state_of mid (told_at b).0) k.call)
-        ≡ tracer_of b.u (steps_after (pending_steps b.traced.journal) (step_entries x (loaded b.y b.old) b.u b.t (more_at b).words)) (notes_on (machine x b.y b.old (suc b.t)) (noted_call x (loaded b.y b.old) b.t))
+        ≡ tracer_of b.u (steps_after (pending_steps b.traced.journal) (step_entries x b.s b.u b.t (more_at b).words)) (notes_on (run x b.s (suc b.t)) (noted_call x b.s b.t))
     kept_at b =
         let s : State = state_of mid (told_at b).0 in
-        let kt : Tracer = tracer_at x (loaded b.y b.old) b.u b.t b.traced.journal in
+        let kt : Tracer = tracer_at x b.s b.u b.t b.traced.journal in
         let entries : List JournalEntry = followed s k current began (more_at b).words in
         ap (λ (k : Tracer). tracer_of k.user (steps_after k.steps entries) (notes_on s k.call)) (keeps_at b)
         ∙ ap (λ (d : List JournalEntry). tracer_of kt.user (steps_after kt.steps d) (notes_on s kt.call)) (entries_at b)
-        ∙ ap (λ (s : State). tracer_of kt.user (steps_after kt.steps (step_entries x (loaded b.y b.old) b.u b.t (more_at b).words)) (notes_on s kt.call)) (told_at b).2
+        ∙ ap (λ (s : State). tracer_of kt.user (steps_after kt.steps (step_entries x b.s b.u b.t (more_at b).words)) (notes_on s kt.call)) (told_at b).2
 
     pub step_goes : (stepped : Stepped) (before : Option Tracer) (after : Tracer) (retext : Option (List ℕ)) → before ≡ Some k →
         ((ss : List (List ℕ)) (words : List ℕ) → midtold ≡ Some ss → ReturnTold m (state_of mid ss) k.user words (returned (state_of mid ss) k.call) →
         retext ≡ append_known text (journal_rows_after false k.steps (followed (state_of mid ss) k current began words))) →
         ((ss : List (List ℕ)) (words : List ℕ) → midtold ≡ Some ss → ReturnTold m (state_of mid ss) k.user words (returned (state_of mid ss) k.call) →
         after ≡ tracer_of k.user (steps_after k.steps (followed (state_of mid ss) k current began words)) (notes_on (state_of mid ss) k.call)) →
-        StepTraces x m held told before (Some after) text retext (Ok stepped)
-    step_goes stepped before after retext hb says keeps = rw hb (each_step x m held told (Some k) (Some after) text retext (Ok stepped) (λ (b : Here).
+        StepTraces x m held new told retold before (Some after) text retext (Ok stepped)
+    step_goes stepped before after retext hb says keeps = rw hb (each_step x m held new told retold (Some k) (Some after) text retext (Ok stepped) (λ (b : Here).
         let put = says (told_at b).0 (more_at b).words (told_at b).1 (returns_at b) in
         let is = keeps (told_at b).0 (more_at b).words (told_at b).1 (returns_at b) in
-        step_done_rows f x b.y b.old b.u b.t b.base text (Some k) b.traced (more_at b) retext after (put ∙ ap (append_known text) (rows_at b)) (is ∙ kept_at b)))
+        step_done_rows f x b.y b.s b.u b.t b.base text (Some k) b.traced (more_at b) retext after (put ∙ ap (append_known text) (rows_at b)) (is ∙ kept_at b)))
+
+    -- the words of a primitive that returned in the step were read for the rows
+    copied_at : (b : Here) → (began ≡ false) × CopyEnds k.user (state_of mid []) k.call → CopyReturns x b.s b.u b.t
+    copied_at b (none, c) =
+        let w = told_as_some told held (run x b.s b.t) b.at in
+        let begun : IfSome (Some (run x b.s b.t)) (λ s. began ≡ begins x s) = subst (λ o. IfSome o (λ s. began ≡ begins x s)) b.at began_is in
+        let of_state : CopyEnds k.user (run x b.s (suc b.t)) k.call = subst (λ z. CopyEnds k.user z k.call) (told_at b).2 (copy_seen mid (told_at b).0 k.user k.call c) in
+        record { goes_on = sym begun ∙ none; ends = subst (λ (k : Tracer). CopyEnds k.user (run x b.s (suc b.t)) k.call) (keeps_at b) of_state }
+
+    -- a step that has rows completes no turn
+    busy_at : (b : Here) → HasRows (state_of mid []) k.call began → rests (run x b.s (suc b.t)) ≡ false
+    busy_at b h =
+        let w = told_as_some told held (run x b.s b.t) b.at in
+        let is_on : (run x b.s b.t).off ≡ None = ap (λ (s : State). s.off) (sym w.2) ∙ on in
+        let begun : IfSome (Some (run x b.s b.t)) (λ s. began ≡ begins x s) = subst (λ o. IfSome o (λ s. began ≡ begins x s)) b.at began_is in
+        let call : k.call ≡ noted_call x b.s b.t = ap (λ (k : Tracer). k.call) (keeps_at b) in
+        let seen_there : HasRows (run x b.s (suc b.t)) k.call began = subst (λ z. HasRows z k.call began) (told_at b).2 (rows_seen mid (told_at b).0 k.call began h) in
+        (grow b.unit x b.y b.s b.late b.held b.u b.from b.low b.high).busy b.t is_on (subst₂ (HasRows (run x b.s (suc b.t))) call begun seen_there)
 
     pub step_stops : (before after : Option Tracer) (retext : Option (List ℕ)) (result : Result Stepped RunFault) (e fault : RunFault) → before ≡ Some k → result ≡ Err e → e ≡ fault → (fault ≡ StepLimit → ⊥) →
+        (fault ≡ Disk → (began ≡ false) × CopyEnds k.user (state_of mid []) k.call) →
+        (fault ≡ Sink → HasRows (state_of mid []) k.call began) →
         ((ss : List (List ℕ)) (words : List ℕ) → midtold ≡ Some ss → ReturnTold m (state_of mid ss) k.user words (returned (state_of mid ss) k.call) →
         AppendsPart text retext (journal_rows_after false k.steps (followed (state_of mid ss) k current began words))) →
-        StepTraces x m held told before after text retext result
-    step_stops before after retext result e fault hb hr he limit says = rw (hb, hr, he) (each_step x m held told (Some k) after text retext (Err fault) (λ (b : Here). by_fault b fault limit))
+        StepTraces x m held new told retold before after text retext result
+    step_stops before after retext result e fault hb hr he limit reads puts says = rw (hb, hr, he) (each_step x m held new told retold (Some k) after text retext (Err fault) (λ (b : Here). by_fault b fault limit reads puts))
       where
-        part : (b : Here) → AppendsPart text retext (journal_rows_after false (pending_steps b.traced.journal) (step_entries x (loaded b.y b.old) b.u b.t (more_at b).words))
+        part : (b : Here) → AppendsPart text retext (journal_rows_after false (pending_steps b.traced.journal) (step_entries x b.s b.u b.t (more_at b).words))
         part b = subst (AppendsPart text retext) (rows_at b) (says (told_at b).0 (more_at b).words (told_at b).1 (returns_at b))
 
-        by_fault : (b : Here) (fault : RunFault) → (fault ≡ StepLimit → ⊥) → StepStops x b.y b.old b.u b.t b.base retext fault
-        by_fault b StepLimit limit = limit refl
-        by_fault b Disk limit = step_torn_rows f x b.y b.old b.u b.t b.base text (Some k) b.traced (more_at b) retext (part b)
-        by_fault b Sink limit = step_cut_rows f x b.y b.old b.u b.t b.base text (Some k) b.traced (more_at b) retext (part b)
+        by_fault : (b : Here) (fault : RunFault) → (fault ≡ StepLimit → ⊥) → (fault ≡ Disk → (began ≡ false) × CopyEnds k.user (state_of mid []) k.call) → (fault ≡ Sink → HasRows (state_of mid []) k.call began) → StepStops x b.y b.s b.u b.t b.base (seen retold new) retext fault
+        by_fault b StepLimit limit reads puts = limit refl
+        by_fault b Disk limit reads puts =
+            let done : seen retold new ≡ Some (run x b.s (suc b.t)) = same ∙ seen_more x (seen told held) (seen midtold mid) (run x b.s b.t) ran b.at in
+            rows_torn_rows f x b.y b.s b.u b.t b.base text (Some k) b.traced (more_at b) (seen retold new) done (copied_at b (reads refl)) retext (part b)
+        by_fault b Sink limit reads puts = step_cut_rows f x b.y b.s b.u b.t b.base text (Some k) b.traced (more_at b) (busy_at b (puts refl)) retext (part b)
 
 -- where none is printed there is nothing to be said
-pub step_untraced : (x : Outside) (m : Map) (held : Held) (told : Option (List (List ℕ))) (after : Option Tracer) (text retext : Option (List ℕ)) (result : Result Stepped RunFault) → StepTraces x m held told None after text retext result
-step_untraced x m held told after text retext result = each_step x m held told None after text retext result (λ (b : Booted x m (seen told held) None text).
-    absurd (let e : ◌≡◌ {A = Option Tracer} None (Some (tracer_at x (loaded b.y b.old) b.u b.t b.traced.journal)) = b.traced.keeps in cc))
+pub step_untraced : (x : Outside) (m : Map) (held new : Held) (told retold : Option (List (List ℕ))) (after : Option Tracer) (text retext : Option (List ℕ)) (result : Result Stepped RunFault) → StepTraces x m held new told retold None after text retext result
+step_untraced x m held new told retold after text retext result = each_step x m held new told retold None after text retext result (λ (b : Booted x m (seen told held) None text).
+    absurd (let e : ◌≡◌ {A = Option Tracer} None (Some (tracer_at x b.s b.u b.t b.traced.journal)) = b.traced.keeps in cc))
 
 -- the disk failed in the step
-pub step_breaks : (grow : (c : CUnit) → TracesGrow (IsTypedState c)) (f : RowsFollow) (tell : WordsTell) (x : Outside) (m : Map) (held : Held) (told : Option (List (List ℕ))) (before after : Option Tracer) (text : Option (List ℕ)) (result : Result Stepped RunFault) (e : RunFault) →
-    held.hardware.off ≡ None → result ≡ Err e → e ≡ Disk → StepTraces x m held told before after text text result
-step_breaks grow f tell x m held told None after text result e on hr he = step_untraced x m held told after text text result
-step_breaks grow f tell x m held told (Some k) after text result e on hr he = step_fails grow f tell x m held told k text on (Some k) after result e refl hr he
+pub step_breaks : (grow : (c : CUnit) → TracesGrow (IsTypedState c)) (f : RowsFollow) (tell : WordsTell) (count : ℕ) (m : Map) (held new : Held) (told retold : Option (List (List ℕ))) (before after : Option Tracer) (text : Option (List ℕ)) (result : Result Stepped RunFault) (e : RunFault) →
+    held.hardware.off ≡ None → result ≡ Err e → e ≡ Disk → StepTorn count held told retold → StepTraces (outside_of held.rows count) m held new told retold before after text text result
+step_breaks grow f tell count m held new told retold None after text result e on hr he torn = step_untraced (outside_of held.rows count) m held new told retold after text text result
+step_breaks grow f tell count m held new told retold (Some k) after text result e on hr he torn =
+    let x = outside_of held.rows count in
+    step_fails grow f tell x m held told k text on new retold (Some k) after result e refl hr he (λ b. step_torn count x held new told retold (run x b.s b.t) refl b.at torn)
 
 -- THE LOOP: how far a run is whose trace goes on
-pub record Tracked (x : Outside) (y : System) (old : List (List ℕ)) (u t : ℕ) (base : Option (List ℕ)) (now : Option State) (before after : ℕ) (kept : Option Tracer) (text : Option (List ℕ)) : Type 0 where
+pub record Tracked (x : Outside) (y : System) (s : State) (u t : ℕ) (base : Option (List ℕ)) (now : Option State) (before after : ℕ) (kept : Option Tracer) (text : Option (List ℕ)) : Type 0 where
   pub at : ℕ
   pub from : t ≤ at
   pub spent : after + at ≡ before + t
-  pub state : now ≡ Some (machine x y old at)
-  pub traced : Traced x y old u at base kept text
+  pub state : now ≡ Some (run x s at)
+  pub traced : Traced x y s u at base kept text
 
 abbrev pub Tracks : Outside → Map → (start now : Option State) → (before after : Tracing) → Type 0
-Tracks x m start now before after = (b : Booted x m start before.tracer before.text) → Tracked x b.y b.old b.u b.t b.base now before.budget after.budget after.tracer after.text
+Tracks x m start now before after = (b : Booted x m start before.tracer before.text) → Tracked x b.y b.s b.u b.t b.base now before.budget after.budget after.tracer after.text
 
--- the clause on a loop is of each boot
+-- the clause on a loop is of each run
 each_run : (count : ℕ) (m : Map) (held new : Held) (told retold : Option (List (List ℕ))) (before after : Tracing) (result : Result (ℕ × Begun) RunFault) →
     ((b : Booted (outside_of held.rows count) m (seen told held) before.tracer before.text) →
-    MatchResult result (λ _. TracedOn (outside_of held.rows count) b.y b.old b.u b.t b.base before.budget after.budget after.tracer after.text)
-    (TraceStops (outside_of held.rows count) b.y b.old b.u b.t b.base (seen retold new) before.budget after.budget after.tracer after.text)) →
+    MatchResult result (λ _. TracedOn (outside_of held.rows count) b.y b.s b.u b.t b.base before.budget after.budget after.tracer after.text)
+    (TraceStops (outside_of held.rows count) b.y b.s b.u b.t b.base (seen retold new) before.budget after.budget after.tracer after.text)) →
     TraceRuns count m held new told retold before after result
-each_run count m held new told retold before after result f = λ unit lines busy y old image sizes made_for u t base boots laws map_is low high at traced.
-    f (record { unit = unit; lines = lines; busy = busy; y = y; old = old; image = image; sizes = sizes; made_for = made_for; u = u; t = t; base = base; boots = boots; laws = laws; map_is = map_is; low = low; high = high; at = at; traced = traced })
+each_run count m held new told retold before after result f = λ unit y s late limit u t base from map_is low high at traced.
+    f (record { unit = unit; y = y; s = s; late = late; held = limit; u = u; t = t; base = base; from = from; map_is = map_is; low = low; high = high; at = at; traced = traced })
 
 pub tracks_none : (x : Outside) (m : Map) (start : Option State) (before : Tracing) → Tracks x m start start before before
 tracks_none x m start before = λ b. record { at = b.t; from = omega arith; spent = refl; state = b.at; traced = b.traced }
 
-traced_on : (x : Outside) (y : System) (old : List (List ℕ)) (u t : ℕ) (base : Option (List ℕ)) (now : Option State) (before after : ℕ) (kept : Option Tracer) (text : Option (List ℕ)) →
-    Tracked x y old u t base now before after kept text → TracedOn x y old u t base before after kept text
-traced_on x y old u t base now before after kept text w = record { at = w.at; from = w.from; spent = w.spent; traced = w.traced }
+traced_on : (x : Outside) (y : System) (s : State) (u t : ℕ) (base : Option (List ℕ)) (now : Option State) (before after : ℕ) (kept : Option Tracer) (text : Option (List ℕ)) →
+    Tracked x y s u t base now before after kept text → TracedOn x y s u t base before after kept text
+traced_on x y s u t base now before after kept text w = record { at = w.at; from = w.from; spent = w.spent; traced = w.traced }
 
 module _ (count : ℕ) (m : Map) (held mid : Held) (told midtold : Option (List (List ℕ))) (before now : Tracing) (so_far : Tracks (outside_of held.rows count) m (seen told held) (seen midtold mid) before now) where
   -- the budget was spent, or the machine is off
   pub tracks_limit : (new : Held) (retold : Option (List (List ℕ))) → TraceRuns count m held new told retold before now (Err StepLimit)
-  tracks_limit new retold = each_run count m held new told retold before now (Err StepLimit) (λ b. traced_on _ b.y b.old b.u b.t b.base (seen midtold mid) _ _ _ _ (so_far b))
+  tracks_limit new retold = each_run count m held new told retold before now (Err StepLimit) (λ b. traced_on _ b.y b.s b.u b.t b.base (seen midtold mid) _ _ _ _ (so_far b))
 
   -- the turn is complete
   pub tracks_whole : (new : Held) (retold : Option (List (List ℕ))) (begun : ℕ × Begun) → TraceRuns count m held new told retold before now (Ok begun)
-  tracks_whole new retold begun = each_run count m held new told retold before now (Ok begun) (λ b. traced_on _ b.y b.old b.u b.t b.base (seen midtold mid) _ _ _ _ (so_far b))
+  tracks_whole new retold begun = each_run count m held new told retold before now (Ok begun) (λ b. traced_on _ b.y b.s b.u b.t b.base (seen midtold mid) _ _ _ _ (so_far b))
 
   -- one step more, by which the budget is less
   module _ (z : Outside) (same : z ≡ outside_of held.rows count) (after : Tracing) (less : now.budget ≡ after.budget + 1) where
-    pub tracks_more : (next : Option State) (stepped : Stepped) → StepTraces z m mid midtold now.tracer after.tracer now.text after.text (Ok stepped) → next ≡ option_map (step z) (seen midtold mid) → Tracks (outside_of held.rows count) m (seen told held) next before after
-    tracks_more next stepped done ran = λ b.
+    pub tracks_more : (next : Held) (nexttold : Option (List (List ℕ))) (stepped : Stepped) → StepTraces z m mid next midtold nexttold now.tracer after.tracer now.text after.text (Ok stepped) → seen nexttold next ≡ option_map (step z) (seen midtold mid) → Tracks (outside_of held.rows count) m (seen told held) (seen nexttold next) before after
+    tracks_more next nexttold stepped done ran = λ b.
         let x : Outside = outside_of held.rows count in
         let w = so_far b in
-        let here : seen midtold mid ≡ Some (machine x b.y b.old w.at) = w.state in
-        let of_x : StepTraces x m mid midtold now.tracer after.tracer now.text after.text (Ok stepped) = subst (λ (z : Outside). StepTraces z m mid midtold now.tracer after.tracer now.text after.text (Ok stepped)) same done in
-        let ran_x : next ≡ option_map (step x) (seen midtold mid) = subst (λ (z : Outside). next ≡ option_map (step z) (seen midtold mid)) same ran in
+        let here : seen midtold mid ≡ Some (run x b.s w.at) = w.state in
+        let of_x : StepTraces x m mid next midtold nexttold now.tracer after.tracer now.text after.text (Ok stepped) = subst (λ (z : Outside). StepTraces z m mid next midtold nexttold now.tracer after.tracer now.text after.text (Ok stepped)) same done in
+        let ran_x : seen nexttold next ≡ option_map (step x) (seen midtold mid) = subst (λ (z : Outside). seen nexttold next ≡ option_map (step z) (seen midtold mid)) same ran in
         let from = w.from in
         let spent = w.spent in
         record {
           at = suc w.at;
           from = omega (arith, from);
           spent = omega (arith, spent, less);
-          state = seen_more x (seen midtold mid) next (machine x b.y b.old w.at) ran_x here;
-          traced = of_x b.unit b.lines b.busy b.y b.old b.image b.sizes b.made_for b.u w.at b.base b.boots b.laws b.map_is b.low b.high here w.traced;
+          state = seen_more x (seen midtold mid) (seen nexttold next) (run x b.s w.at) ran_x here;
+          traced = of_x b.unit b.y b.s b.late b.held b.u w.at b.base b.from b.map_is b.low b.high here w.traced;
         }
 
     -- or the step or its rows failed
-    pub tracks_stop : (new : Held) (retold : Option (List (List ℕ))) (fault : RunFault) → StepTraces z m mid midtold now.tracer after.tracer now.text after.text (Err fault) →
+    pub tracks_stop : (new : Held) (retold : Option (List (List ℕ))) (fault : RunFault) → StepTraces z m mid new midtold retold now.tracer after.tracer now.text after.text (Err fault) →
         (fault ≡ Sink → seen retold new ≡ option_map (step z) (seen midtold mid)) → TraceRuns count m held new told retold before after (Err fault)
     tracks_stop new retold fault fails ran = each_run count m held new told retold before after (Err fault) (λ b.
         let x : Outside = outside_of held.rows count in
         let w = so_far b in
-        let here : seen midtold mid ≡ Some (machine x b.y b.old w.at) = w.state in
-        let of_x : StepTraces x m mid midtold now.tracer after.tracer now.text after.text (Err fault) = subst (λ (z : Outside). StepTraces z m mid midtold now.tracer after.tracer now.text after.text (Err fault)) same fails in
+        let here : seen midtold mid ≡ Some (run x b.s w.at) = w.state in
+        let of_x : StepTraces x m mid new midtold retold now.tracer after.tracer now.text after.text (Err fault) = subst (λ (z : Outside). StepTraces z m mid new midtold retold now.tracer after.tracer now.text after.text (Err fault)) same fails in
         let ran_x : fault ≡ Sink → seen retold new ≡ option_map (step x) (seen midtold mid) = subst (λ (z : Outside). fault ≡ Sink → seen retold new ≡ option_map (step z) (seen midtold mid)) same ran in
-        by_fault b fault (of_x b.unit b.lines b.busy b.y b.old b.image b.sizes b.made_for b.u w.at b.base b.boots b.laws b.map_is b.low b.high here w.traced) (λ e. seen_more x (seen midtold mid) (seen retold new) (machine x b.y b.old w.at) (ran_x e) here))
+        by_fault b fault (of_x b.unit b.y b.s b.late b.held b.u w.at b.base b.from b.map_is b.low b.high here w.traced) (λ e. seen_more x (seen midtold mid) (seen retold new) (run x b.s w.at) (ran_x e) here))
       where
-        by_fault : (b : Booted (outside_of held.rows count) m (seen told held) before.tracer before.text) (fault : RunFault) → StepStops (outside_of held.rows count) b.y b.old b.u (so_far b).at b.base after.text fault →
-            (fault ≡ Sink → seen retold new ≡ Some (machine (outside_of held.rows count) b.y b.old (suc (so_far b).at))) →
-            TraceStops (outside_of held.rows count) b.y b.old b.u b.t b.base (seen retold new) before.budget after.budget after.tracer after.text fault
+        by_fault : (b : Booted (outside_of held.rows count) m (seen told held) before.tracer before.text) (fault : RunFault) → StepStops (outside_of held.rows count) b.y b.s b.u (so_far b).at b.base (seen retold new) after.text fault →
+            (fault ≡ Sink → seen retold new ≡ Some (run (outside_of held.rows count) b.s (suc (so_far b).at))) →
+            TraceStops (outside_of held.rows count) b.y b.s b.u b.t b.base (seen retold new) before.budget after.budget after.tracer after.text fault
         by_fault b StepLimit h there = absurd h
         by_fault b Disk h there = let w = so_far b in let from = w.from in let spent = w.spent in (w.at, omega (arith, from), omega (arith, spent, less), h)
         by_fault b Sink h there = let w = so_far b in let from = w.from in let spent = w.spent in (suc w.at, omega (arith, from), omega (arith, spent, less), there refl, h)

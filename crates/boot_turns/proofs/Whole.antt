@@ -1,32 +1,23 @@
--- The whole run, both ways: where the CVM run is defined the machine comes there, and the machine is never anywhere else.
-use Rattle.std.proofs.Common.{◌≡◌, ◌≢◌, ◌⊎◌, inl, inr, ℕ, zero, suc, ◌+◌, ◌-◌, ◌*◌, ◌<◌, ◌≤◌, Bool, true, false, not, Option, Some, None, List, refl, sym, ap, ap₂, ◌∙◌, subst, ⊎_elim, arith, eq-eqb, ne_eqb}
-use Rattle.std.specs.Prelude.{◌==◌, ◌||◌, is_some, length}
+-- The whole run from a start, both ways: where the CVM run is defined the machine comes there, and the machine is never anywhere else.
+use Rattle.std.proofs.Common.{◌≡◌, ◌≢◌, ◌⊎◌, inl, inr, ℕ, zero, suc, ◌+◌, ◌-◌, ◌<◌, ◌≤◌, Bool, true, false, not, Option, Some, None, refl, sym, ap, ap₂, ◌∙◌, subst, ⊎_elim, arith, eq-eqb, ne_eqb, List}
+use Rattle.std.specs.Prelude.{◌==◌, ◌||◌, is_some}
 use Rattle.std.proofs.lemmas.Bool.{cases_lt}
 use Rattle.mips_table.specs.Device.{Outside, sector_of}
 use Rattle.mips_table.specs.Machine.{State, run}
-use Rattle.mips_table.specs.Turns.{begins, is_on, turn_of, complete, lines_of, is_end, IsEnd, faults_before, TurnLaws}
+use Rattle.mips_table.specs.Turns.{begins, is_on, turn_of, complete, lines_of, is_end, IsEnd, faults_before}
 use Rattle.c0_meaning.specs.State.{State as C0}
 use Rattle.cvm_model.specs.Kernel.{power_of}
 use Rattle.cvm_model.specs.Cvm.{System, Status, Running, Halted, Faulted, Cvm, turn_by, turn, cvm, IsCvm, first_cvm}
 use Rattle.layer_contract.specs.Layer.{Inside, Rests}
-use Rattle.layer_contract.specs.Follows.{site_of, loaded}
+use Rattle.layer_contract.specs.Starts.{Beyond}
 use Rattle.boot_turns.specs.Completes.{Torn}
-use Rattle.boot_turns.specs.declared.answers.View.{View}
 use Rattle.boot_turns.specs.TurnEnds.{Stood, Ahead}
-use Rattle.boot_turns.specs.Headline.{Beyond, StepBroken, GoesOn, TwoFaults}
-use Rattle.boot_turns.proofs.Stepping.{was_on, off_stays, off_rests, off_begins, off_handled, inside_handled}
+use Rattle.boot_turns.specs.Machines.{GoesOnWithin, IsDefined, TwoFaults}
+use Rattle.boot_turns.proofs.Stepping.{off_stays, off_rests, off_begins, off_handled, inside_handled}
 use Rattle.boot_turns.proofs.Counting.{turn_same, completes, faults_grow, faults_stay}
-use Rattle.boot_turns.proofs.Stretches.{Stays, user_sectors}
-use Rattle.boot_turns.proofs.Sectors.{loaded_beyond, torn_past}
+use Rattle.boot_turns.proofs.Sectors.{torn_past}
 use Rattle.boot_turns.proofs.Units.{one_cvm, turn_more_units}
-use Rattle.boot_turns.proofs.Turning.{Given, Beginning, Onward, Stuck, turn_ahead}
-
-pub on_back : (x : Outside) (s : State) (j t : ℕ) → j ≤ t → (run x s t).off ≡ None → (run x s j).off ≡ None
-on_back x s j zero le on = let e : j ≡ 0 = omega arith in subst (λ i. (run x s i).off ≡ None) (sym e) on
-on_back x s j (suc t) le on = ⊎_elim
-    (λ (lt : j < suc t). on_back x s j t (omega arith) (was_on x (run x s t) on))
-    (λ (ge : suc t ≤ j). let e : j ≡ suc t = omega arith in subst (λ i. (run x s i).off ≡ None) (sym e) on)
-    (cases_lt j (suc t))
+use Rattle.boot_turns.proofs.Turning.{Given, Beginning, Keeps, Turns, Waits, turn_ahead}
 
 -- after power off nothing changes
 pub record OffOn (x : Outside) (s : State) (k v u : ℕ) : Type 0 where
@@ -54,9 +45,9 @@ some_same a b h = cc
 true_false : (b : Bool) → b ≡ true → b ≡ false → ⊥
 true_false b e f = cc
 
-module _ (x : Outside) (y : System) (old : List (List ℕ)) (Typed : C0 → Type 0) (g : Given x y old Typed) where
-  abbrev s : State
-  s = loaded y old
+module _ (x : Outside) (y : System) (s : State) (late held : ℕ) (Typed : C0 → Type 0) (g : Given x y s late held Typed) where
+  abbrev more : ℕ
+  more = late - 1
 
   abbrev lines : ℕ → ℕ
   lines = lines_of x s
@@ -65,21 +56,21 @@ module _ (x : Outside) (y : System) (old : List (List ℕ)) (Typed : C0 → Type
   pub record Reached (k t : ℕ) (c : Cvm) : Type 0 where
     pub count : ℕ
     pub most : count ≤ k
-    pub stood : Stood x y old count t c
+    pub stood : Stood x y s count t c
     pub typed : Typed c.core.c0
     pub same : c.status ≡ Running → count ≡ k
-    pub soon : t ≤ c.bound
+    pub soon : t ≤ c.bound + more
     pub before : (j : ℕ) → j < t → complete x s j < count
     pub on : (j : ℕ) → j < t → (run x s j).off ≡ None
 
-  stood_first : Stood x y old 0 0 (first_cvm y)
+  stood_first : Stood x y s 0 0 (first_cvm y)
   stood_first = record { cvm = record { units = 0; is = refl }; turn = refl; all = refl; rests = refl }
 
   first_is : (c : Cvm) → IsCvm y lines 0 c → c ≡ first_cvm y
   first_is c i = one_cvm y g.meaning lines 0 c (first_cvm y) i (record { units = 0; is = refl })
 
   -- a run that has ended is off
-  pub ended_off : (k t : ℕ) (c : Cvm) → Stood x y old k t c → c.status ≢ Running → (v : ℕ) × ((run x s t).off ≡ Some v)
+  pub ended_off : (k t : ℕ) (c : Cvm) → Stood x y s k t c → c.status ≢ Running → (v : ℕ) × ((run x s t).off ≡ Some v)
   ended_off zero t c st stopped = absurd (stopped (ap (λ (w : Cvm). w.status) (first_is c st.cvm)))
   ended_off (suc k) t c st stopped = by c.status refl st.rests.0
     where
@@ -87,9 +78,6 @@ module _ (x : Outside) (y : System) (old : List (List ℕ)) (Typed : C0 → Type
       by Running e r = absurd (stopped e)
       by Halted e r = (0, r)
       by (Faulted f) e r = (power_of f, r)
-
-  pub onward_on : (k t : ℕ) (c : Cvm) → (a : Onward x y old Typed k t c) → (j : ℕ) → j < a.end → (run x s j).off ≡ None
-  onward_on k t c a j h = ⊎_elim (λ (lt : a.beginning.start < j). (a.inside j lt h).on) (λ (ge : j ≤ a.beginning.start). on_back x s j a.beginning.start ge a.beginning.on) (cases_lt a.beginning.start j)
 
   -- where the CVM run is defined, the machine comes there
   pub forward : (n k : ℕ) (c : Cvm) → cvm y lines n k ≡ Some c → (t : ℕ) × Reached k t c
@@ -99,7 +87,7 @@ module _ (x : Outside) (y : System) (old : List (List ℕ)) (Typed : C0 → Type
         record {
           count = 0;
           most = omega arith;
-          stood = subst (Stood x y old 0 0) (sym d) stood_first;
+          stood = subst (Stood x y s 0 0) (sym d) stood_first;
           typed = subst (λ (w : Cvm). Typed w.core.c0) (sym d) g.typed.starts;
           same = λ r. refl;
           soon = omega arith;
@@ -115,31 +103,32 @@ module _ (x : Outside) (y : System) (old : List (List ℕ)) (Typed : C0 → Type
         record {
           count = r.count;
           most = let m = r.most in omega (arith, m);
-          stood = subst (Stood x y old r.count t) d r.stood;
+          stood = subst (Stood x y s r.count t) d r.stood;
           typed = subst (λ (w : Cvm). Typed w.core.c0) d r.typed;
           same = λ a. absurd (not_running (ap (λ (w : Cvm). w.status) d ∙ a));
-          soon = subst (λ (w : Cvm). t ≤ w.bound) d r.soon;
+          soon = subst (λ (w : Cvm). t ≤ w.bound + more) d r.soon;
           before = r.before;
           on = r.on;
         },
       )
 
-      goes : (q : Cvm) (t : ℕ) → turn_by y n k (lines k) q Running ≡ Some c → (r : Reached k t q) → Stood x y old k t q → r.count ≡ k → Onward x y old Typed k t q ⊎ Stuck x y old k t n q → (t : ℕ) × Reached (suc k) t c
-      goes q t h2 r st same (inl a) =
+      goes : (q : Cvm) (t : ℕ) → turn_by y n k (lines k) q Running ≡ Some c → (r : Reached k t q) → Stood x y s k t q → r.count ≡ k → Turns x y s Typed late held k t q ⊎ Waits x y s late held k t n q → (t : ℕ) × Reached (suc k) t c
+      goes q t h2 r st same (inl w) =
+          let a = w.ahead in
           let d : a.after ≡ c = one_cvm y g.meaning lines (suc k) a.after c a.stood.cvm (record { units = n; is = h }) in (
             a.end,
             record {
               count = suc k;
               most = omega arith;
-              stood = subst (Stood x y old (suc k) a.end) d a.stood;
-              typed = subst (λ (w : Cvm). Typed w.core.c0) d a.typed;
+              stood = subst (Stood x y s (suc k) a.end) d a.stood;
+              typed = subst (λ (w : Cvm). Typed w.core.c0) d w.typed;
               same = λ w. refl;
-              soon = subst (λ (w : Cvm). a.end ≤ w.bound) d (a.within r.soon);
+              soon = subst (λ (q : Cvm). a.end ≤ q.bound + more) d (w.within r.soon);
               before = λ j b. ⊎_elim
                   (λ (lt : j < t). let e = r.before j lt in omega (arith, e, same))
                   (λ (ge : t ≤ j). let e = a.between j ge b in omega (arith, e))
                   (cases_lt j t);
-              on = onward_on k t q a;
+              on = a.on;
             },
           )
       goes q t h2 r st same (inr b) =
@@ -153,8 +142,8 @@ module _ (x : Outside) (y : System) (old : List (List ℕ)) (Typed : C0 → Type
       by_status q t h2 r (Faulted f) e = stopped q t r (some_same q c (sym (ap (turn_by y n k (lines k) q) e) ∙ h2)) (λ w. absurd (let d : Faulted f ≡ Running = sym e ∙ w in cc))
       by_status q t h2 r Running e =
           let same : r.count ≡ k = r.same e in
-          let st : Stood x y old k t q = subst (λ i. Stood x y old i t q) same r.stood in
-          goes q t (sym (ap (turn_by y n k (lines k) q) e) ∙ h2) r st same (turn_ahead x y old Typed g k t n q st e r.typed)
+          let st : Stood x y s k t q = subst (λ i. Stood x y s i t q) same r.stood in
+          goes q t (sym (ap (turn_by y n k (lines k) q) e) ∙ h2) r st same (turn_ahead x y s late held Typed g k t n q st e r.typed)
 
       by : (o : Option Cvm) → cvm y lines n k ≡ o → ((q : Cvm) → cvm y lines n k ≡ Some q → (t : ℕ) × Reached k t q) → (t : ℕ) × Reached (suc k) t c
       by (Some q) e rec = let r = rec q e in by_status q r.0 (sym (ap (turn y n k (lines k)) e) ∙ h) r.1 q.status refl
@@ -170,14 +159,6 @@ module _ (x : Outside) (y : System) (old : List (List ℕ)) (Typed : C0 → Type
   end_off : (k t v : ℕ) → (run x s t).off ≡ Some v → is_end x s k t ≡ true
   end_off k t v e = ap (λ o. (complete x s t == k) || not (not (is_some o))) e ∙ or_true _
 
-  -- a machine that goes on is on
-  goes_on_on : (k t : ℕ) → is_end x s k t ≡ false → (run x s t).off ≡ None
-  goes_on_on k t e = from (run x s t).off refl
-    where
-      from : (o : Option ℕ) → (run x s t).off ≡ o → (run x s t).off ≡ None
-      from None h = h
-      from (Some v) h = absurd (true_false _ (end_off k t v h) e)
-
   no_end : (k t : ℕ) → complete x s t ≢ k → (run x s t).off ≡ None → is_end x s k t ≡ false
   no_end k t e o = ap₂ (λ (b : Bool) (o : Option ℕ). b || not (not (is_some o))) (ne_eqb (complete x s t) k e) o
 
@@ -190,12 +171,12 @@ module _ (x : Outside) (y : System) (old : List (List ℕ)) (Typed : C0 → Type
     first = λ j l. let b = r.before j l in let m = r.most in no_end k j (λ e. absurd (omega (arith, b, m, e))) (r.on j l);
   }
 
-  pub goes_on : GoesOn x y old
+  pub goes_on : GoesOnWithin x y s more
   goes_on k c i = let r = forward i.units k c i.is in (r.0, reached_end k r.0 c r.1, r.1.soon)
 
   -- the turn that goes on at step t, or none
   pub record Going (count at t : ℕ) (past : Cvm) : Type 0 where
-    pub beginning : Beginning x y old count at past
+    pub beginning : Beginning x y s more held count at past
     pub inside : (j : ℕ) → beginning.start < j → j ≤ t → Inside (run x s j)
 
   -- the last completion at or before t
@@ -204,120 +185,124 @@ module _ (x : Outside) (y : System) (old : List (List ℕ)) (Typed : C0 → Type
     pub count : ℕ
     pub past : Cvm
     pub from : at ≤ t
-    pub stood : Stood x y old count at past
+    pub stood : Stood x y s count at past
     pub between : (j : ℕ) → at ≤ j → j ≤ t → complete x s j ≡ count
     pub before : (j : ℕ) → j < at → complete x s j < count
-    pub stays : (j : ℕ) → j < t → Stays x (user_sectors (site_of y.boot)) s j
+    pub keeps : (j : ℕ) → j < t → Keeps x held s j
     pub then : ((v : ℕ) × OffOn x s count v at) ⊎ Going count at t past
 
-  off_stays_on : (j v : ℕ) → (run x s j).off ≡ Some v → Stays x (user_sectors (site_of y.boot)) s j
-  off_stays_on j v e = record { sectors = λ q le. ap (λ (z : State). sector_of z.device.sectors q) (off_stays x (run x s j) v e); named = λ on. absurd (let d : Some v ≡ None = sym e ∙ on in cc) }
+  keeps_off : (j v : ℕ) → (run x s j).off ≡ Some v → Keeps x held s j
+  keeps_off j v e = record { sectors = λ q le. ap (λ (z : State). sector_of z.device.sectors q) (off_stays x (run x s j) v e); named = λ on. absurd (let d : Some v ≡ None = sym e ∙ on in cc) }
 
-  covered_off : (t from k : ℕ) (c : Cvm) → from ≤ t → Stood x y old k from c → ((j : ℕ) → j < from → complete x s j < k) → ((j : ℕ) → j < from → Stays x (user_sectors (site_of y.boot)) s j) → (v : ℕ) → (run x s from).off ≡ Some v → Covered t
-  covered_off t from k c le st before stays v o =
-      let here : OffOn x s k v from = record { off = o; turn = st.turn; all = st.all } in
-      record { at = from; count = k; past = c; from = le; stood = st; between = λ j a b. (off_on x s k v from j a here).all; before = before; stays = λ j h. ⊎_elim (λ (lt : j < from). stays j lt) (λ (ge : from ≤ j). off_stays_on j v (off_on x s k v from j ge here).off) (cases_lt j from); then = inl (v, here) }
+  covered_off : (t from k : ℕ) (c : Cvm) → from ≤ t → Stood x y s k from c → ((j : ℕ) → j < from → complete x s j < k) → ((j : ℕ) → j < from → Keeps x held s j) → (v : ℕ) → (run x s from).off ≡ Some v → Covered t
+  covered_off t from k c le st before keeps v o =
+      let off : OffOn x s k v from = record { off = o; turn = st.turn; all = st.all } in
+      record {
+        at = from;
+        count = k;
+        past = c;
+        from = le;
+        stood = st;
+        between = λ j a b. (off_on x s k v from j a off).all;
+        before = before;
+        keeps = λ j h. ⊎_elim (λ (lt : j < from). keeps j lt) (λ (ge : from ≤ j). keeps_off j v (off_on x s k v from j ge off).off) (cases_lt j from);
+        then = inl (v, off);
+      }
+
+  covered_by : (t from k : ℕ) (c : Cvm) → from ≤ t → Stood x y s k from c → ((j : ℕ) → j < from → complete x s j < k) → ((j : ℕ) → j < from → Keeps x held s j) → (w : Turns x y s Typed late held k from c) → t < w.ahead.end → Covered t
+  covered_by t from k c le st before keeps w lt =
+      let a = w.ahead in
+      record {
+        at = from;
+        count = k;
+        past = c;
+        from = le;
+        stood = st;
+        between = λ j d f. a.between j d (omega (arith, f, lt));
+        before = before;
+        keeps = λ j f. ⊎_elim (λ (l : j < from). keeps j l) (λ (ge : from ≤ j). w.keeps j ge (omega (arith, f, lt))) (cases_lt j from);
+        then = inr (record { beginning = w.beginning; inside = λ j d f. w.inside j d (omega (arith, f, lt)) });
+      }
+
+  covered_wait : (t from k : ℕ) (c : Cvm) → from ≤ t → Stood x y s k from c → ((j : ℕ) → j < from → complete x s j < k) → ((j : ℕ) → j < from → Keeps x held s j) → Waits x y s late held k from t c → Covered t
+  covered_wait t from k c le st before keeps b = record {
+    at = from;
+    count = k;
+    past = c;
+    from = le;
+    stood = st;
+    between = b.between;
+    before = before;
+    keeps = λ j f. ⊎_elim (λ (lt : j < from). keeps j lt) (λ (ge : from ≤ j). b.keeps j ge f) (cases_lt j from);
+    then = inr (record { beginning = b.beginning; inside = b.inside });
+  }
 
   -- the machine is never anywhere else
-  cover : (t fuel from k : ℕ) (c : Cvm) → t ≤ from + fuel → from ≤ t → Stood x y old k from c → Typed c.core.c0 → ((j : ℕ) → j < from → complete x s j < k) → ((j : ℕ) → j < from → Stays x (user_sectors (site_of y.boot)) s j) → Covered t
-  cover t zero from k c h le st typed before stays = by c.status refl
+  cover : (t fuel from k : ℕ) (c : Cvm) → t ≤ from + fuel → from ≤ t → Stood x y s k from c → Typed c.core.c0 → ((j : ℕ) → j < from → complete x s j < k) → ((j : ℕ) → j < from → Keeps x held s j) → Covered t
+  cover t zero from k c h le st typed before keeps = by c.status refl
     where
       by : (b : Status) → c.status ≡ b → Covered t
-      by Halted e = let o = ended_off k from c st (λ w. absurd (let f : Halted ≡ Running = sym e ∙ w in cc)) in covered_off t from k c le st before stays o.0 o.1
-      by (Faulted f) e = let o = ended_off k from c st (λ w. absurd (let d : Faulted f ≡ Running = sym e ∙ w in cc)) in covered_off t from k c le st before stays o.0 o.1
+      by Halted e = let o = ended_off k from c st (λ w. absurd (let f : Halted ≡ Running = sym e ∙ w in cc)) in covered_off t from k c le st before keeps o.0 o.1
+      by (Faulted f) e = let o = ended_off k from c st (λ w. absurd (let d : Faulted f ≡ Running = sym e ∙ w in cc)) in covered_off t from k c le st before keeps o.0 o.1
       by Running e = ⊎_elim
-          (λ (a : Onward x y old Typed k from c). let fr = a.beginning.from in let to = a.to in record {
-            at = from;
-            count = k;
-            past = c;
-            from = le;
-            stood = st;
-            before = before;
-            stays = λ j f. ⊎_elim (λ (lt : j < from). stays j lt) (λ (ge : from ≤ j). a.stays j ge (omega (arith, h, f, fr, to))) (cases_lt j from);
-            between = λ j d f. a.between j d (omega (arith, h, f, fr, to));
-            then = inr (record { beginning = a.beginning; inside = λ j d f. a.inside j d (omega (arith, h, f, fr, to)) });
-          })
-          (λ (b : Stuck x y old k from t c). record { at = from; count = k; past = c; from = le; stood = st; before = before; stays = λ j f. ⊎_elim (λ (lt : j < from). stays j lt) (λ (ge : from ≤ j). b.stays j ge f) (cases_lt j from); between = b.between; then = inr (record { beginning = b.beginning; inside = b.inside }) })
-          (turn_ahead x y old Typed g k from t c st e typed)
-  cover t (suc fuel) from k c h le st typed before stays = by c.status refl (cover t fuel)
+          (λ (w : Turns x y s Typed late held k from c). let fr = w.ahead.from in let to = w.ahead.to in covered_by t from k c le st before keeps w (omega (arith, h, fr, to)))
+          (λ (b : Waits x y s late held k from t c). covered_wait t from k c le st before keeps b)
+          (turn_ahead x y s late held Typed g k from t c st e typed)
+  cover t (suc fuel) from k c h le st typed before keeps = by c.status refl (cover t fuel)
     where
-      by : (b : Status) → c.status ≡ b → ((from k : ℕ) (c : Cvm) → t ≤ from + fuel → from ≤ t → Stood x y old k from c → Typed c.core.c0 → ((j : ℕ) → j < from → complete x s j < k) → ((j : ℕ) → j < from → Stays x (user_sectors (site_of y.boot)) s j) → Covered t) → Covered t
-      by Halted e rec = let o = ended_off k from c st (λ w. absurd (let f : Halted ≡ Running = sym e ∙ w in cc)) in covered_off t from k c le st before stays o.0 o.1
-      by (Faulted f) e rec = let o = ended_off k from c st (λ w. absurd (let d : Faulted f ≡ Running = sym e ∙ w in cc)) in covered_off t from k c le st before stays o.0 o.1
+      by : (b : Status) → c.status ≡ b → ((from k : ℕ) (c : Cvm) → t ≤ from + fuel → from ≤ t → Stood x y s k from c → Typed c.core.c0 → ((j : ℕ) → j < from → complete x s j < k) → ((j : ℕ) → j < from → Keeps x held s j) → Covered t) → Covered t
+      by Halted e rec = let o = ended_off k from c st (λ w. absurd (let f : Halted ≡ Running = sym e ∙ w in cc)) in covered_off t from k c le st before keeps o.0 o.1
+      by (Faulted f) e rec = let o = ended_off k from c st (λ w. absurd (let d : Faulted f ≡ Running = sym e ∙ w in cc)) in covered_off t from k c le st before keeps o.0 o.1
       by Running e rec = ⊎_elim
-          (λ (a : Onward x y old Typed k from c).
-          let fr = a.beginning.from in
+          (λ (w : Turns x y s Typed late held k from c).
+          let a = w.ahead in
+          let fr = a.from in
           let to = a.to in
           ⊎_elim
-          (λ (lt : t < a.end). record {
-            at = from;
-            count = k;
-            past = c;
-            from = le;
-            stood = st;
-            before = before;
-            stays = λ j f. ⊎_elim (λ (l : j < from). stays j l) (λ (ge : from ≤ j). a.stays j ge (omega (arith, f, lt))) (cases_lt j from);
-            between = λ j d f. a.between j d (omega (arith, f, lt));
-            then = inr (record { beginning = a.beginning; inside = λ j d f. a.inside j d (omega (arith, f, lt)) });
-          })
-          (λ (ge : a.end ≤ t). rec a.end (suc k) a.after (omega (arith, h, fr, to)) ge a.stood a.typed
+          (λ (lt : t < a.end). covered_by t from k c le st before keeps w lt)
+          (λ (ge : a.end ≤ t). rec a.end (suc k) a.after (omega (arith, h, fr, to)) ge a.stood w.typed
           (λ j l. ⊎_elim (λ (lt : j < from). let d = before j lt in omega (arith, d)) (λ (up : from ≤ j). let d = a.between j up l in omega (arith, d)) (cases_lt j from))
-          (λ j l. ⊎_elim (λ (lt : j < from). stays j lt) (λ (up : from ≤ j). a.stays j up l) (cases_lt j from)))
+          (λ j l. ⊎_elim (λ (lt : j < from). keeps j lt) (λ (up : from ≤ j). w.keeps j up l) (cases_lt j from)))
           (cases_lt t a.end))
-          (λ (b : Stuck x y old k from t c). record { at = from; count = k; past = c; from = le; stood = st; before = before; stays = λ j f. ⊎_elim (λ (lt : j < from). stays j lt) (λ (ge : from ≤ j). b.stays j ge f) (cases_lt j from); between = b.between; then = inr (record { beginning = b.beginning; inside = b.inside }) })
-          (turn_ahead x y old Typed g k from t c st e typed)
+          (λ (b : Waits x y s late held k from t c). covered_wait t from k c le st before keeps b)
+          (turn_ahead x y s late held Typed g k from t c st e typed)
 
   pub covered : (t : ℕ) → Covered t
   covered t = cover t t 0 0 (first_cvm y) (omega arith) (omega arith) stood_first g.typed.starts (λ j a. absurd (omega arith)) (λ j a. absurd (omega arith))
 
   -- the CVM run is defined for the turns that are complete
-  pub defined : (t : ℕ) → (c : Cvm) × IsCvm y lines (complete x s t) c
-  defined t =
-      let d = covered t in
-      let e : complete x s t ≡ d.count = d.between t d.from (omega arith) in
-      (d.past, subst (λ k. IsCvm y lines k d.past) (sym e) d.stood.cvm)
+  pub defined : IsDefined x y s
+  defined t = let d = covered t in (d.past, subst (λ k. IsCvm y lines k d.past) (sym (d.between t d.from (omega arith))) d.stood.cvm)
 
-  -- the sectors past the users' pages are as they were loaded
-  kept : (t : ℕ) (q : ℕ) → length y.boot.users * y.boot.params.pages ≤ q → sector_of (run x s t).device.sectors q ≡ sector_of s.device.sectors q
-  kept zero q le = refl
-  kept (suc t) q le = ((covered (suc t)).stays t (omega arith)).sectors q le ∙ kept t q le
-
-  pub beyond : 1 ≤ y.boot.params.pages → (t : ℕ) → Beyond y old (run x s t).device.sectors
-  beyond some t q le = kept t q le ∙ loaded_beyond y old some q le
+  -- the sectors from `held` on are as at the start
+  pub beyond : (t : ℕ) → Beyond held s.device.sectors (run x s t).device.sectors
+  beyond zero q le = refl
+  beyond (suc t) q le = ((covered (suc t)).keeps t (omega arith)).sectors q le ∙ beyond t q le
 
   -- and so they are where the transfer of a step's command failed
-  torn_at : 1 ≤ y.boot.params.pages → (t : ℕ) (now : List (List ℕ)) → (run x s t).off ≡ None → Torn x (run x s t) now → Beyond y old now
-  torn_at some t now on h q le = torn_past x (length y.boot.users * y.boot.params.pages) (run x s t) now (((covered (suc t)).stays t (omega arith)).named on) h q le ∙ beyond some t q le
-
-  pub torn : 1 ≤ y.boot.params.pages → (now : List (List ℕ)) (v : View) (turns steps : ℕ) (text : List ℕ) → StepBroken x y old now v turns steps text → Beyond y old now
-  torn some now v turns steps text b = torn_at some b.at now (goes_on_on turns b.at (b.goes_on b.at (omega arith))) b.sectors
-
-  complete_grows : TurnLaws → (t u : ℕ) → t ≤ u → complete x s t ≤ complete x s u
-  complete_grows counts t zero le = let e : t ≡ 0 = omega arith in rw e (omega arith)
-  complete_grows counts t (suc u) le = ⊎_elim
-      (λ (lt : t < suc u). let a = complete_grows counts t u (omega arith) in let b = counts.grows x s u in omega (arith, a, b))
-      (λ (ge : suc u ≤ t). let e : t ≡ suc u = omega arith in rw e (omega arith))
-      (cases_lt t (suc u))
+  pub torn : (t : ℕ) (now : List (List ℕ)) → (run x s t).off ≡ None → Torn x (run x s t) now → Beyond held s.device.sectors now
+  torn t now on h q le = torn_past x held (run x s t) now (((covered (suc t)).keeps t (omega arith)).named on) h q le ∙ beyond t q le
 
   few_from : (a b : ℕ) (d : Covered b) → d.at ≤ a → a ≤ b → ((j : ℕ) → a ≤ j → j < b → begins x (run x s j) ≡ false) → faults_before x s b ≤ faults_before x s a + 2
   few_from a b d up le none = ⊎_elim
       (λ (o : (v : ℕ) × OffOn x s d.count v d.at).
       let e = faults_stay x s a b le (λ j f h. off_handled x _ o.0 (off_on x s d.count o.0 d.at j (omega (arith, up, f)) o.1).off) in omega (arith, e))
-      (λ (w : Going d.count d.at b d.past).
-      let few = w.beginning.few in
+      (λ (g : Going d.count d.at b d.past).
+      let w = g.beginning in
+      let few = w.few in
       let more = faults_grow x s d.at a up in
       ⊎_elim
-      (λ (lt : w.beginning.start < b).
+      (λ (lt : w.start < b).
       ⊎_elim
-      (λ (early : w.beginning.start < a). let e = faults_stay x s a b le (λ j f h. inside_handled x _ (w.inside j (omega (arith, early, f)) (omega (arith, h)))) in omega (arith, e))
-      (λ (late : a ≤ w.beginning.start). absurd (true_false _ w.beginning.begin_here (none w.beginning.start late lt)))
-      (cases_lt w.beginning.start a))
-      (λ (ge : b ≤ w.beginning.start). let e = faults_grow x s b w.beginning.start ge in omega (arith, e, few, more))
-      (cases_lt w.beginning.start b))
+      (λ (early : w.start < a). let e = faults_stay x s a b le (λ j f h. inside_handled x _ (g.inside j (omega (arith, early, f)) (omega (arith, h)))) in omega (arith, e))
+      (λ (late : a ≤ w.start). absurd (true_false _ w.begin_here (none w.start late lt)))
+      (cases_lt w.start a))
+      (λ (ge : b ≤ w.start). let e = faults_grow x s b w.start ge in omega (arith, e, few, more))
+      (cases_lt w.start b))
       d.then
 
-  pub two_faults : TurnLaws → TwoFaults x y old
-  two_faults counts k a b ea eb le none =
+  pub two_faults : TwoFaults x s
+  two_faults k a b ea eb le none =
       let d = covered b in
       let same : complete x s b ≡ d.count = d.between b d.from (omega arith) in
       ⊎_elim
@@ -326,7 +311,7 @@ module _ (x : Outside) (y : System) (old : List (List ℕ)) (Typed : C0 → Type
       (cases_lt a d.at)
 
   -- a turn that is defined isn't stuck
-  stuck_not : (k t : ℕ) (c e : Cvm) → Stood x y old k t c → c.status ≡ Running → (i : IsCvm y lines (suc k) e) → Stuck x y old k t i.units c → ⊥
+  stuck_not : (k t : ℕ) (c e : Cvm) → Stood x y s k t c → c.status ≡ Running → (i : IsCvm y lines (suc k) e) → Waits x y s late held k t i.units c → ⊥
   stuck_not k t c e st running i b = by (cvm y lines i.units k) refl
     where
       by : (o : Option Cvm) → cvm y lines i.units k ≡ o → ⊥
@@ -341,23 +326,7 @@ module _ (x : Outside) (y : System) (old : List (List ℕ)) (Typed : C0 → Type
           let some : turn_by y (i.units + (b.units - i.units)) k (lines k) c Running ≡ Some e = turn_more_units y g.meaning i.units (b.units - i.units) k (lines k) c e Running h3 in
           some_none e (sym b.undefined ∙ subst (λ n. turn_by y n k (lines k) c Running ≡ Some e) u some)
 
-  pub ahead : (k t : ℕ) (c e : Cvm) → Stood x y old k t c → c.status ≡ Running → IsCvm y lines (suc k) e → Ahead x y old k t c
+  pub ahead : (k t : ℕ) (c e : Cvm) → Stood x y s k t c → c.status ≡ Running → IsCvm y lines (suc k) e → Ahead x y s k t c
   ahead k t c e st running i =
       let typed : Typed c.core.c0 = (forward st.cvm.units k c st.cvm.is).1.typed in
-      ⊎_elim
-      (λ (a : Onward x y old Typed k t c). record {
-        start = a.beginning.start;
-        end = a.end;
-        after = a.after;
-        from = a.beginning.from;
-        to = a.to;
-        none = a.beginning.none;
-        begin = a.beginning.begin_here;
-        few = a.beginning.few;
-        between = a.between;
-        on = onward_on k t c a;
-        stood = a.stood;
-        within = a.within;
-      })
-      (λ (b : Stuck x y old k t i.units c). absurd (stuck_not k t c e st running i b))
-      (turn_ahead x y old Typed g k t i.units c st running typed)
+      ⊎_elim (λ (w : Turns x y s Typed late held k t c). w.ahead) (λ (b : Waits x y s late held k t i.units c). absurd (stuck_not k t c e st running i b)) (turn_ahead x y s late held Typed g k t i.units c st running typed)

@@ -1,88 +1,87 @@
--- What the run of one turn does to the machine of a boot.
-use Rattle.std.specs.Prelude.{◌≡◌, ℕ, suc, ◌+◌, ◌-◌, ◌<◌, ◌≤◌, Option, Some, None, List, Result, MatchResult}
+-- What the run of one turn does to the machine of a run from a start.
+use Rattle.std.specs.Prelude.{◌≡◌, ℕ, suc, ◌+◌, ◌-◌, ◌<◌, ◌≤◌, Bool, Option, Some, None, List, Result, MatchResult}
 use Rattle.mips_table.specs.Device.{Outside}
-use Rattle.mips_table.specs.Machine.{State}
+use Rattle.mips_table.specs.Machine.{State, run}
 use Rattle.mips_table.specs.Turns.{complete}
 use Rattle.mips_machine.specs.Machine.{Held}
 use Rattle.mips_machine.specs.Steps.{outside_of}
-use Rattle.layer_map.specs.Map.{Map}
 use Rattle.c0_tree.specs.Tree.{CUnit}
 use Rattle.c0_meaning.specs.TypedState.{IsTypedState}
 use Rattle.c0_meaning.specs.State.{State as C0}
 use Rattle.cvm_model.specs.Cvm.{System, Running, Cvm}
-use Rattle.layer_contract.specs.Layer.{Laws}
-use Rattle.layer_contract.specs.Follows.{site_of, loaded, machine}
 use Rattle.boot_turns.specs.TurnEnds.{Stood, Ahead}
-use Rattle.boot_turns.specs.Completes.{seen, note, SeenTorn, Skips}
-use Rattle.boot_turns.specs.Headline.{Boots}
+use Rattle.boot_turns.specs.Completes.{seen, note, DiskLeaves, Skips}
+use Rattle.boot_turns.specs.Premises.{StartsFrom}
 use Rattle.boot_turns.specs.declared.completion.Begun.{Begun}
 use Rattle.boot_turns.specs.declared.answers.RunFault.{RunFault}
 use Rattle.boot_turns.specs.declared.answers.RunFault.TheVariants.{StepLimit, Disk, Sink}
 
 -- turn k is complete: the machine stands at its end, its steps are taken from the budget, and what is noted is shown after its first step
-pub record Advanced (x : Outside) (y : System) (old : List (List ℕ)) (k t : ℕ) (c : Cvm) (now : Option State) (budget left : ℕ) (b : Begun) : Type 0 where
-  pub ahead : Ahead x y old k t c
-  pub state : now ≡ Some (machine x y old ahead.end)
+pub record Advanced (x : Outside) (y : System) (s : State) (k t : ℕ) (c : Cvm) (now : Option State) (budget left : ℕ) (b : Begun) : Type 0 where
+  pub ahead : Ahead x y s k t c
+  pub state : now ≡ Some (run x s ahead.end)
   pub spent : left + ahead.end ≡ budget + t
-  pub shows : b ≡ note (machine x y old (suc ahead.start))
+  pub shows : b ≡ note (run x s (suc ahead.start))
 
 -- turn k isn't complete by step u, and the machine is on
-pub record Goes (x : Outside) (y : System) (old : List (List ℕ)) (k t u : ℕ) : Type 0 where
-  pub between : (j : ℕ) → t ≤ j → j ≤ u → complete x (loaded y old) j ≡ k
-  pub on : (j : ℕ) → j ≤ u → (machine x y old j).off ≡ None
+pub record Goes (x : Outside) (y : System) (s : State) (k t u : ℕ) : Type 0 where
+  pub between : (j : ℕ) → t ≤ j → j ≤ u → complete x s j ≡ k
+  pub on : (j : ℕ) → j ≤ u → (run x s j).off ≡ None
 
 -- the disk failed in step number `at`, or where a page was read for its rows
-pub record DiskStops (x : Outside) (y : System) (old : List (List ℕ)) (k t : ℕ) (now : Option State) (budget left : ℕ) : Type 0 where
+pub record DiskStops (x : Outside) (y : System) (s : State) (traced : Bool) (k t : ℕ) (now : Option State) (budget left : ℕ) : Type 0 where
   pub at : ℕ
   pub from : t ≤ at
   pub spent : left + (at + 1) ≡ budget + t
-  pub goes : Goes x y old k t at
-  pub torn : SeenTorn x (machine x y old at) now
+  pub goes : Goes x y s k t at
+  pub torn : DiskLeaves x s at traced now
 
 -- the budget was spent
-pub record BudgetStops (x : Outside) (y : System) (old : List (List ℕ)) (k t : ℕ) (now : Option State) (budget left : ℕ) : Type 0 where
+pub record BudgetStops (x : Outside) (y : System) (s : State) (k t : ℕ) (now : Option State) (budget left : ℕ) : Type 0 where
   pub spent : left ≡ 0
-  pub state : now ≡ Some (machine x y old (t + budget))
-  pub goes : Goes x y old k t (t + budget)
+  pub state : now ≡ Some (run x s (t + budget))
+  pub goes : Goes x y s k t (t + budget)
 
 -- the sink failed in the rows of step number `at`, which is done
-pub record SinkStops (x : Outside) (y : System) (old : List (List ℕ)) (k t : ℕ) (now : Option State) (budget left : ℕ) : Type 0 where
+pub record SinkStops (x : Outside) (y : System) (s : State) (k t : ℕ) (now : Option State) (budget left : ℕ) : Type 0 where
   pub at : ℕ
   pub from : t ≤ at
   pub spent : left + (at + 1) ≡ budget + t
-  pub goes : Goes x y old k t at
-  pub state : now ≡ Some (machine x y old (suc at))
+  pub goes : Goes x y s k t at
+  pub state : now ≡ Some (run x s (suc at))
 
 -- by the fault
-abbrev pub Stops : Outside → System → List (List ℕ) → (k t : ℕ) → Option State → (budget left : ℕ) → RunFault → Type 0
-Stops x y old k t now budget left StepLimit = BudgetStops x y old k t now budget left
-Stops x y old k t now budget left Disk = DiskStops x y old k t now budget left
-Stops x y old k t now budget left Sink = SinkStops x y old k t now budget left
+abbrev pub Stops : Outside → System → State → (traced : Bool) → (k t : ℕ) → Option State → (budget left : ℕ) → RunFault → Type 0
+Stops x y s traced k t now budget left StepLimit = BudgetStops x y s k t now budget left
+Stops x y s traced k t now budget left Disk = DiskStops x y s traced k t now budget left
+Stops x y s traced k t now budget left Sink = SinkStops x y s k t now budget left
 
 -- turns k to k + n - 1, from step t on, were untrapped steps of the current user, one step each
-pub record Skipped (x : Outside) (y : System) (old : List (List ℕ)) (k t : ℕ) (c : Cvm) (n : ℕ) : Type 0 where
+pub record Skipped (x : Outside) (y : System) (s : State) (k t : ℕ) (c : Cvm) (n : ℕ) : Type 0 where
   pub after : Cvm
-  pub stood : Stood x y old (k + n) (t + n) after
+  pub stood : Stood x y s (k + n) (t + n) after
   pub running : after.status ≡ Running
   pub rows : after.rows ≡ c.rows
   pub current : after.core.current ≡ c.core.current
-  pub done : (j : ℕ) → j ≤ n → complete x (loaded y old) (t + j) ≡ k + j
-  pub on : (j : ℕ) → j ≤ t + n → (machine x y old j).off ≡ None
-  pub steps : Skips x (loaded y old) t n
+  pub done : (j : ℕ) → j ≤ n → complete x s (t + j) ≡ k + j
+  pub on : (j : ℕ) → j ≤ t + n → (run x s j).off ≡ None
+  pub steps : Skips x s t n
 
 -- how the run of turns ends, so many at most: after n of them, with a turn as `Advanced` says or before its end
-abbrev pub AdvanceEnds : Outside → System → List (List ℕ) → (k t : ℕ) → Cvm → Option State → (budget left most : ℕ) → Result (ℕ × Begun) RunFault → Type 0
-AdvanceEnds x y old k t c now budget left most result = (n : ℕ) × (n < most) × (n ≤ budget) × (w : Skipped x y old k t c n) ×
-    MatchResult result (λ r. (r.0 ≡ n) × Advanced x y old (k + n) (t + n) w.after now (budget - n) left r.1)
-    (Stops x y old (k + n) (t + n) now (budget - n) left)
+abbrev pub AdvanceEnds : Outside → System → State → (traced : Bool) → (k t : ℕ) → Cvm → Option State → (budget left most : ℕ) →
+    Result (ℕ × Begun) RunFault → Type 0
+AdvanceEnds x y s traced k t c now budget left most result = (n : ℕ) × (n < most) × (n ≤ budget) × (w : Skipped x y s k t c n) ×
+    MatchResult result (λ r. (r.0 ≡ n) × Advanced x y s (k + n) (t + n) w.after now (budget - n) left r.1)
+    (Stops x y s traced (k + n) (t + n) now (budget - n) left)
 
--- turns of the machine, for every boot whose run stands there and goes on
-abbrev pub AdvancesTyped : (C0 → Type 0) → Outside → (before now : Option State) → (budget left most : ℕ) → Result (ℕ × Begun) RunFault → Type 0
-AdvancesTyped Typed x before now budget left most result = (lines busy : ℕ → ℕ) (y : System) (old : List (List ℕ)) (image sizes : List ℕ) (made_for : Map) →
-    Boots Typed lines busy x y old image sizes made_for → Laws (site_of y.boot) sizes → (k t : ℕ) (c : Cvm) → Stood x y old k t c →
-    c.status ≡ Running → before ≡ Some (machine x y old t) → AdvanceEnds x y old k t c now budget left most result
+-- turns of the machine, for every run from a start that stands there and goes on
+abbrev pub AdvancesTyped : (C0 → Type 0) → Outside → (traced : Bool) → (before now : Option State) → (budget left most : ℕ) →
+    Result (ℕ × Begun) RunFault → Type 0
+AdvancesTyped Typed x traced before now budget left most result = (y : System) (s : State) (late held : ℕ) → StartsFrom Typed x y s late held →
+    (k t : ℕ) (c : Cvm) → Stood x y s k t c → c.status ≡ Running → before ≡ Some (run x s t) → AdvanceEnds x y s traced k t c now budget left most result
 
--- TURNS, over a disk of so many sectors, whatever unit the kernel is
-abbrev pub Advances : (count : ℕ) → (old new : Held) → (told retold : Option (List (List ℕ))) → (budget left most : ℕ) → Result (ℕ × Begun) RunFault → Type 0
-Advances count old new told retold budget left most result =
-    (u : CUnit) → AdvancesTyped (IsTypedState u) (outside_of old.rows count) (seen told old) (seen retold new) budget left most result
+-- TURNS, over a disk of so many sectors, whatever unit the kernel is, and whether a user is traced
+abbrev pub Advances : (count : ℕ) → (traced : Bool) → (old new : Held) → (told retold : Option (List (List ℕ))) → (budget left most : ℕ) →
+    Result (ℕ × Begun) RunFault → Type 0
+Advances count traced old new told retold budget left most result =
+    (u : CUnit) → AdvancesTyped (IsTypedState u) (outside_of old.rows count) traced (seen told old) (seen retold new) budget left most result

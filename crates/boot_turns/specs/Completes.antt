@@ -1,12 +1,13 @@
 -- What a loop that steps a machine to the end of a turn has done.
-use Rattle.std.specs.Prelude.{◌≡◌, ◌≢◌, ◌⊎◌, ℕ, suc, ◌+◌, ◌-◌, ◌/◌, ◌<◌, ◌≤◌, ◌==◌, ◌&&◌, ◌||◌, not, nat_lt, is_some, IfSome, Option, Some, None}
+use Rattle.std.specs.Prelude.{◌≡◌, ◌≢◌, ◌⊎◌, ℕ, suc, ◌+◌, ◌-◌, ◌/◌, ◌<◌, ◌≤◌, ◌==◌, ◌&&◌, ◌||◌, zero, not, nat_lt, is_some, IfSome, Option, Some, None}
 use Rattle.std.specs.Prelude.{Bool, true, false, List, [], slice_index, slice_set, Result, MatchResult}
 use Rattle.std.specs.Option.{option_map}
-use Rattle.mips_table.specs.Device.{Outside, Pending, Writing}
+use Rattle.mips_table.specs.Device.{Outside, Pending, Reading, Writing}
 use Rattle.mips_table.specs.Machine.{State, MODE, ECA, EDATA, step, run}
 use Rattle.mips_table.specs.Turns.{begins, rests}
 use Rattle.mips_machine.specs.Machine.{Held, state_of}
 use Rattle.mips_machine.specs.Steps.{outside_of, before_count}
+use Rattle.mips_machine.specs.Quiet.{Stretch}
 use Rattle.mips_machine.specs.declared.event.Event.{Event}
 use Rattle.mips_machine.specs.declared.event.Event.TheVariants.{Taken, Off}
 use Rattle.cvm_model.specs.Cvm.{Begin, Steps, Traps, Interrupts}
@@ -24,12 +25,14 @@ seen told held = option_map (state_of held) told
 abbrev pub StepRan : (count : ℕ) → (old new : Held) → (told retold : Option (List (List ℕ))) → Type 0
 StepRan count old new told retold = seen retold new ≡ option_map (step (outside_of old.rows count)) (seen told old)
 
--- what sectors are where the transfer of a command fails: where one was to be written that sector may hold anything, and all else is as before
+-- what sectors are where the transfer that is due fails: where one was to be written that sector may hold anything, and all else is as before; with
+-- no transfer due none fails
 abbrev pub TornBy : Pending → (old now : List (List ℕ)) → Type 0
-TornBy (Writing left sector) old now = (words : List ℕ) × (now ≡ slice_set old sector words)
-TornBy other old now = now ≡ old
+TornBy (Reading zero sector) old now = now ≡ old
+TornBy (Writing zero sector) old now = (words : List ℕ) × (now ≡ slice_set old sector words)
+TornBy other old now = ⊥
 
--- where that of the command fails that is under way before the step of a state ends
+-- where that fails of the command that is under way just before the step of a state ends
 abbrev pub Torn : Outside → State → List (List ℕ) → Type 0
 Torn x s now = TornBy (before_count x s).pending s.device.sectors now
 
@@ -41,6 +44,16 @@ StepTorn count old told retold = (ss : List (List ℕ)) → told ≡ Some ss →
 -- and in a machine that is seen afterwards
 abbrev pub SeenTorn : Outside → State → Option State → Type 0
 SeenTorn x s new = (now : List (List ℕ)) × (option_map (λ (z : State). z.device.sectors) new ≡ Some now) × Torn x s now
+
+-- what a fault of the disk in step number t leaves: its transfer failed; or, where a user is traced, the step is done, and a page was read for its rows
+abbrev pub DiskLeaves : Outside → State → (t : ℕ) → (traced : Bool) → Option State → Type 0
+DiskLeaves x s t false new = SeenTorn x (run x s t) new
+DiskLeaves x s t true new = SeenTorn x (run x s t) new ⊎ (new ≡ Some (run x s (suc t)))
+
+-- the same of one step, over a disk of so many sectors
+abbrev pub StepFails : (count : ℕ) → (old new : Held) → (told retold : Option (List (List ℕ))) → (traced : Bool) → Type 0
+StepFails count old new told retold false = StepTorn count old told retold
+StepFails count old new told retold true = StepTorn count old told retold ⊎ StepRan count old new told retold
 
 -- the answer is whether that step begins a turn
 abbrev pub StepBegan : (count : ℕ) → Held → Option (List (List ℕ)) → Bool → Type 0
@@ -119,18 +132,32 @@ pub record Completed (x : Outside) (s : State) (t u : ℕ) (b : Begun) : Type 0 
   pub opened : Open x s t u b
   pub rest : rests (run x s u) ≡ true
 
--- the turn was completed, and its steps are taken from the budget
-abbrev pub CompleteOk : Outside → Option State → ℕ → ℕ → State → ℕ → Begun → Type 0
-CompleteOk x new before after s t b = (u : ℕ) × Completed x s t u b × (new ≡ Some (run x s u)) × (after + u ≡ before + t)
+-- or the machine is off at u, for the first time, before a turn begins; what is noted is what it shows there
+pub record WentOff (x : Outside) (s : State) (t u : ℕ) (b : Begun) : Type 0 where
+  pub from : t ≤ u
+  pub none : (j : ℕ) → t ≤ j → j < u → begins x (run x s j) ≡ false
+  pub on : (j : ℕ) → t ≤ j → j < u → (run x s j).off ≡ None
+  pub off : (run x s u).off ≢ None
+  pub shows : b ≡ note (run x s u)
 
--- the budget was spent; or the disk failed in step number u or in its rows; or the sink failed in the rows of step number u, which is done
-abbrev pub CompleteErr : Outside → Option State → ℕ → ℕ → State → ℕ → RunFault → Type 0
-CompleteErr x new before after s t StepLimit = (u : ℕ) × (t ≤ u) × (after + u ≡ before + t) × (new ≡ Some (run x s u))
-    × ((after ≡ 0) ⊎ ((run x s u).off ≢ None)) × ((b : Option Begun) × Progress x s t u b)
-CompleteErr x new before after s t Disk = (u : ℕ) × (t ≤ u) × (after + (u + 1) ≡ before + t) × ((b : Option Begun) × Progress x s t u b)
-    × SeenTorn x (run x s u) new
-CompleteErr x new before after s t Sink = (u : ℕ) × (t ≤ u) × (after + (u + 1) ≡ before + t) × ((b : Option Begun) × Progress x s t u b)
+-- the turn was completed, or there is none to come, and the steps are taken from the budget
+abbrev pub CompleteOk : Outside → Option State → ℕ → ℕ → State → ℕ → Begun → Type 0
+CompleteOk x new before after s t b = (u : ℕ) × (Completed x s t u b ⊎ WentOff x s t u b) × (new ≡ Some (run x s u)) × (after + u ≡ before + t)
+
+-- the budget was spent, and the machine is on; or the disk failed in step number u or in its rows; or the sink failed in the rows of step number u,
+-- which is done
+abbrev pub CompleteErr : Outside → (traced : Bool) → Option State → ℕ → ℕ → State → ℕ → RunFault → Type 0
+CompleteErr x traced new before after s t StepLimit = (u : ℕ) × (t ≤ u) × (after + u ≡ before + t) × (new ≡ Some (run x s u))
+    × (after ≡ 0) × ((run x s u).off ≡ None) × ((b : Option Begun) × Progress x s t u b)
+CompleteErr x traced new before after s t Disk = (u : ℕ) × (t ≤ u) × (after + (u + 1) ≡ before + t) × ((b : Option Begun) × Progress x s t u b)
+    × DiskLeaves x s u traced new
+CompleteErr x traced new before after s t Sink = (u : ℕ) × (t ≤ u) × (after + (u + 1) ≡ before + t) × ((b : Option Begun) × Progress x s t u b)
     × (new ≡ Some (run x s (suc u)))
+
+-- over any disk the machine made so many steps in which nothing comes from outside, and only the processor, the memory and the time changed
+pub record Passes (old new : Held) (n : ℕ) : Type 0 where
+  pub stretch : (count : ℕ) (sectors : List (List ℕ)) → Stretch (outside_of old.rows count) (state_of old sectors) n (state_of new sectors)
+  pub rest : new ≡ record old { hardware = record old.hardware { cpu = new.hardware.cpu; memory = new.hardware.memory }; time = old.time + n }
 
 -- n turns from step t on were one step each, after which the machine was on and in user mode
 abbrev pub Skips : Outside → State → (t n : ℕ) → Type 0
@@ -138,14 +165,15 @@ Skips x s t n = (j : ℕ) → j < n → (begins x (run x s (t + j)) ≡ true) ×
     × ((run x s (t + suc j)).off ≡ None)
 
 -- how the loop ends, after n such turns of so many at most
-abbrev pub CompleteEnds : Outside → Option State → ℕ → ℕ → State → ℕ → (most : ℕ) → Result (ℕ × Begun) RunFault → Type 0
-CompleteEnds x new before after s t most result = (n : ℕ) × (n < most) × (n ≤ before) × Skips x s t n ×
-    MatchResult result (λ r. (r.0 ≡ n) × CompleteOk x new (before - n) after s (t + n) r.1) (CompleteErr x new (before - n) after s (t + n))
+abbrev pub CompleteEnds : Outside → (traced : Bool) → Option State → ℕ → ℕ → State → ℕ → (most : ℕ) → Result (ℕ × Begun) RunFault → Type 0
+CompleteEnds x traced new before after s t most result = (n : ℕ) × (n < most) × (n ≤ before) × Skips x s t n ×
+    MatchResult result (λ r. (r.0 ≡ n) × CompleteOk x new (before - n) after s (t + n) r.1) (CompleteErr x traced new (before - n) after s (t + n))
 
 -- THE LOOP, over a disk of so many sectors: from any step of any run in which the machine stands
-abbrev pub Completes : (count : ℕ) → (old new : Held) → (told retold : Option (List (List ℕ))) → (before after most : ℕ) → Result (ℕ × Begun) RunFault → Type 0
-Completes count old new told retold before after most result = (s : State) (t : ℕ) → seen told old ≡ Some (run (outside_of old.rows count) s t) →
-    CompleteEnds (outside_of old.rows count) (seen retold new) before after s t most result
+abbrev pub Completes : (count : ℕ) → (traced : Bool) → (old new : Held) → (told retold : Option (List (List ℕ))) → (before after most : ℕ) →
+    Result (ℕ × Begun) RunFault → Type 0
+Completes count traced old new told retold before after most result = (s : State) (t : ℕ) → seen told old ≡ Some (run (outside_of old.rows count) s t) →
+    CompleteEnds (outside_of old.rows count) traced (seen retold new) before after s t most result
 
 -- what the machine shows once a turn has begun: a user's step, or the cause of its dispatch and what that concerns
 abbrev pub ShownAs : Begin → Begun → Type 0

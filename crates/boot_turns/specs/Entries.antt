@@ -1,10 +1,10 @@
 -- The entries that a step of the machine adds to what is shown of a user, by what the machine shows.
 use Rattle.std.specs.Prelude.{◌≡◌, ◌≢◌, ℕ, zero, suc, ◌+◌, ◌/◌, ◌≤◌, ◌&&◌, ◌==◌, nat_lt, if◌then◌else◌, List, [], ◌∷◌, ◌++◌, length, take, drop}
-use Rattle.std.specs.Prelude.{slice_index, Option, Some, None}
+use Rattle.std.specs.Prelude.{slice_index, Bool, true, false, Option, Some, None, IsSome}
 use Rattle.mips_table.specs.Device.{Outside}
 use Rattle.mips_table.specs.Machine.{State, in_system, run}
-use Rattle.mips_table.specs.Turns.{is_on, begins}
-use Rattle.layer_map.specs.Map.{Map, current_at}
+use Rattle.mips_table.specs.Turns.{is_on, begins, rests}
+use Rattle.layer_map.specs.Map.{current_at}
 use Rattle.c0_meaning.specs.State.{State as C0}
 use Rattle.cvm_model.specs.Kernel.{Core, JournalEntry, Stepped, Trapped, Set, Size, Put}
 use Rattle.cvm_model.specs.Primitives.{user_of, puts}
@@ -12,12 +12,12 @@ use Rattle.cvm_model.specs.Cvm.{System, Running}
 use Rattle.cvm_model.specs.Stands.{Stands}
 use Rattle.layer_contract.specs.declared.entry.Entry.TheVariants.{Primitive}
 use Rattle.layer_contract.specs.declared.registers.TheConstants.{ARGUMENT, ANSWER, RETURN}
-use Rattle.layer_contract.specs.Layer.{entry_address, Laws}
-use Rattle.layer_contract.specs.Follows.{site_of, machine, loaded}
+use Rattle.layer_contract.specs.Layer.{entry_address}
+use Rattle.layer_contract.specs.Follows.{site_of}
 use Rattle.boot_turns.specs.declared.completion.Begun.{Begun}
 use Rattle.boot_turns.specs.declared.tracer.Entered.{Entered}
 use Rattle.boot_turns.specs.Completes.{note}
-use Rattle.boot_turns.specs.Headline.{Boots}
+use Rattle.boot_turns.specs.Premises.{StartsFrom}
 use Rattle.boot_turns.specs.Trace.{Shown}
 
 -- argument i, from 0
@@ -91,18 +91,43 @@ WordsAt x y u s words None = Unit {0}
 WordsAt x y u s words (Some e) = (core : Core) × Stands x (site_of y.boot) s Running core × (words ≡ (user_of core.users u).words)
     × IsPlaced u e (slice_index s.cpu.regs ANSWER) words
 
+-- a primitive has copied words to user u, with this answer
+pub record IsCopyTo (u : ℕ) (e : Entered) (answer : ℕ) : Type 0 where
+  pub copies : e.primitive ≡ 6
+  pub user : slice_index e.arguments 2 ≡ u
+  pub done : answer ≡ 1
+
+-- one that was noted returns here and has
+pub record CopyEnds (u : ℕ) (s : State) (noted : Option Entered) : Type 0 where
+  pub call : Entered
+  pub returns : returned s noted ≡ Some call
+  pub copy : IsCopyTo u call (slice_index s.cpu.regs ANSWER)
+
+-- so it is after step number t of a run, which begins no turn
+pub record CopyReturns (x : Outside) (s : State) (u t : ℕ) : Type 0 where
+  pub goes_on : begins x (run x s t) ≡ false
+  pub ends : CopyEnds u (run x s (suc t)) (noted_call x s t)
+
+-- a step that led to s has rows: it began a turn with a dispatch, or a primitive returned
+abbrev pub HasRows : State → (noted : Option Entered) → (began : Bool) → Type 0
+HasRows s noted true = (note s).dispatched ≡ true
+HasRows s noted false = IsSome (returned s noted)
+
 -- what is shown after step number t, where j was shown before it
-pub record ShowsMore (x : Outside) (y : System) (old : List (List ℕ)) (u t : ℕ) (j : List JournalEntry) : Type 0 where
+pub record ShowsMore (x : Outside) (y : System) (s : State) (u t : ℕ) (j : List JournalEntry) : Type 0 where
   pub words : List ℕ
-  pub there : WordsAt x y u (machine x y old (suc t)) words (returned (machine x y old (suc t)) (noted_call x (loaded y old) t))
-  pub shown : Shown x (loaded y old) y u (suc t) (j ++ step_entries x (loaded y old) u t words)
+  pub there : WordsAt x y u (run x s (suc t)) words (returned (run x s (suc t)) (noted_call x s t))
+  pub shown : Shown x s y u (suc t) (j ++ step_entries x s u t words)
 
 -- A TRACE GROWS: one journal at most is shown at a step; none before the first step; and each step of a machine that is on adds its entries
-pub record TraceGrows (x : Outside) (y : System) (old : List (List ℕ)) (u : ℕ) : Type 0 where
-  pub one : (t : ℕ) (i j : List JournalEntry) → Shown x (loaded y old) y u t i → Shown x (loaded y old) y u t j → i ≡ j
-  pub none : Shown x (loaded y old) y u 0 []
-  pub more : (t : ℕ) (j : List JournalEntry) → (machine x y old t).off ≡ None → Shown x (loaded y old) y u t j → ShowsMore x y old u t j
+pub record TraceGrows (x : Outside) (y : System) (s : State) (u : ℕ) : Type 0 where
+  pub one : (t : ℕ) (i j : List JournalEntry) → Shown x s y u t i → Shown x s y u t j → i ≡ j
+  pub none : Shown x s y u 0 []
+  pub more : (t : ℕ) (j : List JournalEntry) → (run x s t).off ≡ None → Shown x s y u t j → ShowsMore x y s u t j
+  -- and a step that has rows completes no turn
+  pub busy : (t : ℕ) → (run x s t).off ≡ None → HasRows (run x s (suc t)) (noted_call x s t) (begins x (run x s t)) → rests (run x s (suc t)) ≡ false
 
+-- from each start, of each user
 abbrev pub TracesGrow : (C0 → Type 0) → Type 0
-TracesGrow Typed = (lines busy : ℕ → ℕ) (x : Outside) (y : System) (old : List (List ℕ)) (image sizes : List ℕ) (made_for : Map) (u : ℕ) →
-    Boots Typed lines busy x y old image sizes made_for → Laws (site_of y.boot) sizes → 1 ≤ u → u ≤ length y.boot.users → TraceGrows x y old u
+TracesGrow Typed = (x : Outside) (y : System) (s : State) (late held u : ℕ) → StartsFrom Typed x y s late held →
+    1 ≤ u → u ≤ length y.boot.users → TraceGrows x y s u

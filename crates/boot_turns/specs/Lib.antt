@@ -1,11 +1,13 @@
 pub mod Trace
 pub mod TurnEnds
+pub mod Premises
 pub mod Headline
+pub mod Machines
+pub mod Rom
 pub mod Samples
 pub mod Rows
 pub mod Completes
 pub mod Advances
-pub mod TypedRuns
 pub mod Entries
 pub mod JournalText
 pub mod Copies

@@ -1,9 +1,10 @@
 -- What a trace has printed, and what is kept of it, while the machine steps.
-use Rattle.std.specs.Prelude.{◌≡◌, ℕ, suc, ◌+◌, ◌*◌, ◌≤◌, ◌==◌, Bool, false, if◌then◌else◌}
+use Rattle.std.specs.Prelude.{◌≡◌, ℕ, suc, ◌+◌, ◌*◌, ◌≤◌, ◌⊎◌, ◌==◌, Bool, false, if◌then◌else◌}
 use Rattle.std.specs.Prelude.{Option, Some, None, List, [], length, slice_index, Result, MatchResult, OnOk}
 use Rattle.std.specs.Io.KnownBytes.{append_known}
 use Rattle.mips_table.specs.Device.{Outside}
-use Rattle.mips_table.specs.Machine.{State}
+use Rattle.mips_table.specs.Machine.{State, run}
+use Rattle.mips_table.specs.Turns.{rests}
 use Rattle.mips_machine.specs.Machine.{Held, state_of}
 use Rattle.mips_machine.specs.Steps.{outside_of}
 use Rattle.layer_map.specs.Map.{Map, memory_words}
@@ -13,18 +14,17 @@ use Rattle.c0_meaning.specs.TypedState.{IsTypedState}
 use Rattle.cvm_model.specs.Kernel.{JournalEntry}
 use Rattle.cvm_model.specs.Cvm.{System}
 use Rattle.cvm_model.specs.Text.{journal_rows, open_journal_rows, journal_rows_after}
-use Rattle.layer_contract.specs.Layer.{Laws}
-use Rattle.layer_contract.specs.Follows.{site_of, machine, loaded}
+use Rattle.layer_contract.specs.Follows.{site_of}
 use Rattle.boot_report.specs.Told.{WordsAreTold}
 use Rattle.boot_turns.specs.declared.completion.Begun.{Begun}
 use Rattle.boot_turns.specs.declared.tracer.Entered.{Entered}
 use Rattle.boot_turns.specs.declared.tracer.Tracer.{Tracer}
 use Rattle.boot_turns.specs.declared.answers.RunFault.{RunFault}
 use Rattle.boot_turns.specs.declared.answers.RunFault.TheVariants.{StepLimit, Disk, Sink}
-use Rattle.boot_turns.specs.Completes.{seen, note}
-use Rattle.boot_turns.specs.Entries.{noted_call, notes_on, turn_begins, call_ends, returned, return_entries, IsPlaced}
+use Rattle.boot_turns.specs.Completes.{seen, note, SeenTorn}
+use Rattle.boot_turns.specs.Entries.{noted_call, notes_on, turn_begins, call_ends, returned, return_entries, IsPlaced, CopyReturns}
 use Rattle.boot_turns.specs.JournalText.{steps_after, pending_steps}
-use Rattle.boot_turns.specs.Headline.{Boots}
+use Rattle.boot_turns.specs.Premises.{StartsFrom}
 use Rattle.boot_turns.specs.Trace.{Shown}
 use Rattle.boot_turns.specs.TurnEnds.{Prefix}
 
@@ -104,46 +104,60 @@ abbrev pub tracer_at : Outside → State → (u t : ℕ) → List JournalEntry �
 tracer_at x s u t j = record { user = u; steps = pending_steps j; call = noted_call x s t }
 
 -- AT STEP t, over a sink that had `base` before the first row of the journal: the rows of what is shown are printed, but for a last row of steps
-pub record Traced (x : Outside) (y : System) (old : List (List ℕ)) (u t : ℕ) (base : Option (List ℕ)) (kept : Option Tracer)
+pub record Traced (x : Outside) (y : System) (s : State) (u t : ℕ) (base : Option (List ℕ)) (kept : Option Tracer)
     (text : Option (List ℕ)) : Type 0 where
   pub journal : List JournalEntry
-  pub shown : Shown x (loaded y old) y u t journal
-  pub keeps : kept ≡ Some (tracer_at x (loaded y old) u t journal)
+  pub shown : Shown x s y u t journal
+  pub keeps : kept ≡ Some (tracer_at x s u t journal)
   pub printed : text ≡ append_known base (open_journal_rows journal)
 
--- the disk failed in step number `at`, or in its rows: the rows of what was shown before it stand, and some of what is shown after it may
-pub record RowsTorn (x : Outside) (y : System) (old : List (List ℕ)) (u at : ℕ) (base text : Option (List ℕ)) : Type 0 where
+-- the disk failed in the transfer that was due in step number `at`: the rows of what was shown before it stand
+pub record StepTears (x : Outside) (y : System) (s : State) (u at : ℕ) (base : Option (List ℕ)) (now : Option State) (text : Option (List ℕ)) : Type 0 where
+  pub before : List JournalEntry
+  pub shown_before : Shown x s y u at before
+  pub torn : SeenTorn x (run x s at) now
+  pub printed : text ≡ append_known base (open_journal_rows before)
+
+-- or where a page was read for the rows of the words that a primitive copied to the user: the step is done, and some rows of what is shown after it
+-- may stand too
+pub record RowsTear (x : Outside) (y : System) (s : State) (u at : ℕ) (base : Option (List ℕ)) (now : Option State) (text : Option (List ℕ)) : Type 0 where
+  pub copy : CopyReturns x s u at
+  pub done : now ≡ Some (run x s (suc at))
   pub before : List JournalEntry
   pub after : List JournalEntry
-  pub shown_before : Shown x (loaded y old) y u at before
-  pub shown_after : Shown x (loaded y old) y u (suc at) after
+  pub shown_before : Shown x s y u at before
+  pub shown_after : Shown x s y u (suc at) after
   pub rows : List ℕ
   pub part : Prefix (open_journal_rows before) (journal_rows after) rows
   pub printed : text ≡ append_known base rows
 
--- the sink failed in the rows of the step that led to number `at`
-pub record RowsCut (x : Outside) (y : System) (old : List (List ℕ)) (u at : ℕ) (base text : Option (List ℕ)) : Type 0 where
+abbrev pub RowsTorn : Outside → System → State → (u at : ℕ) → (base : Option (List ℕ)) → (now : Option State) → (text : Option (List ℕ)) → Type 0
+RowsTorn x y s u at base now text = StepTears x y s u at base now text ⊎ RowsTear x y s u at base now text
+
+-- the sink failed in the rows of the step that led to number `at`, which completes no turn
+pub record RowsCut (x : Outside) (y : System) (s : State) (u at : ℕ) (base text : Option (List ℕ)) : Type 0 where
+  pub busy : rests (run x s at) ≡ false
   pub after : List JournalEntry
-  pub shown_after : Shown x (loaded y old) y u at after
+  pub shown_after : Shown x s y u at after
   pub rows : List ℕ
   pub part : Prefix [] (open_journal_rows after) rows
   pub printed : text ≡ append_known base rows
 
 -- steps were made from step t on, each taken from the budget
-pub record TracedOn (x : Outside) (y : System) (old : List (List ℕ)) (u t : ℕ) (base : Option (List ℕ)) (before after : ℕ) (kept : Option Tracer)
+pub record TracedOn (x : Outside) (y : System) (s : State) (u t : ℕ) (base : Option (List ℕ)) (before after : ℕ) (kept : Option Tracer)
     (text : Option (List ℕ)) : Type 0 where
   pub at : ℕ
   pub from : t ≤ at
   pub spent : after + at ≡ before + t
-  pub traced : Traced x y old u at base kept text
+  pub traced : Traced x y s u at base kept text
 
 -- how they end by a fault
-abbrev pub TraceStops : Outside → System → List (List ℕ) → (u t : ℕ) → (base : Option (List ℕ)) → (now : Option State) → (before after : ℕ) →
+abbrev pub TraceStops : Outside → System → State → (u t : ℕ) → (base : Option (List ℕ)) → (now : Option State) → (before after : ℕ) →
     (kept : Option Tracer) → (text : Option (List ℕ)) → RunFault → Type 0
-TraceStops x y old u t base now before after kept text StepLimit = TracedOn x y old u t base before after kept text
-TraceStops x y old u t base now before after kept text Disk = (at : ℕ) × (t ≤ at) × (after + suc at ≡ before + t) × RowsTorn x y old u at base text
-TraceStops x y old u t base now before after kept text Sink = (at : ℕ) × (t ≤ at) × (after + at ≡ before + t) × (now ≡ Some (machine x y old at))
-    × RowsCut x y old u at base text
+TraceStops x y s u t base now before after kept text StepLimit = TracedOn x y s u t base before after kept text
+TraceStops x y s u t base now before after kept text Disk = (at : ℕ) × (t ≤ at) × (after + suc at ≡ before + t) × RowsTorn x y s u at base now text
+TraceStops x y s u t base now before after kept text Sink = (at : ℕ) × (t ≤ at) × (after + at ≡ before + t) × (now ≡ Some (run x s at))
+    × RowsCut x y s u at base text
 
 -- what is kept of a trace, the sink's text, and the budget, before and after
 pub record Tracing : Type 0 where
@@ -154,13 +168,13 @@ pub record Tracing : Type 0 where
 abbrev pub tracing : Option Tracer → Option (List ℕ) → ℕ → Tracing
 tracing tracer text budget = record { tracer = tracer; text = text; budget = budget }
 
--- THE TRACE OF A LOOP that steps a machine, over a disk of so many sectors: for every boot whose run stands there, of one of its users
+-- THE TRACE OF A LOOP that steps a machine, over a disk of so many sectors: for every run from a start that stands there, of
+-- one of its users
 abbrev pub TraceRuns : (count : ℕ) → Map → (old new : Held) → (told retold : Option (List (List ℕ))) → (before after : Tracing) →
     Result (ℕ × Begun) RunFault → Type 0
 TraceRuns count m held new told retold before after result =
-    (c : CUnit) (lines busy : ℕ → ℕ) (y : System) (old : List (List ℕ)) (image sizes : List ℕ) (made_for : Map) (u t : ℕ) (base : Option (List ℕ)) →
-    Boots (IsTypedState c) lines busy (outside_of held.rows count) y old image sizes made_for → Laws (site_of y.boot) sizes → m ≡ (site_of y.boot).map →
-    1 ≤ u → u ≤ length y.boot.users →
-    seen told held ≡ Some (machine (outside_of held.rows count) y old t) → Traced (outside_of held.rows count) y old u t base before.tracer before.text →
-    MatchResult result (λ _. TracedOn (outside_of held.rows count) y old u t base before.budget after.budget after.tracer after.text)
-    (TraceStops (outside_of held.rows count) y old u t base (seen retold new) before.budget after.budget after.tracer after.text)
+    (c : CUnit) (y : System) (s : State) (late limit u t : ℕ) (base : Option (List ℕ)) →
+    StartsFrom (IsTypedState c) (outside_of held.rows count) y s late limit → m ≡ (site_of y.boot).map → 1 ≤ u → u ≤ length y.boot.users →
+    seen told held ≡ Some (run (outside_of held.rows count) s t) → Traced (outside_of held.rows count) y s u t base before.tracer before.text →
+    MatchResult result (λ _. TracedOn (outside_of held.rows count) y s u t base before.budget after.budget after.tracer after.text)
+    (TraceStops (outside_of held.rows count) y s u t base (seen retold new) before.budget after.budget after.tracer after.text)

@@ -6,7 +6,7 @@ ghost use Rattle.layer_map.specs.Map.{memory_words};
 ghost use Rattle.boot_report.specs.Prints.{Prints, PrintsPart};
 ghost use Rattle.boot_report.specs.Texts.{SameButViewed};
 ghost use Rattle.boot_turns.specs.Completes.{shown};
-ghost use Rattle.boot_turns.specs.Entries.{notes_on, returned};
+ghost use Rattle.boot_turns.specs.Entries.{notes_on, returned, IsCopyTo, CopyEnds, HasRows};
 ghost use Rattle.boot_turns.specs.Tracing.{CanTrace, counted, ForEnded, EndedKeeps, ForFollowed, FollowedKeeps};
 
 use crate::answers::RunFault;
@@ -85,6 +85,7 @@ impl Tracer {
         ensures ok { ForEnded (D.sectors disk.old) machine.old map.now self.old call.now answer (Prints (O.text out.old) (O.text out.new)) result }
         ensures err { ForEnded (D.sectors disk.old) machine.old map.now self.old call.now answer (PrintsPart (O.text out.old) (O.text out.new)) result }
         ensures steps { EndedKeeps (D.sectors disk.old) machine.old map.now self.old self.new call.now answer result }
+        ensures reads { result ≡ Err RunFault.Disk → IsCopyTo self.old.user call.now answer }
         ensures user { self.new.user ≡ self.old.user }
         ensures few { self.new.steps ≤ self.old.steps }
         ensures same { SameButViewed machine.old machine.new }
@@ -123,6 +124,7 @@ impl Tracer {
         ensures ok { ForEnded (D.sectors disk.old) machine.old map.now self.old call.now answer (Prints (O.text out.old) (O.text out.new)) result }
         ensures err { ForEnded (D.sectors disk.old) machine.old map.now self.old call.now answer (PrintsPart (O.text out.old) (O.text out.new)) result }
         ensures steps { EndedKeeps (D.sectors disk.old) machine.old map.now self.old self.new call.now answer result }
+        ensures reads { result ≡ Err RunFault.Disk → IsCopyTo self.old.user call.now answer }
         ensures user { self.new.user ≡ self.old.user }
         ensures few { self.new.steps ≤ self.old.steps }
         ensures same { SameButViewed machine.old machine.new }
@@ -178,6 +180,8 @@ impl Tracer {
         ensures ok { ForFollowed (D.sectors disk.old) machine.old map.now self.old current began (Prints (O.text out.old) (O.text out.new)) result }
         ensures err { ForFollowed (D.sectors disk.old) machine.old map.now self.old current began (PrintsPart (O.text out.old) (O.text out.new)) result }
         ensures kept { FollowedKeeps (D.sectors disk.old) machine.old map.now self.old self.new current began result }
+        ensures puts { result ≡ Err RunFault.Sink → HasRows (state_of machine.old []) self.old.call began }
+        ensures reads { result ≡ Err RunFault.Disk → (began ≡ false) × CopyEnds self.old.user (state_of machine.old []) self.old.call }
         ensures can { CanTrace map.now (length machine.new.hardware.memory) machine.new.time (D.size disk.new) self.new }
         ensures user { self.new.user ≡ self.old.user }
         ensures same { SameButViewed machine.old machine.new }

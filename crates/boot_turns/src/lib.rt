@@ -1,12 +1,12 @@
-//! Loaded runs: what `turn` and `report` come to on the run of the machine.
+//! Runs from a start: what the turns of the machine come to, and what is printed of them.
 //!
 //! The definitions are in `specs/`. Each law and each worked row is the contract of a function that does nothing.
 #![tactic(auto)]
 
 ghost use Rattle.c0_tree.specs.Tree.{CUnit};
 ghost use Rattle.c0_meaning.specs.TypedState.{IsTypedState};
-ghost use Rattle.boot_turns.specs.Headline.{MachinesRun};
-ghost use Rattle.boot_turns.specs.TypedRuns.{RunsStayTyped};
+ghost use Rattle.boot_turns.specs.Machines.{MachinesRun, RunsStayTyped};
+ghost use Rattle.boot_turns.specs.Rom.{RomStarts, RomGoesOn};
 ghost use Rattle.boot_turns.specs.Entries.{TracesGrow};
 ghost use Rattle.boot_turns.specs.Copies.{CopiesTell};
 ghost use Rattle.boot_turns.specs.JournalText.{RowsFollow};
@@ -20,35 +20,55 @@ mod rows;
 pub mod tracer;
 
 pub use answers::{RunFault, Turn, View};
-use layer_contract::{the_loaded_machine_resets, users_follow_linked};
-use mips_table::runs::turns_are_counted;
+use boot_rom::the_machine_boots_from_its_rom;
+use layer_contract::{
+    starts_go_on, the_loaded_machine_resets, the_loaded_machine_starts, users_follow_linked,
+};
+use layer_map::memory_is_whole;
 pub use rows::{a_line_at_each_step, machine_rows};
 
-/// A law: over a layer that meets its laws the machine goes on where the CVM run is defined, within its bound; the run is defined for
-/// the turns that are complete; and at most two page faults are handled before a turn.
+/// A law: from any start, over a layer that meets its laws, the machine goes on where the CVM run is defined, within its bound and the steps by which
+/// the layer took over late; the run is defined for the turns that are complete; and at most two page faults are handled before a turn.
 pub fn machines_run()
     ensures { (u : CUnit) → MachinesRun (IsTypedState u) }
 {
-    the_loaded_machine_resets();
+    starts_go_on();
     users_follow_linked();
-    turns_are_counted();
 }
 
-/// A law: the kernel's data is typed after every number of turns for which the CVM run of a boot is defined.
+/// A law: the kernel's data is typed after every number of turns for which the CVM run from a start is defined.
 pub fn runs_stay_typed()
     ensures { (u : CUnit) → RunsStayTyped (IsTypedState u) }
 {
-    the_loaded_machine_resets();
+    starts_go_on();
     users_follow_linked();
 }
 
-/// A law: of a user nothing is shown before the first step, and each step of a machine that is on adds its entries to what is shown: those
-/// with which a turn begins, and those of a primitive that returns.
+/// A law: from any start, of a user nothing is shown before the first step, and each step of a machine that is on adds its entries to what is shown:
+/// those with which a turn begins, and those of a primitive that returns.
 pub fn traces_grow()
     ensures { (u : CUnit) → TracesGrow (IsTypedState u) }
 {
-    the_loaded_machine_resets();
+    starts_go_on();
     users_follow_linked();
+}
+
+/// A law: the machine with the ROM is a start, from which the layer takes over after the ROM's run.
+pub fn the_rom_starts()
+    ensures { RomStarts }
+{
+    the_loaded_machine_resets();
+    the_loaded_machine_starts();
+    the_machine_boots_from_its_rom();
+    memory_is_whole();
+}
+
+/// A law: the machine with the ROM comes to each turn of the abstract run, within the bound and the ROM's steps.
+pub fn the_rom_goes_on()
+    ensures { (u : CUnit) → RomGoesOn (IsTypedState u) }
+{
+    the_rom_starts();
+    machines_run();
 }
 
 /// A law: the rows of a journal stay as it grows, and the last steps have theirs at its end.

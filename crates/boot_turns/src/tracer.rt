@@ -1,5 +1,5 @@
 // What a trace keeps between two steps, and the rows that it prints.
-ghost use Rattle.std.specs.Prelude.{◌≡◌, ◌≢◌, ◌*◌, ◌/◌, ◌≤◌, length, Err, ◌+◌, ◌-◌, ◌<◌, ◌^◌, ◌++◌, [], OnOk};
+ghost use Rattle.std.specs.Prelude.{◌≡◌, ◌≢◌, ◌*◌, ◌/◌, ◌≤◌, length, Err, ◌+◌, ◌-◌, ◌<◌, ◌^◌, ◌++◌, [], OnOk, OnErr, true};
 ghost use Rattle.cvm_outside.specs.Causes.{Counts, Rose};
 ghost use Rattle.mips_machine.specs.Machine.{state_of};
 ghost use Rattle.cvm_model.specs.Text.{steps_row as steps_text};
@@ -97,6 +97,7 @@ impl Tracer {
         ensures ok { Prints (O.text out.old) (O.text out.new) (begun_rows self.old current begun.now) result }
         ensures err { PrintsPart (O.text out.old) (O.text out.new) (begun_rows self.old current begun.now) result }
         ensures steps { OnOk result (self.new ≡ record self.old { steps = steps_after self.old.steps (turn_begins self.old.user current begun.now) }) }
+        ensures puts { OnErr result (begun.now.dispatched ≡ true) }
         ensures user { self.new.user ≡ self.old.user }
         ensures few { self.new.steps ≤ self.old.steps + 1 }
         ensures count { Counts (O.faults out.old) (O.faults out.new) result }

@@ -8,7 +8,7 @@ use c0_meaning::{Checked, frame_words};
 use c0_parser::parse;
 use c0_structs::measured;
 use c0_tree::Unit;
-use c0_types::read_unit;
+use c0_types::{read_program, read_unit};
 use std::alloc::{AllocError, Global};
 use std::fmt::Write;
 
@@ -61,6 +61,29 @@ pub fn put_kernel(alloc: Global, out: &mut String, items: &[u8]) -> Result<(), A
     let mut source = Vec::from_slice(alloc, items)?;
     source.extend_from_slice(b" int dispatch(int a, int b, int c) { return 0; }")?;
     put_check(alloc, out, &source)
+}
+
+/// Whether a source has a checked unit as a user program, or its fault.
+pub fn put_user(alloc: Global, out: &mut String, source: &[u8]) -> Result<(), AllocError> {
+    match read_program(alloc, source) {
+        Ok(_) => out.push_str("typed\n"),
+        Err(fault) => put_source_fault(out, fault),
+    }
+}
+
+/// The same of the source with a `main` behind it.
+pub fn put_users(alloc: Global, out: &mut String, items: &[u8]) -> Result<(), AllocError> {
+    let mut source = Vec::from_slice(alloc, items)?;
+    source.extend_from_slice(b" int main() { return 0; }")?;
+    put_user(alloc, out, &source)
+}
+
+/// The checked unit of a user program's source, its names with what they stand for, or its fault.
+pub fn put_user_names(alloc: Global, out: &mut String, source: &[u8]) -> Result<(), AllocError> {
+    match read_program(alloc, source) {
+        Ok(checked) => put_unit(out, checked.unit()),
+        Err(fault) => put_source_fault(out, fault),
+    }
 }
 
 /// The checked unit of a source, its names with what they stand for, or its fault.

@@ -4,7 +4,8 @@
 // - `tokens`, `last`: the tokens of the source, or the last one alone;
 // - `tree`, `parts`: its tree as a text with brackets, or the place and the text of each part of it;
 // - `check`: whether it is typed; `kernel`: whether it is with a `dispatch` behind it;
-// - `names`, `sizes`: its tree with what each name stands for, or the words of each function's frame;
+// - `user`: whether it is typed as a user program; `users`: whether it is with a `main` behind it;
+// - `names`, `sizes`: its tree with what each name stands for, or the words of each function's frame; `user-names`: the tree of a user program;
 // - `offsets`: where its globals, each function's parameters and locals, and each struct's fields begin, in words;
 // - `structs`: the words of its structs, up to 1,048,577, and whether they hold themselves, typed or not;
 // - `asm`: the words of an asm text, and its first line that is not allowed.
@@ -35,7 +36,10 @@ fn put_answer(alloc: Global, out: &mut String, case: &Case) -> Result<(), AllocE
         "parts" => answers::put_parts(alloc, out, source),
         "check" => answers::put_check(alloc, out, source),
         "kernel" => answers::put_kernel(alloc, out, source),
+        "user" => answers::put_user(alloc, out, source),
+        "users" => answers::put_users(alloc, out, source),
         "names" => answers::put_names(alloc, out, source),
+        "user-names" => answers::put_user_names(alloc, out, source),
         "sizes" => answers::put_sizes(alloc, out, source),
         "offsets" => offsets::put_offsets(alloc, out, source),
         "structs" => structs::put_structs(alloc, out, source),

@@ -20,7 +20,8 @@ use Rattle.c0_meaning.specs.TypedState.{Layout, types_of, Fits, AllFit, layout_o
 use Rattle.c0_meaning.specs.Execution.{Outcome, Done, Failed, NotYet, call_first}
 use Rattle.c0_meaning.specs.RunLaws.{FirstIsTyped, CallsAreSafe, DispatchesAreSafe, CallsAnswer, AnswersAnInt, DispatchesAnswer}
 use Rattle.c0_meaning.specs.KernelRows.{seven, sevens, SevensFit}
-use Rattle.c0_meaning.proofs.Dispatch.{has_dispatch}
+use Rattle.c0_tree.specs.declared.primitive.Program.TheVariants.{Kernel}
+use Rattle.c0_meaning.proofs.FirstFunction.{has_first}
 use Rattle.c0_meaning.proofs.Fields.{zeros_fit}
 use Rattle.c0_meaning.proofs.SafeRuns.{first_call_safe, first_call_answers}
 
@@ -63,7 +64,7 @@ three_ints structs layout (x ∷ y ∷ z ∷ w ∷ ds) a b c e f g h = absurd (c
 
 pub dispatches_are_safe : (W E : Type 0) → DispatchesAreSafe W E
 dispatches_are_safe W E is_right p n cause edata user s world checked answers typed f g h right =
-    let d = has_dispatch p.unit checked in
+    let d = has_first Kernel p.unit checked in
     let c = and_parts _ _ d.4 in
     let k = and_parts (are_three_ints d.1.params) _ c.1 in
     subst (λ m. IsSafe is_right p.unit (call_first p n m (part (value.int cause) (part (value.int edata) (part (value.int user) empty))) s world)) (sym (ap (λ o. unwrap_or o 0) d.2))
@@ -85,7 +86,7 @@ an_int u (NotYet used c) h = tt
 
 pub dispatches_answer : (W E : Type 0) → DispatchesAnswer W E
 dispatches_answer W E is_right p n cause edata user s world checked answers typed f g h right =
-    let d = has_dispatch p.unit checked in
+    let d = has_first Kernel p.unit checked in
     let c = and_parts _ _ d.4 in
     let k = and_parts (are_three_ints d.1.params) _ c.1 in
     let gives = equal-same_ty (ty_of d.1.answer) ty.int (and_parts (same_ty (ty_of d.1.answer) ty.int) _ k.1).0 in

@@ -9,13 +9,14 @@ use Rattle.c0_tree.specs.declared.tree.Kind.TheVariants.{Global, Local}
 use Rattle.c0_tree.specs.Tree.{CName, CTy, CDecl, CStruct, CBody, code, asm, CFunction, CUnit}
 use Rattle.c0_tree.specs.Size.{body_nodes}
 use Rattle.c0_tree.specs.Plain.{is_short, is_plain_body, is_plain}
+use Rattle.c0_tree.specs.declared.primitive.Program.{Program}
+use Rattle.c0_tree.specs.declared.primitive.Program.TheVariants.{Kernel, User}
 use Rattle.c0_tree.specs.Primitives.{CPrimitive}
 use Rattle.c0_meaning.specs.Ty.{Ty, ty_of}
 use Rattle.c0_meaning.specs.Env.{Shape, shape_of, typed_of, signature_of, Env, env_of}
-use Rattle.c0_meaning.specs.Fault.{NO_DISPATCH}
 use Rattle.c0_meaning.specs.DeclaredTypes.{fault_if, type_faults, declared_faults}
 use Rattle.c0_meaning.specs.Names.{in_source_order, unit_names, unit_name_faults, decl_name_faults}
-use Rattle.c0_meaning.specs.Limits.{is_asm, words_held, locals_of, nodes_of, all_nodes, are_three_ints, is_dispatch, whole}
+use Rattle.c0_meaning.specs.Limits.{is_asm, words_held, locals_of, nodes_of, all_nodes, are_three_ints, is_first, none_first, whole}
 use Rattle.c0_meaning.specs.Resolved.{resolved_type, resolved_decls, resolved_structs}
 use Rattle.c0_meaning.specs.Expression.{resolved}
 use Rattle.c0_meaning.specs.Statement.{stmts_resolved}
@@ -109,12 +110,18 @@ three_ints_kept structs kind k (a ∷ b ∷ []) = refl
 three_ints_kept structs kind k (a ∷ b ∷ c ∷ []) = cc (ty_kept structs a.ty, ty_kept structs b.ty, ty_kept structs c.ty)
 three_ints_kept structs kind k (a ∷ b ∷ c ∷ d ∷ rest) = refl
 
+-- a run begins with a function that has the name, the types and the kind of body of one with which it begins
+first_kept : (program : Program) (f g : CFunction) → g.name.text ≡ f.name.text → are_three_ints g.params ≡ are_three_ints f.params
+    → length g.params ≡ length f.params → ty_of g.answer ≡ ty_of f.answer → is_asm g.body ≡ is_asm f.body → is_first program g ≡ is_first program f
+first_kept Kernel f g name ints many answer in_asm = cc
+first_kept User f g name ints many answer in_asm = cc
+
 -- a function of this number of which the same is read in one unit as of another in another unit, and that resolving leaves as it is
 record IsFunctionKept (primitives : List CPrimitive) (u v : CUnit) (k : ℕ) (f g : CFunction) : Type 0 where
   signature : signature_faults (map shape_of v.structs) g ≡ signature_faults (map shape_of u.structs) f
   body : body_faults primitives v g ≡ body_faults primitives u f
   counted : nodes_of g ≡ nodes_of f
-  dispatch : is_dispatch g ≡ is_dispatch f
+  first : (program : Program) → is_first program g ≡ is_first program f
   plain : (is_short g.params && is_plain_body g.body) ≡ (is_short f.params && is_plain_body f.body)
   words : words_held g.body ≡ words_held f.body
   again : resolved_function primitives v k g ≡ g
@@ -148,7 +155,7 @@ function_kept primitives u v k f alike =
       );
       body = cc (b.faulty (ty_of f.answer));
       counted = nodes;
-      dispatch = cc (three_ints_kept structs Local 0 f.params);
+      first = λ program. first_kept program f (resolved_function primitives u k f) refl (three_ints_kept structs Local 0 f.params) many answer b.in_asm;
       plain = cc;
       words = b.words;
       again = cc (alike.structs, type_again structs f.answer, decls_again structs Local 0 f.params, b.again);
@@ -159,7 +166,7 @@ pub record AreFunctionsKept (primitives : List CPrimitive) (u v : CUnit) (k : �
   faulty : functions_faults primitives v gs ≡ functions_faults primitives u fs
   counted : all_nodes gs ≡ all_nodes fs
   many : length gs ≡ length fs
-  dispatch : list_any is_dispatch gs ≡ list_any is_dispatch fs
+  first : (program : Program) → list_any (is_first program) gs ≡ list_any (is_first program) fs
   plain : list_all (λ f. is_short f.params && is_plain_body f.body) gs ≡ list_all (λ f. is_short f.params && is_plain_body f.body) fs
   words : AreWordsAllowed fs → AreWordsAllowed gs
   names : map bare (map (λ f. f.name) gs) ≡ map bare (map (λ f. f.name) fs)
@@ -171,7 +178,7 @@ functions_kept primitives u v k [] alike = record {
   faulty = refl;
   counted = refl;
   many = refl;
-  dispatch = refl;
+  first = λ program. refl;
   plain = refl;
   words = λ a. a;
   names = refl;
@@ -184,7 +191,7 @@ functions_kept primitives u v k (f ∷ rest) alike =
       faulty = cc;
       counted = cc;
       many = cc;
-      dispatch = cc;
+      first = λ program. cc (x.first program, xs.first program);
       plain = cc;
       words = λ a. All-cons (λ g. IsTrue (are_allowed_words (words_held g.body))) _ _
           (subst (λ (ws : List ℕ). IsTrue (are_allowed_words ws)) (sym x.words) (All-head (λ g. IsTrue (are_allowed_words (words_held g.body))) f rest a))
@@ -240,14 +247,14 @@ unit_plain primitives u =
     let fs : AreFunctionsKept primitives u (resolved_unit primitives u) 0 u.functions (resolved_unit primitives u).functions = unit_functions_kept primitives u in
     cc (structs_length structs 0 u.structs, decls_length structs Global 0 u.globals, plain_structs_kept structs 0 u.structs)
 
-no_dispatch_kept : (found other : Bool) (span : Span) → other ≡ found
-    → fault_if (not other) NO_DISPATCH span ≡ fault_if (not found) NO_DISPATCH span
-no_dispatch_kept found other span e = cc
+none_first_kept : (number : ℕ) (found other : Bool) (span : Span) → other ≡ found
+    → fault_if (not other) number span ≡ fault_if (not found) number span
+none_first_kept number found other span e = cc
 
 pub resolving_is_stable : ResolvingIsStable
 resolving_is_stable = record {
   faults = unit_kept;
-  dispatch = λ primitives u. no_dispatch_kept _ _ (whole u.length) (unit_functions_kept primitives u).dispatch;
+  first = λ program primitives u. none_first_kept (none_first program) _ _ (whole u.length) ((unit_functions_kept primitives u).first program);
   again = λ primitives u. unit_again primitives (resolved_unit primitives u) (map shape_of u.structs) (units_alike primitives u).structs
       (structs_again (map shape_of u.structs) 0 u.structs) (decls_again (map shape_of u.structs) Global 0 u.globals) (unit_functions_kept primitives u).again;
   plain = unit_plain;

@@ -1,7 +1,8 @@
 -- Runs: what is done within a number of units.
-use Rattle.std.specs.Prelude.{ℕ, ℤ, zero, suc, nat_lt, if◌then◌else◌, List, [], ◌∷◌, unwrap_or, position}
+use Rattle.std.specs.Prelude.{ℕ, ℤ, zero, suc, nat_lt, if◌then◌else◌, List, [], ◌∷◌}
+use Rattle.c0_tree.specs.declared.primitive.Program.TheVariants.{Kernel}
 use Rattle.c0_tree.specs.Tree.{CStmts}
-use Rattle.c0_meaning.specs.Limits.{is_dispatch}
+use Rattle.c0_meaning.specs.Limits.{first_number}
 use Rattle.c0_meaning.specs.Value.{int, Values, empty, part}
 use Rattle.c0_meaning.specs.State.{State}
 use Rattle.c0_meaning.specs.Operators.{Failure}
@@ -40,4 +41,4 @@ call_first p n function args s world = run_within p n (begin function args ∷ [
 -- a call of a kernel's `dispatch` with a cause, its data and a user, within n units
 abbrev pub dispatch : {W E : Type 0} → Setting W E → (n : ℕ) → (cause edata user : ℤ) → State → W → Outcome W E
 dispatch p n cause edata user s world =
-    call_first p n (unwrap_or (position is_dispatch p.unit.functions) 0) (part (int cause) (part (int edata) (part (int user) empty))) s world
+    call_first p n (first_number Kernel p.unit) (part (int cause) (part (int edata) (part (int user) empty))) s world

@@ -72,6 +72,10 @@ TYPE_TOO_LARGE = 34
 abbrev pub EMPTY_ARRAY : ℕ
 EMPTY_ARRAY = 35
 
+-- no function `int main()` with a code body
+abbrev pub NO_MAIN : ℕ
+NO_MAIN = 36
+
 -- a fault of a span
 abbrev pub fault : ℕ → Span → Fault
 fault number span = record { number = number; span = span; line = 0 }

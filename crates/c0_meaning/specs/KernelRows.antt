@@ -15,10 +15,11 @@ use Rattle.c0_meaning.specs.PrimitiveCalls.{PrimitiveCall}
 use Rattle.c0_meaning.specs.SystemKernels.{returning, overflow, lines, copies, copies_twice, probes, resizes, divides, console, waits}
 use Rattle.c0_meaning.specs.RunLaws.{stands_at}
 use Rattle.c0_meaning.specs.TypedState.{AnswersFit}
-use Rattle.c0_meaning.specs.UserProgram.{user_primitives, prog}
+use Rattle.c0_meaning.specs.UserProgram.{prog}
 use Rattle.c0_meaning.specs.UserProgram as user
-use Rattle.c0_meaning.specs.Unit.{IsChecked, IsWellFormed}
+use Rattle.c0_meaning.specs.Unit.{IsChecked, IsCheckedAs}
 use Rattle.c0_tree.specs.Primitives.{kernel_primitives}
+use Rattle.c0_tree.specs.declared.primitive.Program.TheVariants.{User}
 
 -- 7, or true
 abbrev pub seven : Scalar → Value
@@ -280,9 +281,9 @@ pub record AreChecked : Type 0 where
   pub divides : IsChecked divides
   pub console : IsChecked console
   pub waits : IsChecked waits
-  pub twice : IsWellFormed user_primitives twice
-  pub thrice : IsWellFormed user_primitives thrice
-  pub inverse : IsWellFormed user_primitives inverse
+  pub twice : IsCheckedAs User twice
+  pub thrice : IsCheckedAs User thrice
+  pub inverse : IsCheckedAs User inverse
 
 -- the primitives of these rows answer what their table says
 abbrev pub SevensFit : Type 0

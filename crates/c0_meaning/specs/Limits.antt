@@ -1,13 +1,15 @@
--- How large functions and units may be, and which function a kernel must have.
-use Rattle.std.specs.Prelude.{ℕ, ◌+◌, Bool, true, false, not, ◌&&◌, nat_lt, if◌then◌else◌, List, [], ◌∷◌, ◌++◌, length, map, codes}
+-- How large functions and units may be, and with which function the run of a unit begins, that it must have.
+use Rattle.std.specs.Prelude.{ℕ, ◌+◌, Bool, true, false, not, ◌&&◌, ◌==◌, nat_lt, if◌then◌else◌, List, [], ◌∷◌, ◌++◌, length, map, codes, position, unwrap_or}
 use Rattle.std.specs.Str.{bytes_eq}
 use Rattle.std.specs.List.{list_any}
 use Rattle.c0_tree.specs.declared.tree.Span.{Span}
+use Rattle.c0_tree.specs.declared.primitive.Program.{Program}
+use Rattle.c0_tree.specs.declared.primitive.Program.TheVariants.{Kernel, User}
 use Rattle.c0_tree.specs.Tree.{CDecl, CBody, code, asm, CFunction, CUnit}
 use Rattle.c0_tree.specs.Size.{function_nodes}
 use Rattle.c0_meaning.specs.Ty.{int, ty_of, same_ty}
 use Rattle.c0_meaning.specs.Env.{Shape, shape_of, typed_of}
-use Rattle.c0_meaning.specs.Fault.{Fault, TOO_MANY_NODES, UNIT_TOO_LARGE, GLOBALS_TOO_LARGE, NO_DISPATCH, TOO_MANY_PARAMETERS}
+use Rattle.c0_meaning.specs.Fault.{Fault, TOO_MANY_NODES, UNIT_TOO_LARGE, GLOBALS_TOO_LARGE, NO_DISPATCH, NO_MAIN, TOO_MANY_PARAMETERS}
 use Rattle.c0_meaning.specs.Words.{all_words}
 use Rattle.c0_meaning.specs.DeclaredTypes.{fault_if}
 
@@ -64,6 +66,19 @@ are_three_ints _ = false
 abbrev pub is_dispatch : CFunction → Bool
 is_dispatch f = bytes_eq f.name.text (codes "dispatch") && (are_three_ints f.params && (same_ty (ty_of f.answer) int && not (is_asm f.body)))
 
+-- whether this is `int main()` with a code body
+abbrev pub is_main : CFunction → Bool
+is_main f = bytes_eq f.name.text (codes "main") && ((length f.params == 0) && (same_ty (ty_of f.answer) int && not (is_asm f.body)))
+
+-- whether this is the function with which the run of a unit begins
+abbrev pub is_first : Program → CFunction → Bool
+is_first Kernel = is_dispatch
+is_first User = is_main
+
+-- the number of the first function that is so; 0 where none is
+abbrev pub first_number : Program → CUnit → ℕ
+first_number program u = unwrap_or (position (is_first program) u.functions) 0
+
 -- the span of a whole source
 abbrev pub whole : ℕ → Span
 whole length = record { start = 0; end = length }
@@ -80,6 +95,11 @@ unit_size_faults u =
     fault_if (nat_lt MAX_UNIT_NODES (all_nodes u.functions)) UNIT_TOO_LARGE (whole u.length)
     ++ fault_if (nat_lt MAX_GLOBAL_WORDS (all_words (map shape_of u.structs) (map typed_of u.globals))) GLOBALS_TOO_LARGE (whole u.length)
 
--- the fault of a kernel that has no `dispatch`
-abbrev pub dispatch_faults : CUnit → List Fault
-dispatch_faults u = fault_if (not (list_any is_dispatch u.functions)) NO_DISPATCH (whole u.length)
+-- what is wrong with a unit that has no function with which its run begins
+abbrev pub none_first : Program → ℕ
+none_first Kernel = NO_DISPATCH
+none_first User = NO_MAIN
+
+-- the fault of such a unit
+abbrev pub first_faults : Program → CUnit → List Fault
+first_faults program u = fault_if (not (list_any (is_first program) u.functions)) (none_first program) (whole u.length)

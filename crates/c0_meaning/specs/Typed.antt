@@ -2,7 +2,9 @@
 use Rattle.std.specs.Prelude.{◌≡◌, ◌↔◌, ℕ, ◌≤◌, false, List, [], ◌∷◌, ◌++◌, length, map, IsTrue, is_some, slice_get, Some, codes}
 use Rattle.std.specs.List.{All}
 use Rattle.c0_tree.specs.Tree.{CTy, int, bool, pointer, named, array, CDecl, CStruct, CBody, code, asm, CFunction, CUnit}
-use Rattle.c0_tree.specs.Primitives.{CPrimitive}
+use Rattle.c0_tree.specs.declared.primitive.Program.{Program}
+use Rattle.c0_tree.specs.declared.primitive.Program.TheVariants.{Kernel, User}
+use Rattle.c0_tree.specs.Primitives.{CPrimitive, primitives_of}
 use Rattle.c0_meaning.specs.Ty as ty
 use Rattle.c0_meaning.specs.Ty.{ty_of}
 use Rattle.c0_meaning.specs.Env.{Env, Shape, shape_of, typed_of, env_of, first_named}
@@ -11,7 +13,7 @@ use Rattle.c0_meaning.specs.DeclaredTypes.{MAX_TYPE_WORDS, has_empty_array, may_
 use Rattle.c0_meaning.specs.Names.{is_among, unit_names}
 use Rattle.c0_meaning.specs.Limits.{MAX_FUNCTION_NODES, MAX_UNIT_NODES, MAX_GLOBAL_WORDS, is_asm, locals_of, nodes_of, all_nodes, max_parameters}
 use Rattle.c0_meaning.specs.Rules.{AreTyped, IsTested}
-use Rattle.c0_meaning.specs.Unit.{unit_faults, kernel_faults}
+use Rattle.c0_meaning.specs.Unit.{unit_faults, program_faults}
 
 -- each name in a type is that of a struct
 abbrev pub AreKnown : List Shape → CTy → Type 0
@@ -64,7 +66,7 @@ pub record IsTypedFunction (primitives : List CPrimitive) (u : CUnit) (f : CFunc
   pub signature : IsTypedSignature (map shape_of u.structs) f
   pub body : IsTypedBody (env_of primitives u (f.params ++ locals_of f.body)) (ty_of f.answer) f.body
 
--- a unit that is typed, whose asm bodies hold their words; how their texts read is left open, and whether it has a `dispatch`
+-- a unit that is typed, whose asm bodies hold their words; how their texts read is left open, and whether it has a first function
 pub record IsTypedUnit (primitives : List CPrimitive) (u : CUnit) : Type 0 where
   pub struct_names : AreSetOnce [] (map (λ x. x.text) (map (λ s. s.name) u.structs))
   pub structs : All (IsTypedStruct (map shape_of u.structs)) u.structs
@@ -78,25 +80,35 @@ pub record IsTypedUnit (primitives : List CPrimitive) (u : CUnit) : Type 0 where
 abbrev pub UnitsAreFaultless : Type 0
 UnitsAreFaultless = (primitives : List CPrimitive) (u : CUnit) → IsTypedUnit primitives u ↔ (unit_faults primitives u ≡ [])
 
--- a function is `int dispatch(int, int, int)` with a code body
-pub record IsDispatch (f : CFunction) : Type 0 where
-  pub named : f.name.text ≡ codes "dispatch"
-  pub params : map (λ d. ty_of d.ty) f.params ≡ ty.int ∷ ty.int ∷ ty.int ∷ []
+-- the name of the function with which a run begins
+abbrev pub first_name : Program → List ℕ
+first_name Kernel = codes "dispatch"
+first_name User = codes "main"
+
+-- the types of its parameters
+abbrev pub first_params : Program → List ty.Ty
+first_params Kernel = ty.int ∷ ty.int ∷ ty.int ∷ []
+first_params User = []
+
+-- a function is `int dispatch(int, int, int)`, or `int main()`, with a code body
+pub record IsFirst (program : Program) (f : CFunction) : Type 0 where
+  pub named : f.name.text ≡ first_name program
+  pub params : map (λ d. ty_of d.ty) f.params ≡ first_params program
   pub answer : ty_of f.answer ≡ ty.int
   pub in_code : is_asm f.body ≡ false
 
 -- one of functions is so
-pub record HasDispatch (functions : List CFunction) : Type 0 where
+pub record HasFirst (program : Program) (functions : List CFunction) : Type 0 where
   pub number : ℕ
   pub function : CFunction
   pub there : slice_get functions number ≡ Some function
-  pub right : IsDispatch function
+  pub right : IsFirst program function
 
--- a kernel's unit that is typed, whose asm bodies hold their words
-pub record IsTypedKernel (primitives : List CPrimitive) (u : CUnit) : Type 0 where
-  pub typed : IsTypedUnit primitives u
-  pub dispatch : HasDispatch u.functions
+-- a kernel's unit, or a user program's, that is typed, whose asm bodies hold their words
+pub record IsTypedProgram (program : Program) (u : CUnit) : Type 0 where
+  pub typed : IsTypedUnit (primitives_of program) u
+  pub first : HasFirst program u.functions
 
--- a law: a kernel's unit is typed exactly where no fault stands in it
-abbrev pub KernelsAreFaultless : Type 0
-KernelsAreFaultless = (primitives : List CPrimitive) (u : CUnit) → IsTypedKernel primitives u ↔ (kernel_faults primitives u ≡ [])
+-- a law: such a unit is typed exactly where no fault stands in it
+abbrev pub ProgramsAreFaultless : Type 0
+ProgramsAreFaultless = (program : Program) (u : CUnit) → IsTypedProgram program u ↔ (program_faults program u ≡ [])

@@ -4,7 +4,9 @@ use Rattle.std.specs.List.{All}
 use Rattle.c0_tree.specs.declared.tree.Kind.TheVariants.{Global, Local, Function}
 use Rattle.c0_tree.specs.Tree.{CStruct, CBody, code, asm, CFunction, CUnit}
 use Rattle.c0_tree.specs.Plain.{is_plain}
-use Rattle.c0_tree.specs.Primitives.{CPrimitive, kernel_primitives}
+use Rattle.c0_tree.specs.declared.primitive.Program.{Program}
+use Rattle.c0_tree.specs.declared.primitive.Program.TheVariants.{Kernel}
+use Rattle.c0_tree.specs.Primitives.{CPrimitive, primitives_of}
 use Rattle.c0_meaning.specs.Ty.{ty_of}
 use Rattle.c0_meaning.specs.Ty as ty
 use Rattle.c0_meaning.specs.Env.{Shape, shape_of, Env, env_of}
@@ -12,7 +14,7 @@ use Rattle.c0_meaning.specs.Fault.{Fault, STRUCT_HOLDS_ITSELF, TYPE_TOO_LARGE}
 use Rattle.c0_meaning.specs.Words.{holds}
 use Rattle.c0_meaning.specs.DeclaredTypes.{fault_if, type_faults, declared_faults, is_too_large, pass_fault, pass_faults}
 use Rattle.c0_meaning.specs.Names.{struct_name_faults, unit_name_faults, decl_name_faults}
-use Rattle.c0_meaning.specs.Limits.{is_asm, locals_of, words_held, size_faults, unit_size_faults, dispatch_faults}
+use Rattle.c0_meaning.specs.Limits.{is_asm, locals_of, words_held, size_faults, unit_size_faults, first_faults}
 use Rattle.c0_meaning.specs.Resolved.{standing_for, resolved_type, resolved_decls, resolved_structs}
 use Rattle.c0_meaning.specs.Expression.{resolved}
 use Rattle.c0_meaning.specs.Statement.{tested_faults, stmts_faults, stmts_resolved}
@@ -57,7 +59,7 @@ functions_faults primitives u [] = []
 functions_faults primitives u (f ∷ rest) =
     (signature_faults (map shape_of u.structs) f ++ body_faults primitives u f) ++ functions_faults primitives u rest
 
--- the faults of a unit whose asm bodies hold their words, how their texts read and the missing `dispatch` apart
+-- the faults of a unit whose asm bodies hold their words, how their texts read and the missing first function apart
 abbrev pub unit_faults : List CPrimitive → CUnit → List Fault
 unit_faults primitives u =
     struct_name_faults u.structs
@@ -67,9 +69,9 @@ unit_faults primitives u =
     ++ (functions_faults primitives u u.functions
     ++ unit_size_faults u))))
 
--- the faults of a kernel's unit
-abbrev pub kernel_faults : List CPrimitive → CUnit → List Fault
-kernel_faults primitives u = unit_faults primitives u ++ dispatch_faults u
+-- the faults of a kernel's unit, or of a user program's
+abbrev pub program_faults : Program → CUnit → List Fault
+program_faults program u = unit_faults (primitives_of program) u ++ first_faults program u
 
 -- a body with its names resolved, in its environment, where the first local has this number
 abbrev pub resolved_body : Env → ℕ → CBody → CBody
@@ -105,19 +107,25 @@ resolved_unit primitives u = record {
 abbrev pub AreWordsAllowed : List CFunction → Type 0
 AreWordsAllowed functions = All (λ f. IsTrue (are_allowed_words (words_held f.body))) functions
 
--- a unit that is well formed for a table of primitives: no fault stands in it, apart from a missing `dispatch`, its names are resolved,
--- and its asm bodies hold words that they may have
+-- a unit that is well formed for a table of primitives: no fault stands in it, apart from a missing first function, its names are
+-- resolved, and its asm bodies hold words that they may have
 pub record IsWellFormed (primitives : List CPrimitive) (u : CUnit) : Type 0 where
   pub plain : is_plain u ≡ true
   pub typed : unit_faults primitives u ≡ []
   pub resolved : resolved_unit primitives u ≡ u
   pub allowed : AreWordsAllowed u.functions
 
--- a kernel's unit that is typed, its names resolved
-pub record IsChecked (u : CUnit) : Type 0 where
-  pub well_formed : IsWellFormed kernel_primitives u
-  pub dispatch : dispatch_faults u ≡ []
+-- a kernel's unit, or a user program's, that is typed, its names resolved
+pub record IsCheckedAs (program : Program) (u : CUnit) : Type 0 where
+  pub well_formed : IsWellFormed (primitives_of program) u
+  pub first : first_faults program u ≡ []
 
--- a kernel's unit without faults that holds small numbers, short lists and allowed words, its names resolved, is checked
+-- a kernel's unit that is so
+abbrev pub IsChecked : CUnit → Type 0
+IsChecked = IsCheckedAs Kernel
+
+-- a unit without faults that holds small numbers, short lists and allowed words, its names resolved, is checked
 abbrev pub FaultlessIsChecked : Type 0
-FaultlessIsChecked = (u : CUnit) → is_plain u ≡ true → kernel_faults kernel_primitives u ≡ [] → resolved_unit kernel_primitives u ≡ u → AreWordsAllowed u.functions → IsChecked u
+FaultlessIsChecked =
+    (program : Program) (u : CUnit) → is_plain u ≡ true → program_faults program u ≡ [] → resolved_unit (primitives_of program) u ≡ u → AreWordsAllowed u.functions
+    → IsCheckedAs program u

@@ -1,21 +1,16 @@
 -- The meaning of a user program in C0: its one primitive, `trap`, answers from a list.
-use Rattle.std.specs.Prelude.{ℕ, suc, ℤ, pos, Bool, not, ◌&&◌, ◌==◌, nat_lt, if◌then◌else◌, List, [], ◌∷◌, length, take, drop, slice_get, codes, unwrap_or, position}
-use Rattle.std.specs.Str.{bytes_eq}
-use Rattle.c0_tree.specs.declared.primitive.Scalar.TheVariants.{Int}
-use Rattle.c0_tree.specs.Primitives.{CPrimitive}
-use Rattle.c0_tree.specs.Tree.{CFunction, CUnit}
-use Rattle.c0_meaning.specs.Ty.{int, ty_of, same_ty}
-use Rattle.c0_meaning.specs.Limits.{is_asm}
+use Rattle.std.specs.Prelude.{ℕ, suc, ℤ, pos, nat_lt, if◌then◌else◌, List, [], ◌∷◌, length, take, drop, slice_get, unwrap_or}
+use Rattle.c0_tree.specs.declared.primitive.Program.TheVariants.{User}
+pub use Rattle.c0_tree.specs.Primitives.{user_primitives}
+use Rattle.c0_tree.specs.Tree.{CUnit}
+pub use Rattle.c0_meaning.specs.Limits.{is_main}
+use Rattle.c0_meaning.specs.Limits.{first_number}
 use Rattle.c0_meaning.specs.Value.{Values, empty, part}
 use Rattle.c0_meaning.specs.Value as value
 use Rattle.c0_meaning.specs.State.{first_state}
 use Rattle.c0_meaning.specs.Operators.{Failure}
 use Rattle.c0_meaning.specs.World.{Meaning, journal}
 use Rattle.c0_meaning.specs.Execution.{Outcome, Done, Failed, NotYet, call_first}
-
--- the one primitive of a user program
-abbrev pub user_primitives : List CPrimitive
-user_primitives = record { name = codes "trap"; args = Int ∷ []; answer = Int } ∷ []
 
 -- the argument of a call of `trap`
 abbrev pub argument : Values → ℤ
@@ -25,10 +20,6 @@ argument _ = pos 0
 -- `trap`: the world's value is the answers that are left, the journal the arguments; past the last answer it answers 0
 abbrev pub trap : Meaning (List ℤ) ℤ
 trap n args answers = record { answer = value.int (unwrap_or (slice_get answers 0) (pos 0)); world = drop 1 answers; entries = argument args ∷ []; pages = 0; words = 0 }
-
--- whether this is `int main()` with a code body
-abbrev pub is_main : CFunction → Bool
-is_main f = bytes_eq f.name.text (codes "main") && ((length f.params == 0) && (same_ty (ty_of f.answer) int && not (is_asm f.body)))
 
 -- how a program ended
 pub data Ending : Type 0 where
@@ -55,4 +46,4 @@ seen (NotYet k c) = record { arguments = journal c; ending = not_yet }
 -- `main` of a unit, within n units, where the i-th call of `trap` answers the i-th of a list; heap and stack have 1024 words each
 abbrev pub prog : CUnit → List ℤ → ℕ → Seen
 prog u answers n =
-    up_to answers (seen (call_first (record { unit = u; heap = 1024; stack = 1024; meaning = trap }) n (unwrap_or (position is_main u.functions) 0) empty (first_state u) answers))
+    up_to answers (seen (call_first (record { unit = u; heap = 1024; stack = 1024; meaning = trap }) n (first_number User u) empty (first_state u) answers))

@@ -1,14 +1,18 @@
-// A kernel's unit that is known to be typed.
+// Units that are known to be typed: a kernel's, and a user program's.
 
-ghost use Rattle.std.specs.Prelude.{◌≡◌};
+ghost use Rattle.std.specs.Prelude.{◌≡◌, ◌<◌, IsTrue, Some, length, position};
+ghost use Rattle.std.specs.List.{list_any};
 ghost use Rattle.std.specs.Coded.{codes};
-ghost use Rattle.c0_tree.specs.Primitives.{kernel_primitives};
+ghost use Rattle.c0_tree.specs.Primitives.{kernel_primitives, user_primitives};
 ghost use Rattle.c0_tree.specs.View.{unit_view};
+ghost use Rattle.c0_tree.specs.declared.primitive.Program.TheVariants.{Kernel, User};
 ghost use Rattle.c0_tree.specs.declared.tree.Unit.{Unit as Source};
 ghost use Rattle.c0_tree.specs.contracts.tree.Unit as source;
-ghost use Rattle.c0_meaning.specs.Unit.{IsChecked, IsWellFormed};
+ghost use Rattle.c0_meaning.specs.Limits.{first_number, is_dispatch, is_main};
+ghost use Rattle.c0_meaning.specs.Unit.{IsChecked, IsCheckedAs, IsWellFormed};
 
-use c0_tree::Unit;
+use crate::first::first_of;
+use c0_tree::{Program, Unit};
 use std::marker::Model;
 
 /// The unit of a kernel that meets the rules of typing, each of its names with what it stands for.
@@ -43,5 +47,59 @@ impl Checked {
         ensures well_formed { IsWellFormed kernel_primitives (unit_view self.now) }
     {
         &self.unit
+    }
+
+    /// The number of `dispatch` among the functions, from 0.
+    pub fn first(&self) -> u32
+        ensures is { result ≡ first_number Kernel (unit_view self.now) }
+        ensures found { position is_dispatch (unit_view self.now).functions ≡ Some result }
+        ensures there { result < length self.now.functions.items }
+    {
+        first_of(Program::Kernel, &self.unit)
+    }
+}
+
+/// The unit of a user program that meets the rules of typing, each of its names with what it stands for.
+#[derive(Drop)]
+pub struct UserChecked {
+    unit: Unit,
+}
+
+impl Model for UserChecked {
+    ghost Value = { Source };
+
+    ghost coded = { Prim.hlevel (codes, source.the_row.coded) };
+
+    ghost view = { λ c. c.unit };
+
+    ghost invariant = { λ c. IsCheckedAs User (unit_view c.unit) };
+}
+
+impl UserChecked {
+    /// Keeps a unit that meets the rules.
+    pub fn new(unit: Unit) -> UserChecked
+        requires { IsCheckedAs User (unit_view unit) }
+        ensures { result ≡ unit }
+    {
+        UserChecked { unit }
+    }
+
+    /// Lends the unit.
+    pub fn unit(&self) -> &Unit
+        ensures same { result.now ≡ self.now }
+        ensures checked { IsCheckedAs User (unit_view self.now) }
+        ensures well_formed { IsWellFormed user_primitives (unit_view self.now) }
+        ensures has_main { IsTrue (list_any is_main (unit_view self.now).functions) }
+    {
+        &self.unit
+    }
+
+    /// The number of `main` among the functions, from 0.
+    pub fn first(&self) -> u32
+        ensures is { result ≡ first_number User (unit_view self.now) }
+        ensures found { position is_main (unit_view self.now).functions ≡ Some result }
+        ensures there { result < length self.now.functions.items }
+    {
+        first_of(Program::User, &self.unit)
     }
 }

@@ -11,7 +11,7 @@ ghost use Rattle.c0_meaning.specs.Sizes.{UnitsAreSized};
 ghost use Rattle.c0_meaning.specs.Stable.{ResolvingIsStable};
 ghost use Rattle.c0_meaning.specs.Ty.{TypesEqualAsWritten};
 ghost use Rattle.c0_meaning.specs.TypeAt.{TypesAreAtHand};
-ghost use Rattle.c0_meaning.specs.Typed.{KernelsAreFaultless, UnitsAreFaultless};
+ghost use Rattle.c0_meaning.specs.Typed.{ProgramsAreFaultless, UnitsAreFaultless};
 ghost use Rattle.c0_meaning.specs.Unit.{FaultlessIsChecked};
 ghost use Rattle.c0_meaning.specs.Words.{HoldsAsTested, WordsAreThose};
 
@@ -64,7 +64,7 @@ pub fn statements_are_typed_or_faulty()
     ensures tested { TestedIsFaultless }
 {}
 
-/// A kernel's unit in which no fault stands, its names resolved, is one that can be kept as checked.
+/// A unit of a kernel or a user program in which no fault stands, its names resolved, is one that can be kept as checked.
 pub fn faultless_units_are_checked()
     ensures { FaultlessIsChecked }
 {}
@@ -81,9 +81,9 @@ pub fn units_are_typed_or_faulty()
     ensures { UnitsAreFaultless }
 {}
 
-/// So is a kernel's unit, which needs a `dispatch`.
-pub fn kernels_are_typed_or_faulty()
-    ensures { KernelsAreFaultless }
+/// So is a kernel's unit, which needs a `dispatch`, and a user program's, which needs a `main`.
+pub fn programs_are_typed_or_faulty()
+    ensures { ProgramsAreFaultless }
 {}
 
 /// Resolving the names of a unit changes none of its faults, and resolving them again changes nothing.

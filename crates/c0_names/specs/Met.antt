@@ -5,7 +5,7 @@ use Rattle.c0_meaning.specs.Fault as spec
 use Rattle.c0_names.specs.declared.met.Fault.{Fault}
 use Rattle.c0_names.specs.declared.met.Fault.TheVariants.{Wrong, BadLine}
 use Rattle.c0_names.specs.declared.met.Mistake.{Mistake}
-use Rattle.c0_names.specs.declared.met.Mistake.TheVariants.{UnknownName, NameTwice, WrongType, WrongCount, NotAPlace, LocalAddress, StructHoldsItself, TooDeep, TooManyNodes, UnitTooLarge, GlobalsTooLarge, NoDispatch, TooManyParameters, TypeTooLarge, EmptyArray}
+use Rattle.c0_names.specs.declared.met.Mistake.TheVariants.{UnknownName, NameTwice, WrongType, WrongCount, NotAPlace, LocalAddress, StructHoldsItself, TooDeep, TooManyNodes, UnitTooLarge, GlobalsTooLarge, NoDispatch, TooManyParameters, TypeTooLarge, EmptyArray, NoMain}
 
 -- the number of a mistake
 abbrev pub number_of : Mistake → ℕ
@@ -24,6 +24,7 @@ number_of NoDispatch = spec.NO_DISPATCH
 number_of TooManyParameters = spec.TOO_MANY_PARAMETERS
 number_of TypeTooLarge = spec.TYPE_TOO_LARGE
 number_of EmptyArray = spec.EMPTY_ARRAY
+number_of NoMain = spec.NO_MAIN
 
 -- a fault
 abbrev pub fault_view : Fault → spec.Fault

@@ -40,6 +40,8 @@ pub enum Mistake {
     TypeTooLarge,
     /// An array of length 0.
     EmptyArray,
+    /// No function `int main()` with a code body.
+    NoMain,
 }
 
 /// What is wrong, and where.
@@ -52,7 +54,7 @@ pub enum Fault {
 }
 
 impl Mistake {
-    /// The number that is printed: 20 to 31, or 33 to 35.
+    /// The number that is printed: 20 to 31, or 33 to 36.
     pub fn number(self) -> u32
         ensures { result ≡ number_of self }
     {
@@ -72,12 +74,13 @@ impl Mistake {
             Mistake::TooManyParameters => 33,
             Mistake::TypeTooLarge => 34,
             Mistake::EmptyArray => 35,
+            Mistake::NoMain => 36,
         }
     }
 }
 
 impl Fault {
-    /// The number that is printed, 20 to 35.
+    /// The number that is printed, 20 to 36.
     pub fn number(&self) -> u32
         ensures { result ≡ (fault_view self.now).number }
     {

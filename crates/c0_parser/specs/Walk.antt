@@ -2,18 +2,13 @@
 -- is given as a text (`codes "int x; .."`), to prove `Reads source tree` without a derivation: the law `sources_read_by_walks` asks for
 -- `is_read (walk n (start source)) ≡ true`, which is `refl` for enough steps n, about 40 for each token, under
 -- `unfolding mark_cut word_lexeme words marks` (c0_tokens/specs/Lexis, Spelling). Texts of some hundred bytes take seconds.
-use Rattle.std.specs.Prelude.{◌≡◌, ℕ, zero, suc, Bool, true, false, Option, Some, None, List, [], ◌∷◌, ◌++◌, length}
+use Rattle.std.specs.Prelude.{◌≡◌, ℕ, zero, suc, Bool, true, false, Option, Some, None, List, [], ◌∷◌, length}
 use Rattle.c0_tokens.specs.Nesting.{tokens_of}
 use Rattle.c0_tree.specs.Tree.{CUnit}
 use Rattle.c0_parser.specs.Value.{Value, pair, none}
 use Rattle.c0_parser.specs.Machine.{State, at, want, step}
 use Rattle.c0_parser.specs.Factored.{SOURCE, factored_structs, factored_globals, factored_functions}
 use Rattle.c0_parser.specs.Faults.{Reads}
-
--- a text by its lines, each with its line feed, as a file has them
-abbrev pub by_lines : List (List ℕ) → List ℕ
-by_lines [] = []
-by_lines (line ∷ rest) = line ++ 10 ∷ by_lines rest
 
 -- so many steps of the reading machine, or as many as there are
 abbrev pub walk_on : Option State → State → (State → State) → State

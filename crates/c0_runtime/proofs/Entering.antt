@@ -8,7 +8,7 @@ use Rattle.mips_table.specs.Code.{put, Contents, Behind, World, Sound, at_with, 
 use Rattle.masm.specs.Says.{Gives, Reads}
 use Rattle.masm.specs.Laws.{RunsCompose, StraightRuns, JumpsLead}
 use Rattle.c0_runtime.specs.Code.{load_ends_code, entry_code, behind_first}
-use Rattle.c0_runtime.specs.declared.entry.TheConstants.{LEAVE}
+use Rattle.layer_map.specs.declared.entries.TheConstants.{LEAVE}
 use Rattle.c0_runtime.specs.Laws.{ComesBack, StackIs, IsEntered, with_half, EntryRuns}
 use Rattle.c0_runtime.proofs.Steps.{rests, put_other}
 use Rattle.c0_runtime.proofs.Numbers.{halves}

@@ -4,7 +4,7 @@ use Rattle.mips_table.specs.declared.inst.Inst.{Inst}
 use Rattle.mips_table.specs.declared.inst.Inst.TheVariants.{Lui, Ori, Lw, Sw, Sll, Addu, Addiu, Sltu, Bne, J, Jal, Jr, Mult, Div, Mfhi, Mflo}
 use Rattle.masm.specs.declared.registers.Places.{Places}
 use Rattle.layer_map.specs.declared.places.TheConstants.{HEAP_USED, HEAP_WORDS, HEAP_FIRST, STACK_FIRST, STACK_WORDS}
-use Rattle.c0_runtime.specs.declared.entry.TheConstants.{LEAVE}
+use Rattle.layer_map.specs.declared.entries.TheConstants.{LEAVE}
 
 -- the stack's first address and the address of its end go to their registers, from the layer's variables
 abbrev pub load_ends_code : List Inst

@@ -12,7 +12,7 @@ use Rattle.c0_tree.specs.declared.tree.BinaryOp.TheVariants.{Mul, Div, Rem}
 use Rattle.c0_meaning.specs.Value.{int}
 use Rattle.c0_meaning.specs.Operators.{DivZero, faulted, on_ints}
 use Rattle.c0_runtime.specs.Code.{entry_code, behind_first, new_code, multiply_code, divide_code, remainder_code, zero_exit}
-use Rattle.c0_runtime.specs.declared.entry.TheConstants.{LEAVE}
+use Rattle.layer_map.specs.declared.entries.TheConstants.{LEAVE}
 use Rattle.c0_runtime.specs.declared.runtime.TheConstants.{NEW_OBJECT, MULTIPLY, DIVIDE, REMAINDER}
 
 -- A routine is called: the return address is in its register, and no disk command is under way.

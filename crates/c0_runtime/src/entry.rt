@@ -4,15 +4,12 @@ ghost use Rattle.std.specs.Prelude.{◌≡◌, ◌++◌, ◌<◌, ◌^◌, map, 
 ghost use Rattle.mips_table.specs.Encoding.{encoding};
 ghost use Rattle.c0_runtime.specs.Code.{load_ends_code, entry_code};
 
-use layer_map::{STACK_FIRST, STACK_WORDS};
+use layer_map::{LEAVE, STACK_FIRST, STACK_WORDS};
 use masm::Block;
 use masm::registers::{FRAME_END, GLOBALS, STACK_END};
 use mips_table::Inst;
 use std::alloc::{AllocError, Global};
 use std::vec::Vec;
-
-/// The address of the layer's entry by which a kernel is left.
-pub const LEAVE: u32 = 0x2038;
 
 /// The words of the entry.
 pub const ENTRY_WORDS: u32 = 8;

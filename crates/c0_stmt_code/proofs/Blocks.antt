@@ -16,7 +16,7 @@ use Rattle.c0_stmt_code.specs.Code.{is_calling, are_calling, calls_in, skip, stm
 use Rattle.c0_stmt_code.specs.Ahead.{Activation, Text, env_in, MAX_NODES, Skips, Block, Ahead}
 use Rattle.c0_stmt_code.proofs.Ways.{Way, none, on, within, away}
 
-module _ (runs : RunLaws) (compose : RunsCompose) (w : World) (P : Configuration → Configuration → Type 0) (jumps : JumpsLead w) where
+module _ (runs : RunLaws) (compose : RunsCompose) (w : World) (jumps : JumpsLead w) where
   -- a jump over so many words
   pub skipped : (k over : ℕ) (c : Contents) (d : Behind) → d.pending ≡ Idle → over < 32768 → w.code k ≡ Some (skip over) → Reaches w 1 (at_with k c d) (at_with (k + 1 + over) c d)
   skipped k over c d idle lt code =
@@ -25,12 +25,12 @@ module _ (runs : RunLaws) (compose : RunsCompose) (w : World) (P : Configuration
       compose.settled w 1 (k + 1 + over) (at_with k c d) c d idle (subst (λ n. Reaches w 1 (at_with k c d) (settle (k + 1 + n) c d)) small run)
 
   -- pending jumps are taken, a step each
-  pub taken : (n k to : ℕ) (c : Contents) (d : Behind) → d.pending ≡ Idle → Skips w n k to → Way runs w P 0 n 0 (at_with k c d) (at_with to c d)
-  taken zero k to c d idle h = subst (λ t. Way runs w P 0 0 0 (at_with k c d) (at_with t c d)) h (none runs w P (at_with k c d))
+  pub taken : (n k to : ℕ) (c : Contents) (d : Behind) → d.pending ≡ Idle → Skips w n k to → Way runs w 0 n (at_with k c d) (at_with to c d)
+  taken zero k to c d idle h = subst (λ t. Way runs w 0 0 (at_with k c d) (at_with t c d)) h (none runs w (at_with k c d))
   taken (suc n) k to c d idle h =
-      let one = away runs w P 1 (at_with k c d) (at_with (k + 1 + h.0) c d) (λ e. absurd (omega (arith, e))) (skipped k h.0 c d idle h.1 h.2) in
+      let one = away runs w 1 (at_with k c d) (at_with (k + 1 + h.0) c d) (λ e. absurd (omega (arith, e))) (skipped k h.0 c d idle h.1 h.2) in
       let rest = taken n (k + 1 + h.0) to c d idle h.3 in
-      within runs w P (1 + 0) (1 + n) (0 + 0) 0 (suc n) 0 _ _ (omega arith) (omega arith) refl (on runs w P 1 1 0 0 n 0 _ _ _ one rest)
+      within runs w (1 + 0) (1 + n) 0 (suc n) _ _ (omega arith) (omega arith) (on runs w 1 1 0 n _ _ _ one rest)
 
 -- the first of typed statements, and the others
 pub first_typed : (env : Env) (t : CStmt) (rest : CStmts) → AreNumbered env (next t rest) → IsNumbered env t × AreNumbered env rest

@@ -43,34 +43,34 @@ entry_price : (params locals most : ℕ) → params ≤ 8 → most ≤ 3 + 3 * p
 entry_price params zero most few high none = let h = none refl in omega (arith, h, few)
 entry_price params (suc locals) most few high none = omega (arith, high, few)
 
-module _ (runs : RunLaws) (compose : RunsCompose) (W E : Type 0) (Outer : W → Contents → Behind → Type 0) (Passes : Machine → Machine → Type 0) (z : Setup W E Outer Passes) (jumps : JumpsLead z.w) (straight : StraightRuns z.w)
+module _ (runs : RunLaws) (compose : RunsCompose) (W E : Type 0) (Outer : W → Contents → Behind → Type 0) (z : Setup W E Outer) (jumps : JumpsLead z.w) (straight : StraightRuns z.w)
     (held : HeldStays (shapes z.p.unit)) (typing : TypedStays z.p.unit) (functions : FunctionsAre z.table z.p.unit) (opened : (x : List ℕ) → words (shapes z.p.unit) (named x) ≡ words_of_all (shapes z.p.unit) (types_of (fields_named (shapes z.p.unit) x))) where
   -- arguments stand in registers as every function's words
-  are_in : (objects : List Ty) (frames : List Frame) (f : CFunction) (regs : ℕ → ℕ) (r : ℕ) (ts : List Ty) (vs : Values) → AllFit (shapes z.p.unit) (layout_of z.p.unit objects) ts vs → AreIn (unit_scope z.p.unit) (bases W E Outer Passes z objects []) regs r vs
-      → AreIn (scope W E Outer Passes z f) (bases W E Outer Passes z objects frames) regs r vs
+  are_in : (objects : List Ty) (frames : List Frame) (f : CFunction) (regs : ℕ → ℕ) (r : ℕ) (ts : List Ty) (vs : Values) → AllFit (shapes z.p.unit) (layout_of z.p.unit objects) ts vs → AreIn (unit_scope z.p.unit) (bases W E Outer z objects []) regs r vs
+      → AreIn (scope W E Outer z f) (bases W E Outer z objects frames) regs r vs
   are_in objects frames f regs r [] empty k h = tt
   are_in objects frames f regs r (t ∷ ts) (part v vs) k h =
-      (h.0 ∙ sym (word_same (shapes z.p.unit) (map typed_of z.p.unit.globals) z.a.globals z.a.heap objects objects (λ path t h. refl) (rest_of (unit_scope z.p.unit)) (rest_of (scope W E Outer Passes z f)) (end_of W E Outer Passes z []) (end_of W E Outer Passes z frames) t v k.0), are_in objects frames f regs (suc r) ts vs k.1 h.1)
+      (h.0 ∙ sym (word_same (shapes z.p.unit) (map typed_of z.p.unit.globals) z.a.globals z.a.heap objects objects (λ path t h. refl) (rest_of (unit_scope z.p.unit)) (rest_of (scope W E Outer z f)) (end_of W E Outer z []) (end_of W E Outer z frames) t v k.0), are_in objects frames f regs (suc r) ts vs k.1 h.1)
   are_in objects frames f regs r [] (part v vs) k h = absurd k
   are_in objects frames f regs r (t ∷ ts) empty k h = absurd k
 
   module _ (objects : List Ty) (gv hv : Value) (hw : ℕ) (fs : List Frame) (world : W) (calls : List (List E)) (answer : Option Value) (c : Contents) (d : Behind) (acts : List Activation)
-      (st : Stands W E Outer Passes z objects (standing_at gv hv hw fs world calls answer) c d) (waits : Waiting W E Outer Passes z objects c.memory acts fs) (at_end : c.regs 29 ≡ 4 * end_of W E Outer Passes z fs)
+      (st : Stands W E Outer z objects (standing_at gv hv hw fs world calls answer) c d) (waits : Waiting W E Outer z objects c.memory acts fs) (at_end : c.regs 29 ≡ 4 * end_of W E Outer z fs)
       (n to debt : ℕ) (f : CFunction) (is : slice_get z.p.unit.functions n ≡ Some f) (args : Values) (target : Target) (work : List Work) (return_at : c.regs 31 ≡ 4 * to)
-      (fits : AllFit (shapes z.p.unit) (layout_of z.p.unit objects) (types_of (map typed_of f.params)) args) (arguments : AreIn (unit_scope z.p.unit) (bases W E Outer Passes z objects []) c.regs 20 args)
-      (ahead : Awaits (text W E Outer Passes z) acts to debt (ty_of f.answer) target work (λ others at left. Ahead (text W E Outer Passes z) others at left work)) where
+      (fits : AllFit (shapes z.p.unit) (layout_of z.p.unit objects) (types_of (map typed_of f.params)) args) (arguments : AreIn (unit_scope z.p.unit) (bases W E Outer z objects []) c.regs 20 args)
+      (ahead : Awaits (text W E Outer z) acts to debt (ty_of f.answer) target work (λ others at left. Ahead (text W E Outer z) others at left work)) where
     abbrev sc : Scope
-    sc = scope W E Outer Passes z f
+    sc = scope W E Outer z f
 
     abbrev here : Configuration W E
     here = standing_at gv hv hw fs world calls answer
 
     abbrev low : ℕ
-    low = end_of W E Outer Passes z fs
+    low = end_of W E Outer z fs
 
     -- the data stand while what is changed lies in the frame that begins
     stands_in : (h' : Configuration W E) (c' : Contents) → h'.state.global_values ≡ gv → IsTypedWith z.p.unit objects h'.state → (h'.state.heap_values ≡ hv) → (h'.state.heap_words ≡ hw) → (h'.world ≡ world) → stack_words z.p.unit h'.state.frames ≤ z.p.stack
-        → ((x : ℕ) → (x < low) ⊎ (z.a.stack + z.p.stack ≤ x) → c'.memory x ≡ c.memory x) → c'.special ≡ c.special → c'.regs 28 ≡ c.regs 28 → c'.regs 30 ≡ c.regs 30 → Stands W E Outer Passes z objects h' c' d
+        → ((x : ℕ) → (x < low) ⊎ (z.a.stack + z.p.stack ≤ x) → c'.memory x ≡ c.memory x) → c'.special ≡ c.special → c'.regs 28 ≡ c.regs 28 → c'.regs 30 ≡ c.regs 30 → Stands W E Outer z objects h' c' d
     stands_in h' c' eg typed eh ew eo room same special r28 r30 =
         let u = st.used in
         let o = st.room in
@@ -84,10 +84,10 @@ module _ (runs : RunLaws) (compose : RunsCompose) (W E : Type 0) (Outer : W → 
           used = st.used ∙ sym ew;
           room = subst (λ y. y ≤ z.p.heap) (sym ew) st.room;
           stack_room = room;
-          globals = subst (λ v. RegionHeld (unit_scope z.p.unit) (bases W E Outer Passes z objects []) c'.memory z.a.globals (types_of (map typed_of z.p.unit.globals)) v) (sym eg)
-              (held.same (unit_scope z.p.unit) (bases W E Outer Passes z objects []) c.memory c'.memory z.a.globals (types_of (map typed_of z.p.unit.globals)) gv refl (λ x le lt. same x (inl (omega (arith, lt, wt, gf, hf)))) st.globals);
-          heap = subst (λ v. RegionHeld (unit_scope z.p.unit) (bases W E Outer Passes z objects []) c'.memory z.a.heap objects v) (sym eh)
-              (held.same (unit_scope z.p.unit) (bases W E Outer Passes z objects []) c.memory c'.memory z.a.heap objects hv refl (λ x le lt. same x (inl (omega (arith, lt, u, o, hf)))) st.heap);
+          globals = subst (λ v. RegionHeld (unit_scope z.p.unit) (bases W E Outer z objects []) c'.memory z.a.globals (types_of (map typed_of z.p.unit.globals)) v) (sym eg)
+              (held.same (unit_scope z.p.unit) (bases W E Outer z objects []) c.memory c'.memory z.a.globals (types_of (map typed_of z.p.unit.globals)) gv refl (λ x le lt. same x (inl (omega (arith, lt, wt, gf, hf)))) st.globals);
+          heap = subst (λ v. RegionHeld (unit_scope z.p.unit) (bases W E Outer z objects []) c'.memory z.a.heap objects v) (sym eh)
+              (held.same (unit_scope z.p.unit) (bases W E Outer z objects []) c.memory c'.memory z.a.heap objects hv refl (λ x le lt. same x (inl (omega (arith, lt, u, o, hf)))) st.heap);
           used_word = same 1026 (inl (omega (arith, lo, gf, hf))) ∙ st.used_word ∙ sym ew;
           heap_size = same 1027 (inl (omega (arith, lo, gf, hf))) ∙ st.heap_size;
           heap_first = same 1028 (inl (omega (arith, lo, gf, hf))) ∙ st.heap_first;
@@ -123,55 +123,55 @@ module _ (runs : RunLaws) (compose : RunsCompose) (W E : Type 0) (Outer : W → 
         let ls : locals_of f.body ≡ locals = ap locals_of e in
         let l = ap (λ ds. all_words (shapes z.p.unit) (map typed_of ds)) ls in
         let ps = words_by_types (shapes z.p.unit) (map typed_of f.params) in
-        let k = scalars_words sc (bases W E Outer Passes z objects fs) (layout_of z.p.unit objects) opened c.memory (types_of (map typed_of f.params)) (functions.scalars n f is) in
+        let k = scalars_words sc (bases W E Outer z objects fs) (layout_of z.p.unit objects) opened c.memory (types_of (map typed_of f.params)) (functions.scalars n f is) in
         let t = types_length f.params in
         omega (arith, l, ps, k, t)
 
     variables_stand : (locals : List CDecl) (stmts : CStmts) (result : CExpr) (m : ℕ → ℕ) (regs : ℕ → ℕ) → f.body ≡ code locals stmts result → sc.in_registers ≡ false
-        → ((j : ℕ) → j < length f.params → m (low + 3 + j) ≡ c.regs (20 + j)) → ((x : ℕ) → low + 3 + length f.params ≤ x → x < low + sc.frame → m x ≡ 0) → VariablesHeld W E Outer Passes z objects regs m f (frame_of locals ∷ fs)
+        → ((j : ℕ) → j < length f.params → m (low + 3 + j) ≡ c.regs (20 + j)) → ((x : ℕ) → low + 3 + length f.params ≤ x → x < low + sc.frame → m x ≡ 0) → VariablesHeld W E Outer z objects regs m f (frame_of locals ∷ fs)
     variables_stand locals stmts result m regs e form args_at zeros_at = by_form sc.in_registers form
       where
-        by_form : (b : Bool) → b ≡ false → RegionHeld sc (bases W E Outer Passes z objects (frame_of locals ∷ fs)) (if b then regs else m) (if b then 20 else (end_of W E Outer Passes z (frame_of locals ∷ fs) - frame (shapes z.p.unit) f) + 3) (types_of sc.env.locals) (frame_of locals).variables
+        by_form : (b : Bool) → b ≡ false → RegionHeld sc (bases W E Outer z objects (frame_of locals ∷ fs)) (if b then regs else m) (if b then 20 else (end_of W E Outer z (frame_of locals ∷ fs) - frame (shapes z.p.unit) f) + 3) (types_of sc.env.locals) (frame_of locals).variables
         by_form true q = absurd (cc)
         by_form false q =
             let on = frame_on z.p.unit (frame_of locals) fs f is in
             let sz = size locals stmts result e in
-            let at : ℕ = (end_of W E Outer Passes z (frame_of locals ∷ fs) - frame (shapes z.p.unit) f) + 3 in
-            let b : Bases = bases W E Outer Passes z objects (frame_of locals ∷ fs) in
-            let k = scalars_words sc (bases W E Outer Passes z objects fs) (layout_of z.p.unit objects) opened c.memory (types_of (map typed_of f.params)) (functions.scalars n f is) in
+            let at : ℕ = (end_of W E Outer z (frame_of locals ∷ fs) - frame (shapes z.p.unit) f) + 3 in
+            let b : Bases = bases W E Outer z objects (frame_of locals ∷ fs) in
+            let k = scalars_words sc (bases W E Outer z objects fs) (layout_of z.p.unit objects) opened c.memory (types_of (map typed_of f.params)) (functions.scalars n f is) in
             let t = types_length f.params in
             let ls = words_by_types (shapes z.p.unit) (map typed_of locals) in
-            let first = args_held sc (bases W E Outer Passes z objects (frame_of locals ∷ fs)) (layout_of z.p.unit objects) opened m c.regs at 20 (types_of (map typed_of f.params)) args (functions.scalars n f is) fits
+            let first = args_held sc (bases W E Outer z objects (frame_of locals ∷ fs)) (layout_of z.p.unit objects) opened m c.regs at 20 (types_of (map typed_of f.params)) args (functions.scalars n f is) fits
             (are_in objects (frame_of locals ∷ fs) f c.regs 20 (types_of (map typed_of f.params)) args fits arguments) (λ j lt. ap m (omega (arith, on)) ∙ args_at j (omega (arith, lt, t))) in
-            let second = zeros_held sc (bases W E Outer Passes z objects (frame_of locals ∷ fs)) (layout_of z.p.unit objects) opened m (at + words_of_all (shapes z.p.unit) (types_of (map typed_of f.params))) (types_of (map typed_of locals)) (zeros_of (shapes z.p.unit) (map typed_of locals))
+            let second = zeros_held sc (bases W E Outer z objects (frame_of locals ∷ fs)) (layout_of z.p.unit objects) opened m (at + words_of_all (shapes z.p.unit) (types_of (map typed_of f.params))) (types_of (map typed_of locals)) (zeros_of (shapes z.p.unit) (map typed_of locals))
             (typing.zeros objects n f locals stmts result is e) (zeros_zero (shapes z.p.unit) (map typed_of locals)) (λ x le lt. zeros_at x (omega (arith, le, on, k, t)) (omega (arith, lt, on, k, t, ls, sz))) in
             let types : types_of (map typed_of f.params) ++ types_of (map typed_of locals) ≡ types_of sc.env.locals = sym (types_joined f.params (locals_of f.body) ∙ ap (λ ds. types_of (map typed_of f.params) ++ types_of (map typed_of ds)) (ap locals_of e)) in
-            subst (λ ts. AllHeld sc (bases W E Outer Passes z objects (frame_of locals ∷ fs)) m at ts (followed_by args (zeros_of (shapes z.p.unit) (map typed_of locals)))) types
-            (joined_held sc (bases W E Outer Passes z objects (frame_of locals ∷ fs)) (layout_of z.p.unit objects) opened m at (types_of (map typed_of f.params)) (types_of (map typed_of locals)) args (zeros_of (shapes z.p.unit) (map typed_of locals)) first second)
+            subst (λ ts. AllHeld sc (bases W E Outer z objects (frame_of locals ∷ fs)) m at ts (followed_by args (zeros_of (shapes z.p.unit) (map typed_of locals)))) types
+            (joined_held sc (bases W E Outer z objects (frame_of locals ∷ fs)) (layout_of z.p.unit objects) opened m at (types_of (map typed_of f.params)) (types_of (map typed_of locals)) args (zeros_of (shapes z.p.unit) (map typed_of locals)) first second)
 
     abbrev its_entry : List CDecl → CStmts → List Inst
     its_entry locals stmts = save_code sc (are_calling stmts) ++ (params_code sc (length f.params) 0 ++ locals_code sc (all_words (shapes z.p.unit) (map typed_of locals)) (3 + length f.params))
 
     abbrev its_body : CStmts → CExpr → List Inst
-    its_body stmts result = stmts_code sc (text W E Outer Passes z).links stmts ++ return_code sc (are_calling stmts) result
+    its_body stmts result = stmts_code sc (text W E Outer z).links stmts ++ return_code sc (are_calling stmts) result
 
-    code_is : (locals : List CDecl) (stmts : CStmts) (result : CExpr) → f.body ≡ code locals stmts result → sc.in_registers ≡ false → function_code sc (text W E Outer Passes z).links f ≡ (stack_test sc 29 ++ its_entry locals stmts) ++ its_body stmts result
+    code_is : (locals : List CDecl) (stmts : CStmts) (result : CExpr) → f.body ≡ code locals stmts result → sc.in_registers ≡ false → function_code sc (text W E Outer z).links f ≡ (stack_test sc 29 ++ its_entry locals stmts) ++ its_body stmts result
     code_is locals stmts result e form =
-        ap (λ b. body_code sc (text W E Outer Passes z).links (length f.params) b) e
+        ap (λ b. body_code sc (text W E Outer z).links (length f.params) b) e
         ∙ ap (λ is. is ++ its_body stmts result) (cond-false sc.in_registers (register_entry sc (length f.params) (length locals) (are_calling stmts)) (frame_entry sc (length f.params) (all_words (shapes z.p.unit) (map typed_of locals)) (are_calling stmts)) form)
 
     test_some : 1 ≤ length (stack_test sc 29)
     test_some = omega (arith, length-append (large_code sc) (end_code 29 (4 * sc.frame) ++ (Sltu 1 30 29 ∷ Beq 1 0 1 ∷ J (sc.exit StackOut) ∷ [])), length-append (end_code 29 (4 * sc.frame)) (Sltu 1 30 29 ∷ Beq 1 0 1 ∷ J (sc.exit StackOut) ∷ []))
 
-    pub enters : (l m j k : ℕ) (cost : Cost) (h0 : Configuration W E) (s0 : Machine) (locals : List CDecl) (stmts : CStmts) (result : CExpr) → f.body ≡ code locals stmts result → sc.in_registers ≡ false
-        → Path runs compose W E Outer Passes z jumps l m j s0 (at_with k c d) → CodeAt z.w k (function_code sc (text W E Outer Passes z).links f) → cost.own + 9 ≤ 2048 * (l + 1) → m ≤ 30 * cost.own → length calls ≡ ended h0 + j
-        → GoesOn W E Outer Passes z debt h0 s0 (call_function z.p cost n args target work here)
-    enters l m j k cost h0 s0 locals stmts result e form path there low_paid high_paid en =
-        subst (λ o. GoesOn W E Outer Passes z debt h0 s0 (then_go (plus cost (units 1)) here (at_no_cost (ok_or o stuck)) (λ cost g. if nat_lt z.p.stack (stack_words z.p.unit fs + frame (shapes z.p.unit) g) then Stop cost (faulted StackOut) here else enter z.p cost n g.body args target work here))) (sym is)
+    pub enters : (l m k : ℕ) (cost : Cost) (h0 : Configuration W E) (s0 : Machine) (locals : List CDecl) (stmts : CStmts) (result : CExpr) → f.body ≡ code locals stmts result → sc.in_registers ≡ false
+        → Path runs compose W E Outer z jumps l m s0 (at_with k c d) → CodeAt z.w k (function_code sc (text W E Outer z).links f) → cost.own + 9 ≤ 2048 * (l + 1) → m ≤ 30 * cost.own → length calls ≡ ended h0
+        → GoesOn W E Outer z debt h0 s0 (call_function z.p cost n args target work here)
+    enters l m k cost h0 s0 locals stmts result e form path there low_paid high_paid en =
+        subst (λ o. GoesOn W E Outer z debt h0 s0 (then_go (plus cost (units 1)) here (at_no_cost (ok_or o stuck)) (λ cost g. if nat_lt z.p.stack (stack_words z.p.unit fs + frame (shapes z.p.unit) g) then Stop cost (faulted StackOut) here else enter z.p cost n g.body args target work here))) (sym is)
         (elim (cases_Bool (nat_lt z.p.stack (stack_words z.p.unit fs + frame (shapes z.p.unit) f))) [
-          | inl over ↦ subst (λ t. GoesOn W E Outer Passes z debt h0 s0 t) (sym (cond-true (nat_lt z.p.stack (stack_words z.p.unit fs + frame (shapes z.p.unit) f)) (Stop cost2 (faulted StackOut) here) (enter z.p cost2 n f.body args target work here) over)) (fails (ltb-true z.p.stack (stack_words z.p.unit fs + frame (shapes z.p.unit) f) over))
-          | inr fine ↦ subst (λ t. GoesOn W E Outer Passes z debt h0 s0 t) (sym (cond-false (nat_lt z.p.stack (stack_words z.p.unit fs + frame (shapes z.p.unit) f)) (Stop cost2 (faulted StackOut) here) (enter z.p cost2 n f.body args target work here) fine))
-              (subst (λ b. GoesOn W E Outer Passes z debt h0 s0 (enter z.p cost2 n b args target work here)) (sym e) (goes (ltb-false z.p.stack (stack_words z.p.unit fs + frame (shapes z.p.unit) f) fine)))
+          | inl over ↦ subst (λ t. GoesOn W E Outer z debt h0 s0 t) (sym (cond-true (nat_lt z.p.stack (stack_words z.p.unit fs + frame (shapes z.p.unit) f)) (Stop cost2 (faulted StackOut) here) (enter z.p cost2 n f.body args target work here) over)) (fails (ltb-true z.p.stack (stack_words z.p.unit fs + frame (shapes z.p.unit) f) over))
+          | inr fine ↦ subst (λ t. GoesOn W E Outer z debt h0 s0 t) (sym (cond-false (nat_lt z.p.stack (stack_words z.p.unit fs + frame (shapes z.p.unit) f)) (Stop cost2 (faulted StackOut) here) (enter z.p cost2 n f.body args target work here) fine))
+              (subst (λ b. GoesOn W E Outer z debt h0 s0 (enter z.p cost2 n b args target work here)) (sym e) (goes (ltb-false z.p.stack (stack_words z.p.unit fs + frame (shapes z.p.unit) f) fine)))
         ])
       where
         cost2 : Cost
@@ -183,21 +183,21 @@ module _ (runs : RunLaws) (compose : RunsCompose) (W E : Type 0) (Outer : W → 
         test_at : CodeAt z.w k (stack_test sc 29)
         test_at = front z.w k (stack_test sc 29) (its_entry locals stmts) (front z.w k (stack_test sc 29 ++ its_entry locals stmts) (its_body stmts result) code_at)
 
-        fails : z.p.stack < stack_words z.p.unit fs + frame (shapes z.p.unit) f → GoesOn W E Outer Passes z debt h0 s0 (Stop cost2 (faulted StackOut) here)
+        fails : z.p.stack < stack_words z.p.unit fs + frame (shapes z.p.unit) f → GoesOn W E Outer z debt h0 s0 (Stop cost2 (faulted StackOut) here)
         fails over =
             let sf = z.stack_fits in
             let sm = z.stack_small in
             let ws = z.sound.small in
             let sr = st.stack_room in
             let r = (tested compose z.w z.sound straight jumps sc low (z.a.stack + z.p.stack) 29 k c d st.idle (λ q. absurd (omega (arith, q))) (λ q. absurd (omega (arith, q))) at_end st.stack_end (omega (arith, sr)) (omega (arith, sf, ws)) (omega (arith, sm)) test_at).0 (omega (arith, over)) in
-            let way = on runs z.w Passes l m j 0 7 0 s0 (at_with k c d) (at_with (sc.exit StackOut) r.0 d) path (of runs z.w Passes 7 _ _ r.2) in
+            let way = on runs z.w l m 0 7 s0 (at_with k c d) (at_with (sc.exit StackOut) r.0 d) path (of runs z.w 7 _ _ r.2) in
             let le = way.high in (
               at_with (sc.exit StackOut) r.0 d,
-              record { own = way.own; passes = j + 0; high = omega (arith, le, high_paid); ended_so = omega (arith, en); run = way.run },
+              record { own = way.own; high = omega (arith, le, high_paid); ended_so = omega (arith, en); run = way.run },
               record { objects = objects; stands = stands_in here r.0 refl st.typed refl refl refl st.stack_room (λ x side. ap (λ m. m x) r.1.memory) r.1.special (r.1.others 28 (λ q. absurd (omega (arith, q))) (λ q. absurd (omega (arith, q)))) (r.1.others 30 (λ q. absurd (omega (arith, q))) (λ q. absurd (omega (arith, q)))); at = refl },
             )
 
-        goes : stack_words z.p.unit fs + frame (shapes z.p.unit) f ≤ z.p.stack → GoesOn W E Outer Passes z debt h0 s0 (Go (plus cost2 (units (all_words (shapes z.p.unit) (map typed_of locals)))) (push stmts (leave result target ∷ work)) (with_state here (pushed (frame_of locals) (state_of gv hv hw fs))))
+        goes : stack_words z.p.unit fs + frame (shapes z.p.unit) f ≤ z.p.stack → GoesOn W E Outer z debt h0 s0 (Go (plus cost2 (units (all_words (shapes z.p.unit) (map typed_of locals)))) (push stmts (leave result target ∷ work)) (with_state here (pushed (frame_of locals) (state_of gv hv hw fs))))
         goes fine =
             let sf = z.stack_fits in
             let sm = z.stack_small in
@@ -212,7 +212,7 @@ module _ (runs : RunLaws) (compose : RunsCompose) (W E : Type 0) (Outer : W → 
             let c1 : Contents = t.0 in
             let k1 : ℕ = k + length (stack_test sc 29) in
             let entry_at = back z.w k (stack_test sc 29) (its_entry locals stmts) (front z.w k (stack_test sc 29 ++ its_entry locals stmts) (its_body stmts result) code_at) in
-            let fr = frames compose z.w z.sound straight jumps runs Passes sc (low + sc.frame) (omega arith) (omega (arith, fine, sf, ws)) (omega (arith, fine, sf)) (λ x ge lt. z.ours x (inl (omega (arith, ge, gf, hf), omega (arith, lt, fine)))) (are_calling stmts) (length f.params) (all_words (shapes z.p.unit) (map typed_of locals)) k1 t.0 d st.idle sz few (t.1.is (λ q. absurd (omega (arith, q)))) entry_at in
+            let fr = frames compose z.w z.sound straight jumps runs sc (low + sc.frame) (omega arith) (omega (arith, fine, sf, ws)) (omega (arith, fine, sf)) (λ x ge lt. z.ours x (inl (omega (arith, ge, gf, hf), omega (arith, lt, fine)))) (are_calling stmts) (length f.params) (all_words (shapes z.p.unit) (map typed_of locals)) k1 t.0 d st.idle sz few (t.1.is (λ q. absurd (omega (arith, q)))) entry_at in
             let c2 : Contents = fr.contents in
             let base : low + sc.frame - sc.frame ≡ low = omega arith in
             let kb : ℕ = k + length (stack_test sc 29 ++ its_entry locals stmts) in
@@ -223,26 +223,26 @@ module _ (runs : RunLaws) (compose : RunsCompose) (W E : Type 0) (Outer : W → 
             let st2 = stands_in (with_state here (pushed (frame_of locals) (state_of gv hv hw fs))) fr.contents refl (typing.entered objects (state_of gv hv hw fs) n f locals stmts result args is e st.typed fits) refl refl refl (omega (arith, on_frame, fine))
             (λ x side. elim side [ inl lt ↦ memory x (inl lt) | inr ge ↦ memory x (inr (omega (arith, ge, fine))) ]) (fr.made.special ∙ t.1.special) (regs 28 (λ q. absurd (omega (arith, q))) (λ q. absurd (omega (arith, q))) (λ q. absurd (omega (arith, q)))) (regs 30 (λ q. absurd (omega (arith, q))) (λ q. absurd (omega (arith, q))) (λ q. absurd (omega (arith, q)))) in
             let new : Activation = record { function = f; to = to } in
-            let runs_new : Runs W E Outer Passes z objects fr.contents (record { function = f; to = to }) (frame_of locals) fs = record {
+            let runs_new : Runs W E Outer z objects fr.contents (record { function = f; to = to }) (frame_of locals) fs = record {
               is = is;
               return_at = returns (are_calling stmts) (ap calls_in e) fr.contents (λ q. ap fr.contents.memory (sym base) ∙ fr.made.saved q ∙ t.1.others 31 (λ q. absurd (omega (arith, q))) (λ q. absurd (omega (arith, q))) ∙ return_at) (regs 31 (λ q. absurd (omega (arith, q))) (λ q. absurd (omega (arith, q))) (λ q. absurd (omega (arith, q))) ∙ return_at);
-              frame_at = fr.made.regs 29 (λ q. absurd (omega (arith, q))) (λ q. absurd (omega (arith, q))) ∙ t.1.is (λ q. absurd (omega (arith, q))) ∙ omega (arith, on_frame) ∙ sym (ap (λ b. 4 * (if b then low else end_of W E Outer Passes z (frame_of locals ∷ fs))) form);
+              frame_at = fr.made.regs 29 (λ q. absurd (omega (arith, q))) (λ q. absurd (omega (arith, q))) ∙ t.1.is (λ q. absurd (omega (arith, q))) ∙ omega (arith, on_frame) ∙ sym (ap (λ b. 4 * (if b then low else end_of W E Outer z (frame_of locals ∷ fs))) form);
               variables = variables_stand locals stmts result fr.contents.memory fr.contents.regs e form (λ i lt. ap fr.contents.memory (omega arith) ∙ fr.made.arguments i lt ∙ t.1.others (20 + i) (λ q. absurd (omega (arith, q))) (λ q. absurd (omega (arith, q, lt, few))))
                   (λ x ge lt. ap fr.contents.memory (omega (arith, ge)) ∙ fr.made.zeros (x - (low + 3 + length f.params)) (omega (arith, ge, lt, sz)));
             } in
-            let waits2 = waiting_same W E Outer Passes z held objects c.memory fr.contents.memory acts fs (λ x le lt. memory x (inl lt)) waits in
+            let waits2 = waiting_same W E Outer z held objects c.memory fr.contents.memory acts fs (λ x le lt. memory x (inl lt)) waits in
             let bodies = functions.typed n f locals stmts result is e in
             let count = functions.nodes n f locals stmts result is e in
             let calling : are_calling stmts ≡ calls_in f.body = sym (ap calls_in e) in
-            let result_at = back z.w kb (stmts_code sc (text W E Outer Passes z).links stmts) (return_code sc (are_calling stmts) result) body_at in
-            let block = block_of (text W E Outer Passes z) f (λ at left. Ahead (text W E Outer Passes z) (record { function = f; to = to } ∷ acts) at left (leave result target ∷ work)) stmts kb 0 (kb + length (stmts_code sc (text W E Outer Passes z).links stmts)) debt debt bodies.0 (omega (arith, count)) (λ q. let w : true ≡ false = sym q ∙ form in absurd (cc)) (λ q. ap calls_in e ∙ q)
-            (front z.w kb (stmts_code sc (text W E Outer Passes z).links stmts) (return_code sc (are_calling stmts) result) body_at) refl (omega arith)
-            (record { test = bodies.1; few = omega (arith, count); code = subst (λ b. CodeAt z.w (kb + length (stmts_code sc (text W E Outer Passes z).links stmts)) (return_code sc b result)) calling result_at }, ahead) in
-            let way1 = on runs z.w Passes l m j 1 5 0 s0 (at_with k c d) (at_with k1 t.0 d) path (away runs z.w Passes 5 (at_with k c d) (at_with k1 t.0 d) (λ q. let ts = test_some in absurd (omega (arith, q, ts))) t.2) in
-            let way2 = on runs z.w Passes (l + 1) (m + 5) (j + 0) fr.least fr.most 0 s0 (at_with k1 t.0 d) (at_with kb fr.contents d) way1 (subst (λ y. Way runs z.w Passes fr.least fr.most 0 (at_with k1 t.0 d) (at_with y fr.contents d)) len fr.way) in
+            let result_at = back z.w kb (stmts_code sc (text W E Outer z).links stmts) (return_code sc (are_calling stmts) result) body_at in
+            let block = block_of (text W E Outer z) f (λ at left. Ahead (text W E Outer z) (record { function = f; to = to } ∷ acts) at left (leave result target ∷ work)) stmts kb 0 (kb + length (stmts_code sc (text W E Outer z).links stmts)) debt debt bodies.0 (omega (arith, count)) (λ q. let w : true ≡ false = sym q ∙ form in absurd (cc)) (λ q. ap calls_in e ∙ q)
+            (front z.w kb (stmts_code sc (text W E Outer z).links stmts) (return_code sc (are_calling stmts) result) body_at) refl (omega arith)
+            (record { test = bodies.1; few = omega (arith, count); code = subst (λ b. CodeAt z.w (kb + length (stmts_code sc (text W E Outer z).links stmts)) (return_code sc b result)) calling result_at }, ahead) in
+            let way1 = on runs z.w l m 1 5 s0 (at_with k c d) (at_with k1 t.0 d) path (away runs z.w 5 (at_with k c d) (at_with k1 t.0 d) (λ q. let ts = test_some in absurd (omega (arith, q, ts))) t.2) in
+            let way2 = on runs z.w (l + 1) (m + 5) fr.least fr.most s0 (at_with k1 t.0 d) (at_with kb fr.contents d) way1 (subst (λ y. Way runs z.w fr.least fr.most (at_with k1 t.0 d) (at_with y fr.contents d)) len fr.way) in
             let paid = fr.paid in
             let price : fr.most ≤ 25 + 30 * all_words (shapes z.p.unit) (map typed_of locals) = entry_price (length f.params) (all_words (shapes z.p.unit) (map typed_of locals)) fr.most few fr.few fr.none in
-            arrives runs compose W E Outer Passes z jumps (l + 1 + fr.least) (m + 5 + fr.most) (j + 0 + 0) debt debt (plus cost2 (units (all_words (shapes z.p.unit) (map typed_of locals)))) h0 (with_state here (pushed (frame_of locals) (state_of gv hv hw fs))) s0 kb fr.contents d objects
+            arrives runs compose W E Outer z jumps (l + 1 + fr.least) (m + 5 + fr.most) debt debt (plus cost2 (units (all_words (shapes z.p.unit) (map typed_of locals)))) h0 (with_state here (pushed (frame_of locals) (state_of gv hv hw fs))) s0 kb fr.contents d objects
             (record { function = f; to = to }) acts stmts (leave result target ∷ work) way2 (omega (arith, paid, low_paid)) (omega (arith, high_paid, price)) (omega (arith, en)) st2 (runs_new, waits2) block
           where
             returns : (b : Bool) → calls_in f.body ≡ b → (c2 : Contents) → (b ≡ true → c2.memory low ≡ 4 * to) → c2.regs 31 ≡ 4 * to → (if calls_in f.body then c2.memory low else c2.regs 31) ≡ 4 * to
@@ -253,9 +253,9 @@ module _ (runs : RunLaws) (compose : RunsCompose) (W E : Type 0) (Outer : W → 
     abbrev light_entry : List CDecl → CStmts → List Inst
     light_entry locals stmts = (if are_calling stmts then Sw 31 29 0 ∷ [] else []) ++ clear_code (length locals) (length f.params)
 
-    light_code_is : (locals : List CDecl) (stmts : CStmts) (result : CExpr) → f.body ≡ code locals stmts result → sc.in_registers ≡ true → function_code sc (text W E Outer Passes z).links f ≡ (stack_test sc 1 ++ light_entry locals stmts) ++ its_body stmts result
+    light_code_is : (locals : List CDecl) (stmts : CStmts) (result : CExpr) → f.body ≡ code locals stmts result → sc.in_registers ≡ true → function_code sc (text W E Outer z).links f ≡ (stack_test sc 1 ++ light_entry locals stmts) ++ its_body stmts result
     light_code_is locals stmts result e form =
-        ap (λ b. body_code sc (text W E Outer Passes z).links (length f.params) b) e
+        ap (λ b. body_code sc (text W E Outer z).links (length f.params) b) e
         ∙ ap (λ is. is ++ its_body stmts result) (cond-true sc.in_registers (register_entry sc (length f.params) (length locals) (are_calling stmts)) (frame_entry sc (length f.params) (all_words (shapes z.p.unit) (map typed_of locals)) (are_calling stmts)) form)
 
     light_test_some : 1 ≤ length (stack_test sc 1)
@@ -283,33 +283,33 @@ module _ (runs : RunLaws) (compose : RunsCompose) (W E : Type 0) (Outer : W → 
         }
 
     light_variables : (locals : List CDecl) (stmts : CStmts) (result : CExpr) (regs m : ℕ → ℕ) → f.body ≡ code locals stmts result → sc.in_registers ≡ true → ((j : ℕ) → j < length f.params → regs (20 + j) ≡ c.regs (20 + j)) → ((x : ℕ) → 20 + length f.params ≤ x → x < 20 + length f.params + length locals → regs x ≡ 0)
-        → VariablesHeld W E Outer Passes z objects regs m f (frame_of locals ∷ fs)
+        → VariablesHeld W E Outer z objects regs m f (frame_of locals ∷ fs)
     light_variables locals stmts result regs m e form args_at zeros_at = by_form sc.in_registers form
       where
-        by_form : (b : Bool) → b ≡ true → RegionHeld sc (bases W E Outer Passes z objects (frame_of locals ∷ fs)) (if b then regs else m) (if b then 20 else (end_of W E Outer Passes z (frame_of locals ∷ fs) - frame (shapes z.p.unit) f) + 3) (types_of sc.env.locals) (frame_of locals).variables
+        by_form : (b : Bool) → b ≡ true → RegionHeld sc (bases W E Outer z objects (frame_of locals ∷ fs)) (if b then regs else m) (if b then 20 else (end_of W E Outer z (frame_of locals ∷ fs) - frame (shapes z.p.unit) f) + 3) (types_of sc.env.locals) (frame_of locals).variables
         by_form false q = absurd (cc)
         by_form true q =
-            let k = scalars_words sc (bases W E Outer Passes z objects fs) (layout_of z.p.unit objects) opened c.memory (types_of (map typed_of f.params)) (functions.scalars n f is) in
-            let k2 = scalars_words sc (bases W E Outer Passes z objects fs) (layout_of z.p.unit objects) opened c.memory (types_of (map typed_of locals)) (is_light locals stmts result e form).scalars in
+            let k = scalars_words sc (bases W E Outer z objects fs) (layout_of z.p.unit objects) opened c.memory (types_of (map typed_of f.params)) (functions.scalars n f is) in
+            let k2 = scalars_words sc (bases W E Outer z objects fs) (layout_of z.p.unit objects) opened c.memory (types_of (map typed_of locals)) (is_light locals stmts result e form).scalars in
             let t = types_length f.params in
             let t2 = types_length locals in
-            let first = args_held sc (bases W E Outer Passes z objects (frame_of locals ∷ fs)) (layout_of z.p.unit objects) opened regs c.regs 20 20 (types_of (map typed_of f.params)) args (functions.scalars n f is) fits
+            let first = args_held sc (bases W E Outer z objects (frame_of locals ∷ fs)) (layout_of z.p.unit objects) opened regs c.regs 20 20 (types_of (map typed_of f.params)) args (functions.scalars n f is) fits
             (are_in objects (frame_of locals ∷ fs) f c.regs 20 (types_of (map typed_of f.params)) args fits arguments) (λ j lt. args_at j (omega (arith, lt, t))) in
-            let second = zeros_held sc (bases W E Outer Passes z objects (frame_of locals ∷ fs)) (layout_of z.p.unit objects) opened regs (20 + words_of_all (shapes z.p.unit) (types_of (map typed_of f.params))) (types_of (map typed_of locals)) (zeros_of (shapes z.p.unit) (map typed_of locals))
+            let second = zeros_held sc (bases W E Outer z objects (frame_of locals ∷ fs)) (layout_of z.p.unit objects) opened regs (20 + words_of_all (shapes z.p.unit) (types_of (map typed_of f.params))) (types_of (map typed_of locals)) (zeros_of (shapes z.p.unit) (map typed_of locals))
             (typing.zeros objects n f locals stmts result is e) (zeros_zero (shapes z.p.unit) (map typed_of locals)) (λ x le lt. zeros_at x (omega (arith, le, k, t)) (omega (arith, lt, k, t, k2, t2))) in
             let types : types_of (map typed_of f.params) ++ types_of (map typed_of locals) ≡ types_of sc.env.locals = sym (types_joined f.params (locals_of f.body) ∙ ap (λ ds. types_of (map typed_of f.params) ++ types_of (map typed_of ds)) (ap locals_of e)) in
-            subst (λ ts. AllHeld sc (bases W E Outer Passes z objects (frame_of locals ∷ fs)) regs 20 ts (followed_by args (zeros_of (shapes z.p.unit) (map typed_of locals)))) types
-            (joined_held sc (bases W E Outer Passes z objects (frame_of locals ∷ fs)) (layout_of z.p.unit objects) opened regs 20 (types_of (map typed_of f.params)) (types_of (map typed_of locals)) args (zeros_of (shapes z.p.unit) (map typed_of locals)) first second)
+            subst (λ ts. AllHeld sc (bases W E Outer z objects (frame_of locals ∷ fs)) regs 20 ts (followed_by args (zeros_of (shapes z.p.unit) (map typed_of locals)))) types
+            (joined_held sc (bases W E Outer z objects (frame_of locals ∷ fs)) (layout_of z.p.unit objects) opened regs 20 (types_of (map typed_of f.params)) (types_of (map typed_of locals)) args (zeros_of (shapes z.p.unit) (map typed_of locals)) first second)
 
-    pub enters_light : (l m j k : ℕ) (cost : Cost) (h0 : Configuration W E) (s0 : Machine) (locals : List CDecl) (stmts : CStmts) (result : CExpr) → f.body ≡ code locals stmts result → sc.in_registers ≡ true
-        → Path runs compose W E Outer Passes z jumps l m j s0 (at_with k c d) → CodeAt z.w k (function_code sc (text W E Outer Passes z).links f) → cost.own + 9 ≤ 2048 * (l + 1) → m ≤ 30 * cost.own → length calls ≡ ended h0 + j
-        → GoesOn W E Outer Passes z debt h0 s0 (call_function z.p cost n args target work here)
-    enters_light l m j k cost h0 s0 locals stmts result e form path there low_paid high_paid en =
-        subst (λ o. GoesOn W E Outer Passes z debt h0 s0 (then_go (plus cost (units 1)) here (at_no_cost (ok_or o stuck)) (λ cost g. if nat_lt z.p.stack (stack_words z.p.unit fs + frame (shapes z.p.unit) g) then Stop cost (faulted StackOut) here else enter z.p cost n g.body args target work here))) (sym is)
+    pub enters_light : (l m k : ℕ) (cost : Cost) (h0 : Configuration W E) (s0 : Machine) (locals : List CDecl) (stmts : CStmts) (result : CExpr) → f.body ≡ code locals stmts result → sc.in_registers ≡ true
+        → Path runs compose W E Outer z jumps l m s0 (at_with k c d) → CodeAt z.w k (function_code sc (text W E Outer z).links f) → cost.own + 9 ≤ 2048 * (l + 1) → m ≤ 30 * cost.own → length calls ≡ ended h0
+        → GoesOn W E Outer z debt h0 s0 (call_function z.p cost n args target work here)
+    enters_light l m k cost h0 s0 locals stmts result e form path there low_paid high_paid en =
+        subst (λ o. GoesOn W E Outer z debt h0 s0 (then_go (plus cost (units 1)) here (at_no_cost (ok_or o stuck)) (λ cost g. if nat_lt z.p.stack (stack_words z.p.unit fs + frame (shapes z.p.unit) g) then Stop cost (faulted StackOut) here else enter z.p cost n g.body args target work here))) (sym is)
         (elim (cases_Bool (nat_lt z.p.stack (stack_words z.p.unit fs + frame (shapes z.p.unit) f))) [
-          | inl over ↦ subst (λ t. GoesOn W E Outer Passes z debt h0 s0 t) (sym (cond-true (nat_lt z.p.stack (stack_words z.p.unit fs + frame (shapes z.p.unit) f)) (Stop cost2 (faulted StackOut) here) (enter z.p cost2 n f.body args target work here) over)) (fails (ltb-true z.p.stack (stack_words z.p.unit fs + frame (shapes z.p.unit) f) over))
-          | inr fine ↦ subst (λ t. GoesOn W E Outer Passes z debt h0 s0 t) (sym (cond-false (nat_lt z.p.stack (stack_words z.p.unit fs + frame (shapes z.p.unit) f)) (Stop cost2 (faulted StackOut) here) (enter z.p cost2 n f.body args target work here) fine))
-              (subst (λ b. GoesOn W E Outer Passes z debt h0 s0 (enter z.p cost2 n b args target work here)) (sym e) (goes (ltb-false z.p.stack (stack_words z.p.unit fs + frame (shapes z.p.unit) f) fine)))
+          | inl over ↦ subst (λ t. GoesOn W E Outer z debt h0 s0 t) (sym (cond-true (nat_lt z.p.stack (stack_words z.p.unit fs + frame (shapes z.p.unit) f)) (Stop cost2 (faulted StackOut) here) (enter z.p cost2 n f.body args target work here) over)) (fails (ltb-true z.p.stack (stack_words z.p.unit fs + frame (shapes z.p.unit) f) over))
+          | inr fine ↦ subst (λ t. GoesOn W E Outer z debt h0 s0 t) (sym (cond-false (nat_lt z.p.stack (stack_words z.p.unit fs + frame (shapes z.p.unit) f)) (Stop cost2 (faulted StackOut) here) (enter z.p cost2 n f.body args target work here) fine))
+              (subst (λ b. GoesOn W E Outer z debt h0 s0 (enter z.p cost2 n b args target work here)) (sym e) (goes (ltb-false z.p.stack (stack_words z.p.unit fs + frame (shapes z.p.unit) f) fine)))
         ])
       where
         cost2 : Cost
@@ -321,21 +321,21 @@ module _ (runs : RunLaws) (compose : RunsCompose) (W E : Type 0) (Outer : W → 
         test_at : CodeAt z.w k (stack_test sc 1)
         test_at = front z.w k (stack_test sc 1) (light_entry locals stmts) (front z.w k (stack_test sc 1 ++ light_entry locals stmts) (its_body stmts result) code_at)
 
-        fails : z.p.stack < stack_words z.p.unit fs + frame (shapes z.p.unit) f → GoesOn W E Outer Passes z debt h0 s0 (Stop cost2 (faulted StackOut) here)
+        fails : z.p.stack < stack_words z.p.unit fs + frame (shapes z.p.unit) f → GoesOn W E Outer z debt h0 s0 (Stop cost2 (faulted StackOut) here)
         fails over =
             let sf = z.stack_fits in
             let sm = z.stack_small in
             let ws = z.sound.small in
             let sr = st.stack_room in
             let r = (tested compose z.w z.sound straight jumps sc low (z.a.stack + z.p.stack) 1 k c d st.idle (λ q. absurd (omega (arith, q))) (λ q. absurd (omega (arith, q))) at_end st.stack_end (omega (arith, sr)) (omega (arith, sf, ws)) (omega (arith, sm)) test_at).0 (omega (arith, over)) in
-            let way = on runs z.w Passes l m j 0 7 0 s0 (at_with k c d) (at_with (sc.exit StackOut) r.0 d) path (of runs z.w Passes 7 _ _ r.2) in
+            let way = on runs z.w l m 0 7 s0 (at_with k c d) (at_with (sc.exit StackOut) r.0 d) path (of runs z.w 7 _ _ r.2) in
             let le = way.high in (
               at_with (sc.exit StackOut) r.0 d,
-              record { own = way.own; passes = j + 0; high = omega (arith, le, high_paid); ended_so = omega (arith, en); run = way.run },
+              record { own = way.own; high = omega (arith, le, high_paid); ended_so = omega (arith, en); run = way.run },
               record { objects = objects; stands = stands_in here r.0 refl st.typed refl refl refl st.stack_room (λ x side. ap (λ m. m x) r.1.memory) r.1.special (r.1.others 28 (λ q. absurd (omega (arith, q))) (λ q. absurd (omega (arith, q)))) (r.1.others 30 (λ q. absurd (omega (arith, q))) (λ q. absurd (omega (arith, q)))); at = refl },
             )
 
-        goes : stack_words z.p.unit fs + frame (shapes z.p.unit) f ≤ z.p.stack → GoesOn W E Outer Passes z debt h0 s0 (Go (plus cost2 (units (all_words (shapes z.p.unit) (map typed_of locals)))) (push stmts (leave result target ∷ work)) (with_state here (pushed (frame_of locals) (state_of gv hv hw fs))))
+        goes : stack_words z.p.unit fs + frame (shapes z.p.unit) f ≤ z.p.stack → GoesOn W E Outer z debt h0 s0 (Go (plus cost2 (units (all_words (shapes z.p.unit) (map typed_of locals)))) (push stmts (leave result target ∷ work)) (with_state here (pushed (frame_of locals) (state_of gv hv hw fs))))
         goes fine =
             let sf = z.stack_fits in
             let sm = z.stack_small in
@@ -345,7 +345,7 @@ module _ (runs : RunLaws) (compose : RunsCompose) (W E : Type 0) (Outer : W → 
             let hf = z.heap_fits in
             let light = is_light locals stmts result e form in
             let few = light.few in
-            let k2 = scalars_words sc (bases W E Outer Passes z objects fs) (layout_of z.p.unit objects) opened c.memory (types_of (map typed_of locals)) light.scalars in
+            let k2 = scalars_words sc (bases W E Outer z objects fs) (layout_of z.p.unit objects) opened c.memory (types_of (map typed_of locals)) light.scalars in
             let t2 = types_length locals in
             let w2 = words_by_types (shapes z.p.unit) (map typed_of locals) in
             let fw = frame_words z.p.unit f in
@@ -365,24 +365,24 @@ module _ (runs : RunLaws) (compose : RunsCompose) (W E : Type 0) (Outer : W → 
             let memory : (x : ℕ) → x ≢ low → clear.0.memory x ≡ c.memory x = λ x ne. ap (λ m. m x) clear.1.memory ∙ save.1.others x ne ∙ ap (λ m. m x) t.1.memory in
             let st2 = stands_in (with_state here (pushed (frame_of locals) (state_of gv hv hw fs))) clear.0 refl (typing.entered objects (state_of gv hv hw fs) n f locals stmts result args is e st.typed fits) refl refl refl (omega (arith, on_frame, fine))
             (λ x side. elim side [ inl lt ↦ memory x (λ q. absurd (omega (arith, q, lt))) | inr ge ↦ memory x (λ q. absurd (omega (arith, q, ge, fine, fw))) ]) (clear.1.special ∙ save.1.special ∙ t.1.special) (high 28 (omega arith)) (high 30 (omega arith)) in
-            let runs_new : Runs W E Outer Passes z objects clear.0 (record { function = f; to = to }) (frame_of locals) fs = record {
+            let runs_new : Runs W E Outer z objects clear.0 (record { function = f; to = to }) (frame_of locals) fs = record {
               is = is;
               return_at = light_returns (are_calling stmts) (ap calls_in e) clear.0 (λ q. ap (λ m. m low) clear.1.memory ∙ save.1.is q ∙ t.1.others 31 (λ q. absurd (omega (arith, q))) (λ q. absurd (omega (arith, q))) ∙ return_at) (high 31 (omega arith) ∙ return_at);
-              frame_at = high 29 (omega arith) ∙ at_end ∙ sym (ap (λ b. 4 * (if b then low else end_of W E Outer Passes z (frame_of locals ∷ fs))) form);
+              frame_at = high 29 (omega arith) ∙ at_end ∙ sym (ap (λ b. 4 * (if b then low else end_of W E Outer z (frame_of locals ∷ fs))) form);
               variables = light_variables locals stmts result clear.0.regs clear.0.memory e form (λ i lt. regs (20 + i) (λ q. absurd (omega (arith, q))) (inl (omega (arith, lt)))) (λ x ge lt. clear.1.zeros x ge lt);
             } in
-            let waits2 = waiting_same W E Outer Passes z held objects c.memory clear.0.memory acts fs (λ x le lt. memory x (λ q. absurd (omega (arith, q, lt)))) waits in
+            let waits2 = waiting_same W E Outer z held objects c.memory clear.0.memory acts fs (λ x le lt. memory x (λ q. absurd (omega (arith, q, lt)))) waits in
             let bodies = functions.typed n f locals stmts result is e in
             let count = functions.nodes n f locals stmts result is e in
             let calling : are_calling stmts ≡ calls_in f.body = sym (ap calls_in e) in
-            let result_at = back z.w kb (stmts_code sc (text W E Outer Passes z).links stmts) (return_code sc (are_calling stmts) result) body_at in
-            let block = block_of (text W E Outer Passes z) f (λ at left. Ahead (text W E Outer Passes z) (record { function = f; to = to } ∷ acts) at left (leave result target ∷ work)) stmts kb 0 (kb + length (stmts_code sc (text W E Outer Passes z).links stmts)) debt debt bodies.0 (omega (arith, count)) (λ q. light.free) (λ q. ap calls_in e ∙ q)
-            (front z.w kb (stmts_code sc (text W E Outer Passes z).links stmts) (return_code sc (are_calling stmts) result) body_at) refl (omega arith)
-            (record { test = bodies.1; few = omega (arith, count); code = subst (λ b. CodeAt z.w (kb + length (stmts_code sc (text W E Outer Passes z).links stmts)) (return_code sc b result)) calling result_at }, ahead) in
-            let way1 = on runs z.w Passes l m j 1 5 0 s0 (at_with k c d) (at_with k1 t.0 d) path (away runs z.w Passes 5 (at_with k c d) (at_with k1 t.0 d) (λ q. let ts = light_test_some in absurd (omega (arith, q, ts))) t.2) in
-            let way2 = on runs z.w Passes (l + 1) (m + 5) (j + 0) 0 1 0 s0 (at_with k1 t.0 d) (at_with k15 save.0 d) way1 (of runs z.w Passes 1 _ _ save.2) in
-            let way3 = on runs z.w Passes (l + 1 + 0) (m + 5 + 1) (j + 0 + 0) 0 (length locals) 0 s0 (at_with k15 save.0 d) (at_with kb clear.0 d) way2 (of runs z.w Passes (length locals) _ _ (subst (λ y. Reaches z.w (length locals) (at_with k15 save.0 d) (at_with y clear.0 d)) len clear.2)) in
-            arrives runs compose W E Outer Passes z jumps (l + 1 + 0 + 0) (m + 5 + 1 + length locals) (j + 0 + 0 + 0) debt debt (plus cost2 (units (all_words (shapes z.p.unit) (map typed_of locals)))) h0 (with_state here (pushed (frame_of locals) (state_of gv hv hw fs))) s0 kb clear.0 d objects
+            let result_at = back z.w kb (stmts_code sc (text W E Outer z).links stmts) (return_code sc (are_calling stmts) result) body_at in
+            let block = block_of (text W E Outer z) f (λ at left. Ahead (text W E Outer z) (record { function = f; to = to } ∷ acts) at left (leave result target ∷ work)) stmts kb 0 (kb + length (stmts_code sc (text W E Outer z).links stmts)) debt debt bodies.0 (omega (arith, count)) (λ q. light.free) (λ q. ap calls_in e ∙ q)
+            (front z.w kb (stmts_code sc (text W E Outer z).links stmts) (return_code sc (are_calling stmts) result) body_at) refl (omega arith)
+            (record { test = bodies.1; few = omega (arith, count); code = subst (λ b. CodeAt z.w (kb + length (stmts_code sc (text W E Outer z).links stmts)) (return_code sc b result)) calling result_at }, ahead) in
+            let way1 = on runs z.w l m 1 5 s0 (at_with k c d) (at_with k1 t.0 d) path (away runs z.w 5 (at_with k c d) (at_with k1 t.0 d) (λ q. let ts = light_test_some in absurd (omega (arith, q, ts))) t.2) in
+            let way2 = on runs z.w (l + 1) (m + 5) 0 1 s0 (at_with k1 t.0 d) (at_with k15 save.0 d) way1 (of runs z.w 1 _ _ save.2) in
+            let way3 = on runs z.w (l + 1 + 0) (m + 5 + 1) 0 (length locals) s0 (at_with k15 save.0 d) (at_with kb clear.0 d) way2 (of runs z.w (length locals) _ _ (subst (λ y. Reaches z.w (length locals) (at_with k15 save.0 d) (at_with y clear.0 d)) len clear.2)) in
+            arrives runs compose W E Outer z jumps (l + 1 + 0 + 0) (m + 5 + 1 + length locals) debt debt (plus cost2 (units (all_words (shapes z.p.unit) (map typed_of locals)))) h0 (with_state here (pushed (frame_of locals) (state_of gv hv hw fs))) s0 kb clear.0 d objects
             (record { function = f; to = to }) acts stmts (leave result target ∷ work) way3 (omega (arith, low_paid, few, k2, t2, w2)) (omega (arith, high_paid, few, k2, t2, w2)) (omega (arith, en)) st2 (runs_new, waits2) block
           where
             light_returns : (b : Bool) → calls_in f.body ≡ b → (c2 : Contents) → (b ≡ true → c2.memory low ≡ 4 * to) → c2.regs 31 ≡ 4 * to → (if calls_in f.body then c2.memory low else c2.regs 31) ≡ 4 * to

@@ -18,7 +18,7 @@ use Rattle.c0_stmt_code.proofs.Rooms.{put_same, put_other}
 use Rattle.c0_stmt_code.proofs.Spots.{other_reg, place_steps, few_steps, on_place}
 use Rattle.c0_stmt_code.proofs.Frames.{frame_address, frame_is_near, Filled, to_frame, params_run, zeros_run, loop_run}
 
-module _ (compose : RunsCompose) (w : World) (sound : Sound w) (straight : StraightRuns w) (jumps : JumpsLead w) (runs : RunLaws) (P : Configuration → Configuration → Type 0) (sc : Scope) (e : ℕ) (inside : sc.frame ≤ e) (small : 4 * e < 2 ^ 32) (fits : e ≤ w.words) (free : (x : ℕ) → e - sc.frame ≤ x → x < e → w.kept x ≡ None) where
+module _ (compose : RunsCompose) (w : World) (sound : Sound w) (straight : StraightRuns w) (jumps : JumpsLead w) (runs : RunLaws) (sc : Scope) (e : ℕ) (inside : sc.frame ≤ e) (small : 4 * e < 2 ^ 32) (fits : e ≤ w.words) (free : (x : ℕ) → e - sc.frame ≤ x → x < e → w.kept x ≡ None) where
   abbrev Cleared : (at count : ℕ) → Contents → Contents → Type 0
   Cleared at count b c = Filled compose w sound straight jumps at count (λ j. 0) b c
 
@@ -31,7 +31,7 @@ module _ (compose : RunsCompose) (w : World) (sound : Sound w) (straight : Strai
     pub most : ℕ
     pub few : most ≤ 3 * count + 3
     pub none : count ≡ 0 → most ≡ 0
-    pub way : Way runs w P least most 0 (at_with k c d) (at_with to contents d)
+    pub way : Way runs w least most (at_with k c d) (at_with to contents d)
 
   loop_begins : (i n k : ℕ) (c : Contents) (d : Behind) → d.pending ≡ Idle → i + suc n ≡ sc.frame → c.regs 29 ≡ 4 * e → CodeAt w k (zeros_loop sc i) → LocalsDone ((e - sc.frame) + i) (suc n) k (k + length (zeros_loop sc i)) c d
   loop_begins i n k c d idle sum at code =
@@ -45,11 +45,11 @@ module _ (compose : RunsCompose) (w : World) (sound : Sound w) (straight : Strai
         straight.next (Addiu 2 y (low ((frame_back sc + 4 * i) % 2 ^ 32))) (Gives (4 * ((e - sc.frame) + i))) m a d there refl idle (address ∙ ap (λ v. (v + (frame_back sc + 4 * i) % 2 ^ 32) % 2 ^ 32) at ∙ frame_address sc e i inside small (omega (arith, sum))),
       )) in
       let c1 : Contents = first.0 in
-      let rest = loop_run compose w sound straight jumps sc e inside small fits free runs P n ((e - sc.frame) + i) (k + length (on_spot (λ y x. Addiu 2 y x) 2 (frame_spot sc i))) first.0 d idle (omega arith) (omega (arith, sum, inside)) first.1.0
+      let rest = loop_run compose w sound straight jumps sc e inside small fits free runs n ((e - sc.frame) + i) (k + length (on_spot (λ y x. Addiu 2 y x) 2 (frame_spot sc i))) first.0 d idle (omega arith) (omega (arith, sum, inside)) first.1.0
       (first.1.3 29 (λ z. absurd (omega (arith, z))) (λ z. absurd (omega (arith, z))) ∙ at) (back w k (on_spot (λ y x. Addiu 2 y x) 2 (frame_spot sc i)) (Sw 0 2 0 ∷ Addiu 2 2 4 ∷ Bne 2 29 65533 ∷ []) code) in
       let len : k + length (on_spot (λ y x. Addiu 2 y x) 2 (frame_spot sc i)) + 3 ≡ k + length (zeros_loop sc i) = omega (arith, length-append (on_spot (λ y x. Addiu 2 y x) 2 (frame_spot sc i)) (Sw 0 2 0 ∷ Addiu 2 2 4 ∷ Bne 2 29 65533 ∷ [])) in
       let here : k + 0 ≡ k = omega arith in
-      let go : Way runs w P 0 3 0 (at_with k c d) (at_with (k + length (on_spot (λ y x. Addiu 2 y x) 2 (frame_spot sc i))) first.0 d) = of runs w P 3 _ _ (subst (λ m. Reaches w 3 (at_with m c d) (at_with (k + length (on_spot (λ y x. Addiu 2 y x) 2 (frame_spot sc i))) first.0 d)) here (compose.later w (place_steps (frame_spot sc i)) 3 _ _ (few_steps (frame_spot sc i)) first.2)) in
+      let go : Way runs w 0 3 (at_with k c d) (at_with (k + length (on_spot (λ y x. Addiu 2 y x) 2 (frame_spot sc i))) first.0 d) = of runs w 3 _ _ (subst (λ m. Reaches w 3 (at_with m c d) (at_with (k + length (on_spot (λ y x. Addiu 2 y x) 2 (frame_spot sc i))) first.0 d)) here (compose.later w (place_steps (frame_spot sc i)) 3 _ _ (few_steps (frame_spot sc i)) first.2)) in
       record {
         contents = rest.0;
         cleared = record {
@@ -63,8 +63,8 @@ module _ (compose : RunsCompose) (w : World) (sound : Sound w) (straight : Strai
         most = 3 * suc n + 3;
         few = omega arith;
         none = λ e. absurd (omega (arith, e));
-        way = within runs w P (0 + suc n) (3 + 3 * suc n) (0 + 0) (suc n) (3 * suc n + 3) 0 (at_with k c d) (at_with (k + length (zeros_loop sc i)) rest.0 d) (omega arith) (omega arith) refl
-            (on runs w P 0 3 0 (suc n) (3 * suc n) 0 (at_with k c d) (at_with (k + length (on_spot (λ y x. Addiu 2 y x) 2 (frame_spot sc i))) first.0 d) (at_with (k + length (zeros_loop sc i)) rest.0 d) go (subst (λ m. Way runs w P (suc n) (3 * suc n) 0 (at_with (k + length (on_spot (λ y x. Addiu 2 y x) 2 (frame_spot sc i))) first.0 d) (at_with m rest.0 d)) len rest.2));
+        way = within runs w (0 + suc n) (3 + 3 * suc n) (suc n) (3 * suc n + 3) (at_with k c d) (at_with (k + length (zeros_loop sc i)) rest.0 d) (omega arith) (omega arith)
+            (on runs w 0 3 (suc n) (3 * suc n) (at_with k c d) (at_with (k + length (on_spot (λ y x. Addiu 2 y x) 2 (frame_spot sc i))) first.0 d) (at_with (k + length (zeros_loop sc i)) rest.0 d) go (subst (λ m. Way runs w (suc n) (3 * suc n) (at_with (k + length (on_spot (λ y x. Addiu 2 y x) 2 (frame_spot sc i))) first.0 d) (at_with m rest.0 d)) len rest.2));
       }
 
   pub locals_run : (n i k : ℕ) (c : Contents) (d : Behind) → d.pending ≡ Idle → i + n ≡ sc.frame → c.regs 29 ≡ 4 * e → CodeAt w k (locals_code sc n i) → LocalsDone ((e - sc.frame) + i) n k (k + length (locals_code sc n i)) c d
@@ -81,7 +81,7 @@ module _ (compose : RunsCompose) (w : World) (sound : Sound w) (straight : Strai
           most = 3 * n;
           few = omega arith;
           none = λ e. omega (arith, e);
-          way = of runs w P (3 * n) _ _ (subst (λ is. Reaches w (3 * n) (at_with k c d) (at_with (k + length is) r.0 d)) (sym same) r.2);
+          way = of runs w (3 * n) _ _ (subst (λ is. Reaches w (3 * n) (at_with k c d) (at_with (k + length is) r.0 d)) (sym same) r.2);
         }
     | inr many ↦
         let same : locals_code sc n i ≡ zeros_loop sc i = cond-false (nat_le n 8) (zeros_code sc n i) (zeros_loop sc i) many in
@@ -102,7 +102,7 @@ module _ (compose : RunsCompose) (w : World) (sound : Sound w) (straight : Strai
     pub most : ℕ
     pub few : most ≤ 3 + 3 * params + 3 * locals + 3
     pub none : locals ≡ 0 → most ≤ 1 + 3 * params
-    pub way : Way runs w P least most 0 (at_with k c d) (at_with to contents d)
+    pub way : Way runs w least most (at_with k c d) (at_with to contents d)
 
   -- the return address is saved, where that is asked
   record Saved (calling : Bool) (k to : ℕ) (c : Contents) (d : Behind) : Type 0 where
@@ -147,10 +147,10 @@ module _ (compose : RunsCompose) (w : World) (sound : Sound w) (straight : Strai
       let three = locals_run locals (3 + params) k2 two.0 d idle sum (two.1.regs 29 (λ z. absurd (omega (arith, z))) (λ z. absurd (omega (arith, z))) ∙ one.regs 29 (λ z. absurd (omega (arith, z))) ∙ at) (back w k1 (params_code sc params 0) (locals_code sc locals (3 + params)) behind) in
       let to : ℕ = k + length (save_code sc calling ++ (params_code sc params 0 ++ locals_code sc locals (3 + params))) in
       let len : k2 + length (locals_code sc locals (3 + params)) ≡ to = omega (arith, length-append (save_code sc calling) (params_code sc params 0 ++ locals_code sc locals (3 + params)), length-append (params_code sc params 0) (locals_code sc locals (3 + params))) in
-      let way12 = on runs w P 0 one.most 0 0 (3 * params) 0 (at_with k c d) (at_with k1 one.contents d) (at_with k2 two.0 d) (of runs w P one.most _ _ one.run) (of runs w P (3 * params) _ _ two.2) in
+      let way12 = on runs w 0 one.most 0 (3 * params) (at_with k c d) (at_with k1 one.contents d) (at_with k2 two.0 d) (of runs w one.most _ _ one.run) (of runs w (3 * params) _ _ two.2) in
       let few1 = one.few in
       let few3 = three.few in
-      let way = on runs w P (0 + 0) (one.most + 3 * params) (0 + 0) three.least three.most 0 (at_with k c d) (at_with k2 two.0 d) (at_with (k2 + length (locals_code sc locals (3 + params))) three.contents d) way12 three.way in
+      let way = on runs w (0 + 0) (one.most + 3 * params) three.least three.most (at_with k c d) (at_with k2 two.0 d) (at_with (k2 + length (locals_code sc locals (3 + params))) three.contents d) way12 three.way in
       record {
         contents = three.contents;
         made = record {
@@ -171,14 +171,14 @@ module _ (compose : RunsCompose) (w : World) (sound : Sound w) (straight : Strai
         most = one.most + 3 * params + three.most;
         few = omega (arith, few1, few3);
         none = λ e. let near = one.near (omega (arith, e, sum, few)) in let nothing = three.none e in omega (arith, near, nothing);
-        way = within runs w P (0 + 0 + three.least) (one.most + 3 * params + three.most) (0 + 0 + 0) three.least (one.most + 3 * params + three.most) 0 (at_with k c d) (at_with to three.contents d) (omega arith) (omega arith) refl
-            (subst (λ m. Way runs w P (0 + 0 + three.least) (one.most + 3 * params + three.most) (0 + 0 + 0) (at_with k c d) (at_with m three.contents d)) len way);
+        way = within runs w (0 + 0 + three.least) (one.most + 3 * params + three.most) three.least (one.most + 3 * params + three.most) (at_with k c d) (at_with to three.contents d) (omega arith) (omega arith)
+            (subst (λ m. Way runs w (0 + 0 + three.least) (one.most + 3 * params + three.most) (at_with k c d) (at_with m three.contents d)) len way);
       }
 
 -- the law of the frames' begin
 pub frames_made : (compose : RunsCompose) (w : World) (sound : Sound w) (straight : StraightRuns w) (jumps : JumpsLead w) (runs : RunLaws) → FramesAreMade w
 frames_made compose w sound straight jumps runs sc e has calling params locals k c d idle sum few at code =
-    let fr = frames compose w sound straight jumps runs (λ s t. ⊥) sc e has.inside has.small has.fits has.free calling params locals k c d idle sum few at code in
+    let fr = frames compose w sound straight jumps runs sc e has.inside has.small has.fits has.free calling params locals k c d idle sum few at code in
     let le = fr.way.high in
     let most = fr.few in
     (fr.contents, fr.made, record { steps = fr.way.own; within = omega (arith, le, most); run = fr.way.run })

@@ -203,27 +203,27 @@ module _ (compose : RunsCompose) (w : World) (sound : Sound w) (straight : Strai
         )
 
     -- the locals' words become 0, in a loop: a turn for each
-    module _ (runs : RunLaws) (P : Configuration → Configuration → Type 0) where
+    module _ (runs : RunLaws) where
       -- a turn's first two steps
       cleared : (b k : ℕ) (c : Contents) (d : Behind) → d.pending ≡ Idle → e - sc.frame ≤ b → b < e → c.regs 2 ≡ 4 * b → CodeAt w k (Sw 0 2 0 ∷ Addiu 2 2 4 ∷ Bne 2 29 65533 ∷ [])
-          → Way runs w P 1 2 0 (at_with k c d) (at_with (k + 2) (with_reg (record c { memory = put c.memory b 0 }) 2 (4 * (b + 1))) d)
+          → Way runs w 1 2 (at_with k c d) (at_with (k + 2) (with_reg (record c { memory = put c.memory b 0 }) 2 (4 * (b + 1))) d)
       cleared b k c d idle from to at code =
           let c1 : Contents = record c { memory = put c.memory b 0 } in
           let one = straight.next (Sw 0 2 0) (Writes b 0) k c d code.0 refl idle (omega (arith, at, to, small), omega (arith, to, fits), free b from to, refl) in
           let two = straight.next (Addiu 2 2 4) (Gives (4 * (b + 1))) (k + 1) c1 d code.1.0 refl idle (omega (arith, at, to, small)) in
-          let way = on runs w P 1 1 0 0 1 0 (at_with k c d) (at_with (k + 1) c1 d) (at_with (k + 1 + 1) (with_reg c1 2 (4 * (b + 1))) d) (away runs w P 1 (at_with k c d) (at_with (k + 1) c1 d) (λ q. absurd (omega (arith, q))) one) (of runs w P 1 (at_with (k + 1) c1 d) (at_with (k + 1 + 1) (with_reg c1 2 (4 * (b + 1))) d) two) in
-          subst (λ m. Way runs w P 1 2 0 (at_with k c d) (at_with m (with_reg c1 2 (4 * (b + 1))) d)) (omega arith) way
+          let way = on runs w 1 1 0 1 (at_with k c d) (at_with (k + 1) c1 d) (at_with (k + 1 + 1) (with_reg c1 2 (4 * (b + 1))) d) (away runs w 1 (at_with k c d) (at_with (k + 1) c1 d) (λ q. absurd (omega (arith, q))) one) (of runs w 1 (at_with (k + 1) c1 d) (at_with (k + 1 + 1) (with_reg c1 2 (4 * (b + 1))) d) two) in
+          subst (λ m. Way runs w 1 2 (at_with k c d) (at_with m (with_reg c1 2 (4 * (b + 1))) d)) (omega arith) way
 
       pub loop_run : (n b k : ℕ) (c : Contents) (d : Behind) → d.pending ≡ Idle → e - sc.frame ≤ b → b + suc n ≡ e → c.regs 2 ≡ 4 * b → c.regs 29 ≡ 4 * e → CodeAt w k (Sw 0 2 0 ∷ Addiu 2 2 4 ∷ Bne 2 29 65533 ∷ [])
-          → (c' : Contents) × Filled b (suc n) (λ j. 0) c c' × Way runs w P (suc n) (3 * suc n) 0 (at_with k c d) (at_with (k + 3) c' d)
+          → (c' : Contents) × Filled b (suc n) (λ j. 0) c c' × Way runs w (suc n) (3 * suc n) (at_with k c d) (at_with (k + 3) c' d)
       loop_run zero b k c d idle from sum at end code =
           let c2 : Contents = with_reg (record c { memory = put c.memory b 0 }) 2 (4 * (b + 1)) in
           let first = cleared b k c d idle from (omega (arith, sum)) at code in
           let equal : 4 * (b + 1) ≡ c.regs 29 = omega (arith, sum, end) in
           let test : not (nat_eq (4 * (b + 1)) (c.regs 29)) ≡ false = ap not (eq-eqb (4 * (b + 1)) (c.regs 29) equal) in
           let last = compose.settled w 1 (k + 2 + 1) (at_with (k + 2) c2 d) c2 d idle (jumps.passed (Bne 2 29 65533) (k + 2) 65533 (not (nat_eq (4 * (b + 1)) (c.regs 29))) c2 d (subst (λ m. w.code m ≡ Some (Bne 2 29 65533)) (omega arith) code.1.1.0) refl test) in
-          let way = on runs w P 1 2 0 0 1 0 (at_with k c d) (at_with (k + 2) c2 d) (at_with (k + 2 + 1) c2 d) first (of runs w P 1 (at_with (k + 2) c2 d) (at_with (k + 2 + 1) c2 d) last) in
-          (c2, word_zero b c, subst (λ m. Way runs w P 1 3 0 (at_with k c d) (at_with m c2 d)) (omega arith) way)
+          let way = on runs w 1 2 0 1 (at_with k c d) (at_with (k + 2) c2 d) (at_with (k + 2 + 1) c2 d) first (of runs w 1 (at_with (k + 2) c2 d) (at_with (k + 2 + 1) c2 d) last) in
+          (c2, word_zero b c, subst (λ m. Way runs w 1 3 (at_with k c d) (at_with m c2 d)) (omega arith) way)
         where
           word_zero : (b : ℕ) (c : Contents) → Filled b 1 (λ j. 0) c (with_reg (record c { memory = put c.memory b 0 }) 2 (4 * (b + 1)))
           word_zero b c = record {
@@ -238,12 +238,12 @@ module _ (compose : RunsCompose) (w : World) (sound : Sound w) (straight : Strai
           let differ : 4 * (b + 1) ≢ c.regs 29 = λ q. absurd (omega (arith, sum, end, q)) in
           let test : not (nat_eq (4 * (b + 1)) (c.regs 29)) ≡ true = ap not (ne_eqb (4 * (b + 1)) (c.regs 29) differ) in
           let back_there = compose.settled w 1 k (at_with (k + 2) c2 d) c2 d idle (jumps.taken_back (Bne 2 29 65533) (k + 2) k 3 (not (nat_eq (4 * (b + 1)) (c.regs 29))) c2 d (subst (λ m. w.code m ≡ Some (Bne 2 29 65533)) (omega arith) code.1.1.0) refl test (omega arith) (omega arith) (omega arith)) in
-          let way = on runs w P 1 2 0 0 1 0 (at_with k c d) (at_with (k + 2) c2 d) (at_with k c2 d) first (of runs w P 1 (at_with (k + 2) c2 d) (at_with k c2 d) back_there) in
+          let way = on runs w 1 2 0 1 (at_with k c d) (at_with (k + 2) c2 d) (at_with k c2 d) first (of runs w 1 (at_with (k + 2) c2 d) (at_with k c2 d) back_there) in
           let rest = loop_run n (b + 1) k c2 d idle (omega (arith, from)) (omega (arith, sum)) refl end code in (
             rest.0,
             words_on n b c rest.0 rest.1,
-            within runs w P (1 + 0 + suc n) (2 + 1 + 3 * suc n) (0 + 0 + 0) (suc (suc n)) (3 * suc (suc n)) 0 (at_with k c d) (at_with (k + 3) rest.0 d) (omega arith) (omega arith) refl
-                (on runs w P (1 + 0) (2 + 1) (0 + 0) (suc n) (3 * suc n) 0 (at_with k c d) (at_with k c2 d) (at_with (k + 3) rest.0 d) way rest.2),
+            within runs w (1 + 0 + suc n) (2 + 1 + 3 * suc n) (suc (suc n)) (3 * suc (suc n)) (at_with k c d) (at_with (k + 3) rest.0 d) (omega arith) (omega arith)
+                (on runs w (1 + 0) (2 + 1) (suc n) (3 * suc n) (at_with k c d) (at_with k c2 d) (at_with (k + 3) rest.0 d) way rest.2),
           )
         where
           words_on : (n b : ℕ) (c r : Contents) → Filled (b + 1) (suc n) (λ j. 0) (with_reg (record c { memory = put c.memory b 0 }) 2 (4 * (b + 1))) r → Filled b (suc (suc n)) (λ j. 0) c r

@@ -38,9 +38,9 @@ given_in : (names : below.NamesAreEnough) (a b : Env) → below.HaveSameNames a 
 given_in names a b same e t (a_value h) = a_value (names a b same e t h)
 given_in names a b same _ _ a_null = a_null
 
-module _ (typed_run : below.ExpressionsRun) (given_run : below.GivenRun) (tests_run : below.TestsRun) (names : below.NamesAreEnough) (areas : below.AreasHold) (W E : Type 0) (Outer : W → Contents → Behind → Type 0) (Passes : Machine → Machine → Type 0) (z : Setup W E Outer Passes) where
+module _ (typed_run : below.ExpressionsRun) (given_run : below.GivenRun) (tests_run : below.TestsRun) (names : below.NamesAreEnough) (areas : below.AreasHold) (W E : Type 0) (Outer : W → Contents → Behind → Type 0) (z : Setup W E Outer) where
   pub area : (objects : List Ty) (g : Frame) (fs : List Frame) (f : CFunction) → slice_get z.p.unit.functions g.function ≡ Some f → AreDeclared (shapes z.p.unit) objects → words_of_all (shapes z.p.unit) objects ≤ z.p.heap → stack_words z.p.unit (g ∷ fs) ≤ z.p.stack
-      → Area z.w (scope W E Outer Passes z f) (bases W E Outer Passes z objects (g ∷ fs))
+      → Area z.w (scope W E Outer z f) (bases W E Outer z objects (g ∷ fs))
   area objects g fs f is declared room stack =
       let on = frame_on z.p.unit g fs f is in
       let gf = z.globals_fit in
@@ -48,11 +48,11 @@ module _ (typed_run : below.ExpressionsRun) (given_run : below.GivenRun) (tests_
       let sf = z.stack_fits in
       let lo = z.low in
       let wt = words_by_types (shapes z.p.unit) (map typed_of z.p.unit.globals) in
-      areas z.table z.p.unit z.well_formed f g.function is z.places z.w (bases W E Outer Passes z objects (g ∷ fs))
+      areas z.table z.p.unit z.well_formed f g.function is z.places z.w (bases W E Outer z objects (g ∷ fs))
       (record { from = omega (arith, lo); heap = omega (arith, room, hf, sf); frame = omega (arith, stack, sf); inside = omega (arith, on) })
       (record { heap_behind = omega (arith, gf, wt); frame_behind = omega (arith, hf, room, on) }) declared
 
-  scene : (objects : List Ty) (s : State) (frames : List Frame) (g : Frame) (fs : List Frame) (f : CFunction) → s.frames ≡ frames → frames ≡ g ∷ fs → slice_get z.p.unit.functions g.function ≡ Some f → IsTypedWith z.p.unit objects s → Scene (scope W E Outer Passes z f) (bases W E Outer Passes z objects (g ∷ fs)) s
+  scene : (objects : List Ty) (s : State) (frames : List Frame) (g : Frame) (fs : List Frame) (f : CFunction) → s.frames ≡ frames → frames ≡ g ∷ fs → slice_get z.p.unit.functions g.function ≡ Some f → IsTypedWith z.p.unit objects s → Scene (scope W E Outer z f) (bases W E Outer z objects (g ∷ fs)) s
   scene objects s frames g fs f e q is typed =
       let all = subst (All (IsTypedFrame z.p.unit (layout_of z.p.unit objects))) (e ∙ q) typed.frames in
       let top = All-head (IsTypedFrame z.p.unit (layout_of z.p.unit objects)) g fs all in
@@ -66,16 +66,16 @@ module _ (typed_run : below.ExpressionsRun) (given_run : below.GivenRun) (tests_
       some_same : {x y : CFunction} → Some x ≡ Some y → x ≡ y
       some_same q = cc
 
-  pub exprs : Exprs W E Outer Passes z
+  pub exprs : Exprs W E Outer z
   exprs objects s g fs f e is typed declared room stack =
       let ar = area objects g fs f is declared room stack in
       let sn = scene objects s (g ∷ fs) g fs f e refl is typed in
-      let same : below.HaveSameNames (env_in (text W E Outer Passes z) f) (scope W E Outer Passes z f).env = record { structs = refl; globals = refl; locals = refl } in
+      let same : below.HaveSameNames (env_in (text W E Outer z) f) (scope W E Outer z f).env = record { structs = refl; globals = refl; locals = refl } in
       record {
-        value = λ x t given scalar few. (given_run z.w (scope W E Outer Passes z f) (bases W E Outer Passes z objects (g ∷ fs)) s z.sound ar sn x t (given_in names (env_in (text W E Outer Passes z) f) (scope W E Outer Passes z f).env same x t given) few).value scalar;
-        operand = λ x t given scalar few. (given_run z.w (scope W E Outer Passes z f) (bases W E Outer Passes z objects (g ∷ fs)) s z.sound ar sn x t (given_in names (env_in (text W E Outer Passes z) f) (scope W E Outer Passes z f).env same x t given) few).operand scalar;
-        place = λ x t left few stands. (typed_run z.w (scope W E Outer Passes z f) (bases W E Outer Passes z objects (g ∷ fs)) s z.sound ar sn x t (names (env_in (text W E Outer Passes z) f) (scope W E Outer Passes z f).env same x t left.typed) few).place left.place stands;
-        test = λ x given few. tests_run z.w (scope W E Outer Passes z f) (bases W E Outer Passes z objects (g ∷ fs)) s z.sound ar sn x (given_in names (env_in (text W E Outer Passes z) f) (scope W E Outer Passes z f).env same x ty.bool given) few;
+        value = λ x t given scalar few. (given_run z.w (scope W E Outer z f) (bases W E Outer z objects (g ∷ fs)) s z.sound ar sn x t (given_in names (env_in (text W E Outer z) f) (scope W E Outer z f).env same x t given) few).value scalar;
+        operand = λ x t given scalar few. (given_run z.w (scope W E Outer z f) (bases W E Outer z objects (g ∷ fs)) s z.sound ar sn x t (given_in names (env_in (text W E Outer z) f) (scope W E Outer z f).env same x t given) few).operand scalar;
+        place = λ x t left few stands. (typed_run z.w (scope W E Outer z f) (bases W E Outer z objects (g ∷ fs)) s z.sound ar sn x t (names (env_in (text W E Outer z) f) (scope W E Outer z f).env same x t left.typed) few).place left.place stands;
+        test = λ x given few. tests_run z.w (scope W E Outer z f) (bases W E Outer z objects (g ∷ fs)) s z.sound ar sn x (given_in names (env_in (text W E Outer z) f) (scope W E Outer z f).env same x ty.bool given) few;
       }
 
 -- functions of a unit that is well formed

@@ -81,39 +81,39 @@ module _ (structs : List Shape) where
   parts_count lay objects null h = absurd h
   parts_count lay objects (at l) h = absurd h
 
-module _ (W E : Type 0) (Outer : W → Contents → Behind → Type 0) (Passes : Machine → Machine → Type 0) (z : Setup W E Outer Passes) (held : HeldStays (shapes z.p.unit)) (typing : TypedStays z.p.unit)
+module _ (W E : Type 0) (Outer : W → Contents → Behind → Type 0) (z : Setup W E Outer) (held : HeldStays (shapes z.p.unit)) (typing : TypedStays z.p.unit)
     (opened : (x : List ℕ) → words (shapes z.p.unit) (named x) ≡ words_of_all (shapes z.p.unit) (types_of (fields_named (shapes z.p.unit) x))) (objects : List Ty) where
   -- the variables that registers hold are few
-  few_words : (f : CFunction) → (scope W E Outer Passes z f).in_registers ≡ true → words_of_all (shapes z.p.unit) (variable_types f) ≤ 8
+  few_words : (f : CFunction) → (scope W E Outer z f).in_registers ≡ true → words_of_all (shapes z.p.unit) (variable_types f) ≤ 8
   few_words f form =
       let p = and_parts (is_leaf f.body) (nat_le (length (variable_types f)) 8 && list_all is_scalar (variable_types f)) form in
       let q = and_parts (nat_le (length (variable_types f)) 8) (list_all is_scalar (variable_types f)) p.1 in
       let n = leb-true (length (variable_types f)) 8 q.0 in
-      let w = scalars_words (unit_scope z.p.unit) (bases W E Outer Passes z objects []) (layout_of z.p.unit objects) opened (λ k. 0) (variable_types f) (each_scalar (variable_types f) q.1) in
+      let w = scalars_words (unit_scope z.p.unit) (bases W E Outer z objects []) (layout_of z.p.unit objects) opened (λ k. 0) (variable_types f) (each_scalar (variable_types f) q.1) in
       omega (arith, n, w)
 
   -- variables stay while the registers of variables and the frame's words do
   variables_kept : (c c' : Contents) (f : CFunction) (g : Frame) (fs : List Frame) → slice_get z.p.unit.functions g.function ≡ Some f → ((x : ℕ) → 20 ≤ x → x < 28 → c'.regs x ≡ c.regs x)
-      → ((x : ℕ) → z.a.stack ≤ x → c'.memory x ≡ c.memory x) → VariablesHeld W E Outer Passes z objects c.regs c.memory f (g ∷ fs) → VariablesHeld W E Outer Passes z objects c'.regs c'.memory f (g ∷ fs)
-  variables_kept c c' f g fs is regs memory h = by_form (scope W E Outer Passes z f).in_registers refl h
+      → ((x : ℕ) → z.a.stack ≤ x → c'.memory x ≡ c.memory x) → VariablesHeld W E Outer z objects c.regs c.memory f (g ∷ fs) → VariablesHeld W E Outer z objects c'.regs c'.memory f (g ∷ fs)
+  variables_kept c c' f g fs is regs memory h = by_form (scope W E Outer z f).in_registers refl h
     where
-      by_form : (b : Bool) → (scope W E Outer Passes z f).in_registers ≡ b → RegionHeld (scope W E Outer Passes z f) (bases W E Outer Passes z objects (g ∷ fs)) (if b then c.regs else c.memory) (if b then 20 else (end_of W E Outer Passes z (g ∷ fs) - frame (shapes z.p.unit) f) + 3) (types_of (scope W E Outer Passes z f).env.locals) g.variables
-          → RegionHeld (scope W E Outer Passes z f) (bases W E Outer Passes z objects (g ∷ fs)) (if b then c'.regs else c'.memory) (if b then 20 else (end_of W E Outer Passes z (g ∷ fs) - frame (shapes z.p.unit) f) + 3) (types_of (scope W E Outer Passes z f).env.locals) g.variables
-      by_form true form v = let few = few_words f form in held.same (scope W E Outer Passes z f) (bases W E Outer Passes z objects (g ∷ fs)) c.regs c'.regs 20 (types_of (scope W E Outer Passes z f).env.locals) g.variables refl (λ x le lt. regs x le (omega (arith, lt, few))) v
+      by_form : (b : Bool) → (scope W E Outer z f).in_registers ≡ b → RegionHeld (scope W E Outer z f) (bases W E Outer z objects (g ∷ fs)) (if b then c.regs else c.memory) (if b then 20 else (end_of W E Outer z (g ∷ fs) - frame (shapes z.p.unit) f) + 3) (types_of (scope W E Outer z f).env.locals) g.variables
+          → RegionHeld (scope W E Outer z f) (bases W E Outer z objects (g ∷ fs)) (if b then c'.regs else c'.memory) (if b then 20 else (end_of W E Outer z (g ∷ fs) - frame (shapes z.p.unit) f) + 3) (types_of (scope W E Outer z f).env.locals) g.variables
+      by_form true form v = let few = few_words f form in held.same (scope W E Outer z f) (bases W E Outer z objects (g ∷ fs)) c.regs c'.regs 20 (types_of (scope W E Outer z f).env.locals) g.variables refl (λ x le lt. regs x le (omega (arith, lt, few))) v
       by_form false form v = let on = frame_on z.p.unit g fs f is in
-          held.same (scope W E Outer Passes z f) (bases W E Outer Passes z objects (g ∷ fs)) c.memory c'.memory ((end_of W E Outer Passes z (g ∷ fs) - frame (shapes z.p.unit) f) + 3) (types_of (scope W E Outer Passes z f).env.locals) g.variables refl (λ x le lt. memory x (omega (arith, on, le))) v
+          held.same (scope W E Outer z f) (bases W E Outer z objects (g ∷ fs)) c.memory c'.memory ((end_of W E Outer z (g ∷ fs) - frame (shapes z.p.unit) f) + 3) (types_of (scope W E Outer z f).env.locals) g.variables refl (λ x le lt. memory x (omega (arith, on, le))) v
 
   -- the functions under way stay so under code that calls a routine, where the one that runs keeps its return address in its frame
   pub under_kept : (c c' : Contents) (a : Activation) (others : List Activation) (g : Frame) (fs : List Frame) → calls_in a.function.body ≡ true → ((x : ℕ) → 20 ≤ x → x < 31 → c'.regs x ≡ c.regs x) → ((x : ℕ) → z.a.stack ≤ x → c'.memory x ≡ c.memory x)
-      → Runs W E Outer Passes z objects c a g fs → Waiting W E Outer Passes z objects c.memory others fs → UnderWay W E Outer Passes z objects c' (a ∷ others) (g ∷ fs)
+      → Runs W E Outer z objects c a g fs → Waiting W E Outer z objects c.memory others fs → UnderWay W E Outer z objects c' (a ∷ others) (g ∷ fs)
   under_kept c c' a others g fs its_calls regs memory r waits = (
     record {
       is = r.is;
-      return_at = ap (λ y. if y then c'.memory (end_of W E Outer Passes z fs) else c'.regs 31) its_calls ∙ memory (end_of W E Outer Passes z fs) (omega arith) ∙ sym (ap (λ y. if y then c.memory (end_of W E Outer Passes z fs) else c.regs 31) its_calls) ∙ r.return_at;
+      return_at = ap (λ y. if y then c'.memory (end_of W E Outer z fs) else c'.regs 31) its_calls ∙ memory (end_of W E Outer z fs) (omega arith) ∙ sym (ap (λ y. if y then c.memory (end_of W E Outer z fs) else c.regs 31) its_calls) ∙ r.return_at;
       frame_at = regs 29 (omega arith) (omega arith) ∙ r.frame_at;
       variables = variables_kept c c' a.function g fs r.is (λ x le lt. regs x le (omega (arith, lt))) memory r.variables;
     },
-    waiting_same W E Outer Passes z held objects c.memory c'.memory others fs (λ x le lt. memory x le) waits,
+    waiting_same W E Outer z held objects c.memory c'.memory others fs (λ x le lt. memory x le) waits,
   )
 
   module _ (t : CTy) (declarable : IsDeclarable (shapes z.p.unit) t) where
@@ -127,16 +127,16 @@ module _ (W E : Type 0) (Outer : W → Contents → Behind → Type 0) (Passes :
     fresh = zero_of (shapes z.p.unit) (ty_of t)
 
     -- the functions under way stand with an object more
-    variables_more : (regs memory : ℕ → ℕ) (f : CFunction) (g : Frame) (fs : List Frame) → slice_get z.p.unit.functions g.function ≡ Some f → IsTypedFrame z.p.unit (layout_of z.p.unit objects) g → VariablesHeld W E Outer Passes z objects regs memory f (g ∷ fs) → VariablesHeld W E Outer Passes z more regs memory f (g ∷ fs)
+    variables_more : (regs memory : ℕ → ℕ) (f : CFunction) (g : Frame) (fs : List Frame) → slice_get z.p.unit.functions g.function ≡ Some f → IsTypedFrame z.p.unit (layout_of z.p.unit objects) g → VariablesHeld W E Outer z objects regs memory f (g ∷ fs) → VariablesHeld W E Outer z more regs memory f (g ∷ fs)
     variables_more regs memory f g fs is typed h =
         let fits = subst (λ q. AreParts (shapes z.p.unit) (layout_of z.p.unit objects) (variable_types q) g.variables) (some_same (sym typed.is ∙ is)) typed.variables in
-        region (shapes z.p.unit) (map typed_of z.p.unit.globals) z.a.globals z.a.heap objects more (part_stays (shapes z.p.unit) objects (ty_of t ∷ [])) (rest_of (scope W E Outer Passes z f)) (rest_of (scope W E Outer Passes z f)) (end_of W E Outer Passes z (g ∷ fs)) (end_of W E Outer Passes z (g ∷ fs))
-        (if (scope W E Outer Passes z f).in_registers then regs else memory) (if (scope W E Outer Passes z f).in_registers then 20 else (end_of W E Outer Passes z (g ∷ fs) - frame (shapes z.p.unit) f) + 3) (variable_types f) g.variables fits h
+        region (shapes z.p.unit) (map typed_of z.p.unit.globals) z.a.globals z.a.heap objects more (part_stays (shapes z.p.unit) objects (ty_of t ∷ [])) (rest_of (scope W E Outer z f)) (rest_of (scope W E Outer z f)) (end_of W E Outer z (g ∷ fs)) (end_of W E Outer z (g ∷ fs))
+        (if (scope W E Outer z f).in_registers then regs else memory) (if (scope W E Outer z f).in_registers then 20 else (end_of W E Outer z (g ∷ fs) - frame (shapes z.p.unit) f) + 3) (variable_types f) g.variables fits h
       where
         some_same : {x y : CFunction} → Some x ≡ Some y → x ≡ y
         some_same q = cc
 
-    waiting_more : (memory : ℕ → ℕ) (acts : List Activation) (frames : List Frame) → All (IsTypedFrame z.p.unit (layout_of z.p.unit objects)) frames → Waiting W E Outer Passes z objects memory acts frames → Waiting W E Outer Passes z more memory acts frames
+    waiting_more : (memory : ℕ → ℕ) (acts : List Activation) (frames : List Frame) → All (IsTypedFrame z.p.unit (layout_of z.p.unit objects)) frames → Waiting W E Outer z objects memory acts frames → Waiting W E Outer z more memory acts frames
     waiting_more memory [] [] all h = tt
     waiting_more memory (a ∷ acts) (g ∷ fs) all h = (
       record {
@@ -151,7 +151,7 @@ module _ (W E : Type 0) (Outer : W → Contents → Behind → Type 0) (Passes :
     waiting_more memory [] (g ∷ fs) all h = absurd h
     waiting_more memory (a ∷ acts) [] all h = absurd h
 
-    pub under_more : (c : Contents) (a : Activation) (others : List Activation) (g : Frame) (fs : List Frame) → All (IsTypedFrame z.p.unit (layout_of z.p.unit objects)) (g ∷ fs) → UnderWay W E Outer Passes z objects c (a ∷ others) (g ∷ fs) → UnderWay W E Outer Passes z more c (a ∷ others) (g ∷ fs)
+    pub under_more : (c : Contents) (a : Activation) (others : List Activation) (g : Frame) (fs : List Frame) → All (IsTypedFrame z.p.unit (layout_of z.p.unit objects)) (g ∷ fs) → UnderWay W E Outer z objects c (a ∷ others) (g ∷ fs) → UnderWay W E Outer z more c (a ∷ others) (g ∷ fs)
     under_more c a others g fs all h = (
       record {
         is = h.0.is;
@@ -164,19 +164,19 @@ module _ (W E : Type 0) (Outer : W → Contents → Behind → Type 0) (Passes :
 
     -- the heap with the new object behind the others
     heap_more : (m : ℕ → ℕ) (hv : Value) → AreParts (shapes z.p.unit) (layout_of z.p.unit objects) objects hv → ((x : ℕ) → z.a.heap + words_of_all (shapes z.p.unit) objects ≤ x → x < z.a.heap + words_of_all (shapes z.p.unit) objects + size → m x ≡ 0)
-        → RegionHeld (unit_scope z.p.unit) (bases W E Outer Passes z more []) m z.a.heap objects hv → RegionHeld (unit_scope z.p.unit) (bases W E Outer Passes z more []) m z.a.heap more (with_part hv fresh)
+        → RegionHeld (unit_scope z.p.unit) (bases W E Outer z more []) m z.a.heap objects hv → RegionHeld (unit_scope z.p.unit) (bases W E Outer z more []) m z.a.heap more (with_part hv fresh)
     heap_more m (group vs) fits zeros h =
-        joined_held (unit_scope z.p.unit) (bases W E Outer Passes z more []) (layout_of z.p.unit more) opened m z.a.heap objects (ty_of t ∷ []) vs (part fresh empty) h
-        (zeros_held (unit_scope z.p.unit) (bases W E Outer Passes z more []) (layout_of z.p.unit more) opened m (z.a.heap + words_of_all (shapes z.p.unit) objects) (ty_of t ∷ []) (part fresh empty) (typing.zero more t declarable, tt) (zero_zero (shapes z.p.unit) (ty_of t), tt) (λ x le lt. zeros x le (omega (arith, lt))))
+        joined_held (unit_scope z.p.unit) (bases W E Outer z more []) (layout_of z.p.unit more) opened m z.a.heap objects (ty_of t ∷ []) vs (part fresh empty) h
+        (zeros_held (unit_scope z.p.unit) (bases W E Outer z more []) (layout_of z.p.unit more) opened m (z.a.heap + words_of_all (shapes z.p.unit) objects) (ty_of t ∷ []) (part fresh empty) (typing.zero more t declarable, tt) (zero_zero (shapes z.p.unit) (ty_of t), tt) (λ x le lt. zeros x le (omega (arith, lt))))
     heap_more m (int n) fits zeros h = absurd fits
     heap_more m (bool b) fits zeros h = absurd fits
     heap_more m null fits zeros h = absurd fits
     heap_more m (at l) fits zeros h = absurd fits
 
     -- the data stand with an object more, whose words are 0, where all other words are as they were but that of the words used
-    pub stands_more : (gv hv : Value) (hw : ℕ) (frames : List Frame) (world : W) (calls : List (List E)) (answer : Option Value) (c c' : Contents) (d : Behind) → Stands W E Outer Passes z objects (standing_at gv hv hw frames world calls answer) c d → hw + size ≤ z.p.heap
+    pub stands_more : (gv hv : Value) (hw : ℕ) (frames : List Frame) (world : W) (calls : List (List E)) (answer : Option Value) (c c' : Contents) (d : Behind) → Stands W E Outer z objects (standing_at gv hv hw frames world calls answer) c d → hw + size ≤ z.p.heap
         → ((k : ℕ) → k < size → c'.memory (z.a.heap + hw + k) ≡ 0) → c'.memory 1026 ≡ hw + size → ((k : ℕ) → k ≢ 1026 → (k < z.a.heap + hw) ⊎ (z.a.heap + hw + size ≤ k) → c'.memory k ≡ c.memory k)
-        → c'.special ≡ c.special → c'.regs 28 ≡ c.regs 28 → c'.regs 30 ≡ c.regs 30 → Stands W E Outer Passes z more (standing_at gv (with_part hv fresh) (hw + size) frames world calls answer) c' d
+        → c'.special ≡ c.special → c'.regs 28 ≡ c.regs 28 → c'.regs 30 ≡ c.regs 30 → Stands W E Outer z more (standing_at gv (with_part hv fresh) (hw + size) frames world calls answer) c' d
     stands_more gv hv hw frames world calls answer c c' d st room zeros used others special r28 r30 =
         let u = st.used in
         let gf = z.globals_fit in
@@ -190,11 +190,11 @@ module _ (W E : Type 0) (Outer : W → Contents → Behind → Type 0) (Passes :
           used = omega (arith, u, wm);
           room = room;
           stack_room = st.stack_room;
-          globals = region (shapes z.p.unit) (map typed_of z.p.unit.globals) z.a.globals z.a.heap objects more (part_stays (shapes z.p.unit) objects (ty_of t ∷ [])) (rest_of (unit_scope z.p.unit)) (rest_of (unit_scope z.p.unit)) (end_of W E Outer Passes z []) (end_of W E Outer Passes z []) c'.memory z.a.globals (types_of (map typed_of z.p.unit.globals)) gv st.typed.global_values
-              (held.same (unit_scope z.p.unit) (bases W E Outer Passes z objects []) c.memory c'.memory z.a.globals (types_of (map typed_of z.p.unit.globals)) gv refl (λ x le lt. others x (λ e. absurd (omega (arith, e, le, lo))) (inl (omega (arith, lt, wt, gf)))) st.globals);
+          globals = region (shapes z.p.unit) (map typed_of z.p.unit.globals) z.a.globals z.a.heap objects more (part_stays (shapes z.p.unit) objects (ty_of t ∷ [])) (rest_of (unit_scope z.p.unit)) (rest_of (unit_scope z.p.unit)) (end_of W E Outer z []) (end_of W E Outer z []) c'.memory z.a.globals (types_of (map typed_of z.p.unit.globals)) gv st.typed.global_values
+              (held.same (unit_scope z.p.unit) (bases W E Outer z objects []) c.memory c'.memory z.a.globals (types_of (map typed_of z.p.unit.globals)) gv refl (λ x le lt. others x (λ e. absurd (omega (arith, e, le, lo))) (inl (omega (arith, lt, wt, gf)))) st.globals);
           heap = heap_more c'.memory hv st.typed.heap_values (λ x le lt. ap c'.memory (omega (arith, le, u)) ∙ zeros (x - (z.a.heap + hw)) (omega (arith, le, lt, u)))
-              (region (shapes z.p.unit) (map typed_of z.p.unit.globals) z.a.globals z.a.heap objects more (part_stays (shapes z.p.unit) objects (ty_of t ∷ [])) (rest_of (unit_scope z.p.unit)) (rest_of (unit_scope z.p.unit)) (end_of W E Outer Passes z []) (end_of W E Outer Passes z []) c'.memory z.a.heap objects hv st.typed.heap_values
-              (held.same (unit_scope z.p.unit) (bases W E Outer Passes z objects []) c.memory c'.memory z.a.heap objects hv refl (λ x le lt. others x (λ e. absurd (omega (arith, e, le, lo, gf))) (inl (omega (arith, lt, u)))) st.heap));
+              (region (shapes z.p.unit) (map typed_of z.p.unit.globals) z.a.globals z.a.heap objects more (part_stays (shapes z.p.unit) objects (ty_of t ∷ [])) (rest_of (unit_scope z.p.unit)) (rest_of (unit_scope z.p.unit)) (end_of W E Outer z []) (end_of W E Outer z []) c'.memory z.a.heap objects hv st.typed.heap_values
+              (held.same (unit_scope z.p.unit) (bases W E Outer z objects []) c.memory c'.memory z.a.heap objects hv refl (λ x le lt. others x (λ e. absurd (omega (arith, e, le, lo, gf))) (inl (omega (arith, lt, u)))) st.heap));
           used_word = used;
           heap_size = others 1027 (λ e. absurd (omega (arith, e))) (inl (omega (arith, lo, gf))) ∙ st.heap_size;
           heap_first = others 1028 (λ e. absurd (omega (arith, e))) (inl (omega (arith, lo, gf))) ∙ st.heap_first;

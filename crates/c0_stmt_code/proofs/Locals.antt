@@ -102,27 +102,27 @@ scalars_before structs (u ∷ ts) (suc n) t s e = let r = scalars_before structs
     one_word (ty.named x) s = absurd (cc)
     one_word (ty.array t n) s = absurd (cc)
 
-module _ (runs : RunLaws) (compose : RunsCompose) (W E : Type 0) (Outer : W → Contents → Behind → Type 0) (Passes : Machine → Machine → Type 0) (z : Setup W E Outer Passes) (jumps : JumpsLead z.w) (straight : StraightRuns z.w)
-    (held : HeldStays (shapes z.p.unit)) (typing : TypedStays z.p.unit) (exprs : Exprs W E Outer Passes z) (fit : (f : CFunction) → LengthsFit (scope W E Outer Passes z f))
+module _ (runs : RunLaws) (compose : RunsCompose) (W E : Type 0) (Outer : W → Contents → Behind → Type 0) (z : Setup W E Outer) (jumps : JumpsLead z.w) (straight : StraightRuns z.w)
+    (held : HeldStays (shapes z.p.unit)) (typing : TypedStays z.p.unit) (exprs : Exprs W E Outer z) (fit : (f : CFunction) → LengthsFit (scope W E Outer z f))
     (objects : List Ty) (gv hv : Value) (hw : ℕ) (g : Frame) (fs : List Frame) (world : W) (calls : List (List E)) (answer : Option Value) (c : Contents) (d : Behind) (a : Activation) (others : List Activation)
-    (st : Stands W E Outer Passes z objects (standing_at gv hv hw (g ∷ fs) world calls answer) c d) (r : Runs W E Outer Passes z objects c a g fs) (waits : Waiting W E Outer Passes z objects c.memory others fs)
+    (st : Stands W E Outer z objects (standing_at gv hv hw (g ∷ fs) world calls answer) c d) (r : Runs W E Outer z objects c a g fs) (waits : Waiting W E Outer z objects c.memory others fs)
     (k debt : ℕ) (rest : CStmts) (work : List Work) where
   abbrev sc : Scope
-  sc = scope W E Outer Passes z a.function
+  sc = scope W E Outer z a.function
 
   abbrev here : Configuration W E
   here = standing_at gv hv hw (g ∷ fs) world calls answer
 
   abbrev its : Bases
-  its = bases W E Outer Passes z objects (g ∷ fs)
+  its = bases W E Outer z objects (g ∷ fs)
 
   -- the variables with one more of them stored
   stored_there : (n x : ℕ) (t : Ty) (w : Value) (c1 : Contents) → sc.in_registers ≡ true → x ≡ 20 + n → n < 8 → slice_get (types_of sc.env.locals) n ≡ Some t → IsTrue (is_scalar t) → words_before (shapes z.p.unit) (types_of sc.env.locals) n ≡ n → c1.regs x ≡ word sc its w
-      → ((y : ℕ) → 20 ≤ y → y ≢ x → c1.regs y ≡ c.regs y) → VariablesHeld W E Outer Passes z objects c1.regs c1.memory a.function (record { function = g.function; variables = value.put g.variables (n ∷ []) w } ∷ fs)
+      → ((y : ℕ) → 20 ≤ y → y ≢ x → c1.regs y ≡ c.regs y) → VariablesHeld W E Outer z objects c1.regs c1.memory a.function (record { function = g.function; variables = value.put g.variables (n ∷ []) w } ∷ fs)
   stored_there n x t w c1 form at lt there scalar before here_is others_are = by_form sc.in_registers form r.variables
     where
-      by_form : (b : Bool) → b ≡ true → RegionHeld sc its (if b then c.regs else c.memory) (if b then 20 else (end_of W E Outer Passes z (g ∷ fs) - frame (shapes z.p.unit) a.function) + 3) (types_of sc.env.locals) g.variables
-          → RegionHeld sc its (if b then c1.regs else c1.memory) (if b then 20 else (end_of W E Outer Passes z (g ∷ fs) - frame (shapes z.p.unit) a.function) + 3) (types_of sc.env.locals) (value.put g.variables (n ∷ []) w)
+      by_form : (b : Bool) → b ≡ true → RegionHeld sc its (if b then c.regs else c.memory) (if b then 20 else (end_of W E Outer z (g ∷ fs) - frame (shapes z.p.unit) a.function) + 3) (types_of sc.env.locals) g.variables
+          → RegionHeld sc its (if b then c1.regs else c1.memory) (if b then 20 else (end_of W E Outer z (g ∷ fs) - frame (shapes z.p.unit) a.function) + 3) (types_of sc.env.locals) (value.put g.variables (n ∷ []) w)
       by_form false q h = absurd (cc)
       by_form true q h =
           let place : 20 + words_to_part (shapes z.p.unit) (types_of sc.env.locals) (n ∷ []) ≡ x = omega (arith, before, at) in
@@ -147,7 +147,7 @@ module _ (runs : RunLaws) (compose : RunsCompose) (W E : Type 0) (Outer : W → 
     pub few : n < 8
     pub before : words_before (shapes z.p.unit) (variable_types a.function) n ≡ n
 
-  pub its_place : (p : CExpr) (t : Ty) (x : ℕ) → (y : IsVariable (env_in (text W E Outer Passes z) a.function) sc p x t) → Place y.name.number x
+  pub its_place : (p : CExpr) (t : Ty) (x : ℕ) → (y : IsVariable (env_in (text W E Outer z) a.function) sc p x t) → Place y.name.number x
   its_place p t x y =
       let types : List Ty = variable_types a.function in
       let light = (and_parts (is_leaf a.function.body) (nat_le (length (variable_types a.function)) 8 && list_all is_scalar (variable_types a.function)) y.form).1 in
@@ -165,16 +165,16 @@ module _ (runs : RunLaws) (compose : RunsCompose) (W E : Type 0) (Outer : W → 
     pub memory : c1.memory ≡ c.memory
     pub special : c1.special ≡ c.special
 
-  pub stores_light : (p : CExpr) (t : Ty) (x : ℕ) (w : Value) (l n k1 : ℕ) (cost : Cost) (s : Machine) (c1 : Contents) → IsVariable (env_in (text W E Outer Passes z) a.function) sc p x t → IsTrue (is_scalar t) → Fits (shapes z.p.unit) (layout_of z.p.unit objects) t w → Moved x w c1
-      → Path runs compose W E Outer Passes z jumps l n 0 s (at_with k1 c1 d) → cost.own + 1 ≤ 2048 * l → n ≤ 30 * (cost.own + 1) → Block (text W E Outer Passes z) a.function k1 debt rest (λ to left. Ahead (text W E Outer Passes z) (a ∷ others) to left work)
-      → GoesOn W E Outer Passes z debt here s (store cost p w rest work here)
+  pub stores_light : (p : CExpr) (t : Ty) (x : ℕ) (w : Value) (l n k1 : ℕ) (cost : Cost) (s : Machine) (c1 : Contents) → IsVariable (env_in (text W E Outer z) a.function) sc p x t → IsTrue (is_scalar t) → Fits (shapes z.p.unit) (layout_of z.p.unit objects) t w → Moved x w c1
+      → Path runs compose W E Outer z jumps l n s (at_with k1 c1 d) → cost.own + 1 ≤ 2048 * l → n ≤ 30 * (cost.own + 1) → Block (text W E Outer z) a.function k1 debt rest (λ to left. Ahead (text W E Outer z) (a ∷ others) to left work)
+      → GoesOn W E Outer z debt here s (store cost p w rest work here)
   stores_light p t x w l n k1 cost s c1 y scalar fits moved path low high block =
       let place = its_place p t x y in
       let at = place.at in
       let few = place.few in
       let high_regs : (q : ℕ) → 28 ≤ q → c1.regs q ≡ c.regs q = λ q le. moved.above q (omega (arith, le)) (λ e. absurd (omega (arith, e, le, at, few))) in
-      let s1 = stands_soft runs compose W E Outer Passes z jumps objects here c c1 d moved.memory moved.special (high_regs 28 (omega arith)) (high_regs 30 (omega arith)) st in
-      let st2 : Stands W E Outer Passes z objects (with_state here (write here.state (record { region = locals; path = y.name.number ∷ [] }) w)) c1 d = record {
+      let s1 = stands_soft runs compose W E Outer z jumps objects here c c1 d moved.memory moved.special (high_regs 28 (omega arith)) (high_regs 30 (omega arith)) st in
+      let st2 : Stands W E Outer z objects (with_state here (write here.state (record { region = locals; path = y.name.number ∷ [] }) w)) c1 d = record {
         typed = typing.written objects (state_of gv hv hw (g ∷ fs)) g fs a.function (record { region = locals; path = y.name.number ∷ [] }) t w refl r.is st.typed (t, y.there, refl) fits;
         declared = st.declared;
         used = st.used;
@@ -192,35 +192,35 @@ module _ (runs : RunLaws) (compose : RunsCompose) (W E : Type 0) (Outer : W → 
         outer = s1.outer;
         idle = st.idle;
       } in
-      let under : UnderWay W E Outer Passes z objects c1 (a ∷ others) (write here.state (record { region = locals; path = y.name.number ∷ [] }) w).frames = (
+      let under : UnderWay W E Outer z objects c1 (a ∷ others) (write here.state (record { region = locals; path = y.name.number ∷ [] }) w).frames = (
         record {
           is = r.is;
-          return_at = ap₂ (λ m q. if calls_in a.function.body then m else q) (ap (λ m. m (end_of W E Outer Passes z fs)) moved.memory) (high_regs 31 (omega arith)) ∙ r.return_at;
+          return_at = ap₂ (λ m q. if calls_in a.function.body then m else q) (ap (λ m. m (end_of W E Outer z fs)) moved.memory) (high_regs 31 (omega arith)) ∙ r.return_at;
           frame_at = high_regs 29 (omega arith) ∙ r.frame_at;
           variables = stored_there y.name.number x t w c1 y.form at few y.there scalar place.before moved.is moved.above;
         },
-        subst (λ m. Waiting W E Outer Passes z objects m others fs) (sym moved.memory) waits,
+        subst (λ m. Waiting W E Outer z objects m others fs) (sym moved.memory) waits,
       ) in
-      let go = arrives runs compose W E Outer Passes z jumps l n 0 debt debt (plus cost (units 1)) here (with_state here (write here.state (record { region = locals; path = y.name.number ∷ [] }) w)) s k1 c1 d objects a others rest work path (omega (arith, low)) (omega (arith, high)) (omega arith) st2 under block in
-      subst (λ e. GoesOn W E Outer Passes z debt here s (store cost e w rest work here)) (sym y.is)
-      (subst (λ kd. GoesOn W E Outer Passes z debt here s (then_go cost here (paying 1 (at_no_cost (variable_location kd y.name.number))) (λ cost l. Go cost (push rest work) (with_state here (write here.state l w))))) (sym y.kind) go)
+      let go = arrives runs compose W E Outer z jumps l n debt debt (plus cost (units 1)) here (with_state here (write here.state (record { region = locals; path = y.name.number ∷ [] }) w)) s k1 c1 d objects a others rest work path (omega (arith, low)) (omega (arith, high)) (omega arith) st2 under block in
+      subst (λ e. GoesOn W E Outer z debt here s (store cost e w rest work here)) (sym y.is)
+      (subst (λ kd. GoesOn W E Outer z debt here s (then_go cost here (paying 1 (at_no_cost (variable_location kd y.name.number))) (λ cost l. Go cost (push rest work) (with_state here (write here.state l w))))) (sym y.kind) go)
 
-  pub assigns_light : (p v : CExpr) (t : Ty) (x : ℕ) → IsVariable (env_in (text W E Outer Passes z) a.function) sc p x t → IsNumberedLeft (env_in (text W E Outer Passes z) a.function) p t → IsNumberedGiven (env_in (text W E Outer Passes z) a.function) v t → assign_need p v ≤ MAX_NEED
-      → nodes p + nodes v + 1 ≤ 2000 → (made sc p).stands ≡ Some x → CodeAt z.w k (assign_code sc p v) → Block (text W E Outer Passes z) a.function (k + length (assign_code sc p v)) debt rest (λ to left. Ahead (text W E Outer Passes z) (a ∷ others) to left work)
-      → GoesOn W E Outer Passes z debt here (at_with k c d) (then_go (units 1) here (value_of v here.state) (λ cost w. store cost p w rest work here))
+  pub assigns_light : (p v : CExpr) (t : Ty) (x : ℕ) → IsVariable (env_in (text W E Outer z) a.function) sc p x t → IsNumberedLeft (env_in (text W E Outer z) a.function) p t → IsNumberedGiven (env_in (text W E Outer z) a.function) v t → assign_need p v ≤ MAX_NEED
+      → nodes p + nodes v + 1 ≤ 2000 → (made sc p).stands ≡ Some x → CodeAt z.w k (assign_code sc p v) → Block (text W E Outer z) a.function (k + length (assign_code sc p v)) debt rest (λ to left. Ahead (text W E Outer z) (a ∷ others) to left work)
+      → GoesOn W E Outer z debt here (at_with k c d) (then_go (units 1) here (value_of v here.state) (λ cost w. store cost p w rest work here))
   assigns_light p v t x y left given deep few stands code block =
       let at = (its_place p t x y).at in
-      let ex = its_exprs runs compose W E Outer Passes z jumps straight held typing exprs objects gv hv hw g fs world calls answer c d a others st r waits in
-      let rd = its_ready runs compose W E Outer Passes z jumps straight held typing exprs objects gv hv hw g fs world calls answer c d a others st r waits in
+      let ex = its_exprs runs compose W E Outer z jumps straight held typing exprs objects gv hv hw g fs world calls answer c d a others st r waits in
+      let rd = its_ready runs compose W E Outer z jumps straight held typing exprs objects gv hv hw g fs world calls answer c d a others st r waits in
       let same : assign_code sc p v ≡ value_code sc v x 8 = ap (λ o. assigned_code o (made sc p) (made sc v)) stands in
       let some = (fit a.function).value_some v x 8 in
       let run = ex.value v t given left.scalar (omega (arith, few)) x 8 k c d st.idle rd (subst (CodeAt z.w k) same code) (omega arith) (omega (arith, deep)) (λ q. absurd (omega (arith, q, at))) (λ q. absurd (omega (arith, q, at))) in
       let k1 : ℕ = k + length (value_code sc v x 8) in
       let len : k + length (assign_code sc p v) ≡ k1 = ap (λ is. k + length is) same in
-      then_splits runs compose W E Outer Passes z jumps 0 0 0 0 debt 1 (nodes v) (units 1) here here (at_with k c d) a.function k (λ w. k1) c d objects (Gives sc its x 8 x t c) (value_of v here.state) (λ cost w. store cost p w rest work here)
-      (λ w q. absurd (omega (arith, q, some))) (none runs z.w Passes (at_with k c d)) (omega arith) (omega arith) st (value_within v here.state) (comes_splits z.w sc 0 k k1 c d (Gives sc its x 8 x t c) (value_of v here.state) run)
+      then_splits runs compose W E Outer z jumps 0 0 0 debt 1 (nodes v) (units 1) here here (at_with k c d) a.function k (λ w. k1) c d objects (Gives sc its x 8 x t c) (value_of v here.state) (λ cost w. store cost p w rest work here)
+      (λ w q. absurd (omega (arith, q, some))) (none runs z.w (at_with k c d)) (omega arith) (omega arith) st (value_within v here.state) (comes_splits z.w sc 0 k k1 c d (Gives sc its x 8 x t c) (value_of v here.state) run)
       (λ u w c1 least most gives path.
       let keeps = gives.keeps in
       stores_light p t x w (0 + 1) (0 + (0 + 16 * u)) k1 (plus (units 1) (units u)) (at_with k c d) c1 y left.scalar gives.fits
       (record { is = sym (read_is c1.regs x (λ q. absurd (omega (arith, q, at)))) ∙ gives.is; above = λ q le ne. keeps.above q ne le; memory = keeps.memory; special = keeps.special })
-      path (omega (arith, most, few)) (omega arith) (subst (λ q. Block (text W E Outer Passes z) a.function q debt rest (λ to left. Ahead (text W E Outer Passes z) (a ∷ others) to left work)) len block))
+      path (omega (arith, most, few)) (omega arith) (subst (λ q. Block (text W E Outer z) a.function q debt rest (λ to left. Ahead (text W E Outer z) (a ∷ others) to left work)) len block))

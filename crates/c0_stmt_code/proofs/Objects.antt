@@ -41,14 +41,14 @@ use Rattle.c0_stmt_code.proofs.CallActs.{stands_soft, calls_to}
 use Rattle.c0_stmt_code.proofs.Grows.{last_there, last_behind, parts_count, under_kept, under_more, stands_more}
 use Rattle.c0_stmt_code.proofs.Sim.{GoesOn}
 
-module _ (runs : RunLaws) (compose : RunsCompose) (W E : Type 0) (Outer : W → Contents → Behind → Type 0) (Passes : Machine → Machine → Type 0) (z : Setup W E Outer Passes) (jumps : JumpsLead z.w) (straight : StraightRuns z.w)
-    (held : HeldStays (shapes z.p.unit)) (typing : TypedStays z.p.unit) (exprs : Exprs W E Outer Passes z) (new_runs : NewRuns z.w) (some_words : (t : CTy) → IsDeclarable (shapes z.p.unit) t → 1 ≤ words (shapes z.p.unit) (ty_of t))
+module _ (runs : RunLaws) (compose : RunsCompose) (W E : Type 0) (Outer : W → Contents → Behind → Type 0) (z : Setup W E Outer) (jumps : JumpsLead z.w) (straight : StraightRuns z.w)
+    (held : HeldStays (shapes z.p.unit)) (typing : TypedStays z.p.unit) (exprs : Exprs W E Outer z) (new_runs : NewRuns z.w) (some_words : (t : CTy) → IsDeclarable (shapes z.p.unit) t → 1 ≤ words (shapes z.p.unit) (ty_of t))
     (opened : (x : List ℕ) → words (shapes z.p.unit) (named x) ≡ words_of_all (shapes z.p.unit) (types_of (fields_named (shapes z.p.unit) x)))
     (objects : List Ty) (gv hv : Value) (hw : ℕ) (g : Frame) (fs : List Frame) (world : W) (calls : List (List E)) (answer : Option Value) (c : Contents) (d : Behind) (a : Activation) (others : List Activation)
-    (st : Stands W E Outer Passes z objects (standing_at gv hv hw (g ∷ fs) world calls answer) c d) (r : Runs W E Outer Passes z objects c a g fs) (waits : Waiting W E Outer Passes z objects c.memory others fs)
+    (st : Stands W E Outer z objects (standing_at gv hv hw (g ∷ fs) world calls answer) c d) (r : Runs W E Outer z objects c a g fs) (waits : Waiting W E Outer z objects c.memory others fs)
     (its_calls : calls_in a.function.body ≡ true) (k debt : ℕ) (t : CTy) (declarable : IsDeclarable (shapes z.p.unit) t) where
   abbrev sc : Scope
-  sc = scope W E Outer Passes z a.function
+  sc = scope W E Outer z a.function
 
   abbrev here : Configuration W E
   here = standing_at gv hv hw (g ∷ fs) world calls answer
@@ -73,17 +73,17 @@ module _ (runs : RunLaws) (compose : RunsCompose) (W E : Type 0) (Outer : W → 
     special : c2.special ≡ c.special
     regs : (x : ℕ) → 20 ≤ x → x < 31 → c2.regs x ≡ c.regs x
 
-  asks : (s : Span) (p : CExpr) → CodeAt z.w k (new_code sc (text W E Outer Passes z).links size p) → (c2 : Contents) × Asks c2 × Reaches z.w 17 (at_with k c d) (at_with (text W E Outer Passes z).links.new_object c2 d)
+  asks : (s : Span) (p : CExpr) → CodeAt z.w k (new_code sc (text W E Outer z).links size p) → (c2 : Contents) × Asks c2 × Reaches z.w 17 (at_with k c d) (at_with (text W E Outer z).links.new_object c2 d)
   asks s p code =
       let small = declarable.small in
-      let ex = its_exprs runs compose W E Outer Passes z jumps straight held typing exprs objects gv hv hw g fs world calls answer c d a others st r waits in
-      let rd = its_ready runs compose W E Outer Passes z jumps straight held typing exprs objects gv hv hw g fs world calls answer c d a others st r waits in
-      let run = ex.value (num s (size % 2 ^ 32)) ty.int (a_value (a_number (omega (arith, small)))) refl (omega arith) 2 8 k c d st.idle rd (front z.w k first_part (Jal (text W E Outer Passes z).links.new_object ∷ answer_code sc p) code) (omega arith) (omega arith) (λ q. absurd (omega (arith, q))) (λ q. absurd (omega (arith, q))) in
+      let ex = its_exprs runs compose W E Outer z jumps straight held typing exprs objects gv hv hw g fs world calls answer c d a others st r waits in
+      let rd = its_ready runs compose W E Outer z jumps straight held typing exprs objects gv hv hw g fs world calls answer c d a others st r waits in
+      let run = ex.value (num s (size % 2 ^ 32)) ty.int (a_value (a_number (omega (arith, small)))) refl (omega arith) 2 8 k c d st.idle rd (front z.w k first_part (Jal (text W E Outer z).links.new_object ∷ answer_code sc p) code) (omega arith) (omega arith) (λ q. absurd (omega (arith, q))) (λ q. absurd (omega (arith, q))) in
       let c1 : Contents = run.0 in
       let gives = run.1 in
       let keeps = gives.keeps in
-      let jal_at = back z.w k first_part (Jal (text W E Outer Passes z).links.new_object ∷ answer_code sc p) code in
-      let jump_there = calls_to runs compose W E Outer Passes z jumps from (text W E Outer Passes z).links.new_object run.0 d st.idle jal_at.0 in
+      let jal_at = back z.w k first_part (Jal (text W E Outer z).links.new_object ∷ answer_code sc p) code in
+      let jump_there = calls_to runs compose W E Outer z jumps from (text W E Outer z).links.new_object run.0 d st.idle jal_at.0 in
       let value : run.0.regs 2 ≡ size = sym (read_is run.0.regs 2 (λ q. absurd (omega (arith, q)))) ∙ gives.is ∙ omega (arith, ints, small) in (
         with_reg run.0 31 (4 * (from + 1)),
         record {
@@ -121,25 +121,25 @@ module _ (runs : RunLaws) (compose : RunsCompose) (W E : Type 0) (Outer : W → 
   is_asked c2 asks = let small = declarable.small in record { asked = asks.asked; least = some_words t declarable; most = omega (arith, small) }
 
   -- there is no room
-  refuses : (s : Span) (p : CExpr) (rest : CStmts) (work : List Work) → z.p.heap < hw + size → CodeAt z.w k (new_code sc (text W E Outer Passes z).links size p)
-      → Awaits (text W E Outer Passes z) (a ∷ others) (from + 1) debt (ty.pointer (ty_of t)) (into p rest) work (λ acts to left. Ahead (text W E Outer Passes z) acts to left work) → GoesOn W E Outer Passes z debt here (at_with k c d) (Go (units 1) (finish p null rest ∷ work) here)
+  refuses : (s : Span) (p : CExpr) (rest : CStmts) (work : List Work) → z.p.heap < hw + size → CodeAt z.w k (new_code sc (text W E Outer z).links size p)
+      → Awaits (text W E Outer z) (a ∷ others) (from + 1) debt (ty.pointer (ty_of t)) (into p rest) work (λ acts to left. Ahead (text W E Outer z) acts to left work) → GoesOn W E Outer z debt here (at_with k c d) (Go (units 1) (finish p null rest ∷ work) here)
   refuses s p rest work over code ahead =
       let one = asks s p code in
-      let two = new_runs.refuses (text W E Outer Passes z).links.new_object (from + 1) hw z.p.heap z.a.heap size one.0 d z.new_object (called one.0 one.1) (heap_is one.0 one.1) (is_asked one.0 one.1) over in
+      let two = new_runs.refuses (text W E Outer z).links.new_object (from + 1) hw z.p.heap z.a.heap size one.0 d z.new_object (called one.0 one.1) (heap_is one.0 one.1) (is_asked one.0 one.1) over in
       let keeps = two.1.keeps in
-      let way = away runs z.w Passes (17 + 7) (at_with k c d) (at_with (from + 1) two.0 d) (λ q. absurd (omega (arith, q))) (compose.joined z.w 17 7 _ _ _ one.2 two.2) in
+      let way = away runs z.w (17 + 7) (at_with k c d) (at_with (from + 1) two.0 d) (λ q. absurd (omega (arith, q))) (compose.joined z.w 17 7 _ _ _ one.2 two.2) in
       let le = way.high in
       let ge = way.low in
       let memory = two.1.words ∙ one.1.memory in
       let regs : (x : ℕ) → 20 ≤ x → x < 31 → two.0.regs x ≡ c.regs x = λ x l h. keeps.regs x (omega (arith, l)) ∙ one.1.regs x l h in (
         at_with (from + 1) two.0 d,
         debt,
-        record { own = way.own; passes = 0; high = omega (arith, le); low = omega (arith, ge); ended_so = omega arith; run = way.run },
+        record { own = way.own; high = omega (arith, le); low = omega (arith, ge); ended_so = omega arith; run = way.run },
         record {
           objects = objects;
-          stands = stands_soft runs compose W E Outer Passes z jumps objects here c two.0 d memory (keeps.special ∙ one.1.special) (regs 28 (omega arith) (omega arith)) (regs 30 (omega arith) (omega arith)) st;
+          stands = stands_soft runs compose W E Outer z jumps objects here c two.0 d memory (keeps.special ∙ one.1.special) (regs 28 (omega arith) (omega arith)) (regs 30 (omega arith) (omega arith)) st;
           activations = a ∷ others;
-          under_way = under_kept W E Outer Passes z held typing opened objects c two.0 a others g fs its_calls regs (λ x l. ap (λ m. m x) memory) r waits;
+          under_way = under_kept W E Outer z held typing opened objects c two.0 a others g fs its_calls regs (λ x l. ap (λ m. m x) memory) r waits;
           t = ty.pointer (ty_of t);
           fits = tt;
           answer = two.1.answer;
@@ -164,37 +164,37 @@ module _ (runs : RunLaws) (compose : RunsCompose) (W E : Type 0) (Outer : W → 
   leads_there : Fits (shapes z.p.unit) (layout_of z.p.unit more) (ty.pointer (ty_of t)) new_one
   leads_there = (ty_of t, ap (slice_get more) number_is ∙ last_there (shapes z.p.unit) objects (ty_of t), refl)
 
-  word_is : word_of_value W E Outer Passes z more new_one ≡ 4 * (z.a.heap + hw)
+  word_is : word_of_value W E Outer z more new_one ≡ 4 * (z.a.heap + hw)
   word_is =
       let before = ap (λ n. words_before (shapes z.p.unit) more n) number_is ∙ last_behind (shapes z.p.unit) objects (ty_of t) ∙ st.used in
       omega (arith, before)
 
-  makes : (s : Span) (p : CExpr) (rest : CStmts) (work : List Work) → hw + size ≤ z.p.heap → CodeAt z.w k (new_code sc (text W E Outer Passes z).links size p)
-      → Awaits (text W E Outer Passes z) (a ∷ others) (from + 1) debt (ty.pointer (ty_of t)) (into p rest) work (λ acts to left. Ahead (text W E Outer Passes z) acts to left work) → GoesOn W E Outer Passes z debt here (at_with k c d) (Go (units (1 + size)) (finish p new_one rest ∷ work) made_here)
+  makes : (s : Span) (p : CExpr) (rest : CStmts) (work : List Work) → hw + size ≤ z.p.heap → CodeAt z.w k (new_code sc (text W E Outer z).links size p)
+      → Awaits (text W E Outer z) (a ∷ others) (from + 1) debt (ty.pointer (ty_of t)) (into p rest) work (λ acts to left. Ahead (text W E Outer z) acts to left work) → GoesOn W E Outer z debt here (at_with k c d) (Go (units (1 + size)) (finish p new_one rest ∷ work) made_here)
   makes s p rest work room code ahead =
       let one = asks s p code in
-      let two = new_runs.makes (text W E Outer Passes z).links.new_object (from + 1) hw z.p.heap z.a.heap size one.0 d z.new_object (called one.0 one.1) (heap_is one.0 one.1) (is_asked one.0 one.1) room in
+      let two = new_runs.makes (text W E Outer z).links.new_object (from + 1) hw z.p.heap z.a.heap size one.0 d z.new_object (called one.0 one.1) (heap_is one.0 one.1) (is_asked one.0 one.1) room in
       let keeps = two.1.keeps in
       let hf = z.heap_fits in
       let gf = z.globals_fit in
       let lo = z.low in
       let some = some_words t declarable in
-      let routine : Way runs z.w Passes (3 * size) (13 + 3 * size) 0 (at_with (text W E Outer Passes z).links.new_object one.0 d) (at_with (from + 1) two.0 d) = record { own = two.2.steps; low = two.3; high = two.2.within; run = two.2.run } in
-      let way = on runs z.w Passes 0 17 0 (3 * size) (13 + 3 * size) 0 (at_with k c d) (at_with (text W E Outer Passes z).links.new_object one.0 d) (at_with (from + 1) two.0 d) (of runs z.w Passes 17 _ _ one.2) routine in
+      let routine : Way runs z.w (3 * size) (13 + 3 * size) (at_with (text W E Outer z).links.new_object one.0 d) (at_with (from + 1) two.0 d) = record { own = two.2.steps; low = two.3; high = two.2.within; run = two.2.run } in
+      let way = on runs z.w 0 17 (3 * size) (13 + 3 * size) (at_with k c d) (at_with (text W E Outer z).links.new_object one.0 d) (at_with (from + 1) two.0 d) (of runs z.w 17 _ _ one.2) routine in
       let le = way.high in
       let ge = way.low in
       let regs : (x : ℕ) → 20 ≤ x → x < 31 → two.0.regs x ≡ c.regs x = λ x l h. keeps.regs x (omega (arith, l)) ∙ one.1.regs x l h in
       let words_same : (x : ℕ) → x ≢ 1026 → (x < z.a.heap + hw) ⊎ (z.a.heap + hw + size ≤ x) → two.0.memory x ≡ c.memory x = λ x ne side. two.1.others x ne side ∙ ap (λ m. m x) one.1.memory in
-      let st2 = stands_more W E Outer Passes z held typing opened objects t declarable gv hv hw (g ∷ fs) world calls answer c two.0 d st room two.1.zeros two.1.used_word words_same (keeps.special ∙ one.1.special) (regs 28 (omega arith) (omega arith)) (regs 30 (omega arith) (omega arith)) in
-      let under = under_kept W E Outer Passes z held typing opened objects c two.0 a others g fs its_calls regs (λ x l. words_same x (λ q. absurd (omega (arith, q, l, hf, gf, lo))) (inr (omega (arith, l, room, hf)))) r waits in (
+      let st2 = stands_more W E Outer z held typing opened objects t declarable gv hv hw (g ∷ fs) world calls answer c two.0 d st room two.1.zeros two.1.used_word words_same (keeps.special ∙ one.1.special) (regs 28 (omega arith) (omega arith)) (regs 30 (omega arith) (omega arith)) in
+      let under = under_kept W E Outer z held typing opened objects c two.0 a others g fs its_calls regs (λ x l. words_same x (λ q. absurd (omega (arith, q, l, hf, gf, lo))) (inr (omega (arith, l, room, hf)))) r waits in (
         at_with (from + 1) two.0 d,
         debt,
-        record { own = way.own; passes = 0; high = omega (arith, le); low = omega (arith, ge, some); ended_so = omega arith; run = way.run },
+        record { own = way.own; high = omega (arith, le); low = omega (arith, ge, some); ended_so = omega arith; run = way.run },
         record {
           objects = more;
           stands = st2;
           activations = a ∷ others;
-          under_way = under_more W E Outer Passes z held typing opened objects t declarable two.0 a others g fs st.typed.frames under;
+          under_way = under_more W E Outer z held typing opened objects t declarable two.0 a others g fs st.typed.frames under;
           t = ty.pointer (ty_of t);
           fits = leads_there;
           answer = two.1.answer ∙ sym word_is;
@@ -203,11 +203,11 @@ module _ (runs : RunLaws) (compose : RunsCompose) (W E : Type 0) (Outer : W → 
       )
 
   -- the statement
-  pub makes_object : (s : Span) (p : CExpr) (rest : CStmts) (work : List Work) → IsNumberedLeft (env_in (text W E Outer Passes z) a.function) p (ty.pointer (ty_of t)) → new_need p ≤ MAX_NEED → nodes p ≤ 2000 → CodeAt z.w k (new_code sc (text W E Outer Passes z).links size p)
-      → Block (text W E Outer Passes z) a.function (k + length (new_code sc (text W E Outer Passes z).links size p)) debt rest (λ to left. Ahead (text W E Outer Passes z) (a ∷ others) to left work) → GoesOn W E Outer Passes z debt here (at_with k c d) (allocate z.p (ty_of t) (into p rest) work here)
+  pub makes_object : (s : Span) (p : CExpr) (rest : CStmts) (work : List Work) → IsNumberedLeft (env_in (text W E Outer z) a.function) p (ty.pointer (ty_of t)) → new_need p ≤ MAX_NEED → nodes p ≤ 2000 → CodeAt z.w k (new_code sc (text W E Outer z).links size p)
+      → Block (text W E Outer z) a.function (k + length (new_code sc (text W E Outer z).links size p)) debt rest (λ to left. Ahead (text W E Outer z) (a ∷ others) to left work) → GoesOn W E Outer z debt here (at_with k c d) (allocate z.p (ty_of t) (into p rest) work here)
   makes_object s p rest work left shallow few code block = elim (cases_Bool (nat_lt z.p.heap (hw + size))) [
-    | inl over ↦ subst (λ q. GoesOn W E Outer Passes z debt here (at_with k c d) q) (sym (cond-true (nat_lt z.p.heap (hw + size)) refused granted over)) (refuses s p rest work (ltb-true z.p.heap (hw + size) over) code ahead)
-    | inr fine ↦ subst (λ q. GoesOn W E Outer Passes z debt here (at_with k c d) q) (sym (cond-false (nat_lt z.p.heap (hw + size)) refused granted fine)) (makes s p rest work (ltb-false z.p.heap (hw + size) fine) code ahead)
+    | inl over ↦ subst (λ q. GoesOn W E Outer z debt here (at_with k c d) q) (sym (cond-true (nat_lt z.p.heap (hw + size)) refused granted over)) (refuses s p rest work (ltb-true z.p.heap (hw + size) over) code ahead)
+    | inr fine ↦ subst (λ q. GoesOn W E Outer z debt here (at_with k c d) q) (sym (cond-false (nat_lt z.p.heap (hw + size)) refused granted fine)) (makes s p rest work (ltb-false z.p.heap (hw + size) fine) code ahead)
   ]
     where
       refused : Step W E
@@ -216,12 +216,12 @@ module _ (runs : RunLaws) (compose : RunsCompose) (W E : Type 0) (Outer : W → 
       granted : Step W E
       granted = Go (units (1 + size)) (finish p new_one rest ∷ work) made_here
 
-      len : k + length (new_code sc (text W E Outer Passes z).links size p) ≡ from + 1 + length (answer_code sc p)
-      len = omega (arith, length-append first_part (Jal (text W E Outer Passes z).links.new_object ∷ answer_code sc p))
+      len : k + length (new_code sc (text W E Outer z).links size p) ≡ from + 1 + length (answer_code sc p)
+      len = omega (arith, length-append first_part (Jal (text W E Outer z).links.new_object ∷ answer_code sc p))
 
-      ahead : Awaits (text W E Outer Passes z) (a ∷ others) (from + 1) debt (ty.pointer (ty_of t)) (into p rest) work (λ acts to left. Ahead (text W E Outer Passes z) acts to left work)
+      ahead : Awaits (text W E Outer z) (a ∷ others) (from + 1) debt (ty.pointer (ty_of t)) (into p rest) work (λ acts to left. Ahead (text W E Outer z) acts to left work)
       ahead = (
         record { left = left; shallow = shallow; few = few },
-        (back z.w k first_part (Jal (text W E Outer Passes z).links.new_object ∷ answer_code sc p) code).1,
-        subst (λ m. Block (text W E Outer Passes z) a.function m debt rest (λ to left. Ahead (text W E Outer Passes z) (a ∷ others) to left work)) len block,
+        (back z.w k first_part (Jal (text W E Outer z).links.new_object ∷ answer_code sc p) code).1,
+        subst (λ m. Block (text W E Outer z) a.function m debt rest (λ to left. Ahead (text W E Outer z) (a ∷ others) to left work)) len block,
       )

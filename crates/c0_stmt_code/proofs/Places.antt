@@ -38,57 +38,57 @@ source_not_one r _ le (far h) = λ e. absurd (omega (arith, e, h))
 pub keeps_low : (r : ℕ) (a b : Contents) → r < 20 → Keeps r r a b → Keeps 0 0 a b
 keeps_low r a b lt h = record { memory = h.memory; special = h.special; below = λ x n m l. absurd (omega (arith, l)); above = λ x n l. h.above x (λ e. absurd (omega (arith, e, l, lt))) l }
 
-pub leads_for : {W E : Type 0} {Outer : W → Contents → Behind → Type 0} {Passes : Machine → Machine → Type 0} (z : Setup W E Outer Passes) (objects : List Ty) (frames : List Frame) (f : CFunction) (region : Region) (path : List ℕ) (t : Ty)
-    → LeadsFrom (shapes z.p.unit) (types_in (scope W E Outer Passes z f) (bases W E Outer Passes z objects frames) region) path t → LeadsFrom (shapes z.p.unit) (types_for z.p.unit objects f region) path t
+pub leads_for : {W E : Type 0} {Outer : W → Contents → Behind → Type 0} (z : Setup W E Outer) (objects : List Ty) (frames : List Frame) (f : CFunction) (region : Region) (path : List ℕ) (t : Ty)
+    → LeadsFrom (shapes z.p.unit) (types_in (scope W E Outer z f) (bases W E Outer z objects frames) region) path t → LeadsFrom (shapes z.p.unit) (types_for z.p.unit objects f region) path t
 leads_for z objects frames f globals path t h = h
 leads_for z objects frames f heap path t h = h
 leads_for z objects frames f locals path t h = h
 
-module _ (runs : RunLaws) (compose : RunsCompose) (W E : Type 0) (Outer : W → Contents → Behind → Type 0) (Passes : Machine → Machine → Type 0) (z : Setup W E Outer Passes) (jumps : JumpsLead z.w) (straight : StraightRuns z.w)
-    (held : HeldStays (shapes z.p.unit)) (typing : TypedStays z.p.unit) (exprs : Exprs W E Outer Passes z)
+module _ (runs : RunLaws) (compose : RunsCompose) (W E : Type 0) (Outer : W → Contents → Behind → Type 0) (z : Setup W E Outer) (jumps : JumpsLead z.w) (straight : StraightRuns z.w)
+    (held : HeldStays (shapes z.p.unit)) (typing : TypedStays z.p.unit) (exprs : Exprs W E Outer z)
     (objects : List Ty) (gv hv : Value) (hw : ℕ) (g : Frame) (fs : List Frame) (world : W) (calls : List (List E)) (answer : Option Value) (c : Contents) (d : Behind) (a : Activation) (others : List Activation)
-    (st : Stands W E Outer Passes z objects (standing_at gv hv hw (g ∷ fs) world calls answer) c d) (r : Runs W E Outer Passes z objects c a g fs) (waits : Waiting W E Outer Passes z objects c.memory others fs) where
+    (st : Stands W E Outer z objects (standing_at gv hv hw (g ∷ fs) world calls answer) c d) (r : Runs W E Outer z objects c a g fs) (waits : Waiting W E Outer z objects c.memory others fs) where
   abbrev sc : Scope
-  sc = scope W E Outer Passes z a.function
+  sc = scope W E Outer z a.function
 
   abbrev here : Configuration W E
   here = standing_at gv hv hw (g ∷ fs) world calls answer
 
   -- the expressions of the function that runs
-  pub its_exprs : ExpressionsDo z.w (env_in (text W E Outer Passes z) a.function) sc (bases W E Outer Passes z objects (g ∷ fs)) (state_of gv hv hw (g ∷ fs))
+  pub its_exprs : ExpressionsDo z.w (env_in (text W E Outer z) a.function) sc (bases W E Outer z objects (g ∷ fs)) (state_of gv hv hw (g ∷ fs))
   its_exprs = let u = st.used in let o = st.room in exprs objects (state_of gv hv hw (g ∷ fs)) g fs a.function refl r.is st.typed st.declared (omega (arith, u, o)) st.stack_room
 
-  pub its_ready : Ready sc (bases W E Outer Passes z objects (g ∷ fs)) (state_of gv hv hw (g ∷ fs)) c
-  its_ready = ready W E Outer Passes z objects gv hv hw g fs world calls answer c d a st r
+  pub its_ready : Ready sc (bases W E Outer z objects (g ∷ fs)) (state_of gv hv hw (g ∷ fs)) c
+  its_ready = ready W E Outer z objects gv hv hw g fs world calls answer c d a st r
 
   -- the store: the place is found with free registers from `free` on, and the value waits in register q
-  pub store_in : (n j debt debt' free q k : ℕ) (cost : Cost) (h0 : Configuration W E) (s : Machine) (p : CExpr) (t : Ty) (v : Value) (rest : CStmts) (work : List Work)
-      → Path runs compose W E Outer Passes z jumps 0 n j s (at_with k c d) → n + 3 + debt' ≤ 30 * cost.own + 14 + debt → n ≤ 30 * cost.own + debt → cost.own + nodes p ≤ 2048 → nodes p ≤ 2000 → length calls ≡ ended h0 + j → 8 ≤ free → free + need p ≤ 20 → free < 20
-      → q ≢ 1 → q ≢ free → ((b : Contents) → Keeps free free c b → reg b.regs q ≡ reg c.regs q) → reg c.regs q ≡ word sc (bases W E Outer Passes z objects (g ∷ fs)) v
-      → Fits (shapes z.p.unit) (layout_of z.p.unit objects) t v → IsNumberedLeft (env_in (text W E Outer Passes z) a.function) p t → (made sc p).stands ≡ None
+  pub store_in : (n debt debt' free q k : ℕ) (cost : Cost) (h0 : Configuration W E) (s : Machine) (p : CExpr) (t : Ty) (v : Value) (rest : CStmts) (work : List Work)
+      → Path runs compose W E Outer z jumps 0 n s (at_with k c d) → n + 3 + debt' ≤ 30 * cost.own + 14 + debt → n ≤ 30 * cost.own + debt → cost.own + nodes p ≤ 2048 → nodes p ≤ 2000 → length calls ≡ ended h0 → 8 ≤ free → free + need p ≤ 20 → free < 20
+      → q ≢ 1 → q ≢ free → ((b : Contents) → Keeps free free c b → reg b.regs q ≡ reg c.regs q) → reg c.regs q ≡ word sc (bases W E Outer z objects (g ∷ fs)) v
+      → Fits (shapes z.p.unit) (layout_of z.p.unit objects) t v → IsNumberedLeft (env_in (text W E Outer z) a.function) p t → (made sc p).stands ≡ None
       → CodeAt z.w k (on_spot (λ y x. Sw q y x) free ((made sc p).place free))
-      → Block (text W E Outer Passes z) a.function (k + length (on_spot (λ y x. Sw q y x) free ((made sc p).place free))) debt' rest (λ to left. Ahead (text W E Outer Passes z) (a ∷ others) to left work)
-      → GoesOn W E Outer Passes z debt h0 s (store cost p v rest work here)
-  store_in n j debt debt' free q k cost h0 s p t v rest work path high early low few en lo need_fits hi qz qr kept holds fits left stands code block =
+      → Block (text W E Outer z) a.function (k + length (on_spot (λ y x. Sw q y x) free ((made sc p).place free))) debt' rest (λ to left. Ahead (text W E Outer z) (a ∷ others) to left work)
+      → GoesOn W E Outer z debt h0 s (store cost p v rest work here)
+  store_in n debt debt' free q k cost h0 s p t v rest work path high early low few en lo need_fits hi qz qr kept holds fits left stands code block =
       let x : Spot = (made sc p).place free in
-      let b : Bases = bases W E Outer Passes z objects (g ∷ fs) in
+      let b : Bases = bases W E Outer z objects (g ∷ fs) in
       let runs_p = its_exprs.place p t left few stands free k c d st.idle its_ready (spot_front z.w k (λ y x. Sw q y x) free x code) lo need_fits in
-      then_comes runs compose W E Outer Passes z jumps 0 n j 0 debt 1 (nodes p) cost here h0 s a.function k (k + length x.code) c d objects (Leads sc (bases W E Outer Passes z objects (g ∷ fs)) x.base x.shift free (is_frame_place p) t c) (place_of p here.state) _ path
+      then_comes runs compose W E Outer z jumps 0 n 0 debt 1 (nodes p) cost here h0 s a.function k (k + length x.code) c d objects (Leads sc (bases W E Outer z objects (g ∷ fs)) x.base x.shift free (is_frame_place p) t c) (place_of p here.state) _ path
       (omega (arith, early)) en st (place_within p here.state) runs_p.1
       (λ u l c1 least most found path1.
       let leads = leads_for z objects (g ∷ fs) a.function l.region l.path t found.leads in
-      let room = spot W E Outer Passes z held typing objects gv hv hw g fs world calls answer c d a others st r waits l.region l.path t leads left.scalar found.standing in
-      let at = word_at sc (bases W E Outer Passes z objects (g ∷ fs)) l in
-      let its = word sc (bases W E Outer Passes z objects (g ∷ fs)) v in
+      let room = spot W E Outer z held typing objects gv hv hw g fs world calls answer c d a others st r waits l.region l.path t leads left.scalar found.standing in
+      let at = word_at sc (bases W E Outer z objects (g ∷ fs)) l in
+      let its = word sc (bases W E Outer z objects (g ∷ fs)) v in
       let from = room.from in
       let to = room.to in
       let stack = z.stack_fits in
       let wrote = writes compose z.w straight q x free k at its c1 d st.idle (λ e. absurd (omega (arith, e, lo))) (source_not_one free x.base lo runs_p.0) qz qr code found.is (omega (arith, to, stack)) (z.ours at (inl (from, to))) (kept c1 found.keeps ∙ holds) in
       let longer = spot_longer (λ y x. Sw q y x) free x in
-      let go = away runs z.w Passes 3 (at_with (k + length x.code) c1 d) (at_with (k + length (on_spot (λ y x. Sw q y x) free x)) wrote.0 d) (λ e. absurd (omega (arith, e, longer))) (compose.later z.w (place_steps x) 3 _ _ (few_steps x) wrote.2) in
-      let way = on runs z.w Passes 0 (n + (0 + 16 * u)) j 1 3 0 s _ _ path1 go in
-      let done = stored W E Outer Passes z held typing objects gv hv hw g fs world calls answer c d a others st r waits wrote.0 t v (wrote.1.special ∙ found.keeps.special)
+      let go = away runs z.w 3 (at_with (k + length x.code) c1 d) (at_with (k + length (on_spot (λ y x. Sw q y x) free x)) wrote.0 d) (λ e. absurd (omega (arith, e, longer))) (compose.later z.w (place_steps x) 3 _ _ (few_steps x) wrote.2) in
+      let way = on runs z.w 0 (n + (0 + 16 * u)) 1 3 s _ _ path1 go in
+      let done = stored W E Outer z held typing objects gv hv hw g fs world calls answer c d a others st r waits wrote.0 t v (wrote.1.special ∙ found.keeps.special)
       (λ y ge. wrote.1.others y (λ e. absurd (omega (arith, e, ge))) (λ e. absurd (omega (arith, e, ge, hi))) ∙ found.keeps.above y (λ e. absurd (omega (arith, e, ge, hi))) ge) left.scalar fits l.region l.path leads found.standing
       (wrote.1.memory ∙ ap (λ m. put_word m at its) found.keeps.memory) in
-      arrives runs compose W E Outer Passes z jumps (0 + 1) (n + (0 + 16 * u) + 3) (j + 0) debt debt' (plus cost (units u)) h0 (with_state here (write here.state l v)) s (k + length (on_spot (λ y x. Sw q y x) free x)) wrote.0 d objects a others rest work way
+      arrives runs compose W E Outer z jumps (0 + 1) (n + (0 + 16 * u) + 3) debt debt' (plus cost (units u)) h0 (with_state here (write here.state l v)) s (k + length (on_spot (λ y x. Sw q y x) free x)) wrote.0 d objects a others rest work way
       (omega (arith, low, most)) (omega (arith, high, least)) (omega (arith, en)) done.0 done.1 block)

@@ -86,20 +86,20 @@ first_of : (w : World) (k : ℕ) (is : List Inst) → 1 ≤ length is → CodeAt
 first_of w k [] le h = absurd (omega (arith, le))
 first_of w k (i ∷ is) le h = (i, h.0)
 
-module _ (runs : RunLaws) (compose : RunsCompose) (W E : Type 0) (Outer : W → Contents → Behind → Type 0) (Passes : Machine → Machine → Type 0) (z : Setup W E Outer Passes) (jumps : JumpsLead z.w) (straight : StraightRuns z.w)
-    (held : HeldStays (shapes z.p.unit)) (typing : TypedStays z.p.unit) (exprs : Exprs W E Outer Passes z)
+module _ (runs : RunLaws) (compose : RunsCompose) (W E : Type 0) (Outer : W → Contents → Behind → Type 0) (z : Setup W E Outer) (jumps : JumpsLead z.w) (straight : StraightRuns z.w)
+    (held : HeldStays (shapes z.p.unit)) (typing : TypedStays z.p.unit) (exprs : Exprs W E Outer z)
     (objects : List Ty) (gv hv : Value) (hw : ℕ) (g : Frame) (fs : List Frame) (world : W) (calls : List (List E)) (answer : Option Value) (c : Contents) (d : Behind) (a : Activation) (others : List Activation)
-    (st : Stands W E Outer Passes z objects (standing_at gv hv hw (g ∷ fs) world calls answer) c d) (r : Runs W E Outer Passes z objects c a g fs) (waits : Waiting W E Outer Passes z objects c.memory others fs)
-    (form : (scope W E Outer Passes z a.function).in_registers ≡ false) (its_calls : calls_in a.function.body ≡ true) (k debt : ℕ) where
+    (st : Stands W E Outer z objects (standing_at gv hv hw (g ∷ fs) world calls answer) c d) (r : Runs W E Outer z objects c a g fs) (waits : Waiting W E Outer z objects c.memory others fs)
+    (form : (scope W E Outer z a.function).in_registers ≡ false) (its_calls : calls_in a.function.body ≡ true) (k debt : ℕ) where
   abbrev sc : Scope
-  sc = scope W E Outer Passes z a.function
+  sc = scope W E Outer z a.function
 
   abbrev here : Configuration W E
   here = standing_at gv hv hw (g ∷ fs) world calls answer
 
   -- all stands where the primitive returns
   after : (h' : Configuration W E) (c2 : Contents) (to : ℕ) (index : ℕ) (t : Machine) → h'.state ≡ here.state → c2.memory ≡ c.memory → c2.regs 28 ≡ c.regs 28 → c2.regs 29 ≡ c.regs 29 → c2.regs 30 ≡ c.regs 30 → Back z.p.unit z.a z.p.stack to (at_with index c2 d) t → Outer h'.world t.contents t.behind
-      → Stands W E Outer Passes z objects h' t.contents t.behind × UnderWay W E Outer Passes z objects t.contents (a ∷ others) (g ∷ fs)
+      → Stands W E Outer z objects h' t.contents t.behind × UnderWay W E Outer z objects t.contents (a ∷ others) (g ∷ fs)
   after h' c2 to index t same memory r28 r29 r30 b outer =
       let used = ap (λ m. m 1026) memory ∙ st.used_word in
       let fo = frame_on z.p.unit g fs a.function r.is in
@@ -107,17 +107,17 @@ module _ (runs : RunLaws) (compose : RunsCompose) (W E : Type 0) (Outer : W → 
       let sr = st.stack_room in
       let wt = words_by_types (shapes z.p.unit) (map typed_of z.p.unit.globals) in
       let su = st.used in
-      let stack_same : (x : ℕ) → z.a.stack ≤ x → x < end_of W E Outer Passes z (g ∷ fs) → t.contents.memory x ≡ c.memory x = λ x le lt. b.kept x (inr (inr (le, omega (arith, lt, sr)))) ∙ ap (λ m. m x) memory in (
+      let stack_same : (x : ℕ) → z.a.stack ≤ x → x < end_of W E Outer z (g ∷ fs) → t.contents.memory x ≡ c.memory x = λ x le lt. b.kept x (inr (inr (le, omega (arith, lt, sr)))) ∙ ap (λ m. m x) memory in (
         record {
           typed = subst (λ y. IsTypedWith z.p.unit objects y) (sym same) st.typed;
           declared = st.declared;
           used = st.used ∙ sym (ap (λ y. y.heap_words) same);
           room = subst (λ y. y.heap_words ≤ z.p.heap) (sym same) st.room;
           stack_room = subst (λ y. stack_words z.p.unit y.frames ≤ z.p.stack) (sym same) st.stack_room;
-          globals = subst (λ y. RegionHeld (unit_scope z.p.unit) (bases W E Outer Passes z objects []) t.contents.memory z.a.globals (types_of (map typed_of z.p.unit.globals)) y.global_values) (sym same)
-              (held.same (unit_scope z.p.unit) (bases W E Outer Passes z objects []) c.memory t.contents.memory z.a.globals (types_of (map typed_of z.p.unit.globals)) gv refl (λ x le lt. b.kept x (inl (le, omega (arith, lt, wt))) ∙ ap (λ m. m x) memory) st.globals);
-          heap = subst (λ y. RegionHeld (unit_scope z.p.unit) (bases W E Outer Passes z objects []) t.contents.memory z.a.heap objects y.heap_values) (sym same)
-              (held.same (unit_scope z.p.unit) (bases W E Outer Passes z objects []) c.memory t.contents.memory z.a.heap objects hv refl (λ x le lt. b.kept x (inr (inl (le, omega (arith, lt, used, su)))) ∙ ap (λ m. m x) memory) st.heap);
+          globals = subst (λ y. RegionHeld (unit_scope z.p.unit) (bases W E Outer z objects []) t.contents.memory z.a.globals (types_of (map typed_of z.p.unit.globals)) y.global_values) (sym same)
+              (held.same (unit_scope z.p.unit) (bases W E Outer z objects []) c.memory t.contents.memory z.a.globals (types_of (map typed_of z.p.unit.globals)) gv refl (λ x le lt. b.kept x (inl (le, omega (arith, lt, wt))) ∙ ap (λ m. m x) memory) st.globals);
+          heap = subst (λ y. RegionHeld (unit_scope z.p.unit) (bases W E Outer z objects []) t.contents.memory z.a.heap objects y.heap_values) (sym same)
+              (held.same (unit_scope z.p.unit) (bases W E Outer z objects []) c.memory t.contents.memory z.a.heap objects hv refl (λ x le lt. b.kept x (inr (inl (le, omega (arith, lt, used, su)))) ∙ ap (λ m. m x) memory) st.heap);
           used_word = b.variables 1026 (omega arith) (omega arith) ∙ used ∙ sym (ap (λ y. y.heap_words) same);
           heap_size = b.variables 1027 (omega arith) (omega arith) ∙ ap (λ m. m 1027) memory ∙ st.heap_size;
           heap_first = b.variables 1028 (omega arith) (omega arith) ∙ ap (λ m. m 1028) memory ∙ st.heap_first;
@@ -131,47 +131,47 @@ module _ (runs : RunLaws) (compose : RunsCompose) (W E : Type 0) (Outer : W → 
         (
           record {
             is = r.is;
-            return_at = ap (λ y. if y then t.contents.memory (end_of W E Outer Passes z fs) else t.contents.regs 31) its_calls ∙ stack_same (end_of W E Outer Passes z fs) (omega arith) (omega (arith, fo, ws)) ∙ sym (ap (λ y. if y then c.memory (end_of W E Outer Passes z fs) else c.regs 31) its_calls) ∙ r.return_at;
+            return_at = ap (λ y. if y then t.contents.memory (end_of W E Outer z fs) else t.contents.regs 31) its_calls ∙ stack_same (end_of W E Outer z fs) (omega arith) (omega (arith, fo, ws)) ∙ sym (ap (λ y. if y then c.memory (end_of W E Outer z fs) else c.regs 31) its_calls) ∙ r.return_at;
             frame_at = b.frame_end ∙ r29 ∙ r.frame_at;
-            variables = variables_same W E Outer Passes z held objects c.regs t.contents.regs c.memory t.contents.memory a.function g fs true form r.is (λ x le lt. stack_same x (omega (arith, le)) lt) r.variables;
+            variables = variables_same W E Outer z held objects c.regs t.contents.regs c.memory t.contents.memory a.function g fs true form r.is (λ x le lt. stack_same x (omega (arith, le)) lt) r.variables;
           },
-          waiting_same W E Outer Passes z held objects c.memory t.contents.memory others fs (λ x le lt. stack_same x le (omega (arith, lt, fo))) waits,
+          waiting_same W E Outer z held objects c.memory t.contents.memory others fs (λ x le lt. stack_same x le (omega (arith, lt, fo))) waits,
         ),
       )
 
-  pub calls_primitive : (n : ℕ) (row : CPrimitive) (args : List CExpr) (p : CExpr) (rest : CStmts) (work : List Work) → slice_get z.table n ≡ Some row → AreNumberedGiven (env_in (text W E Outer Passes z) a.function) args (map scalar_ty row.args) → length args ≤ 8
-      → (item : Work) → ((u : ℕ) (vs : Values) → values_of args here.state ≡ costs u (Ok vs) → IsCallOf here item n vs) → IsNumberedLeft (env_in (text W E Outer Passes z) a.function) p (scalar_ty row.answer) → call_need p args ≤ MAX_NEED → nodes p + args_nodes args + 1 ≤ 2000 → 1 ≤ length (answer_code sc p)
-      → CodeAt z.w k (args_code sc args 0 ++ (Jal ((text W E Outer Passes z).links.primitive n) ∷ answer_code sc p))
-      → Block (text W E Outer Passes z) a.function (k + length (args_code sc args 0 ++ (Jal ((text W E Outer Passes z).links.primitive n) ∷ answer_code sc p))) debt rest (λ to left. Ahead (text W E Outer Passes z) (a ∷ others) to left work)
-      → StepIs W E Outer Passes z debt item here (at_with k c d) (then_go (units 1) here (values_of args here.state) (λ cost vs. call_with z.p cost Primitive n vs (into p rest) work here))
+  pub calls_primitive : (n : ℕ) (row : CPrimitive) (args : List CExpr) (p : CExpr) (rest : CStmts) (work : List Work) → slice_get z.table n ≡ Some row → AreNumberedGiven (env_in (text W E Outer z) a.function) args (map scalar_ty row.args) → length args ≤ 8
+      → (item : Work) → ((u : ℕ) (vs : Values) → values_of args here.state ≡ costs u (Ok vs) → IsCallOf here item n vs) → IsNumberedLeft (env_in (text W E Outer z) a.function) p (scalar_ty row.answer) → call_need p args ≤ MAX_NEED → nodes p + args_nodes args + 1 ≤ 2000 → 1 ≤ length (answer_code sc p)
+      → CodeAt z.w k (args_code sc args 0 ++ (Jal ((text W E Outer z).links.primitive n) ∷ answer_code sc p))
+      → Block (text W E Outer z) a.function (k + length (args_code sc args 0 ++ (Jal ((text W E Outer z).links.primitive n) ∷ answer_code sc p))) debt rest (λ to left. Ahead (text W E Outer z) (a ∷ others) to left work)
+      → StepIs W E Outer z debt item here (at_with k c d) (then_go (units 1) here (values_of args here.state) (λ cost vs. call_with z.p cost Primitive n vs (into p rest) work here))
   calls_primitive n row args p rest work is given count item its_call left deep few some code block =
-      let ex = its_exprs runs compose W E Outer Passes z jumps straight held typing exprs objects gv hv hw g fs world calls answer c d a others st r waits in
-      let rd = its_ready runs compose W E Outer Passes z jumps straight held typing exprs objects gv hv hw g fs world calls answer c d a others st r waits in
-      let index : ℕ = (text W E Outer Passes z).links.primitive n in
+      let ex = its_exprs runs compose W E Outer z jumps straight held typing exprs objects gv hv hw g fs world calls answer c d a others st r waits in
+      let rd = its_ready runs compose W E Outer z jumps straight held typing exprs objects gv hv hw g fs world calls answer c d a others st r waits in
+      let index : ℕ = (text W E Outer z).links.primitive n in
       let k1 : ℕ = k + length (args_code sc args 0) in
       let fa = z.few_arguments n row is in
-      let jal_at = back z.w k (args_code sc args 0) (Jal ((text W E Outer Passes z).links.primitive n) ∷ answer_code sc p) code in
-      let run = args_run compose z.w sc (env_in (text W E Outer Passes z) a.function) (bases W E Outer Passes z objects (g ∷ fs)) (state_of gv hv hw (g ∷ fs)) d ex form st.idle args (map scalar_ty row.args) 0 k c rd given (all_scalar row.args) (omega (arith, deep)) (omega (arith, few)) (omega (arith, count))
-      (front z.w k (args_code sc args 0) (Jal ((text W E Outer Passes z).links.primitive n) ∷ answer_code sc p) code) in
-      let len : k + length (args_code sc args 0 ++ (Jal ((text W E Outer Passes z).links.primitive n) ∷ answer_code sc p)) ≡ k1 + 1 + length (answer_code sc p) = omega (arith, length-append (args_code sc args 0) (Jal ((text W E Outer Passes z).links.primitive n) ∷ answer_code sc p)) in
+      let jal_at = back z.w k (args_code sc args 0) (Jal ((text W E Outer z).links.primitive n) ∷ answer_code sc p) code in
+      let run = args_run compose z.w sc (env_in (text W E Outer z) a.function) (bases W E Outer z objects (g ∷ fs)) (state_of gv hv hw (g ∷ fs)) d ex form st.idle args (map scalar_ty row.args) 0 k c rd given (all_scalar row.args) (omega (arith, deep)) (omega (arith, few)) (omega (arith, count))
+      (front z.w k (args_code sc args 0) (Jal ((text W E Outer z).links.primitive n) ∷ answer_code sc p) code) in
+      let len : k + length (args_code sc args 0 ++ (Jal ((text W E Outer z).links.primitive n) ∷ answer_code sc p)) ≡ k1 + 1 + length (answer_code sc p) = omega (arith, length-append (args_code sc args 0) (Jal ((text W E Outer z).links.primitive n) ∷ answer_code sc p)) in
       let first = first_of z.w (k1 + 1) (answer_code sc p) some jal_at.1 in
-      then_soft runs compose W E Outer Passes z jumps (StepIs W E Outer Passes z debt item here (at_with k c d)) 0 0 0 debt 0 (args_nodes args) (units 1) here here (at_with k c d) a.function k k1 c d objects (InRegisters compose z.w sc (bases W E Outer Passes z objects (g ∷ fs)) 0 (map scalar_ty row.args) c) (values_of args here.state) (λ cost vs. call_with z.p cost Primitive n vs (into p rest) work here)
-      (none runs z.w Passes (at_with k c d)) (omega arith) (omega arith) st (values_within args here.state) run (λ cost f h stop. stop)
+      then_soft runs compose W E Outer z jumps (StepIs W E Outer z debt item here (at_with k c d)) 0 0 debt 0 (args_nodes args) (units 1) here here (at_with k c d) a.function k k1 c d objects (InRegisters compose z.w sc (bases W E Outer z objects (g ∷ fs)) 0 (map scalar_ty row.args) c) (values_of args here.state) (λ cost vs. call_with z.p cost Primitive n vs (into p rest) work here)
+      (none runs z.w (at_with k c d)) (omega arith) (omega arith) st (values_within args here.state) run (λ cost f h stop. stop)
       (λ u vs c1 same least most q path.
       let c2 : Contents = with_reg c1 31 (4 * (k1 + 1)) in
       let soft = q.soft in
       let keep : (x : ℕ) → 28 ≤ x → x < 31 → (with_reg c1 31 (4 * (k1 + 1))).regs x ≡ c.regs x = λ x le lt. other_reg c1.regs 31 (4 * (k1 + 1)) x (λ e. absurd (omega (arith, e, lt))) ∙ soft.high x le in
-      let st2 = stands_soft runs compose W E Outer Passes z jumps objects here c (with_reg c1 31 (4 * (k1 + 1))) d soft.memory soft.special (keep 28 (omega arith) (omega arith)) (keep 30 (omega arith) (omega arith)) st in
-      let called : Called z.w (text W E Outer Passes z).links row n vs (k1 + 1) (at_with index (with_reg c1 31 (4 * (k1 + 1))) d) = record {
+      let st2 = stands_soft runs compose W E Outer z jumps objects here c (with_reg c1 31 (4 * (k1 + 1))) d soft.memory soft.special (keep 28 (omega arith) (omega arith)) (keep 30 (omega arith) (omega arith)) st in
+      let called : Called z.w (text W E Outer z).links row n vs (k1 + 1) (at_with index (with_reg c1 31 (4 * (k1 + 1))) d) = record {
         at = refl;
         scalars = scalars_alone (shapes z.p.unit) (layout_of z.p.unit objects) row.args vs q.fits;
-        arguments = passed sc (bases W E Outer Passes z objects (g ∷ fs)) (shapes z.p.unit) (layout_of z.p.unit objects) c1.regs (with_reg c1 31 (4 * (k1 + 1))).regs 20 row.args vs q.fits (omega (arith, fa)) (λ x lt. other_reg c1.regs 31 (4 * (k1 + 1)) x (λ e. absurd (omega (arith, e, lt)))) q.are;
+        arguments = passed sc (bases W E Outer z objects (g ∷ fs)) (shapes z.p.unit) (layout_of z.p.unit objects) c1.regs (with_reg c1 31 (4 * (k1 + 1))).regs 20 row.args vs q.fits (omega (arith, fa)) (λ x lt. other_reg c1.regs 31 (4 * (k1 + 1)) x (λ e. absurd (omega (arith, e, lt)))) q.are;
         return_at = same_reg c1.regs 31 (4 * (k1 + 1)) (λ e. absurd (omega (arith, e)));
         code = first.0;
         there = first.1;
         idle = st.idle;
       } in
-      let way1 = on runs z.w Passes 0 (0 + 16 * u) 0 1 1 0 (at_with k c d) (at_with k1 c1 d) (at_with index (with_reg c1 31 (4 * (k1 + 1))) d) path (away runs z.w Passes 1 (at_with k1 c1 d) (at_with index (with_reg c1 31 (4 * (k1 + 1))) d) (z.elsewhere n k1 jal_at.0) (calls_to runs compose W E Outer Passes z jumps k1 index c1 d st.idle jal_at.0)) in
+      let way1 = on runs z.w 0 (0 + 16 * u) 1 1 (at_with k c d) (at_with k1 c1 d) (at_with index (with_reg c1 31 (4 * (k1 + 1))) d) path (away runs z.w 1 (at_with k1 c1 d) (at_with index (with_reg c1 31 (4 * (k1 + 1))) d) (z.elsewhere n k1 jal_at.0) (calls_to runs compose W E Outer z jumps k1 index c1 d st.idle jal_at.0)) in
       let le = way1.high in
       let ge = way1.low in
       inr record {
@@ -201,8 +201,8 @@ module _ (runs : RunLaws) (compose : RunsCompose) (W E : Type 0) (Outer : W → 
               under_way = all.1;
               t = scalar_ty row.answer;
               fits = scalar_alone [] (shapes z.p.unit) (record { globals = []; objects = [] }) (layout_of z.p.unit objects) row.answer (z.p.meaning n vs world).answer scalar;
-              answer = result ∙ sym (word_alone (unit_scope z.p.unit) (bases W E Outer Passes z objects []) [] (record { globals = []; objects = [] }) row.answer (z.p.meaning n vs world).answer scalar);
-              ahead = subst (λ y. Awaits (text W E Outer Passes z) (a ∷ others) y debt (scalar_ty row.answer) (into p rest) work (λ acts to left. Ahead (text W E Outer Passes z) acts to left work)) (sym b.at)
-                  (record { left = left; shallow = omega (arith, deep); few = omega (arith, few) }, jal_at.1, subst (λ y. Block (text W E Outer Passes z) a.function y debt rest (λ to left. Ahead (text W E Outer Passes z) (a ∷ others) to left work)) len block);
+              answer = result ∙ sym (word_alone (unit_scope z.p.unit) (bases W E Outer z objects []) [] (record { globals = []; objects = [] }) row.answer (z.p.meaning n vs world).answer scalar);
+              ahead = subst (λ y. Awaits (text W E Outer z) (a ∷ others) y debt (scalar_ty row.answer) (into p rest) work (λ acts to left. Ahead (text W E Outer z) acts to left work)) (sym b.at)
+                  (record { left = left; shallow = omega (arith, deep); few = omega (arith, few) }, jal_at.1, subst (λ y. Block (text W E Outer z) a.function y debt rest (λ to left. Ahead (text W E Outer z) (a ∷ others) to left work)) len block);
             };
       })

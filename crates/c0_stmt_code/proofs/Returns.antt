@@ -126,13 +126,13 @@ comes_splits w sc own n to c d Q (costs k (Err stuck)) h = absurd h
 pub keeps_zero : (r d : ℕ) (a b : Contents) → d < 20 → Keeps r d a b → Keeps 0 0 a b
 keeps_zero r d a b lt h = record { memory = h.memory; special = h.special; below = λ x n m l. absurd (omega (arith, l)); above = λ x n l. h.above x (λ e. absurd (omega (arith, e, l, lt))) l }
 
-module _ (runs : RunLaws) (compose : RunsCompose) (W E : Type 0) (Outer : W → Contents → Behind → Type 0) (Passes : Machine → Machine → Type 0) (z : Setup W E Outer Passes) (jumps : JumpsLead z.w) (straight : StraightRuns z.w)
-    (held : HeldStays (shapes z.p.unit)) (typing : TypedStays z.p.unit) (functions : FunctionsAre z.table z.p.unit) (exprs : Exprs W E Outer Passes z) (fit : (f : CFunction) → LengthsFit (scope W E Outer Passes z f))
+module _ (runs : RunLaws) (compose : RunsCompose) (W E : Type 0) (Outer : W → Contents → Behind → Type 0) (z : Setup W E Outer) (jumps : JumpsLead z.w) (straight : StraightRuns z.w)
+    (held : HeldStays (shapes z.p.unit)) (typing : TypedStays z.p.unit) (functions : FunctionsAre z.table z.p.unit) (exprs : Exprs W E Outer z) (fit : (f : CFunction) → LengthsFit (scope W E Outer z f))
     (objects : List Ty) (gv hv : Value) (hw : ℕ) (g : Frame) (fs : List Frame) (world : W) (calls : List (List E)) (answer : Option Value) (c : Contents) (d : Behind) (a : Activation) (others : List Activation)
-    (st : Stands W E Outer Passes z objects (standing_at gv hv hw (g ∷ fs) world calls answer) c d) (r : Runs W E Outer Passes z objects c a g fs) (waits : Waiting W E Outer Passes z objects c.memory others fs)
+    (st : Stands W E Outer z objects (standing_at gv hv hw (g ∷ fs) world calls answer) c d) (r : Runs W E Outer z objects c a g fs) (waits : Waiting W E Outer z objects c.memory others fs)
     (k debt : ℕ) where
   abbrev sc : Scope
-  sc = scope W E Outer Passes z a.function
+  sc = scope W E Outer z a.function
 
   abbrev here : Configuration W E
   here = standing_at gv hv hw (g ∷ fs) world calls answer
@@ -141,12 +141,12 @@ module _ (runs : RunLaws) (compose : RunsCompose) (W E : Type 0) (Outer : W → 
   there = standing_at gv hv hw fs world calls answer
 
   -- the data stand without the newest frame
-  stands_below : (c' : Contents) → c'.memory ≡ c.memory → c'.special ≡ c.special → c'.regs 28 ≡ c.regs 28 → c'.regs 30 ≡ c.regs 30 → Stands W E Outer Passes z objects there c' d
+  stands_below : (c' : Contents) → c'.memory ≡ c.memory → c'.special ≡ c.special → c'.regs 28 ≡ c.regs 28 → c'.regs 30 ≡ c.regs 30 → Stands W E Outer z objects there c' d
   stands_below c' memory special r28 r30 =
       let on = frame_on z.p.unit g fs a.function r.is in
       let o = st.stack_room in
       let k : Keeps 0 0 c (record c { memory = c'.memory; special = c'.special }) = record { memory = memory; special = special; below = λ x n m l. refl; above = λ x n l. refl } in
-      let s = stands_on runs compose W E Outer Passes z jumps objects here c (record c { memory = c'.memory; special = c'.special }) d k st in
+      let s = stands_on runs compose W E Outer z jumps objects here c (record c { memory = c'.memory; special = c'.special }) d k st in
       record {
         typed = typing.popped objects (state_of gv hv hw (g ∷ fs)) g fs refl st.typed;
         declared = st.declared;
@@ -167,29 +167,29 @@ module _ (runs : RunLaws) (compose : RunsCompose) (W E : Type 0) (Outer : W → 
       }
 
   -- the caller goes on where it waited
-  goes_on : (b : Activation) (more : List Activation) (q : Frame) (frames : List Frame) (c' : Contents) → c'.memory ≡ c.memory → c'.regs 29 ≡ 4 * end_of W E Outer Passes z (q ∷ frames) → Waiting W E Outer Passes z objects c.memory (b ∷ more) (q ∷ frames)
-      → UnderWay W E Outer Passes z objects c' (b ∷ more) (q ∷ frames)
+  goes_on : (b : Activation) (more : List Activation) (q : Frame) (frames : List Frame) (c' : Contents) → c'.memory ≡ c.memory → c'.regs 29 ≡ 4 * end_of W E Outer z (q ∷ frames) → Waiting W E Outer z objects c.memory (b ∷ more) (q ∷ frames)
+      → UnderWay W E Outer z objects c' (b ∷ more) (q ∷ frames)
   goes_on b more q frames c' memory at w = (
     record {
       is = w.0.is;
-      return_at = ap (λ y. if y then c'.memory (end_of W E Outer Passes z frames) else c'.regs 31) w.0.calls ∙ ap (λ m. m (end_of W E Outer Passes z frames)) memory ∙ w.0.return_at;
-      frame_at = at ∙ sym (ap (λ y. 4 * (if y then end_of W E Outer Passes z frames else end_of W E Outer Passes z (q ∷ frames))) w.0.in_frame);
-      variables = variables_same W E Outer Passes z held objects c.memory c'.regs c.memory c'.memory b.function q frames true w.0.in_frame w.0.is (λ x le lt. ap (λ m. m x) memory) w.0.variables;
+      return_at = ap (λ y. if y then c'.memory (end_of W E Outer z frames) else c'.regs 31) w.0.calls ∙ ap (λ m. m (end_of W E Outer z frames)) memory ∙ w.0.return_at;
+      frame_at = at ∙ sym (ap (λ y. 4 * (if y then end_of W E Outer z frames else end_of W E Outer z (q ∷ frames))) w.0.in_frame);
+      variables = variables_same W E Outer z held objects c.memory c'.regs c.memory c'.memory b.function q frames true w.0.in_frame w.0.is (λ x le lt. ap (λ m. m x) memory) w.0.variables;
     },
-    subst (λ m. Waiting W E Outer Passes z objects m more frames) (sym memory) w.1,
+    subst (λ m. Waiting W E Outer z objects m more frames) (sym memory) w.1,
   )
 
   -- the answer is handed over
-  delivers : (l m j : ℕ) (cost : Cost) (h0 : Configuration W E) (s0 : Machine) (target : Target) (v : Value) (work : List Work) (t : Ty) (c' : Contents) → Path runs compose W E Outer Passes z jumps l m j s0 (at_with a.to c' d) → cost.own ≤ 2048 * l → m ≤ 30 * cost.own → length calls ≡ ended h0 + j
-      → c'.memory ≡ c.memory → c'.special ≡ c.special → c'.regs 28 ≡ c.regs 28 → c'.regs 30 ≡ c.regs 30 → c'.regs 29 ≡ 4 * end_of W E Outer Passes z fs → Fits (shapes z.p.unit) (layout_of z.p.unit objects) t v → c'.regs 2 ≡ word_of_value W E Outer Passes z objects v
-      → Awaits (text W E Outer Passes z) others a.to debt t target work (λ acts at left. Ahead (text W E Outer Passes z) acts at left work) → GoesOn W E Outer Passes z debt h0 s0 (deliver cost target v work there)
-  delivers l m j cost h0 s0 target v work t c' path low high en memory special r28 r30 r29 fits is ahead = by_target others fs waits target work ahead refl
+  delivers : (l m : ℕ) (cost : Cost) (h0 : Configuration W E) (s0 : Machine) (target : Target) (v : Value) (work : List Work) (t : Ty) (c' : Contents) → Path runs compose W E Outer z jumps l m s0 (at_with a.to c' d) → cost.own ≤ 2048 * l → m ≤ 30 * cost.own → length calls ≡ ended h0
+      → c'.memory ≡ c.memory → c'.special ≡ c.special → c'.regs 28 ≡ c.regs 28 → c'.regs 30 ≡ c.regs 30 → c'.regs 29 ≡ 4 * end_of W E Outer z fs → Fits (shapes z.p.unit) (layout_of z.p.unit objects) t v → c'.regs 2 ≡ word_of_value W E Outer z objects v
+      → Awaits (text W E Outer z) others a.to debt t target work (λ acts at left. Ahead (text W E Outer z) acts at left work) → GoesOn W E Outer z debt h0 s0 (deliver cost target v work there)
+  delivers l m cost h0 s0 target v work t c' path low high en memory special r28 r30 r29 fits is ahead = by_target others fs waits target work ahead refl
     where
-      led_to : (h' : Configuration W E) → h'.calls ≡ calls → Led z.w Passes cost.own debt debt h0 h' s0 (at_with a.to c' d)
-      led_to h' e = let le = path.high in let ge = path.low in let n = ap length e in record { own = path.own; passes = j; high = omega (arith, le, high); low = omega (arith, ge, low); ended_so = n ∙ en; run = path.run }
+      led_to : (h' : Configuration W E) → h'.calls ≡ calls → Led z.w cost.own debt debt h0 h' s0 (at_with a.to c' d)
+      led_to h' e = let le = path.high in let ge = path.low in let n = ap length e in record { own = path.own; high = omega (arith, le, high); low = omega (arith, ge, low); ended_so = n ∙ en; run = path.run }
 
-      by_target : (acts : List Activation) (frames : List Frame) → Waiting W E Outer Passes z objects c.memory acts frames → (target : Target) (work : List Work) → Awaits (text W E Outer Passes z) acts a.to debt t target work (λ acts at left. Ahead (text W E Outer Passes z) acts at left work) → frames ≡ fs
-          → GoesOn W E Outer Passes z debt h0 s0 (deliver cost target v work there)
+      by_target : (acts : List Activation) (frames : List Frame) → Waiting W E Outer z objects c.memory acts frames → (target : Target) (work : List Work) → Awaits (text W E Outer z) acts a.to debt t target work (λ acts at left. Ahead (text W E Outer z) acts at left work) → frames ≡ fs
+          → GoesOn W E Outer z debt h0 s0 (deliver cost target v work there)
       by_target (b ∷ more) (q ∷ frames) w (into place rest) work ah e = (
         at_with a.to c' d,
         debt,
@@ -198,7 +198,7 @@ module _ (runs : RunLaws) (compose : RunsCompose) (W E : Type 0) (Outer : W → 
           objects = objects;
           stands = stands_below c' memory special r28 r30;
           activations = b ∷ more;
-          under_way = subst (λ y. UnderWay W E Outer Passes z objects c' (b ∷ more) y) e (goes_on b more q frames c' memory (r29 ∙ ap (λ y. 4 * end_of W E Outer Passes z y) (sym e)) w);
+          under_way = subst (λ y. UnderWay W E Outer z objects c' (b ∷ more) y) e (goes_on b more q frames c' memory (r29 ∙ ap (λ y. 4 * end_of W E Outer z y) (sym e)) w);
           t = t;
           fits = fits;
           answer = is;
@@ -226,13 +226,13 @@ module _ (runs : RunLaws) (compose : RunsCompose) (W E : Type 0) (Outer : W → 
       by_target (b ∷ more) [] w target work ah e = absurd w
 
   -- a return from a function that has a frame
-  pub leaves : (result : CExpr) (target : Target) (work : List Work) → sc.in_registers ≡ false → ReturnStands (text W E Outer Passes z) a.function k result
-      → Awaits (text W E Outer Passes z) others a.to debt (ty_of a.function.answer) target work (λ acts at left. Ahead (text W E Outer Passes z) acts at left work)
-      → GoesOn W E Outer Passes z debt here (at_with k c d) (then_go (units 0) here (value_of result here.state) (λ cost v. deliver cost target v work there))
+  pub leaves : (result : CExpr) (target : Target) (work : List Work) → sc.in_registers ≡ false → ReturnStands (text W E Outer z) a.function k result
+      → Awaits (text W E Outer z) others a.to debt (ty_of a.function.answer) target work (λ acts at left. Ahead (text W E Outer z) acts at left work)
+      → GoesOn W E Outer z debt here (at_with k c d) (then_go (units 0) here (value_of result here.state) (λ cost v. deliver cost target v work there))
   leaves result target work form stands ahead =
       let t : Ty = ty_of a.function.answer in
-      let ex = its_exprs runs compose W E Outer Passes z jumps straight held typing exprs objects gv hv hw g fs world calls answer c d a others st r waits in
-      let rd = its_ready runs compose W E Outer Passes z jumps straight held typing exprs objects gv hv hw g fs world calls answer c d a others st r waits in
+      let ex = its_exprs runs compose W E Outer z jumps straight held typing exprs objects gv hv hw g fs world calls answer c d a others st r waits in
+      let rd = its_ready runs compose W E Outer z jumps straight held typing exprs objects gv hv hw g fs world calls answer c d a others st r waits in
       let scalar = functions.answers g.function a.function r.is in
       let value = value_code sc result 2 8 in
       let exit = exit_code sc (calls_in a.function.body) in
@@ -242,42 +242,42 @@ module _ (runs : RunLaws) (compose : RunsCompose) (W E : Type 0) (Outer : W → 
       let k1 : ℕ = k + length (value_code sc result 2 8) in
       let exit_is : exit_code sc (calls_in a.function.body) ≡ frame_return sc (calls_in a.function.body) = cond-false sc.in_registers (register_return (calls_in a.function.body)) (frame_return sc (calls_in a.function.body)) form in
       let exit_at = subst (CodeAt z.w k1) exit_is (back z.w k (value_code sc result 2 8) (exit_code sc (calls_in a.function.body)) stands.code) in
-      then_splits runs compose W E Outer Passes z jumps 0 0 0 0 debt 1 (nodes result) (units 0) here here (at_with k c d) a.function k (λ v. k1) c d objects (Gives sc (bases W E Outer Passes z objects (g ∷ fs)) 2 8 2 (ty_of a.function.answer) c) (value_of result here.state)
-      (λ cost v. deliver cost target v work there) (λ v q. absurd (omega (arith, q, some))) (none runs z.w Passes (at_with k c d)) (omega arith) (omega arith) st (value_within result here.state) (comes_splits z.w sc 0 k k1 c d _ (value_of result here.state) run)
+      then_splits runs compose W E Outer z jumps 0 0 0 debt 1 (nodes result) (units 0) here here (at_with k c d) a.function k (λ v. k1) c d objects (Gives sc (bases W E Outer z objects (g ∷ fs)) 2 8 2 (ty_of a.function.answer) c) (value_of result here.state)
+      (λ cost v. deliver cost target v work there) (λ v q. absurd (omega (arith, q, some))) (none runs z.w (at_with k c d)) (omega arith) (omega arith) st (value_within result here.state) (comes_splits z.w sc 0 k k1 c d _ (value_of result here.state) run)
       (λ u v c1 least most gives path.
       let fo = frame_on z.p.unit g fs a.function r.is in
       let ws = frame_words z.p.unit a.function in
       let o = st.stack_room in
       let sf = z.stack_fits in
       let small = z.sound.small in
-      let e : ℕ = end_of W E Outer Passes z (g ∷ fs) in
+      let e : ℕ = end_of W E Outer z (g ∷ fs) in
       let keeps = gives.keeps in
-      let base : end_of W E Outer Passes z (g ∷ fs) - sc.frame ≡ end_of W E Outer Passes z fs = omega (arith, fo) in
-      let at29 : c1.regs 29 ≡ 4 * end_of W E Outer Passes z (g ∷ fs) = keeps.above 29 (λ q. absurd (omega (arith, q))) (omega arith) ∙ r.frame_at ∙ ap (λ y. 4 * (if y then end_of W E Outer Passes z fs else end_of W E Outer Passes z (g ∷ fs))) form in
-      let address : (if calls_in a.function.body then c1.memory (end_of W E Outer Passes z (g ∷ fs) - sc.frame) else c1.regs 31) ≡ 4 * a.to =
-      ap₂ (λ m y. if calls_in a.function.body then m else y) (ap c1.memory base ∙ ap (λ m. m (end_of W E Outer Passes z fs)) keeps.memory) (keeps.above 31 (λ q. absurd (omega (arith, q))) (omega arith)) ∙ r.return_at in
-      let back_there = returns compose z.w z.sound straight jumps sc (end_of W E Outer Passes z (g ∷ fs)) (omega (arith, fo)) (omega (arith, ws)) (omega (arith, o, sf, small)) (omega (arith, o, sf)) (calls_in a.function.body) a.to k1 c1 d st.idle at29 address exit_at in
+      let base : end_of W E Outer z (g ∷ fs) - sc.frame ≡ end_of W E Outer z fs = omega (arith, fo) in
+      let at29 : c1.regs 29 ≡ 4 * end_of W E Outer z (g ∷ fs) = keeps.above 29 (λ q. absurd (omega (arith, q))) (omega arith) ∙ r.frame_at ∙ ap (λ y. 4 * (if y then end_of W E Outer z fs else end_of W E Outer z (g ∷ fs))) form in
+      let address : (if calls_in a.function.body then c1.memory (end_of W E Outer z (g ∷ fs) - sc.frame) else c1.regs 31) ≡ 4 * a.to =
+      ap₂ (λ m y. if calls_in a.function.body then m else y) (ap c1.memory base ∙ ap (λ m. m (end_of W E Outer z fs)) keeps.memory) (keeps.above 31 (λ q. absurd (omega (arith, q))) (omega arith)) ∙ r.return_at in
+      let back_there = returns compose z.w z.sound straight jumps sc (end_of W E Outer z (g ∷ fs)) (omega (arith, fo)) (omega (arith, ws)) (omega (arith, o, sf, small)) (omega (arith, o, sf)) (calls_in a.function.body) a.to k1 c1 d st.idle at29 address exit_at in
       let c2 : Contents = back_there.0 in
-      let way = on runs z.w Passes (0 + 1) (0 + (0 + 16 * u)) 0 0 7 0 (at_with k c d) (at_with k1 c1 d) (at_with a.to back_there.0 d) path (of runs z.w Passes 7 _ _ back_there.2) in
-      let canonical = word_same (shapes z.p.unit) (map typed_of z.p.unit.globals) z.a.globals z.a.heap objects objects (λ path t h. refl) (rest_of (unit_scope z.p.unit)) (rest_of sc) (end_of W E Outer Passes z []) (end_of W E Outer Passes z (g ∷ fs)) (ty_of a.function.answer) v gives.fits in
-      delivers (0 + 1 + 0) (0 + (0 + 16 * u) + 7) (0 + 0) (plus (units 0) (units u)) here (at_with k c d) target v work (ty_of a.function.answer) back_there.0 way (omega (arith, most, few_nodes stands)) (omega (arith, least)) (omega arith)
+      let way = on runs z.w (0 + 1) (0 + (0 + 16 * u)) 0 7 (at_with k c d) (at_with k1 c1 d) (at_with a.to back_there.0 d) path (of runs z.w 7 _ _ back_there.2) in
+      let canonical = word_same (shapes z.p.unit) (map typed_of z.p.unit.globals) z.a.globals z.a.heap objects objects (λ path t h. refl) (rest_of (unit_scope z.p.unit)) (rest_of sc) (end_of W E Outer z []) (end_of W E Outer z (g ∷ fs)) (ty_of a.function.answer) v gives.fits in
+      delivers (0 + 1 + 0) (0 + (0 + 16 * u) + 7) (plus (units 0) (units u)) here (at_with k c d) target v work (ty_of a.function.answer) back_there.0 way (omega (arith, most, few_nodes stands)) (omega (arith, least)) (omega arith)
       (back_there.1.memory ∙ keeps.memory) (back_there.1.special ∙ keeps.special)
       (back_there.1.others 28 (λ q. absurd (omega (arith, q))) (λ q. absurd (omega (arith, q))) (λ q. absurd (omega (arith, q))) ∙ keeps.above 28 (λ q. absurd (omega (arith, q))) (omega arith))
       (back_there.1.others 30 (λ q. absurd (omega (arith, q))) (λ q. absurd (omega (arith, q))) (λ q. absurd (omega (arith, q))) ∙ keeps.above 30 (λ q. absurd (omega (arith, q))) (omega arith))
       (back_there.1.frame_at ∙ ap (λ y. 4 * y) base) gives.fits
       (back_there.1.others 2 (λ q. absurd (omega (arith, q))) (λ q. absurd (omega (arith, q))) (λ q. absurd (omega (arith, q))) ∙ sym (read_is c1.regs 2 (λ q. absurd (omega (arith, q)))) ∙ gives.is ∙ canonical) ahead)
     where
-      few_nodes : ReturnStands (text W E Outer Passes z) a.function k result → nodes result ≤ 2000
+      few_nodes : ReturnStands (text W E Outer z) a.function k result → nodes result ≤ 2000
       few_nodes h = h.few
 
   -- a return from a function whose variables stand in registers
-  pub leaves_light : (result : CExpr) (target : Target) (work : List Work) → sc.in_registers ≡ true → ReturnStands (text W E Outer Passes z) a.function k result
-      → Awaits (text W E Outer Passes z) others a.to debt (ty_of a.function.answer) target work (λ acts at left. Ahead (text W E Outer Passes z) acts at left work)
-      → GoesOn W E Outer Passes z debt here (at_with k c d) (then_go (units 0) here (value_of result here.state) (λ cost v. deliver cost target v work there))
+  pub leaves_light : (result : CExpr) (target : Target) (work : List Work) → sc.in_registers ≡ true → ReturnStands (text W E Outer z) a.function k result
+      → Awaits (text W E Outer z) others a.to debt (ty_of a.function.answer) target work (λ acts at left. Ahead (text W E Outer z) acts at left work)
+      → GoesOn W E Outer z debt here (at_with k c d) (then_go (units 0) here (value_of result here.state) (λ cost v. deliver cost target v work there))
   leaves_light result target work form stands ahead =
       let t : Ty = ty_of a.function.answer in
-      let ex = its_exprs runs compose W E Outer Passes z jumps straight held typing exprs objects gv hv hw g fs world calls answer c d a others st r waits in
-      let rd = its_ready runs compose W E Outer Passes z jumps straight held typing exprs objects gv hv hw g fs world calls answer c d a others st r waits in
+      let ex = its_exprs runs compose W E Outer z jumps straight held typing exprs objects gv hv hw g fs world calls answer c d a others st r waits in
+      let rd = its_ready runs compose W E Outer z jumps straight held typing exprs objects gv hv hw g fs world calls answer c d a others st r waits in
       let scalar = functions.answers g.function a.function r.is in
       let value = value_code sc result 2 8 in
       let exit = exit_code sc (calls_in a.function.body) in
@@ -287,43 +287,43 @@ module _ (runs : RunLaws) (compose : RunsCompose) (W E : Type 0) (Outer : W → 
       let k1 : ℕ = k + length (value_code sc result 2 8) in
       let exit_is : exit_code sc (calls_in a.function.body) ≡ register_return (calls_in a.function.body) = cond-true sc.in_registers (register_return (calls_in a.function.body)) (frame_return sc (calls_in a.function.body)) form in
       let exit_at = subst (CodeAt z.w k1) exit_is (back z.w k (value_code sc result 2 8) (exit_code sc (calls_in a.function.body)) stands.code) in
-      then_splits runs compose W E Outer Passes z jumps 0 0 0 0 debt 1 (nodes result) (units 0) here here (at_with k c d) a.function k (λ v. k1) c d objects (Gives sc (bases W E Outer Passes z objects (g ∷ fs)) 2 8 2 (ty_of a.function.answer) c) (value_of result here.state)
-      (λ cost v. deliver cost target v work there) (λ v q. absurd (omega (arith, q, some))) (none runs z.w Passes (at_with k c d)) (omega arith) (omega arith) st (value_within result here.state) (comes_splits z.w sc 0 k k1 c d _ (value_of result here.state) run)
+      then_splits runs compose W E Outer z jumps 0 0 0 debt 1 (nodes result) (units 0) here here (at_with k c d) a.function k (λ v. k1) c d objects (Gives sc (bases W E Outer z objects (g ∷ fs)) 2 8 2 (ty_of a.function.answer) c) (value_of result here.state)
+      (λ cost v. deliver cost target v work there) (λ v q. absurd (omega (arith, q, some))) (none runs z.w (at_with k c d)) (omega arith) (omega arith) st (value_within result here.state) (comes_splits z.w sc 0 k k1 c d _ (value_of result here.state) run)
       (λ u v c1 least most gives path.
       let fo = frame_on z.p.unit g fs a.function r.is in
       let ws = frame_words z.p.unit a.function in
       let o = st.stack_room in
       let sf = z.stack_fits in
       let small = z.sound.small in
-      let e : ℕ = end_of W E Outer Passes z (g ∷ fs) in
+      let e : ℕ = end_of W E Outer z (g ∷ fs) in
       let keeps = gives.keeps in
-      let at29 : c1.regs 29 ≡ 4 * end_of W E Outer Passes z fs = keeps.above 29 (λ q. absurd (omega (arith, q))) (omega arith) ∙ r.frame_at ∙ ap (λ y. 4 * (if y then end_of W E Outer Passes z fs else end_of W E Outer Passes z (g ∷ fs))) form in
-      let address : (if calls_in a.function.body then c1.memory (end_of W E Outer Passes z fs) else c1.regs 31) ≡ 4 * a.to =
-      ap₂ (λ m y. if calls_in a.function.body then m else y) (ap (λ m. m (end_of W E Outer Passes z fs)) keeps.memory) (keeps.above 31 (λ q. absurd (omega (arith, q))) (omega arith)) ∙ r.return_at in
-      let back_there = returns_light compose z.w z.sound straight jumps (calls_in a.function.body) (end_of W E Outer Passes z fs) a.to k1 c1 d st.idle at29 (omega (arith, fo, ws, o, sf)) address exit_at in
+      let at29 : c1.regs 29 ≡ 4 * end_of W E Outer z fs = keeps.above 29 (λ q. absurd (omega (arith, q))) (omega arith) ∙ r.frame_at ∙ ap (λ y. 4 * (if y then end_of W E Outer z fs else end_of W E Outer z (g ∷ fs))) form in
+      let address : (if calls_in a.function.body then c1.memory (end_of W E Outer z fs) else c1.regs 31) ≡ 4 * a.to =
+      ap₂ (λ m y. if calls_in a.function.body then m else y) (ap (λ m. m (end_of W E Outer z fs)) keeps.memory) (keeps.above 31 (λ q. absurd (omega (arith, q))) (omega arith)) ∙ r.return_at in
+      let back_there = returns_light compose z.w z.sound straight jumps (calls_in a.function.body) (end_of W E Outer z fs) a.to k1 c1 d st.idle at29 (omega (arith, fo, ws, o, sf)) address exit_at in
       let c2 : Contents = back_there.0 in
-      let way = on runs z.w Passes (0 + 1) (0 + (0 + 16 * u)) 0 0 2 0 (at_with k c d) (at_with k1 c1 d) (at_with a.to back_there.0 d) path (of runs z.w Passes 2 _ _ back_there.2) in
-      let canonical = word_same (shapes z.p.unit) (map typed_of z.p.unit.globals) z.a.globals z.a.heap objects objects (λ path t h. refl) (rest_of (unit_scope z.p.unit)) (rest_of sc) (end_of W E Outer Passes z []) (end_of W E Outer Passes z (g ∷ fs)) (ty_of a.function.answer) v gives.fits in
-      delivers (0 + 1 + 0) (0 + (0 + 16 * u) + 2) (0 + 0) (plus (units 0) (units u)) here (at_with k c d) target v work (ty_of a.function.answer) back_there.0 way (omega (arith, most, few_nodes stands)) (omega (arith, least)) (omega arith)
+      let way = on runs z.w (0 + 1) (0 + (0 + 16 * u)) 0 2 (at_with k c d) (at_with k1 c1 d) (at_with a.to back_there.0 d) path (of runs z.w 2 _ _ back_there.2) in
+      let canonical = word_same (shapes z.p.unit) (map typed_of z.p.unit.globals) z.a.globals z.a.heap objects objects (λ path t h. refl) (rest_of (unit_scope z.p.unit)) (rest_of sc) (end_of W E Outer z []) (end_of W E Outer z (g ∷ fs)) (ty_of a.function.answer) v gives.fits in
+      delivers (0 + 1 + 0) (0 + (0 + 16 * u) + 2) (plus (units 0) (units u)) here (at_with k c d) target v work (ty_of a.function.answer) back_there.0 way (omega (arith, most, few_nodes stands)) (omega (arith, least)) (omega arith)
       (back_there.1.memory ∙ keeps.memory) (back_there.1.special ∙ keeps.special)
       (back_there.1.others 28 (λ q. absurd (omega (arith, q))) ∙ keeps.above 28 (λ q. absurd (omega (arith, q))) (omega arith))
       (back_there.1.others 30 (λ q. absurd (omega (arith, q))) ∙ keeps.above 30 (λ q. absurd (omega (arith, q))) (omega arith))
       (back_there.1.others 29 (λ q. absurd (omega (arith, q))) ∙ at29) gives.fits
       (back_there.1.others 2 (λ q. absurd (omega (arith, q))) ∙ sym (read_is c1.regs 2 (λ q. absurd (omega (arith, q)))) ∙ gives.is ∙ canonical) ahead)
     where
-      few_nodes : ReturnStands (text W E Outer Passes z) a.function k result → nodes result ≤ 2000
+      few_nodes : ReturnStands (text W E Outer z) a.function k result → nodes result ≤ 2000
       few_nodes h = h.few
 
   -- an answer goes to a place in memory
-  pub finishes : (place : CExpr) (v : Value) (rest : CStmts) (work : List Work) (t : Ty) → Fits (shapes z.p.unit) (layout_of z.p.unit objects) t v → c.regs 2 ≡ word_of_value W E Outer Passes z objects v → (made sc place).stands ≡ None
-      → IsAnswered (text W E Outer Passes z) a.function place t → CodeAt z.w k (answer_code sc place) → Block (text W E Outer Passes z) a.function (k + length (answer_code sc place)) debt rest (λ to left. Ahead (text W E Outer Passes z) (a ∷ others) to left work)
-      → GoesOn W E Outer Passes z debt here (at_with k c d) (store (units 0) place v rest work here)
+  pub finishes : (place : CExpr) (v : Value) (rest : CStmts) (work : List Work) (t : Ty) → Fits (shapes z.p.unit) (layout_of z.p.unit objects) t v → c.regs 2 ≡ word_of_value W E Outer z objects v → (made sc place).stands ≡ None
+      → IsAnswered (text W E Outer z) a.function place t → CodeAt z.w k (answer_code sc place) → Block (text W E Outer z) a.function (k + length (answer_code sc place)) debt rest (λ to left. Ahead (text W E Outer z) (a ∷ others) to left work)
+      → GoesOn W E Outer z debt here (at_with k c d) (store (units 0) place v rest work here)
   finishes place v rest work t fits is stands answered code block =
       let same : answer_code sc place ≡ on_spot (λ b y. Sw 2 b y) 8 ((made sc place).place 8) = ap (λ o. stored_code 2 8 o (made sc place).place) stands in
       let shallow = answered.shallow in
       let few = answered.few in
-      let canonical = word_same (shapes z.p.unit) (map typed_of z.p.unit.globals) z.a.globals z.a.heap objects objects (λ path t h. refl) (rest_of (unit_scope z.p.unit)) (rest_of sc) (end_of W E Outer Passes z []) (end_of W E Outer Passes z (g ∷ fs)) t v fits in
-      store_in runs compose W E Outer Passes z jumps straight held typing exprs objects gv hv hw g fs world calls answer c d a others st r waits 0 0 debt debt 8 2 k (units 0) here (at_with k c d) place t v rest work (none runs z.w Passes (at_with k c d))
+      let canonical = word_same (shapes z.p.unit) (map typed_of z.p.unit.globals) z.a.globals z.a.heap objects objects (λ path t h. refl) (rest_of (unit_scope z.p.unit)) (rest_of sc) (end_of W E Outer z []) (end_of W E Outer z (g ∷ fs)) t v fits in
+      store_in runs compose W E Outer z jumps straight held typing exprs objects gv hv hw g fs world calls answer c d a others st r waits 0 debt debt 8 2 k (units 0) here (at_with k c d) place t v rest work (none runs z.w (at_with k c d))
       (omega arith) (omega arith) (omega (arith, few)) (omega (arith, few)) (omega arith) (omega arith) (omega (arith, shallow)) (omega arith) (λ q. absurd (omega (arith, q))) (λ q. absurd (omega (arith, q)))
       (λ b kept. like_read b.regs c.regs 2 (kept.below 2 (λ q. absurd (omega (arith, q))) (λ q. absurd (omega (arith, q))) (omega arith))) (read_is c.regs 2 (λ q. absurd (omega (arith, q))) ∙ is ∙ sym canonical) fits answered.left stands
-      (subst (CodeAt z.w k) same code) (subst (λ is. Block (text W E Outer Passes z) a.function (k + length is) debt rest (λ to left. Ahead (text W E Outer Passes z) (a ∷ others) to left work)) same block)
+      (subst (CodeAt z.w k) same code) (subst (λ is. Block (text W E Outer z) a.function (k + length is) debt rest (λ to left. Ahead (text W E Outer z) (a ∷ others) to left work)) same block)

@@ -42,23 +42,23 @@ frame_words u f = let e = words_joined (shapes u) f.params (locals_of f.body) in
 pub frame_on : (u : CUnit) (g : Frame) (fs : List Frame) (f : CFunction) → slice_get u.functions g.function ≡ Some f → stack_words u (g ∷ fs) ≡ frame (shapes u) f + stack_words u fs
 frame_on u g fs f is = ap (λ o. unwrap_or (option_map (frame (shapes u)) o) 0 + stack_words u fs) is
 
-module _ (W E : Type 0) (Outer : W → Contents → Behind → Type 0) (Passes : Machine → Machine → Type 0) (z : Setup W E Outer Passes) (held : HeldStays (shapes z.p.unit)) where
+module _ (W E : Type 0) (Outer : W → Contents → Behind → Type 0) (z : Setup W E Outer) (held : HeldStays (shapes z.p.unit)) where
   -- the variables in a frame stay while its words do
-  pub variables_same : (objects : List Ty) (r r' m m' : ℕ → ℕ) (f : CFunction) (g : Frame) (fs : List Frame) (b : Bool) → (scope W E Outer Passes z f).in_registers ≡ false → slice_get z.p.unit.functions g.function ≡ Some f
-      → ((x : ℕ) → end_of W E Outer Passes z fs + 3 ≤ x → x < end_of W E Outer Passes z (g ∷ fs) → m' x ≡ m x) → VariablesHeld W E Outer Passes z objects r m f (g ∷ fs) → VariablesHeld W E Outer Passes z objects r' m' f (g ∷ fs)
-  variables_same objects r r' m m' f g fs b form is e v = by_form (scope W E Outer Passes z f).in_registers form v
+  pub variables_same : (objects : List Ty) (r r' m m' : ℕ → ℕ) (f : CFunction) (g : Frame) (fs : List Frame) (b : Bool) → (scope W E Outer z f).in_registers ≡ false → slice_get z.p.unit.functions g.function ≡ Some f
+      → ((x : ℕ) → end_of W E Outer z fs + 3 ≤ x → x < end_of W E Outer z (g ∷ fs) → m' x ≡ m x) → VariablesHeld W E Outer z objects r m f (g ∷ fs) → VariablesHeld W E Outer z objects r' m' f (g ∷ fs)
+  variables_same objects r r' m m' f g fs b form is e v = by_form (scope W E Outer z f).in_registers form v
     where
-      by_form : (b : Bool) → b ≡ false → RegionHeld (scope W E Outer Passes z f) (bases W E Outer Passes z objects (g ∷ fs)) (if b then r else m) (if b then 20 else (end_of W E Outer Passes z (g ∷ fs) - frame (shapes z.p.unit) f) + 3) (types_of (scope W E Outer Passes z f).env.locals) g.variables
-          → RegionHeld (scope W E Outer Passes z f) (bases W E Outer Passes z objects (g ∷ fs)) (if b then r' else m') (if b then 20 else (end_of W E Outer Passes z (g ∷ fs) - frame (shapes z.p.unit) f) + 3) (types_of (scope W E Outer Passes z f).env.locals) g.variables
+      by_form : (b : Bool) → b ≡ false → RegionHeld (scope W E Outer z f) (bases W E Outer z objects (g ∷ fs)) (if b then r else m) (if b then 20 else (end_of W E Outer z (g ∷ fs) - frame (shapes z.p.unit) f) + 3) (types_of (scope W E Outer z f).env.locals) g.variables
+          → RegionHeld (scope W E Outer z f) (bases W E Outer z objects (g ∷ fs)) (if b then r' else m') (if b then 20 else (end_of W E Outer z (g ∷ fs) - frame (shapes z.p.unit) f) + 3) (types_of (scope W E Outer z f).env.locals) g.variables
       by_form true q h = absurd (cc)
       by_form false q h =
           let on = frame_on z.p.unit g fs f is in
           let ws = frame_words z.p.unit f in
-          held.same (scope W E Outer Passes z f) (bases W E Outer Passes z objects (g ∷ fs)) m m' ((end_of W E Outer Passes z (g ∷ fs) - frame (shapes z.p.unit) f) + 3) (types_of (scope W E Outer Passes z f).env.locals) g.variables refl
+          held.same (scope W E Outer z f) (bases W E Outer z objects (g ∷ fs)) m m' ((end_of W E Outer z (g ∷ fs) - frame (shapes z.p.unit) f) + 3) (types_of (scope W E Outer z f).env.locals) g.variables refl
           (λ x le lt. e x (omega (arith, on, le)) (omega (arith, on, ws, lt))) h
 
   -- the functions that wait stay while the words of their frames do
-  pub waiting_same : (objects : List Ty) (m m' : ℕ → ℕ) (acts : List Activation) (fs : List Frame) → ((x : ℕ) → z.a.stack ≤ x → x < end_of W E Outer Passes z fs → m' x ≡ m x) → Waiting W E Outer Passes z objects m acts fs → Waiting W E Outer Passes z objects m' acts fs
+  pub waiting_same : (objects : List Ty) (m m' : ℕ → ℕ) (acts : List Activation) (fs : List Frame) → ((x : ℕ) → z.a.stack ≤ x → x < end_of W E Outer z fs → m' x ≡ m x) → Waiting W E Outer z objects m acts fs → Waiting W E Outer z objects m' acts fs
   waiting_same objects m m' [] [] e h = tt
   waiting_same objects m m' (a ∷ acts) (g ∷ fs) e h =
       let on = frame_on z.p.unit g fs a.function h.0.is in
@@ -67,7 +67,7 @@ module _ (W E : Type 0) (Outer : W → Contents → Behind → Type 0) (Passes :
           is = h.0.is;
           in_frame = h.0.in_frame;
           calls = h.0.calls;
-          return_at = e (end_of W E Outer Passes z fs) (omega arith) (omega (arith, on, ws)) ∙ h.0.return_at;
+          return_at = e (end_of W E Outer z fs) (omega arith) (omega (arith, on, ws)) ∙ h.0.return_at;
           variables = variables_same objects m m' m m' a.function g fs true h.0.in_frame h.0.is (λ x le lt. e x (omega (arith, le)) lt) h.0.variables;
         },
         waiting_same objects m m' acts fs (λ x le lt. e x le (omega (arith, on, lt))) h.1,
@@ -76,23 +76,23 @@ module _ (W E : Type 0) (Outer : W → Contents → Behind → Type 0) (Passes :
   waiting_same objects m m' (a ∷ acts) [] e h = absurd h
 
   -- the function that runs stays while the registers from 20 on and its frame's words do
-  pub runs_same : (objects : List Ty) (c c' : Contents) (a : Activation) (g : Frame) (fs : List Frame) → ((x : ℕ) → 20 ≤ x → c'.regs x ≡ c.regs x) → ((x : ℕ) → end_of W E Outer Passes z fs ≤ x → x < end_of W E Outer Passes z (g ∷ fs) → c'.memory x ≡ c.memory x)
-      → Runs W E Outer Passes z objects c a g fs → Runs W E Outer Passes z objects c' a g fs
+  pub runs_same : (objects : List Ty) (c c' : Contents) (a : Activation) (g : Frame) (fs : List Frame) → ((x : ℕ) → 20 ≤ x → c'.regs x ≡ c.regs x) → ((x : ℕ) → end_of W E Outer z fs ≤ x → x < end_of W E Outer z (g ∷ fs) → c'.memory x ≡ c.memory x)
+      → Runs W E Outer z objects c a g fs → Runs W E Outer z objects c' a g fs
   runs_same objects c c' a g fs regs words h =
       let on = frame_on z.p.unit g fs a.function h.is in
       let ws = frame_words z.p.unit a.function in
       record {
         is = h.is;
-        return_at = ap₂ (λ m r. if calls_in a.function.body then m else r) (words (end_of W E Outer Passes z fs) (omega arith) (omega (arith, on, ws))) (regs 31 (omega arith)) ∙ h.return_at;
+        return_at = ap₂ (λ m r. if calls_in a.function.body then m else r) (words (end_of W E Outer z fs) (omega arith) (omega (arith, on, ws))) (regs 31 (omega arith)) ∙ h.return_at;
         frame_at = regs 29 (omega arith) ∙ h.frame_at;
-        variables = by_form (scope W E Outer Passes z a.function).in_registers h.variables;
+        variables = by_form (scope W E Outer z a.function).in_registers h.variables;
       }
     where
-      by_form : (b : Bool) → RegionHeld (scope W E Outer Passes z a.function) (bases W E Outer Passes z objects (g ∷ fs)) (if b then c.regs else c.memory) (if b then 20 else (end_of W E Outer Passes z (g ∷ fs) - frame (shapes z.p.unit) a.function) + 3) (types_of (scope W E Outer Passes z a.function).env.locals) g.variables
-          → RegionHeld (scope W E Outer Passes z a.function) (bases W E Outer Passes z objects (g ∷ fs)) (if b then c'.regs else c'.memory) (if b then 20 else (end_of W E Outer Passes z (g ∷ fs) - frame (shapes z.p.unit) a.function) + 3) (types_of (scope W E Outer Passes z a.function).env.locals) g.variables
-      by_form true v = held.same (scope W E Outer Passes z a.function) (bases W E Outer Passes z objects (g ∷ fs)) c.regs c'.regs 20 (types_of (scope W E Outer Passes z a.function).env.locals) g.variables refl (λ x le lt. regs x le) v
+      by_form : (b : Bool) → RegionHeld (scope W E Outer z a.function) (bases W E Outer z objects (g ∷ fs)) (if b then c.regs else c.memory) (if b then 20 else (end_of W E Outer z (g ∷ fs) - frame (shapes z.p.unit) a.function) + 3) (types_of (scope W E Outer z a.function).env.locals) g.variables
+          → RegionHeld (scope W E Outer z a.function) (bases W E Outer z objects (g ∷ fs)) (if b then c'.regs else c'.memory) (if b then 20 else (end_of W E Outer z (g ∷ fs) - frame (shapes z.p.unit) a.function) + 3) (types_of (scope W E Outer z a.function).env.locals) g.variables
+      by_form true v = held.same (scope W E Outer z a.function) (bases W E Outer z objects (g ∷ fs)) c.regs c'.regs 20 (types_of (scope W E Outer z a.function).env.locals) g.variables refl (λ x le lt. regs x le) v
       by_form false v =
           let on = frame_on z.p.unit g fs a.function h.is in
           let ws = frame_words z.p.unit a.function in
-          held.same (scope W E Outer Passes z a.function) (bases W E Outer Passes z objects (g ∷ fs)) c.memory c'.memory ((end_of W E Outer Passes z (g ∷ fs) - frame (shapes z.p.unit) a.function) + 3) (types_of (scope W E Outer Passes z a.function).env.locals) g.variables refl
+          held.same (scope W E Outer z a.function) (bases W E Outer z objects (g ∷ fs)) c.memory c'.memory ((end_of W E Outer z (g ∷ fs) - frame (shapes z.p.unit) a.function) + 3) (types_of (scope W E Outer z a.function).env.locals) g.variables refl
           (λ x le lt. words x (omega (arith, on, le)) (omega (arith, on, ws, lt))) v

@@ -32,47 +32,47 @@ state_of gv hv hw frames = record { global_values = gv; heap_values = hv; heap_w
 abbrev pub standing_at : {W E : Type 0} → Value → Value → ℕ → List Frame → W → List (List E) → Option Value → Configuration W E
 standing_at gv hv hw frames world calls answer = record { state = state_of gv hv hw frames; world = world; calls = calls; answer = answer }
 
-module _ (W E : Type 0) (Outer : W → Contents → Behind → Type 0) (Passes : Machine → Machine → Type 0) (z : Setup W E Outer Passes) where
+module _ (W E : Type 0) (Outer : W → Contents → Behind → Type 0) (z : Setup W E Outer) where
   -- what is known of the expressions of each function that runs
   abbrev pub Exprs : Type 0
   Exprs = (objects : List Ty) (s : State) (g : Frame) (fs : List Frame) (f : CFunction) → s.frames ≡ g ∷ fs → slice_get z.p.unit.functions g.function ≡ Some f → IsTypedWith z.p.unit objects s → AreDeclared (shapes z.p.unit) objects
       → words_of_all (shapes z.p.unit) objects ≤ z.p.heap → stack_words z.p.unit (g ∷ fs) ≤ z.p.stack
-      → ExpressionsDo z.w (env_in (text W E Outer Passes z) f) (scope W E Outer Passes z f) (bases W E Outer Passes z objects (g ∷ fs)) s
+      → ExpressionsDo z.w (env_in (text W E Outer z) f) (scope W E Outer z f) (bases W E Outer z objects (g ∷ fs)) s
 
   -- the state stands ready for the expressions of the function that runs
   pub ready : (objects : List Ty) (gv hv : Value) (hw : ℕ) (g : Frame) (fs : List Frame) (world : W) (calls : List (List E)) (answer : Option Value) (c : Contents) (d : Behind) (a : Activation)
-      → Stands W E Outer Passes z objects (standing_at gv hv hw (g ∷ fs) world calls answer) c d → Runs W E Outer Passes z objects c a g fs
-      → Ready (scope W E Outer Passes z a.function) (bases W E Outer Passes z objects (g ∷ fs)) (state_of gv hv hw (g ∷ fs)) c
+      → Stands W E Outer z objects (standing_at gv hv hw (g ∷ fs) world calls answer) c d → Runs W E Outer z objects c a g fs
+      → Ready (scope W E Outer z a.function) (bases W E Outer z objects (g ∷ fs)) (state_of gv hv hw (g ∷ fs)) c
   ready objects gv hv hw g fs world calls answer c d a st r = record {
     globals_at = st.globals_at;
-    frame_at = λ e. r.frame_at ∙ ap (λ b. 4 * (if b then end_of W E Outer Passes z fs else end_of W E Outer Passes z (g ∷ fs))) e;
-    global_values = region (shapes z.p.unit) (map typed_of z.p.unit.globals) z.a.globals z.a.heap objects objects (λ path t h. refl) (rest_of (unit_scope z.p.unit)) (rest_of (scope W E Outer Passes z a.function))
-        (end_of W E Outer Passes z []) (end_of W E Outer Passes z (g ∷ fs)) c.memory z.a.globals (types_of (map typed_of z.p.unit.globals)) gv st.typed.global_values st.globals;
-    heap_values = region (shapes z.p.unit) (map typed_of z.p.unit.globals) z.a.globals z.a.heap objects objects (λ path t h. refl) (rest_of (unit_scope z.p.unit)) (rest_of (scope W E Outer Passes z a.function))
-        (end_of W E Outer Passes z []) (end_of W E Outer Passes z (g ∷ fs)) c.memory z.a.heap objects hv st.typed.heap_values st.heap;
+    frame_at = λ e. r.frame_at ∙ ap (λ b. 4 * (if b then end_of W E Outer z fs else end_of W E Outer z (g ∷ fs))) e;
+    global_values = region (shapes z.p.unit) (map typed_of z.p.unit.globals) z.a.globals z.a.heap objects objects (λ path t h. refl) (rest_of (unit_scope z.p.unit)) (rest_of (scope W E Outer z a.function))
+        (end_of W E Outer z []) (end_of W E Outer z (g ∷ fs)) c.memory z.a.globals (types_of (map typed_of z.p.unit.globals)) gv st.typed.global_values st.globals;
+    heap_values = region (shapes z.p.unit) (map typed_of z.p.unit.globals) z.a.globals z.a.heap objects objects (λ path t h. refl) (rest_of (unit_scope z.p.unit)) (rest_of (scope W E Outer z a.function))
+        (end_of W E Outer z []) (end_of W E Outer z (g ∷ fs)) c.memory z.a.heap objects hv st.typed.heap_values st.heap;
     local_values = r.variables;
   }
 
   module _ (held : HeldStays (shapes z.p.unit)) where
     -- the functions under way stay so under code of expressions
-    pub under_on : (objects : List Ty) (frames : List Frame) (c c' : Contents) (acts : List Activation) → Keeps 0 0 c c' → UnderWay W E Outer Passes z objects c acts frames → UnderWay W E Outer Passes z objects c' acts frames
+    pub under_on : (objects : List Ty) (frames : List Frame) (c c' : Contents) (acts : List Activation) → Keeps 0 0 c c' → UnderWay W E Outer z objects c acts frames → UnderWay W E Outer z objects c' acts frames
     under_on objects (g ∷ fs) c c' (a ∷ others) k h = (
       record {
         is = h.0.is;
-        return_at = ap₂ (λ m r. if calls_in a.function.body then m else r) (ap (λ m. m (end_of W E Outer Passes z fs)) k.memory) (k.above 31 (omega arith) (omega arith)) ∙ h.0.return_at;
+        return_at = ap₂ (λ m r. if calls_in a.function.body then m else r) (ap (λ m. m (end_of W E Outer z fs)) k.memory) (k.above 31 (omega arith) (omega arith)) ∙ h.0.return_at;
         frame_at = k.above 29 (omega arith) (omega arith) ∙ h.0.frame_at;
-        variables = by_form (scope W E Outer Passes z a.function).in_registers h.0.variables;
+        variables = by_form (scope W E Outer z a.function).in_registers h.0.variables;
       },
-      subst (λ m. Waiting W E Outer Passes z objects m others fs) (sym k.memory) h.1,
+      subst (λ m. Waiting W E Outer z objects m others fs) (sym k.memory) h.1,
     )
       where
-        by_form : (b : Bool) → RegionHeld (scope W E Outer Passes z a.function) (bases W E Outer Passes z objects (g ∷ fs)) (if b then c.regs else c.memory) (if b then 20 else (end_of W E Outer Passes z (g ∷ fs) - frame (shapes z.p.unit) a.function) + 3) (types_of (scope W E Outer Passes z a.function).env.locals) g.variables
-            → RegionHeld (scope W E Outer Passes z a.function) (bases W E Outer Passes z objects (g ∷ fs)) (if b then c'.regs else c'.memory) (if b then 20 else (end_of W E Outer Passes z (g ∷ fs) - frame (shapes z.p.unit) a.function) + 3) (types_of (scope W E Outer Passes z a.function).env.locals) g.variables
-        by_form true v = held.same (scope W E Outer Passes z a.function) (bases W E Outer Passes z objects (g ∷ fs)) c.regs c'.regs 20 (types_of (scope W E Outer Passes z a.function).env.locals) g.variables refl (λ x le lt. k.above x (λ e. absurd (omega (arith, e, le))) le) v
-        by_form false v = subst (λ m. RegionHeld (scope W E Outer Passes z a.function) (bases W E Outer Passes z objects (g ∷ fs)) m ((end_of W E Outer Passes z (g ∷ fs) - frame (shapes z.p.unit) a.function) + 3) (types_of (scope W E Outer Passes z a.function).env.locals) g.variables) (sym k.memory) v
+        by_form : (b : Bool) → RegionHeld (scope W E Outer z a.function) (bases W E Outer z objects (g ∷ fs)) (if b then c.regs else c.memory) (if b then 20 else (end_of W E Outer z (g ∷ fs) - frame (shapes z.p.unit) a.function) + 3) (types_of (scope W E Outer z a.function).env.locals) g.variables
+            → RegionHeld (scope W E Outer z a.function) (bases W E Outer z objects (g ∷ fs)) (if b then c'.regs else c'.memory) (if b then 20 else (end_of W E Outer z (g ∷ fs) - frame (shapes z.p.unit) a.function) + 3) (types_of (scope W E Outer z a.function).env.locals) g.variables
+        by_form true v = held.same (scope W E Outer z a.function) (bases W E Outer z objects (g ∷ fs)) c.regs c'.regs 20 (types_of (scope W E Outer z a.function).env.locals) g.variables refl (λ x le lt. k.above x (λ e. absurd (omega (arith, e, le))) le) v
+        by_form false v = subst (λ m. RegionHeld (scope W E Outer z a.function) (bases W E Outer z objects (g ∷ fs)) m ((end_of W E Outer z (g ∷ fs) - frame (shapes z.p.unit) a.function) + 3) (types_of (scope W E Outer z a.function).env.locals) g.variables) (sym k.memory) v
     under_on objects [] c c' acts k h = absurd (none acts h)
       where
-        none : (acts : List Activation) → UnderWay W E Outer Passes z objects c acts [] → ⊥
+        none : (acts : List Activation) → UnderWay W E Outer z objects c acts [] → ⊥
         none [] h = h
         none (a ∷ others) h = h
     under_on objects (g ∷ fs) c c' [] k h = absurd h

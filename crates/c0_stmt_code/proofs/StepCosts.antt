@@ -76,25 +76,25 @@ module _ (W E : Type 0) (p : Setting W E) (h : Configuration W E) where
       then_some (units 1) 1 (nodes test) h (truth (value_of test h.state)) _ (truth_within test h.state) (omega arith) (omega (arith, small)) (λ n x lo hi. (omega arith, inl (omega arith)))
   statement_some (loop s test body) rest work small = loop_some (units 2) test body rest work (omega arith) refl (omega arith) (omega (arith, small))
 
-module _ (W E : Type 0) (Outer : W → Contents → Behind → Type 0) (Passes : Machine → Machine → Type 0) (z : Setup W E Outer Passes) where
+module _ (W E : Type 0) (Outer : W → Contents → Behind → Type 0) (z : Setup W E Outer) where
   -- what stands ahead has few nodes
-  statement_few : (acts : List Activation) (k debt : ℕ) (t : CStmt) (rest : CStmts) (work : List Work) → Ahead (text W E Outer Passes z) acts k debt (act_on t rest ∷ work) → stmt_nodes t ≤ 2000
+  statement_few : (acts : List Activation) (k debt : ℕ) (t : CStmt) (rest : CStmts) (work : List Work) → Ahead (text W E Outer z) acts k debt (act_on t rest ∷ work) → stmt_nodes t ≤ 2000
   statement_few (a ∷ others) k debt t rest work ahead = ahead.0.few
   statement_few [] k debt t rest work ahead = absurd ahead
 
-  loop_few : (acts : List Activation) (k debt : ℕ) (t : CExpr) (body rest : CStmts) (work : List Work) → Ahead (text W E Outer Passes z) acts k debt (again t body rest ∷ work) → nodes t ≤ 2000
+  loop_few : (acts : List Activation) (k debt : ℕ) (t : CExpr) (body rest : CStmts) (work : List Work) → Ahead (text W E Outer z) acts k debt (again t body rest ∷ work) → nodes t ≤ 2000
   loop_few (a ∷ others) k debt t body rest work ahead = let few = ahead.1.few in omega (arith, few)
   loop_few [] k debt t body rest work ahead = absurd ahead
 
-  return_few : (acts : List Activation) (k debt : ℕ) (answer : CExpr) (target : Target) (work : List Work) → Ahead (text W E Outer Passes z) acts k debt (leave answer target ∷ work) → nodes answer ≤ 2000
+  return_few : (acts : List Activation) (k debt : ℕ) (answer : CExpr) (target : Target) (work : List Work) → Ahead (text W E Outer z) acts k debt (leave answer target ∷ work) → nodes answer ≤ 2000
   return_few (a ∷ others) k debt answer target work ahead = ahead.0.few
   return_few [] k debt answer target work ahead = absurd ahead
 
-  place_few : (acts : List Activation) (k debt : ℕ) (t : Ty) (place : CExpr) (rest : CStmts) (work : List Work) → Awaits (text W E Outer Passes z) acts k debt t (into place rest) work (λ others to left. Ahead (text W E Outer Passes z) others to left work) → nodes place ≤ 2000
+  place_few : (acts : List Activation) (k debt : ℕ) (t : Ty) (place : CExpr) (rest : CStmts) (work : List Work) → Awaits (text W E Outer z) acts k debt t (into place rest) work (λ others to left. Ahead (text W E Outer z) others to left work) → nodes place ≤ 2000
   place_few (a ∷ others) k debt t place rest work ahead = ahead.0.few
   place_few [] k debt t place rest work ahead = absurd ahead
 
-  pub costs_some : (debt : ℕ) (item : Work) (work : List Work) (h : Configuration W E) (s : Machine) → Simulated W E Outer Passes z debt (item ∷ work) h s → CostsSome h (act z.p item work h)
+  pub costs_some : (debt : ℕ) (item : Work) (work : List Work) (h : Configuration W E) (s : Machine) → Simulated W E Outer z debt (item ∷ work) h s → CostsSome h (act z.p item work h)
   costs_some debt (act_on t rest) work h s sim = statement_some W E z.p h t rest work (statement_few sim.activations s.at debt t rest work sim.ahead)
   costs_some debt (finish place v rest) work h s sim = store_some W E z.p h (units 0) place v rest work refl (omega arith) (place_few sim.activations s.at debt sim.t place rest work sim.ahead)
   costs_some debt (again t body rest) work h s sim = loop_some W E z.p h (units 1) t body rest work (omega arith) refl (omega arith) (loop_few sim.activations s.at debt t body rest work sim.ahead)

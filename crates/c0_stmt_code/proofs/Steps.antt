@@ -90,144 +90,144 @@ given_length env (e ∷ es) (t ∷ ts) (more g gs) = let q = given_length env es
 given_length env [] (t ∷ ts) h = elim h [ ]
 given_length env (e ∷ es) [] h = elim h [ ]
 
-module _ (runs : RunLaws) (compose : RunsCompose) (W E : Type 0) (Outer : W → Contents → Behind → Type 0) (Passes : Machine → Machine → Type 0) (z : Setup W E Outer Passes) (jumps : JumpsLead z.w) (straight : StraightRuns z.w)
-    (held : HeldStays (shapes z.p.unit)) (typing : TypedStays z.p.unit) (functions : FunctionsAre z.table z.p.unit) (exprs : Exprs W E Outer Passes z) (fit : (f : CFunction) → LengthsFit (scope W E Outer Passes z f))
+module _ (runs : RunLaws) (compose : RunsCompose) (W E : Type 0) (Outer : W → Contents → Behind → Type 0) (z : Setup W E Outer) (jumps : JumpsLead z.w) (straight : StraightRuns z.w)
+    (held : HeldStays (shapes z.p.unit)) (typing : TypedStays z.p.unit) (functions : FunctionsAre z.table z.p.unit) (exprs : Exprs W E Outer z) (fit : (f : CFunction) → LengthsFit (scope W E Outer z f))
     (asm_runs : AsmRuns z.w) (opened : (x : List ℕ) → words (shapes z.p.unit) (named x) ≡ words_of_all (shapes z.p.unit) (types_of (fields_named (shapes z.p.unit) x)))
     (new_runs : NewRuns z.w) (some_words : (t : CTy) → IsDeclarable (shapes z.p.unit) t → 1 ≤ words (shapes z.p.unit) (ty_of t)) where
   -- the first call
   begins : (objects : List Ty) (gv hv : Value) (hw : ℕ) (fs : List Frame) (world : W) (calls : List (List E)) (answer : Option Value) (c : Contents) (d : Behind) (acts : List Activation)
-      → Stands W E Outer Passes z objects (standing_at gv hv hw fs world calls answer) c d → Waiting W E Outer Passes z objects c.memory acts fs → c.regs 29 ≡ 4 * end_of W E Outer Passes z fs
+      → Stands W E Outer z objects (standing_at gv hv hw fs world calls answer) c d → Waiting W E Outer z objects c.memory acts fs → c.regs 29 ≡ 4 * end_of W E Outer z fs
       → (n to debt : ℕ) (f : CFunction) → slice_get z.p.unit.functions n ≡ Some f → (args : Values) (target : Target) (work : List Work) → c.regs 31 ≡ 4 * to
-      → AllFit (shapes z.p.unit) (layout_of z.p.unit objects) (types_of (map typed_of f.params)) args → AreIn (unit_scope z.p.unit) (bases W E Outer Passes z objects []) c.regs 20 args
-      → Awaits (text W E Outer Passes z) acts to debt (ty_of f.answer) target work (λ others at left. Ahead (text W E Outer Passes z) others at left work)
-      → (l m j : ℕ) (cost : Cost) (h0 : Configuration W E) (s0 : Machine) → Path runs compose W E Outer Passes z jumps l m j s0 (at_with ((text W E Outer Passes z).links.function n) c d) → cost.own + 9 ≤ 2048 * (l + 1) → m ≤ 30 * cost.own → length calls ≡ ended h0 + j
-      → GoesOn W E Outer Passes z debt h0 s0 (call_function z.p cost n args target work (standing_at gv hv hw fs world calls answer))
-  begins objects gv hv hw fs world calls answer c d acts st waits at_end n to debt f is args target work return_at fits arguments ahead l m j cost h0 s0 path low high en =
+      → AllFit (shapes z.p.unit) (layout_of z.p.unit objects) (types_of (map typed_of f.params)) args → AreIn (unit_scope z.p.unit) (bases W E Outer z objects []) c.regs 20 args
+      → Awaits (text W E Outer z) acts to debt (ty_of f.answer) target work (λ others at left. Ahead (text W E Outer z) others at left work)
+      → (l m : ℕ) (cost : Cost) (h0 : Configuration W E) (s0 : Machine) → Path runs compose W E Outer z jumps l m s0 (at_with ((text W E Outer z).links.function n) c d) → cost.own + 9 ≤ 2048 * (l + 1) → m ≤ 30 * cost.own → length calls ≡ ended h0
+      → GoesOn W E Outer z debt h0 s0 (call_function z.p cost n args target work (standing_at gv hv hw fs world calls answer))
+  begins objects gv hv hw fs world calls answer c d acts st waits at_end n to debt f is args target work return_at fits arguments ahead l m cost h0 s0 path low high en =
       by_body f.body refl
     where
-      by_form : (b : Bool) → (scope W E Outer Passes z f).in_registers ≡ b → HasCode f.body → GoesOn W E Outer Passes z debt h0 s0 (call_function z.p cost n args target work (standing_at gv hv hw fs world calls answer))
-      by_form false form b = enters runs compose W E Outer Passes z jumps straight held typing functions opened objects gv hv hw fs world calls answer c d acts st waits at_end n to debt f is args target work return_at fits arguments ahead l m j ((text W E Outer Passes z).links.function n) cost h0 s0 b.locals b.stmts b.answer b.is form path (z.functions n f is) low high en
-      by_form true form b = enters_light runs compose W E Outer Passes z jumps straight held typing functions opened objects gv hv hw fs world calls answer c d acts st waits at_end n to debt f is args target work return_at fits arguments ahead l m j ((text W E Outer Passes z).links.function n) cost h0 s0 b.locals b.stmts b.answer b.is form path (z.functions n f is) low high en
+      by_form : (b : Bool) → (scope W E Outer z f).in_registers ≡ b → HasCode f.body → GoesOn W E Outer z debt h0 s0 (call_function z.p cost n args target work (standing_at gv hv hw fs world calls answer))
+      by_form false form b = enters runs compose W E Outer z jumps straight held typing functions opened objects gv hv hw fs world calls answer c d acts st waits at_end n to debt f is args target work return_at fits arguments ahead l m ((text W E Outer z).links.function n) cost h0 s0 b.locals b.stmts b.answer b.is form path (z.functions n f is) low high en
+      by_form true form b = enters_light runs compose W E Outer z jumps straight held typing functions opened objects gv hv hw fs world calls answer c d acts st waits at_end n to debt f is args target work return_at fits arguments ahead l m ((text W E Outer z).links.function n) cost h0 s0 b.locals b.stmts b.answer b.is form path (z.functions n f is) low high en
 
-      by_body : (b : CBody) → f.body ≡ b → GoesOn W E Outer Passes z debt h0 s0 (call_function z.p cost n args target work (standing_at gv hv hw fs world calls answer))
-      by_body (code ls ss result) e = by_form (scope W E Outer Passes z f).in_registers refl (record { locals = ls; stmts = ss; answer = result; is = e })
+      by_body : (b : CBody) → f.body ≡ b → GoesOn W E Outer z debt h0 s0 (call_function z.p cost n args target work (standing_at gv hv hw fs world calls answer))
+      by_body (code ls ss result) e = by_form (scope W E Outer z f).in_registers refl (record { locals = ls; stmts = ss; answer = result; is = e })
       by_body (asm bytes span ws) e =
           let q = functions.asms n f bytes span ws is e in
           let l4 = q.1 in
           let size = params_length f.params in
-          enters_asm runs compose W E Outer Passes z jumps straight held asm_runs objects gv hv hw fs world calls answer c d acts st waits at_end n to debt f is args target work return_at fits arguments ahead l m j ((text W E Outer Passes z).links.function n) cost h0 s0 bytes span ws e q.0 (omega (arith, l4, size)) size q.2 q.3 path (z.functions n f is) low high en
+          enters_asm runs compose W E Outer z jumps straight held asm_runs objects gv hv hw fs world calls answer c d acts st waits at_end n to debt f is args target work return_at fits arguments ahead l m ((text W E Outer z).links.function n) cost h0 s0 bytes span ws e q.0 (omega (arith, l4, size)) size q.2 q.3 path (z.functions n f is) low high en
 
   module _ (objects : List Ty) (gv hv : Value) (hw : ℕ) (g : Frame) (fs : List Frame) (world : W) (calls : List (List E)) (answer : Option Value) (c : Contents) (d : Behind) (a : Activation) (others : List Activation)
-      (st : Stands W E Outer Passes z objects (standing_at gv hv hw (g ∷ fs) world calls answer) c d) (r : Runs W E Outer Passes z objects c a g fs) (waits : Waiting W E Outer Passes z objects c.memory others fs)
+      (st : Stands W E Outer z objects (standing_at gv hv hw (g ∷ fs) world calls answer) c d) (r : Runs W E Outer z objects c a g fs) (waits : Waiting W E Outer z objects c.memory others fs)
       (k debt : ℕ) where
     abbrev sc : Scope
-    sc = scope W E Outer Passes z a.function
+    sc = scope W E Outer z a.function
 
     abbrev here : Configuration W E
     here = standing_at gv hv hw (g ∷ fs) world calls answer
 
     abbrev At : ℕ → CStmts → List Work → Type 0
-    At k rest work = Block (text W E Outer Passes z) a.function k debt rest (λ to left. Ahead (text W E Outer Passes z) (a ∷ others) to left work)
+    At k rest work = Block (text W E Outer z) a.function k debt rest (λ to left. Ahead (text W E Outer z) (a ∷ others) to left work)
 
     -- a statement
-    states : (t : CStmt) (rest : CStmts) (work : List Work) → StatementStands (text W E Outer Passes z) a.function k t → At (k + length (stmt_code sc (text W E Outer Passes z).links t)) rest work
-        → StepIs W E Outer Passes z debt (act_on t rest) here (at_with k c d) (act_statement z.p t rest work here)
-    states (assign s p v) rest work stands block = goes_on W E Outer Passes z debt (act_on (assign s p v) rest) here (at_with k c d) (act_statement z.p (assign s p v) rest work here) (by_rule stands.typed)
+    states : (t : CStmt) (rest : CStmts) (work : List Work) → StatementStands (text W E Outer z) a.function k t → At (k + length (stmt_code sc (text W E Outer z).links t)) rest work
+        → StepIs W E Outer z debt (act_on t rest) here (at_with k c d) (act_statement z.p t rest work here)
+    states (assign s p v) rest work stands block = goes_on W E Outer z debt (act_on (assign s p v) rest) here (at_with k c d) (act_statement z.p (assign s p v) rest work here) (by_rule stands.typed)
       where
-        by_rule : IsNumbered (env_in (text W E Outer Passes z) a.function) (assign s p v) → GoesOn W E Outer Passes z debt here (at_with k c d) (act_statement z.p (assign s p v) rest work here)
+        by_rule : IsNumbered (env_in (text W E Outer z) a.function) (assign s p v) → GoesOn W E Outer z debt here (at_with k c d) (act_statement z.p (assign s p v) rest work here)
         by_rule (an_assignment {t = t} left given deep) = by_stands (made sc p).stands refl
           where
-            by_stands : (o : Option ℕ) → (made sc p).stands ≡ o → GoesOn W E Outer Passes z debt here (at_with k c d) (act_statement z.p (assign s p v) rest work here)
+            by_stands : (o : Option ℕ) → (made sc p).stands ≡ o → GoesOn W E Outer z debt here (at_with k c d) (act_statement z.p (assign s p v) rest work here)
             by_stands None e = let few = stands.few in
-                assigns runs compose W E Outer Passes z jumps straight held typing exprs fit objects gv hv hw g fs world calls answer c d a others st r waits k debt rest work p v t left given deep (omega (arith, few)) e stands.code block
+                assigns runs compose W E Outer z jumps straight held typing exprs fit objects gv hv hw g fs world calls answer c d a others st r waits k debt rest work p v t left given deep (omega (arith, few)) e stands.code block
             by_stands (Some x) e = let few = stands.few in
-                assigns_light runs compose W E Outer Passes z jumps straight held typing exprs fit objects gv hv hw g fs world calls answer c d a others st r waits k debt rest work p v t x (variable_is (env_in (text W E Outer Passes z) a.function) sc x p t left.typed left.place e) left given deep (omega (arith, few)) e stands.code block
-    states (choice s t x y) rest work stands block = goes_on W E Outer Passes z debt (act_on (choice s t x y) rest) here (at_with k c d) (act_statement z.p (choice s t x y) rest work here) (by_rule stands.typed)
+                assigns_light runs compose W E Outer z jumps straight held typing exprs fit objects gv hv hw g fs world calls answer c d a others st r waits k debt rest work p v t x (variable_is (env_in (text W E Outer z) a.function) sc x p t left.typed left.place e) left given deep (omega (arith, few)) e stands.code block
+    states (choice s t x y) rest work stands block = goes_on W E Outer z debt (act_on (choice s t x y) rest) here (at_with k c d) (act_statement z.p (choice s t x y) rest work here) (by_rule stands.typed)
       where
-        by_rule : IsNumbered (env_in (text W E Outer Passes z) a.function) (choice s t x y) → GoesOn W E Outer Passes z debt here (at_with k c d) (act_statement z.p (choice s t x y) rest work here)
+        by_rule : IsNumbered (env_in (text W E Outer z) a.function) (choice s t x y) → GoesOn W E Outer z debt here (at_with k c d) (act_statement z.p (choice s t x y) rest work here)
         by_rule (a_choice test tx ty) = let few = stands.few in
-            chooses runs compose W E Outer Passes z jumps straight held typing exprs fit objects gv hv hw g fs world calls answer c d a others st r waits k debt rest work t x y test tx ty (omega (arith, few)) stands.free stands.calls stands.code block
-    states (loop s t b) rest work stands block = goes_on W E Outer Passes z debt (act_on (loop s t b) rest) here (at_with k c d) (act_statement z.p (loop s t b) rest work here) (by_rule stands.typed)
+            chooses runs compose W E Outer z jumps straight held typing exprs fit objects gv hv hw g fs world calls answer c d a others st r waits k debt rest work t x y test tx ty (omega (arith, few)) stands.free stands.calls stands.code block
+    states (loop s t b) rest work stands block = goes_on W E Outer z debt (act_on (loop s t b) rest) here (at_with k c d) (act_statement z.p (loop s t b) rest work here) (by_rule stands.typed)
       where
-        by_rule : IsNumbered (env_in (text W E Outer Passes z) a.function) (loop s t b) → GoesOn W E Outer Passes z debt here (at_with k c d) (act_statement z.p (loop s t b) rest work here)
+        by_rule : IsNumbered (env_in (text W E Outer z) a.function) (loop s t b) → GoesOn W E Outer z debt here (at_with k c d) (act_statement z.p (loop s t b) rest work here)
         by_rule (a_loop test tb) =
             let few = stands.few in
-            let l = stmts_length sc (text W E Outer Passes z).links (fit a.function) b in
-            let go = away runs z.w Passes 1 (at_with k c d) (at_with (k + 1 + length (stmts_code sc (text W E Outer Passes z).links b)) c d) (λ q. absurd (omega (arith, q))) (skipped runs compose z.w Passes jumps k (length (stmts_code sc (text W E Outer Passes z).links b)) c d st.idle (omega (arith, l, few)) stands.code.0) in
-            turns runs compose W E Outer Passes z jumps straight held typing exprs fit objects gv hv hw g fs world calls answer c d a others st r waits k debt rest work k 1 2 (at_with k c d) t b
-            (record { test = test; body_typed = tb; few = omega (arith, few); free = stands.free; calls = stands.calls; code = stands.code }) block (omega arith) (omega arith) (omega arith) (within runs z.w Passes 1 1 0 0 1 0 _ _ (omega arith) (omega arith) refl go)
-    states (new s p t ts) rest work stands block = goes_on W E Outer Passes z debt (act_on (new s p t ts) rest) here (at_with k c d) (act_statement z.p (new s p t ts) rest work here) (by_rule stands.typed)
+            let l = stmts_length sc (text W E Outer z).links (fit a.function) b in
+            let go = away runs z.w 1 (at_with k c d) (at_with (k + 1 + length (stmts_code sc (text W E Outer z).links b)) c d) (λ q. absurd (omega (arith, q))) (skipped runs compose z.w jumps k (length (stmts_code sc (text W E Outer z).links b)) c d st.idle (omega (arith, l, few)) stands.code.0) in
+            turns runs compose W E Outer z jumps straight held typing exprs fit objects gv hv hw g fs world calls answer c d a others st r waits k debt rest work k 1 2 (at_with k c d) t b
+            (record { test = test; body_typed = tb; few = omega (arith, few); free = stands.free; calls = stands.calls; code = stands.code }) block (omega arith) (omega arith) (omega arith) (within runs z.w 1 1 0 1 _ _ (omega arith) (omega arith) go)
+    states (new s p t ts) rest work stands block = goes_on W E Outer z debt (act_on (new s p t ts) rest) here (at_with k c d) (act_statement z.p (new s p t ts) rest work here) (by_rule stands.typed)
       where
-        by_rule : IsNumbered (env_in (text W E Outer Passes z) a.function) (new s p t ts) → GoesOn W E Outer Passes z debt here (at_with k c d) (act_statement z.p (new s p t ts) rest work here)
+        by_rule : IsNumbered (env_in (text W E Outer z) a.function) (new s p t ts) → GoesOn W E Outer z debt here (at_with k c d) (act_statement z.p (new s p t ts) rest work here)
         by_rule (an_object left declarable settled shallow) = let few = stands.few in
-            makes_object runs compose W E Outer Passes z jumps straight held typing exprs new_runs some_words opened objects gv hv hw g fs world calls answer c d a others st r waits (stands.calls refl) k debt t declarable s p rest work left shallow (omega (arith, few)) stands.code block
+            makes_object runs compose W E Outer z jumps straight held typing exprs new_runs some_words opened objects gv hv hw g fs world calls answer c d a others st r waits (stands.calls refl) k debt t declarable s p rest work left shallow (omega (arith, few)) stands.code block
     states (call s p cs callee args) rest work stands block = by_rule stands.typed
       where
-        by_rule : IsNumbered (env_in (text W E Outer Passes z) a.function) (call s p cs callee args) → StepIs W E Outer Passes z debt (act_on (call s p cs callee args) rest) here (at_with k c d) (act_statement z.p (call s p cs callee args) rest work here)
+        by_rule : IsNumbered (env_in (text W E Outer z) a.function) (call s p cs callee args) → StepIs W E Outer z debt (act_on (call s p cs callee args) rest) here (at_with k c d) (act_statement z.p (call s p cs callee args) rest work here)
         by_rule (a_call {c = signature} found left given deep) = by_kind callee.kind refl
           where
             in_frame : (b : Bool) → sc.in_registers ≡ b → (sc.in_registers ≡ true → IsTrue (is_free_of_calls (call s p cs callee args))) → b ≡ false
             in_frame true e free = absurd (let h = free e in cc)
             in_frame false e free = refl
 
-            by_kind : (kd : Kind) → callee.kind ≡ kd → StepIs W E Outer Passes z debt (act_on (call s p cs callee args) rest) here (at_with k c d) (act_statement z.p (call s p cs callee args) rest work here)
+            by_kind : (kd : Kind) → callee.kind ≡ kd → StepIs W E Outer z debt (act_on (call s p cs callee args) rest) here (at_with k c d) (act_statement z.p (call s p cs callee args) rest work here)
             by_kind Function e =
-                let is = subst (λ kd. callee_at (env_in (text W E Outer Passes z) a.function) kd callee.number ≡ Some signature) e found in
+                let is = subst (λ kd. callee_at (env_in (text W E Outer z) a.function) kd callee.number ≡ Some signature) e found in
                 let q = signature_from z.p.unit.functions callee.number signature is in
                 let few = stands.few in
                 let types : signature.params ≡ types_of (map typed_of q.0.params) = sym (ap (λ y. y.params) q.2) ∙ types_of_params q.0.params in
-                let given2 = subst (λ ts. AreNumberedGiven (env_in (text W E Outer Passes z) a.function) args ts) types given in
-                let left2 = subst (λ t. IsNumberedLeft (env_in (text W E Outer Passes z) a.function) p t) (sym (ap (λ y. y.answer) q.2)) left in
+                let given2 = subst (λ ts. AreNumberedGiven (env_in (text W E Outer z) a.function) args ts) types given in
+                let left2 = subst (λ t. IsNumberedLeft (env_in (text W E Outer z) a.function) p t) (sym (ap (λ y. y.answer) q.2)) left in
                 let many = functions.few callee.number q.0 q.1 in
-                let count = given_length (env_in (text W E Outer Passes z) a.function) args (types_of (map typed_of q.0.params)) given2 in
+                let count = given_length (env_in (text W E Outer z) a.function) args (types_of (map typed_of q.0.params)) given2 in
                 let size = params_length q.0.params in
-                let index : callee_index (text W E Outer Passes z).links callee.kind callee.number ≡ (text W E Outer Passes z).links.function callee.number = ap (λ kd. callee_index (text W E Outer Passes z).links kd callee.number) e in
-                goes_on W E Outer Passes z debt (act_on (call s p cs callee args) rest) here (at_with k c d) (act_statement z.p (call s p cs callee args) rest work here)
-                (subst (λ kd. GoesOn W E Outer Passes z debt here (at_with k c d) (then_go (units 1) here (values_of args here.state) (λ cost vs. call_with z.p cost kd callee.number vs (into p rest) work here))) (sym e)
-                (calls_function runs compose W E Outer Passes z jumps straight held typing functions exprs objects gv hv hw g fs world calls answer c d a others st r waits (in_frame sc.in_registers refl stands.free) (stands.calls refl) k debt callee.number q.0 args p rest work q.1
-                (λ c2 vs l m j cost st2 w2 at2 to ret fits are ahead path low high en. begins objects gv hv hw (g ∷ fs) world calls answer c2 d (a ∷ others) st2 w2 at2 callee.number to debt q.0 q.1 vs (into p rest) work ret fits are ahead l m j cost here (at_with k c d) path low high en)
+                let index : callee_index (text W E Outer z).links callee.kind callee.number ≡ (text W E Outer z).links.function callee.number = ap (λ kd. callee_index (text W E Outer z).links kd callee.number) e in
+                goes_on W E Outer z debt (act_on (call s p cs callee args) rest) here (at_with k c d) (act_statement z.p (call s p cs callee args) rest work here)
+                (subst (λ kd. GoesOn W E Outer z debt here (at_with k c d) (then_go (units 1) here (values_of args here.state) (λ cost vs. call_with z.p cost kd callee.number vs (into p rest) work here))) (sym e)
+                (calls_function runs compose W E Outer z jumps straight held typing functions exprs objects gv hv hw g fs world calls answer c d a others st r waits (in_frame sc.in_registers refl stands.free) (stands.calls refl) k debt callee.number q.0 args p rest work q.1
+                (λ c2 vs l m cost st2 w2 at2 to ret fits are ahead path low high en. begins objects gv hv hw (g ∷ fs) world calls answer c2 d (a ∷ others) st2 w2 at2 callee.number to debt q.0 q.1 vs (into p rest) work ret fits are ahead l m cost here (at_with k c d) path low high en)
                 given2 (omega (arith, count, size, many)) (omega (arith, size, many)) left2 deep (omega (arith, few))
                 (subst (λ i. CodeAt z.w k (args_code sc args 0 ++ (Jal i ∷ answer_code sc p))) index stands.code)
                 (subst (λ i. At (k + length (args_code sc args 0 ++ (Jal i ∷ answer_code sc p))) rest work) index block)))
             by_kind Primitive e =
-                let is = subst (λ kd. callee_at (env_in (text W E Outer Passes z) a.function) kd callee.number ≡ Some signature) e found in
+                let is = subst (λ kd. callee_at (env_in (text W E Outer z) a.function) kd callee.number ≡ Some signature) e found in
                 let q = primitive_from z.table callee.number signature is in
                 let few = stands.few in
-                let given2 = subst (λ ts. AreNumberedGiven (env_in (text W E Outer Passes z) a.function) args ts) (sym (ap (λ y. y.params) q.2)) given in
-                let left2 = subst (λ t. IsNumberedLeft (env_in (text W E Outer Passes z) a.function) p t) (sym (ap (λ y. y.answer) q.2)) left in
+                let given2 = subst (λ ts. AreNumberedGiven (env_in (text W E Outer z) a.function) args ts) (sym (ap (λ y. y.params) q.2)) given in
+                let left2 = subst (λ t. IsNumberedLeft (env_in (text W E Outer z) a.function) p t) (sym (ap (λ y. y.answer) q.2)) left in
                 let many = z.few_arguments callee.number q.0 q.1 in
-                let count = given_length (env_in (text W E Outer Passes z) a.function) args (map scalar_ty q.0.args) given2 in
+                let count = given_length (env_in (text W E Outer z) a.function) args (map scalar_ty q.0.args) given2 in
                 let size = scalars_length q.0.args in
-                let index : callee_index (text W E Outer Passes z).links callee.kind callee.number ≡ (text W E Outer Passes z).links.primitive callee.number = ap (λ kd. callee_index (text W E Outer Passes z).links kd callee.number) e in
-                subst (λ kd. StepIs W E Outer Passes z debt (act_on (call s p cs callee args) rest) here (at_with k c d) (then_go (units 1) here (values_of args here.state) (λ cost vs. call_with z.p cost kd callee.number vs (into p rest) work here))) (sym e)
-                (calls_primitive runs compose W E Outer Passes z jumps straight held typing exprs objects gv hv hw g fs world calls answer c d a others st r waits (in_frame sc.in_registers refl stands.free) (stands.calls refl) k debt callee.number q.0 args p rest work q.1
+                let index : callee_index (text W E Outer z).links callee.kind callee.number ≡ (text W E Outer z).links.primitive callee.number = ap (λ kd. callee_index (text W E Outer z).links kd callee.number) e in
+                subst (λ kd. StepIs W E Outer z debt (act_on (call s p cs callee args) rest) here (at_with k c d) (then_go (units 1) here (values_of args here.state) (λ cost vs. call_with z.p cost kd callee.number vs (into p rest) work here))) (sym e)
+                (calls_primitive runs compose W E Outer z jumps straight held typing exprs objects gv hv hw g fs world calls answer c d a others st r waits (in_frame sc.in_registers refl stands.free) (stands.calls refl) k debt callee.number q.0 args p rest work q.1
                 given2 (omega (arith, count, size, many)) (act_on (call s p cs callee args) rest) (λ u vs same. (e, refl, (u, same))) left2 deep (omega (arith, few)) (answer_some sc p)
                 (subst (λ i. CodeAt z.w k (args_code sc args 0 ++ (Jal i ∷ answer_code sc p))) index stands.code)
                 (subst (λ i. At (k + length (args_code sc args 0 ++ (Jal i ∷ answer_code sc p))) rest work) index block))
-            by_kind Unresolved e = let is = subst (λ kd. callee_at (env_in (text W E Outer Passes z) a.function) kd callee.number ≡ Some signature) e found in absurd (cc)
-            by_kind Struct e = let is = subst (λ kd. callee_at (env_in (text W E Outer Passes z) a.function) kd callee.number ≡ Some signature) e found in absurd (cc)
-            by_kind Field e = let is = subst (λ kd. callee_at (env_in (text W E Outer Passes z) a.function) kd callee.number ≡ Some signature) e found in absurd (cc)
-            by_kind Global e = let is = subst (λ kd. callee_at (env_in (text W E Outer Passes z) a.function) kd callee.number ≡ Some signature) e found in absurd (cc)
-            by_kind Local e = let is = subst (λ kd. callee_at (env_in (text W E Outer Passes z) a.function) kd callee.number ≡ Some signature) e found in absurd (cc)
+            by_kind Unresolved e = let is = subst (λ kd. callee_at (env_in (text W E Outer z) a.function) kd callee.number ≡ Some signature) e found in absurd (cc)
+            by_kind Struct e = let is = subst (λ kd. callee_at (env_in (text W E Outer z) a.function) kd callee.number ≡ Some signature) e found in absurd (cc)
+            by_kind Field e = let is = subst (λ kd. callee_at (env_in (text W E Outer z) a.function) kd callee.number ≡ Some signature) e found in absurd (cc)
+            by_kind Global e = let is = subst (λ kd. callee_at (env_in (text W E Outer z) a.function) kd callee.number ≡ Some signature) e found in absurd (cc)
+            by_kind Local e = let is = subst (λ kd. callee_at (env_in (text W E Outer z) a.function) kd callee.number ≡ Some signature) e found in absurd (cc)
 
     -- a work item of the function that runs
-    acts : (item : Work) (work : List Work) → Ahead (text W E Outer Passes z) (a ∷ others) k debt (item ∷ work) → StepIs W E Outer Passes z debt item here (at_with k c d) (act z.p item work here)
+    acts : (item : Work) (work : List Work) → Ahead (text W E Outer z) (a ∷ others) k debt (item ∷ work) → StepIs W E Outer z debt item here (at_with k c d) (act z.p item work here)
     acts (act_on t rest) work ahead = states t rest work ahead.0 ahead.1
     acts (again t body rest) work ahead =
-        let path : Path runs compose W E Outer Passes z jumps 0 0 0 (at_with k c d) (at_with (ahead.0 + 1 + length (stmts_code sc (text W E Outer Passes z).links body)) c d) = subst (λ y. Way runs z.w Passes 0 0 0 (at_with k c d) (at_with y c d)) ahead.2 (no_way runs z.w Passes (at_with k c d)) in
-        goes_on W E Outer Passes z debt (again t body rest) here (at_with k c d) (act z.p (again t body rest) work here)
-        (turns runs compose W E Outer Passes z jumps straight held typing exprs fit objects gv hv hw g fs world calls answer c d a others st r waits k debt rest work ahead.0 0 1 (at_with k c d) t body ahead.1 ahead.3 (omega arith) (omega arith) (omega arith) path)
-    acts (leave result target) work ahead = goes_on W E Outer Passes z debt (leave result target) here (at_with k c d) (act z.p (leave result target) work here) (by_form sc.in_registers refl)
+        let path : Path runs compose W E Outer z jumps 0 0 (at_with k c d) (at_with (ahead.0 + 1 + length (stmts_code sc (text W E Outer z).links body)) c d) = subst (λ y. Way runs z.w 0 0 (at_with k c d) (at_with y c d)) ahead.2 (no_way runs z.w (at_with k c d)) in
+        goes_on W E Outer z debt (again t body rest) here (at_with k c d) (act z.p (again t body rest) work here)
+        (turns runs compose W E Outer z jumps straight held typing exprs fit objects gv hv hw g fs world calls answer c d a others st r waits k debt rest work ahead.0 0 1 (at_with k c d) t body ahead.1 ahead.3 (omega arith) (omega arith) (omega arith) path)
+    acts (leave result target) work ahead = goes_on W E Outer z debt (leave result target) here (at_with k c d) (act z.p (leave result target) work here) (by_form sc.in_registers refl)
       where
-        by_form : (b : Bool) → sc.in_registers ≡ b → GoesOn W E Outer Passes z debt here (at_with k c d) (act z.p (leave result target) work here)
-        by_form false form = leaves runs compose W E Outer Passes z jumps straight held typing functions exprs fit objects gv hv hw g fs world calls answer c d a others st r waits k debt result target work form ahead.0 ahead.1
-        by_form true form = leaves_light runs compose W E Outer Passes z jumps straight held typing functions exprs fit objects gv hv hw g fs world calls answer c d a others st r waits k debt result target work form ahead.0 ahead.1
+        by_form : (b : Bool) → sc.in_registers ≡ b → GoesOn W E Outer z debt here (at_with k c d) (act z.p (leave result target) work here)
+        by_form false form = leaves runs compose W E Outer z jumps straight held typing functions exprs fit objects gv hv hw g fs world calls answer c d a others st r waits k debt result target work form ahead.0 ahead.1
+        by_form true form = leaves_light runs compose W E Outer z jumps straight held typing functions exprs fit objects gv hv hw g fs world calls answer c d a others st r waits k debt result target work form ahead.0 ahead.1
     acts (finish place v rest) work ahead = absurd ahead
     acts (begin n args) work ahead = absurd ahead
 
   by_parts : (frames : List Frame) (objects : List Ty) (gv hv : Value) (hw : ℕ) (world : W) (calls : List (List E)) (answer : Option Value) (c : Contents) (d : Behind) (under_way : List Activation) (k debt : ℕ) (item : Work) (work : List Work)
-      → Stands W E Outer Passes z objects (standing_at gv hv hw frames world calls answer) c d → UnderWay W E Outer Passes z objects c under_way frames → Ahead (text W E Outer Passes z) under_way k debt (item ∷ work)
-      → StepIs W E Outer Passes z debt item (standing_at gv hv hw frames world calls answer) (at_with k c d) (act z.p item work (standing_at gv hv hw frames world calls answer))
+      → Stands W E Outer z objects (standing_at gv hv hw frames world calls answer) c d → UnderWay W E Outer z objects c under_way frames → Ahead (text W E Outer z) under_way k debt (item ∷ work)
+      → StepIs W E Outer z debt item (standing_at gv hv hw frames world calls answer) (at_with k c d) (act z.p item work (standing_at gv hv hw frames world calls answer))
   by_parts (g ∷ fs) objects gv hv hw world calls answer c d (a ∷ others) k debt item work st under ahead =
       acts objects gv hv hw g fs world calls answer c d a others st under.0 under.1 k debt item work ahead
   by_parts [] objects gv hv hw world calls answer c d [] k debt item work st under ahead = absurd under
@@ -235,54 +235,54 @@ module _ (runs : RunLaws) (compose : RunsCompose) (W E : Type 0) (Outer : W → 
   by_parts (g ∷ fs) objects gv hv hw world calls answer c d [] k debt item work st under ahead = absurd under
 
   finish_parts : (frames : List Frame) (objects : List Ty) (gv hv : Value) (hw : ℕ) (world : W) (calls : List (List E)) (answer : Option Value) (c : Contents) (d : Behind) (under_way : List Activation) (k debt : ℕ) (place : CExpr) (v : Value) (rest : CStmts) (work : List Work) (t : Ty)
-      → Stands W E Outer Passes z objects (standing_at gv hv hw frames world calls answer) c d → UnderWay W E Outer Passes z objects c under_way frames → Fits (shapes z.p.unit) (layout_of z.p.unit objects) t v → c.regs 2 ≡ word_of_value W E Outer Passes z objects v
-      → Awaits (text W E Outer Passes z) under_way k debt t (into place rest) work (λ others to left. Ahead (text W E Outer Passes z) others to left work)
-      → GoesOn W E Outer Passes z debt (standing_at gv hv hw frames world calls answer) (at_with k c d) (act z.p (finish place v rest) work (standing_at gv hv hw frames world calls answer))
+      → Stands W E Outer z objects (standing_at gv hv hw frames world calls answer) c d → UnderWay W E Outer z objects c under_way frames → Fits (shapes z.p.unit) (layout_of z.p.unit objects) t v → c.regs 2 ≡ word_of_value W E Outer z objects v
+      → Awaits (text W E Outer z) under_way k debt t (into place rest) work (λ others to left. Ahead (text W E Outer z) others to left work)
+      → GoesOn W E Outer z debt (standing_at gv hv hw frames world calls answer) (at_with k c d) (act z.p (finish place v rest) work (standing_at gv hv hw frames world calls answer))
   finish_parts (g ∷ fs) objects gv hv hw world calls answer c d (a ∷ others) k debt place v rest work t st under fits is ahead =
-      by_stands (made (scope W E Outer Passes z a.function) place).stands refl
+      by_stands (made (scope W E Outer z a.function) place).stands refl
     where
-      by_stands : (o : Option ℕ) → (made (scope W E Outer Passes z a.function) place).stands ≡ o → GoesOn W E Outer Passes z debt (standing_at gv hv hw (g ∷ fs) world calls answer) (at_with k c d) (act z.p (finish place v rest) work (standing_at gv hv hw (g ∷ fs) world calls answer))
-      by_stands None e = finishes runs compose W E Outer Passes z jumps straight held typing functions exprs fit objects gv hv hw g fs world calls answer c d a others st under.0 under.1 k debt place v rest work t fits is e ahead.0 ahead.1 ahead.2
+      by_stands : (o : Option ℕ) → (made (scope W E Outer z a.function) place).stands ≡ o → GoesOn W E Outer z debt (standing_at gv hv hw (g ∷ fs) world calls answer) (at_with k c d) (act z.p (finish place v rest) work (standing_at gv hv hw (g ∷ fs) world calls answer))
+      by_stands None e = finishes runs compose W E Outer z jumps straight held typing functions exprs fit objects gv hv hw g fs world calls answer c d a others st under.0 under.1 k debt place v rest work t fits is e ahead.0 ahead.1 ahead.2
       by_stands (Some x) e = let left = ahead.0.left in
-          finishes_light runs compose W E Outer Passes z jumps straight held typing exprs fit opened objects gv hv hw g fs world calls answer c d a others st under.0 under.1 k debt rest work place v t x fits is (variable_is (env_in (text W E Outer Passes z) a.function) (scope W E Outer Passes z a.function) x place t left.typed left.place e) e ahead.0 ahead.1 ahead.2
+          finishes_light runs compose W E Outer z jumps straight held typing exprs fit opened objects gv hv hw g fs world calls answer c d a others st under.0 under.1 k debt rest work place v t x fits is (variable_is (env_in (text W E Outer z) a.function) (scope W E Outer z a.function) x place t left.typed left.place e) e ahead.0 ahead.1 ahead.2
   finish_parts [] objects gv hv hw world calls answer c d [] k debt place v rest work t st under fits is ahead = absurd under
   finish_parts [] objects gv hv hw world calls answer c d (a ∷ others) k debt place v rest work t st under fits is ahead = absurd under
   finish_parts (g ∷ fs) objects gv hv hw world calls answer c d [] k debt place v rest work t st under fits is ahead = absurd under
 
   begin_parts : (frames : List Frame) (objects : List Ty) (gv hv : Value) (hw : ℕ) (world : W) (calls : List (List E)) (answer : Option Value) (c : Contents) (d : Behind) (under_way : List Activation) (k debt n to : ℕ) (args : Values) (work : List Work) (f : CFunction)
-      → Stands W E Outer Passes z objects (standing_at gv hv hw frames world calls answer) c d → Waiting W E Outer Passes z objects c.memory under_way frames → c.regs 29 ≡ 4 * end_of W E Outer Passes z frames → slice_get z.p.unit.functions n ≡ Some f → k ≡ (text W E Outer Passes z).links.function n → c.regs 31 ≡ 4 * to
-      → AllFit (shapes z.p.unit) (layout_of z.p.unit objects) (types_of (map typed_of f.params)) args → AreIn (unit_scope z.p.unit) (bases W E Outer Passes z objects []) c.regs 20 args → Awaits (text W E Outer Passes z) under_way to debt (ty_of f.answer) outward work (λ others at left. Ahead (text W E Outer Passes z) others at left work)
-      → GoesOn W E Outer Passes z debt (standing_at gv hv hw frames world calls answer) (at_with k c d) (act z.p (begin n args) work (standing_at gv hv hw frames world calls answer))
+      → Stands W E Outer z objects (standing_at gv hv hw frames world calls answer) c d → Waiting W E Outer z objects c.memory under_way frames → c.regs 29 ≡ 4 * end_of W E Outer z frames → slice_get z.p.unit.functions n ≡ Some f → k ≡ (text W E Outer z).links.function n → c.regs 31 ≡ 4 * to
+      → AllFit (shapes z.p.unit) (layout_of z.p.unit objects) (types_of (map typed_of f.params)) args → AreIn (unit_scope z.p.unit) (bases W E Outer z objects []) c.regs 20 args → Awaits (text W E Outer z) under_way to debt (ty_of f.answer) outward work (λ others at left. Ahead (text W E Outer z) others at left work)
+      → GoesOn W E Outer z debt (standing_at gv hv hw frames world calls answer) (at_with k c d) (act z.p (begin n args) work (standing_at gv hv hw frames world calls answer))
   begin_parts [] objects gv hv hw world calls answer c d [] k debt n to args work f st waits at_end is at ret fits are ahead =
-      begins objects gv hv hw [] world calls answer c d [] st waits at_end n to debt f is args outward work ret fits are ahead 0 0 0 (units 0) (standing_at gv hv hw [] world calls answer) (at_with k c d)
-      (subst (λ y. Way runs z.w Passes 0 0 0 (at_with k c d) (at_with y c d)) at (no_way runs z.w Passes (at_with k c d))) (omega arith) (omega arith) (omega arith)
+      begins objects gv hv hw [] world calls answer c d [] st waits at_end n to debt f is args outward work ret fits are ahead 0 0 (units 0) (standing_at gv hv hw [] world calls answer) (at_with k c d)
+      (subst (λ y. Way runs z.w 0 0 (at_with k c d) (at_with y c d)) at (no_way runs z.w (at_with k c d))) (omega arith) (omega arith) (omega arith)
   begin_parts (g ∷ fs) objects gv hv hw world calls answer c d [] k debt n to args work f st waits at_end is at ret fits are ahead = absurd waits
   begin_parts frames objects gv hv hw world calls answer c d (a ∷ others) k debt n to args work f st waits at_end is at ret fits are ahead = absurd ahead
 
-  pub steps : (debt : ℕ) (item : Work) (work : List Work) (h : Configuration W E) (s : Machine) → Simulated W E Outer Passes z debt (item ∷ work) h s → StepIs W E Outer Passes z debt item h s (act z.p item work h)
+  pub steps : (debt : ℕ) (item : Work) (work : List Work) (h : Configuration W E) (s : Machine) → Simulated W E Outer z debt (item ∷ work) h s → StepIs W E Outer z debt item h s (act z.p item work h)
   steps debt (act_on t rest) work h s sim = by_parts h.state.frames sim.objects h.state.global_values h.state.heap_values h.state.heap_words h.world h.calls h.answer s.contents s.behind sim.activations s.at debt (act_on t rest) work sim.stands sim.under_way sim.ahead
   steps debt (again t body rest) work h s sim = by_parts h.state.frames sim.objects h.state.global_values h.state.heap_values h.state.heap_words h.world h.calls h.answer s.contents s.behind sim.activations s.at debt (again t body rest) work sim.stands sim.under_way sim.ahead
   steps debt (leave result target) work h s sim = by_parts h.state.frames sim.objects h.state.global_values h.state.heap_values h.state.heap_words h.world h.calls h.answer s.contents s.behind sim.activations s.at debt (leave result target) work sim.stands sim.under_way sim.ahead
-  steps debt (finish place v rest) work h s sim = goes_on W E Outer Passes z debt (finish place v rest) h s (act z.p (finish place v rest) work h) (finish_parts h.state.frames sim.objects h.state.global_values h.state.heap_values h.state.heap_words h.world h.calls h.answer s.contents s.behind sim.activations s.at debt place v rest work sim.t sim.stands sim.under_way sim.fits sim.answer sim.ahead)
-  steps debt (begin n args) work h s sim = goes_on W E Outer Passes z debt (begin n args) h s (act z.p (begin n args) work h) (begin_parts h.state.frames sim.objects h.state.global_values h.state.heap_values h.state.heap_words h.world h.calls h.answer s.contents s.behind sim.activations s.at debt n sim.to args work sim.function sim.stands sim.waiting sim.frame_at sim.is sim.at sim.return_at sim.fits sim.arguments sim.ahead)
+  steps debt (finish place v rest) work h s sim = goes_on W E Outer z debt (finish place v rest) h s (act z.p (finish place v rest) work h) (finish_parts h.state.frames sim.objects h.state.global_values h.state.heap_values h.state.heap_words h.world h.calls h.answer s.contents s.behind sim.activations s.at debt place v rest work sim.t sim.stands sim.under_way sim.fits sim.answer sim.ahead)
+  steps debt (begin n args) work h s sim = goes_on W E Outer z debt (begin n args) h s (act z.p (begin n args) work h) (begin_parts h.state.frames sim.objects h.state.global_values h.state.heap_values h.state.heap_words h.world h.calls h.answer s.contents s.behind sim.activations s.at debt n sim.to args work sim.function sim.stands sim.waiting sim.frame_at sim.is sim.at sim.return_at sim.fits sim.arguments sim.ahead)
 
 -- where anything is left to do the unit has a function, and so what its expressions rest on holds
-module _ (areas : AreasHold) (W E : Type 0) (Outer : W → Contents → Behind → Type 0) (Passes : Machine → Machine → Type 0) (z : Setup W E Outer Passes) where
+module _ (areas : AreasHold) (W E : Type 0) (Outer : W → Contents → Behind → Type 0) (z : Setup W E Outer) where
   opened_by : (n : ℕ) (f : CFunction) → slice_get z.p.unit.functions n ≡ Some f → IsOpened (shapes z.p.unit)
   opened_by n f is =
-      let sc = scope W E Outer Passes z f in
+      let sc = scope W E Outer z f in
       let words : ℕ = words_of_all (shapes z.p.unit) (types_of (map typed_of z.p.unit.globals)) in
       (areas z.table z.p.unit z.well_formed f n is z.places (record z.w { words = 1 + words_of_all (shapes z.p.unit) (types_of (map typed_of z.p.unit.globals)) + sc.frame })
       (record { globals = 1; heap = 1 + words_of_all (shapes z.p.unit) (types_of (map typed_of z.p.unit.globals)); frame_end = 1 + words_of_all (shapes z.p.unit) (types_of (map typed_of z.p.unit.globals)) + sc.frame; objects = [] })
       (record { from = omega arith; heap = omega arith; frame = omega arith; inside = omega arith }) (record { heap_behind = omega arith; frame_behind = omega arith }) (λ i t e. absurd (cc))).opened
 
-  under_opened : (objects : List Ty) (c : Contents) (frames : List Frame) (under_way : List Activation) → UnderWay W E Outer Passes z objects c under_way frames → IsOpened (shapes z.p.unit)
+  under_opened : (objects : List Ty) (c : Contents) (frames : List Frame) (under_way : List Activation) → UnderWay W E Outer z objects c under_way frames → IsOpened (shapes z.p.unit)
   under_opened objects c (g ∷ fs) (a ∷ others) under = opened_by g.function a.function under.0.is
   under_opened objects c [] [] under = absurd under
   under_opened objects c [] (a ∷ others) under = absurd under
   under_opened objects c (g ∷ fs) [] under = absurd under
 
-  pub opened_of : (debt : ℕ) (item : Work) (work : List Work) (h : Configuration W E) (s : Machine) → Simulated W E Outer Passes z debt (item ∷ work) h s → IsOpened (shapes z.p.unit)
+  pub opened_of : (debt : ℕ) (item : Work) (work : List Work) (h : Configuration W E) (s : Machine) → Simulated W E Outer z debt (item ∷ work) h s → IsOpened (shapes z.p.unit)
   opened_of debt (act_on t rest) work h s sim = under_opened sim.objects s.contents h.state.frames sim.activations sim.under_way
   opened_of debt (again t body rest) work h s sim = under_opened sim.objects s.contents h.state.frames sim.activations sim.under_way
   opened_of debt (leave result target) work h s sim = under_opened sim.objects s.contents h.state.frames sim.activations sim.under_way

@@ -20,15 +20,15 @@ use Rattle.c0_stmt_code.proofs.Held.{word_same}
 use Rattle.c0_stmt_code.proofs.State.{rest_of, state_of, standing_at}
 use Rattle.c0_stmt_code.proofs.Rooms.{put_same, put_other, words_by_types, frame_words, frame_on, waiting_same, runs_same}
 
-module _ (W E : Type 0) (Outer : W → Contents → Behind → Type 0) (Passes : Machine → Machine → Type 0) (z : Setup W E Outer Passes) (held : HeldStays (shapes z.p.unit)) (typing : TypedStays z.p.unit)
+module _ (W E : Type 0) (Outer : W → Contents → Behind → Type 0) (z : Setup W E Outer) (held : HeldStays (shapes z.p.unit)) (typing : TypedStays z.p.unit)
     (objects : List Ty) (gv hv : Value) (hw : ℕ) (g : Frame) (fs : List Frame) (world : W) (calls : List (List E)) (answer : Option Value) (c : Contents) (d : Behind) (a : Activation) (others : List Activation)
-    (st : Stands W E Outer Passes z objects (standing_at gv hv hw (g ∷ fs) world calls answer) c d) (r : Runs W E Outer Passes z objects c a g fs) (waits : Waiting W E Outer Passes z objects c.memory others fs) where
+    (st : Stands W E Outer z objects (standing_at gv hv hw (g ∷ fs) world calls answer) c d) (r : Runs W E Outer z objects c a g fs) (waits : Waiting W E Outer z objects c.memory others fs) where
   -- the word of a location
   abbrev pub place : Region → List ℕ → ℕ
-  place region path = word_at (scope W E Outer Passes z a.function) (bases W E Outer Passes z objects (g ∷ fs)) (record { region = region; path = path })
+  place region path = word_at (scope W E Outer z a.function) (bases W E Outer z objects (g ∷ fs)) (record { region = region; path = path })
 
   abbrev pub its_word : Value → ℕ
-  its_word v = word (scope W E Outer Passes z a.function) (bases W E Outer Passes z objects (g ∷ fs)) v
+  its_word v = word (scope W E Outer z a.function) (bases W E Outer z objects (g ∷ fs)) v
 
   -- where it lies
   pub record Spot (region : Region) (path : List ℕ) : Type 0 where
@@ -36,11 +36,11 @@ module _ (W E : Type 0) (Outer : W → Contents → Behind → Type 0) (Passes :
     pub to : place region path < z.a.stack + z.p.stack
 
   -- the local's word, in a frame
-  local_at : (path : List ℕ) (b : Bool) → b ≡ false → (if b then 20 else (end_of W E Outer Passes z (g ∷ fs) - frame (shapes z.p.unit) a.function) + 3) ≡ end_of W E Outer Passes z fs + 3
+  local_at : (path : List ℕ) (b : Bool) → b ≡ false → (if b then 20 else (end_of W E Outer z (g ∷ fs) - frame (shapes z.p.unit) a.function) + 3) ≡ end_of W E Outer z fs + 3
   local_at path true e = absurd (cc)
   local_at path false e = let on = frame_on z.p.unit g fs a.function r.is in omega (arith, on)
 
-  pub spot : (region : Region) (path : List ℕ) (t : Ty) → LeadsFrom (shapes z.p.unit) (types_for z.p.unit objects a.function region) path t → IsTrue (is_scalar t) → (region ≡ locals → (scope W E Outer Passes z a.function).in_registers ≡ false) → Spot region path
+  pub spot : (region : Region) (path : List ℕ) (t : Ty) → LeadsFrom (shapes z.p.unit) (types_for z.p.unit objects a.function region) path t → IsTrue (is_scalar t) → (region ≡ locals → (scope W E Outer z a.function).in_registers ≡ false) → Spot region path
   spot globals path t l scalar form =
       let i = held.inside (types_of (map typed_of z.p.unit.globals)) path t l scalar in
       let w = words_by_types (shapes z.p.unit) (map typed_of z.p.unit.globals) in
@@ -55,8 +55,8 @@ module _ (W E : Type 0) (Outer : W → Contents → Behind → Type 0) (Passes :
       let o = st.room in
       record { from = omega (arith, f); to = omega (arith, i, f, g, u, o) }
   spot locals path t l scalar form =
-      let i = held.inside (types_of (scope W E Outer Passes z a.function).env.locals) path t l scalar in
-      let at = local_at path (scope W E Outer Passes z a.function).in_registers (form refl) in
+      let i = held.inside (types_of (scope W E Outer z a.function).env.locals) path t l scalar in
+      let at = local_at path (scope W E Outer z a.function).in_registers (form refl) in
       let on = frame_on z.p.unit g fs a.function r.is in
       let ws = frame_words z.p.unit a.function in
       let f = z.globals_fit in
@@ -66,11 +66,11 @@ module _ (W E : Type 0) (Outer : W → Contents → Behind → Type 0) (Passes :
 
   module _ (c' : Contents) (t : Ty) (v : Value) (special : c'.special ≡ c.special) (above : (x : ℕ) → 20 ≤ x → c'.regs x ≡ c.regs x) (scalar : IsTrue (is_scalar t)) (fits : Fits (shapes z.p.unit) (layout_of z.p.unit objects) t v) where
     -- the word of a value, for every function
-    canonical : its_word v ≡ word (unit_scope z.p.unit) (bases W E Outer Passes z objects []) v
-    canonical = word_same (shapes z.p.unit) (map typed_of z.p.unit.globals) z.a.globals z.a.heap objects objects (λ path t h. refl) (rest_of (unit_scope z.p.unit)) (rest_of (scope W E Outer Passes z a.function)) (end_of W E Outer Passes z []) (end_of W E Outer Passes z (g ∷ fs)) t v fits
+    canonical : its_word v ≡ word (unit_scope z.p.unit) (bases W E Outer z objects []) v
+    canonical = word_same (shapes z.p.unit) (map typed_of z.p.unit.globals) z.a.globals z.a.heap objects objects (λ path t h. refl) (rest_of (unit_scope z.p.unit)) (rest_of (scope W E Outer z a.function)) (end_of W E Outer z []) (end_of W E Outer z (g ∷ fs)) t v fits
 
-    pub stored : (region : Region) (path : List ℕ) → LeadsFrom (shapes z.p.unit) (types_for z.p.unit objects a.function region) path t → (region ≡ locals → (scope W E Outer Passes z a.function).in_registers ≡ false) → c'.memory ≡ put_word c.memory (place region path) (its_word v)
-        → Stands W E Outer Passes z objects (record (standing_at gv hv hw (g ∷ fs) world calls answer) { state = write (state_of gv hv hw (g ∷ fs)) (record { region = region; path = path }) v }) c' d × UnderWay W E Outer Passes z objects c' (a ∷ others) (write (state_of gv hv hw (g ∷ fs)) (record { region = region; path = path }) v).frames
+    pub stored : (region : Region) (path : List ℕ) → LeadsFrom (shapes z.p.unit) (types_for z.p.unit objects a.function region) path t → (region ≡ locals → (scope W E Outer z a.function).in_registers ≡ false) → c'.memory ≡ put_word c.memory (place region path) (its_word v)
+        → Stands W E Outer z objects (record (standing_at gv hv hw (g ∷ fs) world calls answer) { state = write (state_of gv hv hw (g ∷ fs)) (record { region = region; path = path }) v }) c' d × UnderWay W E Outer z objects c' (a ∷ others) (write (state_of gv hv hw (g ∷ fs)) (record { region = region; path = path }) v).frames
     stored globals path l form m =
         let i = held.inside (types_of (map typed_of z.p.unit.globals)) path t l scalar in
         let w = words_by_types (shapes z.p.unit) (map typed_of z.p.unit.globals) in
@@ -90,8 +90,8 @@ module _ (W E : Type 0) (Outer : W → Contents → Behind → Type 0) (Passes :
             used = st.used;
             room = st.room;
             stack_room = st.stack_room;
-            globals = held.stored (unit_scope z.p.unit) (bases W E Outer Passes z objects []) c.memory c'.memory z.a.globals (types_of (map typed_of z.p.unit.globals)) path t gv v refl l scalar st.globals (here ∙ canonical) other;
-            heap = held.same (unit_scope z.p.unit) (bases W E Outer Passes z objects []) c.memory c'.memory z.a.heap objects hv refl (λ x le lt. other x (λ e. absurd (omega (arith, e, le, i, w, gf)))) st.heap;
+            globals = held.stored (unit_scope z.p.unit) (bases W E Outer z objects []) c.memory c'.memory z.a.globals (types_of (map typed_of z.p.unit.globals)) path t gv v refl l scalar st.globals (here ∙ canonical) other;
+            heap = held.same (unit_scope z.p.unit) (bases W E Outer z objects []) c.memory c'.memory z.a.heap objects hv refl (λ x le lt. other x (λ e. absurd (omega (arith, e, le, i, w, gf)))) st.heap;
             used_word = other 1026 (λ e. absurd (omega (arith, e, from, low))) ∙ st.used_word;
             heap_size = other 1027 (λ e. absurd (omega (arith, e, from, low))) ∙ st.heap_size;
             heap_first = other 1028 (λ e. absurd (omega (arith, e, from, low))) ∙ st.heap_first;
@@ -103,8 +103,8 @@ module _ (W E : Type 0) (Outer : W → Contents → Behind → Type 0) (Passes :
             idle = st.idle;
           },
           (
-            runs_same W E Outer Passes z held objects c c' a g fs above (λ x le lt. other x (λ e. absurd (omega (arith, e, le, i, w, gf, hf)))) r,
-            waiting_same W E Outer Passes z held objects c.memory c'.memory others fs (λ x le lt. other x (λ e. absurd (omega (arith, e, le, i, w, gf, hf)))) waits,
+            runs_same W E Outer z held objects c c' a g fs above (λ x le lt. other x (λ e. absurd (omega (arith, e, le, i, w, gf, hf)))) r,
+            waiting_same W E Outer z held objects c.memory c'.memory others fs (λ x le lt. other x (λ e. absurd (omega (arith, e, le, i, w, gf, hf)))) waits,
           ),
         )
     stored heap path l form m =
@@ -126,8 +126,8 @@ module _ (W E : Type 0) (Outer : W → Contents → Behind → Type 0) (Passes :
             used = st.used;
             room = st.room;
             stack_room = st.stack_room;
-            globals = held.same (unit_scope z.p.unit) (bases W E Outer Passes z objects []) c.memory c'.memory z.a.globals (types_of (map typed_of z.p.unit.globals)) gv refl (λ x le lt. other x (λ e. absurd (omega (arith, e, lt, w, gf)))) st.globals;
-            heap = held.stored (unit_scope z.p.unit) (bases W E Outer Passes z objects []) c.memory c'.memory z.a.heap objects path t hv v refl l scalar st.heap (here ∙ canonical) other;
+            globals = held.same (unit_scope z.p.unit) (bases W E Outer z objects []) c.memory c'.memory z.a.globals (types_of (map typed_of z.p.unit.globals)) gv refl (λ x le lt. other x (λ e. absurd (omega (arith, e, lt, w, gf)))) st.globals;
+            heap = held.stored (unit_scope z.p.unit) (bases W E Outer z objects []) c.memory c'.memory z.a.heap objects path t hv v refl l scalar st.heap (here ∙ canonical) other;
             used_word = other 1026 (λ e. absurd (omega (arith, e, from, low))) ∙ st.used_word;
             heap_size = other 1027 (λ e. absurd (omega (arith, e, from, low))) ∙ st.heap_size;
             heap_first = other 1028 (λ e. absurd (omega (arith, e, from, low))) ∙ st.heap_first;
@@ -139,13 +139,13 @@ module _ (W E : Type 0) (Outer : W → Contents → Behind → Type 0) (Passes :
             idle = st.idle;
           },
           (
-            runs_same W E Outer Passes z held objects c c' a g fs above (λ x le lt. other x (λ e. absurd (omega (arith, e, le, i, u, o, hf)))) r,
-            waiting_same W E Outer Passes z held objects c.memory c'.memory others fs (λ x le lt. other x (λ e. absurd (omega (arith, e, le, i, u, o, hf)))) waits,
+            runs_same W E Outer z held objects c c' a g fs above (λ x le lt. other x (λ e. absurd (omega (arith, e, le, i, u, o, hf)))) r,
+            waiting_same W E Outer z held objects c.memory c'.memory others fs (λ x le lt. other x (λ e. absurd (omega (arith, e, le, i, u, o, hf)))) waits,
           ),
         )
     stored locals path l form m =
-        let i = held.inside (types_of (scope W E Outer Passes z a.function).env.locals) path t l scalar in
-        let at = local_at path (scope W E Outer Passes z a.function).in_registers (form refl) in
+        let i = held.inside (types_of (scope W E Outer z a.function).env.locals) path t l scalar in
+        let at = local_at path (scope W E Outer z a.function).in_registers (form refl) in
         let on = frame_on z.p.unit g fs a.function r.is in
         let ws = frame_words z.p.unit a.function in
         let w = words_by_types (shapes z.p.unit) (map typed_of z.p.unit.globals) in
@@ -165,8 +165,8 @@ module _ (W E : Type 0) (Outer : W → Contents → Behind → Type 0) (Passes :
             used = st.used;
             room = st.room;
             stack_room = st.stack_room;
-            globals = held.same (unit_scope z.p.unit) (bases W E Outer Passes z objects []) c.memory c'.memory z.a.globals (types_of (map typed_of z.p.unit.globals)) gv refl (λ x le lt. other x (λ e. absurd (omega (arith, e, lt, w, gf, hf, at)))) st.globals;
-            heap = held.same (unit_scope z.p.unit) (bases W E Outer Passes z objects []) c.memory c'.memory z.a.heap objects hv refl (λ x le lt. other x (λ e. absurd (omega (arith, e, lt, u, o, hf, at)))) st.heap;
+            globals = held.same (unit_scope z.p.unit) (bases W E Outer z objects []) c.memory c'.memory z.a.globals (types_of (map typed_of z.p.unit.globals)) gv refl (λ x le lt. other x (λ e. absurd (omega (arith, e, lt, w, gf, hf, at)))) st.globals;
+            heap = held.same (unit_scope z.p.unit) (bases W E Outer z objects []) c.memory c'.memory z.a.heap objects hv refl (λ x le lt. other x (λ e. absurd (omega (arith, e, lt, u, o, hf, at)))) st.heap;
             used_word = other 1026 (λ e. absurd (omega (arith, e, from, low))) ∙ st.used_word;
             heap_size = other 1027 (λ e. absurd (omega (arith, e, from, low))) ∙ st.heap_size;
             heap_first = other 1028 (λ e. absurd (omega (arith, e, from, low))) ∙ st.heap_first;
@@ -180,18 +180,18 @@ module _ (W E : Type 0) (Outer : W → Contents → Behind → Type 0) (Passes :
           (
             record {
               is = r.is;
-              return_at = ap₂ (λ m r. if calls_in a.function.body then m else r) (other (end_of W E Outer Passes z fs) (λ e. absurd (omega (arith, e, at)))) (above 31 (omega arith)) ∙ r.return_at;
+              return_at = ap₂ (λ m r. if calls_in a.function.body then m else r) (other (end_of W E Outer z fs) (λ e. absurd (omega (arith, e, at)))) (above 31 (omega arith)) ∙ r.return_at;
               frame_at = above 29 (omega arith) ∙ r.frame_at;
-              variables = by_form (scope W E Outer Passes z a.function).in_registers (form refl) at here (λ y ne. other y ne) r.variables;
+              variables = by_form (scope W E Outer z a.function).in_registers (form refl) at here (λ y ne. other y ne) r.variables;
             },
-            waiting_same W E Outer Passes z held objects c.memory c'.memory others fs (λ x le lt. other x (λ e. absurd (omega (arith, e, lt, at)))) waits,
+            waiting_same W E Outer z held objects c.memory c'.memory others fs (λ x le lt. other x (λ e. absurd (omega (arith, e, lt, at)))) waits,
           ),
         )
       where
-        by_form : (b : Bool) → b ≡ false → (if b then 20 else (end_of W E Outer Passes z (g ∷ fs) - frame (shapes z.p.unit) a.function) + 3) ≡ end_of W E Outer Passes z fs + 3
-            → c'.memory ((if b then 20 else (end_of W E Outer Passes z (g ∷ fs) - frame (shapes z.p.unit) a.function) + 3) + words_to_part (shapes z.p.unit) (types_of (scope W E Outer Passes z a.function).env.locals) path) ≡ its_word v
-            → ((k : ℕ) → k ≢ (if b then 20 else (end_of W E Outer Passes z (g ∷ fs) - frame (shapes z.p.unit) a.function) + 3) + words_to_part (shapes z.p.unit) (types_of (scope W E Outer Passes z a.function).env.locals) path → c'.memory k ≡ c.memory k)
-            → RegionHeld (scope W E Outer Passes z a.function) (bases W E Outer Passes z objects (g ∷ fs)) (if b then c.regs else c.memory) (if b then 20 else (end_of W E Outer Passes z (g ∷ fs) - frame (shapes z.p.unit) a.function) + 3) (types_of (scope W E Outer Passes z a.function).env.locals) g.variables
-            → RegionHeld (scope W E Outer Passes z a.function) (bases W E Outer Passes z objects (g ∷ fs)) (if b then c'.regs else c'.memory) (if b then 20 else (end_of W E Outer Passes z (g ∷ fs) - frame (shapes z.p.unit) a.function) + 3) (types_of (scope W E Outer Passes z a.function).env.locals) (put g.variables path v)
+        by_form : (b : Bool) → b ≡ false → (if b then 20 else (end_of W E Outer z (g ∷ fs) - frame (shapes z.p.unit) a.function) + 3) ≡ end_of W E Outer z fs + 3
+            → c'.memory ((if b then 20 else (end_of W E Outer z (g ∷ fs) - frame (shapes z.p.unit) a.function) + 3) + words_to_part (shapes z.p.unit) (types_of (scope W E Outer z a.function).env.locals) path) ≡ its_word v
+            → ((k : ℕ) → k ≢ (if b then 20 else (end_of W E Outer z (g ∷ fs) - frame (shapes z.p.unit) a.function) + 3) + words_to_part (shapes z.p.unit) (types_of (scope W E Outer z a.function).env.locals) path → c'.memory k ≡ c.memory k)
+            → RegionHeld (scope W E Outer z a.function) (bases W E Outer z objects (g ∷ fs)) (if b then c.regs else c.memory) (if b then 20 else (end_of W E Outer z (g ∷ fs) - frame (shapes z.p.unit) a.function) + 3) (types_of (scope W E Outer z a.function).env.locals) g.variables
+            → RegionHeld (scope W E Outer z a.function) (bases W E Outer z objects (g ∷ fs)) (if b then c'.regs else c'.memory) (if b then 20 else (end_of W E Outer z (g ∷ fs) - frame (shapes z.p.unit) a.function) + 3) (types_of (scope W E Outer z a.function).env.locals) (put g.variables path v)
         by_form true q at here other h = absurd (cc)
-        by_form false q at here other h = held.stored (scope W E Outer Passes z a.function) (bases W E Outer Passes z objects (g ∷ fs)) c.memory c'.memory ((end_of W E Outer Passes z (g ∷ fs) - frame (shapes z.p.unit) a.function) + 3) (types_of (scope W E Outer Passes z a.function).env.locals) path t g.variables v refl l scalar h here other
+        by_form false q at here other h = held.stored (scope W E Outer z a.function) (bases W E Outer z objects (g ∷ fs)) c.memory c'.memory ((end_of W E Outer z (g ∷ fs) - frame (shapes z.p.unit) a.function) + 3) (types_of (scope W E Outer z a.function).env.locals) path t g.variables v refl l scalar h here other

@@ -9,3 +9,4 @@ pub mod Ranges
 pub mod Rows
 pub mod Setup
 pub mod Standing
+pub mod Zeros

@@ -73,7 +73,7 @@ pub record Called (w : World) (x : Links) (row : CPrimitive) (n : ℕ) (vs : Val
   pub idle : s.behind.pending ≡ Idle
 
 -- What is fixed in a run of a unit's code. `Outer` says how the rest of the machine stands for the world's value.
-pub record Setup (W E : Type 0) (Outer : W → Contents → Behind → Type 0) (Passes : Configuration → Configuration → Type 0) : Type 0 where
+pub record Setup (W E : Type 0) (Outer : W → Contents → Behind → Type 0) : Type 0 where
   pub w : World
   pub sound : Sound w
   pub table : List CPrimitive

@@ -42,7 +42,7 @@ IsCallOf h item number values = ⊥
 abbrev pub AreDeclared : List Shape → List Ty → Type 0
 AreDeclared structs types = (i : ℕ) (t : Ty) → slice_get types i ≡ Some t → (c : CTy) × (ty_of c ≡ t) × IsDeclarable structs c
 
-module _ (W E : Type 0) (Outer : W → Contents → Behind → Type 0) (Passes : Machine → Machine → Type 0) (z : Setup W E Outer Passes) where
+module _ (W E : Type 0) (Outer : W → Contents → Behind → Type 0) (z : Setup W E Outer) where
   -- what is the same for all functions
   abbrev pub text : Text
   text = record { w = z.w; table = z.table; unit = z.p.unit; scope = λ f. scope_of z.p.unit f z.places; links = links_of z.places; back = z.a.back }
@@ -177,7 +177,7 @@ module _ (W E : Type 0) (Outer : W → Contents → Behind → Type 0) (Passes :
 
   -- a step is done: its own units have led the machine to where what is left to do stands
   abbrev pub IsGone : (debt : ℕ) → Configuration W E → Machine → Cost → List Work → Configuration W E → Type 0
-  IsGone debt h s cost work h' = (t : Machine) × (left : ℕ) × Led z.w Passes cost.own debt left h h' s t × Simulated left work h' t
+  IsGone debt h s cost work h' = (t : Machine) × (left : ℕ) × Led z.w cost.own debt left h h' s t × Simulated left work h' t
 
   -- A step is a call statement of a primitive: its own units have led the machine to the primitive's entry, with its arguments and the word to which it returns, and no more than the heap is used. And
   -- wherever it comes back, with its answer in register 2, while the rest of the machine stands for the world's value after it, the step is done.
@@ -205,7 +205,7 @@ module _ (W E : Type 0) (Outer : W → Contents → Behind → Type 0) (Passes :
   -- what a step of the meaning comes to in the machine: the step of this work item
   abbrev pub StepIs : (debt : ℕ) → Work → Configuration W E → Machine → Step W E → Type 0
   StepIs debt item h s (Go cost work h') = IsGone debt h s cost work h' ⊎ IsCalling debt item h s cost work h'
-  StepIs debt item h s (Stop cost (faulted f) h') = (t : Machine) × Stopped z.w Passes cost.own debt h h' s t × AtExit f h' t
+  StepIs debt item h s (Stop cost (faulted f) h') = (t : Machine) × Stopped z.w cost.own debt h h' s t × AtExit f h' t
   StepIs debt item h s (Stop cost stuck h') = ⊥
 
 -- A step costs a unit of its own at least; it costs none of a primitive, unless a call of one has ended. One that faults costs few.
@@ -214,11 +214,11 @@ CostsSome h (Go cost work h') = (1 ≤ cost.own) × ((cost.primitive ≡ 0) ⊎ 
 CostsSome h (Stop cost f h') = (1 ≤ cost.own) × (total cost ≤ 8388608)
 
 -- a law: so does each step, where what is left to do stands in the machine
-abbrev pub StepsCostSome : (W E : Type 0) (Outer : W → Contents → Behind → Type 0) (Passes : Machine → Machine → Type 0) → Type 0
-StepsCostSome W E Outer Passes = (z : Setup W E Outer Passes) (debt : ℕ) (item : Work) (work : List Work) (h : Configuration W E) (s : Machine)
-    → Simulated W E Outer Passes z debt (item ∷ work) h s → CostsSome h (act z.p item work h)
+abbrev pub StepsCostSome : (W E : Type 0) (Outer : W → Contents → Behind → Type 0) → Type 0
+StepsCostSome W E Outer = (z : Setup W E Outer) (debt : ℕ) (item : Work) (work : List Work) (h : Configuration W E) (s : Machine)
+    → Simulated W E Outer z debt (item ∷ work) h s → CostsSome h (act z.p item work h)
 
 -- A law: where what is left to do stands in the machine, a step of C0's meaning is a run of the code, over any machine with primitives.
-abbrev pub StepsRun : (W E : Type 0) (Outer : W → Contents → Behind → Type 0) (Passes : Machine → Machine → Type 0) → Type 0
-StepsRun W E Outer Passes = (z : Setup W E Outer Passes) (debt : ℕ) (item : Work) (work : List Work) (h : Configuration W E) (s : Machine)
-    → Simulated W E Outer Passes z debt (item ∷ work) h s → StepIs W E Outer Passes z debt item h s (act z.p item work h)
+abbrev pub StepsRun : (W E : Type 0) (Outer : W → Contents → Behind → Type 0) → Type 0
+StepsRun W E Outer = (z : Setup W E Outer) (debt : ℕ) (item : Work) (work : List Work) (h : Configuration W E) (s : Machine)
+    → Simulated W E Outer z debt (item ∷ work) h s → StepIs W E Outer z debt item h s (act z.p item work h)

@@ -3,7 +3,8 @@
 ghost use Rattle.c0_stmt_code.specs.Rows.{AreCodes};
 ghost use Rattle.c0_stmt_code.specs.Standing.{StepsCostSome, StepsRun};
 ghost use Rattle.c0_stmt_code.specs.Frames.{FramesAreMade};
-ghost use Rattle.mips_table.specs.Code.{Contents, Behind, World, Sound, Configuration};
+ghost use Rattle.c0_stmt_code.specs.Zeros.{ZerosAreHeld};
+ghost use Rattle.mips_table.specs.Code.{Contents, Behind, World, Sound};
 
 use c0_asm_body::laws::asm_bodies_run;
 use c0_expr_code::laws::{
@@ -16,7 +17,7 @@ use c0_runtime::laws::objects_are_made;
 use masm::laws::{jumps_lead, runs_compose, straight_code_runs};
 use mips_table::runs::code_runs_join;
 
-/// The machine under a unit's code: what the rest of it stands for, and how primitives are passed.
+/// The machine under a unit's code: what the rest of it stands for.
 pub trait Outside {
     ghost Standing: { Type 0 };
 
@@ -26,13 +27,11 @@ pub trait Outside {
     ghost Fixed: { Type 0 };
 
     ghost outer: { Fixed → Standing → Contents → Behind → Type 0 };
-
-    ghost passes: { Configuration → Configuration → Type 0 };
 }
 
 /// A step of C0's meaning is a run of the code.
 pub fn steps_run<M: Outside>()
-    ensures { (fixed : M.Fixed) → StepsRun M.Standing M.Entry (M.outer fixed) M.passes }
+    ensures { (fixed : M.Fixed) → StepsRun M.Standing M.Entry (M.outer fixed) }
 {
     expressions_run();
     tests_run();
@@ -55,7 +54,7 @@ pub fn steps_run<M: Outside>()
 
 /// Each step costs some units, and one that faults few.
 pub fn steps_cost_some<M: Outside>()
-    ensures { (fixed : M.Fixed) → StepsCostSome M.Standing M.Entry (M.outer fixed) M.passes }
+    ensures { (fixed : M.Fixed) → StepsCostSome M.Standing M.Entry (M.outer fixed) }
 {}
 
 /// A function's frame is made behind the stack's test: a parameter takes at most 3 steps, and so does a word of the locals.
@@ -67,6 +66,11 @@ pub fn frames_are_made()
     jumps_lead();
     code_runs_join();
 }
+
+/// Variables whose words are 0 have the values of the start.
+pub fn zeros_are_held()
+    ensures { ZerosAreHeld }
+{}
 
 /// The code of two small functions, instruction by instruction.
 pub fn worked_rows()

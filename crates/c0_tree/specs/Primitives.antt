@@ -5,6 +5,8 @@ use Rattle.std.specs.List.{list_all}
 use Rattle.c0_tree.specs.declared.primitive.Scalar.{Scalar}
 use Rattle.c0_tree.specs.declared.primitive.Scalar.TheVariants.{Int, Bool as Boolean}
 use Rattle.c0_tree.specs.declared.primitive.Primitive.{Primitive}
+use Rattle.c0_tree.specs.declared.primitive.Program.{Program}
+use Rattle.c0_tree.specs.declared.primitive.Program.TheVariants.{Kernel, User}
 
 -- a row: its name, the types of its arguments and that of its result
 pub record CPrimitive : Type 0 where
@@ -32,6 +34,15 @@ kernel_primitives =
     ∷ record { name = codes "con_get"; args = []; answer = Int }
     ∷ record { name = codes "con_left"; args = []; answer = Int }
     ∷ []
+
+-- The one primitive of a user program: the kernel is asked with a number, and gives one back.
+abbrev pub user_primitives : List CPrimitive
+user_primitives = record { name = codes "trap"; args = Int ∷ []; answer = Int } ∷ []
+
+-- the primitives that a source may call
+abbrev pub primitives_of : Program → List CPrimitive
+primitives_of Kernel = kernel_primitives
+primitives_of User = user_primitives
 
 -- whether no row has the name of another
 abbrev pub names_apart : List CPrimitive → Bool

@@ -1,7 +1,17 @@
-// The primitives: the functions that a kernel calls without defining them.
+// The primitives: the functions that a source calls without defining them.
 
 ghost use Rattle.std.specs.Prelude.{◌≡◌, map, IsTrue};
+ghost use Rattle.c0_tree.specs.Primitives as table;
 ghost use Rattle.c0_tree.specs.Primitives.{primitive_view, kernel_primitives, names_apart};
+
+/// What a source is the program of: which primitives it may call, and with which function its run begins.
+#[derive(Clone, Copy, PartialEq, Eq, Debug, Drop)]
+pub enum Program {
+    /// A kernel, whose run begins with `dispatch`.
+    Kernel,
+    /// A user program, whose run begins with `main`.
+    User,
+}
 
 /// The types that primitives take and answer.
 #[derive(Clone, Copy, PartialEq, Eq, Debug)]
@@ -46,4 +56,11 @@ pub fn primitives() -> [Primitive; 10]
         row("con_get", &[], Int),
         row("con_left", &[], Int),
     ]
+}
+
+/// The one primitive of a user program: it asks the kernel with a number, and answers the number that the kernel gives back.
+pub fn user_primitives() -> [Primitive; 1]
+    ensures { map primitive_view result ≡ table.user_primitives }
+{
+    [row("trap", &[Scalar::Int], Scalar::Int)]
 }

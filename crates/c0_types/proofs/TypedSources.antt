@@ -1,4 +1,4 @@
--- A kernel's source is typed by the rules exactly where no fault stands in it.
+-- The source of a kernel or a user program is typed by the rules exactly where no fault stands in it.
 use Rattle.std.proofs.Common.{◌≡◌, ℕ, ◌+◌, Bool, true, false, cond, List, [], ◌∷◌, ◌++◌, Option, Some, None, refl, ap, ◌∙◌}
 use Rattle.std.specs.Prelude.{IsTrue, is_some}
 use Rattle.std.specs.List.{All}
@@ -8,9 +8,8 @@ use Rattle.mips_asm.specs.Text.{lines_of}
 use Rattle.c0_asm_text.specs.AsmText.{line_words, first_bad, bad_line}
 use Rattle.c0_tree.specs.declared.tree.Span.{Span}
 use Rattle.c0_tree.specs.Tree.{CBody, code, asm, CFunction}
-use Rattle.c0_tree.specs.Primitives.{kernel_primitives}
-use Rattle.c0_meaning.specs.Typed.{KernelsAreFaultless}
-use Rattle.c0_meaning.specs.Unit.{kernel_faults}
+use Rattle.c0_meaning.specs.Typed.{ProgramsAreFaultless}
+use Rattle.c0_meaning.specs.Unit.{program_faults}
 use Rattle.c0_types.specs.Source.{line_fault, asm_fault, asm_faults, read_unit}
 use Rattle.c0_types.specs.TypedSource.{IsAllowedBody, SourcesAreFaultless}
 
@@ -60,11 +59,11 @@ none_texts [] h = All-nil (λ (f : CFunction). IsAllowedBody f.body)
 none_texts (f ∷ rest) h =
     All-cons (λ (f : CFunction). IsAllowedBody f.body) f rest (none_body f.body (none_left (asm_fault f.body) (asm_faults rest) h)) (none_texts rest (none_right (asm_fault f.body) (asm_faults rest) h))
 
-pub sources_are_faultless : KernelsAreFaultless → SourcesAreFaultless
-sources_are_faultless law u = (
-  λ t. ap (λ xs. xs ++ asm_faults u.functions) ((law kernel_primitives (read_unit u)).0 t.kernel) ∙ texts_none u.functions t.texts,
+pub sources_are_faultless : ProgramsAreFaultless → SourcesAreFaultless
+sources_are_faultless law program u = (
+  λ t. ap (λ xs. xs ++ asm_faults u.functions) ((law program (read_unit u)).0 t.unit) ∙ texts_none u.functions t.texts,
   λ h. record {
-    kernel = (law kernel_primitives (read_unit u)).1 (none_left (kernel_faults kernel_primitives (read_unit u)) (asm_faults u.functions) h);
-    texts = none_texts u.functions (none_right (kernel_faults kernel_primitives (read_unit u)) (asm_faults u.functions) h);
+    unit = (law program (read_unit u)).1 (none_left (program_faults program (read_unit u)) (asm_faults u.functions) h);
+    texts = none_texts u.functions (none_right (program_faults program (read_unit u)) (asm_faults u.functions) h);
   },
 )

@@ -3,18 +3,18 @@ use Rattle.std.proofs.Common.{◌≡◌, true, false, nat_lt, List, [], ◌∷�
 use Rattle.std.proofs.lemmas.List.{append_assoc, append-nil}
 use Rattle.c0_tree.specs.declared.tree.Span.{Span}
 use Rattle.c0_tree.specs.Tree.{CTy, CDecl, CBody, code, asm, CFunction, CUnit, CName}
-use Rattle.c0_tree.specs.Primitives.{CPrimitive}
+use Rattle.c0_tree.specs.declared.primitive.Program.{Program}
+use Rattle.c0_tree.specs.Primitives.{CPrimitive, primitives_of}
 use Rattle.c0_meaning.specs.Ty.{ty_of}
 use Rattle.c0_meaning.specs.Env.{shape_of, typed_of, env_of}
 use Rattle.c0_meaning.specs.Fault.{Fault, kept_all, MeetingJoins, TOO_MANY_PARAMETERS, TOO_MANY_NODES, UNIT_TOO_LARGE, GLOBALS_TOO_LARGE}
 use Rattle.c0_meaning.specs.DeclaredTypes.{fault_if, type_faults, declared_faults, pass_fault, pass_faults}
 use Rattle.c0_meaning.specs.Names.{decl_name_faults, struct_name_faults, unit_name_faults, twice_faults, in_source_order}
-use Rattle.c0_meaning.specs.Limits.{max_parameters, whole, all_nodes, dispatch_faults, MAX_FUNCTION_NODES, MAX_UNIT_NODES, MAX_GLOBAL_WORDS}
+use Rattle.c0_meaning.specs.Limits.{max_parameters, whole, all_nodes, first_faults, MAX_FUNCTION_NODES, MAX_UNIT_NODES, MAX_GLOBAL_WORDS}
 use Rattle.c0_meaning.specs.Unit.{faults_in, structs_faults, signature_faults, body_faults, functions_faults}
 use Rattle.c0_meaning.specs.Words.{all_words}
-use Rattle.c0_types.specs.Source.{read_body, read_function, read_unit, asm_fault, asm_faults, source_faults}
+use Rattle.c0_types.specs.Source.{read_body, read_function, read_unit, asm_fault, asm_faults, source_faults_as}
 use Rattle.c0_types.specs.Parts.{heading_faults, headings_faults, outer_faults, nodes_with, faults_of_body, bodies_faults}
-use Rattle.c0_tree.specs.Primitives.{kernel_primitives}
 
 -- two lists leave the same, whatever was met before
 pub record Leaves (fs gs : List Fault) : Type 0 where
@@ -123,20 +123,20 @@ module _ (joins : MeetingJoins) where
       (onward _ _ _ (within x (g ++ (l ++ (f ++ z))) ((l ++ (f ++ z)) ++ g) (d ++ a) (swapped g (l ++ (f ++ z))))
       (same _ _ e4))))))
 
-  pub whole_unit : (u : CUnit)
-      → Leaves (outer_faults kernel_primitives u ++ (bodies_faults (env_of kernel_primitives (read_unit u) []) u.functions
-      ++ (fault_if (nat_lt MAX_UNIT_NODES (all_nodes (map read_function u.functions))) UNIT_TOO_LARGE (whole u.length) ++ dispatch_faults (read_unit u)))) (source_faults u)
-  whole_unit u =
+  pub whole_unit : (program : Program) (u : CUnit)
+      → Leaves (outer_faults (primitives_of program) u ++ (bodies_faults (env_of (primitives_of program) (read_unit u) []) u.functions
+      ++ (fault_if (nat_lt MAX_UNIT_NODES (all_nodes (map read_function u.functions))) UNIT_TOO_LARGE (whole u.length) ++ first_faults program (read_unit u)))) (source_faults_as program u)
+  whole_unit program u =
       let s : List Fault = struct_name_faults u.structs in
       let t : List Fault = structs_faults (map shape_of u.structs) u.structs in
       let g : List Fault = fault_if (nat_lt MAX_GLOBAL_WORDS (all_words (map shape_of u.structs) (map typed_of u.globals))) GLOBALS_TOO_LARGE (whole u.length) in
       let l : List Fault = declared_faults (map shape_of u.structs) u.globals in
       let h : List Fault = headings_faults (map shape_of u.structs) u.functions in
-      let b : List Fault = bodies_faults (env_of kernel_primitives (read_unit u) []) u.functions in
+      let b : List Fault = bodies_faults (env_of (primitives_of program) (read_unit u) []) u.functions in
       let z : List Fault = fault_if (nat_lt MAX_UNIT_NODES (all_nodes (map read_function u.functions))) UNIT_TOO_LARGE (whole u.length) in
-      let d : List Fault = dispatch_faults (read_unit u) in
-      subst (λ (names : List CName). Leaves (((s ++ t) ++ (twice_faults (map (λ p. p.name) kernel_primitives) (in_source_order (map (λ d. d.name) u.globals) names) ++ (g ++ (l ++ h)))) ++ (b ++ (z ++ d))) (source_faults u))
+      let d : List Fault = first_faults program (read_unit u) in
+      subst (λ (names : List CName). Leaves (((s ++ t) ++ (twice_faults (map (λ p. p.name) (primitives_of program)) (in_source_order (map (λ d. d.name) u.globals) names) ++ (g ++ (l ++ h)))) ++ (b ++ (z ++ d))) (source_faults_as program u))
       (names_read u.functions)
-      (unit_parts s t (unit_name_faults kernel_primitives u.globals (map read_function u.functions)) g l h b z d
-      (functions_faults kernel_primitives (read_unit u) (map read_function u.functions)) (asm_faults u.functions)
-      (all_functions kernel_primitives u u.functions))
+      (unit_parts s t (unit_name_faults (primitives_of program) u.globals (map read_function u.functions)) g l h b z d
+      (functions_faults (primitives_of program) (read_unit u) (map read_function u.functions)) (asm_faults u.functions)
+      (all_functions (primitives_of program) u u.functions))

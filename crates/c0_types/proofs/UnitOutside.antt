@@ -13,7 +13,7 @@ use Rattle.c0_tree.specs.declared.tree.Kind.TheVariants.{Global, Local}
 use Rattle.c0_tree.specs.declared.primitive.Primitive.{Primitive}
 use Rattle.c0_tree.specs.Tree.{CDecl, CStruct, CFunction, CUnit}
 use Rattle.c0_tree.specs.Plain.{has_part, is_plain, is_plain_body, is_plain_struct, is_short}
-use Rattle.c0_tree.specs.Primitives.{primitive_view, kernel_primitives}
+use Rattle.c0_tree.specs.Primitives.{CPrimitive, primitive_view}
 use Rattle.c0_tree.specs.View.{decl_view, function_view, struct_view, unit_view}
 use Rattle.c0_meaning.specs.Env.{Shape, Typed, Signature, shape_of, typed_of, signature_of, primitive_signature, env_of}
 use Rattle.c0_meaning.specs.Resolved.{resolved_decls, resolved_structs}
@@ -123,13 +123,13 @@ tell_unit known names ss ss1 gs gs1 fs fs1 ps k fields globals functions primiti
     }
 
 -- the environment of what is checked is that of the definition
-pub env_outer : (u : CUnit) (ss : List StructDef) (gs : List Decl) (fs : List Function) (ps : List Primitive)
+pub env_outer : (table : List CPrimitive) (u : CUnit) (ss : List StructDef) (gs : List Decl) (fs : List Function) (ps : List Primitive)
     → map struct_view ss ≡ resolved_structs (map shape_of u.structs) 0 u.structs
     → map decl_view gs ≡ resolved_decls (map shape_of u.structs) Global 0 u.globals
     → map function_view fs ≡ headed_functions (map shape_of u.structs) 0 u.functions
-    → map primitive_view ps ≡ kernel_primitives
-    → env_in ss gs fs ps ≡ env_of kernel_primitives (read_unit u) []
-env_outer u ss gs fs ps es eg ef ep =
+    → map primitive_view ps ≡ table
+    → env_in ss gs fs ps ≡ env_of table (read_unit u) []
+env_outer table u ss gs fs ps es eg ef ep =
     let given : List Shape = map shape_of u.structs in
     let gs1 : List Typed = map typed_view gs in
     let fs1 : List Signature = map signature_view fs in

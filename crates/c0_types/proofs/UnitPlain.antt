@@ -7,7 +7,8 @@ use Rattle.std.proofs.lemmas.Bool.Decides.{nat_tests}
 use Rattle.std.proofs.lemmas.List.Elements.{All-nil, All-cons}
 use Rattle.c0_tree.specs.declared.tree.Span.{Span}
 use Rattle.c0_tree.specs.Plain.{is_short, is_plain_struct, is_plain_body, is_plain}
-use Rattle.c0_tree.specs.Primitives.{CPrimitive, kernel_primitives}
+use Rattle.c0_tree.specs.declared.primitive.Program.{Program}
+use Rattle.c0_tree.specs.Primitives.{CPrimitive, primitives_of}
 use Rattle.c0_tree.specs.Tree.{CBody, code, asm, CFunction, CUnit}
 use Rattle.c0_asm_text.specs.AsmText.{text_words}
 use Rattle.c0_asm_text.proofs.Steps.{words_allowed}
@@ -15,9 +16,9 @@ use Rattle.c0_meaning.specs.DeclaredTypes.{fault_if, type_faults, declared_fault
 use Rattle.c0_meaning.specs.Env.{Shape, shape_of}
 use Rattle.c0_meaning.specs.Fault.{Fault, TOO_MANY_PARAMETERS}
 use Rattle.c0_meaning.specs.Asm.{are_allowed_words}
-use Rattle.c0_meaning.specs.Limits.{MAX_FUNCTION_NODES, is_asm, locals_of, words_held, max_parameters, nodes_of, dispatch_faults}
+use Rattle.c0_meaning.specs.Limits.{MAX_FUNCTION_NODES, is_asm, locals_of, words_held, max_parameters, nodes_of, first_faults}
 use Rattle.c0_meaning.specs.Names.{struct_name_faults, unit_name_faults, decl_name_faults}
-use Rattle.c0_meaning.specs.Unit.{signature_faults, body_faults, functions_faults, structs_faults, unit_faults, kernel_faults, AreWordsAllowed}
+use Rattle.c0_meaning.specs.Unit.{signature_faults, body_faults, functions_faults, structs_faults, unit_faults, program_faults, AreWordsAllowed}
 use Rattle.c0_types.specs.Source.{read_body, read_function, read_unit}
 
 split : (xs ys : List Fault) → xs ++ ys ≡ [] → (xs ≡ []) × (ys ≡ [])
@@ -81,17 +82,17 @@ functions_fault_free primitives u h =
     let d = split (declared_faults (map shape_of u.structs) u.globals) _ c.1 in
     (split (functions_faults primitives u u.functions) _ d.1).0
 
-pub read_plain : (u : CUnit) → is_plain u ≡ true → kernel_faults kernel_primitives (read_unit u) ≡ [] → is_plain (read_unit u) ≡ true
-read_plain u h k =
+pub read_plain : (program : Program) (u : CUnit) → is_plain u ≡ true → program_faults program (read_unit u) ≡ [] → is_plain (read_unit u) ≡ true
+read_plain program u h k =
     let a = both (is_short u.structs) _ h in
     let b = both (is_short u.globals) _ a.1 in
     let c = both (is_short u.functions) _ b.1 in
     let d = both (list_all is_plain_struct u.structs) (list_all PlainFunction u.functions) c.1 in
-    let faultless = functions_fault_free kernel_primitives (read_unit u) (split (unit_faults kernel_primitives (read_unit u)) (dispatch_faults (read_unit u)) k).0 in
+    let faultless = functions_fault_free (primitives_of program) (read_unit u) (split (unit_faults (primitives_of program) (read_unit u)) (first_faults program (read_unit u)) k).0 in
     pair (is_short u.structs) _ a.0
     (pair (is_short u.globals) _ b.0
     (pair (is_short (map read_function u.functions)) _ (same_length u.functions ∙ c.0)
-    (pair (list_all is_plain_struct u.structs) _ d.0 (functions_plain kernel_primitives (read_unit u) u.functions d.1 faultless))))
+    (pair (list_all is_plain_struct u.structs) _ d.0 (functions_plain (primitives_of program) (read_unit u) u.functions d.1 faultless))))
   where
     count : (fs : List CFunction) → length (map read_function fs) ≡ length fs
     count [] = refl

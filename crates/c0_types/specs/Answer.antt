@@ -1,12 +1,14 @@
 -- What contracts see of the answer of the check.
 use Rattle.std.specs.Prelude.{ℕ, Option, Some, None, option_map}
+use Rattle.c0_tree.specs.declared.primitive.Program.{Program}
+use Rattle.c0_tree.specs.declared.primitive.Program.TheVariants.{Kernel}
 use Rattle.c0_tree.specs.declared.tree.Span.{Span}
 use Rattle.c0_tree.specs.Tree.{CUnit}
 use Rattle.c0_meaning.specs.Fault as spec
-use Rattle.c0_meaning.specs.Fault.{IsLeast, fault, UNKNOWN_NAME, NAME_TWICE, WRONG_TYPE, WRONG_COUNT, NOT_A_PLACE, LOCAL_ADDRESS, STRUCT_HOLDS_ITSELF, TOO_DEEP, TOO_MANY_NODES, UNIT_TOO_LARGE, GLOBALS_TOO_LARGE, NO_DISPATCH, ASM_NOT_ALLOWED, TOO_MANY_PARAMETERS, TYPE_TOO_LARGE, EMPTY_ARRAY}
+use Rattle.c0_meaning.specs.Fault.{IsLeast, fault, UNKNOWN_NAME, NAME_TWICE, WRONG_TYPE, WRONG_COUNT, NOT_A_PLACE, LOCAL_ADDRESS, STRUCT_HOLDS_ITSELF, TOO_DEEP, TOO_MANY_NODES, UNIT_TOO_LARGE, GLOBALS_TOO_LARGE, NO_DISPATCH, ASM_NOT_ALLOWED, TOO_MANY_PARAMETERS, TYPE_TOO_LARGE, EMPTY_ARRAY, NO_MAIN}
 use Rattle.c0_types.specs.declared.fault.TypeFault.{TypeFault}
-use Rattle.c0_types.specs.declared.fault.TypeFault.TheVariants.{UnknownName, NameTwice, WrongType, WrongCount, NotAPlace, LocalAddress, StructHoldsItself, TooDeep, TooManyNodes, UnitTooLarge, GlobalsTooLarge, NoDispatch, AsmNotAllowed, TooManyParameters, TypeTooLarge, EmptyArray, Memory}
-use Rattle.c0_types.specs.Source.{source_faults}
+use Rattle.c0_types.specs.declared.fault.TypeFault.TheVariants.{UnknownName, NameTwice, WrongType, WrongCount, NotAPlace, LocalAddress, StructHoldsItself, TooDeep, TooManyNodes, UnitTooLarge, GlobalsTooLarge, NoDispatch, AsmNotAllowed, TooManyParameters, TypeTooLarge, EmptyArray, NoMain, Memory}
+use Rattle.c0_types.specs.Source.{source_faults_as}
 
 -- the fault that is answered, but for want of memory
 abbrev pub type_fault_view : TypeFault → Option spec.Fault
@@ -26,6 +28,7 @@ type_fault_view (AsmNotAllowed s line) = Some (record { number = ASM_NOT_ALLOWED
 type_fault_view (TooManyParameters s) = Some (fault TOO_MANY_PARAMETERS s)
 type_fault_view (TypeTooLarge s) = Some (fault TYPE_TOO_LARGE s)
 type_fault_view (EmptyArray s) = Some (fault EMPTY_ARRAY s)
+type_fault_view (NoMain s) = Some (fault NO_MAIN s)
 type_fault_view Memory = None
 
 -- the number that is printed for a fault, where it is one of the source
@@ -59,13 +62,21 @@ type_fault_line (AsmNotAllowed s line) = Some line
 type_fault_line (TooManyParameters s) = None
 type_fault_line (TypeTooLarge s) = None
 type_fault_line (EmptyArray s) = None
+type_fault_line (NoMain s) = None
 type_fault_line Memory = None
 
--- no fault comes before the one that is answered; want of memory says nothing
-abbrev pub AnswersLeast : Option spec.Fault → CUnit → Type 0
-AnswersLeast None u = Unit {0}
-AnswersLeast (Some f) u = IsLeast (source_faults u) f
+-- no fault of a kernel's or a user program's source comes before the one that is answered; want of memory says nothing
+abbrev pub AnswersLeastAs : Program → Option spec.Fault → CUnit → Type 0
+AnswersLeastAs program None u = Unit {0}
+AnswersLeastAs program (Some f) u = IsLeast (source_faults_as program u) f
 
--- a fault is the answer that a unit has, unless it is want of memory
+-- a fault is the answer that such a unit has, unless it is want of memory
+abbrev pub FaultAnswersAs : Program → CUnit → TypeFault → Type 0
+FaultAnswersAs program u f = AnswersLeastAs program (type_fault_view f) u
+
+-- of a kernel's source
+abbrev pub AnswersLeast : Option spec.Fault → CUnit → Type 0
+AnswersLeast = AnswersLeastAs Kernel
+
 abbrev pub FaultAnswers : CUnit → TypeFault → Type 0
-FaultAnswers u f = AnswersLeast (type_fault_view f) u
+FaultAnswers = FaultAnswersAs Kernel

@@ -2,10 +2,12 @@
 use Rattle.std.specs.Prelude.{ℕ, List, [], ◌∷◌, ◌++◌, map, Option, Some, None}
 use Rattle.c0_tree.specs.declared.tree.Span.{Span}
 use Rattle.c0_tree.specs.Tree.{CBody, code, asm, CFunction, CUnit}
-use Rattle.c0_tree.specs.Primitives.{kernel_primitives}
+use Rattle.c0_tree.specs.declared.primitive.Program.{Program}
+use Rattle.c0_tree.specs.declared.primitive.Program.TheVariants.{Kernel}
+use Rattle.c0_tree.specs.Primitives.{primitives_of}
 use Rattle.c0_asm_text.specs.AsmText.{text_words, bad_line}
 use Rattle.c0_meaning.specs.Fault.{Fault, ASM_NOT_ALLOWED}
-use Rattle.c0_meaning.specs.Unit.{kernel_faults, resolved_unit}
+use Rattle.c0_meaning.specs.Unit.{program_faults, resolved_unit}
 
 -- a body whose asm text is read: it holds the words of the lines that are allowed
 abbrev pub read_body : CBody → CBody
@@ -35,10 +37,18 @@ abbrev pub asm_faults : List CFunction → List Fault
 asm_faults [] = []
 asm_faults (f ∷ rest) = asm_fault f.body ++ asm_faults rest
 
+-- every fault that stands in the source of a kernel or a user program
+abbrev pub source_faults_as : Program → CUnit → List Fault
+source_faults_as program u = program_faults program (read_unit u) ++ asm_faults u.functions
+
 -- every fault that stands in a kernel's source
 abbrev pub source_faults : CUnit → List Fault
-source_faults u = kernel_faults kernel_primitives (read_unit u) ++ asm_faults u.functions
+source_faults = source_faults_as Kernel
 
--- the unit with its asm texts read and its names resolved
+-- the unit of a kernel or a user program with its asm texts read and its names resolved
+abbrev pub checked_as : Program → CUnit → CUnit
+checked_as program u = resolved_unit (primitives_of program) (read_unit u)
+
+-- a kernel's unit that is so
 abbrev pub checked_unit : CUnit → CUnit
-checked_unit u = resolved_unit kernel_primitives (read_unit u)
+checked_unit = checked_as Kernel

@@ -48,7 +48,7 @@ pub enum TypeFault {
     /// Globals of more than 262,144 words.
     #[error("more than 262144 words of globals (bytes {} to {})", .0.start, .0.end)]
     GlobalsTooLarge(Span),
-    /// No function `int dispatch(int, int, int)` with a code body.
+    /// No function `int dispatch(int, int, int)` with a code body, of a kernel.
     #[error("no function int dispatch(int, int, int) (bytes {} to {})", .0.start, .0.end)]
     NoDispatch(Span),
     /// A line of an asm text that isn't allowed: the first of that text, where the line of its brace is 1.
@@ -63,13 +63,16 @@ pub enum TypeFault {
     /// An array of length 0.
     #[error("an array of length 0 (bytes {} to {})", .0.start, .0.end)]
     EmptyArray(Span),
+    /// No function `int main()` with a code body, of a user program.
+    #[error("no function int main() (bytes {} to {})", .0.start, .0.end)]
+    NoMain(Span),
     /// Want of memory.
     #[error("out of memory")]
     Memory,
 }
 
 impl TypeFault {
-    /// The number that is printed for it: 20 to 35, or 39 for want of memory.
+    /// The number that is printed for it: 20 to 36, or 39 for want of memory.
     pub fn number(&self) -> u32
         ensures { result ≡ type_fault_number self.now }
     {
@@ -90,6 +93,7 @@ impl TypeFault {
             TypeFault::TooManyParameters(_) => 33,
             TypeFault::TypeTooLarge(_) => 34,
             TypeFault::EmptyArray(_) => 35,
+            TypeFault::NoMain(_) => 36,
             TypeFault::Memory => 39,
         }
     }
@@ -115,6 +119,7 @@ impl TypeFault {
             TypeFault::TooManyParameters(span) => Some(*span),
             TypeFault::TypeTooLarge(span) => Some(*span),
             TypeFault::EmptyArray(span) => Some(*span),
+            TypeFault::NoMain(span) => Some(*span),
             TypeFault::Memory => None,
         }
     }
@@ -140,6 +145,7 @@ impl TypeFault {
             TypeFault::TooManyParameters(_) => None,
             TypeFault::TypeTooLarge(_) => None,
             TypeFault::EmptyArray(_) => None,
+            TypeFault::NoMain(_) => None,
             TypeFault::Memory => None,
         }
     }
@@ -173,6 +179,7 @@ fn named(mistake: Mistake, span: Span) -> TypeFault
         Mistake::TooManyParameters => TypeFault::TooManyParameters(span),
         Mistake::TypeTooLarge => TypeFault::TypeTooLarge(span),
         Mistake::EmptyArray => TypeFault::EmptyArray(span),
+        Mistake::NoMain => TypeFault::NoMain(span),
     }
 }
 

@@ -2,23 +2,32 @@
 
 ghost use Rattle.std.specs.Prelude.{◌≡◌, ℕ, List, Result};
 ghost use Rattle.c0_tree.specs.Tree.{CUnit};
-ghost use Rattle.c0_types.specs.Front.{IsAnswer};
+ghost use Rattle.c0_tree.specs.declared.primitive.Program.TheVariants.{User};
+ghost use Rattle.c0_types.specs.Front.{IsAnswer, IsAnswerAs};
 ghost use Rattle.c0_types.specs.TypedSource.{SourcesAreFaultless};
 ghost use Rattle.c0_types.specs.declared.source_fault.SourceFault.{SourceFault};
 
-use c0_meaning::laws::{kernels_are_typed_or_faulty, least_fault_is_there};
+use c0_meaning::laws::{least_fault_is_there, programs_are_typed_or_faulty};
 use c0_parser::sources_have_one_answer as readings_have_one_answer;
 
-/// A kernel's source is typed by the rules exactly where no fault stands in it.
+/// The source of a kernel or a user program is typed by the rules exactly where no fault stands in it.
 pub fn sources_are_typed_or_faulty()
     ensures { SourcesAreFaultless }
 {
-    kernels_are_typed_or_faulty();
+    programs_are_typed_or_faulty();
 }
 
-/// A law: of a source there is one answer, its checked unit or its first fault.
+/// A law: of a kernel's source there is one answer, its checked unit or its first fault.
 pub fn sources_have_one_answer()
     ensures { (source : List ℕ) (a b : Result CUnit SourceFault) → IsAnswer source a → IsAnswer source b → a ≡ b }
+{
+    readings_have_one_answer();
+    least_fault_is_there();
+}
+
+/// A law: so there is of a user program's source.
+pub fn programs_have_one_answer()
+    ensures { (source : List ℕ) (a b : Result CUnit SourceFault) → IsAnswerAs User source a → IsAnswerAs User source b → a ≡ b }
 {
     readings_have_one_answer();
     least_fault_is_there();

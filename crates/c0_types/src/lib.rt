@@ -1,4 +1,5 @@
-//! The check of a C0 unit: the unit with its names resolved, or the fault that comes first; and the front of C0, which reads a source and checks it.
+//! The check of the C0 unit of a kernel or a user program: the unit with its names resolved, or the fault that comes first; and the front of
+//! C0, which reads a source and checks it.
 #![tactic(auto)]
 
 pub mod bodies;
@@ -13,6 +14,6 @@ pub mod structs;
 pub mod unit;
 
 pub use fault::TypeFault;
-pub use source::read_unit;
+pub use source::{read_program, read_unit};
 pub use source_fault::SourceFault;
-pub use unit::check;
+pub use unit::{check, check_user};

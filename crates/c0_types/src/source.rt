@@ -5,31 +5,61 @@ ghost use Rattle.c0_tree.specs.Tree.{CUnit};
 ghost use Rattle.c0_tree.specs.View.{unit_view};
 ghost use Rattle.c0_parser.specs.Faults.{Reads};
 ghost use Rattle.c0_parser.specs.declared.fault.ReadFault.TheVariants.{SourceTooLong};
-ghost use Rattle.c0_types.specs.Source.{checked_unit, source_faults};
-ghost use Rattle.c0_types.specs.Front.{IsUnitOf, IsFaultOf, IsFaultIn};
+ghost use Rattle.c0_tree.specs.declared.primitive.Program.TheVariants.{User};
+ghost use Rattle.c0_meaning.specs.Unit.{IsCheckedAs};
+ghost use Rattle.c0_types.specs.Source.{checked_as, checked_unit, source_faults, source_faults_as};
+ghost use Rattle.c0_types.specs.Front.{IsUnitAs, IsUnitOf, IsFaultAs, IsFaultOf, IsFaultIn, IsFaultInAs};
 ghost use Rattle.c0_types.specs.declared.source_fault.SourceFault.TheVariants.{Reading};
 
 use crate::source_fault::SourceFault;
-use crate::unit::check;
-use c0_meaning::Checked;
+use crate::unit::checked;
+use c0_meaning::{Checked, UserChecked};
 use c0_parser::parse;
+use c0_tree::{Program, Unit};
 use std::alloc::Global;
 
-/// The checked unit of a source: of the tree that the source reads as, with its asm texts read and its names resolved, where no fault of
-/// typing stands in it. Else the fault of the first token that cannot be where it stands, or the fault of typing that comes first: the one
-/// whose span starts first and, among those, the one of the least number. A source of more than 1,048,576 bytes is refused as too long.
-/// Otherwise the one error is want of memory.
+// The checked unit of the source of a kernel or a user program.
+fn read_as(alloc: Global, program: Program, source: &[u8]) -> Result<Unit, SourceFault>
+    ensures too_long { 1048576 < length source.now → result ≡ Err (Reading SourceTooLong) }
+    ensures checked { IfOk result (λ v. IsCheckedAs program (unit_view v)) }
+    ensures found { IfOk result (λ v. IsUnitAs program source.now (unit_view v)) }
+    ensures fault { IfErr result (IsFaultAs program source.now) }
+    ensures only { (u : CUnit) → length source.now ≤ 1048576 → Reads source.now u → MatchResult result (λ v. (source_faults_as program u ≡ []) × (unit_view v ≡ checked_as program u)) (IsFaultInAs program u) }
+{
+    match parse(alloc, source) {
+        Ok(unit) => match checked(alloc, program, unit) {
+            Ok(unit) => Ok(unit),
+            Err(fault) => Err(SourceFault::Typing(fault)),
+        },
+        Err(fault) => Err(SourceFault::Reading(fault)),
+    }
+}
+
+/// The checked unit of a kernel's source: of the tree that the source reads as, with its asm texts read and its names resolved, where no
+/// fault of typing stands in it. Else the fault of the first token that cannot be where it stands, or the fault of typing that comes
+/// first: the one whose span starts first and, among those, the one of the least number. A source of more than 1,048,576 bytes is refused
+/// as too long. Otherwise the one error is want of memory.
 pub fn read_unit(alloc: Global, source: &[u8]) -> Result<Checked, SourceFault>
     ensures too_long { 1048576 < length source.now → result ≡ Err (Reading SourceTooLong) }
     ensures found { IfOk result (λ c. IsUnitOf source.now (unit_view c)) }
     ensures fault { IfErr result (IsFaultOf source.now) }
     ensures only { (u : CUnit) → length source.now ≤ 1048576 → Reads source.now u → MatchResult result (λ c. (source_faults u ≡ []) × (unit_view c ≡ checked_unit u)) (IsFaultIn u) }
 {
-    match parse(alloc, source) {
-        Ok(unit) => match check(alloc, unit) {
-            Ok(checked) => Ok(checked),
-            Err(fault) => Err(SourceFault::Typing(fault)),
-        },
-        Err(fault) => Err(SourceFault::Reading(fault)),
+    match read_as(alloc, Program::Kernel, source) {
+        Ok(unit) => Ok(Checked::new(unit)),
+        Err(fault) => Err(fault),
+    }
+}
+
+/// The checked unit of a user program's source, as [`read_unit`] gives that of a kernel's.
+pub fn read_program(alloc: Global, source: &[u8]) -> Result<UserChecked, SourceFault>
+    ensures too_long { 1048576 < length source.now → result ≡ Err (Reading SourceTooLong) }
+    ensures found { IfOk result (λ c. IsUnitAs User source.now (unit_view c)) }
+    ensures fault { IfErr result (IsFaultAs User source.now) }
+    ensures only { (u : CUnit) → length source.now ≤ 1048576 → Reads source.now u → MatchResult result (λ c. (source_faults_as User u ≡ []) × (unit_view c ≡ checked_as User u)) (IsFaultInAs User u) }
+{
+    match read_as(alloc, Program::User, source) {
+        Ok(unit) => Ok(UserChecked::new(unit)),
+        Err(fault) => Err(fault),
     }
 }

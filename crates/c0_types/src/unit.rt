@@ -5,17 +5,18 @@ ghost use Rattle.std.specs.List.{list_any, list_all};
 ghost use Rattle.c0_meaning.specs.Env.{Shape};
 ghost use Rattle.c0_meaning.specs.Fault.{kept_all};
 ghost use Rattle.c0_meaning.specs.Limits as limits;
-ghost use Rattle.c0_meaning.specs.Ty.{ty_of, same_ty, int};
-ghost use Rattle.c0_names.specs.Met.{met_view};
+ghost use Rattle.c0_meaning.specs.Unit.{IsCheckedAs};
+ghost use Rattle.c0_names.specs.Met.{met_view, number_of};
 ghost use Rattle.c0_names.specs.Structs.{KnowsStructs};
 ghost use Rattle.c0_tree.specs.Plain.{is_plain};
-ghost use Rattle.c0_tree.specs.Primitives.{kernel_primitives, primitive_view};
+ghost use Rattle.c0_tree.specs.Primitives.{primitive_view, primitives_of};
 ghost use Rattle.c0_tree.specs.Tree.{CFunction};
-ghost use Rattle.c0_tree.specs.View.{decl_view, function_view, type_view, unit_view};
-ghost use Rattle.c0_types.specs.Answer.{FaultAnswers};
+ghost use Rattle.c0_tree.specs.View.{function_view, unit_view};
+ghost use Rattle.c0_tree.specs.declared.primitive.Program.TheVariants.{Kernel, User};
+ghost use Rattle.c0_types.specs.Answer.{FaultAnswers, FaultAnswersAs};
 ghost use Rattle.c0_types.specs.Known.{KnowsUnit, TellUnit, unit_env};
 ghost use Rattle.c0_types.specs.Parts.{bodied, bodies_faults, faults_of_body, functions_nodes, headed_functions, headings_faults, is_plain_function, nodes_read, outer_faults, outer_unit};
-ghost use Rattle.c0_types.specs.Source.{checked_unit, source_faults};
+ghost use Rattle.c0_types.specs.Source.{checked_as, checked_unit, source_faults, source_faults_as};
 ghost use Rattle.c0_types.specs.TypedSource.{IsTypedSource};
 
 use crate::bodies::{Declared, check_body};
@@ -25,56 +26,35 @@ use crate::headings::check_heading;
 use crate::laws::sources_are_typed_or_faulty;
 use crate::space::{UnitNames, name_unit};
 use crate::structs::{KnownStructs, check_structs};
-use c0_meaning::Checked;
 use c0_meaning::laws::{
     faultless_units_are_checked, kept_fault_is_least, meeting_is_free_of_order, resolving_is_stable,
 };
+use c0_meaning::{Checked, UserChecked, find_first};
 use c0_names::met::{Fault, Mistake, meet_if};
 use c0_names::names::Names;
-use c0_tree::{AsmText, Body, CType, Decl, Function, Kind, Primitive, Span, Unit, primitives};
+use c0_tree::{
+    AsmText, Body, Function, Kind, Primitive, Program, Span, Unit, primitives, user_primitives,
+};
 use std::alloc::{AllocError, Global};
 
 /// How many nodes all functions have together at most.
 const MAX_UNIT_NODES: u32 = 100_000;
 
-// Whether a type is int.
-fn is_int(ty: &CType) -> bool
-    ensures { result ≡ same_ty (ty_of (type_view ty.now)) int }
+// What is wrong with a unit that has no function with which its run begins.
+fn without_first(program: Program) -> Mistake
+    ensures { number_of result ≡ limits.none_first program }
 {
-    matches!(ty, CType::Int)
-}
-
-// Whether these are three parameters of type int.
-fn are_three_ints(params: &[Decl]) -> bool
-    ensures { result ≡ limits.are_three_ints (map decl_view params.now) }
-{
-    match params {
-        [a, b, c] => is_int(&a.ty) && is_int(&b.ty) && is_int(&c.ty),
-        _ => false,
+    match program {
+        Program::Kernel => Mistake::NoDispatch,
+        Program::User => Mistake::NoMain,
     }
 }
 
-// Whether this is `int dispatch(int, int, int)` with a code body.
-fn is_dispatch(function: &Function) -> bool
-    ensures { result ≡ limits.is_dispatch (function_view function.now) }
+// Whether one of functions is the one with which a run begins.
+fn has_first(program: Program, functions: &[Function]) -> bool
+    ensures { result ≡ list_any (limits.is_first program) (map function_view functions.now) }
 {
-    function.name.bytes.as_slice() == b"dispatch".as_slice()
-        && are_three_ints(&function.params)
-        && is_int(&function.answer)
-        && !matches!(&function.body, Body::Asm(_))
-}
-
-// Whether a function is `dispatch`.
-fn has_dispatch(functions: &[Function]) -> bool
-    ensures { result ≡ list_any limits.is_dispatch (map function_view functions.now) }
-{
-    for function in functions {
-        let found = is_dispatch(function);
-        if found {
-            return true;
-        }
-    }
-    false
+    find_first(program, functions).is_some()
 }
 
 // Checks the headings of functions.
@@ -183,39 +163,64 @@ fn whole(unit: &Unit) -> Span
     }
 }
 
-// Checks a unit: its faults are met, its names are resolved, and its asm bodies get their words.
-fn check_unit(alloc: Global, unit: &mut Unit, least: &mut Option<Fault>) -> Result<(), AllocError>
+// Checks a unit by a table of primitives: its faults are met, its names are resolved, and its asm bodies get their words.
+fn check_by(
+    alloc: Global,
+    program: Program,
+    table: &[Primitive],
+    unit: &mut Unit,
+    least: &mut Option<Fault>,
+) -> Result<(), AllocError>
     requires plain { is_plain (unit_view unit.old) ≡ true }
-    ensures met { OnOk result (met_view least.new ≡ kept_all (met_view least.old) (source_faults (unit_view unit.old))) }
-    ensures resolved { OnOk result (unit_view unit.new ≡ checked_unit (unit_view unit.old)) }
+    requires rows { map primitive_view table.now ≡ primitives_of program }
+    requires few { length table.now < 2 ^ 32 }
+    ensures met { OnOk result (met_view least.new ≡ kept_all (met_view least.old) (source_faults_as program (unit_view unit.old))) }
+    ensures resolved { OnOk result (unit_view unit.new ≡ checked_as program (unit_view unit.old)) }
 {
     meeting_is_free_of_order();
     resolving_is_stable();
-    let table = primitives();
-    let (known, names) = check_outside(alloc, &table, unit, least)?;
+    let (known, names) = check_outside(alloc, table, unit, least)?;
     let declared = Declared {
         structs: &unit.structs,
         known: &known,
         globals: &unit.globals,
-        primitives: &table,
+        primitives: table,
         names: &names,
     };
     let nodes = check_bodies(alloc, &declared, &mut unit.functions, least)?;
     let span = whole(unit);
     meet_if(least, nodes > MAX_UNIT_NODES, Mistake::UnitTooLarge, span);
-    let found = has_dispatch(&unit.functions);
-    meet_if(least, !found, Mistake::NoDispatch, span);
+    let found = has_first(program, &unit.functions);
+    meet_if(least, !found, without_first(program), span);
     Ok(())
 }
 
-/// The unit with its asm texts read and its names resolved, if no fault stands in it; else the fault that comes first: the one whose span
-/// starts first and, among those, the one of the least number. Want of memory is the one other error. The unit is spent either way.
-pub fn check(alloc: Global, unit: Unit) -> Result<Checked, TypeFault>
+// Checks the unit of a kernel or a user program.
+fn check_unit(
+    alloc: Global,
+    program: Program,
+    unit: &mut Unit,
+    least: &mut Option<Fault>,
+) -> Result<(), AllocError>
+    requires plain { is_plain (unit_view unit.old) ≡ true }
+    ensures met { OnOk result (met_view least.new ≡ kept_all (met_view least.old) (source_faults_as program (unit_view unit.old))) }
+    ensures resolved { OnOk result (unit_view unit.new ≡ checked_as program (unit_view unit.old)) }
+{
+    match program {
+        Program::Kernel => check_by(alloc, program, &primitives(), unit, least),
+        Program::User => check_by(alloc, program, &user_primitives(), unit, least),
+    }
+}
+
+// The unit of a kernel or a user program with its asm texts read and its names resolved, if no fault stands in it; else the fault that
+// comes first.
+pub(crate) fn checked(alloc: Global, program: Program, unit: Unit) -> Result<Unit, TypeFault>
     requires plain { is_plain (unit_view unit) ≡ true }
-    ensures faultless { IfOk result (λ c. source_faults (unit_view unit) ≡ []) }
-    ensures typed { IfOk result (λ c. IsTypedSource (unit_view unit)) }
-    ensures resolved { IfOk result (λ c. unit_view c ≡ checked_unit (unit_view unit)) }
-    ensures fault { IfErr result (FaultAnswers (unit_view unit)) }
+    ensures checked { IfOk result (λ v. IsCheckedAs program (unit_view v)) }
+    ensures faultless { IfOk result (λ v. source_faults_as program (unit_view unit) ≡ []) }
+    ensures typed { IfOk result (λ v. IsTypedSource program (unit_view unit)) }
+    ensures resolved { IfOk result (λ v. unit_view v ≡ checked_as program (unit_view unit)) }
+    ensures fault { IfErr result (FaultAnswersAs program (unit_view unit)) }
 {
     kept_fault_is_least();
     faultless_units_are_checked();
@@ -223,9 +228,40 @@ pub fn check(alloc: Global, unit: Unit) -> Result<Checked, TypeFault>
     sources_are_typed_or_faulty();
     let mut unit = unit;
     let mut least = None;
-    check_unit(alloc, &mut unit, &mut least)?;
+    check_unit(alloc, program, &mut unit, &mut least)?;
     match least {
         Some(fault) => Err(answer_of(fault)),
-        None => Ok(Checked::new(unit)),
+        None => Ok(unit),
+    }
+}
+
+/// The unit of a kernel with its asm texts read and its names resolved, if no fault stands in it; else the fault that comes first: the one
+/// whose span starts first and, among those, the one of the least number. Want of memory is the one other error. The unit is spent either
+/// way.
+pub fn check(alloc: Global, unit: Unit) -> Result<Checked, TypeFault>
+    requires plain { is_plain (unit_view unit) ≡ true }
+    ensures faultless { IfOk result (λ c. source_faults (unit_view unit) ≡ []) }
+    ensures typed { IfOk result (λ c. IsTypedSource Kernel (unit_view unit)) }
+    ensures resolved { IfOk result (λ c. unit_view c ≡ checked_unit (unit_view unit)) }
+    ensures fault { IfErr result (FaultAnswers (unit_view unit)) }
+{
+    match checked(alloc, Program::Kernel, unit) {
+        Ok(unit) => Ok(Checked::new(unit)),
+        Err(fault) => Err(fault),
+    }
+}
+
+/// The unit of a user program, as [`check`] gives that of a kernel: its one primitive is `int trap(int)`, and where it has no `int main()`
+/// with a code body, that is its fault of the whole source, where a kernel's is a missing `dispatch`.
+pub fn check_user(alloc: Global, unit: Unit) -> Result<UserChecked, TypeFault>
+    requires plain { is_plain (unit_view unit) ≡ true }
+    ensures faultless { IfOk result (λ c. source_faults_as User (unit_view unit) ≡ []) }
+    ensures typed { IfOk result (λ c. IsTypedSource User (unit_view unit)) }
+    ensures resolved { IfOk result (λ c. unit_view c ≡ checked_as User (unit_view unit)) }
+    ensures fault { IfErr result (FaultAnswersAs User (unit_view unit)) }
+{
+    match checked(alloc, Program::User, unit) {
+        Ok(unit) => Ok(UserChecked::new(unit)),
+        Err(fault) => Err(fault),
     }
 }

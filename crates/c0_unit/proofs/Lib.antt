@@ -1,4 +1,5 @@
+pub mod Declared
 pub mod Emitted
-pub mod Positions
+pub mod Flat
 pub mod Standing
 pub mod Units

@@ -1,4 +1,4 @@
--- Where the parts of a checked unit's code stand by its places, and that its instructions are in range.
+-- Where the parts of a well-formed unit's code stand by its places, and that its instructions are in range.
 use Rattle.std.specs.Prelude.{All, sum, slice_get, slice_index, Some}
 use Rattle.std.proofs.Common.{rules, Global, ◌≡◌, ℕ, zero, suc, ◌+◌, ◌*◌, ◌/◌, ◌^◌, ◌<◌, ◌≤◌, List, [], ◌∷◌, ◌++◌, length, refl, sym, ap, ◌∙◌, arith}
 use Rattle.std.proofs.lemmas.List.{length-map}
@@ -9,19 +9,19 @@ use Rattle.mips_table.specs.Encoding.{InRange}
 use Rattle.masm.specs.declared.registers.Places.{Places}
 use Rattle.masm.specs.Places.{IsPlace, ArePlaces}
 use Rattle.c0_tree.specs.declared.tree.Unit.{Unit as Source}
-use Rattle.c0_tree.specs.Primitives.{kernel_primitives}
+use Rattle.c0_tree.specs.Primitives.{CPrimitive}
 use Rattle.c0_tree.specs.Tree.{CFunction, CUnit}
 use Rattle.c0_tree.specs.View.{function_view, unit_view}
 use Rattle.c0_meaning.specs.Operators.{KernelFault, NullUse, Bounds, DivZero, StackOut}
 use Rattle.c0_meaning.specs.Typed.{UnitsAreFaultless}
-use Rattle.c0_meaning.specs.Unit.{IsChecked}
+use Rattle.c0_meaning.specs.Unit.{IsWellFormed}
 use Rattle.c0_runtime.specs.declared.runtime.TheConstants.{NEW_OBJECT, MULTIPLY, DIVIDE, REMAINDER}
 use Rattle.c0_runtime.specs.Code.{entry_code, new_code, multiply_code, divide_code, remainder_code}
 use Rattle.c0_expr_code.specs.Scope.{exit_number, scope_of}
 use Rattle.c0_stmt_code.specs.Code.{links_of, function_code}
 use Rattle.c0_stmt_code.specs.Lengths.{FunctionsAreShort, LengthsAreFixed}
 use Rattle.c0_stmt_code.specs.Ranges.{AreNear, FunctionsAreInRange}
-use Rattle.c0_unit.specs.Code.{fault_exits, primitive_entries, routines_at, functions_at, scope, links, functions_code, words_of, starts_from, function_starts, globals_start, dispatch_number, dispatch_start, routines_code, unit_code}
+use Rattle.c0_unit.specs.Code.{fault_exits, primitive_entries, routines_at, functions_at, scope, links, functions_code, words_of, starts_from, function_starts, globals_start, routines_code, unit_code}
 use Rattle.c0_unit.specs.Laws.{ArePlacesOf, StandsIn, UnitStands}
 use Rattle.c0_unit.proofs.Emitted.{few_nodes, are_places}
 use Rattle.c0_unit.proofs.Units.{behind, code_same, words_few, functions_length, function_stands}
@@ -93,10 +93,13 @@ functions_fine : (u : CUnit) (starts : List ℕ) (fs : List CFunction) → ((n :
 functions_fine u starts [] h = All-nil InRange
 functions_fine u starts (f ∷ fs) h = All-append InRange (function_code (scope u f) (links starts) f) (functions_code u starts fs) (h zero f refl) (functions_fine u starts fs (λ n. h (suc n)))
 
-module _ (faultless : UnitsAreFaultless) (short : FunctionsAreShort) (u : CUnit) (checked : IsChecked u) where
+module _ (faultless : UnitsAreFaultless) (short : FunctionsAreShort) (table : List CPrimitive) (u : CUnit) (well : IsWellFormed table u) (first : ℕ) where
+  abbrev first_start : ℕ
+  first_start = slice_index (function_starts u) first
+
   few_words : sum (words_of u u.functions) ≤ 3200000
   few_words =
-      let nodes = few_nodes faultless kernel_primitives u checked.well_formed in
+      let nodes = few_nodes faultless table u well in
       let few = words_few short u u.functions in
       omega (arith, nodes, few)
 
@@ -117,49 +120,49 @@ module _ (faultless : UnitsAreFaultless) (short : FunctionsAreShort) (u : CUnit)
     new_object = omega arith;
   }
 
-  whole_fine : FunctionsAreInRange → All InRange (unit_code u)
+  whole_fine : FunctionsAreInRange → All InRange (unit_code u first)
   whole_fine ranged =
       let g = globals_placed in
-      let d = start_placed (dispatch_number u) in
-      All-append InRange (entry_code (globals_start u) (dispatch_start u)) (routines_code ++ functions_code u (function_starts u) u.functions) (all_of (entry_code (globals_start u) (dispatch_start u)) (entry_fine (globals_start u) (dispatch_start u) g.1 d.1))
+      let d = start_placed first in
+      All-append InRange (entry_code (globals_start u) first_start) (routines_code ++ functions_code u (function_starts u) u.functions) (all_of (entry_code (globals_start u) first_start) (entry_fine (globals_start u) first_start g.1 d.1))
       (All-append InRange routines_code (functions_code u (function_starts u) u.functions) (all_of routines_code routines_fine)
-      (functions_fine u (function_starts u) u.functions (λ n f is. ranged kernel_primitives u checked.well_formed (scope u f) (links (function_starts u)) exit_near near n f is refl)))
+      (functions_fine u (function_starts u) u.functions (λ n f is. ranged table u well (scope u f) (links (function_starts u)) exit_near near n f is refl)))
 
   -- the parts of a unit's code
-  pub unit_stands : LengthsAreFixed → FunctionsAreInRange → (p : Places) → ArePlacesOf u p → UnitStands u p
+  pub unit_stands : LengthsAreFixed → FunctionsAreInRange → (p : Places) → ArePlacesOf u p → UnitStands u first p
   unit_stands fixed ranged p h = record {
     rest = routines_code ++ functions_code u (function_starts u) u.functions;
     entry =
-        let d = (start_placed (dispatch_number u)).0 in
-        let by_four : dispatch_start u ≡ 4 * (dispatch_start u / 4) = omega (arith, d) in
-        let same = ap (λ (ns : List ℕ). 4 * (slice_index ns (dispatch_number u) / 4)) h.functions in
-        ap (λ (n : ℕ). entry_code n (dispatch_start u) ++ (routines_code ++ functions_code u (function_starts u) u.functions)) (sym h.globals_at)
+        let d = (start_placed first).0 in
+        let by_four : first_start ≡ 4 * (first_start / 4) = omega (arith, d) in
+        let same = ap (λ (ns : List ℕ). 4 * (slice_index ns first / 4)) h.functions in
+        ap (λ (n : ℕ). entry_code n first_start ++ (routines_code ++ functions_code u (function_starts u) u.functions)) (sym h.globals_at)
         ∙ ap (λ (n : ℕ). entry_code p.globals n ++ (routines_code ++ functions_code u (function_starts u) u.functions)) (by_four ∙ sym same);
     new_object = record {
-      before = entry_code (globals_start u) (dispatch_start u);
+      before = entry_code (globals_start u) first_start;
       after = (multiply_code ++ (divide_code (slice_index fault_exits 2) ++ remainder_code (slice_index fault_exits 2))) ++ functions_code u (function_starts u) u.functions;
       is = refl;
       from = ap (λ (n : ℕ). n / 4) h.new_object;
       behind = omega arith;
     };
     multiply = record {
-      before = entry_code (globals_start u) (dispatch_start u) ++ new_code;
+      before = entry_code (globals_start u) first_start ++ new_code;
       after = (divide_code (slice_index fault_exits 2) ++ remainder_code (slice_index fault_exits 2)) ++ functions_code u (function_starts u) u.functions;
       is = refl;
       from = ap (λ (n : ℕ). n / 4) h.multiply;
       behind = omega arith;
     };
     divide = record {
-      before = entry_code (globals_start u) (dispatch_start u) ++ (new_code ++ multiply_code);
+      before = entry_code (globals_start u) first_start ++ (new_code ++ multiply_code);
       after = remainder_code (slice_index fault_exits 2) ++ functions_code u (function_starts u) u.functions;
-      is = ap (λ (ns : List ℕ). (entry_code (globals_start u) (dispatch_start u) ++ (new_code ++ multiply_code)) ++ (divide_code (slice_index ns 2) ++ (remainder_code (slice_index fault_exits 2) ++ functions_code u (function_starts u) u.functions))) (sym h.faults);
+      is = ap (λ (ns : List ℕ). (entry_code (globals_start u) first_start ++ (new_code ++ multiply_code)) ++ (divide_code (slice_index ns 2) ++ (remainder_code (slice_index fault_exits 2) ++ functions_code u (function_starts u) u.functions))) (sym h.faults);
       from = ap (λ (n : ℕ). n / 4) h.divide;
       behind = omega arith;
     };
     remainder = record {
-      before = entry_code (globals_start u) (dispatch_start u) ++ (new_code ++ (multiply_code ++ divide_code (slice_index fault_exits 2)));
+      before = entry_code (globals_start u) first_start ++ (new_code ++ (multiply_code ++ divide_code (slice_index fault_exits 2)));
       after = functions_code u (function_starts u) u.functions;
-      is = ap (λ (ns : List ℕ). (entry_code (globals_start u) (dispatch_start u) ++ (new_code ++ (multiply_code ++ divide_code (slice_index fault_exits 2)))) ++ (remainder_code (slice_index ns 2) ++ functions_code u (function_starts u) u.functions)) (sym h.faults);
+      is = ap (λ (ns : List ℕ). (entry_code (globals_start u) first_start ++ (new_code ++ (multiply_code ++ divide_code (slice_index fault_exits 2)))) ++ (remainder_code (slice_index ns 2) ++ functions_code u (function_starts u) u.functions)) (sym h.faults);
       from = ap (λ (n : ℕ). n / 4) h.remainder;
       behind = omega arith;
     };
@@ -174,10 +177,10 @@ module _ (faultless : UnitsAreFaultless) (short : FunctionsAreShort) (u : CUnit)
         omega (arith, same, low);
   }
     where
-      its_place : (n : ℕ) (f : CFunction) → slice_get u.functions n ≡ Some f → StandsIn u ((links_of p).function n) (function_code (scope_of u f p) (links_of p) f)
+      its_place : (n : ℕ) (f : CFunction) → slice_get u.functions n ≡ Some f → StandsIn u first ((links_of p).function n) (function_code (scope_of u f p) (links_of p) f)
       its_place n f is =
           let r = function_stands fixed u (function_starts u) u.functions functions_at n f is in
-          let b = behind (entry_code (globals_start u) (dispatch_start u) ++ routines_code) (function_code (scope u f) (links (function_starts u)) f) (functions_code u (function_starts u) u.functions) r.0 39 refl r.2 in
+          let b = behind (entry_code (globals_start u) first_start ++ routines_code) (function_code (scope u f) (links (function_starts u)) f) (functions_code u (function_starts u) u.functions) r.0 39 refl r.2 in
           let at = r.1 in
           let far = ap (λ (ns : List ℕ). slice_index ns n / 4) h.functions in
           let long = b.from in
@@ -198,9 +201,9 @@ starts_length at [] = refl
 starts_length at (n ∷ ns) = let r = starts_length (at + n) ns in omega (arith, r)
 
 -- the places of a checked unit
-pub unit_places : (faultless : UnitsAreFaultless) (short : FunctionsAreShort) (s : Source) → IsChecked (unit_view s) → (p : Places) × ArePlacesOf (unit_view s) p × ArePlaces p
+pub unit_places : (faultless : UnitsAreFaultless) (short : FunctionsAreShort) (table : List CPrimitive) (s : Source) → IsWellFormed table (unit_view s) → (p : Places) × ArePlacesOf (unit_view s) p × ArePlaces p
 unfolding vec_of
-unit_places faultless short s checked =
+unit_places faultless short table s well =
     let u = unit_view s in
     let few : length (function_starts (unit_view s)) < 2 ^ 63 =
     let l = starts_length functions_at (words_of (unit_view s) (unit_view s).functions) in
@@ -220,13 +223,13 @@ unit_places faultless short s checked =
       places,
       record { globals_at = refl; faults = refl; multiply = refl; divide = refl; remainder = refl; new_object = refl; functions = refl; primitives = refl },
       record {
-        globals = globals_placed faultless short (unit_view s) checked;
+        globals = globals_placed faultless short table (unit_view s) well 0;
         faults = all_each IsPlace fault_exits exits_placed;
         multiply = (refl, omega arith);
         divide = (refl, omega arith);
         remainder = (refl, omega arith);
         new_object = (refl, omega arith);
-        functions = starts_placed faultless short (unit_view s) checked;
+        functions = starts_placed faultless short table (unit_view s) well 0;
         primitives = all_each IsPlace primitive_entries entries_placed;
       },
     )

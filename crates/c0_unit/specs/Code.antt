@@ -1,11 +1,12 @@
 -- The code of a unit: the entry, the routines, and the functions in source order. It stands behind the layer's words, and the globals stand from the
 -- next page on.
-use Rattle.std.specs.Prelude.{ℕ, ◌+◌, ◌*◌, ◌/◌, List, [], ◌∷◌, ◌++◌, length, map, sum, slice_index, unwrap_or, position}
+use Rattle.std.specs.Prelude.{ℕ, ◌+◌, ◌*◌, ◌/◌, List, [], ◌∷◌, ◌++◌, length, map, sum, slice_index}
 use Rattle.mips_table.specs.declared.inst.Inst.{Inst}
 use Rattle.mips_table.specs.Encoding.{encoding}
-use Rattle.layer_map.specs.Map.{layer_words, next_page}
+use Rattle.layer_map.specs.Map.{layer_words, primitives_at, exits_at, next_page}
+use Rattle.c0_tree.specs.declared.primitive.Program.TheVariants.{Kernel, User}
 use Rattle.c0_tree.specs.Tree.{CFunction, CUnit}
-use Rattle.c0_meaning.specs.Limits.{is_dispatch, frame}
+use Rattle.c0_meaning.specs.Limits.{frame, first_number}
 use Rattle.c0_meaning.specs.Sound.{shapes}
 use Rattle.c0_meaning.specs.TypeAt.{env_in}
 use Rattle.c0_runtime.specs.declared.entry.TheConstants.{ENTRY_WORDS}
@@ -14,13 +15,15 @@ use Rattle.c0_runtime.specs.Code.{entry_code, new_code, multiply_code, divide_co
 use Rattle.c0_expr_code.specs.Scope.{Scope, keeps_registers, exit_number}
 use Rattle.c0_stmt_code.specs.Code.{Links, function_code}
 
--- where faults leave the kernel: a use of null, an index out of bounds, a division by zero and a want of stack
+-- where faults leave the code: a use of null, an index out of bounds, a division by zero and a want of stack
 abbrev pub fault_exits : List ℕ
-fault_exits = 0x2028 ∷ 0x202c ∷ 0x2030 ∷ 0x2034 ∷ []
+fault_exits = 4 * exits_at ∷ 4 * (exits_at + 1) ∷ 4 * (exits_at + 2) ∷ 4 * (exits_at + 3) ∷ []
 
--- where the primitives are entered, by their numbers: a word each from 0x2000 on
+-- where the primitives are entered, by their numbers: a word each
 abbrev pub primitive_entries : List ℕ
-primitive_entries = 0x2000 ∷ 0x2004 ∷ 0x2008 ∷ 0x200c ∷ 0x2010 ∷ 0x2014 ∷ 0x2018 ∷ 0x201c ∷ 0x2020 ∷ 0x2024 ∷ []
+primitive_entries =
+    4 * primitives_at ∷ 4 * (primitives_at + 1) ∷ 4 * (primitives_at + 2) ∷ 4 * (primitives_at + 3) ∷ 4 * (primitives_at + 4) ∷ 4 * (primitives_at + 5) ∷
+    4 * (primitives_at + 6) ∷ 4 * (primitives_at + 7) ∷ 4 * (primitives_at + 8) ∷ 4 * (primitives_at + 9) ∷ []
 
 -- the first word of the routines, and of the functions
 abbrev pub routines_at : ℕ
@@ -75,21 +78,22 @@ code_words u = ENTRY_WORDS + RUNTIME_WORDS + sum (lengths_of u)
 abbrev pub globals_start : CUnit → ℕ
 globals_start u = 4 * next_page (layer_words + code_words u)
 
--- the number of `dispatch`, and its address
-abbrev pub dispatch_number : CUnit → ℕ
-dispatch_number u = unwrap_or (position is_dispatch u.functions) 0
-
-abbrev pub dispatch_start : CUnit → ℕ
-dispatch_start u = slice_index (function_starts u) (dispatch_number u)
-
 -- the routines, one behind the other
 abbrev pub routines_code : List Inst
 routines_code = new_code ++ (multiply_code ++ (divide_code (slice_index fault_exits 2) ++ remainder_code (slice_index fault_exits 2)))
 
--- the code of a unit
-abbrev pub unit_code : CUnit → List Inst
-unit_code u = entry_code (globals_start u) (dispatch_start u) ++ (routines_code ++ all_functions u (function_starts u))
+-- the code of a unit that begins with the function of this number
+abbrev pub unit_code : CUnit → (first : ℕ) → List Inst
+unit_code u first = entry_code (globals_start u) (slice_index (function_starts u) first) ++ (routines_code ++ all_functions u (function_starts u))
 
--- the words of a unit
+-- its words
+abbrev pub words_from : CUnit → (first : ℕ) → List ℕ
+words_from u first = map encoding (unit_code u first)
+
+-- the words of a kernel's unit, which begins with `dispatch`
 abbrev pub unit_words : CUnit → List ℕ
-unit_words u = map encoding (unit_code u)
+unit_words u = words_from u (first_number Kernel u)
+
+-- the words of a user program's unit, which begins with `main`
+abbrev pub program_words : CUnit → List ℕ
+program_words u = words_from u (first_number User u)

@@ -4,18 +4,21 @@ use Rattle.mips_table.specs.declared.inst.Inst.{Inst}
 use Rattle.mips_table.specs.Encoding.{InRange}
 use Rattle.masm.specs.declared.registers.Places.{Places}
 use Rattle.masm.specs.Places.{ArePlaces}
-use Rattle.layer_map.specs.Map.{layer_words}
+use Rattle.layer_map.specs.Map.{layer_words, primitives_at, exits_at}
 use Rattle.c0_tree.specs.declared.tree.Unit.{Unit as Source}
+use Rattle.c0_tree.specs.declared.primitive.Program.TheVariants.{User}
+use Rattle.c0_tree.specs.Primitives.{CPrimitive}
 use Rattle.c0_tree.specs.Tree.{CFunction, CUnit}
 use Rattle.c0_tree.specs.View.{unit_view}
 use Rattle.c0_meaning.specs.Limits.{all_nodes}
 use Rattle.c0_meaning.specs.Operators.{KernelFault}
-use Rattle.c0_meaning.specs.Unit.{IsChecked}
+use Rattle.c0_meaning.specs.Unit.{IsCheckedAs, IsWellFormed}
 use Rattle.c0_runtime.specs.declared.runtime.TheConstants.{NEW_OBJECT, MULTIPLY, DIVIDE, REMAINDER}
 use Rattle.c0_runtime.specs.Code.{entry_code, new_code, multiply_code, divide_code, remainder_code, zero_exit}
 use Rattle.c0_expr_code.specs.Scope.{exit_number, exit_of, scope_of}
 use Rattle.c0_stmt_code.specs.Code.{links_of, function_code}
-use Rattle.c0_unit.specs.Code.{fault_exits, primitive_entries, routines_at, function_starts, code_words, globals_start, dispatch_number, unit_code}
+use Rattle.c0_unit.specs.Flat.{RunsFlat}
+use Rattle.c0_unit.specs.Code.{fault_exits, primitive_entries, routines_at, function_starts, code_words, globals_start, unit_code}
 
 -- the places of code in which functions begin at these addresses, and the globals at this one
 pub record ArePlacedAt (p : Places) (starts : List ℕ) (globals : ℕ) : Type 0 where
@@ -33,36 +36,40 @@ abbrev pub ArePlacesOf : CUnit → Places → Type 0
 ArePlacesOf u p = ArePlacedAt p (function_starts u) (globals_start u)
 
 -- code stands in a unit's code at a word of memory, behind the unit's first instruction
-pub record StandsIn (u : CUnit) (at : ℕ) (code : List Inst) : Type 0 where
+pub record StandsIn (u : CUnit) (first at : ℕ) (code : List Inst) : Type 0 where
   pub before : List Inst
   pub after : List Inst
-  pub is : unit_code u ≡ before ++ (code ++ after)
+  pub is : unit_code u first ≡ before ++ (code ++ after)
   pub from : at ≡ layer_words + length before
   pub behind : 1 ≤ length before
 
 -- Where the parts of a unit's code stand, by its places: the entry first, the routines at their addresses, and the routine `new` and each function
 -- where calls go. All of its instructions are in range.
-pub record UnitStands (u : CUnit) (p : Places) : Type 0 where
+pub record UnitStands (u : CUnit) (first : ℕ) (p : Places) : Type 0 where
   pub rest : List Inst
-  pub entry : unit_code u ≡ entry_code p.globals (4 * (links_of p).function (dispatch_number u)) ++ rest
-  pub new_object : StandsIn u (links_of p).new_object new_code
-  pub multiply : StandsIn u (p.multiply / 4) multiply_code
-  pub divide : StandsIn u (p.divide / 4) (divide_code (zero_exit p))
-  pub remainder : StandsIn u (p.remainder / 4) (remainder_code (zero_exit p))
-  pub functions : (n : ℕ) (f : CFunction) → slice_get u.functions n ≡ Some f → StandsIn u ((links_of p).function n) (function_code (scope_of u f p) (links_of p) f)
-  pub words : length (unit_code u) ≡ code_words u
-  pub in_range : All InRange (unit_code u)
-  pub exits : (fault : KernelFault) → exit_of p fault ≡ 2058 + exit_number fault
-  pub primitives : (n : ℕ) → n < 10 → (links_of p).primitive n ≡ 2048 + n
+  pub entry : unit_code u first ≡ entry_code p.globals (4 * (links_of p).function first) ++ rest
+  pub new_object : StandsIn u first (links_of p).new_object new_code
+  pub multiply : StandsIn u first (p.multiply / 4) multiply_code
+  pub divide : StandsIn u first (p.divide / 4) (divide_code (zero_exit p))
+  pub remainder : StandsIn u first (p.remainder / 4) (remainder_code (zero_exit p))
+  pub functions : (n : ℕ) (f : CFunction) → slice_get u.functions n ≡ Some f → StandsIn u first ((links_of p).function n) (function_code (scope_of u f p) (links_of p) f)
+  pub words : length (unit_code u first) ≡ code_words u
+  pub in_range : All InRange (unit_code u first)
+  pub exits : (fault : KernelFault) → exit_of p fault ≡ exits_at + exit_number fault
+  pub primitives : (n : ℕ) → n < 10 → (links_of p).primitive n ≡ primitives_at + n
   pub below : (n : ℕ) → (links_of p).primitive n < layer_words
 
--- a law: the code of a checked unit stands so, by the unit's places
+-- a law: the code of a well-formed unit stands so, by the unit's places, whatever its first function is
 abbrev pub UnitsStand : Type 0
-UnitsStand = (u : CUnit) → IsChecked u → (p : Places) → ArePlacesOf u p → UnitStands u p
+UnitsStand = (table : List CPrimitive) (u : CUnit) → IsWellFormed table u → (first : ℕ) (p : Places) → ArePlacesOf u p → UnitStands u first p
 
--- a law: each checked unit has its places
+-- a law: each well-formed unit has its places
 abbrev pub UnitsHavePlaces : Type 0
-UnitsHavePlaces = (s : Source) → IsChecked (unit_view s) → (p : Places) × ArePlacesOf (unit_view s) p × ArePlaces p
+UnitsHavePlaces = (table : List CPrimitive) (s : Source) → IsWellFormed table (unit_view s) → (p : Places) × ArePlacesOf (unit_view s) p × ArePlaces p
+
+-- A LAW: the code of each checked user program runs on a flat machine as the program means
+abbrev pub ProgramsRunFlat : Type 0
+ProgramsRunFlat = (s : Source) → IsCheckedAs User (unit_view s) → RunsFlat (unit_view s)
 
 -- a law: a unit's code has at most 512 words, and 32 for each node
 abbrev pub UnitsAreShort : Type 0

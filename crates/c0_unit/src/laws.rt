@@ -1,9 +1,16 @@
 //! The laws of the code of a unit: each function says one, and does nothing.
 
-ghost use Rattle.c0_unit.specs.Laws.{UnitsAreShort, UnitsHavePlaces, UnitsStand};
+ghost use Rattle.std.specs.Prelude.{ℤ, List};
+ghost use Rattle.c0_unit.specs.Flat.{Outer};
+ghost use Rattle.c0_unit.specs.Laws.{ProgramsRunFlat, UnitsAreShort, UnitsHavePlaces, UnitsStand};
 
+use c0_expr_code::laws::areas_hold;
 use c0_meaning::laws::units_are_typed_or_faulty;
+use c0_meaning::run_laws::{first_states_are_typed, programs_have_a_main};
+use c0_runtime::laws::kernels_are_entered;
+use c0_stmt_code::laws::{Outside, steps_run, zeros_are_held};
 use c0_stmt_code::sizes::{functions_are_in_range, functions_are_short, lengths_are_fixed};
+use mips_table::runs::code_runs_join;
 
 /// A unit's code has at most 512 words, and 32 for each node.
 pub fn units_are_short()
@@ -12,7 +19,7 @@ pub fn units_are_short()
     functions_are_short();
 }
 
-/// A checked unit's code has its parts where its places say, and its instructions are in range.
+/// A well-formed unit's code has its parts where its places say, whatever its first function is, and its instructions are in range.
 pub fn units_stand()
     ensures { UnitsStand }
 {
@@ -22,10 +29,38 @@ pub fn units_stand()
     functions_are_in_range();
 }
 
-/// A checked unit has its places.
+/// A well-formed unit has its places.
 pub fn units_have_places()
     ensures { UnitsHavePlaces }
 {
     units_are_typed_or_faulty();
     functions_are_short();
+}
+
+/// The machine under a user program's code: nothing of it stands for the answers that are left.
+struct FlatMachine;
+
+impl Outside for FlatMachine {
+    ghost Standing = { List ℤ };
+
+    ghost Entry = { ℤ };
+
+    ghost Fixed = { Unit {0} };
+
+    ghost outer = { λ f. Outer };
+}
+
+/// A checked user program's code runs on a flat machine as the program means.
+pub fn programs_run_flat()
+    ensures { ProgramsRunFlat }
+{
+    units_have_places();
+    units_stand();
+    areas_hold();
+    first_states_are_typed();
+    programs_have_a_main();
+    kernels_are_entered();
+    code_runs_join();
+    zeros_are_held();
+    steps_run::<FlatMachine>();
 }

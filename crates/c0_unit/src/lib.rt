@@ -1,10 +1,11 @@
-//! The code of a whole unit of C0: what `compile` answers for a kernel.
+//! The code of a whole unit of C0: what `compile` answers for a kernel, and `compile_flat` for a user program.
 #![tactic(auto)]
 
-mod dispatch;
 mod functions;
+mod globals;
 pub mod laws;
 mod placing;
 mod whole;
 
-pub use whole::compile;
+pub use globals::global_words;
+pub use whole::{compile, compile_flat};

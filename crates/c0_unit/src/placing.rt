@@ -7,17 +7,26 @@ ghost use Rattle.c0_unit.specs.Laws.{ArePlacedAt};
 
 use c0_runtime::entry::ENTRY_WORDS;
 use c0_runtime::runtime::{DIVIDE, MULTIPLY, NEW_OBJECT, REMAINDER};
-use layer_map::LAYER_WORDS;
+use layer_map::{EXITS, LAYER_WORDS, PRIMITIVES};
 use masm::registers::Places;
 use std::alloc::{AllocError, Global};
 use std::vec::Vec;
 
 // Where faults leave the kernel.
-const EXITS: [u32; 4] = [0x2028, 0x202c, 0x2030, 0x2034];
+const FAULT_EXITS: [u32; 4] = [EXITS, EXITS + 4, EXITS + 8, EXITS + 12];
 
 // Where the primitives are entered, by their numbers.
-const PRIMITIVES: [u32; 10] = [
-    0x2000, 0x2004, 0x2008, 0x200c, 0x2010, 0x2014, 0x2018, 0x201c, 0x2020, 0x2024,
+const PRIMITIVE_ENTRIES: [u32; 10] = [
+    PRIMITIVES,
+    PRIMITIVES + 4,
+    PRIMITIVES + 8,
+    PRIMITIVES + 12,
+    PRIMITIVES + 16,
+    PRIMITIVES + 20,
+    PRIMITIVES + 24,
+    PRIMITIVES + 28,
+    PRIMITIVES + 32,
+    PRIMITIVES + 36,
 ];
 
 // The address of a word of the routines.
@@ -35,10 +44,10 @@ pub fn placed_at(alloc: Global, functions: Vec<u32>, globals: u32) -> Result<Pla
     ensures placed { IfOk result (λ p. ArePlacedAt p functions.items globals) }
     ensures places { IfOk result ArePlaces }
 {
-    let primitives = Vec::from_slice(alloc, &PRIMITIVES)?;
+    let primitives = Vec::from_slice(alloc, &PRIMITIVE_ENTRIES)?;
     Ok(Places {
         globals,
-        faults: EXITS,
+        faults: FAULT_EXITS,
         multiply: routine(MULTIPLY),
         divide: routine(DIVIDE),
         remainder: routine(REMAINDER),

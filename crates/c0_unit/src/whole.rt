@@ -1,22 +1,25 @@
-// The words of a kernel.
+// The words of a unit.
 
-ghost use Rattle.std.specs.Prelude.{◌≡◌, ◌+◌, ◌*◌, ◌≤◌, length, IfOk};
+ghost use Rattle.std.specs.Prelude.{◌≡◌, ◌+◌, ◌*◌, ◌≤◌, List, length, IfOk};
 ghost use Rattle.masm.specs.Places.{ArePlaces};
+ghost use Rattle.c0_tree.specs.Primitives.{CPrimitive};
 ghost use Rattle.c0_tree.specs.View.{unit_view};
 ghost use Rattle.c0_meaning.specs.Limits.{all_nodes};
-ghost use Rattle.c0_unit.specs.Code.{unit_words};
+ghost use Rattle.c0_meaning.specs.Unit.{IsWellFormed};
+ghost use Rattle.c0_unit.specs.Code.{program_words, unit_words, words_from};
+ghost use Rattle.c0_unit.specs.Flat.{RunsFlat};
 ghost use Rattle.c0_unit.specs.Laws.{ArePlacesOf};
 
-use crate::dispatch::dispatch_number;
 use crate::functions::emit_functions;
-use crate::laws::units_are_short;
+use crate::laws::{programs_run_flat, units_are_short};
 use crate::placing::placed_at;
 use c0_expr_code::Layout;
-use c0_meaning::Checked;
+use c0_meaning::{Checked, UserChecked};
 use c0_runtime::entry::ENTRY_WORDS;
 use c0_runtime::runtime::RUNTIME_WORDS;
 use c0_runtime::{emit_entry, emit_runtime};
 use c0_structs::measured;
+use c0_tree::Unit;
 use layer_map::LAYER_WORDS;
 use masm::registers::Places;
 use std::alloc::{AllocError, Global};
@@ -34,23 +37,41 @@ fn unit_places(alloc: Global, layout: &Layout<'_>) -> Result<Places, AllocError>
     placed_at(alloc, starts, globals)
 }
 
+// The code of a well-formed unit that begins with the function of the number `first`, for the address 0x10000.
+fn compile_from(alloc: Global, unit: &Unit, first: u32) -> Result<Vec<u32>, AllocError>
+    requires { (table : List CPrimitive) × IsWellFormed table (unit_view unit.now) }
+    ensures words { IfOk result (λ v. v.items ≡ words_from (unit_view unit.now) first) }
+    ensures few { IfOk result (λ v. length v.items ≤ 512 + 32 * all_nodes (unit_view unit.now).functions) }
+{
+    units_are_short();
+    let sizes = measured(alloc, unit)?;
+    let layout = Layout::new(alloc, &sizes)?;
+    let places = unit_places(alloc, &layout)?;
+    let start = places.functions.get(first as usize).copied();
+    let mut code = Vec::new(alloc);
+    emit_entry(alloc, places.globals, start.unwrap_or(0), &mut code)?;
+    emit_runtime(alloc, &places, &mut code)?;
+    let _starts = emit_functions(alloc, &layout, &places, &mut code)?;
+    Ok(code)
+}
+
 /// The code of a kernel's unit, for the address 0x10000: at most 512 words and 32 for each node. The one error is want of memory.
 pub fn compile(alloc: Global, unit: &Checked) -> Result<Vec<u32>, AllocError>
     ensures words { IfOk result (λ v. v.items ≡ unit_words (unit_view unit.now)) }
     ensures few { IfOk result (λ v. length v.items ≤ 512 + 32 * all_nodes (unit_view unit.now).functions) }
 {
-    units_are_short();
-    let source = unit.unit();
-    let sizes = measured(alloc, source)?;
-    let layout = Layout::new(alloc, &sizes)?;
-    let places = unit_places(alloc, &layout)?;
-    let dispatch = places
-        .functions
-        .get(dispatch_number(&source.functions))
-        .copied();
-    let mut code = Vec::new(alloc);
-    emit_entry(alloc, places.globals, dispatch.unwrap_or(0), &mut code)?;
-    emit_runtime(alloc, &places, &mut code)?;
-    let _starts = emit_functions(alloc, &layout, &places, &mut code)?;
-    Ok(code)
+    compile_from(alloc, unit.unit(), unit.first())
+}
+
+/// The code of a user program's unit, for the address 0x10000: at most 512 words and 32 for each node. The one error is want of memory.
+///
+/// It calls `trap` as primitive 0, and leaves by the exits of a kernel. A flat machine that is loaded with it runs as the program means, within 30
+/// steps for each unit but those of a call of `trap`.
+pub fn compile_flat(alloc: Global, unit: &UserChecked) -> Result<Vec<u32>, AllocError>
+    ensures runs { RunsFlat (unit_view unit.now) }
+    ensures words { IfOk result (λ v. v.items ≡ program_words (unit_view unit.now)) }
+    ensures few { IfOk result (λ v. length v.items ≤ 512 + 32 * all_nodes (unit_view unit.now).functions) }
+{
+    programs_run_flat();
+    compile_from(alloc, unit.unit(), unit.first())
 }

@@ -3,23 +3,38 @@
 
 use cvm_outside::{FileSectors, FileShelf, OutSink};
 use cvm_shell::{Status, run};
-use std::alloc::Global;
+use std::alloc::{AllocError, Global};
 use std::env;
+use std::io::{ErrorKind, Write};
 use std::process::ExitCode;
 
-// The words after the program's name, None where there is no memory for them.
-fn words_of(rt: HostRuntime) -> Option<Vec<String>> {
+// The words after the program's name. Where one of them isn't UTF-8 the words are no command, as no words are.
+fn words_of(rt: HostRuntime) -> Result<Vec<String>, AllocError> {
     let mut words = Vec::new(rt.alloc());
-    let args = env::args(&rt).ok()?;
-    for word in args.skip(1) {
-        words.push(word).ok()?;
+    match env::args(&rt) {
+        Ok(args) => {
+            for word in args.skip(1) {
+                words.push(word)?;
+            }
+            Ok(words)
+        }
+        Err(error) if error.kind() == ErrorKind::InvalidData => Ok(words),
+        Err(_) => Err(AllocError),
     }
-    Some(words)
+}
+
+// Whether there is a standard output: no byte is written to it, which fails where its descriptor is closed. A file that is opened then
+// would get that descriptor, and with it what is printed.
+fn has_output(rt: HostRuntime) -> bool {
+    rt.stdout().write(b"").is_ok()
 }
 
 fn main(rt: HostRuntime) -> ExitCode {
     let alloc: Global = rt.alloc();
-    let Some(words) = words_of(rt) else {
+    if !has_output(rt) {
+        return ExitCode::from(Status::Sink.code());
+    }
+    let Ok(words) = words_of(rt) else {
         return ExitCode::from(Status::Memory.code());
     };
     let mut shelf = FileShelf::new(rt);

@@ -59,7 +59,7 @@ step_traps f =
     let a = flat_access f.words in let w = word_at f.words f.cpu.pc in
     accessed_traps f (a.may_fetch f.cpu.pc) causes.FetchAlign causes.FetchFault f.cpu.pc f.cpu.pc (executed a f.cpu w (decoding w)) tt tt (executed_traps f a f.cpu w (decoding w))
 
-pub rows_join : (a : List Dispatch) (d : Dispatch) → rows_of (a ++ d ∷ []) ≡ rows_of a ++ row_of d ∷ []
+rows_join : (a : List Dispatch) (d : Dispatch) → rows_of (a ++ d ∷ []) ≡ rows_of a ++ row_of d ∷ []
 rows_join [] d = refl
 rows_join (e ∷ a) d = ap (λ rows. row_of e ∷ rows) (rows_join a d)
 

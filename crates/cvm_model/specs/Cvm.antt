@@ -1,5 +1,5 @@
 -- The CVM run: its state, one turn, and the turns from the start, with what they may cost.
-use Rattle.std.specs.Prelude.{◌≡◌, ℕ, zero, suc, ◌+◌, ◌-◌, ◌*◌, ℤ, pos, negsuc, ◌==◌, nat_lt, if◌then◌else◌, List, [], ◌∷◌, ◌++◌, length, map, replicate, bit_or, Option, Some, None}
+use Rattle.std.specs.Prelude.{◌≡◌, ℕ, zero, suc, ◌+◌, ◌-◌, ◌*◌, ◌≤◌, ℤ, pos, negsuc, ◌==◌, nat_lt, if◌then◌else◌, List, [], ◌∷◌, ◌++◌, length, map, replicate, bit_or, Option, Some, None}
 use Rattle.mips_table.specs.Arith.{signed}
 use Rattle.mips_table.specs.Machine.{number_of}
 use Rattle.mips_table.specs.Flat.{Flat, VStep, Next as Goes, Trap, vstep}
@@ -164,6 +164,11 @@ cvm y lines n (suc k) = turn y n k (lines k) (cvm y lines n k)
 pub record IsCvm (y : System) (lines : ℕ → ℕ) (k : ℕ) (c : Cvm) : Type 0 where
   pub units : ℕ
   pub is : cvm y lines units k ≡ Some c
+
+-- a running state's user is one of the users, counted from 1, as soon as a turn was made; at the start it is 0
+abbrev pub UsersRun : Type 0
+UsersRun = (y : System) (lines : ℕ → ℕ) (n k : ℕ) (c : Cvm) → cvm y lines n (suc k) ≡ Some c → c.status ≡ Running →
+    (1 ≤ c.core.current) × (c.core.current ≤ length y.boot.users)
 
 -- the number of units doesn't matter
 abbrev pub UnitsDontMatter : Type 0

@@ -72,8 +72,15 @@ pub data JournalEntry : Type 0 where
   Size : (pages : ℕ) → JournalEntry
   Put : (address value : ℕ) → JournalEntry
 
--- the entries that a primitive made, and the user that it changed
+-- the user that a primitive changed, and the entries that it made
+pub record UserChange : Type 0 where
+  pub user : ℕ
+  pub entries : List JournalEntry
+
+-- a call of a primitive that has ended: its number in the table of primitives, its arguments, and what it changed
 pub record Changes : Type 0 where
+  pub number : ℕ
+  pub arguments : List ℤ
   pub user : ℕ
   pub entries : List JournalEntry
 
@@ -83,7 +90,7 @@ pub data End : Type 0 where
   Faults : (fault : KernelFault) → End
   NotYet : End
 
--- the end; the state then; what each primitive that ended changed, in order; the units that it used, and the pages
+-- the end; the state then; the calls of primitives that ended, in order; the units that it used, and the pages
 pub record Outcome : Type 0 where
   pub end : End
   pub after : Core

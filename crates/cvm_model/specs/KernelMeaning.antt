@@ -16,7 +16,7 @@ use Rattle.cvm_model.specs.Kernel.{Console, Core, Changes, End, Answers, Faults,
 use Rattle.cvm_model.specs.declared.kernel_fault.KernelFault.{KernelFault}
 use Rattle.cvm_model.specs.declared.kernel_fault.KernelFault.TheVariants.{NullUse, Bounds, DivZero, StackOut}
 use Rattle.cvm_model.specs.Journal.{KernelReplays}
-use Rattle.cvm_model.specs.Primitives.{Call, VmGet, VmSet, VmSize, VmResize, VmWord, VmPut, VmCopy, ConPut, ConGet, ConLeft, Given, primitive_number, arguments_of, prim}
+use Rattle.cvm_model.specs.Primitives.{Call, VmGet, VmSet, VmSize, VmResize, VmWord, VmPut, VmCopy, ConPut, ConGet, ConLeft, Given, primitive_number, arguments_of, prim, told}
 
 -- what primitives act on: users' machines of at most so many pages, and the console
 pub record Machines : Type 0 where
@@ -40,14 +40,14 @@ call_with k (a ∷ b ∷ c ∷ d ∷ e ∷ []) = if k == 6 then Some (VmCopy a b
 call_with k other = None
 
 -- what it comes to: a number or arguments that no primitive has, as no checked unit gives them, answer null, which is no int and no bool
-abbrev pub after_primitive : Machines → Given → Called Machines Changes
-after_primitive m g = record { answer = g.answer; world = record m { users = g.users; console = g.console }; entries = g.changes ∷ []; pages = g.pages; words = g.words }
+abbrev pub after_primitive : Machines → Call → Given → Called Machines Changes
+after_primitive m call g = record { answer = g.answer; world = record m { users = g.users; console = g.console }; entries = told call g ∷ []; pages = g.pages; words = g.words }
 
 abbrev pub called_by : Machines → Option Call → Called Machines Changes
-called_by m (Some call) = after_primitive m (prim m.most call m.users m.console)
-called_by m None = record { answer = null; world = m; entries = record { user = 0; entries = [] } ∷ []; pages = 0; words = 0 }
+called_by m (Some call) = after_primitive m call (prim m.most call m.users m.console)
+called_by m None = record { answer = null; world = m; entries = record { number = 0; arguments = []; user = 0; entries = [] } ∷ []; pages = 0; words = 0 }
 
--- the meaning of the kernel's primitives, each of which makes one entry: what it changed
+-- the meaning of the kernel's primitives, each of which makes one entry: which call it was, and what it changed
 abbrev pub kernel_primitive : ℕ → Values → Machines → Called Machines Changes
 kernel_primitive n args m = called_by m (option_and_then (call_with n) (ints_of args))
 

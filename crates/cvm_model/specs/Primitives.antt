@@ -5,7 +5,7 @@ use Rattle.mips_table.specs.Arith.{signed}
 use Rattle.mips_table.specs.Flat.{Flat}
 use Rattle.mips_table.specs.Machine.{zero_cpu, LOG_ROOM}
 use Rattle.c0_meaning.specs.Value.{Value, int, bool}
-use Rattle.cvm_model.specs.Kernel.{Console, Changes, JournalEntry, Set, Size, Put}
+use Rattle.cvm_model.specs.Kernel.{Console, UserChange, Changes, JournalEntry, Set, Size, Put}
 
 -- a call of a primitive, with its arguments
 pub data Call : Type 0 where
@@ -51,7 +51,7 @@ pub record Given : Type 0 where
   pub answer : Value
   pub users : List Flat
   pub console : Console
-  pub changes : Changes
+  pub changes : UserChange
   pub words : ℕ  -- touched
   pub pages : ℕ  -- used
 
@@ -172,6 +172,10 @@ granted users o ConLeft = unchanged users o (int (pos (length o.input))) 0 0
 -- what a call comes to, for users of at most so many pages
 abbrev pub prim : ℕ → Call → List Flat → Console → Given
 prim most call users console = if is_good most users call then granted users console call else unchanged users console (refused call) 0 0
+
+-- what is told of a call that has ended: which it was, and what it changed
+abbrev pub told : Call → Given → Changes
+told call g = record { number = primitive_number call; arguments = arguments_of call; user = g.changes.user; entries = g.changes.entries }
 
 -- the units of a primitive: its call, and the words and pages that it touches
 abbrev pub units_of : Given → ℕ

@@ -4,10 +4,9 @@ ghost use Rattle.cvm_outside.specs.Causes.{Rose};
 
 use crate::{DiskFault, Sectors};
 use byteorder::{ByteOrder, LittleEndian};
-use std::fs::OpenOptions;
+use std::fs::{File, OpenOptions, TryLockError};
 use std::io;
 use std::io::{Read, Seek, SeekFrom, Write};
-use std::rt::Files;
 
 /// How many sectors the file has.
 pub const SECTORS: u32 = 65_536;
@@ -19,19 +18,20 @@ const NAME: &str = "cvm.disk";
 const SECTOR_BYTES: usize = 4096;
 
 /// A disk of 65,536 sectors in the file `cvm.disk` in the current folder. A sector past the end of
-/// the file reads as zeros. The first `read` or `write` opens the file, and makes it where there is
-/// none; if that fails, it is that call's fault, and the next call tries again.
+/// the file reads as zeros. The first `read` or `write` opens the file, makes it where there is
+/// none, and locks it against other disks until this one is dropped; if the file can't be opened or
+/// another disk holds it, it is that call's fault, and the next call tries again.
 #[derive(Drop)]
-pub struct FileSectors<R: Files> {
-    rt: R,
-    file: Option<R::File>,
+pub struct FileSectors {
+    rt: HostRuntime,
+    file: Option<File>,
     faults: u64,
 }
 
-impl<R: Files + Drop> FileSectors<R> {
+impl FileSectors {
     /// The disk, with its file not yet opened and no fault.
-    pub fn new(rt: R) -> Self
-        ensures { ⟦<FileSectors<R> as Sectors>⟧.faults result ≡ 0 }
+    pub fn new(rt: HostRuntime) -> Self
+        ensures { ⟦<FileSectors as Sectors>⟧.faults result ≡ 0 }
     {
         FileSectors {
             rt,
@@ -40,17 +40,13 @@ impl<R: Files + Drop> FileSectors<R> {
         }
     }
 
-    /// Takes the file, which is opened if it is not yet, and made if there is none.
-    fn take_file(&mut self) -> io::Result<R::File>
+    // Takes the file, which is opened and locked if it is not yet.
+    fn take_file(&mut self) -> io::Result<File>
         ensures { self.new.faults ≡ self.old.faults }
     {
         match self.file.take() {
             Some(file) => Ok(file),
-            None => OpenOptions::new()
-                .read(true)
-                .write(true)
-                .create(true)
-                .open(&self.rt, NAME),
+            None => open_disk(self.rt),
         }
     }
 
@@ -82,7 +78,7 @@ impl<R: Files + Drop> FileSectors<R> {
     }
 }
 
-impl<R: Files + Drop> Sectors for FileSectors<R> {
+impl Sectors for FileSectors {
     ghost sectors = { λ _. None };
 
     ghost size = { λ _. 65536 };
@@ -110,6 +106,19 @@ impl<R: Files + Drop> Sectors for FileSectors<R> {
     }
 
     fn are_sectors(&self) {}
+}
+
+// Opens the file of the disk, made if there is none, and locks it. Where the file's system has no locks, it is taken without one.
+fn open_disk(rt: HostRuntime) -> io::Result<File> {
+    let file = OpenOptions::new()
+        .read(true)
+        .write(true)
+        .create(true)
+        .open(&rt, NAME)?;
+    match file.try_lock() {
+        Err(TryLockError::WouldBlock) => Err(io::Error::from(io::ErrorKind::ResourceBusy)),
+        Ok(()) | Err(TryLockError::Error(_)) => Ok(file),
+    }
 }
 
 /// Fills the buffer as far as the file goes, and leaves zeros past its end.
@@ -161,7 +170,7 @@ mod tests {
     }
 
     /// The first and the last word of a sector, and whether the others are zeros.
-    fn ends(disk: &mut FileSectors<HostRuntime>, i: u32) -> Result<(u32, u32, bool), DiskFault>
+    fn ends(disk: &mut FileSectors, i: u32) -> Result<(u32, u32, bool), DiskFault>
         requires { i < 65536 }
     {
         let mut words = [7; 1024];
@@ -207,11 +216,24 @@ mod tests {
         Ok(())
     }
 
+    /// The file of a disk that has read is no other disk's, until the first is dropped.
+    fn is_held_alone(rt: HostRuntime, test: &impl Abort) -> Result<(), Fail> {
+        let mut first = FileSectors::new(rt);
+        let mut second = FileSectors::new(rt);
+        assert!(test; ends(&mut first, 0).is_ok());
+        assert!(test; ends(&mut second, 0).is_err());
+        assert_eq!(test; second.faults, 1);
+        drop(first);
+        assert!(test; ends(&mut second, 0).is_ok());
+        Ok(())
+    }
+
     #[test]
     fn keeps_words_in_the_file(rt: HostRuntime) -> Result<(), Fail> {
         opens_at_a_call(rt, &rt)?;
         writes_words(rt, &rt)?;
         reads_zeros_past_the_end(rt, &rt)?;
+        is_held_alone(rt, &rt)?;
         fs::remove_file(&rt, NAME)?;
         Ok(())
     }

@@ -160,7 +160,7 @@ module _ (w : World) (f : RoutineLaws w) (p : Places) (b : ℕ) (si : Sited p w)
       let h1 : Held p v (start c d) c1 d1 = held_to p v (start c d) c d c1 d1 held k.memory k.special k.r28 k.r29 k.r30 k.r31 k.disk in
       from_then w f (copies_code p page.code) (Addiu 2 0 1 ∷ []) (3 * page_steps p.layout.pages b * pieces (number per u a) (number per v' b') n + 600 * n + 1) 1 c1 d1 (Held p (copied v (number per u a) (number per v' b') n) (start c d)) _
       (from_does w f (copies_code p page.code) _ c1 d1 (λ c' d'. Held p v (start c d) c' d' × Marks (number per u a) (number per v' b') n c') _ (h1, record { from = k.r26; to = y27; left = k.r14 }) (copy_law w f p b si page (start c d) v (number per u a) (number per v' b') n cg))
-      (λ c2 d2 h2. from_straight w f (Addiu 2 0 1 ∷ []) (Gives 1 ∷ []) c2 d2 _ refl h2.idle (λ n'. ((refl, tt), (record { stands = h2.stands; small = h2.small; low = h2.low; special = h2.special; r28 = h2.r28; r29 = h2.r29; r30 = h2.r30; r31 = h2.r31; behind = h2.behind; idle = h2.idle }, refl)))))
+      (λ c2 d2 h2. from_straight w f (Addiu 2 0 1 ∷ []) (Gives 1 ∷ []) c2 d2 _ refl h2.idle (λ n'. ((refl, tt), (record { stands = h2.stands; small = h2.small; low = h2.low; above = h2.above; special = h2.special; r28 = h2.r28; r29 = h2.r29; r30 = h2.r30; r31 = h2.r31; behind = h2.behind; idle = h2.idle }, refl)))))
       (λ nay c1 d1 m s r28 r29 r30 r31 r2 e. absurd (nay good)))
 
   -- or false (0), and nothing has changed, within a unit

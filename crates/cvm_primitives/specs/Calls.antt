@@ -1,22 +1,22 @@
 -- Calls of the primitives on memory, as the abstract machine has them: what they are entered with, and what they leave.
-use Rattle.std.specs.Prelude.{◌≡◌, ◌≢◌, ℕ, ◌+◌, ◌*◌, ◌^◌, ◌<◌, ◌≤◌, List, [], ◌∷◌, length, None}
+use Rattle.std.specs.Prelude.{◌≡◌, ◌≢◌, ℕ, ◌+◌, ◌-◌, ◌*◌, ◌^◌, ◌<◌, ◌≤◌, List, [], ◌∷◌, length, true, None}
 use Rattle.mips_table.specs.Arith.{signed}
-use Rattle.mips_table.specs.Device.{Idle}
+use Rattle.mips_table.specs.Device.{Idle, BUFFER}
 use Rattle.mips_table.specs.Flat.{Flat}
 use Rattle.mips_table.specs.declared.inst.Inst.{Inst}
 use Rattle.mips_table.specs.Code.{Contents, Behind, World}
 use Rattle.layer_map.specs.Map.{block_at, hand_at}
 use Rattle.masm.specs.Laws.{From}
 use Rattle.page_model.specs.Paging.{PagesStand}
-use Rattle.page_model.specs.Places.{Places, view}
+use Rattle.page_model.specs.Places.{Places, frames_end, view}
 use Rattle.frame_table.specs.View.{Sited, Ported}
 use Rattle.page_fault.specs.Code.{page_code}
 use Rattle.cvm_model.specs.Kernel.{flat}
-use Rattle.cvm_model.specs.Primitives.{Call, VmWord, VmPut, VmCopy, VmResize, Given, user_of, prim}
+use Rattle.cvm_model.specs.Primitives.{Call, VmWord, VmPut, VmCopy, VmResize, Given, user_of, pages_of, is_good, prim}
 use Rattle.cvm_model.specs.Paged.{pages_by}
 use Rattle.cvm_model.specs.Stands.{UserFits}
 use Rattle.register_primitives.specs.Blocks.{IsOneOf, BlocksHold, console_of}
-use Rattle.cvm_primitives.specs.View.{page_steps, start, Held}
+use Rattle.cvm_primitives.specs.View.{page_steps, start, Held, Fresh}
 use Rattle.cvm_primitives.specs.Code.{vm_word_code, vm_put_code, vm_copy_code, vm_resize_code}
 
 -- What a call is entered with: at most 64 users of at most so many pages each, whose pages the machine shows and whose control blocks hold
@@ -34,8 +34,8 @@ pub record CallEntered (w : World) (p : Places) (b most : ℕ) (users : List Fla
   pub free : (u : ℕ) → IsOneOf users u → w.kept (block_at u + 32) ≡ None
   pub regs : (r : ℕ) → c.regs r < 2 ^ 32
 
--- What it leaves: its answer, and the users and the console after it. All words below the page tables but the hand and the users' sizes,
--- the special registers, registers 28 to 31 and the sectors past the pages stay; entries are words; and no command is under way.
+-- What it leaves: its answer, and the users and the console after it. All words below the page tables but the hand and the users' sizes, those behind
+-- the last frame, the special registers, registers 28 to 31 and the sectors past the pages stay; entries are words; and no command is under way.
 pub record CallLeft (p : Places) (per : ℕ) (users : List Flat) (g : Given) (c0 : Contents) (d0 : Behind) (c : Contents) (d : Behind) : Type 0 where
   pub answer : flat (λ _. 0) g.answer ≡ c.regs 2 ∷ []
   pub stands : PagesStand p.layout (pages_by per g.users) (view p c.memory d.sectors)
@@ -43,6 +43,7 @@ pub record CallLeft (p : Places) (per : ℕ) (users : List Flat) (g : Given) (c0
   pub log : d.log ≡ g.console.log
   pub input : d.input ≡ g.console.input
   pub words : (x : ℕ) → x < p.tables → x ≢ hand_at → ((u : ℕ) → IsOneOf users u → x ≢ block_at u + 32) → c.memory x ≡ c0.memory x
+  pub above : (x : ℕ) → frames_end p ≤ x → x < BUFFER → c.memory x ≡ c0.memory x
   pub small : (x : ℕ) → x < p.layout.pages → c.memory (p.tables + x) < 2 ^ 32
   pub special : c.special ≡ c0.special
   pub regs : (r : ℕ) → 28 ≤ r → r ≤ 31 → c.regs r ≡ c0.regs r
@@ -75,12 +76,18 @@ abbrev pub Answers : World → List Inst → Call → Places → (b most : ℕ) 
 Answers w code call p b most users c d =
     From w code (call_steps p b (given most users d call)) c d (CallLeft p most users (given most users d call) c d)
 
--- vm_word, vm_put, vm_copy and vm_resize
+-- the pages by which a good vm_resize makes a memory grow name the zero frame
+abbrev pub Grown : Places → ℕ → List Flat → Contents → Contents → Type 0
+Grown p most users c c' = is_good most users (resize_call c) ≡ true →
+    Fresh p ((c.regs 20 - 1) * most + pages_of (user_of users (c.regs 20))) (c.regs 21 - pages_of (user_of users (c.regs 20))) c'
+
+-- vm_word, vm_put, vm_copy and vm_resize, the last with what its new pages name
 pub record CallsAnswer (w : World) (p : Places) (b most : ℕ) (users : List Flat) (c : Contents) (d : Behind) : Type 0 where
   pub word : Answers w (vm_word_code p (length users) most (page_code p)) (word_call c) p b most users c d
   pub put : Answers w (vm_put_code p (length users) most (page_code p)) (put_call c) p b most users c d
   pub copy : Answers w (vm_copy_code p (length users) most (page_code p)) (copy_call c) p b most users c d
-  pub resize : Answers w (vm_resize_code p (length users) most) (resize_call c) p b most users c d
+  pub resize : From w (vm_resize_code p (length users) most) (call_steps p b (given most users d (resize_call c))) c d
+      (λ c' d'. CallLeft p most users (given most users d (resize_call c)) c d c' d' × Grown p most users c c')
 
 -- they do from wherever they are entered
 abbrev pub MemoryAnswers : World → Type 0

@@ -22,7 +22,7 @@ last_page z n = (z + (n - 1024)) / 1024
 -- The last pages of a copy of n words: the target's page names the source's frame in the end, c, unless that was a user frame that four other
 -- pages named when the last piece began, with this memory.
 abbrev pub LastShared : Places → (x y n : ℕ) → Contents → (ℕ → ℕ) → Type 0
-LastShared p x y n c m = (SharesFrame p (last_page x n) (last_page y n) c) ⊎ (FourOthers p (last_page x n) (last_page y n) m)
+LastShared p x y n c m = (SharesFrame p (last_page x n) (last_page y n) c.memory) ⊎ (FourOthers p (last_page x n) (last_page y n) m)
 
 -- How a copy of n words from x to y, begun in c and d, comes to its end, c' and d': with the memory and the disk as they were the loop over the pieces,
 -- which stands at `place`, is entered; it comes to its head with all words copied but those of the last page; and from there it ends.

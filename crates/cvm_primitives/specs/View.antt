@@ -1,10 +1,10 @@
 -- What the primitives take of the page-fault block, what they are entered with, and what their parts lead to.
 use Rattle.std.specs.Prelude.{◌≡◌, ◌≢◌, ℕ, ◌+◌, ◌-◌, ◌*◌, ◌/◌, ◌%◌, ◌^◌, ◌<◌, ◌≤◌, true, nat_eq, nat_lt, if◌then◌else◌, List}
-use Rattle.mips_table.specs.Device.{Idle}
+use Rattle.mips_table.specs.Device.{Idle, BUFFER}
 use Rattle.mips_table.specs.Code.{Contents, Behind}
 use Rattle.layer_map.specs.Map.{hand_at}
 use Rattle.page_model.specs.Paging.{Layout, IsUserFrame, Names, Pages, PagesStand, counted}
-use Rattle.page_model.specs.Places.{Places, view}
+use Rattle.page_model.specs.Places.{Places, frames_end, view}
 use Rattle.cvm_primitives.specs.Copy.{Apart}
 
 -- the steps that one page is worth
@@ -30,12 +30,13 @@ pub record BehindStays (p : Places) (g : Start) (d : Behind) : Type 0 where
   pub input : d.input ≡ g.input
   pub past : (q i : ℕ) → p.layout.pages ≤ q → d.sectors q i ≡ g.sectors q i
 
--- What a part of a primitive has in hand, and keeps: the machine stands for u; the words below the tables but the hand, the special registers,
--- registers 28 to 31 and what is behind the ports are as at the start; and no command is under way.
+-- What a part of a primitive has in hand, and keeps: the machine stands for u; the words below the tables but the hand, those behind the last frame,
+-- the special registers, registers 28 to 31 and what is behind the ports are as at the start; and no command is under way.
 pub record Held (p : Places) (u : Pages) (g : Start) (c : Contents) (d : Behind) : Type 0 where
   pub stands : PagesStand p.layout u (view p c.memory d.sectors)
   pub small : (x : ℕ) → x < p.layout.pages → c.memory (p.tables + x) < 2 ^ 32
   pub low : (x : ℕ) → x < p.tables → x ≢ hand_at → c.memory x ≡ g.memory x
+  pub above : (x : ℕ) → frames_end p ≤ x → x < BUFFER → c.memory x ≡ g.memory x
   pub special : c.special ≡ g.special
   pub r28 : c.regs 28 ≡ g.regs 28
   pub r29 : c.regs 29 ≡ g.regs 29
@@ -97,9 +98,10 @@ ResizeGood users per u new = (0 < u) × (u ≤ users) × (new ≤ per)
 abbrev pub Fresh : Places → ℕ → ℕ → Contents → Type 0
 Fresh p q n c = (x : ℕ) → q ≤ x → x < q + n → Names (c.memory (p.tables + x)) p.layout.zeros
 
--- page y names the frame that page x names
-abbrev pub SharesFrame : Places → ℕ → ℕ → Contents → Type 0
-SharesFrame p x y c = Names (c.memory (p.tables + y)) (c.memory (p.tables + x) / 4096)
+-- page y names the frame that page x names, both by valid entries
+pub record SharesFrame (p : Places) (x y : ℕ) (m : ℕ → ℕ) : Type 0 where
+  pub source : Names (m (p.tables + x)) (m (p.tables + x) / 4096)
+  pub target : Names (m (p.tables + y)) (m (p.tables + x) / 4096)
 
 -- page x names a user frame that four pages other than y name
 pub record FourOthers (p : Places) (x y : ℕ) (m : ℕ → ℕ) : Type 0 where

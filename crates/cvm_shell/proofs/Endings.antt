@@ -17,27 +17,29 @@ use Rattle.cvm_shell.specs.declared.refusal.Refusal.TheVariants as by
 use Rattle.cvm_shell.specs.declared.boot.Session.{Session}
 use Rattle.boot_turns.specs.declared.answers.View.{View}
 use Rattle.boot_turns.specs.declared.answers.View.TheVariants as view
-use Rattle.cvm_shell.specs.Command.{Boot, Command, boot, trace, compile_user, compile_kernel, link, migrate, sample, IsCommand, IsNoCommand, GetsFiles, boot_session, trace_session, command_of}
+use Rattle.cvm_shell.specs.Command.{Boot, Command, boot, trace, compile_user, compile_kernel, compile_program, link, migrate, sample, IsCommand, IsNoCommand, GetsFiles, boot_session, trace_session, command_of, check}
 use Rattle.cvm_shell.specs.Outside.{Files, Outside, SameSectors, Leaves, Says, said, broken}
 use Rattle.cvm_shell.specs.Refusal.{Refusal, too_long, refusal_text, refusal_status}
-use Rattle.cvm_shell.specs.Plan.{Plan, bad_words, refuses, puts, boots, BootPlan, UserPlan, KernelPlan, LinkPlan, MigratePlan, SamplePlan, ComesTo, no_command, boot_plan, trace_plan, user_plan, kernel_plan, link_plan, migrate_plan, sample_plan, AllTold, IsPlan}
+use Rattle.cvm_shell.specs.Plan.{Plan, bad_words, refuses, puts, boots, BootPlan, UserPlan, KernelPlan, ProgramPlan, LinkPlan, MigratePlan, SamplePlan, ComesTo, no_command, boot_plan, trace_plan, user_plan, kernel_plan, image_plan, link_plan, migrate_plan, sample_plan, AllTold, IsPlan, prints, CheckPlan, check_plan}
 use Rattle.cvm_shell.specs.Boot.{RunEnds}
 use Rattle.cvm_shell.specs.Outcome.{HasPut, CommandEnds, done, undone}
-use Rattle.cvm_shell.specs.Stages.{IsBootPlan, IsUserPlan, IsKernelPlan, IsLinkPlan, IsMigratePlan, IsSamplePlan}
+use Rattle.cvm_shell.specs.Stages.{IsBootPlan, IsUserPlan, IsKernelPlan, IsProgramPlan, IsLinkPlan, IsMigratePlan, IsSamplePlan, IsCheckPlan}
 use Rattle.cvm_shell.specs.Views.{refusal_view}
 use Rattle.cvm_shell.proofs.OneCommand.{one_command}
 
 -- What words and files come to is one plan, by the command.
 
 -- the files of a command come to a plan
-abbrev CommandPlan : (List ℕ → Option (List ℕ)) → Command → Plan → Type 0
+abbrev pub CommandPlan : (List ℕ → Option (List ℕ)) → Command → Plan → Type 0
 CommandPlan file (boot b) = BootPlan layer_image file b (boot_session b)
 CommandPlan file (trace t) = BootPlan layer_image file t.boot (trace_session t)
 CommandPlan file (compile_user c) = UserPlan file c
 CommandPlan file (compile_kernel c) = KernelPlan file c
+CommandPlan file (compile_program c) = ProgramPlan file c
 CommandPlan file (link l) = LinkPlan layer_image file l
 CommandPlan file (migrate m) = MigratePlan layer_image file m
 CommandPlan file (sample x) = SamplePlan layer_image x.number
+CommandPlan file (check c) = CheckPlan file c
 
 -- and to no other
 abbrev pub FilesPlan : (List ℕ → Option (List ℕ)) → Command → Plan → Type 0
@@ -45,22 +47,30 @@ FilesPlan file (boot b) p = IsBootPlan layer_image file b (boot_session b) p
 FilesPlan file (trace t) p = IsBootPlan layer_image file t.boot (trace_session t) p
 FilesPlan file (compile_user c) p = IsUserPlan file c p
 FilesPlan file (compile_kernel c) p = IsKernelPlan file c p
+FilesPlan file (compile_program c) p = IsProgramPlan file c p
 FilesPlan file (link l) p = IsLinkPlan layer_image file l p
 FilesPlan file (migrate m) p = IsMigratePlan layer_image file m p
 FilesPlan file (sample x) p = IsSamplePlan layer_image x.number p
+FilesPlan file (check c) p = IsCheckPlan file c p
 
-only_here : (words : List (List ℕ)) (file : List ℕ → Option (List ℕ)) (c d : Command) (p q : Plan) → IsCommand words c → IsCommand words d → ((r : Plan) → CommandPlan file c r → r ≡ p) → CommandPlan file d q → q ≡ p
-only_here words file c d p q is other only got = only q (let P : Command → Type 0 = λ x. CommandPlan file x q in subst P (sym (one_command words c d is other)) got)
+its_command : (words : List (List ℕ)) (file : List ℕ → Option (List ℕ)) (c d : Command) (q : Plan) → IsCommand words c → IsCommand words d → CommandPlan file d q → CommandPlan file c q
+its_command words file c d q is other got = let P : Command → Type 0 = λ x. CommandPlan file x q in subst P (sym (one_command words c d is other)) got
+
+-- what words and files come to is what the files of their command come to
+pub its_plan : (words : List (List ℕ)) (file : List ℕ → Option (List ℕ)) (c : Command) → IsCommand words c → (q : Plan) → ComesTo words file q → CommandPlan file c q
+its_plan words file c is q (no_command none) = absurd (none c is)
+its_plan words file c is q (boot_plan b r other got) = its_command words file c (boot b) r is other got
+its_plan words file c is q (trace_plan t r other got) = its_command words file c (trace t) r is other got
+its_plan words file c is q (user_plan d r other got) = its_command words file c (compile_user d) r is other got
+its_plan words file c is q (kernel_plan d r other got) = its_command words file c (compile_kernel d) r is other got
+its_plan words file c is q (image_plan d r other got) = its_command words file c (compile_program d) r is other got
+its_plan words file c is q (link_plan l r other got) = its_command words file c (link l) r is other got
+its_plan words file c is q (migrate_plan m r other got) = its_command words file c (migrate m) r is other got
+its_plan words file c is q (sample_plan x r other got) = its_command words file c (sample x) r is other got
+its_plan words file c is q (check_plan d r other got) = its_command words file c (check d) r is other got
 
 only_plan : (words : List (List ℕ)) (file : List ℕ → Option (List ℕ)) (c : Command) (p : Plan) → IsCommand words c → ((r : Plan) → CommandPlan file c r → r ≡ p) → (q : Plan) → ComesTo words file q → q ≡ p
-only_plan words file c p is only q (no_command none) = absurd (none c is)
-only_plan words file c p is only q (boot_plan b r other got) = only_here words file c (boot b) p r is other only got
-only_plan words file c p is only q (trace_plan t r other got) = only_here words file c (trace t) p r is other only got
-only_plan words file c p is only q (user_plan d r other got) = only_here words file c (compile_user d) p r is other only got
-only_plan words file c p is only q (kernel_plan d r other got) = only_here words file c (compile_kernel d) p r is other only got
-only_plan words file c p is only q (link_plan l r other got) = only_here words file c (link l) p r is other only got
-only_plan words file c p is only q (migrate_plan m r other got) = only_here words file c (migrate m) p r is other only got
-only_plan words file c p is only q (sample_plan x r other got) = only_here words file c (sample x) p r is other only got
+only_plan words file c p is only q comes = only q (its_plan words file c is q comes)
 
 only_none : (words : List (List ℕ)) (file : List ℕ → Option (List ℕ)) → IsNoCommand words → (q : Plan) → ComesTo words file q → q ≡ bad_words
 only_none words file none q (no_command also) = refl
@@ -68,18 +78,22 @@ only_none words file none q (boot_plan b r other got) = absurd (none (boot b) ot
 only_none words file none q (trace_plan t r other got) = absurd (none (trace t) other)
 only_none words file none q (user_plan c r other got) = absurd (none (compile_user c) other)
 only_none words file none q (kernel_plan c r other got) = absurd (none (compile_kernel c) other)
+only_none words file none q (image_plan c r other got) = absurd (none (compile_program c) other)
 only_none words file none q (link_plan l r other got) = absurd (none (link l) other)
 only_none words file none q (migrate_plan m r other got) = absurd (none (migrate m) other)
 only_none words file none q (sample_plan x r other got) = absurd (none (sample x) other)
+only_none words file none q (check_plan c r other got) = absurd (none (check c) other)
 
 pub plan_of : (words : List (List ℕ)) (file : List ℕ → Option (List ℕ)) (c : Command) (p : Plan) → IsCommand words c → FilesPlan file c p → IsPlan (AllTold words file) (ComesTo words file) p
 plan_of words file (boot b) p is plan = record { comes = boot_plan b p is plan.comes; only = λ told q h. only_plan words file (boot b) p is (plan.only (told (boot b) is)) q h }
 plan_of words file (trace t) p is plan = record { comes = trace_plan t p is plan.comes; only = λ told q h. only_plan words file (trace t) p is (plan.only (told (trace t) is)) q h }
 plan_of words file (compile_user c) p is plan = record { comes = user_plan c p is plan.comes; only = λ told q h. only_plan words file (compile_user c) p is (plan.only (told (compile_user c) is)) q h }
 plan_of words file (compile_kernel c) p is plan = record { comes = kernel_plan c p is plan.comes; only = λ told q h. only_plan words file (compile_kernel c) p is (plan.only (told (compile_kernel c) is)) q h }
+plan_of words file (compile_program c) p is plan = record { comes = image_plan c p is plan.comes; only = λ told q h. only_plan words file (compile_program c) p is (plan.only (told (compile_program c) is)) q h }
 plan_of words file (link l) p is plan = record { comes = link_plan l p is plan.comes; only = λ told q h. only_plan words file (link l) p is (plan.only (told (link l) is)) q h }
 plan_of words file (migrate m) p is plan = record { comes = migrate_plan m p is plan.comes; only = λ told q h. only_plan words file (migrate m) p is (plan.only (told (migrate m) is)) q h }
 plan_of words file (sample x) p is plan = record { comes = sample_plan x p is plan.comes; only = λ told q h. only_plan words file (sample x) p is (plan.only (told (sample x) is)) q h }
+plan_of words file (check c) p is plan = record { comes = check_plan c p is plan.comes; only = λ told q h. only_plan words file (check c) p is (plan.only (told (check c) is)) q h }
 
 -- How many bytes were taken.
 
@@ -114,6 +128,7 @@ memory_long s taken e long h = let d : Stops.Memory ≡ Stops.Refused by.TooLong
 which : (r : ByCode) → (r ≡ by.TooLong) ⊎ (refusal_view r ≢ too_long)
 which (by.BadText fault) = inr (λ e. cc)
 which (by.BadSource fault) = inr (λ e. cc)
+which (by.BadProgram fault) = inr (λ e. cc)
 which (by.BadObject fault) = inr (λ e. cc)
 which (by.BadFile fault) = inr (λ e. cc)
 which (by.Unlinked fault) = inr (λ e. cc)
@@ -144,6 +159,9 @@ took_boots session s rows taken few = (λ h. absurd cc, λ h. absurd (few h))
 
 took_puts : (name bytes : List ℕ) (taken : ℕ) → taken ≢ TOO_LONG → Tells_long (puts name bytes) taken
 took_puts name bytes taken few = (λ h. absurd cc, λ h. absurd (few h))
+
+took_prints : (text : List ℕ) (taken : ℕ) → taken ≢ TOO_LONG → Tells_long (prints text) taken
+took_prints text taken few = (λ h. absurd cc, λ h. absurd (few h))
 
 -- The exits.
 
@@ -184,6 +202,12 @@ pub refused_end : (words : List (List ℕ)) (c : Command) (r : ByCode) (status :
 refused_end words c r status old new is plan many same cases all part =
     done (refuses (refusal_view r)) (plan_of words old.shelf.file c (refuses (refusal_view r)) is plan) (λ d other gets. took_refused r new.shelf.taken many)
     (row_said (refusal_status (refusal_view r)) status (refusal_text (refusal_view r)) old new same cases all part)
+
+-- a text is printed
+pub told_end : (words : List (List ℕ)) (c : Command) (text : List ℕ) (status : Status) (old new : Outside) → IsCommand words c → FilesPlan old.shelf.file c (prints text) → new.shelf.taken ≢ TOO_LONG
+    → Unchanged old new → (status ≡ Done) ⊎ (status ≡ Sink) → (status ≡ Done → new.sink.text ≡ append_known old.sink.text text) → (status ≡ Sink → AppendsPart old.sink.text new.sink.text text) → CommandEnds words status old new
+told_end words c text status old new is plan few same cases all part =
+    done (prints text) (plan_of words old.shelf.file c (prints text) is plan) (λ d other gets. took_prints text new.shelf.taken few) (row_said Done status text old new same cases all part)
 
 -- the shelf or memory failed before a plan was there
 pub undone_end : (words : List (List ℕ)) (c : Command) (status : Status) (old new : Outside) → IsCommand words c → GetsFiles c → (status ≡ Memory) ⊎ (status ≡ Shelf) → new.shelf.taken ≢ TOO_LONG → Unchanged old new

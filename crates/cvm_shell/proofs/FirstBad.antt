@@ -5,6 +5,7 @@ use Rattle.std.specs.Prelude.{Option, if◌then◌else◌}
 use Rattle.c0_tokens.specs.Tokens.{CToken}
 use Rattle.c0_tokens.specs.Nesting.{tokens_of}
 use Rattle.c0_tree.specs.declared.tree.Span.{Span}
+use Rattle.c0_tree.specs.declared.primitive.Program.{Program}
 use Rattle.c0_tree.specs.Tree.{CUnit}
 use Rattle.c0_parser.specs.Value.{Value}
 use Rattle.c0_parser.specs.Grammar.{UNIT, Derives}
@@ -12,10 +13,10 @@ use Rattle.c0_parser.specs.Faults.{Reads, IsPrefix, IsFirstBad, FaultIs, fault_a
 use Rattle.c0_parser.specs.declared.fault.ReadFault.{ReadFault}
 use Rattle.c0_parser.specs.declared.fault.ReadFault.TheVariants as read
 use Rattle.c0_meaning.specs.Fault.{Fault, IsLeast, LeastIsThere}
-use Rattle.c0_types.specs.Source.{source_faults}
-use Rattle.c0_types.specs.Answer.{type_fault_view, AnswersLeast, FaultAnswers}
+use Rattle.c0_types.specs.Source.{source_faults_as}
+use Rattle.c0_types.specs.Answer.{type_fault_view, AnswersLeastAs, FaultAnswersAs}
 use Rattle.c0_types.specs.declared.fault.TypeFault.{TypeFault}
-use Rattle.c0_types.specs.declared.fault.TypeFault.TheVariants.{UnknownName, NameTwice, WrongType, WrongCount, NotAPlace, LocalAddress, StructHoldsItself, TooDeep, TooManyNodes, UnitTooLarge, GlobalsTooLarge, NoDispatch, AsmNotAllowed, TooManyParameters, TypeTooLarge, EmptyArray, Memory}
+use Rattle.c0_types.specs.declared.fault.TypeFault.TheVariants.{UnknownName, NameTwice, WrongType, WrongCount, NotAPlace, LocalAddress, StructHoldsItself, TooDeep, TooManyNodes, UnitTooLarge, GlobalsTooLarge, NoDispatch, AsmNotAllowed, TooManyParameters, TypeTooLarge, EmptyArray, NoMain, Memory}
 
 -- Tokens that cannot be.
 
@@ -106,7 +107,8 @@ seen_as number span line =
     if number == 31 then NoDispatch span else
     if number == 32 then AsmNotAllowed span line else
     if number == 33 then TooManyParameters span else
-    if number == 34 then TypeTooLarge span else EmptyArray span
+    if number == 34 then TypeTooLarge span else
+    if number == 35 then EmptyArray span else NoMain span
 
 abbrev back : Option Fault → TypeFault
 back None = Memory
@@ -129,25 +131,27 @@ back_again (AsmNotAllowed s line) = refl
 back_again (TooManyParameters s) = refl
 back_again (TypeTooLarge s) = refl
 back_again (EmptyArray s) = refl
+back_again (NoMain s) = refl
 back_again Memory = refl
 
 is_seen : (f : TypeFault) → f ≢ Memory → type_fault_view f ≢ None
 is_seen f named e = named (sym (back_again f) ∙ ap back e)
 
-least_of : (o : Option Fault) (u : CUnit) → o ≢ None → AnswersLeast o u → (x : Fault) × (o ≡ Some x) × IsLeast (source_faults u) x
-least_of None u some h = absurd (some refl)
-least_of (Some x) u some h = (x, refl, h)
+module _ (program : Program) where
+  least_of : (o : Option Fault) (u : CUnit) → o ≢ None → AnswersLeastAs program o u → (x : Fault) × (o ≡ Some x) × IsLeast (source_faults_as program u) x
+  least_of None u some h = absurd (some refl)
+  least_of (Some x) u some h = (x, refl, h)
 
--- a tree has one first fault of typing at most
-pub one_mistake : LeastIsThere → (u : CUnit) (f g : TypeFault) → f ≢ Memory → g ≢ Memory → FaultAnswers u f → FaultAnswers u g → f ≡ g
-one_mistake law u f g named also is other =
-    let a = least_of (type_fault_view f) u (is_seen f named) is in
-    let b = least_of (type_fault_view g) u (is_seen g also) other in
-    let same : Some a.0 ≡ Some b.0 = ap (λ (x : Fault). Some x) (law.only (source_faults u) a.0 b.0 a.2 b.2) in
-    sym (back_again f) ∙ ap back (a.1 ∙ same ∙ sym b.1) ∙ back_again g
+  -- a tree has one first fault of typing at most
+  pub one_mistake : LeastIsThere → (u : CUnit) (f g : TypeFault) → f ≢ Memory → g ≢ Memory → FaultAnswersAs program u f → FaultAnswersAs program u g → f ≡ g
+  one_mistake law u f g named also is other =
+      let a = least_of (type_fault_view f) u (is_seen f named) is in
+      let b = least_of (type_fault_view g) u (is_seen g also) other in
+      let same : Some a.0 ≡ Some b.0 = ap (λ (x : Fault). Some x) (law.only (source_faults_as program u) a.0 b.0 a.2 b.2) in
+      sym (back_again f) ∙ ap back (a.1 ∙ same ∙ sym b.1) ∙ back_again g
 
--- and a faultless one has none
-pub no_mistake : LeastIsThere → (u : CUnit) (f : TypeFault) → f ≢ Memory → source_faults u ≡ [] → FaultAnswers u f → ⊥
-no_mistake law u f named none is =
-    let a = least_of (type_fault_view f) u (is_seen f named) is in
-    law.none a.0 (subst (λ (fs : List Fault). IsLeast fs a.0) none a.2)
+  -- and a faultless one has none
+  pub no_mistake : LeastIsThere → (u : CUnit) (f : TypeFault) → f ≢ Memory → source_faults_as program u ≡ [] → FaultAnswersAs program u f → ⊥
+  no_mistake law u f named none is =
+      let a = least_of (type_fault_view f) u (is_seen f named) is in
+      law.none a.0 (subst (λ (fs : List Fault). IsLeast fs a.0) none a.2)

@@ -43,6 +43,7 @@ first_or_memory source (Typing (typing.AsmNotAllowed s line)) is = inr (record {
 first_or_memory source (Typing (typing.TooManyParameters s)) is = inr (record { fault = is; read = λ e. cc; typed = λ e. cc })
 first_or_memory source (Typing (typing.TypeTooLarge s)) is = inr (record { fault = is; read = λ e. cc; typed = λ e. cc })
 first_or_memory source (Typing (typing.EmptyArray s)) is = inr (record { fault = is; read = λ e. cc; typed = λ e. cc })
+first_or_memory source (Typing (typing.NoMain s)) is = inr (record { fault = is; read = λ e. cc; typed = λ e. cc })
 
 -- what a source comes to is want of memory, or its answer
 pub answer_or_memory : (source : List ℕ) (front : Result CUnit SourceFault) → Comes source front → ((f : SourceFault) × (front ≡ Err f) × IsWant f) ⊎ IsAnswer source front

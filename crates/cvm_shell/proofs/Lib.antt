@@ -2,6 +2,8 @@ mod AcceptedAs
 mod Answered
 mod BootEndings
 mod BootPlans
+mod CheckPlans
+mod CheckWords
 mod Endings
 mod Few
 mod FirstBad
@@ -12,13 +14,17 @@ mod FourBytes
 mod Fronts
 mod GotFiles
 mod Isolating
-mod KernelPlans
+mod CodePlans
 mod LinkPlans
 mod MigratePlans
 mod OneCommand
 mod Plans
+mod ProgramPlans
 mod SampleEndings
 mod SamplePlans
 mod SourceStops
+mod StackOut
+mod StackTexts
 mod Spellings
+mod Sufficient
 mod UserWords

@@ -21,6 +21,7 @@ use Rattle.system_files.specs.Params.{params_of}
 use Rattle.system_files.specs.declared.fault.FileFault.{FileFault}
 use Rattle.system_files.specs.declared.fault.FileFault.TheVariants as system
 use Rattle.kernel_linker.specs.Answers.{Comes}
+use Rattle.kernel_linker.specs.Open.{open_answer}
 use Rattle.kernel_linker.specs.Link.{fitting, link_answer}
 use Rattle.kernel_linker.specs.Accept.{accept_answer}
 use Rattle.kernel_linker.specs.Laws.{LinkedAreAccepted}
@@ -53,7 +54,7 @@ unfit_answers layer o p us front f e = rw e refl
 
 -- what fits and has no unit is answered by the source's fault
 pub no_unit : (layer : Layers) (o : Object) (p : Params) (us : List (List ℕ)) (f : SourceFault) → fitting p us ≡ Ok tt → link_answer layer o p us (Err f) ≡ Err (link_source_fault f)
-unfolding link_answer
+unfolding link_answer open_answer
 no_unit layer o p us f e = rw e refl
 
 -- the answer is one
@@ -134,7 +135,7 @@ linked_accepted law layer o p us i front bytes comes a e =
 -- THE STAGES BEFORE: the object, the parameters, the users.
 
 -- a fault of an object is want of memory, or it is refused
-object_stops : (f : ObjectFault) → (f ≡ object.Memory) ⊎ ((f ≢ object.Memory) × (object_stop f ≡ Stops.Refused (by.BadObject f)))
+pub object_stops : (f : ObjectFault) → (f ≡ object.Memory) ⊎ ((f ≢ object.Memory) × (object_stop f ≡ Stops.Refused (by.BadObject f)))
 object_stops object.Magic = inr (λ e. cc, refl)
 object_stops (object.Truncated at) = inr (λ e. cc, refl)
 object_stops (object.Trailing at) = inr (λ e. cc, refl)
@@ -147,14 +148,14 @@ file_stops (system.UserTorn user bytes) = inr (λ e. cc, refl)
 file_stops (system.BadParams line) = inr (λ e. cc, refl)
 file_stops system.Memory = inl refl
 
-abbrev OneObject : Type 0
+abbrev pub OneObject : Type 0
 OneObject = (bytes : List ℕ) (a b : Result Object ObjectFault) → IsObject bytes a → IsObject bytes b → a ≡ b
 
 -- an object is no fault
-no_fault : (bytes : List ℕ) (o : Object) (f : ObjectFault) → OneObject → IsObject bytes (Ok o) → IsObject bytes (Err f) → ⊥
+pub no_fault : (bytes : List ℕ) (o : Object) (f : ObjectFault) → OneObject → IsObject bytes (Ok o) → IsObject bytes (Err f) → ⊥
 no_fault bytes o f one is other = let e = one bytes (Ok o) (Err f) is other in cc
 
-one_object : (o p : Object) (x : Result Object ObjectFault) → x ≡ Ok o → x ≡ Ok p → o ≡ p
+pub one_object : (o p : Object) (x : Result Object ObjectFault) → x ≡ Ok o → x ≡ Ok p → o ≡ p
 one_object o p x a b = let e = sym a ∙ b in cc
 
 one_object_fault : (f g : ObjectFault) (x : Result Object ObjectFault) → x ≡ Err f → x ≡ Err g → f ≡ g

@@ -3,7 +3,7 @@ use Rattle.std.proofs.Common.{◌≡◌, ℕ, ◌<◌, ◌^◌, List, [], ◌∷
 use Rattle.std.specs.Prelude.{decimal, slice_index, ◌==◌, if◌then◌else◌}
 use Rattle.std.specs.Str.Parse.{digits_value}
 use Rattle.std.proofs.lemmas.Fmt.{decimal_is_IsNumeral}
-use Rattle.cvm_shell.specs.Command.{Boot, Trace, Command, boot, trace, compile_user, compile_kernel, link, migrate, sample, IsCommand}
+use Rattle.cvm_shell.specs.Command.{Boot, Trace, Command, boot, trace, compile_user, compile_kernel, compile_program, link, migrate, sample, IsCommand, check}
 
 -- what stands at a place
 abbrev at : List (List ℕ) → ℕ → List ℕ
@@ -17,10 +17,14 @@ number text = digits_value 10 text
 abbrev letter : List ℕ → ℕ
 letter text = slice_index text 0
 
+-- and its second
+abbrev second : List ℕ → ℕ
+second text = slice_index text 1
+
 abbrev boot_of : List (List ℕ) → Boot
 boot_of words = record { image = at words 1; schedule = at words 2; turns = number (at words 3); steps = number (at words 4) }
 
--- the command that words are, where they are one: the first letter tells which, or that of the second word
+-- the command that words are, where they are one: the first letter tells which, or the second, or the first of the second word
 abbrev meant : List (List ℕ) → Command
 meant words =
     if letter (at words 0) == 98 then boot (boot_of words) else
@@ -28,7 +32,9 @@ meant words =
     if letter (at words 0) == 108 then link (record { object = at words 1; params = at words 2; image = at words 3; users = drop 4 words }) else
     if letter (at words 0) == 109 then migrate (record { old = at words 1; image = at words 2 }) else
     if letter (at words 0) == 115 then sample (record { number = number (at words 1) }) else
+    if second (at words 0) == 104 then check (record { object = at words 1; stack = number (at words 2) }) else
     if letter (at words 1) == 117 then compile_user (record { text = at words 2; image = at words 3 }) else
+    if letter (at words 1) == 112 then compile_program (record { source = at words 2; image = at words 3 }) else
     compile_kernel (record { source = at words 2; object = at words 3 })
 
 -- a number is read as it was spelled
@@ -51,11 +57,15 @@ is_meant words (trace t) is =
     ap meant is.spelled ∙ trace_back t _ _ (boot_back t.boot is.turns_fit is.steps_fit) (read_back t.user (omega (arith, is.most_users)))
 is_meant words (compile_user c) is = ap meant is.spelled
 is_meant words (compile_kernel c) is = ap meant is.spelled
+is_meant words (compile_program c) is = ap meant is.spelled
 is_meant words (link l) is = ap meant is.spelled
 is_meant words (migrate m) is = ap meant is.spelled
 is_meant words (sample x) is =
     let numbered : ℕ → Command = λ n. sample (record { number = n }) in
     ap meant is.spelled ∙ ap numbered (read_back x.number (omega (arith, is.fits)))
+is_meant words (check c) is =
+    let beside : ℕ → Command = λ n. check (record { object = c.object; stack = n }) in
+    ap meant is.spelled ∙ ap beside (read_back c.stack (omega (arith, is.most)))
 
 -- THE WORDS of a command are those of one
 pub one_command : (words : List (List ℕ)) (c d : Command) → IsCommand words c → IsCommand words d → c ≡ d

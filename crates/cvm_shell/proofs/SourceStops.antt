@@ -34,4 +34,5 @@ mistyped_stops (typing.AsmNotAllowed s line) = inr (λ e. cc, refl)
 mistyped_stops (typing.TooManyParameters s) = inr (λ e. cc, refl)
 mistyped_stops (typing.TypeTooLarge s) = inr (λ e. cc, refl)
 mistyped_stops (typing.EmptyArray s) = inr (λ e. cc, refl)
+mistyped_stops (typing.NoMain s) = inr (λ e. cc, refl)
 mistyped_stops typing.Memory = inl refl

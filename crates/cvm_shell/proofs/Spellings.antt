@@ -5,6 +5,7 @@ use Rattle.std.specs.List.{prefix_len}
 use Rattle.std.specs.Char.{is_ascii_digit}
 use Rattle.std.proofs.lemmas.Fmt.{decimal_injective}
 use Rattle.cvm_text.specs.Number.{number_at}
+use Rattle.cvm_shell.specs.CompileProgram.{CompileProgram, IsCompileProgram}
 use Rattle.cvm_shell.specs.Command.{Boot, Trace, CompileUser, CompileKernel, Link, Migrate, Sample, IsBoot, IsTrace, IsCompileUser, IsCompileKernel, IsLink, IsMigrate, IsSample}
 
 -- that the numbers which are spelled are read, as the reader of numbers says it
@@ -125,6 +126,19 @@ words_of_one_kernel words word kind source object e c is =
     let o : object ≡ c.object = cc in
     let kernel_of : List ℕ → List ℕ → CompileKernel = λ x y. record { source = x; object = y } in
     ap (λ x. Some (kernel_of x object)) s ∙ ap (λ x. Some (kernel_of c.source x)) o
+
+-- these words are a compilation of a user program
+pub words_of_program : (words : List (List ℕ)) (word kind source image : List ℕ) → words ≡ word ∷ kind ∷ source ∷ image ∷ [] → word ≡ codes "compile" → kind ≡ codes "program" → IsCompileProgram words (record { source = source; image = image })
+words_of_program words word kind source image e w k = record { spelled = cc }
+
+-- and of no other
+pub words_of_one_program : (words : List (List ℕ)) (word kind source image : List ℕ) → words ≡ word ∷ kind ∷ source ∷ image ∷ [] → (c : CompileProgram) → IsCompileProgram words c → Some (record { source = source; image = image }) ≡ Some c
+words_of_one_program words word kind source image e c is =
+    let spelled : word ∷ kind ∷ source ∷ image ∷ [] ≡ codes "compile" ∷ codes "program" ∷ c.source ∷ c.image ∷ [] = sym e ∙ is.spelled in
+    let s : source ≡ c.source = cc in
+    let i : image ≡ c.image = cc in
+    let program_of : List ℕ → List ℕ → CompileProgram = λ x y. record { source = x; image = y } in
+    ap (λ x. Some (program_of x image)) s ∙ ap (λ x. Some (program_of c.source x)) i
 
 -- these words are a linking
 pub words_of_link : (words : List (List ℕ)) (word object params image : List ℕ) (users : List (List ℕ)) → words ≡ word ∷ object ∷ params ∷ image ∷ users → word ≡ codes "link"

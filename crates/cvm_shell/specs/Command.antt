@@ -4,7 +4,9 @@ use Rattle.std.specs.declared.string.String.{String}
 use Rattle.std.specs.declared.alloc.Global.{Global}
 use Rattle.boot_turns.specs.declared.answers.View.{View}
 use Rattle.boot_turns.specs.declared.answers.View.TheVariants as view
+use Rattle.cvm_shell.specs.CompileProgram.{CompileProgram, IsCompileProgram}
 use Rattle.cvm_shell.specs.declared.boot.Session.{Session}
+use Rattle.cvm_shell.specs.Check.{Check, IsCheck}
 
 -- boot an image under a schedule, for so many turns and at most so many steps
 pub record Boot : Type 0 where
@@ -50,9 +52,11 @@ pub data Command : Type 0 where
   trace : Trace → Command
   compile_user : CompileUser → Command
   compile_kernel : CompileKernel → Command
+  compile_program : CompileProgram → Command
   link : Link → Command
   migrate : Migrate → Command
   sample : Sample → Command
+  check : Check → Command
 
 -- the words as texts
 abbrev pub texts : List (String Global) → List (List ℕ)
@@ -101,9 +105,11 @@ IsCommand words (boot b) = IsBoot words b
 IsCommand words (trace t) = IsTrace words t
 IsCommand words (compile_user c) = IsCompileUser words c
 IsCommand words (compile_kernel c) = IsCompileKernel words c
+IsCommand words (compile_program c) = IsCompileProgram words c
 IsCommand words (link l) = IsLink words l
 IsCommand words (migrate m) = IsMigrate words m
 IsCommand words (sample x) = IsSample words x
+IsCommand words (check c) = IsCheck words c
 
 -- no command has these words
 abbrev pub IsNoCommand : List (List ℕ) → Type 0

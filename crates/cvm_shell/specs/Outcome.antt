@@ -12,7 +12,7 @@ use Rattle.cvm_shell.specs.Outside.{Outside, SameSectors, Leaves, Says}
 use Rattle.cvm_shell.specs.declared.boot.Session.{Session}
 use Rattle.cvm_shell.specs.Command.{Command, IsCommand, GetsFiles}
 use Rattle.cvm_shell.specs.Refusal.{too_long, refusal_text, refusal_status}
-use Rattle.cvm_shell.specs.Plan.{Plan, bad_words, refuses, puts, boots, ComesTo, AllTold, IsPlan}
+use Rattle.cvm_shell.specs.Plan.{Plan, bad_words, refuses, puts, boots, prints, ComesTo, AllTold, IsPlan}
 use Rattle.cvm_shell.specs.Boot.{RunEnds, IsBooted, IsHonest, Headline}
 use Rattle.cvm_shell.specs.Isolation.{Isolated}
 
@@ -35,6 +35,7 @@ Ends bad_words status old new = Says Words (codes "bad words\n") old new status
 Ends (refuses r) status old new = Says (refusal_status r) (refusal_text r) old new status
 Ends (puts name bytes) status old new = PutEnds name bytes status old new
 Ends (boots session s rows) status old new = RunEnds session s rows status old new
+Ends (prints text) status old new = Says Done text old new status
 
 -- a command that gets files took 67,108,865 bytes of one exactly where that is refused as too long
 abbrev pub Took : List (List ℕ) → Plan → ℕ → Type 0

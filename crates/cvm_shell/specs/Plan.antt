@@ -1,17 +1,19 @@
 -- What words and the files that they name come to, before anything is put or run: stage by stage, in the order of work.
-use Rattle.std.specs.Prelude.{◌≡◌, ◌≢◌, ⊤, ℕ, suc, nat_eq, ◌%◌, ◌<◌, ◌≤◌, List, [], ◌∷◌, length, flat_map, Option, Result, Ok, Err, if◌then◌else◌}
+use Rattle.std.specs.Prelude.{◌≡◌, ◌≢◌, ⊤, ℕ, suc, nat_eq, nat_lt, ◌%◌, ◌<◌, ◌≤◌, List, [], ◌∷◌, length, flat_map, Option, Result, Ok, Err, if◌then◌else◌}
 use Rattle.std.specs.Int.{to_le_bytes, w32}
 use Rattle.std.specs.Option.{IsSome}
 use Rattle.cvm_outside.specs.Told.{TOO_LONG, Tells}
 use Rattle.mips_asm.specs.Assembled.{assembled}
 use Rattle.mips_asm.specs.declared.fault.AsmFault.{AsmFault}
+use Rattle.c0_tree.specs.declared.primitive.Program.{Program}
+use Rattle.c0_tree.specs.declared.primitive.Program.TheVariants.{Kernel, User}
 use Rattle.c0_tree.specs.Tree.{CUnit as Unit}
 use Rattle.c0_parser.specs.Faults.{FaultIs}
 use Rattle.c0_parser.specs.declared.fault.ReadFault.{ReadFault}
 use Rattle.c0_parser.specs.declared.fault.ReadFault.TheVariants as read
 use Rattle.c0_types.specs.declared.fault.TypeFault.{TypeFault}
 use Rattle.c0_types.specs.declared.fault.TypeFault.TheVariants as typing
-use Rattle.c0_types.specs.Front.{IsUnitOf, IsMistyped, IsAnswer}
+use Rattle.c0_types.specs.Front.{IsUnitOf, IsUnitAs, IsMistypedAs, IsAnswer}
 use Rattle.c0_types.specs.declared.source_fault.SourceFault.TheVariants.{Reading as BadReading, Typing as BadTyping}
 use Rattle.object_file.specs.Format.{spelling}
 use Rattle.kernel_linker.specs.Object.{object_of}
@@ -28,6 +30,9 @@ use Rattle.kernel_linker.specs.Accept.{System, accept_answer}
 use Rattle.kernel_linker.specs.Migrate.{migrate_answer}
 use Rattle.kernel_linker.specs.Fault.{accept_file_fault}
 use Rattle.kernel_linker.specs.declared.fault.AcceptFault.{AcceptFault}
+use Rattle.user_c0.specs.declared.fault.UserFault.TheVariants.{TooLarge}
+use Rattle.user_c0.specs.Image.{image_words}
+use Rattle.user_c0.specs.Program.{MAX_IMAGE}
 use Rattle.schedule_file.specs.Rows.{Rows}
 use Rattle.schedule_file.specs.Schedule.{schedule_of}
 use Rattle.schedule_file.specs.declared.fault.ScheduleFault.{ScheduleFault}
@@ -42,9 +47,11 @@ use Rattle.c0_types.specs.declared.source_fault.SourceFault.{SourceFault}
 use Rattle.sample_maker.specs.Parts.{Parts as Sampled}
 use Rattle.sample_maker.specs.Sample.{sample_of}
 use Rattle.cvm_shell.specs.declared.boot.Session.{Session}
-use Rattle.cvm_shell.specs.Command.{Boot, Trace, CompileUser, CompileKernel, Link, Migrate, Sample, Command, boot, trace, compile_user, compile_kernel, link, migrate, sample}
+use Rattle.cvm_shell.specs.CompileProgram.{CompileProgram, IsCompileProgram}
+use Rattle.cvm_shell.specs.Command.{Boot, Trace, CompileUser, CompileKernel, Link, Migrate, Sample, Command, boot, trace, compile_user, compile_kernel, compile_program, link, migrate, sample, check}
+use Rattle.cvm_shell.specs.Check.{Check, IsCheck, Told, TellsObject}
 use Rattle.cvm_shell.specs.Command.{IsBoot, IsTrace, IsCompileUser, IsCompileKernel, IsLink, IsMigrate, IsSample, IsCommand, IsNoCommand, boot_session, trace_session, sample_session}
-use Rattle.cvm_shell.specs.Refusal.{Refusal, bad_text, bad_source, bad_object, bad_file, unlinked, unaccepted, bad_schedule, too_long}
+use Rattle.cvm_shell.specs.Refusal.{Refusal, bad_text, bad_source, bad_object, bad_file, bad_program, unlinked, unaccepted, bad_schedule, too_long}
 
 -- what is to be done
 pub data Plan : Type 0 where
@@ -56,6 +63,8 @@ pub data Plan : Type 0 where
   puts : (name bytes : List ℕ) → Plan
   -- run this system so, under this schedule
   boots : Session → System → Rows → Plan
+  -- print this text
+  prints : (text : List ℕ) → Plan
 
 -- A FILE IS GOT: one with more than 67,108,864 bytes is refused, else its bytes go on
 pub data Got (told : Option (List ℕ)) (next : List ℕ → Plan → Type 0) : Plan → Type 0 where
@@ -110,15 +119,35 @@ UserPlan file c p = Got (file c.text) (AfterText c.image) p
 abbrev pub MOST_SOURCE : ℕ
 MOST_SOURCE = 1048576
 
--- AFTER THE SOURCE of a kernel it is read, its tree is checked, and its unit is compiled
-pub data AfterKernel (name source : List ℕ) : Plan → Type 0 where
-  unread : (f : ReadFault) → f ≢ read.Memory → FaultIs source f → AfterKernel name source (refuses (bad_source (BadReading f)))
-  mistyped : (f : TypeFault) → f ≢ typing.Memory → length source ≤ MOST_SOURCE → IsMistyped source f → AfterKernel name source (refuses (bad_source (BadTyping f)))
-  compiles : (u : Unit) → length source ≤ MOST_SOURCE → IsUnitOf source u → AfterKernel name source (puts name (spelling (object_of source u)))
+-- AFTER THE SOURCE of a kernel or a user program it is read, its tree is checked, and its unit is compiled, which comes to this
+pub data AfterCode (program : Program) (due : Unit → Plan) (source : List ℕ) : Plan → Type 0 where
+  unread : (f : ReadFault) → f ≢ read.Memory → FaultIs source f → AfterCode program due source (refuses (bad_source (BadReading f)))
+  mistyped : (f : TypeFault) → f ≢ typing.Memory → length source ≤ MOST_SOURCE → IsMistypedAs program source f
+      → AfterCode program due source (refuses (bad_source (BadTyping f)))
+  compiles : (u : Unit) → length source ≤ MOST_SOURCE → IsUnitAs program source u → AfterCode program due source (due u)
+
+-- the object of a kernel is put
+abbrev pub object_plan : (name source : List ℕ) → Unit → Plan
+object_plan name source u = puts name (spelling (object_of source u))
+
+abbrev pub AfterKernel : (name source : List ℕ) → Plan → Type 0
+AfterKernel name source = AfterCode Kernel (object_plan name source) source
+
+-- THE IMAGE of a user program is put, unless it has more words than an image may have
+abbrev pub program_plan : (name : List ℕ) → Unit → Plan
+program_plan name u =
+    if nat_lt MAX_IMAGE (length (image_words u)) then refuses (bad_program (TooLarge (length (image_words u)))) else puts name (bytes_of (image_words u))
+
+abbrev pub AfterProgram : (name source : List ℕ) → Plan → Type 0
+AfterProgram name source = AfterCode User (program_plan name) source
 
 -- compile kernel SRC OBJ gets the source
 abbrev pub KernelPlan : (List ℕ → Option (List ℕ)) → CompileKernel → Plan → Type 0
 KernelPlan file c p = Got (file c.source) (AfterKernel c.object) p
+
+-- compile program SRC IMG gets the source
+abbrev pub ProgramPlan : (List ℕ → Option (List ℕ)) → CompileProgram → Plan → Type 0
+ProgramPlan file c p = Got (file c.source) (AfterProgram c.image) p
 
 -- FILES ARE GOT one after the other: the first that is too long is refused, else the bytes of all go on
 abbrev pub GotAll : (List ℕ → Option (List ℕ)) → List (List ℕ) → (List (List ℕ) → Plan → Type 0) → Plan → Type 0
@@ -195,6 +224,19 @@ PartsPlan layer session parts p = (front : Result Unit SourceFault) × IsAnswer 
 abbrev pub SamplePlan : (layer : Map → List ℕ → List ℕ) → (number : ℕ) → Plan → Type 0
 SamplePlan layer number p = PartsPlan layer sample_session (sample_of number) p
 
+-- what a check tells is printed
+abbrev pub told_plan : Told → Plan
+told_plan (Ok text) = prints text
+told_plan (Err r) = refuses r
+
+-- AFTER THE OBJECT of a check its kernel's stack is told
+abbrev pub AfterChecked : (stack : ℕ) → (bytes : List ℕ) → Plan → Type 0
+AfterChecked stack bytes p = (told : Told) × TellsObject stack bytes told × (p ≡ told_plan told)
+
+-- check OBJ STACK gets the object
+abbrev pub CheckPlan : (List ℕ → Option (List ℕ)) → Check → Plan → Type 0
+CheckPlan file c p = Got (file c.object) (AfterChecked c.stack) p
+
 -- THE PLAN that words and files come to
 pub data ComesTo (words : List (List ℕ)) (file : List ℕ → Option (List ℕ)) : Plan → Type 0 where
   no_command : IsNoCommand words → ComesTo words file bad_words
@@ -202,9 +244,11 @@ pub data ComesTo (words : List (List ℕ)) (file : List ℕ → Option (List ℕ
   trace_plan : (t : Trace) (p : Plan) → IsTrace words t → BootPlan layer_image file t.boot (trace_session t) p → ComesTo words file p
   user_plan : (c : CompileUser) (p : Plan) → IsCompileUser words c → UserPlan file c p → ComesTo words file p
   kernel_plan : (c : CompileKernel) (p : Plan) → IsCompileKernel words c → KernelPlan file c p → ComesTo words file p
+  image_plan : (c : CompileProgram) (p : Plan) → IsCompileProgram words c → ProgramPlan file c p → ComesTo words file p
   link_plan : (l : Link) (p : Plan) → IsLink words l → LinkPlan layer_image file l p → ComesTo words file p
   migrate_plan : (m : Migrate) (p : Plan) → IsMigrate words m → MigratePlan layer_image file m p → ComesTo words file p
   sample_plan : (x : Sample) (p : Plan) → IsSample words x → SamplePlan layer_image x.number p → ComesTo words file p
+  check_plan : (c : Check) (p : Plan) → IsCheck words c → CheckPlan file c p → ComesTo words file p
 
 -- files are told
 abbrev pub AreTold : (List ℕ → Option (List ℕ)) → List (List ℕ) → Type 0
@@ -217,9 +261,11 @@ GetsTold file (boot b) = IsSome (file b.image) × IsSome (file b.schedule)
 GetsTold file (trace t) = IsSome (file t.boot.image) × IsSome (file t.boot.schedule)
 GetsTold file (compile_user c) = IsSome (file c.text)
 GetsTold file (compile_kernel c) = IsSome (file c.source)
+GetsTold file (compile_program c) = IsSome (file c.source)
 GetsTold file (link l) = IsSome (file l.object) × IsSome (file l.params) × AreTold file l.users
 GetsTold file (migrate m) = IsSome (file m.old)
 GetsTold file (sample x) = ⊤
+GetsTold file (check c) = IsSome (file c.object)
 
 abbrev pub AllTold : List (List ℕ) → (List ℕ → Option (List ℕ)) → Type 0
 AllTold words file = (c : Command) → IsCommand words c → GetsTold file c

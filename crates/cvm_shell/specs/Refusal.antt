@@ -8,6 +8,8 @@ use Rattle.c0_parser.specs.Faults.{read_fault_number, read_fault_place}
 use Rattle.c0_types.specs.Answer.{type_fault_number, type_fault_span, type_fault_line}
 use Rattle.c0_types.specs.declared.source_fault.SourceFault.{SourceFault}
 use Rattle.c0_types.specs.declared.source_fault.SourceFault.TheVariants.{Reading, Typing}
+use Rattle.user_c0.specs.Compiled.{fault_number as user_fault_number, fault_fields as user_fault_fields}
+use Rattle.user_c0.specs.declared.fault.UserFault.{UserFault}
 use Rattle.object_file.specs.Answer.{object_fault_number, object_fault_place, object_fault_value}
 use Rattle.object_file.specs.declared.fault.ObjectFault.{ObjectFault}
 use Rattle.system_files.specs.Fault.{file_fault_number, file_fault_fields}
@@ -23,8 +25,10 @@ use Rattle.cvm_shell.specs.declared.status.Status.TheVariants.{Refused, Disk, Sh
 pub data Refusal : Type 0 where
   -- 1 to 7: a user's text has no words
   bad_text : (fault : AsmFault) → Refusal
-  -- 10 to 14, and 20 to 35: a kernel's source has no tree, or its tree is not typed
+  -- 10 to 14, and 20 to 36: the source of a kernel or a user program has no tree, or its tree is not typed
   bad_source : (fault : SourceFault) → Refusal
+  -- 37: the image of a user program is too large
+  bad_program : (fault : UserFault) → Refusal
   -- 40 to 43: a file is no object
   bad_object : (fault : ObjectFault) → Refusal
   -- 62, 65 and 66: a text has no parameters, or a user's file no words
@@ -65,7 +69,7 @@ start_of span = option_map (λ s. s.start) span
 abbrev pub end_of : Option Span → Option ℕ
 end_of span = option_map (λ s. s.end) span
 
--- the row of a fault of a kernel's source: its number, and the byte that it names; or the span that it names, and the line
+-- the row of a fault of the source of a kernel or a user program: its number, and the byte that it names; or the span that it names, and the line
 abbrev pub source_fault_row : SourceFault → List ℕ
 source_fault_row (Reading f) = codes "refused " ++ decimal (read_fault_number f) ++ field_text (read_fault_place f) ++ codes "\n"
 source_fault_row (Typing f) =
@@ -94,6 +98,7 @@ schedule_fault_row f =
 abbrev pub refusal_text : Refusal → List ℕ
 refusal_text (bad_text f) = text_fault_row f
 refusal_text (bad_source f) = source_fault_row f
+refusal_text (bad_program f) = numbers_row (user_fault_number f) (user_fault_fields f)
 refusal_text (bad_object f) = object_fault_row f
 refusal_text (bad_file f) = numbers_row (file_fault_number f) (file_fault_fields f)
 refusal_text (unlinked f) = numbers_row (link_fault_number f) (link_fault_fields f)

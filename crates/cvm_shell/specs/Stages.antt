@@ -11,6 +11,8 @@ use Rattle.c0_types.specs.declared.fault.TypeFault.TheVariants as typing
 use Rattle.c0_types.specs.declared.source_fault.SourceFault.{SourceFault}
 use Rattle.c0_types.specs.declared.source_fault.SourceFault.TheVariants.{Reading, Typing}
 use Rattle.layer_map.specs.Map.{Map}
+use Rattle.user_c0.specs.declared.fault.UserFault.{UserFault}
+use Rattle.user_c0.specs.declared.fault.UserFault.TheVariants as program
 use Rattle.object_file.specs.declared.fault.ObjectFault.{ObjectFault}
 use Rattle.object_file.specs.declared.fault.ObjectFault.TheVariants as object
 use Rattle.system_files.specs.declared.fault.FileFault.{FileFault}
@@ -35,8 +37,10 @@ use Rattle.cvm_shell.specs.declared.refusal.Refusal.TheVariants as refusal
 use Rattle.cvm_shell.specs.declared.status.Status.{Status}
 use Rattle.std.specs.Global.{Vec}
 use Rattle.cvm_shell.specs.declared.boot.Session.{Session}
-use Rattle.cvm_shell.specs.Command.{Boot, CompileUser, CompileKernel, Link, Migrate, Command, boot, compile_user, compile_kernel, link as link_command, migrate, IsSample, IsCommand, command_of}
-use Rattle.cvm_shell.specs.Plan.{Plan, puts, boots, BootPlan, UserPlan, KernelPlan, LinkPlan, MigratePlan, SamplePlan, GetsTold, IsPlan, words_from}
+use Rattle.cvm_shell.specs.CompileProgram.{CompileProgram}
+use Rattle.cvm_shell.specs.Command.{Boot, CompileUser, CompileKernel, Link, Migrate, Command, boot, compile_user, compile_kernel, compile_program, link as link_command, migrate, IsSample, IsCommand, command_of, check}
+use Rattle.cvm_shell.specs.Plan.{Plan, puts, boots, BootPlan, UserPlan, KernelPlan, ProgramPlan, LinkPlan, MigratePlan, SamplePlan, GetsTold, IsPlan, words_from, prints, CheckPlan}
+use Rattle.cvm_shell.specs.Check.{Check}
 use Rattle.boot_turns.specs.declared.answers.View.{View}
 use Rattle.cvm_shell.specs.Views.{IfPlan}
 use Rattle.cvm_shell.specs.Outside.{Drive, Files, Outside}
@@ -54,11 +58,16 @@ abbrev pub text_stop : AsmFault → Stop
 text_stop text.Memory = stop.Memory
 text_stop f = stop.Refused (refusal.BadText f)
 
--- what a fault of a kernel's source comes to
+-- what a fault of the source of a kernel or a user program comes to
 abbrev pub source_stop : SourceFault → Stop
 source_stop (Reading read.Memory) = stop.Memory
 source_stop (Typing typing.Memory) = stop.Memory
 source_stop f = stop.Refused (refusal.BadSource f)
+
+-- what a fault of a user program comes to
+abbrev pub program_stop : UserFault → Stop
+program_stop program.Memory = stop.Memory
+program_stop f = stop.Refused (refusal.BadProgram f)
 
 -- what a fault of an object comes to
 abbrev pub object_stop : ObjectFault → Stop
@@ -147,6 +156,9 @@ compiled c image = puts c.image image.items
 abbrev pub linkable : CompileKernel → Vec ℕ → Plan
 linkable c object = puts c.object object.items
 
+abbrev pub runnable : CompileProgram → Vec ℕ → Plan
+runnable c image = puts c.image image.items
+
 abbrev pub linked_to : Link → Vec ℕ → Plan
 linked_to l image = puts l.image image.items
 
@@ -157,12 +169,18 @@ LinksTo Comes result = (l : Link) → IfPlan (linked_to l) (IsPlan ⊤ (Comes l)
 abbrev pub renewed : Migrate → Vec ℕ → Plan
 renewed m image = puts m.image image.items
 
+abbrev pub told_text : Vec ℕ → Plan
+told_text text = prints text.items
+
 -- what the files of a command come to
 abbrev pub IsLinkPlan : (layer : Map → List ℕ → List ℕ) → (List ℕ → Option (List ℕ)) → Link → Plan → Type 0
 IsLinkPlan layer told l p = IsPlan (GetsTold told (link_command l)) (LinkPlan layer told l) p
 
 abbrev pub IsMigratePlan : (layer : Map → List ℕ → List ℕ) → (List ℕ → Option (List ℕ)) → Migrate → Plan → Type 0
 IsMigratePlan layer told m p = IsPlan (GetsTold told (migrate m)) (MigratePlan layer told m) p
+
+abbrev pub IsCheckPlan : (List ℕ → Option (List ℕ)) → Check → Plan → Type 0
+IsCheckPlan file c p = IsPlan (GetsTold file (check c)) (CheckPlan file c) p
 
 abbrev pub IsSamplePlan : (layer : Map → List ℕ → List ℕ) → (number : ℕ) → Plan → Type 0
 IsSamplePlan layer number p = IsPlan ⊤ (SamplePlan layer number) p
@@ -175,6 +193,9 @@ IsUserPlan file c p = IsPlan (GetsTold file (compile_user c)) (UserPlan file c) 
 
 abbrev pub IsKernelPlan : (List ℕ → Option (List ℕ)) → CompileKernel → Plan → Type 0
 IsKernelPlan file c p = IsPlan (GetsTold file (compile_kernel c)) (KernelPlan file c) p
+
+abbrev pub IsProgramPlan : (List ℕ → Option (List ℕ)) → CompileProgram → Plan → Type 0
+IsProgramPlan file c p = IsPlan (GetsTold file (compile_program c)) (ProgramPlan file c) p
 
 -- a law of every system: with whatever units its run comes to a state, that state is one; and the replay of a user's journal is its machine there
 abbrev pub JournalsReplay : Type 0

@@ -2,25 +2,33 @@
 use Rattle.std.specs.Prelude.{◌≡◌, ◌≤◌, ℕ, List, Option, Result, MatchOption, MatchResult, decimal, ⊤}
 use Rattle.cvm_shell.specs.declared.status.Status.{Status}
 use Rattle.cvm_shell.specs.Command as command
+use Rattle.cvm_shell.specs.CompileProgram as compiling
+use Rattle.cvm_shell.specs.Check as checking
 use Rattle.cvm_shell.specs.Refusal as refusal
 use Rattle.cvm_shell.specs.Plan.{Plan, refuses}
 use Rattle.cvm_shell.specs.declared.command.Boot.{Boot}
 use Rattle.cvm_shell.specs.declared.command.Trace.{Trace}
 use Rattle.cvm_shell.specs.declared.command.CompileUser.{CompileUser}
 use Rattle.cvm_shell.specs.declared.command.CompileKernel.{CompileKernel}
+use Rattle.cvm_shell.specs.declared.program.CompileProgram.{CompileProgram}
 use Rattle.cvm_shell.specs.declared.command.Link.{Link}
 use Rattle.cvm_shell.specs.declared.command.Migrate.{Migrate}
 use Rattle.cvm_shell.specs.declared.command.Sample.{Sample}
+use Rattle.cvm_shell.specs.declared.check.Check.{Check}
 use Rattle.cvm_shell.specs.declared.command.Command.{Command}
 use Rattle.cvm_shell.specs.declared.command.Command.TheVariants as command_code
 use Rattle.cvm_shell.specs.declared.refusal.Refusal.{Refusal}
-use Rattle.cvm_shell.specs.declared.refusal.Refusal.TheVariants.{BadText, BadSource, BadObject, BadFile, Unlinked, Unaccepted, BadSchedule, SmallDisk, NoSuchUser, TooLong}
+use Rattle.cvm_shell.specs.declared.refusal.Refusal.TheVariants.{BadText, BadSource, BadProgram, BadObject, BadFile, Unlinked, Unaccepted, BadSchedule, SmallDisk, NoSuchUser, TooLong}
 use Rattle.cvm_shell.specs.declared.boot.Stop.{Stop}
 use Rattle.cvm_shell.specs.declared.boot.Stop.TheVariants.{Refused, Shelf, Memory}
 
 -- the number of a user, 1 to 64, that a text is the decimal spelling of, or none
 abbrev pub IsUserNumber : (text : List ℕ) → Option ℕ → Type 0
 IsUserNumber text found = MatchOption found ((n : ℕ) → 1 ≤ n → n ≤ 64 → text ≡ decimal n → ⊥) (λ n. (text ≡ decimal n) × (1 ≤ n) × (n ≤ 64))
+
+-- the words of stack, 64 to 262,144, that a text is the decimal spelling of, or none
+abbrev pub IsStackNumber : (text : List ℕ) → Option ℕ → Type 0
+IsStackNumber text found = MatchOption found ((n : ℕ) → 64 ≤ n → n ≤ 262144 → text ≡ decimal n → ⊥) (λ n. (text ≡ decimal n) × (64 ≤ n) × (n ≤ 262144))
 
 -- a boot, with its names as lists of bytes
 abbrev pub boot_view : Boot → command.Boot
@@ -38,6 +46,10 @@ user_view c = record { text = c.text.now; image = c.image.now }
 abbrev pub kernel_view : CompileKernel → command.CompileKernel
 kernel_view c = record { source = c.source.now; object = c.object.now }
 
+-- a compilation of a user program, with its names as lists of bytes
+abbrev pub program_view : CompileProgram → compiling.CompileProgram
+program_view c = record { source = c.source.now; image = c.image.now }
+
 -- a linking, with its names as lists of bytes
 abbrev pub link_view : Link → command.Link
 link_view l = record { object = l.object.now; params = l.params.now; image = l.image.now; users = command.texts l.users.now }
@@ -50,20 +62,27 @@ migrate_view m = record { old = m.old.now; image = m.image.now }
 abbrev pub sample_view : Sample → command.Sample
 sample_view x = record { number = x.number }
 
+-- a check, with its name as a list of bytes
+abbrev pub check_view : Check → checking.Check
+check_view c = record { object = c.object.now; stack = c.stack }
+
 -- a command
 abbrev pub command_view : Command → command.Command
 command_view (command_code.Boot b) = command.boot (boot_view b)
 command_view (command_code.Trace t) = command.trace (trace_view t)
 command_view (command_code.CompileUser c) = command.compile_user (user_view c)
 command_view (command_code.CompileKernel c) = command.compile_kernel (kernel_view c)
+command_view (command_code.CompileProgram c) = command.compile_program (program_view c)
 command_view (command_code.Link l) = command.link (link_view l)
 command_view (command_code.Migrate m) = command.migrate (migrate_view m)
 command_view (command_code.Sample x) = command.sample (sample_view x)
+command_view (command_code.Check c) = command.check (check_view c)
 
 -- a refusal
 abbrev pub refusal_view : Refusal → refusal.Refusal
 refusal_view (BadText fault) = refusal.bad_text fault
 refusal_view (BadSource fault) = refusal.bad_source fault
+refusal_view (BadProgram fault) = refusal.bad_program fault
 refusal_view (BadObject fault) = refusal.bad_object fault
 refusal_view (BadFile fault) = refusal.bad_file fault
 refusal_view (Unlinked fault) = refusal.unlinked fault

@@ -58,8 +58,8 @@ fn assembled_image(alloc: Global, text: &[u8]) -> Result<Vec<u8>, Stop>
     }
 }
 
-// The bytes of these words, each little-endian.
-fn little_endian(alloc: Global, words: &[u32]) -> Result<Vec<u8>, AllocError>
+/// The bytes of these words, each little-endian.
+pub(crate) fn little_endian(alloc: Global, words: &[u32]) -> Result<Vec<u8>, AllocError>
     ensures { IfOk result (λ v. v.items ≡ bytes_of words.now) }
 {
     let mut bytes = Vec::new(alloc);

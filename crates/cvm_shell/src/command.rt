@@ -3,6 +3,8 @@ ghost use Rattle.std.specs.Prelude.{◌≡◌, ◌<◌, ◌≤◌, ◌^◌, ℕ,
 ghost use Rattle.cvm_shell.specs.Command as command;
 ghost use Rattle.cvm_shell.specs.Views.{boot_view, trace_view, user_view, kernel_view, link_view, migrate_view, sample_view, command_view, IsUserNumber};
 
+use crate::check::{Check, read_check};
+use crate::program::{CompileProgram, read_compile_program};
 use cvm_text::{read_decimal, spelled_numbers_are_read};
 
 /// The most turns that a command names, and the last sample.
@@ -91,12 +93,16 @@ pub enum Command<'a> {
     CompileUser(CompileUser<'a>),
     /// Compiles the source of a kernel, and puts its object.
     CompileKernel(CompileKernel<'a>),
+    /// Compiles the source of a user program, and puts its image.
+    CompileProgram(CompileProgram<'a>),
     /// Links an object, parameters and users, and puts their image.
     Link(Link<'a>),
     /// Makes an image of form 2 anew, and puts the image of form 3.
     Migrate(Migrate<'a>),
     /// Makes, links and boots a sample.
     Sample(Sample),
+    /// Tells how much stack the kernel of an object needs.
+    Check(Check<'a>),
 }
 
 /// Reads the words of a command, None where they have no form of one.
@@ -117,14 +123,20 @@ pub fn read_command(words: &Vec<String>) -> Option<Command<'_>>
     if let Some(kernel) = read_compile_kernel(words) {
         return Some(Command::CompileKernel(kernel));
     }
+    if let Some(program) = read_compile_program(words) {
+        return Some(Command::CompileProgram(program));
+    }
     if let Some(link) = read_link(words) {
         return Some(Command::Link(link));
     }
     if let Some(migrate) = read_migrate(words) {
         return Some(Command::Migrate(migrate));
     }
-    let sample = read_sample(words)?;
-    Some(Command::Sample(sample))
+    if let Some(sample) = read_sample(words) {
+        return Some(Command::Sample(sample));
+    }
+    let check = read_check(words)?;
+    Some(Command::Check(check))
 }
 
 /// Reads the words of a boot, None where they have no form of one.
@@ -310,8 +322,8 @@ fn read_user(text: &str) -> Option<u32>
     Some(number as u32)
 }
 
-// The number that a text is the decimal spelling of, if it is below 2^64.
-fn read_number(text: &str) -> Option<u64>
+/// The number that a text is the decimal spelling of, if it is below 2^64.
+pub(crate) fn read_number(text: &str) -> Option<u64>
     ensures { MatchOption result ((n : ℕ) → n < 2 ^ 64 → text.now ≡ decimal n → ⊥) (λ n. text.now ≡ decimal n) }
 {
     spelled_numbers_are_read();

@@ -6,17 +6,20 @@ ghost use Rattle.cvm_shell.specs.Command as command;
 ghost use Rattle.cvm_shell.specs.Command.{texts};
 ghost use Rattle.cvm_shell.specs.Outcome.{Outcome, Causes, Headlines, Completes, Isolates};
 ghost use Rattle.cvm_shell.specs.Outside.{Drive, Files, seen, beside, within};
+ghost use Rattle.cvm_shell.specs.Suffices.{Suffices};
 ghost use Rattle.cvm_shell.specs.Stages.{EndsAs, BootEndsAs, SampleEndsAs, JournalsReplay};
 ghost use Rattle.cvm_shell.specs.Views.{boot_view, user_view, kernel_view, link_view, migrate_view};
 
 pub mod accepted;
 pub mod assembly;
 pub mod boot;
+pub mod check;
 pub mod command;
 pub mod laws;
 pub mod linking;
 pub mod migration;
 pub mod object;
+pub mod program;
 pub mod refusal;
 pub mod sampling;
 pub mod saying;
@@ -25,6 +28,9 @@ pub mod status;
 pub use assembly::{user_image, words_have_four_bytes};
 pub use boot::{Ready, Session, Stop, plan, run_system};
 use boot_run::View;
+use bound_check::longest_chains_are_kept;
+use c0_types::laws::sources_have_one_answer;
+pub use check::{Check, check_object, read_check, stack_text};
 pub use command::{
     Boot, Command, CompileKernel, CompileUser, Link, Migrate, Sample, Trace, read_boot,
     read_command, read_compile_kernel, read_compile_user, read_link, read_migrate, read_sample,
@@ -32,11 +38,15 @@ pub use command::{
 };
 use cvm_model::{units_are_kernels, units_dont_matter, units_replay, users_are_isolated};
 use cvm_outside::{Sectors, Shelf, Sink};
+use kernel_linker::laws::opened_units_are_their_sources;
 use layer_runs::RealLayer;
 pub use linking::system_image;
 pub use migration::migrated_image;
 use mips_table::runs::turns_are_counted;
 pub use object::kernel_object;
+use object_file::bytes_have_one_answer;
+use program::compile_program;
+pub use program::{CompileProgram, program_image, read_compile_program};
 pub use refusal::Refusal;
 pub use sampling::sampled;
 use saying::{refuse, say};
@@ -46,14 +56,16 @@ use std::alloc::Global;
 /// Runs the command of these words over a shelf of files, a sink of text and a disk.
 ///
 /// The commands are `boot IMAGE SCHEDULE TURNS STEPS`, `trace IMAGE SCHEDULE TURNS STEPS USER`, `compile user ASM IMG`,
-/// `compile kernel SRC OBJ`, `link OBJ PARAMS OUT USER..`, `migrate IMAGE OUT` and `sample N`. A trace runs the machine as its boot does,
+/// `compile kernel SRC OBJ`, `compile program SRC IMG`, `link OBJ PARAMS OUT USER..`, `migrate IMAGE OUT`, `sample N` and
+/// `check OBJ STACK`. A trace runs the machine as its boot does,
 /// and prints in place of the boot's rows and report the start row, the journal, the end and the registers and memory of one user, of
 /// those of the image, counted from 1. A migration puts the image of form 3 of an image of form 2. A sample is the boot of the system
-/// that is made from its number, for 100,000 turns and at most 4,000,000,000 steps.
+/// that is made from its number, for 100,000 turns and at most 4,000,000,000 steps. A check prints how much stack the kernel of an object
+/// needs: where it prints `yes`, no system of that source with so much stack ever stops for want of stack.
 ///
 /// The status says how it ended; `Words`, `Refused`, `Shelf` where a file is too long, and `Disk` where the disk is too small, print a
 /// row of their own, and a sink that fails is `Sink`, also in place of another status whose text it was to take. No file changes but the
-/// one that a `compile user`, a `compile kernel`, a `link` or a `migrate` names to be put, and no sector but those of the users' pages of
+/// one that a `compile user`, a `compile kernel`, a `compile program`, a `link` or a `migrate` names to be put, and no sector but those of the users' pages of
 /// a `boot`, a `trace` or a `sample`.
 ///
 /// What a `trace` that is done prints of its user depends on nothing but the user's own words, its journal and how the run ended:
@@ -70,9 +82,14 @@ pub fn run<S: Shelf, O: Sink, D: Sectors>(
     ensures headline { Headlines (seen S.Shelf O.Sink D.Sectors) (texts words.now.items) result (shelf.old, out.old, disk.old) (shelf.new, out.new, disk.new) }
     ensures complete { Completes (seen S.Shelf O.Sink D.Sectors) (texts words.now.items) result (shelf.old, out.old, disk.old) (shelf.new, out.new, disk.new) }
     ensures isolated { Isolates (seen S.Shelf O.Sink D.Sectors) (texts words.now.items) result (shelf.old, out.old, disk.old) (shelf.new, out.new, disk.new) }
+    ensures suffices { Suffices (seen S.Shelf O.Sink D.Sectors) (texts words.now.items) result (shelf.old, out.old, disk.old) (shelf.new, out.new, disk.new) }
 {
     turns_are_counted();
     journals_replay();
+    bytes_have_one_answer();
+    sources_have_one_answer();
+    opened_units_are_their_sources();
+    longest_chains_are_kept();
     run_command(alloc, words, shelf, out, disk)
 }
 
@@ -106,9 +123,11 @@ fn run_command<S: Shelf, O: Sink, D: Sectors>(
         }
         Some(Command::CompileUser(names)) => compile_user(alloc, &names, shelf, out),
         Some(Command::CompileKernel(names)) => compile_kernel(alloc, &names, shelf, out),
+        Some(Command::CompileProgram(names)) => compile_program(alloc, &names, shelf, out),
         Some(Command::Link(names)) => link_system(alloc, &names, shelf, out),
         Some(Command::Migrate(names)) => migrate_image(alloc, &names, shelf, out),
         Some(Command::Sample(sample)) => run_sample(alloc, sample.number, out, disk),
+        Some(Command::Check(check)) => check_object(alloc, &check, shelf, out),
     }
 }
 

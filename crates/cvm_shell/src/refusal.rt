@@ -17,6 +17,7 @@ use mips_asm::AsmFault;
 use object_file::ObjectFault;
 use schedule_file::ScheduleFault;
 use system_files::FileFault;
+use user_c0::UserFault;
 
 /// A fault that an image, a schedule, a source or a user's text has. Places are bytes, counted from
 /// 0, and lines are counted from 1.
@@ -24,8 +25,10 @@ use system_files::FileFault;
 pub enum Refusal {
     /// A user's text has no words.
     BadText(AsmFault),
-    /// A kernel's source has no tree, or its tree is not typed.
+    /// The source of a kernel or a user program has no tree, or its tree is not typed.
     BadSource(SourceFault),
+    /// The image of a user program is too large.
+    BadProgram(UserFault),
     /// A file is no object.
     BadObject(ObjectFault),
     /// A text has no parameters, or a user's file no words.
@@ -52,6 +55,7 @@ impl Refusal {
         match self {
             Refusal::BadText(fault) => text_row(*fault),
             Refusal::BadSource(fault) => source_row(*fault),
+            Refusal::BadProgram(fault) => numbers_row(fault.number(), &fault.fields()),
             Refusal::BadObject(fault) => object_row(*fault),
             Refusal::BadFile(fault) => numbers_row(fault.number(), &fault.fields()),
             Refusal::Unlinked(fault) => numbers_row(fault.number(), &fault.fields()),

@@ -138,6 +138,16 @@ impl Desk {
         self.set(self.count_at(frame), count);
     }
 
+    // The word of a slot, from 0, of a user frame, from 1.
+    fn slot_at(&self, frame: u32, slot: u32) -> u32 {
+        self.count_at(frame).wrapping_add(1).wrapping_add(slot)
+    }
+
+    /// Sets a slot, from 0, of a user frame, from 1, to a page.
+    pub fn set_slot(&mut self, frame: u32, slot: u32, page: u32) {
+        self.set(self.slot_at(frame, slot), page);
+    }
+
     /// Sets the hand to a user frame, from 0.
     pub fn set_hand(&mut self, frame: u32) {
         self.set(HAND / 4, frame);
@@ -232,7 +242,18 @@ impl Desk {
         }
     }
 
-    /// Tells the hand, the entries, the counts and what the pages show.
+    // The list of a user frame, from 1: the pages in the slots below its count.
+    fn tell_list(&self, told: &mut String, frame: u32) -> Result<(), AllocError> {
+        let listed = self.word(self.count_at(frame)).min(4);
+        told.push_str(if listed == 0 { " -" } else { " " })?;
+        for slot in 0..listed {
+            told.push_str(if slot == 0 { "" } else { "," })?;
+            told.push_str(decimal_u64(u64::from(self.word(self.slot_at(frame, slot)))).as_str())?;
+        }
+        Ok(())
+    }
+
+    /// Tells the hand, the entries, the counts, the lists and what the pages show.
     pub fn tell(&mut self, told: &mut String) -> Result<(), AllocError> {
         count(told, " hand", self.word(HAND / 4))?;
         told.push_str(" entries")?;
@@ -243,6 +264,10 @@ impl Desk {
         told.push_str(" counts")?;
         for frame in 0..self.frames {
             count(told, "", self.word(self.count_at(frame.wrapping_add(1))))?;
+        }
+        told.push_str(" lists")?;
+        for frame in 0..self.frames {
+            self.tell_list(told, frame.wrapping_add(1))?;
         }
         self.tell_pages(told)
     }

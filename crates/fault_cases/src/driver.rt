@@ -18,7 +18,7 @@ pub const BEGIN: u32 = 1042;
 pub const FIRST: u32 = 20;
 
 /// The address behind its last.
-pub const LAST: u32 = 664;
+pub const LAST: u32 = 712;
 
 /// Code for address 0, which waits until it may begin, runs the block and waits again.
 pub fn driver(map: &Map) -> Block<200> {
@@ -52,7 +52,7 @@ pub fn driver(map: &Map) -> Block<200> {
     driver.push(Inst::Beq {
         rs: 0,
         rt: 0,
-        imm: 65369,
+        imm: 65357,
     });
     driver
 }

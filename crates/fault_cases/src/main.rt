@@ -5,14 +5,15 @@
 //                          `each N` for a line at each of the steps from 0 to N - 1, line T mod 8 at step T
 //     entry PAGE WORD      the page's entry becomes this word
 //     count FRAME COUNT    the count of the user frame, from 1
+//     slot FRAME K PAGE    slot K of the user frame, from 1, holds this page; the slots below the count are the frame's list
 //     hand FRAME           the hand becomes this user frame, from 0
 //     frame FRAME WORD     word i of the frame becomes WORD + i; frame 0 is the zero frame
 //     sector PAGE WORD     word i of the page's sector becomes WORD + i
 //     ask PAGE STORE       the page is asked for, to store where STORE isn't 0: tells the steps from the block's first instruction to its end,
 //                          and what stands then
 //     store PAGE I WORD    word I of the page's frame becomes WORD
-//     tell                 tells what stands: the hand, the entries by page, the counts by frame, and what each page shows, as a number
-//                          made of its 1,024 words
+//     tell                 tells what stands: the hand, the entries by page, the counts and the lists by frame, and what each page shows,
+//                          as a number made of its 1,024 words
 //
 // Other lines are only printed. Numbers are decimal, but entries are told in hexadecimal digits.
 #![tactic(auto)]
@@ -95,6 +96,8 @@ fn obey(desk: &mut Desk, line: &str, told: &mut String) -> Result<(), AllocError
         desk.set_entry(a, b);
     } else if kind == "count" {
         desk.set_count(a, b);
+    } else if kind == "slot" {
+        desk.set_slot(a, b, number(line, 3));
     } else if kind == "hand" {
         desk.set_hand(a);
     } else if kind == "frame" {

@@ -1,5 +1,5 @@
 -- What is linked is accepted: its words are compared with themselves.
-use Rattle.std.proofs.Common.{ℕ, ◌≡◌, List, Result, Ok, Err, refl, sym, ap, ◌∙◌, subst}
+use Rattle.std.proofs.Common.{ℕ, ◌≡◌, List, Result, Ok, Err, refl, sym, ap, subst}
 use Rattle.layer_map.specs.declared.params.Params.{Params}
 use Rattle.layer_map.specs.Map.{Map}
 use Rattle.boot_image.specs.Parts.{Parts as Image}
@@ -11,22 +11,27 @@ use Rattle.kernel_linker.specs.Linked.{linked, sizes_of}
 use Rattle.kernel_linker.specs.Difference.{compared}
 use Rattle.kernel_linker.specs.declared.difference.Difference.{Difference}
 use Rattle.kernel_linker.specs.declared.fault.LinkFault.{LinkFault}
-use Rattle.kernel_linker.specs.Link.{◌>>=◌, fitting, unit_in, unforged, link_answer}
-use Rattle.kernel_linker.specs.Accept.{System, accept_answer}
-use Rattle.kernel_linker.specs.Laws.{IsAccepted}
+use Rattle.kernel_linker.specs.Open.{◌>>=◌, unforged, open_answer}
+use Rattle.kernel_linker.specs.Link.{fitting, link_answer}
+use Rattle.kernel_linker.specs.Accept.{accept_answer}
+use Rattle.kernel_linker.specs.Laws.{IsAccepted, OpenedUnitsAreTheirSources}
 use Rattle.kernel_linker.proofs.Comparing.{same_all}
 
--- the last stage
-last : (c : Result (Unit {0}) Difference) (v i : Image) → (unforged c >>= λ same. Ok v) ≡ Ok i → v ≡ i
-last (Ok x) v i h = cc
-last (Err d) v i h = cc
+-- what is opened is the unit that the front came to
+last : (c : Result (Unit {0}) Difference) (v u : CUnit) → (unforged c >>= λ same. Ok v) ≡ Ok u → v ≡ u
+last (Ok x) v u h = cc
+last (Err d) v u h = cc
+
+pub opened_unit : OpenedUnitsAreTheirSources
+unfolding open_answer
+opened_unit o (Err f) u h = cc
+opened_unit o (Ok v) u h = ap (λ (x : CUnit). Ok x) (last (compared o.words (unit_words v)) v u h)
 
 -- the stages
-stages : (fit : Result (Unit {0}) LinkFault) (front : Result CUnit SourceFault) (words : CUnit → Result (Unit {0}) Difference) (made : CUnit → Image) (i : Image) →
-    (fit >>= λ x. (unit_in front >>= λ u. (unforged (words u) >>= λ same. Ok (made u)))) ≡ Ok i → (u : CUnit) × (front ≡ Ok u) × (made u ≡ i)
-stages (Err e) front words made i h = cc
-stages (Ok x) (Err f) words made i h = cc
-stages (Ok x) (Ok u) words made i h = (u, refl, last (words u) (made u) i h)
+stages : (fit : Result (Unit {0}) LinkFault) (opened : Result CUnit LinkFault) (made : CUnit → Image) (i : Image) → (fit >>= λ x. (opened >>= λ u. Ok (made u))) ≡ Ok i → (u : CUnit) × (opened ≡ Ok u) × (made u ≡ i)
+stages (Err e) opened made i h = cc
+stages (Ok x) (Err f) made i h = cc
+stages (Ok x) (Ok u) made i h = (u, refl, cc)
 
 -- the image of a unit
 image_of : (layer : Map → List ℕ → List ℕ) → Object → Params → List (List ℕ) → CUnit → Image
@@ -42,12 +47,13 @@ pub linked_accepted : (layer : Map → List ℕ → List ℕ) (o : Object) (p : 
     link_answer layer o p users front ≡ Ok i → IsAccepted layer o p users front i
 unfolding link_answer image_of
 linked_accepted layer o p users front i h =
-    let s = stages (fitting p users) front (λ u. compared o.words (unit_words u)) (image_of layer o p users) i h in
+    let s = stages (fitting p users) (open_answer o front) (image_of layer o p users) i h in
+    let unit : front ≡ Ok s.0 = opened_unit o front s.0 s.1 in
     record {
       unit = s.0;
-      read = s.1;
+      read = unit;
       source = ap (λ (j : Image). j.source) (sym s.2);
       accepted = subst (λ (j : Image). accept_answer layer j front ≡ Ok (record { params = p; unit = s.0; words = linked layer s.0 p (sizes_of users); users = users })) s.2
-          (subst (λ (r : Result CUnit SourceFault). accept_answer layer (image_of layer o p users s.0) r ≡ Ok (record { params = p; unit = s.0; words = linked layer s.0 p (sizes_of users); users = users })) (sym s.1)
+          (subst (λ (r : Result CUnit SourceFault). accept_answer layer (image_of layer o p users s.0) r ≡ Ok (record { params = p; unit = s.0; words = linked layer s.0 p (sizes_of users); users = users })) (sym unit)
           (accepts layer o p users s.0));
     }

@@ -8,6 +8,7 @@ use Rattle.object_file.specs.Parts.{Parts as Object}
 use Rattle.c0_tree.specs.Tree.{CUnit}
 use Rattle.c0_types.specs.declared.source_fault.SourceFault.{SourceFault}
 use Rattle.kernel_linker.specs.Linked.{linked, sizes_of}
+use Rattle.kernel_linker.specs.Open.{open_answer}
 use Rattle.kernel_linker.specs.Link.{link_answer}
 use Rattle.kernel_linker.specs.Accept.{accept_answer}
 
@@ -33,3 +34,7 @@ pub record Fits (i : Image) : Type 0 where
 -- a law: an image that has a spelling is of such
 abbrev pub SpelledImagesFit : Type 0
 SpelledImagesFit = (i : Image) → HasSpelling i → Fits i
+
+-- a law: what is opened is the unit that the front came to on the object's source
+abbrev pub OpenedUnitsAreTheirSources : Type 0
+OpenedUnitsAreTheirSources = (o : Object) (front : Result CUnit SourceFault) (u : CUnit) → open_answer o front ≡ Ok u → front ≡ Ok u

@@ -1,28 +1,19 @@
 -- What is answered of an object, parameters and users that are to be linked: the users are counted and measured, the parameters are looked
--- at, the object's source is read and checked, and the object's words are compared with those that its source is compiled to. The first fault
--- answers; where none stands, the image of the source, the parameters and the users does, with its linked words.
-use Rattle.std.specs.Prelude.{◌≡◌, ◌⊎◌, ℕ, suc, ◌||◌, nat_lt, List, [], ◌∷◌, length, Result, Ok, Err, if◌then◌else◌}
+-- at, and the object is opened. The first fault answers; where none stands, the image of the source, the parameters and the users does, with
+-- its linked words.
+use Rattle.std.specs.Prelude.{ℕ, suc, ◌||◌, nat_lt, List, [], ◌∷◌, length, Result, Ok, Err, if◌then◌else◌}
 use Rattle.layer_map.specs.declared.params.Params.{Params}
 use Rattle.layer_map.specs.Map.{Map}
 use Rattle.boot_image.specs.Format.{most_words}
 use Rattle.boot_image.specs.Parts.{Parts as Image}
 use Rattle.object_file.specs.Parts.{Parts as Object}
 use Rattle.c0_tree.specs.Tree.{CUnit}
-use Rattle.c0_unit.specs.Code.{unit_words}
 use Rattle.c0_types.specs.declared.source_fault.SourceFault.{SourceFault}
 use Rattle.kernel_linker.specs.Answers.{Comes, GivesUnless}
 use Rattle.kernel_linker.specs.Linked.{linked, sizes_of}
-use Rattle.kernel_linker.specs.Difference.{compared}
-use Rattle.kernel_linker.specs.declared.difference.Difference.{Difference}
-use Rattle.kernel_linker.specs.Fault.{link_source_fault, link_difference}
+use Rattle.kernel_linker.specs.Open.{◌>>=◌, open_answer}
 use Rattle.kernel_linker.specs.declared.fault.LinkFault.{LinkFault}
 use Rattle.kernel_linker.specs.declared.fault.LinkFault.TheVariants.{UserCount, UserTooLong, Parameter, Memory}
-
--- a step, and then another by its value
-infixl 10 ◌>>=◌
-abbrev pub ◌>>=◌ : {A B : Type 0} → Result A LinkFault → (A → Result B LinkFault) → Result B LinkFault
-(Ok x) >>= f = f x
-(Err e) >>= f = Err e
 
 -- at most 64 users
 unfoldable pub counted : List (List ℕ) → Result (Unit {0}) LinkFault
@@ -52,22 +43,11 @@ fitting p users = do
   short ← measured (most_words p.pages) 1 users
   in_range p
 
--- the unit that the front came to
-abbrev pub unit_in : Result CUnit SourceFault → Result CUnit LinkFault
-unit_in (Ok u) = Ok u
-unit_in (Err f) = Err (link_source_fault f)
-
--- words are those that are made
-abbrev pub unforged : Result (Unit {0}) Difference → Result (Unit {0}) LinkFault
-unforged (Ok x) = Ok x
-unforged (Err d) = Err (link_difference d)
-
 -- LINK, over a layer that has these words for a map and sizes, where the front came to this on the object's source
 unfoldable pub link_answer : (layer : Map → List ℕ → List ℕ) → Object → Params → List (List ℕ) → Result CUnit SourceFault → Result Image LinkFault
 link_answer layer o p users front = do
   fit ← fitting p users
-  u ← unit_in front
-  same ← unforged (compared o.words (unit_words u))
+  u ← open_answer o front
   Ok (record { params = p; form = 3; source = o.source; words = linked layer u p (sizes_of users); users = users })
 
 -- a result is the answer that is due, by what the front comes to on the object's source, or want of memory

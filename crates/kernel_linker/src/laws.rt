@@ -1,6 +1,6 @@
 //! What is known of linking and accepting: each function says a law, and does nothing.
 
-ghost use Rattle.kernel_linker.specs.Laws.{LinkedAreAccepted, SpelledImagesFit};
+ghost use Rattle.kernel_linker.specs.Laws.{LinkedAreAccepted, OpenedUnitsAreTheirSources, SpelledImagesFit};
 ghost use Rattle.kernel_linker.specs.Migrate.{MigratedAreAccepted, OldWordsAreIgnored};
 ghost use Rattle.kernel_linker.specs.Sources.{AcceptedAreOfImages};
 
@@ -22,6 +22,11 @@ pub fn old_words_are_ignored()
 /// A law: an image that has a spelling has parameters in range, and users that are few and short enough.
 pub fn spelled_images_fit()
     ensures { SpelledImagesFit }
+{}
+
+/// A law: what is opened is the checked unit of the object's source.
+pub fn opened_units_are_their_sources()
+    ensures { OpenedUnitsAreTheirSources }
 {}
 
 /// A law: an accepted system is that of its image, whose own source has its unit.

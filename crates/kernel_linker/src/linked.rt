@@ -7,11 +7,10 @@ ghost use Rattle.c0_tree.specs.View.{unit_view};
 ghost use Rattle.c0_unit.specs.Code.{unit_words};
 ghost use Rattle.kernel_linker.specs.Linked.{linked, map_for, pages_for, sizes_of};
 
-use crate::globals::global_words;
 use c0_meaning::Checked;
 use c0_meaning::laws::units_are_typed_or_faulty;
 use c0_structs::measured;
-use c0_unit::compile;
+use c0_unit::{compile, global_words};
 use layer_contract::{Layer, LayerMaker};
 use layer_map::{Map, Params};
 use std::alloc::{AllocError, Global};

@@ -6,11 +6,10 @@ ghost use Rattle.boot_image.specs.Format.{HasSpelling, most_words};
 ghost use Rattle.kernel_linker.specs.Link.{LinksBy, counted, fitting, in_range, measured, ranged};
 ghost use Rattle.kernel_linker.specs.declared.fault.LinkFault.{LinkFault};
 
-use crate::difference::compare;
 use crate::fault::LinkFault;
-use crate::linked::{compiled, link_words};
+use crate::linked::link_words;
+use crate::opening::open_with_code;
 use boot_image::Image;
-use c0_types::read_unit;
 use layer_contract::LayerMaker;
 use layer_map::Params;
 use object_file::Object;
@@ -103,8 +102,8 @@ fn copies(alloc: Global, users: &[Vec<u32>]) -> Result<Vec<Vec<u32>>, AllocError
 
 /// Links an object, parameters and users to an image of form 3.
 ///
-/// The users are counted and measured, and the parameters looked at; then the object's source is read and checked, and its words are compared
-/// with those that its source is compiled to. The first fault answers. Want of memory may come once users and parameters fit.
+/// The users are counted and measured, and the parameters looked at; then the object is opened: its source is read and checked, and its words
+/// are compared with those that its source is compiled to. The first fault answers. Want of memory may come once users and parameters fit.
 pub fn link<M: LayerMaker>(
     alloc: Global,
     object: &Object,
@@ -119,10 +118,8 @@ pub fn link<M: LayerMaker>(
     ensures spelled { IfOk result HasSpelling }
 {
     fit(params, users)?;
-    let unit = read_unit(alloc, &object.source)?;
-    let code = compiled(alloc, &unit)?;
-    compare(&object.words, &code)?;
-    let joined = link_words::<M>(alloc, &unit, &code, params, users)?;
+    let opened = open_with_code(alloc, object)?;
+    let joined = link_words::<M>(alloc, &opened.unit, &opened.code, params, users)?;
     Ok(Image {
         params: *params,
         form: 3,

@@ -45,8 +45,8 @@ use Rattle.cvm_model.specs.Stands.{Site, Stands, address_of}
 use Rattle.kernel_runs.specs.Held.{HoldsAt, IsHeldFlat, HeldIsFlat}
 use Rattle.kernel_runs.specs.Outer.{Outer}
 use Rattle.kernel_runs.specs.Placed.{program, CodeStands}
-use Rattle.c0_unit.specs.Code.{dispatch_number}
-use Rattle.kernel_runs.proofs.Instructions.{piece_at, not_own, kept_words}
+use Rattle.c0_meaning.specs.CallChain.{dispatch_number}
+use Rattle.kernel_runs.proofs.Instructions.{piece_at, not_own, kept_past, kept_words}
 use Rattle.kernel_runs.proofs.Seen.{space_is}
 use Rattle.kernel_runs.proofs.Standing.{seen, behind, no_user, outer_of}
 use Rattle.kernel_runs.proofs.Reached.{RunsJoin, Reached, inside_of, instructs_named, goes_on}
@@ -84,20 +84,23 @@ abbrev pub with_frames : C0 → List Frame → C0
 with_frames s f = record s { frames = f }
 
 module _ (simulates : MachineSimulates) (joins : RunsJoin) (fitting : StaysFitting) (alikes : AlikesStand) (rows : RowsAreCalled)
-    (x : Outside) (y : Site) (u : CUnit) (p : Places) (code : List Inst) (words longest : ℕ) (c : Core) (st : CodeStands u p y code) (g : Ground x y words longest) (user_ok : c.current ≤ y.map.users)
-    (small : words < 2 ^ 26) (sound : Sound (on_machine x (program (layer_words + 1) code words))) (sound_all : Sound (on_machine x (program layer_words code words))) (s0 : State)
+    (x : Outside) (y : Site) (u : CUnit) (p : Places) (code : List Inst) (words : List ℕ) (longest : ℕ) (c : Core) (st : CodeStands u p y code) (g : Ground x y words longest) (user_ok : c.current ≤ y.map.users)
+    (small : length words < 2 ^ 26) (sound : Sound (on_machine x (program y.map (layer_words + 1) code words))) (sound_all : Sound (on_machine x (program y.map layer_words code words))) (s0 : State)
     (flats : HeldIsFlat) (opened : IsOpened (shapes u)) (dispatch : HasDispatch) (same_types : TypesEqualAsWritten)
-    (entry : EntryRuns (on_machine x (program (layer_words + 1) code words))) (entry_all : EntryRuns (on_machine x (program layer_words code words)))
+    (entry : EntryRuns (on_machine x (program y.map (layer_words + 1) code words))) (entry_all : EntryRuns (on_machine x (program y.map layer_words code words)))
     (sizes : List ℕ) (variables : Linked y.map sizes (take layer_words y.linked))
-    (cause edata user : ℤ) (typed : IsTypedState u c.c0) (called : DispatchCalled x y c cause edata user s0) (size : length s0.memory ≡ words) where
-  abbrev z : Setup Machines Changes (Outer y c.current) (λ s t. ⊥)
+    (cause edata user : ℤ) (typed : IsTypedState u c.c0) (called : DispatchCalled x y c cause edata user s0) (same : s0.memory ≡ words) where
+  size : length s0.memory ≡ length words
+  size = ap length same
+
+  abbrev z : Setup Machines Changes (Outer y c.current)
   z = setup x y u p code words st g.bounds g.big small alikes c.current
 
   abbrev w : World
-  w = on_machine x (program (layer_words + 1) code words)
+  w = on_machine x (program y.map (layer_words + 1) code words)
 
   abbrev all : World
-  all = on_machine x (program layer_words code words)
+  all = on_machine x (program y.map layer_words code words)
 
   abbrev Here : ℕ → Machine → Type 0
   Here k s = Reached simulates joins x y code words sound s0 k s
@@ -125,7 +128,7 @@ module _ (simulates : MachineSimulates) (joins : RunsJoin) (fitting : StaysFitti
   }
 
   holds : Holds all s0.memory
-  holds = record { size = size; kept = kept_words y.linked s0.memory code st.linked (λ j le lt. let l = linked_so in standing.kernel.linked j (omega (arith, lt, l)) (not_own y.map j g.bounds.users le)) }
+  holds = record { size = ap length same; kept = kept_words y.map words y.linked s0.memory code st.linked (λ j le lt. let l = linked_so in standing.kernel.linked j (omega (arith, lt, l)) (not_own y.map j g.bounds.users le)) (λ j le lt. ap (λ w. slice_index w j) same) }
 
   serves : Serves x all s0.device
   serves = record { count = omega arith; named = subst (NamesSector 0) (sym standing.idle) tt }
@@ -134,10 +137,10 @@ module _ (simulates : MachineSimulates) (joins : RunsJoin) (fitting : StaysFitti
   at_entry = let pc = called.at.pc in let e : s0.cpu.pc / 4 ≡ layer_words = omega (arith, pc) in ap (λ a. at_with a (seen s0) (behind s0)) e
 
   pub code_at : CodeAt w (layer_words + 1) (behind_first p.globals (4 * target))
-  code_at = piece_at x (layer_words + 1) words code (behind_first p.globals (4 * target)) (Lui 28 (p.globals / 2 ^ 16) ∷ []) st.rest (omega arith) st.entry
+  code_at = piece_at x y.map (layer_words + 1) words code (behind_first p.globals (4 * target)) (Lui 28 (p.globals / 2 ^ 16) ∷ []) st.rest (omega arith) st.entry
 
   code_all : CodeAt all layer_words (entry_code p.globals (4 * target))
-  code_all = let e : layer_words + 0 ≡ layer_words = omega arith in subst (λ k. CodeAt all k (entry_code p.globals (4 * target))) e (piece_at x layer_words words code (entry_code p.globals (4 * target)) [] st.rest (omega arith) st.entry)
+  code_all = let e : layer_words + 0 ≡ layer_words = omega arith in subst (λ k. CodeAt all k (entry_code p.globals (4 * target))) e (piece_at x y.map layer_words words code (entry_code p.globals (4 * target)) [] st.rest (omega arith) st.entry)
 
   not_there : IsElsewhere s0
   not_there i lt e = let pc = called.at.pc in omega (arith, pc, lt, e)
@@ -153,7 +156,7 @@ module _ (simulates : MachineSimulates) (joins : RunsJoin) (fitting : StaysFitti
   first =
       let r = entry_all.first layer_words p.globals (4 * target) (seen s0) (behind s0) code_all standing.idle in
       let steps : Steps all r.steps (configuration_of s0) (at_with (layer_words + 1) (with_half p.globals (seen s0)) (behind s0)) = subst (λ a. Steps all r.steps a (at_with (layer_words + 1) (with_half p.globals (seen s0)) (behind s0))) (sym at_entry) r.run in
-      let sim = simulates x (program layer_words code words) s0 r.steps _ sound_all quiet holds serves steps in
+      let sim = simulates x (program y.map layer_words code words) s0 r.steps _ sound_all quiet holds serves steps in
       let last = sim.along r.steps (omega arith) in
       let one = r.within in
       record {
@@ -168,6 +171,11 @@ module _ (simulates : MachineSimulates) (joins : RunsJoin) (fitting : StaysFitti
             inside = λ j lt. inside_of x (run x s0 j) (sim.along j (omega (arith, lt))).quiet;
             between = λ j e pos lt d. absurd (omega (arith, pos, lt, one));
             sectors = λ j le q from. (sim.along j le).sectors q (omega arith);
+            frames = λ j le. record {
+              size = (sim.along j le).holds.size ∙ sym (ap length same);
+              words = λ k from lt. let here : k < length words = subst (λ l. k < length l) same lt in
+                  (sim.along j le).holds.kept k (slice_index words k) (kept_past y.map code words k from here) ∙ ap (λ w. slice_index w k) (sym same);
+            };
             named = λ j lt. instructs_named x y layer_words code words (run x s0 j) (sim.instructs j lt);
           };
         };
@@ -208,10 +216,10 @@ module _ (simulates : MachineSimulates) (joins : RunsJoin) (fitting : StaysFitti
     pub end : Machine
     pub come : Here base end
     pub counts : Counts x s0 base 0
-    pub sim : Simulated Machines Changes (Outer y c.current) (λ s t. ⊥) z 0 (begin (dispatch_number u) args ∷ []) started end
+    pub sim : Simulated Machines Changes (Outer y c.current) z 0 (begin (dispatch_number u) args ∷ []) started end
 
   abbrev its_bases : Bases
-  its_bases = bases Machines Changes (Outer y c.current) (λ s t. ⊥) z typed.0 []
+  its_bases = bases Machines Changes (Outer y c.current) z typed.0 []
 
   typed_now : IsTypedWith u typed.0 (record c.c0 { frames = [] })
   typed_now = record { global_values = typed.1.global_values; heap_values = typed.1.heap_values; frames = λ i d lt. absurd (omega (arith, lt)) }
@@ -222,7 +230,7 @@ module _ (simulates : MachineSimulates) (joins : RunsJoin) (fitting : StaysFitti
   without_frames : c.c0 ≡ record c.c0 { frames = [] }
   without_frames = ap (λ f. with_frames c.c0 f) standing.whole.frames
 
-  word_there : (k : ℕ) → k < words → (seen s0).memory k ≡ slice_index s0.memory k
+  word_there : (k : ℕ) → k < length words → (seen s0).memory k ≡ slice_index s0.memory k
   word_there k lt = let l = size in space_is s0.memory s0.device.buffer s0.device.sector k (omega (arith, lt, l))
 
   globals_held : HoldsAt (seen s0).memory (globals_at y.map) (flat (address_of y.map (record c.c0 { frames = [] })) c.c0.global_values)
@@ -238,7 +246,7 @@ module _ (simulates : MachineSimulates) (joins : RunsJoin) (fitting : StaysFitti
       (λ j lt. word_there (heap_at y.map + j) (omega (arith, lt, flat_scalars (address_of y.map c.c0) c.c0.heap_values, n, b, e, f, h, i, big)) ∙ standing.kernel.heap j lt)
 
   -- the data, with the registers as the entry left them
-  stands : (c' : Contents) → IsEntered p.globals (stack_at y.map) y.map.params.stack (layer_words + 7) (seen s0) c' → code_run.Stands Machines Changes (Outer y c.current) (λ s t. ⊥) z typed.0 started c' (behind s0)
+  stands : (c' : Contents) → IsEntered p.globals (stack_at y.map) y.map.params.stack (layer_words + 7) (seen s0) c' → code_run.Stands Machines Changes (Outer y c.current) z typed.0 started c' (behind s0)
   stands c' ent =
       let used = standing.whole.used in let room = standing.whole.heap in
       let memory = ent.memory in

@@ -2,8 +2,10 @@
 use Rattle.std.proofs.Common.{◌≡◌, ℕ, ◌+◌, ◌*◌, List, refl, sym, ap, ◌∙◌}
 use Rattle.masm.specs.declared.registers.Places.{Places}
 use Rattle.layer_map.specs.Map.{layer_words, next_page}
+use Rattle.c0_tree.specs.Primitives.{kernel_primitives}
 use Rattle.c0_tree.specs.Tree.{CUnit}
 use Rattle.c0_meaning.specs.Operators.{KernelFault, NullUse, Bounds, DivZero, StackOut}
+use Rattle.c0_meaning.specs.CallChain.{dispatch_number}
 use Rattle.c0_meaning.specs.Unit.{IsChecked}
 use Rattle.c0_expr_code.specs.Scope.{exit_number}
 use Rattle.c0_unit.specs.Code.{unit_code}
@@ -20,12 +22,12 @@ same_exit Bounds = refl
 same_exit DivZero = refl
 same_exit StackOut = refl
 
-as_piece : (u : CUnit) (k : ℕ) (piece : List _) → StandsIn u k piece → StandsAt (unit_code u) k piece
-as_piece u k piece s = (s.before, s.after, s.is, s.from, s.behind)
+as_piece : (u : CUnit) (first k : ℕ) (piece : List _) → StandsIn u first k piece → StandsAt (unit_code u first) k piece
+as_piece u first k piece s = (s.before, s.after, s.is, s.from, s.behind)
 
-code_stands : UnitsStand → (u : CUnit) (p : Places) (y : Site) → IsChecked u → ArePlacesOf u p → IsLinked u y → CodeStands u p y (unit_code u)
+code_stands : UnitsStand → (u : CUnit) (p : Places) (y : Site) → IsChecked u → ArePlacesOf u p → IsLinked u y → CodeStands u p y (unit_code u (dispatch_number u))
 code_stands stand u p y checked places l =
-    let s : UnitStands u p = stand u checked p places in
+    let s : UnitStands u (dispatch_number u) p = stand kernel_primitives u checked.well_formed (dispatch_number u) p places in
     record {
       checked = checked;
       range = l.range;
@@ -40,12 +42,12 @@ code_stands stand u p y checked places l =
       below = s.below;
       rest = s.rest;
       entry = s.entry;
-      functions = λ n f is. as_piece u _ _ (s.functions n f is);
-      new_object = as_piece u _ _ s.new_object;
+      functions = λ n f is. as_piece u (dispatch_number u) _ _ (s.functions n f is);
+      new_object = as_piece u (dispatch_number u) _ _ s.new_object;
     }
 
 pub compiled : UnitsHavePlaces → UnitsStand → UnitsRunOverLayers → CompiledUnitsRun
-compiled have stand runs s y sizes checked l variables answers = let p = have s checked in runs _ p.0 y _ sizes (code_stands stand _ p.0 y checked p.1 l) variables answers
+compiled have stand runs s y sizes checked l variables answers = let p = have kernel_primitives s checked.well_formed in runs _ p.0 y _ sizes (code_stands stand _ p.0 y checked p.1 l) variables answers
 
 pub compiled_calls : UnitsHavePlaces → UnitsStand → UnitsCallsFollow → CompiledUnitsCallsFollow
-compiled_calls have stand follow s y sizes checked l variables laws = let p = have s checked in follow _ p.0 y _ sizes (code_stands stand _ p.0 y checked p.1 l) variables laws
+compiled_calls have stand follow s y sizes checked l variables laws = let p = have kernel_primitives s checked.well_formed in follow _ p.0 y _ sizes (code_stands stand _ p.0 y checked p.1 l) variables laws

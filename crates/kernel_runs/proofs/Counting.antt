@@ -176,10 +176,10 @@ module _ (joins : RunsJoin) (x : Outside) (s : State) where
 pub in_code : (s : State) → layer_words ≤ s.cpu.pc / 4 → IsElsewhere s
 in_code s le i few e = omega (arith, le, few, e)
 
-module _ (simulates : MachineSimulates) (joins : RunsJoin) (x : Outside) (y : Site) (code : List Inst) (words : ℕ) (sound : Sound (on_machine x (program (layer_words + 1) code words))) where
+module _ (simulates : MachineSimulates) (joins : RunsJoin) (x : Outside) (y : Site) (code : List Inst) (words : List ℕ) (sound : Sound (on_machine x (program y.map (layer_words + 1) code words))) where
   -- steps of code end no primitive
-  pub counts_on : (s0 : State) (k n : ℕ) (c t : Machine) → Reached simulates joins x y code words sound s0 k c → Steps (on_machine x (program (layer_words + 1) code words)) n c t → (m : ℕ) → Counts x s0 k m → Counts x s0 (k + n) m
+  pub counts_on : (s0 : State) (k n : ℕ) (c t : Machine) → Reached simulates joins x y code words sound s0 k c → Steps (on_machine x (program y.map (layer_words + 1) code words)) n c t → (m : ℕ) → Counts x s0 k m → Counts x s0 (k + n) m
   counts_on s0 k n c t r steps m counts =
-      let own : Steps (on_machine x (program (layer_words + 1) code words)) n (configuration_of (run x s0 k)) t = subst (λ a. Steps (on_machine x (program (layer_words + 1) code words)) n a t) (sym r.same) steps in
-      let sim = simulates x (program (layer_words + 1) code words) (run x s0 k) n t sound r.quiet r.holds r.serves own in
+      let own : Steps (on_machine x (program y.map (layer_words + 1) code words)) n (configuration_of (run x s0 k)) t = subst (λ a. Steps (on_machine x (program y.map (layer_words + 1) code words)) n a t) (sym r.same) steps in
+      let sim = simulates x (program y.map (layer_words + 1) code words) (run x s0 k) n t sound r.quiet r.holds r.serves own in
       counts_along x s0 k m n counts (λ j lt. subst IsElsewhere (sym (joins x s0 k j)) (in_code (run x (run x s0 k) j) (let i = sim.instructs j lt in let from = (code_is (layer_words + 1) code ((run x (run x s0 k) j).cpu.pc / 4) i.inst i.code).0 in omega (arith, from))))

@@ -29,7 +29,7 @@ use Rattle.layer_contract.specs.Calls.{EndsCall}
 use Rattle.layer_contract.specs.Follows.{IsKernelDoor}
 use Rattle.cvm_model.specs.Kernel.{Console, Core, Changes}
 use Rattle.cvm_model.specs.KernelMeaning.{Machines, kernel_primitive, called_by}
-use Rattle.cvm_model.specs.Primitives.{Call, Given, prim}
+use Rattle.cvm_model.specs.Primitives.{Call, Given, prim, told}
 use Rattle.cvm_model.specs.Cvm.{run_steps}
 use Rattle.cvm_model.specs.TypedKernel.{IsCallOf, RowsAreCalled}
 use Rattle.cvm_model.specs.Stands.{Site, address_of}
@@ -37,7 +37,7 @@ use Rattle.kernel_runs.specs.Held.{HoldsAt}
 use Rattle.kernel_runs.specs.Outer.{Outer}
 use Rattle.kernel_runs.specs.Placed.{program, CodeStands}
 use Rattle.kernel_runs.proofs.Bounds.{Bounds}
-use Rattle.kernel_runs.proofs.Instructions.{code_is, some_below, not_own, kept_words}
+use Rattle.kernel_runs.proofs.Instructions.{code_is, some_below, not_own, kept_words, kept_past}
 use Rattle.kernel_runs.proofs.Seen.{space_is}
 use Rattle.kernel_runs.proofs.Standing.{seen, behind, no_user, outer_of, IsSeen, stands_of}
 use Rattle.kernel_runs.proofs.Reached.{RunsJoin, inside_of, no_primitive, Reached, passes_on}
@@ -52,19 +52,19 @@ door_entry (Exit f) d = d
 door_entry Leave d = d
 
 -- what is known of the machine, beside the kernel's code
-pub record Ground (x : Outside) (y : Site) (words longest : ℕ) : Type 0 where
+pub record Ground (x : Outside) (y : Site) (words : List ℕ) (longest : ℕ) : Type 0 where
   pub bounds : Bounds y.map
-  pub big : memory_words y.map ≤ words
-  pub small : words ≤ 65000 * 1024
+  pub big : memory_words y.map ≤ length words
+  pub small : length words ≤ 65000 * 1024
   pub count : y.map.users * y.map.params.pages ≤ x.count
   pub busy : BusyWithin x longest
   pub answers : PrimitivesAnswer y
 
 module _ (simulates : MachineSimulates) (joins : RunsJoin) (fitting : StaysFitting) (alikes : AlikesStand) (rows : RowsAreCalled)
-    (x : Outside) (y : Site) (u : CUnit) (p : Places) (code : List Inst) (words longest current : ℕ) (st : CodeStands u p y code) (g : Ground x y words longest) (user_ok : current ≤ y.map.users)
-    (sound : Sound (on_machine x (program (layer_words + 1) code words))) (s0 : State) where
+    (x : Outside) (y : Site) (u : CUnit) (p : Places) (code : List Inst) (words : List ℕ) (longest current : ℕ) (st : CodeStands u p y code) (g : Ground x y words longest) (user_ok : current ≤ y.map.users)
+    (sound : Sound (on_machine x (program y.map (layer_words + 1) code words))) (s0 : State) where
   abbrev pub world : World
-  world = on_machine x (program (layer_words + 1) code words)
+  world = on_machine x (program y.map (layer_words + 1) code words)
 
   abbrev pub Come : ℕ → Machine → Type 0
   Come k c = Reached simulates joins x y code words sound s0 k c
@@ -118,7 +118,7 @@ module _ (simulates : MachineSimulates) (joins : RunsJoin) (fitting : StaysFitti
     contents : seen here ≡ s.contents
     contents = ap (λ c. c.contents) come.same
 
-    size : length here.memory ≡ words
+    size : length here.memory ≡ length words
     size = come.holds.size
 
     low_word : (k : ℕ) → k < length here.memory → s.contents.memory k ≡ memory k
@@ -211,10 +211,10 @@ module _ (simulates : MachineSimulates) (joins : RunsJoin) (fitting : StaysFitti
     result : kernel_primitive n vs v ≡ called_by v (Some call)
     result = ap (called_by v) call_of.is
 
-    later_size : length later.memory ≡ words
+    later_size : length later.memory ≡ length words
     later_size = (fitting x here steps come.quiet.fits).1 ∙ size
 
-    later_word : (j : ℕ) → j < words → (seen later).memory j ≡ slice_index later.memory j
+    later_word : (j : ℕ) → j < length words → (seen later).memory j ≡ slice_index later.memory j
     later_word j lt = let l = later_size in space_is later.memory later.device.buffer later.device.sector j (omega (arith, l, lt))
 
     quiet : Quiet x later
@@ -229,13 +229,17 @@ module _ (simulates : MachineSimulates) (joins : RunsJoin) (fitting : StaysFitti
 
     come_on : Come (k + steps) (configuration_of later)
     come_on = passes_on simulates joins x y code words sound s0 k steps s come
-        (let w = back_it.comes.way in record { inside = w.inside; between = λ j e pos lt d. w.between j e pos lt (door_entry e d); sectors = w.sectors; named = w.named })
+        (let w = back_it.comes.way in record { inside = w.inside; between = λ j e pos lt d. w.between j e pos lt (door_entry e d); sectors = w.sectors; frames = w.frames; named = w.named })
         (λ e pos d. no_primitive here.cpu.pc n e few at_entry d) quiet
-        (record { size = later_size; kept = kept_words y.linked later.memory code st.linked (λ j le lt. let l = linked_words in returned.stands.kernel.linked j (omega (arith, lt, l)) (not_own y.map j g.bounds.users le)) })
+        (record {
+          size = later_size;
+          kept = kept_words y.map words y.linked later.memory code st.linked (λ j le lt. let l = linked_words in returned.stands.kernel.linked j (omega (arith, lt, l)) (not_own y.map j g.bounds.users le))
+              (λ j le lt. (back_it.comes.way.frames steps (omega arith)).words j le (subst (λ n. j < n) (sym size) lt) ∙ come.holds.kept j (slice_index words j) (kept_past y.map code words j le lt));
+        })
         (record { count = omega arith; named = subst (NamesSector 0) (sym returned.stands.idle) tt })
 
     -- a word of a region that stood and stands for the same words
-    same_words : (a w : ℕ) (ws : List ℕ) → length ws ≡ w → a + w ≤ words → ((i : ℕ) → i < length ws → slice_index later.memory (a + i) ≡ slice_index ws i) → HoldsAt memory a ws → (j : ℕ) → a ≤ j → j < a + w
+    same_words : (a w : ℕ) (ws : List ℕ) → length ws ≡ w → a + w ≤ length words → ((i : ℕ) → i < length ws → slice_index later.memory (a + i) ≡ slice_index ws i) → HoldsAt memory a ws → (j : ℕ) → a ≤ j → j < a + w
         → (seen later).memory j ≡ s.contents.memory j
     same_words a w ws is_long room_for now before j le lt =
         let e : a + (j - a) ≡ j = omega (arith, le) in
@@ -307,7 +311,7 @@ module _ (simulates : MachineSimulates) (joins : RunsJoin) (fitting : StaysFitti
         by (inl lt) = come.way.inside j lt
         by (inr ge) = let q : k ≡ j = omega (arith, le, ge) in subst (λ i. Inside (run x s0 i)) q (inside_of x here come.quiet)
 
-    ends : (m : ℕ) → Counts x s0 k m → EndsCall x y longest s0 m given.changes
+    ends : (m : ℕ) → Counts x s0 k m → EndsCall x y longest s0 m (told call given)
     ends m c = record {
       entry = k;
       core = core;
@@ -332,7 +336,7 @@ module _ (simulates : MachineSimulates) (joins : RunsJoin) (fitting : StaysFitti
       outer = subst (λ r. Outer y current r.world (seen later) (behind later)) (sym result)
           (outer_of alikes x y g.bounds whole later (record core { users = given.users; console = given.console }) returned.stands (no_user later returned.inside.mode));
       within = subst (λ r. steps ≤ run_steps y.map longest (call_cost r).primitive r.pages) (sym result) back_it.comes.within;
-      changes = given.changes;
+      changes = told call given;
       made = ap (λ r. r.entries) result;
       counts = counts;
       ends = ends;

@@ -9,6 +9,7 @@ use Rattle.c0_tree.specs.declared.tree.Unit.{Unit as Source}
 use Rattle.c0_tree.specs.Primitives.{kernel_primitives}
 use Rattle.c0_tree.specs.Tree.{CUnit}
 use Rattle.c0_tree.specs.View.{unit_view}
+use Rattle.c0_meaning.specs.CallChain.{dispatch_number}
 use Rattle.c0_meaning.specs.RunLaws.{ZeroHasWords}
 use Rattle.c0_meaning.specs.Typed.{UnitsAreFaultless}
 use Rattle.c0_meaning.specs.TypedState.{IsTypedState}
@@ -43,7 +44,10 @@ pub record UnitLaws : Type 0 where
 
 -- as many words as the code has
 words_count : UnitLaws → (s : Source) → IsChecked (unit_view s) → length (unit_words (unit_view s)) ≡ code_words (unit_view s)
-words_count law s checked = let p = law.placed s checked in length-map (unit_code (unit_view s)) encoding ∙ (law.stand (unit_view s) checked p.0 p.1).words
+words_count law s checked =
+    let p = law.placed kernel_primitives s checked.well_formed in
+    let first = dispatch_number (unit_view s) in
+    length-map (unit_code (unit_view s) first) encoding ∙ (law.stand kernel_primitives (unit_view s) checked.well_formed first p.0 p.1).words
 
 -- two maps of the same parts
 abbrev map_with : Params → ℕ → ℕ → ℕ → Map

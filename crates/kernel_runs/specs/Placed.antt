@@ -1,11 +1,11 @@
 -- A kernel's code in the linked words: where its entry, its functions and its routine stand.
-use Rattle.std.specs.Prelude.{◌≡◌, ℕ, ◌+◌, ◌-◌, ◌*◌, ◌<◌, ◌≤◌, nat_lt, if◌then◌else◌, List, ◌++◌, length, map, drop, Option, Some, None, slice_get, option_map}
+use Rattle.std.specs.Prelude.{◌≡◌, ℕ, ◌+◌, ◌-◌, ◌*◌, ◌<◌, ◌≤◌, nat_lt, if◌then◌else◌, List, ◌++◌, length, map, drop, Option, Some, None, slice_get, slice_index, option_map}
 use Rattle.std.specs.List.{All}
 use Rattle.mips_table.specs.declared.inst.Inst.{Inst}
 use Rattle.mips_table.specs.Encoding.{InRange, encoding}
 use Rattle.mips_table.specs.Code.{Program}
 use Rattle.masm.specs.declared.registers.Places.{Places}
-use Rattle.layer_map.specs.Map.{MapInRange, layer_words, globals_at}
+use Rattle.layer_map.specs.Map.{Map, MapInRange, layer_words, primitives_at, exits_at, globals_at, memory_words}
 use Rattle.c0_tree.specs.Tree.{CFunction, CUnit}
 use Rattle.c0_meaning.specs.Env.{typed_of}
 use Rattle.c0_meaning.specs.Words.{all_words}
@@ -15,7 +15,7 @@ use Rattle.c0_meaning.specs.Unit.{IsChecked}
 use Rattle.c0_runtime.specs.Code as runtime
 use Rattle.c0_expr_code.specs.Scope.{scope_of, exit_of}
 use Rattle.c0_stmt_code.specs.Code.{links_of, function_code}
-use Rattle.c0_unit.specs.Code.{dispatch_number}
+use Rattle.c0_meaning.specs.CallChain.{dispatch_number}
 use Rattle.cvm_model.specs.Kernel.{power_of}
 use Rattle.cvm_model.specs.KernelMeaning.{fault_of}
 use Rattle.cvm_model.specs.Stands.{Site}
@@ -24,9 +24,16 @@ use Rattle.cvm_model.specs.Stands.{Site}
 abbrev pub code_from : ℕ → List Inst → ℕ → Option Inst
 code_from first code k = if nat_lt k first then None else slice_get code (k - layer_words)
 
--- this code from `first` on, in so many words of memory: all of it is kept, and no command is given to the disk
-abbrev pub program : ℕ → List Inst → ℕ → Program
-program first code words = record { code = code_from first code; kept = λ k. option_map encoding (code_from layer_words code k); words = words; count = 0 }
+-- the words that such code keeps: itself, and those of memory behind the map's last frame
+abbrev pub kept_of : Map → List Inst → List ℕ → ℕ → Option ℕ
+kept_of m code words k =
+    if nat_lt k (memory_words m) then option_map encoding (code_from layer_words code k) else
+    if nat_lt k (length words) then Some (slice_index words k) else
+    None
+
+-- this code from `first` on, in a memory of these words; no command is given to the disk
+abbrev pub program : Map → ℕ → List Inst → List ℕ → Program
+program m first code words = record { code = code_from first code; kept = kept_of m code words; words = length words; count = 0 }
 
 -- a piece of the code stands at a word, behind the code's first instruction
 abbrev pub StandsAt : List Inst → ℕ → List Inst → Type 0
@@ -43,8 +50,8 @@ pub record CodeStands (u : CUnit) (p : Places) (y : Site) (code : List Inst) : T
   pub linked : drop layer_words y.linked ≡ map encoding code
   pub in_range : All InRange code
   pub globals : p.globals ≡ 4 * globals_at y.map
-  pub exits : (f : KernelFault) → exit_of p f ≡ 2057 + power_of (fault_of f)
-  pub primitives : (n : ℕ) → n < 10 → (links_of p).primitive n ≡ 2048 + n
+  pub exits : (f : KernelFault) → exit_of p f ≡ exits_at - 1 + power_of (fault_of f)
+  pub primitives : (n : ℕ) → n < 10 → (links_of p).primitive n ≡ primitives_at + n
   pub below : (n : ℕ) → (links_of p).primitive n < layer_words
   pub rest : List Inst
   pub entry : code ≡ runtime.entry_code p.globals (4 * (links_of p).function (dispatch_number u)) ++ rest

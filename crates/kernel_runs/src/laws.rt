@@ -32,8 +32,6 @@ impl Outside for BesideKernel {
     ghost Fixed = { Fixed };
 
     ghost outer = { λ f. Outer f.site f.current };
-
-    ghost passes = { λ s t. ⊥ };
 }
 
 /// Over any layer the code of a checked unit runs as the unit means: a dispatch comes to its answer or its fault within its steps, or is on its way.

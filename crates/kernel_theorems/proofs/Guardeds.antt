@@ -26,7 +26,8 @@ use Rattle.cvm_model.specs.KernelMeaning.{Machines, setting_of, machines_of}
 use Rattle.cvm_model.specs.Cvm.{System, first_core}
 use Rattle.cvm_model.specs.Invariant.{Dispatch, IsTrap, Keeps, KeptAt, IsInvariant, HasUsers, AnyDatum, RunsAreLawful}
 use Rattle.cvm_model.proofs.Invariants.{invariants_hold}
-use Rattle.cvm_model.proofs.Kept.{keeps_by, answers_user}
+use Rattle.cvm_model.proofs.Kept.{keeps_by}
+use Rattle.kernel_theorems.proofs.Answering.{answers_user}
 use Rattle.kernel_theorems.proofs.Weaker.{weaker, from_state}
 use Rattle.kernel_theorems.specs.GuardedTree.{guarded, bump_locals, bump_body, bump_answer, bump_code, dispatch_answer, dispatch_test3, dispatch_yes3, dispatch_test4, dispatch_yes4, dispatch_rest2}
 use Rattle.kernel_theorems.specs.Guarded.{Data, globals_of, heap_of, used_of, data_of, IsData, RunsGuarded, GuardedNeverFaults}

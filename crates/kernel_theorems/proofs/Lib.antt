@@ -1,5 +1,6 @@
 mod Texts
 pub mod Weaker
+pub mod Answering
 mod RoundRobins
 mod RoundRobinTexts
 mod Fairness

@@ -26,7 +26,8 @@ use Rattle.cvm_model.specs.Stands.{IsUser}
 use Rattle.cvm_model.specs.Cvm.{System, first_core}
 use Rattle.cvm_model.specs.Invariant.{Dispatch, IsTrap, Keeps, KeptAt, IsInvariant, Shaped, UserShaped, AnyDatum, RunsAreLawful}
 use Rattle.cvm_model.proofs.Invariants.{invariants_hold}
-use Rattle.cvm_model.proofs.Kept.{keeps_by, answers_user, answers_halt}
+use Rattle.cvm_model.proofs.Kept.{keeps_by}
+use Rattle.kernel_theorems.proofs.Answering.{answers_user, answers_halt}
 use Rattle.kernel_theorems.specs.MailboxTree.{mailbox}
 use Rattle.kernel_theorems.specs.Mailbox.{holds, calls, way_after, way, put_by, got_by, puts, gots, under_way, data_of, IsIntOr, Carries, RunsMailbox, MessagesAreDelivered}
 

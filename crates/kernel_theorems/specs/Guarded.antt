@@ -3,7 +3,7 @@
 use Rattle.std.specs.Prelude.{◌≡◌, ◌≤◌, ℕ, suc, ℤ, pos, Option, Some, None, List, [], ◌∷◌, length, codes}
 use Rattle.c0_meaning.specs.Value.{heap, Value, Values, int, null, at, group, empty, part}
 use Rattle.c0_meaning.specs.State.{State}
-use Rattle.c0_parser.specs.Walk.{by_lines}
+use Rattle.kernel_theorems.specs.Lines.{by_lines}
 use Rattle.cvm_model.specs.KernelMeaning.{kernel_meaning}
 use Rattle.cvm_model.specs.Cvm.{System, Cvm, IsCvm}
 use Rattle.cvm_model.specs.Invariant.{Dispatch, HasEight, IsSafe}

@@ -5,7 +5,7 @@ use Rattle.std.specs.Int.{w32}
 use Rattle.mips_table.specs.Arith.{signed}
 use Rattle.c0_meaning.specs.Value.{int, group, empty, part}
 use Rattle.c0_meaning.specs.State.{State}
-use Rattle.c0_parser.specs.Walk.{by_lines}
+use Rattle.kernel_theorems.specs.Lines.{by_lines}
 use Rattle.cvm_model.specs.Kernel.{Core}
 use Rattle.cvm_model.specs.KernelMeaning.{kernel_meaning}
 use Rattle.cvm_model.specs.Primitives.{user_of}

@@ -1,6 +1,6 @@
 -- The text of the round robin for three users: that of kernels/round_robin.c0.
 use Rattle.std.specs.Prelude.{ℕ, List, [], ◌∷◌, codes}
-use Rattle.c0_parser.specs.Walk.{by_lines}
+use Rattle.kernel_theorems.specs.Lines.{by_lines}
 
 abbrev pub text : List ℕ
 text = by_lines (

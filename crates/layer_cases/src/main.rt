@@ -12,7 +12,7 @@
 //     sectors                           the first and the last word of each sector
 //
 // Other lines are only printed. Counts, steps and the numbers of a machine are decimal. The blocks are save, restore, keep,
-// resume, out, in, evict, find, lower, raise and hand.
+// resume, out, in, evict, find, leave, join and hand.
 #![tactic(auto)]
 
 mod desk;
@@ -20,7 +20,7 @@ mod field;
 
 use crate::desk::Desk;
 use crate::field::{field, hex, number};
-use frame_table::{evict, find, lower_count, move_hand, raise_count};
+use frame_table::{evict, find, join_list, leave_list, move_hand};
 use layer_map::{Map, Params};
 use pcb_layer::{keep_user, restore_registers, resume_user, save_registers};
 use std::alloc::AllocError;
@@ -61,10 +61,10 @@ fn append_frames(desk: &mut Desk, map: &Map, name: &[u8]) {
         desk.append(evict(map, &swap_out()).words());
     } else if name == b"find".as_slice() {
         desk.append(find(map).words());
-    } else if name == b"lower".as_slice() {
-        desk.append(lower_count(map).words());
-    } else if name == b"raise".as_slice() {
-        desk.append(raise_count(map).words());
+    } else if name == b"leave".as_slice() {
+        desk.append(leave_list(map).words());
+    } else if name == b"join".as_slice() {
+        desk.append(join_list(map).words());
     } else if name == b"hand".as_slice() {
         desk.append(move_hand(map).words());
     }

@@ -8,14 +8,14 @@ use Rattle.std.proofs.lemmas.List.FromFn.{get_or-map-range_with_len, length-map-
 use Rattle.std.proofs.lemmas.List.Elements.{All-nil, All-cons, All-append, All-replicate, All-from_get_or}
 use Rattle.mips_table.specs.Device.{Outside, HasEightLines}
 use Rattle.mips_table.specs.Fits.{IsWord, IsPage}
-use Rattle.mips_table.specs.Machine.{State, zero_cpu}
+use Rattle.mips_table.specs.Machine.{State, zero_cpu, run}
 use Rattle.mips_table.specs.Fits.{CpuFits}
 use Rattle.layer_map.specs.Map.{Map, MapInRange, layer_words, block_at}
 use Rattle.cvm_model.specs.Kernel.{Core}
 use Rattle.cvm_model.specs.Cvm.{Running, map_of, first_flat, first_core}
 use Rattle.cvm_model.specs.Stands.{UserFits, CoreFits, Stands, runs_user}
 use Rattle.layer_contract.specs.Layer.{Linked, Starts, AfterReset, for_user}
-use Rattle.layer_contract.specs.Follows.{site_of, machine, SystemFits}
+use Rattle.layer_contract.specs.Follows.{site_of, loaded, SystemFits}
 use Rattle.cvm_model.specs.Samples.{overflowing}
 use Rattle.layer_contract.specs.Samples.{plain_word, plain_layer, plain_map, plain_system, AStateStands}
 use Rattle.layer_contract.proofs.UserState.{user_stands}
@@ -145,12 +145,12 @@ system_fits x eight enough = record {
   enough = omega arith;
 }
 
-first_stands : (x : Outside) → HasEightLines x → 4 ≤ x.count → Stands x (site_of plain_system.boot) (machine x plain_system (blank x) 1) Running (first_core plain_system)
+first_stands : (x : Outside) → HasEightLines x → 4 ≤ x.count → Stands x (site_of plain_system.boot) (run x (loaded plain_system (blank x)) 1) Running (first_core plain_system)
 first_stands x eight enough =
     let front : take layer_words plain_system.boot.words ≡ layer = ap (λ n. take n plain_system.boot.words) (sym (plain_length plain_map (1 ∷ []))) ∙ take-append_seam layer (replicate 100 0) in
     let linked : Linked plain_map (1 ∷ []) (take layer_words plain_system.boot.words) = subst (Linked plain_map (1 ∷ [])) (sym front) (plain_linked plain_map (1 ∷ []) (omega arith) refl (omega arith)) in
     let long : length plain_system.boot.words ≡ layer_words + (map_of plain_system.boot).code_words = let n : length plain_system.boot.words ≡ 16484 = words_length in omega arith in
-    reset_stands x (site_of plain_system.boot) (machine x plain_system (blank x) 1) (first_core plain_system) (1 ∷ []) (subst MapInRange (sym same_map) in_range) long
+    reset_stands x (site_of plain_system.boot) (run x (loaded plain_system (blank x)) 1) (first_core plain_system) (1 ∷ []) (subst MapInRange (sym same_map) in_range) long
     (subst (λ m. Linked m (1 ∷ []) (take layer_words plain_system.boot.words)) (sym same_map) linked) refl
     (subst (λ m. CoreFits m (first_core plain_system)) (sym same_map) core_fits) starts (loaded_resets x plain_system (blank x) (system_fits x eight enough))
 
@@ -160,7 +160,7 @@ runs m c u s on = rw on refl
 
 pub a_state_stands : (x : Outside) → HasEightLines x → 4 ≤ x.count → AStateStands x
 a_state_stands x eight enough =
-    let s : State = machine x plain_system (blank x) 1 in
+    let s : State = run x (loaded plain_system (blank x)) 1 in
     let r : AfterReset x (site_of plain_system.boot) (first_core plain_system) s = loaded_resets x plain_system (blank x) (system_fits x eight enough) in
     record {
       first = s;

@@ -2,6 +2,8 @@ pub mod Due
 pub mod Apart
 pub mod ResetState
 pub mod LoadedState
+pub mod Loading
+pub mod Starting
 pub mod UserState
 pub mod Exists
 pub mod FirstCall

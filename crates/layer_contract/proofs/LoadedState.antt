@@ -9,7 +9,7 @@ use Rattle.std.proofs.lemmas.List.Elements.{All-nil, All-head, All-tail, All-app
 use Rattle.mips_table.specs.Device.{Outside, sector_of}
 use Rattle.mips_table.specs.Fits.{IsWord, IsPage}
 use Rattle.mips_table.specs.Flat.{Flat}
-use Rattle.mips_table.specs.Machine.{step}
+use Rattle.mips_table.specs.Machine.{step, run}
 use Rattle.mips_table.specs.Fits.{Fits}
 use Rattle.layer_map.specs.Map.{Map, layer_words, code_at, globals_at, heap_at, stack_at, tables_at, frame_table_at, zero_frame_at, memory_words}
 use Rattle.layer_contract.proofs.Apart.{PartsApart}
@@ -17,7 +17,7 @@ use Rattle.cvm_model.specs.Primitives.{no_flat}
 use Rattle.cvm_model.specs.Cvm.{System, map_of, first_core}
 use Rattle.cvm_model.specs.Paged.{pages_by}
 use Rattle.cvm_model.specs.Stands.{UserFits, input_room}
-use Rattle.layer_contract.specs.Follows.{loaded_memory, loaded_sector, machine, SystemFits, LoadedResets}
+use Rattle.layer_contract.specs.Follows.{loaded_memory, loaded_sector, loaded, SystemFits, LoadedResets}
 use Rattle.layer_contract.proofs.Apart.{apart_of}
 
 -- a word of a list of words, or 0
@@ -69,7 +69,7 @@ loaded_resets x y old f =
     let none : All IsWord (replicate 32 0) = All-replicate IsWord 32 0 (omega arith) in
     let nine : All IsWord (replicate 9 0) = All-replicate IsWord 9 0 (omega arith) in
     let blank : All IsWord (replicate 1024 0) = All-replicate IsWord 1024 0 (omega arith) in
-    let fits : Fits x (machine x y old 1) = record {
+    let fits : Fits x (run x (loaded y old) 1) = record {
       cpu = record { pc = omega arith; regs = record { size = refl; each = none; none = refl }; hi = omega arith; lo = omega arith };
       special = record { size = refl; each = nine };
       memory = All-append IsWord b.words zeros f.words (All-replicate IsWord (memory_words m - length b.words) 0 (omega arith));

@@ -9,14 +9,14 @@ use Rattle.std.proofs.lemmas.List.FromFn.{get_or-map-range_with_len, length-map-
 use Rattle.std.proofs.lemmas.List.Elements.{All-nil, All-cons, All-append, All-replicate, All-from_get_or}
 use Rattle.mips_table.specs.Device.{Outside, HasEightLines}
 use Rattle.mips_table.specs.Fits.{IsWord, IsPage}
-use Rattle.mips_table.specs.Machine.{State, zero_cpu}
+use Rattle.mips_table.specs.Machine.{State, zero_cpu, run}
 use Rattle.layer_map.specs.Map.{Map, MapInRange, layer_words, next_page}
 use Rattle.cvm_model.specs.Primitives.{pages_of}
 use Rattle.cvm_model.specs.Cvm.{Running, map_of, first_flat, first_core}
 use Rattle.cvm_model.specs.Kernel.{Core}
 use Rattle.cvm_model.specs.Stands.{Site, UserFits, CoreFits, Stands}
 use Rattle.layer_contract.specs.Layer.{Linked, Starts, AfterReset}
-use Rattle.layer_contract.specs.Follows.{site_of, machine, SystemFits}
+use Rattle.layer_contract.specs.Follows.{site_of, loaded, SystemFits}
 use Rattle.layer_contract.specs.Samples.{plain_word, plain_layer, spread_word, spread_map, spread_system, ASpreadStateStands}
 use Rattle.layer_contract.proofs.ResetState.{reset_stands}
 use Rattle.layer_contract.proofs.LoadedState.{index_word, loaded_resets}
@@ -153,7 +153,7 @@ module _ (x : Outside) (eight : HasEightLines x) (enough : 8 ≤ x.count) where
   words = spread_system.boot.words
 
   abbrev first : State
-  first = machine x spread_system (blank x) 1
+  first = run x (loaded spread_system (blank x)) 1
 
   abbrev core : Core
   core = first_core spread_system

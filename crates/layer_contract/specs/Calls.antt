@@ -7,7 +7,7 @@ use Rattle.mips_table.specs.Turns.{is_on}
 use Rattle.layer_contract.specs.declared.entry.Entry.TheVariants.{Primitive}
 use Rattle.c0_meaning.specs.State.{State as C0}
 use Rattle.cvm_model.specs.Kernel.{Core, Changes, Meaning}
-use Rattle.cvm_model.specs.Primitives.{Call}
+use Rattle.cvm_model.specs.Primitives.{Call, told}
 use Rattle.cvm_model.specs.Stands.{Site}
 use Rattle.layer_contract.specs.declared.registers.TheConstants.{RETURN}
 use Rattle.layer_contract.specs.Layer.{entry_address, Inside, DispatchCalled, PrimitiveCalled, ComesBack, BusyWithin, given}
@@ -46,7 +46,7 @@ abbrev pub entered_before : Outside → State → ℕ → ℕ
 entered_before x s t = ended_before x s t + is_busy (under_way x s t)
 
 -- One call of a primitive, the m-th to end since s: none is under way before its entry, from there it comes back, and the return, which is
--- the first, ends it. The machine stands there for what the call comes to.
+-- the first, ends it. The machine stands there for what the call comes to. It is the call that is told: by its number, its arguments and what it changed.
 pub record EndsCall (x : Outside) (y : Site) (longest : ℕ) (s : State) (m : ℕ) (changes : Changes) : Type 0 where
   pub entry : ℕ
   pub core : Core
@@ -57,7 +57,7 @@ pub record EndsCall (x : Outside) (y : Site) (longest : ℕ) (s : State) (m : �
   pub back : ComesBack x y longest core call (run x s entry)
   pub ended : ended_before x s entry ≡ m
   pub ends : ended_before x s (entry + back.comes.steps) ≡ suc m
-  pub same : changes ≡ (given y core call).changes
+  pub same : changes ≡ told call (given y core call)
 
 -- what is known where the kernel's code begins: `dispatch` is called over typed data, and no command is busier than `longest`
 pub record KernelCalled (x : Outside) (longest : ℕ) (y : Site) (Typed : C0 → Type 0) (c : Core) (cause edata user : ℤ) (s : State) : Type 0 where

@@ -1,5 +1,5 @@
 -- The loaded machine and its run, and when a layer and a boot belong together.
-use Rattle.std.specs.Prelude.{pos, true, ◌≡◌, ℕ, ◌-◌, ◌*◌, ◌≤◌, ℤ, if◌then◌else◌, List, ◌++◌, length, map, drop, replicate, slice_index, All}
+use Rattle.std.specs.Prelude.{true, ◌≡◌, ℕ, ◌-◌, ◌*◌, ◌≤◌, ℤ, if◌then◌else◌, List, ◌++◌, length, map, drop, replicate, slice_index, All}
 use Rattle.std.specs.List.{range_with_len}
 use Rattle.mips_table.specs.declared.cause.Cause.{Cause}
 use Rattle.mips_table.specs.declared.cause.Cause.TheVariants.{External}
@@ -14,12 +14,12 @@ use Rattle.layer_map.specs.Map.{Map, MapInRange, layer_words, memory_words}
 use Rattle.c0_meaning.specs.State.{State as C0}
 use Rattle.cvm_model.specs.Kernel.{Core, power_of, End, Answers, Faults, NotYet, Outcome, Meaning, MeaningLaws}
 use Rattle.cvm_model.specs.Primitives.{pages_of}
-use Rattle.cvm_model.specs.Cvm.{Boot, System, Running, Begin, Steps, Traps, Interrupts, map_of, first_flat, first_core, reset_steps, run_steps}
+use Rattle.cvm_model.specs.Cvm.{Boot, System, Running, Begin, Steps, Traps, Interrupts, map_of, first_flat, first_core, run_steps}
 use Rattle.cvm_model.specs.Paged.{pages_by}
 use Rattle.cvm_model.specs.TypedKernel.{StaysTyped}
 use Rattle.cvm_model.specs.Stands.{Site, input_room, CoreFits, Stands, runs_user}
 use Rattle.layer_contract.specs.declared.registers.TheConstants.{ANSWER}
-use Rattle.layer_contract.specs.Layer.{DispatchCalled, IsEntry, Inside, Way, Comes, IsAt, with_epc, Starts, AfterReset}
+use Rattle.layer_contract.specs.Layer.{IsEntry, Inside, Way, Comes, IsAt, with_epc, Starts, AfterReset}
 use Rattle.layer_contract.specs.Calls.{KernelCalled, CallsFollow}
 
 -- the map and the linked words of what is booted
@@ -41,10 +41,6 @@ loaded_sector y old q =
 abbrev pub loaded : System → List (List ℕ) → State
 loaded y old = start (loaded_memory y.boot) (map (loaded_sector y old) (range_with_len 0 (length old))) y.input
 
--- and it after t steps
-abbrev pub machine : Outside → System → List (List ℕ) → ℕ → State
-machine x y old t = run x (loaded y old) t
-
 -- eight lines, a system whose words are words, and a disk that is large enough
 pub record SystemFits (x : Outside) (y : System) (old : List (List ℕ)) : Type 0 where
   pub lines : HasEightLines x
@@ -59,7 +55,7 @@ pub record SystemFits (x : Outside) (y : System) (old : List (List ℕ)) : Type 
 
 -- after its first step it is a state after the reset
 abbrev pub LoadedResets : Type 0
-LoadedResets = (x : Outside) (y : System) (old : List (List ℕ)) → SystemFits x y old → AfterReset x (site_of y.boot) (first_core y) (machine x y old 1)
+LoadedResets = (x : Outside) (y : System) (old : List (List ℕ)) → SystemFits x y old → AfterReset x (site_of y.boot) (first_core y) (run x (loaded y old) 1)
 
 -- A kernel that isn't over within n units still runs after so many steps: one for each 8,388,608 units. No primitive takes as many, and the call of one
 -- takes a step.
@@ -101,10 +97,6 @@ pub record Follows (Typed : C0 → Type 0) (image sizes : List ℕ) (made_for : 
   pub typed : StaysTyped made_for b.meaning Typed
   pub runs : KernelRuns (site_of b) Typed b.meaning
   pub calls : CallsFollow (site_of b) Typed b.meaning
-
--- the machine after the reset calls `dispatch` with 0, 0, 0, for the state at the start
-abbrev pub FirstCall : Outside → System → List (List ℕ) → Type 0
-FirstCall x y old = Comes x (site_of y.boot) IsEntry (reset_steps (map_of y.boot)) (machine x y old 1) (DispatchCalled x (site_of y.boot) (first_core y) (pos 0) (pos 0) (pos 0))
 
 -- what the step that begins a turn after the first comes to: the user's step, or an interrupt to be taken with its cause, edata and epc
 abbrev pub BeginsAs : Outside → Site → State → Core → Begin → Type 0

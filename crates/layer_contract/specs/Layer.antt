@@ -15,7 +15,7 @@ use Rattle.c0_meaning.specs.Value.{group, empty}
 use Rattle.layer_contract.specs.declared.registers.TheConstants.{ARGUMENT, ANSWER, RETURN, KEPT}
 use Rattle.layer_contract.specs.declared.entry.Entry.{Entry}
 use Rattle.layer_contract.specs.declared.entry.Entry.TheVariants.{Dispatch, Primitive, Fault as Exit, Leave}
-use Rattle.layer_map.specs.Map.{Map, MapInRange, layer_words, current_at, hand_at, heap_used_at, heap_words_at, heap_first_at, stack_first_at, stack_words_at, block_at, code_at, heap_at, stack_at, table_of, memory_words}
+use Rattle.layer_map.specs.Map.{Map, MapInRange, layer_words, current_at, hand_at, heap_used_at, heap_words_at, heap_first_at, stack_first_at, stack_words_at, primitives_at, exits_at, leave_at, block_at, code_at, heap_at, stack_at, table_of, memory_words}
 use Rattle.page_model.specs.Paging.{Passes}
 use Rattle.cvm_model.specs.Kernel.{flat, Core, power_of}
 use Rattle.cvm_model.specs.declared.kernel_fault.KernelFault.{KernelFault}
@@ -30,10 +30,10 @@ use Rattle.cvm_model.specs.Stands.{Site, IsUser, CoreFits, Stands, runs_user}
 -- The address of each entry. A kernel's code is made without a layer, so they are the same for every layer: the code begins with the
 -- entry of `dispatch`, which no call in it reaches, and the other entries begin the layer's second part of code, a word each.
 abbrev pub entry_address : Entry → ℕ
-entry_address Dispatch = 0x10000
-entry_address (Primitive k) = 0x2000 + 4 * k
-entry_address (Exit f) = 0x2024 + 4 * f
-entry_address Leave = 0x2038
+entry_address Dispatch = 4 * layer_words
+entry_address (Primitive k) = 4 * primitives_at + 4 * k
+entry_address (Exit f) = 4 * (exits_at - 1) + 4 * f
+entry_address Leave = 4 * leave_at
 
 -- the entries that there are: ten primitives, and the faults 1 to 4
 abbrev pub IsEntry : Entry → Type 0
@@ -52,6 +52,11 @@ pub record Inside (s : State) : Type 0 where
 abbrev pub SectorsStay : Map → State → State → Type 0
 SectorsStay m s t = (q : ℕ) → m.users * m.params.pages ≤ q → sector_of t.device.sectors q ≡ sector_of s.device.sectors q
 
+-- the words behind the map's last frame are the same, and as many
+pub record FramesStay (m : Map) (s t : State) : Type 0 where
+  pub size : length t.memory ≡ length s.memory
+  pub words : (k : ℕ) → memory_words m ≤ k → k < length s.memory → slice_index t.memory k ≡ slice_index s.memory k
+
 -- the command that is under way in the step from this state just before the disk counts
 unfoldable pub due : Outside → State → Pending
 due x s = (come_to (coming x (latched x s))).device.pending
@@ -65,11 +70,12 @@ abbrev pub NoneIsDue : Type 0
 NoneIsDue = (x : Outside) (s : State) → s.off ≡ None → s.device.pending ≡ Idle → (step x s).device.commands ≡ s.device.commands → due x s ≡ Idle
 
 -- For n steps, whatever lines are raised, the machine is inside, the pc is none of the doors but in the first and the last state, the
--- sectors past the users' pages stay, and no command is for one of them.
+-- sectors past the users' pages and the frames behind the map's last one stay, and no command is for one of those sectors.
 pub record Way (x : Outside) (y : Site) (Door : Entry → Type 0) (n : ℕ) (s : State) : Type 0 where
   pub inside : (j : ℕ) → j < n → Inside (run x s j)
   pub between : (j : ℕ) (e : Entry) → 0 < j → j < n → Door e → (run x s j).cpu.pc ≢ entry_address e
   pub sectors : (j : ℕ) → j ≤ n → SectorsStay y.map s (run x s j)
+  pub frames : (j : ℕ) → j ≤ n → FramesStay y.map s (run x s j)
   pub named : (j : ℕ) → j < n → EndsNamed x y.map (run x s j)
 
 -- within n steps the machine comes by such a way to a state of which Q holds

@@ -3,6 +3,8 @@
 ghost use Rattle.std.specs.Prelude.{◌≡◌};
 ghost use Rattle.layer_contract.specs.Layer.{entry_address, IsEntry};
 
+use layer_map::{ENTRY, EXITS, LEAVE, PRIMITIVES};
+
 /// Where the layer and the kernel's code meet.
 #[derive(Clone, Copy, Debug, PartialEq, Eq)]
 pub enum Entry {
@@ -24,10 +26,10 @@ impl Entry {
         ensures { result ≡ entry_address self }
     {
         match self {
-            Entry::Dispatch => 0x10000,
-            Entry::Primitive(number) => 0x2000 + 4 * number,
-            Entry::Fault(power) => 0x2024 + 4 * power,
-            Entry::Leave => 0x2038,
+            Entry::Dispatch => ENTRY,
+            Entry::Primitive(number) => PRIMITIVES + 4 * number,
+            Entry::Fault(power) => EXITS + 4 * (power - 1),
+            Entry::Leave => LEAVE,
         }
     }
 }

@@ -3,11 +3,11 @@
 //! Each law is the contract of a function that does nothing.
 #![tactic(auto)]
 
-ghost use Rattle.std.specs.Prelude.{◌≤◌, ℕ, List};
+ghost use Rattle.std.specs.Prelude.{◌≤◌};
 ghost use Rattle.mips_table.specs.Device.{Outside, HasEightLines};
-ghost use Rattle.cvm_model.specs.Cvm.{System};
 ghost use Rattle.layer_contract.specs.Layer.{ResetStands, UserStands, NoneIsDue};
-ghost use Rattle.layer_contract.specs.Follows.{FirstCall, LoadedResets, MadeFor, SystemFits};
+ghost use Rattle.layer_contract.specs.Follows.{LoadedResets};
+ghost use Rattle.layer_contract.specs.Starts.{LoadedKeeps, LoadedStarts, StartsCall, StartsGoOn};
 ghost use Rattle.layer_contract.specs.Users.{FaultsAsk, SomeStores, UserSteps, UserStepsLinked, UserStepsOrFaults, UsersAreInterrupted};
 ghost use Rattle.layer_contract.specs.Samples.{AStateStands, ASpreadStateStands};
 
@@ -55,9 +55,22 @@ pub fn a_spread_state_stands()
     ensures { (x : Outside) → HasEightLines x → 8 ≤ x.count → ASpreadStateStands x }
 {}
 
-/// A law: over a layer that was made for what is booted, the loaded machine calls `dispatch` for the start of the run.
+/// A law: the loaded machine is a start, from which the layer takes over after one step, and its sectors past the users' pages are the disk's.
+pub fn the_loaded_machine_starts()
+    ensures start { LoadedStarts }
+    ensures beyond { LoadedKeeps }
+{
+    the_loaded_machine_resets();
+}
+
+/// A law: until the layer takes over, turn 0 goes on.
+pub fn starts_go_on()
+    ensures { StartsGoOn }
+{}
+
+/// A law: over a layer that was made for what is booted, each start comes to the call of `dispatch` for the start of the run.
 pub fn the_kernel_is_called<L: Layer>(layer: &L)
-    ensures { (x : Outside) (y : System) (old : List (List ℕ)) → SystemFits x y old → MadeFor (L.image layer.now) (L.sizes layer.now) (L.map layer.now) y.boot → FirstCall x y old }
+    ensures { StartsCall (L.image layer.now) (L.sizes layer.now) (L.map layer.now) }
 {
     layer.keeps_laws();
 }

@@ -66,6 +66,18 @@ variables_at = 1031
 abbrev pub variables_end : ℕ
 variables_end = 2048
 
+-- the word at which primitive 0 is entered: the others follow by their numbers
+abbrev pub primitives_at : ℕ
+primitives_at = 2048
+
+-- the word at which a use of null leaves the code of a unit: an index out of bounds, a division by 0 and a want of stack leave at the next ones
+abbrev pub exits_at : ℕ
+exits_at = 2058
+
+-- the word at which the code of a unit leaves once its first function has returned
+abbrev pub leave_at : ℕ
+leave_at = 2062
+
 -- the control block of user u, from 1, of 64 words: the pc, registers 1 to 31, the size in pages, hi and lo
 abbrev pub block_at : ℕ → ℕ
 block_at u = 12288 + 64 * (u - 1)

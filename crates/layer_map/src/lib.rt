@@ -20,10 +20,12 @@
 //! blocks of users 1 to 64 from 0xc000 on.
 #![tactic(auto)]
 
+mod entries;
 mod map;
 mod params;
 mod places;
 
+pub use entries::{ENTRY, EXITS, LEAVE, PRIMITIVES, entries_are_words};
 pub use map::{
     Map, blocks_are_in_order, memory_is_whole, parts_are_in_order, parts_begin_pages,
     tables_are_in_order,

@@ -9,7 +9,7 @@ use Rattle.mips_table.specs.Simulation.{configuration_of, contents_of}
 use Rattle.masm.specs.Laws.{RunsCompose, JumpsLead}
 use Rattle.masm.specs.Standing.{BlockStands}
 use Rattle.cvm_model.specs.Stands.{Site}
-use Rattle.layer_contract.specs.Layer.{Inside, SectorsStay, EndsNamed, NoneIsDue}
+use Rattle.layer_contract.specs.Layer.{Inside, SectorsStay, FramesStay, EndsNamed, NoneIsDue}
 use Rattle.layer_runs.specs.Runs.{Standing, Calm, block_world, Makes, BlocksRun, Between}
 use Rattle.layer_runs.proofs.Shown.{words_of, behind}
 use Rattle.layer_runs.proofs.Ways.{IsApart, between_of, no_step, joins}
@@ -68,6 +68,7 @@ pub record Enters (x : Outside) (y : Site) (to : ℕ) (s : State) : Type 0 where
   pub size : length (run x s 1).memory ≡ length s.memory
   pub inside : Inside s
   pub sectors : SectorsStay y.map s (run x s 1)
+  pub frames : FramesStay y.map s (run x s 1)
   pub named : EndsNamed x y.map s
 
 -- where the machine stands by its pc
@@ -86,4 +87,4 @@ enters z x y s n to at c pc ne f =
     let some : 1 ≤ r.steps = z.runs.elsewhere w 1 (configuration_of s) t (λ e. ne (sym (ap (λ u. u.at) start) ∙ e)) r in
     let one : r.steps ≡ 1 = let most : r.steps ≤ 1 = r.within in omega arith in
     let m : Makes x y n (J to ∷ []) 1 s t = z.blocks x y s t n (J to ∷ []) 1 at c (subst (λ k. Steps w k (configuration_of s) t) one r.run) in
-    record { there = m.there; calm = m.calm c.idle; size = m.size; inside = m.stretch.inside 0 (omega arith); sectors = m.stretch.sectors 1 (omega arith); named = m.stretch.named 0 (omega arith) }
+    record { there = m.there; calm = m.calm c.idle; size = m.size; inside = m.stretch.inside 0 (omega arith); sectors = m.stretch.sectors 1 (omega arith); frames = m.stretch.frames 1 (omega arith); named = m.stretch.named 0 (omega arith) }

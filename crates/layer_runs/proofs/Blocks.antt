@@ -1,5 +1,5 @@
 -- Each run of a block of the layer's code is made by the machine: the laws on runs of code, for the block alone.
-use Rattle.std.proofs.Common.{◌≡◌, ℕ, suc, ◌+◌, ◌-◌, ◌*◌, ◌/◌, ◌<◌, ◌≤◌, Bool, true, false, not, ◌&&◌, nat_lt, Some, None, List, [], ◌∷◌, length, map, slice_index, refl, sym, ap, ◌∙◌, subst, ⊎_elim, arith, lt-ltb, ltb-true, eq-eqb, ne_eqb}
+use Rattle.std.proofs.Common.{◌≡◌, ℕ, suc, ◌+◌, ◌-◌, ◌*◌, ◌/◌, ◌<◌, ◌≤◌, ◌⊎◌, Bool, true, false, not, ◌&&◌, nat_lt, Some, None, List, [], ◌∷◌, length, map, slice_index, refl, sym, ap, ◌∙◌, subst, ⊎_elim, inl, inr, arith, lt-ltb, le-ltb, ltb-true, eq-eqb, ne_eqb}
 use Rattle.std.specs.Prelude.{◌==◌, if◌then◌else◌}
 use Rattle.std.proofs.lemmas.Bool.{cond-true, cond-false, cases_eq}
 use Rattle.mips_table.specs.declared.inst.Inst.{Inst}
@@ -9,6 +9,7 @@ use Rattle.mips_table.specs.Machine.{State, Done, come_to, coming, latched, run}
 use Rattle.mips_table.specs.Fits.{NamesSector}
 use Rattle.mips_table.specs.Code.{World, Sound, Configuration, Steps}
 use Rattle.mips_table.specs.Simulation.{configuration_of, Quiet, Holds, Serves, Simulates, MachineSimulates}
+use Rattle.layer_map.specs.Map.{memory_words}
 use Rattle.masm.specs.Standing.{placed, BlockStands}
 use Rattle.cvm_model.specs.Stands.{Site, is_own}
 use Rattle.layer_contract.specs.Layer.{Inside, due, EndsNamed}
@@ -28,21 +29,35 @@ word_of n (j ∷ is) k i e le = ⊎_elim
     (cases_eq k n)
 
 -- what is kept
-kept_is : (y : Site) (k : ℕ) → k < length y.linked → is_own y.map k ≡ false → kept_words y k ≡ Some (slice_index y.linked k)
-kept_is y k lt e = ap (λ b. if b then Some (slice_index y.linked k) else None) (both (nat_lt k (length y.linked)) (is_own y.map k) (lt-ltb k (length y.linked) lt) e)
+kept_is : (y : Site) (memory : List ℕ) (k : ℕ) → k < length y.linked → length y.linked ≤ length memory → is_own y.map k ≡ false → slice_index memory k ≡ slice_index y.linked k → kept_words y memory k ≡ Some (slice_index y.linked k)
+kept_is y memory k lt long e same = by (nat_lt k (memory_words y.map))
   where
     both : (a b : Bool) → a ≡ true → b ≡ false → (a && not b) ≡ true
     both true false p q = refl
     both true true p q = absurd (cc)
     both false b p q = absurd (cc)
 
-kept_by : (y : Site) (k v : ℕ) → kept_words y k ≡ Some v → (k < length y.linked) × (is_own y.map k ≡ false) × (slice_index y.linked k ≡ v)
-kept_by y k v e = by (nat_lt k (length y.linked)) (is_own y.map k) refl refl e
+    by : (a : Bool) → (if a then (if nat_lt k (length y.linked) && not (is_own y.map k) then Some (slice_index y.linked k) else None) else if nat_lt k (length memory) then Some (slice_index memory k) else None) ≡ Some (slice_index y.linked k)
+    by true = ap (λ b. if b then Some (slice_index y.linked k) else None) (both (nat_lt k (length y.linked)) (is_own y.map k) (lt-ltb k (length y.linked) lt) e)
+    by false = ap (λ b. if b then Some (slice_index memory k) else None) (lt-ltb k (length memory) (omega arith)) ∙ ap Some same
+
+-- a word that is kept is a linked one, or stands behind the map's last frame
+kept_by : (y : Site) (memory : List ℕ) (k v : ℕ) → kept_words y memory k ≡ Some v → ((k < length y.linked) × (is_own y.map k ≡ false) × (slice_index y.linked k ≡ v)) ⊎ (slice_index memory k ≡ v)
+kept_by y memory k v e = by (nat_lt k (memory_words y.map)) (nat_lt k (length y.linked)) (is_own y.map k) (nat_lt k (length memory)) refl refl e
   where
-    by : (a b : Bool) → nat_lt k (length y.linked) ≡ a → is_own y.map k ≡ b → (if a && not b then Some (slice_index y.linked k) else None) ≡ Some v → (k < length y.linked) × (is_own y.map k ≡ false) × (slice_index y.linked k ≡ v)
-    by true false p q h = (ltb-true k (length y.linked) p, q, cc)
-    by true true p q h = absurd (cc)
-    by false b p q h = absurd (cc)
+    by : (a b o c : Bool) → nat_lt k (length y.linked) ≡ b → is_own y.map k ≡ o → (if a then (if b && not o then Some (slice_index y.linked k) else None) else if c then Some (slice_index memory k) else None) ≡ Some v
+        → ((k < length y.linked) × (is_own y.map k ≡ false) × (slice_index y.linked k ≡ v)) ⊎ (slice_index memory k ≡ v)
+    by true true false c p q h = inl (ltb-true k (length y.linked) p, q, cc)
+    by true true true c p q h = absurd (cc)
+    by true false o c p q h = absurd (cc)
+    by false b o true p q h = inr (cc)
+    by false b o false p q h = absurd (cc)
+
+-- a word behind the map's last frame is kept
+kept_behind : (y : Site) (memory : List ℕ) (k : ℕ) → memory_words y.map ≤ k → k < length memory → kept_words y memory k ≡ Some (slice_index memory k)
+kept_behind y memory k le lt =
+    ap (λ a. if a then (if nat_lt k (length y.linked) && not (is_own y.map k) then Some (slice_index y.linked k) else None) else if nat_lt k (length memory) then Some (slice_index memory k) else None) (le-ltb k (memory_words y.map) le)
+    ∙ ap (λ b. if b then Some (slice_index memory k) else None) (lt-ltb k (length memory) lt)
 
 -- the command that an instruction's step ends
 named_by : (x : Outside) (y : Site) (s after : State) → coming x (latched x s) ≡ Done after → NamesSector (y.map.users * y.map.params.pages) after.device.pending → EndsNamed x y.map s
@@ -62,11 +77,12 @@ module _ (stands : (n : ℕ) (is : List Inst) → BlockStands n is) (x : Outside
         let end : n + length is ≤ length y.linked = at.inside in
         let there : n + (k - n) ≡ k = omega arith in
         let word : slice_index y.linked k ≡ encoding i = ap (slice_index y.linked) (sym there) ∙ at.linked (k - n) (omega arith) ∙ word_of n is k i e low in
-        kept_is y k (omega arith) (at.kept k low top) ∙ ap Some word;
+        let long = c.long in
+        kept_is y s.memory k (omega arith) long (at.kept k low top) (c.stays k (omega arith) (at.kept k low top)) ∙ ap Some word;
   }
 
   pub holds : Holds (block_world x y s n is) s.memory
-  holds = record { size = refl; kept = λ k v e. let h = kept_by y k v e in c.stays k h.0 h.1 ∙ h.2 }
+  holds = record { size = refl; kept = λ k v e. ⊎_elim (λ h. c.stays k h.0 h.1 ∙ h.2) (λ h. h) (kept_by y s.memory k v e) }
 
   pub serves : Serves x (block_world x y s n is) s.device
   serves = record { count = c.sectors; named = subst (NamesSector (y.map.users * y.map.params.pages)) (sym c.idle) tt }
@@ -78,7 +94,7 @@ module _ (stands : (n : ℕ) (is : List Inst) → BlockStands n is) (x : Outside
   pub makes : MachineSimulates → (t : Configuration) (steps : ℕ) → Steps (block_world x y s n is) steps (configuration_of s) t → Makes x y n is steps s t
   makes simulates t steps r =
       let w : World = block_world x y s n is in
-      let m : Simulates x w steps s = simulates x (block_program y (length s.memory) n is) s steps t sound c.quiet holds serves r in
+      let m : Simulates x w steps s = simulates x (block_program y s.memory n is) s steps t sound c.quiet holds serves r in
       let last = m.along steps (omega arith) in
       let there : configuration_of (run x s steps) ≡ t = m.same steps (omega arith) ∙ r.1 in
       record {
@@ -87,6 +103,7 @@ module _ (stands : (n : ℕ) (is : List Inst) → BlockStands n is) (x : Outside
           from = λ j lt. let i = m.instructs j lt in let b : n ≤ (run x s j).cpu.pc / 4 = ((stands n is).inside _ i.inst i.code).0 in omega arith;
           to = λ j lt. let i = m.instructs j lt in let b : (run x s j).cpu.pc / 4 < n + length is = ((stands n is).inside _ i.inst i.code).1 in omega arith;
           sectors = λ j le q past. (m.along j le).sectors q past;
+          frames = λ j le. let h = (m.along j le).holds in record { size = h.size; words = λ k from lt. h.kept k (slice_index s.memory k) (kept_behind y s.memory k from lt) };
           named = λ j lt. let i = m.instructs j lt in named_by x y (run x s j) i.after i.untaken i.named;
         };
         there = there;
@@ -94,7 +111,7 @@ module _ (stands : (n : ℕ) (is : List Inst) → BlockStands n is) (x : Outside
           quiet = last.quiet;
           long = let z : length (run x s steps).memory ≡ length s.memory = last.holds.size in let long = c.long in omega arith;
           small = let z : length (run x s steps).memory ≡ length s.memory = last.holds.size in let small = c.small in omega arith;
-          stays = λ k lt own. last.holds.kept k (slice_index y.linked k) (kept_is y k lt own);
+          stays = λ k lt own. last.holds.kept k (slice_index y.linked k) (kept_is y s.memory k lt c.long own (c.stays k lt own));
           idle = ap (λ u. u.behind.pending) there ∙ idle;
           sectors = c.sectors;
         };

@@ -1,5 +1,5 @@
 -- A call of a primitive, from its entry to its return.
-use Rattle.std.proofs.Common.{◌≡◌, ℕ, ◌+◌, ◌-◌, ◌*◌, ◌/◌, ◌^◌, ◌<◌, ◌≤◌, ℤ, ◌&&◌, true, not, Some, None, List, [], ◌∷◌, ◌++◌, length, slice_index, All, refl, sym, ap, ◌∙◌, subst, ⊎_elim, inr, true≢false, arith, le-ltb}
+use Rattle.std.proofs.Common.{◌≡◌, ℕ, ◌+◌, ◌-◌, ◌*◌, ◌/◌, ◌^◌, ◌<◌, ◌≤◌, ℤ, ◌&&◌, not, Some, None, List, [], ◌∷◌, ◌++◌, length, slice_index, All, nat_lt, refl, sym, ap, ◌∙◌, subst, ⊎_elim, inr, true≢false, arith, le-ltb, lt-ltb}
 use Rattle.std.specs.Prelude.{if◌then◌else◌, nat_le}
 use Rattle.std.proofs.lemmas.Bool.{cases_lt, cond_both}
 use Rattle.std.proofs.lemmas.List.{ext_get_or, get_or_past, length-drop}
@@ -27,7 +27,7 @@ use Rattle.layer_contract.specs.Layer.{Inside, InCode, given, Returned, ComesBac
 use Rattle.register_primitives.specs.Blocks.{BlocksHold}
 use Rattle.layer_runs.specs.Image.{returning, routine_at, image_site, IsMade}
 use Rattle.layer_runs.specs.Runs.{Calm, kept_words, block_world}
-use Rattle.layer_runs.proofs.Shown.{IsKernels, Order, order_of, behind, word_is, stood}
+use Rattle.layer_runs.proofs.Shown.{IsKernels, Order, order_of, behind, word_is, stood, layer_inside}
 use Rattle.layer_runs.proofs.Ways.{way_from}
 use Rattle.layer_runs.proofs.Arrivals.{Below, Arrives, contents}
 use Rattle.layer_runs.proofs.Exits.{Tools, not_user, Routed, arrives_in}
@@ -67,12 +67,19 @@ module _ (m : Map) (sizes code : List ℕ) (made : IsMade m sizes code) where
   abbrev y : Site
   y = image_site m sizes code
 
-  -- words behind the linked ones aren't kept
-  pub free_past : (k : ℕ) → length y.linked ≤ k → kept_words y k ≡ None
-  free_past k le = ap (λ b. if b && not (is_own m k) then Some (slice_index y.linked k) else None) (le-ltb k (length y.linked) le)
+  -- words of the map behind the linked ones aren't kept, and no port is
+  pub free_past : (memory : List ℕ) (k : ℕ) → length y.linked ≤ k → k < memory_words m → kept_words y memory k ≡ None
+  free_past memory k le lt =
+      ap (λ b. if b then (if nat_lt k (length y.linked) && not (is_own m k) then Some (slice_index y.linked k) else None) else if nat_lt k (length memory) then Some (slice_index memory k) else None) (lt-ltb k (memory_words m) lt)
+      ∙ ap (λ b. if b && not (is_own m k) then Some (slice_index y.linked k) else None) (le-ltb k (length y.linked) le)
 
-  pub own_hand : kept_words y hand_at ≡ None
-  own_hand = free_own y hand_at true refl
+  pub free_port : (memory : List ℕ) (k : ℕ) → memory_words m ≤ k → length memory ≤ k → kept_words y memory k ≡ None
+  free_port memory k le past =
+      ap (λ b. if b then (if nat_lt k (length y.linked) && not (is_own m k) then Some (slice_index y.linked k) else None) else if nat_lt k (length memory) then Some (slice_index memory k) else None) (le-ltb k (memory_words m) le)
+      ∙ ap (λ b. if b then Some (slice_index memory k) else None) (le-ltb k (length memory) past)
+
+  pub own_hand : (memory : List ℕ) → kept_words y memory hand_at ≡ None
+  own_hand memory = free_own y memory hand_at (let l = layer_inside m (order_of m made.range) in omega arith) refl
 
   -- THE RETURN: the machine is at the return address, and stands for what the call comes to
   module _ (z : Tools) (x : Outside) (s : State) (c : Core) (call : Call) (st : Stands x y s Running c) (i : Inside s) (word : HasWord call) where
@@ -127,10 +134,10 @@ module _ (m : Map) (sizes code : List ℕ) (made : IsMade m sizes code) where
         }
 
     -- a routine's run that leaves so much comes back
-    pub comes_back : (longest n : ℕ) (body : List Inst) (steps : ℕ) → n < 10 → n ≡ primitive_number call → InCode m (slice_index s.cpu.regs 31) → s.cpu.pc ≡ 4 * (2048 + n) → steps + 2 ≤ run_steps m longest (units_of g) g.pages
+    pub comes_back : (X : Contents → Type 0) (longest n : ℕ) (body : List Inst) (steps : ℕ) → n < 10 → n ≡ primitive_number call → InCode m (slice_index s.cpu.regs 31) → s.cpu.pc ≡ 4 * (2048 + n) → steps + 2 ≤ run_steps m longest (units_of g) g.pages
         → ((w : World) → Sound w → ReturnRuns w body) → (r : Routed m sizes code made n (returning body) x s)
-        → From (block_world x y (run x s 1) (routine_at m n) (returning body)) body steps (contents s) (behind s) (Came y g (contents s) (behind s)) → ComesBack x y longest c call s
-    comes_back longest n body steps lt is back pc enough returns r f =
+        → From (block_world x y (run x s 1) (routine_at m n) (returning body)) body steps (contents s) (behind s) (λ c' d'. Came y g (contents s) (behind s) c' d' × X c') → (b : ComesBack x y longest c call s) × X (contents (run x s b.comes.steps))
+    comes_back X longest n body steps lt is back pc enough returns r f =
         let b : Below = z.below in
         let s1 : State = run x s 1 in
         let at : ℕ = routine_at m n in
@@ -139,7 +146,7 @@ module _ (m : Map) (sizes code : List ℕ) (made : IsMade m sizes code) where
         let whole = back.whole in let from = back.from in
         let there : slice_index s.cpu.regs 31 ≡ 4 * to = omega arith in
         let got = f.by at (contents s) (behind s) (b.runs.front w at body (Jr 31 ∷ []) r.block) (refl, refl) in
-        let e : Came y g (contents s) (behind s) got.0 got.1 = got.2 in
+        let e : Came y g (contents s) (behind s) got.0 got.1 = got.2.0 in
         let u : Configuration = at_with to got.0 got.1 in
         let reaches : Reaches w (steps + 1) (at_with at (contents s) (behind s)) u =
         returns w r.sound at steps to (contents s) (behind s) got.0 got.1 r.block got.3 (e.regs 31 (omega arith) (omega arith) ∙ there) e.idle in
@@ -148,21 +155,23 @@ module _ (m : Map) (sizes code : List ℕ) (made : IsMade m sizes code) where
         let at2 : t.cpu.pc / 4 ≡ to = ap (λ (v : Configuration). v.at) a.there in
         let aligned = a.calm.quiet.aligned in
         let within = a.within in
-        let q : Returned x y g c s t = returned t a.calm (a.size ∙ r.enters.size) (omega arith) (subst (λ (v : Configuration). Came y g (contents s) (behind s) v.contents v.behind) (sym a.there) e) in
-        record {
-          comes = record {
-            steps = 1 + a.steps;
-            within = omega arith;
-            way = way_from b.sum x y a.steps s r.enters.inside r.enters.sectors r.enters.named a.between;
-            there = subst (Returned x y g c s) (sym (b.sum x s 1 a.steps)) q;
-          };
-          apart = λ j less same. ⊎_elim
-              (λ first. let zero' : j ≡ 0 = omega arith in let p : s.cpu.pc ≡ slice_index s.cpu.regs 31 = ap (λ k. (run x s k).cpu.pc) (sym zero') ∙ same in absurd (omega arith))
-              (λ second.
-              let e : j ≡ 1 + (j - 1) = omega arith in
-              let is : run x s j ≡ run x s1 (j - 1) = ap (run x s) e ∙ b.sum x s 1 (j - 1) in
-              let low : (run x s1 (j - 1)).cpu.pc < 4 * layer_words = a.between.below (j - 1) (omega arith) in
-              let p : (run x s1 (j - 1)).cpu.pc ≡ slice_index s.cpu.regs 31 = ap (λ (v : State). v.cpu.pc) (sym is) ∙ same in
-              absurd (omega arith))
-              (cases_lt j 1);
-        }
+        let q : Returned x y g c s t = returned t a.calm (a.size ∙ r.enters.size) (omega arith) (subst (λ (v : Configuration). Came y g (contents s) (behind s) v.contents v.behind) (sym a.there) e) in (
+          record {
+            comes = record {
+              steps = 1 + a.steps;
+              within = omega arith;
+              way = way_from b.sum x y a.steps s r.enters.inside r.enters.sectors r.enters.frames r.enters.named a.between;
+              there = subst (Returned x y g c s) (sym (b.sum x s 1 a.steps)) q;
+            };
+            apart = λ j less same. ⊎_elim
+                (λ first. let zero' : j ≡ 0 = omega arith in let p : s.cpu.pc ≡ slice_index s.cpu.regs 31 = ap (λ k. (run x s k).cpu.pc) (sym zero') ∙ same in absurd (omega arith))
+                (λ second.
+                let e : j ≡ 1 + (j - 1) = omega arith in
+                let is : run x s j ≡ run x s1 (j - 1) = ap (run x s) e ∙ b.sum x s 1 (j - 1) in
+                let low : (run x s1 (j - 1)).cpu.pc < 4 * layer_words = a.between.below (j - 1) (omega arith) in
+                let p : (run x s1 (j - 1)).cpu.pc ≡ slice_index s.cpu.regs 31 = ap (λ (v : State). v.cpu.pc) (sym is) ∙ same in
+                absurd (omega arith))
+                (cases_lt j 1);
+          },
+          subst (λ (v : State). X (contents v)) (sym (b.sum x s 1 a.steps)) (subst (λ (v : Configuration). X v.contents) (sym a.there) got.2.1),
+        )

@@ -1,5 +1,5 @@
 -- The steps that end a run of the layer's code: a store to the power port, and eret.
-use Rattle.std.proofs.Common.{◌≡◌, ◌≢◌, ℕ, zero, suc, ◌+◌, ◌*◌, ◌/◌, ◌<◌, ◌≤◌, Some, List, length, slice_index, refl, sym, ap, ap₂, ◌∙◌, subst, ⊎_elim, arith}
+use Rattle.std.proofs.Common.{◌≡◌, ◌≢◌, ℕ, zero, suc, ◌+◌, ◌*◌, ◌/◌, ◌<◌, ◌≤◌, Some, List, slice_index, refl, sym, ap, ap₂, ◌∙◌, subst, ⊎_elim, arith}
 use Rattle.mips_table.specs.declared.inst.Inst.{Inst}
 use Rattle.mips_table.specs.declared.inst.Inst.TheVariants.{Sw, Eret}
 use Rattle.mips_table.specs.Arith.{sum, extended}
@@ -13,11 +13,11 @@ use Rattle.mips_table.specs.Borders.{EretLeaves, PowerEnds}
 use Rattle.masm.specs.Standing.{placed, BlockStands}
 use Rattle.layer_map.specs.Map.{layer_words}
 use Rattle.cvm_model.specs.Stands.{Site}
-use Rattle.layer_contract.specs.Layer.{entry_address, Inside, due, EndsNamed, NoneIsDue, Comes, IsEntry}
+use Rattle.layer_contract.specs.Layer.{entry_address, Inside, FramesStay, due, EndsNamed, NoneIsDue, Comes, IsEntry}
 use Rattle.layer_runs.specs.Runs.{Standing, Calm, block_program, Between}
 use Rattle.layer_runs.proofs.Shown.{words_of, behind}
 use Rattle.layer_runs.proofs.Blocks.{sound, holds}
-use Rattle.layer_runs.proofs.Ways.{IsApart, no_entry, joins, way_from}
+use Rattle.layer_runs.proofs.Ways.{IsApart, no_entry, frames_same, joins, way_from}
 use Rattle.layer_runs.proofs.Arrivals.{Below, Arrives, Enters}
 
 -- what such a step leaves as it was
@@ -37,12 +37,13 @@ inside_of : (x : Outside) (y : Site) (s : State) → Calm x y s → Inside s
 inside_of x y s c = record { on = c.quiet.on; mode = c.quiet.mode; sr = c.quiet.sr; no_reset = c.quiet.no_reset }
 
 -- one step from among these words
-pub single : NoneIsDue → (x : Outside) (y : Site) (a b : ℕ) (s : State) → IsApart a b → Calm x y s → 4 * a ≤ s.cpu.pc → s.cpu.pc < 4 * b → (step x s).device ≡ s.device → Between x y 1 s
-single none x y a b s apart c low top same = record {
+pub single : NoneIsDue → (x : Outside) (y : Site) (a b : ℕ) (s : State) → IsApart a b → Calm x y s → 4 * a ≤ s.cpu.pc → s.cpu.pc < 4 * b → (step x s).device ≡ s.device → (step x s).memory ≡ s.memory → Between x y 1 s
+single none x y a b s apart c low top same memory = record {
   inside = λ j lt. let z : 0 ≡ j = omega arith in subst (λ j. Inside (run x s j)) z (inside_of x y s c);
   below = λ j lt. let z : 0 ≡ j = omega arith in subst (λ j. (run x s j).cpu.pc < 4 * layer_words) z (⊎_elim (λ e. omega arith) (λ e. let e1 = e.1 in omega arith) apart);
   apart = λ j e lt is. let z : 0 ≡ j = omega arith in subst (λ j. (run x s j).cpu.pc ≢ entry_address e) z (no_entry a b s.cpu.pc apart low top e is);
   sectors = elim [ zero ↦ λ le q past. refl | suc j ↦ λ le q past. let z : 0 ≡ j = omega arith in subst (λ j. sector_of (run x s (suc j)).device.sectors q ≡ sector_of s.device.sectors q) z (ap (λ (d : Device). sector_of d.sectors q) same) ];
+  frames = elim [ zero ↦ λ le. frames_same y.map s s refl | suc j ↦ λ le. let z : 0 ≡ j = omega arith in subst (λ j. FramesStay y.map s (run x s (suc j))) z (frames_same y.map s (step x s) memory) ];
   named = λ j lt. let z : 0 ≡ j = omega arith in
       let free : due x s ≡ Idle = none x s c.quiet.on c.idle (ap (λ (d : Device). d.commands) same) in
       subst (λ j. EndsNamed x y.map (run x s j)) z (subst (NamesSector (y.map.users * y.map.params.pages)) (sym free) tt);
@@ -60,7 +61,7 @@ module _ (words : StaysFitting) (stands : (n : ℕ) (is : List Inst) → BlockSt
       let none : slice_index s.cpu.regs 0 ≡ 0 = c.quiet.fits.cpu.regs.none in
       let after : State = record (latched x s) { off = Some (slice_index s.cpu.regs rt); cpu = advanced s.cpu } in
       let is' : step x s ≡ ended after =
-      ends x (block_program y (length s.memory) n is) s rt 0 imm (sound stands x y s n is at c) c.quiet (holds stands x y s n is at c) code (ap (λ r. sum r (extended imm)) none ∙ port) in
+      ends x (block_program y s.memory n is) s rt 0 imm (sound stands x y s n is at c) c.quiet (holds stands x y s n is at c) code (ap (λ r. sum r (extended imm)) none ∙ port) in
       record {
         off = ap (λ (z : State). z.off) is' ∙ ap Some value;
         special = ap (λ (z : State). z.special) is';
@@ -84,7 +85,7 @@ module _ (words : StaysFitting) (stands : (n : ℕ) (is : List Inst) → BlockSt
   pub goes : EretLeaves → placed n is (s.cpu.pc / 4) ≡ Some Eret → Gone (step x s)
   goes leaves code =
       let after : State = record (latched x s) { special = left s.special; cpu = record s.cpu { pc = slice_index s.special EPC } } in
-      let is' : step x s ≡ ended after = leaves x (block_program y (length s.memory) n is) s (sound stands x y s n is at c) c.quiet (holds stands x y s n is at c) code in
+      let is' : step x s ≡ ended after = leaves x (block_program y s.memory n is) s (sound stands x y s n is at c) c.quiet (holds stands x y s n is at c) code in
       record {
         off = ap (λ (z : State). z.off) is';
         special = ap (λ (z : State). z.special) is';
@@ -116,7 +117,7 @@ comes_by z x y s to m most t Q e a b q le =
     record {
       steps = 1 + (a.steps + 1);
       within = omega arith;
-      way = way_from z.sum x y (a.steps + 1) s e.inside e.sectors e.named (joins z.sum x y a.steps 1 s1 a.between b);
+      way = way_from z.sum x y (a.steps + 1) s e.inside e.sectors e.frames e.named (joins z.sum x y a.steps 1 s1 a.between b);
       there = subst Q (sym there) q;
     }
 
@@ -124,4 +125,4 @@ comes_by z x y s to m most t Q e a b q le =
 pub comes_at : Below → (x : Outside) (y : Site) (s : State) (to m most : ℕ) (t : Configuration) (Q : State → Type 0) → Enters x y to s → (a : Arrives x y m (run x s 1) t) → Q (run x (run x s 1) a.steps) → m + 1 ≤ most → Comes x y IsEntry most s Q
 comes_at z x y s to m most t Q e a q le =
     let am : a.steps ≤ m = a.within in
-    record { steps = 1 + a.steps; within = omega arith; way = way_from z.sum x y a.steps s e.inside e.sectors e.named a.between; there = subst Q (sym (z.sum x s 1 a.steps)) q }
+    record { steps = 1 + a.steps; within = omega arith; way = way_from z.sum x y a.steps s e.inside e.sectors e.frames e.named a.between; there = subst Q (sym (z.sum x s 1 a.steps)) q }

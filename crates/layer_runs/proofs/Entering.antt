@@ -24,7 +24,7 @@ use Rattle.trap_entry.specs.Code.{handler_code}
 use Rattle.trap_entry.specs.Laws.{IsUnsaved, ResetEntered, EntersFirst as RunsFirst}
 use Rattle.layer_runs.specs.Image.{interrupt_code, image_site, IsMade}
 use Rattle.layer_runs.specs.Runs.{Standing, Calm, kept_words, block_world}
-use Rattle.layer_runs.proofs.Shown.{Shown, Order, order_of, words_of, behind, word_is, blocks_agree, pages_agree, shown, stood}
+use Rattle.layer_runs.proofs.Shown.{Shown, Order, order_of, words_of, behind, word_is, blocks_agree, pages_agree, shown, stood, layer_inside}
 use Rattle.layer_runs.proofs.Blocks.{sound}
 use Rattle.layer_runs.proofs.Placed.{handler_length, handler_stands, linked_length}
 use Rattle.layer_runs.proofs.Ways.{way}
@@ -55,8 +55,8 @@ module _ (m : Map) (sizes code : List ℕ) (made : IsMade m sizes code) where
   handler_end = omega (arith, ap length (handler_is m), handler_length m)
 
   -- words of the layer's variables aren't kept
-  pub free_variable : (k : ℕ) → 1024 ≤ k → k < 2048 → kept_words y k ≡ None
-  free_variable k from to = free_own y k _ own
+  pub free_variable : (memory : List ℕ) (k : ℕ) → 1024 ≤ k → k < 2048 → kept_words y memory k ≡ None
+  free_variable memory k from to = free_own y memory k (let l = layer_inside m (order_of m made.range) in omega arith) own
     where
       own : is_own m k ≡ true
       own = grind (arith, nat_tests)
@@ -114,7 +114,7 @@ module _ (m : Map) (sizes code : List ℕ) (made : IsMade m sizes code) where
       let o : Order m = order_of m made.range in
       let globals = o.globals in let heap = o.heap in let stack = o.stack in let tables = o.tables in let counts = o.counts in let zeros = o.zeros in
       let area : HasSaveArea w = omega arith in
-      let free : MaySave w = λ q is. let low = is.0 in let top = is.1 in free_variable (saved_at q) (omega arith) (omega arith) in
+      let free : MaySave w = λ q is. let low = is.0 in let top = is.1 in free_variable s.memory (saved_at q) (omega arith) (omega arith) in
       let cause : slice_index s.special ECA ≡ 0 = ap (λ sp. slice_index sp ECA) r.special in
       let g = law w f (places_of m) (page_code (places_of m)) 0 (contents s) (behind s) (page_length (places_of m)) refl area free ((b.stands 0 handler).stands w) cause k.idle in
       let t : Configuration = at_with 0x4000 g.0 g.1 in

@@ -158,7 +158,7 @@ module _ (m : Map) (sizes code : List ℕ) (made : IsMade m sizes code) where
       powers z.words b.stands x y s2 n is r.stands a.calm ends rt 0xf008 v (ap (placed n is) at2 ∙ g.stands) refl (ap (λ (u : Configuration). u.contents.regs rt) a.there ∙ g.done.1) in
       let off : OffWith x c v (step x s2) =
       off_with z x s c st i s2 (step x s2) v a.calm (a.size ∙ r.enters.size) (ap (λ (u : Configuration). u.contents.memory) a.there ∙ p.memory) (ap (λ (u : Configuration). u.behind) a.there ∙ p.behind) o.off o.stays in
-      comes_by b x y s n steps leave_steps u Q r.enters a (single b.none x y n (n + length is) s2 (inr (omega arith, omega arith)) a.calm (omega arith) (omega arith) o.stays.device) (q (step x s2) off) le
+      comes_by b x y s n steps leave_steps u Q r.enters a (single b.none x y n (n + length is) s2 (inr (omega arith, omega arith)) a.calm (omega arith) (omega arith) o.stays.device o.stays.memory) (q (step x s2) off) le
 
   pub exits : Tools → PowerEnds → ((w : World) → Sound w → ExitsWith w) → Exits y
   exits z ends exit x s c f ne at = by f ne at

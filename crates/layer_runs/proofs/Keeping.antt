@@ -33,7 +33,7 @@ use Rattle.layer_contract.specs.Users.{Premises, IsTakenAt, UsersAreInterrupted}
 use Rattle.trap_entry.specs.Laws.{IsHandled, IsUnsaved, UserEntered, EntersKernel}
 use Rattle.layer_runs.specs.Image.{image_site, IsMade}
 use Rattle.layer_runs.specs.Runs.{Calm, kept_words, block_world}
-use Rattle.layer_runs.proofs.Shown.{Order, order_of, words_of, behind, word_is, user_fits, pages_agree, stood}
+use Rattle.layer_runs.proofs.Shown.{Order, order_of, words_of, behind, word_is, user_fits, pages_agree, stood, layer_inside}
 use Rattle.layer_runs.proofs.Blocks.{sound}
 use Rattle.layer_runs.proofs.Placed.{linked_length}
 use Rattle.layer_runs.proofs.Ways.{way}
@@ -121,8 +121,8 @@ module _ (m : Map) (sizes code : List ℕ) (made : IsMade m sizes code) where
       }
 
   -- a word of a user's control block isn't kept
-  pub free_block : (u k : ℕ) → 1 ≤ u → u ≤ m.users → k < 64 → kept_words y (block_at u + k) ≡ None
-  free_block u k from to lt = free_own y (block_at u + k) _ own
+  pub free_block : (memory : List ℕ) (u k : ℕ) → 1 ≤ u → u ≤ m.users → k < 64 → kept_words y memory (block_at u + k) ≡ None
+  free_block memory u k from to lt = free_own y memory (block_at u + k) (let l = layer_inside m (order_of m made.range) in let few : m.users ≤ 64 = made.range.users in omega arith) own
     where
       own : is_own m (block_at u + k) ≡ true
       own = grind (arith, nat_tests)
@@ -243,8 +243,8 @@ module _ (m : Map) (sizes code : List ℕ) (made : IsMade m sizes code) where
       let few : m.users ≤ 64 = made.range.users in
       let some : 1 ≤ c.current = runs.user.0 in let one : c.current ≤ length c.users = runs.user.1 in
       let pc : t.cpu.pc ≡ 4 * 0 = ap (λ (p : Cpu). p.pc) g.cpu in
-      let free : MaySave w = λ q is. let low = is.0 in let top = is.1 in free_variable m sizes code made (saved_at q) (omega arith) (omega arith) in
-      let keep : MayKeep w c.current = record { system = refl; free = λ q lt. free_block c.current q some (omega arith) (omega arith) } in
+      let free : MaySave w = λ q is. let low = is.0 in let top = is.1 in free_variable m sizes code made t.memory (saved_at q) (omega arith) (omega arith) in
+      let keep : MayKeep w c.current = record { system = refl; free = λ q lt. free_block t.memory c.current q some (omega arith) (omega arith) } in
       let current : IsCurrent w c.current (contents t) = record { some = some; most = omega arith; current = word_is t current_at (omega arith) ∙ ap (λ w. slice_index w current_at) g.memory ∙ st.users.current refl; inside = omega arith } in
       let eca : slice_index t.special ECA ≡ number_of cause = ap (λ sp. slice_index sp ECA) g.special in
       let edata' : slice_index t.special EDATA ≡ edata = ap (λ sp. slice_index sp EDATA) g.special in

@@ -18,7 +18,7 @@ use Rattle.mips_table.specs.Fits.{IsWord, CpuFits}
 use Rattle.mips_table.specs.Code.{Behind, World, Sound, Configuration, at_with}
 use Rattle.mips_table.specs.Borders.{EretLeaves, PowerEnds}
 use Rattle.masm.specs.Standing.{placed}
-use Rattle.layer_map.specs.Map.{Map, current_at, block_at}
+use Rattle.layer_map.specs.Map.{Map, current_at, block_at, memory_words}
 use Rattle.page_model.specs.Paging.{PagesStand}
 use Rattle.page_model.specs.Places.{layout_of, places_of, view}
 use Rattle.cvm_model.specs.Kernel.{Core}
@@ -27,33 +27,36 @@ use Rattle.cvm_model.specs.declared.kernel_fault.KernelFault.TheVariants.{BadUse
 use Rattle.cvm_model.specs.declared.row.Next.TheVariants.{User, Halt, Fault}
 use Rattle.cvm_model.specs.Cvm.{Running, Halted, Faulted, next_of, leave_steps}
 use Rattle.cvm_model.specs.Paged.{pages_by}
-use Rattle.cvm_model.specs.Stands.{Site, IsUser, UserFits, Stands, runs_user}
+use Rattle.cvm_model.specs.Stands.{Site, IsUser, UserFits, Stands, is_own, runs_user}
 use Rattle.layer_contract.specs.Layer.{Inside, Comes, IsEntry, Rested, Leaves}
 use Rattle.register_primitives.specs.Blocks.{BlocksHold}
 use Rattle.trap_entry.specs.Code.{go_code, leave_code}
 use Rattle.trap_entry.specs.Laws.{ComesTo, UserReady, MayGo, LeavesToUser, LeavesForGood, LeavesBadly}
 use Rattle.layer_runs.specs.Image.{routine_at, image_site, IsMade}
-use Rattle.layer_runs.specs.Runs.{Calm, block_world}
+use Rattle.layer_runs.specs.Runs.{Calm, kept_words, block_world}
 use Rattle.layer_runs.proofs.Shown.{Shown, Order, order_of, words_of, behind, word_is, cpu_is, user_fits, blocks_agree, pages_agree, shown, stood}
 use Rattle.layer_runs.proofs.Placed.{listed}
 use Rattle.layer_runs.proofs.Arrivals.{Below, Arrives, contents}
 use Rattle.layer_runs.proofs.Ends.{Left, single, Gone, goes, left_words, left_behind, comes_by}
 use Rattle.layer_runs.proofs.Exits.{Tools, not_user, Routed, routed, arrives_in, comes_off}
 
--- a word that the layer may change isn't kept
-pub free_own : (y : Site) (k : ℕ) (b : Bool) → b ≡ true → (if nat_lt k (length y.linked) && not b then Some (slice_index y.linked k) else None) ≡ None
-free_own y k true e = by (nat_lt k (length y.linked))
+-- a word of the map that the layer may change isn't kept
+pub free_own : (y : Site) (memory : List ℕ) (k : ℕ) → k < memory_words y.map → is_own y.map k ≡ true → kept_words y memory k ≡ None
+free_own y memory k lt own =
+    ap (λ b. if b then (if nat_lt k (length y.linked) && not (is_own y.map k) then Some (slice_index y.linked k) else None) else if nat_lt k (length memory) then Some (slice_index memory k) else None) (lt-ltb k (memory_words y.map) lt)
+    ∙ by (nat_lt k (length y.linked)) (is_own y.map k) own
   where
-    by : (t : Bool) → (if t && false then Some (slice_index y.linked k) else None) ≡ None
-    by true = refl
-    by false = refl
-free_own y k false e = absurd (cc)
+    by : (t b : Bool) → b ≡ true → (if t && not b then Some (slice_index y.linked k) else None) ≡ None
+    by true true e = refl
+    by false true e = refl
+    by true false e = absurd (cc)
+    by false false e = absurd (cc)
 
 -- words as ints
 pub signed_pos : (x : ℕ) → x < 2 ^ 31 → signed x ≡ pos x
 signed_pos x lt = to_z_pos w32 x lt
 
-signed_neg : (x : ℕ) → 2 ^ 31 ≤ x → x < 2 ^ 32 → signed x ≡ negsuc (2 ^ 32 - suc x)
+pub signed_neg : (x : ℕ) → 2 ^ 31 ≤ x → x < 2 ^ 32 → signed x ≡ negsuc (2 ^ 32 - suc x)
 signed_neg x le lt = let e : x ≡ 2 ^ 32 - suc (2 ^ 32 - suc x) = omega arith in ap signed e ∙ to_z-neg w32 (2 ^ 32 - suc x) (omega arith)
 
 -- an answer as a word
@@ -194,7 +197,7 @@ module _ (m : Map) (sizes code : List ℕ) (made : IsMade m sizes code) where
           pages = few_pages u m.params.pages (omega arith) most;
           tables = omega arith;
           inside = omega arith;
-          free = free_own y current_at true refl;
+          free = free_own y s1.memory current_at (omega arith) refl;
         } in
         let g : ComesTo w 67 n (n + 6 + length (go_code (places_of m) m.params.pages)) Eret (contents s) (behind s) (UserReady (places_of m) m.params.pages u (contents s) (behind s)) =
         law w r.sound (places_of m) m.users m.params.pages u n (contents s) (behind s) may r.block answer r.calm.idle in
@@ -209,7 +212,7 @@ module _ (m : Map) (sizes code : List ℕ) (made : IsMade m sizes code) where
         let gone : Gone z.words b.stands x y s2 n is r.stands a.calm (step x s2) = goes z.words b.stands x y s2 n is r.stands a.calm leaves (ap (placed n is) at2 ∙ g.stands) in
         let ready : UserReady (places_of m) m.params.pages u (contents s) (behind s) (contents s2) (behind s2) =
         subst (λ (v : Configuration). UserReady (places_of m) m.params.pages u (contents s) (behind s) v.contents v.behind) (sym a.there) g.done in
-        comes_by b x y s n 67 leave_steps e (Rested x y (User u) c) r.enters a (single b.none x y n (n + length is) s2 (inr (omega arith, omega arith)) a.calm (omega arith) (omega arith) gone.stays.device)
+        comes_by b x y s n 67 leave_steps e (Rested x y (User u) c) r.enters a (single b.none x y n (n + length is) s2 (inr (omega arith, omega arith)) a.calm (omega arith) (omega arith) gone.stays.device gone.stays.memory)
         (user_stands s2 (step x s2) a.calm (a.size ∙ size) ready gone.off gone.special gone.cpu gone.stays) (omega arith)
 
   pub leaves : Tools → PowerEnds → EretLeaves → ((w : World) → Sound w → LeavesToUser w) → ((w : World) → Sound w → LeavesForGood w) → ((w : World) → Sound w → LeavesBadly w) → Leaves y

@@ -17,15 +17,15 @@ use Rattle.mips_table.specs.Code.{Behind, World, Sound, Configuration, at_with, 
 use Rattle.mips_table.specs.Simulation.{configuration_of, behind_of}
 use Rattle.mips_table.specs.Borders.{InterruptsAreTaken, EretLeaves}
 use Rattle.masm.specs.Standing.{placed}
-use Rattle.layer_map.specs.Map.{Map, current_at, hand_at, block_at, tables_at, memory_words}
+use Rattle.layer_map.specs.Map.{Map, current_at, hand_at, block_at, tables_at, frame_table_at, memory_words}
 use Rattle.page_model.specs.Paging.{IsUserFrame, PagesStand, Passes}
 use Rattle.page_model.specs.Faults.{Handled, Brought as BroughtIn, UserStep, AtMost}
-use Rattle.page_model.specs.Places.{Places, layout_of, places_of, view}
+use Rattle.page_model.specs.Places.{Places, count_at, layout_of, places_of, view}
 use Rattle.page_model.specs.Edits.{Alike}
 use Rattle.page_model.specs.Laws.{HandledPass, TwoFaultsSuffice}
-use Rattle.frame_table.specs.View.{Sited, Ported}
+use Rattle.frame_table.specs.View.{Sited, Ported, names_hand}
 use Rattle.page_fault.specs.Code.{page_code}
-use Rattle.page_fault.specs.Asked.{PageBlock, IsPageBlock, MapsAreSited, fault_steps}
+use Rattle.page_fault.specs.Asked.{swap_steps, fault_steps, PageBlock, IsPageBlock, MapsAreSited}
 use Rattle.pcb_layer.specs.Code.{saved_at}
 use Rattle.pcb_layer.specs.Laws.{MaySave}
 use Rattle.cvm_model.specs.Kernel.{Core}
@@ -38,6 +38,7 @@ use Rattle.layer_contract.specs.Users.{UsersAreInterrupted, step_pages, AsksPage
 use Rattle.trap_entry.specs.Code.{handler_code}
 use Rattle.trap_entry.specs.Laws.{ComesTo, IsHandled, IsUnsaved, FaultAsked, FaultDone, fault_eret_at, HandlesFaults}
 use Rattle.layer_runs.specs.Image.{image_site, IsMade}
+use Rattle.layer_runs.specs.Laws.{names_at, handled_steps, FaultsCost}
 use Rattle.layer_runs.specs.Runs.{Calm, block_world}
 use Rattle.layer_runs.proofs.Shown.{Order, order_of, words_of, behind, word_is, cpu_is, user_fits, words_alike, pages_agree, stood_with}
 use Rattle.layer_runs.proofs.Blocks.{sound}
@@ -49,8 +50,9 @@ use Rattle.layer_runs.proofs.Exits.{Tools}
 use Rattle.layer_runs.proofs.Leaving.{left_other, left_sr, left_mode, cpu_by}
 use Rattle.layer_runs.proofs.Entering.{handler, handler_placed, handler_end, free_variable}
 use Rattle.layer_runs.proofs.Interrupting.{Began, began}
+use Rattle.layer_runs.proofs.Fitting.{page_below}
 use Rattle.layer_runs.proofs.Keeping.{premises, begins_calm, is_on_none, user_on, user_mode}
-use Rattle.layer_runs.proofs.Calling.{free_past, own_hand, word_read}
+use Rattle.layer_runs.proofs.Calling.{free_past, free_port, own_hand, word_read}
 
 -- what the proof of settling takes from the crates below
 pub record Handlers : Type 0 where
@@ -68,9 +70,6 @@ pub record Handlers : Type 0 where
 -- a page in a user's own terms
 page_part : (per p u : ℕ) → p < per → ((u * per + p) / per ≡ u) × ((u * per + p) % per ≡ p)
 page_part per p u lt = (grind arith, grind arith)
-
-page_below : (per p u users : ℕ) → p < per → u < users → u * per + p < users * per
-page_below per p u users lt le = grind arith
 
 -- a control block in lists that agree on it
 block_same : (old new : List ℕ) (u : ℕ) → length new ≡ length old → block_at u + 35 ≤ length old → ((k : ℕ) → block_at u ≤ k → k ≤ block_at u + 34 → slice_index new k ≡ slice_index old k) → block_cpu new u ≡ block_cpu old u
@@ -204,6 +203,8 @@ module _ (m : Map) (sizes code : List ℕ) (made : IsMade m sizes code) where
   pub record FaultHandled (x : Outside) (longest : ℕ) (s : State) (c : Core) (q : ℕ) : Type 0 where
     pub steps : ℕ
     pub within : steps ≤ page_steps m longest - 1
+    pub cost : steps ≤ handled_steps m longest s - 1
+    pub few : names_at m s ≤ 4
     pub way : Way x y IsEntry steps (step x s)
     pub back : Back x y c (run x (step x s) steps)
     pub brought : BroughtIn (layout_of m) q true (paged_of m s) (paged_of m (run x (step x s) steps))
@@ -263,14 +264,14 @@ module _ (m : Map) (sizes code : List ℕ) (made : IsMade m sizes code) where
     sited : Sited (places_of m) w
     sited =
         let globals = order.globals in let heap = order.heap in let stack = order.stack in let tables = order.tables in
-        z.sited m w made.range long (λ q from to. free_past m sizes code made q (omega (arith, linked_length m sizes code made)))
+        z.sited m w made.range long (λ q from to. free_past m sizes code made (step x s).memory q (omega (arith, linked_length m sizes code made)) to)
 
     ported : Ported (places_of m) w longest
     ported =
         let globals = order.globals in let heap = order.heap in let stack = order.stack in let tables = order.tables in let counts = order.counts in let zeros = order.zeros in let most = order.most in
         record {
-          disk = record { system = refl; free = λ q from to. free_past m sizes code made q (omega (arith, linked_length m sizes code made)); busy = busy };
-          hand = own_hand m sizes code made;
+          disk = record { system = refl; free = λ q from to. let small = calm.small in free_port m sizes code made (step x s).memory q (omega arith) (omega arith); busy = busy };
+          hand = own_hand m sizes code made (step x s).memory;
           sectors = omega arith;
         }
 
@@ -302,27 +303,47 @@ module _ (m : Map) (sizes code : List ℕ) (made : IsMade m sizes code) where
     abbrev eret_at : ℕ
     eret_at = fault_eret_at 0 (places_of m) (page_code (places_of m))
 
-    to_eret : ComesTo w (fault_steps (places_of m) longest + 85) 0 eret_at Eret (contents (step x s)) (behind (step x s)) (FaultDone (places_of m) (pages_by m.params.pages c.users) (base + a.edata / 4096) (contents (step x s)) (behind (step x s)))
+    -- with what it takes, and the most of that
+    to_eret : ComesTo w (swap_steps (places_of m) longest (contents (step x s)).memory + 85) 0 eret_at Eret (contents (step x s)) (behind (step x s)) (FaultDone (places_of m) (pages_by m.params.pages c.users) (base + a.edata / 4096) (contents (step x s)) (behind (step x s)))
+        × (swap_steps (places_of m) longest (contents (step x s)).memory ≤ fault_steps longest)
     to_eret =
         let p : Places = places_of m in
         let b = z.blocks w sound_w p longest sited ported in
         let block : PageBlock w p longest = b.0 in
-        let free : MaySave w = λ q is. let low = is.0 in let top = is.1 in free_variable m sizes code made (saved_at q) (omega arith) (omega arith) in
+        let free : MaySave w = λ q is. let low = is.0 in let top = is.1 in free_variable m sizes code made (step x s).memory (saved_at q) (omega arith) (omega arith) in
         let at : CodeAt w 0 (handler_code p block.code) = subst (λ is. CodeAt w 0 (handler_code p is)) (sym b.1) ((z.tools.below.stands 0 (handler m sizes code made)).stands w) in
-        let r = z.faults w sound_w p longest block (pages_by m.params.pages c.users) base a.edata 0 (contents (step x s)) (behind (step x s)) sited ported free at fault_is asked in
-        subst (λ n. ComesTo w (n + 85) 0 eret_at Eret (contents (step x s)) (behind (step x s)) (FaultDone p (pages_by m.params.pages c.users) (base + a.edata / 4096) (contents (step x s)) (behind (step x s)))) b.2
-        (subst (λ is. ComesTo w (block.steps + 85) 0 (fault_eret_at 0 p is) Eret (contents (step x s)) (behind (step x s)) (FaultDone p (pages_by m.params.pages c.users) (base + a.edata / 4096) (contents (step x s)) (behind (step x s)))) b.1 r)
+        let r = z.faults w sound_w p longest block (pages_by m.params.pages c.users) base a.edata 0 (contents (step x s)) (behind (step x s)) sited ported free at fault_is asked in (
+          subst (λ is. ComesTo w (swap_steps p longest (contents (step x s)).memory + 85) 0 (fault_eret_at 0 p is) Eret (contents (step x s)) (behind (step x s)) (FaultDone p (pages_by m.params.pages c.users) (base + a.edata / 4096) (contents (step x s)) (behind (step x s)))) b.1 r.0,
+          r.1,
+        )
+
+    -- how many pages name the frame at the hand, as the state itself shows it
+    same_names : names_hand (places_of m) (contents (step x s)).memory ≡ names_at m s
+    same_names =
+        let globals = order.globals in let heap = order.heap in let stack = order.stack in let tables = order.tables in let counts = order.counts in let zeros = order.zeros in
+        let all = state.memory in
+        let size : length (step x s).memory ≡ length s.memory = ap length first.memory in
+        let range : IsUserFrame (layout_of m) (paged_of m s).hand = state.pages.hand in let r0 = range.0 in let r1 = range.1 in
+        let word : (j : ℕ) → j < memory_words m → words_of (step x s) j ≡ slice_index s.memory j = λ j lt. word_is (step x s) j (omega arith) ∙ ap (λ w. slice_index w j) first.memory in
+        let hand : words_of (step x s) hand_at ≡ slice_index s.memory hand_at = word hand_at (omega arith) in
+        let there : frame_table_at m + 8 * slice_index s.memory hand_at ≡ count_at (places_of m) (paged_of m s).hand = omega arith in
+        ap (λ h. words_of (step x s) (frame_table_at m + 8 * h)) hand ∙ word (frame_table_at m + 8 * slice_index s.memory hand_at) (omega arith) ∙ ap (slice_index s.memory) there
 
     pub fault_handled : FaultHandled x longest s c (page_at m c a.edata)
     fault_handled =
         let b : Below = z.tools.below in
         let is : List Inst = handler m sizes code made in
-        let g = to_eret in
+        let g = to_eret.0 in
+        let most = to_eret.1 in
+        let names = same_names in
+        let few : names_at m s ≤ 4 =
+        let hand : IsUserFrame (layout_of m) (paged_of m s).hand = state.pages.hand in
+        let k = state.pages.counts (paged_of m s).hand hand in let f = state.pages.few (paged_of m s).hand hand in omega arith in
         let u : Configuration = at_with eret_at g.contents g.behind in
         let pc : (step x s).cpu.pc ≡ 4 * 0 = ap (λ (p : Cpu). p.pc) first.cpu in
-        let reaches : Reaches w (fault_steps (places_of m) longest + 85) (configuration_of (step x s)) u = subst (λ v. Reaches w (fault_steps (places_of m) longest + 85) v u) (sym (stands_at (step x s) 0 pc)) g.reaches in
-        let r : Arrives x y (fault_steps (places_of m) longest + 85) (step x s) u =
-        arrives b.blocks x y (step x s) u 0 is (fault_steps (places_of m) longest + 85) (handler_placed m sizes code made) (inl (omega (arith, handler_end m sizes code made))) calm g.done.besides.idle reaches in
+        let reaches : Reaches w (swap_steps (places_of m) longest (contents (step x s)).memory + 85) (configuration_of (step x s)) u = subst (λ v. Reaches w (swap_steps (places_of m) longest (contents (step x s)).memory + 85) v u) (sym (stands_at (step x s) 0 pc)) g.reaches in
+        let r : Arrives x y (swap_steps (places_of m) longest (contents (step x s)).memory + 85) (step x s) u =
+        arrives b.blocks x y (step x s) u 0 is (swap_steps (places_of m) longest (contents (step x s)).memory + 85) (handler_placed m sizes code made) (inl (omega (arith, handler_end m sizes code made))) calm g.done.besides.idle reaches in
         let s2 : State = run x (step x s) r.steps in
         let at2 : s2.cpu.pc / 4 ≡ eret_at = ap (λ (v : Configuration). v.at) r.there in
         let aligned = r.calm.quiet.aligned in
@@ -333,12 +354,14 @@ module _ (m : Map) (sizes code : List ℕ) (made : IsMade m sizes code) where
         subst (λ (v : Configuration). FaultDone (places_of m) (pages_by m.params.pages c.users) (base + a.edata / 4096) (contents (step x s)) (behind (step x s)) v.contents v.behind) (sym r.there) g.done in
         let size : length s2.memory ≡ length s.memory = r.size ∙ ap length first.memory in
         let there : run x (step x s) (r.steps + 1) ≡ step x s2 = b.sum x (step x s) r.steps 1 in
-        let last = single b.none x y 0 (0 + length is) s2 (inl (omega (arith, handler_end m sizes code made))) r.calm (omega arith) (omega arith) gone.stays.device in
+        let last = single b.none x y 0 (0 + length is) s2 (inl (omega (arith, handler_end m sizes code made))) r.calm (omega arith) (omega arith) gone.stays.device gone.stays.memory in
         let within = r.within in
         let q : ℕ = base + a.edata / 4096 in
         record {
           steps = r.steps + 1;
           within = omega arith;
+          cost = let e : swap_steps (places_of m) longest (contents (step x s)).memory ≡ names_at m s * (longest + 2707) + longest + 2805 = ap (λ n. n * (longest + 2707) + longest + 2805) names in omega arith;
+          few = few;
           way = way b.sum x y (r.steps + 1) (step x s) (joins b.sum x y r.steps 1 (step x s) r.between last);
           back = subst (Back x y c) (sym there) (goes_back z x s (step x s) s2 (step x s2) c (number_of a.why) a.edata q back first r.calm size done gone.off gone.special gone.cpu gone.stays);
           brought = subst (λ v. BroughtIn (layout_of m) q true (paged_of m s) (paged_of m v)) (sym there)
@@ -361,6 +384,11 @@ module _ (m : Map) (sizes code : List ℕ) (made : IsMade m sizes code) where
     abbrev pages_step : UserStep
     pages_step = step_pages m c
 
+    -- the page that a step asks for passes behind the fault
+    pub shown : (s t : State) (a : AsksPage x y s c) → Handled (layout_of m) (page_at m c a.edata) true (paged_of m s) (paged_of m t) → Brought y c s t (coming x (latched x s))
+    shown s t a h = subst (Brought y c s t) (sym a.comes) (told s t c (latched x s) a.why a.edata s.cpu.pc
+        (λ store. z.pass.passes (layout_of m) (page_at m c a.edata) store (paged_of m s) (paged_of m t) (z.pass.reads (layout_of m) (page_at m c a.edata) store (paged_of m s) (paged_of m t) h)))
+
     -- one fault, and then what is left
     one : (k : ℕ) (s : State) → Back x y c s → (a : AsksPage x y s c) → ((t : State) → Back x y c t → Handled (layout_of m) (page_at m c a.edata) a.store (paged_of m s) (paged_of m t) → Settles k x y (page_steps m longest - 1) c t)
         → Comes x y IsEntry (page_steps m longest - 1) (step x s) (λ t. Back x y c t × Brought y c s t (coming x (latched x s)) × Settles k x y (page_steps m longest - 1) c t)
@@ -368,15 +396,13 @@ module _ (m : Map) (sizes code : List ℕ) (made : IsMade m sizes code) where
         let f : FaultHandled x longest s c (page_at m c a.edata) = fault_handled z x longest busy s c back a in
         let t : State = run x (step x s) f.steps in
         let h : Handled (layout_of m) (page_at m c a.edata) true (paged_of m s) (paged_of m t) = f.brought.handled in
-        let passes : (store : Bool) → Passes (paged_of m t) (page_at m c a.edata) store =
-        λ store. z.pass.passes (layout_of m) (page_at m c a.edata) store (paged_of m s) (paged_of m t) (z.pass.reads (layout_of m) (page_at m c a.edata) store (paged_of m s) (paged_of m t) h) in
         record {
           steps = f.steps;
           within = f.within;
           way = f.way;
           there = (
             f.back,
-            subst (Brought y c s t) (sym a.comes) (told s t c (latched x s) a.why a.edata s.cpu.pc passes),
+            shown s t a h,
             rest t f.back (z.pass.reads (layout_of m) (page_at m c a.edata) a.store (paged_of m s) (paged_of m t) h),
           );
         }
@@ -397,3 +423,11 @@ module _ (m : Map) (sizes code : List ℕ) (made : IsMade m sizes code) where
       let a : AsksPage x y s c = ask z x longest busy c s back h in
       let hand : IsUserFrame (layout_of m) (paged_of m s).hand = back.stands.pages.hand in
       settle z x longest busy c 2 s back (z.two (layout_of m) (step_pages m c) (paged_of m s) made.range.params.two_frames a.code_page a.data_page hand) h
+
+  pub costs : Handlers → FaultsCost y
+  costs z x longest s c busy back h =
+      let a : AsksPage x y s c = ask z x longest busy c s back h in
+      let f : FaultHandled x longest s c (page_at m c a.edata) = fault_handled z x longest busy s c back a in (
+        f.few,
+        record { steps = f.steps; within = f.cost; way = f.way; there = (f.back, shown z x longest busy c s (run x (step x s) f.steps) a f.brought.handled) },
+      )

@@ -1,5 +1,5 @@
--- A run of one block of the layer's code, as the machine makes it: in the block's words, with the sectors past the users' pages as they were,
--- and no command for one of them.
+-- A run of one block of the layer's code, as the machine makes it: in the block's words, with the sectors past the users' pages and the frames behind
+-- the map's last one as they were, and no command for one of those sectors.
 use Rattle.std.specs.Prelude.{◌≡◌, ◌≢◌, ℕ, ◌+◌, ◌*◌, ◌^◌, ◌<◌, ◌≤◌, ◌&&◌, not, false, nat_lt, if◌then◌else◌, List, length, map, slice_index, All, Option, Some, None}
 use Rattle.mips_table.specs.declared.inst.Inst.{Inst}
 use Rattle.mips_table.specs.Encoding.{InRange, encoding}
@@ -7,11 +7,11 @@ use Rattle.mips_table.specs.Device.{Idle, Outside}
 use Rattle.mips_table.specs.Machine.{State, run}
 use Rattle.mips_table.specs.Code.{Program, on_machine, World, Configuration, Steps}
 use Rattle.mips_table.specs.Simulation.{configuration_of, Quiet}
-use Rattle.layer_map.specs.Map.{layer_words}
+use Rattle.layer_map.specs.Map.{layer_words, memory_words}
 use Rattle.masm.specs.Standing.{placed}
 use Rattle.cvm_model.specs.Stands.{Site, is_own}
 use Rattle.layer_contract.specs.declared.entry.Entry.{Entry}
-use Rattle.layer_contract.specs.Layer.{entry_address, IsEntry, Inside, SectorsStay, EndsNamed}
+use Rattle.layer_contract.specs.Layer.{entry_address, IsEntry, Inside, SectorsStay, FramesStay, EndsNamed}
 
 -- a block stands at word n of a site's linked words, all of which stay
 pub record Standing (y : Site) (n : ℕ) (is : List Inst) : Type 0 where
@@ -29,25 +29,29 @@ pub record Calm (x : Outside) (y : Site) (s : State) : Type 0 where
   pub idle : s.device.pending ≡ Idle
   pub sectors : y.map.users * y.map.params.pages ≤ x.count
 
--- the linked words that stay
-abbrev pub kept_words : Site → ℕ → Option ℕ
-kept_words y k = if nat_lt k (length y.linked) && not (is_own y.map k) then Some (slice_index y.linked k) else None
+-- the words that stay: the linked ones but the layer's own, and those of memory behind the map's last frame
+abbrev pub kept_words : Site → List ℕ → ℕ → Option ℕ
+kept_words y memory k =
+    if nat_lt k (memory_words y.map) then (if nat_lt k (length y.linked) && not (is_own y.map k) then Some (slice_index y.linked k) else None) else
+    if nat_lt k (length memory) then Some (slice_index memory k) else
+    None
 
--- the block at word n and no other code, over the linked words; it may use the sectors of the users' pages
-abbrev pub block_program : Site → (words n : ℕ) → List Inst → Program
-block_program y words n is = record { code = placed n is; kept = kept_words y; words = words; count = y.map.users * y.map.params.pages }
+-- the block at word n and no other code, over this memory; it may use the sectors of the users' pages
+abbrev pub block_program : Site → (memory : List ℕ) (n : ℕ) → List Inst → Program
+block_program y memory n is = record { code = placed n is; kept = kept_words y memory; words = length memory; count = y.map.users * y.map.params.pages }
 
 -- and its runs from a state
 abbrev pub block_world : Outside → Site → State → ℕ → List Inst → World
-block_world x y s n is = on_machine x (block_program y (length s.memory) n is)
+block_world x y s n is = on_machine x (block_program y s.memory n is)
 
--- for n steps the machine is inside, with its pc at one of the words from a to b, the sectors past the users' pages stay, and no command is
--- for one of them
+-- for n steps the machine is inside, with its pc at one of the words from a to b, the sectors past the users' pages and the frames behind the map's
+-- last one stay, and no command is for one of those sectors
 pub record Stretch (x : Outside) (y : Site) (a b n : ℕ) (s : State) : Type 0 where
   pub inside : (j : ℕ) → j < n → Inside (run x s j)
   pub from : (j : ℕ) → j < n → 4 * a ≤ (run x s j).cpu.pc
   pub to : (j : ℕ) → j < n → (run x s j).cpu.pc < 4 * b
   pub sectors : (j : ℕ) → j ≤ n → SectorsStay y.map s (run x s j)
+  pub frames : (j : ℕ) → j ≤ n → FramesStay y.map s (run x s j)
   pub named : (j : ℕ) → j < n → EndsNamed x y.map (run x s j)
 
 -- the machine makes a run of the block: after so many steps it is at t, and as calm as before where no command is under way
@@ -62,11 +66,12 @@ abbrev pub BlocksRun : Type 0
 BlocksRun = (x : Outside) (y : Site) (s : State) (t : Configuration) (n : ℕ) (is : List Inst) (steps : ℕ) → Standing y n is → Calm x y s →
     Steps (block_world x y s n is) steps (configuration_of s) t → Makes x y n is steps s t
 
--- for n steps the machine is inside, at no entry and below the kernel's code, the sectors past the users' pages stay, and no command is for
--- one of them
+-- for n steps the machine is inside, at no entry and below the kernel's code, the sectors past the users' pages and the frames behind the map's last
+-- one stay, and no command is for one of those sectors
 pub record Between (x : Outside) (y : Site) (n : ℕ) (s : State) : Type 0 where
   pub inside : (j : ℕ) → j < n → Inside (run x s j)
   pub below : (j : ℕ) → j < n → (run x s j).cpu.pc < 4 * layer_words
   pub apart : (j : ℕ) (e : Entry) → j < n → IsEntry e → (run x s j).cpu.pc ≢ entry_address e
   pub sectors : (j : ℕ) → j ≤ n → SectorsStay y.map s (run x s j)
+  pub frames : (j : ℕ) → j ≤ n → FramesStay y.map s (run x s j)
   pub named : (j : ℕ) → j < n → EndsNamed x y.map (run x s j)

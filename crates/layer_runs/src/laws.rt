@@ -100,7 +100,8 @@ pub fn the_kernel_is_called()
     the_kernel_is_entered();
 }
 
-/// PRIMITIVES: from its entry each primitive comes back with the answer and the effect of the abstract machine's.
+/// PRIMITIVES: from its entry each primitive comes back with the answer and the effect of the abstract machine's; and the pages by which a
+/// `vm_resize` makes a memory grow name the zero frame then.
 pub fn primitives_answer()
     ensures { ImagePrimitives }
 {
@@ -119,7 +120,8 @@ pub fn primitives_answer()
 }
 
 /// HANDLED FAULTS: each goes back to the user at the same instruction, with the page resident and for a store private, and one step of a
-/// user meets at most two.
+/// user meets at most two. With one page that names the frame at the hand a fault takes at most 5,599 steps and two busy times, with four 13,720 and five,
+/// however large the system is.
 pub fn faults_settle()
     ensures { ImageSettles }
 {

@@ -22,7 +22,8 @@ use Rattle.cvm_model.specs.Stands.{IsUser}
 use Rattle.cvm_model.specs.Cvm.{System, first_core}
 use Rattle.cvm_model.specs.Invariant.{Dispatch, IsTrap, Keeps, KeptAt, IsInvariant, HasUsers, AnyDatum, RunsAreLawful}
 use Rattle.cvm_model.proofs.Invariants.{invariants_hold}
-use Rattle.cvm_model.proofs.Kept.{keeps_by, answers_user}
+use Rattle.cvm_model.proofs.Kept.{keeps_by}
+use Rattle.kernel_theorems.proofs.Answering.{answers_user}
 use Rattle.semaphore.specs.Tree.{kernel_tree}
 use Rattle.semaphore.specs.Property.{Data, data_of, first, inside_after, inside, Between, Runs, PropertyHolds}
 

@@ -1,6 +1,6 @@
 -- The text of the kernel: that of semaphore.c0.
 use Rattle.std.specs.Prelude.{ℕ, List, [], ◌∷◌, codes}
-use Rattle.c0_parser.specs.Walk.{by_lines}
+use Rattle.kernel_theorems.specs.Lines.{by_lines}
 
 abbrev pub text : List ℕ
 text = by_lines (

@@ -17,6 +17,7 @@ use Rattle.system_files.specs.Params.{params_of}
 use Rattle.system_files.specs.declared.fault.FileFault.{FileFault}
 use Rattle.boot_image.specs.Format.{spelling as image_bytes}
 use Rattle.boot_image.specs.Parts.{Parts as Image}
+use Rattle.kernel_linker.specs.Open.{open_answer}
 use Rattle.kernel_linker.specs.Link.{link_answer}
 use Rattle.kernel_linker.specs.Object.{object_of}
 use Rattle.kernel_linker.specs.Accept.{System}
@@ -25,15 +26,17 @@ use Rattle.kernel_linker.specs.declared.fault.AcceptFault.{AcceptFault}
 use Rattle.sample_maker.specs.Parts.{Parts as Sampled}
 use Rattle.sample_maker.specs.Sample.{sample_of}
 use Rattle.cvm_shell.specs.declared.status.Status.{Status}
-use Rattle.cvm_shell.specs.declared.status.Status.TheVariants.{Words, Refused, Disk, Shelf, Sink}
+use Rattle.cvm_shell.specs.declared.status.Status.TheVariants.{Done, Words, Refused, Disk, Shelf, Sink}
 use Rattle.cvm_shell.specs.declared.boot.Session.{Session}
-use Rattle.cvm_shell.specs.Command.{Boot, Command, boot, trace, compile_user, compile_kernel, link, migrate, IsCommand, GetsFiles, boot_session, trace_session, sample_session}
+use Rattle.cvm_shell.specs.Check as checking
+use Rattle.cvm_shell.specs.Check.{Told, TellsOpened, TellsObject}
+use Rattle.cvm_shell.specs.Command.{Boot, Command, boot, trace, compile_user, compile_kernel, link, migrate, check, IsCommand, GetsFiles, boot_session, trace_session, sample_session}
 use Rattle.cvm_shell.specs.Outside.{Outside, Says, said, broken}
 use Rattle.cvm_shell.specs.Refusal.{Refusal, bad_text, bad_source, bad_object, bad_file, unlinked, unaccepted, bad_schedule, small_disk, no_such_user, too_long, refusal_text, refusal_status}
-use Rattle.cvm_shell.specs.Plan.{Plan, bad_words, refuses, puts, boots, Got, long, whole, accepted_plan, AfterFiles, BootPlan}
+use Rattle.cvm_shell.specs.Plan.{Plan, bad_words, refuses, puts, boots, prints, Got, long, whole, accepted_plan, AfterFiles, BootPlan}
 use Rattle.cvm_shell.specs.Plan.{AfterText, no_words, assembles, AfterKernel, unread, mistyped, compiles, GotAll, words_from, linked_plan, AfterParts, unfit, answered, AfterUsers, AfterParams}
-use Rattle.cvm_shell.specs.Plan.{AfterSystem, no_object, has_object, renewed_plan, AfterLinking, AfterSource, SamplePlan}
-use Rattle.cvm_shell.specs.Plan.{ComesTo, no_command, boot_plan, trace_plan, user_plan, kernel_plan, link_plan, migrate_plan, sample_plan}
+use Rattle.cvm_shell.specs.Plan.{AfterSystem, no_object, has_object, renewed_plan, AfterLinking, AfterSource, SamplePlan, told_plan, AfterChecked}
+use Rattle.cvm_shell.specs.Plan.{ComesTo, no_command, boot_plan, trace_plan, user_plan, kernel_plan, link_plan, migrate_plan, sample_plan, check_plan}
 use Rattle.cvm_shell.specs.Boot.{sectors_needed, ended_as, RunEnds, no_user, small, run}
 use Rattle.cvm_shell.specs.Outcome.{Ends, Took, CommandEnds, done, undone, CausedBy}
 
@@ -46,6 +49,7 @@ Fits P (refuses (small_disk need have)) = ⊥
 Fits P (refuses other) = Unit {0}
 Fits P (puts name bytes) = P
 Fits P (boots session s rows) = Unit {0}
+Fits P (prints text) = Unit {0}
 
 got_fits : (P : Type 0) (told : Option (List ℕ)) (next : List ℕ → Plan → Type 0) → ((bytes : List ℕ) (p : Plan) → next bytes p → Fits P p) → (p : Plan) → Got told next p → Fits P p
 got_fits P told next fits p (long bytes is most) = tt
@@ -113,6 +117,18 @@ source_fits P parts (Err f) p e = subst (Fits P) (sym e) tt
 sample_fits : (P : Type 0) (number : ℕ) (p : Plan) → SamplePlan layer_image number p → Fits P p
 sample_fits P number p (front, is, goes_on) = source_fits P (sample_of number) front p goes_on
 
+opened_fits : (P : Type 0) (stack : ℕ) (opened : Result CUnit LinkFault) (told : Told) → TellsOpened stack opened told → Fits P (told_plan told)
+opened_fits P stack opened (Ok text) h = tt
+opened_fits P stack (Ok u) (Err r) h = absurd h
+opened_fits P stack (Err f) (Err r) e = subst (λ (x : Refusal). Fits P (refuses x)) (sym e) tt
+
+told_fits : (P : Type 0) (stack : ℕ) (bytes : List ℕ) (told : Told) → TellsObject stack bytes told → Fits P (told_plan told)
+told_fits P stack bytes told (checking.no_object f is) = tt
+told_fits P stack bytes told (checking.has_object o front said is of h) = opened_fits P stack (open_answer o front) said h
+
+checked_fits : (P : Type 0) (stack : ℕ) (bytes : List ℕ) (p : Plan) → AfterChecked stack bytes p → Fits P p
+checked_fits P stack bytes p (told, tells, e) = subst (Fits P) (sym e) (told_fits P stack bytes told tells)
+
 comes_fits : (words : List (List ℕ)) (file : List ℕ → Option (List ℕ)) (p : Plan) → ComesTo words file p → Fits (Unit {0}) p
 comes_fits words file p (no_command none) = tt
 comes_fits words file p (boot_plan b q is got) = boot_fits (Unit {0}) file b (boot_session b) q got
@@ -124,6 +140,7 @@ comes_fits words file p (link_plan l q is got) =
 comes_fits words file p (migrate_plan m q is got) =
     got_fits (Unit {0}) (file m.old) _ (λ old r (answer, renews, e). subst (Fits (Unit {0})) (sym e) (renewed_fits m.image answer)) q got
 comes_fits words file p (sample_plan x q is got) = sample_fits (Unit {0}) x.number q got
+comes_fits words file p (check_plan c q is got) = got_fits (Unit {0}) (file c.object) (AfterChecked c.stack) (checked_fits (Unit {0}) c.stack) q got
 
 -- a command that puts a file gets files
 putting_gets : (words : List (List ℕ)) (file : List ℕ → Option (List ℕ)) (p : Plan) (name bytes : List ℕ) → ComesTo words file p → p ≡ puts name bytes → (c : Command) × IsCommand words c × GetsFiles c
@@ -135,6 +152,7 @@ putting_gets words file p name bytes (kernel_plan c q is got) e = (compile_kerne
 putting_gets words file p name bytes (link_plan l q is got) e = (link l, is, tt)
 putting_gets words file p name bytes (migrate_plan m q is got) e = (migrate m, is, tt)
 putting_gets words file p name bytes (sample_plan x q is got) e = absurd (subst (Fits ⊥) e (sample_fits ⊥ x.number q got))
+putting_gets words file p name bytes (check_plan c q is got) e = (check c, is, tt)
 
 -- THE STATUSES.
 
@@ -218,6 +236,7 @@ long_plan words (refuses r) old new most comes took ends =
     elim (says_one (refusal_status r) (refusal_text r) old new Shelf ends) [ inl e ↦ (let is = long_status r (sym e) in cc) | inr e ↦ absurd cc ]
 long_plan words (puts name bytes) old new most comes took ends = let (c, is, gets) = putting_gets words old.shelf.file (puts name bytes) name bytes comes refl in (took c is gets).1 most
 long_plan words (boots session s rows) old new most comes took ends = absurd (run_no_shelf session s rows old new ends)
+long_plan words (prints text) old new most comes took ends = absurd (says_no_other Done text old new Shelf (λ e. cc) (λ e. cc) ends)
 
 shelf_end : (words : List (List ℕ)) (old new : Outside) → new.shelf.taken ≡ TOO_LONG → CommandEnds words Shelf old new → ComesTo words old.shelf.file (refuses too_long)
 shelf_end words old new most (done p plan took ends) = subst (ComesTo words old.shelf.file) (long_plan words p old new most plan.comes took ends) plan.comes
@@ -244,6 +263,7 @@ small_plan words (refuses r) old new sure comes ends =
     absurd (says_no_other (refusal_status r) (refusal_text r) old new Disk (λ e. no_disk_status r (comes_fits words old.shelf.file (refuses r) comes) (sym e)) (λ e. cc) ends)
 small_plan words (puts name bytes) old new sure comes ends = absurd ends
 small_plan words (boots session s rows) old new sure comes ends = (session, s, rows, comes, run_disk session s rows old new sure.disk ends)
+small_plan words (prints text) old new sure comes ends = absurd (says_no_other Done text old new Disk (λ e. cc) (λ e. cc) ends)
 
 disk_end : (words : List (List ℕ)) (old new : Outside) → Sure old new → CommandEnds words Disk old new → SmallFor words old
 disk_end words old new sure (done p plan took ends) = small_plan words p old new sure plan.comes ends

@@ -9,6 +9,7 @@
 //   folder in which the program runs, whose path stands below it. A put to it has room for as many;
 // - `flip NAME` turns the lowest bit of a byte of a file, whose place from 0 stands below it;
 // - `run WORD ..` runs the command of these words, and `as PATH` says whether its text is that of a file of the folder;
+// - `journal WORD ..` runs it, a trace, and prints its rows but those that count steps, up to the end of the run;
 // - `sure WORD ..` runs it over copies of the files that its words name, a sink and a disk where no call fails, and prints the status alone;
 // - `turns boot IMAGE SCHEDULE TURNS STEPS` loads the system of these words, asks it for its next turn as often as TURNS says, and prints each
 //   answer with how often it came in succession, how the run ended, its steps, and what was printed of it;
@@ -17,6 +18,7 @@
 #![tactic(auto)]
 
 mod altered;
+mod journal;
 mod partial;
 mod stepping;
 mod sure;
@@ -26,6 +28,7 @@ use boot_run::{Run, View};
 use case_file::{Case, cases};
 use cvm_outside::{MemSectors, MemShelf, MemSink, Sectors, Shelf};
 use cvm_shell::{plan, read_boot, run};
+use journal::put_journal;
 use object_file::read;
 use partial::Partial;
 use std::alloc::{AllocError, Global};
@@ -184,6 +187,28 @@ fn run_words(
         &mut world.disk,
     );
     put_shown(world, out)?;
+    writeln!(out, "status {}", status.code())
+}
+
+/// Runs a trace, and prints what it says of the user's calls.
+fn run_journal(
+    alloc: Global,
+    world: &mut World,
+    out: &mut String,
+    line: &str,
+) -> Result<(), AllocError> {
+    let words = words_of(alloc, line)?;
+    let status = run(
+        alloc,
+        &words,
+        &mut world.shelf,
+        &mut world.sink,
+        &mut world.disk,
+    );
+    let text = world.sink.bytes();
+    put_journal(out, text.get(world.shown..).unwrap_or(b""))?;
+    world.before = world.shown;
+    world.shown = text.len();
     writeln!(out, "status {}", status.code())
 }
 
@@ -373,6 +398,7 @@ fn do_part(
     match kind {
         "case" => *world = world_of(alloc, &part.source)?,
         "run" => run_words(alloc, world, out, name)?,
+        "journal" => run_journal(alloc, world, out, name)?,
         "sure" => run_sure(alloc, world, out, name)?,
         "turns" => run_turns(alloc, world, out, name)?,
         "show" => show_file(alloc, world, out, name)?,

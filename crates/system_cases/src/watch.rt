@@ -3,16 +3,10 @@
 use crate::desk::Desk;
 use crate::system::KERNEL;
 use cvm_text::hex8;
+use layer_map::{EXITS, LEAVE, PRIMITIVES};
 use mips_machine::{Cause, Event};
 use std::alloc::AllocError;
 use std::fmt::Write;
-
-/// The address of the first primitive's entry, that of the first fault's exit behind them, and that at which the kernel is left.
-const ENTRIES: u32 = 0x2000;
-
-const EXITS: u32 = 0x2028;
-
-const LEAVE: u32 = 0x2038;
 
 /// The most steps of a run.
 const MOST: u64 = 3_000_000;
@@ -122,7 +116,7 @@ impl Watch {
         if pc == KERNEL {
             self.longest.enter = self.longest.enter.max(now.saturating_sub(self.begun));
             self.put_call(desk, out)
-        } else if ENTRIES <= pc && pc < EXITS {
+        } else if PRIMITIVES <= pc && pc < EXITS {
             self.called = Some((now, desk.reg(31)));
             Ok(())
         } else if EXITS <= pc && pc <= LEAVE {

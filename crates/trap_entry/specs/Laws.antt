@@ -2,16 +2,16 @@
 use Rattle.std.specs.Prelude.{◌≡◌, ◌≢◌, ℕ, ◌+◌, ◌-◌, ◌*◌, ◌/◌, ◌^◌, ◌<◌, ◌≤◌, ◌⊎◌, true, List, length, Some, None}
 use Rattle.mips_table.specs.declared.inst.Inst.{Inst}
 use Rattle.mips_table.specs.declared.inst.Inst.TheVariants.{Sw, Eret}
-use Rattle.mips_table.specs.Device.{Idle}
+use Rattle.mips_table.specs.Device.{Idle, BUFFER}
 use Rattle.mips_table.specs.Machine.{ESR, ECA, EPC, EDATA, PTO, PTL, EMODE}
 use Rattle.mips_table.specs.Code.{Contents, Behind, World, at_with, CodeAt, Reaches}
 use Rattle.layer_map.specs.Map.{current_at, hand_at, block_at}
 use Rattle.masm.specs.Frames.{Besides}
 use Rattle.page_model.specs.Paging.{Pages, PagesStand}
 use Rattle.page_model.specs.Faults.{Brought}
-use Rattle.page_model.specs.Places.{Places, view}
+use Rattle.page_model.specs.Places.{Places, frames_end, view}
 use Rattle.frame_table.specs.View.{Sited, Ported}
-use Rattle.page_fault.specs.Asked.{PageBlock}
+use Rattle.page_fault.specs.Asked.{swap_steps, fault_steps, PageBlock}
 use Rattle.pcb_layer.specs.Code.{saved_at}
 use Rattle.pcb_layer.specs.Laws.{IsRegister, HasSaveArea, MaySave, IsCurrent, MayKeep, IsBeside}
 use Rattle.trap_entry.specs.Code.{front_code, work_code, handler_code, go_code, leave_code, exit_code}
@@ -43,12 +43,13 @@ pub record FaultAsked (p : Places) (v : Pages) (base e : ℕ) (c : Contents) (d 
   pub small : (x : ℕ) → x < p.layout.pages → c.memory (p.tables + x) < 2 ^ 32
   pub idle : d.pending ≡ Idle
 
--- it was: page q passes for a store, the machine shows the same, and registers, memory below the page tables but the hand and the save area,
--- the sectors past the pages, and all else are as before
+-- it was: page q passes for a store, the machine shows the same, and registers, memory below the page tables but the hand and the save area, memory
+-- behind the last frame, the sectors past the pages, and all else are as before
 pub record FaultDone (p : Places) (v : Pages) (q : ℕ) (c0 : Contents) (d0 : Behind) (c : Contents) (d : Behind) : Type 0 where
   pub stands : PagesStand p.layout v (view p c.memory d.sectors)
   pub brought : Brought p.layout q true (view p c0.memory d0.sectors) (view p c.memory d.sectors)
   pub low : (x : ℕ) → x < p.tables → x ≢ hand_at → IsUnsaved x → c.memory x ≡ c0.memory x
+  pub above : (x : ℕ) → frames_end p ≤ x → x < BUFFER → c.memory x ≡ c0.memory x
   pub small : (x : ℕ) → x < p.layout.pages → c.memory (p.tables + x) < 2 ^ 32
   pub beyond : (x i : ℕ) → p.layout.pages ≤ x → d.sectors x i ≡ d0.sectors x i
   pub regs : (r : ℕ) → IsRegister r → c.regs r ≡ c0.regs r
@@ -58,10 +59,10 @@ pub record FaultDone (p : Places) (v : Pages) (q : ℕ) (c0 : Contents) (d0 : Be
 abbrev pub fault_eret_at : ℕ → Places → List Inst → ℕ
 fault_eret_at n p page = n + length front_code + 1 + length (work_code p page)
 
--- HANDLED FAULT: from its start the handler comes to the eret, in 85 steps beside those of the page
+-- HANDLED FAULT: from its start the handler comes to the eret, in a swap for each page that names the frame at the hand, one more, and 85 steps
 abbrev pub HandlesFaults : World → Type 0
 HandlesFaults w = (p : Places) (b : ℕ) (page : PageBlock w p b) (v : Pages) (base e n : ℕ) (c : Contents) (d : Behind) → Sited p w → Ported p w b → MaySave w → CodeAt w n (handler_code p page.code) → IsHandled (c.special ECA) e (c.special PTL) → FaultAsked p v base e c d
-    → ComesTo w (page.steps + 85) n (fault_eret_at n p page.code) Eret c d (FaultDone p v (base + e / 4096) c d)
+    → ComesTo w (swap_steps p b c.memory + 85) n (fault_eret_at n p page.code) Eret c d (FaultDone p v (base + e / 4096) c d) × (swap_steps p b c.memory ≤ fault_steps b)
 
 -- `dispatch` is called for the current user, which is saved
 pub record UserEntered (u : ℕ) (c0 : Contents) (d0 : Behind) (c : Contents) (d : Behind) : Type 0 where

@@ -5,4 +5,4 @@ use Rattle.boot_turns.proofs.Machines.{runs_stay_typed}
 use Rattle.boot_turns.proofs.runs_stay_typed.Goals as goal
 
 pub returns : goal.returns
-returns c = λ (u : CUnit). runs_stay_typed c.the_loaded_machine_resets.ensures c.users_follow_linked.ensures (IsTypedState u)
+returns c = λ (u : CUnit). runs_stay_typed c.starts_go_on.ensures c.users_follow_linked.ensures (IsTypedState u)

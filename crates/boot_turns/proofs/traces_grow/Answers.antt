@@ -5,4 +5,4 @@ use Rattle.boot_turns.proofs.Tracing.{traces_grow}
 use Rattle.boot_turns.proofs.traces_grow.Goals as goal
 
 pub returns : goal.returns
-returns c = λ (u : CUnit). traces_grow c.the_loaded_machine_resets.ensures c.users_follow_linked.ensures (IsTypedState u)
+returns c = λ (u : CUnit). traces_grow c.starts_go_on.ensures c.users_follow_linked.ensures (IsTypedState u)

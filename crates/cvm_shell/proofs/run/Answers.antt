@@ -1,4 +1,5 @@
 use Rattle.cvm_shell.proofs.BootEndings.{headline_end, completes, trace_isolated}
+use Rattle.cvm_shell.proofs.Sufficient.{suffices}
 use Rattle.cvm_shell.proofs.run.Goals as goal
 
 pub returns-clause-headline : goal.returns-clause-headline
@@ -11,3 +12,7 @@ returns-clause-complete g c = λ session s rows before cvm honest memory defined
 pub returns-clause-isolated : goal.returns-clause-isolated
 returns-clause-isolated g c = λ session u s rows before honest traced ends.
     trace_isolated c.turns_are_counted.ensures c.journals_replay.ensures _ session u s rows before _ _ _ c.run_command.ensures.ends c.run_command.ensures.causes honest traced ends
+
+pub returns-clause-suffices : goal.returns-clause-suffices
+returns-clause-suffices g c = λ source stack s says has.
+    suffices c.sources_have_one_answer.ensures c.bytes_have_one_answer.ensures.one c.opened_units_are_their_sources.ensures c.longest_chains_are_kept.ensures _ source stack s _ _ _ c.run_command.ensures.ends says has

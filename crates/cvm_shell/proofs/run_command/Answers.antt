@@ -29,6 +29,11 @@ returns-in-Some-CompileKernel-clause-ends g c =
     let P : Command → Type 0 = λ x. IsCommand (texts c.args.words.now.items) (command_view x) in
     c.compile_kernel.ensures.ends _ (drive g.D.Sectors c.args.disk.now) (subst P c.in-Some-CompileKernel.field-0-is c.in-Some-CompileKernel.ensures.found)
 
+pub returns-in-Some-CompileProgram-clause-ends : goal.returns-in-Some-CompileProgram-clause-ends
+returns-in-Some-CompileProgram-clause-ends g c =
+    let P : Command → Type 0 = λ x. IsCommand (texts c.args.words.now.items) (command_view x) in
+    c.compile_program.ensures.ends _ (drive g.D.Sectors c.args.disk.now) (subst P c.in-Some-CompileProgram.field-0-is c.in-Some-CompileProgram.ensures.found)
+
 pub returns-in-Some-Link-clause-ends : goal.returns-in-Some-Link-clause-ends
 returns-in-Some-Link-clause-ends g c =
     let P : Command → Type 0 = λ x. IsCommand (texts c.args.words.now.items) (command_view x) in
@@ -43,3 +48,8 @@ pub returns-in-Some-Sample-clause-ends : goal.returns-in-Some-Sample-clause-ends
 returns-in-Some-Sample-clause-ends g c =
     let P : Command → Type 0 = λ x. IsCommand (texts c.args.words.now.items) (command_view x) in
     c.run_sample.ensures.ends _ (files g.S.Shelf c.args.shelf.now) (subst P c.in-Some-Sample.field-0-is c.in-Some-Sample.ensures.found)
+
+pub returns-in-Some-Check-clause-ends : goal.returns-in-Some-Check-clause-ends
+returns-in-Some-Check-clause-ends g c =
+    let P : Command → Type 0 = λ x. IsCommand (texts c.args.words.now.items) (command_view x) in
+    c.check_object.ensures.ends _ (drive g.D.Sectors c.args.disk.now) (subst P c.in-Some-Check.field-0-is c.in-Some-Check.ensures.found)

@@ -1,23 +1,19 @@
-use Rattle.std.proofs.Common.{◌≡◌, ℕ, ◌*◌, ◌/◌, ◌%◌, ◌+◌, ◌<◌, ◌≤◌, [], map, get_or, length, sym, ap, ◌∙◌, subst, Vec, Global}
-use Rattle.boot_run.proofs.UserPages.{on_ok, its_list, page_written, page_left, user_there}
+use Rattle.std.proofs.Common.{◌+◌, length, map, get_or, sym, ◌∙◌, lt-ltb, le-ltb}
+use Rattle.boot_run.specs.Loading.{disk_pages}
+use Rattle.boot_run.proofs.UserPages.{on_ok}
+use Rattle.boot_run.proofs.PageLemmas.{page_written, page_left, on_torn}
 use Rattle.boot_run.proofs.pages.write_page.Goals as goal
 
 pub returns-then-first-words-clause-ok : goal.returns-then-first-words-clause-ok
-returns-then-first-words-clause-ok g c =
-    let there = user_there (λ (w : Vec ℕ Global). w.items) c.args.users.now c.args.per c.args.q c.requires.some c.requires.inside in
-    let list = its_list (λ (w : Vec ℕ Global). w.items) c.args.users.now (c.args.q / c.args.per) c.index-users-q.result there.0 in
-    let same : get_or (map (λ (w : Vec ℕ Global). w.items) c.args.users.now) (c.args.q / c.args.per) [] ≡ c.as_slice-words.result.now =
-    list ∙ ap (λ (w : Vec ℕ Global). w.items) (sym c.index-users-q.is) ∙ sym c.as_slice-words.ensures.value in
-    on_ok c.write.result
-    (λ h. h ∙ page_written c.args.per (map (λ words. words.items) c.args.users.now) c.args.q there.1 (g.D.Sectors.sectors c.args.disk.now) c.page_words.result
-    (subst (λ w. 1024 * (c.args.q % c.args.per) < length w) (sym same) c.if-first-words.true) c.page_words.ensures.long
-    (λ i l. c.page_words.ensures.words i l ∙ ap (λ w. get_or w (1024 * (c.args.q % c.args.per) + i) 0) (sym same)))
+returns-then-first-words-clause-ok g c = on_ok c.write.result
+    (λ h. h ∙ page_written (disk_pages c.args.per (map (λ words. words.items) c.args.users.now) c.args.behind.now) c.args.q (g.D.Sectors.sectors c.args.disk.now) c.page_words.result
+    (c.page_source-first.ensures.live ∙ lt-ltb c.page_source-first.result.1 (length c.page_source-first.result.0.now) c.if-first-words.true) c.page_words.ensures.long
+    (λ i l. c.page_words.ensures.words i l ∙ sym (c.page_source-first.ensures.words i)))
     c.write.ensures.words
 
+pub returns-then-first-words-clause-torn : goal.returns-then-first-words-clause-torn
+returns-then-first-words-clause-torn g c = on_torn c.write.result c.args.q (g.D.Sectors.sectors c.args.disk.now) (g.D.Sectors.sectors c.write.new.self) c.write.ensures.torn
+
 pub returns-clause-ok : goal.returns-clause-ok
-returns-clause-ok g c =
-    let there = user_there (λ (w : Vec ℕ Global). w.items) c.args.users.now c.args.per c.args.q c.requires.some c.requires.inside in
-    let list = its_list (λ (w : Vec ℕ Global). w.items) c.args.users.now (c.args.q / c.args.per) c.index-users-q.result there.0 in
-    let same : get_or (map (λ (w : Vec ℕ Global). w.items) c.args.users.now) (c.args.q / c.args.per) [] ≡ c.as_slice-words.result.now =
-    list ∙ ap (λ (w : Vec ℕ Global). w.items) (sym c.index-users-q.is) ∙ sym c.as_slice-words.ensures.value in
-    page_left c.args.per (map (λ words. words.items) c.args.users.now) c.args.q there.1 (g.D.Sectors.sectors c.args.disk.now) (subst (λ w. length w ≤ 1024 * (c.args.q % c.args.per)) (sym same) c.if-first-words.false)
+returns-clause-ok g c = page_left (disk_pages c.args.per (map (λ words. words.items) c.args.users.now) c.args.behind.now) c.args.q (g.D.Sectors.sectors c.args.disk.now)
+    (c.page_source-first.ensures.live ∙ le-ltb c.page_source-first.result.1 (length c.page_source-first.result.0.now) c.if-first-words.false)

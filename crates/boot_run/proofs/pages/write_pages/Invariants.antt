@@ -1,11 +1,11 @@
 use Rattle.std.proofs.Common.{◌≡◌, map}
 use Rattle.std.specs.Option.{option_map}
-use Rattle.boot_run.specs.Loading.{first_pages, written}
+use Rattle.boot_run.specs.Loading.{disk_pages, written}
 use Rattle.boot_run.proofs.pages.write_pages.Given as goal
 
 abbrev pub invariant-loop-q : goal.invariant-loop-q
 invariant-loop-q g l = record {
-  sectors : g.D.Sectors.sectors l.disk ≡ option_map (written (first_pages l.per (map (λ words. words.items) l.users)) l.q) (g.D.Sectors.sectors l.fn.disk);
+  sectors : g.D.Sectors.sectors l.disk ≡ option_map (written (disk_pages l.per (map (λ words. words.items) l.users) l.behind) l.q) (g.D.Sectors.sectors l.fn.disk);
   size : g.D.Sectors.size l.disk ≡ g.D.Sectors.size l.fn.disk;
   faults : g.D.Sectors.faults l.disk ≡ g.D.Sectors.faults l.fn.disk;
 }

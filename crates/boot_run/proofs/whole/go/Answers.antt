@@ -68,4 +68,4 @@ loop-left-preserved g c =
 pub returns-clause-ends : goal.returns-clause-ends
 returns-clause-ends g c =
     let none = c.loop-left-test.false in
-    went (g.D.Sectors.size c.args.disk.now) c.args.run.now c.args.turns _ _ (c.args.turns - c.loop-left.left) c.requires.some (omega (arith, none)) c.loop-left.invariant.going
+    went (g.D.Sectors.size c.args.disk.now) c.args.run.now c.args.turns _ _ (c.args.turns - c.loop-left.left) (omega (arith, none)) c.loop-left.invariant.going

@@ -18,4 +18,4 @@ returns g c = λ old is room.
     (subst (All (λ w. w < 2 ^ 32)) c.as_slice.ensures.value c.are_words.ensures)
     (subst (λ o. IfSome o (λ ss. length ss ≡ g.D.Sectors.size c.args.disk.now)) is (g.met.D.Sectors.sized c.args.disk.now))
     (are_pages old (subst (λ o. IfSome o (All IsSector)) is c.are_sectors.ensures))
-    room
+    room c.the_loaded_machine_starts.ensures.start c.the_loaded_machine_starts.ensures.beyond

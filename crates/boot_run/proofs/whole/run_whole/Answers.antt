@@ -1,43 +1,51 @@
-use Rattle.std.proofs.Common.{refl, ap, ◌∙◌, subst}
+use Rattle.std.proofs.Common.{refl, sym, ap, ◌∙◌, subst}
 use Rattle.std.proofs.lemmas.Result.{err_from_is_err_and}
 use Rattle.cvm_outside.specs.Causes.{Rose}
+use Rattle.mips_machine.specs.Steps.{outside_of}
+use Rattle.layer_contract.specs.Follows.{loaded}
+use Rattle.layer_contract.specs.Starts.{user_sectors}
 use Rattle.boot_run.specs.Loading.{system_of}
 use Rattle.boot_run.specs.LoadEnds.{pages_needed}
+use Rattle.boot_run.proofs.Loads.{needed_is}
 use Rattle.boot_run.proofs.Looping.{machines}
-use Rattle.boot_run.proofs.Booting.{memory_not_disk, whole_refused, whole_ends, whole_told, stays_told, end_disk, end_sink, disk_end, sink_end}
+use Rattle.boot_run.proofs.Booting.{refused, refused_told, ran_so, whole_told, end_disk, end_sink, disk_end, sink_end, within_bound}
 use Rattle.boot_run.proofs.whole.run_whole.Goals as goal
 
 pub returns-in_err-run-clause-ends : goal.returns-in_err-run-clause-ends
 returns-in_err-run-clause-ends g c =
     let w = err_from_is_err_and c.from_residual.result c.from_residual.ensures.1 in
     rw (w.1, w.2)
-    (whole_refused c.args.boot c.args.schedule (g.D.Sectors.size c.args.disk.now) c.args.view c.args.turns c.args.steps (g.D.Sectors.sectors c.args.disk.now) (g.D.Sectors.sectors c.load.new.disk) (g.O.Sink.text c.args.out.now) (g.O.Sink.text c.args.out.now)
-    c.in_err-run.field-0.0 refl (λ e. ap g.D.Sectors.sectors (c.in_err-run.ensures.still (λ q. memory_not_disk c.in_err-run.field-0.0 e (let h = q in cc)))) c.in_err-run.ensures.torn)
+    (refused (outside_of c.args.schedule (g.D.Sectors.size c.args.disk.now)) (system_of c.args.boot c.args.schedule) (loaded (system_of c.args.boot c.args.schedule)) (pages_needed c.args.boot) (user_sectors (system_of c.args.boot c.args.schedule))
+    (sym (needed_is c.args.boot c.args.schedule)) c.args.view c.args.turns c.args.steps (g.D.Sectors.sectors c.args.disk.now) (g.D.Sectors.sectors c.load.new.disk) (g.O.Sink.text c.args.out.now) (g.O.Sink.text c.args.out.now) refl
+    c.in_err-run.field-0.0 (λ ne. ap g.D.Sectors.sectors (c.in_err-run.ensures.still (λ q. ne (let h = q in cc)))) (λ e. c.in_err-run.ensures.torn (let h = e in cc)))
 
 pub returns-in_err-run-clause-goes_on : goal.returns-in_err-run-clause-goes_on
-returns-in_err-run-clause-goes_on g c = λ old is room.
-    (machines c.machines_run.ensures c.args.boot c.args.schedule (g.D.Sectors.size c.args.disk.now) (system_of c.args.boot c.args.schedule) old (c.premises_hold.ensures old is room)).goes_on
+returns-in_err-run-clause-goes_on g c = λ old is room. within_bound (outside_of c.args.schedule (g.D.Sectors.size c.args.disk.now)) (system_of c.args.boot c.args.schedule) old
+    (machines c.machines_run.ensures c.args.boot c.args.schedule (g.D.Sectors.size c.args.disk.now) (system_of c.args.boot c.args.schedule) (loaded (system_of c.args.boot c.args.schedule) old) 1 (user_sectors (system_of c.args.boot c.args.schedule)) old (c.premises_hold.ensures old is room)).goes_on
 
 pub returns-in_err-run-clause-told : goal.returns-in_err-run-clause-told
-returns-in_err-run-clause-told g c = stays_told (pages_needed c.args.boot) (g.D.Sectors.sectors c.args.disk.now) (g.D.Sectors.sectors c.load.new.disk) c.in_err-run.ensures.torn
+returns-in_err-run-clause-told g c =
+    refused_told (outside_of c.args.schedule (g.D.Sectors.size c.args.disk.now)) (system_of c.args.boot c.args.schedule) (loaded (system_of c.args.boot c.args.schedule)) (pages_needed c.args.boot) (user_sectors (system_of c.args.boot c.args.schedule))
+    (sym (needed_is c.args.boot c.args.schedule)) c.args.view c.args.turns c.args.steps (g.D.Sectors.sectors c.args.disk.now) (g.D.Sectors.sectors c.load.new.disk) (g.O.Sink.text c.args.out.now) (g.O.Sink.text c.args.out.now) refl
+    c.in_err-run.field-0.0 (λ ne. ap g.D.Sectors.sectors (c.in_err-run.ensures.still (λ q. ne (let h = q in cc)))) (λ e. c.in_err-run.ensures.torn (let h = e in cc))
 
 pub returns-clause-ends : goal.returns-clause-ends
 returns-clause-ends g c =
-    whole_ends c.args.layer c.args.boot c.args.schedule (g.D.Sectors.size c.args.disk.now) (g.D.Sectors.size c.load.new.disk) c.args.view c.args.turns c.args.steps
+    ran_so c.args.layer c.args.boot c.args.schedule (pages_needed c.args.boot) (g.D.Sectors.size c.args.disk.now) (g.D.Sectors.size c.load.new.disk) c.args.view c.args.turns c.args.steps
     (g.D.Sectors.sectors c.args.disk.now) (g.D.Sectors.sectors c.load.new.disk) (g.D.Sectors.sectors c.run_to_end.new.disk) (g.O.Sink.text c.args.out.now) (g.O.Sink.text c.run_to_end.new.out)
-    c.in_ok-run.run' c.run_to_end.result c.in_ok-run.ensures.fresh c.in_ok-run.ensures.size
-    (λ old is. c.premises_hold.ensures old is c.in_ok-run.ensures.fresh.has_room.room) c.in_ok-run.ensures.ready c.run_to_end.ensures.ends
+    c.in_ok-run.run' c.run_to_end.result c.in_ok-run.ensures.fresh c.in_ok-run.ensures.size c.requires.some (loaded (system_of c.args.boot c.args.schedule)) (user_sectors (system_of c.args.boot c.args.schedule))
+    (λ old is. (1, c.premises_hold.ensures old is c.in_ok-run.ensures.fresh.has_room.room)) c.in_ok-run.ensures.ready c.run_to_end.ensures.ends
 
 pub returns-clause-goes_on : goal.returns-clause-goes_on
-returns-clause-goes_on g c = λ old is room.
-    (machines c.machines_run.ensures c.args.boot c.args.schedule (g.D.Sectors.size c.args.disk.now) (system_of c.args.boot c.args.schedule) old (c.premises_hold.ensures old is room)).goes_on
+returns-clause-goes_on g c = λ old is room. within_bound (outside_of c.args.schedule (g.D.Sectors.size c.args.disk.now)) (system_of c.args.boot c.args.schedule) old
+    (machines c.machines_run.ensures c.args.boot c.args.schedule (g.D.Sectors.size c.args.disk.now) (system_of c.args.boot c.args.schedule) (loaded (system_of c.args.boot c.args.schedule) old) 1 (user_sectors (system_of c.args.boot c.args.schedule)) old (c.premises_hold.ensures old is room)).goes_on
 
 pub returns-clause-told : goal.returns-clause-told
 returns-clause-told g c =
-    whole_told c.args.layer c.args.boot c.args.schedule (g.D.Sectors.size c.args.disk.now) (g.D.Sectors.size c.load.new.disk) c.args.view c.args.turns c.args.steps
+    whole_told c.args.layer c.args.boot c.args.schedule (pages_needed c.args.boot) (g.D.Sectors.size c.args.disk.now) (g.D.Sectors.size c.load.new.disk) c.args.view c.args.turns c.args.steps
     (g.D.Sectors.sectors c.args.disk.now) (g.D.Sectors.sectors c.load.new.disk) (g.D.Sectors.sectors c.run_to_end.new.disk) (g.O.Sink.text c.args.out.now) (g.O.Sink.text c.run_to_end.new.out)
-    c.in_ok-run.run' c.run_to_end.result c.in_ok-run.ensures.fresh c.in_ok-run.ensures.size
-    (λ old is. c.premises_hold.ensures old is c.in_ok-run.ensures.fresh.has_room.room) c.in_ok-run.ensures.ready c.run_to_end.ensures.ends
+    c.in_ok-run.run' c.run_to_end.result c.in_ok-run.ensures.fresh c.in_ok-run.ensures.size c.requires.some (loaded (system_of c.args.boot c.args.schedule)) (user_sectors (system_of c.args.boot c.args.schedule))
+    (λ old is. (1, c.premises_hold.ensures old is c.in_ok-run.ensures.fresh.has_room.room)) c.in_ok-run.ensures.ready c.run_to_end.ensures.ends
 
 pub returns-clause-disk : goal.returns-clause-disk
 returns-clause-disk g c = λ h.

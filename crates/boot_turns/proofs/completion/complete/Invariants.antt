@@ -9,8 +9,8 @@ use Rattle.boot_turns.specs.Tracing.{CanTrace}
 use Rattle.boot_turns.proofs.Tracking.{Tracks}
 use Rattle.boot_turns.proofs.completion.complete.Given as goal
 
-abbrev pub invariant-loop-budget : goal.invariant-loop-budget
-invariant-loop-budget g l = record {
+abbrev pub invariant-loop-begun : goal.invariant-loop-begun
+invariant-loop-begun g l = record {
   rows : l.machine.rows ≡ l.fn.machine.rows;
   memory : length l.machine.hardware.memory ≡ length l.fn.machine.hardware.memory;
   sector : NamesSector (g.D.Sectors.size l.disk) l.machine.hardware.ports.pending;
@@ -23,7 +23,8 @@ invariant-loop-budget g l = record {
   ran : (s : State) (t : ℕ) → seen (g.D.Sectors.sectors l.fn.disk) l.fn.machine ≡ Some (run (outside_of l.fn.machine.rows (g.D.Sectors.size l.fn.disk)) s t) →
       (u : ℕ) × (t + l.skipped ≤ u) × (l.budget + u ≡ l.fn.budget + t) × (seen (g.D.Sectors.sectors l.disk) l.machine ≡ Some (run (outside_of l.fn.machine.rows (g.D.Sectors.size l.fn.disk)) s u))
       × Progress (outside_of l.fn.machine.rows (g.D.Sectors.size l.fn.disk)) s (t + l.skipped) u l.begun × Skips (outside_of l.fn.machine.rows (g.D.Sectors.size l.fn.disk)) s t l.skipped
-      × (l.skipped < l.limit → u ≡ t + l.skipped);
+      × (l.skipped < l.limit → u ≡ t + l.skipped)
+      × ((j : ℕ) → t ≤ j → j < u → (run (outside_of l.fn.machine.rows (g.D.Sectors.size l.fn.disk)) s j).off ≡ None);
   can : IfSome l.tracer (CanTrace l.map (length l.machine.hardware.memory) l.machine.time (g.D.Sectors.size l.disk));
   user : option_map (λ k. k.user) l.tracer ≡ option_map (λ k. k.user) l.fn.tracer;
   untraced : l.fn.tracer ≡ None → (l.tracer ≡ None) × (l.out ≡ l.fn.out);
@@ -32,5 +33,5 @@ invariant-loop-budget g l = record {
       (record { tracer = l.fn.tracer; text = g.O.Sink.text l.fn.out; budget = l.fn.budget }) (record { tracer = l.tracer; text = g.O.Sink.text l.out; budget = l.budget });
 }
 
-abbrev pub decreases-loop-budget : goal.decreases-loop-budget
-decreases-loop-budget g l = l.budget
+abbrev pub decreases-loop-begun : goal.decreases-loop-begun
+decreases-loop-begun g l = l.budget

@@ -1,17 +1,22 @@
-use Rattle.std.proofs.Common.{◌≡◌, Option, Some, None, ap, sym, ◌∙◌, subst, Bool, true, Err}
-use Rattle.std.specs.Prelude.{IfSome}
+use Rattle.std.proofs.Common.{◌≡◌, ℕ, inl, inr, List, Option, Some, None, ap, ap₂, sym, ◌∙◌, subst, Bool, true, false, Err}
+use Rattle.std.specs.Prelude.{IfSome, is_some}
+use Rattle.mips_machine.specs.Machine.{Held}
+use Rattle.boot_report.specs.Texts.{SameButViewed}
 use Rattle.boot_turns.specs.declared.completion.Stepped.{Stepped}
 use Rattle.boot_turns.specs.declared.completion.Stepped.TheVariants.{Kept}
-use Rattle.boot_turns.specs.Completes.{KeptUser, StepBegan, turn_began}
+use Rattle.boot_turns.specs.Completes.{seen, KeptUser, StepTorn, StepFails, StepBegan, turn_began}
 use Rattle.boot_turns.proofs.Counted.{step_counted}
 use Rattle.std.proofs.lemmas.Result.{err_from_is_err_and}
 use Rattle.mips_machine.specs.Steps.{outside_of}
-use Rattle.boot_turns.proofs.Tearing.{step_done_torn}
 use Rattle.boot_turns.specs.declared.tracer.Tracer.{Tracer}
 use Rattle.boot_turns.proofs.Tracking.{step_breaks, step_goes, step_stops}
 use Rattle.boot_turns.proofs.completion.step_traced.Given.{Over}
 use Rattle.boot_turns.proofs.completion.step_traced.Goals.{In-Some, in-Kept+else-counts, in_default}
 use Rattle.boot_turns.proofs.completion.step_traced.Goals as goal
+
+-- a machine that is the same but for what was viewed is seen as before
+same_seen : (a b : Held) (told retold : Option (List (List ℕ))) → SameButViewed a b → retold ≡ told → seen retold b ≡ seen told a
+same_seen a b told retold same e = ap₂ (λ (t : Option (List (List ℕ))) (h : Held). seen t h) e same
 
 -- so it is where a user is traced
 if_traced : (o : Option Tracer) (P : Type 0) → P → IfSome o (λ _. P)
@@ -32,29 +37,43 @@ began g c = subst (λ (b : Bool). StepBegan (g.D.Sectors.size c.args.disk.now) c
 pub returns-in_err-stepped-clause-traced : goal.returns-in_err-stepped-clause-traced
 returns-in_err-stepped-clause-traced g c =
     let w = err_from_is_err_and c.from_residual.result c.from_residual.ensures.1 in
-    let x = outside_of c.args.machine.now.rows (g.D.Sectors.size c.args.disk.now) in
-    step_breaks c.traces_grow.ensures c.journal_rows_follow.ensures c.the_words_tell.ensures x c.args.map.now c.args.machine.now (g.D.Sectors.sectors c.args.disk.now) c.args.tracer.now _ (g.O.Sink.text c.args.out.now)
-    c.from_residual.result w.0 c.requires.on w.1 w.2
+    step_breaks c.traces_grow.ensures c.journal_rows_follow.ensures c.the_words_tell.ensures (g.D.Sectors.size c.args.disk.now) c.args.map.now c.args.machine.now c.step_once.new.machine
+    (g.D.Sectors.sectors c.args.disk.now) (g.D.Sectors.sectors c.step_once.new.disk) c.args.tracer.now _ (g.O.Sink.text c.args.out.now)
+    c.from_residual.result w.0 c.requires.on w.1 w.2 c.in_err-stepped.ensures.torn
+
+-- the transfer of the step failed, or the step is done
+torn_as : (count : ℕ) (old new : Held) (told retold : Option (List (List ℕ))) (traced : Bool) → StepTorn count old told retold → StepFails count old new told retold traced
+torn_as count old new told retold false h = h
+torn_as count old new told retold true h = inl h
+
+pub returns-in_err-stepped-clause-torn : goal.returns-in_err-stepped-clause-torn
+returns-in_err-stepped-clause-torn g c = λ e.
+    torn_as (g.D.Sectors.size c.args.disk.now) c.args.machine.now c.step_once.new.machine (g.D.Sectors.sectors c.args.disk.now) (g.D.Sectors.sectors c.step_once.new.disk) (is_some c.args.tracer.now) c.in_err-stepped.ensures.torn
 
 pub returns-in_err-follow-clause-torn : goal.returns-in_err-follow-clause-torn
-returns-in_err-follow-clause-torn g c = λ _.
-    step_done_torn (g.D.Sectors.size c.args.disk.now) c.args.machine.now c.step_once.new.machine (g.D.Sectors.sectors c.args.disk.now) (g.D.Sectors.sectors c.step_once.new.disk) (g.D.Sectors.sectors c.follow.new.disk)
-    c.in_ok-stepped.ensures.ran c.in_err-follow.ensures.sectors
+returns-in_err-follow-clause-torn g c = λ e.
+    subst (λ (o : Option Tracer). StepFails (g.D.Sectors.size c.args.disk.now) c.args.machine.now c.follow.new.machine (g.D.Sectors.sectors c.args.disk.now) (g.D.Sectors.sectors c.follow.new.disk) (is_some o))
+    (sym (here g (goal.at.returns-in_err-follow-clause-torn g c).In-Some))
+    (inr (same_seen c.step_once.new.machine c.follow.new.machine (g.D.Sectors.sectors c.step_once.new.disk) (g.D.Sectors.sectors c.follow.new.disk) c.in_err-follow.ensures.same c.in_err-follow.ensures.sectors ∙ c.in_ok-stepped.ensures.ran))
 
 pub returns-in_err-follow-clause-traced : goal.returns-in_err-follow-clause-traced
 returns-in_err-follow-clause-traced g c =
     let w = err_from_is_err_and c.from_residual-in_err-follow.result c.from_residual-in_err-follow.ensures.1 in
     let x = outside_of c.args.machine.now.rows (g.D.Sectors.size c.args.disk.now) in
     step_stops c.traces_grow.ensures c.journal_rows_follow.ensures c.the_words_tell.ensures x c.args.map.now c.args.machine.now (g.D.Sectors.sectors c.args.disk.now) c.in-Some.kept (g.O.Sink.text c.args.out.now) c.requires.on
-    c.step_once.new.machine (g.D.Sectors.sectors c.step_once.new.disk) c.in_ok-stepped.ensures.ran c.current_user-current.result c.current_user-current.ensures c.began-began.result (began g (goal.at.returns-in_err-follow-clause-traced g c).In-Some)
+    c.step_once.new.machine c.follow.new.machine (g.D.Sectors.sectors c.step_once.new.disk) (g.D.Sectors.sectors c.follow.new.disk)
+    (same_seen c.step_once.new.machine c.follow.new.machine (g.D.Sectors.sectors c.step_once.new.disk) (g.D.Sectors.sectors c.follow.new.disk) c.in_err-follow.ensures.same c.in_err-follow.ensures.sectors)
+    c.in_ok-stepped.ensures.ran c.current_user-current.result c.current_user-current.ensures c.began-began.result (began g (goal.at.returns-in_err-follow-clause-traced g c).In-Some)
     c.args.tracer.now _ (g.O.Sink.text c.follow.new.out) c.from_residual-in_err-follow.result w.0 c.in_err-follow.field-0.0 (here g (goal.at.returns-in_err-follow-clause-traced g c).In-Some) w.1 w.2
-    (λ e. c.in_err-follow.ensures.no_limit (ap (λ f. Err f) e)) c.in_err-follow.ensures.err
+    (λ e. c.in_err-follow.ensures.no_limit (ap (λ f. Err f) e)) (λ e. c.in_err-follow.ensures.reads (ap (λ f. Err f) e)) (λ e. c.in_err-follow.ensures.puts (ap (λ f. Err f) e)) c.in_err-follow.ensures.err
 
 pub returns-in-Some-clause-traced : goal.returns-in-Some-clause-traced
 returns-in-Some-clause-traced g c =
     let x = outside_of c.args.machine.now.rows (g.D.Sectors.size c.args.disk.now) in
     step_goes c.traces_grow.ensures c.journal_rows_follow.ensures c.the_words_tell.ensures x c.args.map.now c.args.machine.now (g.D.Sectors.sectors c.args.disk.now) c.in-Some.kept (g.O.Sink.text c.args.out.now) c.requires.on
-    c.step_once.new.machine (g.D.Sectors.sectors c.step_once.new.disk) c.in_ok-stepped.ensures.ran c.current_user-current.result c.current_user-current.ensures c.began-began.result (began g (goal.at.returns-in-Some-clause-traced g c).In-Some)
+    c.step_once.new.machine c.follow.new.machine (g.D.Sectors.sectors c.step_once.new.disk) (g.D.Sectors.sectors c.follow.new.disk)
+    (same_seen c.step_once.new.machine c.follow.new.machine (g.D.Sectors.sectors c.step_once.new.disk) (g.D.Sectors.sectors c.follow.new.disk) c.in_ok-follow.ensures.same c.in_ok-follow.ensures.sectors)
+    c.in_ok-stepped.ensures.ran c.current_user-current.result c.current_user-current.ensures c.began-began.result (began g (goal.at.returns-in-Some-clause-traced g c).In-Some)
     c.stepped_as.result c.args.tracer.now c.follow.new.self (g.O.Sink.text c.follow.new.out) (here g (goal.at.returns-in-Some-clause-traced g c).In-Some) c.in_ok-follow.ensures.ok c.in_ok-follow.ensures.kept
 
 pub returns-then-counts-clause-traced : goal.returns-then-counts-clause-traced

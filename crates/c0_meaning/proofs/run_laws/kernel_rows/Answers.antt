@@ -100,34 +100,34 @@ returns-clause-programs c = record { ends = refl; goes_on = refl; stands = refl;
 pub returns-clause-checked : goal.returns-clause-checked
 unfolding holds struct_words int_wrap
 returns-clause-checked c = record {
-  sums = record { well_formed = record { plain = refl; typed = refl; resolved = refl; allowed = all_allowed kernels.sums.functions refl }; dispatch = refl };
-  divisions = record { well_formed = record { plain = refl; typed = refl; resolved = refl; allowed = all_allowed kernels.divisions.functions refl }; dispatch = refl };
-  by_zero = record { well_formed = record { plain = refl; typed = refl; resolved = refl; allowed = all_allowed kernels.by_zero.functions refl }; dispatch = refl };
-  small_heap = record { well_formed = record { plain = refl; typed = refl; resolved = refl; allowed = all_allowed kernels.small_heap.functions refl }; dispatch = refl };
-  recursion = record { well_formed = record { plain = refl; typed = refl; resolved = refl; allowed = all_allowed kernels.recursion.functions refl }; dispatch = refl };
-  bounds = record { well_formed = record { plain = refl; typed = refl; resolved = refl; allowed = all_allowed kernels.bounds.functions refl }; dispatch = refl };
-  null_use = record { well_formed = record { plain = refl; typed = refl; resolved = refl; allowed = all_allowed kernels.null_use.functions refl }; dispatch = refl };
-  nexts = record { well_formed = record { plain = refl; typed = refl; resolved = refl; allowed = all_allowed kernels.nexts.functions refl }; dispatch = refl };
-  counts = record { well_formed = record { plain = refl; typed = refl; resolved = refl; allowed = all_allowed kernels.counts.functions refl }; dispatch = refl };
-  scheduler = record { well_formed = record { plain = refl; typed = refl; resolved = refl; allowed = all_allowed kernels.scheduler.functions refl }; dispatch = refl };
-  asm_sum = record { well_formed = record { plain = refl; typed = refl; resolved = refl; allowed = all_allowed kernels.asm_sum.functions refl }; dispatch = refl };
-  list = record { well_formed = record { plain = refl; typed = refl; resolved = refl; allowed = all_allowed kernels.list.functions refl }; dispatch = refl };
-  endless = record { well_formed = record { plain = refl; typed = refl; resolved = refl; allowed = all_allowed kernels.endless.functions refl }; dispatch = refl };
-  order = record { well_formed = record { plain = refl; typed = refl; resolved = refl; allowed = all_allowed kernels.order.functions refl }; dispatch = refl };
-  parts = record { well_formed = record { plain = refl; typed = refl; resolved = refl; allowed = all_allowed kernels.parts.functions refl }; dispatch = refl };
-  returning = record { well_formed = record { plain = refl; typed = refl; resolved = refl; allowed = all_allowed (systems.returning (unary kernels.z Negate (kernels.number 1))).functions refl }; dispatch = refl };
-  overflow = record { well_formed = record { plain = refl; typed = refl; resolved = refl; allowed = all_allowed systems.overflow.functions refl }; dispatch = refl };
-  lines = record { well_formed = record { plain = refl; typed = refl; resolved = refl; allowed = all_allowed systems.lines.functions refl }; dispatch = refl };
-  copies = record { well_formed = record { plain = refl; typed = refl; resolved = refl; allowed = all_allowed systems.copies.functions refl }; dispatch = refl };
-  copies_twice = record { well_formed = record { plain = refl; typed = refl; resolved = refl; allowed = all_allowed systems.copies_twice.functions refl }; dispatch = refl };
-  probes = record { well_formed = record { plain = refl; typed = refl; resolved = refl; allowed = all_allowed systems.probes.functions refl }; dispatch = refl };
-  resizes = record { well_formed = record { plain = refl; typed = refl; resolved = refl; allowed = all_allowed (systems.resizes 4).functions refl }; dispatch = refl };
-  divides = record { well_formed = record { plain = refl; typed = refl; resolved = refl; allowed = all_allowed systems.divides.functions refl }; dispatch = refl };
-  console = record { well_formed = record { plain = refl; typed = refl; resolved = refl; allowed = all_allowed systems.console.functions refl }; dispatch = refl };
-  waits = record { well_formed = record { plain = refl; typed = refl; resolved = refl; allowed = all_allowed systems.waits.functions refl }; dispatch = refl };
-  twice = record { plain = refl; typed = refl; resolved = refl; allowed = all_allowed kernels.twice.functions refl };
-  thrice = record { plain = refl; typed = refl; resolved = refl; allowed = all_allowed kernels.thrice.functions refl };
-  inverse = record { plain = refl; typed = refl; resolved = refl; allowed = all_allowed kernels.inverse.functions refl };
+  sums = record { well_formed = record { plain = refl; typed = refl; resolved = refl; allowed = all_allowed kernels.sums.functions refl }; first = refl };
+  divisions = record { well_formed = record { plain = refl; typed = refl; resolved = refl; allowed = all_allowed kernels.divisions.functions refl }; first = refl };
+  by_zero = record { well_formed = record { plain = refl; typed = refl; resolved = refl; allowed = all_allowed kernels.by_zero.functions refl }; first = refl };
+  small_heap = record { well_formed = record { plain = refl; typed = refl; resolved = refl; allowed = all_allowed kernels.small_heap.functions refl }; first = refl };
+  recursion = record { well_formed = record { plain = refl; typed = refl; resolved = refl; allowed = all_allowed kernels.recursion.functions refl }; first = refl };
+  bounds = record { well_formed = record { plain = refl; typed = refl; resolved = refl; allowed = all_allowed kernels.bounds.functions refl }; first = refl };
+  null_use = record { well_formed = record { plain = refl; typed = refl; resolved = refl; allowed = all_allowed kernels.null_use.functions refl }; first = refl };
+  nexts = record { well_formed = record { plain = refl; typed = refl; resolved = refl; allowed = all_allowed kernels.nexts.functions refl }; first = refl };
+  counts = record { well_formed = record { plain = refl; typed = refl; resolved = refl; allowed = all_allowed kernels.counts.functions refl }; first = refl };
+  scheduler = record { well_formed = record { plain = refl; typed = refl; resolved = refl; allowed = all_allowed kernels.scheduler.functions refl }; first = refl };
+  asm_sum = record { well_formed = record { plain = refl; typed = refl; resolved = refl; allowed = all_allowed kernels.asm_sum.functions refl }; first = refl };
+  list = record { well_formed = record { plain = refl; typed = refl; resolved = refl; allowed = all_allowed kernels.list.functions refl }; first = refl };
+  endless = record { well_formed = record { plain = refl; typed = refl; resolved = refl; allowed = all_allowed kernels.endless.functions refl }; first = refl };
+  order = record { well_formed = record { plain = refl; typed = refl; resolved = refl; allowed = all_allowed kernels.order.functions refl }; first = refl };
+  parts = record { well_formed = record { plain = refl; typed = refl; resolved = refl; allowed = all_allowed kernels.parts.functions refl }; first = refl };
+  returning = record { well_formed = record { plain = refl; typed = refl; resolved = refl; allowed = all_allowed (systems.returning (unary kernels.z Negate (kernels.number 1))).functions refl }; first = refl };
+  overflow = record { well_formed = record { plain = refl; typed = refl; resolved = refl; allowed = all_allowed systems.overflow.functions refl }; first = refl };
+  lines = record { well_formed = record { plain = refl; typed = refl; resolved = refl; allowed = all_allowed systems.lines.functions refl }; first = refl };
+  copies = record { well_formed = record { plain = refl; typed = refl; resolved = refl; allowed = all_allowed systems.copies.functions refl }; first = refl };
+  copies_twice = record { well_formed = record { plain = refl; typed = refl; resolved = refl; allowed = all_allowed systems.copies_twice.functions refl }; first = refl };
+  probes = record { well_formed = record { plain = refl; typed = refl; resolved = refl; allowed = all_allowed systems.probes.functions refl }; first = refl };
+  resizes = record { well_formed = record { plain = refl; typed = refl; resolved = refl; allowed = all_allowed (systems.resizes 4).functions refl }; first = refl };
+  divides = record { well_formed = record { plain = refl; typed = refl; resolved = refl; allowed = all_allowed systems.divides.functions refl }; first = refl };
+  console = record { well_formed = record { plain = refl; typed = refl; resolved = refl; allowed = all_allowed systems.console.functions refl }; first = refl };
+  waits = record { well_formed = record { plain = refl; typed = refl; resolved = refl; allowed = all_allowed systems.waits.functions refl }; first = refl };
+  twice = record { well_formed = record { plain = refl; typed = refl; resolved = refl; allowed = all_allowed kernels.twice.functions refl }; first = refl };
+  thrice = record { well_formed = record { plain = refl; typed = refl; resolved = refl; allowed = all_allowed kernels.thrice.functions refl }; first = refl };
+  inverse = record { well_formed = record { plain = refl; typed = refl; resolved = refl; allowed = all_allowed kernels.inverse.functions refl }; first = refl };
 }
 
 pub returns-clause-fit : goal.returns-clause-fit

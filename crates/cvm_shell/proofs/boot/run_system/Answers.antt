@@ -1,5 +1,5 @@
 use Rattle.std.proofs.Common.{◌≡◌, ◌∙◌, ap, subst, Err}
-use Rattle.boot_run.specs.LoadEnds.{LoadFails}
+use Rattle.boot_run.specs.LoadEnds.{LoadFails, pages_needed}
 use Rattle.boot_run.specs.declared.load.LoadFault.{LoadFault}
 use Rattle.std.specs.Io.KnownBytes.{append_known}
 use Rattle.cvm_outside.specs.Told.{AppendsPart}
@@ -26,7 +26,7 @@ pub returns-in-Err-SmallDisk-clause-ends : goal.returns-in-Err-SmallDisk-clause-
 returns-in-Err-SmallDisk-clause-ends g c = λ before after files.
     let old = within g.O.Sink g.D.Sectors before (c.args.out.now, c.args.disk.now) in
     let new = within g.O.Sink g.D.Sectors after (c.refuse.new.out, c.run_whole.new.disk) in
-    let P : LoadFault → Type 0 = λ f. LoadFails c.args.ready.boot c.args.session.view (g.D.Sectors.size c.args.disk.now) (g.D.Sectors.faults c.args.disk.now) (g.D.Sectors.faults c.run_whole.new.disk) f in
+    let P : LoadFault → Type 0 = λ f. LoadFails c.args.ready.boot c.args.session.view (pages_needed c.args.ready.boot) (g.D.Sectors.size c.args.disk.now) (g.D.Sectors.faults c.args.disk.now) (g.D.Sectors.faults c.run_whole.new.disk) f in
     let refused = subst P c.in-Err-SmallDisk.field-0-is c.in-Err-SmallDisk.ensures.refused in
     let still : c.run_whole.new.disk ≡ c.args.disk.now = c.in-Err-SmallDisk.ensures.still (λ e. let d = c.in-Err-SmallDisk.field-0-is in cc) in
     let row = refusal_text (small_disk c.in-Err-SmallDisk.need c.in-Err-SmallDisk.have) in
@@ -40,7 +40,7 @@ pub returns-in-Err-NoSuchUser-clause-ends : goal.returns-in-Err-NoSuchUser-claus
 returns-in-Err-NoSuchUser-clause-ends g c = λ before after files.
     let old = within g.O.Sink g.D.Sectors before (c.args.out.now, c.args.disk.now) in
     let new = within g.O.Sink g.D.Sectors after (c.refuse-in-Err-NoSuchUser.new.out, c.run_whole.new.disk) in
-    let P : LoadFault → Type 0 = λ f. LoadFails c.args.ready.boot c.args.session.view (g.D.Sectors.size c.args.disk.now) (g.D.Sectors.faults c.args.disk.now) (g.D.Sectors.faults c.run_whole.new.disk) f in
+    let P : LoadFault → Type 0 = λ f. LoadFails c.args.ready.boot c.args.session.view (pages_needed c.args.ready.boot) (g.D.Sectors.size c.args.disk.now) (g.D.Sectors.faults c.args.disk.now) (g.D.Sectors.faults c.run_whole.new.disk) f in
     let refused = subst P c.in-Err-NoSuchUser.field-0-is c.in-Err-NoSuchUser.ensures.refused in
     let still : c.run_whole.new.disk ≡ c.args.disk.now = c.in-Err-NoSuchUser.ensures.still (λ e. let d = c.in-Err-NoSuchUser.field-0-is in cc) in
     let row = refusal_text (no_such_user c.in-Err-NoSuchUser.user c.in-Err-NoSuchUser.users) in

@@ -1,11 +1,13 @@
 use Rattle.std.proofs.Common.{ap, Err, length, ◌<◌, rules}
 use Rattle.cvm_outside.specs.Told.{TOO_LONG}
+use Rattle.c0_tree.specs.declared.primitive.Program.TheVariants.{Kernel}
+use Rattle.cvm_shell.specs.Plan.{object_plan}
 use Rattle.cvm_shell.specs.Stages.{linkable}
 use Rattle.cvm_shell.specs.Views.{kernel_view}
 use Rattle.std.proofs.lemmas.Result.{err_from_is_err_and}
 use Rattle.cvm_outside.specs.declared.shelf.ShelfFault.{ShelfFault}
 use Rattle.cvm_shell.proofs.Plans.{got_fault}
-use Rattle.cvm_shell.proofs.KernelPlans.{source_got}
+use Rattle.cvm_shell.proofs.CodePlans.{code_got}
 use Rattle.cvm_shell.proofs.object.kernel_object.Goals as goal
 
 pub returns-in_err-source-clause-comes : goal.returns-in_err-source-clause-comes
@@ -18,5 +20,5 @@ returns-in_err-source-clause-comes g c =
 pub returns-clause-comes : goal.returns-clause-comes
 returns-clause-comes g c =
     let short : length c.in_ok-source.source.items < TOO_LONG = search rules in
-    source_got (linkable (kernel_view c.args.names.now)) (g.S.Shelf.file c.args.shelf.now) (kernel_view c.args.names.now) c.in_ok-source.source.items c.compiled_object.result c.in_ok-source.ensures.bytes short
+    code_got (linkable (kernel_view c.args.names.now)) Kernel (object_plan (kernel_view c.args.names.now).object) (g.S.Shelf.file c.args.shelf.now (kernel_view c.args.names.now).source) c.in_ok-source.source.items c.compiled_object.result c.in_ok-source.ensures.bytes short
     (rw c.deref.ensures.value at (c.compiled_object.ensures.comes (kernel_view c.args.names.now)))

@@ -1,7 +1,7 @@
 -- By the handler's run at a fault, and the two faults of paging.
 use Rattle.layer_runs.proofs.Arrivals.{Below}
 use Rattle.layer_runs.proofs.Exits.{Tools}
-use Rattle.layer_runs.proofs.Settling.{Handlers, settles}
+use Rattle.layer_runs.proofs.Settling.{Handlers, settles, costs}
 use Rattle.layer_runs.proofs.laws.faults_settle.Goals as goal
 
 pub returns : goal.returns
@@ -20,4 +20,4 @@ returns c =
       pass = c.handled_pages_pass.ensures;
       two = c.two_faults_suffice.ensures;
     } in
-    λ m sizes code made. settles m sizes code made handlers
+    λ m sizes code made. record { settles = settles m sizes code made handlers; costs = costs m sizes code made handlers }

@@ -3,4 +3,4 @@ use Rattle.page_fault.proofs.Page.{page_block_is}
 use Rattle.page_fault.proofs.laws.the_block_is_a_page_block.Goals as goal
 
 pub returns : goal.returns
-returns c w f = page_block_is w c.runs_compose.ensures (c.a_page_is_brought_in.ensures w f)
+returns c w f = page_block_is w (c.a_page_is_brought_in.ensures w f)

@@ -1,33 +1,43 @@
-use Rattle.std.proofs.Common.{Some, refl, arith, ◌≡◌, ◌≤◌, ◌*◌, ◌∙◌, sym, ap, ℕ, List, Vec, Global, length, map, subst}
+use Rattle.std.proofs.Common.{[], refl, arith, ◌≡◌, ◌≤◌, ◌*◌, ◌∙◌, sym, ap, ℕ, List, Vec, Global, length, map, subst}
 use Rattle.std.specs.Prelude.{IsTrue}
 use Rattle.std.specs.Option.{option_map}
 use Rattle.layer_map.specs.Map.{Map, MapInRange, memory_words}
-use Rattle.boot_run.specs.Loading.{first_pages, written, system_of}
-use Rattle.schedule_file.specs.Rows.{Rows}
+use Rattle.boot_run.specs.Loading.{pages_of_users, written, system_of, TornAmong}
 use Rattle.mips_machine.specs.Machine.{Held}
 use Rattle.layer_contract.specs.Follows.{loaded}
-use Rattle.boot_turns.specs.Completes.{seen}
 use Rattle.boot_run.specs.LoadEnds.{SeesUser, names_sector}
 use Rattle.boot_run.proofs.Readiness.{first_fits, loaded_ready}
-use Rattle.boot_run.proofs.Loads.{loaded_long, stands_loaded}
+use Rattle.boot_run.proofs.Loads.{loaded_long, stands_loaded, torn_loaded}
 use Rattle.boot_run.proofs.run.Run.load.Goals as goal
 
 pub returns-in-Ok-clause-stands : goal.returns-in-Ok-clause-stands
 returns-in-Ok-clause-stands g c =
     let some : 1 ≤ c.args.boot.params.pages = subst (λ (m : Map). 1 ≤ m.params.pages) c.requires.made.same_map c.requires.made.range.params.a_page in
-    let sectors = subst (λ (us : List (Vec ℕ Global)). g.D.Sectors.sectors c.write_pages.new.disk ≡ option_map (written (first_pages c.args.boot.params.pages (map (λ (w : Vec ℕ Global). w.items) us)) (length us * c.args.boot.params.pages)) (g.D.Sectors.sectors c.args.disk.now))
-    c.as_slice.ensures.value c.in-Ok.ensures.ok in
-    let few : c.len-users.result * c.args.boot.params.pages ≤ g.D.Sectors.size c.args.disk.now = subst (λ n. c.len-users.result * c.args.boot.params.pages ≤ n) c.count-have.ensures c.if-have-need.false in
+    let users : c.len-users.result ≡ length c.args.boot.users.items = c.len-users.ensures ∙ sym c.as_slice.ensures.len ∙ ap (λ (us : List (Vec ℕ Global)). length us) c.as_slice.ensures.value in
+    let few : length c.args.boot.users.items * c.args.boot.params.pages ≤ g.D.Sectors.size c.args.disk.now =
+    subst (λ n. n * c.args.boot.params.pages ≤ g.D.Sectors.size c.args.disk.now) users (subst (λ n. c.len-users.result * c.args.boot.params.pages ≤ n) c.count-have.ensures c.if-have-need.false) in
+    let sectors = subst (λ (us : List (Vec ℕ Global)). g.D.Sectors.sectors c.write_pages.new.disk ≡ option_map (written (pages_of_users c.args.boot.params.pages us []) (length c.args.boot.users.items * c.args.boot.params.pages)) (g.D.Sectors.sectors c.args.disk.now))
+    c.as_slice.ensures.value
+    (subst (λ n. g.D.Sectors.sectors c.write_pages.new.disk ≡ option_map (written (pages_of_users c.args.boot.params.pages c.as_slice.result.now []) (n * c.args.boot.params.pages)) (g.D.Sectors.sectors c.args.disk.now)) users c.in-Ok.ensures.ok) in
     stands_loaded c.args.boot c.args.schedule c.in_ok-machine.machine (g.D.Sectors.sectors c.args.disk.now) (g.D.Sectors.sectors c.write_pages.new.disk) (g.D.Sectors.size c.args.disk.now) some
-    c.in_ok-machine.ensures sectors (g.met.D.Sectors.sized c.args.disk.now) (subst (λ n. n * c.args.boot.params.pages ≤ g.D.Sectors.size c.args.disk.now) (c.len-users.ensures ∙ sym c.as_slice.ensures.len ∙ ap (λ (us : List (Vec ℕ Global)). length us) c.as_slice.ensures.value) few)
+    c.in_ok-machine.ensures sectors (g.met.D.Sectors.sized c.args.disk.now) few
 
 pub returns-in-Ok-clause-ready : goal.returns-in-Ok-clause-ready
 returns-in-Ok-clause-ready g c = λ x old budget text e.
-    let rows : c.in_ok-machine.machine.rows ≡ c.args.schedule = ap (λ (m : Held). m.rows) c.in_ok-machine.ensures in
-    let stands = returns-in-Ok-clause-stands g c in
-    loaded_ready x (system_of c.args.boot c.args.schedule) old c.args.view c.first_tracer.result c.first_tracer.ensures budget text c.in_ok-machine.machine (g.D.Sectors.sectors c.write_pages.new.disk)
-    (subst (λ (r : Rows). seen (g.D.Sectors.sectors c.write_pages.new.disk) c.in_ok-machine.machine ≡ Some (loaded (system_of c.args.boot r) old)) rows (stands ∙ ap (option_map (loaded (system_of c.args.boot c.in_ok-machine.machine.rows))) e))
+    loaded_ready x (system_of c.args.boot c.args.schedule) (loaded (system_of c.args.boot c.args.schedule) old) c.args.view c.first_tracer.result c.first_tracer.ensures budget text c.in_ok-machine.machine (g.D.Sectors.sectors c.write_pages.new.disk)
+    (returns-in-Ok-clause-stands g c ∙ ap (option_map (loaded (system_of c.args.boot c.args.schedule))) e)
     (ap (λ (m : Held). m.time) c.in_ok-machine.ensures)
+
+pub returns-in-Err-clause-torn : goal.returns-in-Err-clause-torn
+returns-in-Err-clause-torn g c = λ h.
+    let some : 1 ≤ c.args.boot.params.pages = subst (λ (m : Map). 1 ≤ m.params.pages) c.requires.made.same_map c.requires.made.range.params.a_page in
+    let users : c.len-users.result ≡ length c.args.boot.users.items = c.len-users.ensures ∙ sym c.as_slice.ensures.len ∙ ap (λ (us : List (Vec ℕ Global)). length us) c.as_slice.ensures.value in
+    let few : length c.args.boot.users.items * c.args.boot.params.pages ≤ g.D.Sectors.size c.args.disk.now =
+    subst (λ n. n * c.args.boot.params.pages ≤ g.D.Sectors.size c.args.disk.now) users (subst (λ n. c.len-users.result * c.args.boot.params.pages ≤ n) c.count-have.ensures c.if-have-need.false) in
+    let torn = subst (λ (us : List (Vec ℕ Global)). TornAmong (length c.args.boot.users.items * c.args.boot.params.pages) (written (pages_of_users c.args.boot.params.pages us []) (length c.args.boot.users.items * c.args.boot.params.pages)) (g.D.Sectors.sectors c.args.disk.now) (g.D.Sectors.sectors c.write_pages.new.disk))
+    c.as_slice.ensures.value
+    (subst (λ n. TornAmong (n * c.args.boot.params.pages) (written (pages_of_users c.args.boot.params.pages c.as_slice.result.now []) (n * c.args.boot.params.pages)) (g.D.Sectors.sectors c.args.disk.now) (g.D.Sectors.sectors c.write_pages.new.disk)) users c.in-Err.ensures.torn) in
+    torn_loaded c.args.boot c.args.schedule (g.D.Sectors.sectors c.args.disk.now) (g.D.Sectors.sectors c.write_pages.new.disk) (g.D.Sectors.size c.args.disk.now) some torn (g.met.D.Sectors.sized c.args.disk.now) few
 
 pub invariant_of-result : goal.invariant_of-result
 invariant_of-result g c =

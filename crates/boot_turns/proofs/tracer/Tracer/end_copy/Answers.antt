@@ -24,3 +24,6 @@ returns-clause-steps g c = λ ss words e told placed.
     subst (λ (n : ℕ). OnOk c.put_words.result (c.put_words.new.self ≡ record c.args.self.now { steps = n }))
     (copied_steps c.args.map.now (state_of c.args.machine.now ss) c.args.self.now.user c.args.self.now.steps c.args.answer c.args.call.now words c.if-answer-ne1.false c.if-user-self.false c.requires.copy told placed)
     c.put_words.ensures.steps
+
+pub returns-clause-reads : goal.returns-clause-reads
+returns-clause-reads g c = λ e. record { copies = c.requires.copy; user = c.if-user-self.false; done = c.if-answer-ne1.false }

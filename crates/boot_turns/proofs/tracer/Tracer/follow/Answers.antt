@@ -1,12 +1,16 @@
 -- What a step adds is what its branch prints: a turn of the user, a turn of another, a primitive that returned, or nothing.
-use Rattle.std.proofs.Common.{◌≡◌, ℕ, List, [], Option, sym, ap, ap₂, ◌∙◌, subst}
+use Rattle.std.proofs.Common.{◌≡◌, ℕ, List, [], Bool, true, false, Option, Some, Err, slice_index, refl, sym, ap, ap₂, ◌∙◌, subst}
+use Rattle.std.specs.Prelude.{IsSome}
 use Rattle.cvm_outside.proofs.Parts.{append_known-nil}
 use Rattle.mips_table.specs.Machine.{State}
 use Rattle.mips_machine.specs.Machine.{Held, state_of}
 use Rattle.boot_report.specs.Texts.{SameButViewed}
 use Rattle.boot_turns.specs.declared.tracer.Entered.{Entered}
 use Rattle.boot_turns.specs.declared.tracer.Tracer.{Tracer}
-use Rattle.boot_turns.specs.Entries.{turn_begins, notes_on}
+use Rattle.boot_turns.specs.Entries.{turn_begins, notes_on, returned, IsCopyTo, CopyEnds, HasRows}
+use Rattle.boot_turns.specs.Completes.{shown}
+use Rattle.boot_turns.specs.declared.completion.Begun.{Begun}
+use Rattle.std.proofs.lemmas.Result.{err_from_is_err_and}
 use Rattle.boot_turns.proofs.Puts.{is_err}
 use Rattle.boot_turns.proofs.Followed.{own_turn, other_turn, none_returned, rows_put, kept_then, call_put, call_begun, call_kept}
 use Rattle.boot_turns.proofs.tracer.Tracer.follow.Goals.{then-began+then-current-self+else-prove+in_ok-begin, then-began+else-current-self, else-began+in-Some+in_ok-end, else-began+in_default}
@@ -18,6 +22,27 @@ returns-in_err-end-clause-err g c = λ ss words e told.
     is_err c.from_residual-in_err-end.result
     (call_begun s c.args.self.now c.args.current c.args.began words c.args.map.now c.returned_call.result c.in-Some.call c.reg.result c.if-began.false c.returned_call.ensures c.in-Some.is c.reg.ensures told
     (g.O.Sink.text c.args.out.now) (g.O.Sink.text c.end.new.out) (c.in_err-end.ensures.err ss words e))
+
+-- where the primitive's rows couldn't be read, it copied words to the user
+copied : (a : Held) (kept : Tracer) (o : Option Entered) (e : Entered) (answer : ℕ) → o ≡ returned (state_of a []) kept.call → o ≡ Some e → answer ≡ slice_index a.hardware.cpu.regs 2 → IsCopyTo kept.user e answer → CopyEnds kept.user (state_of a []) kept.call
+copied a kept o e answer is some reads copy = record { call = e; returns = sym is ∙ some; copy = subst (IsCopyTo kept.user e) reads copy }
+
+-- a turn that begins with rows is a dispatch
+begun_rows : (a : Held) (noted : Option Entered) (b : Begun) (began : Bool) → began ≡ true → b ≡ shown a → b.dispatched ≡ true → HasRows (state_of a []) noted began
+begun_rows a noted b began is same d = rw is (ap (λ (n : Begun). n.dispatched) (sym same) ∙ d)
+
+-- and else a primitive has returned
+returned_rows : (a : Held) (noted o : Option Entered) (e : Entered) (began : Bool) → began ≡ false → o ≡ returned (state_of a []) noted → o ≡ Some e → HasRows (state_of a []) noted began
+returned_rows a noted o e began is same some = rw is (subst IsSome (sym some ∙ same) refl)
+
+pub returns-in_err-begin-clause-puts : goal.returns-in_err-begin-clause-puts
+returns-in_err-begin-clause-puts g c = λ e. begun_rows c.args.machine.now c.args.self.now.call c.begun_now.result c.args.began c.if-began.true c.begun_now.ensures c.in_err-begin.ensures.puts
+
+pub returns-in_err-end-clause-puts : goal.returns-in_err-end-clause-puts
+returns-in_err-end-clause-puts g c = λ e. returned_rows c.args.machine.now c.args.self.now.call c.returned_call.result c.in-Some.call c.args.began c.if-began.false c.returned_call.ensures c.in-Some.is
+
+pub returns-in_err-end-clause-reads : goal.returns-in_err-end-clause-reads
+returns-in_err-end-clause-reads g c = λ e. (c.if-began.false, copied c.args.machine.now c.args.self.now c.returned_call.result c.in-Some.call c.reg.result c.returned_call.ensures c.in-Some.is c.reg.ensures (c.in_err-end.ensures.reads (let w = err_from_is_err_and c.from_residual-in_err-end.result c.from_residual-in_err-end.ensures.1 in sym (ap (λ f. Err f) w.2) ∙ sym w.1 ∙ e)))
 
 pub returns-clause-ok : goal.returns-clause-ok
 returns-clause-ok g c = λ ss words e told.

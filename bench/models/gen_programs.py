@@ -1,0 +1,321 @@
+#!/usr/bin/env python3
+"""Writes cases of user programs in C0 for shell_cases, with what each command prints.
+
+usage: gen_programs.py CASES STDOUT [PRINTED]   as gen_lines.py, whose rules for PRINTED hold here too
+       gen_programs.py all FOLDER               all kernels and 200 random programs, in files of 20: N.cases and N.stdout
+
+Three kinds: worked rows; the kernels of code_cases that call no primitive, as programs that tell the kernel what they come to; and random programs
+under a kernel that answers by a rule. A journal is what the program means, by programs.py, and no code of a program is run here. At which turn a
+program ends is the compiled code's alone, and the program's own; so is nothing else. The gate tries a few of the last two kinds.
+"""
+import itertools
+import os
+import random
+import re
+import sys
+
+HERE = os.path.dirname(os.path.abspath(__file__))
+source = open(os.path.join(HERE, 'programs.py')).read()
+exec(compile(source[:source.index("\nif __name__ ==")], 'programs.py', 'exec'))
+sys.setrecursionlimit(100000)
+
+K1 = 'int dispatch(int cause, int data, int user) { int next; if (cause == 0) { next = 1; } return next; }'
+PARAMS = 'pages 64\nframes 64\nheap 64\nstack 256\n'
+TURNS, STEPS = 4000000000, 1000000000
+ANSWERS = '''int s;
+int dispatch(int cause, int data, int user) {
+  int next; int v; bool ok;
+  if (cause == 0) { next = 1; }
+  if (cause == 6) { if (data == 12) {
+    v = vm_get(user, 4); s = s + v;
+    ok = vm_set(user, 2, v * 10); next = user;
+  } }
+  return next;
+}'''
+RULE = '''int n;
+int dispatch(int cause, int data, int user) {
+  int next; int v; bool ok;
+  if (cause == 0) { next = 1; }
+  if (cause == 6) { if (data == 12) {
+    n = n + 1; v = vm_get(user, 4);
+    if (n % 4 != 3) { ok = vm_set(user, 2, v % 1000 - n); }
+    next = 1;
+  } }
+  return next;
+}'''
+TWICE = 'int main() { int a; int b; a = trap(5); b = trap(a + 1); return 0; }'
+INVERSE = 'int main() { int x; x = 1 / x; return 0; }'
+
+ALL = sys.argv[1] == 'all'
+cases, told = [], []
+
+
+def part(head, body=''):
+    cases.append('== ' + head)
+    if body:
+        cases.append(body.replace('\\', '\\\\').replace('`', '\\x60').replace('~', '\\x7e').rstrip('\n'))
+    if head.split(' ')[0] not in ('file', 'zeros'):
+        told.append('== ' + head)
+
+
+def run(words, text='', status=0, kind='run'):
+    part('%s %s' % (kind, words))
+    if text:
+        told.append(text.rstrip('\n'))
+    told.append('status %d' % status)
+
+
+def system(kernel):
+    """The files of a system with one user, and its kernel's object."""
+    part('file k', kernel)
+    part('file par', PARAMS)
+    part('file s')
+    for name in ('o', 'img', 'u1'):
+        part('zeros ' + name, '400000')
+    run('compile kernel k o')
+
+
+def program(text):
+    part('file p', text)
+    run('compile program p u1')
+    run('link o par img u1')
+
+
+def journals(kernel, text):
+    program(text)
+    run('trace img s %d %d 1' % (TURNS, STEPS), '\n'.join(journal(kernel, [text], PARAMS, 1)), kind='journal')
+
+
+def printed(name):
+    """What the program printed of a boot of this case, as PRINTED has it."""
+    if ALL or len(sys.argv) < 4:
+        return '(not printed)'
+    text = open(sys.argv[3]).read()
+    at = text.find('== case %s\n' % name)
+    block = text[at:].split('\n== case ')[0]
+    return block[block.index('== run boot'):].split('\n', 1)[1].split('\nstatus')[0]
+
+
+def little(words):
+    return ''.join('\\x%02x' % b if not 0x20 <= b <= 0x7e or b == 0x5c else chr(b) for w in words for b in (w & M).to_bytes(4, 'little'))
+
+
+def shows(name, at, words):
+    part('part %s %d %d' % (name, at, 4 * len(words)))
+    told.append(little(words))
+
+
+# ---- worked rows
+part('case a program that asks twice', 'sectors 64')
+system(ANSWERS)
+journals(ANSWERS, TWICE)
+own = printed('a program that asks twice')
+rows = re.sub(r'turn \d+', 'turn N', own).split('\n')
+assert own.startswith('(') or rows[:5] == ['turn N cause 0 data 00000000 user 0 next 1'] + ['turn N cause 6 data 0000000c user 1 next 1'] * 2 \
+    + ['turn N cause 6 data 0000004c user 1 next 0', 'halted'] and rows[5] == 'global s 56', own
+run('boot img s %d %d' % (TURNS, STEPS), own)
+
+part('case a program that divides by 0', 'sectors 64')
+system(K1)
+program(INVERSE)
+own = printed('a program that divides by 0')
+rows = re.sub(r'turn \d+', 'turn N', own).split('\n')
+assert own.startswith('(') or rows[:3] == ['turn N cause 0 data 00000000 user 0 next 1', 'turn N cause 6 data 0000010c user 1 next 0', 'halted'], own
+run('boot img s %d %d' % (TURNS, STEPS), own)
+
+part('case programs that use up their room', 'sectors 64')
+system(RULE)
+journals(RULE, 'int deep(int n) { int r; r = trap(n); r = deep(n + 1); return r; }\nint main() { int r; r = deep(1); return r; }')
+journals(RULE, 'struct big { int[300] a; }; int n;\nint main() { struct big* b; int r; b = new struct big; '
+         'while (b != null) { n = n + 1; b->a[299] = n; b = new struct big; } r = trap(n); r = b->a[0]; return r; }')
+
+part('case the words of an image')
+part('zeros u1', '400000')
+part('file p', TWICE)
+run('compile program p u1')
+jump = lambda word: 2 << 26 | word
+syscall = lambda code: code << 6 | 12
+addu = lambda rd, rs, rt: rs << 21 | rt << 16 | rd << 11 | 0x21
+shows('u1', 0, [jump(16384), 0])
+shows('u1', 0x1008, [0, 1024, 4 * 17 * 1024, 4 * 18 * 1024, 1024, 0])
+shows('u1', 0x2000, [addu(4, 20, 0), addu(2, 0, 0), syscall(0), 31 << 21 | 8] + [0] * 6 + [jump(2064 + 2 * i) for i in range(5)] + [0]
+      + [w for i, code in enumerate((2, 3, 4, 5, 1)) for w in (syscall(code), jump(2064 + 2 * i))] + [0])
+shows('u1', 4 * 19 * 1024 - 4, [0])
+shows('u1', 4 * 19 * 1024, [])
+
+part('case programs that are refused')
+part('zeros u1', '8')
+for text, row in [
+        ('int x;', '36 0 6'),
+        ('int main(int a) { return a; }', '36 0 29'),
+        ('bool main() { return true; }', '36 0 28'),
+        ('int dispatch(int cause, int data, int user) { return 0; }', '36 0 57'),
+        ('int main() { int x; x = vm_get(1, 4); return x; }', '20 24 30'),
+        ('int main() { int x; x = trap(1, 2); return x; }', '23 20 34'),
+        ('int main() { int x; x = trap(true); return x; }', '22 29 33'),
+        ('int main() { return 0; ', '12 23'),
+        ('int x; @', '10 7')]:
+    part('file p', text)
+    run('compile program p u1', 'refused ' + row, 2)
+for globals_ in ([40000, 40000], [46081], [46080]):
+    part('file p', ''.join('int[%d] %s; ' % (n, name) for n, name in zip(globals_, 'ab')) + 'int main() { return 0; }')
+    words = 1024 * (16 + 1 + (sum(globals_) + 1023) // 1024 + 2)
+    if words > 65536:
+        run('compile program p u1', 'refused 37 %d' % words, 2)
+    else:
+        part('zeros u2', '300000')
+        run('compile program p u2')
+part('show u1')
+told.append('\\x00' * 8)
+
+
+# ---- the kernels of code_cases that call no primitive
+def unquoted(text):
+    for mark in '`~':
+        parts = text.split(mark)
+        for i in range(1, len(parts), 2):
+            count, _, piece = parts[i].partition(' ')
+            parts[i] = ''.join(piece.replace('?', str(n)).replace('^', str(n + 1)) for n in range(int(count)))
+        text = ''.join(parts)
+    return text.encode().decode('unicode_escape') if '\\' in text else text
+
+
+def as_program(rest, source):
+    """A kernel as a program: its `dispatch` is called as often as the case says, and the answers and the int globals are told."""
+    calls = [w.split('/') for w in rest.split(' ')[2:] if re.fullmatch(r'-?\d+/-?\d+/-?\d+', w)]
+    numbers = lambda c: ', '.join(x if not x.startswith('-') else '0 - %s' % x[1:] if x != '-2147483648' else '0 - 2147483647 - 1' for x in c)
+    globals_ = [name for t, name in Parser(source).globals if t == ('int',) and name != 'answer']
+    body = ''.join('answer = dispatch(%s); answer = trap(answer); ' % numbers(c) for c in calls)
+    return source.rstrip() + '\nint main() { int answer; %s%sreturn 0; }' % (body, ''.join('answer = trap(%s); ' % n for n in dict.fromkeys(globals_)))
+
+
+def kernels():
+    folder = os.path.join(HERE, '..', '..', 'crates', 'code_cases', 'data')
+    for file in sorted(os.listdir(folder)):
+        for block in open(os.path.join(folder, file)).read().rstrip('\n').split('\n== ')[1:]:
+            head, _, source = block.partition('\n')
+            kind, _, rest = head.partition(' ')
+            source = unquoted(source)
+            if kind == 'run' and not re.search(r'\b(vm|con)_\w+\(', source) and 'main' not in source:
+                yield rest, source
+
+
+def as_programs():
+    """Those that end, and whose image isn't too large."""
+    for rest, source in kernels():
+        try:
+            text = as_program(rest, source)
+            if 1024 * pages_of(text) <= 65536:
+                journal(RULE, [text], PARAMS, 1)
+                yield text
+        except (TooLong, RecursionError, AssertionError, KeyError, TypeError):
+            pass
+
+
+# ---- random programs
+class Maker:
+    """A random program that ends: each loop counts down, and functions call only those above them."""
+    def __init__(self, seed):
+        self.r, self.functions = random.Random(seed), []
+        self.ints, self.left = [], 0
+
+    def expr(self, depth=0):
+        r = self.r
+        k = r.randrange(10) if depth < 3 else r.randrange(4)
+        if k < 2:
+            return str(r.choice([0, 1, 2, 3, 7, 100, 65535, 70000, 2147483647, r.randrange(1000)]))
+        if k < 5:
+            return r.choice(self.ints)
+        if k == 5:
+            return 'a[%s]' % (r.choice(['0', '1', '2', 'i % 3', '%s %% 3' % r.choice(self.ints)]))
+        if k == 6:
+            return '-%s' % r.choice(self.ints)
+        if k == 7 and r.randrange(3) == 0:
+            return '(%s %s %s)' % (self.expr(depth + 1), r.choice('/%'), self.expr(depth + 1))
+        if k == 8:
+            return 'q->%s' % r.choice('vw') if r.randrange(3) else 'p->v'
+        return '(%s %s %s)' % (self.expr(depth + 1), r.choice('+-*'), self.expr(depth + 1))
+
+    def test(self):
+        r = self.r
+        return '%s %s %s' % (self.expr(2), r.choice(['<', '<=', '>', '>=', '==', '!=']), self.expr(2))
+
+    def place(self):
+        return self.r.choice(self.ints[:-1] + ['g', 'a[%d]' % self.r.randrange(3), 'q->v'])
+
+    def statement(self, depth):
+        r, k = self.r, self.r.randrange(12)
+        if k < 4 or depth > 2:
+            return '%s = %s;' % (self.place(), self.expr())
+        if k < 7:
+            return '%s = trap(%s);' % (self.place(), self.expr())
+        if k == 7:
+            return 'if (%s) { %s } else { %s }' % (self.test(), self.block(depth + 1), self.block(depth + 1))
+        if k == 8:
+            return 'i = %d; while (i > 0) { i = i - 1; %s }' % (r.randrange(1, 6), self.block(3)) if depth == 0 else 'x = x + i;'
+        if k == 9 and self.functions:
+            return '%s = %s(%s, %s);' % (self.place(), r.choice(self.functions), self.expr(), self.expr())
+        if k == 10:
+            return 'p = new struct node; p->w = %s; if (%s) { q = p; } else { g = g + 1; }' % (self.expr(), self.test())
+        return 'g = g + %s;' % self.expr(2)
+
+    def block(self, depth):
+        return ' '.join(self.statement(depth) for _ in range(self.r.randrange(1, 4)))
+
+    def function(self, name, params, ints):
+        self.ints = ints + ['x', 'y', 'i']
+        locals_ = 'int x; int y; int i; struct node* p; '
+        body = 'p = q; ' + ' '.join(self.statement(0) for _ in range(self.r.randrange(2, 7)))
+        return 'int %s(%s) { %s%s return %s; }' % (name, params, locals_, body, self.expr())
+
+    def text(self):
+        out = ['struct node { int v; int w; };', 'int g; int[3] a; struct node* q; struct node first;']
+        for n in range(self.r.randrange(3)):
+            out.append(self.function('f%d' % n, 'int b, int c', ['b', 'c']))
+            self.functions.append('f%d' % n)
+        main = self.function('main', '', ['g'])
+        return '\n'.join(out) + '\n' + main.replace('p = q; ', 'q = &first; p = q; ' if self.r.randrange(8) else 'p = null; ', 1)
+
+
+def random_programs():
+    """Those that ask at least once, and end."""
+    seed = 0
+    while True:
+        seed += 1
+        text = Maker(seed).text()
+        rows = journal(RULE, [text], PARAMS, 1, 400)
+        if rows[-1] != 'stopped' and len(rows) >= 5:
+            yield text
+
+
+def group(name, texts):
+    part('case ' + name, 'sectors 64')
+    system(RULE)
+    for text in texts:
+        journals(RULE, text)
+
+
+def written(cases_to, told_to, note):
+    with open(cases_to, 'w') as f:
+        f.write(note + '\n'.join(cases) + '\n')
+    with open(told_to, 'w') as f:
+        f.write('\n'.join(told) + '\n')
+
+
+NOTE = '''User programs in C0: worked rows, kernels as programs, and random programs. Written by bench/models/gen_programs.py.
+
+Journals are worked out by the meaning of the programs alone. At which turns the boots of the first two rows call the kernel hangs on the compiled code:
+these are the program's own, checked by that script.
+
+'''
+if ALL:
+    texts = list(as_programs()) + list(itertools.islice(random_programs(), 200))
+    print(len(texts), 'programs', file=sys.stderr)
+    for n in range(0, len(texts), 20):
+        cases, told = [], []
+        group('programs from %d' % n, texts[n:n + 20])
+        written('%s/%d.cases' % (sys.argv[2], n), '%s/%d.stdout' % (sys.argv[2], n), NOTE)
+else:
+    group('kernels that call no primitive, as programs', list(as_programs())[::12])
+    group('random programs', itertools.islice(random_programs(), 10))
+    written(sys.argv[1], sys.argv[2], NOTE)

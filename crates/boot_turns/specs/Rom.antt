@@ -1,0 +1,67 @@
+-- The machine with a ROM as a start: its state at step 0, and by when the layer takes over.
+use Rattle.std.specs.Prelude.{ℕ, ◌+◌, ◌*◌, ◌/◌, ◌≤◌, ◌&&◌, ◌-◌, not, nat_lt, if◌then◌else◌, List, length, map, slice_index}
+use Rattle.std.specs.List.{range_with_len}
+use Rattle.mips_table.specs.Device.{Outside}
+use Rattle.mips_table.specs.Machine.{State}
+use Rattle.c0_meaning.specs.State.{State as C0}
+use Rattle.layer_map.specs.Map.{memory_frames}
+use Rattle.cvm_model.specs.Cvm.{System, map_of}
+use Rattle.layer_contract.specs.Layer.{BusyWithin}
+use Rattle.layer_contract.specs.Follows.{loaded_sector, SystemFits}
+use Rattle.layer_contract.specs.Starts.{user_sectors, Beyond, Start}
+use Rattle.boot_rom.specs.Laws.{Load}
+use Rattle.boot_rom.specs.Boots.{rom_start, rom_of}
+use Rattle.boot_turns.specs.Machines.{GoesOnWithin}
+use Rattle.boot_turns.specs.Premises.{StartsFrom}
+
+-- what the ROM loads: the linked words, from the sector behind the users' pages on
+abbrev pub load_of : System → Load
+load_of y = record { first = user_sectors y; count = (length y.boot.words + 1023) / 1024; busy = y.longest }
+
+-- the sectors that a run from the ROM uses: the users' pages, and the linked words
+abbrev pub rom_sectors : System → ℕ
+rom_sectors y = (load_of y).first + (load_of y).count
+
+-- the k-th page of a list of words, filled up with zeros
+abbrev pub page_of : List ℕ → ℕ → List ℕ
+page_of words k = map (λ i. slice_index words (1024 * k + i)) (range_with_len 0 1024)
+
+-- sector q of the disk: a page of the linked words, or as the boot has it
+abbrev pub rom_sector : System → List (List ℕ) → ℕ → List ℕ
+rom_sector y old q =
+    let first = user_sectors y in
+    if not (nat_lt q first) && nat_lt q (rom_sectors y) then page_of y.boot.words (q - first) else loaded_sector y old q
+
+-- the machine with a ROM of these words, which stand in a frame behind the map's, over a disk that had the sectors `old`
+abbrev pub rom_loaded : System → (rom : List ℕ) → List (List ℕ) → State
+rom_loaded y rom old = rom_start rom (memory_frames (map_of y.boot)) (map (rom_sector y old) (range_with_len 0 (length old))) y.input
+
+-- with the ROM that loads the system
+abbrev pub own_rom : System → List ℕ
+own_rom y = rom_of (load_of y)
+
+-- the boot's premises, a disk that has the linked words too, and no command busier than the system's longest
+pub record RomFits (x : Outside) (y : System) (old : List (List ℕ)) : Type 0 where
+  pub system : SystemFits x y old
+  pub busy : BusyWithin x y.longest
+  pub enough : rom_sectors y ≤ x.count
+
+-- how late the layer takes over, at most
+abbrev pub rom_steps : System → ℕ
+rom_steps y = 100 + (load_of y).count * (12000 + y.longest)
+
+-- THE ROM: the layer takes over by then, and the sectors past those of the run are the disk's
+pub record RomStartsBy (x : Outside) (y : System) (old : List (List ℕ)) : Type 0 where
+  pub late : ℕ
+  pub within : late ≤ rom_steps y
+  pub start : Start x y (rom_loaded y (own_rom y) old) late (rom_sectors y)
+  pub beyond : Beyond (rom_sectors y) old (rom_loaded y (own_rom y) old).device.sectors
+
+abbrev pub RomStarts : Type 0
+RomStarts = (x : Outside) (y : System) (old : List (List ℕ)) → RomFits x y old → RomStartsBy x y old
+
+-- THE ROM'S RUN GOES ON: from its start the machine comes to each turn of the abstract run with the lines that it met itself, within the bound and
+-- the ROM's steps
+abbrev pub RomGoesOn : (C0 → Type 0) → Type 0
+RomGoesOn Typed = (x : Outside) (y : System) (old : List (List ℕ)) (late held : ℕ) → StartsFrom Typed x y (rom_loaded y (own_rom y) old) late held →
+    RomFits x y old → GoesOnWithin x y (rom_loaded y (own_rom y) old) (rom_steps y)

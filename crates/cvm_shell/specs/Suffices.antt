@@ -1,0 +1,67 @@
+-- What a `yes` of a check means: no run of a system of the object's source with so much stack stops for want of stack.
+use Rattle.std.specs.Prelude.{◌≡◌, ℕ, ◌≤◌, List, [], ◌∷◌, ◌++◌, codes, Some, Ok}
+use Rattle.schedule_file.specs.Rows.{Rows}
+use Rattle.bound_check.specs.Kept.{NeverOut as RunsNeverOut}
+use Rattle.object_file.specs.Answer.{IsAnswer as IsObject}
+use Rattle.object_file.specs.Parts.{Parts as Object}
+use Rattle.boot_image.specs.Parts.{Parts as Image}
+use Rattle.layer_runs.specs.Image.{layer_image}
+use Rattle.cvm_model.specs.declared.kernel_fault.KernelFault.{KernelFault}
+use Rattle.cvm_model.specs.declared.kernel_fault.KernelFault.TheVariants.{StackOut}
+use Rattle.cvm_model.specs.Text.{fault_name}
+use Rattle.kernel_linker.specs.Accept.{System}
+use Rattle.cvm_shell.specs.declared.status.Status.{Status}
+use Rattle.cvm_shell.specs.declared.status.Status.TheVariants.{Done}
+use Rattle.cvm_shell.specs.declared.boot.Session.{Session}
+use Rattle.cvm_shell.specs.Check.{Check, IsCheck}
+use Rattle.cvm_shell.specs.Outside.{Outside}
+use Rattle.cvm_shell.specs.Plan.{Accepts}
+use Rattle.cvm_shell.specs.Boot.{booted, Headline}
+
+-- a check of these words was done, and what it printed of an object with this source, beside so many words of stack, begins with `yes`
+pub record SaysYes (words : List (List ℕ)) (source : List ℕ) (stack : ℕ) (status : Status) (old new : Outside) : Type 0 where
+  pub check : Check
+  pub asked : IsCheck words check
+  pub stack_is : stack ≡ check.stack
+  pub bytes : List ℕ
+  pub bytes_told : old.shelf.file check.object ≡ Some bytes
+  pub object : Object
+  pub object_is : IsObject bytes (Ok object)
+  pub source_is : source ≡ object.source
+  pub done : status ≡ Done
+  pub before : List ℕ
+  pub before_told : old.sink.text ≡ Some before
+  pub rest : List ℕ
+  pub printed : new.sink.text ≡ Some (before ++ (codes "yes " ++ rest))
+
+-- the system of an accepted image with this source and at least so many words of stack
+pub record HasStack (source : List ℕ) (stack : ℕ) (s : System) : Type 0 where
+  pub image : Image
+  pub source_is : image.source ≡ source
+  pub accepted : Accepts layer_image (Ok image) (Ok s)
+  pub enough : stack ≤ s.params.stack
+
+-- no run of the system stops for want of stack, whatever the schedule and the lines of its turns are
+abbrev pub NeverOut : System → Type 0
+NeverOut s = (rows : Rows) → RunsNeverOut (booted s rows)
+
+-- THE STACK IS ENOUGH where a check said `yes`: for each accepted system of that source with as much, whatever its users and other parameters are
+abbrev pub Suffices : {A : Type 0} → (A → Outside) → List (List ℕ) → Status → (old new : A) → Type 0
+Suffices see words status old new = (source : List ℕ) (stack : ℕ) (s : System) → SaysYes words source stack status (see old) (see new) → HasStack source stack s → NeverOut s
+
+-- what was printed in a call ends with this row
+pub record EndsWith (row : List ℕ) (old new : Outside) : Type 0 where
+  pub before : List ℕ
+  pub before_told : old.sink.text ≡ Some before
+  pub front : List ℕ
+  pub printed : new.sink.text ≡ Some (before ++ (front ++ row))
+
+-- the words with which the row of a turn, or the end of a trace, names a kernel's fault
+abbrev pub fault_row : KernelFault → List ℕ
+fault_row f = codes "fault " ++ fault_name f ++ 10 ∷ []
+
+-- a law: where a check said `yes`, no boot, trace or sample of such a system prints `fault StackOut`, which would be the last that it prints
+abbrev pub StackOutIsNotPrinted : Type 0
+StackOutIsNotPrinted = (words : List (List ℕ)) (status ended : Status) (old new before after : Outside) (source : List ℕ) (stack : ℕ) (session : Session) (s : System) (rows : Rows) (sectors : List (List ℕ))
+    → Suffices (λ o. o) words status old new → SaysYes words source stack status old new → HasStack source stack s
+    → Headline session s rows sectors before after ended → EndsWith (fault_row StackOut) before after → ⊥

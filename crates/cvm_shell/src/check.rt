@@ -1,0 +1,130 @@
+// A check: how much stack the kernel of an object needs, read off the object's source.
+ghost use Rattle.std.specs.Prelude.{◌≡◌, ◌≢◌, ◌↔◌, ⊤, ℕ, List, IfSome, IfNone, IfOk, IfErr, IsErrOf, Some, option_map};
+ghost use Rattle.c0_tree.specs.View.{unit_view};
+ghost use Rattle.cvm_outside.specs.Told.{TOO_LONG};
+ghost use Rattle.cvm_shell.specs.Check as checking;
+ghost use Rattle.cvm_shell.specs.Check.{IsCheck, TellsUnit};
+ghost use Rattle.cvm_shell.specs.Command as command;
+ghost use Rattle.cvm_shell.specs.Outcome.{Causes};
+ghost use Rattle.cvm_shell.specs.Outside.{Drive, beside};
+ghost use Rattle.cvm_shell.specs.Plan.{AfterChecked, IsPlan};
+ghost use Rattle.cvm_shell.specs.Stages.{EndsAs, PlanCounts, told_text, IsCheckPlan};
+ghost use Rattle.cvm_shell.specs.Views.{check_view, IfPlan, IsStackNumber};
+
+use crate::boot::Stop;
+use crate::command::read_number;
+use crate::refusal::Refusal;
+use crate::saying::{refuse, say};
+use crate::status::Status;
+use bound_check::{answer_text, answers_are_one, bound};
+use c0_meaning::Checked;
+use c0_types::laws::sources_have_one_answer;
+use cvm_outside::{Shelf, Sink};
+use kernel_linker::open_object;
+use object_file::{bytes_have_one_answer, read};
+use std::alloc::{AllocError, Global};
+
+/// The fewest words of stack that a check names, as many as the least of a system.
+const LEAST_STACK: u64 = 64;
+
+/// The most words of stack that a check names, as many as the most of a system.
+const MOST_STACK: u64 = 262_144;
+
+/// The command `check OBJ STACK`.
+#[derive(Clone, Copy, Drop)]
+pub struct Check<'a> {
+    /// The name of the object's file.
+    pub object: &'a str,
+    /// The words of stack beside which the answer is given, 64 to 262,144.
+    pub stack: u32,
+}
+
+/// Reads the words of a check, None where they aren't those of one.
+pub fn read_check(words: &Vec<String>) -> Option<Check<'_>>
+    ensures found { IfSome result (λ c. IsCheck (command.texts words.now.items) (check_view c)) }
+    ensures only { (c : checking.Check) → IsCheck (command.texts words.now.items) c → option_map check_view result ≡ Some c }
+    ensures none { IfNone result ((c : checking.Check) → IsCheck (command.texts words.now.items) c → ⊥) }
+{
+    let [word, object, stack] = words.as_slice() else {
+        return None;
+    };
+    if word.as_str() != "check" {
+        return None;
+    }
+    let stack = read_stack(stack.as_str())?;
+    Some(Check {
+        object: object.as_str(),
+        stack,
+    })
+}
+
+// The words of stack, 64 to 262,144, that a text is the decimal spelling of.
+fn read_stack(text: &str) -> Option<u32>
+    ensures { IsStackNumber text.now result }
+{
+    let number = read_number(text)?;
+    if number < LEAST_STACK {
+        return None;
+    }
+    if number > MOST_STACK {
+        return None;
+    }
+    Some(number as u32)
+}
+
+/// Prints how much stack the kernel of an object needs, beside the words that the check names.
+///
+/// The object is got, read and opened; its kernel's longest chain of calls from `dispatch` is printed with its words, or the loop of calls
+/// that it has. No file and no sector changes. The status is that of `run`.
+pub fn check_object<S: Shelf, O: Sink>(
+    alloc: Global,
+    check: &Check,
+    shelf: &mut S,
+    out: &mut O,
+) -> Status
+    ensures ends { EndsAs (command.check (check_view check.now)) (beside S.Shelf O.Sink) result (shelf.old, out.old) (shelf.new, out.new) }
+    ensures causes { (disk : Drive) → Causes (beside S.Shelf O.Sink disk) result (shelf.old, out.old) (shelf.new, out.new) }
+{
+    match stack_text(alloc, check, shelf) {
+        Ok(text) => say(out, &text, Status::Done),
+        Err(Stop::Refused(refusal)) => refuse(&refusal, out),
+        Err(Stop::Shelf) => Status::Shelf,
+        Err(Stop::Memory) => Status::Memory,
+    }
+}
+
+/// Gets an object, reads and opens it: the text of how much stack its kernel needs.
+pub fn stack_text<S: Shelf>(alloc: Global, check: &Check, shelf: &mut S) -> Result<Vec<u8>, Stop>
+    ensures comes { IfPlan told_text (IsCheckPlan (S.file shelf.old) (check_view check.now)) result }
+    ensures long { IsErrOf result (Stop.Refused Refusal.TooLong) ↔ (S.taken shelf.new ≡ TOO_LONG) }
+    ensures count { PlanCounts (S.faults shelf.old) (S.faults shelf.new) result }
+    ensures files { (n : List ℕ) → S.file shelf.new n ≡ S.file shelf.old n }
+{
+    let object = shelf.get(alloc, check.object)?;
+    object_text(alloc, &object, check.stack)
+}
+
+// What is told of the object that bytes are.
+fn object_text(alloc: Global, bytes: &[u8], stack: u32) -> Result<Vec<u8>, Stop>
+    ensures comes { IfPlan told_text (IsPlan ⊤ (AfterChecked stack bytes.now)) result }
+    ensures inside { IfErr result (λ s. s ≢ Stop.Shelf) }
+    ensures short { IsErrOf result (Stop.Refused Refusal.TooLong) → ⊥ }
+{
+    bytes_have_one_answer();
+    sources_have_one_answer();
+    answers_are_one();
+    let object = read(alloc, bytes)?;
+    let unit = open_object(alloc, &object)?;
+    match unit_text(alloc, &unit, stack) {
+        Ok(text) => Ok(text),
+        Err(_) => Err(Stop::Memory),
+    }
+}
+
+// What is told of a checked unit.
+fn unit_text(alloc: Global, unit: &Checked, stack: u32) -> Result<Vec<u8>, AllocError>
+    ensures { IfOk result (λ text. TellsUnit stack (unit_view unit.now) text.items) }
+{
+    let answer = bound(alloc, unit)?;
+    answer_text(alloc, unit.unit(), &answer, stack)
+}

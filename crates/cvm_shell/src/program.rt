@@ -1,0 +1,115 @@
+// The image of a user program: its source, read, checked and compiled.
+ghost use Rattle.std.specs.Prelude.{◌≡◌, ◌≢◌, ◌≤◌, ◌↔◌, ⊤, ℕ, List, length, IfOk, IfErr, IfSome, IfNone, IsErrOf, Some, option_map};
+ghost use Rattle.cvm_outside.specs.Told.{TOO_LONG};
+ghost use Rattle.cvm_shell.specs.Command as command;
+ghost use Rattle.cvm_shell.specs.CompileProgram as compiling;
+ghost use Rattle.cvm_shell.specs.Outcome.{Causes};
+ghost use Rattle.cvm_shell.specs.Outside.{Drive, beside};
+ghost use Rattle.cvm_shell.specs.Plan.{AfterProgram, IsPlan};
+ghost use Rattle.cvm_shell.specs.Stages.{program_stop, EndsAs, PlanCounts, runnable, IsProgramPlan};
+ghost use Rattle.cvm_shell.specs.Views.{program_view, IfPlan};
+
+use crate::assembly::little_endian;
+use crate::boot::Stop;
+use crate::refusal::Refusal;
+use crate::saying::refuse;
+use crate::status::Status;
+use c0_meaning::laws::least_fault_is_there;
+use c0_types::read_program;
+use cvm_outside::{Shelf, Sink};
+use std::alloc::Global;
+use user_c0::{UserFault, compile_user};
+
+/// The command `compile program SRC IMG`.
+#[derive(Clone, Copy, Drop)]
+pub struct CompileProgram<'a> {
+    /// The name of the source's file.
+    pub source: &'a str,
+    /// The name of the image's file.
+    pub image: &'a str,
+}
+
+impl From<UserFault> for Stop {
+    ghost from_gives = { λ f e. e ≡ program_stop f };
+
+    fn from(fault: UserFault) -> Self {
+        match fault {
+            UserFault::Memory => Stop::Memory,
+            fault => Stop::Refused(Refusal::BadProgram(fault)),
+        }
+    }
+}
+
+/// Reads the words of a compilation of a user program, None where they aren't those of one.
+pub fn read_compile_program(words: &Vec<String>) -> Option<CompileProgram<'_>>
+    ensures found { IfSome result (λ c. compiling.IsCompileProgram (command.texts words.now.items) (program_view c)) }
+    ensures only { (c : compiling.CompileProgram) → compiling.IsCompileProgram (command.texts words.now.items) c → option_map program_view result ≡ Some c }
+    ensures none { IfNone result ((c : compiling.CompileProgram) → compiling.IsCompileProgram (command.texts words.now.items) c → ⊥) }
+{
+    let [word, kind, source, image] = words.as_slice() else {
+        return None;
+    };
+    if word.as_str() != "compile" {
+        return None;
+    }
+    if kind.as_str() != "program" {
+        return None;
+    }
+    Some(CompileProgram {
+        source: source.as_str(),
+        image: image.as_str(),
+    })
+}
+
+/// Gets the source of a user program, reads, checks and compiles it: the bytes of the program's image, which is its words, each
+/// little-endian, and nothing else.
+pub fn program_image<S: Shelf>(
+    alloc: Global,
+    names: &CompileProgram,
+    shelf: &mut S,
+) -> Result<Vec<u8>, Stop>
+    ensures comes { IfPlan (runnable (program_view names.now)) (IsProgramPlan (S.file shelf.old) (program_view names.now)) result }
+    ensures long { IsErrOf result (Stop.Refused Refusal.TooLong) ↔ (S.taken shelf.new ≡ TOO_LONG) }
+    ensures count { PlanCounts (S.faults shelf.old) (S.faults shelf.new) result }
+    ensures files { (n : List ℕ) → S.file shelf.new n ≡ S.file shelf.old n }
+{
+    let source = shelf.get(alloc, names.source)?;
+    compiled_program(alloc, &source)
+}
+
+// The bytes of the image that a source comes to.
+fn compiled_program(alloc: Global, source: &[u8]) -> Result<Vec<u8>, Stop>
+    ensures comes { (c : compiling.CompileProgram) → IfPlan (runnable c) (IsPlan ⊤ (AfterProgram c.image source.now)) result }
+    ensures inside { IfErr result (λ s. s ≢ Stop.Shelf) }
+    ensures short { IsErrOf result (Stop.Refused Refusal.TooLong) → ⊥ }
+{
+    least_fault_is_there();
+    let unit = read_program(alloc, source)?;
+    let words = compile_user(alloc, &unit)?;
+    match little_endian(alloc, &words) {
+        Ok(image) => Ok(image),
+        Err(_) => Err(Stop::Memory),
+    }
+}
+
+/// Puts the image of a user program, whose source is got, read, checked and compiled.
+pub fn compile_program<S: Shelf, O: Sink>(
+    alloc: Global,
+    names: &CompileProgram,
+    shelf: &mut S,
+    out: &mut O,
+) -> Status
+    ensures ends { EndsAs (command.compile_program (program_view names.now)) (beside S.Shelf O.Sink) result (shelf.old, out.old) (shelf.new, out.new) }
+    ensures causes { (disk : Drive) → Causes (beside S.Shelf O.Sink disk) result (shelf.old, out.old) (shelf.new, out.new) }
+{
+    let image = match program_image(alloc, names, shelf) {
+        Ok(image) => image,
+        Err(Stop::Refused(refusal)) => return refuse(&refusal, out),
+        Err(Stop::Shelf) => return Status::Shelf,
+        Err(Stop::Memory) => return Status::Memory,
+    };
+    match shelf.put(names.image, &image) {
+        Ok(()) => Status::Done,
+        Err(_) => Status::Shelf,
+    }
+}

@@ -1,0 +1,25 @@
+// Where the layer and the code of a unit meet.
+
+ghost use Rattle.std.specs.Prelude.{◌≡◌, ◌*◌};
+ghost use Rattle.layer_map.specs.Map.{layer_words, primitives_at, exits_at, leave_at};
+
+/// The address at which the layer enters a unit's code, which is its first.
+pub const ENTRY: u32 = 0x10000;
+
+/// The address at which the unit's code enters primitive 0. The other primitives follow by their numbers, to 9, a word each.
+pub const PRIMITIVES: u32 = 0x2000;
+
+/// The address at which a use of null leaves the unit's code. The exits of an index out of bounds, a division by 0 and a want of stack
+/// follow, a word each.
+pub const EXITS: u32 = 0x2028;
+
+/// The address at which the unit's code leaves once its first function has returned.
+pub const LEAVE: u32 = 0x2038;
+
+/// A law: the constants are the addresses of the words that the map's definitions name.
+pub fn entries_are_words()
+    ensures entry { ENTRY ≡ 4 * layer_words }
+    ensures primitives { PRIMITIVES ≡ 4 * primitives_at }
+    ensures exits { EXITS ≡ 4 * exits_at }
+    ensures leave { LEAVE ≡ 4 * leave_at }
+{}

@@ -1,0 +1,30 @@
+-- What a user program is compiled to, and why it isn't.
+use Rattle.std.specs.Prelude.{◌≡◌, ℕ, ◌<◌, List, [], ◌∷◌, length}
+use Rattle.c0_tree.specs.declared.primitive.Program.TheVariants.{User}
+use Rattle.c0_tree.specs.declared.tree.Unit.{Unit as Source}
+use Rattle.c0_tree.specs.Tree.{CUnit}
+use Rattle.c0_tree.specs.View.{unit_view}
+use Rattle.c0_meaning.specs.Unit.{IsCheckedAs}
+use Rattle.layer_map.specs.Map.{tables_at}
+use Rattle.user_c0.specs.declared.fault.UserFault.{UserFault}
+use Rattle.user_c0.specs.declared.fault.UserFault.TheVariants.{TooLarge, Memory}
+use Rattle.user_c0.specs.Image.{map_of, image_words}
+use Rattle.user_c0.specs.Program.{MAX_IMAGE}
+
+-- what is printed of a fault: its number, and the words of an image that is too large
+abbrev pub fault_number : UserFault → ℕ
+fault_number (TooLarge words) = 37
+fault_number Memory = 38
+
+abbrev pub fault_fields : UserFault → List ℕ
+fault_fields (TooLarge words) = words ∷ []
+fault_fields Memory = []
+
+-- A LAW: an image has as many words as its parts take, which is whole pages
+abbrev pub ImagesAreWhole : Type 0
+ImagesAreWhole = (s : Source) → IsCheckedAs User (unit_view s) → length (image_words (unit_view s)) ≡ tables_at (map_of (unit_view s))
+
+-- a program is refused for its size where its image has more words than an image may have, and these are its words
+abbrev pub IsFaultOf : CUnit → UserFault → Type 0
+IsFaultOf u (TooLarge words) = (words ≡ length (image_words u)) × (MAX_IMAGE < length (image_words u))
+IsFaultOf u Memory = Unit {0}

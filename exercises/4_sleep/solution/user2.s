@@ -1,0 +1,2 @@
+# Runs whenever nobody else can.
+idle:   j idle

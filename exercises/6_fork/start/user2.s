@@ -1,0 +1,1 @@
+# The child: it begins with no word, and is made by the fork.

@@ -1,0 +1,1 @@
+"""Draws what a run printed. No part of what is proved."""

@@ -1,0 +1,274 @@
+"""Habits from C that a source of C0 is refused for, each by the sentence that names it."""
+import re
+
+from explain import places
+
+TOKEN = re.compile(rb'//[^\n]*|/\*|[A-Za-z_]\w*|\d+|->|==|!=|<=|>=|&&|\|\||"[^"\n]*"?|[^\s]')
+
+# What a word of C stands for that C0 has not, by the word.
+FOREIGN = {
+    'for': "C0 has no 'for': assign first, then write 'while (..) { .. }' with the step as its last statement",
+    'do': "C0 has no 'do': write 'while (..) { .. }', with a bool that is true at first",
+    'switch': "C0 has no 'switch': write an 'if' for each value",
+    'case': "C0 has no 'switch': write an 'if' for each value",
+    'break': "C0 has no 'break': let the loop's condition be a bool that a statement sets",
+    'continue': "C0 has no 'continue': put the rest of the body into an 'if'",
+    'goto': "C0 has no 'goto'",
+    'void': "C0 has no 'void': a function answers an int or a bool, and takes nothing by '()'",
+    'char': "C0 has no 'char': its scalars are int, bool and pointers",
+    'long': "C0 has no 'long': an int has 32 bits",
+    'short': "C0 has no 'short': an int has 32 bits",
+    'unsigned': "C0 has no 'unsigned': an int is signed and has 32 bits",
+    'signed': "C0 has no 'signed': an int is signed as it stands",
+    'float': "C0 has no 'float'",
+    'double': "C0 has no 'double'",
+    'const': "C0 has no 'const'",
+    'static': "C0 has no 'static': a variable that stays from one dispatch to the next is a global",
+    'extern': "C0 has no 'extern': a kernel is one source",
+    'typedef': "C0 has no 'typedef': write the type out, as 'struct s'",
+    'enum': "C0 has no 'enum': write the numbers",
+    'union': "C0 has no 'union'",
+    'sizeof': "C0 has no 'sizeof': 'new T' takes an object of a type",
+    'malloc': "C0 has no 'malloc': 'p = new T;' takes an object of a type, and null stands for a full heap",
+    'free': "C0 has no 'free': nothing is given back",
+    'printf': "C0 has no 'printf': 'ok = con_put(w);' logs a word",
+    'NULL': "the null pointer is written 'null'",
+    'uint32_t': "C0 has no 'uint32_t': an int is signed and has 32 bits",
+    'int32_t': "C0 has no 'int32_t': an int has 32 bits",
+}
+BYTES = {
+    b'#': "C0 has no lines with '#': no 'include' and no 'define'",
+    b'"': "C0 has no strings: the console takes words, by 'con_put'",
+    b"'": "C0 has no characters in quotes: write the number, as 65 for 'A'",
+    b'|': "C0 has '||' alone; bits are put together in a function of instructions, as 'int bits(int a, int b) asm { or r2, r4, r5 }'",
+    b'^': "C0 has no '^': write a function of instructions, as 'int differ(int a, int b) asm { xor r2, r4, r5 }'",
+    b'~': "C0 has no '~': the bits of x turned are '-x - 1'",
+    b'?': "C0 has no 'a ? b : c': write an 'if' with an 'else'",
+    b':': "C0 has no labels, no 'case', and no 'a ? b : c'",
+    b'\\': "C0 has no '\\' at the end of a line",
+}
+TYPES = ('int', 'bool', 'struct')
+RESERVED = TYPES + ('if', 'else', 'while', 'return', 'new', 'true', 'false', 'null', 'asm')
+
+
+def tokens(data):
+    """The tokens of a source as pairs of a place and a text; comments are none."""
+    found = []
+    for match in TOKEN.finditer(data):
+        if not match.group().startswith(b'//'):
+            found.append((match.start(), match.group().decode('utf-8', errors='replace')))
+    return found
+
+
+class Before:
+    """The tokens before a place, the last one first, and those from it on."""
+
+    def __init__(self, data, at):
+        found = tokens(data)
+        self.back = [text for place, text in found if place < at][::-1] + [''] * 8
+        self.here = [text for place, text in found if place >= at] + [''] * 8
+        last = max([place for place, text in found if place < at], default=0)
+        first = min([place for place, text in found if place >= at], default=len(data))
+        self.new_line = b'\n' in data[last:first]
+        self.glued = [text for place, text in found if place + len(text.encode()) == at]
+
+    def statement(self):
+        """The tokens of the statement so far, in order."""
+        part = []
+        for text in self.back:
+            if text in (';', '{', '}', ''):
+                break
+            part.append(text)
+        return part[::-1]
+
+
+def is_name(text):
+    return bool(re.fullmatch(r'[A-Za-z_]\w*', text))
+
+
+def first_foreign(words):
+    """The sentence on the first word of C that C0 has not."""
+    return next((FOREIGN[word] for word in words if word in FOREIGN), None)
+
+
+def declaration(near, part):
+    """Habits in declarations: values, several names, lengths behind the name, and places."""
+    here = near.here[0]
+    if part and part[0] in TYPES and is_name(near.back[0]):
+        if here == '=':
+            name = near.back[0]
+            return "a declaration has no value in C0: write '%s %s;' among the declarations, which begin as 0, false or null, and '%s = ..;' behind them" % (' '.join(part[:-1]), name, name)
+        if here == ',' and '(' not in part:
+            return "one declaration has one name: write '%s;' and a declaration for each further name" % ' '.join(part)
+        if here == '[':
+            return "the length stands with the type: 'int[4] a;' in place of 'int a[4];'"
+    if here in TYPES:
+        return 'declarations stand first in a function, before its first statement; none stands in a block'
+    first = part[0] if len(part) == 1 else here if not part else ''
+    second = here if len(part) == 1 else near.here[1]
+    if is_name(first) and is_name(second) and first not in RESERVED:
+        return "a type is 'int', 'bool' or 'struct %s', each with '*' or '[n]' behind it" % first
+    return None
+
+
+def statement(near, part):
+    """Habits in statements: calls without an answer, short forms, blocks without braces, and where 'return' stands."""
+    here, back = near.here[0], near.back
+    if here == '(' and part and is_name(part[-1]) and len(part) == 1:
+        return "a call needs its answer taken: 'ok = %s(..);', with a variable of its type" % part[0]
+    behind = near.here[1]
+    if here in ('+', '-') and behind == here and '=' not in part:
+        return "C0 has no '%s%s': write 'x = x %s 1;'" % (here, here, here)
+    if here in ('+', '-', '*', '/', '%') and behind == '=' and '=' not in part:
+        return "C0 has no '%s=': write 'x = x %s ..;'" % (here, here)
+    if here == '=' and '=' in part:
+        return "an assignment is no expression in C0: write one statement for each"
+    if here == 'if' and back[0] == 'else':
+        return "C0 has no 'else if': write 'else { if (..) { .. } }'"
+    if back[0] == 'else' or (back[0] == ')' and part and part[0] in ('if', 'while') and is_closed(part)):
+        return "the parts of 'if' and 'while' have braces: '{ x = 1; }'"
+    if here == 'return':
+        return "a function returns once, at its end: keep the answer in a variable until there"
+    if back[0] == 'return' and here == ';':
+        return "each function answers a value: 'return 0;'"
+    if here == '}' and not part:
+        return "a function ends in 'return ..;': each answers a value"
+    if back[0] == ';' and near.back[1] and 'return' in last_statement(near.back) and here != '}':
+        return "a function returns once, at its end: nothing stands behind 'return ..;'"
+    if here == ';' and not part:
+        return "C0 has no empty statement: remove the ';'"
+    if here == '{' and not part:
+        return "a block stands only behind 'if', 'else' and 'while'"
+    return None
+
+
+def missing(near, part):
+    """A mark that is missing: the ';' of the statement before, or the brackets of a condition."""
+    here, last = near.here[0], near.back[0]
+    if last in ('if', 'while') and here != '(':
+        return "the condition of '%s' stands in brackets: '%s (..) { .. }'" % (last, last)
+    ended = last in (')', ']', 'true', 'false', 'null') or is_name(last) and last not in RESERVED or last.isdigit()
+    if ended and part and part[0] not in ('if', 'while') and (here == '}' or near.new_line and (is_name(here) or here == '*')):
+        return "a ';' may be missing behind '%s'" % ' '.join(part[-3:])
+    return None
+
+
+def last_statement(back):
+    """The tokens of the statement whose ';' is the first of these, which go backwards."""
+    part = []
+    for text in back[1:]:
+        if text in (';', '{', '}', ''):
+            break
+        part.append(text)
+    return part
+
+
+def is_closed(part):
+    """Whether the brackets of a condition are all closed."""
+    return part.count('(') == part.count(')')
+
+
+def right_side(near, part):
+    """Habits in expressions: calls inside, numbers, shifts, casts."""
+    here, back = near.here[0], near.back
+    number = near.glued[0] if near.glued else ''
+    if re.fullmatch(r'\d+', number):
+        if number == '0' and re.match(r'[xX]', here):
+            return "numbers are decimal in C0: write '%s' as %s" % (number + here, decimal(number + here))
+        if is_name(here):
+            return "a number has no letters behind it: '%s' alone" % number
+    if here in ('<', '>') and back[0] == here:
+        return "C0 has no shift '%s%s': multiply or divide by a power of two, or write a function of instructions with 'sllv' or 'srav'" % (here, here)
+    if here == '*' and back[0] == '/':
+        return "C0's comments go from '//' to the end of the line: there is no '/* .. */'"
+    if back[0] == '=' and here == '{':
+        return "C0 has no lists of values: assign each element"
+    if here == '(' and is_name(back[0]) and back[0] not in RESERVED and len(part) > 1:
+        return "a call stands only as the whole right side of an assignment: 'x = %s(..);' first, then use x" % back[0]
+    if '=' in part and '(' in part and back[0] == ')' and here in ('+', '-', '*', '/', '%', '<', '>', '<=', '>=', '==', '!=', '&&', '||', '.', '->', '['):
+        return "a call stands only as the whole right side of an assignment: keep its answer in a variable first"
+    if here in ('<', '<=', '>', '>=', '==', '!='):
+        return "comparisons do not chain: write 'a < b && b < c'"
+    if here == 'new':
+        return "'new T' stands only as the whole right side of an assignment"
+    if here == '&' and (is_name(back[0]) or back[0].isdigit() or back[0] in (')', ']')):
+        return "C0 has '&&' and no '&' of bits: write a function of instructions, as 'int both(int a, int b) asm { and r2, r4, r5 }'"
+    if here in TYPES and back[0] == '(':
+        return 'C0 has no casts'
+    return None
+
+
+def decimal(text):
+    """A hexadecimal number in decimal, where it is one of 32 bits."""
+    try:
+        value = int(text, 16)
+    except ValueError:
+        return 'a decimal'
+    if value > 2147483647:
+        return '%d, the int with these bits' % (value - 4294967296) if value < 4294967296 else 'a decimal'
+    return str(value)
+
+
+def unexpected(data, at):
+    """The habit behind a token that can't stand where it stands (12)."""
+    near = Before(data, at)
+    part = near.statement()
+    if near.here[0] == '/*' or data[at - 1:at + 1] == b'/*' or data[at:at + 2] == b'/*':
+        return "C0's comments go from '//' to the end of the line: there is no '/* .. */'"
+    word = first_foreign([near.here[0]]) or first_foreign(part)
+    return word or missing(near, part) or declaration(near, part) or right_side(near, part) or statement(near, part)
+
+
+def bad_byte(data, at):
+    """The habit behind a byte that begins no token (10)."""
+    byte = data[at:at + 1]
+    if byte in BYTES:
+        return BYTES[byte]
+    if byte >= b'\x80':
+        return 'a source is of ASCII but for its comments: no letters with accents, and no quotes, blanks or dashes of a text processor'
+    return None
+
+
+def unknown(data, start, end):
+    """The habit behind a name that nothing has (20)."""
+    name = data[start:end].decode('utf-8', errors='replace')
+    return FOREIGN.get(name)
+
+
+def wrong_type(data, start, end):
+    """The habit behind a wrong type (22)."""
+    near = Before(data, start)
+    part = near.statement()
+    text = data[start:end].decode('utf-8', errors='replace')
+    if near.back[0] == '(' and near.back[1] in ('if', 'while'):
+        return "a condition is a bool: '%s != 0' where an int is meant" % text
+    if text.startswith('!'):
+        return "'!' takes a bool: 'x == 0' where an int is meant"
+    if '=' in part and (text in ('true', 'false') or (text.isdigit() and part[-1] == '=')):
+        return "an int takes a number and a bool 'true' or 'false': neither becomes the other by itself"
+    return None
+
+
+def number(data, at):
+    """The habit behind a number that is none (11)."""
+    text = places.readable(data[at:at + 12])
+    if re.match(r'0\d', text):
+        return 'numbers are decimal in C0, with no 0 before a further digit'
+    return None
+
+
+def habit(key, data, start, end):
+    """The sentence that names the habit behind a refusal of a source; None where there is none to name."""
+    if key == 10:
+        return bad_byte(data, start)
+    if key == 11:
+        return number(data, start)
+    if key == 12:
+        return unexpected(data, start)
+    if key == 20:
+        return unknown(data, start, end)
+    if key == 22:
+        return wrong_type(data, start, end)
+    if key == 25:
+        return "no pointer points to a local in C0: make it a global, or an object by 'new'"
+    return None

@@ -1,0 +1,302 @@
+"""What a command came to, in sentences: by its status, its words and the last row that it printed."""
+import os
+import re
+
+from explain import asm_habits, c_habits, files, pages, places, steps, words
+
+# The number of docs/REFUSALS.md that says what to do where a command finds no memory.
+MEMORY = {'compile user': '8', 'compile program': '38', 'compile': '15', 'link': '64', 'check': '64', 'migrate': '57'}
+
+
+class Way:
+    """How the one who reads is to give a word again: as a word of the command."""
+
+    def __init__(self, command, tool='./cvm'):
+        self.tool = tool
+        self.first = command[0] if command else ''
+
+    def steps(self, number):
+        return 'STEPS %d' % number
+
+    def turns(self, number):
+        return 'TURNS %d' % number
+
+    def shown(self, name):
+        """The name by which a file is known to the one who reads."""
+        return name
+
+
+class FolderWay(Way):
+    """The same for a folder that ./try runs: by options, and with the names of its sources."""
+
+    def __init__(self, command, names):
+        Way.__init__(self, command, './try')
+        self.names = names
+
+    def steps(self, number):
+        return '--steps %d' % number
+
+    def turns(self, number):
+        return '--turns %d' % number
+
+    def shown(self, name):
+        return self.names.get(name, name)
+
+
+def row_of(key):
+    """A row of docs/REFUSALS.md as a sentence: the name, when it comes, and what to do."""
+    row = pages.refusals().get(key)
+    if row is None:
+        return 'docs/REFUSALS.md has no row for it.'
+    return '%s: %s. What to do: %s.' % (row.name, row.when, row.remedy)
+
+
+def remedy(key):
+    row = pages.refusals().get(key)
+    return row.remedy if row else 'docs/REFUSALS.md'
+
+
+def source_place(key, fields, name, data):
+    """The place of a fault of a source (10 to 14, 20 to 39) and the habit behind it."""
+    if not fields or key == 37:
+        return []
+    start = fields[0]
+    end = fields[1] if key >= 20 and len(fields) > 1 else start + 1
+    if data is None or start > len(data):
+        return []
+    if key in (29, 31, 36) and start == 0:
+        return ['%s: the whole source' % name]
+    said = [places.shown(name, data, start, end)]
+    if key == 32 and len(fields) > 2:
+        number, _, _ = places.line_at(data, start)
+        said = [places.shown_line(name, data, number + fields[2] - 1)]
+    found = c_habits.habit(key, data, start, end)
+    return said + (['cvm: ' + found + '.'] if found else [])
+
+
+def text_place(key, fields, name, data):
+    """The place of a fault of a user's text (1 to 7) and the habit behind it."""
+    if data is None or not fields:
+        return []
+    if key == 1:
+        return [places.shown(name, data, fields[0], fields[0] + 1)]
+    start, end = places.span_of_line(data, fields[0])
+    found = asm_habits.habit(key, places.readable(data[start:end].rstrip(b'\r')))
+    return [places.shown_line(name, data, fields[0])] + (['cvm: ' + found + '.'] if found else [])
+
+
+def row_habit(data, number):
+    """What a row of parameters or of a schedule has that it may not have."""
+    start, end = places.span_of_line(data, number)
+    line = data[start:end]
+    if line.endswith(b'\r'):
+        return "the line ends in CR LF, as Windows writes it, and is to end in LF alone: sed -i 's/\\r$//' FILE mends all lines"
+    if b'\t' in line or b'  ' in line:
+        return 'one space, and no tab, stands between two words'
+    if line != line.strip():
+        return 'no blank stands before the first word or behind the last one'
+    if line == b'':
+        return 'the line is empty, or missing'
+    if line.startswith((b'#', b'//')):
+        return 'these files have no comments'
+    if re.search(rb'\b0[xX]', line):
+        return 'numbers are decimal'
+    if re.search(rb' -\d', line):
+        return 'no number has a sign: a negative word W is written as 4294967296 + W'
+    if re.search(rb' 0\d', line):
+        return 'no number has a 0 before a further digit'
+    if line != line.lower():
+        return 'the words are in lower case'
+    return None
+
+
+def row_place(name, number):
+    """The place of a line of parameters or of a schedule, and what is odd in it."""
+    data = files.content(name)
+    if data is None:
+        return [], None
+    return data, row_habit(data, number)
+
+
+def object_source(name):
+    """The source in an object or an image; None where there is none to be read."""
+    data = files.content(name) or b''
+    word = lambda at: int.from_bytes(data[at:at + 4], 'little')
+    if data[:4] == b'CVMO':
+        return data[16:16 + word(8)]
+    if data[:4] == b'CVMI' and word(4) == 1:
+        return data[12:12 + word(8)]
+    if data[:4] == b'CVMI':
+        start = 36 + 4 * word(8)
+        return data[start:start + word(28)]
+    return None
+
+
+def located(key, fields, command, way):
+    """The lines that say where a refusal's cause stands."""
+    form = words.form_of(command)
+    head = ' '.join(words.literal(form)) if form else ''
+    gets, _ = words.files(command)
+    if key <= 7 and head == 'compile user' and gets:
+        return text_place(key, fields, way.shown(gets[0]), files.content(gets[0]))
+    if key < 40 and head.startswith('compile') and gets:
+        return source_place(key, fields, way.shown(gets[0]), files.content(gets[0]))
+    if key in (54, 55, 68, 69) and gets and fields:
+        inner = 'the source in ' + way.shown(gets[0])
+        return ["cvm: the source's own fault is %d: %s" % (fields[0], row_of(str(fields[0])))] \
+            + source_place(fields[0], fields[1:], inner, object_source(gets[0]))
+    if key == 66 and len(gets) > 1 and fields:
+        return line_of(gets[1], fields[0], way)
+    if 70 <= key <= 74 and len(gets) > 1 and fields:
+        return line_of(gets[1], fields[0], way)
+    if key in (61, 65) and fields and len(gets) > fields[0] + 1:
+        return ['cvm: user %d is %s.' % (fields[0], way.shown(gets[fields[0] + 1]))] + given_text(gets[fields[0] + 1], key)
+    if key == 62 and len(gets) > 1 and fields:
+        return line_of(gets[1], fields[0], way)
+    if key in (40, 50) and gets:
+        return what_it_is(gets[0], way)
+    if 100 <= key <= 106 and len(gets) > 2:
+        return ['cvm: the saved run is %s.' % way.shown(gets[2])]
+    found = [name for name in gets if files.get_fault(name)]
+    return ['cvm: %s.' % files.get_fault(found[0])] if key == 81 and found else []
+
+
+def line_of(name, number, way):
+    """A line of parameters or of a schedule, with its mark, and what is odd in it."""
+    data, habit = row_place(name, number)
+    if data == []:
+        return []
+    return [places.shown_line(way.shown(name), data, number)] + (['cvm: %s.' % habit] if habit else [])
+
+
+def given_text(name, key):
+    """That a text was given in place of an image of a user."""
+    data = files.content(name) or b''
+    if key == 65 and data and all(byte < 127 for byte in data):
+        return ["cvm: it is a text: './cvm compile user' makes an image of it."]
+    return []
+
+
+def what_it_is(name, way):
+    """What a file looks like that has not the mark which is asked for."""
+    data = (files.content(name) or b'')[:4]
+    kinds = {b'CVMO': "an object, which 'link' takes", b'CVMI': "an image, which 'boot' takes"}
+    if data in kinds:
+        return ['cvm: %s is %s.' % (way.shown(name), kinds[data])]
+    if data and all(9 <= byte < 127 for byte in data):
+        return ["cvm: %s is a text, and nothing that 'compile' or 'link' wrote." % way.shown(name)]
+    return []
+
+
+def refusal(numbers, command, way):
+    """A refusal with its fields, its place, and what to do."""
+    key, fields = numbers[0], numbers[1:]
+    said = located(key, fields, command, way)
+    with_fields = ' with %s' % ' '.join(map(str, fields)) if fields else ''
+    return said + ['cvm: refusal %d%s, %s' % (key, with_fields, row_of(str(key)))]
+
+
+def kernel_fault(printed, command, way):
+    """The fault of a kernel: its turn, how to look at it, and what it is."""
+    found = re.search(r'(?:turn (\d+) .*)?fault (\w+)$', printed)
+    if not found:
+        return ['cvm: the kernel met a fault, which the last row names: docs/REFUSALS.md has each with what to do.']
+    turn, name = found.group(1), found.group(2)
+    said = ['cvm: the kernel met the fault %s%s: %s' % (name, ' in turn %s' % turn if turn else '', row_of(name))]
+    if turn and int(turn) > 0:
+        said.append('cvm: to look at it, run with %s: the report then shows globals and users as they stood before that turn.' % way.turns(int(turn)))
+    elif turn:
+        said.append('cvm: it is the first call, dispatch(0, 0, 0), before any user ran: all globals were 0, false or null.')
+    else:
+        said.append("cvm: a boot of the same words names the turn.")
+    return said
+
+
+def missing_file(command):
+    """Which file could not be had: the first one to be got that can't be, or else the one to be put."""
+    gets, puts = words.files(command)
+    for name in gets:
+        fault = files.get_fault(name)
+        if fault:
+            return fault
+    for name in puts:
+        fault = files.put_fault(name)
+        if fault:
+            return fault
+    if puts:
+        return "'%s' could not be written to its end, perhaps for want of room, or a file could not be read that can be now" % puts[0]
+    return '%s could not be read to its end, and can be now: run it again' % ' or '.join("'%s'" % name for name in gets)
+
+
+def spent(command, way):
+    """What to say where the steps are spent."""
+    if command[0] == 'sample':
+        return 'the steps of a sample, 4,000,000,000, were spent; no word gives it more.'
+    number = lambda name: int(words.value(command, name) or 0)
+    return steps.advice(number('STEPS'), number('TURNS'), words.value(command, 'IMAGE'), words.value(command, 'SCHEDULE'), way)
+
+
+def no_memory(command):
+    """What helps where there was no memory for a command."""
+    keys = [MEMORY.get(' '.join(command[:2])), MEMORY.get(command[0], '92')]
+    help_of = remedy(next(key for key in keys if key in pages.refusals()))
+    return help_of.split(',')[0] if command[0] in ('sample', 'check') else help_of
+
+
+def bad_words(command, way):
+    """Which word is bad, and the forms of the commands."""
+    fault = words.fault(command) or 'the words are no command of this program'
+    return ['cvm: %s.' % fault, 'cvm: the commands are:'] + ['  %s %s' % (way.tool, ' '.join(form)) for form in pages.forms()]
+
+
+def check_answer(rows, stack):
+    """What the two rows of a `check` say of so many words of stack."""
+    answer = rows[0] if len(rows) == 2 else ''
+    if answer.startswith('yes '):
+        return ["cvm: %s words of stack are enough: no chain of calls has more than %s, which the one above has. No boot of an image of this source with "
+                "'stack %s' or more ends with 'fault StackOut'." % (stack, answer[4:], stack)]
+    if answer == 'no cycle':
+        return ["cvm: the functions above call one another in a loop, so no number of words is enough for all that the source says. Whether a run goes "
+                "round so often is not told: docs/KERNELS.md, 'How much stack?'."]
+    if answer.startswith('no '):
+        return ["cvm: the chain of calls above has %s words, more than %s. Raise 'stack' in the parameters, or make large locals globals: docs/KERNELS.md, "
+                "'How much stack?'. Whether a run makes these calls is not told." % (answer[3:], stack)]
+    return []
+
+
+def explain(status, command, rows, way=None):
+    """The lines that say what a status means; `rows` are the last two rows that the command printed. Of status 0 only a `check` has more to say."""
+    way = way or Way(command)
+    printed = rows[-1] if rows else ''
+    if status == 0:
+        return check_answer(rows, command[-1]) if command[:1] == ['check'] else []
+    if status < 0 or status > 8:
+        number = -status if status < 0 else status - 128
+        return ['cvm: the program was stopped by the signal %d; nothing of what it printed can be relied on.' % number if 0 < number < 65
+                else 'cvm: the program ended with the status %d, which it never has by itself.' % status]
+    if status == 1:
+        return bad_words(command, way)
+    found = re.fullmatch(r'refused((?: \d+| -\d+)+)', printed)
+    if found and status in (2, 5, 6):
+        return refusal([int(word) for word in found.group(1).split()], command, way)
+    if status == 2:
+        return ['cvm: the input has a fault, which the printed row names: docs/REFUSALS.md.']
+    if status == 3:
+        return kernel_fault(printed, command, way)
+    if status == 4:
+        return ['cvm: ' + spent(command, way)]
+    if status == 5:
+        return ['cvm: the disk failed: %s.%s' % (remedy('94'), disk_fault())]
+    if status == 6:
+        return ['cvm: a file could not be had: %s.' % missing_file(command)]
+    if status == 7:
+        return ['cvm: standard output could not be written to the end: %s.' % remedy('95')]
+    if status == 8:
+        return ['cvm: there was no memory for the run. Nothing was printed, and no file or sector changed. What helps: %s.' % no_memory(command)]
+    return []
+
+
+def disk_fault():
+    """What is odd about the disk in the current folder, where something is."""
+    fault = files.get_fault('cvm.disk') if os.path.lexists('cvm.disk') else files.put_fault('cvm.disk')
+    return ' %s.' % fault.capitalize() if fault and fault[0].islower() else (' ' + fault + '.' if fault else '')

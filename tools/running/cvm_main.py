@@ -1,0 +1,25 @@
+"""./cvm: runs the proved program with the words given, in the current folder, and explains on standard error any status but 0, and the answer of a check."""
+from explain import pages, status as explaining, words as command_words
+from running import program, proved
+from running.guard import say
+
+
+def forms():
+    return ['  ./cvm ' + ' '.join(form) for form in pages.forms()]
+
+
+def bad_words(lines):
+    """What the program prints of words that are no command, with no build."""
+    program.put(b'bad words\n')
+    say(lines)
+    return 1
+
+
+def main(words):
+    if not words or words[0] in ('--help', '-h'):
+        return bad_words(['cvm: compiles kernels and boots them. The commands are:', *forms(), 'docs/FORMATS.md says what each takes and prints.'])
+    if not proved.is_current() and command_words.fault(words):
+        return bad_words(explaining.explain(1, words, ['bad words']))
+    status, rows = program.run_here([*proved.program(), *words])
+    say(explaining.explain(status, words, rows))
+    return status if status >= 0 else 128 - status

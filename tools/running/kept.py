@@ -1,0 +1,194 @@
+"""The program as `rt try` builds it from the sources as they are, with no proof, kept until a source changes.
+
+`rt try` builds a program and runs it once. It is given a command that waits for a pipe; while it waits, the program that was built is copied, with the
+way in which it was started. Each further command runs that copy, so a change of the sources costs one build and every other command none.
+"""
+import fcntl
+import hashlib
+import json
+import os
+import shutil
+import signal
+import subprocess
+import tempfile
+import time
+
+from explain import pages
+
+TOP = pages.TOP
+KEPT = os.path.join(TOP, 'out', 'tried')
+
+
+class NoBuild(Exception):
+    """Why there is no program to run, in a sentence."""
+
+
+def crates_below(name):
+    """A crate and those that it stands on, by crates.txt."""
+    below = {}
+    with open(os.path.join(TOP, 'crates.txt'), encoding='utf-8') as file:
+        for line in file:
+            head, colon, rest = line.partition('#')[0].partition(':')
+            if colon:
+                below[head.split()[0]] = rest.split()
+    found, left = [], [name]
+    while left:
+        crate = left.pop()
+        if crate in below and crate not in found:
+            found.append(crate)
+            left += below[crate]
+    return sorted(found)
+
+
+def sources():
+    """The files that the program is made of."""
+    files = []
+    for crate in crates_below('cvm'):
+        for folder, _, names in os.walk(os.path.join(TOP, 'crates', crate, 'src')):
+            files += [os.path.join(folder, name) for name in names if name.endswith('.rt')]
+    return sorted(files)
+
+
+def toolchain():
+    """The toolchain's command, and a text that changes with it."""
+    rt = shutil.which('rt')
+    if rt is None:
+        raise NoBuild("the Rattle toolchain's command, rt, is not on the path")
+    real = os.path.realpath(rt)
+    about = os.stat(real)
+    return rt, '%s %d %d' % (real, about.st_size, about.st_mtime_ns)
+
+
+def fingerprint(about):
+    """A sum over the toolchain and all sources."""
+    total = hashlib.sha256(about.encode())
+    for path in sources():
+        with open(path, 'rb') as file:
+            data = file.read()
+        total.update(('%s %d\n' % (os.path.relpath(path, TOP), len(data))).encode())
+        total.update(data)
+    return total.hexdigest()[:24]
+
+
+def readers(path):
+    """The processes, other than this one, that have a file open, with the words that started each."""
+    found = []
+    for name in os.listdir('/proc'):
+        if not name.isdigit() or int(name) == os.getpid():
+            continue
+        try:
+            opened = os.listdir('/proc/%s/fd' % name)
+            if any(os.readlink('/proc/%s/fd/%s' % (name, fd)) == path for fd in opened):
+                with open('/proc/%s/cmdline' % name, 'rb') as file:
+                    found.append(file.read().split(b'\0')[:-1])
+        except OSError:
+            continue
+    return found
+
+
+def copy_program(pipe, words, to):
+    """Copies the program that waits for the pipe, and writes down how it was started."""
+    given = [os.fsencode(word) for word in words]
+    for line in readers(pipe):
+        if len(line) > len(given) and line[-len(given):] == given:
+            start = [os.fsdecode(word) for word in line[:-len(given)]]
+            shutil.copy(start[-1], os.path.join(to, 'program'))
+            with open(os.path.join(to, 'start'), 'w', encoding='utf-8') as file:
+                json.dump(start[:-1], file)
+            return
+    raise NoBuild('the program that waits for the pipe could not be found among the processes')
+
+
+def wait_for_reader(pipe, tool):
+    """Waits until the program has opened the pipe to read from it, and gives the end to write to; None where the tool ended before."""
+    while tool.poll() is None:
+        try:
+            return os.open(pipe, os.O_WRONLY | os.O_NONBLOCK)
+        except OSError:
+            time.sleep(0.05)
+    return None
+
+
+def stop(tool):
+    """Ends a tool that this process started, and waits for it."""
+    if tool.poll() is None:
+        tool.send_signal(signal.SIGTERM)
+    tool.wait()
+
+
+def build_into(rt, folder):
+    """Builds the program by one run of the toolchain, and copies it into a folder."""
+    room = tempfile.mkdtemp(prefix='cvm-build-')
+    pipe, image, log = (os.path.join(room, name) for name in ('pipe.s', 'pipe.img', 'log'))
+    os.mkfifo(pipe)
+    words = ['compile', 'user', pipe, image]
+    with open(log, 'wb') as out:
+        tool = subprocess.Popen([rt, 'try', '--seconds', '900', '--', *words], cwd=os.path.join(TOP, 'crates', 'cvm'),
+                                stdin=subprocess.DEVNULL, stdout=out, stderr=out)
+    try:
+        end = wait_for_reader(pipe, tool)
+        if end is None:
+            with open(log, encoding='utf-8', errors='replace') as file:
+                tail = file.read().strip().split('\n')[-20:]
+            raise NoBuild('the toolchain could not run the sources. The end of what it said:\n' + '\n'.join('  ' + line for line in tail))
+        copy_program(pipe, words, folder)
+        os.close(end)
+        tool.wait()
+    finally:
+        stop(tool)
+        shutil.rmtree(room, ignore_errors=True)
+
+
+def take(lock, say):
+    """Takes the lock of those who build, and says so where it has to wait for another call."""
+    try:
+        fcntl.flock(lock, fcntl.LOCK_EX | fcntl.LOCK_NB)
+    except BlockingIOError:
+        say('try: waits for another call, which builds the program.')
+        fcntl.flock(lock, fcntl.LOCK_EX)
+
+
+def build(rt, name, say):
+    """Builds the program, unless another call is at it or has done so, and keeps it under a name in place of all earlier ones."""
+    os.makedirs(KEPT, exist_ok=True)
+    with open(os.path.join(KEPT, 'lock'), 'w', encoding='utf-8') as lock:
+        take(lock, say)
+        kept = os.path.join(KEPT, name)
+        if os.path.isdir(kept):
+            return
+        say('try: builds the sources as they are, with no proof: less than a minute of a processor. The build is kept until a source changes.')
+        new = tempfile.mkdtemp(prefix='new-', dir=KEPT)
+        try:
+            build_into(rt, new)
+            for old in os.listdir(KEPT):
+                path = os.path.join(KEPT, old)
+                if os.path.isdir(path) and path != new:
+                    shutil.rmtree(path, ignore_errors=True)
+            os.rename(new, kept)
+        finally:
+            shutil.rmtree(new, ignore_errors=True)
+
+
+def forget():
+    """Removes what is kept, so that the next call builds."""
+    shutil.rmtree(KEPT, ignore_errors=True)
+
+
+def is_kept():
+    """Whether the program of these sources is there."""
+    try:
+        return os.path.isdir(os.path.join(KEPT, fingerprint(toolchain()[1])))
+    except NoBuild:
+        return False
+
+
+def program(say):
+    """The words that start the program of these sources, which is built where it is not kept."""
+    rt, about = toolchain()
+    name = fingerprint(about)
+    kept = os.path.join(KEPT, name)
+    if not os.path.isdir(kept):
+        build(rt, name, say)
+    with open(os.path.join(kept, 'start'), encoding='utf-8') as file:
+        start = json.load(file)
+    return [*start, os.path.join(kept, 'program')]

@@ -1,0 +1,59 @@
+"""Runs the program with words, its standard output going where it is to go, and keeps the last rows that it printed."""
+import os
+import subprocess
+
+from running.guard import Bad
+
+MOST_OF_A_ROW = 65536
+
+
+def last_rows(text):
+    """The last two lines of bytes that aren't empty, as texts; fewer where there are fewer."""
+    rows = text[-MOST_OF_A_ROW:].decode('utf-8', errors='replace').split('\n')
+    return [row for row in rows if row][-2:]
+
+
+def write(part):
+    """Writes bytes to standard output, all of them."""
+    at = 0
+    while at < len(part):
+        at += os.write(1, part[at:])
+
+
+def put(part):
+    """Writes bytes to standard output; where that fails the tool ends with status 7, as the program does."""
+    try:
+        write(part)
+    except OSError as error:
+        raise Bad('standard output could not be written to the end: %s' % error.strerror, 7) from None
+
+
+def run_here(command):
+    """Runs a command and copies its standard output to this process's. Gives its status and the last rows.
+
+    Where the copy can't be written, the status is 7, as the program's own is then.
+    """
+    program = subprocess.Popen(command, stdin=subprocess.DEVNULL, stdout=subprocess.PIPE)
+    kept, failed = b'', False
+    while not failed:
+        part = os.read(program.stdout.fileno(), 65536)
+        if not part:
+            break
+        kept = (kept + part)[-MOST_OF_A_ROW:]
+        try:
+            write(part)
+        except OSError:
+            failed = True
+    program.stdout.close()
+    status = program.wait()
+    return (7 if failed else status), last_rows(kept)
+
+
+def run_to(command, path, folder=None):
+    """Runs a command in a folder; its standard output goes to a file. Gives its status and the last rows."""
+    with open(path, 'wb') as out:
+        status = subprocess.run(command, cwd=folder, stdin=subprocess.DEVNULL, stdout=out).returncode
+    with open(path, 'rb') as out:
+        out.seek(0, os.SEEK_END)
+        out.seek(max(0, out.tell() - MOST_OF_A_ROW))
+        return status, last_rows(out.read())

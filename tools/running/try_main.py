@@ -1,0 +1,212 @@
+"""./try: a command, or whole systems from their sources, by the program as the sources are, with no proof."""
+import os
+import tempfile
+
+from explain import files, pages, status as explaining, words as command_words
+from running import expected, kept, program, proved, system
+from running.folder import BadFolder, Folder
+from running.guard import Bad, say
+
+HELP = '''./try FOLDER..        compiles, links and boots the system of each folder: kernel.c0, params, schedule, user1.s or user1.c0, user2.s ..
+  --trace USER        prints what this user saw in place of the boot
+  --turns N           so many turns at most, in place of 100000
+  --steps N           so many steps of the machine at most, in place of 1000000 (a quarter of a minute), and of 100000000 with --proved
+  --picture FILE      draws the run, too, as an SVG
+  --expect FILE       prints of each folder only whether the rows of this file come in what it prints, in this order
+  --proved            by the proved program, which ./cvm builds
+./try COMMAND WORD..  one command of the program, as ./cvm COMMAND WORD..
+./try --keep          builds the program and runs nothing. Each ./try keeps its build until a source changes; --anew builds again'''
+
+
+class Options:
+    """The words of ./try: folders or a command, and the options."""
+
+    def __init__(self):
+        self.folders, self.turns, self.given_steps = [], 100000, None
+        self.trace, self.picture, self.expect, self.proved = None, None, None, False
+
+    @property
+    def steps(self):
+        """How many steps are run at most. The program as `rt try` builds it, with its checks, makes some 60,000 in a second; the proved one far more."""
+        if self.given_steps is not None:
+            return self.given_steps
+        return 100000000 if self.proved else 1000000
+
+
+def number_of(word, name, least, most):
+    why = command_words.number_fault(word, least, most)
+    if why:
+        raise Bad("the word behind %s, '%s', %s" % (name, word, why))
+    return int(word)
+
+
+def options_of(words):
+    """Reads the words of a run of folders."""
+    options, left = Options(), list(words)
+    taken = {'--trace': lambda word: setattr(options, 'trace', number_of(word, '--trace', 1, 64)),
+             '--turns': lambda word: setattr(options, 'turns', number_of(word, '--turns', 1, 2**32 - 1)),
+             '--steps': lambda word: setattr(options, 'given_steps', number_of(word, '--steps', 0, 2**64 - 1)),
+             '--picture': lambda word: setattr(options, 'picture', word),
+             '--expect': lambda word: setattr(options, 'expect', word)}
+    while left:
+        word = left.pop(0)
+        if word == '--proved':
+            options.proved = True
+        elif word in taken:
+            if not left:
+                raise Bad('behind %s a word is missing' % word)
+            taken[word](left.pop(0))
+        elif word.startswith('--'):
+            near = command_words.nearest(word, [*taken, '--proved', '--keep', '--anew'])
+            raise Bad("'%s' is no option%s; ./try --help lists them" % (word, ": did you mean '%s'?" % near if near else ''))
+        else:
+            options.folders.append(word)
+    return options
+
+
+def checked(options):
+    """The folders, each with its files, before the toolchain starts."""
+    if not options.folders:
+        raise Bad('no folder is given; ./try --help says what can be')
+    if len(options.folders) > 1 and (options.picture or options.trace):
+        raise Bad('--trace and --picture are for one folder')
+    if options.picture and (options.trace or options.expect):
+        raise Bad('--picture goes with the boot alone: leave out --trace and --expect')
+    fault = options.picture and files.put_fault(options.picture)
+    fault = fault or (options.expect and files.get_fault(options.expect))
+    if fault:
+        raise Bad(fault)
+    found = []
+    for path in options.folders:
+        if not os.path.isdir(path):
+            raise Bad(files.get_fault(path) or "'%s' is no folder" % path)
+        try:
+            found.append(Folder(path))
+        except BadFolder as bad:
+            if len(options.folders) == 1:
+                raise Bad(str(bad)) from None
+            found.append(str(bad))
+    for folder in found:
+        if options.trace and options.trace > len(folder.users):
+            raise Bad('--trace %d: %s has %d users' % (options.trace, folder.path, len(folder.users)))
+    return found
+
+
+def run_folder(start, folder, options, put, say_of):
+    """Runs one folder. Gives the status of the command that ended it."""
+    with tempfile.TemporaryDirectory(prefix='cvm-try-') as work:
+        run = system.Run(start, folder, os.path.realpath(work), put, say_of)
+        status = run.build()
+        if status:
+            return status
+        if options.trace:
+            return run.trace(options.turns, options.steps, options.trace)
+        status = run.boot(options.turns, options.steps)
+        if options.picture and status in (0, 3, 4):
+            draw(run, folder, options)
+        return status
+
+
+def draw(run, folder, options):
+    """Draws a run that was booted, with what each user saw."""
+    from drawing import draw as drawn, rows
+    run.put, run.say = (lambda text: None), (lambda lines: None)
+    for user in range(1, len(folder.users) + 1):
+        run.trace(options.turns, options.steps, user)
+    names = [run.made('trace%d' % user) for user in range(1, len(folder.users) + 1)]
+    try:
+        drawn.draw_files(run.made('boot'), names, options.picture, title=os.path.basename(os.path.abspath(folder.path)), turns=options.turns)
+    except rows.BadText as bad:
+        say("try: '%s' is not drawn: %s" % (options.picture, bad))
+
+
+def start_of(options):
+    """The words that start the program."""
+    if options.proved:
+        return proved.program()
+    try:
+        return kept.program(say)
+    except kept.NoBuild as why:
+        raise Bad(str(why), 70) from None
+
+
+def run_one(start, folder, options):
+    """Runs one folder, whose text goes to standard output."""
+    if not options.expect:
+        return run_folder(start, folder, options, program.put, say)
+    return run_expected(start, folder, options)
+
+
+def run_expected(start, folder, options):
+    """Runs one folder, and says in one line whether it prints what is expected. Gives 0 where it does, and 1 where not."""
+    text, said = [], []
+    status = run_folder(start, folder, options, text.append, said.extend)
+    answer = expected.answer(files.content(options.expect), b''.join(text), status, said)
+    program.put(('%s: %s\n' % (folder.path, answer or 'as expected')).encode())
+    return 1 if answer else 0
+
+
+def run_many(start, folders, options):
+    """Runs many folders by the one build. Gives 0 where each has 0, and else 1."""
+    worst = 0
+    for path, folder in zip(options.folders, folders):
+        if isinstance(folder, str):
+            worst = 1
+            say('try: ' + folder)
+            program.put(('%s: %s\n' % (path, folder) if options.expect else '== %s\nstatus 64\n' % path).encode())
+        elif options.expect:
+            worst = run_expected(start, folder, options) or worst
+        else:
+            program.put(('== %s\n' % path).encode())
+            status = run_one(start, folder, options)
+            program.put(('status %d\n' % status).encode())
+            worst = 1 if status else worst
+    return worst
+
+
+def run_folders(words):
+    options = options_of(words)
+    folders = checked(options)
+    start = start_of(options)
+    return run_one(start, folders[0], options) if len(folders) == 1 else run_many(start, folders, options)
+
+
+def run_command(words):
+    """Runs one command. What is wrong with its words and files is said before the toolchain starts, as the program would."""
+    if command_words.fault(words):
+        program.put(b'bad words\n')
+        say(explaining.explain(1, words, ['bad words'], explaining.Way(words, './try')))
+        return 1
+    gets, puts = command_words.files(words)
+    fault = next((fault for fault in map(files.get_fault, gets) if fault and 'more than' not in fault), None)
+    if not fault and not kept.is_kept():
+        # a build would be spent on a command whose file can't be put
+        fault = next(filter(None, map(files.put_fault, puts)), None)
+    if fault:
+        say('try: a file could not be had: %s.' % fault)
+        return 6
+    status, rows = program.run_here([*start_of(Options()), *words])
+    say(explaining.explain(status, words, rows, explaining.Way(words, './try')))
+    return status if status >= 0 else 128 - status
+
+
+def main(words):
+    if not words or words[0] in ('--help', '-h'):
+        say(['try: runs the sources as they are, with no proof.', HELP, 'The commands are:'] + ['  ./try ' + ' '.join(form) for form in pages.forms()])
+        return 0 if words else 64
+    words = list(words)
+    if words[0] == '--anew':
+        kept.forget()
+        words = words[1:]
+    if words[:1] == ['--keep']:
+        words = words[1:]
+    if not words:
+        start_of(Options())
+        return 0
+    heads = [command_words.literal(form)[0] for form in pages.forms()]
+    if words[0] in heads:
+        return run_command(words)
+    if not words[0].startswith('--') and not os.path.isdir(words[0]) and not os.path.sep in words[0]:
+        near = command_words.nearest(words[0], heads)
+        raise Bad("'%s' is neither a folder nor a command%s; ./try --help lists the commands" % (words[0], ": did you mean '%s'?" % near if near else ''))
+    return run_folders(words)

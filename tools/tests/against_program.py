@@ -1,0 +1,65 @@
+"""Compares the rows of habit_rows with what the program itself refuses, by the build that ./try keeps. No test of the kind that needs no toolchain."""
+import os
+import sys
+import tempfile
+
+sys.dont_write_bytecode = True
+sys.path.insert(0, os.path.dirname(os.path.dirname(os.path.abspath(__file__))))
+from explain import pages, status as explaining  # noqa: E402
+from running import kept, program  # noqa: E402
+from running.guard import say  # noqa: E402
+from tests import habit_rows  # noqa: E402
+
+
+def cases():
+    """Each row as a kind of command, the bytes, the refusal's first numbers, and a part of the sentence."""
+    for source, key, part in habit_rows.SOURCES:
+        at = len(source[:source.index('@')].encode())
+        yield 'kernel', (source.replace('@', '', 1) + habit_rows.DISPATCH).encode(), [key, at], part
+    for text, key, part in habit_rows.TEXTS:
+        yield 'user', (text.replace('@', '', 1) + '\n').encode(), [key, text[:text.index('@')].count('\n') + 1], part
+
+
+def page_programs():
+    """The whole programs of docs/C0.md and docs/ASSEMBLER.md and the first kernels of docs/KERNELS.md and docs/C0.md, each with the kind of command that takes it."""
+    for page, kind, first in (('C0.md', 'kernel', '    int ticks;'), ('C0.md', 'kernel', '    struct call {'), ('KERNELS.md', 'kernel', '    int ticks;'), ('ASSEMBLER.md', 'user', '    # Adds')):
+        block = first + pages.page(page).partition(first)[2]
+        lines = []
+        for line in block.split('\n'):
+            if line and not line.startswith('    '):
+                break
+            lines.append(line[4:])
+        yield kind, '\n'.join(lines).encode()
+
+
+def is_taken(start, folder, kind, data):
+    """Whether a program is compiled without a refusal."""
+    name = os.path.join(folder, 'text')
+    with open(name, 'wb') as file:
+        file.write(data)
+    return program.run_to([*start, 'compile', kind, name, os.path.join(folder, 'made')], os.path.join(folder, 'out'))[0] == 0
+
+
+def is_so(start, folder, kind, data, numbers, part):
+    name = os.path.join(folder, 'text')
+    with open(name, 'wb') as file:
+        file.write(data)
+    words = ['compile', kind, name, os.path.join(folder, 'made')]
+    status, rows = program.run_to([*start, *words], os.path.join(folder, 'out'))
+    said = explaining.explain(status, words, rows)
+    return ''.join(rows).split()[1:3] == [str(number) for number in numbers] and any(part in line for line in said)
+
+
+def main():
+    start = kept.program(say)
+    with tempfile.TemporaryDirectory() as folder:
+        wrong = [case for case in cases() if not is_so(start, folder, *case)]
+        refused = [data for kind, data in page_programs() if not is_taken(start, folder, kind, data)]
+    for kind, data, numbers, part in wrong:
+        print('against_program: %s %r is to be refused with %s and %r' % (kind, data, numbers, part))
+    for data in refused:
+        print('against_program: a page has this program, which is refused: %r' % data[:60])
+    return 1 if wrong or refused else 0
+
+
+sys.exit(main())

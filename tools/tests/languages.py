@@ -1,0 +1,120 @@
+"""What the tokens of C0 and of the assembler are, by docs/C0.md and docs/ASSEMBLER.md, and all sources of the repository, to try the editors' files on."""
+import glob
+import os
+import re
+
+from explain import pages
+
+PRIMITIVES = 'vm_get vm_set vm_size vm_resize vm_word vm_put vm_copy con_put con_get con_left trap'.split()
+RESERVED = {'int': 'type', 'bool': 'type', 'struct': 'type', 'if': 'control', 'else': 'control', 'while': 'control', 'return': 'control', 'new': 'new',
+            'true': 'constant', 'false': 'constant', 'null': 'constant'}
+OF_ASM_TEXTS = 'sll srl sra sllv srlv srav addu subu and or xor nor slt sltu addiu slti sltiu andi ori xori lui'.split()
+MNEMONICS = OF_ASM_TEXTS + 'add sub addi jr mthi mtlo mfhi mflo mult multu div divu jalr bltz bgez blez bgtz beq bne j jal lw sw mfc0 mtc0 syscall eret'.split()
+NUMBER = re.compile(r'-?(0x[0-9A-Fa-f]{1,8}|0|[1-9][0-9]{0,9})(?!\w)')
+
+
+def name_kind(text, after, source):
+    if text in RESERVED:
+        return RESERVED[text]
+    if not re.match(r'[ \t]*\(', source[after:]):
+        return 'name'
+    return 'primitive' if text in PRIMITIVES else 'function'
+
+
+def c0_tokens(source):
+    """The tokens of a source of C0, comments too, as places and kinds."""
+    found, at = [], 0
+    token = re.compile(r'(?P<comment>//[^\n]*)|(?P<name>[A-Za-z_]\w*)|(?P<number>[0-9]+)|(?P<operator>->|==|!=|<=|>=|&&|\|\||[=<>+\-*/%!&.])|(?P<mark>[{}()\[\];,])|(?P<bad>\S)', re.A)
+    while True:
+        match = token.search(source, at)
+        if not match:
+            return found
+        at, text, kind = match.end(), match.group(), match.lastgroup
+        if kind == 'name':
+            kind = 'asm' if text == 'asm' else name_kind(text, at, source)
+        if kind == 'number' and re.match(r'0[0-9]', text):
+            kind = 'bad number'
+        found.append((match.start(), kind))
+        if kind == 'asm':
+            some, at = asm_text(source, at)
+            found += some
+
+
+def asm_text(source, at):
+    """The tokens from behind the word asm to the end of its text."""
+    found = []
+    opening = re.compile(r'(\s*(//[^\n]*)?)*')
+    for comment in re.finditer(r'//[^\n]*', opening.match(source, at).group()):
+        found.append((at + comment.start(), 'comment'))
+    at = opening.match(source, at).end()
+    end = source.find('}', at)
+    if source[at:at + 1] != '{' or end < 0:
+        return None, len(source)
+    found.append((at, 'asm mark'))
+    token = re.compile(r'(?P<comment>#[^}\n]*)|(?P<number>-?(0x[0-9A-Fa-f]{1,8}|0|[1-9][0-9]{0,9})(?!\w))|(?P<name>\w+)|(?P<comma>,)|(?P<bad>[^\s}])', re.A)
+    for match in token.finditer(source, at + 1, end):
+        kind, text = match.lastgroup, match.group()
+        if kind == 'name':
+            kind = 'mnemonic' if text in OF_ASM_TEXTS else 'register' if re.fullmatch(r'r[02-7]', text) else 'bad'
+        found.append((match.start(), 'asm ' + kind))
+    return found + [(end, 'asm mark')], end + 1
+
+
+def asm_tokens(text):
+    """The tokens of a user's text, as places and kinds."""
+    found = []
+    token = re.compile(r'(?P<comment>#[^\n]*)|(?P<label>[A-Za-z_]\w*:)|(?P<directive>\.(word|zero)\b)|(?P<number>-?(0x[0-9A-Fa-f]{1,8}|0|[1-9][0-9]{0,9})(?!\w))|'
+                       r'(?P<name>[A-Za-z_]\w*)|(?P<mark>[,()])|(?P<bad>\S)', re.A)
+    for match in token.finditer(text):
+        kind = match.lastgroup
+        if kind == 'name':
+            word = match.group()
+            kind = 'mnemonic' if word in MNEMONICS else 'register' if re.fullmatch(r'r([12]?[0-9]|3[01])|c[0-8]', word) else 'name'
+        found.append((match.start(), kind))
+    return found
+
+
+def read(name):
+    with open(name, encoding='utf-8', errors='replace') as file:
+        return file.read()
+
+
+def files(ending):
+    """All files of the repository with an ending, but for those that are made."""
+    found = []
+    for folder in ('examples', 'exercises', 'bench', 'crates'):
+        found += glob.glob(os.path.join(pages.TOP, folder, '**', '*' + ending), recursive=True)
+    return sorted(name for name in found if os.sep + 'out' + os.sep not in name)
+
+
+def case_parts(name):
+    """The parts of a file of cases, behind their heads; escapes stay as they are."""
+    return [part.partition('\n')[2] for part in read(name).split('\n== ')[1:]]
+
+
+def c0_sources():
+    """All sources of C0: files, and those in cases that are written without escapes."""
+    sources = [read(name) for name in files('.c0')]
+    for name in glob.glob(os.path.join(pages.TOP, 'crates', 'code_cases', 'data', '*')) + glob.glob(os.path.join(pages.TOP, 'crates', 'c0_cases', 'data', '*')):
+        sources += [part for part in case_parts(name) if not set('\\`~') & set(part)]
+    for name in glob.glob(os.path.join(pages.TOP, 'crates', 'system_cases', 'data', '*')):
+        sources += [part.partition('%% k\n')[2].partition('\n%% ')[0] for part in case_parts(name) if '%% k\n' in part]
+    return [source for source in sources if not set('\\`~') & set(source) and is_closed(source)]
+
+
+def is_closed(source):
+    """Whether each asm text of a source ends."""
+    try:
+        c0_tokens(source)
+        return True
+    except TypeError:
+        return False
+
+
+def asm_sources():
+    """All texts of users: files, and those in cases."""
+    texts = [read(name) for name in files('.s')]
+    for name in glob.glob(os.path.join(pages.TOP, 'crates', 'system_cases', 'data', '*')):
+        for part in case_parts(name):
+            texts += [text.partition('\n%% ')[0] for text in part.split('%% u\n')[1:]]
+    return [text for text in texts if not set('\\`~') & set(text)]

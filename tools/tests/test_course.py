@@ -1,0 +1,66 @@
+"""The exercises and the pages of the course: each exercise is whole, its page shows what is expected, and the model of the abstract machine agrees."""
+import os
+import re
+import subprocess
+import sys
+import unittest
+
+from explain import files, pages
+from running import expected
+
+EXERCISES = os.path.join(pages.TOP, 'exercises')
+NAMES = sorted(name for name in os.listdir(EXERCISES) if os.path.isdir(os.path.join(EXERCISES, name)))
+MODEL = os.path.join(pages.TOP, 'bench', 'models', 'boot.py')
+
+
+def path(*names):
+    return os.path.join(EXERCISES, *names)
+
+
+def text(name):
+    with open(name, encoding='utf-8') as file:
+        return file.read()
+
+
+class Course(unittest.TestCase):
+    def test_each_exercise_is_whole(self):
+        self.assertEqual(len(NAMES), 8)
+        for name in NAMES:
+            self.assertEqual(sorted(os.listdir(path(name))), ['README.md', 'expected', 'solution', 'start'])
+            self.assertEqual(sorted(os.listdir(path(name, 'start'))), sorted(os.listdir(path(name, 'solution'))))
+            self.assertNotEqual(text(path(name, 'start', 'kernel.c0')), text(path(name, 'solution', 'kernel.c0')))
+
+    def test_each_page_shows_what_is_expected(self):
+        for name in NAMES:
+            page = text(path(name, 'README.md'))
+            block = page.partition('these in this order (`expected`):\n\n')[2].partition('\n\n')[0]
+            self.assertEqual([line[4:] for line in block.split('\n')], text(path(name, 'expected')).split('\n')[:-1], name)
+            for part in ('## Task', './try exercises/%s/start' % name, './try MY_FOLDER --expect exercises/%s/expected' % name, '## Hints'):
+                self.assertIn(part, page)
+
+    def test_the_model_agrees(self):
+        tried = 0
+        for name in NAMES:
+            if text(path(name, 'start', 'schedule')) or not os.path.exists(path(name, 'start', 'user1.s')):
+                continue
+            tried += 1
+            for part in ('start', 'solution'):
+                ran = subprocess.run([sys.executable, MODEL, path(name, part), '100000'], capture_output=True, check=True)
+                answer = expected.answer(files.content(path(name, 'expected')), ran.stdout, 0, [])
+                self.assertEqual(answer is None, part == 'solution', (name, part, answer))
+        self.assertEqual(tried, 4)
+
+    def test_links_of_the_pages_lead_somewhere(self):
+        names = [os.path.join('docs', name) for name in ('TEACHING.md', 'FROM_C.md', 'FROM_SPIM.md', 'KERNELS.md')] + ['README.md', 'editors/README.md']
+        names += [os.path.join('examples', name, 'README.md') for name in os.listdir(os.path.join(pages.TOP, 'examples')) if os.path.isdir(os.path.join(pages.TOP, 'examples', name))]
+        for name in names:
+            page = text(os.path.join(pages.TOP, name))
+            for link in re.findall(r'\]\(([^)#:]+)\)', page):
+                self.assertTrue(os.path.exists(os.path.join(pages.TOP, os.path.dirname(name), link)), (name, link))
+            for link in re.findall(r'`((?:docs|examples|exercises|tools|editors)/[\w./-]+)`', page):
+                self.assertTrue(os.path.exists(os.path.join(pages.TOP, link)), (name, link))
+
+    def test_tables_have_as_many_cells_in_each_row(self):
+        for name in ('FROM_C.md', 'FROM_SPIM.md', 'TEACHING.md'):
+            rows = [pages.cells(line) for line in pages.page(name).split('\n') if line.startswith('|')]
+            self.assertEqual({len(row) for row in rows}, {3}, name)
