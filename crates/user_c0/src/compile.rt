@@ -15,6 +15,7 @@ use crate::laws::{images_are_whole, images_run};
 use c0_meaning::UserChecked;
 use c0_meaning::laws::units_are_typed_or_faulty;
 use c0_structs::measured;
+use c0_unit::laws::{units_have_places, units_stand};
 use c0_unit::{compile_flat, global_words};
 use layer_map::{Map, Params};
 use std::alloc::{AllocError, Global};
@@ -45,6 +46,8 @@ fn image_map(alloc: Global, unit: &UserChecked, code: &[u32]) -> Result<Map, All
     requires most { length code.now ≤ 4177920 }
     ensures { IfOk result (λ m. m ≡ map_of (unit_view unit.now)) }
 {
+    units_have_places();
+    units_stand();
     let sized = measured(alloc, unit.unit())?;
     let params = Params {
         pages: 1,
