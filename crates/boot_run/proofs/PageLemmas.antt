@@ -124,6 +124,7 @@ torn_among p q most told mid retold lt e h = record {
     early : (o : Option (List (List ℕ))) (k : ℕ) → k < q → option_map (λ ss. sector_of ss k) (option_map (written p q) o) ≡ option_map (λ ss. sector_of (written p most ss) k) o
     early None k l = refl
     early (Some ss) k l = ap Some (sym (early_page p q most ss k l (omega (arith, lt))))
+
     late : (o : Option (List (List ℕ))) (k : ℕ) → q < k → option_map (λ ss. sector_of ss k) (option_map (written p q) o) ≡ option_map (λ ss. sector_of ss k) o
     late None k l = refl
     late (Some ss) k l = ap Some (later_page p q ss k (omega (arith, l)))

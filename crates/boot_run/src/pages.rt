@@ -29,12 +29,7 @@ fn page_words(words: &[u32], first: usize) -> [u32; 1024]
 
 /// The words of which the sector of a number gets 1,024, and the number of the first one: those of the user whose page it is, and behind all users'
 /// pages further words.
-fn page_source<'a>(
-    users: &'a [Vec<u32>],
-    per: u32,
-    behind: &'a [u32],
-    q: u32,
-) -> (&'a [u32], usize)
+fn page_source<'a>(users: &'a [Vec<u32>], per: u32, behind: &'a [u32], q: u32) -> (&'a [u32], usize)
     requires some { 1 ≤ per }
     requires few { length users.now * per < 2 ^ 32 }
     ensures live { (pages_of_users per users.now behind.now).live q ≡ nat_lt result.1 (length result.0.now) }

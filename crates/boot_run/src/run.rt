@@ -16,9 +16,7 @@ ghost use Rattle.boot_run.specs.TurnCalls.{rows_of, IsOver, KeepsLoad, StandsRea
 ghost use Rattle.boot_run.specs.TurnParts.{rows_before, rows_after, Views};
 ghost use Rattle.cvm_model.specs.declared.row.Row.{Row as OneRow};
 
-use crate::load::{
-    LoadFault, check_view, first_tracer, loaded_machine, rom_machine, sectors_of,
-};
+use crate::load::{LoadFault, check_view, first_tracer, loaded_machine, rom_machine, sectors_of};
 use crate::next::{ended_by, has_faulted, seen_next};
 use crate::pages::write_pages;
 use crate::places::{Places, places_of};
@@ -172,13 +170,7 @@ impl<L: Layer + Drop> Run<L> {
         let places = places_of(alloc, &boot)?;
         let rom = rom.as_slice();
         let machine = rom_machine(alloc, &places.map, rom, schedule)?;
-        match write_pages(
-            boot.users.as_slice(),
-            boot.params.pages,
-            words,
-            need,
-            disk,
-        ) {
+        match write_pages(boot.users.as_slice(), boot.params.pages, words, need, disk) {
             Ok(()) => Ok(Run {
                 layer,
                 boot,

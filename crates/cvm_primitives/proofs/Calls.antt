@@ -1,5 +1,5 @@
 -- The primitives on memory, as the abstract machine has them.
-use Rattle.std.proofs.Common.{◌≡◌, ◌≢◌, ℕ, zero, suc, ◌+◌, ◌-◌, ◌*◌, ◌/◌, ◌%◌, ◌^◌, ◌<◌, ◌≤◌, ◌⊎◌, ◌&&◌, ◌||◌, Bool, true, false, not, cond, nat_eq, nat_lt, nat_abs, ℤ, List, [], ◌∷◌, ◌++◌, length, take, drop, replicate, slice_index, slice_set, refl, sym, ap, ap₂, ◌∙◌, subst, ⊎_elim, inl, inr, arith, eq-eqb, ne_eqb, get_or-set_same, get_or-set_other}
+use Rattle.std.proofs.Common.{◌≡◌, ◌≢◌, ℕ, zero, suc, ◌+◌, ◌-◌, ◌*◌, ◌/◌, ◌%◌, ◌^◌, ◌<◌, ◌≤◌, ◌⊎◌, ◌&&◌, ◌||◌, Bool, true, false, not, cond, nat_eq, nat_lt, nat_abs, ℤ, List, [], ◌∷◌, ◌++◌, length, take, drop, replicate, slice_index, slice_set, refl, sym, ap, ap₂, ◌∙◌, subst, ⊎_elim, inl, inr, arith, eq-eqb, ne_eqb, get_or-set_same, get_or-set_other, true≢false}
 use Rattle.std.proofs.lemmas.Bool.{cases_eq, cases_lt, cond-true, cond-false}
 use Rattle.std.proofs.lemmas.List.{length-set, length-take-le, length-take, length-drop, length-replicate, length-append}
 use Rattle.std.specs.Int.{cast_unsigned, w32}
@@ -26,7 +26,7 @@ use Rattle.cvm_primitives.specs.Copy.{Apart, pieces, with_word, copied, resized}
 use Rattle.cvm_primitives.specs.Code.{vm_word_code, vm_put_code, vm_copy_code, vm_resize_code}
 use Rattle.cvm_primitives.specs.Routines.{RoutineLaws}
 use Rattle.cvm_primitives.specs.Laws.{Entered, VmWord, VmPut, VmCopy, VmResize}
-use Rattle.cvm_primitives.specs.Calls.{CallEntered, CallLeft, call_steps, Answers, word_call, put_call, copy_call, resize_call}
+use Rattle.cvm_primitives.specs.Calls.{CallEntered, CallLeft, call_steps, Answers, word_call, put_call, copy_call, resize_call, given, Grown}
 use Rattle.cvm_primitives.proofs.Forms.{from_later}
 use Rattle.cvm_primitives.proofs.Numbers.{within_is, place_is, overlap_is, signed_pos, signed_neg, as_word, and_false}
 use Rattle.cvm_primitives.proofs.Users.{in_lists, stands_same}
@@ -315,8 +315,14 @@ module _ (w : World) (f : Sound w) (r : RoutineLaws w) (p : Places) (b most : �
         idle = h.idle;
       }
 
+  -- a resize that is refused
+  keeps : is_good most users (resize_call c) ≡ false → From w (vm_resize_code p (length users) most) 598 c d (λ c' d'. Held p (pages_by most users) (start c d) c' d' × (c'.regs 2 ≡ 0))
+      → From w (vm_resize_code p (length users) most) (call_steps p b (given most users d (resize_call c))) c d (λ c' d'. CallLeft p most users (given most users d (resize_call c)) c d c' d' × Grown p most users c c')
+  keeps bad h = from_later w r (vm_resize_code p (length users) most) (call_steps p b (given most users d (resize_call c))) (call_steps p b (given most users d (resize_call c))) c d _ _ (omega arith)
+      (λ c' d' k. (k, λ g. absurd (true≢false (sym g ∙ bad)))) (refusing (vm_resize_code p (length users) most) (resize_call c) 0 bad refl h)
+
   -- VM_RESIZE
-  pub resizes : VmResize → Answers w (vm_resize_code p (length users) most) (resize_call c) p b most users c d
+  pub resizes : VmResize → From w (vm_resize_code p (length users) most) (call_steps p b (given most users d (resize_call c))) c d (λ c' d'. CallLeft p most users (given most users d (resize_call c)) c d c' d' × Grown p most users c c')
   resizes law =
       let few = e.few in let limit = e.limit in let k = law w p b (length users) most sizes_of (pages_by most users) c d entered in
       ⊎_elim
@@ -324,13 +330,14 @@ module _ (w : World) (f : Sound w) (r : RoutineLaws w) (p : Places) (b most : �
       (λ a.
       let good : ResizeGood (length users) most (c.regs 20) (c.regs 21) = (u.0, u.1, a.1) in
       let turned : page_steps p.layout.pages b * ((sizes_of (c.regs 20) - c.regs 21) + (c.regs 21 - sizes_of (c.regs 20))) ≡ page_steps p.layout.pages b * ((c.regs 21 - sizes_of (c.regs 20)) + (sizes_of (c.regs 20) - c.regs 21)) = ap (λ z. page_steps p.layout.pages b * z) (omega arith) in
-      granting _ (resize_call c) (ap₂ (λ x y. x && y) u.2 a.2)
-      (subst (λ u. From w (vm_resize_code p (length users) most) (call_steps p b (size_given u (nat_abs (signed (c.regs 21))))) c d (CallLeft p most users (size_given u (nat_abs (signed (c.regs 21)))) c d)) (sym u.3)
-      (subst (λ n. From w (vm_resize_code p (length users) most) (call_steps p b (size_given (c.regs 20) n)) c d (CallLeft p most users (size_given (c.regs 20) n) c d)) (sym a.3)
-      (from_later w r _ (598 + page_steps p.layout.pages b * ((sizes_of (c.regs 20) - c.regs 21) + (c.regs 21 - sizes_of (c.regs 20)))) _ c d _ _ (omega arith) (λ c1 d1 h. size_left (c.regs 20) (c.regs 21) good c1 d1 h.0.0 h.0.1) (k.good good)))))
-      (λ a. refusing _ (resize_call c) 0 (ap₂ (λ x y. x && y) u.2 a.1) refl (k.bad (λ g. a.0 (omega arith) g.2)))
+      subst (λ g. From w (vm_resize_code p (length users) most) (call_steps p b g) c d (λ c' d'. CallLeft p most users g c d c' d' × Grown p most users c c'))
+      (sym (cond-true (is_good most users (resize_call c)) (granted users (console_of d) (resize_call c)) (unchanged users (console_of d) (refused (resize_call c)) 0 0) (ap₂ (λ x y. x && y) u.2 a.2)))
+      (subst (λ u. From w (vm_resize_code p (length users) most) (call_steps p b (size_given u (nat_abs (signed (c.regs 21))))) c d (λ c' d'. CallLeft p most users (size_given u (nat_abs (signed (c.regs 21)))) c d c' d' × Grown p most users c c')) (sym u.3)
+      (subst (λ n. From w (vm_resize_code p (length users) most) (call_steps p b (size_given (c.regs 20) n)) c d (λ c' d'. CallLeft p most users (size_given (c.regs 20) n) c d c' d' × Grown p most users c c')) (sym a.3)
+      (from_later w r _ (598 + page_steps p.layout.pages b * ((sizes_of (c.regs 20) - c.regs 21) + (c.regs 21 - sizes_of (c.regs 20)))) _ c d _ _ (omega arith) (λ c1 d1 h. (size_left (c.regs 20) (c.regs 21) good c1 d1 h.0.0 h.0.1, λ g. h.1)) (k.good good)))))
+      (λ a. keeps (ap₂ (λ x y. x && y) u.2 a.1) (k.bad (λ g. a.0 (omega arith) g.2)))
       (within_is 0 most (c.regs 21) (omega arith) (e.regs 21)))
-      (λ u. refusing _ (resize_call c) 0 (ap (λ x. x && is_within 0 most (signed (c.regs 21))) u.1) refl (k.bad (λ g. u.0 g.0 g.1)))
+      (λ u. keeps (ap (λ x. x && is_within 0 most (signed (c.regs 21))) u.1) (k.bad (λ g. u.0 g.0 g.1)))
       (within_is 1 (length users) (c.regs 20) (omega arith) (e.regs 20))
 
   -- what a copy gives

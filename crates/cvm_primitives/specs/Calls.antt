@@ -1,5 +1,5 @@
 -- Calls of the primitives on memory, as the abstract machine has them: what they are entered with, and what they leave.
-use Rattle.std.specs.Prelude.{◌≡◌, ◌≢◌, ℕ, ◌+◌, ◌*◌, ◌^◌, ◌<◌, ◌≤◌, List, [], ◌∷◌, length, None}
+use Rattle.std.specs.Prelude.{◌≡◌, ◌≢◌, ℕ, ◌+◌, ◌-◌, ◌*◌, ◌^◌, ◌<◌, ◌≤◌, List, [], ◌∷◌, length, true, None}
 use Rattle.mips_table.specs.Arith.{signed}
 use Rattle.mips_table.specs.Device.{Idle, BUFFER}
 use Rattle.mips_table.specs.Flat.{Flat}
@@ -12,11 +12,11 @@ use Rattle.page_model.specs.Places.{Places, frames_end, view}
 use Rattle.frame_table.specs.View.{Sited, Ported}
 use Rattle.page_fault.specs.Code.{page_code}
 use Rattle.cvm_model.specs.Kernel.{flat}
-use Rattle.cvm_model.specs.Primitives.{Call, VmWord, VmPut, VmCopy, VmResize, Given, user_of, prim}
+use Rattle.cvm_model.specs.Primitives.{Call, VmWord, VmPut, VmCopy, VmResize, Given, user_of, pages_of, is_good, prim}
 use Rattle.cvm_model.specs.Paged.{pages_by}
 use Rattle.cvm_model.specs.Stands.{UserFits}
 use Rattle.register_primitives.specs.Blocks.{IsOneOf, BlocksHold, console_of}
-use Rattle.cvm_primitives.specs.View.{page_steps, start, Held}
+use Rattle.cvm_primitives.specs.View.{page_steps, start, Held, Fresh}
 use Rattle.cvm_primitives.specs.Code.{vm_word_code, vm_put_code, vm_copy_code, vm_resize_code}
 
 -- What a call is entered with: at most 64 users of at most so many pages each, whose pages the machine shows and whose control blocks hold
@@ -76,12 +76,18 @@ abbrev pub Answers : World → List Inst → Call → Places → (b most : ℕ) 
 Answers w code call p b most users c d =
     From w code (call_steps p b (given most users d call)) c d (CallLeft p most users (given most users d call) c d)
 
--- vm_word, vm_put, vm_copy and vm_resize
+-- the pages by which a good vm_resize makes a memory grow name the zero frame
+abbrev pub Grown : Places → ℕ → List Flat → Contents → Contents → Type 0
+Grown p most users c c' = is_good most users (resize_call c) ≡ true →
+    Fresh p ((c.regs 20 - 1) * most + pages_of (user_of users (c.regs 20))) (c.regs 21 - pages_of (user_of users (c.regs 20))) c'
+
+-- vm_word, vm_put, vm_copy and vm_resize, the last with what its new pages name
 pub record CallsAnswer (w : World) (p : Places) (b most : ℕ) (users : List Flat) (c : Contents) (d : Behind) : Type 0 where
   pub word : Answers w (vm_word_code p (length users) most (page_code p)) (word_call c) p b most users c d
   pub put : Answers w (vm_put_code p (length users) most (page_code p)) (put_call c) p b most users c d
   pub copy : Answers w (vm_copy_code p (length users) most (page_code p)) (copy_call c) p b most users c d
-  pub resize : Answers w (vm_resize_code p (length users) most) (resize_call c) p b most users c d
+  pub resize : From w (vm_resize_code p (length users) most) (call_steps p b (given most users d (resize_call c))) c d
+      (λ c' d'. CallLeft p most users (given most users d (resize_call c)) c d c' d' × Grown p most users c c')
 
 -- they do from wherever they are entered
 abbrev pub MemoryAnswers : World → Type 0

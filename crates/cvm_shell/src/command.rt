@@ -3,8 +3,8 @@ ghost use Rattle.std.specs.Prelude.{◌≡◌, ◌<◌, ◌≤◌, ◌^◌, ℕ,
 ghost use Rattle.cvm_shell.specs.Command as command;
 ghost use Rattle.cvm_shell.specs.Views.{boot_view, trace_view, user_view, kernel_view, link_view, migrate_view, sample_view, command_view, IsUserNumber};
 
-use crate::program::{CompileProgram, read_compile_program};
 use crate::check::{Check, read_check};
+use crate::program::{CompileProgram, read_compile_program};
 use cvm_text::{read_decimal, spelled_numbers_are_read};
 
 /// The most turns that a command names, and the last sample.

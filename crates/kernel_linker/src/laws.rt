@@ -2,6 +2,7 @@
 
 ghost use Rattle.kernel_linker.specs.Laws.{LinkedAreAccepted, OpenedUnitsAreTheirSources, SpelledImagesFit};
 ghost use Rattle.kernel_linker.specs.Migrate.{MigratedAreAccepted, OldWordsAreIgnored};
+ghost use Rattle.kernel_linker.specs.Sources.{AcceptedAreOfImages};
 
 /// A law: what is linked is accepted, over the same layer.
 pub fn linked_images_are_accepted()
@@ -26,4 +27,9 @@ pub fn spelled_images_fit()
 /// A law: what is opened is the checked unit of the object's source.
 pub fn opened_units_are_their_sources()
     ensures { OpenedUnitsAreTheirSources }
+{}
+
+/// A law: an accepted system is that of its image, whose own source has its unit.
+pub fn accepted_systems_are_of_their_images()
+    ensures { AcceptedAreOfImages }
 {}

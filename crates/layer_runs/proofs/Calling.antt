@@ -1,5 +1,5 @@
 -- A call of a primitive, from its entry to its return.
-use Rattle.std.proofs.Common.{◌≡◌, ℕ, ◌+◌, ◌-◌, ◌*◌, ◌/◌, ◌^◌, ◌<◌, ◌≤◌, ℤ, ◌&&◌, true, not, Some, None, List, [], ◌∷◌, ◌++◌, length, slice_index, All, nat_lt, refl, sym, ap, ◌∙◌, subst, ⊎_elim, inr, true≢false, arith, le-ltb, lt-ltb}
+use Rattle.std.proofs.Common.{◌≡◌, ℕ, ◌+◌, ◌-◌, ◌*◌, ◌/◌, ◌^◌, ◌<◌, ◌≤◌, ℤ, ◌&&◌, not, Some, None, List, [], ◌∷◌, ◌++◌, length, slice_index, All, nat_lt, refl, sym, ap, ◌∙◌, subst, ⊎_elim, inr, true≢false, arith, le-ltb, lt-ltb}
 use Rattle.std.specs.Prelude.{if◌then◌else◌, nat_le}
 use Rattle.std.proofs.lemmas.Bool.{cases_lt, cond_both}
 use Rattle.std.proofs.lemmas.List.{ext_get_or, get_or_past, length-drop}
@@ -134,10 +134,10 @@ module _ (m : Map) (sizes code : List ℕ) (made : IsMade m sizes code) where
         }
 
     -- a routine's run that leaves so much comes back
-    pub comes_back : (longest n : ℕ) (body : List Inst) (steps : ℕ) → n < 10 → n ≡ primitive_number call → InCode m (slice_index s.cpu.regs 31) → s.cpu.pc ≡ 4 * (2048 + n) → steps + 2 ≤ run_steps m longest (units_of g) g.pages
+    pub comes_back : (X : Contents → Type 0) (longest n : ℕ) (body : List Inst) (steps : ℕ) → n < 10 → n ≡ primitive_number call → InCode m (slice_index s.cpu.regs 31) → s.cpu.pc ≡ 4 * (2048 + n) → steps + 2 ≤ run_steps m longest (units_of g) g.pages
         → ((w : World) → Sound w → ReturnRuns w body) → (r : Routed m sizes code made n (returning body) x s)
-        → From (block_world x y (run x s 1) (routine_at m n) (returning body)) body steps (contents s) (behind s) (Came y g (contents s) (behind s)) → ComesBack x y longest c call s
-    comes_back longest n body steps lt is back pc enough returns r f =
+        → From (block_world x y (run x s 1) (routine_at m n) (returning body)) body steps (contents s) (behind s) (λ c' d'. Came y g (contents s) (behind s) c' d' × X c') → (b : ComesBack x y longest c call s) × X (contents (run x s b.comes.steps))
+    comes_back X longest n body steps lt is back pc enough returns r f =
         let b : Below = z.below in
         let s1 : State = run x s 1 in
         let at : ℕ = routine_at m n in
@@ -146,7 +146,7 @@ module _ (m : Map) (sizes code : List ℕ) (made : IsMade m sizes code) where
         let whole = back.whole in let from = back.from in
         let there : slice_index s.cpu.regs 31 ≡ 4 * to = omega arith in
         let got = f.by at (contents s) (behind s) (b.runs.front w at body (Jr 31 ∷ []) r.block) (refl, refl) in
-        let e : Came y g (contents s) (behind s) got.0 got.1 = got.2 in
+        let e : Came y g (contents s) (behind s) got.0 got.1 = got.2.0 in
         let u : Configuration = at_with to got.0 got.1 in
         let reaches : Reaches w (steps + 1) (at_with at (contents s) (behind s)) u =
         returns w r.sound at steps to (contents s) (behind s) got.0 got.1 r.block got.3 (e.regs 31 (omega arith) (omega arith) ∙ there) e.idle in
@@ -155,21 +155,23 @@ module _ (m : Map) (sizes code : List ℕ) (made : IsMade m sizes code) where
         let at2 : t.cpu.pc / 4 ≡ to = ap (λ (v : Configuration). v.at) a.there in
         let aligned = a.calm.quiet.aligned in
         let within = a.within in
-        let q : Returned x y g c s t = returned t a.calm (a.size ∙ r.enters.size) (omega arith) (subst (λ (v : Configuration). Came y g (contents s) (behind s) v.contents v.behind) (sym a.there) e) in
-        record {
-          comes = record {
-            steps = 1 + a.steps;
-            within = omega arith;
-            way = way_from b.sum x y a.steps s r.enters.inside r.enters.sectors r.enters.frames r.enters.named a.between;
-            there = subst (Returned x y g c s) (sym (b.sum x s 1 a.steps)) q;
-          };
-          apart = λ j less same. ⊎_elim
-              (λ first. let zero' : j ≡ 0 = omega arith in let p : s.cpu.pc ≡ slice_index s.cpu.regs 31 = ap (λ k. (run x s k).cpu.pc) (sym zero') ∙ same in absurd (omega arith))
-              (λ second.
-              let e : j ≡ 1 + (j - 1) = omega arith in
-              let is : run x s j ≡ run x s1 (j - 1) = ap (run x s) e ∙ b.sum x s 1 (j - 1) in
-              let low : (run x s1 (j - 1)).cpu.pc < 4 * layer_words = a.between.below (j - 1) (omega arith) in
-              let p : (run x s1 (j - 1)).cpu.pc ≡ slice_index s.cpu.regs 31 = ap (λ (v : State). v.cpu.pc) (sym is) ∙ same in
-              absurd (omega arith))
-              (cases_lt j 1);
-        }
+        let q : Returned x y g c s t = returned t a.calm (a.size ∙ r.enters.size) (omega arith) (subst (λ (v : Configuration). Came y g (contents s) (behind s) v.contents v.behind) (sym a.there) e) in (
+          record {
+            comes = record {
+              steps = 1 + a.steps;
+              within = omega arith;
+              way = way_from b.sum x y a.steps s r.enters.inside r.enters.sectors r.enters.frames r.enters.named a.between;
+              there = subst (Returned x y g c s) (sym (b.sum x s 1 a.steps)) q;
+            };
+            apart = λ j less same. ⊎_elim
+                (λ first. let zero' : j ≡ 0 = omega arith in let p : s.cpu.pc ≡ slice_index s.cpu.regs 31 = ap (λ k. (run x s k).cpu.pc) (sym zero') ∙ same in absurd (omega arith))
+                (λ second.
+                let e : j ≡ 1 + (j - 1) = omega arith in
+                let is : run x s j ≡ run x s1 (j - 1) = ap (run x s) e ∙ b.sum x s 1 (j - 1) in
+                let low : (run x s1 (j - 1)).cpu.pc < 4 * layer_words = a.between.below (j - 1) (omega arith) in
+                let p : (run x s1 (j - 1)).cpu.pc ≡ slice_index s.cpu.regs 31 = ap (λ (v : State). v.cpu.pc) (sym is) ∙ same in
+                absurd (omega arith))
+                (cases_lt j 1);
+          },
+          subst (λ (v : State). X (contents v)) (sym (b.sum x s 1 a.steps)) (subst (λ (v : Configuration). X v.contents) (sym a.there) got.2.1),
+        )

@@ -1,5 +1,5 @@
 -- What a primitive leaves of the users fits as they did.
-use Rattle.std.proofs.Common.{◌≡◌, ℕ, ◌+◌, ◌-◌, ◌*◌, ◌/◌, ◌%◌, ◌≤◌, ℤ, pos, negsuc, nat_abs, ◌&&◌, Bool, true, false, not, List, ◌++◌, length, take, drop, replicate, slice_set, All, refl, ◌∙◌, arith, length-set, get_or-set_other}
+use Rattle.std.proofs.Common.{◌≡◌, ℕ, ◌+◌, ◌-◌, ◌*◌, ◌/◌, ◌%◌, ◌≤◌, ℤ, pos, negsuc, nat_abs, ◌&&◌, Bool, true, false, not, List, ◌++◌, length, take, drop, replicate, slice_set, All, refl, ◌∙◌, arith, length-set, get_or-set_other, ◌<◌}
 use Rattle.std.specs.Prelude.{◌==◌, nat_le}
 use Rattle.std.specs.Int.{cast_unsigned, w32}
 use Rattle.std.proofs.lemmas.Bool.{cond_both, and_parts, leb-true}
@@ -21,7 +21,11 @@ HasWord other = Unit {0}
 abbrev Fit : ℕ → List Flat → Given → Type 0
 Fit most users g = (length g.users ≡ length users) × All (UserFits most) g.users
 
-within : (low high : ℕ) (z : ℤ) → is_within low high z ≡ true → (low ≤ nat_abs z) × (nat_abs z ≤ high)
+-- a page of a user lies among all pages
+pub page_below : (per p u users : ℕ) → p < per → u < users → u * per + p < users * per
+page_below per p u users lt le = grind arith
+
+pub within : (low high : ℕ) (z : ℤ) → is_within low high z ≡ true → (low ≤ nat_abs z) × (nat_abs z ≤ high)
 within low high (pos n) e = let p = and_parts (nat_le low n) (nat_le n high) e in (leb-true low n p.0, leb-true n high p.1)
 within low high (negsuc n) e = absurd (cc)
 

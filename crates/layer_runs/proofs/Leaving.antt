@@ -56,7 +56,7 @@ free_own y memory k lt own =
 pub signed_pos : (x : ℕ) → x < 2 ^ 31 → signed x ≡ pos x
 signed_pos x lt = to_z_pos w32 x lt
 
-signed_neg : (x : ℕ) → 2 ^ 31 ≤ x → x < 2 ^ 32 → signed x ≡ negsuc (2 ^ 32 - suc x)
+pub signed_neg : (x : ℕ) → 2 ^ 31 ≤ x → x < 2 ^ 32 → signed x ≡ negsuc (2 ^ 32 - suc x)
 signed_neg x le lt = let e : x ≡ 2 ^ 32 - suc (2 ^ 32 - suc x) = omega arith in ap signed e ∙ to_z-neg w32 (2 ^ 32 - suc x) (omega arith)
 
 -- an answer as a word

@@ -50,6 +50,7 @@ use Rattle.layer_runs.proofs.Exits.{Tools}
 use Rattle.layer_runs.proofs.Leaving.{left_other, left_sr, left_mode, cpu_by}
 use Rattle.layer_runs.proofs.Entering.{handler, handler_placed, handler_end, free_variable}
 use Rattle.layer_runs.proofs.Interrupting.{Began, began}
+use Rattle.layer_runs.proofs.Fitting.{page_below}
 use Rattle.layer_runs.proofs.Keeping.{premises, begins_calm, is_on_none, user_on, user_mode}
 use Rattle.layer_runs.proofs.Calling.{free_past, free_port, own_hand, word_read}
 
@@ -69,9 +70,6 @@ pub record Handlers : Type 0 where
 -- a page in a user's own terms
 page_part : (per p u : ℕ) → p < per → ((u * per + p) / per ≡ u) × ((u * per + p) % per ≡ p)
 page_part per p u lt = (grind arith, grind arith)
-
-page_below : (per p u users : ℕ) → p < per → u < users → u * per + p < users * per
-page_below per p u users lt le = grind arith
 
 -- a control block in lists that agree on it
 block_same : (old new : List ℕ) (u : ℕ) → length new ≡ length old → block_at u + 35 ≤ length old → ((k : ℕ) → block_at u ≤ k → k ≤ block_at u + 34 → slice_index new k ≡ slice_index old k) → block_cpu new u ≡ block_cpu old u

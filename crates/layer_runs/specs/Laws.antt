@@ -1,13 +1,16 @@
 -- The laws of a layer, of the memory that a layer's image makes with any kernel's code behind it.
-use Rattle.std.specs.Prelude.{◌≡◌, ℕ, ◌+◌, ◌-◌, ◌*◌, ◌≤◌, true, List, length}
+use Rattle.std.specs.Prelude.{◌≡◌, ℕ, ◌+◌, ◌-◌, ◌*◌, ◌<◌, ◌≤◌, ℤ, nat_abs, true, List, length}
 use Rattle.mips_table.specs.Device.{Outside}
-use Rattle.mips_table.specs.Machine.{State, latched, coming, step}
+use Rattle.mips_table.specs.Machine.{State, latched, coming, step, run}
 use Rattle.mips_table.specs.Turns.{handled}
 use Rattle.layer_map.specs.Map.{Map, MapInRange}
+use Rattle.page_model.specs.Paging.{Names}
+use Rattle.page_model.specs.Places.{layout_of}
 use Rattle.cvm_model.specs.Kernel.{Core}
+use Rattle.cvm_model.specs.Primitives.{VmResize, user_of, pages_of, is_good}
 use Rattle.cvm_model.specs.Paged.{paged_of}
 use Rattle.cvm_model.specs.Stands.{Site}
-use Rattle.layer_contract.specs.Layer.{Linked, EntersFirst, Enters, Exits, Leaves, PrimitivesAnswer, FaultsSettle, Laws, IsEntry, Comes, Back, Brought, BusyWithin}
+use Rattle.layer_contract.specs.Layer.{Linked, EntersFirst, Enters, Exits, Leaves, PrimitivesAnswer, FaultsSettle, Laws, IsEntry, Comes, Back, Brought, BusyWithin, PrimitiveCalled, ComesBack}
 use Rattle.layer_runs.specs.Image.{layer_image, image_site, IsMade}
 
 -- the exits of the kernel's faults
@@ -30,9 +33,23 @@ ImageEntersFirst = (m : Map) (sizes code : List ℕ) → IsMade m sizes code →
 abbrev pub ImageEnters : Type 0
 ImageEnters = (m : Map) (sizes code : List ℕ) → IsMade m sizes code → Enters (image_site m sizes code)
 
--- the primitives
+-- user u's pages from `old` up to `new` name the zero frame
+abbrev pub NameZeros : Map → (u old new : ℕ) → State → Type 0
+NameZeros m u old new t = (i : ℕ) → old ≤ i → i < new → Names ((paged_of m t).entry ((u - 1) * m.params.pages + i)) (layout_of m).zeros
+
+-- GROWTH: a good vm_resize comes back with the pages by which the memory grew as the zero frame, as its code's law has them
+abbrev pub GrowsFresh : Site → Type 0
+GrowsFresh y = (x : Outside) (longest : ℕ) (s : State) (c : Core) (u n : ℤ) → BusyWithin x longest → PrimitiveCalled x y c (VmResize u n) s →
+    is_good y.map.params.pages c.users (VmResize u n) ≡ true →
+    (b : ComesBack x y longest c (VmResize u n) s) × NameZeros y.map (nat_abs u) (pages_of (user_of c.users (nat_abs u))) (nat_abs n) (run x s b.comes.steps)
+
+-- the primitives: each comes back, and growth is by the zero frame
+pub record PrimitivesRun (y : Site) : Type 0 where
+  pub answers : PrimitivesAnswer y
+  pub grows : GrowsFresh y
+
 abbrev pub ImagePrimitives : Type 0
-ImagePrimitives = (m : Map) (sizes code : List ℕ) → IsMade m sizes code → PrimitivesAnswer (image_site m sizes code)
+ImagePrimitives = (m : Map) (sizes code : List ℕ) → IsMade m sizes code → PrimitivesRun (image_site m sizes code)
 
 -- how many pages name the frame at the hand
 abbrev pub names_at : Map → State → ℕ

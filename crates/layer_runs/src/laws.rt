@@ -100,7 +100,8 @@ pub fn the_kernel_is_called()
     the_kernel_is_entered();
 }
 
-/// PRIMITIVES: from its entry each primitive comes back with the answer and the effect of the abstract machine's.
+/// PRIMITIVES: from its entry each primitive comes back with the answer and the effect of the abstract machine's; and the pages by which a
+/// `vm_resize` makes a memory grow name the zero frame then.
 pub fn primitives_answer()
     ensures { ImagePrimitives }
 {

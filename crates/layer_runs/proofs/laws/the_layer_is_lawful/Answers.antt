@@ -7,6 +7,6 @@ returns c = λ m sizes code made. record {
   enters = c.the_kernel_is_called.ensures m sizes code made;
   leaves = c.the_kernel_is_left.ensures m sizes code made;
   exits = c.faults_exit.ensures m sizes code made;
-  primitives = c.primitives_answer.ensures m sizes code made;
+  primitives = (c.primitives_answer.ensures m sizes code made).answers;
   settles = (c.faults_settle.ensures m sizes code made).settles;
 }

@@ -1,0 +1,129 @@
+-- From a property of each state of a run to what a boot shows. No contract can carry it for any property, since it ranges over types: this file may be
+-- cited from other crates. To be used by `boots_of`: it needs the law on the kernel's runs, that its text means its tree, and the two laws of this crate.
+use Rattle.std.proofs.Common.{◌≡◌, ◌≤◌, ℕ, List, length, Bool, true, false, Option, sym, ◌∙◌, subst}
+use Rattle.std.specs.Prelude.{◌≢◌, if◌then◌else◌, Result, Ok}
+use Rattle.schedule_file.specs.Rows.{Rows}
+use Rattle.mips_table.specs.Device.{Outside as Surroundings, HasEightLines}
+use Rattle.mips_table.specs.Turns.{lines_of}
+use Rattle.layer_contract.specs.Follows.{loaded}
+use Rattle.boot_turns.specs.declared.answers.View.TheVariants.{Boot}
+use Rattle.boot_turns.specs.Headline.{Ending, Done, KernelFaulted, OutOfSteps, DiskFault, SinkFault, NoMemory, ending_of, TextOf, Ran}
+use Rattle.cvm_model.specs.Cvm.{System as Booted, Cvm, Status, Running, Halted, Faulted, IsCvm}
+use Rattle.cvm_model.specs.Invariant.{HasEight, IsSafe}
+use Rattle.c0_types.specs.Front.{IsUnitOf}
+use Rattle.layer_runs.specs.Image.{layer_image}
+use Rattle.boot_image.specs.Parts.{Parts as Image}
+use Rattle.boot_image.specs.declared.fault.ImageFault.{ImageFault}
+use Rattle.boot_image.specs.Reading.{answer as image_of}
+use Rattle.kernel_linker.specs.Accept.{System}
+use Rattle.kernel_linker.specs.Sources.{AcceptedAreOfImages}
+use Rattle.cvm_shell.specs.declared.status.Status.{Status as Shown}
+use Rattle.cvm_shell.specs.declared.status.Status.TheVariants.{KernelFault}
+use Rattle.cvm_shell.specs.declared.boot.Session.{Session}
+use Rattle.cvm_shell.specs.Outside.{Outside}
+use Rattle.cvm_shell.specs.Plan.{Accepts}
+use Rattle.cvm_shell.specs.Boot.{booted, around, ended_as, AskFor, by_boot, by_trace, by_sample, Headline}
+use Rattle.kernel_boots.specs.Boots.{OfStates, AlwaysHas, TextOfState, Shows, BootsShow, HasSource, AsksSource, RunsItsSource, BootsOf}
+use Rattle.kernel_boots.proofs.EightLines.{eight_of, few_of, turns_have_eight}
+
+-- A STATUS without a fault
+abbrev NoFault : Ending → Type 0
+NoFault KernelFaulted = ⊥
+NoFault other = Unit {0}
+
+no_fault_of : (s : Status) → IsSafe s → NoFault (ending_of s)
+no_fault_of Running h = tt
+no_fault_of Halted h = tt
+no_fault_of (Faulted f) h = h
+
+no_fault : (b : Bool) (s : Status) → IsSafe s → NoFault (if b then ending_of s else OutOfSteps)
+no_fault true s h = no_fault_of s h
+no_fault false s h = tt
+
+abbrev OtherStatus : Shown → Type 0
+OtherStatus KernelFault = ⊥
+OtherStatus other = Unit {0}
+
+other_status : (e : Ending) → NoFault e → OtherStatus (ended_as e)
+other_status Done h = tt
+other_status KernelFaulted h = h
+other_status OutOfSteps h = tt
+other_status DiskFault h = tt
+other_status SinkFault h = tt
+other_status NoMemory h = tt
+
+no_status : (e : Ending) → NoFault e → ended_as e ≢ KernelFault
+no_status e h eq = subst OtherStatus eq (other_status e h)
+
+-- WHAT WAS PRINTED is the text of a state
+module _ (P : OfStates) (x : Surroundings) (y : Booted) (always : AlwaysHas y P) (old now : List (List ℕ)) (eight : HasEight (lines_of x (loaded y old))) (turns steps : ℕ) where
+  has : (k : ℕ) (c : Cvm) → IsCvm y (lines_of x (loaded y old)) k c → P (lines_of x (loaded y old)) k c
+  has k c is = always (lines_of x (loaded y old)) eight k c is
+
+  -- of a status by which a state has this text
+  shows_as : (status : Shown) (k : ℕ) (c : Cvm) (text : List ℕ) → IsCvm y (lines_of x (loaded y old)) k c → TextOfState y status c text → Shows y P status text
+  shows_as status k c text is e = record { lines = lines_of x (loaded y old); turns = k; state = c; is = is; has = has k c is; text_is = e }
+
+  shows : (t : ℕ) (e : Ending) (text : List ℕ) → TextOf x y old Boot t e text → Shows y P (ended_as e) text
+  shows t OutOfSteps text (c, is, e) = shows_as (ended_as OutOfSteps) _ c text is e
+  shows t Done text (c, is, e) = shows_as (ended_as Done) _ c text is e
+  shows t KernelFaulted text (c, is, e) = shows_as (ended_as KernelFaulted) _ c text is e
+  shows t DiskFault text (c, is, e) = shows_as (ended_as DiskFault) _ c text is e
+  shows t SinkFault text (c, is, e) = shows_as (ended_as SinkFault) _ c text is e
+  shows t NoMemory text (c, is, e) = shows_as (ended_as NoMemory) _ c text is e
+
+  ran_shows : (e : Ending) (text : List ℕ) → Ran x y old now Boot turns steps e text → Shows y P (ended_as e) text
+  ran_shows e text h = shows _ e text h.text_is
+
+  ran_safe : (e : Ending) (text : List ℕ) → Ran x y old now Boot turns steps e text → ((lines : ℕ → ℕ) (k : ℕ) (c : Cvm) → P lines k c → IsSafe c.status) → NoFault e
+  ran_safe e text h safe = subst NoFault (sym h.status) (no_fault _ h.past.status (safe _ _ h.past (has _ h.past h.cvm)))
+
+-- the schedule that is asked for raises eight lines
+asked_eight : (words : List (List ℕ)) (file : List ℕ → Option (List ℕ)) (session : Session) (s : System) (rows : Rows) → AskFor words file session s rows → (old : Outside) → HasEightLines (around rows old)
+asked_eight words file session s rows (by_boot b is same files) old = eight_of files.schedule rows files.valid
+asked_eight words file session s rows (by_trace t is same files) old = eight_of files.schedule rows files.valid
+asked_eight words file session s rows (by_sample n is same parts) old = eight_of _ rows parts.valid
+
+-- and has no more input words than there is room for
+asked_few : (words : List (List ℕ)) (file : List ℕ → Option (List ℕ)) (session : Session) (s : System) (rows : Rows) → AskFor words file session s rows → length rows.inputs ≤ 4096
+asked_few words file session s rows (by_boot b is same files) = few_of files.schedule rows files.valid
+asked_few words file session s rows (by_trace t is same files) = few_of files.schedule rows files.valid
+asked_few words file session s rows (by_sample n is same parts) = few_of _ rows parts.valid
+
+pub boots_show : BootsShow
+boots_show P words status old new headlines session s rows before honest some view always =
+    let h : Headline session s rows before old new status = headlines session s rows before honest some in
+    let eight : HasEight (lines_of (around rows old) (loaded (booted s rows) before)) = turns_have_eight (around rows old) (loaded (booted s rows) before) (asked_eight words old.shelf.file session s rows honest.asked old) in
+    let ran = subst (λ v. Ran (around rows old) (booted s rows) before h.after v session.turns session.steps h.ending h.text) view h.ran in
+    record {
+      printed = (h.text, h.printed, subst (λ (x : Shown). Shows (booted s rows) P x h.text) (sym h.status_is) (ran_shows P (around rows old) (booted s rows) always before h.after eight session.turns session.steps h.ending h.text ran));
+      no_fault = λ safe e. no_status h.ending (ran_safe P (around rows old) (booted s rows) always before h.after eight session.turns session.steps h.ending h.text ran safe) (sym h.status_is ∙ e);
+    }
+
+-- THE SOURCE of what is run
+same_image : (i j : Image) → ◌≡◌ {A = Result Image ImageFault} (Ok i) (Ok j) → i ≡ j
+same_image i j e = cc
+
+unit_of_image : AcceptedAreOfImages → (source bytes : List ℕ) (s : System) → Accepts layer_image (image_of bytes) (Ok s) → HasSource source bytes → IsUnitOf source s.unit
+unit_of_image law source bytes s accepted h =
+    let a = subst (λ r. Accepts layer_image r (Ok s)) h.1 accepted in
+    subst (λ t. IsUnitOf t s.unit) h.2 (law layer_image h.0 a.0 s a.1 a.2).unit
+
+asked_unit : AcceptedAreOfImages → (source : List ℕ) (words : List (List ℕ)) (file : List ℕ → Option (List ℕ)) (session : Session) (s : System) (rows : Rows)
+    → (a : AskFor words file session s rows) → AsksSource source a → IsUnitOf source s.unit
+asked_unit law source words file session s rows (by_boot b is same files) h = unit_of_image law source files.image s files.accepted h
+asked_unit law source words file session s rows (by_trace t is same files) h = unit_of_image law source files.image s files.accepted h
+asked_unit law source words file session s rows (by_sample x is same parts) h = unit_of_image law source parts.image s parts.accepted h
+
+pub runs_its_source : AcceptedAreOfImages → RunsItsSource
+runs_its_source law source words session s rows before old new h a = asked_unit law source words old.shelf.file session s rows h.asked a
+
+-- EVERY BOOT OF A SOURCE shows a property that excludes faults, where the run of each system with that source's unit always has it
+pub boots_of : AcceptedAreOfImages → (source : List ℕ) (Is : System → Type 0) (P : Booted → OfStates)
+    → ((s : System) (rows : Rows) → IsUnitOf source s.unit → Is s → length rows.inputs ≤ 4096 → AlwaysHas (booted s rows) (P (booted s rows)))
+    → ((y : Booted) (lines : ℕ → ℕ) (k : ℕ) (c : Cvm) → P y lines k c → IsSafe c.status) → BootsOf source Is P
+boots_of law source Is P always safe words status old new headlines session s rows before h some view asks is =
+    let unit : IsUnitOf source s.unit = runs_its_source law source words session s rows before old new h asks in
+    let few : length rows.inputs ≤ 4096 = asked_few words old.shelf.file session s rows h.asked in
+    let shown = boots_show (P (booted s rows)) words status old new headlines session s rows before h some view (always s rows unit is few) in
+    (shown.no_fault (safe (booted s rows)), shown.printed)

@@ -1,0 +1,23 @@
+-- Every boot of the guarded kernel: no state of its run has a fault.
+use Rattle.std.proofs.Common.{◌≡◌, ℕ, zero, suc, Some, subst}
+use Rattle.cvm_model.specs.Cvm.{System as Booted, Cvm, IsCvm, first_cvm}
+use Rattle.cvm_model.specs.Invariant.{HasEight, IsSafe}
+use Rattle.kernel_linker.specs.Sources.{AcceptedAreOfImages}
+use Rattle.cvm_shell.specs.Boot.{booted}
+use Rattle.kernel_theorems.specs.Text.{Means}
+use Rattle.kernel_theorems.specs.GuardedTree.{guarded}
+use Rattle.kernel_theorems.specs.Guarded.{text, RunsGuarded, GuardedNeverFaults}
+use Rattle.kernel_boots.specs.Guardeds.{HasStack, GuardedKernelsBoot}
+use Rattle.kernel_boots.proofs.Boots.{boots_of}
+
+at_start : (y : Booted) (c : Cvm) → Some (first_cvm y) ≡ Some c → IsSafe c.status
+at_start y c e = let s : first_cvm y ≡ c = cc in subst (λ (c : Cvm). IsSafe c.status) s tt
+
+safe : GuardedNeverFaults → (y : Booted) → RunsGuarded y → (lines : ℕ → ℕ) → HasEight lines → (k : ℕ) (c : Cvm) → IsCvm y lines k c → IsSafe c.status
+safe law y r lines eight zero c is = at_start y c is.is
+safe law y r lines eight (suc k) c is = (law y r lines eight k).1 c is
+
+pub guarded_kernels_boot : AcceptedAreOfImages → GuardedNeverFaults → Means text guarded → GuardedKernelsBoot
+guarded_kernels_boot images law means = boots_of images text HasStack (λ y lines k c. IsSafe c.status)
+    (λ s rows unit is few lines eight k c h. safe law (booted s rows) (record { meaning_is = means s.unit s.params unit; some = is.some; room = is.room }) lines eight k c h)
+    (λ y lines k c h. h)

@@ -1,0 +1,5 @@
+mod EightLines
+pub mod Boots
+mod RoundRobins
+mod Guardeds
+mod Mailboxes

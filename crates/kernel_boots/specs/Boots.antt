@@ -1,0 +1,73 @@
+-- What every boot of an image shows, where each state of the abstract run has a property: over the headline of `run` (cvm_shell/src/lib.rt) as it stands.
+use Rattle.std.specs.Prelude.{◌≡◌, ◌≢◌, ℕ, List, Option, Ok}
+use Rattle.std.specs.Io.KnownBytes.{append_known}
+use Rattle.schedule_file.specs.Rows.{Rows}
+use Rattle.boot_image.specs.Parts.{Parts as Image}
+use Rattle.boot_image.specs.Reading.{answer as image_of}
+use Rattle.boot_turns.specs.declared.answers.View.TheVariants.{Boot}
+use Rattle.c0_types.specs.Front.{IsUnitOf}
+use Rattle.cvm_model.specs.Cvm.{System as Booted, Cvm, IsCvm}
+use Rattle.cvm_model.specs.Invariant.{HasEight, IsSafe}
+use Rattle.cvm_model.specs.Text.{rows_text, boot_text}
+use Rattle.kernel_linker.specs.Accept.{System}
+use Rattle.cvm_shell.specs.declared.status.Status.{Status}
+use Rattle.cvm_shell.specs.declared.status.Status.TheVariants.{KernelFault, StepLimit, Memory}
+use Rattle.cvm_shell.specs.declared.boot.Session.{Session}
+use Rattle.cvm_shell.specs.Outside.{Outside}
+use Rattle.cvm_shell.specs.Boot.{booted, AskFor, by_boot, by_trace, by_sample, IsHonest}
+use Rattle.cvm_shell.specs.Outcome.{Headlines}
+
+-- a property of a state after so many turns with these lines
+abbrev pub OfStates : Type 1
+OfStates = (ℕ → ℕ) → ℕ → Cvm → Type 0
+
+-- EACH STATE of a system's run has it, whatever lines are raised
+abbrev pub AlwaysHas : Booted → OfStates → Type 0
+AlwaysHas y P = (lines : ℕ → ℕ) → HasEight lines → (k : ℕ) (c : Cvm) → IsCvm y lines k c → P lines k c
+
+-- THE TEXT of a state, by the status: where the steps ran out its rows so far, else the whole report, with its rows in front
+abbrev pub TextOfState : Booted → Status → Cvm → List ℕ → Type 0
+TextOfState y StepLimit c text = text ≡ rows_text c.rows
+TextOfState y other c text = text ≡ boot_text y c
+
+-- a text is that of a state that has the property
+pub record Shows (y : Booted) (P : OfStates) (status : Status) (text : List ℕ) : Type 0 where
+  pub lines : ℕ → ℕ
+  pub turns : ℕ
+  pub state : Cvm
+  pub is : IsCvm y lines turns state
+  pub has : P lines turns state
+  pub text_is : TextOfState y status state text
+
+-- A BOOT SHOWS IT: what it printed is the text of such a state; and where the property excludes faults, its status is not that of a kernel's fault
+pub record BootShows (y : Booted) (P : OfStates) (old new : Outside) (status : Status) : Type 0 where
+  pub printed : (text : List ℕ) × (new.sink.text ≡ append_known old.sink.text text) × Shows y P status text
+  pub no_fault : ((lines : ℕ → ℕ) (k : ℕ) (c : Cvm) → P lines k c → IsSafe c.status) → status ≢ KernelFault
+
+-- THE COROLLARY, for any property of states: by the headline of `run` each boot with no failed call shows it, where the system's run always has it
+abbrev pub BootsShow : Type 1
+BootsShow = (P : OfStates) (words : List (List ℕ)) (status : Status) (old new : Outside) → Headlines (λ (o : Outside). o) words status old new
+    → (session : Session) (s : System) (rows : Rows) (before : List (List ℕ)) → IsHonest words session s rows before old new → status ≢ Memory → session.view ≡ Boot
+    → AlwaysHas (booted s rows) P → BootShows (booted s rows) P old new status
+
+-- the bytes of an image that has this source
+abbrev pub HasSource : List ℕ → List ℕ → Type 0
+HasSource source bytes = (i : Image) × (image_of bytes ≡ Ok i) × (i.source ≡ source)
+
+-- words and files ask for a run of an image with this source: the file that is named, or what a sample is linked to
+abbrev pub AsksSource : List ℕ → {words : List (List ℕ)} → {file : List ℕ → Option (List ℕ)} → {session : Session} → {s : System} → {rows : Rows} → AskFor words file session s rows → Type 0
+AsksSource source (by_boot b is same files) = HasSource source files.image
+AsksSource source (by_trace t is same files) = HasSource source files.image
+AsksSource source (by_sample x is same parts) = HasSource source parts.image
+
+-- a law: the unit of the system that is run is that of this source
+abbrev pub RunsItsSource : Type 0
+RunsItsSource = (source : List ℕ) (words : List (List ℕ)) (session : Session) (s : System) (rows : Rows) (before : List (List ℕ)) (old new : Outside)
+    → (h : IsHonest words session s rows before old new) → AsksSource source h.asked → IsUnitOf source s.unit
+
+-- EVERY BOOT of an image with this source: where a fact of its system is given (how many users it has, how large its stack is), it shows a property
+-- that excludes faults
+abbrev pub BootsOf : (source : List ℕ) → (System → Type 0) → (Booted → OfStates) → Type 0
+BootsOf source Is P = (words : List (List ℕ)) (status : Status) (old new : Outside) → Headlines (λ (o : Outside). o) words status old new
+    → (session : Session) (s : System) (rows : Rows) (before : List (List ℕ)) → (h : IsHonest words session s rows before old new) → status ≢ Memory → session.view ≡ Boot
+    → AsksSource source h.asked → Is s → (status ≢ KernelFault) × ((text : List ℕ) × (new.sink.text ≡ append_known old.sink.text text) × Shows (booted s rows) (P (booted s rows)) status text)

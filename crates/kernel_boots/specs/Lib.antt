@@ -1,0 +1,4 @@
+pub mod Boots
+pub mod RoundRobins
+pub mod Guardeds
+pub mod Mailboxes

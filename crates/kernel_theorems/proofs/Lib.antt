@@ -1,0 +1,11 @@
+mod Texts
+pub mod Weaker
+pub mod Answering
+mod RoundRobins
+mod RoundRobinTexts
+mod Fairness
+mod Guardeds
+mod GuardedTexts
+mod Mailboxes
+mod MailboxTexts
+mod Loggings

@@ -1,0 +1,19 @@
+-- What is done is done with less said of it: to be used where a law on code says more than its caller asks for. No contract can carry it, since a property
+-- ranges over types: this file may be cited from other crates.
+use Rattle.std.proofs.Common.{◌≡◌, ℕ, List, sym, subst}
+use Rattle.c0_meaning.specs.State.{State}
+use Rattle.c0_meaning.specs.World.{Setting, Configuration}
+use Rattle.c0_meaning.specs.Running.{Work}
+use Rattle.c0_meaning.specs.Execution.{Outcome, Done, Failed, NotYet}
+use Rattle.c0_meaning.specs.Reasoning.{Comes, Ends}
+
+module _ (W E : Type 0) where
+  -- a property that follows
+  pub weaker : (o : Outcome W E) (Q R : Configuration W E → Type 0) → ((d : Configuration W E) → Q d → R d) → Comes o Q → Comes o R
+  weaker (Done used d) Q R f h = f d h
+  weaker (Failed used x d) Q R f h = absurd h
+  weaker (NotYet used d) Q R f h = absurd h
+
+  -- a state that is known
+  pub from_state : (p : Setting W E) (n : ℕ) (w : List Work) (d : Configuration W E) (s : State) (Q : Configuration W E → Type 0) → d.state ≡ s → Ends p n w (record d { state = s }) Q → Ends p n w d Q
+  from_state p n w d s Q is h = subst (λ (t : State). Ends p n w (record d { state = t }) Q) (sym is) h

@@ -1,0 +1,5 @@
+use Rattle.kernel_theorems.proofs.Mailboxes.{messages_are_delivered}
+use Rattle.kernel_theorems.proofs.mailbox.messages_are_delivered.Goals as goal
+
+pub returns : goal.returns
+returns c = messages_are_delivered c.runs_are_lawful.ensures

@@ -1,0 +1,22 @@
+//! Properties of kernels, proved of all their runs: each function is a law, and docs/VERIFYING.md goes through them line by line.
+#![tactic(auto)]
+
+ghost use Rattle.kernel_theorems.specs.Text.{TextsMeanTrees};
+
+use c0_parser::sources_read_by_walks;
+use c0_types::laws::sources_have_one_answer;
+use cvm_model::reasoning::meanings_ignore_places;
+
+pub mod guarded;
+pub mod logging;
+pub mod mailbox;
+pub mod round_robin;
+
+/// A law: a text that is read by computation means the tree that it comes to.
+pub fn texts_mean_trees()
+    ensures { TextsMeanTrees }
+{
+    sources_read_by_walks();
+    sources_have_one_answer();
+    meanings_ignore_places();
+}

@@ -1,0 +1,2 @@
+mod Property
+mod Texts

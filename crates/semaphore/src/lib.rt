@@ -1,0 +1,21 @@
+//! A property of the kernel semaphore, proved of all its runs. docs/VERIFYING.md says how to go on.
+#![tactic(auto)]
+
+ghost use Rattle.semaphore.specs.Property.{PropertyHolds};
+ghost use Rattle.semaphore.specs.Text.{text};
+ghost use Rattle.semaphore.specs.Tree.{kernel_tree};
+ghost use Rattle.kernel_theorems.specs.Text.{IsTextOf};
+
+use cvm_model::reasoning::runs_are_lawful;
+
+/// A law: in each run of this kernel each turn ends, no dispatch faults, and the property holds.
+pub fn property_holds()
+    ensures { PropertyHolds }
+{
+    runs_are_lawful();
+}
+
+/// A law: the text is that of the tree.
+pub fn text_is_tree()
+    ensures { IsTextOf 26400 text kernel_tree }
+{}
