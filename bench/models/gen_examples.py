@@ -75,7 +75,7 @@ def program_example(name):
         same('trace img s 100000 %d %d' % (STEPS, u), own(name, u, holds), '%s/trace%d' % (name, u))
 
 
-for name in ('adder', 'faults', 'messages', 'round_robin', 'sharing'):
+for name in ('adder', 'faults', 'mailbox', 'messages', 'round_robin', 'sharing'):
     example(name)
 program_example('services')
 

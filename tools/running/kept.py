@@ -17,6 +17,8 @@ from explain import pages
 
 TOP = pages.TOP
 KEPT = os.path.join(TOP, 'out', 'tried')
+# How many seconds the program may take from where the pipe can be written to until it is seen to have it open.
+WAIT = 120
 
 
 class NoBuild(Exception):
@@ -86,16 +88,30 @@ def readers(path):
     return found
 
 
-def copy_program(pipe, words, to):
-    """Copies the program that waits for the pipe, and writes down how it was started."""
+def start_of_reader(pipe, words):
+    """The words before these that started the process which reads from the pipe; None where no process has it open yet."""
     given = [os.fsencode(word) for word in words]
     for line in readers(pipe):
         if len(line) > len(given) and line[-len(given):] == given:
-            start = [os.fsdecode(word) for word in line[:-len(given)]]
+            return [os.fsdecode(word) for word in line[:-len(given)]]
+    return None
+
+
+def copy_program(pipe, words, to, tool):
+    """Copies the program that waits for the pipe, and writes down how it was started.
+
+    The pipe can be written to a moment before the program's own call that opens it has come back, and on a busy machine that moment can be long. As long
+    as the pipe is open here, the program waits for what is written.
+    """
+    until = time.monotonic() + WAIT
+    while tool.poll() is None and time.monotonic() < until:
+        start = start_of_reader(pipe, words)
+        if start:
             shutil.copy(start[-1], os.path.join(to, 'program'))
             with open(os.path.join(to, 'start'), 'w', encoding='utf-8') as file:
                 json.dump(start[:-1], file)
             return
+        time.sleep(0.05)
     raise NoBuild('the program that waits for the pipe could not be found among the processes')
 
 
@@ -131,7 +147,7 @@ def build_into(rt, folder):
             with open(log, encoding='utf-8', errors='replace') as file:
                 tail = file.read().strip().split('\n')[-20:]
             raise NoBuild('the toolchain could not run the sources. The end of what it said:\n' + '\n'.join('  ' + line for line in tail))
-        copy_program(pipe, words, folder)
+        copy_program(pipe, words, folder, tool)
         os.close(end)
         tool.wait()
     finally:

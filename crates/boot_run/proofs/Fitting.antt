@@ -1,5 +1,4 @@
 -- What a loaded run keeps for a trace: a user of the boot, and what is needed to print its rows.
-use Rattle.mips_table.specs.Machine.{run}
 use Rattle.std.proofs.Common.{◌≡◌, ℕ, ◌+◌, ◌*◌, ◌≤◌, ◌&&◌, Bool, true, false, Option, Some, None, List, length, refl, sym, ap, ◌∙◌, subst, arith}
 use Rattle.std.specs.Prelude.{IsTrue, IfSome, All, nat_lt}
 use Rattle.std.specs.Option.{option_map}

@@ -39,8 +39,8 @@ module _ {L : Type 0} (r : Kept L) (count : ℕ) (told retold : Option (List (Li
       let m = law (unit_view r.boot.unit) (outside_of r.machine.rows count) y s0 delay bound lawful in
       let stays = typed (unit_view r.boot.unit) (outside_of r.machine.rows count) y s0 delay bound lawful in
       let seen = its_told (outside_of r.machine.rows count) y s0 r.view base k t budget c r told text ready in
-      let fit = entries (outside_of r.machine.rows count) y s0 r.view base k t budget c r told text ready same_boot map places placed fine m stays rows globals formed in
-      let whole = whole_boot (outside_of r.machine.rows count) y s0 r.view base k t budget c r told text ready same_boot map places placed fine m stays rows globals formed view in
+      let fit = entries (outside_of r.machine.rows count) y s0 r.view base k t budget c r told text ready same_boot map places placed fine delay bound m stays rows globals formed in
+      let whole = whole_boot (outside_of r.machine.rows count) y s0 r.view base k t budget c r told text ready same_boot map places placed fine delay bound m stays rows globals formed view in
       printed (outside_of r.machine.rows count) y s0 r.view base k t budget c r told text ready (closing_rows (is_some r.ended) r.current r.machine seen.sectors map places r.boot.unit.globals.items) whole
       held same_machine retold retold_is retext (put seen.sectors seen.are fit)
 
@@ -51,8 +51,8 @@ module _ {L : Type 0} (r : Kept L) (count : ℕ) (told retold : Option (List (Li
       let m = law (unit_view r.boot.unit) (outside_of r.machine.rows count) y s0 delay bound lawful in
       let stays = typed (unit_view r.boot.unit) (outside_of r.machine.rows count) y s0 delay bound lawful in
       let seen = its_told (outside_of r.machine.rows count) y s0 r.view base k t budget c r told text ready in
-      let fit = entries (outside_of r.machine.rows count) y s0 r.view base k t budget c r told text ready same_boot map places placed fine m stays rows globals formed in
-      let whole = whole_boot (outside_of r.machine.rows count) y s0 r.view base k t budget c r told text ready same_boot map places placed fine m stays rows globals formed view in
+      let fit = entries (outside_of r.machine.rows count) y s0 r.view base k t budget c r told text ready same_boot map places placed fine delay bound m stays rows globals formed in
+      let whole = whole_boot (outside_of r.machine.rows count) y s0 r.view base k t budget c r told text ready same_boot map places placed fine delay bound m stays rows globals formed view in
       let so = so_far (outside_of r.machine.rows count) y s0 r.view base k t budget c r told text ready same_boot map places placed fine in
       let part = put seen.sectors seen.are fit in
       cut (outside_of r.machine.rows count) y s0 r.view base k t budget c r told text ready (closing_rows (is_some r.ended) r.current r.machine seen.sectors map places r.boot.unit.globals.items) whole
@@ -76,14 +76,14 @@ module _ {L : Type 0} (now r : Kept L) (same : r ≡ now) (count : ℕ) (told re
   pub now_printed : ((ss : List (List ℕ)) → told ≡ Some ss → EntriesFit map (state_of r.machine ss) → retext ≡ append_known text (closing_rows halted r.current r.machine ss map places decls)) →
       ReportRuns count now (record r { machine = held; fault = None }) told retold text retext (Ok tt)
   now_printed put = subst (λ (q : Kept L). ReportRuns count q (record r { machine = held; fault = None }) told retold text retext (Ok tt)) same
-      (all_printed r count told retold text retext its_view its_end run typed rows globals formed map places placed held same_machine retold_is
+      (all_printed r count told retold text retext its_view its_end law typed rows globals formed map places placed held same_machine retold_is
       (λ ss e f. put ss e f ∙ ap (append_known text) (rows_are ss)))
 
   pub now_broken : (f : RunFault) → f ≢ StepLimit →
       ((ss : List (List ℕ)) → told ≡ Some ss → EntriesFit map (state_of r.machine ss) → AppendsPart text retext (closing_rows halted r.current r.machine ss map places decls)) →
       ReportRuns count now (record r { machine = held; fault = Some f }) told retold text retext (Err f)
   now_broken f limit put = subst (λ (q : Kept L). ReportRuns count q (record r { machine = held; fault = Some f }) told retold text retext (Err f)) same
-      (broken_off r count told retold text retext its_view its_end run typed rows globals formed map places placed held same_machine retold_is f limit
+      (broken_off r count told retold text retext its_view its_end law typed rows globals formed map places placed held same_machine retold_is f limit
       (λ ss e g. subst (AppendsPart text retext) (rows_are ss) (put ss e g)))
 
 -- and with the fault kept in the run's own fields

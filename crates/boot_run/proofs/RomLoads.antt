@@ -1,9 +1,9 @@
 -- The machine that `load_rom` makes is the machine with the ROM, over the disk that it writes.
-use Rattle.std.proofs.Common.{◌≡◌, ℕ, suc, ◌+◌, ◌*◌, ◌/◌, ◌-◌, ◌<◌, ◌≤◌, Bool, true, false, not, ◌&&◌, cond, List, [], ◌∷◌, ◌++◌, map, take, drop, length, replicate, Option, None, Some, refl, sym, ap, ap₂, ◌∙◌, subst, arith, ⊎_elim, length-append, lt-ltb, le-ltb, Vec, Global}
-use Rattle.std.specs.Prelude.{nat_lt, IfSome, slice_index}
+use Rattle.std.proofs.Common.{◌≡◌, ℕ, suc, ◌+◌, ◌*◌, ◌/◌, ◌-◌, ◌<◌, ◌≤◌, Bool, false, not, ◌&&◌, cond, List, ◌∷◌, ◌++◌, map, take, drop, length, replicate, Option, None, Some, refl, sym, ap, ap₂, ◌∙◌, subst, arith, ⊎_elim, length-append, lt-ltb, le-ltb, Vec, Global}
+use Rattle.std.specs.Prelude.{nat_lt, IfSome}
 use Rattle.std.specs.Option.{option_map}
 use Rattle.std.specs.List.{range_with_len}
-use Rattle.std.proofs.lemmas.Bool.{cases_lt, cond-true, cond-false}
+use Rattle.std.proofs.lemmas.Bool.{cases_lt, cond-true}
 use Rattle.std.proofs.lemmas.List.{drop-replicate, take-replicate, length-replicate}
 use Rattle.schedule_file.specs.Rows.{Rows}
 use Rattle.layer_map.specs.Map.{Map, memory_frames, memory_words}
@@ -21,29 +21,29 @@ use Rattle.boot_turns.specs.Completes.{seen}
 use Rattle.boot_turns.specs.Rom.{page_of, rom_loaded, rom_sector, rom_sectors}
 use Rattle.boot_run.specs.Loading.{system_of, disk_pages, pages_of_users, written, with_rom, TornAmong}
 use Rattle.boot_run.specs.LoadEnds.{rom_needed}
-use Rattle.boot_run.proofs.PageLemmas.{page_or, written_is}
+use Rattle.boot_run.proofs.PageLemmas.{written_is}
 use Rattle.boot_run.proofs.Loads.{lists, needed_is, page_if, page_below, page_behind, kept_behind, torn_becomes, told_many}
 
 -- a jump, zeros up to the ROM's frame, and the ROM
 placed : (j k n m : ℕ) (rom : List ℕ) → m ≡ suc k → n ≡ k + 1024 → length rom ≤ 1024 →
-    take m (j ∷ replicate n 0) ++ (rom ++ drop (m + length rom) (j ∷ replicate n 0)) ≡ (j ∷ replicate k 0) ++ (rom ++ replicate (1024 - length rom) 0)
+    take {A = ℕ} m (j ∷ replicate n 0) ++ (rom ++ drop {A = ℕ} (m + length rom) (j ∷ replicate n 0)) ≡ (j ∷ replicate k 0) ++ (rom ++ replicate (1024 - length rom) 0)
 placed j k n m rom e f le =
     let few : k ≤ n = omega (arith, f) in
-    let a : take m (j ∷ replicate n 0) ≡ j ∷ replicate k 0 = ap (λ i. take i (j ∷ replicate n 0)) e ∙ ap (λ l. j ∷ l) (front k n few) in
+    let a : take {A = ℕ} m (j ∷ replicate n 0) ≡ j ∷ replicate k 0 = ap (λ i. take {A = ℕ} i (j ∷ replicate n 0)) e ∙ ap (λ l. j ∷ l) (front k n few) in
     let s : m + length rom ≡ suc (k + length rom) = omega (arith, e) in
     let left : n - (k + length rom) ≡ 1024 - length rom = omega (arith, f, le) in
-    let b : drop (m + length rom) (j ∷ replicate n 0) ≡ replicate (1024 - length rom) 0 =
-    ap (λ i. drop i (j ∷ replicate n 0)) s ∙ drop-replicate (k + length rom) n 0 ∙ ap (λ i. replicate i 0) left in
+    let b : drop {A = ℕ} (m + length rom) (j ∷ replicate n 0) ≡ replicate (1024 - length rom) 0 =
+    ap (λ i. drop {A = ℕ} i (j ∷ replicate n 0)) s ∙ drop-replicate (k + length rom) n 0 ∙ ap (λ i. replicate {A = ℕ} i 0) left in
     ap₂ (λ u v. u ++ (rom ++ v)) a b
   where
-    front : (k n : ℕ) → k ≤ n → take k (replicate n 0) ≡ replicate k 0
+    front : (k n : ℕ) → k ≤ n → take {A = ℕ} k (replicate n 0) ≡ replicate k 0
     front k n few = take-replicate k n 0 few
 
 memory_is : (frames : ℕ) (rom : List ℕ) (rows : Rows) → 1 ≤ frames → length rom ≤ 1024 → (with_rom frames rom rows).hardware.memory ≡ rom_memory rom frames
 memory_is frames rom rows some few =
     let j : ℕ = encoding (J (1024 * frames)) in
     let n : ℕ = 1024 * (frames + 1) - 1 in
-    let first : j ∷ drop 1 (replicate (1024 * (frames + 1)) 0) ≡ j ∷ replicate (1024 * (frames + 1) - 1) 0 = ap (λ l. j ∷ l) (drop-replicate 1 (1024 * (frames + 1)) 0) in
+    let first : j ∷ drop {A = ℕ} 1 (replicate (1024 * (frames + 1)) 0) ≡ j ∷ replicate (1024 * (frames + 1) - 1) 0 = ap (λ l. j ∷ l) (drop-replicate 1 (1024 * (frames + 1)) 0) in
     ap (λ l. take (1024 * frames) l ++ (rom ++ drop (1024 * frames + length rom) l)) first
     ∙ placed j (1024 * frames - 1) (1024 * (frames + 1) - 1) (1024 * frames) rom (omega (arith, some)) (omega (arith, some)) few
 

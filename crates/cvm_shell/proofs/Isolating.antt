@@ -19,7 +19,7 @@ use Rattle.layer_contract.specs.Follows.{loaded}
 use Rattle.boot_turns.specs.Trace.{Shown, entries_so_far}
 use Rattle.boot_turns.specs.TurnEnds.{first_of, Whole}
 use Rattle.boot_turns.specs.Headline as headline
-use Rattle.boot_turns.specs.Headline.{Ending, TextOf, ending_of}
+use Rattle.boot_turns.specs.Headline.{Ending, TextAt, ending_of}
 use Rattle.boot_turns.specs.declared.answers.View.{View}
 use Rattle.boot_turns.specs.declared.answers.View.TheVariants as view
 use Rattle.boot_run.specs.LoadEnds.{SeesUser}
@@ -109,14 +109,14 @@ not_late e false status is (inl finished) = let late = sym (ap ended_as is) ∙ 
 not_late e false status is (inr fault) = let late = sym (ap ended_as is) ∙ fault in absurd cc
 
 -- so it is printed whole
-whole_text : (x : Surroundings) (y : Booted) (old : List (List ℕ)) (v : View) (t : ℕ) (e : Ending) (text : List ℕ) → (ended_as e ≡ Done) ⊎ (ended_as e ≡ KernelFault) → TextOf x y old v t e text → Whole x y old v t text
-whole_text x y old v t headline.Done text ends h = h
-whole_text x y old v t headline.KernelFaulted text ends h = h
-whole_text x y old v t headline.OutOfSteps text (inl finished) h = absurd cc
-whole_text x y old v t headline.OutOfSteps text (inr fault) h = absurd cc
-whole_text x y old v t headline.DiskFault text ends h = h
-whole_text x y old v t headline.SinkFault text ends h = h
-whole_text x y old v t headline.NoMemory text ends h = h
+whole_text : (x : Surroundings) (y : Booted) (s : State) (v : View) (t : ℕ) (e : Ending) (text : List ℕ) → (ended_as e ≡ Done) ⊎ (ended_as e ≡ KernelFault) → TextAt x y s v t e text → Whole x y s v t text
+whole_text x y s v t headline.Done text ends h = h
+whole_text x y s v t headline.KernelFaulted text ends h = h
+whole_text x y s v t headline.OutOfSteps text (inl finished) h = absurd cc
+whole_text x y s v t headline.OutOfSteps text (inr fault) h = absurd cc
+whole_text x y s v t headline.DiskFault text ends h = h
+whole_text x y s v t headline.SinkFault text ends h = h
+whole_text x y s v t headline.NoMemory text ends h = h
 
 -- and it is that of the journal
 replayed : (u : ℕ) (first : Flat) (all j : List JournalEntry) (a c : Cvm) (text : List ℕ) → replay first all ≡ Some (user_of a.core.users u) → j ≡ all → a ≡ c
@@ -140,8 +140,8 @@ isolated laws law session u s rows before old new status h sees traced ends =
     let by = status_by status h.ending h.status_is ends in
     let over = not_late h.ending (is_end x m session.turns t) h.ran.past.status h.ran.status by in
     let user : (1 ≤ u) × (u ≤ length s.users) = subst (λ (v : View). SeesUser v (length s.users)) traced sees in
-    let so : Whole x y before session.view t h.text = whole_text x y before session.view t h.ending h.text by h.ran.text_is in
-    let (c, j, is, shown, text) = subst (λ (v : View). Whole x y before v t h.text) traced so in
+    let so : Whole x y m session.view t h.text = whole_text x y m session.view t h.ending h.text by h.ran.text_is in
+    let (c, j, is, shown, text) = subst (λ (v : View). Whole x y m v t h.text) traced so in
     let mine = law s rows (lines_of x m) shown.units (complete x m t) u shown.past c user.0 user.1 shown.cvm is in
     let theirs = law s rows (lines_of x m) shown.units (complete x m t) u shown.past h.ran.past user.0 user.1 shown.cvm h.ran.cvm in
     record {

@@ -7,9 +7,10 @@ use Rattle.cvm_model.specs.Primitives.{user_of}
 use Rattle.cvm_model.specs.Cvm.{System, Faulted, Cvm, IsCvm}
 use Rattle.mips_table.specs.Turns.{lines_of}
 use Rattle.layer_contract.specs.Follows.{loaded}
+use Rattle.mips_table.specs.Machine.{State}
 use Rattle.boot_turns.specs.TurnEnds.{first_of, Printed, Whole}
 use Rattle.boot_turns.specs.Headline as headline
-use Rattle.boot_turns.specs.Headline.{Ending, TextOf}
+use Rattle.boot_turns.specs.Headline.{Ending, TextAt}
 use Rattle.boot_turns.specs.declared.answers.View.{View}
 use Rattle.boot_turns.specs.declared.answers.View.TheVariants as view
 use Rattle.cvm_shell.specs.Boot.{booted, around}
@@ -17,16 +18,16 @@ use Rattle.cvm_shell.specs.Suffices.{StackOutIsNotPrinted}
 use Rattle.cvm_shell.proofs.Sufficient.{one_text}
 use Rattle.cvm_shell.proofs.StackTexts.{IsClean, rows_clean, boot_clean, journal_clean, trace_clean, clean_end}
 
-module _ (x : Surroundings) (y : System) (old : List (List ℕ)) (never : (k : ℕ) (c : Cvm) → IsCvm y (lines_of x (loaded y old)) k c → c.status ≢ Faulted StackOut) where
-  printed_clean : (v : View) (t : ℕ) (text : List ℕ) → Printed x y old v t text → IsClean text
+module _ (x : Surroundings) (y : System) (s : State) (never : (k : ℕ) (c : Cvm) → IsCvm y (lines_of x s) k c → c.status ≢ Faulted StackOut) where
+  printed_clean : (v : View) (t : ℕ) (text : List ℕ) → Printed x y s v t text → IsClean text
   printed_clean view.Boot t text (c, is, e) = subst IsClean (sym e) (rows_clean y _ _ c is (never _ c is))
   printed_clean (view.Trace u) t text (j, shown, e) = subst IsClean (sym e) (journal_clean u (first_of y u) j)
 
-  whole_clean : (v : View) (t : ℕ) (text : List ℕ) → Whole x y old v t text → IsClean text
+  whole_clean : (v : View) (t : ℕ) (text : List ℕ) → Whole x y s v t text → IsClean text
   whole_clean view.Boot t text (c, is, e) = subst IsClean (sym e) (boot_clean y _ _ c is (never _ c is))
   whole_clean (view.Trace u) t text (c, j, is, shown, e) = subst IsClean (sym e) (trace_clean u (first_of y u) j (user_of c.core.users u) c.status (never _ c is))
 
-  text_clean : (v : View) (t : ℕ) (e : Ending) (text : List ℕ) → TextOf x y old v t e text → IsClean text
+  text_clean : (v : View) (t : ℕ) (e : Ending) (text : List ℕ) → TextAt x y s v t e text → IsClean text
   text_clean v t headline.Done text h = whole_clean v t text h
   text_clean v t headline.KernelFaulted text h = whole_clean v t text h
   text_clean v t headline.OutOfSteps text h = printed_clean v t text h
@@ -38,6 +39,6 @@ pub not_printed : StackOutIsNotPrinted
 not_printed words status ended old new before after source stack session s rows sectors enough says has h ends =
     let x = around rows before in
     let y = booted s rows in
-    let clean : IsClean h.text = text_clean x y sectors (λ k c is. enough source stack s says has rows (lines_of x (loaded y sectors)) k c is) session.view _ h.ending h.text h.ran.text_is in
+    let clean : IsClean h.text = text_clean x y (loaded y sectors) (λ k c is. enough source stack s says has rows (lines_of x (loaded y sectors)) k c is) session.view _ h.ending h.text h.ran.text_is in
     let same : h.text ≡ ends.front ++ codes "fault StackOut\n" = one_text before.sink.text ends.before h.text (ends.front ++ codes "fault StackOut\n") ends.before_told (sym h.printed ∙ ends.printed) in
     clean_end ends.front (subst IsClean same clean)

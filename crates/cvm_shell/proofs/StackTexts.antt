@@ -8,6 +8,7 @@ use Rattle.mips_table.specs.Flat.{Flat}
 use Rattle.c0_meaning.specs.Value.{Value, Values, int, bool, null, at, group, empty, part}
 use Rattle.cvm_model.specs.Kernel.{Core, parts_of, JournalEntry, Stepped, Trapped, Set, Size, Put, End, Answers, Faults, NotYet, Outcome}
 use Rattle.cvm_model.specs.Primitives.{pages_of}
+use Rattle.cvm_model.specs.declared.kernel_fault.KernelFault.{KernelFault}
 use Rattle.cvm_model.specs.declared.kernel_fault.KernelFault.TheVariants.{NullUse, Bounds, DivZero, StackOut, BadUser}
 use Rattle.cvm_model.specs.declared.row.Next.{Next}
 use Rattle.cvm_model.specs.declared.row.Next.TheVariants.{User, Halt, Fault}
@@ -37,23 +38,26 @@ record Fine (l : Last) : Type 0 where
   other : l.x ≡ 117 → l.y ≡ 116 → l.z ≡ 10 → ⊥
 
 -- a piece keeps them so, or makes them so
-abbrev Keeps : List ℕ → Type 0
-Keeps a = (l : Last) → Fine l → Fine (after l a)
+record Keeps (a : List ℕ) : Type 0 where
+  keeps : (l : Last) → Fine l → Fine (after l a)
 
-abbrev Makes : List ℕ → Type 0
-Makes a = (l : Last) → Fine (after l a)
+record Makes (a : List ℕ) : Type 0 where
+  makes : (l : Last) → Fine (after l a)
+
+keeps_none : Keeps []
+keeps_none = record { keeps = λ l f. f }
 
 keeps_made : (a : List ℕ) → Makes a → Keeps a
-keeps_made a h l f = h l
+keeps_made a h = record { keeps = λ l f. h.makes l }
 
 keeps_both : (a b : List ℕ) → Keeps a → Keeps b → Keeps (a ++ b)
-keeps_both a b h k l f = subst Fine (sym (after_append l a b)) (k (after l a) (h l f))
+keeps_both a b h k = record { keeps = λ l f. subst Fine (sym (after_append l a b)) (k.keeps (after l a) (h.keeps l f)) }
 
 makes_behind : (a b : List ℕ) → Makes b → Makes (a ++ b)
-makes_behind a b h l = subst Fine (sym (after_append l a b)) (h (after l a))
+makes_behind a b h = record { makes = λ l. subst Fine (sym (after_append l a b)) (h.makes (after l a)) }
 
 makes_before : (a b : List ℕ) → Makes a → Keeps b → Makes (a ++ b)
-makes_before a b h k l = subst Fine (sym (after_append l a b)) (k (after l a) (h l))
+makes_before a b h k = record { makes = λ l. subst Fine (sym (after_append l a b)) (k.keeps (after l a) (h.makes l)) }
 
 -- NUMBERS have letters below `t`
 abbrev AreBelow : List ℕ → Type 0
@@ -65,21 +69,21 @@ last_low l [] low h = low
 last_low l (c ∷ a) low h = last_low (next_letter l c) a h.0 h.1
 
 -- a text whose last letter is below `t`, whatever stands before it
-abbrev Low : List ℕ → Type 0
-Low a = (l : Last) → (after l a).z < 116
+record Low (a : List ℕ) : Type 0 where
+  low : (l : Last) → (after l a).z < 116
 
 low_behind : (a b : List ℕ) → Low b → Low (a ++ b)
-low_behind a b h l = subst (λ (m : Last). m.z < 116) (sym (after_append l a b)) (h (after l a))
+low_behind a b h = record { low = λ l. subst (λ (m : Last). m.z < 116) (sym (after_append l a b)) (h.low (after l a)) }
 
 low_number : (a : List ℕ) → AreBelow a → Low (32 ∷ a)
-low_number a h l = last_low (next_letter l 32) a (let low : 32 < 116 = omega arith in low) h
+low_number a h = record { low = λ l. last_low (next_letter l 32) a (let low : 32 < 116 = omega arith in low) h }
 
 -- it ends a row as no other does
 new_row : (l : Last) → l.z < 116 → Fine (after l (10 ∷ []))
 new_row l low = record { other = λ x y z. absurd (omega (arith, low, y)) }
 
 makes_row : (a : List ℕ) → Low a → Makes (a ++ 10 ∷ [])
-makes_row a h l = subst Fine (sym (after_append l a (10 ∷ []))) (new_row (after l a) (h l))
+makes_row a h = record { makes = λ l. subst Fine (sym (after_append l a (10 ∷ []))) (new_row (after l a) (h.low l)) }
 
 either_below : (b : Bool) (d : ℕ) → d < 16 → (if b then 48 + d else 87 + d) < 116
 either_below true d low = omega arith
@@ -119,51 +123,52 @@ decimal_row a n = makes_row (a ++ 32 ∷ decimal n) (low_behind a (32 ∷ decima
 
 -- A row that may be missing
 keeps_if : (b : Bool) (a : List ℕ) → Makes a → Keeps (if b then [] else a)
-keeps_if true a h l f = f
-keeps_if false a h l f = h l
+keeps_if true a h = keeps_none
+keeps_if false a h = keeps_made a h
 
 -- THE REPORT
 global_row : (name : List ℕ) (v : Value) → Keeps (text.global_row name v)
 global_row name (int n) = keeps_made _ (makes_row (codes "global " ++ name ++ 32 ∷ signed_decimal n) (low_behind (codes "global " ++ name) (32 ∷ signed_decimal n) (low_number (signed_decimal n) (signed_below n))))
-global_row name (bool true) = keeps_made _ (makes_behind (codes "global " ++ name) (codes " true\n") (makes_row (codes " true") (λ l. let low : 101 < 116 = omega arith in low)))
-global_row name (bool false) = keeps_made _ (makes_behind (codes "global " ++ name) (codes " false\n") (makes_row (codes " false") (λ l. let low : 101 < 116 = omega arith in low)))
-global_row name null = keeps_made _ (makes_behind (codes "global " ++ name) (codes " null\n") (makes_row (codes " null") (λ l. let low : 108 < 116 = omega arith in low)))
-global_row name (at p) = keeps_made _ (makes_behind (codes "global " ++ name) (codes " set\n") (λ l. record { other = λ x y z. let e : 101 ≡ 117 = x in absurd (omega arith) }))
-global_row name (group vs) = λ l f. f
+global_row name (bool true) = keeps_made _ (makes_behind (codes "global " ++ name) (codes " true\n") (makes_row (codes " true") (record { low = λ l. let low : 101 < 116 = omega arith in low })))
+global_row name (bool false) = keeps_made _ (makes_behind (codes "global " ++ name) (codes " false\n") (makes_row (codes " false") (record { low = λ l. let low : 101 < 116 = omega arith in low })))
+global_row name null = keeps_made _ (makes_behind (codes "global " ++ name) (codes " null\n") (makes_row (codes " null") (record { low = λ l. let low : 108 < 116 = omega arith in low })))
+global_row name (at p) = keeps_made _ (makes_behind (codes "global " ++ name) (codes " set\n") (record { makes = λ l. record { other = λ x y z. let e : 101 ≡ 117 = x in absurd (omega arith) } }))
+global_row name (group vs) = keeps_none
 
 globals : (names : List (List ℕ)) (vs : Values) → Keeps (text.globals_text names vs)
-globals [] vs = λ l f. f
-globals (x ∷ names) empty = λ l f. f
+globals [] vs = keeps_none
+globals (x ∷ names) empty = keeps_none
 globals (x ∷ names) (part v vs) = keeps_both (text.global_row x v) (text.globals_text names vs) (global_row x v) (globals names vs)
 
 console : (log : List ℕ) → Keeps (text.log_text log)
-console [] = λ l f. f
+console [] = keeps_none
 console (w ∷ rest) = keeps_both (text.hex_row (codes "con") w) (text.log_text rest) (keeps_made _ (hex_row (codes "con") w)) (console rest)
 
 registers : (r : ℕ) (regs : List ℕ) → Keeps (text.regs_text r regs)
-registers r [] = λ l f. f
+registers r [] = keeps_none
 registers r (x ∷ rest) = keeps_both _ (text.regs_text (r + 1) rest) (keeps_if (x == 0) (text.hex_row (codes "reg " ++ decimal r) x) (hex_row (codes "reg " ++ decimal r) x)) (registers (r + 1) rest)
 
 memory : (k : ℕ) (words : List ℕ) → Keeps (text.memory_text k words)
-memory k [] = λ l f. f
+memory k [] = keeps_none
 memory k (w ∷ rest) = keeps_both _ (text.memory_text (k + 1) rest) (keeps_if (w == 0) (text.hex_row (codes "mem " ++ hex8 (4 * k)) w) (hex_row (codes "mem " ++ hex8 (4 * k)) w)) (memory (k + 1) rest)
 
 user : (u : ℕ) (f : Flat) → Makes (text.user_text u f)
 user u f =
-    let head = text.hex_row (codes "user " ++ decimal u ++ codes " pages " ++ decimal (pages_of f) ++ codes " pc") f.cpu.pc in
+    let front = codes "user " ++ decimal u ++ codes " pages " ++ decimal (pages_of f) ++ codes " pc" in
+    let head = text.hex_row front f.cpu.pc in
     let regs = text.regs_text 1 (drop 1 f.cpu.regs) in
     let hi = text.nonzero_row (codes "hi") f.cpu.hi in
     let lo = text.nonzero_row (codes "lo") f.cpu.lo in
     makes_before (head ++ regs ++ hi ++ lo) (text.memory_text 0 f.words)
     (makes_before (head ++ regs ++ hi) lo
     (makes_before (head ++ regs) hi
-    (makes_before head regs (hex_row _ f.cpu.pc) (registers 1 (drop 1 f.cpu.regs)))
+    (makes_before head regs (hex_row front f.cpu.pc) (registers 1 (drop 1 f.cpu.regs)))
     (keeps_if (f.cpu.hi == 0) (text.hex_row (codes "hi") f.cpu.hi) (hex_row (codes "hi") f.cpu.hi)))
     (keeps_if (f.cpu.lo == 0) (text.hex_row (codes "lo") f.cpu.lo) (hex_row (codes "lo") f.cpu.lo)))
     (memory 0 f.words)
 
 users : (u : ℕ) (fs : List Flat) → Keeps (text.users_text u fs)
-users u [] = λ l f. f
+users u [] = keeps_none
 users u (x ∷ rest) = keeps_both (text.user_text u x) (text.users_text (u + 1) rest) (keeps_made _ (user u x)) (users (u + 1) rest)
 
 report : (names : List (List ℕ)) (c : Core) → Keeps (text.report_text names c)
@@ -174,15 +179,15 @@ report names c =
 
 -- the end of a run that didn't fault
 stopped : Keeps (codes "stopped\n")
-stopped = keeps_made _ (makes_row (codes "stopped") (λ l. let low : 100 < 116 = omega arith in low))
+stopped = keeps_made _ (makes_row (codes "stopped") (record { low = λ l. let low : 100 < 116 = omega arith in low }))
 
 halted : Keeps (codes "halted\n")
-halted = keeps_made _ (makes_row (codes "halted") (λ l. let low : 100 < 116 = omega arith in low))
+halted = keeps_made _ (makes_row (codes "halted") (record { low = λ l. let low : 100 < 116 = omega arith in low }))
 
 closing : (y : System) (c : Cvm) (s : Status) → Keeps (text.closing_text y c s)
 closing y c Running = keeps_both (codes "stopped\n") _ stopped (report y.boot.meaning.names c.core)
 closing y c Halted = keeps_both (codes "halted\n") _ halted (report y.boot.meaning.names c.core)
-closing y c (Faulted f) = λ l f. f
+closing y c (Faulted f) = keeps_none
 
 -- THE ROWS OF TURNS, none of which names the fault
 abbrev IsOut : Next → Type 0
@@ -191,16 +196,16 @@ IsOut _ = ⊥
 
 -- a fault's name ends with a letter below `t`, but for one
 name_low : (f : KernelFault) → (IsOut (Fault f) → ⊥) → Low (codes "fault " ++ text.fault_name f)
-name_low NullUse h l = let low : 101 < 116 = omega arith in low
-name_low Bounds h l = let low : 115 < 116 = omega arith in low
-name_low DivZero h l = let low : 111 < 116 = omega arith in low
-name_low StackOut h l = absurd (h tt)
-name_low BadUser h l = let low : 114 < 116 = omega arith in low
+name_low NullUse h = record { low = λ l. let low : 101 < 116 = omega arith in low }
+name_low Bounds h = record { low = λ l. let low : 115 < 116 = omega arith in low }
+name_low DivZero h = record { low = λ l. let low : 111 < 116 = omega arith in low }
+name_low StackOut h = absurd (h tt)
+name_low BadUser h = record { low = λ l. let low : 114 < 116 = omega arith in low }
 
 next_low : (n : Next) → (IsOut n → ⊥) → Low (32 ∷ text.next_text n)
-next_low (User u) h l = last_low (after l (32 ∷ codes "next ")) (decimal u) (let low : 32 < 116 = omega arith in low) (decimal_below u)
-next_low Halt h l = let low : 48 < 116 = omega arith in low
-next_low (Fault f) h l = name_low f h (next_letter l 32)
+next_low (User u) h = record { low = λ l. last_low (after l (32 ∷ codes "next ")) (decimal u) (let low : 32 < 116 = omega arith in low) (decimal_below u) }
+next_low Halt h = record { low = λ l. let low : 48 < 116 = omega arith in low }
+next_low (Fault f) h = record { low = λ l. (name_low f h).low (next_letter l 32) }
 
 row : (r : Row) → (IsOut r.next → ⊥) → Makes (text.row_text r)
 row r h =
@@ -212,7 +217,7 @@ AllOther [] = Unit {0}
 AllOther (r ∷ rest) = (IsOut r.next → ⊥) × AllOther rest
 
 rows : (rs : List Row) → AllOther rs → Keeps (text.rows_text rs)
-rows [] h = λ l f. f
+rows [] h = keeps_none
 rows (r ∷ rest) h = keeps_both (text.row_text r) (text.rows_text rest) (keeps_made _ (row r h.0)) (rows rest h.1)
 
 -- so it is of a run, turn by turn
@@ -265,11 +270,11 @@ module _ (y : System) where
 
 -- THE JOURNAL of a user
 steps : (n : ℕ) → Keeps (text.steps_row n)
-steps zero = λ l f. f
+steps zero = keeps_none
 steps (suc n) = keeps_made _ (decimal_row (codes "steps") (suc n))
 
 entry : (e : JournalEntry) → Keeps (text.entry_row e)
-entry Stepped = λ l f. f
+entry Stepped = keeps_none
 entry (Trapped cause edata) = keeps_made _ (hex_row (codes "trap " ++ decimal cause) edata)
 entry (Set register value) = keeps_made _ (hex_row (codes "set " ++ decimal register) value)
 entry (Size pages) = keeps_made _ (decimal_row (codes "size") pages)
@@ -280,7 +285,7 @@ with_row n e more h = keeps_both (text.steps_row n ++ text.entry_row e) more (ke
 
 journal : (ends : Bool) (n : ℕ) (j : List JournalEntry) → Keeps (text.journal_rows_after ends n j)
 journal true n [] = steps n
-journal false n [] = λ l f. f
+journal false n [] = keeps_none
 journal ends n (Stepped ∷ rest) = journal ends (n + 1) rest
 journal ends n (Trapped cause edata ∷ rest) = with_row n (Trapped cause edata) _ (journal ends 0 rest)
 journal ends n (Set register value ∷ rest) = with_row n (Set register value) _ (journal ends 0 rest)
@@ -323,4 +328,4 @@ pub clean_end : (front : List ℕ) → IsClean (front ++ codes "fault StackOut\n
 unfolding IsClean
 clean_end front clean =
     let first : Last = record { x = 0; y = 0; z = 0 } in
-    at_end (after first front) (subst Fine (after_append first front (codes "fault StackOut\n")) (clean first (record { other = λ x y z. let e : 0 ≡ 10 = z in absurd (omega arith) })))
+    at_end (after first front) (subst Fine (after_append first front (codes "fault StackOut\n")) (clean.keeps first (record { other = λ x y z. let e : 0 ≡ 10 = z in absurd (omega arith) })))

@@ -108,7 +108,7 @@ told_of stack (Err f) (Err r) text e h = absurd cc
 told_room : OneObject → OpenedUnitsAreTheirSources → (stack : ℕ) (bytes : List ℕ) (o : Object) (told : Told) (text rest : List ℕ) → IsObject bytes (Ok o) → told ≡ Ok text → text ≡ codes "yes " ++ rest → TellsObject stack bytes told
     → (u : CUnit) × IsAnswer o.source (Ok u) × Roomy stack u
 told_room read law stack bytes o told text rest is e begun (no_object f other) = absurd cc
-told_room read law stack bytes o told text rest is e begun (has_object p front said other of h) =
+told_room read law stack bytes o told text rest is e begun (has_object p front tale other of h) =
     let (u, opened, tells) = told_of stack (open_answer p front) told text e h in
     let same : p ≡ o = let d = read bytes (Ok p) (Ok o) other is in cc in
     let found : front ≡ Ok u = law p front u opened in
@@ -124,9 +124,9 @@ room_of : OneObject → OpenedUnitsAreTheirSources → (words : List (List ℕ))
 room_of read law words source stack status old new y p (long bytes t many) ends = absurd (not_refused refusal.too_long (said_whole (refusal_status refusal.too_long) status (refusal_text refusal.too_long) old new y.done ends).0)
 room_of read law words source stack status old new y p (whole bytes r t short (told, tells, e)) ends =
     let P : Plan → Type 0 = λ q. Ends q status old new in
-    let (text, said_is, print) = printed told status old new y.done (subst P e ends) in
+    let (text, text_is, print) = printed told status old new y.done (subst P e ends) in
     let begun : text ≡ codes "yes " ++ y.rest = one_text old.sink.text y.before text (codes "yes " ++ y.rest) y.before_told (sym print ∙ y.printed) in
-    told_room read law y.check.stack y.bytes y.object told text y.rest y.object_is said_is begun (subst (λ (bs : List ℕ). TellsObject y.check.stack bs told) (told_bytes (old.shelf.file y.check.object) y.bytes bytes y.bytes_told t) tells)
+    told_room read law y.check.stack y.bytes y.object told text y.rest y.object_is text_is begun (subst (λ (bs : List ℕ). TellsObject y.check.stack bs told) (told_bytes (old.shelf.file y.check.object) y.bytes bytes y.bytes_told t) tells)
 
 -- THE SYSTEM of an accepted image has the unit of its source
 

@@ -13,7 +13,7 @@ use Rattle.mips_table.specs.declared.cause.Cause.{Cause}
 use Rattle.mips_table.specs.declared.cause.Cause.TheVariants as causes
 use Rattle.mips_table.specs.Flat.{Flat}
 use Rattle.mips_table.specs.Machine.{number_of}
-use Rattle.c0_meaning.specs.Value.{int, empty, part}
+use Rattle.c0_meaning.specs.Value.{Value, int, empty, part}
 use Rattle.c0_meaning.specs.State.{State}
 use Rattle.c0_meaning.specs.World.{beginning}
 use Rattle.c0_meaning.specs.Running.{begin}
@@ -27,7 +27,7 @@ use Rattle.cvm_model.specs.Cvm.{System, first_core}
 use Rattle.cvm_model.specs.Invariant.{Dispatch, IsTrap, Keeps, KeptAt, IsInvariant, Shaped, UserShaped, AnyDatum, RunsAreLawful}
 use Rattle.cvm_model.proofs.Invariants.{invariants_hold}
 use Rattle.cvm_model.proofs.Kept.{keeps_by}
-use Rattle.kernel_theorems.proofs.Answering.{answers_user}
+use Rattle.kernel_theorems.proofs.Answering.{answers_user, answers_halt}
 use Rattle.kernel_theorems.specs.MailboxTree.{mailbox}
 use Rattle.kernel_theorems.specs.Mailbox.{holds, calls, way_after, way, put_by, got_by, puts, gots, under_way, data_of, IsIntOr, Carries, RunsMailbox, MessagesAreDelivered}
 
@@ -141,18 +141,28 @@ module _ (y : System) (r : RunsMailbox y) where
   started : Does 0 0 0 [] (first_core y) (data_of None (pos 0))
   started = rw has_room (answers_user y Carries 0 0 0 [] (first_core y) _ 1 refl (omega arith) (let two = r.two in omega (arith, two)) (idle [] _ None (pos 0) 1 refl refl tt refl refl refl))
 
+  -- the other user
+  abbrev who : Core → ℕ
+  who at = at.current % 2 + 1
+
+  is_int : (at : Core) → int_wrap w32 (pos (who at)) ≡ pos (who at)
+  is_int at = int_wrap_fits w32 (pos (at.current % 2 + 1)) (record { sfits = let less = mod-lt at.current {m = 2} (omega arith) in omega (arith, less) })
+
+  answers_who : (at : Core) → ◌≡◌ {A = Option Value} (Some (int (int_wrap w32 (pos (who at))))) (Some (int (pos (who at))))
+  answers_who at = ap (λ v. Some (int v)) (is_int at)
+
+  some_who : (at : Core) → 1 ≤ who at
+  some_who at = omega arith
+
+  few_who : (at : Core) → who at ≤ length y.boot.users
+  few_who at = let less = mod-lt at.current {m = 2} (omega arith) in let two = r.two in omega (arith, less, two)
+
   -- A LINE is taken: the other user is next
   lined : (k mask : ℕ) (past : List Dispatch) (at : Core) (w : Option ℤ) (old : ℤ) → way None past ≡ w → puts None past ≡ gots None past ++ under_way (way None past) → IsIntOr w → Does (suc k) 1 mask past at (data_of w old)
   lined k mask past at None old is order fits =
-      let who : ℕ = at.current % 2 + 1 in
-      let less : at.current % 2 < 2 = mod-lt at.current (omega arith) in
-      let small : int_wrap w32 (pos who) ≡ pos who = int_wrap_fits w32 (pos who) (record { sfits = omega arith }) in
-      rw has_room (answers_user y Carries (suc k) 1 mask past at _ who (ap (λ v. Some (int v)) small) (omega arith) (let two = r.two in omega (arith, two)) (idle past _ None old who is order fits refl refl refl))
+      rw has_room (answers_user y Carries (suc k) 1 mask past at _ (who at) (answers_who at) (some_who at) (few_who at) (idle past _ None old (who at) is order fits refl refl refl))
   lined k mask past at (Some m) old is order fits =
-      let who : ℕ = at.current % 2 + 1 in
-      let less : at.current % 2 < 2 = mod-lt at.current (omega arith) in
-      let small : int_wrap w32 (pos who) ≡ pos who = int_wrap_fits w32 (pos who) (record { sfits = omega arith }) in
-      rw has_room (answers_user y Carries (suc k) 1 mask past at _ who (ap (λ v. Some (int v)) small) (omega arith) (let two = r.two in omega (arith, two)) (idle past _ (Some m) old who is order fits refl refl refl))
+      rw has_room (answers_user y Carries (suc k) 1 mask past at _ (who at) (answers_who at) (some_who at) (few_who at) (idle past _ (Some m) old (who at) is order fits refl refl refl))
 
   -- A SYSTEM CALL of user 1, or of user 2
   module _ (k edata : ℕ) (past : List Dispatch) (at : Core) (fit : Shaped y at) (order : puts None past ≡ gots None past ++ under_way (way None past)) where
@@ -166,23 +176,23 @@ module _ (y : System) (r : RunsMailbox y) where
     by_one None old current is fits =
         let first : int_eq (pos at.current) (pos 1) ≡ true = rw current refl in
         let there : nat_le 1 (length at.users) ≡ true = rw two refl in
-        rw (has_room, first, there) (answers_user y Carries (suc k) 6 edata past at _ at.current refl (omega (arith, current)) (let t = r.two in omega (arith, current, t))
-        (put past _ at old at.current refl refl current is order))
+        rw (has_room, first, there) (answers_user y Carries (suc k) 6 edata past at _ (who at) (answers_who at) (some_who at) (few_who at)
+        (put past _ at old (who at) refl refl current is order))
     by_one (Some v) old current is fits =
         let first : int_eq (pos at.current) (pos 1) ≡ true = rw current refl in
-        rw (has_room, first) (answers_user y Carries (suc k) 6 edata past at _ at.current refl (omega (arith, current)) (let t = r.two in omega (arith, current, t))
-        (one_waits past _ at v old at.current refl refl current is order fits))
+        rw (has_room, first) (answers_user y Carries (suc k) 6 edata past at _ (who at) (answers_who at) (some_who at) (few_who at)
+        (one_waits past _ at v old (who at) refl refl current is order fits))
 
     by_two : (w : Option ℤ) (old : ℤ) → at.current ≡ 2 → way None past ≡ w → IsIntOr w → Does (suc k) 6 edata past at (data_of w old)
     by_two None old current is fits =
         let second : int_eq (pos at.current) (pos 1) ≡ false = rw current refl in
-        rw (has_room, second) (answers_user y Carries (suc k) 6 edata past at _ at.current refl (omega (arith, current)) (let t = r.two in omega (arith, current, t))
-        (two_waits past _ at old at.current refl refl current is order))
+        rw (has_room, second) (answers_user y Carries (suc k) 6 edata past at _ (who at) (answers_who at) (some_who at) (few_who at)
+        (two_waits past _ at old (who at) refl refl current is order))
     by_two (Some v) old current is fits =
         let second : int_eq (pos at.current) (pos 1) ≡ false = rw current refl in
         let there : nat_le 2 (length at.users) ≡ true = rw two refl in
-        rw (has_room, second, there) (answers_user y Carries (suc k) 6 edata past at _ at.current refl (omega (arith, current)) (let t = r.two in omega (arith, current, t))
-        (get past _ at v v at.current refl refl current refl (let t = two in omega (arith, t)) long fits is order))
+        rw (has_room, second, there) (answers_user y Carries (suc k) 6 edata past at _ (who at) (answers_who at) (some_who at) (few_who at)
+        (get past _ at v v (who at) refl refl current refl (let t = two in omega (arith, t)) long fits is order))
 
     called : IsUser at at.current → (w : Option ℤ) (old : ℤ) → way None past ≡ w → IsIntOr w → Does (suc k) 6 edata past at (data_of w old)
     called user w old is fits = by (at.current == 1) refl
@@ -198,9 +208,9 @@ module _ (y : System) (r : RunsMailbox y) where
   trapped k causes.External edata past at trap fit user w old is order fits = absurd trap
   trapped k causes.Syscall edata past at trap fit user w old is order fits = called k edata past at fit order user w old is fits
   trapped k cause edata past at trap fit user None old is order fits =
-      rw has_room (answers_user y Carries (suc k) (number_of cause) edata past at _ at.current refl user.0 (subst (λ n. at.current ≤ n) fit.count user.1) (idle past _ None old at.current is order fits refl refl refl))
+      rw has_room (answers_halt y Carries (suc k) (number_of cause) edata past at _ refl (idle past _ None old at.current is order fits refl refl refl))
   trapped k cause edata past at trap fit user (Some v) old is order fits =
-      rw has_room (answers_user y Carries (suc k) (number_of cause) edata past at _ at.current refl user.0 (subst (λ n. at.current ≤ n) fit.count user.1) (idle past _ (Some v) old at.current is order fits refl refl refl))
+      rw has_room (answers_halt y Carries (suc k) (number_of cause) edata past at _ refl (idle past _ (Some v) old at.current is order fits refl refl refl))
 
   invariant : IsInvariant y 400 (Shaped y) AnyDatum Carries
   invariant = record {

@@ -1,5 +1,5 @@
--- A kernel that carries messages: user 1 puts one by a system call, with its value in register 4, unless one is under way; user 2 gets it by a system
--- call, in register 2. What is got is what was put, in order, each once and unchanged.
+-- The kernel of examples/mailbox, which carries messages: user 1 puts one by a system call, with its value in register 4, unless one is under way; user 2
+-- gets it by a system call, in register 2. Each call gives the processor to the other user, and any other trap ends the run. What is got is what was put, in order, each once and unchanged.
 use Rattle.std.specs.Prelude.{◌≡◌, ◌≤◌, ◌==◌, ◌&&◌, ℕ, suc, ℤ, pos, Bool, if◌then◌else◌, Option, Some, None, List, [], ◌∷◌, ◌++◌, length, slice_index, codes, FitsSigned}
 use Rattle.std.specs.Int.{w32}
 use Rattle.mips_table.specs.Arith.{signed}
@@ -94,7 +94,7 @@ abbrev pub MessagesAreDelivered : Type 0
 MessagesAreDelivered = (y : System) → RunsMailbox y → (lines : ℕ → ℕ) → HasEight lines → (k : ℕ)
     → ((c : Cvm) × IsCvm y lines k c) × ((c : Cvm) → IsCvm y lines (suc k) c → IsSafe c.status × Delivers (dispatches_of y lines 400 (suc k)))
 
--- its text: that of kernels/mailbox.c0
+-- its text: that of kernels/mailbox.c0, which is examples/mailbox/kernel.c0
 abbrev pub text : List ℕ
 text = by_lines (
     codes "int full;"
@@ -105,7 +105,9 @@ text = by_lines (
     ∷ codes "  next = user;"
     ∷ codes "  if (cause == 0) { next = 1; }"
     ∷ codes "  if (cause == 1) { next = user % 2 + 1; }"
+    ∷ codes "  if (cause > 1) { next = 0; }"
     ∷ codes "  if (cause == 6) {"
+    ∷ codes "    next = user % 2 + 1;"
     ∷ codes "    if (user == 1) {"
     ∷ codes "      if (full == 0) { message = vm_get(1, 4); full = 1; }"
     ∷ codes "    } else {"

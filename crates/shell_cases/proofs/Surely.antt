@@ -1,6 +1,6 @@
 -- What statuses a command has where no call of the shelf, the sink and the disk fails.
 use Rattle.std.proofs.Common.{◌≡◌, ◌≢◌, ◌⊎◌, inl, inr, ℕ, ◌<◌, List, [], ◌∷◌, refl, sym, subst, Ok, Err, arith}
-use Rattle.std.specs.Prelude.{Option, Result}
+use Rattle.std.specs.Prelude.{Bool, true, false, if◌then◌else◌, nat_lt, length, Option, Result}
 use Rattle.cvm_outside.specs.Causes.{Rose}
 use Rattle.cvm_outside.specs.Told.{TOO_LONG}
 use Rattle.schedule_file.specs.Rows.{Rows}
@@ -28,15 +28,17 @@ use Rattle.sample_maker.specs.Sample.{sample_of}
 use Rattle.cvm_shell.specs.declared.status.Status.{Status}
 use Rattle.cvm_shell.specs.declared.status.Status.TheVariants.{Done, Words, Refused, Disk, Shelf, Sink}
 use Rattle.cvm_shell.specs.declared.boot.Session.{Session}
+use Rattle.user_c0.specs.Image.{image_words}
+use Rattle.user_c0.specs.Program.{MAX_IMAGE}
 use Rattle.cvm_shell.specs.Check as checking
 use Rattle.cvm_shell.specs.Check.{Told, TellsOpened, TellsObject}
-use Rattle.cvm_shell.specs.Command.{Boot, Command, boot, trace, compile_user, compile_kernel, link, migrate, check, IsCommand, GetsFiles, boot_session, trace_session, sample_session}
+use Rattle.cvm_shell.specs.Command.{Boot, Command, boot, trace, compile_user, compile_kernel, compile_program, link, migrate, check, IsCommand, GetsFiles, boot_session, trace_session, sample_session}
 use Rattle.cvm_shell.specs.Outside.{Outside, Says, said, broken}
-use Rattle.cvm_shell.specs.Refusal.{Refusal, bad_text, bad_source, bad_object, bad_file, unlinked, unaccepted, bad_schedule, small_disk, no_such_user, too_long, refusal_text, refusal_status}
+use Rattle.cvm_shell.specs.Refusal.{Refusal, bad_text, bad_source, bad_program, bad_object, bad_file, unlinked, unaccepted, bad_schedule, small_disk, no_such_user, too_long, refusal_text, refusal_status}
 use Rattle.cvm_shell.specs.Plan.{Plan, bad_words, refuses, puts, boots, prints, Got, long, whole, accepted_plan, AfterFiles, BootPlan}
-use Rattle.cvm_shell.specs.Plan.{AfterText, no_words, assembles, AfterKernel, unread, mistyped, compiles, GotAll, words_from, linked_plan, AfterParts, unfit, answered, AfterUsers, AfterParams}
+use Rattle.cvm_shell.specs.Plan.{AfterText, no_words, assembles, AfterKernel, AfterProgram, unread, mistyped, compiles, GotAll, words_from, linked_plan, AfterParts, unfit, answered, AfterUsers, AfterParams}
 use Rattle.cvm_shell.specs.Plan.{AfterSystem, no_object, has_object, renewed_plan, AfterLinking, AfterSource, SamplePlan, told_plan, AfterChecked}
-use Rattle.cvm_shell.specs.Plan.{ComesTo, no_command, boot_plan, trace_plan, user_plan, kernel_plan, link_plan, migrate_plan, sample_plan, check_plan}
+use Rattle.cvm_shell.specs.Plan.{ComesTo, no_command, boot_plan, trace_plan, user_plan, kernel_plan, image_plan, link_plan, migrate_plan, sample_plan, check_plan}
 use Rattle.cvm_shell.specs.Boot.{sectors_needed, ended_as, RunEnds, no_user, small, run}
 use Rattle.cvm_shell.specs.Outcome.{Ends, Took, CommandEnds, done, undone, CausedBy}
 
@@ -75,6 +77,15 @@ kernel_fits : (name source : List ℕ) (p : Plan) → AfterKernel name source p 
 kernel_fits name source p (unread f other is) = tt
 kernel_fits name source p (mistyped f other fits is) = tt
 kernel_fits name source p (compiles u fits is) = tt
+
+sized_fits : (large : Bool) (r : Refusal) (name bytes : List ℕ) → Fits (Unit {0}) (refuses r) → Fits (Unit {0}) (if large then refuses r else puts name bytes)
+sized_fits true r name bytes fits = fits
+sized_fits false r name bytes fits = tt
+
+program_fits : (name source : List ℕ) (p : Plan) → AfterProgram name source p → Fits (Unit {0}) p
+program_fits name source p (unread f other is) = tt
+program_fits name source p (mistyped f other fits is) = tt
+program_fits name source p (compiles u fits is) = sized_fits (nat_lt MAX_IMAGE (length (image_words u))) _ name _ tt
 
 all_fit : (file : List ℕ → Option (List ℕ)) (names : List (List ℕ)) (next : List (List ℕ) → Plan → Type 0) → ((all : List (List ℕ)) (p : Plan) → next all p → Fits (Unit {0}) p)
     → (p : Plan) → GotAll file names next p → Fits (Unit {0}) p
@@ -135,6 +146,7 @@ comes_fits words file p (boot_plan b q is got) = boot_fits (Unit {0}) file b (bo
 comes_fits words file p (trace_plan t q is got) = boot_fits (Unit {0}) file t.boot (trace_session t) q got
 comes_fits words file p (user_plan c q is got) = got_fits (Unit {0}) (file c.text) (AfterText c.image) (text_fits c.image) q got
 comes_fits words file p (kernel_plan c q is got) = got_fits (Unit {0}) (file c.source) (AfterKernel c.object) (kernel_fits c.object) q got
+comes_fits words file p (image_plan c q is got) = got_fits (Unit {0}) (file c.source) (AfterProgram c.image) (program_fits c.image) q got
 comes_fits words file p (link_plan l q is got) =
     got_fits (Unit {0}) (file l.object) _ (λ object. got_fits (Unit {0}) (file l.params) _ (λ params. all_fit file l.users (AfterSystem layer_image l.image object params) (system_fits layer_image l.image object params))) q got
 comes_fits words file p (migrate_plan m q is got) =
@@ -149,6 +161,7 @@ putting_gets words file p name bytes (boot_plan b q is got) e = (boot b, is, tt)
 putting_gets words file p name bytes (trace_plan t q is got) e = (trace t, is, tt)
 putting_gets words file p name bytes (user_plan c q is got) e = (compile_user c, is, tt)
 putting_gets words file p name bytes (kernel_plan c q is got) e = (compile_kernel c, is, tt)
+putting_gets words file p name bytes (image_plan c q is got) e = (compile_program c, is, tt)
 putting_gets words file p name bytes (link_plan l q is got) e = (link l, is, tt)
 putting_gets words file p name bytes (migrate_plan m q is got) e = (migrate m, is, tt)
 putting_gets words file p name bytes (sample_plan x q is got) e = absurd (subst (Fits ⊥) e (sample_fits ⊥ x.number q got))
@@ -168,6 +181,7 @@ long_status : (r : Refusal) → refusal_status r ≡ Shelf → r ≡ too_long
 long_status too_long e = refl
 long_status (bad_text f) e = absurd cc
 long_status (bad_source f) e = absurd cc
+long_status (bad_program f) e = absurd cc
 long_status (bad_object f) e = absurd cc
 long_status (bad_file f) e = absurd cc
 long_status (unlinked f) e = absurd cc
@@ -181,6 +195,7 @@ no_disk_status : (r : Refusal) → Fits (Unit {0}) (refuses r) → refusal_statu
 no_disk_status too_long fits e = cc
 no_disk_status (bad_text f) fits e = cc
 no_disk_status (bad_source f) fits e = cc
+no_disk_status (bad_program f) fits e = cc
 no_disk_status (bad_object f) fits e = cc
 no_disk_status (bad_file f) fits e = cc
 no_disk_status (unlinked f) fits e = cc

@@ -1,6 +1,6 @@
 -- The flat machine of an image holds its program.
 use Rattle.std.specs.Prelude.{option_map, slice_get}
-use Rattle.std.proofs.Common.{◌≡◌, inl, inr, ℕ, ◌+◌, ◌-◌, ◌≤◌, length, ap, ◌∙◌, arith}
+use Rattle.std.proofs.Common.{◌≡◌, inl, inr, ◌+◌, ◌-◌, ◌≤◌, length, ap, ◌∙◌, arith}
 use Rattle.mips_table.specs.Encoding.{encoding}
 use Rattle.layer_map.specs.Map.{layer_words, globals_at, tables_at}
 use Rattle.masm.specs.declared.registers.Places.{Places}

@@ -1,4 +1,4 @@
-use Rattle.std.proofs.Common.{◌+◌, length, map, get_or, sym, ◌∙◌, lt-ltb, le-ltb}
+use Rattle.std.proofs.Common.{length, map, sym, ◌∙◌, lt-ltb, le-ltb}
 use Rattle.boot_run.specs.Loading.{disk_pages}
 use Rattle.boot_run.proofs.UserPages.{on_ok}
 use Rattle.boot_run.proofs.PageLemmas.{page_written, page_left, on_torn}

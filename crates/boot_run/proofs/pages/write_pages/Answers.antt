@@ -1,4 +1,4 @@
-use Rattle.std.proofs.Common.{◌≤◌, ◌*◌, ◌+◌, map, length, refl, ◌∙◌, arith}
+use Rattle.std.proofs.Common.{◌+◌, map, refl, ◌∙◌, arith}
 use Rattle.boot_run.specs.Loading.{disk_pages}
 use Rattle.boot_run.proofs.UserPages.{on_err}
 use Rattle.boot_run.proofs.PageLemmas.{torn_among, written_more}

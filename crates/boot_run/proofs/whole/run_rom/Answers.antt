@@ -1,13 +1,11 @@
-use Rattle.std.proofs.Common.{◌≡◌, ◌-◌, ◌≤◌, List, ℕ, Some, Option, Result, Ok, Err, refl, sym, ap, ◌∙◌, subst, arith}
+use Rattle.std.proofs.Common.{◌≡◌, ◌-◌, ◌≤◌, List, ℕ, Some, Ok, Err, refl, sym, ap, ◌∙◌, subst, arith}
 use Rattle.std.proofs.lemmas.Result.{err_from_is_err_and}
 use Rattle.cvm_outside.specs.Causes.{Rose}
 use Rattle.mips_machine.specs.Steps.{outside_of}
-use Rattle.boot_turns.specs.Rom.{own_rom, rom_loaded, rom_sectors, rom_steps}
+use Rattle.boot_turns.specs.Rom.{rom_loaded, rom_sectors, rom_steps}
 use Rattle.boot_run.specs.Loading.{system_of}
 use Rattle.boot_run.specs.LoadEnds.{rom_needed}
 use Rattle.boot_run.specs.Whole.{AnswerEnds, Bootable, rom_start_of}
-use Rattle.boot_run.specs.declared.load.LoadFault.{LoadFault}
-use Rattle.boot_run.specs.declared.whole.RunEnd.{RunEnd}
 use Rattle.boot_run.proofs.RomLoads.{rom_needed_is}
 use Rattle.boot_run.proofs.Looping.{machines}
 use Rattle.boot_run.proofs.Booting.{refused, refused_told, ran_so, whole_told, end_disk, end_sink, disk_end, sink_end, within_more}

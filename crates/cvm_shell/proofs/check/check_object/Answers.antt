@@ -1,8 +1,9 @@
-use Rattle.std.proofs.Common.{inl, inr, refl, sym, subst}
+use Rattle.std.proofs.Common.{ℕ, List, inl, inr, refl, sym, subst}
 use Rattle.cvm_shell.specs.declared.boot.Stop.{Stop}
 use Rattle.cvm_shell.specs.declared.boot.Stop.TheVariants as Stops
 use Rattle.cvm_shell.specs.declared.refusal.Refusal.{Refusal}
 use Rattle.cvm_shell.specs.Command.{check}
+use Rattle.cvm_shell.specs.Plan.{prints}
 use Rattle.cvm_shell.specs.Stages.{IsCheckPlan}
 use Rattle.cvm_shell.specs.Views.{check_view, IfRefused}
 use Rattle.cvm_shell.proofs.Endings.{Long, stopped_long, none_long, shelf_long, memory_long, refused_end, undone_end, told_end}
@@ -10,7 +11,8 @@ use Rattle.cvm_shell.proofs.check.check_object.Goals as goal
 
 pub returns-in-Ok-clause-ends : goal.returns-in-Ok-clause-ends
 returns-in-Ok-clause-ends g c = λ words disk is.
-    told_end words (check (check_view c.args.check.now)) c.in-Ok.text.items _ _ _ is c.in-Ok.ensures.comes (none_long _ _ c.in-Ok.ensures.long)
+    let P : List ℕ → Type 0 = λ text. IsCheckPlan (g.S.Shelf.file c.args.shelf.now) (check_view c.args.check.now) (prints text) in
+    told_end words (check (check_view c.args.check.now)) c.deref.result.now _ _ _ is (subst P (sym c.deref.ensures.value) c.in-Ok.ensures.comes) (none_long _ _ c.in-Ok.ensures.long)
     (record { files = c.in-Ok.ensures.files; disk = record { sectors = refl; size = refl } }) c.say.ensures.cases c.say.ensures.whole c.say.ensures.part
 
 pub returns-in-Err-Refused-clause-ends : goal.returns-in-Err-Refused-clause-ends

@@ -1,5 +1,5 @@
 -- An image that isn't refused has few words.
-use Rattle.std.proofs.Common.{◌≡◌, ℕ, List, length, ap, arith}
+use Rattle.std.proofs.Common.{ℕ, List, length, ap, arith}
 use Rattle.user_c0.proofs.compile.compile_user.Goals as goal
 
 pub returns-in-Ok-laid_out-clause-most : goal.returns-in-Ok-laid_out-clause-most

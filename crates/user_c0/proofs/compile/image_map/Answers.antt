@@ -1,5 +1,5 @@
 -- The code has as many words as its unit says.
-use Rattle.std.proofs.Common.{◌≡◌, ℕ, List, length, map, ap, ◌∙◌}
+use Rattle.std.proofs.Common.{◌≡◌, ℕ, List, length, ap, ◌∙◌}
 use Rattle.std.proofs.lemmas.List.{length-map}
 use Rattle.mips_table.specs.Encoding.{encoding}
 use Rattle.layer_map.specs.Map.{Map}

@@ -1,13 +1,13 @@
 -- The parts are those of the program, and its words are words.
 use Rattle.std.specs.Prelude.{All}
-use Rattle.std.proofs.Common.{◌≡◌, ℕ, ◌*◌, ◌/◌, ◌≤◌, List, [], length, sym, ap, ◌∙◌, subst, arith}
+use Rattle.std.proofs.Common.{◌≡◌, ℕ, ◌*◌, List, [], sym, ap, ◌∙◌, subst, arith}
 use Rattle.mips_table.specs.Fits.{IsWord}
 use Rattle.layer_map.specs.Map.{Map, heap_at, stack_at, tables_at}
 use Rattle.c0_tree.specs.View.{unit_view}
 use Rattle.c0_unit.specs.Code.{program_words}
 use Rattle.cvm_model.specs.Cvm.{first_flat}
 use Rattle.user_c0.specs.Image.{image_words, laid, parts, map_of}
-use Rattle.user_c0.specs.Program.{MAX_IMAGE, RunsAsMeant}
+use Rattle.user_c0.specs.Program.{RunsAsMeant}
 use Rattle.user_c0.proofs.compile.laid_out.Goals as goal
 
 -- parts of the same words, addresses and length

@@ -1,4 +1,4 @@
-use Rattle.std.proofs.Common.{[], refl, arith, ◌≡◌, ◌≤◌, ◌*◌, ◌∙◌, sym, ap, ℕ, List, Vec, Global, length, map, subst}
+use Rattle.std.proofs.Common.{[], refl, arith, ◌≡◌, ◌≤◌, ◌*◌, ◌∙◌, sym, ap, ℕ, List, Vec, Global, length, subst}
 use Rattle.std.specs.Prelude.{IsTrue}
 use Rattle.std.specs.Option.{option_map}
 use Rattle.layer_map.specs.Map.{Map, MapInRange, memory_words}

@@ -1,0 +1,54 @@
+"""How the program that waits for a pipe is found and copied, with a stand-in for the toolchain's command."""
+import os
+import stat
+import tempfile
+import unittest
+
+from running import kept
+
+# Starts a program with the words behind `--`, as rt does; the program reads its third word's file and writes its fourth.
+STAND_IN = '''#!/bin/sh
+while [ "$1" != -- ]; do shift; done
+shift
+sleep 0.2
+%s/program "$@"
+'''
+PROGRAM = '''#!/bin/sh
+%s
+cat "$3" >"$4"
+'''
+
+
+def put(path, text):
+    with open(path, 'w', encoding='utf-8') as file:
+        file.write(text)
+    os.chmod(path, stat.S_IRWXU)
+
+
+@unittest.skipUnless(os.path.isdir('/proc/self/fd'), '/proc is missing')
+class Kept(unittest.TestCase):
+    def setUp(self):
+        room = tempfile.TemporaryDirectory()
+        self.addCleanup(room.cleanup)
+        self.room, self.to = room.name, os.path.join(room.name, 'to')
+        os.mkdir(self.to)
+        put(os.path.join(self.room, 'rt'), STAND_IN % self.room)
+
+    def test_a_program_is_copied(self):
+        put(os.path.join(self.room, 'program'), PROGRAM % 'exec 3<"$3"')
+        kept.build_into(os.path.join(self.room, 'rt'), self.to)
+        with open(os.path.join(self.to, 'program'), encoding='utf-8') as file:
+            self.assertEqual(file.read(), PROGRAM % 'exec 3<"$3"')
+
+    def test_a_build_that_fails_says_what_it_said(self):
+        put(os.path.join(self.room, 'rt'), '#!/bin/sh\necho no such crate >&2\nexit 2\n')
+        with self.assertRaises(kept.NoBuild) as caught:
+            kept.build_into(os.path.join(self.room, 'rt'), self.to)
+        self.assertIn('no such crate', str(caught.exception))
+
+    def test_the_fingerprint_is_of_the_sources(self):
+        files = kept.sources()
+        self.assertTrue(any(name.endswith('crates/cvm_shell/src/lib.rt') for name in files))
+        self.assertFalse(any('crates/shell_cases/' in name for name in files))
+        self.assertEqual(kept.fingerprint('a'), kept.fingerprint('a'))
+        self.assertNotEqual(kept.fingerprint('a'), kept.fingerprint('b'))
