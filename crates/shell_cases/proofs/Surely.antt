@@ -135,7 +135,7 @@ opened_fits P stack (Err f) (Err r) e = subst (λ (x : Refusal). Fits P (refuses
 
 told_fits : (P : Type 0) (stack : ℕ) (bytes : List ℕ) (told : Told) → TellsObject stack bytes told → Fits P (told_plan told)
 told_fits P stack bytes told (checking.no_object f is) = tt
-told_fits P stack bytes told (checking.has_object o front said is of h) = opened_fits P stack (open_answer o front) said h
+told_fits P stack bytes told (checking.has_object o front heard is of h) = opened_fits P stack (open_answer o front) heard h
 
 checked_fits : (P : Type 0) (stack : ℕ) (bytes : List ℕ) (p : Plan) → AfterChecked stack bytes p → Fits P p
 checked_fits P stack bytes p (told, tells, e) = subst (Fits P) (sym e) (told_fits P stack bytes told tells)
