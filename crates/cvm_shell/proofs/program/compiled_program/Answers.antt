@@ -17,9 +17,9 @@ returns-in_err-unit-clause-comes c = λ program.
 
 pub returns-in_err-words-clause-comes : goal.returns-in_err-words-clause-comes
 returns-in_err-words-clause-comes c = λ program.
-    let p = err_from_is_err_and c.from_residual.result c.from_residual.ensures.1 in
+    let p = err_from_is_err_and c.from_residual-in_err-words.result c.from_residual-in_err-words.ensures.1 in
     rw (p.1, p.2) (refused_plan c.least_fault_is_there.ensures program.image _ _ c.in_err-words.field-0.0 (few_for_unit _ _ c.in_ok-unit.ensures.too_long) c.in_ok-unit.ensures.found c.in_ok-unit.ensures.only c.in_err-words.ensures.fault)
 
 pub returns-in-Ok-clause-comes : goal.returns-in-Ok-clause-comes
 returns-in-Ok-clause-comes c = λ program.
-    put_plan c.least_fault_is_there.ensures program.image _ _ _ _ (few_for_unit _ _ c.in_ok-unit.ensures.too_long) c.in_ok-unit.ensures.found c.in_ok-unit.ensures.only c.in_ok-words.ensures.words c.in_ok-words.ensures.most (c.in-Ok.ensures ∙ ap bytes_of c.deref-2.ensures.value)
+    put_plan c.least_fault_is_there.ensures program.image _ _ _ _ (few_for_unit _ _ c.in_ok-unit.ensures.too_long) c.in_ok-unit.ensures.found c.in_ok-unit.ensures.only c.in_ok-words.ensures.words c.in_ok-words.ensures.most (c.in-Ok.ensures ∙ ap bytes_of c.deref.ensures.value)
