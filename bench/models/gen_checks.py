@@ -158,7 +158,7 @@ run('check o 64', 'refused 63 0 %d %d' % (0x3c1c0001 ^ 1, 0x3c1c0001), 2)
 part('flip o', str(16 + len(FIRST)))
 checks(64, FIRST, None)
 part('flip o', str(16 + len(FIRST) - 3))
-run('check o 64', 'refused 68 12 %d' % (len(FIRST) - 3), 2)
+run('check o 64', 'refused 68 10 %d' % (len(FIRST) - 3), 2)    # the `;` is a `:`
 
 with open(sys.argv[1], 'w') as f:
     f.write('How much stack the kernels of objects need. Written by bench/models/gen_checks.py.\n\n' + '\n'.join(cases) + '\n')

@@ -172,7 +172,7 @@ def build(rt, name, say):
         kept = os.path.join(KEPT, name)
         if os.path.isdir(kept):
             return
-        say('try: builds the sources as they are, with no proof: less than a minute of a processor. The build is kept until a source changes.')
+        say('try: builds the sources as they are, with no proof: about a minute of a processor. The build is kept until a source changes.')
         new = tempfile.mkdtemp(prefix='new-', dir=KEPT)
         try:
             build_into(rt, new)

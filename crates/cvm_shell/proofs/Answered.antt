@@ -1,9 +1,8 @@
 -- What is due of the image that bytes are is one answer: its fault, or what goes by what its own source is answered by. A call that answers what is
 -- due, or want of memory, answers that. This serves the images that are accepted and those that are made anew.
-use Rattle.std.proofs.Common.{◌≡◌, ◌≢◌, ◌⊎◌, inl, inr, ℕ, List, refl, sym, ap, ◌∙◌, Ok, Err}
+use Rattle.std.proofs.Common.{◌≡◌, ◌≢◌, ◌⊎◌, inl, inr, refl, sym, ap, ◌∙◌, Ok, Err}
 use Rattle.std.specs.Prelude.{Result}
 use Rattle.c0_tree.specs.Tree.{CUnit}
-use Rattle.c0_types.specs.Front.{IsAnswer}
 use Rattle.c0_types.specs.declared.source_fault.SourceFault.{SourceFault}
 use Rattle.boot_image.specs.Parts.{Parts as Image}
 use Rattle.boot_image.specs.declared.fault.ImageFault.{ImageFault}

@@ -1,6 +1,6 @@
 -- What the unit of a user program comes to: its image is put, or refused for its size.
-use Rattle.std.specs.Prelude.{nat_lt, if◌then◌else◌, ⊤}
-use Rattle.std.proofs.Common.{◌≡◌, ◌≢◌, ℕ, ◌<◌, ◌≤◌, List, [], length, refl, sym, ap, ◌∙◌, subst, lt-ltb}
+use Rattle.std.specs.Prelude.{nat_lt, ⊤}
+use Rattle.std.proofs.Common.{◌≡◌, ℕ, ◌<◌, ◌≤◌, List, [], length, sym, ap, ◌∙◌, subst, lt-ltb}
 use Rattle.std.proofs.lemmas.Bool.{cond-true, cond-false, le-ltb}
 use Rattle.c0_tree.specs.declared.primitive.Program.TheVariants.{User}
 use Rattle.c0_tree.specs.Tree.{CUnit}
@@ -14,7 +14,7 @@ use Rattle.user_c0.specs.Compiled.{IsFaultOf}
 use Rattle.user_c0.specs.Image.{image_words}
 use Rattle.user_c0.specs.Program.{MAX_IMAGE}
 use Rattle.cvm_shell.specs.Refusal.{bad_program}
-use Rattle.cvm_shell.specs.Plan.{Plan, refuses, puts, bytes_of, AfterProgram, program_plan, IsPlan}
+use Rattle.cvm_shell.specs.Plan.{refuses, puts, bytes_of, AfterProgram, program_plan, IsPlan}
 use Rattle.cvm_shell.specs.Stages.{program_stop}
 use Rattle.cvm_shell.specs.Views.{IfRefused}
 use Rattle.cvm_shell.proofs.CodePlans.{plan_compiles}

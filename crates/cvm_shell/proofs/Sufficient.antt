@@ -44,6 +44,7 @@ use Rattle.cvm_shell.proofs.LinkPlans.{OneObject}
 not_refused : (r : Refusal) → refusal_status r ≡ Done → ⊥
 not_refused (refusal.bad_text f) e = cc
 not_refused (refusal.bad_source f) e = cc
+not_refused (refusal.bad_program f) e = cc
 not_refused (refusal.bad_object f) e = cc
 not_refused (refusal.bad_file f) e = cc
 not_refused (refusal.unlinked f) e = cc

@@ -1,12 +1,9 @@
 -- The source's fault is refused, or an image that is too large is, or the image is put.
-use Rattle.std.specs.Prelude.{nat_lt}
-use Rattle.std.proofs.Common.{◌≡◌, ◌<◌, ◌≤◌, length, ap, sym, ◌∙◌, subst, inl, inr, refl, lt-ltb}
-use Rattle.std.proofs.lemmas.Bool.{cond-true, cond-false, le-ltb}
+use Rattle.std.proofs.Common.{ap, ◌∙◌}
 use Rattle.std.proofs.lemmas.Result.{err_from_is_err_and}
 use Rattle.c0_tree.specs.declared.primitive.Program.TheVariants.{User}
-use Rattle.c0_tree.specs.View.{unit_view}
-use Rattle.cvm_shell.specs.Plan.{program_plan, puts, bytes_of}
-use Rattle.cvm_shell.proofs.CodePlans.{few_for_unit, one_fault, source_fault, plan_compiles}
+use Rattle.cvm_shell.specs.Plan.{program_plan, bytes_of}
+use Rattle.cvm_shell.proofs.CodePlans.{few_for_unit, one_fault, source_fault}
 use Rattle.cvm_shell.proofs.ProgramPlans.{refused_plan, put_plan}
 use Rattle.cvm_shell.proofs.program.compiled_program.Goals as goal
 
