@@ -151,7 +151,7 @@ for text, row in [
         ('bool main() { return true; }', '36 0 28'),
         ('int dispatch(int cause, int data, int user) { return 0; }', '36 0 57'),
         ('int main() { int x; x = vm_get(1, 4); return x; }', '20 24 30'),
-        ('int main() { int x; x = trap(1, 2); return x; }', '23 20 34'),
+        ('int main() { int x; x = trap(1, 2); return x; }', '23 24 34'),
         ('int main() { int x; x = trap(true); return x; }', '22 29 33'),
         ('int main() { return 0; ', '12 23'),
         ('int x; @', '10 7')]:
