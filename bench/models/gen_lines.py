@@ -24,12 +24,12 @@ read = lambda *path: open(os.path.join(EXAMPLES, *path)).read()
 
 # ---- measured: the step that begins a turn, or the number of steps after which the machine is past its turns
 ONE_LEFT = 137         # one user: the system is first left for user mode
-ONE_BEGINS = 3003      # one user: turn 1 begins where no line is raised, after the page fault of its first fetch
+ONE_BEGINS = 2977      # one user: turn 1 begins where no line is raised, after the page fault of its first fetch
 CALLED_LEFT = 138      # the same of the user whose lines are counted, with line 1 raised at step 1
 CALLED_BACK = 361      # and user mode is back after turn 1
 PRODUCTS_LEFT = 144    # the user of products and quotients
-PRODUCTS_BEGINS = 3010 # and its turn 1
-MESSAGES_STEPS = 9779  # messages: the whole run
+PRODUCTS_BEGINS = 2984 # and its turn 1
+MESSAGES_STEPS = 9557  # messages: the whole run
 
 
 def printed_runs(path):
