@@ -10,7 +10,8 @@ RESERVED = {'int': 'type', 'bool': 'type', 'struct': 'type', 'if': 'control', 'e
             'true': 'constant', 'false': 'constant', 'null': 'constant'}
 OF_ASM_TEXTS = 'sll srl sra sllv srlv srav addu subu and or xor nor slt sltu addiu slti sltiu andi ori xori lui'.split()
 MNEMONICS = OF_ASM_TEXTS + 'add sub addi jr mthi mtlo mfhi mflo mult multu div divu jalr bltz bgez blez bgtz beq bne j jal lw sw mfc0 mtc0 syscall eret'.split()
-NUMBER = re.compile(r'-?(0x[0-9A-Fa-f]{1,8}|0|[1-9][0-9]{0,9})(?!\w)')
+ESCAPE = re.compile(r'\\(?:([nrt\\])|x([0-9a-fA-F]{2}))')
+ESCAPES = {'n': '\n', 'r': '\r', 't': '\t', '\\': '\\'}
 
 
 def name_kind(text, after, source):
@@ -63,7 +64,7 @@ def asm_text(source, at):
 def asm_tokens(text):
     """The tokens of a user's text, as places and kinds."""
     found = []
-    token = re.compile(r'(?P<comment>#[^\n]*)|(?P<label>[A-Za-z_]\w*:)|(?P<directive>\.(word|zero)\b)|(?P<number>-?(0x[0-9A-Fa-f]{1,8}|0|[1-9][0-9]{0,9})(?!\w))|'
+    token = re.compile(r'(?P<comment>#[^\n]*)|(?P<label>[A-Za-z_]\w*:)|(?P<directive>\.(word|zero)\b)|(?P<number>-?(?<!\w)(0x[0-9A-Fa-f]{1,8}|0|[1-9][0-9]{0,9})(?!\w))|'
                        r'(?P<name>[A-Za-z_]\w*)|(?P<mark>[,()])|(?P<bad>\S)', re.A)
     for match in token.finditer(text):
         kind = match.lastgroup
@@ -92,14 +93,18 @@ def case_parts(name):
     return [part.partition('\n')[2] for part in read(name).split('\n== ')[1:]]
 
 
+def c0_by_kind():
+    """The sources of C0 by where they stand: files, and those in cases that are written without escapes."""
+    found = {'files': [read(name) for name in files('.c0')], 'systems': system_parts('kernel')}
+    for crate in ('code_cases', 'c0_cases'):
+        names = sorted(glob.glob(os.path.join(pages.TOP, 'crates', crate, 'data', '*')))
+        found[crate] = [part for name in names for part in case_parts(name)]
+    return {kind: [source for source in some if not set('\\`~') & set(source) and is_closed(source)] for kind, some in found.items()}
+
+
 def c0_sources():
-    """All sources of C0: files, and those in cases that are written without escapes."""
-    sources = [read(name) for name in files('.c0')]
-    for name in glob.glob(os.path.join(pages.TOP, 'crates', 'code_cases', 'data', '*')) + glob.glob(os.path.join(pages.TOP, 'crates', 'c0_cases', 'data', '*')):
-        sources += [part for part in case_parts(name) if not set('\\`~') & set(part)]
-    for name in glob.glob(os.path.join(pages.TOP, 'crates', 'system_cases', 'data', '*')):
-        sources += [part.partition('%% k\n')[2].partition('\n%% ')[0] for part in case_parts(name) if '%% k\n' in part]
-    return [source for source in sources if not set('\\`~') & set(source) and is_closed(source)]
+    """All sources of C0: files, and those in cases."""
+    return sum(c0_by_kind().values(), [])
 
 
 def is_closed(source):
@@ -111,10 +116,27 @@ def is_closed(source):
         return False
 
 
+def system_parts(kind):
+    """The parts of a kind, `kernel` or `user`, of the cases of systems."""
+    found = []
+    for name in sorted(glob.glob(os.path.join(pages.TOP, 'crates', 'system_cases', 'data', '*'))):
+        for part in case_parts(name):
+            found += [text.partition('\n%% ')[0] for text in part.split('%% ' + kind + '\n')[1:]]
+    return found
+
+
+def assembler_cases():
+    """The texts of the assembler's cases, whose lines stand behind each other with escapes; none of those that repeat a part."""
+    texts = case_parts(os.path.join(pages.TOP, 'crates', 'asm_cases', 'data', 'texts'))
+    return [ESCAPE.sub(lambda match: ESCAPES.get(match.group(1)) or chr(int(match.group(2), 16)), text) for text in texts if '`' not in text]
+
+
+def asm_by_kind():
+    """The texts of users by where they stand: files, cases of systems, cases of the assembler."""
+    plain = lambda texts: [text for text in texts if not set('\\`~') & set(text)]
+    return {'files': plain(map(read, files('.s'))), 'systems': plain(system_parts('user')), 'assembler': assembler_cases()}
+
+
 def asm_sources():
     """All texts of users: files, and those in cases."""
-    texts = [read(name) for name in files('.s')]
-    for name in glob.glob(os.path.join(pages.TOP, 'crates', 'system_cases', 'data', '*')):
-        for part in case_parts(name):
-            texts += [text.partition('\n%% ')[0] for text in part.split('%% u\n')[1:]]
-    return [text for text in texts if not set('\\`~') & set(text)]
+    return sum(asm_by_kind().values(), [])

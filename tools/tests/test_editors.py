@@ -63,6 +63,10 @@ class TextMate(unittest.TestCase):
         self.assertEqual(kinds, set(scopes))
         return count
 
+    def test_each_kind_of_source_is_there(self):
+        for found, kinds in ((languages.c0_by_kind(), 4), (languages.asm_by_kind(), 3)):
+            self.assertEqual((len(found), [kind for kind, sources in found.items() if not sources]), (kinds, []))
+
     def test_c0(self):
         self.assertGreater(self.over('c0', languages.c0_sources() + [C0_ALL], languages.c0_tokens, C0_SCOPES), 5000)
 
