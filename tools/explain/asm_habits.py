@@ -148,3 +148,59 @@ def habit(key, line):
     if key == 5:
         return "the label '%s' is set nowhere in this text; upper and lower case differ" % rest.split(',')[-1].strip()
     return None
+
+
+# What a text of instructions in a source of C0 has of SPIM's that it may not have, by the instruction.
+JUMPS = 'b bal beq bne beqz bnez blt bge bgt ble bltu bgeu bgez bgtz blez bltz j jal jalr'.split()
+LITTLE = {
+    'add': "such a text has no 'add', which traps where it overflows: 'addu'",
+    'sub': "such a text has no 'sub', which traps where it overflows: 'subu'",
+    'addi': "such a text has no 'addi', which traps where it overflows: 'addiu'",
+    'neg': "'neg' is a pseudo-instruction: 'subu rD, r0, rS'",
+    'jr': "no 'jr' stands at the end: the function returns behind its last instruction, with r2",
+    'ret': "no 'ret' stands at the end: the function returns behind its last instruction, with r2",
+    'la': "such a text has no addresses: it takes ints and answers one",
+    'abs': "such a text has no branches: write the function with 'if' in C0",
+    'syscall': "a kernel traps nowhere, and a program by 'trap' alone: such a text has no 'syscall'",
+    'break': "such a text has no traps",
+}
+LITTLE.update({name: "such a text has no jumps and branches: write 'if' and 'while' in C0, and call it for the bits" for name in JUMPS})
+LITTLE.update({name: "such a text reaches no memory: use arrays, structs and globals in C0" for name in ('lw', 'sw', 'push', 'pop', *BYTES_OF_MEMORY)})
+LITTLE.update({name: "C0 multiplies and divides by '*', '/' and '%': such a text can't" for name in 'mul mult multu div divu rem remu mfhi mflo mthi mtlo'.split()})
+# What of SPIM's has an answer that may stand in such a text.
+SAME = ('li', 'move', 'nop', 'not', 'negu', 'subi', 'subiu', 'seq', 'sne', 'sgt')
+
+
+def little_register(line):
+    """The sentence on the first register that is none of r0 and r2 to r7."""
+    for mark, name in re.findall(r'(\$?)\b([a-z]\w*|\d+(?=\s*(?:,|$)))', line):
+        number = NUMBERS.get(name)
+        if mark and name.isdigit() or not mark and re.fullmatch(r'r\d+', name):
+            number = int(name.lstrip('r'))
+        if number is not None and (mark or name in NUMBERS or number not in (0, 2, 3, 4, 5, 6, 7)) and number < 32:
+            which = "registers are r0 and r2 to r7 in such a text"
+            if number in (0, 2, 3, 4, 5, 6, 7):
+                return "%s: '%s' is r%d" % (which, mark + name, number)
+            return "%s: the arguments stand in r4 to r7, and the answer is to stand in r2" % which
+    return None
+
+
+def inside(text, number):
+    """The sentence on a line of a text of instructions in C0 (32), which is given with its braces; None where there is none to name."""
+    lines = text.split('\n')
+    line = lines[number - 1] if 0 < number <= len(lines) else ''
+    code = (line.partition('{')[2] if number == 1 else line).partition('}')[0].partition('#')[0].strip()
+    if re.match(r'[A-Za-z_]\w*\s*:', code):
+        return "such a text has no labels"
+    if code.startswith('.'):
+        return "such a text has no directives, and instructions alone"
+    if ';' in code or '//' in code:
+        return "an instruction ends with its line, and a comment begins with '#'"
+    name, _, rest = code.replace('\t', ' ').partition(' ')
+    if name in LITTLE:
+        return LITTLE[name]
+    if name in SAME:
+        return PSEUDO[name].replace('; no delay slot has to be filled here', '')
+    if name != name.lower() and name.isalpha():
+        return "instructions are written in lower case"
+    return little_register(rest) or operands(name, rest.strip()) or out_of_range(name, rest)

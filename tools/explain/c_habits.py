@@ -47,6 +47,14 @@ BYTES = {
     b':': "C0 has no labels, no 'case', and no 'a ? b : c'",
     b'\\': "C0 has no '\\' at the end of a line",
 }
+# What is said of a user's program in place of what a kernel is advised.
+OF_PROGRAMS = {
+    'static': "C0 has no 'static': a variable that stays from one call to the next is a global",
+    'extern': "C0 has no 'extern': a program is one source",
+    'printf': "C0 has no 'printf': a user program has 'trap' alone, as 'x = trap(n);', and its kernel puts words into the console",
+    b'"': "C0 has no strings, and a user program no console: it has 'trap' alone, as 'x = trap(n);', whose argument is an int",
+}
+PRIMITIVES = ('vm_get', 'vm_set', 'vm_size', 'vm_resize', 'vm_word', 'vm_put', 'vm_copy', 'con_put', 'con_get', 'con_left')
 TYPES = ('int', 'bool', 'struct')
 RESERVED = TYPES + ('if', 'else', 'while', 'return', 'new', 'true', 'false', 'null', 'asm')
 
@@ -86,9 +94,28 @@ def is_name(text):
     return bool(re.fullmatch(r'[A-Za-z_]\w*', text))
 
 
-def first_foreign(words):
+def foreign(word, is_program):
+    """The sentence on a word of C that C0 has not."""
+    return is_program and OF_PROGRAMS.get(word) or FOREIGN.get(word)
+
+
+def first_foreign(words, is_program):
     """The sentence on the first word of C that C0 has not."""
-    return next((FOREIGN[word] for word in words if word in FOREIGN), None)
+    return next(filter(None, (foreign(word, is_program) for word in words)), None)
+
+
+def primitive(name, is_program):
+    """The sentence on a primitive of a kernel in a program, and on that of a program in a kernel."""
+    if is_program and name in PRIMITIVES:
+        return "'%s' is a kernel's: a user program has 'trap' alone, as 'x = trap(n);', and its kernel does the rest" % name
+    if not is_program and name == 'trap':
+        return "'trap' is a user program's, by which it asks its kernel: a kernel has 'vm_get', 'vm_set', 'con_put' and the other primitives"
+    return None
+
+
+def declares(data, name):
+    """Whether a source has a function of a name."""
+    return re.search(rb'\b(?:int|bool|struct\s+\w+)[\s*]+' + name.encode() + rb'\s*\(', data) is not None
 
 
 def declaration(near, part):
@@ -102,6 +129,8 @@ def declaration(near, part):
             return "one declaration has one name: write '%s;' and a declaration for each further name" % ' '.join(part)
         if here == '[':
             return "the length stands with the type: 'int[4] a;' in place of 'int a[4];'"
+    if here in TYPES and near.back[0] == '(' and not is_name(near.back[1]):
+        return "C0 has no casts: an int becomes a bool by a comparison, and a bool an int by 'if'"
     if here in TYPES:
         return 'declarations stand first in a function, before its first statement; none stands in a block'
     first = part[0] if len(part) == 1 else here if not part else ''
@@ -169,7 +198,7 @@ def is_closed(part):
 
 
 def right_side(near, part):
-    """Habits in expressions: calls inside, numbers, shifts, casts."""
+    """Habits in expressions: calls inside, numbers, shifts."""
     here, back = near.here[0], near.back
     number = near.glued[0] if near.glued else ''
     if re.fullmatch(r'\d+', number):
@@ -193,8 +222,6 @@ def right_side(near, part):
         return "'new T' stands only as the whole right side of an assignment"
     if here == '&' and (is_name(back[0]) or back[0].isdigit() or back[0] in (')', ']')):
         return "C0 has '&&' and no '&' of bits: write a function of instructions, as 'int both(int a, int b) asm { and r2, r4, r5 }'"
-    if here in TYPES and back[0] == '(':
-        return 'C0 has no casts'
     return None
 
 
@@ -209,19 +236,24 @@ def decimal(text):
     return str(value)
 
 
-def unexpected(data, at):
+def unexpected(data, at, is_program):
     """The habit behind a token that can't stand where it stands (12)."""
     near = Before(data, at)
     part = near.statement()
     if near.here[0] == '/*' or data[at - 1:at + 1] == b'/*' or data[at:at + 2] == b'/*':
         return "C0's comments go from '//' to the end of the line: there is no '/* .. */'"
-    word = first_foreign([near.here[0]]) or first_foreign(part)
+    word = first_foreign([near.here[0]], is_program) or first_foreign(part, is_program)
+    called = near.back[0]
+    if near.here[0] == '(' and not word and is_name(called) and not declares(data, called):
+        word = primitive(called, is_program)
     return word or missing(near, part) or declaration(near, part) or right_side(near, part) or statement(near, part)
 
 
-def bad_byte(data, at):
+def bad_byte(data, at, is_program):
     """The habit behind a byte that begins no token (10)."""
     byte = data[at:at + 1]
+    if is_program and byte in OF_PROGRAMS:
+        return OF_PROGRAMS[byte]
     if byte in BYTES:
         return BYTES[byte]
     if byte >= b'\x80':
@@ -229,10 +261,10 @@ def bad_byte(data, at):
     return None
 
 
-def unknown(data, start, end):
+def unknown(data, start, end, is_program):
     """The habit behind a name that nothing has (20)."""
-    name = data[start:end].decode('utf-8', errors='replace')
-    return FOREIGN.get(name)
+    name = re.split(r'\W', data[start:end].decode('utf-8', errors='replace'))[0]
+    return foreign(name, is_program) or primitive(name, is_program)
 
 
 def wrong_type(data, start, end):
@@ -257,16 +289,16 @@ def number(data, at):
     return None
 
 
-def habit(key, data, start, end):
-    """The sentence that names the habit behind a refusal of a source; None where there is none to name."""
+def habit(key, data, start, end, is_program=False):
+    """The sentence that names the habit behind a refusal of a source, a kernel's or a user program's; None where there is none to name."""
     if key == 10:
-        return bad_byte(data, start)
+        return bad_byte(data, start, is_program)
     if key == 11:
         return number(data, start)
     if key == 12:
-        return unexpected(data, start)
+        return unexpected(data, start, is_program)
     if key == 20:
-        return unknown(data, start, end)
+        return unknown(data, start, end, is_program)
     if key == 22:
         return wrong_type(data, start, end)
     if key == 25:

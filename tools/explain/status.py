@@ -21,6 +21,10 @@ class Way:
     def turns(self, number):
         return 'TURNS %d' % number
 
+    def booted(self):
+        """How the turn of a fault that a trace met is found."""
+        return 'a boot of the same words names the turn; with TURNS of its number'
+
     def shown(self, name):
         """The name by which a file is known to the one who reads."""
         return name
@@ -39,6 +43,9 @@ class FolderWay(Way):
     def turns(self, number):
         return '--turns %d' % number
 
+    def booted(self):
+        return "./try of the folder without --trace names the turn in its last row; with '--turns' and its number"
+
     def shown(self, name):
         return self.names.get(name, name)
 
@@ -56,7 +63,7 @@ def remedy(key):
     return row.remedy if row else 'docs/REFUSALS.md'
 
 
-def source_place(key, fields, name, data):
+def source_place(key, fields, name, data, is_program=False):
     """The place of a fault of a source (10 to 14, 20 to 39) and the habit behind it."""
     if not fields or key == 37:
         return []
@@ -70,7 +77,9 @@ def source_place(key, fields, name, data):
     if key == 32 and len(fields) > 2:
         number, _, _ = places.line_at(data, start)
         said = [places.shown_line(name, data, number + fields[2] - 1)]
-    found = c_habits.habit(key, data, start, end)
+        found = asm_habits.inside(data[start:end].decode('utf-8', errors='replace'), fields[2])
+    else:
+        found = c_habits.habit(key, data, start, end, is_program)
     return said + (['cvm: ' + found + '.'] if found else [])
 
 
@@ -140,7 +149,7 @@ def located(key, fields, command, way):
     if key <= 7 and head == 'compile user' and gets:
         return text_place(key, fields, way.shown(gets[0]), files.content(gets[0]))
     if key < 40 and head.startswith('compile') and gets:
-        return source_place(key, fields, way.shown(gets[0]), files.content(gets[0]))
+        return source_place(key, fields, way.shown(gets[0]), files.content(gets[0]), head == 'compile program')
     if key in (54, 55, 68, 69) and gets and fields:
         inner = 'the source in ' + way.shown(gets[0])
         return ["cvm: the source's own fault is %d: %s" % (fields[0], row_of(str(fields[0])))] \
@@ -208,7 +217,7 @@ def kernel_fault(printed, command, way):
     elif turn:
         said.append('cvm: it is the first call, dispatch(0, 0, 0), before any user ran: all globals were 0, false or null.')
     else:
-        said.append("cvm: a boot of the same words names the turn.")
+        said.append('cvm: to look at it: %s the report then shows globals and users as they stood before that turn.' % way.booted())
     return said
 
 

@@ -28,6 +28,16 @@ def put(part):
         raise Bad('standard output could not be written to the end: %s' % error.strerror, 7) from None
 
 
+def put_line(line):
+    """Writes a line to standard output; the bytes of names that aren't UTF-8 as they are."""
+    put((line + '\n').encode('utf-8', errors='surrogateescape'))
+
+
+def text(name):
+    """A name as a text that can be written anywhere."""
+    return name.encode('utf-8', errors='surrogateescape').decode('utf-8', errors='replace')
+
+
 def run_here(command):
     """Runs a command and copies its standard output to this process's. Gives its status and the last rows.
 

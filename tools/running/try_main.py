@@ -12,10 +12,10 @@ HELP = '''./try FOLDER..        compiles, links and boots the system of each fol
   --turns N           so many turns at most, in place of 100000
   --steps N           so many steps of the machine at most, in place of 1000000 (a quarter of a minute), and of 100000000 with --proved
   --picture FILE      draws the run, too, as an SVG
-  --expect FILE       prints of each folder only whether the rows of this file come in what it prints, in this order
+  --expect FILE       prints of each folder only whether the rows of this file come in what it prints, in this order; what is no folder doesn't pass
   --proved            by the proved program, which ./cvm builds
 ./try COMMAND WORD..  one command of the program, as ./cvm COMMAND WORD..
-./try --keep          builds the program and runs nothing. Each ./try keeps its build until a source changes; --anew builds again'''
+./try --keep          builds the program and runs nothing. Each ./try keeps its build until a source changes; ./try --anew FOLDER.. builds again'''
 
 
 class Options:
@@ -56,6 +56,10 @@ def options_of(words):
             if not left:
                 raise Bad('behind %s a word is missing' % word)
             taken[word](left.pop(0))
+        elif word == '--anew':
+            raise Bad("'--anew' stands first: ./try --anew FOLDER..")
+        elif word == '--keep':
+            raise Bad("'--keep' stands alone: ./try --keep builds the program and runs nothing. Each ./try FOLDER keeps its build by itself")
         elif word.startswith('--'):
             near = command_words.nearest(word, [*taken, '--proved', '--keep', '--anew'])
             raise Bad("'%s' is no option%s; ./try --help lists them" % (word, ": did you mean '%s'?" % near if near else ''))
@@ -78,9 +82,9 @@ def checked(options):
         raise Bad(fault)
     found = []
     for path in options.folders:
-        if not os.path.isdir(path):
-            raise Bad(files.get_fault(path) or "'%s' is no folder" % path)
         try:
+            if not os.path.isdir(path):
+                raise BadFolder(files.get_fault(path) or "'%s' is no folder" % path)
             found.append(Folder(path))
         except BadFolder as bad:
             if len(options.folders) == 1:
@@ -115,7 +119,7 @@ def draw(run, folder, options):
         run.trace(options.turns, options.steps, user)
     names = [run.made('trace%d' % user) for user in range(1, len(folder.users) + 1)]
     try:
-        drawn.draw_files(run.made('boot'), names, options.picture, title=os.path.basename(os.path.abspath(folder.path)), turns=options.turns)
+        drawn.draw_files(run.made('boot'), names, options.picture, title=program.text(os.path.basename(os.path.abspath(folder.path))), turns=options.turns)
     except rows.BadText as bad:
         say("try: '%s' is not drawn: %s" % (options.picture, bad))
 
@@ -142,7 +146,7 @@ def run_expected(start, folder, options):
     text, said = [], []
     status = run_folder(start, folder, options, text.append, said.extend)
     answer = expected.answer(files.content(options.expect), b''.join(text), status, said)
-    program.put(('%s: %s\n' % (folder.path, answer or 'as expected')).encode())
+    program.put_line('%s: %s' % (folder.path, answer or 'as expected'))
     return 1 if answer else 0
 
 
@@ -153,13 +157,13 @@ def run_many(start, folders, options):
         if isinstance(folder, str):
             worst = 1
             say('try: ' + folder)
-            program.put(('%s: %s\n' % (path, folder) if options.expect else '== %s\nstatus 64\n' % path).encode())
+            program.put_line('%s: %s' % (path, folder) if options.expect else '== %s\nstatus 64' % path)
         elif options.expect:
             worst = run_expected(start, folder, options) or worst
         else:
-            program.put(('== %s\n' % path).encode())
+            program.put_line('== ' + path)
             status = run_one(start, folder, options)
-            program.put(('status %d\n' % status).encode())
+            program.put_line('status %d' % status)
             worst = 1 if status else worst
     return worst
 
@@ -167,7 +171,8 @@ def run_many(start, folders, options):
 def run_folders(words):
     options = options_of(words)
     folders = checked(options)
-    start = start_of(options)
+    # where no folder is one, nothing is built
+    start = start_of(options) if any(isinstance(folder, Folder) for folder in folders) else []
     return run_one(start, folders[0], options) if len(folders) == 1 else run_many(start, folders, options)
 
 
@@ -206,7 +211,7 @@ def main(words):
     heads = [command_words.literal(form)[0] for form in pages.forms()]
     if words[0] in heads:
         return run_command(words)
-    if not words[0].startswith('--') and not os.path.isdir(words[0]) and not os.path.sep in words[0]:
+    if not words[0].startswith('--') and not os.path.lexists(words[0]) and not os.path.sep in words[0]:
         near = command_words.nearest(words[0], heads)
         raise Bad("'%s' is neither a folder nor a command%s; ./try --help lists the commands" % (words[0], ": did you mean '%s'?" % near if near else ''))
     return run_folders(words)

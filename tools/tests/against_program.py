@@ -16,6 +16,10 @@ def cases():
     for source, key, part in habit_rows.SOURCES:
         at = len(source[:source.index('@')].encode())
         yield 'kernel', (source.replace('@', '', 1) + habit_rows.DISPATCH).encode(), [key, at], part
+    for source, key, part in habit_rows.PROGRAMS:
+        yield 'program', (source.replace('@', '', 1) + habit_rows.MAIN).encode(), [key, len(source[:source.index('@')].encode())], part
+    for source, _, part in habit_rows.INSIDE:
+        yield 'kernel', (source.replace('@', '', 1) + habit_rows.DISPATCH).encode(), [32, source.index('@')], part
     for text, key, part in habit_rows.TEXTS:
         yield 'user', (text.replace('@', '', 1) + '\n').encode(), [key, text[:text.index('@')].count('\n') + 1], part
 

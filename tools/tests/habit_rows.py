@@ -1,9 +1,11 @@
 """Sources and texts with a fault, each with the number of its refusal and a part of the sentence that names the habit.
 
-In a source `@` stands before the byte of the fault, and is no part of it; DISPATCH is added behind. In a text the fault's line has it at its beginning.
+In a source `@` stands before the byte of the fault, and is no part of it; DISPATCH is added behind, and MAIN to a
+source of a user's program. In a text the fault's line has it at its beginning.
 """
 
 DISPATCH = ' int dispatch(int cause, int data, int user) { return 0; }'
+MAIN = ' int main() { return 0; }'
 
 # (the source, the refusal, what the sentence has)
 SOURCES = [
@@ -36,6 +38,10 @@ SOURCES = [
     ('int f() { char @c; return 0; }', 12, "no 'char'"),
     ('int f() { return @; }', 12, 'answers a value'),
     ('struct s { int a; }; @s v;', 12, "'struct s'"),
+    ('int x; int f(bool b) { x = (@int) b; return 0; }', 12, 'no casts'),
+    ('int* p; int f() { p = (@int*) 5; return 0; }', 12, 'no casts'),
+    ('int x; int f() { x = @trap(1); return 0; }', 20, "'trap' is a user program's"),
+    ('int f() { trap@(1); return 0; }', 12, "'trap' is a user program's"),
     ('int x; int f() { x = x <@< 2; return 0; }', 12, "no shift"),
     ('int x; int f() { x = x @& 3; return 0; }', 12, "no '&' of bits"),
     ('int x; int f() { if (0 < x @< 3) { } return 0; }', 12, 'do not chain'),
@@ -55,6 +61,40 @@ SOURCES = [
     ('int x; int f() { while (@1) { } return 0; }', 22, 'a condition is a bool'),
     ('bool b; int f() { b = @1; return 0; }', 22, "'true' or 'false'"),
     ('int* p; int f() { int x; p = &@x; return 0; }', 25, 'no pointer points to a local'),
+]
+
+# The same of user programs: what a kernel is advised is of no use to them.
+PROGRAMS = [
+    ('int x; int f(bool b) { x = (@int) b; return 0; }', 12, 'no casts'),
+    ('bool b; int f() { b = @con_put(3); return 0; }', 20, "'con_put' is a kernel's"),
+    ('int x; int f() { x = @vm_get(1, 2); return 0; }', 20, "a user program has 'trap' alone"),
+    ('int f() { con_put@(3); return 0; }', 12, "'con_put' is a kernel's"),
+    ('int f() { trap@(3); return 0; }', 12, "'ok = trap(..);'"),
+    ('int f() { printf@(3); return 0; }', 12, "a user program has 'trap' alone"),
+    ('@static int x;', 12, 'from one call to the next'),
+    ('int x; int f() { x = @"a"; return 0; }', 10, 'a user program no console'),
+]
+
+# (a source whose asm text begins behind @, the line of the text, what the sentence has); the refusal is 32
+INSIDE = [
+    ('int f(int a) asm @{ move r2, r4 }', 1, "'addu rD, rS, r0'"),
+    ('int f(int a) asm @{\n  li r2, 5\n}', 2, "'ori rD, r0, N'"),
+    ('int f(int a) asm @{ addu r2, r4, r5 # sum\n addu $v0, $a0, $a1 }', 2, "'$v0' is r2"),
+    ('int f(int a) asm @{ addu $2, $4, $5 }', 1, "'$2' is r2"),
+    ('int f(int a) asm @{ addu v0, a0, a1 }', 1, "'v0' is r2"),
+    ('int f(int a) asm @{ addu $t0, $a0, $a1 }', 1, 'r0 and r2 to r7'),
+    ('int f(int a) asm @{ addu r8, r4, r5 }', 1, 'r0 and r2 to r7'),
+    ('int f(int a) asm @{ lw r2, 0(r4) }', 1, 'reaches no memory'),
+    ('int f(int a) asm @{ mul r2, r4, r5 }', 1, 'multiplies and divides'),
+    ('int f(int a) asm @{ add r2, r4, r5 }', 1, "'addu'"),
+    ('int f(int a) asm @{ beq r4, r0, 1 }', 1, 'no jumps and branches'),
+    ('int f(int a) asm @{ loop: addu r2, r4, r5 }', 1, 'no labels'),
+    ('int f(int a) asm @{ .word 0 }', 1, 'no directives'),
+    ('int f(int a) asm @{ addu r2, r4, r5\n jr r31 }', 2, "no 'jr'"),
+    ('int f(int a) asm @{ addu r2, r4, 5 }', 1, "'addiu' takes a number"),
+    ('int f(int a) asm @{ ori r2, r0, 65536 }', 1, "'lui rD, 1'"),
+    ('int f(int a) asm @{ addu r2, r4, r5; }', 1, 'ends with its line'),
+    ('int f(int a) asm @{ ADDU r2, r4, r5 }', 1, 'lower case'),
 ]
 
 # (the text, whose faulty line begins with @, the refusal, what the sentence has)

@@ -1,12 +1,14 @@
 """Folders, expectations, and the tools' sentences for bad input."""
+import io
 import os
 import subprocess
 import sys
 import tempfile
 import unittest
+from unittest import mock
 
-from explain import pages
-from running import expected
+from explain import files, pages
+from running import expected, guard, program, try_main
 from running.folder import BadFolder, Folder
 
 
@@ -54,6 +56,74 @@ class Rooms(unittest.TestCase):
         self.assertEqual(expected.answer(b'a\n', b'', 8, []), 'status 8, ')
 
 
+# Stands in for the program: a boot and a trace print what is stored beside the schedule.
+STAND_IN = '''import os, sys
+words = sys.argv[1:]
+if words[0] in ('boot', 'trace'):
+    folder = os.path.dirname(words[2])
+    with open(os.path.join(folder, 'printed' if words[0] == 'boot' else 'trace' + words[-1]), 'rb') as file:
+        sys.stdout.buffer.write(file.read())
+'''
+
+
+class Folders(unittest.TestCase):
+    def setUp(self):
+        room = tempfile.TemporaryDirectory()
+        self.addCleanup(room.cleanup)
+        self.room, program_name = room.name, os.path.join(room.name, 'program.py')
+        with open(program_name, 'w', encoding='utf-8') as file:
+            file.write(STAND_IN)
+        self.start = [sys.executable, program_name]
+
+    def tried(self, *words):
+        """The status and the output of ./try with the stand-in."""
+        out = io.BytesIO()
+        with mock.patch.object(try_main, 'start_of', lambda options: self.start), mock.patch.object(program, 'write', out.write), mock.patch.object(guard, 'say', lambda lines: None):
+            with mock.patch.object(try_main, 'say', lambda lines: None):
+                return guard.guarded('try', try_main.main, list(words)), out.getvalue()
+
+    def handed_in(self, name, printed):
+        folder = os.path.join(os.fsencode(self.room), name)
+        os.mkdir(folder)
+        for part, data in ((b'kernel.c0', b''), (b'params', b''), (b'schedule', b''), (b'printed', printed)):
+            with open(os.path.join(folder, part), 'wb') as file:
+                file.write(data)
+        return os.fsdecode(folder)
+
+    def expected(self):
+        with open(os.path.join(self.room, 'expected'), 'wb') as file:
+            file.write(b'halted\n')
+        return os.path.join(self.room, 'expected')
+
+    def test_a_stray_file_among_folders_does_not_pass(self):
+        wanted, one, two = self.expected(), self.handed_in(b'one', b'halted\n'), self.handed_in(b'two', b'stopped\n')
+        status, out = self.tried(one, wanted, two, '--expect', wanted)
+        self.assertEqual((status, out.decode().split('\n')), (1, [one + ': as expected', "%s: '%s' is no folder" % (wanted, wanted), two + ": the row 'halted' is missing, or out of its order", '']))
+        self.assertEqual(self.tried(one, wanted), (1, ('== %s\nhalted\nstatus 0\n== %s\nstatus 64\n' % (one, wanted)).encode()))
+        self.assertEqual(self.tried(wanted, one, '--expect', wanted)[0], 1)
+        self.assertEqual(self.tried(one, one, '--expect', wanted)[0], 0)
+        self.assertEqual(self.tried(one + 'no', two + 'no', '--expect', wanted)[0], 1)
+        self.assertEqual(self.tried(wanted)[0], 64)
+
+    def test_names_that_are_no_utf_8(self):
+        wanted = self.expected()
+        try:
+            name = self.handed_in(b'caf\xe9', b'halted\n')
+        except OSError:
+            self.skipTest('this file system has no such names')
+        status, out = self.tried(name, name, '--expect', wanted)
+        self.assertEqual((status, out), (0, 2 * (os.fsencode(name) + b': as expected\n')))
+        self.assertEqual(self.tried(name, '--expect', wanted)[0], 0)
+        self.assertEqual(self.tried(name, name)[1], 2 * (b'== ' + os.fsencode(name) + b'\nhalted\nstatus 0\n'))
+        self.assertEqual(self.tried(name, name + 'x', '--expect', wanted)[0], 1)
+
+    def test_what_is_stored_is_traced_and_drawn(self):
+        folder, picture = os.path.join(pages.TOP, 'examples', 'services'), os.path.join(self.room, 'run.svg')
+        self.assertEqual(self.tried(folder, '--picture', picture), (0, files.content(os.path.join(folder, 'printed'))))
+        self.assertEqual(files.content(picture), files.content(os.path.join(folder, 'run.svg')))
+        self.assertEqual(self.tried(folder, '--trace', '2'), (0, files.content(os.path.join(folder, 'trace2'))))
+
+
 class Full(unittest.TestCase):
     def test_a_full_output_is_said(self):
         for words in (['tools/picture', 'examples/adder/printed'],):
@@ -73,6 +143,7 @@ class BadInput(unittest.TestCase):
                                     (['try', 'examples/adder', '--turns'], 64, 'a word is missing'), (['try', 'examples/adder', '--turns', '0'], 64, 'out of its range'),
                                     (['try', 'examples/adder', '--trace', '2'], 64, 'has 1 users'), (['try', 'examples/adder', '--tarce', '2'], 64, "did you mean '--trace'"),
                                     (['try', 'examples/adder', '--picture', 'no/where.svg'], 64, 'there is no folder'), (['try', 'examples/adder', 'examples/faults', '--picture', 'x.svg'], 64, 'for one folder'),
+                                    (['try', 'examples/adder', '--keep'], 64, "'--keep' stands alone"), (['try', 'examples/adder', '--anew'], 64, "'--anew' stands first"), (['try', 'README.md'], 64, 'is no folder'),
                                     (['try', 'docs'], 64, "there is no file 'docs/kernel.c0'"), (['try', 'examples/adder', '--expect', 'none'], 64, "there is no file 'none'"), (['try'], 64, './try FOLDER'),
                                     (['try', 'boot', 'none', 'none', '1', '1'], 6, "there is no file 'none'"), (['try', 'boot', 'a', 'b'], 1, 'word 4, TURNS, is missing'),
                                     (['tools/picture'], 64, 'tools/picture BOOT.txt'), (['tools/picture', 'README.md'], 64, "'README.md' can't be drawn: line 1"),

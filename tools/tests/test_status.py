@@ -31,6 +31,15 @@ class Status(unittest.TestCase):
         name = self.put('k.c0', b'int f() asm {\n  addu r2, r4, r5\n  lw r2, 0(r4)\n}\n')
         self.assertIn(name + ':3:3\n      lw r2, 0(r4)\n      ^~~~', self.said(2, ['compile', 'kernel', name, 'o'], 'refused 32 12 45 3'))
 
+    def test_a_habit_in_a_line_of_an_asm_text(self):
+        name = self.put('k.c0', b'int f(int a) asm {\n  move r2, r4\n}\n')
+        self.assertIn("'addu rD, rS, r0' copies", self.said(2, ['compile', 'kernel', name, 'o'], 'refused 32 17 35 2'))
+
+    def test_a_program_is_told_of_trap(self):
+        name = self.put('u.c0', b'int main() { int x; x = vm_get(1, 2); return x; }')
+        self.assertIn("a user program has 'trap' alone", self.said(2, ['compile', 'program', name, 'o'], 'refused 20 24 30'))
+        self.assertNotIn("'trap' alone", self.said(2, ['compile', 'kernel', name, 'o'], 'refused 20 24 30'))
+
     def test_no_dispatch_has_no_mark(self):
         name = self.put('k.c0', b'int x;\n')
         self.assertIn(name + ': the whole source\n', self.said(2, ['compile', 'kernel', name, 'o'], 'refused 31 0 7'))
@@ -90,6 +99,8 @@ class Status(unittest.TestCase):
         self.assertIn('TURNS 7', said)
         self.assertIn('dispatch(0, 0, 0)', self.said(3, ['boot', 'i', 's', '10', '10'], 'turn 0 cause 0 data 00000000 user 0 fault DivZero'))
         self.assertIn('a boot of the same words', self.said(3, ['trace', 'i', 's', '10', '10', '1'], 'fault Bounds'))
+        way = status.FolderWay(['trace'], {})
+        self.assertIn('without --trace', '\n'.join(status.explain(3, ['trace', 'i', 's', '10', '10', '1'], ['fault Bounds'], way)))
 
     def test_a_folder_has_its_own_words(self):
         way = status.FolderWay(['boot'], {'/w/i': 'the image of x'})
