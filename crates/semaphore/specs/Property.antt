@@ -1,4 +1,4 @@
--- What is proved of the kernel semaphore: at most one user is inside, and the kernel knows which.
+-- What is proved of the kernel semaphore: its owner is who is inside by the requests so far, as a fold over the dispatches says it.
 use Rattle.std.specs.Prelude.{◌≡◌, ◌≤◌, ◌==◌, if◌then◌else◌, ℕ, suc, ℤ, pos, List, [], ◌∷◌, length}
 use Rattle.std.specs.Ordering.{int_eq}
 use Rattle.mips_table.specs.Arith.{signed}
