@@ -3,8 +3,8 @@
 use Rattle.std.proofs.Common.{◌≡◌, ℕ, zero, suc, ◌+◌, ◌<◌, ◌≤◌, List, [], ◌∷◌, ◌++◌, length, get_or, take, map, refl, sym, ap, ◌∙◌, append_assoc, arith}
 use Rattle.std.specs.Prelude.{codes}
 use Rattle.std.specs.List.{concat, flat_map}
-use Rattle.word_bytes.specs.Words.{word}
-use Rattle.word_bytes.proofs.Words.{length-word}
+use Rattle.cvm_words.specs.Bytes.{word}
+use Rattle.cvm_words.proofs.Bytes.{length-word}
 use Rattle.boot_image.specs.Parts.{Parts}
 use Rattle.boot_image.specs.Format.{fields, spelling}
 use Rattle.boot_image.specs.Answer.{pieces}

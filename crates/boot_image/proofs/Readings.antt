@@ -14,7 +14,7 @@ use Rattle.boot_image.specs.Parts.{Parts}
 use Rattle.boot_image.specs.Format.{fields, spelling, bare_params, AreWords, IsOldSystem, IsInRange, IsOldInRange}
 use Rattle.boot_image.specs.Answer.{pieces, IsAnswer}
 use Rattle.boot_image.specs.Reading.{mark_at, form_at, bare_at, header_of, old_header_of, answer, old_answer}
-use Rattle.word_bytes.specs.Words.{word}
+use Rattle.cvm_words.specs.Bytes.{word}
 use Rattle.boot_image.proofs.Answers.{Found, answer_by, old_answer_by}
 use Rattle.boot_image.proofs.Steps.{step, mark_whole, form_one, form_two, bare_whole, bare, bare_same, system, system_same, Fits, header_three, header_two, read_back, old_read_back}
 use Rattle.boot_image.proofs.Spelled.{number_short, number_out}

@@ -1,7 +1,7 @@
 -- What is answered of bytes in the format's own words: the image that they spell, or what stands first where no image has it.
 use Rattle.std.specs.Prelude.{ℕ, ◌≡◌, ◌≢◌, ◌≤◌, ◌<◌, ◌^◌, suc, List, [], ◌∷◌, ◌++◌, length, take, map, codes, slice_index, slice_index_or, Result, Ok, Err}
 use Rattle.std.specs.List.{concat, flat_map}
-use Rattle.word_bytes.specs.Words.{word}
+use Rattle.cvm_words.specs.Bytes.{word}
 use Rattle.boot_image.specs.declared.fault.ImageFault.{ImageFault}
 use Rattle.boot_image.specs.declared.fault.ImageFault.TheVariants.{Magic, Truncated, Trailing, Parameter, Memory}
 use Rattle.boot_image.specs.Parts.{Parts}

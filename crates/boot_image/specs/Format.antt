@@ -1,6 +1,6 @@
 -- The one spelling of an image, and which images have one.
 use Rattle.std.specs.Prelude.{ℕ, ◌≡◌, ◌⊎◌, ◌*◌, ◌<◌, ◌≤◌, ◌^◌, All, List, [], ◌∷◌, ◌++◌, length, map, codes, min, nat_eq, if◌then◌else◌}
-use Rattle.word_bytes.specs.Words.{word}
+use Rattle.cvm_words.specs.Bytes.{word}
 use Rattle.std.specs.List.{flat_map}
 use Rattle.layer_map.specs.Map.{ParamsInRange}
 use Rattle.layer_map.specs.declared.params.Params.{Params}

@@ -4,7 +4,7 @@ use Rattle.std.specs.Prelude.{ℕ, zero, suc, ◌≡◌, ◌+◌, ◌*◌, ◌<�
 use Rattle.std.specs.Str.{bytes_eq}
 use Rattle.byteorder.specs.Endian.{little_number}
 use Rattle.layer_map.specs.declared.params.Params.{Params}
-use Rattle.word_bytes.specs.Words.{words_of}
+use Rattle.cvm_words.specs.Bytes.{words_of}
 use Rattle.boot_image.specs.declared.fault.ImageFault.{ImageFault}
 use Rattle.boot_image.specs.declared.fault.ImageFault.TheVariants.{Magic, Truncated, Trailing, Parameter, Memory}
 use Rattle.boot_image.specs.declared.reading.Header.{Header}

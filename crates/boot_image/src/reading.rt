@@ -4,7 +4,7 @@ ghost use Rattle.std.specs.Prelude.{◌≡◌, ◌+◌, ◌*◌, ◌≤◌, ◌<
 ghost use Rattle.std.specs.List.{concat};
 ghost use Rattle.boot_image.specs.Parts.{Parts};
 ghost use Rattle.boot_image.specs.Format.{IsInRange, IsOldInRange, spelling, most_words};
-ghost use Rattle.word_bytes.specs.Words.{words_of};
+ghost use Rattle.cvm_words.specs.Bytes.{words_of};
 ghost use Rattle.boot_image.specs.Reading.{Comes, Gives, AnswersAreSpelled, SpellingsAreAnswered, image_at, answer, old_answer};
 ghost use Rattle.boot_image.specs.Answer.{AnswersAreSo, NothingElseIsSo, pieces};
 ghost use Rattle.boot_image.specs.Reading.{mark_at, number_at, form_at, params_at, counts_at, bare_at, system_at, header_of, old_header_of, part_at, users_at, parts_of, users_of};
@@ -13,9 +13,9 @@ use crate::fault::ImageFault;
 use crate::image::Image;
 use arrayvec::ArrayVec;
 use byteorder::{ByteOrder, LittleEndian};
+use cvm_words::read_words;
 use layer_map::Params;
 use std::alloc::{AllocError, Global};
-use word_bytes::read_words;
 
 // The fields of an image but the users' numbers of words, and the byte where its parts begin.
 #[derive(Clone, Copy)]

@@ -2,14 +2,14 @@
 
 ghost use Rattle.std.specs.Prelude.{◌≡◌, ◌≤◌, ◌++◌, All, length, map, OnOk, IfOk, Ok, Err};
 ghost use Rattle.std.specs.List.{flat_map};
-ghost use Rattle.word_bytes.specs.Words.{word};
+ghost use Rattle.cvm_words.specs.Bytes.{word};
 ghost use Rattle.boot_image.specs.Format.{spelling, fields, HasSpelling, HasOldSpelling, IsWritable, IsInRange, IsOldInRange, AreWords};
 ghost use Rattle.boot_image.specs.Reading.{answer, old_answer};
 ghost use Rattle.boot_image.specs.declared.fault.ImageFault.TheVariants.{Parameter};
 
 use crate::image::Image;
+use cvm_words::{push_word, push_words};
 use std::alloc::{AllocError, Global};
-use word_bytes::{push_word, push_words};
 
 /// Writes an image, in the form that it names: its one spelling, which reads as that image.
 pub fn write(alloc: Global, image: &Image) -> Result<Vec<u8>, AllocError>

@@ -12,7 +12,7 @@ ghost use Rattle.boot_report.specs.Given.{places_of as offsets_of};
 
 use c0_meaning::laws::well_formed_units_are_sized;
 use c0_meaning::{Measured, global_offsets, words_of};
-use c0_structs::measured;
+use c0_struct_sizes::measured;
 use c0_tree::Decl;
 use layer_contract::Boot;
 use layer_map::{LAYER_WORDS, Map};

@@ -6,7 +6,7 @@ use crate::tree_text::{put_bytes, put_unit, put_words};
 use c0_asm_text::read_asm;
 use c0_meaning::{Checked, frame_words};
 use c0_parser::parse;
-use c0_structs::measured;
+use c0_struct_sizes::measured;
 use c0_tree::Unit;
 use c0_types::{read_program, read_unit};
 use std::alloc::{AllocError, Global};

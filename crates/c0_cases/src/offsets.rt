@@ -3,7 +3,7 @@
 use crate::faults::put_source_fault;
 use crate::tree_text::put_bytes;
 use c0_meaning::{Checked, Measured, field_offsets, global_offsets, variable_offsets};
-use c0_structs::measured;
+use c0_struct_sizes::measured;
 use c0_tree::{Body, Decl, Function, Unit};
 use c0_types::read_unit;
 use std::alloc::{AllocError, Global};

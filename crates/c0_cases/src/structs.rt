@@ -5,7 +5,7 @@ ghost use Rattle.std.specs.Prelude.{◌<◌, ◌^◌, length};
 use crate::faults::put_read_fault;
 use crate::tree_text::put_bytes;
 use c0_parser::parse;
-use c0_structs::{struct_numbers, struct_sizes};
+use c0_struct_sizes::{struct_numbers, struct_sizes};
 use c0_tree::StructDef;
 use std::alloc::{AllocError, Global};
 use std::fmt::Write;

@@ -11,8 +11,8 @@ use Rattle.c0_tree.specs.View.{decl_view}
 use Rattle.c0_meaning.specs.Env.{Shape, Typed, typed_of, first_named}
 use Rattle.c0_meaning.specs.Resolved.{resolved_decls}
 use Rattle.c0_meaning.proofs.StableTypes.{typed_kept}
-use Rattle.c0_names.specs.Names.{number_named}
-use Rattle.c0_body.specs.Scope.{typed_view}
+use Rattle.c0_name_check.specs.Names.{number_named}
+use Rattle.c0_body_check.specs.Scope.{typed_view}
 
 -- what is typed is so by the views of declarations
 pub typed_by_views : (ds : List Decl) → map typed_view ds ≡ map typed_of (map decl_view ds)

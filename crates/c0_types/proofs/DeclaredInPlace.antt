@@ -2,7 +2,7 @@
 -- they were.
 use Rattle.std.proofs.lemmas.List.{length-map}
 use Rattle.std.proofs.Common.{◌≡◌, ℕ, zero, suc, ◌+◌, ◌<◌, List, [], ◌∷◌, length, map, get_or, set, add-one, refl, sym, ap, ◌∙◌, subst, arith}
-use Rattle.c0_body.proofs.InPlace.{rest, rest-next, map-set, map-get_or}
+use Rattle.c0_body_check.proofs.InPlace.{rest, rest-next, map-set, map-get_or}
 
 -- a list whose first elements are changed, of which the first has number k
 abbrev pub numbered : {V : Type 0} → (ℕ → V → V) → ℕ → ℕ → List V → List V

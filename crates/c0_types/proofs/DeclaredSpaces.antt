@@ -5,7 +5,7 @@ use Rattle.std.specs.Option.{option_or, option_map}
 use Rattle.c0_tree.specs.Tree.{CName}
 use Rattle.c0_meaning.specs.Env.{first_named}
 use Rattle.c0_meaning.specs.Names.{is_among, in_source_order}
-use Rattle.c0_names.specs.Names.{number_named}
+use Rattle.c0_name_check.specs.Names.{number_named}
 use Rattle.c0_types.specs.SourceOrder.{comes_next}
 
 none_after : (o : Option ℕ) → option_or o None ≡ o

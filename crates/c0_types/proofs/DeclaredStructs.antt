@@ -6,11 +6,11 @@ use Rattle.std.proofs.lemmas.Bool.{cases_lt}
 use Rattle.std.proofs.lemmas.Bool.Decides.{nat_tests}
 use Rattle.std.proofs.lemmas.List.{length-map, get_or_append_left, get_or_push, get_or_default}
 use Rattle.c0_tree.specs.Tree.{CStruct}
-use Rattle.c0_body.proofs.InPlace.{map-get_or}
+use Rattle.c0_body_check.proofs.InPlace.{map-get_or}
 use Rattle.c0_meaning.specs.DeclaredTypes.{MAX_TYPE_WORDS}
 use Rattle.c0_meaning.specs.Env.{Shape, first_named}
 use Rattle.c0_meaning.specs.Resolved.{resolved_structs}
-use Rattle.c0_names.specs.Names.{number_named}
+use Rattle.c0_name_check.specs.Names.{number_named}
 use Rattle.c0_meaning.specs.Sizes.{WORDS_CAP}
 use Rattle.c0_types.specs.NumberedStruct.{numbered_struct}
 use Rattle.c0_types.proofs.DeclaredInPlace.{numbered}

@@ -18,9 +18,9 @@ use Rattle.c0_tree.specs.View.{decl_view, function_view, struct_view, unit_view}
 use Rattle.c0_meaning.specs.Env.{Shape, Typed, Signature, shape_of, typed_of, signature_of, primitive_signature, env_of}
 use Rattle.c0_meaning.specs.Resolved.{resolved_decls, resolved_structs}
 use Rattle.c0_meaning.proofs.StableTypes.{typed_kept, shapes_kept, decls_length}
-use Rattle.c0_names.specs.Names.{look, number_named}
-use Rattle.c0_names.specs.Structs.{KnowsStructs}
-use Rattle.c0_body.specs.Scope.{FieldsTell, primitive_signature_view, shape_view, signature_view, typed_view}
+use Rattle.c0_name_check.specs.Names.{look, number_named}
+use Rattle.c0_name_check.specs.Structs.{KnowsStructs}
+use Rattle.c0_body_check.specs.Scope.{FieldsTell, primitive_signature_view, shape_view, signature_view, typed_view}
 use Rattle.c0_types.specs.declared.structs.KnownStructs.{KnownStructs}
 use Rattle.c0_types.specs.declared.space.UnitNames.{UnitNames}
 use Rattle.c0_types.specs.Known.{TellUnit, env_in}

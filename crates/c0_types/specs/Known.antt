@@ -5,8 +5,8 @@ use Rattle.c0_tree.specs.declared.tree.StructDef.{StructDef}
 use Rattle.c0_tree.specs.declared.tree.Function.{Function}
 use Rattle.c0_tree.specs.declared.primitive.Primitive.{Primitive}
 use Rattle.c0_meaning.specs.Env.{Env}
-use Rattle.c0_names.specs.Structs.{KnowsStructs}
-use Rattle.c0_body.specs.Scope.{FieldsTell, Tells, shape_view, signature_view, typed_view, primitive_signature_view}
+use Rattle.c0_name_check.specs.Structs.{KnowsStructs}
+use Rattle.c0_body_check.specs.Scope.{FieldsTell, Tells, shape_view, signature_view, typed_view, primitive_signature_view}
 use Rattle.c0_types.specs.declared.structs.KnownStructs.{KnownStructs}
 use Rattle.c0_types.specs.declared.space.UnitNames.{UnitNames}
 use Rattle.c0_types.specs.declared.bodies.Declared.{Declared}

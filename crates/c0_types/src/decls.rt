@@ -7,13 +7,13 @@ ghost use Rattle.c0_meaning.specs.Fault.{kept_all};
 ghost use Rattle.c0_meaning.specs.Limits.{MAX_GLOBAL_WORDS};
 ghost use Rattle.c0_meaning.specs.Resolved.{resolved_decls};
 ghost use Rattle.c0_meaning.specs.Words.{all_words};
-ghost use Rattle.c0_names.specs.Met.{met_view};
-ghost use Rattle.c0_names.specs.Structs.{KnowsStructs};
+ghost use Rattle.c0_name_check.specs.Met.{met_view};
+ghost use Rattle.c0_name_check.specs.Structs.{KnowsStructs};
 ghost use Rattle.c0_tree.specs.View.{decl_view};
 
-use c0_names::met::Fault;
-use c0_names::names::Names;
-use c0_names::types::{capped_words, check_type};
+use c0_name_check::met::Fault;
+use c0_name_check::names::Names;
+use c0_name_check::types::{capped_words, check_type};
 use c0_tree::{Decl, Kind};
 
 /// How many words all globals have together at most.

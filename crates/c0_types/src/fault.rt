@@ -2,11 +2,11 @@
 
 ghost use Rattle.c0_types.specs.declared.fault.TypeFault.TheVariants.{Memory as NoMemory};
 ghost use Rattle.std.specs.Prelude.{◌≡◌, Some};
-ghost use Rattle.c0_names.specs.Met.{fault_view, number_of};
+ghost use Rattle.c0_name_check.specs.Met.{fault_view, number_of};
 ghost use Rattle.c0_types.specs.Answer.{type_fault_view, type_fault_number, type_fault_span, type_fault_line};
 ghost use Rattle.c0_meaning.specs.Fault.{fault};
 
-use c0_names::met::{Fault, Mistake};
+use c0_name_check::met::{Fault, Mistake};
 use c0_tree::Span;
 use std::alloc::AllocError;
 use thiserror::Error;

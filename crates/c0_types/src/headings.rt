@@ -6,15 +6,15 @@ ghost use Rattle.c0_meaning.specs.Env.{Shape};
 ghost use Rattle.c0_meaning.specs.Fault.{kept_all};
 ghost use Rattle.c0_meaning.specs.Limits as limits;
 ghost use Rattle.c0_meaning.specs.Ty.{ty_of};
-ghost use Rattle.c0_names.specs.Met.{met_view};
-ghost use Rattle.c0_names.specs.Structs.{KnowsStructs};
+ghost use Rattle.c0_name_check.specs.Met.{met_view};
+ghost use Rattle.c0_name_check.specs.Structs.{KnowsStructs};
 ghost use Rattle.c0_tree.specs.View.{body_view, decl_view, function_view, type_view};
 ghost use Rattle.c0_types.specs.Parts.{heading_faults, headed};
 
 use crate::decls::check_decls;
-use c0_names::met::{Fault, Mistake, meet_at, meet_if};
-use c0_names::names::Names;
-use c0_names::types::check_type;
+use c0_name_check::met::{Fault, Mistake, meet_at, meet_if};
+use c0_name_check::names::Names;
+use c0_name_check::types::check_type;
 use c0_tree::{Body, CType, Decl, Function, Kind, Span};
 
 // Whether a type is one of a parameter or result: a scalar, and of an asm function `int` alone.

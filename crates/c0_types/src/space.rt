@@ -3,17 +3,17 @@
 ghost use Rattle.std.specs.Prelude.{◌≡◌, ◌<◌, ◌^◌, ℕ, List, IfOk, OnOk, is_some, length, map};
 ghost use Rattle.c0_meaning.specs.Fault.{kept_all};
 ghost use Rattle.c0_meaning.specs.Names.{unit_names, unit_name_faults};
-ghost use Rattle.c0_names.specs.Met.{met_view};
-ghost use Rattle.c0_names.specs.Names.{look, number_named};
-ghost use Rattle.c0_names.specs.Spaces.{twice_by};
+ghost use Rattle.c0_name_check.specs.Met.{met_view};
+ghost use Rattle.c0_name_check.specs.Names.{look, number_named};
+ghost use Rattle.c0_name_check.specs.Spaces.{twice_by};
 ghost use Rattle.c0_tree.specs.Primitives.{CPrimitive, primitive_view};
 ghost use Rattle.c0_tree.specs.Tree.{CDecl, CFunction};
 ghost use Rattle.c0_tree.specs.View.{decl_view, function_view};
 ghost use Rattle.c0_types.specs.SourceOrder.{comes_next};
 
-use c0_names::met::Fault;
-use c0_names::names::{Names, set_name};
-use c0_names::spaces::{declare, twice_by_test_is_twice};
+use c0_name_check::met::Fault;
+use c0_name_check::names::{Names, set_name};
+use c0_name_check::spaces::{declare, twice_by_test_is_twice};
 use c0_tree::{Decl, Function, Primitive};
 use indexmap::IndexMap;
 use std::alloc::{AllocError, Global};

@@ -2,7 +2,7 @@
 
 ghost use Rattle.std.specs.Prelude.{◌≡◌, ◌<◌, ◌++◌, ◌^◌, ℕ, List, IfOk, OnOk, length, map};
 ghost use Rattle.std.specs.List.{All};
-ghost use Rattle.c0_body.specs.Scope.{FieldsTell, Tells, typed_view};
+ghost use Rattle.c0_body_check.specs.Scope.{FieldsTell, Tells, typed_view};
 ghost use Rattle.c0_meaning.specs.DeclaredTypes as spec;
 ghost use Rattle.c0_meaning.specs.Env.{Shape, shape_of};
 ghost use Rattle.c0_meaning.specs.Fault.{kept_all};
@@ -11,19 +11,19 @@ ghost use Rattle.c0_meaning.specs.Resolved.{resolved_structs};
 ghost use Rattle.c0_meaning.specs.Ty as ty;
 ghost use Rattle.c0_meaning.specs.Unit.{struct_faults, structs_faults};
 ghost use Rattle.c0_meaning.specs.Words.{holds};
-ghost use Rattle.c0_names.specs.Met.{met_view};
-ghost use Rattle.c0_names.specs.Names.{look, number_named};
-ghost use Rattle.c0_names.specs.Structs.{KnowsStructs};
+ghost use Rattle.c0_name_check.specs.Met.{met_view};
+ghost use Rattle.c0_name_check.specs.Names.{look, number_named};
+ghost use Rattle.c0_name_check.specs.Structs.{KnowsStructs};
 ghost use Rattle.c0_tree.specs.View.{decl_view, struct_view};
 ghost use Rattle.c0_types.specs.NumberedStruct.{numbered_struct};
 
 use crate::decls::check_decls;
 use c0_meaning::limits::MAX_TYPE_WORDS;
-use c0_names::met::{Fault, Mistake, meet_if};
-use c0_names::names::Names;
-use c0_names::spaces::{declare, declare_all, twice_by_test_is_twice};
-use c0_names::types::struct_words;
-use c0_structs::sizes::struct_sizes;
+use c0_name_check::met::{Fault, Mistake, meet_if};
+use c0_name_check::names::Names;
+use c0_name_check::spaces::{declare, declare_all, twice_by_test_is_twice};
+use c0_name_check::types::struct_words;
+use c0_struct_sizes::sizes::struct_sizes;
 use c0_tree::{Decl, Kind, Name, StructDef};
 use indexmap::IndexMap;
 use std::alloc::{AllocError, Global};

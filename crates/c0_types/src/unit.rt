@@ -6,8 +6,8 @@ ghost use Rattle.c0_meaning.specs.Env.{Shape};
 ghost use Rattle.c0_meaning.specs.Fault.{kept_all};
 ghost use Rattle.c0_meaning.specs.Limits as limits;
 ghost use Rattle.c0_meaning.specs.Unit.{IsCheckedAs};
-ghost use Rattle.c0_names.specs.Met.{met_view, number_of};
-ghost use Rattle.c0_names.specs.Structs.{KnowsStructs};
+ghost use Rattle.c0_name_check.specs.Met.{met_view, number_of};
+ghost use Rattle.c0_name_check.specs.Structs.{KnowsStructs};
 ghost use Rattle.c0_tree.specs.Plain.{is_plain};
 ghost use Rattle.c0_tree.specs.Primitives.{primitive_view, primitives_of};
 ghost use Rattle.c0_tree.specs.Tree.{CFunction};
@@ -30,8 +30,8 @@ use c0_meaning::laws::{
     faultless_units_are_checked, kept_fault_is_least, meeting_is_free_of_order, resolving_is_stable,
 };
 use c0_meaning::{Checked, UserChecked, find_first};
-use c0_names::met::{Fault, Mistake, meet_if};
-use c0_names::names::Names;
+use c0_name_check::met::{Fault, Mistake, meet_if};
+use c0_name_check::names::Names;
 use c0_tree::{
     AsmText, Body, Function, Kind, Primitive, Program, Span, Unit, primitives, user_primitives,
 };

@@ -18,7 +18,7 @@ use c0_meaning::{Checked, UserChecked};
 use c0_runtime::entry::ENTRY_WORDS;
 use c0_runtime::runtime::RUNTIME_WORDS;
 use c0_runtime::{emit_entry, emit_runtime};
-use c0_structs::measured;
+use c0_struct_sizes::measured;
 use c0_tree::Unit;
 use layer_map::LAYER_WORDS;
 use masm::registers::Places;

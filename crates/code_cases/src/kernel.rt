@@ -2,7 +2,7 @@
 
 use crate::desk::Desk;
 use c0_meaning::{Checked, Measured};
-use c0_structs::measured;
+use c0_struct_sizes::measured;
 use c0_tree::CType;
 use c0_types::read_unit;
 use c0_unit::compile;

@@ -13,7 +13,7 @@ use Rattle.page_model.specs.Places.{Places, view}
 use Rattle.cvm_model.specs.Kernel.{flat}
 use Rattle.cvm_model.specs.Primitives.{Call, Given, user_of, with_user, pages_of, is_good, granted, refused, unchanged}
 use Rattle.cvm_model.specs.Paged.{pages_by}
-use Rattle.register_primitives.specs.Blocks.{word_of, IsOneOf, BlocksHold, console_of}
+use Rattle.cvm_primitives.specs.Blocks.{word_of, IsOneOf, BlocksHold, console_of}
 use Rattle.cvm_primitives.proofs.Flats.{flat_of, replaced, sized, put_words, Same, InLists}
 use Rattle.cvm_primitives.specs.View.{start, Held, WordGood, CopyArgs, ResizeGood, number, size_at, page_steps}
 use Rattle.std.proofs.lemmas.List.Elements.{All-get_or}

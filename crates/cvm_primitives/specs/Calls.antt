@@ -15,7 +15,7 @@ use Rattle.cvm_model.specs.Kernel.{flat}
 use Rattle.cvm_model.specs.Primitives.{Call, VmWord, VmPut, VmCopy, VmResize, Given, user_of, pages_of, is_good, prim}
 use Rattle.cvm_model.specs.Paged.{pages_by}
 use Rattle.cvm_model.specs.Stands.{UserFits}
-use Rattle.register_primitives.specs.Blocks.{IsOneOf, BlocksHold, console_of}
+use Rattle.cvm_primitives.specs.Blocks.{IsOneOf, BlocksHold, console_of}
 use Rattle.cvm_primitives.specs.View.{page_steps, start, Held, Fresh}
 use Rattle.cvm_primitives.specs.Code.{vm_word_code, vm_put_code, vm_copy_code, vm_resize_code}
 

@@ -1,3 +1,6 @@
+pub mod RegisterCode
+pub mod Blocks
+pub mod RegisterLaws
 pub mod Copy
 pub mod View
 pub mod Code

@@ -6,7 +6,7 @@ use Rattle.std.specs.Str.{bytes_eq}
 use Rattle.std.proofs.lemmas.Slice.Eq.{bytes_eq-Decides}
 use Rattle.cvm_outside.specs.Told.{AppendsPart, TOO_LONG, retold}
 use Rattle.schedule_file.specs.Rows.{Rows}
-use Rattle.layer_runs.specs.Image.{layer_image}
+use Rattle.real_layer.specs.Image.{layer_image}
 use Rattle.kernel_linker.specs.Accept.{System}
 use Rattle.cvm_shell.specs.declared.status.Status.{Status}
 use Rattle.cvm_shell.specs.declared.status.Status.TheVariants.{Done, Words, Shelf, Sink, Memory}

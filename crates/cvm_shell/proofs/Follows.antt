@@ -16,7 +16,7 @@ use Rattle.kernel_linker.specs.Accept.{System, system_of, stored, Answers, ◌>>
 use Rattle.kernel_linker.specs.Linked.{linked, map_for, pages_for, sizes_of}
 use Rattle.kernel_linker.specs.declared.fault.AcceptFault.{AcceptFault}
 use Rattle.kernel_linker.specs.Laws.{Fits, SpelledImagesFit}
-use Rattle.kernel_runs.specs.Follows.{IsWhole, user_words}
+use Rattle.unit_runs.specs.Follows.{IsWhole, user_words}
 
 -- a system is that of an image: its parameters and users, and the words that they are linked to with its unit
 record IsOf (layer : Map → List ℕ → List ℕ) (i : Image) (s : System) : Type 0 where

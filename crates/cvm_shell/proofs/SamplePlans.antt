@@ -3,7 +3,7 @@
 use Rattle.std.proofs.Common.{◌≡◌, ◌≢◌, ◌⊎◌, inl, inr, ℕ, List, refl, sym, ap, ◌∙◌, subst, Ok, Err}
 use Rattle.std.specs.Prelude.{Result, ⊤}
 use Rattle.layer_map.specs.declared.params.Params.{Params}
-use Rattle.layer_runs.specs.Image.{layer_image}
+use Rattle.real_layer.specs.Image.{layer_image}
 use Rattle.c0_tree.specs.Tree.{CUnit}
 use Rattle.c0_types.specs.Front.{IsAnswer, IsUnitOf, IsFaultOf, IsFirstFault}
 use Rattle.c0_types.specs.declared.source_fault.SourceFault.{SourceFault}

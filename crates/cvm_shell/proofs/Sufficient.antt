@@ -15,7 +15,7 @@ use Rattle.bound_check.specs.Kept.{LongestIsKept}
 use Rattle.object_file.specs.Answer.{IsAnswer as IsObject}
 use Rattle.object_file.specs.Parts.{Parts as Object}
 use Rattle.boot_image.specs.Parts.{Parts as Image}
-use Rattle.layer_runs.specs.Image.{layer_image}
+use Rattle.real_layer.specs.Image.{layer_image}
 use Rattle.cvm_model.specs.KernelMeaning.{kernel_meaning}
 use Rattle.kernel_linker.specs.Linked.{linked, sizes_of}
 use Rattle.kernel_linker.specs.Accept.{System, ◌>>=◌, stored, accept_answer}

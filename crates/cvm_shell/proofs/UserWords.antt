@@ -2,7 +2,7 @@
 use Rattle.std.proofs.Common.{◌≡◌, ℕ, suc, ◌+◌, ◌*◌, ◌<◌, ◌%◌, List, [], ◌∷◌, ◌++◌, length, map, drop, get_or, Vec, Global, refl, sym, ap, ◌∙◌, arith, append_assoc, Ok, Err, eq-eqb}
 use Rattle.std.specs.Prelude.{Result, flat_map}
 use Rattle.std.proofs.lemmas.List.{length-append, drop_more}
-use Rattle.word_bytes.specs.Words.{word, words_of}
+use Rattle.cvm_words.specs.Bytes.{word, words_of}
 use Rattle.system_files.specs.declared.fault.FileFault.{FileFault}
 use Rattle.cvm_shell.specs.Plan.{words_from, before_them}
 

@@ -6,7 +6,7 @@ use Rattle.cvm_outside.specs.Told.{TOO_LONG}
 use Rattle.schedule_file.specs.Rows.{Rows, longest}
 use Rattle.schedule_file.specs.Schedule.{schedule_of}
 use Rattle.boot_image.specs.Reading.{answer as image_of}
-use Rattle.layer_runs.specs.Image.{layer_image}
+use Rattle.real_layer.specs.Image.{layer_image}
 use Rattle.mips_table.specs.Device.{Outside as Surroundings}
 use Rattle.mips_machine.specs.Steps.{outside_of}
 use Rattle.mips_table.specs.Turns.{lines_of}

@@ -21,7 +21,7 @@ use Rattle.kernel_linker.specs.Link.{fitting, link_answer}
 use Rattle.kernel_linker.specs.declared.fault.LinkFault.{LinkFault}
 use Rattle.layer_map.specs.Map.{Map}
 use Rattle.layer_map.specs.declared.params.Params.{Params}
-use Rattle.layer_runs.specs.Image.{layer_image}
+use Rattle.real_layer.specs.Image.{layer_image}
 use Rattle.boot_image.specs.Format.{spelling as image_bytes}
 use Rattle.boot_image.specs.Parts.{Parts as Image}
 use Rattle.boot_image.specs.Reading.{answer as image_of, old_answer as old_image_of}
@@ -39,7 +39,7 @@ use Rattle.schedule_file.specs.declared.fault.ScheduleFault.{ScheduleFault}
 use Rattle.object_file.specs.Answer.{IsAnswer as IsObject}
 use Rattle.object_file.specs.Parts.{Parts as Object}
 use Rattle.object_file.specs.declared.fault.ObjectFault.{ObjectFault}
-use Rattle.word_bytes.specs.Words.{words_of}
+use Rattle.cvm_words.specs.Bytes.{words_of}
 use Rattle.system_files.specs.Params.{params_of}
 use Rattle.system_files.specs.declared.fault.FileFault.{FileFault}
 use Rattle.system_files.specs.declared.fault.FileFault.TheVariants.{UserTorn}

@@ -5,7 +5,7 @@ use Rattle.bound_check.specs.Kept.{NeverOut as RunsNeverOut}
 use Rattle.object_file.specs.Answer.{IsAnswer as IsObject}
 use Rattle.object_file.specs.Parts.{Parts as Object}
 use Rattle.boot_image.specs.Parts.{Parts as Image}
-use Rattle.layer_runs.specs.Image.{layer_image}
+use Rattle.real_layer.specs.Image.{layer_image}
 use Rattle.cvm_model.specs.declared.kernel_fault.KernelFault.{KernelFault}
 use Rattle.cvm_model.specs.declared.kernel_fault.KernelFault.TheVariants.{StackOut}
 use Rattle.cvm_model.specs.Text.{fault_name}

@@ -8,9 +8,9 @@ ghost use Rattle.layer_contract.specs.Boots.{BootFollows};
 use boot_image::images_are_their_spellings;
 use kernel_linker::laws::spelled_images_fit;
 use kernel_linker::{AcceptFault, Accepted, accept};
-use kernel_runs::follows::linked_boots_follow;
 use layer_contract::LayerMaker;
 use std::alloc::Global;
+use unit_runs::follows::linked_boots_follow;
 
 /// Accepts the bytes of an image, over a layer that is made for it. What is accepted follows its layer.
 ///

@@ -2,7 +2,7 @@
 ghost use Rattle.std.specs.Prelude.{◌≡◌, ◌≢◌, ◌↔◌, ◌≤◌, ⊤, ℕ, List, IfOk, IfErr, IsErrOf};
 ghost use Rattle.cvm_outside.specs.Causes.{Rose};
 ghost use Rattle.cvm_outside.specs.Told.{TOO_LONG};
-ghost use Rattle.layer_runs.specs.Image.{layer_image};
+ghost use Rattle.real_layer.specs.Image.{layer_image};
 ghost use Rattle.boot_run.specs.Whole.{ending_of_end};
 ghost use Rattle.cvm_shell.specs.Boot.{ended_as};
 ghost use Rattle.cvm_shell.specs.Outside.{within};
@@ -20,7 +20,7 @@ use c0_types::laws::sources_have_one_answer;
 use cvm_outside::{Sectors, Shelf, ShelfFault, Sink};
 use kernel_linker::AcceptFault;
 use layer_contract::Boot as Booted;
-use layer_runs::RealLayer;
+use real_layer::RealLayer;
 use schedule_file::{Schedule, ScheduleFault, read};
 use std::alloc::Global;
 

@@ -39,7 +39,6 @@ pub use command::{
 use cvm_model::{units_are_kernels, units_dont_matter, units_replay, users_are_isolated};
 use cvm_outside::{Sectors, Shelf, Sink};
 use kernel_linker::laws::opened_units_are_their_sources;
-use layer_runs::RealLayer;
 pub use linking::system_image;
 pub use migration::migrated_image;
 use mips_table::runs::turns_are_counted;
@@ -47,6 +46,7 @@ pub use object::kernel_object;
 use object_file::bytes_have_one_answer;
 use program::compile_program;
 pub use program::{CompileProgram, program_image, read_compile_program};
+use real_layer::RealLayer;
 pub use refusal::Refusal;
 pub use sampling::sampled;
 use saying::{refuse, say};

@@ -1,6 +1,6 @@
 // The sample of a number: its parts, linked to an image that is accepted as that of a file is.
 ghost use Rattle.std.specs.Prelude.{◌≡◌, ◌≢◌, ⊤, IfOk, IfErr, IsErrOf};
-ghost use Rattle.layer_runs.specs.Image.{layer_image};
+ghost use Rattle.real_layer.specs.Image.{layer_image};
 ghost use Rattle.cvm_shell.specs.declared.boot.Stop.TheVariants as stop;
 ghost use Rattle.cvm_shell.specs.Command.{sample_session};
 ghost use Rattle.cvm_shell.specs.Plan.{PartsPlan, IsLinkedTo, IsPlan};
@@ -14,7 +14,7 @@ use c0_types::laws::sources_have_one_answer;
 use c0_types::read_unit;
 use kernel_linker::{link, make_object};
 use layer_contract::LayerMaker;
-use layer_runs::RealLayer;
+use real_layer::RealLayer;
 use sample_maker::{Sample, sample};
 use std::alloc::{AllocError, Global};
 

@@ -1,8 +1,12 @@
-//! Words of 32 bits as whole numbers, and their division.
+//! Words of 32 bits: as whole numbers with their division, and as bytes.
 #![tactic(auto)]
 
 ghost use Rattle.std.specs.Prelude.{◌≡◌, ◌≢◌, pos};
 ghost use Rattle.cvm_words.specs.Words.{int_of as int_of_def, word_of as word_of_def, quotient as quotient_of, remainder as remainder_of};
+
+mod bytes;
+
+pub use bytes::{push_word, push_words, read_words};
 
 /// The number that a word means in two's complement.
 pub fn int_of(word: u32) -> i32

@@ -11,7 +11,7 @@ use Rattle.boot_turns.specs.Headline.{Ending, Done, KernelFaulted, OutOfSteps, D
 use Rattle.cvm_model.specs.Cvm.{System as Booted, Cvm, Status, Running, Halted, Faulted, IsCvm}
 use Rattle.cvm_model.specs.Invariant.{HasEight, IsSafe}
 use Rattle.c0_types.specs.Front.{IsUnitOf}
-use Rattle.layer_runs.specs.Image.{layer_image}
+use Rattle.real_layer.specs.Image.{layer_image}
 use Rattle.boot_image.specs.Parts.{Parts as Image}
 use Rattle.boot_image.specs.declared.fault.ImageFault.{ImageFault}
 use Rattle.boot_image.specs.Reading.{answer as image_of}

@@ -9,7 +9,7 @@ ghost use Rattle.kernel_linker.specs.Linked.{linked, map_for, pages_for, sizes_o
 
 use c0_meaning::Checked;
 use c0_meaning::laws::units_are_typed_or_faulty;
-use c0_structs::measured;
+use c0_struct_sizes::measured;
 use c0_unit::{compile, global_words};
 use layer_contract::{Layer, LayerMaker};
 use layer_map::{Map, Params};

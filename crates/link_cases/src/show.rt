@@ -4,7 +4,7 @@ use crate::desk::Desk;
 use boot_image::{Image, write};
 use kernel_linker::{AcceptFault, Accepted, LinkFault, accept, link, migrate};
 use layer_map::{LAYER_WORDS, Params};
-use layer_runs::RealLayer;
+use real_layer::RealLayer;
 use std::alloc::{AllocError, Global};
 use std::fmt::Write;
 

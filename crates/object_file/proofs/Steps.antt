@@ -8,9 +8,9 @@ use Rattle.std.proofs.lemmas.List.{take_at, drop_at, length-append}
 use Rattle.std.proofs.lemmas.Slice.Eq.{bytes_eq-Decides}
 use Rattle.object_file.specs.declared.fault.ObjectFault.{ObjectFault}
 use Rattle.object_file.specs.declared.fault.ObjectFault.TheVariants.{Magic, Truncated, Trailing, Field}
-use Rattle.word_bytes.specs.Words.{word}
+use Rattle.cvm_words.specs.Bytes.{word}
 use Rattle.object_file.specs.Reading.{◌>>=◌, mark_at, number_at, parts_at, header_of}
-use Rattle.word_bytes.proofs.Words.{length-word, number-word}
+use Rattle.cvm_words.proofs.Bytes.{length-word, number-word}
 
 -- the two parts, or a fault
 abbrev pub Header : Type 0

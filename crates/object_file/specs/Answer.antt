@@ -4,7 +4,7 @@ use Rattle.std.specs.List.{concat}
 use Rattle.object_file.specs.declared.fault.ObjectFault.{ObjectFault}
 use Rattle.object_file.specs.declared.fault.ObjectFault.TheVariants.{Magic, Truncated, Trailing, Field, Memory}
 use Rattle.object_file.specs.Parts.{Parts}
-use Rattle.word_bytes.specs.Words.{word}
+use Rattle.cvm_words.specs.Bytes.{word}
 use Rattle.object_file.specs.Format.{pieces, spelling, IsInRange}
 
 -- the first pieces of an object are whole, and fewer bytes follow than its next piece has, which begins at `at`

@@ -1,6 +1,6 @@
 -- The one spelling of an object, and which objects have one.
 use Rattle.std.specs.Prelude.{ℕ, ◌<◌, ◌≤◌, ◌^◌, All, List, [], ◌∷◌, length, codes}
-use Rattle.word_bytes.specs.Words.{word}
+use Rattle.cvm_words.specs.Bytes.{word}
 use Rattle.std.specs.List.{concat, flat_map}
 use Rattle.object_file.specs.Parts.{Parts}
 

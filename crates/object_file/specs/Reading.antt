@@ -2,7 +2,7 @@
 use Rattle.std.specs.Prelude.{ℕ, ◌≡◌, ◌+◌, ◌*◌, ◌||◌, List, [], ◌∷◌, length, take, drop, codes, nat_lt, Result, Ok, Err, if◌then◌else◌}
 use Rattle.std.specs.Str.{bytes_eq}
 use Rattle.byteorder.specs.Endian.{little_number}
-use Rattle.word_bytes.specs.Words.{words_of}
+use Rattle.cvm_words.specs.Bytes.{words_of}
 use Rattle.object_file.specs.declared.fault.ObjectFault.{ObjectFault}
 use Rattle.object_file.specs.declared.fault.ObjectFault.TheVariants.{Magic, Truncated, Trailing, Field}
 use Rattle.object_file.specs.Parts.{Parts}

@@ -4,14 +4,14 @@ ghost use Rattle.std.specs.Prelude.{◌≡◌, ◌+◌, ◌*◌, ◌≤◌, ◌<
 ghost use Rattle.object_file.specs.declared.fault.ObjectFault.{ObjectFault};
 ghost use Rattle.object_file.specs.Parts.{Parts};
 ghost use Rattle.object_file.specs.Answer.{IsAnswer, Gives, UnlessMemory};
-ghost use Rattle.word_bytes.specs.Words.{words_of};
+ghost use Rattle.cvm_words.specs.Bytes.{words_of};
 ghost use Rattle.object_file.specs.Reading.{Comes, mark_at, number_at, parts_at, header_of, object_of};
 
 use crate::fault::ObjectFault;
 use crate::object::{MOST_SOURCE, MOST_WORDS, Object};
 use byteorder::{ByteOrder, LittleEndian};
+use cvm_words::read_words;
 use std::alloc::{AllocError, Global};
-use word_bytes::read_words;
 
 /// Reads an object: all of the bytes.
 ///

@@ -2,13 +2,13 @@
 
 ghost use Rattle.std.specs.Prelude.{◌≡◌, ◌≤◌, ◌<◌, ◌^◌, ◌++◌, All, length, OnOk, IfOk, Ok};
 ghost use Rattle.std.specs.List.{flat_map};
-ghost use Rattle.word_bytes.specs.Words.{word};
+ghost use Rattle.cvm_words.specs.Bytes.{word};
 ghost use Rattle.object_file.specs.Format.{spelling};
 ghost use Rattle.object_file.specs.Answer.{IsAnswer};
 
 use crate::object::Object;
+use cvm_words::{push_word, push_words};
 use std::alloc::{AllocError, Global};
-use word_bytes::{push_word, push_words};
 
 /// Writes an object: its one spelling, which reads as that object.
 ///

@@ -4,13 +4,13 @@ ghost use Rattle.std.specs.Prelude.{◌≤◌, IfOk};
 use crate::desk::Desk;
 use crate::plan::Plan;
 use c0_meaning::{Checked, Measured};
-use c0_structs::measured;
+use c0_struct_sizes::measured;
 use c0_tree::CType;
 use c0_types::read_unit;
 use c0_unit::compile;
 use layer_map::{LAYER_WORDS, Map};
-use layer_runs::layer_words;
 use mips_asm::assemble;
+use real_layer::layer_words;
 use schedule_file::read;
 use std::alloc::{AllocError, Global};
 

@@ -2,12 +2,12 @@
 
 ghost use Rattle.std.specs.Prelude.{◌≡◌, length, IfOk, IfErr};
 ghost use Rattle.std.specs.List.{flat_map};
-ghost use Rattle.word_bytes.specs.Words.{word, words_of};
+ghost use Rattle.cvm_words.specs.Bytes.{word, words_of};
 ghost use Rattle.system_files.specs.User.{IsUserFault};
 
 use crate::fault::FileFault;
+use cvm_words::read_words;
 use std::alloc::Global;
-use word_bytes::read_words;
 
 /// The words that a user's file holds; users are counted from 1. A length that is no multiple of 4 bytes comes before want of memory.
 pub fn user_words(alloc: Global, user: u64, bytes: &[u8]) -> Result<Vec<u32>, FileFault>

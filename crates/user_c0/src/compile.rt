@@ -14,7 +14,7 @@ use crate::image::{ROOM, image};
 use crate::laws::{images_are_whole, images_run};
 use c0_meaning::UserChecked;
 use c0_meaning::laws::units_are_typed_or_faulty;
-use c0_structs::measured;
+use c0_struct_sizes::measured;
 use c0_unit::laws::{units_have_places, units_stand};
 use c0_unit::{compile_flat, global_words};
 use layer_map::{Map, Params};

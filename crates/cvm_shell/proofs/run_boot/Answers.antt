@@ -1,6 +1,6 @@
 use Rattle.std.proofs.Common.{inl, inr, refl, sym, subst}
 use Rattle.kernel_linker.specs.Accept.{system_of}
-use Rattle.layer_runs.specs.Image.{layer_image}
+use Rattle.real_layer.specs.Image.{layer_image}
 use Rattle.cvm_shell.specs.declared.boot.Stop.{Stop}
 use Rattle.cvm_shell.specs.declared.boot.Stop.TheVariants as Stops
 use Rattle.cvm_shell.specs.declared.refusal.Refusal.{Refusal}

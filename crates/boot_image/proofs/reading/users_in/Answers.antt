@@ -1,5 +1,5 @@
 use Rattle.std.proofs.Common.{◌+◌, ◌*◌, ◌∙◌, ◌++◌, ◌∷◌, List, ℕ, map, drop, get_or, sym, ap, arith, append-nil}
-use Rattle.word_bytes.specs.Words.{words_of}
+use Rattle.cvm_words.specs.Bytes.{words_of}
 use Rattle.boot_image.specs.Reading.{users_of}
 use Rattle.boot_image.proofs.Loops.{next_whole, users_of_more, users_of_end, push_map}
 use Rattle.boot_image.proofs.reading.users_in.Goals as goal

@@ -1,6 +1,6 @@
 use Rattle.std.proofs.Common.{◌≡◌, ◌++◌, length, map, take}
 use Rattle.std.specs.List.{flat_map}
-use Rattle.word_bytes.specs.Words.{word}
+use Rattle.cvm_words.specs.Bytes.{word}
 use Rattle.boot_image.proofs.writing.push_counts.Given as goal
 
 abbrev pub invariant-loop-user : goal.invariant-loop-user

@@ -1,7 +1,7 @@
 use Rattle.std.proofs.Common.{◌++◌, ◌∷◌, [], ◌∙◌, List, ℕ, get_or, map, take, subst, ap}
 use Rattle.std.specs.List.{flat_map}
 use Rattle.std.proofs.lemmas.List.Elements.{All-append, All-from_recursion}
-use Rattle.word_bytes.specs.Words.{word}
+use Rattle.cvm_words.specs.Bytes.{word}
 use Rattle.boot_image.specs.Format.{AreWords}
 use Rattle.boot_image.proofs.Loops.{take_map, push_flat}
 use Rattle.boot_image.proofs.writing.push_users.Goals as goal

@@ -1,6 +1,6 @@
 use Rattle.std.proofs.Common.{◌≡◌, ◌++◌, All, map, take}
 use Rattle.std.specs.List.{flat_map}
-use Rattle.word_bytes.specs.Words.{word}
+use Rattle.cvm_words.specs.Bytes.{word}
 use Rattle.boot_image.specs.Format.{AreWords}
 use Rattle.boot_image.proofs.writing.push_users.Given as goal
 

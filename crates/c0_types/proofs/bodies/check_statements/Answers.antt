@@ -15,12 +15,12 @@ use Rattle.c0_meaning.specs.Fault.{kept_all, TOO_MANY_NODES}
 use Rattle.c0_meaning.specs.DeclaredTypes.{declared_faults, fault_if}
 use Rattle.c0_meaning.specs.Names.{decl_name_faults}
 use Rattle.c0_meaning.specs.Resolved.{resolved_decls}
-use Rattle.c0_names.specs.Met.{met_view}
-use Rattle.c0_names.specs.Names.{number_named}
-use Rattle.c0_names.specs.Structs.{KnowsStructs}
+use Rattle.c0_name_check.specs.Met.{met_view}
+use Rattle.c0_name_check.specs.Names.{number_named}
+use Rattle.c0_name_check.specs.Structs.{KnowsStructs}
 use Rattle.c0_meaning.specs.Form.{ty_view}
-use Rattle.c0_body.specs.Scope.{FieldsTell, shape_view, typed_view}
-use Rattle.c0_body.specs.Stmts.{code_faults, resolved_of_stmts}
+use Rattle.c0_body_check.specs.Scope.{FieldsTell, shape_view, typed_view}
+use Rattle.c0_body_check.specs.Stmts.{code_faults, resolved_of_stmts}
 use Rattle.c0_types.specs.Known.{unit_env}
 use Rattle.c0_types.specs.Parts.{nodes_with, with_locals}
 use Rattle.c0_types.proofs.BodiesScope.{locals_typed, numbered_typed, over_capped}

@@ -4,8 +4,8 @@ use Rattle.std.proofs.lemmas.List.{length-map}
 use Rattle.std.specs.Map.{lookup}
 use Rattle.std.specs.Str.{bytes_eq}
 use Rattle.c0_tree.specs.View.{decl_view}
-use Rattle.c0_names.specs.Met.{met_view}
-use Rattle.c0_names.specs.Names.{look}
+use Rattle.c0_name_check.specs.Met.{met_view}
+use Rattle.c0_name_check.specs.Names.{look}
 use Rattle.c0_types.proofs.BodiesNames.{both_met, both_told}
 use Rattle.c0_types.proofs.bodies.name_locals.Goals as goal
 

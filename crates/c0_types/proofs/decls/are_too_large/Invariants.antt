@@ -3,7 +3,7 @@ use Rattle.std.proofs.Common.{◌≡◌, ◌+◌, ◌*◌, ◌≤◌, List, map,
 use Rattle.c0_meaning.specs.Env.{Shape, typed_of}
 use Rattle.c0_meaning.specs.Limits.{MAX_GLOBAL_WORDS}
 use Rattle.c0_meaning.specs.Words.{all_words}
-use Rattle.c0_names.specs.Structs.{KnowsStructs}
+use Rattle.c0_name_check.specs.Structs.{KnowsStructs}
 use Rattle.c0_tree.specs.View.{decl_view}
 use Rattle.c0_types.proofs.decls.are_too_large.Given as goal
 

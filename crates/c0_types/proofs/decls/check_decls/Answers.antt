@@ -4,9 +4,9 @@ use Rattle.c0_tree.specs.declared.tree.Decl.{Decl}
 use Rattle.c0_tree.specs.View.{decl_view}
 use Rattle.c0_meaning.specs.DeclaredTypes.{type_faults, declared_faults}
 use Rattle.c0_meaning.specs.Fault.{kept_all}
-use Rattle.c0_names.specs.Met.{met_view}
-use Rattle.c0_names.proofs.Meeting.{kept_all-append}
-use Rattle.c0_body.proofs.InPlace.{rest}
+use Rattle.c0_name_check.specs.Met.{met_view}
+use Rattle.c0_name_check.proofs.Meeting.{kept_all-append}
+use Rattle.c0_body_check.proofs.InPlace.{rest}
 use Rattle.c0_types.proofs.DeclaredInPlace.{numbered_next, numbered_step, numbered_end}
 use Rattle.c0_types.proofs.DeclaredDecls.{declared, decls_numbered}
 use Rattle.c0_types.proofs.decls.check_decls.Goals as goal

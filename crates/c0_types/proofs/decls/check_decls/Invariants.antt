@@ -3,10 +3,10 @@ use Rattle.std.proofs.Common.{◌≡◌, ◌+◌, List, map}
 use Rattle.c0_meaning.specs.DeclaredTypes.{declared_faults}
 use Rattle.c0_meaning.specs.Env.{Shape}
 use Rattle.c0_meaning.specs.Fault.{kept_all}
-use Rattle.c0_names.specs.Met.{met_view}
-use Rattle.c0_names.specs.Structs.{KnowsStructs}
+use Rattle.c0_name_check.specs.Met.{met_view}
+use Rattle.c0_name_check.specs.Structs.{KnowsStructs}
 use Rattle.c0_tree.specs.View.{decl_view}
-use Rattle.c0_body.proofs.InPlace.{rest}
+use Rattle.c0_body_check.proofs.InPlace.{rest}
 use Rattle.c0_types.proofs.DeclaredInPlace.{numbered}
 use Rattle.c0_types.proofs.DeclaredDecls.{declared}
 use Rattle.c0_types.proofs.decls.check_decls.Given as goal

@@ -2,7 +2,7 @@
 use Rattle.std.proofs.Common.{◌≡◌, map, drop}
 use Rattle.c0_meaning.specs.DeclaredTypes.{pass_faults}
 use Rattle.c0_meaning.specs.Fault.{kept_all}
-use Rattle.c0_names.specs.Met.{met_view}
+use Rattle.c0_name_check.specs.Met.{met_view}
 use Rattle.c0_tree.specs.View.{decl_view}
 use Rattle.c0_types.proofs.headings.meet_unpassed_params.Given as goal
 

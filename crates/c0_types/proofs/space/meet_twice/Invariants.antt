@@ -3,9 +3,9 @@ use Rattle.std.proofs.Common.{◌≡◌, ◌≤◌, ◌+◌, ◌-◌, map, drop,
 use Rattle.c0_tree.specs.View.{decl_view, function_view}
 use Rattle.c0_meaning.specs.Fault.{kept_all}
 use Rattle.c0_meaning.specs.Names.{unit_names}
-use Rattle.c0_names.specs.Met.{met_view}
-use Rattle.c0_names.specs.Names.{look}
-use Rattle.c0_names.specs.Spaces.{twice_by}
+use Rattle.c0_name_check.specs.Met.{met_view}
+use Rattle.c0_name_check.specs.Names.{look}
+use Rattle.c0_name_check.specs.Spaces.{twice_by}
 use Rattle.c0_types.proofs.space.meet_twice.Given as goal
 
 abbrev pub invariant-loop-global : goal.invariant-loop-global

@@ -4,8 +4,8 @@ use Rattle.c0_tree.specs.Primitives.{primitive_view}
 use Rattle.c0_tree.specs.View.{decl_view, function_view}
 use Rattle.c0_meaning.specs.Fault.{kept_all}
 use Rattle.c0_meaning.specs.Names.{unit_names}
-use Rattle.c0_names.specs.Met.{met_view}
-use Rattle.c0_names.specs.Names.{look}
+use Rattle.c0_name_check.specs.Met.{met_view}
+use Rattle.c0_name_check.specs.Names.{look}
 use Rattle.c0_types.proofs.DeclaredSpaces.{numbered_among}
 use Rattle.c0_types.proofs.space.name_unit.Goals as goal
 

@@ -2,7 +2,7 @@
 use Rattle.std.proofs.Common.{◌≡◌, ◌+◌, ◌∷◌, ℕ, List, map, drop, sym, ap, ◌∙◌, arith}
 use Rattle.std.proofs.lemmas.List.{drop_more}
 use Rattle.std.specs.Option.{option_or}
-use Rattle.c0_names.specs.Names.{look, number_named}
+use Rattle.c0_name_check.specs.Names.{look, number_named}
 use Rattle.c0_types.proofs.DeclaredSpaces.{number_step}
 use Rattle.c0_types.proofs.space.number_all.Goals as goal
 

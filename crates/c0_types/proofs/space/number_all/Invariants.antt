@@ -1,7 +1,7 @@
 -- The names so far have their numbers, and the others are still to have them.
 use Rattle.std.proofs.Common.{◌≡◌, ℕ, List, map, drop}
 use Rattle.std.specs.Option.{option_or}
-use Rattle.c0_names.specs.Names.{look, number_named}
+use Rattle.c0_name_check.specs.Names.{look, number_named}
 use Rattle.c0_types.proofs.space.number_all.Given as goal
 
 abbrev pub invariant-loop-named : goal.invariant-loop-named

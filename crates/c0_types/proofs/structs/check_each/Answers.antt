@@ -5,14 +5,14 @@ use Rattle.std.proofs.lemmas.List.Elements.{All-get_or}
 use Rattle.c0_tree.specs.declared.tree.StructDef.{StructDef}
 use Rattle.c0_tree.specs.Tree.{CStruct}
 use Rattle.c0_tree.specs.View.{decl_view, struct_view}
-use Rattle.c0_body.specs.Scope.{Tells, typed_view}
-use Rattle.c0_body.proofs.InPlace.{rest}
+use Rattle.c0_body_check.specs.Scope.{Tells, typed_view}
+use Rattle.c0_body_check.proofs.InPlace.{rest}
 use Rattle.c0_meaning.specs.Env.{Shape, shape_of}
 use Rattle.c0_meaning.specs.Fault.{kept_all}
 use Rattle.c0_meaning.specs.Unit.{struct_faults, structs_faults}
 use Rattle.c0_meaning.specs.Words.{holds}
-use Rattle.c0_names.specs.Met.{met_view}
-use Rattle.c0_names.proofs.Meeting.{kept_all-append}
+use Rattle.c0_name_check.specs.Met.{met_view}
+use Rattle.c0_name_check.proofs.Meeting.{kept_all-append}
 use Rattle.c0_types.specs.NumberedStruct.{numbered_struct}
 use Rattle.c0_types.proofs.DeclaredInPlace.{IsNext, numbered_next, numbered_step, numbered_end}
 use Rattle.c0_types.proofs.DeclaredStructs.{structs_numbered, told_at, told_more}

@@ -2,12 +2,12 @@
 use Rattle.std.proofs.Common.{◌≡◌, ◌<◌, ℕ, get_or, length, map}
 use Rattle.c0_tree.specs.declared.tree.StructDef.{StructDef}
 use Rattle.c0_tree.specs.View.{struct_view}
-use Rattle.c0_body.specs.Scope.{Tells, typed_view}
-use Rattle.c0_body.proofs.InPlace.{rest}
+use Rattle.c0_body_check.specs.Scope.{Tells, typed_view}
+use Rattle.c0_body_check.proofs.InPlace.{rest}
 use Rattle.c0_meaning.specs.Env.{shape_of}
 use Rattle.c0_meaning.specs.Fault.{kept_all}
 use Rattle.c0_meaning.specs.Unit.{structs_faults}
-use Rattle.c0_names.specs.Met.{met_view}
+use Rattle.c0_name_check.specs.Met.{met_view}
 use Rattle.c0_types.specs.NumberedStruct.{numbered_struct}
 use Rattle.c0_types.proofs.DeclaredInPlace.{numbered}
 use Rattle.c0_types.proofs.structs.check_each.Given as goal

@@ -6,7 +6,7 @@ use Rattle.c0_tree.specs.declared.tree.Decl.{Decl}
 use Rattle.c0_tree.specs.declared.tree.Kind.TheVariants.{Field}
 use Rattle.c0_tree.specs.Tree.{CStruct}
 use Rattle.c0_tree.specs.View.{decl_view, struct_view}
-use Rattle.c0_body.specs.Scope.{typed_view}
+use Rattle.c0_body_check.specs.Scope.{typed_view}
 use Rattle.c0_meaning.specs.DeclaredTypes.{fault_if, declared_faults, is_too_large}
 use Rattle.c0_meaning.specs.Env.{typed_of}
 use Rattle.c0_meaning.specs.Fault.{kept_all, STRUCT_HOLDS_ITSELF, TYPE_TOO_LARGE}
@@ -14,8 +14,8 @@ use Rattle.c0_meaning.specs.Names.{decl_name_faults}
 use Rattle.c0_meaning.specs.Ty as ty
 use Rattle.c0_meaning.specs.Words.{holds}
 use Rattle.c0_meaning.proofs.StableTypes.{typed_kept}
-use Rattle.c0_names.specs.Met.{met_view}
-use Rattle.c0_names.specs.Names.{number_named}
+use Rattle.c0_name_check.specs.Met.{met_view}
+use Rattle.c0_name_check.specs.Names.{number_named}
 use Rattle.c0_types.proofs.DeclaredMeeting.{four_met}
 use Rattle.c0_types.proofs.DeclaredStructs.{number_viewed}
 use Rattle.c0_types.proofs.structs.check_struct.Goals as goal

@@ -5,9 +5,9 @@ use Rattle.c0_tree.specs.View.{name_view}
 use Rattle.c0_meaning.specs.DeclaredTypes.{MAX_TYPE_WORDS}
 use Rattle.c0_meaning.specs.Ty as ty
 use Rattle.c0_meaning.specs.Words.{words}
-use Rattle.c0_names.specs.Names.{look}
-use Rattle.c0_names.specs.Structs.{listed_words}
-use Rattle.c0_names.proofs.StructsTell.{same_words}
+use Rattle.c0_name_check.specs.Names.{look}
+use Rattle.c0_name_check.specs.Structs.{listed_words}
+use Rattle.c0_name_check.proofs.StructsTell.{same_words}
 use Rattle.c0_types.proofs.DeclaredStructs.{large_capped}
 use Rattle.c0_types.proofs.structs.is_too_large.Goals as goal
 

@@ -6,10 +6,10 @@ use Rattle.c0_tree.specs.declared.tree.StructDef.{StructDef}
 use Rattle.c0_tree.specs.View.{struct_view}
 use Rattle.c0_meaning.specs.Env.{shape_of}
 use Rattle.c0_meaning.specs.Fault.{kept_all}
-use Rattle.c0_names.specs.Met.{met_view}
-use Rattle.c0_names.specs.Names.{look, number_named}
-use Rattle.c0_names.specs.Spaces.{twice_by}
-use Rattle.c0_names.proofs.SpacesLemmas.{met_step}
+use Rattle.c0_name_check.specs.Met.{met_view}
+use Rattle.c0_name_check.specs.Names.{look, number_named}
+use Rattle.c0_name_check.specs.Spaces.{twice_by}
+use Rattle.c0_name_check.proofs.SpacesLemmas.{met_step}
 use Rattle.c0_types.proofs.DeclaredSpaces.{number_step, number_end}
 use Rattle.c0_types.proofs.DeclaredStructs.{number_viewed}
 use Rattle.c0_types.proofs.structs.name_structs.Goals as goal

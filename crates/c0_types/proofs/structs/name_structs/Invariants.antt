@@ -3,9 +3,9 @@ use Rattle.std.proofs.Common.{◌≡◌, ℕ, List, map, drop, is_some}
 use Rattle.std.specs.Option.{option_or}
 use Rattle.c0_tree.specs.View.{struct_view}
 use Rattle.c0_meaning.specs.Fault.{kept_all}
-use Rattle.c0_names.specs.Met.{met_view}
-use Rattle.c0_names.specs.Names.{look, number_named}
-use Rattle.c0_names.specs.Spaces.{twice_by}
+use Rattle.c0_name_check.specs.Met.{met_view}
+use Rattle.c0_name_check.specs.Names.{look, number_named}
+use Rattle.c0_name_check.specs.Spaces.{twice_by}
 use Rattle.c0_types.proofs.structs.name_structs.Given as goal
 
 abbrev pub invariant-loop-definition : goal.invariant-loop-definition

@@ -5,9 +5,9 @@ use Rattle.c0_tree.specs.Tree.{CFunction}
 use Rattle.c0_tree.specs.View.{function_view}
 use Rattle.c0_meaning.specs.Env.{Env}
 use Rattle.c0_meaning.specs.Fault.{kept_all}
-use Rattle.c0_names.specs.Met.{met_view}
-use Rattle.c0_body.specs.Scope.{signature_view}
-use Rattle.c0_body.proofs.InPlace.{rest, done-next, in_place_end}
+use Rattle.c0_name_check.specs.Met.{met_view}
+use Rattle.c0_body_check.specs.Scope.{signature_view}
+use Rattle.c0_body_check.proofs.InPlace.{rest, done-next, in_place_end}
 use Rattle.c0_types.specs.Known.{unit_env}
 use Rattle.c0_types.specs.Parts.{bodied, bodies_faults, functions_nodes, is_plain_function}
 use Rattle.c0_types.proofs.UnitHeadings.{all_at}

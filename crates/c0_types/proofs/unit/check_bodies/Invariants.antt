@@ -1,9 +1,9 @@
 -- The bodies so far are checked, and the faults and nodes of the others are still to come.
 use Rattle.std.proofs.Common.{◌≡◌, ◌<◌, ◌+◌, ◌-◌, ◌^◌, min, map}
 use Rattle.c0_meaning.specs.Fault.{kept_all}
-use Rattle.c0_names.specs.Met.{met_view}
+use Rattle.c0_name_check.specs.Met.{met_view}
 use Rattle.c0_tree.specs.View.{function_view}
-use Rattle.c0_body.proofs.InPlace.{done, rest}
+use Rattle.c0_body_check.proofs.InPlace.{done, rest}
 use Rattle.c0_types.specs.Known.{unit_env}
 use Rattle.c0_types.specs.Parts.{bodied, bodies_faults, functions_nodes}
 use Rattle.c0_types.proofs.unit.check_bodies.Given as goal

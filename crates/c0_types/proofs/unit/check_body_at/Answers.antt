@@ -6,7 +6,7 @@ use Rattle.c0_tree.specs.declared.tree.Function.{Function}
 use Rattle.c0_tree.specs.Plain.{is_plain_body}
 use Rattle.c0_tree.specs.View.{body_view, function_view}
 use Rattle.c0_meaning.specs.Fault.{kept_all}
-use Rattle.c0_names.specs.Met.{met_view}
+use Rattle.c0_name_check.specs.Met.{met_view}
 use Rattle.c0_types.specs.Known.{unit_env}
 use Rattle.c0_types.specs.Parts.{faults_of_body, is_plain_function}
 use Rattle.c0_types.proofs.UnitHeadings.{few_params, plain_body}

@@ -15,8 +15,8 @@ use Rattle.c0_meaning.specs.Env.{Env, Shape, shape_of, env_of}
 use Rattle.c0_meaning.specs.Fault.{kept_all, UNIT_TOO_LARGE}
 use Rattle.c0_meaning.specs.Limits.{all_nodes, first_faults, is_first, none_first, whole}
 use Rattle.c0_meaning.specs.Resolved.{resolved_decls, resolved_structs}
-use Rattle.c0_names.specs.Met.{met_view, number_of}
-use Rattle.c0_names.proofs.Meeting.{two_met}
+use Rattle.c0_name_check.specs.Met.{met_view, number_of}
+use Rattle.c0_name_check.proofs.Meeting.{two_met}
 use Rattle.c0_types.specs.Known.{TellUnit, env_in}
 use Rattle.c0_types.specs.Parts.{bodied, bodies_faults, functions_nodes, headed_functions, is_plain_function, outer_faults, outer_unit}
 use Rattle.c0_types.specs.Source.{checked_as, read_function, read_unit}

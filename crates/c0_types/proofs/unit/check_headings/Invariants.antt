@@ -2,11 +2,11 @@
 use Rattle.std.proofs.Common.{◌≡◌, ◌≤◌, ℕ, List, map, get_or}
 use Rattle.c0_meaning.specs.Env.{Shape}
 use Rattle.c0_meaning.specs.Fault.{kept_all}
-use Rattle.c0_names.specs.Met.{met_view}
-use Rattle.c0_names.specs.Structs.{KnowsStructs}
+use Rattle.c0_name_check.specs.Met.{met_view}
+use Rattle.c0_name_check.specs.Structs.{KnowsStructs}
 use Rattle.c0_tree.specs.View.{function_view}
 use Rattle.c0_tree.specs.declared.tree.Function.{Function}
-use Rattle.c0_body.proofs.InPlace.{rest}
+use Rattle.c0_body_check.proofs.InPlace.{rest}
 use Rattle.c0_types.specs.Parts.{headed, headings_faults}
 use Rattle.c0_types.proofs.DeclaredInPlace.{numbered}
 use Rattle.c0_types.proofs.unit.check_headings.Given as goal

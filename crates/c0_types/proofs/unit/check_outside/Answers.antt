@@ -18,10 +18,10 @@ use Rattle.c0_meaning.specs.Names.{struct_name_faults, unit_name_faults}
 use Rattle.c0_meaning.specs.Resolved.{resolved_decls, resolved_structs}
 use Rattle.c0_meaning.specs.Unit.{structs_faults}
 use Rattle.c0_meaning.specs.Words.{all_words}
-use Rattle.c0_names.specs.Met.{met_view}
-use Rattle.c0_names.specs.Names.{number_named}
-use Rattle.c0_names.specs.Structs.{KnowsStructs}
-use Rattle.c0_body.specs.Scope.{FieldsTell}
+use Rattle.c0_name_check.specs.Met.{met_view}
+use Rattle.c0_name_check.specs.Names.{number_named}
+use Rattle.c0_name_check.specs.Structs.{KnowsStructs}
+use Rattle.c0_body_check.specs.Scope.{FieldsTell}
 use Rattle.c0_types.specs.Parts.{headed_functions, headings_faults, is_plain_function}
 use Rattle.c0_types.proofs.DeclaredMeeting.{five_met}
 use Rattle.c0_types.proofs.UnitOutside.{plain_parts, tell_unit, same_unit}

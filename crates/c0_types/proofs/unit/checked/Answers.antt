@@ -1,7 +1,7 @@
 -- Where no fault was met none stands, and the unit is checked; a fault that was met last is the least.
 use Rattle.std.proofs.Common.{sym, ap, ◌∙◌}
 use Rattle.c0_tree.specs.View.{unit_view}
-use Rattle.c0_names.specs.Met.{fault_view, met_view}
+use Rattle.c0_name_check.specs.Met.{fault_view, met_view}
 use Rattle.c0_types.specs.Answer.{type_fault_view}
 use Rattle.c0_types.specs.Source.{source_faults_as}
 use Rattle.c0_types.proofs.UnitAnswer.{faultless_checked, says_least}

@@ -7,7 +7,7 @@ use Rattle.cvm_outside.specs.declared.shelf.ShelfFault.{ShelfFault}
 use Rattle.cvm_shell.specs.Plan.{AfterFiles}
 use Rattle.cvm_shell.specs.Stages.{ready_for}
 use Rattle.cvm_shell.specs.Views.{boot_view}
-use Rattle.layer_runs.specs.Image.{layer_image}
+use Rattle.real_layer.specs.Image.{layer_image}
 use Rattle.cvm_shell.proofs.Plans.{got_fault}
 use Rattle.cvm_shell.proofs.BootPlans.{image_got, boot_got}
 use Rattle.cvm_shell.proofs.boot.plan.Goals as goal

@@ -1,6 +1,6 @@
 use Rattle.std.proofs.Common.{refl}
 use Rattle.std.proofs.lemmas.Result.{err_from_is_err_and}
-use Rattle.layer_runs.specs.Image.{layer_image}
+use Rattle.real_layer.specs.Image.{layer_image}
 use Rattle.kernel_linker.specs.Accept.{system_of}
 use Rattle.cvm_shell.proofs.BootPlans.{accept_fault, schedule_fault, ready_plan}
 use Rattle.cvm_shell.proofs.boot.ready_of.Goals as goal

@@ -1,0 +1,10 @@
+use Rattle.std.proofs.Common.{◌≡◌, ◌++◌, map, drop}
+use Rattle.c0_name_check.specs.Names.{look}
+use Rattle.c0_struct_sizes.specs.Parts as parts
+use Rattle.c0_tree.specs.View.{decl_view}
+use Rattle.c0_struct_sizes.proofs.fields.push_parts.Given as goal
+
+abbrev pub invariant-loop-field : goal.invariant-loop-field
+invariant-loop-field l =
+    l.numbers.items ++ parts.parts (look l.names) (map decl_view (drop l.field-index l.fields))
+    ≡ l.initial.numbers.items ++ parts.parts (look l.names) (map decl_view l.fields)

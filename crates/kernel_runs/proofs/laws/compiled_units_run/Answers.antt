@@ -1,6 +1,0 @@
--- By the laws that the body calls.
-use Rattle.kernel_runs.proofs.Compiled.{compiled}
-use Rattle.kernel_runs.proofs.laws.compiled_units_run.Goals as goal
-
-pub returns : goal.returns
-returns c = compiled c.units_have_places.ensures c.units_stand.ensures c.units_run_over_layers.ensures

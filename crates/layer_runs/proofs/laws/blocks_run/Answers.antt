@@ -1,6 +1,0 @@
--- By the laws on runs of code, for the block alone.
-use Rattle.layer_runs.proofs.Blocks.{blocks_run as each}
-use Rattle.layer_runs.proofs.laws.blocks_run.Goals as goal
-
-pub returns : goal.returns
-returns c = each c.code_runs_on_the_machine.ensures c.a_block_stands.ensures

@@ -1,0 +1,23 @@
+-- By the handler's run at a fault, and the two faults of paging.
+use Rattle.real_layer.proofs.Arrivals.{Below}
+use Rattle.real_layer.proofs.Exits.{Tools}
+use Rattle.real_layer.proofs.Settling.{Handlers, settles, costs}
+use Rattle.real_layer.proofs.laws.faults_settle.Goals as goal
+
+pub returns : goal.returns
+returns c =
+    let below : Below = record { sum = c.runs_join.ensures; blocks = c.blocks_run.ensures; stands = c.a_block_stands.ensures; runs = c.runs_compose.ensures; jumps = c.jumps_lead.ensures; none = c.no_command_is_due.ensures } in
+    let tools : Tools = record { below = below; words = c.words_stay_words.ensures; alikes = c.alikes_stand.ensures } in
+    let handlers : Handlers = record {
+      tools = tools;
+      erets = c.eret_leaves.ensures;
+      takes = c.an_interrupt_is_taken.ensures;
+      interrupts = c.users_are_interrupted.ensures;
+      ask = c.faults_ask.ensures;
+      sited = c.maps_are_sited.ensures;
+      blocks = c.the_block_is_a_page_block.ensures;
+      faults = c.a_fault_is_handled.ensures;
+      pass = c.handled_pages_pass.ensures;
+      two = c.two_faults_suffice.ensures;
+    } in
+    λ m sizes code made. record { settles = settles m sizes code made handlers; costs = costs m sizes code made handlers }

@@ -1,0 +1,97 @@
+-- The layer's words, as they stand in memory from word 0 on: the handler of interrupts, the layer's variables, the entries with the routines
+-- behind them, and the control blocks.
+use Rattle.std.specs.Prelude.{◌≡◌, ℕ, ◌+◌, ◌-◌, ◌*◌, List, [], ◌∷◌, ◌++◌, length, map, take, replicate, slice_index_or, flat_map}
+use Rattle.std.specs.List.{range_with_len}
+use Rattle.mips_table.specs.declared.inst.Inst.{Inst}
+use Rattle.mips_table.specs.declared.inst.Inst.TheVariants.{J, Jr}
+use Rattle.mips_table.specs.Encoding.{encoding}
+use Rattle.layer_map.specs.Map.{Map, MapInRange, heap_at, stack_at}
+use Rattle.page_model.specs.Places.{places_of}
+use Rattle.page_fault.specs.Code.{page_code}
+use Rattle.trap_entry.specs.Code.{handler_code, leave_code, exit_code}
+use Rattle.cvm_model.specs.Stands.{Site}
+use Rattle.layer_contract.specs.Layer.{site_with}
+use Rattle.cvm_primitives.specs.RegisterCode.{vm_get_code, vm_set_code, vm_size_code, con_put_code, con_get_code, con_left_code}
+use Rattle.cvm_primitives.specs.Code.{vm_word_code, vm_put_code, vm_copy_code, vm_resize_code}
+
+-- an interrupt goes to word 0, where its handler stands
+unfoldable pub interrupt_code : Map → List Inst
+interrupt_code m = handler_code (places_of m) (page_code (places_of m))
+
+-- a primitive goes back to the address in register 31
+abbrev pub returning : List Inst → List Inst
+returning is = is ++ Jr 31 ∷ []
+
+-- The routines, in the order of their entries: the ten primitives as their table has them, the exits of the four faults, and what follows
+-- an answer of `dispatch`.
+unfoldable pub routines : Map → List (List Inst)
+routines m =
+    let p = places_of m in
+    let n = m.users in
+    let per = m.params.pages in
+    let page = page_code (places_of m) in
+    returning (vm_get_code n) ∷ returning (vm_set_code n) ∷ returning (vm_size_code n)
+    ∷ returning (vm_resize_code p n per) ∷ returning (vm_word_code p n per page) ∷ returning (vm_put_code p n per page) ∷ returning (vm_copy_code p n per page)
+    ∷ returning con_put_code ∷ returning con_get_code ∷ returning con_left_code
+    ∷ exit_code 1 ∷ exit_code 2 ∷ exit_code 3 ∷ exit_code 4
+    ∷ leave_code p n per ∷ []
+
+-- lists of instructions one after the other
+abbrev pub joined : List (List Inst) → List Inst
+joined blocks = flat_map (λ is. is) blocks
+
+-- the code of routine k
+abbrev pub routine : Map → ℕ → List Inst
+routine m k = slice_index_or (routines m) k []
+
+-- the word of the first entry, and that behind the last
+abbrev pub entries_at : ℕ
+entries_at = 2048
+
+abbrev pub entries_end : ℕ
+entries_end = 2063
+
+-- routine k begins behind the entries and the routines before it
+abbrev pub routine_at : Map → ℕ → ℕ
+routine_at m k = entries_end + length (joined (take k (routines m)))
+
+-- an entry is a jump to its routine
+abbrev pub entries : Map → List Inst
+entries m = map (λ k. J (routine_at m k)) (range_with_len 0 15)
+
+-- words with zeros behind them, so many in all
+abbrev pub filled : ℕ → List ℕ → List ℕ
+filled n words = words ++ replicate (n - length words) 0
+
+-- the layer's variables from the current user on: current user, hand, words used of the heap, its size and first address, first
+-- address and size of the stack
+abbrev pub variables : Map → List ℕ
+variables m = 0 ∷ 0 ∷ 0 ∷ m.params.heap ∷ 4 * heap_at m ∷ 4 * stack_at m ∷ m.params.stack ∷ []
+
+-- a control block at load: all 0 but for the size
+abbrev pub block_words : ℕ → List ℕ
+block_words pages = replicate 32 0 ++ pages ∷ replicate 31 0
+
+abbrev pub blocks : List ℕ → List ℕ
+blocks [] = []
+blocks (pages ∷ sizes) = block_words pages ++ blocks sizes
+
+-- the entries, and the routines behind them
+abbrev pub second_code : Map → List Inst
+second_code m = entries m ++ joined (routines m)
+
+-- THE IMAGE of a layer made for a map, and for users of these sizes in pages: code up to word 1024, variables up to 2048, entries and
+-- routines up to 12288, control blocks up to 16384
+abbrev pub layer_image : Map → List ℕ → List ℕ
+layer_image m sizes =
+    filled 1024 (map encoding (interrupt_code m)) ++ (filled 1024 (variables m) ++ (filled 10240 (map encoding (second_code m)) ++ filled 4096 (blocks sizes)))
+
+-- the memory of a layer made for this map and these users, with a kernel's code behind it
+abbrev pub image_site : Map → (sizes code : List ℕ) → Site
+image_site m sizes code = site_with m (layer_image m sizes) code
+
+-- what is fixed of it: a map in range, a size for each user, and as much code as the map says
+pub record IsMade (m : Map) (sizes code : List ℕ) : Type 0 where
+  pub range : MapInRange m
+  pub users : length sizes ≡ m.users
+  pub whole : length code ≡ m.code_words

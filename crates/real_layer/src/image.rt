@@ -1,0 +1,86 @@
+// The layer's words for a map and for users of some sizes.
+ghost use Rattle.std.specs.Prelude.{◌≡◌, List, [], ◌∷◌, ◌++◌, map as each, replicate, IfOk, OnOk};
+ghost use Rattle.mips_table.specs.declared.inst.Inst.{Inst as Instruction};
+ghost use Rattle.mips_table.specs.Encoding.{encoding};
+ghost use Rattle.real_layer.specs.Image.{interrupt_code, filled, variables, block_words, blocks, second_code, layer_image};
+
+use crate::routines::lay_routines;
+use layer_map::Map;
+use masm::Block;
+use std::alloc::{AllocError, Global};
+use trap_entry::handle_interrupts;
+
+// Appends so many zeros.
+fn put_zeros(words: &mut Vec<u32>, count: usize) -> Result<(), AllocError>
+    ensures { OnOk result (words.new.items ≡ words.old.items ++ replicate count 0) }
+{
+    for done in 0..count {
+        words.push(0)?;
+    }
+    Ok(())
+}
+
+// Appends a part, and zeros behind it, so many words in all.
+fn put_filled(words: &mut Vec<u32>, count: usize, part: &[u32]) -> Result<(), AllocError>
+    ensures { OnOk result (words.new.items ≡ words.old.items ++ filled count part.now) }
+{
+    words.extend_from_slice(part)?;
+    put_zeros(words, count.saturating_sub(part.len()))
+}
+
+// Appends the control block of a user of so many pages.
+fn put_block(words: &mut Vec<u32>, pages: u32) -> Result<(), AllocError>
+    ensures { OnOk result (words.new.items ≡ words.old.items ++ block_words pages) }
+{
+    put_zeros(words, 32)?;
+    words.push(pages)?;
+    put_zeros(words, 31)
+}
+
+// The control blocks of users of these sizes.
+fn control_blocks(alloc: Global, sizes: &[u32]) -> Result<Vec<u32>, AllocError>
+    ensures { IfOk result (λ v. v.items ≡ blocks sizes.now) }
+{
+    let mut words = Vec::new(alloc);
+    for pages in sizes {
+        put_block(&mut words, *pages)?;
+    }
+    Ok(words)
+}
+
+// The layer's variables that aren't 0 for good.
+fn first_variables(map: &Map) -> [u32; 7]
+    ensures { result ≡ variables map.now }
+{
+    let params = map.params();
+    [0, 0, 0, params.heap, map.heap(), map.stack(), params.stack]
+}
+
+// The handler of interrupts.
+fn interrupts(map: &Map) -> Block<338>
+    ensures { result ≡ each encoding (interrupt_code map.now) }
+{
+    handle_interrupts(map)
+}
+
+// The entries, and the routines behind them.
+fn second_part(alloc: Global, map: &Map) -> Result<Vec<u32>, AllocError>
+    ensures { IfOk result (λ v. v.items ≡ each encoding (second_code map.now)) }
+{
+    let laid = lay_routines(alloc, map)?;
+    let mut words = laid.entries;
+    words.extend_from_slice(&laid.words)?;
+    Ok(words)
+}
+
+/// The 16,384 words of the layer for a map, and for as many users as it has, of these sizes in pages. The one error is want of memory.
+pub fn layer_words(alloc: Global, map: &Map, sizes: &[u32]) -> Result<Vec<u32>, AllocError>
+    ensures { IfOk result (λ v. v.items ≡ layer_image map.now sizes.now) }
+{
+    let mut words = Vec::new(alloc);
+    put_filled(&mut words, 1024, interrupts(map).words())?;
+    put_filled(&mut words, 1024, &first_variables(map))?;
+    put_filled(&mut words, 10240, &second_part(alloc, map)?)?;
+    put_filled(&mut words, 4096, &control_blocks(alloc, sizes)?)?;
+    Ok(words)
+}

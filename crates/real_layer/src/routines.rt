@@ -1,0 +1,103 @@
+// The routines behind the layer's entries, with the entries.
+ghost use Rattle.std.specs.Prelude.{◌≡◌, List, [], ◌∷◌, ◌++◌, map as each, IfOk, OnOk};
+ghost use Rattle.mips_table.specs.declared.inst.Inst.{Inst as Instruction};
+ghost use Rattle.mips_table.specs.Encoding.{encoding};
+ghost use Rattle.page_model.specs.Places.{places_of};
+ghost use Rattle.page_fault.specs.Code.{page_code};
+ghost use Rattle.trap_entry.specs.Code.{leave_code, exit_code};
+ghost use Rattle.cvm_primitives.specs.RegisterCode.{vm_get_code, vm_set_code, vm_size_code, con_put_code, con_get_code, con_left_code};
+ghost use Rattle.cvm_primitives.specs.Code.{vm_word_code, vm_put_code, vm_copy_code, vm_resize_code};
+ghost use Rattle.real_layer.specs.Image.{returning, entries, joined, routines};
+ghost use Rattle.real_layer.specs.Laid.{Lays, memory_routines};
+
+use cvm_primitives::{
+    con_get, con_left, con_put, vm_copy, vm_get, vm_put, vm_resize, vm_set, vm_size, vm_word,
+};
+use layer_map::Map;
+use mips_table::{Inst, encode};
+use std::alloc::{AllocError, Global};
+use trap_entry::{exit, leave};
+
+/// Routines one after another, and the jumps to them.
+#[derive(Drop)]
+pub struct Routines {
+    pub entries: Vec<u32>,
+    pub words: Vec<u32>,
+}
+
+impl Routines {
+    // Appends a routine.
+    fn put(&mut self, words: &[u32]) -> Result<(), AllocError>
+        ensures { (is : List Instruction) → words.now ≡ each encoding is → OnOk result (Lays self.old self.new (is ∷ [])) }
+    {
+        let word = 2063 + self.words.len();
+        self.entries.push(encode(&Inst::J {
+            index: (word % 0x400_0000) as u32,
+        }))?;
+        self.words.extend_from_slice(words)
+    }
+
+    // Appends a routine that returns.
+    fn put_returning(&mut self, words: &[u32]) -> Result<(), AllocError>
+        ensures { (is : List Instruction) → words.now ≡ each encoding is → OnOk result (Lays self.old self.new (returning is ∷ [])) }
+    {
+        self.put(words)?;
+        self.words.push(encode(&Inst::Jr { rs: 31 }))?;
+        Ok(())
+    }
+
+    // Appends the primitives that use no page and not the console.
+    fn put_registers(&mut self, map: &Map) -> Result<(), AllocError>
+        ensures { OnOk result (Lays self.old self.new (returning (vm_get_code map.now.users) ∷ returning (vm_set_code map.now.users) ∷ returning (vm_size_code map.now.users) ∷ [])) }
+    {
+        self.put_returning(vm_get(map).words())?;
+        self.put_returning(vm_set(map).words())?;
+        self.put_returning(vm_size(map).words())
+    }
+
+    // Appends the primitives on memory.
+    fn put_memory(&mut self, map: &Map) -> Result<(), AllocError>
+        ensures { OnOk result (Lays self.old self.new (memory_routines map.now)) }
+    {
+        self.put_returning(vm_resize(map).words())?;
+        self.put_returning(vm_word(map).words())?;
+        self.put_returning(vm_put(map).words())?;
+        self.put_returning(vm_copy(map).words())
+    }
+
+    // Appends the primitives on the console.
+    fn put_console(&mut self) -> Result<(), AllocError>
+        ensures { OnOk result (Lays self.old self.new (returning con_put_code ∷ returning con_get_code ∷ returning con_left_code ∷ [])) }
+    {
+        self.put_returning(con_put().words())?;
+        self.put_returning(con_get().words())?;
+        self.put_returning(con_left().words())
+    }
+
+    // Appends the exits of the four faults.
+    fn put_exits(&mut self) -> Result<(), AllocError>
+        ensures { OnOk result (Lays self.old self.new (exit_code 1 ∷ exit_code 2 ∷ exit_code 3 ∷ exit_code 4 ∷ [])) }
+    {
+        self.put(exit(1).words())?;
+        self.put(exit(2).words())?;
+        self.put(exit(3).words())?;
+        self.put(exit(4).words())
+    }
+}
+
+/// The routines of a layer for a map, and its entries.
+pub fn lay_routines(alloc: Global, map: &Map) -> Result<Routines, AllocError>
+    ensures entries { IfOk result (λ r. r.entries.items ≡ each encoding (entries map.now)) }
+    ensures words { IfOk result (λ r. r.words.items ≡ each encoding (joined (routines map.now))) }
+{
+    let mut laid = Routines {
+        entries: Vec::new(alloc),
+        words: Vec::new(alloc),
+    };
+    laid.put_registers(map)?;
+    laid.put_memory(map)?;
+    laid.put_console()?;
+    laid.put_exits()?;
+    laid.put(leave(map).words())?;
+    Ok(laid)
+}

@@ -1,3 +1,0 @@
-pub mod Forms
-pub mod Numbers
-pub mod Registers

@@ -1,3 +1,0 @@
-pub mod Code
-pub mod Blocks
-pub mod Laws

@@ -1,7 +1,0 @@
-use Rattle.std.proofs.Common.{◌≡◌, ◌++◌, take}
-use Rattle.std.specs.List.{flat_map}
-use Rattle.word_bytes.specs.Words.{word}
-use Rattle.word_bytes.proofs.push_words.Given as goal
-
-abbrev pub invariant-loop-number : goal.invariant-loop-number
-invariant-loop-number l = l.bytes.items ≡ l.initial.bytes.items ++ flat_map word (take l.number-index l.words)
