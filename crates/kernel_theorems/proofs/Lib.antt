@@ -6,6 +6,7 @@ mod RoundRobinTexts
 mod Fairness
 mod Guardeds
 mod GuardedTexts
+mod FoundRegisters
 mod Mailboxes
 mod MailboxTexts
 mod Loggings

@@ -1,5 +1,6 @@
 pub mod Lines
 pub mod Text
+pub mod Registers
 pub mod RoundRobin
 pub mod RoundRobinText
 pub mod GuardedTree

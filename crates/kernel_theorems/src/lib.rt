@@ -10,6 +10,7 @@ use cvm_model::reasoning::meanings_ignore_places;
 pub mod guarded;
 pub mod logging;
 pub mod mailbox;
+pub mod registers;
 pub mod round_robin;
 
 /// A law: a text that is read by computation means the tree that it comes to.
