@@ -3,6 +3,7 @@
 use Rattle.std.proofs.Common.{◌≡◌, ℕ, zero, suc, ◌≤◌, List, [], ◌∷◌, ◌++◌, length, Some, refl, sym, ap, ◌∙◌, subst, arith}
 use Rattle.std.specs.Prelude.{if◌then◌else◌, pos}
 use Rattle.std.proofs.lemmas.Bool.{lt-ltb}
+use Rattle.std.proofs.lemmas.List.{append_assoc, append-nil}
 use Rattle.mips_table.specs.Arith.{signed}
 use Rattle.c0_tree.specs.Tree.{CUnit}
 use Rattle.c0_meaning.specs.State.{State as C0}
@@ -18,11 +19,17 @@ use Rattle.cvm_model.specs.declared.row.Next.{Next}
 use Rattle.cvm_model.specs.declared.row.Next.TheVariants.{User, Halt, Fault}
 use Rattle.cvm_model.specs.Invariant.{Property, Dispatch, row_of, rows_of, IsProper, current_after, next_by, made_by, Keeps, KeptAt}
 use Rattle.cvm_model.proofs.Kept.{keeps_by}
+use Rattle.kernel_theorems.specs.History.{OfDispatch, EachHas}
 
 -- the rows of a history with one dispatch more
 pub rows_join : (a : List Dispatch) (d : Dispatch) → rows_of (a ++ d ∷ []) ≡ rows_of a ++ row_of d ∷ []
 rows_join [] d = refl
 rows_join (e ∷ a) d = ap (λ rows. row_of e ∷ rows) (rows_join a d)
+
+-- what each dispatch of a history has, with one dispatch more
+pub each_more : (P : OfDispatch) (a past : List Dispatch) (d : Dispatch) → EachHas P a past → P (a ++ past) d → EachHas P a (past ++ d ∷ [])
+each_more P a [] d h is = (subst (λ xs. P xs d) (append-nil a) is, tt)
+each_more P a (e ∷ past) d h is = (h.0, each_more P (a ++ e ∷ []) past d h.1 (subst (λ xs. P xs d) (sym (append_assoc a (e ∷ []) past)) is))
 
 module _ (y : System) (u : CUnit) (is : y.boot.meaning ≡ kernel_meaning u y.boot.params) (n : ℕ) (I : Property) (k cause edata : ℕ) (past : List Dispatch) (at : Core) where
   -- kept, where the kernel's data is known, and what a dispatch of it comes to was computed

@@ -10,3 +10,4 @@ mod FoundRegisters
 mod Mailboxes
 mod MailboxTexts
 mod Loggings
+mod LoggingTexts

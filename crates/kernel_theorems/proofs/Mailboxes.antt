@@ -27,10 +27,11 @@ use Rattle.cvm_model.specs.Cvm.{System, Cvm, IsCvm, first_core, first_cvm}
 use Rattle.cvm_model.specs.Invariant.{Dispatch, dispatches_of, IsTrap, Keeps, KeptAt, IsInvariant, Shaped, UserShaped, AnyDatum, RunsAreLawful}
 use Rattle.cvm_model.proofs.Invariants.{invariants_hold}
 use Rattle.cvm_model.proofs.Kept.{keeps_by}
-use Rattle.kernel_theorems.proofs.Answering.{answers_user, answers_halt}
+use Rattle.kernel_theorems.proofs.Answering.{each_more, answers_user, answers_halt}
 use Rattle.kernel_theorems.specs.Registers.{holds, calls, IsSet, SetsAreFound}
+use Rattle.kernel_theorems.specs.History.{EachHas}
 use Rattle.kernel_theorems.specs.MailboxTree.{mailbox}
-use Rattle.kernel_theorems.specs.Mailbox.{succeeds, put_by, got_by, puts, gots, waits, IsAnswered, AreAnswered, under_way, Delivers, data_of, IsIntOr, Carries, RunsMailbox, IsDelivered, MessagesAreDelivered}
+use Rattle.kernel_theorems.specs.Mailbox.{succeeds, put_by, got_by, puts, gots, waits, IsAnswered, under_way, Delivers, data_of, IsIntOr, Carries, RunsMailbox, IsDelivered, MessagesAreDelivered}
 
 -- HISTORY with one dispatch more
 puts_more : (past : List Dispatch) (d : Dispatch) → puts (past ++ d ∷ []) ≡ puts past ++ put_by d
@@ -40,10 +41,6 @@ puts_more (e ∷ past) d = ap (λ xs. put_by e ++ xs) (puts_more past d) ∙ sym
 gots_more : (past : List Dispatch) (d : Dispatch) → gots (past ++ d ∷ []) ≡ gots past ++ got_by d
 gots_more [] d = append-nil (got_by d)
 gots_more (e ∷ past) d = ap (λ xs. got_by e ++ xs) (gots_more past d) ∙ sym (append_assoc (got_by e) (gots past) (got_by d))
-
-answered_more : (a past : List Dispatch) (d : Dispatch) → AreAnswered a past → IsAnswered (a ++ past) d → AreAnswered a (past ++ d ∷ [])
-answered_more a [] d h is = (subst (λ xs. IsAnswered xs d) (append-nil a) is, tt)
-answered_more a (e ∷ past) d h is = (h.0, answered_more (a ++ e ∷ []) past d h.1 (subst (λ xs. IsAnswered xs d) (sym (append_assoc a (e ∷ []) past)) is))
 
 -- whether a message is under way
 is_some : Option ℤ → Bool
@@ -55,14 +52,14 @@ waits_is past None order = let e : length (puts past) ≡ length (gots past) + 0
 waits_is past (Some v) order = let e : length (puts past) ≡ length (gots past) + 1 = ap length order ∙ length-append (gots past) (v ∷ []) in lt-ltb (length (gots past)) (length (puts past)) (omega (arith, e))
 
 -- what is so after a dispatch, by what it put and got
-carried : (past : List Dispatch) (d : Dispatch) (w v : Option ℤ) (now : ℤ) (u : ℕ) → puts past ≡ gots past ++ under_way w → AreAnswered [] past
+carried : (past : List Dispatch) (d : Dispatch) (w v : Option ℤ) (now : ℤ) (u : ℕ) → puts past ≡ gots past ++ under_way w → EachHas IsAnswered [] past
     → under_way w ++ put_by d ≡ got_by d ++ under_way v → IsIntOr v → IsAnswered past d → Carries (past ++ d ∷ []) (data_of v now) u
 carried past d w v now u order answered local fits is = record {
   delivers = record {
     way = v;
     in_order = puts_more past d ∙ ap (λ xs. xs ++ put_by d) order ∙ append_assoc (gots past) (under_way w) (put_by d) ∙ ap (λ xs. gots past ++ xs) local
         ∙ sym (append_assoc (gots past) (got_by d) (under_way v)) ∙ ap (λ xs. xs ++ under_way v) (sym (gots_more past d));
-    answered = answered_more [] past d answered is;
+    answered = each_more IsAnswered [] past d answered is;
   };
   old = now;
   data_is = refl;
@@ -94,13 +91,13 @@ no_get : (d : Dispatch) → succeeds 2 d ≡ false → got_by d ≡ []
 no_get d e = ap (λ b. if b then holds d.after 2 3 ∷ [] else []) e
 
 -- nothing is put or got
-idle : (past : List Dispatch) (d : Dispatch) (w : Option ℤ) (now : ℤ) (u : ℕ) → puts past ≡ gots past ++ under_way w → AreAnswered [] past → IsIntOr w
+idle : (past : List Dispatch) (d : Dispatch) (w : Option ℤ) (now : ℤ) (u : ℕ) → puts past ≡ gots past ++ under_way w → EachHas IsAnswered [] past → IsIntOr w
     → succeeds 1 d ≡ false → succeeds 2 d ≡ false → IsAnswered past d → Carries (past ++ d ∷ []) (data_of w now) u
 idle past d w now u order answered fits put got is =
     carried past d w w now u order answered (ap (λ xs. under_way w ++ xs) (no_put d put) ∙ append-nil (under_way w) ∙ ap (λ xs. xs ++ under_way w) (sym (no_get d got))) fits is
 
 -- a dispatch of no system call, which changes no machine
-quiet : (past : List Dispatch) (d : Dispatch) (w : Option ℤ) (now : ℤ) (u : ℕ) → puts past ≡ gots past ++ under_way w → AreAnswered [] past → IsIntOr w
+quiet : (past : List Dispatch) (d : Dispatch) (w : Option ℤ) (now : ℤ) (u : ℕ) → puts past ≡ gots past ++ under_way w → EachHas IsAnswered [] past → IsIntOr w
     → ((user : ℕ) → calls user d ≡ false) → d.after.users ≡ d.before.users → Carries (past ++ d ∷ []) (data_of w now) u
 quiet past d w now u order answered fits none same =
     idle past d w now u order answered fits (failed 1 d (none 1)) (failed 2 d (none 2)) (record {
@@ -159,7 +156,7 @@ abbrev set_in : List Flat → (user register : ℕ) → ℤ → List Flat
 set_in us user register a = with_user us user (with_register (user_of us user) register (cast_unsigned w32 a))
 
 module _ (sets : SetsAreFound) (past : List Dispatch) (d : Dispatch) (at : Core) (cause : d.cause ≡ 6) (before : d.before ≡ at) (two : length at.users ≡ 2)
-    (long : (v : ℕ) → 1 ≤ v → v ≤ 2 → length (user_of at.users v).cpu.regs ≡ 32) (answered : AreAnswered [] past) where
+    (long : (v : ℕ) → 1 ≤ v → v ≤ 2 → length (user_of at.users v).cpu.regs ≡ 32) (answered : EachHas IsAnswered [] past) where
   -- the caller's answer
   set : (user : ℕ) (a : ℤ) → at.current ≡ user → 1 ≤ user → user ≤ 2 → FitsSigned w32 a → d.after.users ≡ set_in at.users at.current 2 a → IsSet at.users d.after user 2 a
   set user a current some few fits users =
@@ -242,14 +239,14 @@ module _ (sets : SetsAreFound) (y : System) (r : RunsMailbox y) where
   few_who at = let less = mod-lt at.current {m = 2} (omega arith) in let two = r.two in omega (arith, less, two)
 
   -- A LINE is taken: the other user is next
-  lined : (k mask : ℕ) (past : List Dispatch) (at : Core) (w : Option ℤ) (old : ℤ) → puts past ≡ gots past ++ under_way w → AreAnswered [] past → IsIntOr w → Does (suc k) 1 mask past at (data_of w old)
+  lined : (k mask : ℕ) (past : List Dispatch) (at : Core) (w : Option ℤ) (old : ℤ) → puts past ≡ gots past ++ under_way w → EachHas IsAnswered [] past → IsIntOr w → Does (suc k) 1 mask past at (data_of w old)
   lined k mask past at None old order answered fits =
       rw has_room (answers_user y Carries (suc k) 1 mask past at _ (who at) (answers_who at) (some_who at) (few_who at) (quiet past _ None old (who at) order answered fits (λ user. refl) refl))
   lined k mask past at (Some m) old order answered fits =
       rw has_room (answers_user y Carries (suc k) 1 mask past at _ (who at) (answers_who at) (some_who at) (few_who at) (quiet past _ (Some m) old (who at) order answered fits (λ user. refl) refl))
 
   -- A SYSTEM CALL of user 1, or of user 2: the answers of the tests are named, and each way computes
-  module _ (k edata : ℕ) (past : List Dispatch) (at : Core) (fit : Shaped y at) (user : IsUser at at.current) (answered : AreAnswered [] past) where
+  module _ (k edata : ℕ) (past : List Dispatch) (at : Core) (fit : Shaped y at) (user : IsUser at at.current) (answered : EachHas IsAnswered [] past) where
     two : length at.users ≡ 2
     two = fit.count ∙ r.two
 
@@ -296,7 +293,7 @@ module _ (sets : SetsAreFound) (y : System) (r : RunsMailbox y) where
 
   -- A TRAP
   trapped : (k : ℕ) (cause : Cause) (edata : ℕ) (past : List Dispatch) (at : Core) → IsTrap cause → Shaped y at → IsUser at at.current → (w : Option ℤ) (old : ℤ)
-      → puts past ≡ gots past ++ under_way w → AreAnswered [] past → IsIntOr w → Does (suc k) (number_of cause) edata past at (data_of w old)
+      → puts past ≡ gots past ++ under_way w → EachHas IsAnswered [] past → IsIntOr w → Does (suc k) (number_of cause) edata past at (data_of w old)
   trapped k causes.Reset edata past at trap fit user w old order answered fits = absurd trap
   trapped k causes.External edata past at trap fit user w old order answered fits = absurd trap
   trapped k causes.Syscall edata past at trap fit user w old order answered fits = called k edata past at fit user answered w old order fits

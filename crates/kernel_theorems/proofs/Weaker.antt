@@ -17,3 +17,9 @@ module _ (W E : Type 0) where
   -- a state that is known
   pub from_state : (p : Setting W E) (n : ℕ) (w : List Work) (d : Configuration W E) (s : State) (Q : Configuration W E → Type 0) → d.state ≡ s → Ends p n w (record d { state = s }) Q → Ends p n w d Q
   from_state p n w d s Q is h = subst (λ (t : State). Ends p n w (record d { state = t }) Q) (sym is) h
+
+  -- a state and a world that are known
+  pub from_place : (p : Setting W E) (n : ℕ) (w : List Work) (d : Configuration W E) (s : State) (m : W) (Q : Configuration W E → Type 0)
+      → d.state ≡ s → d.world ≡ m → Ends p n w (record d { state = s; world = m }) Q → Ends p n w d Q
+  from_place p n w d s m Q is at h =
+      subst (λ (x : W). Ends p n w (record d { world = x }) Q) (sym at) (subst (λ (t : State). Ends p n w (record d { state = t; world = m }) Q) (sym is) h)

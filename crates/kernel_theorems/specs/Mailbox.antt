@@ -9,6 +9,7 @@ use Rattle.c0_meaning.specs.Value.{int, group, empty, part}
 use Rattle.c0_meaning.specs.State.{State}
 use Rattle.kernel_theorems.specs.Lines.{by_lines}
 use Rattle.kernel_theorems.specs.Registers.{holds, calls}
+use Rattle.kernel_theorems.specs.History.{EachHas}
 use Rattle.cvm_model.specs.KernelMeaning.{kernel_meaning}
 use Rattle.cvm_model.specs.Primitives.{user_of}
 use Rattle.cvm_model.specs.Cvm.{System, Cvm, IsCvm}
@@ -47,11 +48,6 @@ pub record IsAnswered (past : List Dispatch) (d : Dispatch) : Type 0 where
   pub get : calls 2 d ≡ true → holds d.after 2 2 ≡ (if waits past then pos 1 else pos 0)
   pub others : (u : ℕ) → 1 ≤ u → calls u d ≡ false → user_of d.after.users u ≡ user_of d.before.users u
 
--- each of these dispatches, behind those
-abbrev pub AreAnswered : (past these : List Dispatch) → Type 0
-AreAnswered past [] = Unit {0}
-AreAnswered past (d ∷ rest) = IsAnswered past d × AreAnswered (past ++ d ∷ []) rest
-
 -- the message under way, as a list
 abbrev pub under_way : Option ℤ → List ℤ
 under_way None = []
@@ -61,7 +57,7 @@ under_way (Some v) = v ∷ []
 pub record Delivers (past : List Dispatch) : Type 0 where
   pub way : Option ℤ
   pub in_order : puts past ≡ gots past ++ under_way way
-  pub answered : AreAnswered [] past
+  pub answered : EachHas IsAnswered [] past
 
 -- its data: whether a message is under way, and the last message
 abbrev pub full_of : Option ℤ → ℤ

@@ -18,5 +18,5 @@ pub fn messages_are_delivered()
 
 /// A law: the text is that of the mailbox.
 pub fn text_is_mailbox()
-    ensures { IsTextOf 30000 text mailbox }
+    ensures { IsTextOf 37000 text mailbox }
 {}

@@ -7,11 +7,13 @@ ghost use Rattle.semaphore.specs.Tree.{kernel_tree};
 ghost use Rattle.kernel_theorems.specs.Text.{IsTextOf};
 
 use cvm_model::reasoning::runs_are_lawful;
+use kernel_theorems::registers::sets_are_found;
 
-/// A law: in each run of this kernel each turn ends, no dispatch faults, and the property holds.
+/// A law: in each run of this kernel each turn ends, no dispatch faults, at most one user is inside by what they find, and each call is answered.
 pub fn property_holds()
     ensures { PropertyHolds }
 {
+    sets_are_found();
     runs_are_lawful();
 }
 
