@@ -14,7 +14,7 @@ use Rattle.layer_map.specs.declared.params.Params.{Params}
 use Rattle.c0_tree.specs.Tree as tree
 use Rattle.c0_tree.specs.Tree.{done, call, assign, new, loop}
 use Rattle.c0_tree.specs.declared.tree.Kind.TheVariants.{Primitive}
-use Rattle.c0_meaning.specs.Kernels.{z, name, global, local, number, block}
+use Rattle.worked_rows.specs.Kernels.{z, name, global, local, number, block}
 use Rattle.c0_meaning.specs.Value.{heap, Value, int, bool, null, at, count, followed_by, group, empty, part}
 use Rattle.c0_meaning.specs.State.{State}
 use Rattle.c0_meaning.specs.World.{Setting, Configuration, beginning}
