@@ -7,6 +7,7 @@ mod Fairness
 mod Guardeds
 mod GuardedTexts
 mod FoundRegisters
+mod TrapData
 mod Mailboxes
 mod MailboxTexts
 mod Loggings

@@ -12,12 +12,14 @@ use Rattle.mips_table.specs.declared.cause.Cause.{Cause}
 use Rattle.mips_table.specs.declared.cause.Cause.TheVariants as causes
 use Rattle.layer_map.specs.declared.params.Params.{Params}
 use Rattle.c0_tree.specs.Tree as tree
-use Rattle.c0_tree.specs.Tree.{done, call, assign, new, loop}
+use Rattle.c0_tree.specs.Tree.{done, assign}
+use Rattle.c0_tree.specs.declared.tree.BinaryOp.TheVariants.{Add}
 use Rattle.c0_tree.specs.declared.tree.Kind.TheVariants.{Primitive}
 use Rattle.worked_rows.specs.Kernels.{z, name, global, local, number, block}
-use Rattle.c0_meaning.specs.Value.{heap, Value, int, bool, null, at, count, followed_by, group, empty, part}
+use Rattle.c0_meaning.specs.Value as value
+use Rattle.c0_meaning.specs.Value.{heap, Value, int, bool, null, count, followed_by, group, empty, part}
 use Rattle.c0_meaning.specs.State.{State}
-use Rattle.c0_meaning.specs.World.{Setting, Configuration, beginning}
+use Rattle.c0_meaning.specs.World.{Called, Setting, Configuration, beginning}
 use Rattle.c0_meaning.specs.Running.{Work, begin, finish, again, leave, outward, push}
 use Rattle.c0_meaning.specs.Execution.{dispatch}
 use Rattle.c0_meaning.specs.Reasoning.{Comes, Ends}
@@ -105,11 +107,13 @@ module _ (p : Params) (x : Data) (cause edata : ℤ) (u : ℕ) (who : ℤ) (m : 
   turn : (n j : ℕ) (ok : Value) (d : Configuration Machines Changes) → suc n + j ≡ u → Ends s 20 (push dispatch_turn4 []) (record d { state = in_loop ok (pos n); world = logged m n }) (Left j)
   turn n j ok d left =
       let fits : int_wrap w32 (pos (n + 1)) ≡ pos (n + 1) = int_wrap_fits w32 (pos (n + 1)) (record { sfits = omega arith }) in
+      let same : suc n ≡ n + 1 = omega arith in
+      let called : Called Machines Changes = kernel_primitive 7 (part (int (pos n)) empty) (logged m n) in
       rules.by_primitive Machines Changes s z (local (codes "ok") 5) z (name (codes "con_put") Primitive 7) (local (codes "i") 4 ∷ [])
       (block (assign z (local (codes "i") 4) (tree.binary z Add (local (codes "i") 4) (number 1)) ∷ [])) []
-      (record d { state = in_loop ok (pos n); world = logged m n }) (part (int (pos n)) empty) (kernel_primitive 7 (part (int (pos n)) empty) (logged m n)) 1 1 17 (Left j)
+      (record d { state = in_loop ok (pos n); world = logged m n }) (part (int (pos n)) empty) called 1 1 17 (Left j)
       refl refl refl (omega arith)
-      (record { ok = _; n = n + 1; is = ap (in_loop _) fits; world = logged_more m n ∙ ap (logged m) (omega arith); left = omega arith })
+      (record { ok = called.answer; n = n + 1; is = ap (in_loop called.answer) fits; world = logged_more m n ∙ ap (logged m) same; left = omega arith })
 
   turn_of : (j : ℕ) (d : Configuration Machines Changes) → Left j d → rules.Turn Machines Changes s Left dispatch_test4 dispatch_turn4 done behind_loop 3 20 5 Answers j d
   turn_of j d h = record {
@@ -183,10 +187,10 @@ module _ (y : System) (r : RunsLogging y) where
         let c' : Configuration Machines Changes = record c { state = at_loop x (pos at.current); world = m } in
         let Q : Configuration Machines Changes → Type 0 = KeptAt y IsLogging k cause edata past at in
         let full : Data = record x { mark = null } in
-        let more : Data = record { mark = at (record { region = heap; path = count x.heap ∷ [] }); heap = followed_by x.heap (part (int (pos 0)) empty); used = x.used + 1 } in
+        let more : Data = record { mark = value.at (record { region = heap; path = count x.heap ∷ [] }); heap = followed_by x.heap (part (int (pos 0)) empty); used = x.used + 1 } in
         rules.by_new Machines Changes st z (global (codes "mark") 0) tree.int z done w c' 200 (nat_lt y.boot.params.heap (x.used + 1)) Q refl
         (λ e. rules.straight Machines Changes st 1 50 150 (finish (global (codes "mark") 0) null done ∷ w) c' Q (omega arith, then_kept full (pos at.current) at.current refl some few c))
-        (λ e. rules.straight Machines Changes st 1 50 150 (finish (global (codes "mark") 0) (at (record { region = heap; path = count x.heap ∷ [] })) done ∷ w)
+        (λ e. rules.straight Machines Changes st 1 50 150 (finish (global (codes "mark") 0) (value.at (record { region = heap; path = count x.heap ∷ [] })) done ∷ w)
         (record c { state = record (at_loop x (pos at.current)) { heap_values = group (followed_by x.heap (part (int (pos 0)) empty)); heap_words = x.used + 1 }; world = m }) Q
         (omega arith, then_kept more (pos at.current) at.current refl some few c))
 

@@ -28,7 +28,7 @@ use Rattle.cvm_model.specs.Invariant.{Dispatch, dispatches_of, IsTrap, Keeps, Ke
 use Rattle.cvm_model.proofs.Invariants.{invariants_hold}
 use Rattle.cvm_model.proofs.Kept.{keeps_by}
 use Rattle.kernel_theorems.proofs.Answering.{each_more, answers_user, answers_halt}
-use Rattle.kernel_theorems.specs.Registers.{holds, calls, IsSet, SetsAreFound}
+use Rattle.kernel_theorems.specs.Registers.{holds, calls, set_in, IsSet, SetsAreFound}
 use Rattle.kernel_theorems.specs.History.{EachHas}
 use Rattle.kernel_theorems.specs.MailboxTree.{mailbox}
 use Rattle.kernel_theorems.specs.Mailbox.{succeeds, put_by, got_by, puts, gots, waits, IsAnswered, under_way, Delivers, data_of, IsIntOr, Carries, RunsMailbox, IsDelivered, MessagesAreDelivered}
@@ -43,7 +43,7 @@ gots_more [] d = append-nil (got_by d)
 gots_more (e ∷ past) d = ap (λ xs. got_by e ++ xs) (gots_more past d) ∙ sym (append_assoc (got_by e) (gots past) (got_by d))
 
 -- whether a message is under way
-is_some : Option ℤ → Bool
+abbrev is_some : Option ℤ → Bool
 is_some None = false
 is_some (Some v) = true
 
@@ -133,27 +133,29 @@ module _ (past : List Dispatch) (d : Dispatch) (at : Core) (w : Option ℤ) (cau
   by_one a current answer found others =
       let is : d.before.current ≡ 1 = ap (λ (x : Core). x.current) before ∙ current in
       let c : calls 1 d ≡ true = call_of 1 d cause is refl in
-      let n : calls 2 d ≡ false = no_call_of 2 1 d cause is refl in
-      (c, n, record {
-        put = λ e. found ∙ sym (ap (λ b. if b then pos 0 else pos 1) (waits_is past w order) ∙ answer);
-        get = λ e. absurd (clash (calls 2 d) e n);
-        others = others_of 1 c others;
-      })
+      let n : calls 2 d ≡ false = no_call_of 2 1 d cause is refl in (
+        c,
+        n,
+        record {
+          put = λ e. found ∙ sym (ap (λ b. if b then pos 0 else pos 1) (waits_is past w order) ∙ answer);
+          get = λ e. absurd (clash (calls 2 d) e n);
+          others = others_of 1 c others;
+        },
+      )
 
   by_two : (a : ℤ) → at.current ≡ 2 → (if is_some w then pos 1 else pos 0) ≡ a → holds d.after 2 2 ≡ a → Others 2 → (calls 2 d ≡ true) × (calls 1 d ≡ false) × IsAnswered past d
   by_two a current answer found others =
       let is : d.before.current ≡ 2 = ap (λ (x : Core). x.current) before ∙ current in
       let c : calls 2 d ≡ true = call_of 2 d cause is refl in
-      let n : calls 1 d ≡ false = no_call_of 1 2 d cause is refl in
-      (c, n, record {
-        put = λ e. absurd (clash (calls 1 d) e n);
-        get = λ e. found ∙ sym (ap (λ b. if b then pos 1 else pos 0) (waits_is past w order) ∙ answer);
-        others = others_of 2 c others;
-      })
-
--- the machines after one register of a user is set
-abbrev set_in : List Flat → (user register : ℕ) → ℤ → List Flat
-set_in us user register a = with_user us user (with_register (user_of us user) register (cast_unsigned w32 a))
+      let n : calls 1 d ≡ false = no_call_of 1 2 d cause is refl in (
+        c,
+        n,
+        record {
+          put = λ e. absurd (clash (calls 1 d) e n);
+          get = λ e. found ∙ sym (ap (λ b. if b then pos 1 else pos 0) (waits_is past w order) ∙ answer);
+          others = others_of 2 c others;
+        },
+      )
 
 module _ (sets : SetsAreFound) (past : List Dispatch) (d : Dispatch) (at : Core) (cause : d.cause ≡ 6) (before : d.before ≡ at) (two : length at.users ≡ 2)
     (long : (v : ℕ) → 1 ≤ v → v ≤ 2 → length (user_of at.users v).cpu.regs ≡ 32) (answered : EachHas IsAnswered [] past) where

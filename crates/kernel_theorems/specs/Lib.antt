@@ -2,6 +2,7 @@ pub mod Lines
 pub mod Text
 pub mod Registers
 pub mod History
+pub mod Traps
 pub mod RoundRobin
 pub mod RoundRobinText
 pub mod GuardedTree

@@ -5,7 +5,7 @@ use Rattle.std.specs.Prelude.{◌≡◌, ◌≤◌, ◌==◌, ◌&&◌, ℕ, suc
 use Rattle.std.specs.Int.{w32}
 use Rattle.std.specs.Ordering.{int_eq}
 use Rattle.mips_table.specs.Arith.{signed}
-use Rattle.c0_meaning.specs.Value.{int, group, empty, part}
+use Rattle.c0_meaning.specs.Value.{Value, int, group, empty, part}
 use Rattle.c0_meaning.specs.State.{State}
 use Rattle.kernel_theorems.specs.Lines.{by_lines}
 use Rattle.kernel_theorems.specs.Registers.{holds, calls}
@@ -68,8 +68,11 @@ abbrev pub message_of : Option ℤ → ℤ → ℤ
 message_of None old = old
 message_of (Some v) old = v
 
+abbrev pub globals_of : Option ℤ → ℤ → Value
+globals_of w old = group (part (int (full_of w)) (part (int (message_of w old)) empty))
+
 abbrev pub data_of : Option ℤ → ℤ → State
-data_of w old = record { global_values = group (part (int (full_of w)) (part (int (message_of w old)) empty)); heap_values = group empty; heap_words = 0; frames = [] }
+data_of w old = record { global_values = globals_of w old; heap_values = group empty; heap_words = 0; frames = [] }
 
 -- a message that is under way is an int
 abbrev pub IsIntOr : Option ℤ → Type 0

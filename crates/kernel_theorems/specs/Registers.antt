@@ -15,6 +15,10 @@ holds c user register = signed (slice_index (user_of c.users user).cpu.regs regi
 abbrev pub calls : ℕ → Dispatch → Bool
 calls user d = d.cause == 6 && d.before.current == user
 
+-- these machines after `vm_set`
+abbrev pub set_in : List Flat → (user register : ℕ) → ℤ → List Flat
+set_in us user register a = with_user us user (with_register (user_of us user) register (cast_unsigned w32 a))
+
 -- WHAT `vm_set` LEAVES of these machines: the user finds the int in that register, and all else is as it was
 pub record IsSet (us : List Flat) (o : Core) (user register : ℕ) (a : ℤ) : Type 0 where
   pub found : holds o user register ≡ a
@@ -25,5 +29,5 @@ pub record IsSet (us : List Flat) (o : Core) (user register : ℕ) (a : ℤ) : T
 
 -- a law, for a kernel that answers by `vm_set`: what it puts into a register of one of its users, the user finds
 abbrev pub SetsAreFound : Type 0
-SetsAreFound = (us : List Flat) (o : Core) (user register : ℕ) (a : ℤ) → o.users ≡ with_user us user (with_register (user_of us user) register (cast_unsigned w32 a))
+SetsAreFound = (us : List Flat) (o : Core) (user register : ℕ) (a : ℤ) → o.users ≡ set_in us user register a
     → 1 ≤ user → user ≤ length us → register < 32 → length (user_of us user).cpu.regs ≡ 32 → FitsSigned w32 a → IsSet us o user register a

@@ -103,7 +103,7 @@ none_fits : FitsSigned w32 (pos 0)
 none_fits = record { sfits = omega arith }
 
 -- A SYSTEM CALL of the current user
-module _ (sets : SetsAreFound) (past : List Dispatch) (d : Dispatch) (at : Core) (edata who : ℕ) (cause : d.cause ≡ 6) (data : d.edata ≡ edata) (before : d.before ≡ at) (user : IsUser at at.current)
+module _ (sets : SetsAreFound) (past : List Dispatch) (d : Dispatch) (at : Core) (edata who : ℕ) (cause : d.cause ≡ 6) (word : d.edata ≡ edata) (before : d.before ≡ at) (user : IsUser at at.current)
     (long : length (user_of at.users at.current).cpu.regs ≡ 32) (h : InsideIs past who) (answered : EachHas IsAnswered [] past) where
   calls_is : (v : ℕ) → calls v d ≡ (at.current == v)
   calls_is v = ap₂ (λ c (x : Core). (c == 6) && (x.current == v)) cause before
@@ -112,10 +112,10 @@ module _ (sets : SetsAreFound) (past : List Dispatch) (d : Dispatch) (at : Core)
   mine = calls_is at.current ∙ eq-eqb at.current at.current refl
 
   asks_is : (v : ℕ) → asks v d ≡ ((at.current == v) && int_eq (signed edata) (pos 12))
-  asks_is v = ap₂ (λ b n. b && int_eq (signed n) (pos 12)) (calls_is v) data
+  asks_is v = ap₂ (λ b n. b && int_eq (signed n) (pos 12)) (calls_is v) word
 
   leaves_is : leaves at.current d ≡ int_eq (signed edata) (pos 76)
-  leaves_is = ap₂ (λ b n. b && int_eq (signed n) (pos 76)) mine data
+  leaves_is = ap₂ (λ b n. b && int_eq (signed n) (pos 76)) mine word
 
   -- who asks is the current user
   asker : (v : ℕ) → asks v d ≡ true → at.current ≡ v
