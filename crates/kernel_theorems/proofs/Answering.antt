@@ -1,6 +1,6 @@
 -- What most proofs of kernels use of `keeps_by`: a dispatch that was computed, and one that is done with its answer. No contract can carry it, since a
 -- property ranges over types: this file may be cited from other crates.
-use Rattle.std.proofs.Common.{◌≡◌, ℕ, zero, suc, ◌≤◌, List, [], ◌∷◌, ◌++◌, length, Some, refl, sym, ap, ◌∙◌, subst, arith}
+use Rattle.std.proofs.Common.{◌≡◌, ℕ, zero, suc, ◌≤◌, List, [], ◌∷◌, ◌++◌, length, Some, refl, sym, ap, subst, arith}
 use Rattle.std.specs.Prelude.{if◌then◌else◌, pos}
 use Rattle.std.proofs.lemmas.Bool.{lt-ltb}
 use Rattle.std.proofs.lemmas.List.{append_assoc, append-nil}
@@ -11,13 +11,13 @@ use Rattle.c0_meaning.specs.Value.{int}
 use Rattle.c0_meaning.specs.World.{Configuration}
 use Rattle.c0_meaning.specs.Execution as c0_run
 use Rattle.c0_meaning.specs.Reasoning.{Comes}
-use Rattle.cvm_model.specs.Kernel.{Core, Changes, Meaning, Outcome as Came}
-use Rattle.cvm_model.specs.KernelMeaning.{Machines, answer_end, core_at, setting_of, machines_of, outcome_of, kernel_meaning}
-use Rattle.cvm_model.specs.Cvm.{System, dispatch_of, next_of}
+use Rattle.cvm_model.specs.Kernel.{Core, Changes}
+use Rattle.cvm_model.specs.KernelMeaning.{Machines, core_at, setting_of, machines_of, kernel_meaning}
+use Rattle.cvm_model.specs.Cvm.{System, next_of}
 use Rattle.cvm_model.specs.declared.kernel_fault.KernelFault.TheVariants.{BadUser}
 use Rattle.cvm_model.specs.declared.row.Next.{Next}
 use Rattle.cvm_model.specs.declared.row.Next.TheVariants.{User, Halt, Fault}
-use Rattle.cvm_model.specs.Invariant.{Property, Dispatch, row_of, rows_of, IsProper, current_after, next_by, made_by, Keeps, KeptAt}
+use Rattle.cvm_model.specs.Invariant.{Property, Dispatch, row_of, rows_of, IsProper, current_after, Keeps, KeptAt}
 use Rattle.cvm_model.proofs.Kept.{keeps_by}
 use Rattle.kernel_theorems.specs.History.{OfDispatch, EachHas}
 

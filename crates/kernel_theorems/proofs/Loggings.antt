@@ -1,6 +1,6 @@
 -- The logging kernel: its loop by an invariant, its primitive and its `new` by their rules, and all of it carried to runs.
 use native.Mathlib.Nat.{mod-lt}
-use Rattle.std.proofs.Common.{◌≡◌, ℕ, zero, suc, ◌+◌, ◌-◌, ◌*◌, ◌%◌, ◌≤◌, ◌<◌, ◌^◌, List, [], ◌∷◌, ◌++◌, length, take, Bool, true, false, nat_lt, Some, refl, sym, ap, ◌∙◌, subst, arith}
+use Rattle.std.proofs.Common.{◌≡◌, ℕ, suc, ◌+◌, ◌-◌, ◌*◌, ◌%◌, ◌≤◌, ◌<◌, List, [], ◌∷◌, ◌++◌, length, take, Bool, true, false, nat_lt, Some, refl, sym, ap, ◌∙◌, subst, arith}
 use Rattle.std.specs.Prelude.{ℤ, pos, codes, nat_le, if◌then◌else◌}
 use Rattle.std.specs.Int.{int_wrap, w32, cast_unsigned}
 use Rattle.std.proofs.lemmas.Bool.{le-ltb, ltb-true, ltb-false, leb-true, leb-false}
@@ -20,7 +20,7 @@ use Rattle.c0_meaning.specs.Value as value
 use Rattle.c0_meaning.specs.Value.{heap, Value, int, bool, null, count, followed_by, group, empty, part}
 use Rattle.c0_meaning.specs.State.{State}
 use Rattle.c0_meaning.specs.World.{Called, Setting, Configuration, beginning}
-use Rattle.c0_meaning.specs.Running.{Work, begin, finish, again, leave, outward, push}
+use Rattle.c0_meaning.specs.Running.{Work, begin, finish, leave, outward, push}
 use Rattle.c0_meaning.specs.Execution.{dispatch}
 use Rattle.c0_meaning.specs.Reasoning.{Comes, Ends}
 use Rattle.c0_meaning.proofs.Rules as rules
