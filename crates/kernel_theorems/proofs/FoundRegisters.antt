@@ -1,15 +1,14 @@
 -- What a kernel puts into a register of a user, the user finds, and `vm_set` changes nothing else.
-use Rattle.std.proofs.Common.{◌≡◌, ◌≢◌, ℕ, ◌-◌, ◌≤◌, ◌<◌, List, length, refl, ap, ◌∙◌, arith}
-use Rattle.std.specs.Prelude.{ℤ, ◌==◌, if◌then◌else◌, FitsSigned, slice_index, slice_set}
+use Rattle.std.proofs.Common.{◌≡◌, ◌≢◌, ℕ, ◌-◌, ◌<◌, length, ap, ◌∙◌, arith}
+use Rattle.std.specs.Prelude.{if◌then◌else◌, slice_index, slice_set}
 use Rattle.std.specs.Int.{cast_unsigned, w32}
 use Rattle.std.proofs.lemmas.Bool.{ne_eqb}
 use Rattle.std.proofs.lemmas.Int.{to_z-of_z}
 use Rattle.std.proofs.lemmas.List.{length-set, get_or-set_same, get_or-set_other}
 use Rattle.mips_table.specs.Arith.{signed}
 use Rattle.mips_table.specs.Flat.{Flat}
-use Rattle.cvm_model.specs.Kernel.{Core}
-use Rattle.cvm_model.specs.Primitives.{user_of, with_user, with_register, no_flat}
-use Rattle.kernel_theorems.specs.Registers.{IsSet, SetsAreFound}
+use Rattle.cvm_model.specs.Primitives.{user_of, with_register, no_flat}
+use Rattle.kernel_theorems.specs.Registers.{SetsAreFound}
 
 set_register : (f : Flat) (r v : ℕ) → r < 32 → with_register f r v ≡ record f { cpu = record f.cpu { regs = slice_set f.cpu.regs r v } }
 set_register f r v room =

@@ -1,6 +1,6 @@
 -- The mailbox: each of its dispatches answers its call, and what was put is what was got, and behind it the message under way.
 use native.Mathlib.Nat.{mod-lt}
-use Rattle.std.proofs.Common.{◌≡◌, ℕ, zero, suc, ◌+◌, ◌-◌, ◌%◌, ◌^◌, ◌≤◌, ◌<◌, List, [], ◌∷◌, ◌++◌, length, Bool, true, false, nat_lt, Option, Some, None, refl, sym, ap, ap₂, ◌∙◌, subst, arith}
+use Rattle.std.proofs.Common.{◌≡◌, ℕ, zero, suc, ◌+◌, ◌-◌, ◌%◌, ◌^◌, ◌≤◌, List, [], ◌∷◌, ◌++◌, length, Bool, true, false, nat_lt, Option, Some, None, refl, sym, ap, ap₂, ◌∙◌, subst, arith}
 use Rattle.std.specs.Prelude.{ℤ, pos, nat_le, ◌≢◌, ◌==◌, ◌&&◌, if◌then◌else◌, FitsSigned, slice_index}
 use Rattle.std.specs.Int.{int_wrap, w32, cast_unsigned}
 use Rattle.std.specs.Ordering.{int_eq}
@@ -11,7 +11,6 @@ use Rattle.std.proofs.lemmas.List.Elements.{All-get_or}
 use Rattle.mips_table.specs.Arith.{signed}
 use Rattle.mips_table.specs.declared.cause.Cause.{Cause}
 use Rattle.mips_table.specs.declared.cause.Cause.TheVariants as causes
-use Rattle.mips_table.specs.Flat.{Flat}
 use Rattle.mips_table.specs.Machine.{number_of}
 use Rattle.c0_meaning.specs.Value.{Value, int, empty, part}
 use Rattle.c0_meaning.specs.State.{State}
@@ -21,7 +20,7 @@ use Rattle.c0_meaning.specs.Execution.{dispatch}
 use Rattle.c0_meaning.specs.Reasoning.{Comes, Ends}
 use Rattle.cvm_model.specs.Kernel.{Core, Meaning}
 use Rattle.cvm_model.specs.KernelMeaning.{setting_of, machines_of}
-use Rattle.cvm_model.specs.Primitives.{user_of, with_user, with_register, no_flat}
+use Rattle.cvm_model.specs.Primitives.{user_of, with_register, no_flat}
 use Rattle.cvm_model.specs.Stands.{IsUser}
 use Rattle.cvm_model.specs.Cvm.{System, Cvm, IsCvm, first_core, first_cvm}
 use Rattle.cvm_model.specs.Invariant.{Dispatch, dispatches_of, IsTrap, Keeps, KeptAt, IsInvariant, Shaped, UserShaped, AnyDatum, RunsAreLawful}
@@ -31,7 +30,7 @@ use Rattle.kernel_theorems.proofs.Answering.{each_more, answers_user, answers_ha
 use Rattle.kernel_theorems.specs.Registers.{holds, calls, set_in, IsSet, SetsAreFound}
 use Rattle.kernel_theorems.specs.History.{EachHas}
 use Rattle.kernel_theorems.specs.MailboxTree.{mailbox}
-use Rattle.kernel_theorems.specs.Mailbox.{succeeds, put_by, got_by, puts, gots, waits, IsAnswered, under_way, Delivers, data_of, IsIntOr, Carries, RunsMailbox, IsDelivered, MessagesAreDelivered}
+use Rattle.kernel_theorems.specs.Mailbox.{succeeds, put_by, got_by, puts, gots, waits, IsAnswered, under_way, data_of, IsIntOr, Carries, RunsMailbox, IsDelivered, MessagesAreDelivered}
 
 -- HISTORY with one dispatch more
 puts_more : (past : List Dispatch) (d : Dispatch) → puts (past ++ d ∷ []) ≡ puts past ++ put_by d

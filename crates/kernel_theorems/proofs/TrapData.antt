@@ -1,5 +1,5 @@
 -- Each dispatch of a run for a trap comes of a step of a user's machine, and its data tell what went on there.
-use Rattle.std.proofs.Common.{◌≡◌, ℕ, zero, suc, ◌≤◌, List, [], ◌∷◌, ◌++◌, Bool, true, false, Option, Some, None, refl, sym, subst, arith}
+use Rattle.std.proofs.Common.{◌≡◌, ℕ, zero, suc, ◌≤◌, List, [], ◌++◌, Bool, true, false, Option, Some, None, refl, sym, subst, arith}
 use Rattle.std.specs.Prelude.{bit_or, not, ◌==◌, if◌then◌else◌}
 use Rattle.std.proofs.lemmas.List.{append-nil}
 use Rattle.mips_table.specs.declared.cause.Cause.{Cause}
@@ -8,7 +8,6 @@ use Rattle.mips_table.specs.declared.effect.Effect.{Effect}
 use Rattle.mips_table.specs.declared.effect.Effect.TheVariants as effects
 use Rattle.mips_table.specs.declared.inst.Inst.{Inst}
 use Rattle.mips_table.specs.Decoding.{decoding}
-use Rattle.mips_table.specs.Machine.{number_of}
 use Rattle.mips_table.specs.Processor.{Move, Loaded, Stored, Trapped, is_aligned, accessed, advanced, performed, effect_on, executed}
 use Rattle.mips_table.specs.Flat.{Flat, VStep, Next as Goes, Trap, is_inside, flat_access, word_at, answered, vstep}
 use Rattle.cvm_model.specs.Kernel.{Core}

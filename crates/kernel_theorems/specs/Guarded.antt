@@ -1,6 +1,6 @@
 -- A kernel whose faults are guarded by tests: an index that a user's trap gives, a pointer that may be null, and a division. It never faults, whatever its
 -- users do.
-use Rattle.std.specs.Prelude.{◌≡◌, ◌≤◌, ℕ, suc, ℤ, pos, Option, Some, None, List, [], ◌∷◌, length, codes}
+use Rattle.std.specs.Prelude.{◌≡◌, ◌≤◌, ℕ, suc, ℤ, Option, Some, None, List, [], ◌∷◌, length, codes}
 use Rattle.c0_meaning.specs.Value.{heap, Value, Values, int, null, at, group, empty, part}
 use Rattle.c0_meaning.specs.State.{State}
 use Rattle.kernel_theorems.specs.Lines.{by_lines}

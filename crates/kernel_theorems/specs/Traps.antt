@@ -1,5 +1,5 @@
 -- What is known of a trap in a run, beside what a kernel's own property says: a step of the current user's machine came to it, and its data tell this.
-use Rattle.std.specs.Prelude.{◌≡◌, ◌≤◌, ℕ, Bool, true, false, List, []}
+use Rattle.std.specs.Prelude.{◌≡◌, ◌≤◌, ℕ, true, false, []}
 use Rattle.mips_table.specs.declared.cause.Cause.{Cause}
 use Rattle.mips_table.specs.declared.cause.Cause.TheVariants.{Reset, External, FetchAlign, FetchFault, DataAlign, DataFault}
 use Rattle.mips_table.specs.Machine.{number_of}
