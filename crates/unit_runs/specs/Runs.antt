@@ -19,11 +19,6 @@ use Rattle.cvm_model.specs.KernelMeaning.{kernel_meaning}
 use Rattle.cvm_model.specs.Stands.{Site}
 use Rattle.unit_runs.specs.Placed.{CodeStands}
 
--- what is fixed while a dispatch runs: the map with the linked words, and the user for whom it runs
-pub record Fixed : Type 0 where
-  pub site : Site
-  pub current : ℕ
-
 -- A law: where the code of a checked unit stands behind the words of a layer whose primitives answer, a dispatch over typed data runs as the unit means.
 abbrev pub UnitsRunOverLayers : Type 0
 UnitsRunOverLayers = (u : CUnit) (p : Places) (y : Site) (code : List Inst) (sizes : List ℕ) → CodeStands u p y code → Linked y.map sizes (take layer_words y.linked)
