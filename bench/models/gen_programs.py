@@ -50,8 +50,8 @@ TWICE = 'int main() { int a; int b; a = trap(5); b = trap(a + 1); return 0; }'
 INVERSE = 'int main() { int x; x = 1 / x; return 0; }'
 
 BY_HAND = sys.argv[1] == 'run'
-# steps enough to see that a program doesn't end
-FEW_STEPS = 20000
+# turns enough to see that a program doesn't end
+FEW_TURNS = 2000
 cases, told = [], []
 
 
@@ -86,15 +86,15 @@ def program(text):
     run('link o par img u1')
 
 
-def steps_for(rows):
-    """How many steps a trace with these rows is given."""
-    return FEW_STEPS if rows[-1] == 'stopped' else STEPS
+def turns_for(rows):
+    """How many turns a trace with these rows is given."""
+    return FEW_TURNS if rows[-1] == 'stopped' else TURNS
 
 
 def journals(kernel, text):
     program(text)
     rows = journal(kernel, [text], PARAMS, 1)
-    run('trace img s %d %d 1' % (TURNS, steps_for(rows)), '\n'.join(rows), kind='journal')
+    run('trace img s %d %d 1' % (turns_for(rows), STEPS), '\n'.join(rows), kind='journal')
 
 
 def printed(name):
@@ -320,11 +320,11 @@ class Built:
         assert done.returncode == 0, (words, done.returncode, done.stdout)
         return done.stdout
 
-    def journal(self, text, steps):
+    def journal(self, text, turns):
         self.put('p', text)
         self.command('compile program p u1')
         self.command('link o par img u1')
-        return self.command('trace img s %d %d 1' % (TURNS, steps))
+        return self.command('trace img s %d %d 1' % (turns, STEPS))
 
 
 def run_all(cvm):
@@ -335,7 +335,7 @@ def run_all(cvm):
         for kind, texts in (('kernel', as_programs()), ('random', itertools.islice(random_programs(), 200))):
             for text in texts:
                 rows = journal(RULE, [text], PARAMS, 1)
-                told = [row for row in built.journal(text, steps_for(rows)).split('\n') if not row.startswith('steps ')][:len(rows)]
+                told = [row for row in built.journal(text, turns_for(rows)).split('\n') if not row.startswith('steps ')][:len(rows)]
                 if told != rows:
                     wrong += 1
                     print('%s\nmeans %s\nruns  %s' % (text, rows, told))
