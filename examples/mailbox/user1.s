@@ -1,4 +1,5 @@
-# puts 7, 14, 21 and so on: each call gives the processor to user 2
+# puts 7, 14, 21 and so on, and asks again where a put wasn't taken
 loop: addiu r4, r4, 7
-      syscall
+put:  syscall
+      beq r2, r0, put
       beq r0, r0, loop

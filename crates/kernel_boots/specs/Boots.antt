@@ -47,15 +47,16 @@ pub record BootShows (y : Booted) (P : OfStates) (old new : Outside) (status : S
 -- THE COROLLARY, for any property of states: by the headline of `run` each boot with no failed call shows it, where the system's run always has it
 abbrev pub BootsShow : Type 1
 BootsShow = (P : OfStates) (words : List (List ℕ)) (status : Status) (old new : Outside) → Headlines (λ (o : Outside). o) words status old new
-    → (session : Session) (s : System) (rows : Rows) (before : List (List ℕ)) → IsHonest words session s rows before old new → status ≢ Memory → session.view ≡ Boot
-    → AlwaysHas (booted s rows) P → BootShows (booted s rows) P old new status
+    → (session : Session) (s : System) (rows : Rows) (before : List (List ℕ)) → IsHonest words session s rows before old new
+    → status ≢ Memory → session.view ≡ Boot → AlwaysHas (booted s rows) P → BootShows (booted s rows) P old new status
 
 -- the bytes of an image that has this source
 abbrev pub HasSource : List ℕ → List ℕ → Type 0
 HasSource source bytes = (i : Image) × (image_of bytes ≡ Ok i) × (i.source ≡ source)
 
 -- words and files ask for a run of an image with this source: the file that is named, or what a sample is linked to
-abbrev pub AsksSource : List ℕ → {words : List (List ℕ)} → {file : List ℕ → Option (List ℕ)} → {session : Session} → {s : System} → {rows : Rows} → AskFor words file session s rows → Type 0
+abbrev pub AsksSource : List ℕ → {words : List (List ℕ)} → {file : List ℕ → Option (List ℕ)} → {session : Session} → {s : System} → {rows : Rows}
+    → AskFor words file session s rows → Type 0
 AsksSource source (by_boot b is same files) = HasSource source files.image
 AsksSource source (by_trace t is same files) = HasSource source files.image
 AsksSource source (by_sample x is same parts) = HasSource source parts.image
@@ -65,9 +66,13 @@ abbrev pub RunsItsSource : Type 0
 RunsItsSource = (source : List ℕ) (words : List (List ℕ)) (session : Session) (s : System) (rows : Rows) (before : List (List ℕ)) (old new : Outside)
     → (h : IsHonest words session s rows before old new) → AsksSource source h.asked → IsUnitOf source s.unit
 
+-- what it printed is the text of a state that has the property, and its status is no kernel's fault
+abbrev pub ShowsOf : Booted → OfStates → (old new : Outside) → Status → Type 0
+ShowsOf y P old new status = (status ≢ KernelFault) × ((text : List ℕ) × (new.sink.text ≡ append_known old.sink.text text) × Shows y P status text)
+
 -- EVERY BOOT of an image with this source: where a fact of its system is given (how many users it has, how large its stack is), it shows a property
 -- that excludes faults
 abbrev pub BootsOf : (source : List ℕ) → (System → Type 0) → (Booted → OfStates) → Type 0
 BootsOf source Is P = (words : List (List ℕ)) (status : Status) (old new : Outside) → Headlines (λ (o : Outside). o) words status old new
-    → (session : Session) (s : System) (rows : Rows) (before : List (List ℕ)) → (h : IsHonest words session s rows before old new) → status ≢ Memory → session.view ≡ Boot
-    → AsksSource source h.asked → Is s → (status ≢ KernelFault) × ((text : List ℕ) × (new.sink.text ≡ append_known old.sink.text text) × Shows (booted s rows) (P (booted s rows)) status text)
+    → (session : Session) (s : System) (rows : Rows) (before : List (List ℕ)) → (h : IsHonest words session s rows before old new)
+    → status ≢ Memory → session.view ≡ Boot → AsksSource source h.asked → Is s → ShowsOf (booted s rows) (P (booted s rows)) old new status

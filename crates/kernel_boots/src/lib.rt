@@ -39,7 +39,8 @@ pub fn guarded_kernels_boot()
     text_is_guarded();
 }
 
-/// A law: in every boot of the mailbox what user 2 gets is what user 1 put, and its status is no kernel's fault.
+/// A law: in every boot of the mailbox, by the rows that it prints and their dispatches, what user 2 was given is what user 1 was told to be taken, and its
+/// status is no kernel's fault.
 pub fn mailboxes_boot()
     ensures { MailboxesBoot }
 {

@@ -6,6 +6,9 @@ mod RoundRobinTexts
 mod Fairness
 mod Guardeds
 mod GuardedTexts
+mod FoundRegisters
+mod TrapData
 mod Mailboxes
 mod MailboxTexts
 mod Loggings
+mod LoggingTexts

@@ -6,6 +6,6 @@ use Rattle.kernel_theorems.specs.Text.{IsTextOf}
 use Rattle.kernel_theorems.specs.Mailbox.{text}
 use Rattle.kernel_theorems.specs.MailboxTree.{mailbox}
 
-pub is_text : IsTextOf 30000 text mailbox
+pub is_text : IsTextOf 37000 text mailbox
 unfolding mark_cut word_lexeme words marks
 is_text = record { short = omega arith; reads = refl; faultless = refl; is = refl }

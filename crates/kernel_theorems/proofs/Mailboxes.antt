@@ -1,17 +1,16 @@
--- The mailbox: each of its dispatches carries what is under way, and what was put is what was got, and behind it the message under way.
+-- The mailbox: each of its dispatches answers its call, and what was put is what was got, and behind it the message under way.
 use native.Mathlib.Nat.{mod-lt}
-use Rattle.std.proofs.Common.{◌≡◌, ℕ, zero, suc, ◌+◌, ◌-◌, ◌%◌, ◌^◌, ◌≤◌, ◌<◌, List, [], ◌∷◌, ◌++◌, length, Bool, true, false, nat_lt, Option, Some, None, refl, sym, ap, ap₂, ◌∙◌, subst, arith}
-use Rattle.std.specs.Prelude.{ℤ, pos, nat_le, ◌==◌, ◌&&◌, if◌then◌else◌, FitsSigned, slice_index}
+use Rattle.std.proofs.Common.{◌≡◌, ℕ, zero, suc, ◌+◌, ◌-◌, ◌%◌, ◌^◌, ◌≤◌, List, [], ◌∷◌, ◌++◌, length, Bool, true, false, nat_lt, Option, Some, None, refl, sym, ap, ap₂, ◌∙◌, subst, arith}
+use Rattle.std.specs.Prelude.{ℤ, pos, nat_le, ◌≢◌, ◌==◌, ◌&&◌, if◌then◌else◌, FitsSigned, slice_index}
 use Rattle.std.specs.Int.{int_wrap, w32, cast_unsigned}
 use Rattle.std.specs.Ordering.{int_eq}
-use Rattle.std.proofs.lemmas.Bool.{le-ltb, ltb-true, ltb-false, eqb-true, eqb-false}
-use Rattle.std.proofs.lemmas.Int.{int_wrap_fits, to_z-of_z}
-use Rattle.std.proofs.lemmas.List.{append_assoc, append-nil, get_or-set_same}
+use Rattle.std.proofs.lemmas.Bool.{le-ltb, lt-ltb, le-leb, ltb-true, ltb-false, eqb-true, eqb-false}
+use Rattle.std.proofs.lemmas.Int.{int_wrap_fits}
+use Rattle.std.proofs.lemmas.List.{append_assoc, append-nil, length-append, length-set}
 use Rattle.std.proofs.lemmas.List.Elements.{All-get_or}
 use Rattle.mips_table.specs.Arith.{signed}
 use Rattle.mips_table.specs.declared.cause.Cause.{Cause}
 use Rattle.mips_table.specs.declared.cause.Cause.TheVariants as causes
-use Rattle.mips_table.specs.Flat.{Flat}
 use Rattle.mips_table.specs.Machine.{number_of}
 use Rattle.c0_meaning.specs.Value.{Value, int, empty, part}
 use Rattle.c0_meaning.specs.State.{State}
@@ -21,55 +20,54 @@ use Rattle.c0_meaning.specs.Execution.{dispatch}
 use Rattle.c0_meaning.specs.Reasoning.{Comes, Ends}
 use Rattle.cvm_model.specs.Kernel.{Core, Meaning}
 use Rattle.cvm_model.specs.KernelMeaning.{setting_of, machines_of}
-use Rattle.cvm_model.specs.Primitives.{user_of, with_user, with_register, no_flat}
+use Rattle.cvm_model.specs.Primitives.{user_of, with_register, no_flat}
 use Rattle.cvm_model.specs.Stands.{IsUser}
-use Rattle.cvm_model.specs.Cvm.{System, first_core}
-use Rattle.cvm_model.specs.Invariant.{Dispatch, IsTrap, Keeps, KeptAt, IsInvariant, Shaped, UserShaped, AnyDatum, RunsAreLawful}
+use Rattle.cvm_model.specs.Cvm.{System, Cvm, IsCvm, first_core, first_cvm}
+use Rattle.cvm_model.specs.Invariant.{Dispatch, dispatches_of, IsTrap, Keeps, KeptAt, IsInvariant, Shaped, UserShaped, AnyDatum, RunsAreLawful}
 use Rattle.cvm_model.proofs.Invariants.{invariants_hold}
 use Rattle.cvm_model.proofs.Kept.{keeps_by}
-use Rattle.kernel_theorems.proofs.Answering.{answers_user, answers_halt}
+use Rattle.kernel_theorems.proofs.Answering.{each_more, answers_user, answers_halt}
+use Rattle.kernel_theorems.specs.Registers.{holds, calls, set_in, IsSet, SetsAreFound}
+use Rattle.kernel_theorems.specs.History.{EachHas}
 use Rattle.kernel_theorems.specs.MailboxTree.{mailbox}
-use Rattle.kernel_theorems.specs.Mailbox.{holds, calls, way_after, way, put_by, got_by, puts, gots, under_way, data_of, IsIntOr, Carries, RunsMailbox, MessagesAreDelivered}
+use Rattle.kernel_theorems.specs.Mailbox.{succeeds, put_by, got_by, puts, gots, waits, IsAnswered, under_way, data_of, IsIntOr, Carries, RunsMailbox, IsDelivered, MessagesAreDelivered}
 
 -- HISTORY with one dispatch more
-way_more : (past : List Dispatch) (w : Option ℤ) (d : Dispatch) → way w (past ++ d ∷ []) ≡ way_after (way w past) d
-way_more [] w d = refl
-way_more (e ∷ past) w d = way_more past (way_after w e) d
+puts_more : (past : List Dispatch) (d : Dispatch) → puts (past ++ d ∷ []) ≡ puts past ++ put_by d
+puts_more [] d = append-nil (put_by d)
+puts_more (e ∷ past) d = ap (λ xs. put_by e ++ xs) (puts_more past d) ∙ sym (append_assoc (put_by e) (puts past) (put_by d))
 
-puts_more : (past : List Dispatch) (w : Option ℤ) (d : Dispatch) → puts w (past ++ d ∷ []) ≡ puts w past ++ put_by (way w past) d
-puts_more [] w d = append-nil (put_by w d)
-puts_more (e ∷ past) w d = ap (λ xs. put_by w e ++ xs) (puts_more past (way_after w e) d) ∙ sym (append_assoc (put_by w e) (puts (way_after w e) past) (put_by (way (way_after w e) past) d))
+gots_more : (past : List Dispatch) (d : Dispatch) → gots (past ++ d ∷ []) ≡ gots past ++ got_by d
+gots_more [] d = append-nil (got_by d)
+gots_more (e ∷ past) d = ap (λ xs. got_by e ++ xs) (gots_more past d) ∙ sym (append_assoc (got_by e) (gots past) (got_by d))
 
-gots_more : (past : List Dispatch) (w : Option ℤ) (d : Dispatch) → gots w (past ++ d ∷ []) ≡ gots w past ++ got_by (way w past) d
-gots_more [] w d = append-nil (got_by w d)
-gots_more (e ∷ past) w d = ap (λ xs. got_by w e ++ xs) (gots_more past (way_after w e) d) ∙ sym (append_assoc (got_by w e) (gots (way_after w e) past) (got_by (way (way_after w e) past) d))
+-- whether a message is under way
+abbrev is_some : Option ℤ → Bool
+is_some None = false
+is_some (Some v) = true
 
--- what a dispatch puts and gets changes what is under way, and nothing else
-carried : (past : List Dispatch) (d : Dispatch) (w v : Option ℤ) (now : ℤ) (u : ℕ) → way None past ≡ w → puts None past ≡ gots None past ++ under_way (way None past)
-    → way_after w d ≡ v → under_way w ++ put_by w d ≡ got_by w d ++ under_way v → IsIntOr v → Carries (past ++ d ∷ []) (data_of v now) u
-carried past d w v now u is order after local fits =
-    let e : way None (past ++ d ∷ []) ≡ v = way_more past None d ∙ ap (λ x. way_after x d) is ∙ after in
-    record {
-      old = now;
-      data_is = ap (λ x. data_of x now) (sym e);
-      fits = subst IsIntOr (sym e) fits;
-      in_order = puts_more past None d ∙ ap₂ (λ xs x. xs ++ put_by x d) order is ∙ append_assoc (gots None past) (under_way (way None past)) (put_by w d)
-          ∙ ap (λ x. gots None past ++ (under_way x ++ put_by w d)) is ∙ ap (λ xs. gots None past ++ xs) local ∙ sym (append_assoc (gots None past) (got_by w d) (under_way v))
-          ∙ ap₂ (λ xs x. xs ++ under_way x) (sym (gots_more past None d ∙ ap (λ x. gots None past ++ got_by x d) is)) (sym e);
-    }
+waits_is : (past : List Dispatch) (w : Option ℤ) → puts past ≡ gots past ++ under_way w → waits past ≡ is_some w
+waits_is past None order = let e : length (puts past) ≡ length (gots past) + 0 = ap length order ∙ length-append (gots past) [] in le-ltb (length (gots past)) (length (puts past)) (omega (arith, e))
+waits_is past (Some v) order = let e : length (puts past) ≡ length (gots past) + 1 = ap length order ∙ length-append (gots past) (v ∷ []) in lt-ltb (length (gots past)) (length (puts past)) (omega (arith, e))
 
--- a dispatch of no system call, or where there is nothing to do, changes nothing
-idle : (past : List Dispatch) (d : Dispatch) (w : Option ℤ) (now : ℤ) (u : ℕ) → way None past ≡ w → puts None past ≡ gots None past ++ under_way (way None past) → IsIntOr w
-    → way_after w d ≡ w → put_by w d ≡ [] → got_by w d ≡ [] → Carries (past ++ d ∷ []) (data_of w now) u
-idle past d w now u is order fits after put got =
-    carried past d w w now u is order after (ap (λ xs. under_way w ++ xs) put ∙ append-nil (under_way w) ∙ ap (λ xs. xs ++ under_way w) (sym got)) fits
+-- what is so after a dispatch, by what it put and got
+carried : (past : List Dispatch) (d : Dispatch) (w v : Option ℤ) (now : ℤ) (u : ℕ) → puts past ≡ gots past ++ under_way w → EachHas IsAnswered [] past
+    → under_way w ++ put_by d ≡ got_by d ++ under_way v → IsIntOr v → IsAnswered past d → Carries (past ++ d ∷ []) (data_of v now) u
+carried past d w v now u order answered local fits is = record {
+  delivers = record {
+    way = v;
+    in_order = puts_more past d ∙ ap (λ xs. xs ++ put_by d) order ∙ append_assoc (gots past) (under_way w) (put_by d) ∙ ap (λ xs. gots past ++ xs) local
+        ∙ sym (append_assoc (gots past) (got_by d) (under_way v)) ∙ ap (λ xs. xs ++ under_way v) (sym (gots_more past d));
+    answered = each_more IsAnswered [] past d answered is;
+  };
+  old = now;
+  data_is = refl;
+  fits = fits;
+}
 
-signed_fits : (n : ℕ) → FitsSigned w32 (signed n)
-signed_fits n = by (nat_lt n (2 ^ 31)) refl
-  where
-    by : (b : Bool) → nat_lt n (2 ^ 31) ≡ b → FitsSigned w32 (signed n)
-    by true e = rw e (record { sfits = let h = ltb-true n (2 ^ 31) e in omega (arith, h) })
-    by false e = rw e (record { sfits = let h = ltb-false n (2 ^ 31) e in omega (arith, h) })
+clash : (b : Bool) → b ≡ true → b ≡ false → ⊥
+clash true e f = absurd (cc)
+clash false e f = absurd (cc)
 
 -- who called
 call_of : (user : ℕ) (d : Dispatch) → d.cause ≡ 6 → d.before.current ≡ user → (user == user) ≡ true → calls user d ≡ true
@@ -78,55 +76,139 @@ call_of user d cause is same = ap₂ (λ c u. (c == 6) && (u == user)) cause is 
 no_call_of : (user other : ℕ) (d : Dispatch) → d.cause ≡ 6 → d.before.current ≡ other → (other == user) ≡ false → calls user d ≡ false
 no_call_of user other d cause is same = ap₂ (λ c u. (c == 6) && (u == user)) cause is ∙ same
 
--- A PUT
-put : (past : List Dispatch) (d : Dispatch) (at : Core) (now : ℤ) (u : ℕ) → d.cause ≡ 6 → d.before ≡ at → at.current ≡ 1 → way None past ≡ None → puts None past ≡ gots None past ++ under_way (way None past)
-    → Carries (past ++ d ∷ []) (data_of (Some (holds at 1 4)) now) u
-put past d at now u cause before current is order =
-    let c : calls 1 d ≡ true = call_of 1 d cause (ap (λ (x : Core). x.current) before ∙ current) refl in
-    let same : holds d.before 1 4 ≡ holds at 1 4 = ap (λ (x : Core). holds x 1 4) before in
-    carried past d None (Some (holds at 1 4)) now u is order
-    (ap₂ (λ b v. if b then Some v else None) c same)
-    (ap₂ (λ b v. if b then v ∷ [] else []) c same)
-    (signed_fits (slice_index (user_of at.users 1).cpu.regs 4))
+-- what a dispatch puts and gets, by who called and what it was told
+failed : (user : ℕ) (d : Dispatch) → calls user d ≡ false → succeeds user d ≡ false
+failed user d e = ap (λ b. b && int_eq (holds d.after user 2) (pos 1)) e
 
--- A GET: the register of user 2 holds what was put
-register_set : (f : Flat) (v : ℤ) → 2 < length f.cpu.regs → FitsSigned w32 v → signed (slice_index (with_register f 2 (cast_unsigned w32 v)).cpu.regs 2) ≡ v
-register_set f v long fits = ap signed (get_or-set_same f.cpu.regs 2 (cast_unsigned w32 v) 0 long) ∙ to_z-of_z w32 v fits
+told : (user : ℕ) (d : Dispatch) (a : ℤ) → calls user d ≡ true → holds d.after user 2 ≡ a → succeeds user d ≡ int_eq a (pos 1)
+told user d a e is = ap₂ (λ b z. b && int_eq z (pos 1)) e is
 
-get : (past : List Dispatch) (d : Dispatch) (at : Core) (v now : ℤ) (u : ℕ) → d.cause ≡ 6 → d.before ≡ at → at.current ≡ 2 → d.after.users ≡ with_user at.users 2 (with_register (user_of at.users 2) 2 (cast_unsigned w32 v))
-    → 1 < length at.users → 2 < length (user_of at.users 2).cpu.regs → FitsSigned w32 v → way None past ≡ Some v → puts None past ≡ gots None past ++ under_way (way None past)
-    → Carries (past ++ d ∷ []) (data_of None now) u
-get past d at v now u cause before current users two long fits is order =
-    let c : calls 2 d ≡ true = call_of 2 d cause (ap (λ (x : Core). x.current) before ∙ current) refl in
-    let new : Flat = with_register (user_of at.users 2) 2 (cast_unsigned w32 v) in
-    let there : user_of d.after.users 2 ≡ new = ap (λ us. user_of us 2) users ∙ get_or-set_same at.users 1 new no_flat two in
-    let holds_it : holds d.after 2 2 ≡ v = ap (λ (f : Flat). signed (slice_index f.cpu.regs 2)) there ∙ register_set (user_of at.users 2) v long fits in
-    carried past d (Some v) None now u is order
-    (ap (λ b. if b then None else Some v) c)
-    (sym (ap₂ (λ b x. (if b then x ∷ [] else []) ++ []) c holds_it))
-    tt
+no_put : (d : Dispatch) → succeeds 1 d ≡ false → put_by d ≡ []
+no_put d e = ap (λ b. if b then holds d.before 1 4 ∷ [] else []) e
 
--- A PUT where a message is under way, and a get where none is, wait
-one_waits : (past : List Dispatch) (d : Dispatch) (at : Core) (v now : ℤ) (u : ℕ) → d.cause ≡ 6 → d.before ≡ at → at.current ≡ 1 → way None past ≡ Some v → puts None past ≡ gots None past ++ under_way (way None past)
-    → FitsSigned w32 v → Carries (past ++ d ∷ []) (data_of (Some v) now) u
-one_waits past d at v now u cause before current is order fits =
-    let c : calls 2 d ≡ false = no_call_of 2 1 d cause (ap (λ (x : Core). x.current) before ∙ current) refl in
-    idle past d (Some v) now u is order fits (ap (λ b. if b then None else Some v) c) refl (ap (λ b. if b then holds d.after 2 2 ∷ [] else []) c)
+no_get : (d : Dispatch) → succeeds 2 d ≡ false → got_by d ≡ []
+no_get d e = ap (λ b. if b then holds d.after 2 3 ∷ [] else []) e
 
-two_waits : (past : List Dispatch) (d : Dispatch) (at : Core) (now : ℤ) (u : ℕ) → d.cause ≡ 6 → d.before ≡ at → at.current ≡ 2 → way None past ≡ None → puts None past ≡ gots None past ++ under_way (way None past)
-    → Carries (past ++ d ∷ []) (data_of None now) u
-two_waits past d at now u cause before current is order =
-    let c : calls 1 d ≡ false = no_call_of 1 2 d cause (ap (λ (x : Core). x.current) before ∙ current) refl in
-    idle past d None now u is order tt (ap (λ b. if b then Some (holds d.before 1 4) else None) c) (ap (λ b. if b then holds d.before 1 4 ∷ [] else []) c) refl
+-- nothing is put or got
+idle : (past : List Dispatch) (d : Dispatch) (w : Option ℤ) (now : ℤ) (u : ℕ) → puts past ≡ gots past ++ under_way w → EachHas IsAnswered [] past → IsIntOr w
+    → succeeds 1 d ≡ false → succeeds 2 d ≡ false → IsAnswered past d → Carries (past ++ d ∷ []) (data_of w now) u
+idle past d w now u order answered fits put got is =
+    carried past d w w now u order answered (ap (λ xs. under_way w ++ xs) (no_put d put) ∙ append-nil (under_way w) ∙ ap (λ xs. xs ++ under_way w) (sym (no_get d got))) fits is
+
+-- a dispatch of no system call, which changes no machine
+quiet : (past : List Dispatch) (d : Dispatch) (w : Option ℤ) (now : ℤ) (u : ℕ) → puts past ≡ gots past ++ under_way w → EachHas IsAnswered [] past → IsIntOr w
+    → ((user : ℕ) → calls user d ≡ false) → d.after.users ≡ d.before.users → Carries (past ++ d ∷ []) (data_of w now) u
+quiet past d w now u order answered fits none same =
+    idle past d w now u order answered fits (failed 1 d (none 1)) (failed 2 d (none 2)) (record {
+      put = λ e. absurd (clash (calls 1 d) e (none 1));
+      get = λ e. absurd (clash (calls 2 d) e (none 2));
+      others = λ v some e. ap (λ us. user_of us v) same;
+    })
+
+one_fits : FitsSigned w32 (pos 1)
+one_fits = record { sfits = omega arith }
+
+none_fits : FitsSigned w32 (pos 0)
+none_fits = record { sfits = omega arith }
+
+signed_fits : (n : ℕ) → FitsSigned w32 (signed n)
+signed_fits n = by (nat_lt n (2 ^ 31)) refl
+  where
+    by : (b : Bool) → nat_lt n (2 ^ 31) ≡ b → FitsSigned w32 (signed n)
+    by true e = rw e (record { sfits = let h = ltb-true n (2 ^ 31) e in omega (arith, h) })
+    by false e = rw e (record { sfits = let h = ltb-false n (2 ^ 31) e in omega (arith, h) })
+
+-- A SYSTEM CALL of a user, which finds an answer in its register 2; all others keep their machines
+module _ (past : List Dispatch) (d : Dispatch) (at : Core) (w : Option ℤ) (cause : d.cause ≡ 6) (before : d.before ≡ at) (order : puts past ≡ gots past ++ under_way w) where
+  -- `others` of the record, for the user who called
+  abbrev Others : ℕ → Type 0
+  Others user = (v : ℕ) → 1 ≤ v → v ≢ user → user_of d.after.users v ≡ user_of at.users v
+
+  others_of : (user : ℕ) → calls user d ≡ true → Others user → (v : ℕ) → 1 ≤ v → calls v d ≡ false → user_of d.after.users v ≡ user_of d.before.users v
+  others_of user c h v some e =
+      h v some (λ same. clash (calls v d) (subst (λ x. calls x d ≡ true) (sym same) c) e) ∙ ap (λ (x : Core). user_of x.users v) (sym before)
+
+  by_one : (a : ℤ) → at.current ≡ 1 → (if is_some w then pos 0 else pos 1) ≡ a → holds d.after 1 2 ≡ a → Others 1 → (calls 1 d ≡ true) × (calls 2 d ≡ false) × IsAnswered past d
+  by_one a current answer found others =
+      let is : d.before.current ≡ 1 = ap (λ (x : Core). x.current) before ∙ current in
+      let c : calls 1 d ≡ true = call_of 1 d cause is refl in
+      let n : calls 2 d ≡ false = no_call_of 2 1 d cause is refl in (
+        c,
+        n,
+        record {
+          put = λ e. found ∙ sym (ap (λ b. if b then pos 0 else pos 1) (waits_is past w order) ∙ answer);
+          get = λ e. absurd (clash (calls 2 d) e n);
+          others = others_of 1 c others;
+        },
+      )
+
+  by_two : (a : ℤ) → at.current ≡ 2 → (if is_some w then pos 1 else pos 0) ≡ a → holds d.after 2 2 ≡ a → Others 2 → (calls 2 d ≡ true) × (calls 1 d ≡ false) × IsAnswered past d
+  by_two a current answer found others =
+      let is : d.before.current ≡ 2 = ap (λ (x : Core). x.current) before ∙ current in
+      let c : calls 2 d ≡ true = call_of 2 d cause is refl in
+      let n : calls 1 d ≡ false = no_call_of 1 2 d cause is refl in (
+        c,
+        n,
+        record {
+          put = λ e. absurd (clash (calls 1 d) e n);
+          get = λ e. found ∙ sym (ap (λ b. if b then pos 1 else pos 0) (waits_is past w order) ∙ answer);
+          others = others_of 2 c others;
+        },
+      )
+
+module _ (sets : SetsAreFound) (past : List Dispatch) (d : Dispatch) (at : Core) (cause : d.cause ≡ 6) (before : d.before ≡ at) (two : length at.users ≡ 2)
+    (long : (v : ℕ) → 1 ≤ v → v ≤ 2 → length (user_of at.users v).cpu.regs ≡ 32) (answered : EachHas IsAnswered [] past) where
+  -- the caller's answer
+  set : (user : ℕ) (a : ℤ) → at.current ≡ user → 1 ≤ user → user ≤ 2 → FitsSigned w32 a → d.after.users ≡ set_in at.users at.current 2 a → IsSet at.users d.after user 2 a
+  set user a current some few fits users =
+      sets at.users d.after user 2 a (users ∙ ap (λ x. set_in at.users x 2 a) current) some (omega (arith, two)) (omega arith) (long user some few) fits
+
+  -- A PUT that is taken
+  put : (now : ℤ) (u : ℕ) → at.current ≡ 1 → d.after.users ≡ set_in at.users at.current 2 (pos 1) → puts past ≡ gots past ++ under_way None
+      → Carries (past ++ d ∷ []) (data_of (Some (holds at 1 4)) now) u
+  put now u current users order =
+      let s = set 1 (pos 1) current (omega arith) (omega arith) one_fits users in
+      let c = by_one past d at None cause before order (pos 1) current refl s.found s.others in
+      let puts_it : put_by d ≡ holds at 1 4 ∷ [] = ap₂ (λ b v. if b then v ∷ [] else []) (told 1 d (pos 1) c.0 s.found) (ap (λ (x : Core). holds x 1 4) before) in
+      carried past d None (Some (holds at 1 4)) now u order answered (puts_it ∙ sym (ap (λ xs. xs ++ holds at 1 4 ∷ []) (no_get d (failed 2 d c.1))))
+      (signed_fits (slice_index (user_of at.users 1).cpu.regs 4)) c.2
+
+  -- a put that is not, and a get where there is no message
+  put_waits : (v now : ℤ) (u : ℕ) → at.current ≡ 1 → d.after.users ≡ set_in at.users at.current 2 (pos 0) → puts past ≡ gots past ++ under_way (Some v) → FitsSigned w32 v
+      → Carries (past ++ d ∷ []) (data_of (Some v) now) u
+  put_waits v now u current users order fits =
+      let s = set 1 (pos 0) current (omega arith) (omega arith) none_fits users in
+      let c = by_one past d at (Some v) cause before order (pos 0) current refl s.found s.others in
+      idle past d (Some v) now u order answered fits (told 1 d (pos 0) c.0 s.found) (failed 2 d c.1) c.2
+
+  get_waits : (now : ℤ) (u : ℕ) → at.current ≡ 2 → d.after.users ≡ set_in at.users at.current 2 (pos 0) → puts past ≡ gots past ++ under_way None → Carries (past ++ d ∷ []) (data_of None now) u
+  get_waits now u current users order =
+      let s = set 2 (pos 0) current (omega arith) (omega arith) none_fits users in
+      let c = by_two past d at None cause before order (pos 0) current refl s.found s.others in
+      idle past d None now u order answered tt (failed 1 d c.1) (told 2 d (pos 0) c.0 s.found) c.2
+
+  -- A GET of a message: register 3 is set, and then register 2
+  get : (v now : ℤ) (u : ℕ) → at.current ≡ 2 → d.after.users ≡ set_in (set_in at.users 2 3 v) at.current 2 (pos 1) → puts past ≡ gots past ++ under_way (Some v) → FitsSigned w32 v
+      → Carries (past ++ d ∷ []) (data_of None now) u
+  get v now u current users order fits =
+      let mid : Core = record at { users = set_in at.users 2 3 v } in
+      let m = sets at.users mid 2 3 v refl (omega arith) (omega (arith, two)) (omega arith) (long 2 (omega arith) (omega arith)) fits in
+      let few : 2 ≤ length mid.users = let count : length mid.users ≡ length at.users = m.count in omega (arith, count, two) in
+      let s = sets mid.users d.after 2 2 (pos 1) (users ∙ ap (λ x. set_in mid.users x 2 (pos 1)) current) (omega arith) few (omega arith) m.long one_fits in
+      let apart : 3 ≢ 2 = λ e. omega (arith, e) in
+      let holds_it : holds d.after 2 3 ≡ v = ap signed (s.same 3 apart) ∙ m.found in
+      let c = by_two past d at (Some v) cause before order (pos 1) current refl s.found (λ x some other. s.others x some other ∙ m.others x some other) in
+      let gets_it : got_by d ≡ v ∷ [] = ap₂ (λ b x. if b then x ∷ [] else []) (told 2 d (pos 1) c.0 s.found) holds_it in
+      carried past d (Some v) None now u order answered (ap (λ xs. v ∷ xs) (no_put d (failed 1 d c.1)) ∙ sym (append-nil (got_by d) ∙ gets_it)) tt c.2
 
 other : (u : ℕ) → (u ≡ 1 → ⊥) → 1 ≤ u → u ≤ 2 → u ≡ 2
 other zero isnt some few = absurd (omega arith)
 other (suc zero) isnt some few = absurd (isnt refl)
 other (suc (suc n)) isnt some few = omega (arith, few)
 
-module _ (y : System) (r : RunsMailbox y) where
-  has_room : nat_lt y.boot.params.stack 8 ≡ false
-  has_room = le-ltb y.boot.params.stack 8 r.room
+module _ (sets : SetsAreFound) (y : System) (r : RunsMailbox y) where
+  has_room : nat_lt y.boot.params.stack 9 ≡ false
+  has_room = le-ltb y.boot.params.stack 9 r.room
 
   -- the code of a dispatch, from data that is known
   abbrev Does : (k cause edata : ℕ) → List Dispatch → Core → State → Type 0
@@ -139,7 +221,7 @@ module _ (y : System) (r : RunsMailbox y) where
       (subst (λ (t : State). Comes (dispatch (setting_of mailbox y.boot.params) 400 (pos cause) (signed edata) (pos at.current) t (machines_of y.boot.params at)) (KeptAt y Carries k cause edata past at)) (sym data_is) h)
 
   started : Does 0 0 0 [] (first_core y) (data_of None (pos 0))
-  started = rw has_room (answers_user y Carries 0 0 0 [] (first_core y) _ 1 refl (omega arith) (let two = r.two in omega (arith, two)) (idle [] _ None (pos 0) 1 refl refl tt refl refl refl))
+  started = rw has_room (answers_user y Carries 0 0 0 [] (first_core y) _ 1 refl (omega arith) (let two = r.two in omega (arith, two)) (quiet [] _ None (pos 0) 1 refl tt tt (λ user. refl) refl))
 
   -- the other user
   abbrev who : Core → ℕ
@@ -158,69 +240,87 @@ module _ (y : System) (r : RunsMailbox y) where
   few_who at = let less = mod-lt at.current {m = 2} (omega arith) in let two = r.two in omega (arith, less, two)
 
   -- A LINE is taken: the other user is next
-  lined : (k mask : ℕ) (past : List Dispatch) (at : Core) (w : Option ℤ) (old : ℤ) → way None past ≡ w → puts None past ≡ gots None past ++ under_way (way None past) → IsIntOr w → Does (suc k) 1 mask past at (data_of w old)
-  lined k mask past at None old is order fits =
-      rw has_room (answers_user y Carries (suc k) 1 mask past at _ (who at) (answers_who at) (some_who at) (few_who at) (idle past _ None old (who at) is order fits refl refl refl))
-  lined k mask past at (Some m) old is order fits =
-      rw has_room (answers_user y Carries (suc k) 1 mask past at _ (who at) (answers_who at) (some_who at) (few_who at) (idle past _ (Some m) old (who at) is order fits refl refl refl))
+  lined : (k mask : ℕ) (past : List Dispatch) (at : Core) (w : Option ℤ) (old : ℤ) → puts past ≡ gots past ++ under_way w → EachHas IsAnswered [] past → IsIntOr w → Does (suc k) 1 mask past at (data_of w old)
+  lined k mask past at None old order answered fits =
+      rw has_room (answers_user y Carries (suc k) 1 mask past at _ (who at) (answers_who at) (some_who at) (few_who at) (quiet past _ None old (who at) order answered fits (λ user. refl) refl))
+  lined k mask past at (Some m) old order answered fits =
+      rw has_room (answers_user y Carries (suc k) 1 mask past at _ (who at) (answers_who at) (some_who at) (few_who at) (quiet past _ (Some m) old (who at) order answered fits (λ user. refl) refl))
 
-  -- A SYSTEM CALL of user 1, or of user 2
-  module _ (k edata : ℕ) (past : List Dispatch) (at : Core) (fit : Shaped y at) (order : puts None past ≡ gots None past ++ under_way (way None past)) where
+  -- A SYSTEM CALL of user 1, or of user 2: the answers of the tests are named, and each way computes
+  module _ (k edata : ℕ) (past : List Dispatch) (at : Core) (fit : Shaped y at) (user : IsUser at at.current) (answered : EachHas IsAnswered [] past) where
     two : length at.users ≡ 2
     two = fit.count ∙ r.two
 
-    long : 2 < length (user_of at.users 2).cpu.regs
-    long = let regs = (All-get_or (UserShaped y.boot.params.pages) at.users 1 no_flat (let t = two in omega (arith, t)) fit.each).regs in omega (arith, regs)
+    long : (v : ℕ) → 1 ≤ v → v ≤ 2 → length (user_of at.users v).cpu.regs ≡ 32
+    long v some few = (All-get_or (UserShaped y.boot.params.pages) at.users (v - 1) no_flat (let t = two in omega (arith, t)) fit.each).regs
 
-    by_one : (w : Option ℤ) (old : ℤ) → at.current ≡ 1 → way None past ≡ w → IsIntOr w → Does (suc k) 6 edata past at (data_of w old)
-    by_one None old current is fits =
+    from : nat_le 1 at.current ≡ true
+    from = le-leb 1 at.current user.0
+
+    to : nat_le at.current (length at.users) ≡ true
+    to = le-leb at.current (length at.users) user.1
+
+    few : at.current ≤ length y.boot.users
+    few = subst (λ n. at.current ≤ n) fit.count user.1
+
+    puts_one : (w : Option ℤ) (old : ℤ) → at.current ≡ 1 → puts past ≡ gots past ++ under_way w → IsIntOr w → Does (suc k) 6 edata past at (data_of w old)
+    puts_one None old current order fits =
         let first : int_eq (pos at.current) (pos 1) ≡ true = rw current refl in
         let there : nat_le 1 (length at.users) ≡ true = rw two refl in
-        rw (has_room, first, there) (answers_user y Carries (suc k) 6 edata past at _ (who at) (answers_who at) (some_who at) (few_who at)
-        (put past _ at old (who at) refl refl current is order))
-    by_one (Some v) old current is fits =
+        rw (has_room, first, there, from, to) (answers_user y Carries (suc k) 6 edata past at _ at.current refl user.0 few (put sets past _ at refl refl two long answered old at.current current refl order))
+    puts_one (Some v) old current order fits =
         let first : int_eq (pos at.current) (pos 1) ≡ true = rw current refl in
-        rw (has_room, first) (answers_user y Carries (suc k) 6 edata past at _ (who at) (answers_who at) (some_who at) (few_who at)
-        (one_waits past _ at v old (who at) refl refl current is order fits))
+        rw (has_room, first, from, to) (answers_user y Carries (suc k) 6 edata past at _ (who at) (answers_who at) (some_who at) (few_who at)
+        (put_waits sets past _ at refl refl two long answered v old (who at) current refl order fits))
 
-    by_two : (w : Option ℤ) (old : ℤ) → at.current ≡ 2 → way None past ≡ w → IsIntOr w → Does (suc k) 6 edata past at (data_of w old)
-    by_two None old current is fits =
+    gets_two : (w : Option ℤ) (old : ℤ) → at.current ≡ 2 → puts past ≡ gots past ++ under_way w → IsIntOr w → Does (suc k) 6 edata past at (data_of w old)
+    gets_two None old current order fits =
         let second : int_eq (pos at.current) (pos 1) ≡ false = rw current refl in
-        rw (has_room, second) (answers_user y Carries (suc k) 6 edata past at _ (who at) (answers_who at) (some_who at) (few_who at)
-        (two_waits past _ at old (who at) refl refl current is order))
-    by_two (Some v) old current is fits =
+        rw (has_room, second, from, to) (answers_user y Carries (suc k) 6 edata past at _ (who at) (answers_who at) (some_who at) (few_who at)
+        (get_waits sets past _ at refl refl two long answered old (who at) current refl order))
+    gets_two (Some v) old current order fits =
         let second : int_eq (pos at.current) (pos 1) ≡ false = rw current refl in
         let there : nat_le 2 (length at.users) ≡ true = rw two refl in
-        rw (has_room, second, there) (answers_user y Carries (suc k) 6 edata past at _ (who at) (answers_who at) (some_who at) (few_who at)
-        (get past _ at v v (who at) refl refl current refl (let t = two in omega (arith, t)) long fits is order))
+        let still : nat_le at.current (length (set_in at.users 2 3 v)) ≡ true = ap (nat_le at.current) (length-set at.users 1 (with_register (user_of at.users 2) 3 (cast_unsigned w32 v))) ∙ to in
+        rw (has_room, second, there, from, still) (answers_user y Carries (suc k) 6 edata past at _ at.current refl user.0 few
+        (get sets past _ at refl refl two long answered v v at.current current refl order fits))
 
-    called : IsUser at at.current → (w : Option ℤ) (old : ℤ) → way None past ≡ w → IsIntOr w → Does (suc k) 6 edata past at (data_of w old)
-    called user w old is fits = by (at.current == 1) refl
+    called : (w : Option ℤ) (old : ℤ) → puts past ≡ gots past ++ under_way w → IsIntOr w → Does (suc k) 6 edata past at (data_of w old)
+    called w old order fits = by (at.current == 1) refl
       where
         by : (b : Bool) → (at.current == 1) ≡ b → Does (suc k) 6 edata past at (data_of w old)
-        by true e = by_one w old (eqb-true at.current 1 e) is fits
-        by false e = by_two w old (other at.current (eqb-false at.current 1 e) user.0 (subst (λ n. at.current ≤ n) two user.1)) is fits
+        by true e = puts_one w old (eqb-true at.current 1 e) order fits
+        by false e = gets_two w old (other at.current (eqb-false at.current 1 e) user.0 (subst (λ n. at.current ≤ n) two user.1)) order fits
 
   -- A TRAP
-  trapped : (k : ℕ) (cause : Cause) (edata : ℕ) (past : List Dispatch) (at : Core) → IsTrap cause → Shaped y at → IsUser at at.current → (w : Option ℤ) (old : ℤ) → way None past ≡ w
-      → puts None past ≡ gots None past ++ under_way (way None past) → IsIntOr w → Does (suc k) (number_of cause) edata past at (data_of w old)
-  trapped k causes.Reset edata past at trap fit user w old is order fits = absurd trap
-  trapped k causes.External edata past at trap fit user w old is order fits = absurd trap
-  trapped k causes.Syscall edata past at trap fit user w old is order fits = called k edata past at fit order user w old is fits
-  trapped k cause edata past at trap fit user None old is order fits =
-      rw has_room (answers_halt y Carries (suc k) (number_of cause) edata past at _ refl (idle past _ None old at.current is order fits refl refl refl))
-  trapped k cause edata past at trap fit user (Some v) old is order fits =
-      rw has_room (answers_halt y Carries (suc k) (number_of cause) edata past at _ refl (idle past _ (Some v) old at.current is order fits refl refl refl))
+  trapped : (k : ℕ) (cause : Cause) (edata : ℕ) (past : List Dispatch) (at : Core) → IsTrap cause → Shaped y at → IsUser at at.current → (w : Option ℤ) (old : ℤ)
+      → puts past ≡ gots past ++ under_way w → EachHas IsAnswered [] past → IsIntOr w → Does (suc k) (number_of cause) edata past at (data_of w old)
+  trapped k causes.Reset edata past at trap fit user w old order answered fits = absurd trap
+  trapped k causes.External edata past at trap fit user w old order answered fits = absurd trap
+  trapped k causes.Syscall edata past at trap fit user w old order answered fits = called k edata past at fit user answered w old order fits
+  trapped k cause edata past at trap fit user None old order answered fits =
+      rw has_room (answers_halt y Carries (suc k) (number_of cause) edata past at _ refl (quiet past _ None old at.current order answered fits (λ user. refl) refl))
+  trapped k cause edata past at trap fit user (Some v) old order answered fits =
+      rw has_room (answers_halt y Carries (suc k) (number_of cause) edata past at _ refl (quiet past _ (Some v) old at.current order answered fits (λ user. refl) refl))
 
   invariant : IsInvariant y 400 (Shaped y) AnyDatum Carries
   invariant = record {
     start = λ fit. keeps 0 0 0 [] (first_core y) (data_of None (pos 0)) (ap (λ (m : Meaning). m.first) r.meaning_is) started;
-    line = λ k mask past at some eight fit user h. keeps (suc k) 1 mask past at (data_of (way None past) h.old) h.data_is (lined k mask past at (way None past) h.old refl h.in_order h.fits);
+    line = λ k mask past at some eight fit user h. keeps (suc k) 1 mask past at _ h.data_is (lined k mask past at h.delivers.way h.old h.delivers.in_order h.delivers.answered h.fits);
     trap = λ k cause edata past at trap any fit user h.
-        keeps (suc k) (number_of cause) edata past at (data_of (way None past) h.old) h.data_is (trapped k cause edata past at trap fit user (way None past) h.old refl h.in_order h.fits);
+        keeps (suc k) (number_of cause) edata past at _ h.data_is (trapped k cause edata past at trap fit user h.delivers.way h.old h.delivers.in_order h.delivers.answered h.fits);
   }
 
-pub messages_are_delivered : RunsAreLawful → MessagesAreDelivered
-messages_are_delivered laws y r lines eight k =
-    let h = invariants_hold laws y mailbox 400 (Shaped y) AnyDatum Carries r.meaning_is (laws.shaped y mailbox r.meaning_is r.fit) (invariant y r) lines eight k in
-    (h.0, λ c is. let s = h.1 c is in (s.safe, record { in_order = s.kept.in_order }))
+-- before the first turn nothing is put
+at_start : (y : System) (c : Cvm) → Some (first_cvm y) ≡ Some c → IsDelivered [] c
+at_start y c e = let s : first_cvm y ≡ c = cc in subst (IsDelivered []) s (record { safe = tt; rows = refl; delivers = record { way = None; in_order = refl; answered = tt } })
+
+pub messages_are_delivered : SetsAreFound → RunsAreLawful → MessagesAreDelivered
+messages_are_delivered sets laws y r lines eight k =
+    ((invariants_hold laws y mailbox 400 (Shaped y) AnyDatum Carries r.meaning_is (laws.shaped y mailbox r.meaning_is r.fit) (invariant sets y r) lines eight k).0, by k)
+  where
+    by : (k : ℕ) (c : Cvm) → IsCvm y lines k c → IsDelivered (dispatches_of y lines 400 k) c
+    by zero c is = at_start y c is.is
+    by (suc k) c is =
+        let s = (invariants_hold laws y mailbox 400 (Shaped y) AnyDatum Carries r.meaning_is (laws.shaped y mailbox r.meaning_is r.fit) (invariant sets y r) lines eight k).1 c is in
+        record { safe = s.safe; rows = s.rows; delivers = s.kept.delivers }

@@ -1,6 +1,6 @@
 -- The round robin: what each dispatch comes to, by computation, and that it keeps the order.
 use native.Mathlib.Nat.{add-mul-mod_self_right, div-add-mod', mod-lt, mod-eq_of_lt}
-use Rattle.std.proofs.Common.{◌≡◌, ℕ, zero, suc, ◌+◌, ◌*◌, ◌/◌, ◌%◌, ◌≤◌, ◌<◌, ◌^◌, List, [], ◌∷◌, ◌++◌, length, true, false, nat_lt, Some, refl, sym, ap, ◌∙◌, subst, arith}
+use Rattle.std.proofs.Common.{◌≡◌, ℕ, zero, suc, ◌+◌, ◌*◌, ◌/◌, ◌%◌, ◌≤◌, ◌<◌, List, [], ◌∷◌, ◌++◌, length, false, nat_lt, Some, refl, sym, ap, ◌∙◌, subst, arith}
 use Rattle.std.specs.Prelude.{◌==◌, if◌then◌else◌, ℤ, pos, ◌+ℤ◌}
 use Rattle.std.specs.Int.{int_wrap, w32}
 use Rattle.std.proofs.lemmas.Bool.{le-ltb}
@@ -16,10 +16,10 @@ use Rattle.c0_meaning.specs.World.{units}
 use Rattle.c0_meaning.specs.Execution.{Outcome, Done, dispatch}
 use Rattle.cvm_model.specs.Kernel.{Core, Changes, Meaning}
 use Rattle.cvm_model.specs.KernelMeaning.{Machines, setting_of, machines_of}
-use Rattle.cvm_model.specs.Cvm.{System, Cvm, IsCvm, first_core}
+use Rattle.cvm_model.specs.Cvm.{System, Cvm, first_core}
 use Rattle.cvm_model.specs.declared.row.Next.TheVariants.{User}
 use Rattle.cvm_model.specs.declared.row.Row.{Row}
-use Rattle.cvm_model.specs.Invariant.{Dispatch, row_of, rows_of, IsTrap, Keeps, IsInvariant, Holds, HasUsers, AnyDatum, HasEight, dispatches_of, RunsAreLawful}
+use Rattle.cvm_model.specs.Invariant.{Dispatch, row_of, rows_of, IsTrap, Keeps, IsInvariant, Holds, HasUsers, AnyDatum, dispatches_of, RunsAreLawful}
 use Rattle.cvm_model.proofs.Invariants.{invariants_hold}
 use Rattle.kernel_theorems.proofs.Answering.{rows_join, keeps_as, answers_user}
 use Rattle.kernel_theorems.specs.RoundRobin.{round_robin, data_of, lines_of, lines_in, turn_after, InOrder, Turns, RunsRoundRobin, IsFair, RoundRobinIsFair}

@@ -1,6 +1,6 @@
 -- A kernel whose faults are guarded by tests: an index that a user's trap gives, a pointer that may be null, and a division. It never faults, whatever its
 -- users do.
-use Rattle.std.specs.Prelude.{◌≡◌, ◌≤◌, ℕ, suc, ℤ, pos, Option, Some, None, List, [], ◌∷◌, length, codes}
+use Rattle.std.specs.Prelude.{◌≡◌, ◌≤◌, ℕ, suc, ℤ, Option, Some, None, List, [], ◌∷◌, length, codes}
 use Rattle.c0_meaning.specs.Value.{heap, Value, Values, int, null, at, group, empty, part}
 use Rattle.c0_meaning.specs.State.{State}
 use Rattle.kernel_theorems.specs.Lines.{by_lines}
@@ -23,8 +23,11 @@ abbrev pub pointer_to : Option ℤ → Value
 pointer_to None = null
 pointer_to (Some v) = at (record { region = heap; path = 0 ∷ [] })
 
+abbrev pub counts_of : Data → Value
+counts_of x = group (part (int x.a) (part (int x.b) (part (int x.c) (part (int x.d) empty))))
+
 abbrev pub globals_of : Data → Value
-globals_of x = group (part (group (part (int x.a) (part (int x.b) (part (int x.c) (part (int x.d) empty))))) (part (pointer_to x.cell) (part (int x.rate) empty)))
+globals_of x = group (part (counts_of x) (part (pointer_to x.cell) (part (int x.rate) empty)))
 
 abbrev pub heap_of : Option ℤ → Values
 heap_of None = empty
@@ -51,7 +54,8 @@ pub record RunsGuarded (y : System) : Type 0 where
 
 -- THE THEOREM: whatever the users do, whatever lines are raised, each turn ends, and no dispatch ever faults
 abbrev pub GuardedNeverFaults : Type 0
-GuardedNeverFaults = (y : System) → RunsGuarded y → (lines : ℕ → ℕ) → HasEight lines → (k : ℕ) → ((c : Cvm) × IsCvm y lines k c) × ((c : Cvm) → IsCvm y lines (suc k) c → IsSafe c.status)
+GuardedNeverFaults = (y : System) → RunsGuarded y → (lines : ℕ → ℕ) → HasEight lines → (k : ℕ)
+    → ((c : Cvm) × IsCvm y lines k c) × ((c : Cvm) → IsCvm y lines (suc k) c → IsSafe c.status)
 
 -- its text: that of kernels/guarded.c0
 abbrev pub text : List ℕ

@@ -1,5 +1,5 @@
 -- The tree of kernels/guarded.c0, each part that a rule for code asks for under a name of its own: by tools/theorem --tree.
-use Rattle.std.specs.Prelude.{ℕ, List, [], ◌∷◌, codes}
+use Rattle.std.specs.Prelude.{List, [], ◌∷◌, codes}
 use Rattle.c0_tree.specs.declared.tree.Kind.TheVariants.{Global, Local, Function}
 use Rattle.c0_tree.specs.declared.tree.BinaryOp.TheVariants.{Add, Div, Lt, Gt, Ge, Eq, Ne, And}
 use Rattle.c0_tree.specs.Tree.{CUnit, CFunction, CDecl, CExpr, CStmts, null, index, deref, binary, assign, call, new, choice, done, next, code}

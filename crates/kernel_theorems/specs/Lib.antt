@@ -1,9 +1,13 @@
 pub mod Lines
 pub mod Text
+pub mod Registers
+pub mod History
+pub mod Traps
 pub mod RoundRobin
 pub mod RoundRobinText
 pub mod GuardedTree
 pub mod Guarded
 pub mod MailboxTree
 pub mod Mailbox
+pub mod LoggingTree
 pub mod Logging

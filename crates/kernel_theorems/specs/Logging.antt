@@ -1,43 +1,68 @@
--- A kernel with a loop and a primitive: it logs the numbers below the current user's. How a loop of an unknown number of turns is proved to end, over any
--- world.
-use Rattle.std.specs.Prelude.{◌≡◌, ℕ, ◌+◌, ◌*◌, ◌≤◌, ◌<◌, ◌^◌, ℤ, pos, List, [], ◌∷◌, codes, Some}
-use Rattle.c0_tree.specs.declared.tree.Kind.TheVariants.{Global, Local}
-use Rattle.c0_tree.specs.declared.tree.BinaryOp.TheVariants.{Add, Lt}
-use Rattle.c0_tree.specs.Tree.{CUnit, CExpr, CStmt, CStmts, assign, binary, loop, done}
-use Rattle.c0_tree.specs.Tree as tree
-use Rattle.worked_rows.specs.Kernels.{z, decl, global, local, number, block}
-use Rattle.worked_rows.specs.SystemKernels.{kernel, asks}
-use Rattle.c0_meaning.specs.Value.{Value, Values, int, group, empty, part}
+-- A kernel with a loop, a primitive and `new`: at each dispatch it logs the numbers below the current user's, and at each trap it makes an object, as long
+-- as its heap has room. How such code is proved by the rules, and carried to runs.
+use Rattle.std.specs.Prelude.{◌≡◌, ◌≤◌, ℕ, zero, suc, pos, List, [], ◌∷◌, ◌++◌, length, take, codes}
+use Rattle.std.specs.Int.{cast_unsigned, w32}
+use Rattle.mips_table.specs.Machine.{LOG_ROOM}
+use Rattle.c0_meaning.specs.Value.{Value, Values, null, group, empty, part}
 use Rattle.c0_meaning.specs.State.{State}
-use Rattle.c0_meaning.specs.World.{Meaning, Setting, Configuration}
-use Rattle.c0_meaning.specs.Execution.{dispatch}
-use Rattle.c0_meaning.specs.Reasoning.{Comes}
+use Rattle.cvm_model.specs.KernelMeaning.{kernel_meaning}
+use Rattle.cvm_model.specs.Cvm.{System, Cvm, IsCvm}
+use Rattle.cvm_model.specs.Invariant.{Dispatch, dispatches_of, HasEight, HasRoom, Holds}
+use Rattle.kernel_theorems.specs.Lines.{by_lines}
+use Rattle.kernel_theorems.specs.History.{EachHas}
+use Rattle.kernel_theorems.specs.LoggingTree.{logging}
 
--- the local that counts
-abbrev pub i : CExpr
-i = local (codes "i") 3
+-- the words of the numbers below one
+abbrev pub below : ℕ → List ℕ
+below zero = []
+below (suc n) = below n ++ cast_unsigned w32 (pos n) ∷ []
 
--- the test of its loop
-abbrev pub test : CExpr
-test = binary z Lt i (local (codes "user") 2)
+-- a dispatch logs the numbers below the current user's, as many as the log has room for
+abbrev pub Logs : List Dispatch → Dispatch → Type 0
+Logs past d = d.after.console.log ≡ take LOG_ROOM (d.before.console.log ++ below d.before.current)
 
--- the body of its loop
-abbrev pub body : CStmts
-body = block (asks (global (codes "ok") 0) (codes "con_put") 7 (i ∷ []) ∷ assign z i (binary z Add i (number 1)) ∷ [])
+-- the values in its data: its global, and its heap with the words used of it
+pub record Data : Type 0 where
+  pub mark : Value
+  pub heap : Values
+  pub used : ℕ
 
--- bool ok; int dispatch(int cause, int data, int user) { int i; while (i < user) { ok = con_put(i); i = i + 1; } return user; }
-abbrev pub logging : CUnit
-logging = kernel (decl tree.bool (codes "ok") Global 0 ∷ []) (decl tree.int (codes "i") Local 3 ∷ []) (loop z test body ∷ []) (local (codes "user") 2)
+-- its data between dispatches, and at the start
+abbrev pub data_of : Data → State
+data_of x = record { global_values = group (part x.mark empty); heap_values = group x.heap; heap_words = x.used; frames = [] }
 
--- the data between dispatches
-abbrev pub data_of : Value → State
-data_of ok = record { global_values = group (part ok empty); heap_values = group empty; heap_words = 0; frames = [] }
+abbrev pub first : Data
+first = record { mark = null; heap = empty; used = 0 }
 
--- each call of the primitive costs at most 8 units beside its own
-abbrev pub IsCheap : {W E : Type 0} → Meaning W E → Type 0
-IsCheap {W} meaning = (args : Values) (w : W) → (meaning 7 args w).words + (meaning 7 args w).pages ≤ 8
+-- what is so between dispatches: each of them logged what it has to
+pub record IsLogging (past : List Dispatch) (s : State) (current : ℕ) : Type 0 where
+  pub values : Data
+  pub data_is : s ≡ data_of values
+  pub logs : EachHas Logs [] past
 
--- A dispatch for user u is done within 100 + 25 * u units, whatever the primitive answers, and answers the user: no fault, and it ends.
-abbrev pub LoggingEnds : Type 0
-LoggingEnds = (heap stack : ℕ) (meaning : Meaning ℕ ℕ) (cause edata : ℤ) (u : ℕ) (ok : Value) (world : ℕ) → 7 ≤ stack → IsCheap meaning → u < 2 ^ 31
-    → Comes (dispatch (record { unit = logging; heap = heap; stack = stack; meaning = meaning }) (100 + 25 * u) cause edata (pos u) (data_of ok) world) (λ d. d.answer ≡ Some (int (pos u)))
+-- a system of this kernel: three users, no larger than they may be, and a stack with room for a frame; its heap may have any size
+pub record RunsLogging (y : System) : Type 0 where
+  pub meaning_is : y.boot.meaning ≡ kernel_meaning logging y.boot.params
+  pub three : length y.boot.users ≡ 3
+  pub fit : HasRoom y
+  pub room : 9 ≤ y.boot.params.stack
+
+-- THE THEOREM: whatever the users do, whatever lines are raised, each turn ends, no dispatch faults, and each of them logs what it has to
+abbrev pub LoggingIsKept : Type 0
+LoggingIsKept = (y : System) → RunsLogging y → (lines : ℕ → ℕ) → HasEight lines → (k : ℕ)
+    → ((c : Cvm) × IsCvm y lines k c) × ((c : Cvm) → IsCvm y lines (suc k) c → Holds IsLogging (dispatches_of y lines 400 (suc k)) c)
+
+-- its text: that of kernels/logging.c0
+abbrev pub text : List ℕ
+text = by_lines (
+    codes "int* mark;"
+    ∷ codes ""
+    ∷ codes "int dispatch(int cause, int data, int user) {"
+    ∷ codes "  int next; int i; bool ok;"
+    ∷ codes "  next = user;"
+    ∷ codes "  if (cause == 0) { next = 1; }"
+    ∷ codes "  if (cause == 1) { next = user % 3 + 1; }"
+    ∷ codes "  if (cause > 1) { mark = new int; }"
+    ∷ codes "  while (i < user) { ok = con_put(i); i = i + 1; }"
+    ∷ codes "  return next;"
+    ∷ codes "}" ∷ [])

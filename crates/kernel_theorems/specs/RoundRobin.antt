@@ -1,12 +1,12 @@
 -- A kernel that gives the processor to one user after another, and what is proved of it. With this kernel, of three users, as its text:
 -- specs/RoundRobinText; kernels/round_robin.c0 is the same text as a file.
-use Rattle.std.specs.Prelude.{◌≡◌, ℕ, zero, suc, ◌+◌, ◌%◌, ◌==◌, ◌≤◌, ◌<◌, ℤ, pos, if◌then◌else◌, List, [], ◌∷◌, ◌++◌, codes, length}
-use Rattle.c0_tree.specs.declared.tree.Kind.TheVariants.{Global, Local}
+use Rattle.std.specs.Prelude.{◌≡◌, ℕ, suc, ◌+◌, ◌%◌, ◌==◌, ◌≤◌, ◌<◌, ℤ, pos, if◌then◌else◌, List, [], ◌∷◌, ◌++◌, codes, length}
+use Rattle.c0_tree.specs.declared.tree.Kind.TheVariants.{Global}
 use Rattle.c0_tree.specs.declared.tree.BinaryOp.TheVariants.{Add, Rem, Gt}
 use Rattle.c0_tree.specs.Tree.{CUnit, CExpr, CStmt, assign, binary, choice, done}
 use Rattle.c0_tree.specs.Tree as tree
 use Rattle.worked_rows.specs.Kernels.{z, decl, global, local, number, block}
-use Rattle.worked_rows.specs.SystemKernels.{kernel, next, set_next, cause_is}
+use Rattle.worked_rows.specs.SystemKernels.{kernel, next, cause_is}
 use Rattle.c0_meaning.specs.Value.{int, group, empty, part}
 use Rattle.c0_meaning.specs.State.{State}
 use Rattle.cvm_model.specs.KernelMeaning.{kernel_meaning}

@@ -10,7 +10,9 @@ use cvm_model::reasoning::meanings_ignore_places;
 pub mod guarded;
 pub mod logging;
 pub mod mailbox;
+pub mod registers;
 pub mod round_robin;
+pub mod traps;
 
 /// A law: a text that is read by computation means the tree that it comes to.
 pub fn texts_mean_trees()

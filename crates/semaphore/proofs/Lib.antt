@@ -1,2 +1,3 @@
 mod Property
 mod Texts
+mod SemaphoreBoots

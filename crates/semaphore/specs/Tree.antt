@@ -1,5 +1,5 @@
 -- The tree of semaphore.c0, each part that a rule for code asks for under a name of its own.
-use Rattle.std.specs.Prelude.{ℕ, List, [], ◌∷◌, codes}
+use Rattle.std.specs.Prelude.{List, [], ◌∷◌, codes}
 use Rattle.c0_tree.specs.declared.tree.Kind.TheVariants.{Global, Local, Primitive}
 use Rattle.c0_tree.specs.declared.tree.BinaryOp.TheVariants.{Add, Rem, Eq}
 use Rattle.c0_tree.specs.Tree.{CUnit, CFunction, CDecl, CExpr, CStmts, binary, assign, call, choice, done, next, code}

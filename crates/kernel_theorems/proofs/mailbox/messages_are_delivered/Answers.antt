@@ -2,4 +2,4 @@ use Rattle.kernel_theorems.proofs.Mailboxes.{messages_are_delivered}
 use Rattle.kernel_theorems.proofs.mailbox.messages_are_delivered.Goals as goal
 
 pub returns : goal.returns
-returns c = messages_are_delivered c.runs_are_lawful.ensures
+returns c = messages_are_delivered c.sets_are_found.ensures c.runs_are_lawful.ensures
