@@ -26,5 +26,6 @@ mod SourceStops
 mod StackOut
 mod StackTexts
 mod Spellings
+mod Starting
 mod Sufficient
 mod UserWords
