@@ -41,6 +41,17 @@ def example(name):
     for u in range(1, len(users) + 1):
         if os.path.exists(os.path.join(EXAMPLES, name, 'trace%d' % u)):
             same('trace img s 100000 %d %d' % (STEPS, u), model(kernel, users, par, schedule, 100000, u), '%s/trace%d' % (name, u))
+    from_rom(name, kernel, schedule)
+
+
+def from_rom(name, kernel, schedule):
+    """The example from a ROM prints the same, where its lines are raised as many steps later as the ROM takes."""
+    words = 'rom img s 100000 %d' % STEPS
+    if 'line' in schedule:
+        more = 14 + 2702 * ((16384 + code_words(kernel) + 1023) // 1024)    # as gen_roms.py counts them
+        part('file m', ''.join('line %d %s\n' % (int(r.split()[1]) + more, r.split()[2]) if r.startswith('line') else r + '\n' for r in schedule.split('\n') if r))
+        words = words.replace(' s ', ' m ')
+    same(words, read(name, 'printed'), name + '/printed')
 
 
 # ---- users in C0: the texts are the program's own, and all of them that the compiled code has no part in is what the programs mean
@@ -73,6 +84,7 @@ def program_example(name):
     for u in range(1, len(users) + 1):
         holds = lambda text: without_steps(text) == meaning['journal'](kernel, users, par, u)
         same('trace img s 100000 %d %d' % (STEPS, u), own(name, u, holds), '%s/trace%d' % (name, u))
+    from_rom(name, kernel, read(name, 'schedule'))
 
 
 for name in ('adder', 'faults', 'mailbox', 'messages', 'round_robin', 'sharing'):
