@@ -26,6 +26,6 @@ mod SourceStops
 mod StackOut
 mod StackTexts
 mod Spellings
-mod Starting
+mod StartAnswers
 mod Sufficient
 mod UserWords

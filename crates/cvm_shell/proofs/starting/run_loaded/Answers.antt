@@ -1,4 +1,4 @@
-use Rattle.cvm_shell.proofs.Starting.{loaded_answers}
+use Rattle.cvm_shell.proofs.StartAnswers.{loaded_answers}
 use Rattle.cvm_shell.proofs.starting.run_loaded.Goals as goal
 
 pub returns-clause-answers : goal.returns-clause-answers
