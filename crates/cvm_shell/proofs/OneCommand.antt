@@ -50,8 +50,7 @@ boot_back b few less =
     ap (λ turns. with_numbers turns (number (decimal b.steps))) (read_back b.turns (omega (arith, few))) ∙ ap (with_numbers b.turns) (read_back b.steps less)
 
 -- the first letter of a boot's words tells its start
-boot_meant : (start : Start) (image schedule turns steps : List ℕ) → let words = start_word start ∷ image ∷ schedule ∷ turns ∷ steps ∷ [] in
-    meant words ≡ boot (boot_of start ([] ∷ image ∷ schedule ∷ turns ∷ steps ∷ []))
+boot_meant : (start : Start) (image schedule turns steps : List ℕ) → meant (start_word start ∷ image ∷ schedule ∷ turns ∷ steps ∷ []) ≡ boot (boot_of start ([] ∷ image ∷ schedule ∷ turns ∷ steps ∷ []))
 boot_meant Loaded image schedule turns steps = refl
 boot_meant Rom image schedule turns steps = refl
 

@@ -22,7 +22,7 @@ use Rattle.cvm_shell.specs.declared.boot.Session.{Session}
 use Rattle.cvm_shell.specs.declared.boot.Start.{Start}
 use Rattle.cvm_shell.specs.declared.boot.Start.TheVariants.{Loaded, Rom}
 use Rattle.cvm_shell.specs.Outside.{Outside}
-use Rattle.cvm_shell.specs.Boot.{booted, held_of}
+use Rattle.cvm_shell.specs.Boot.{booted, around, held_of, first_state}
 use Rattle.cvm_shell.specs.Stages.{CallAnswers}
 
 -- the users are counted alike
@@ -120,7 +120,9 @@ unmade_answers r session f have old new start count stays other fails =
     let needed : LoadFails r.boot session.view (held_of Rom (booted (system_of r.boot) r.schedule)) old.disk.size 0 0 f =
     subst (λ (n : ℕ). LoadFails r.boot session.view n old.disk.size 0 0 f) (same_rom_need r.boot r.schedule) counted in
     subst (λ (a : Start). CallAnswers r (from a session) (Err f) old new) (sym start) (record {
-      ends = λ before after is now. unmade_ends _ _ _ _ _ _ _ _ _ _ _ f other (one_disk before after (sym is ∙ sym stays.sectors ∙ now)) stays.text;
+      ends = λ before after is now.
+          unmade_ends (around r.schedule old) (booted (system_of r.boot) r.schedule) (first_state (from Rom session) (system_of r.boot) r.schedule before) (held_of Rom (booted (system_of r.boot) r.schedule)) before after
+          session.view session.turns session.steps old.sink.text new.sink.text f other (one_disk before after (sym is ∙ sym stays.sectors ∙ now)) stays.text;
       goes_on = tt;
       told = told;
       refused = unmade_fails r.boot session.view (held_of Rom (booted (system_of r.boot) r.schedule)) old.disk.size old.disk.faults new.disk.faults f other needed;

@@ -1,9 +1,9 @@
 // A system is loaded for its session's start, and run.
-ghost use Rattle.std.specs.Prelude.{◌≡◌, ◌≢◌, ◌≤◌, ℕ, IfErr, IfOk, OnErr, OnOk, Err, length};
+ghost use Rattle.std.specs.Prelude.{◌≡◌, ◌≢◌, ◌≤◌, ◌+◌, ◌/◌, ℕ, IfErr, IfOk, OnErr, OnOk, Err, length};
 ghost use Rattle.cvm_outside.specs.Causes.{Rose};
 ghost use Rattle.boot_turns.specs.Rom.{own_rom};
 ghost use Rattle.boot_run.specs.Loading.{system_of};
-ghost use Rattle.boot_run.specs.LoadEnds.{HasRoom, LoadFails, SeesUser, rom_needed};
+ghost use Rattle.boot_run.specs.LoadEnds.{LoadFails, SeesUser, rom_needed};
 ghost use Rattle.boot_run.specs.Whole.{IsDiskFault, IsSinkFault};
 ghost use Rattle.cvm_shell.specs.Outside.{within};
 ghost use Rattle.cvm_shell.specs.Stages.{AnswersAs, Follows};
@@ -12,6 +12,7 @@ use crate::boot::{Ready, Session, Start};
 use boot_rom::rom_words;
 use boot_run::{LoadFault, RunEnd, View, run_rom, run_whole};
 use cvm_outside::{Sectors, Sink};
+use layer_contract::Layer;
 use std::alloc::Global;
 
 // Loads a system for its session's start, and runs it to its end.
@@ -109,6 +110,7 @@ fn rom_for(alloc: Global, ready: &Ready, view: View, have: u32) -> Result<Vec<u3
     ensures fault { IfErr result (LoadFails ready.now.boot view (rom_needed ready.now.boot) have 0 0) }
     ensures inside { result ≢ Err LoadFault.Disk }
 {
+    ready.layer.keeps_laws();
     let boot = &ready.boot;
     let users = boot.users.len() as u32;
     check_user(view, users)?;
