@@ -5,7 +5,7 @@ use Rattle.boot_image.specs.declared.fault.ImageFault.{ImageFault}
 use Rattle.boot_image.specs.Parts.{Parts}
 use Rattle.boot_image.specs.Format.{spelling, IsInRange, IsOldInRange}
 use Rattle.boot_image.specs.Reading.{answer, old_answer, Gives}
-use Rattle.cvm_words.proofs.Bytes.{IsBytes}
+use Rattle.cvm_words.proofs.BytesOfWords.{IsBytes}
 use Rattle.boot_image.proofs.Steps.{read_back, old_read_back}
 use Rattle.boot_image.proofs.Spelled.{answer_spelled, old_answer_spelled}
 

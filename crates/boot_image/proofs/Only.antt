@@ -13,7 +13,7 @@ use Rattle.boot_image.specs.Parts.{Parts}
 use Rattle.boot_image.specs.Format.{fields, most_words}
 use Rattle.boot_image.specs.Reading.{system_at, parts_of}
 use Rattle.cvm_words.specs.Bytes.{word}
-use Rattle.cvm_words.proofs.Bytes.{length-words}
+use Rattle.cvm_words.proofs.BytesOfWords.{length-words}
 use Rattle.boot_image.proofs.Answers.{Found, answered, answered_parts}
 use Rattle.boot_image.proofs.Steps.{onto, words-onto, system, sizes_of, Fits, system_whole}
 use Rattle.boot_image.proofs.Spelled.{number_short, number_out}

@@ -4,7 +4,7 @@ use Rattle.std.proofs.Common.{◌≡◌, ℕ, zero, suc, ◌+◌, ◌<◌, ◌�
 use Rattle.std.specs.Prelude.{codes}
 use Rattle.std.specs.List.{concat, flat_map}
 use Rattle.cvm_words.specs.Bytes.{word}
-use Rattle.cvm_words.proofs.Bytes.{length-word}
+use Rattle.cvm_words.proofs.BytesOfWords.{length-word}
 use Rattle.boot_image.specs.Parts.{Parts}
 use Rattle.boot_image.specs.Format.{fields, spelling}
 use Rattle.boot_image.specs.Answer.{pieces}

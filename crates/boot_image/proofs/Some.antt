@@ -17,7 +17,7 @@ use Rattle.boot_image.specs.Format.{fields, bare_params, most_words, IsOldSystem
 use Rattle.boot_image.specs.Answer.{IsAnswer, EndsWithin}
 use Rattle.boot_image.specs.Reading.{mark_at, number_at, form_at, bare_at, system_at, header_of, old_header_of, parts_of, answer, old_answer}
 use Rattle.cvm_words.specs.Bytes.{word}
-use Rattle.cvm_words.proofs.Bytes.{length-words, IsBytes}
+use Rattle.cvm_words.proofs.BytesOfWords.{length-words, IsBytes}
 use Rattle.boot_image.proofs.Steps.{words-onto, bare, bare_same, system, system_same, Fits}
 use Rattle.boot_image.proofs.Spelled.{mark_is, FormIs, form_is, NumberIs, number_is, BareIs, SystemIs, header_is, old_header_is, sizes_back, nil_of_none, answer_spelled, old_answer_spelled}
 use Rattle.boot_image.proofs.Pieces.{parts, parts_spell, fields_front, field_piece, parts_front, part_piece}

@@ -11,7 +11,7 @@ use Rattle.boot_image.specs.Parts.{Parts}
 use Rattle.boot_image.specs.Format.{most_words}
 use Rattle.boot_image.specs.Reading.{◌>>=◌, number_at, params_at, counts_at, system_at, users_at, parts_of}
 use Rattle.cvm_words.specs.Bytes.{word}
-use Rattle.cvm_words.proofs.Bytes.{length-words}
+use Rattle.cvm_words.proofs.BytesOfWords.{length-words}
 use Rattle.boot_image.proofs.Loops.{counts_suc, part_short, users_first, users_go_on}
 use Rattle.boot_image.proofs.Steps.{step, onto, number_whole, params_whole, part_of}
 use Rattle.boot_image.proofs.Pieces.{parts}

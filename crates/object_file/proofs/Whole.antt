@@ -15,7 +15,7 @@ use Rattle.cvm_words.specs.Bytes.{word, words_of}
 use Rattle.object_file.specs.Format.{pieces, spelling, IsInRange}
 use Rattle.object_file.specs.Answer.{IsAnswer, IsOutOfRange, Gives, UnlessMemory}
 use Rattle.object_file.specs.Reading.{header_of, object_of, answer}
-use Rattle.cvm_words.proofs.Bytes.{length-word, length-words, IsBytes, IsBytes-drop, IsBytes-take, Front, front, Made, made}
+use Rattle.cvm_words.proofs.BytesOfWords.{length-word, length-words, IsBytes, IsBytes-drop, IsBytes-take, Front, front, Made, made}
 use Rattle.object_file.proofs.Steps.{failed}
 use Rattle.object_file.proofs.Answers.{onto, concat-append, length-front_2, length-front_3, length-front_4, length-front_5, answer_by, read_so}
 

@@ -1,6 +1,6 @@
 use Rattle.std.proofs.Common.{◌≡◌, ◌*◌, ◌/◌, length, drop, sym, ap, ◌∙◌, arith}
 use Rattle.std.proofs.lemmas.List.{take_at}
-use Rattle.cvm_words.proofs.Bytes.{read_words, words_spelled}
+use Rattle.cvm_words.proofs.BytesOfWords.{read_words, words_spelled}
 use Rattle.cvm_words.proofs.bytes.read_words.Goals as goal
 
 pub returns-clause-words : goal.returns-clause-words
