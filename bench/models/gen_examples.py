@@ -22,24 +22,36 @@ def same(words, text, path):
     told.append('the same' if text.rstrip('\n') == read(path).rstrip('\n') else 'another')
 
 
-def modeled(name, kernel, users, par, schedule):
-    """What a boot of an example prints: the model's text, with the turns of the lines from PRINTED."""
+def names_of(folder, ending):
+    """The users' files of a folder that end so, in order."""
+    names = (re.fullmatch(r'user(\d+)\.' + ending, n) for n in os.listdir(folder))
+    return ['user%d.%s' % (n, ending) for n in sorted(int(found.group(1)) for found in names if found)]
+
+
+def begin_system(case, folder, given, names, sectors):
+    """A case over the files of a folder, which the program's data has under `given`."""
+    begin(case, 'sectors %d' % sectors)
+    for short, n in [('k', 'kernel.c0'), ('p', 'params'), ('s', 'schedule')] + [('a%d' % (i + 1), n) for i, n in enumerate(names)]:
+        raw('host ' + short, '%s/%s' % (given, n))
+    build(len(names), kind='user' if names[0].endswith('.s') else 'program')
+    text = lambda n: open(os.path.join(folder, n)).read()
+    return text('kernel.c0'), [text(n) for n in names], text('params'), text('schedule')
+
+
+def modeled(case, kernel, users, par, schedule):
+    """What a boot of a system prints: the model's text, with the turns of the lines from PRINTED."""
     if 'line' not in schedule:
         return model(kernel, users, par, schedule, 100000)
-    seen = had('the example ' + name, 0)
+    seen = had(case, 0)
     return model_lines(kernel, users, par, schedule, 100000, lines_of(seen[1])) if seen else '(not printed)'
 
 
 def example(name):
-    names = sorted((n for n in os.listdir(os.path.join(EXAMPLES, name)) if re.fullmatch(r'user\d+\.s', n)), key=lambda n: int(n[4:-2]))
-    kernel, users, par, schedule = read(name, 'kernel.c0'), [read(name, n) for n in names], read(name, 'params'), read(name, 'schedule')
-    begin('the example ' + name, 'sectors 64')
-    for given, n in [('k', 'kernel.c0'), ('p', 'params'), ('s', 'schedule')] + [('a%d' % (i + 1), n) for i, n in enumerate(names)]:
-        raw('host ' + given, 'examples/%s/%s' % (name, n))
-    build(len(users))
-    same('boot img s 100000 %d' % STEPS, modeled(name, kernel, users, par, schedule), name + '/printed')
+    case, folder = 'the example ' + name, os.path.join(EXAMPLES, name)
+    kernel, users, par, schedule = begin_system(case, folder, 'examples/' + name, names_of(folder, 's'), 64)
+    same('boot img s 100000 %d' % STEPS, modeled(case, kernel, users, par, schedule), name + '/printed')
     for u in range(1, len(users) + 1):
-        if os.path.exists(os.path.join(EXAMPLES, name, 'trace%d' % u)):
+        if os.path.exists(os.path.join(folder, 'trace%d' % u)):
             same('trace img s 100000 %d %d' % (STEPS, u), model(kernel, users, par, schedule, 100000, u), '%s/trace%d' % (name, u))
 
 
@@ -48,12 +60,12 @@ meaning = dict(__file__=os.path.join(HERE, 'programs.py'), __name__='programs')
 exec(compile(open(meaning['__file__']).read(), 'programs.py', 'exec'), meaning)
 
 
-def own(name, at, holds):
+def own(case, at, holds):
     """What the program printed of this run of the case, where that holds of it."""
-    seen = had('the example ' + name, at)
+    seen = had(case, at)
     if not seen:
         return '(not printed)'
-    assert holds(seen[1]), (name, at)
+    assert holds(seen[1]), (case, at)
     return seen[1]
 
 
@@ -62,19 +74,23 @@ def without_steps(text):
     return rows[:next(i for i, row in enumerate(rows) if row in ('halted', 'stopped') or row.startswith('fault ')) + 1]
 
 
+def own_boot(case, kernel, users, par):
+    return own(case, 0, lambda text: meaning['told'](text) == meaning['tells'](kernel, users, par))
+
+
+def own_trace(case, kernel, users, par, u):
+    return own(case, u, lambda text: without_steps(text) == meaning['journal'](kernel, users, par, u))
+
+
 def program_example(name):
-    names = sorted((n for n in os.listdir(os.path.join(EXAMPLES, name)) if re.fullmatch(r'user\d+\.c0', n)), key=lambda n: int(n[4:-3]))
-    kernel, users, par = read(name, 'kernel.c0'), [read(name, n) for n in names], read(name, 'params')
-    begin('the example ' + name, 'sectors 128')
-    for given, n in [('k', 'kernel.c0'), ('p', 'params'), ('s', 'schedule')] + [('a%d' % (i + 1), n) for i, n in enumerate(names)]:
-        raw('host ' + given, 'examples/%s/%s' % (name, n))
-    build(len(users), kind='program')
-    same('boot img s 100000 %d' % STEPS, own(name, 0, lambda text: meaning['told'](text) == meaning['tells'](kernel, users, par)), name + '/printed')
+    case, folder = 'the example ' + name, os.path.join(EXAMPLES, name)
+    kernel, users, par, _ = begin_system(case, folder, 'examples/' + name, names_of(folder, 'c0'), 128)
+    same('boot img s 100000 %d' % STEPS, own_boot(case, kernel, users, par), name + '/printed')
     for u in range(1, len(users) + 1):
-        holds = lambda text: without_steps(text) == meaning['journal'](kernel, users, par, u)
-        same('trace img s 100000 %d %d' % (STEPS, u), own(name, u, holds), '%s/trace%d' % (name, u))
+        same('trace img s 100000 %d %d' % (STEPS, u), own_trace(case, kernel, users, par, u), '%s/trace%d' % (name, u))
 
 
+# ---- all of them
 for name in ('adder', 'faults', 'mailbox', 'messages', 'round_robin', 'sharing'):
     example(name)
 program_example('services')

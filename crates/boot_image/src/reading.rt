@@ -7,7 +7,8 @@ ghost use Rattle.boot_image.specs.Format.{IsInRange, IsOldInRange, spelling, mos
 ghost use Rattle.cvm_words.specs.Bytes.{words_of};
 ghost use Rattle.boot_image.specs.Reading.{Comes, Gives, AnswersAreSpelled, SpellingsAreAnswered, image_at, answer, old_answer};
 ghost use Rattle.boot_image.specs.Answer.{AnswersAreSo, NothingElseIsSo, pieces};
-ghost use Rattle.boot_image.specs.Reading.{mark_at, number_at, form_at, params_at, counts_at, bare_at, system_at, header_of, old_header_of, part_at, users_at, parts_of, users_of};
+ghost use Rattle.boot_image.specs.Reading.{mark_at, number_at, form_at, params_at, counts_at, bare_at, system_at, header_of, old_header_of, part_at, users_at};
+ghost use Rattle.boot_image.specs.Reading.{parts_of, users_of};
 
 use crate::fault::ImageFault;
 use crate::image::Image;

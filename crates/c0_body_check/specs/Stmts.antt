@@ -1,6 +1,15 @@
 -- What contracts see of the check of statements.
-use Rattle.std.specs.Prelude.{◌≡◌, List, ◌++◌, map, Option}
+use Rattle.std.specs.Prelude.{◌≡◌, List, ◌++◌, map, Option, option_map}
+use Rattle.c0_tree.specs.declared.tree.Span.{Span}
+use Rattle.c0_tree.specs.declared.tree.Name.{Name}
+use Rattle.c0_tree.specs.declared.tree.CType.{CType}
+use Rattle.c0_tree.specs.declared.tree.Expr.{Expr}
 use Rattle.c0_tree.specs.Tree.{CExpr, CStmt, CStmts}
+use Rattle.c0_tree.specs.View.{expr_view, name_view, type_view}
+use Rattle.c0_name_check.specs.declared.met.Fault.{Fault as MetFault}
+use Rattle.c0_name_check.specs.Met.{met_view}
+use Rattle.c0_body_check.specs.declared.scope.Callee.{Callee}
+use Rattle.c0_body_check.specs.Scope.{callee_view}
 use Rattle.c0_tree.specs.Size.{need}
 use Rattle.c0_meaning.specs.Ty.{Ty, bool}
 use Rattle.c0_meaning.specs.Env.{Env}
@@ -8,7 +17,7 @@ use Rattle.c0_meaning.specs.Fault.{Fault, kept_all}
 use Rattle.c0_meaning.specs.Expression.{span_of, resolved}
 use Rattle.c0_meaning.specs.DeclaredTypes.{type_faults}
 use Rattle.c0_meaning.specs.Resolved.{resolved_type}
-use Rattle.c0_meaning.specs.Statement.{args_faults, given_faults, tested_faults, deep_faults, left_type, left_faults, stmt_faults, stmts_faults, stmt_resolved, stmts_resolved}
+use Rattle.c0_meaning.specs.Statement.{params_of, call_faults, new_faults, args_faults, given_faults, tested_faults, deep_faults, left_type, left_faults, stmt_faults, stmts_faults, stmt_resolved, stmts_resolved}
 
 -- an expression is checked where a type may be asked: its faults are met, and its names are resolved
 abbrev pub ChecksGiven : Env → Option Ty → CExpr → Option Fault → Option Fault → CExpr → Type 0
@@ -62,3 +71,16 @@ loop_faults env t b = tested_faults env bool t ++ faults_of_stmts env b
 -- the faults of the statements of a body, and of the expression that is returned where this type is asked
 abbrev pub code_faults : Env → Ty → CStmts → CExpr → List Fault
 code_faults env result stmts answer = faults_of_stmts env stmts ++ tested_faults env result answer
+
+-- arguments of what is called are checked
+abbrev pub PassesArgs : Env → Option Callee → List Expr → Option MetFault → Option MetFault → List Expr → Type 0
+PassesArgs env callee es old new after =
+    ChecksArgs env (params_of (option_map callee_view callee)) (map expr_view es) (met_view old) (met_view new) (map expr_view after)
+
+-- the faults of a call in an environment
+abbrev pub faults_of_call : Env → Span → Expr → Span → Name → List Expr → List Fault
+faults_of_call env span place call_span name args = call_faults env span (expr_view place) call_span (name_view name) (map expr_view args)
+
+-- the faults of a new object in an environment
+abbrev pub faults_of_new : Env → Span → Expr → CType → Span → List Fault
+faults_of_new env span place ty ty_span = new_faults (type_faults env.structs) env span (expr_view place) (type_view ty) ty_span

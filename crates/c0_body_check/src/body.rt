@@ -2,10 +2,9 @@
 
 ghost use Rattle.std.specs.Prelude.{◌≡◌};
 ghost use Rattle.c0_meaning.specs.Expression.{resolved};
-ghost use Rattle.c0_meaning.specs.Fault.{kept_all};
 ghost use Rattle.c0_tree.specs.View.{expr_view, stmts_view};
-ghost use Rattle.c0_name_check.specs.Met.{met_view};
 ghost use Rattle.c0_meaning.specs.Form.{ty_view};
+ghost use Rattle.c0_name_check.specs.Met.{Meets};
 ghost use Rattle.c0_body_check.specs.Scope.{Knows, env_view};
 ghost use Rattle.c0_body_check.specs.Stmts.{code_faults, resolved_of_stmts};
 
@@ -26,7 +25,7 @@ pub fn check_code(
     least: &mut Option<Fault>,
 )
     requires { Knows scope.now }
-    ensures met { met_view least.new ≡ kept_all (met_view least.old) (code_faults (env_view scope.now) (ty_view ty.now) (stmts_view stmts.old.items) (expr_view answer.old)) }
+    ensures met { Meets least.old least.new (code_faults (env_view scope.now) (ty_view ty.now) (stmts_view stmts.old.items) (expr_view answer.old)) }
     ensures stmts { stmts_view stmts.new.items ≡ resolved_of_stmts (env_view scope.now) (stmts_view stmts.old.items) }
     ensures answer { expr_view answer.new ≡ resolved (env_view scope.now) (expr_view answer.old) }
 {

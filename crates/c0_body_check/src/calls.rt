@@ -1,14 +1,13 @@
 // The check of what is called, and of its arguments.
 
-ghost use Rattle.std.specs.Prelude.{◌≡◌, Some, length, map, option_map, slice_get};
+ghost use Rattle.std.specs.Prelude.{◌≡◌, Some, length, option_map, slice_get};
 ghost use Rattle.c0_meaning.specs.Env.{scalar_ty};
-ghost use Rattle.c0_meaning.specs.Fault.{kept_all};
 ghost use Rattle.c0_meaning.specs.Statement as spec;
-ghost use Rattle.c0_tree.specs.View.{expr_view, name_view};
+ghost use Rattle.c0_tree.specs.View.{name_view};
 ghost use Rattle.c0_meaning.specs.Form.{form_view, found_view};
-ghost use Rattle.c0_name_check.specs.Met.{met_view};
+ghost use Rattle.c0_name_check.specs.Met.{Meets};
 ghost use Rattle.c0_body_check.specs.Scope.{Knows, callee_view, env_view, signature_view};
-ghost use Rattle.c0_body_check.specs.Stmts.{ChecksArgs};
+ghost use Rattle.c0_body_check.specs.Stmts.{PassesArgs};
 
 use crate::parts::{check_given, meet_other};
 use crate::scope::{Callee, Scope};
@@ -96,7 +95,7 @@ pub fn meet_callee(
     callee: Option<Callee<'_>>,
     least: &mut Option<Fault>,
 )
-    ensures { met_view least.new ≡ kept_all (met_view least.old) (spec.callee_faults span (name_view name.now) (form_view want.entry) count (option_map callee_view callee.entry)) }
+    ensures { Meets least.old least.new (spec.callee_faults span (name_view name.now) (form_view want.entry) count (option_map callee_view callee.entry)) }
 {
     match callee {
         None => meet_at(least, Mistake::UnknownName, name.span),
@@ -120,7 +119,7 @@ pub fn check_args(
     least: &mut Option<Fault>,
 )
     requires { Knows scope.now }
-    ensures { ChecksArgs (env_view scope.now) (spec.params_of (option_map callee_view callee.entry)) (map expr_view args.old) (met_view least.old) (met_view least.new) (map expr_view args.new) }
+    ensures { PassesArgs (env_view scope.now) callee.entry args.old least.old least.new args.new }
 {
     for (index, arg) in args.iter_mut().enumerate() {
         check_given(scope, param_of(callee, index), arg, least);

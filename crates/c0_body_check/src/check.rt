@@ -3,7 +3,7 @@
 ghost use Rattle.std.specs.Prelude.{◌≡◌, IsTrue};
 ghost use Rattle.c0_meaning.specs.Expression as spec;
 ghost use Rattle.c0_tree.specs.View.{expr_view};
-ghost use Rattle.c0_body_check.specs.Check.{Checks, ChecksAsked};
+ghost use Rattle.c0_body_check.specs.Check.{Checks, FindsAsked};
 ghost use Rattle.c0_name_check.specs.Met.{met_view};
 ghost use Rattle.c0_meaning.specs.Form.{found_view, is_declared};
 ghost use Rattle.c0_body_check.specs.Scope.{Knows, env_view};
@@ -107,7 +107,7 @@ pub fn check_asked<'a>(
     least: &mut Option<Fault>,
 ) -> Found<'a>
     requires { Knows scope.now }
-    ensures { ChecksAsked (env_view scope.now) (found_view want.entry) (expr_view expr.old) (found_view result) (met_view least.old) (met_view least.new) (expr_view expr.new) }
+    ensures { FindsAsked (env_view scope.now) want.entry expr.old result least.old least.new expr.new }
 {
     if is_filled(want, expr) {
         want

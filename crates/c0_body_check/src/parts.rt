@@ -2,12 +2,11 @@
 
 ghost use Rattle.std.specs.Prelude.{◌≡◌};
 ghost use Rattle.c0_meaning.specs.Expression as expression;
-ghost use Rattle.c0_meaning.specs.Fault.{kept_all};
 ghost use Rattle.c0_meaning.specs.Statement as spec;
 ghost use Rattle.c0_tree.specs.View.{expr_view};
-ghost use Rattle.c0_meaning.specs.Form.{form_view, found_view};
-ghost use Rattle.c0_body_check.specs.Check.{Settles};
-ghost use Rattle.c0_name_check.specs.Met.{met_view};
+ghost use Rattle.c0_meaning.specs.Form.{found_view};
+ghost use Rattle.c0_body_check.specs.Check.{Settles, by_both};
+ghost use Rattle.c0_name_check.specs.Met.{Meets, met_view};
 ghost use Rattle.c0_body_check.specs.Scope.{Knows, env_view};
 ghost use Rattle.c0_body_check.specs.Stmts.{ChecksGiven, ChecksLeft, ChecksTested};
 
@@ -22,7 +21,7 @@ use c0_tree::{Expr, Span};
 
 /// Another type than is asked is met, where both are there.
 pub fn meet_other(want: Form<'_>, form: Form<'_>, span: Span, least: &mut Option<Fault>)
-    ensures { met_view least.new ≡ kept_all (met_view least.old) (expression.own (expression.both (form_view want.entry) (form_view form.entry) (spec.same_rule span))) }
+    ensures { Meets least.old least.new (expression.own (by_both want.entry form.entry (spec.same_rule span))) }
 {
     if is_nothing(want) || is_nothing(form) {} else if same_form(want, form) {} else {
         meet_at(least, Mistake::WrongType, span);

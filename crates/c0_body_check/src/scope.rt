@@ -3,7 +3,8 @@
 ghost use Rattle.std.specs.Prelude.{◌≡◌, ◌<◌, ℕ, List, IfSome, length, map};
 ghost use Rattle.std.specs.Option.{option_map};
 ghost use Rattle.c0_meaning.specs.Env.{Shape, Signature, Typed, callee_named, field_named, first_named, variable_named};
-ghost use Rattle.c0_body_check.specs.Scope.{Knows, Tells, callee_view, env_view, found_in, primitive_signature_view, shape_view, signature_view, typed_view, variable_view};
+ghost use Rattle.c0_body_check.specs.Scope.{Knows, Tells, callee_view, env_view, found_in, typed_view, variable_view};
+ghost use Rattle.c0_body_check.specs.Scope.{primitive_signature_view, shape_view, signature_view};
 
 use c0_name_check::names::Names;
 use c0_tree::{CType, Decl, Function, Kind, Primitive, StructDef};

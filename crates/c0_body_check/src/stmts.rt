@@ -2,17 +2,17 @@
 
 ghost use Rattle.std.specs.Prelude.{◌≡◌, map};
 ghost use Rattle.c0_meaning.specs.DeclaredTypes.{type_faults};
-ghost use Rattle.c0_meaning.specs.Env.{Env, callee_named};
+ghost use Rattle.c0_meaning.specs.Env.{callee_named};
 ghost use Rattle.c0_meaning.specs.Expression.{resolved};
 ghost use Rattle.c0_meaning.specs.Fault.{kept_all};
 ghost use Rattle.c0_meaning.specs.Resolved.{resolved_type};
 ghost use Rattle.c0_meaning.specs.Statement as spec;
 ghost use Rattle.c0_tree.specs.View.{expr_view, name_view, stmt_view, stmts_view, type_view};
-ghost use Rattle.c0_name_check.specs.Met.{met_view};
+ghost use Rattle.c0_name_check.specs.Met.{Meets, met_view};
 ghost use Rattle.c0_meaning.specs.Ty.{bool, pointer};
 ghost use Rattle.c0_meaning.specs.Form.{found_view, ty_view};
 ghost use Rattle.c0_body_check.specs.Scope.{Knows, env_view};
-ghost use Rattle.c0_body_check.specs.Stmts.{ChecksStmt, ChecksStmts, choice_faults, loop_faults, resolved_of_stmts};
+ghost use Rattle.c0_body_check.specs.Stmts.{faults_of_new, faults_of_call, ChecksStmt, ChecksStmts, choice_faults, loop_faults, resolved_of_stmts};
 
 use crate::calls::{check_args, meet_callee, name_callee};
 use crate::parts::{check_given, check_left, check_tested, meet_other};
@@ -33,7 +33,7 @@ fn check_assign(
     least: &mut Option<Fault>,
 )
     requires { Knows scope.now }
-    ensures met { met_view least.new ≡ kept_all (met_view least.old) (spec.assign_faults (env_view scope.now) span (expr_view place.old) (expr_view value.old)) }
+    ensures met { Meets least.old least.new (spec.assign_faults (env_view scope.now) span (expr_view place.old) (expr_view value.old)) }
     ensures place { expr_view place.new ≡ resolved (env_view scope.now) (expr_view place.old) }
     ensures value { expr_view value.new ≡ resolved (env_view scope.now) (expr_view value.old) }
 {
@@ -54,7 +54,7 @@ fn check_call(
     least: &mut Option<Fault>,
 )
     requires { Knows scope.now }
-    ensures met { met_view least.new ≡ kept_all (met_view least.old) (spec.call_faults (env_view scope.now) span (expr_view place.old) call_span (name_view function.old) (map expr_view args.old)) }
+    ensures met { Meets least.old least.new (faults_of_call (env_view scope.now) span place.old call_span function.old args.old) }
     ensures place { expr_view place.new ≡ resolved (env_view scope.now) (expr_view place.old) }
     ensures function { name_view function.new ≡ spec.numbered_callee (name_view function.old) (callee_named (env_view scope.now) function.old.bytes.items) }
     ensures args { map expr_view args.new ≡ map (resolved (env_view scope.now)) (map expr_view args.old) }
@@ -94,7 +94,7 @@ fn check_new(
     least: &mut Option<Fault>,
 )
     requires { Knows scope.now }
-    ensures met { met_view least.new ≡ kept_all (met_view least.old) (spec.new_faults (type_faults (env_view scope.now).structs) (env_view scope.now) span (expr_view place.old) (type_view ty.old) ty_span) }
+    ensures met { Meets least.old least.new (faults_of_new (env_view scope.now) span place.old ty.old ty_span) }
     ensures place { expr_view place.new ≡ resolved (env_view scope.now) (expr_view place.old) }
     ensures ty { type_view ty.new ≡ resolved_type (env_view scope.now).structs (type_view ty.old) }
 {
@@ -168,7 +168,7 @@ fn check_choice(
     least: &mut Option<Fault>,
 )
     requires { Knows scope.now }
-    ensures met { met_view least.new ≡ kept_all (met_view least.old) (choice_faults (env_view scope.now) (expr_view test.old) (stmts_view yes.old.items) (stmts_view no.old.items)) }
+    ensures met { Meets least.old least.new (choice_faults (env_view scope.now) (expr_view test.old) (stmts_view yes.old.items) (stmts_view no.old.items)) }
     ensures test { expr_view test.new ≡ resolved (env_view scope.now) (expr_view test.old) }
     ensures yes { stmts_view yes.new.items ≡ resolved_of_stmts (env_view scope.now) (stmts_view yes.old.items) }
     ensures no { stmts_view no.new.items ≡ resolved_of_stmts (env_view scope.now) (stmts_view no.old.items) }

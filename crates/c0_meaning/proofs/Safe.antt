@@ -1,10 +1,8 @@
 -- The first state is typed, and calls from typed states are never stuck.
 use Rattle.std.proofs.Common.{◌≡◌, ℕ, true, List, [], ◌∷◌, map, Option, Some, refl, sym, ap, subst, arith}
-use Rattle.std.specs.Prelude.{ℤ, FitsSigned, slice_get, unwrap_or, option_map}
+use Rattle.std.specs.Prelude.{ℤ, FitsSigned, unwrap_or}
 use Rattle.std.specs.Int.{w32}
 use Rattle.std.proofs.lemmas.Bool.{and_parts}
-use Rattle.c0_tree.specs.declared.primitive.Scalar.{Scalar}
-use Rattle.c0_tree.specs.declared.primitive.Scalar.TheVariants.{Int, Bool as Boolean}
 use Rattle.c0_tree.specs.Primitives.{CPrimitive, kernel_primitives}
 use Rattle.c0_tree.specs.Tree.{CDecl, CUnit}
 use Rattle.c0_meaning.specs.Ty.{Ty, ty_of, same_ty}
@@ -19,7 +17,6 @@ use Rattle.c0_meaning.specs.Value as value
 use Rattle.c0_meaning.specs.TypedState.{Layout, types_of, Fits, AllFit, layout_of, IsScalar, IsSafe, Answers}
 use Rattle.c0_meaning.specs.Execution.{Outcome, Done, Failed, NotYet, call_first}
 use Rattle.c0_meaning.specs.RunLaws.{FirstIsTyped, CallsAreSafe, DispatchesAreSafe, CallsAnswer, AnswersAnInt, DispatchesAnswer}
-use Rattle.c0_meaning.specs.KernelRows.{seven, sevens, SevensFit}
 use Rattle.c0_tree.specs.declared.primitive.Program.TheVariants.{Kernel}
 use Rattle.c0_meaning.proofs.FirstFunction.{has_first}
 use Rattle.c0_meaning.proofs.Fields.{zeros_fit}
@@ -99,13 +96,3 @@ dispatches_answer W E is_right p n cause edata user s world checked answers type
 -- the answer of a row that is found
 pub same_row : (a b : CPrimitive) (v : Value) → ◌≡◌ {A = Option CPrimitive} (Some a) (Some b) → IsScalar a.answer v → IsScalar b.answer v
 same_row a b v e h = let q : a ≡ b = cc in subst (λ r. IsScalar r.answer v) q h
-
-seven_fits : (t : Scalar) → IsScalar t (seven t)
-seven_fits Int = record { sfits = omega arith }
-seven_fits Boolean = tt
-
-seven_answers : (n : ℕ) (row : CPrimitive) (args : Values) (w : ℕ) → slice_get kernel_primitives n ≡ Some row → IsScalar row.answer (sevens n args w).answer
-seven_answers n row args w e = subst (λ o. IsScalar row.answer (seven (unwrap_or (option_map (λ r. r.answer) o) Int))) (sym e) (seven_fits row.answer)
-
-pub sevens_fit : SevensFit
-sevens_fit = record { answer = λ n row args w e a r. seven_answers n row args w e; world = λ n row args w e a r. refl }

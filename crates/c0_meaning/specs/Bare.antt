@@ -1,6 +1,7 @@
 -- A unit without the places of its parts in the source: what it means doesn't depend on them. To be used where a tree that is written by hand, without
 -- places, is to be compared with that of a text: `bare` of the text's unit is the tree.
 use Rattle.std.specs.Prelude.{◌≡◌, ℕ, ℤ, map}
+use Rattle.c0_tree.specs.declared.tree.Span.{Span}
 use Rattle.c0_tree.specs.Tree.{CName, CTy, CExpr, num, true_, false_, null, var, field, arrow, index, deref, address, unary, binary, CStmt, assign, call, new, choice, loop, CStmts, done, next, CDecl, CStruct, CBody, code, asm, CFunction, CUnit}
 use Rattle.c0_tree.specs.Tree as tree
 use Rattle.c0_meaning.specs.Env.{typed_of}
@@ -9,7 +10,10 @@ use Rattle.c0_meaning.specs.Sound.{shapes}
 use Rattle.c0_meaning.specs.State.{State, first_state}
 use Rattle.c0_meaning.specs.World.{Setting}
 use Rattle.c0_meaning.specs.Execution.{dispatch}
-use Rattle.c0_meaning.specs.Kernels.{z}
+
+-- no place in a source
+abbrev pub z : Span
+z = record { start = 0; end = 0 }
 
 -- a name without places
 abbrev pub bare_name : CName → CName

@@ -10,7 +10,6 @@ pub mod Resolved
 pub mod Sound
 pub mod Unit
 pub mod Sizes
-pub mod Rows
 pub mod Expression
 pub mod Judgement
 pub mod Statement
@@ -31,9 +30,6 @@ pub mod Execution
 pub mod UserProgram
 pub mod TypedState
 pub mod RunLaws
-pub mod Kernels
-pub mod SystemKernels
-pub mod KernelRows
 pub mod Offsets
 pub mod Addresses
 pub mod OpenTy

@@ -1,6 +1,6 @@
 -- Where values of some types begin that stand one after another: globals, the fields of a struct, the variables of a function.
 use Rattle.std.specs.Prelude.{◌≡◌, ℕ, ◌+◌, ◌<◌, List, [], ◌∷◌, length, take, map, Some, slice_get}
-use Rattle.c0_tree.specs.Tree.{CStruct, CUnit}
+use Rattle.c0_tree.specs.Tree.{CDecl, CStruct, CUnit}
 use Rattle.c0_meaning.specs.Ty.{Ty}
 use Rattle.c0_meaning.specs.Env.{Typed, Shape, typed_of}
 use Rattle.c0_meaning.specs.Words.{words, all_words}
@@ -12,6 +12,10 @@ use Rattle.c0_meaning.specs.TypedState.{types_of}
 abbrev pub offsets_from : List Shape → ℕ → List Ty → List ℕ
 offsets_from structs at [] = []
 offsets_from structs at (t ∷ ts) = at ∷ offsets_from structs (at + words structs t) ts
+
+-- where each of these declarations begins, the first of them at a word
+abbrev pub decl_offsets : List Shape → ℕ → List CDecl → List ℕ
+decl_offsets structs at decls = offsets_from structs at (types_of (map typed_of decls))
 
 -- where each begins, counted from the first of them
 abbrev pub offsets : List Shape → List Ty → List ℕ

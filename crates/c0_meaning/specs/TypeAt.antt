@@ -8,7 +8,7 @@ use Rattle.c0_tree.specs.Tree.{CExpr, num, true_, false_, null, var, field, arro
 use Rattle.c0_tree.specs.Primitives.{CPrimitive}
 use Rattle.c0_tree.specs.View.{type_view}
 use Rattle.c0_meaning.specs.Ty.{Ty, int, bool, pointer, named, array}
-use Rattle.c0_meaning.specs.Env.{Env, Shape, env_of}
+use Rattle.c0_meaning.specs.Env.{Env, Shape, Typed, env_of}
 use Rattle.c0_meaning.specs.Words.{fields_named}
 use Rattle.c0_meaning.specs.Expression.{is_place, target}
 use Rattle.c0_meaning.specs.Limits.{locals_of}
@@ -16,6 +16,14 @@ use Rattle.c0_meaning.specs.Numbered.{variable_at, HasNumberedType}
 use Rattle.c0_meaning.specs.Resolved.{IsResolved}
 use Rattle.c0_meaning.specs.declared.form.Found.{Found}
 use Rattle.c0_meaning.specs.declared.form.Found.TheVariants.{Nothing, Int, Bool as Boolean, To, Of}
+
+-- the type of the declaration of a number
+abbrev pub declared_at : List Typed → ℕ → Option Ty
+declared_at decls n = option_map (λ d. d.ty) (slice_get decls n)
+
+-- the function of a number in a unit
+abbrev pub IsAt : ℕ → CUnit → CFunction → Type 0
+IsAt n u f = slice_get u.functions n ≡ Some f
 
 -- the type of the field of a number, where a type is a struct
 abbrev pub field_type : List Shape → Option Ty → ℕ → Option Ty
@@ -74,6 +82,10 @@ type_at env (binary s o a b) = Some (binary_type o)
 -- the environment of a function's body; no primitive stands in an expression
 abbrev pub env_in : CUnit → CFunction → Env
 env_in u f = env_of [] u (f.params ++ locals_of f.body)
+
+-- the type of an expression in the body of a function
+abbrev pub type_in : CUnit → CFunction → CExpr → Option Ty
+type_in u f e = type_at (env_in u f) e
 
 -- the names in a type that was found are resolved
 abbrev pub IsFoundResolved : List Shape → Found → Type 0

@@ -1,6 +1,6 @@
 -- The faults of a whole unit, and what a unit without faults meets.
 use Rattle.std.specs.Prelude.{◌≡◌, ℕ, suc, true, List, [], ◌∷◌, ◌++◌, length, map, IsTrue}
-use Rattle.std.specs.List.{All}
+use Rattle.std.specs.List.{All, list_all}
 use Rattle.c0_tree.specs.declared.tree.Kind.TheVariants.{Global, Local, Function}
 use Rattle.c0_tree.specs.Tree.{CStruct, CBody, code, asm, CFunction, CUnit}
 use Rattle.c0_tree.specs.Plain.{is_plain}
@@ -106,6 +106,10 @@ resolved_unit primitives u = record {
 -- the words of asm bodies are of instructions that they may have
 abbrev pub AreWordsAllowed : List CFunction → Type 0
 AreWordsAllowed functions = All (λ f. IsTrue (are_allowed_words (words_held f.body))) functions
+
+-- whether they are is found by a test of each function
+abbrev pub AllowedAsTested : Type 0
+AllowedAsTested = (functions : List CFunction) → list_all (λ f. are_allowed_words (words_held f.body)) functions ≡ true → AreWordsAllowed functions
 
 -- a unit that is well formed for a table of primitives: no fault stands in it, apart from a missing first function, its names are
 -- resolved, and its asm bodies hold words that they may have

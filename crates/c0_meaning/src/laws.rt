@@ -5,14 +5,13 @@ ghost use Rattle.c0_meaning.specs.Judgement.{FaultlessIsTyped, HasOneType, Typed
 ghost use Rattle.c0_meaning.specs.Numbered.{NumbersTell};
 ghost use Rattle.c0_meaning.specs.Offsets.{OffsetsAreThose};
 ghost use Rattle.c0_meaning.specs.OpenTy.{SizeIsWords};
-ghost use Rattle.c0_meaning.specs.Rows.{AreNamesRight, AreSizesRight, AreTypesRight};
 ghost use Rattle.c0_meaning.specs.Rules.{StatementsAreFaultless, TestedIsFaultless};
 ghost use Rattle.c0_meaning.specs.Sizes.{UnitsAreSized};
 ghost use Rattle.c0_meaning.specs.Stable.{ResolvingIsStable};
 ghost use Rattle.c0_meaning.specs.Ty.{TypesEqualAsWritten};
 ghost use Rattle.c0_meaning.specs.TypeAt.{TypesAreAtHand};
 ghost use Rattle.c0_meaning.specs.Typed.{ProgramsAreFaultless, UnitsAreFaultless};
-ghost use Rattle.c0_meaning.specs.Unit.{FaultlessIsChecked};
+ghost use Rattle.c0_meaning.specs.Unit.{AllowedAsTested, FaultlessIsChecked};
 ghost use Rattle.c0_meaning.specs.Words.{HoldsAsTested, WordsAreThose};
 
 /// Types are equal where they are written the same.
@@ -69,11 +68,9 @@ pub fn faultless_units_are_checked()
     ensures { FaultlessIsChecked }
 {}
 
-/// Worked rows of the definitions of sizes, declared types and names.
-pub fn worked_rows()
-    ensures sizes { AreSizesRight }
-    ensures types { AreTypesRight }
-    ensures names { AreNamesRight }
+/// Whether asm bodies hold allowed words alone is found by the test.
+pub fn words_are_allowed_as_tested()
+    ensures { AllowedAsTested }
 {}
 
 /// A unit is typed by the rules exactly where no fault stands in it.

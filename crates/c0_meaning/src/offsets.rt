@@ -8,8 +8,9 @@ ghost use Rattle.c0_meaning.specs.Env.{typed_of};
 ghost use Rattle.c0_meaning.specs.Words.{all_words};
 ghost use Rattle.c0_meaning.specs.DeclaredTypes.{MAX_TYPE_WORDS};
 ghost use Rattle.c0_meaning.specs.Offsets as spec;
-ghost use Rattle.c0_meaning.specs.Offsets.{offsets, offsets_from};
+ghost use Rattle.c0_meaning.specs.Offsets.{decl_offsets, offsets, offsets_from};
 ghost use Rattle.c0_meaning.specs.Sound.{shapes, IsSized, IsSizedFunction, IsSizedStruct};
+ghost use Rattle.c0_meaning.specs.TypeAt.{IsAt};
 ghost use Rattle.c0_meaning.specs.TypedState.{types_of, variable_types};
 
 use crate::measured::Measured;
@@ -27,7 +28,7 @@ fn push_offsets(
     requires low { start < 2 ^ 53 }
     requires decls { All (λ d. IsSized (shapes (unit_view unit.now)) d.ty) (map decl_view decls.now) }
     requires few { length decls.now < 2 ^ 32 }
-    ensures offsets { OnOk result (offsets.new.items ≡ offsets.old.items ++ offsets_from (shapes (unit_view unit.now)) start (types_of (map typed_of (map decl_view decls.now)))) }
+    ensures offsets { OnOk result (offsets.new.items ≡ offsets.old.items ++ decl_offsets (shapes (unit_view unit.now)) start (map decl_view decls.now)) }
     ensures end { IfOk result (λ n. n ≡ start + all_words (shapes (unit_view unit.now)) (map typed_of (map decl_view decls.now))) }
     ensures small { IfOk result (λ n. n ≤ start + length decls.now * MAX_TYPE_WORDS) }
 {
@@ -75,7 +76,7 @@ pub fn variable_offsets(
     function: u32,
 ) -> Result<Vec<u64>, AllocError>
     requires { function < length unit.now.functions.items }
-    ensures { (f : CFunction) → slice_get (unit_view unit.now).functions function ≡ Some f → IfOk result (λ v. v.items ≡ offsets (shapes (unit_view unit.now)) (variable_types f)) }
+    ensures { (f : CFunction) → IsAt function (unit_view unit.now) f → IfOk result (λ v. v.items ≡ offsets (shapes (unit_view unit.now)) (variable_types f)) }
 {
     function_offsets(alloc, &unit.unit().functions[function as usize], unit)
 }

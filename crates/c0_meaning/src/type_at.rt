@@ -12,7 +12,7 @@ ghost use Rattle.c0_meaning.specs.Numbered.{variable_at};
 ghost use Rattle.c0_meaning.specs.Resolved.{IsResolved};
 ghost use Rattle.c0_meaning.specs.Sound.{shapes, IsSized, IsSizedFunction};
 ghost use Rattle.c0_meaning.specs.TypeAt as spec;
-ghost use Rattle.c0_meaning.specs.TypeAt.{IsFoundResolved, env_in};
+ghost use Rattle.c0_meaning.specs.TypeAt.{IsAt, IsFoundResolved, declared_at, env_in};
 ghost use Rattle.c0_meaning.specs.Ty.{pointer};
 ghost use Rattle.c0_meaning.specs.Words.{fields_named};
 
@@ -164,7 +164,7 @@ fn fields_of(owner: &StructDef) -> &[Decl]
 // The type of the field of a number in the struct of a resolved name.
 fn struct_field<'a>(unit: &Measured<'a>, name: &Name, number: u32) -> Found<'a>
     requires { IsResolved (shapes (unit_view unit.now)) (named (name_view name.now)) }
-    ensures gives { found_view result ≡ option_map (λ d. d.ty) (slice_get (fields_named (shapes (unit_view unit.now)) name.now.bytes.items) number) }
+    ensures gives { found_view result ≡ declared_at (fields_named (shapes (unit_view unit.now)) name.now.bytes.items) number }
     ensures declared { is_declared result ≡ true }
     ensures resolved { IsFoundResolved (shapes (unit_view unit.now)) result }
 {
@@ -174,7 +174,7 @@ fn struct_field<'a>(unit: &Measured<'a>, name: &Name, number: u32) -> Found<'a>
 
 // The type of a parameter or of a local behind them.
 fn local_type<'a>(function: &'a Function, number: usize) -> Found<'a>
-    ensures gives { found_view result ≡ option_map (λ d. d.ty) (slice_get (map typed_of ((function_view function.now).params ++ locals_of (function_view function.now).body)) number) }
+    ensures gives { found_view result ≡ declared_at (map typed_of ((function_view function.now).params ++ locals_of (function_view function.now).body)) number }
     ensures declared { is_declared result ≡ true }
     ensures resolved { (structs : List Shape) → IsSizedFunction structs (function_view function.now) → IsFoundResolved structs result }
 {
@@ -246,7 +246,7 @@ fn type_in<'a>(unit: &Measured<'a>, function: &'a Function, expr: &Expr) -> Foun
 /// The type of an expression in the function of a number, found by the kinds and numbers of its names; `null` has none by itself.
 pub fn type_at<'a>(unit: &Measured<'a>, function: u32, expr: &Expr) -> Found<'a>
     requires { function < length unit.now.functions.items }
-    ensures gives { (f : CFunction) → slice_get (unit_view unit.now).functions function ≡ Some f → found_view result ≡ spec.type_at (env_in (unit_view unit.now) f) (expr_view expr.now) }
+    ensures gives { (f : CFunction) → IsAt function (unit_view unit.now) f → found_view result ≡ spec.type_in (unit_view unit.now) f (expr_view expr.now) }
     ensures resolved { IsFoundResolved (shapes (unit_view unit.now)) result }
 {
     type_in(unit, &unit.unit().functions[function as usize], expr)

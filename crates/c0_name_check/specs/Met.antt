@@ -1,5 +1,5 @@
 -- What contracts see of a fault that was met.
-use Rattle.std.specs.Prelude.{ℕ, Option}
+use Rattle.std.specs.Prelude.{◌≡◌, ℕ, List, Option}
 use Rattle.std.specs.Option.{option_map}
 use Rattle.c0_meaning.specs.Fault as spec
 use Rattle.c0_name_check.specs.declared.met.Fault.{Fault}
@@ -34,3 +34,7 @@ fault_view (BadLine span line) = record { number = spec.ASM_NOT_ALLOWED; span = 
 -- the least fault met so far
 abbrev pub met_view : Option Fault → Option spec.Fault
 met_view least = option_map fault_view least
+
+-- these faults are met: the least fault before and after
+abbrev pub Meets : Option Fault → Option Fault → List spec.Fault → Type 0
+Meets old new faults = met_view new ≡ spec.kept_all (met_view old) faults

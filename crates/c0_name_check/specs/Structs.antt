@@ -64,3 +64,7 @@ type_faults_by number sizes t span =
 pub record KnowsStructs {A S : Type 0} (names : IndexMap (Vec ℕ A) ℕ S) (sizes : List ℕ) (structs : List Shape) : Type 0 where
   pub numbers : (text : List ℕ) → look names text ≡ number_named (λ s. s.text) text 0 structs
   pub words : (text : List ℕ) (n : ℕ) → look names text ≡ Some n → get_or sizes n 0 ≡ min (words structs (ty.named text)) WORDS_CAP
+
+-- what is so of the structs that map and list tell
+abbrev pub OfStructs : {A S : Type 0} → IndexMap (Vec ℕ A) ℕ S → List ℕ → (List Shape → Type 0) → Type 0
+OfStructs names sizes is = (structs : List Shape) → KnowsStructs names sizes structs → is structs

@@ -1,12 +1,11 @@
 // Declarations of a space: their names get their numbers, and a name that is set before is met.
 
-ghost use Rattle.std.specs.Prelude.{◌≡◌, ◌<◌, ◌+◌, ◌^◌, ◌∷◌, [], ℕ, List, OnOk, Some, None, cond, map, length, is_some};
+ghost use Rattle.std.specs.Prelude.{◌≡◌, ◌<◌, ◌+◌, ◌^◌, ◌∷◌, [], OnOk, Some, None, cond, map, length, is_some};
 ghost use Rattle.std.specs.Str.{bytes_eq};
-ghost use Rattle.std.specs.Option.{option_or};
-ghost use Rattle.c0_meaning.specs.Fault.{fault, kept_all, NAME_TWICE};
-ghost use Rattle.c0_name_check.specs.Spaces.{twice_by, TwiceByTestIsTwice};
+ghost use Rattle.c0_meaning.specs.Fault.{fault, NAME_TWICE};
+ghost use Rattle.c0_name_check.specs.Spaces.{SetsNames, twice_by, TwiceByTestIsTwice};
 ghost use Rattle.c0_tree.specs.View.{decl_view};
-ghost use Rattle.c0_name_check.specs.Met.{met_view};
+ghost use Rattle.c0_name_check.specs.Met.{Meets};
 ghost use Rattle.c0_name_check.specs.Names.{look, number_named};
 
 use crate::met::{Fault, Mistake, meet_at};
@@ -24,8 +23,8 @@ pub fn declare(
     number: u32,
     least: &mut Option<Fault>,
 ) -> Result<(), AllocError>
-    ensures names { OnOk result ((q : List ℕ) → look names.new q ≡ option_or (look names.old q) (cond (bytes_eq name.now.bytes.items q) (Some number) None)) }
-    ensures met { OnOk result (met_view least.new ≡ kept_all (met_view least.old) (cond (is_some (look names.old name.now.bytes.items)) (fault NAME_TWICE name.now.span ∷ []) [])) }
+    ensures names { OnOk result (SetsNames (look names.old) (look names.new) (λ q. cond (bytes_eq name.now.bytes.items q) (Some number) None)) }
+    ensures met { OnOk result (Meets least.old least.new (cond (is_some (look names.old name.now.bytes.items)) (fault NAME_TWICE name.now.span ∷ []) [])) }
 {
     if set_name(alloc, names, name.bytes.as_slice(), number)? {
         meet_at(least, Mistake::NameTwice, name.span);
@@ -43,8 +42,8 @@ pub fn declare_all(
     least: &mut Option<Fault>,
 ) -> Result<(), AllocError>
     requires { first + length decls.now < 2 ^ 32 }
-    ensures names { OnOk result ((q : List ℕ) → look names.new q ≡ option_or (look names.old q) (number_named (λ d. d.name.text) q first (map decl_view decls.now))) }
-    ensures met { OnOk result (met_view least.new ≡ kept_all (met_view least.old) (twice_by (λ q. is_some (look names.old q)) (map (λ d. d.name) (map decl_view decls.now)))) }
+    ensures names { OnOk result (SetsNames (look names.old) (look names.new) (λ q. number_named (λ d. d.name.text) q first (map decl_view decls.now))) }
+    ensures met { OnOk result (Meets least.old least.new (twice_by (λ q. is_some (look names.old q)) (map (λ d. d.name) (map decl_view decls.now)))) }
 {
     let mut number = first;
     for decl in decls {

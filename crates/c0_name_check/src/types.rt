@@ -9,7 +9,7 @@ ghost use Rattle.c0_meaning.specs.Ty.{ty_of};
 ghost use Rattle.c0_meaning.specs.Words.{words};
 ghost use Rattle.c0_meaning.specs.Fault.{kept_all};
 ghost use Rattle.c0_tree.specs.View.{name_view, type_view};
-ghost use Rattle.c0_name_check.specs.Met.{met_view};
+ghost use Rattle.c0_name_check.specs.Met.{Meets, met_view};
 ghost use Rattle.c0_name_check.specs.Names.{look};
 ghost use Rattle.c0_meaning.specs.Sizes as table;
 ghost use Rattle.c0_name_check.specs.Structs as structs;
@@ -78,7 +78,7 @@ pub fn words_by(names: &Names, sizes: &[u32], ty: &CType) -> u32
 
 /// The words of a type, up to 1,048,577.
 pub fn capped_words(names: &Names, sizes: &[u32], ty: &CType) -> u32
-    ensures { (shapes : List Shape) → structs.KnowsStructs names.now sizes.now shapes → result ≡ min (words shapes (ty_of (type_view ty.now))) table.WORDS_CAP }
+    ensures { structs.OfStructs names.now sizes.now (λ shapes. result ≡ min (words shapes (ty_of (type_view ty.now))) table.WORDS_CAP) }
 {
     words_by(names, sizes, ty)
 }
@@ -104,7 +104,7 @@ pub fn check_type(
     span: Span,
     least: &mut Option<Fault>,
 )
-    ensures met { (shapes : List Shape) → structs.KnowsStructs names.now sizes.now shapes → met_view least.new ≡ kept_all (met_view least.old) (type_faults shapes (type_view ty.old) span) }
+    ensures met { structs.OfStructs names.now sizes.now (λ shapes. Meets least.old least.new (type_faults shapes (type_view ty.old) span)) }
     ensures named { (shapes : List Shape) → structs.KnowsStructs names.now sizes.now shapes → type_view ty.new ≡ resolved_type shapes (type_view ty.old) }
 {
     let empty = has_empty_array(ty);

@@ -1,5 +1,5 @@
 -- What the functions of the reader give, by the machine: for proofs.
-use Rattle.std.specs.Prelude.{ℕ, ◌≡◌, ◌<◌, ◌≤◌, false, List, ◌∷◌, map, length, Result, Ok, Err}
+use Rattle.std.specs.Prelude.{ℕ, ◌≡◌, ◌<◌, ◌≤◌, false, List, [], ◌∷◌, map, length, Result, Ok, Err}
 use Rattle.std.specs.Borrow.{Bor}
 use Rattle.c0_tokens.specs.Tokens.{CToken, token_view}
 use Rattle.c0_tokens.specs.declared.token.Token.{Token}
@@ -13,6 +13,10 @@ use Rattle.c0_parser.specs.declared.reader.Halt.TheVariants.{Left}
 -- tokens as contracts see them
 abbrev pub seen : List Token → List CToken
 seen ts = map token_view ts
+
+-- the first token is not of this sort
+abbrev pub IsNotNext : Sort → List Token → Type 0
+IsNotNext sort ts = heads (one_of sort []) (seen ts) ≡ false
 
 -- the piece is read from the first tokens to the others, with this meaning
 pub record Goes (p : Piece) (ts : List CToken) (v : Value) (rest : List CToken) : Type 0 where

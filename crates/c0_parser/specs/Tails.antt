@@ -1,17 +1,20 @@
 -- What the functions give that read the parts of expressions: for proofs.
-use Rattle.std.specs.Prelude.{◌≡◌, true, false, List, [], ◌∷◌, map, length, Result, Ok, Err, Option, Some, None}
+use Rattle.std.specs.Prelude.{ℕ, ◌≡◌, true, false, List, [], ◌∷◌, map, length, Result, Ok, Err, Option, Some, None}
 use Rattle.std.specs.Borrow.{Bor}
 use Rattle.c0_tokens.specs.Tokens.{CToken, token_view}
 use Rattle.c0_tokens.specs.declared.token.Token.{Token}
 use Rattle.c0_tokens.specs.declared.token.Mark.{Mark}
 use Rattle.c0_tokens.specs.declared.token.Mark.TheVariants.{True, False, Null, Dot, Arrow, OpenBracket, CloseBracket}
-use Rattle.c0_tree.specs.View.{expr_view}
+use Rattle.c0_tree.specs.declared.tree.Kind.TheVariants.{Unresolved}
+use Rattle.c0_tree.specs.declared.tree.Name.{Name}
+use Rattle.c0_tree.specs.View.{expr_view, name_view}
 use Rattle.c0_parser.specs.Sorts.{mark, a_name, a_number, among}
-use Rattle.c0_parser.specs.Value.{Value, expr}
+use Rattle.c0_parser.specs.Value.{Value, token, pair, expr, name_at, place_of, suffixed}
 use Rattle.c0_parser.specs.Grammar.{Piece, one_of, sign, ◌▸◌, ◌or◌, EXPR, NAME}
 use Rattle.c0_parser.specs.Machine.{heads, kind}
 use Rattle.c0_parser.specs.Contract.{seen}
 use Rattle.c0_parser.specs.Levels.{heads_any}
+use Rattle.c0_parser.specs.Views.{IsPart}
 use Rattle.c0_parser.specs.declared.reader.Halt.{Halt}
 use Rattle.c0_parser.specs.declared.reader.Halt.TheVariants.{Memory, Left}
 use Rattle.c0_parser.specs.declared.expressions.Part.{Part}
@@ -19,6 +22,18 @@ use Rattle.c0_parser.specs.declared.expressions.Part.{Part}
 -- what a part means
 abbrev pub part_value : Part → Value
 part_value p = expr p.span (expr_view p.expr)
+
+-- what stands between two tokens, with them
+abbrev pub enclosed : Token → Part → Token → Value
+enclosed opening inner closing = pair (token (token_view opening)) (pair (part_value inner) (token (token_view closing)))
+
+-- a part is a field of this name of another part, behind `.` or `->`
+abbrev pub IsFieldOf : Part → Token → Name → Part → Type 0
+IsFieldOf left sign name p = (x : CToken) → name_at x ≡ name_view name → IsPart p (suffixed (part_value left) (pair (token (token_view sign)) (token x)))
+
+-- a name is read at this token with this text: it is not known what it stands for
+abbrev pub IsNameOf : Token → List ℕ → Name → Type 0
+IsNameOf t text x = name_view x ≡ record { text = text; span = place_of (token_view t); kind = Unresolved; number = 0 }
 
 -- a name, a number, true, false or null
 abbrev pub LITERAL : Piece

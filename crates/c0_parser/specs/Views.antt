@@ -10,7 +10,9 @@ use Rattle.c0_tree.specs.declared.tree.Stmt.{Stmt}
 use Rattle.c0_tree.specs.declared.tree.Body.{Body}
 use Rattle.c0_tree.specs.Tree.{CTy, pointer, array, CExpr, CStmt, assign, call, new, CName, asm}
 use Rattle.c0_tree.specs.View.{name_view, type_view, expr_view, decl_view, stmt_view, stmts_view, struct_view, body_view, function_view}
-use Rattle.c0_parser.specs.Value.{Value, token, pair, expr, type, decl, stmt, block, body, a_struct, a_global, a_function, place_of, name_at, text_of, defined, struct_of, args_of, stmts, decls, decls_from, params_of, decls_in, type_suffixes, type_suffixed, number_of, base_value, stored}
+use Rattle.c0_parser.specs.Value.{Value, token, pair, expr, type, decl, stmt, block, body, a_struct, a_global, a_function, place_of, name_at, text_of, defined}
+use Rattle.c0_parser.specs.Value.{struct_of, args_of, stmts, decls, decls_from, params_of, decls_in, type_suffixes, type_suffixed, number_of, base_value}
+use Rattle.c0_parser.specs.Value.{stored}
 use Rattle.c0_parser.specs.Factored.{factored_value, declared_as, item_after_name}
 use Rattle.c0_parser.specs.declared.expressions.Part.{Part}
 use Rattle.c0_parser.specs.declared.types.Typed.{Typed}
@@ -119,6 +121,10 @@ IsNumber n v = (t : CToken) × (v ≡ token t) × (number_of t.lexeme ≡ n)
 abbrev pub with_length : CTy → Option ℕ → CTy
 with_length t None = pointer t
 with_length t (Some n) = array t n
+
+-- a type with a suffix behind it, from where the type starts to where the suffix ends
+abbrev pub lengthened : Typed → Suffix → Value
+lengthened base x = type (record { start = base.span.start; end = x.end }) (with_length (type_view base.ty) x.length)
 
 -- a suffix of a type
 abbrev pub IsSuffix : Suffix → Value → Type 0

@@ -1,19 +1,19 @@
 // Expressions, by recursive descent.
 
 ghost use Rattle.std.specs.Prelude.{◌≡◌, ◌∷◌, [], ◌+◌, true, MatchOption, MatchResult};
-ghost use Rattle.c0_tokens.specs.Tokens.{CToken, token_view, lexeme_view};
+ghost use Rattle.c0_tokens.specs.Tokens.{token_view, lexeme_view};
 ghost use Rattle.c0_tokens.specs.declared.token.Mark.TheVariants.{True, False, Null};
 ghost use Rattle.c0_parser.specs.Sorts.{mark, sort, among, a_name, a_number};
-ghost use Rattle.c0_parser.specs.Value.{token, pair, name_at, literal as literal_of_token, operator as operator_of, across as across_of, place_of, suffixed, joined, chained, primary_value, unary_value};
+ghost use Rattle.c0_parser.specs.Value.{token, pair, literal as literal_of_token, operator as operator_of, across as across_of, place_of, suffixed};
+ghost use Rattle.c0_parser.specs.Value.{joined, chained, primary_value, unary_value};
 ghost use Rattle.c0_parser.specs.Grammar.{EXPR, the, maybe, unary, postfix, primary};
 ghost use Rattle.c0_parser.specs.Machine.{heads};
 ghost use Rattle.c0_parser.specs.Contract.{seen, Gives, GivesAny};
 ghost use Rattle.c0_parser.specs.Views.{IsPart};
 ghost use Rattle.c0_parser.specs.Levels.{rule_of, operand_of, marks_of, operation, chains, level_place};
-ghost use Rattle.c0_parser.specs.Tails.{part_value, GivesLiteral, TakesAny, FIELD, SUFFIX};
+ghost use Rattle.c0_parser.specs.Tails.{enclosed, part_value, GivesLiteral, IsFieldOf, IsNameOf, TakesAny, FIELD, SUFFIX};
 ghost use Rattle.c0_parser.specs.declared.reader.Halt.TheVariants.{Memory};
-ghost use Rattle.c0_tree.specs.declared.tree.Kind.TheVariants.{Unresolved};
-ghost use Rattle.c0_tree.specs.View.{expr_view, name_view};
+ghost use Rattle.c0_tree.specs.View.{expr_view};
 
 use crate::reader::{Halt, expect, name, next, take};
 use c0_tokens::{Lexeme, Mark, Token};
@@ -171,7 +171,7 @@ fn element(
     inner: Part,
     closing: &Token<'_>,
 ) -> Result<Part, Halt>
-    ensures { MatchResult result (λ p. IsPart p (suffixed (part_value left) (pair (token (token_view opening.now)) (pair (part_value inner) (token (token_view closing.now)))))) (λ h. h ≡ Memory) }
+    ensures { MatchResult result (λ p. IsPart p (suffixed (part_value left) (enclosed opening.now inner closing.now))) (λ h. h ≡ Memory) }
 {
     let span = across(left.span, place(closing));
     let array = Box::new(alloc, left.expr)?;
@@ -184,7 +184,7 @@ fn element(
 
 // A field behind `.` or `->`.
 fn field(alloc: Global, left: Part, sign: &Token<'_>, name: Name) -> Result<Part, Halt>
-    ensures { MatchResult result (λ p. (x : CToken) → name_at x ≡ name_view name → IsPart p (suffixed (part_value left) (pair (token (token_view sign.now)) (token x)))) (λ h. h ≡ Memory) }
+    ensures { MatchResult result (IsFieldOf left sign.now name) (λ h. h ≡ Memory) }
 {
     let span = across(left.span, name.span);
     let owner = Box::new(alloc, left.expr)?;
@@ -207,7 +207,7 @@ fn in_parens(inner: Part, opening: &Token<'_>, closing: &Token<'_>) -> Part
 
 // A name as it is read.
 fn name_of(alloc: Global, token: &Token<'_>, text: &[u8]) -> Result<Name, Halt>
-    ensures { MatchResult result (λ x. name_view x ≡ record { text = text.now; span = place_of (token_view token.now); kind = Unresolved; number = 0 }) (λ h. h ≡ Memory) }
+    ensures { MatchResult result (IsNameOf token.now text.now) (λ h. h ≡ Memory) }
 {
     let mut bytes = Vec::new(alloc);
     bytes.extend_from_slice(text)?;

@@ -3,9 +3,9 @@
 ghost use Rattle.std.specs.Prelude.{◌≡◌, ◌∷◌, [], false, MatchOption};
 ghost use Rattle.c0_tokens.specs.Tokens.{fixed, name as named, number, asm_text, lexeme_view};
 ghost use Rattle.c0_parser.specs.Sorts.{an_asm_text};
-ghost use Rattle.c0_parser.specs.Grammar.{one_of, sign, NAME, NUMBER};
+ghost use Rattle.c0_parser.specs.Grammar.{sign, NAME, NUMBER};
 ghost use Rattle.c0_parser.specs.Machine.{heads};
-ghost use Rattle.c0_parser.specs.Contract.{seen, Gives};
+ghost use Rattle.c0_parser.specs.Contract.{seen, Gives, IsNotNext};
 ghost use Rattle.c0_parser.specs.Views.{IsToken, IsName, IsNumber};
 ghost use Rattle.c0_parser.specs.declared.reader.Halt.TheVariants.{Memory};
 
@@ -134,7 +134,7 @@ pub fn number_here<'a>(ts: &'a [Token<'a>]) -> Result<(u32, &'a [Token<'a>]), Ha
 
 /// An asm text and its bytes, where one stands next.
 pub fn take_asm<'a>(ts: &'a [Token<'a>]) -> Option<(Token<'a>, &'a [u8], &'a [Token<'a>])>
-    ensures { MatchOption result (heads (one_of an_asm_text []) (seen ts.now) ≡ false) (λ p. (ts.now ≡ p.0 ∷ p.2.now) × (lexeme_view p.0.lexeme ≡ asm_text p.1.now)) }
+    ensures { MatchOption result (IsNotNext an_asm_text ts.now) (λ p. (ts.now ≡ p.0 ∷ p.2.now) × (lexeme_view p.0.lexeme ≡ asm_text p.1.now)) }
 {
     let (t, rest) = next(ts)?;
     match t.lexeme {

@@ -1,7 +1,7 @@
 // Types and declarations.
 
 ghost use Rattle.std.specs.Prelude.{◌≡◌, true, false, MatchOption, MatchResult};
-ghost use Rattle.c0_tree.specs.View.{type_view, name_view};
+ghost use Rattle.c0_tree.specs.View.{name_view};
 ghost use Rattle.c0_tree.specs.Tree.{int, bool, named};
 ghost use Rattle.c0_tokens.specs.Tokens.{token_view};
 ghost use Rattle.c0_parser.specs.declared.reader.Halt.TheVariants.{Memory};
@@ -10,7 +10,8 @@ ghost use Rattle.c0_tokens.specs.declared.token.Mark.TheVariants.{Comma};
 ghost use Rattle.c0_parser.specs.Grammar.{the, type, decl, sign, ◌▸◌, many, maybe, LINE, BASIC, BASE, SUFFIX, SUFFIXES};
 ghost use Rattle.c0_parser.specs.Contract.{seen, Gives, GivesAny, Reading};
 ghost use Rattle.c0_parser.specs.Machine.{heads};
-ghost use Rattle.c0_parser.specs.Views.{typed, IsBase, IsBasic, IsListed, AreMoreLines, IsExtended, with_length, IsSuffix, IsTyped, AreSuffixes, IsDecl, AreLines, AreFields, AreParams};
+ghost use Rattle.c0_parser.specs.Views.{typed, IsBase, IsBasic, IsListed, AreMoreLines, IsExtended, lengthened, IsSuffix, IsTyped, AreSuffixes, IsDecl};
+ghost use Rattle.c0_parser.specs.Views.{AreLines, AreFields, AreParams};
 
 use crate::reader::{Halt, expect, name, next, number_here, read_so_far, take};
 use c0_tokens::{Lexeme, Mark, Token};
@@ -67,7 +68,7 @@ fn one_suffix<'a>(ts: &'a [Token<'a>]) -> Result<(Suffix, &'a [Token<'a>]), Halt
 
 // The type with a suffix behind it.
 fn with_suffix(alloc: Global, base: Typed, suffix: Suffix) -> Result<Typed, Halt>
-    ensures { MatchResult result (λ t. typed t ≡ type_at (record { start = base.span.start; «end» = suffix.end }) (with_length (type_view base.ty) suffix.length)) (λ h. h ≡ Memory) }
+    ensures { MatchResult result (λ t. typed t ≡ lengthened base suffix) (λ h. h ≡ Memory) }
 {
     let part = Box::new(alloc, base.ty)?;
     let span = Span {

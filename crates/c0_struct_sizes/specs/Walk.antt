@@ -1,9 +1,12 @@
 -- A walk over a graph that finds which numbers lie on a cycle. The numbers that were met and aren't done stand on a path, each of which leads
 -- to the next. The path is cut into groups: what is known so far to lie on one cycle is one group. A group is done when no edge from it is left.
-use Rattle.std.specs.Prelude.{◌≡◌, ℕ, zero, suc, ◌+◌, ◌-◌, ◌<◌, ◌≤◌, min, Bool, true, false, ◌||◌, nat_lt, List, [], ◌∷◌, ◌++◌, length, drop, take, get_or, Option, None, Some}
+use Rattle.std.specs.Prelude.{◌≡◌, ℕ, zero, suc, ◌+◌, ◌-◌, ◌<◌, ◌≤◌, min, Bool, true, false, ◌||◌, nat_lt, List, [], ◌∷◌, ◌++◌, length, map, drop, take, get_or, Option, None, Some}
 use Rattle.std.proofs.Math.ListN.{set}
 use Rattle.c0_tree.specs.Tree.{CStruct}
+use Rattle.c0_meaning.specs.Env.{shape_of}
+use Rattle.c0_meaning.specs.Words.{holds}
 use Rattle.c0_meaning.specs.Sizes.{WORDS_CAP}
+use Rattle.c0_name_check.specs.Structs.{listed_words}
 use Rattle.c0_struct_sizes.specs.declared.walk.Mark.{Mark}
 use Rattle.c0_struct_sizes.specs.declared.walk.Mark.TheVariants.{Unseen, Open, Done}
 use Rattle.c0_struct_sizes.specs.declared.walk.Group.{Group}
@@ -157,6 +160,10 @@ IsWalkOver number structs s = IsWalk (edges number structs) (length structs) (Ar
 abbrev pub work_over : (List ℕ → Option ℕ) → List CStruct → State → ℕ
 work_over number structs s = work (edges number structs) s
 
+-- less is left of a walk over structs
+abbrev pub GoesOn : (List ℕ → Option ℕ) → List CStruct → State → State → Type 0
+GoesOn number structs old new = work_over number structs new < work_over number structs old
+
 -- whether the last group lies on a cycle: it has several structs, or its one struct has itself as a part
 abbrev pub is_last_cyclic : (List ℕ → Option ℕ) → List CStruct → State → Bool
 is_last_cyclic number structs s =
@@ -191,3 +198,15 @@ numbers_below (suc n) = numbers_below n ++ n ∷ []
 -- where a walk over so many numbers begins
 abbrev pub first_state : ℕ → State
 first_state count = record { marks = copies Unseen count; path = []; todo = numbers_below count; groups = []; words = copies 0 count }
+
+-- the words that a list gives structs by their numbers
+abbrev pub words_listed : List ℕ → (List ℕ → Option ℕ) → List CStruct → List ℕ
+words_listed words number structs = map (λ x. listed_words words (number x.name.text)) structs
+
+-- and which of them are on a cycle by a list of marks
+abbrev pub cycles_listed : List Mark → (List ℕ → Option ℕ) → List CStruct → List Bool
+cycles_listed marks number structs = map (λ x. listed_cyclic marks (number x.name.text)) structs
+
+-- which structs hold themselves
+abbrev pub holding_themselves : List CStruct → List Bool
+holding_themselves structs = map (λ x. holds (map shape_of structs) x.name.text x.name.text) structs

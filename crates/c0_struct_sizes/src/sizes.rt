@@ -5,8 +5,8 @@ ghost use Rattle.c0_meaning.specs.Env.{shape_of};
 ghost use Rattle.c0_meaning.specs.Words.{holds};
 ghost use Rattle.c0_name_check.specs.Names.{look, number_named};
 ghost use Rattle.c0_meaning.specs.Sizes as table;
-ghost use Rattle.c0_name_check.specs.Structs.{KnowsStructs, listed_words};
-ghost use Rattle.c0_struct_sizes.specs.Walk.{listed_cyclic};
+ghost use Rattle.c0_name_check.specs.Structs.{KnowsStructs};
+ghost use Rattle.c0_struct_sizes.specs.Walk.{cycles_listed, holding_themselves, words_listed};
 ghost use Rattle.c0_tree.specs.View.{struct_view};
 
 use crate::walk::{Walk, walk_over};
@@ -34,7 +34,7 @@ pub fn struct_sizes(
     requires few { length structs.now < 2 ^ 32 }
     ensures words { IfOk result (λ s. KnowsStructs names.now s.words.items (map shape_of (map struct_view structs.now))) }
     ensures table { IfOk result (λ s. s.words.items ≡ table.struct_sizes (map shape_of (map struct_view structs.now))) }
-    ensures held { IfOk result (λ s. s.holds_itself.items ≡ map (λ x. holds (map shape_of (map struct_view structs.now)) x.name.text x.name.text) (map struct_view structs.now)) }
+    ensures held { IfOk result (λ s. s.holds_itself.items ≡ holding_themselves (map struct_view structs.now)) }
 {
     holding_is_as_tested();
     words_are_those_of_the_parts();
@@ -56,8 +56,8 @@ fn sizes_of(
     structs: &[StructDef],
     walk: &Walk,
 ) -> Result<StructSizes, AllocError>
-    ensures words { IfOk result (λ s. s.words.items ≡ map (λ x. listed_words walk.now.words.items (look names.now x.name.text)) (map struct_view structs.now)) }
-    ensures held { IfOk result (λ s. s.holds_itself.items ≡ map (λ x. listed_cyclic walk.now.marks.items (look names.now x.name.text)) (map struct_view structs.now)) }
+    ensures words { IfOk result (λ s. s.words.items ≡ words_listed walk.now.words.items (look names.now) (map struct_view structs.now)) }
+    ensures held { IfOk result (λ s. s.holds_itself.items ≡ cycles_listed walk.now.marks.items (look names.now) (map struct_view structs.now)) }
 {
     let mut words = Vec::new(alloc);
     let mut holds_itself = Vec::new(alloc);

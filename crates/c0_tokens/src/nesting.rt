@@ -1,6 +1,7 @@
 // How deep the brackets of a source nest.
 ghost use Rattle.std.specs.Prelude.{◌≡◌, ◌+◌, ◌<◌, ◌≤◌};
-ghost use Rattle.c0_tokens.specs.Nesting.{opens as opens_of, closes as closes_of, ends_run as ends_run_of, outside, depth_after, is_too_nested as is_too_nested_of, at_depth};
+ghost use Rattle.c0_tokens.specs.Nesting.{opens as opens_of, closes as closes_of, ends_run as ends_run_of, outside, depth_after};
+ghost use Rattle.c0_tokens.specs.Nesting.{is_too_nested as is_too_nested_of, at_depth};
 ghost use Rattle.c0_tokens.specs.Tokens.{lexeme_view};
 ghost use Rattle.c0_tokens.specs.View.{depth_view};
 

@@ -28,6 +28,14 @@ pub record IsMistypedAs (program : Program) (source : List ℕ) (f : TypeFault) 
   pub reads : Reads source tree
   pub answers : FaultAnswersAs program tree f
 
+-- what is so of the tree that a source that isn't too long reads as
+abbrev pub OfTree : List ℕ → (CUnit → Type 0) → Type 0
+OfTree source is = (tree : CUnit) → length source ≤ 1048576 → Reads source tree → is tree
+
+-- a unit is the checked one of this tree, in which no fault of typing stands
+abbrev pub IsCheckedOf : Program → CUnit → CUnit → Type 0
+IsCheckedOf program tree checked = (source_faults_as program tree ≡ []) × (checked ≡ checked_as program tree)
+
 -- why a source has no checked unit: the fault of its first token that cannot be, or the first fault of typing of its tree
 abbrev pub IsFaultAs : Program → List ℕ → SourceFault → Type 0
 IsFaultAs program source (Reading f) = FaultIs source f

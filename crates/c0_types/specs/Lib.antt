@@ -2,6 +2,7 @@ pub mod Source
 pub mod Parts
 pub mod Answer
 pub mod Known
+pub mod Checks
 pub mod SourceOrder
 pub mod NumberedStruct
 pub mod TypedSource

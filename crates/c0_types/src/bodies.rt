@@ -1,9 +1,8 @@
 // The bodies of functions.
 
-ghost use Rattle.std.specs.Prelude.{◌≡◌, ◌<◌, ◌+◌, ◌-◌, ◌^◌, ◌++◌, true, IsTrue, List, ℕ, Some, None, [], IfOk, IfSome, OnOk, is_some, length, map, min};
+ghost use Rattle.std.specs.Prelude.{◌≡◌, ◌<◌, ◌+◌, ◌-◌, ◌^◌, ◌++◌, true, IsTrue, Some, None, [], IfOk, IfSome, OnOk, is_some, length, map, min};
 ghost use Rattle.std.specs.Option.{option_or};
 ghost use Rattle.c0_asm_text.specs.AsmText.{bad_line, text_words};
-ghost use Rattle.c0_meaning.specs.Form.{ty_view};
 ghost use Rattle.c0_body_check.specs.Scope.{Tells, typed_view};
 ghost use Rattle.c0_body_check.specs.Stmts.{code_faults, resolved_of_stmts};
 ghost use Rattle.c0_meaning.specs.Asm.{are_allowed_words};
@@ -13,14 +12,14 @@ ghost use Rattle.c0_meaning.specs.Fault.{kept_all};
 ghost use Rattle.c0_meaning.specs.Limits.{words_held};
 ghost use Rattle.c0_meaning.specs.Names.{decl_name_faults};
 ghost use Rattle.c0_meaning.specs.Resolved.{resolved_decls};
-ghost use Rattle.c0_name_check.specs.Met.{met_view};
-ghost use Rattle.c0_name_check.specs.Names.{look, number_named};
+ghost use Rattle.c0_name_check.specs.Met.{Meets, met_view};
 ghost use Rattle.c0_tree.specs.Plain.{is_plain_body};
 ghost use Rattle.c0_tree.specs.Size.{nodes, stmts_nodes};
 ghost use Rattle.c0_tree.specs.Tree.{code};
 ghost use Rattle.c0_tree.specs.View.{body_view, decl_view, expr_view, stmts_view, type_view};
-ghost use Rattle.c0_types.specs.Known.{KnowsUnit, unit_env};
-ghost use Rattle.c0_types.specs.Parts.{inner_body, inner_faults, nodes_with, text_faults};
+ghost use Rattle.c0_types.specs.Checks.{checked_as_body, faults_as_body, faults_as_text};
+ghost use Rattle.c0_types.specs.Known.{KnowsUnit};
+ghost use Rattle.c0_types.specs.Parts.{nodes_with};
 ghost use Rattle.c0_types.specs.Source.{line_fault, read_body};
 
 use crate::decls::check_decls;
@@ -64,7 +63,7 @@ fn name_locals(
     least: &mut Option<Fault>,
 ) -> Result<Names, AllocError>
     requires { length params.now < 2 ^ 32 }
-    ensures names { IfOk result (λ n. (text : List ℕ) → look n text ≡ number_named (λ d. d.name.text) text 0 (map decl_view params.now ++ map decl_view locals.now)) }
+    ensures names { IfOk result (λ n. Tells (λ d. d.name.text) n (map decl_view params.now ++ map decl_view locals.now)) }
     ensures met { OnOk result (met_view least.new ≡ kept_all (met_view least.old) (decl_name_faults (map decl_view params.now ++ map decl_view locals.now))) }
     ensures few { OnOk result (length params.now + length locals.now < 2 ^ 32) }
 {
@@ -102,8 +101,8 @@ fn check_statements(
     requires knows { KnowsUnit declared.now functions.now }
     requires params { length function.now.params.items < 2 ^ 32 }
     ensures nodes { IfOk result (λ n. n ≡ min (nodes_with (length function.now.params.items) (body_view (Body.Code code.old))) (2 ^ 32 - 1)) }
-    ensures met { OnOk result (met_view least.new ≡ kept_all (met_view least.old) (inner_faults (unit_env declared.now functions.now) function.now.name.span (map decl_view function.now.params.items) (ty_view function.now.answer) (body_view (Body.Code code.old)))) }
-    ensures resolved { OnOk result (body_view (Body.Code code.new) ≡ inner_body (unit_env declared.now functions.now) (map decl_view function.now.params.items) (body_view (Body.Code code.old))) }
+    ensures met { OnOk result (Meets least.old least.new (faults_as_body declared.now functions.now function.now (body_view (Body.Code code.old)))) }
+    ensures resolved { OnOk result (body_view (Body.Code code.new) ≡ checked_as_body declared.now functions.now function.now (body_view (Body.Code code.old))) }
 {
     let names = name_locals(alloc, &function.params, &code.locals, least)?;
     let count = function.params.len();
@@ -184,7 +183,7 @@ fn check_text(
     requires params { length function.now.params.items < 2 ^ 32 }
     requires text { length text.old.bytes.items < 2 ^ 32 }
     ensures nodes { IfOk result (λ n. n ≡ min (nodes_with (length function.now.params.items) (read_body (body_view (Body.Asm text.old)))) (2 ^ 32 - 1)) }
-    ensures met { OnOk result (met_view least.new ≡ kept_all (met_view least.old) (text_faults function.now.name.span (map decl_view function.now.params.items) text.old.bytes.items text.old.span)) }
+    ensures met { OnOk result (Meets least.old least.new (faults_as_text function.now text.old)) }
     ensures read { OnOk result (body_view (Body.Asm text.new) ≡ read_body (body_view (Body.Asm text.old))) }
     ensures allowed { OnOk result (IsTrue (are_allowed_words text.new.words.items)) }
 {
@@ -217,8 +216,8 @@ pub fn check_body(
     requires params { length function.now.params.items < 2 ^ 32 }
     requires plain { is_plain_body (body_view body.old) ≡ true }
     ensures nodes { IfOk result (λ n. n ≡ min (nodes_with (length function.now.params.items) (read_body (body_view body.old))) (2 ^ 32 - 1)) }
-    ensures met { OnOk result (met_view least.new ≡ kept_all (met_view least.old) (inner_faults (unit_env declared.now functions.now) function.now.name.span (map decl_view function.now.params.items) (ty_view function.now.answer) (body_view body.old))) }
-    ensures resolved { OnOk result (body_view body.new ≡ inner_body (unit_env declared.now functions.now) (map decl_view function.now.params.items) (body_view body.old)) }
+    ensures met { OnOk result (Meets least.old least.new (faults_as_body declared.now functions.now function.now (body_view body.old))) }
+    ensures resolved { OnOk result (body_view body.new ≡ checked_as_body declared.now functions.now function.now (body_view body.old)) }
     ensures allowed { OnOk result (IsTrue (are_allowed_words (words_held (body_view body.new)))) }
 {
     match body {

@@ -1,14 +1,13 @@
 // Declarations: their types are checked, and their names get their numbers.
 
-ghost use Rattle.std.specs.Prelude.{◌≡◌, ◌<◌, ◌+◌, ◌^◌, List, length, map, nat_lt};
+ghost use Rattle.std.specs.Prelude.{◌≡◌, ◌<◌, ◌+◌, ◌^◌, length, map, nat_lt};
 ghost use Rattle.c0_meaning.specs.DeclaredTypes.{declared_faults};
-ghost use Rattle.c0_meaning.specs.Env.{Shape, typed_of};
-ghost use Rattle.c0_meaning.specs.Fault.{kept_all};
+ghost use Rattle.c0_meaning.specs.Env.{typed_of};
 ghost use Rattle.c0_meaning.specs.Limits.{MAX_GLOBAL_WORDS};
 ghost use Rattle.c0_meaning.specs.Resolved.{resolved_decls};
 ghost use Rattle.c0_meaning.specs.Words.{all_words};
-ghost use Rattle.c0_name_check.specs.Met.{met_view};
-ghost use Rattle.c0_name_check.specs.Structs.{KnowsStructs};
+ghost use Rattle.c0_name_check.specs.Met.{Meets};
+ghost use Rattle.c0_name_check.specs.Structs.{OfStructs};
 ghost use Rattle.c0_tree.specs.View.{decl_view};
 
 use c0_name_check::met::Fault;
@@ -29,8 +28,8 @@ pub fn check_decls(
     least: &mut Option<Fault>,
 )
     requires few { first + length decls.old < 2 ^ 32 }
-    ensures met { (shapes : List Shape) → KnowsStructs names.now words.now shapes → met_view least.new ≡ kept_all (met_view least.old) (declared_faults shapes (map decl_view decls.old)) }
-    ensures named { (shapes : List Shape) → KnowsStructs names.now words.now shapes → map decl_view decls.new ≡ resolved_decls shapes kind first (map decl_view decls.old) }
+    ensures met { OfStructs names.now words.now (λ shapes. Meets least.old least.new (declared_faults shapes (map decl_view decls.old))) }
+    ensures named { OfStructs names.now words.now (λ shapes. map decl_view decls.new ≡ resolved_decls shapes kind first (map decl_view decls.old)) }
 {
     let mut number = first;
     for decl in decls.iter_mut() {
@@ -44,7 +43,7 @@ pub fn check_decls(
 /// Whether globals have too many words together.
 pub fn are_too_large(names: &Names, words: &[u32], globals: &[Decl]) -> bool
     requires few { length globals.now < 2 ^ 32 }
-    ensures { (shapes : List Shape) → KnowsStructs names.now words.now shapes → result ≡ nat_lt MAX_GLOBAL_WORDS (all_words shapes (map typed_of (map decl_view globals.now))) }
+    ensures { OfStructs names.now words.now (λ shapes. result ≡ nat_lt MAX_GLOBAL_WORDS (all_words shapes (map typed_of (map decl_view globals.now)))) }
 {
     let mut sum = 0u64;
     for decl in globals {

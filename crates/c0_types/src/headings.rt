@@ -1,13 +1,12 @@
 // The headings of functions: their results and parameters.
 
-ghost use Rattle.std.specs.Prelude.{◌≡◌, ◌<◌, ◌^◌, List, length, map};
+ghost use Rattle.std.specs.Prelude.{◌≡◌, ◌<◌, ◌^◌, length, map};
 ghost use Rattle.c0_meaning.specs.DeclaredTypes as spec;
-ghost use Rattle.c0_meaning.specs.Env.{Shape};
 ghost use Rattle.c0_meaning.specs.Fault.{kept_all};
 ghost use Rattle.c0_meaning.specs.Limits as limits;
 ghost use Rattle.c0_meaning.specs.Ty.{ty_of};
-ghost use Rattle.c0_name_check.specs.Met.{met_view};
-ghost use Rattle.c0_name_check.specs.Structs.{KnowsStructs};
+ghost use Rattle.c0_name_check.specs.Met.{Meets, met_view};
+ghost use Rattle.c0_name_check.specs.Structs.{OfStructs};
 ghost use Rattle.c0_tree.specs.View.{body_view, decl_view, function_view, type_view};
 ghost use Rattle.c0_types.specs.Parts.{heading_faults, headed};
 
@@ -71,8 +70,8 @@ pub fn check_heading(
     least: &mut Option<Fault>,
 )
     requires few { length function.old.params.items < 2 ^ 32 }
-    ensures met { (shapes : List Shape) → KnowsStructs names.now words.now shapes → met_view least.new ≡ kept_all (met_view least.old) (heading_faults shapes (function_view function.old)) }
-    ensures named { (shapes : List Shape) → KnowsStructs names.now words.now shapes → function_view function.new ≡ headed shapes number (function_view function.old) }
+    ensures met { OfStructs names.now words.now (λ shapes. Meets least.old least.new (heading_faults shapes (function_view function.old))) }
+    ensures named { OfStructs names.now words.now (λ shapes. function_view function.new ≡ headed shapes number (function_view function.old)) }
 {
     let is_asm = is_asm_text(&function.body);
     check_type(

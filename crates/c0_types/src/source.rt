@@ -1,14 +1,12 @@
 // A whole source.
 
-ghost use Rattle.std.specs.Prelude.{◌≡◌, ◌<◌, ◌≤◌, [], length, Err, IfOk, IfErr, MatchResult};
-ghost use Rattle.c0_tree.specs.Tree.{CUnit};
+ghost use Rattle.std.specs.Prelude.{◌≡◌, ◌<◌, [], length, Err, IfOk, IfErr, MatchResult};
 ghost use Rattle.c0_tree.specs.View.{unit_view};
-ghost use Rattle.c0_parser.specs.Faults.{Reads};
 ghost use Rattle.c0_parser.specs.declared.fault.ReadFault.TheVariants.{SourceTooLong};
 ghost use Rattle.c0_tree.specs.declared.primitive.Program.TheVariants.{User};
 ghost use Rattle.c0_meaning.specs.Unit.{IsCheckedAs};
-ghost use Rattle.c0_types.specs.Source.{checked_as, checked_unit, source_faults, source_faults_as};
-ghost use Rattle.c0_types.specs.Front.{IsUnitAs, IsUnitOf, IsFaultAs, IsFaultOf, IsFaultIn, IsFaultInAs};
+ghost use Rattle.c0_types.specs.Source.{checked_unit, source_faults};
+ghost use Rattle.c0_types.specs.Front.{OfTree, IsCheckedOf, IsUnitAs, IsUnitOf, IsFaultAs, IsFaultOf, IsFaultIn, IsFaultInAs};
 ghost use Rattle.c0_types.specs.declared.source_fault.SourceFault.TheVariants.{Reading};
 
 use crate::source_fault::SourceFault;
@@ -24,7 +22,7 @@ fn read_as(alloc: Global, program: Program, source: &[u8]) -> Result<Unit, Sourc
     ensures checked { IfOk result (λ v. IsCheckedAs program (unit_view v)) }
     ensures found { IfOk result (λ v. IsUnitAs program source.now (unit_view v)) }
     ensures fault { IfErr result (IsFaultAs program source.now) }
-    ensures only { (u : CUnit) → length source.now ≤ 1048576 → Reads source.now u → MatchResult result (λ v. (source_faults_as program u ≡ []) × (unit_view v ≡ checked_as program u)) (IsFaultInAs program u) }
+    ensures only { OfTree source.now (λ u. MatchResult result (λ v. IsCheckedOf program u (unit_view v)) (IsFaultInAs program u)) }
 {
     match parse(alloc, source) {
         Ok(unit) => match checked(alloc, program, unit) {
@@ -43,7 +41,7 @@ pub fn read_unit(alloc: Global, source: &[u8]) -> Result<Checked, SourceFault>
     ensures too_long { 1048576 < length source.now → result ≡ Err (Reading SourceTooLong) }
     ensures found { IfOk result (λ c. IsUnitOf source.now (unit_view c)) }
     ensures fault { IfErr result (IsFaultOf source.now) }
-    ensures only { (u : CUnit) → length source.now ≤ 1048576 → Reads source.now u → MatchResult result (λ c. (source_faults u ≡ []) × (unit_view c ≡ checked_unit u)) (IsFaultIn u) }
+    ensures only { OfTree source.now (λ u. MatchResult result (λ c. (source_faults u ≡ []) × (unit_view c ≡ checked_unit u)) (IsFaultIn u)) }
 {
     match read_as(alloc, Program::Kernel, source) {
         Ok(unit) => Ok(Checked::new(unit)),
@@ -56,7 +54,7 @@ pub fn read_program(alloc: Global, source: &[u8]) -> Result<UserChecked, SourceF
     ensures too_long { 1048576 < length source.now → result ≡ Err (Reading SourceTooLong) }
     ensures found { IfOk result (λ c. IsUnitAs User source.now (unit_view c)) }
     ensures fault { IfErr result (IsFaultAs User source.now) }
-    ensures only { (u : CUnit) → length source.now ≤ 1048576 → Reads source.now u → MatchResult result (λ c. (source_faults_as User u ≡ []) × (unit_view c ≡ checked_as User u)) (IsFaultInAs User u) }
+    ensures only { OfTree source.now (λ u. MatchResult result (λ c. IsCheckedOf User u (unit_view c)) (IsFaultInAs User u)) }
 {
     match read_as(alloc, Program::User, source) {
         Ok(unit) => Ok(UserChecked::new(unit)),

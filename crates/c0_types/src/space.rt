@@ -1,14 +1,13 @@
 // The space of globals, functions and primitives.
 
 ghost use Rattle.std.specs.Prelude.{◌≡◌, ◌<◌, ◌^◌, ℕ, List, IfOk, OnOk, is_some, length, map};
-ghost use Rattle.c0_meaning.specs.Fault.{kept_all};
-ghost use Rattle.c0_meaning.specs.Names.{unit_names, unit_name_faults};
-ghost use Rattle.c0_name_check.specs.Met.{met_view};
+ghost use Rattle.c0_name_check.specs.Met.{Meets};
 ghost use Rattle.c0_name_check.specs.Names.{look, number_named};
 ghost use Rattle.c0_name_check.specs.Spaces.{twice_by};
 ghost use Rattle.c0_tree.specs.Primitives.{CPrimitive, primitive_view};
 ghost use Rattle.c0_tree.specs.Tree.{CDecl, CFunction};
 ghost use Rattle.c0_tree.specs.View.{decl_view, function_view};
+ghost use Rattle.c0_types.specs.Checks.{name_faults_of_unit, names_of_unit};
 ghost use Rattle.c0_types.specs.SourceOrder.{comes_next};
 
 use c0_name_check::met::Fault;
@@ -110,7 +109,7 @@ fn meet_twice(
     functions: &[Function],
     least: &mut Option<Fault>,
 ) -> Result<(), AllocError>
-    ensures { OnOk result (met_view least.new ≡ kept_all (met_view least.old) (twice_by (λ q. is_some (look space.old q)) (unit_names (map decl_view globals.now) (map function_view functions.now)))) }
+    ensures { OnOk result (Meets least.old least.new (twice_by (λ q. is_some (look space.old q)) (names_of_unit globals.now functions.now))) }
 {
     let mut global = 0usize;
     let mut function = 0usize;
@@ -141,7 +140,7 @@ pub fn name_unit(
     ensures globals { IfOk result (λ n. (text : List ℕ) → look n.globals text ≡ number_named (λ d. d.name.text) text 0 (map decl_view globals.now)) }
     ensures functions { IfOk result (λ n. (text : List ℕ) → look n.functions text ≡ number_named (λ f. f.name.text) text 0 (map function_view functions.now)) }
     ensures primitives { IfOk result (λ n. (text : List ℕ) → look n.primitives text ≡ number_named (λ p. p.name) text 0 (map primitive_view primitives.now)) }
-    ensures met { OnOk result (met_view least.new ≡ kept_all (met_view least.old) (unit_name_faults (map primitive_view primitives.now) (map decl_view globals.now) (map function_view functions.now))) }
+    ensures met { OnOk result (Meets least.old least.new (name_faults_of_unit primitives.now globals.now functions.now)) }
 {
     twice_by_test_is_twice();
     let mut space = number_all(alloc, primitives)?;

@@ -1,6 +1,6 @@
 // The structs of a unit.
 
-ghost use Rattle.std.specs.Prelude.{◌≡◌, ◌<◌, ◌++◌, ◌^◌, ℕ, List, IfOk, OnOk, length, map};
+ghost use Rattle.std.specs.Prelude.{◌≡◌, ◌<◌, ◌^◌, ℕ, List, IfOk, OnOk, length, map};
 ghost use Rattle.std.specs.List.{All};
 ghost use Rattle.c0_body_check.specs.Scope.{FieldsTell, Tells, typed_view};
 ghost use Rattle.c0_meaning.specs.DeclaredTypes as spec;
@@ -9,13 +9,13 @@ ghost use Rattle.c0_meaning.specs.Fault.{kept_all};
 ghost use Rattle.c0_meaning.specs.Names.{struct_name_faults, decl_name_faults};
 ghost use Rattle.c0_meaning.specs.Resolved.{resolved_structs};
 ghost use Rattle.c0_meaning.specs.Ty as ty;
-ghost use Rattle.c0_meaning.specs.Unit.{struct_faults, structs_faults};
+ghost use Rattle.c0_meaning.specs.Unit.{structs_faults};
 ghost use Rattle.c0_meaning.specs.Words.{holds};
-ghost use Rattle.c0_name_check.specs.Met.{met_view};
+ghost use Rattle.c0_name_check.specs.Met.{Meets, met_view};
 ghost use Rattle.c0_name_check.specs.Names.{look, number_named};
-ghost use Rattle.c0_name_check.specs.Structs.{KnowsStructs};
+ghost use Rattle.c0_name_check.specs.Structs.{KnowsStructs, OfStructs};
 ghost use Rattle.c0_tree.specs.View.{decl_view, struct_view};
-ghost use Rattle.c0_types.specs.NumberedStruct.{numbered_struct};
+ghost use Rattle.c0_types.specs.Checks.{MeetsStruct, ResolvesStruct, faults_of_structs};
 
 use crate::decls::check_decls;
 use c0_meaning::limits::MAX_TYPE_WORDS;
@@ -94,9 +94,9 @@ fn check_struct(
     least: &mut Option<Fault>,
 ) -> Result<Names, AllocError>
     requires few { length definition.old.fields.items < 2 ^ 32 }
-    ensures fields { IfOk result (λ n. (shapes : List Shape) → KnowsStructs names.now words.now shapes → Tells (λ v. v.text) n (map typed_view definition.new.fields.items)) }
-    ensures named { OnOk result ((shapes : List Shape) → KnowsStructs names.now words.now shapes → struct_view definition.new ≡ numbered_struct shapes number (struct_view definition.old)) }
-    ensures met { OnOk result ((shapes : List Shape) → KnowsStructs names.now words.now shapes → holds_itself ≡ holds shapes definition.old.name.bytes.items definition.old.name.bytes.items → met_view least.new ≡ kept_all (met_view least.old) (struct_faults shapes (struct_view definition.old))) }
+    ensures fields { IfOk result (λ n. OfStructs names.now words.now (λ shapes. Tells (λ v. v.text) n (map typed_view definition.new.fields.items))) }
+    ensures named { OnOk result (OfStructs names.now words.now (ResolvesStruct number definition.old definition.new)) }
+    ensures met { OnOk result (OfStructs names.now words.now (MeetsStruct least.old least.new holds_itself definition.old)) }
 {
     let too_large = is_too_large(names, words, &definition.name);
     let span = definition.name.span;
@@ -124,7 +124,7 @@ fn check_each(
     requires held { hold_themselves.now ≡ map (λ x. holds (map shape_of (map struct_view structs.old)) x.name.text x.name.text) (map struct_view structs.old) }
     ensures fields { IfOk result (λ n. FieldsTell n.items structs.new) }
     ensures named { OnOk result (map struct_view structs.new ≡ resolved_structs (map shape_of (map struct_view structs.old)) 0 (map struct_view structs.old)) }
-    ensures met { OnOk result (met_view least.new ≡ kept_all (met_view least.old) (structs_faults (map shape_of (map struct_view structs.old)) (map struct_view structs.old))) }
+    ensures met { OnOk result (Meets least.old least.new (structs_faults (map shape_of (map struct_view structs.old)) (map struct_view structs.old))) }
 {
     let mut field_names = Vec::new(alloc);
     let mut number = 0u32;
@@ -148,7 +148,7 @@ pub fn check_structs(
     ensures known { IfOk result (λ k. KnowsStructs k.names k.words.items (map shape_of (map struct_view structs.old))) }
     ensures fields { IfOk result (λ k. FieldsTell k.field_names.items structs.new) }
     ensures named { OnOk result (map struct_view structs.new ≡ resolved_structs (map shape_of (map struct_view structs.old)) 0 (map struct_view structs.old)) }
-    ensures met { OnOk result (met_view least.new ≡ kept_all (met_view least.old) (struct_name_faults (map struct_view structs.old) ++ structs_faults (map shape_of (map struct_view structs.old)) (map struct_view structs.old))) }
+    ensures met { OnOk result (Meets least.old least.new (faults_of_structs (map struct_view structs.old))) }
 {
     let names = name_structs(alloc, structs, least)?;
     let sizes = struct_sizes(alloc, &names, structs)?;

@@ -1,21 +1,22 @@
 // A whole unit.
 
-ghost use Rattle.std.specs.Prelude.{◌≡◌, ◌<◌, ◌-◌, ◌^◌, true, [], List, IfOk, IfErr, OnOk, length, map, min, slice_index_or, slice_set};
+ghost use Rattle.std.specs.Prelude.{◌≡◌, ◌<◌, ◌-◌, ◌^◌, true, [], IfOk, IfErr, OnOk, length, map, min, slice_index_or};
 ghost use Rattle.std.specs.List.{list_any, list_all};
-ghost use Rattle.c0_meaning.specs.Env.{Shape};
 ghost use Rattle.c0_meaning.specs.Fault.{kept_all};
 ghost use Rattle.c0_meaning.specs.Limits as limits;
 ghost use Rattle.c0_meaning.specs.Unit.{IsCheckedAs};
-ghost use Rattle.c0_name_check.specs.Met.{met_view, number_of};
-ghost use Rattle.c0_name_check.specs.Structs.{KnowsStructs};
+ghost use Rattle.c0_name_check.specs.Met.{Meets, met_view, number_of};
+ghost use Rattle.c0_name_check.specs.Structs.{OfStructs};
 ghost use Rattle.c0_tree.specs.Plain.{is_plain};
 ghost use Rattle.c0_tree.specs.Primitives.{primitive_view, primitives_of};
 ghost use Rattle.c0_tree.specs.Tree.{CFunction};
 ghost use Rattle.c0_tree.specs.View.{function_view, unit_view};
 ghost use Rattle.c0_tree.specs.declared.primitive.Program.TheVariants.{Kernel, User};
 ghost use Rattle.c0_types.specs.Answer.{FaultAnswers, FaultAnswersAs};
+ghost use Rattle.c0_types.specs.Checks.{ChecksBodyAt, MeetsBodyAt};
 ghost use Rattle.c0_types.specs.Known.{KnowsUnit, TellUnit, unit_env};
-ghost use Rattle.c0_types.specs.Parts.{bodied, bodies_faults, faults_of_body, functions_nodes, headed_functions, headings_faults, is_plain_function, nodes_read, outer_faults, outer_unit};
+ghost use Rattle.c0_types.specs.Parts.{bodied, bodies_faults, functions_nodes, headed_functions, headings_faults, is_plain_function};
+ghost use Rattle.c0_types.specs.Parts.{nodes_read, outer_faults, outer_unit};
 ghost use Rattle.c0_types.specs.Source.{checked_as, checked_unit, source_faults, source_faults_as};
 ghost use Rattle.c0_types.specs.TypedSource.{IsTypedSource};
 
@@ -66,8 +67,8 @@ fn check_headings(
 )
     requires few { length functions.old < 2 ^ 32 }
     requires plain { list_all is_plain_function (map function_view functions.old) ≡ true }
-    ensures met { (shapes : List Shape) → KnowsStructs names.now words.now shapes → met_view least.new ≡ kept_all (met_view least.old) (headings_faults shapes (map function_view functions.old)) }
-    ensures named { (shapes : List Shape) → KnowsStructs names.now words.now shapes → map function_view functions.new ≡ headed_functions shapes 0 (map function_view functions.old) }
+    ensures met { OfStructs names.now words.now (λ shapes. Meets least.old least.new (headings_faults shapes (map function_view functions.old))) }
+    ensures named { OfStructs names.now words.now (λ shapes. map function_view functions.new ≡ headed_functions shapes 0 (map function_view functions.old)) }
 {
     let mut number = 0;
     for function in functions {
@@ -88,8 +89,8 @@ fn check_body_at(
     requires within { place < length functions.old }
     requires plain { (other : CFunction) → is_plain_function (slice_index_or (map function_view functions.old) place other) ≡ true }
     ensures nodes { IfOk result (λ n. (other : CFunction) → n ≡ min (nodes_read (slice_index_or (map function_view functions.old) place other)) (2 ^ 32 - 1)) }
-    ensures met { OnOk result ((other : CFunction) → met_view least.new ≡ kept_all (met_view least.old) (faults_of_body (unit_env declared.now functions.old) (slice_index_or (map function_view functions.old) place other))) }
-    ensures resolved { OnOk result ((other : CFunction) → map function_view functions.new ≡ slice_set (map function_view functions.old) place (bodied (unit_env declared.now functions.old) (slice_index_or (map function_view functions.old) place other))) }
+    ensures met { OnOk result (MeetsBodyAt declared.now functions.old place least.old least.new) }
+    ensures resolved { OnOk result (ChecksBodyAt declared.now place functions.old functions.new) }
 {
     let function = &mut functions[place];
     let empty = Body::Asm(AsmText {
@@ -114,7 +115,7 @@ fn check_bodies(
     requires knows { KnowsUnit declared.now functions.old }
     requires plain { list_all is_plain_function (map function_view functions.old) ≡ true }
     ensures nodes { IfOk result (λ n. n ≡ min (functions_nodes (map function_view functions.old)) (2 ^ 32 - 1)) }
-    ensures met { OnOk result (met_view least.new ≡ kept_all (met_view least.old) (bodies_faults (unit_env declared.now functions.old) (map function_view functions.old))) }
+    ensures met { OnOk result (Meets least.old least.new (bodies_faults (unit_env declared.now functions.old) (map function_view functions.old))) }
     ensures resolved { OnOk result (map function_view functions.new ≡ map (bodied (unit_env declared.now functions.old)) (map function_view functions.old)) }
 {
     let mut nodes = 0u32;

@@ -12,7 +12,7 @@ use Rattle.layer_map.specs.declared.params.Params.{Params}
 use Rattle.cvm_words.specs.Words.{quotient}
 use Rattle.c0_tree.specs.declared.tree.Kind.TheVariants.{Function}
 use Rattle.c0_tree.specs.Tree.{choice, done, next}
-use Rattle.c0_meaning.specs.Kernels.{z, name, local}
+use Rattle.worked_rows.specs.Kernels.{z, name, local}
 use Rattle.c0_meaning.specs.Value.{int, group, empty, part}
 use Rattle.c0_meaning.specs.State.{State, Frame}
 use Rattle.c0_meaning.specs.Operators.{divided}

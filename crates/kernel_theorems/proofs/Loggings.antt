@@ -5,7 +5,7 @@ use Rattle.std.specs.Int.{int_wrap, w32}
 use Rattle.std.proofs.lemmas.Bool.{le-ltb, ltb-true, ltb-false}
 use Rattle.std.proofs.lemmas.Int.{int_wrap_fits}
 use Rattle.c0_tree.specs.Tree.{done}
-use Rattle.c0_meaning.specs.Kernels.{z, local}
+use Rattle.worked_rows.specs.Kernels.{z, local}
 use Rattle.c0_meaning.specs.Value.{Value, int, group, empty, part}
 use Rattle.c0_meaning.specs.State.{State}
 use Rattle.c0_meaning.specs.World.{Meaning, Setting, Configuration, beginning}

@@ -4,7 +4,7 @@ use Rattle.c0_tree.specs.declared.tree.Kind.TheVariants.{Global, Local, Function
 use Rattle.c0_tree.specs.declared.tree.BinaryOp.TheVariants.{Add, Div, Lt, Gt, Ge, Eq, Ne, And}
 use Rattle.c0_tree.specs.Tree.{CUnit, CFunction, CDecl, CExpr, CStmts, null, index, deref, binary, assign, call, new, choice, done, next, code}
 use Rattle.c0_tree.specs.Tree as tree
-use Rattle.c0_meaning.specs.Kernels.{z, name, decl, global, local, number, block, function, causes}
+use Rattle.worked_rows.specs.Kernels.{z, name, decl, global, local, number, block, function, causes}
 
 abbrev pub bump_locals : List CDecl
 bump_locals = decl tree.int (codes "seen") Local 1 ∷ []

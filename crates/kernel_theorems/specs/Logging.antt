@@ -5,8 +5,8 @@ use Rattle.c0_tree.specs.declared.tree.Kind.TheVariants.{Global, Local}
 use Rattle.c0_tree.specs.declared.tree.BinaryOp.TheVariants.{Add, Lt}
 use Rattle.c0_tree.specs.Tree.{CUnit, CExpr, CStmt, CStmts, assign, binary, loop, done}
 use Rattle.c0_tree.specs.Tree as tree
-use Rattle.c0_meaning.specs.Kernels.{z, decl, global, local, number, block}
-use Rattle.c0_meaning.specs.SystemKernels.{kernel, asks}
+use Rattle.worked_rows.specs.Kernels.{z, decl, global, local, number, block}
+use Rattle.worked_rows.specs.SystemKernels.{kernel, asks}
 use Rattle.c0_meaning.specs.Value.{Value, Values, int, group, empty, part}
 use Rattle.c0_meaning.specs.State.{State}
 use Rattle.c0_meaning.specs.World.{Meaning, Setting, Configuration}

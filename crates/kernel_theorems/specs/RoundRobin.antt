@@ -5,8 +5,8 @@ use Rattle.c0_tree.specs.declared.tree.Kind.TheVariants.{Global, Local}
 use Rattle.c0_tree.specs.declared.tree.BinaryOp.TheVariants.{Add, Rem, Gt}
 use Rattle.c0_tree.specs.Tree.{CUnit, CExpr, CStmt, assign, binary, choice, done}
 use Rattle.c0_tree.specs.Tree as tree
-use Rattle.c0_meaning.specs.Kernels.{z, decl, global, local, number, block}
-use Rattle.c0_meaning.specs.SystemKernels.{kernel, next, set_next, cause_is}
+use Rattle.worked_rows.specs.Kernels.{z, decl, global, local, number, block}
+use Rattle.worked_rows.specs.SystemKernels.{kernel, next, set_next, cause_is}
 use Rattle.c0_meaning.specs.Value.{int, group, empty, part}
 use Rattle.c0_meaning.specs.State.{State}
 use Rattle.cvm_model.specs.KernelMeaning.{kernel_meaning}

@@ -1,5 +1,6 @@
 -- What a layer promises: the laws of entering and leaving the kernel, of each primitive, of each fault exit and of a handled fault.
-use Rattle.std.specs.Prelude.{◌≡◌, ◌≢◌, ℕ, zero, suc, ◌+◌, ◌-◌, ◌*◌, ◌/◌, ◌%◌, ◌<◌, ◌≤◌, ℤ, pos, Bool, true, false, List, [], ◌∷◌, ◌++◌, length, map, take, replicate, slice_index, slice_set, All, Option, Some, None}
+use Rattle.std.specs.Prelude.{◌≡◌, ◌≢◌, ℕ, zero, suc, ◌+◌, ◌-◌, ◌*◌, ◌/◌, ◌%◌, ◌<◌, ◌≤◌, ℤ, pos, Bool, true, false, List, [], ◌∷◌, ◌++◌, length, map, take}
+use Rattle.std.specs.Prelude.{replicate, slice_index, slice_set, All, Option, Some, None}
 use Rattle.mips_table.specs.declared.cause.Cause.{Cause}
 use Rattle.mips_table.specs.declared.inst.Inst.{Inst}
 use Rattle.mips_table.specs.declared.inst.Inst.TheVariants.{Sw}
@@ -15,7 +16,8 @@ use Rattle.c0_meaning.specs.Value.{group, empty}
 use Rattle.layer_contract.specs.declared.registers.TheConstants.{ARGUMENT, ANSWER, RETURN, KEPT}
 use Rattle.layer_contract.specs.declared.entry.Entry.{Entry}
 use Rattle.layer_contract.specs.declared.entry.Entry.TheVariants.{Dispatch, Primitive, Fault as Exit, Leave}
-use Rattle.layer_map.specs.Map.{Map, MapInRange, layer_words, current_at, hand_at, heap_used_at, heap_words_at, heap_first_at, stack_first_at, stack_words_at, primitives_at, exits_at, leave_at, block_at, code_at, heap_at, stack_at, table_of, memory_words}
+use Rattle.layer_map.specs.Map.{Map, MapInRange, layer_words, current_at, hand_at, heap_used_at, heap_words_at, heap_first_at, stack_first_at, stack_words_at}
+use Rattle.layer_map.specs.Map.{primitives_at, exits_at, leave_at, block_at, code_at, heap_at, stack_at, table_of, memory_words}
 use Rattle.page_model.specs.Paging.{Passes}
 use Rattle.cvm_model.specs.Kernel.{flat, Core, power_of}
 use Rattle.cvm_model.specs.declared.kernel_fault.KernelFault.{KernelFault}
@@ -262,6 +264,10 @@ pub record Laws (y : Site) (sizes : List ℕ) : Type 0 where
   pub exits : Exits y
   pub primitives : PrimitivesAnswer y
   pub settles : FaultsSettle y
+
+-- a layer's words keep the laws, whichever code of the map's size stands behind them
+abbrev pub LawsAnyCode : Map → (image sizes : List ℕ) → Type 0
+LawsAnyCode m image sizes = (code : List ℕ) → MapInRange m → length code ≡ m.code_words → Laws (site_with m image code) sizes
 
 -- the state after the reset stands for the start: no code of the layer is needed for this
 abbrev pub ResetStands : Type 0

@@ -1,16 +1,22 @@
 -- Small systems over a layer without code, whose machines stand for their starts.
-use Rattle.std.specs.Prelude.{◌≡◌, true, ℕ, ◌-◌, ◌*◌, ◌/◌, ◌%◌, ◌==◌, ◌&&◌, nat_le, if◌then◌else◌, List, [], ◌∷◌, ◌++◌, map, replicate, slice_index}
+use Rattle.std.specs.Prelude.{◌≡◌, codes, true, ℕ, ◌-◌, ◌*◌, ◌/◌, ◌%◌, ◌==◌, ◌&&◌, nat_le, if◌then◌else◌, List, [], ◌∷◌, ◌++◌, map, replicate, slice_index}
 use Rattle.std.specs.List.{range_with_len}
+use Rattle.mips_table.specs.declared.inst.Inst.TheVariants.{Addi, Ori, Lui}
+use Rattle.mips_table.specs.Encoding.{encoding}
 use Rattle.mips_table.specs.Device.{Outside}
 use Rattle.mips_table.specs.Machine.{State}
+use Rattle.layer_map.specs.declared.params.Params.{Params}
 use Rattle.layer_map.specs.Map.{Map, layer_words, heap_words_at, heap_first_at, stack_first_at, stack_words_at, heap_at, stack_at}
 use Rattle.page_model.specs.Paging.{Paged, Names}
+use Rattle.c0_tree.specs.declared.tree.Kind.{Kind}
+use Rattle.c0_tree.specs.declared.tree.Kind.TheVariants.{Global, Local, Function}
+use Rattle.c0_tree.specs.Tree.{CDecl, CUnit, code, num, done}
+use Rattle.c0_tree.specs.Tree as tree
+use Rattle.c0_meaning.specs.Bare.{z}
 use Rattle.cvm_model.specs.Cvm.{System, Running, first_core}
 use Rattle.cvm_model.specs.Stands.{Stands, runs_user}
-use Rattle.c0_meaning.specs.Kernels.{counts}
 use Rattle.cvm_model.specs.KernelMeaning.{kernel_meaning}
 use Rattle.cvm_model.specs.Paged.{paged_of}
-use Rattle.cvm_model.specs.Samples.{params, a_map, overflowing, counting_system}
 use Rattle.layer_contract.specs.Follows.{site_of}
 
 -- Word k of a layer without code: what its variables and control blocks hold at load.
@@ -26,12 +32,48 @@ plain_word m sizes k =
 unfoldable pub plain_layer : Map → List ℕ → List ℕ
 plain_layer m sizes = map (plain_word m sizes) (range_with_len 0 layer_words)
 
--- one user of a page over it, with the kernel above and 100 words of its code
+-- a declaration of an int
+abbrev pub an_int : List ℕ → Kind → ℕ → CDecl
+an_int text kind n = record { ty = tree.int; ty_span = z; name = record { text = text; span = z; kind = kind; number = n } }
+
+-- int n; int dispatch(int cause, int data, int user) { return 0; }
+abbrev pub halting : CUnit
+halting = record {
+  length = 0;
+  structs = [];
+  globals = an_int (codes "n") Global 0 ∷ [];
+  functions = record {
+    answer = tree.int;
+    answer_span = z;
+    name = record { text = codes "dispatch"; span = z; kind = Function; number = 0 };
+    params = an_int (codes "cause") Local 0 ∷ an_int (codes "data") Local 1 ∷ an_int (codes "user") Local 2 ∷ [];
+    body = code [] done (num z 0);
+  } ∷ [];
+}
+
+-- the words of a user: lui r1, 0x7fff; ori r1, r1, 0xffff; addi r2, r1, 1
+abbrev pub overflowing : List ℕ
+overflowing = encoding (Lui 1 0x7fff) ∷ encoding (Ori 1 1 0xffff) ∷ encoding (Addi 2 1 1) ∷ []
+
+-- pages 4, frames 8, heap 64, stack 256
+abbrev pub params : Params
+params = record { pages = 4; frames = 8; heap = 64; stack = 256 }
+
+-- one user of a page over such a layer, with the kernel above and 100 words of its code
 abbrev pub plain_map : Map
-plain_map = record a_map { global_words = 1 }
+plain_map = record { params = params; users = 1; code_words = 100; global_words = 1 }
 
 abbrev pub plain_system : System
-plain_system = record counting_system { boot = record counting_system.boot { words = plain_layer plain_map (1 ∷ []) ++ replicate 100 0; users = overflowing ∷ [] } }
+plain_system = record {
+  boot = record {
+    params = params;
+    meaning = kernel_meaning halting params;
+    words = plain_layer plain_map (1 ∷ []) ++ replicate 100 0;
+    users = overflowing ∷ [];
+  };
+  input = [];
+  longest = 0;
+}
 
 -- there is a state that stands for the start of a run, and one in user mode that stands for user 1 at its start
 pub record AStateStands (x : Outside) : Type 0 where
@@ -53,7 +95,7 @@ abbrev pub spread_system : System
 spread_system = record {
   boot = record {
     params = record params { frames = 2 };
-    meaning = kernel_meaning counts (record params { frames = 2 });
+    meaning = kernel_meaning halting (record params { frames = 2 });
     words = plain_layer spread_map (4 ∷ 1 ∷ []) ++ replicate 100 0;
     users = map spread_word (range_with_len 0 3073) ∷ (12 ∷ []) ∷ [];
   };

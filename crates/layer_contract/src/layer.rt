@@ -1,7 +1,7 @@
 // A layer: what the code below the kernel does, as laws of a trait.
-ghost use Rattle.std.specs.Prelude.{◌≡◌, ℕ, List, length};
+ghost use Rattle.std.specs.Prelude.{◌≡◌, ℕ, List};
 ghost use Rattle.layer_map.specs.Map.{Map, MapInRange};
-ghost use Rattle.layer_contract.specs.Layer.{entry_address, site_with, IsEntry, Linked, Laws};
+ghost use Rattle.layer_contract.specs.Layer.{entry_address, IsEntry, LawsAnyCode, Linked};
 
 use crate::entry::Entry;
 
@@ -30,5 +30,5 @@ pub trait Layer {
     /// these words and any kernel's code of the map's size.
     fn keeps_laws(&self)
         ensures linked { MapInRange (map self.now) → Linked (map self.now) (sizes self.now) (image self.now) }
-        ensures laws { (code : List ℕ) → MapInRange (map self.now) → length code ≡ (map self.now).code_words → Laws (site_with (map self.now) (image self.now) code) (sizes self.now) };
+        ensures laws { LawsAnyCode (map self.now) (image self.now) (sizes self.now) };
 }

@@ -1,5 +1,6 @@
 -- What the passes over the lines keep: the place of the line, and the labels so far.
-use Rattle.std.specs.Prelude.{ℕ, ◌+◌, ◌||◌, ◌<◌, ◌^◌, Bool, false, List, [], ◌∷◌, ◌++◌, length, Option, Some, None, IfSome, if◌then◌else◌, bytes_eq, nat_lt}
+use Rattle.std.specs.Prelude.{◌≡◌, ℕ, ◌+◌, ◌||◌, ◌<◌, ◌^◌, Bool, false, cond, List, [], ◌∷◌, ◌++◌, length, Option, Some, None, IfSome, if◌then◌else◌, bytes_eq}
+use Rattle.std.specs.Prelude.{nat_lt}
 use Rattle.std.specs.Option.{option_or}
 use Rattle.std.specs.Borrow.{Bor}
 use Rattle.indexmap.specs.IndexMap.{IndexMap, get_by}
@@ -17,6 +18,10 @@ look m q = get_by (λ k. bytes_eq q k.now) m
 -- the places in a map are far below the limit of their type
 abbrev pub Near : {S : Type 0} → IndexMap (Bor (List ℕ)) ℕ S → Type 0
 Near m = (q : List ℕ) → IfSome (look m q) (λ p. p < 2 ^ 62)
+
+-- these names get this place where a map gave them none, and nothing else changes
+abbrev pub SetsNames : {S T : Type 0} → IndexMap (Bor (List ℕ)) ℕ S → IndexMap (Bor (List ℕ)) ℕ T → List (List ℕ) → ℕ → Type 0
+SetsNames old new names at = (q : List ℕ) → look new q ≡ option_or (look old q) (cond (has names q) (Some at) None)
 
 -- whether one of the names is seen, or stands earlier in the list
 abbrev pub repeats_in : (List ℕ → Bool) → List (List ℕ) → Bool

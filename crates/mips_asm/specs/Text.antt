@@ -1,5 +1,5 @@
 -- How a text falls into lines, and a line into labels and a statement.
-use Rattle.std.specs.Prelude.{ℕ, ◌||◌, ◌==◌, Bool, not, List, [], ◌∷◌, take, if◌then◌else◌}
+use Rattle.std.specs.Prelude.{◌≡◌, ℕ, ◌||◌, ◌==◌, Bool, not, List, [], ◌∷◌, take, if◌then◌else◌}
 use Rattle.std.specs.List.{slice_split, prefix_len}
 use Rattle.std.specs.Int.{is_in_range}
 pub use Rattle.cvm_text.specs.Blanks.{trim_start, trim_end, trim}
@@ -32,3 +32,11 @@ after_labels (p ∷ (q ∷ ps)) = if is_name (trim_start p) then after_labels (q
 -- what stands between the colons of a line
 abbrev pub colon_parts : List ℕ → List (List ℕ)
 colon_parts line = slice_split (λ c. c == 58) line
+
+-- the first label of a line's content, and what stands behind its colon
+abbrev pub TakesLabel : List ℕ → List ℕ → List ℕ → Type 0
+TakesLabel text label rest = labels_in (colon_parts text) ≡ label ∷ labels_in (colon_parts rest)
+
+-- the same stands behind the labels of two contents
+abbrev pub EndAlike : List ℕ → List ℕ → Type 0
+EndAlike text rest = after_labels (colon_parts text) ≡ after_labels (colon_parts rest)

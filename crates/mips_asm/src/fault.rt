@@ -2,7 +2,8 @@
 
 ghost use Rattle.std.specs.Prelude.{◌≡◌, ◌<◌, ◌≤◌, ◌+◌, ◌^◌, ◌%◌, IfSome};
 ghost use Rattle.std.specs.Option.{option_or};
-ghost use Rattle.mips_asm.specs.Assembled.{meaning_fault, twice_fault, offset as offset_of, branch_to as branch_to_of, jump_to as jump_to_of, resolved as resolved_of};
+ghost use Rattle.mips_asm.specs.Assembled.{meaning_fault, twice_fault, offset as offset_of, branch_to as branch_to_of, jump_to as jump_to_of};
+ghost use Rattle.mips_asm.specs.Assembled.{resolved as resolved_of};
 ghost use Rattle.mips_asm.specs.Fault.{asm_fault_number, asm_fault_place, asm_fault_line, asm_fault_value};
 ghost use Rattle.mips_asm.specs.Passes.{look, Near};
 ghost use Rattle.mips_asm.specs.View.{view};

@@ -1,8 +1,12 @@
 // The meaning of a line.
 
-ghost use Rattle.std.specs.Prelude.{◌≡◌, ◌≤◌, ◌<◌, ◌∷◌, [], length, drop, take, MatchOption, All, Some, None, IfSome};
-ghost use Rattle.mips_asm.specs.Text.{colon_parts, labels_in, after_labels as after_labels_of, content as content_of, is_good_byte as is_good_byte_of};
-ghost use Rattle.mips_asm.specs.Line.{meaning as meaning_of, width as width_of, mnemonic_len as mnemonic_len_of, word_directive as word_directive_of, zero_directive as zero_directive_of, with_reading as with_reading_of, with_operands as with_operands_of, operands as operands_of, may_be_left_out as may_be_left_out_of, instruction as instruction_of, named as named_of, statement as statement_of, of_parts, is_known as is_known_of, left_colon};
+ghost use Rattle.std.specs.Prelude.{◌≡◌, ◌≤◌, ◌<◌, [], length, drop, take, MatchOption, All, Some, None, IfSome};
+ghost use Rattle.mips_asm.specs.Text.{colon_parts, labels_in, after_labels as after_labels_of, content as content_of};
+ghost use Rattle.mips_asm.specs.Text.{is_good_byte as is_good_byte_of, EndAlike, TakesLabel};
+ghost use Rattle.mips_asm.specs.Line.{meaning as meaning_of, width as width_of, mnemonic_len as mnemonic_len_of, word_directive as word_directive_of};
+ghost use Rattle.mips_asm.specs.Line.{zero_directive as zero_directive_of, with_reading as with_reading_of, with_operands as with_operands_of};
+ghost use Rattle.mips_asm.specs.Line.{operands as operands_of, may_be_left_out as may_be_left_out_of, instruction as instruction_of, named as named_of};
+ghost use Rattle.mips_asm.specs.Line.{statement as statement_of, of_parts, is_known as is_known_of, left_colon};
 ghost use Rattle.mips_asm.specs.Form.{form_of};
 ghost use Rattle.mips_asm.specs.Number.{in_name as in_name_of};
 ghost use Rattle.std.specs.List.{prefix_len, list_all};
@@ -51,8 +55,8 @@ pub fn width(line: &Line) -> u32
 
 /// The first label of a line's content and what stands after it.
 pub fn next_label(text: &[u8]) -> Option<(&[u8], &[u8])>
-    ensures labels { MatchOption result (labels_in (colon_parts text.now) ≡ []) (λ r. labels_in (colon_parts text.now) ≡ r.0.now ∷ labels_in (colon_parts r.1.now)) }
-    ensures after { MatchOption result (after_labels_of (colon_parts text.now) ≡ colon_parts text.now) (λ r. after_labels_of (colon_parts text.now) ≡ after_labels_of (colon_parts r.1.now)) }
+    ensures labels { MatchOption result (labels_in (colon_parts text.now) ≡ []) (λ r. TakesLabel text.now r.0.now r.1.now) }
+    ensures after { MatchOption result (after_labels_of (colon_parts text.now) ≡ colon_parts text.now) (λ r. EndAlike text.now r.1.now) }
     ensures shorter { IfSome result (λ r. length r.1.now < length text.now) }
 {
     let (part, rest) = cut(text, b':');

@@ -1,10 +1,9 @@
 // The passes over the lines of a text.
 
-ghost use Rattle.std.specs.Prelude.{◌≡◌, ◌≤◌, ◌<◌, ◌+◌, ◌++◌, ◌^◌, ℕ, List, false, OnOk, IfOk, IfSome, cond, is_some, length, ◌||◌, Some, None, []};
-ghost use Rattle.std.specs.Option.{option_or};
+ghost use Rattle.std.specs.Prelude.{◌≡◌, ◌≤◌, ◌<◌, ◌+◌, ◌++◌, ◌^◌, ℕ, List, false, OnOk, IfOk, IfSome, is_some, length, ◌||◌, Some, None, []};
 ghost use Rattle.mips_asm.specs.Text.{colon_parts, labels_in, lines_of};
 ghost use Rattle.mips_asm.specs.Assembled.{place_of, has, labels, meaning_words};
-ghost use Rattle.mips_asm.specs.Passes.{look, Near, repeats_in, fault_at, fault_from, words_from};
+ghost use Rattle.mips_asm.specs.Passes.{look, Near, SetsNames, repeats_in, fault_at, fault_from, words_from};
 ghost use Rattle.mips_asm.specs.View.{view};
 
 use crate::fault::{AsmFault, line_fault, resolve};
@@ -19,7 +18,7 @@ fn set_labels<'a>(
     text: &'a [u8],
     at: u64,
 ) -> Result<bool, AllocError>
-    ensures places { OnOk result ((q : List ℕ) → look places.new q ≡ option_or (look places.old q) (cond (has (labels_in (colon_parts text.now)) q) (Some at) None)) }
+    ensures places { OnOk result (SetsNames places.old places.new (labels_in (colon_parts text.now)) at) }
     ensures twice { IfOk result (λ t. t ≡ repeats_in (λ q. is_some (look places.old q)) (labels_in (colon_parts text.now))) }
 {
     let mut twice = false;

@@ -7,6 +7,7 @@ use Rattle.layer_map.specs.Map.{Map}
 use Rattle.page_model.specs.Places.{places_of}
 use Rattle.page_fault.specs.Code.{page_code}
 use Rattle.cvm_primitives.specs.Code.{vm_word_code, vm_put_code, vm_copy_code, vm_resize_code}
+use Rattle.cvm_primitives.specs.RegisterCode.{vm_get_code, vm_set_code, vm_size_code}
 use Rattle.real_layer.specs.declared.routines.Routines.{Routines}
 use Rattle.real_layer.specs.Image.{returning, joined, entries_end}
 
@@ -19,6 +20,10 @@ jumps_from n (is ∷ rest) = J ((entries_end + n) % 2 ^ 26) ∷ jumps_from (n + 
 pub record Lays (old new : Routines) (more : List (List Inst)) : Type 0 where
   pub entries : new.entries.items ≡ old.entries.items ++ map encoding (jumps_from (length old.words.items) more)
   pub words : new.words.items ≡ old.words.items ++ map encoding (joined more)
+
+-- the primitives that use no page and not the console, for so many users
+abbrev pub register_routines : ℕ → List (List Inst)
+register_routines n = returning (vm_get_code n) ∷ returning (vm_set_code n) ∷ returning (vm_size_code n) ∷ []
 
 -- the primitives on memory
 abbrev pub memory_routines : Map → List (List Inst)

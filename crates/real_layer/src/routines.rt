@@ -5,10 +5,10 @@ ghost use Rattle.mips_table.specs.Encoding.{encoding};
 ghost use Rattle.page_model.specs.Places.{places_of};
 ghost use Rattle.page_fault.specs.Code.{page_code};
 ghost use Rattle.trap_entry.specs.Code.{leave_code, exit_code};
-ghost use Rattle.cvm_primitives.specs.RegisterCode.{vm_get_code, vm_set_code, vm_size_code, con_put_code, con_get_code, con_left_code};
+ghost use Rattle.cvm_primitives.specs.RegisterCode.{con_put_code, con_get_code, con_left_code};
 ghost use Rattle.cvm_primitives.specs.Code.{vm_word_code, vm_put_code, vm_copy_code, vm_resize_code};
 ghost use Rattle.real_layer.specs.Image.{returning, entries, joined, routines};
-ghost use Rattle.real_layer.specs.Laid.{Lays, memory_routines};
+ghost use Rattle.real_layer.specs.Laid.{Lays, memory_routines, register_routines};
 
 use cvm_primitives::{
     con_get, con_left, con_put, vm_copy, vm_get, vm_put, vm_resize, vm_set, vm_size, vm_word,
@@ -48,7 +48,7 @@ impl Routines {
 
     // Appends the primitives that use no page and not the console.
     fn put_registers(&mut self, map: &Map) -> Result<(), AllocError>
-        ensures { OnOk result (Lays self.old self.new (returning (vm_get_code map.now.users) ∷ returning (vm_set_code map.now.users) ∷ returning (vm_size_code map.now.users) ∷ [])) }
+        ensures { OnOk result (Lays self.old self.new (register_routines map.now.users)) }
     {
         self.put_returning(vm_get(map).words())?;
         self.put_returning(vm_set(map).words())?;

@@ -4,7 +4,7 @@ use Rattle.c0_tree.specs.declared.tree.Kind.TheVariants.{Global, Local, Primitiv
 use Rattle.c0_tree.specs.declared.tree.BinaryOp.TheVariants.{Add, Rem, Eq}
 use Rattle.c0_tree.specs.Tree.{CUnit, CFunction, CDecl, CExpr, CStmts, binary, assign, call, choice, done, next, code}
 use Rattle.c0_tree.specs.Tree as tree
-use Rattle.c0_meaning.specs.Kernels.{z, name, decl, global, local, number, block, function, causes}
+use Rattle.worked_rows.specs.Kernels.{z, name, decl, global, local, number, block, function, causes}
 
 abbrev pub dispatch_locals : List CDecl
 dispatch_locals = decl tree.int (codes "next") Local 3 ∷ decl tree.int (codes "got") Local 4 ∷ decl tree.bool (codes "ok") Local 5 ∷ []

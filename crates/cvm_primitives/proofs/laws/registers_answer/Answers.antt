@@ -1,6 +1,6 @@
 -- By the laws that the body calls.
 use Rattle.cvm_primitives.proofs.RegisterForms.{CodeLaws}
-use Rattle.cvm_primitives.proofs.Registers.{gets, sets, sizes, puts, takes, lefts}
+use Rattle.cvm_primitives.proofs.RegisterCalls.{gets, sets, sizes, puts, takes, lefts}
 use Rattle.cvm_primitives.proofs.laws.registers_answer.Goals as goal
 
 pub returns : goal.returns

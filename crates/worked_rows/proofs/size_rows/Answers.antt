@@ -1,6 +1,6 @@
 use Rattle.std.proofs.Common.{refl}
 use Rattle.c0_meaning.specs.Words.{holds, struct_words}
-use Rattle.c0_meaning.proofs.laws.worked_rows.Goals as goal
+use Rattle.worked_rows.proofs.size_rows.Goals as goal
 
 pub returns-clause-sizes : goal.returns-clause-sizes
 unfolding holds struct_words

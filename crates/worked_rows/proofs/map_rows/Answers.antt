@@ -1,6 +1,6 @@
 -- Each row is computed.
 use Rattle.std.proofs.Common.{refl}
-use Rattle.cvm_model.proofs.rows.map_rows.Goals as goal
+use Rattle.worked_rows.proofs.map_rows.Goals as goal
 
 pub returns : goal.returns
 returns c = record { parts = refl; blocks = refl; steps = refl }

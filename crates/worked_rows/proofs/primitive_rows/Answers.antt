@@ -1,6 +1,6 @@
 -- Each row is computed.
 use Rattle.std.proofs.Common.{refl}
-use Rattle.cvm_model.proofs.rows.primitive_rows.Goals as goal
+use Rattle.worked_rows.proofs.primitive_rows.Goals as goal
 
 pub returns-clause-arguments : goal.returns-clause-arguments
 returns-clause-arguments c = record { registers = refl; sizes = refl; words = refl; copies = refl; good = refl }

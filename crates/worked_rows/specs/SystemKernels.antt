@@ -5,7 +5,7 @@ use Rattle.c0_tree.specs.declared.tree.UnaryOp.TheVariants.{Negate, Not}
 use Rattle.c0_tree.specs.declared.tree.BinaryOp.TheVariants.{Add, Mul, Div, Eq, And}
 use Rattle.c0_tree.specs.Tree.{CExpr, var, index, unary, binary, CStmt, assign, call, choice, done, CDecl, code, CFunction, CUnit}
 use Rattle.c0_tree.specs.Tree as tree
-use Rattle.c0_meaning.specs.Kernels.{z, name, decl, global, local, number, block, function, causes, scheduler}
+use Rattle.worked_rows.specs.Kernels.{z, name, decl, global, local, number, block, function, causes, scheduler}
 
 -- a call of a primitive, whose answer goes to a variable
 abbrev pub asks : CExpr → List ℕ → ℕ → List CExpr → CStmt

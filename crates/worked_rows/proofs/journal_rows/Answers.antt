@@ -3,7 +3,7 @@ use Rattle.std.proofs.Common.{refl}
 use Rattle.std.specs.Fmt.{digits}
 use Rattle.std.specs.Int.{int_wrap}
 use Rattle.c0_meaning.specs.Words.{holds, struct_words}
-use Rattle.cvm_model.proofs.rows.journal_rows.Goals as goal
+use Rattle.worked_rows.proofs.journal_rows.Goals as goal
 
 pub returns : goal.returns
 unfolding digits holds struct_words int_wrap

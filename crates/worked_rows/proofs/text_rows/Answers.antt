@@ -1,7 +1,7 @@
 -- Each row is computed.
 use Rattle.std.proofs.Common.{refl}
 use Rattle.std.specs.Fmt.{digits}
-use Rattle.cvm_model.proofs.rows.text_rows.Goals as goal
+use Rattle.worked_rows.proofs.text_rows.Goals as goal
 
 pub returns : goal.returns
 unfolding digits

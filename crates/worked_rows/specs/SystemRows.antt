@@ -2,10 +2,10 @@
 use Rattle.std.specs.Prelude.{◌≡◌, ℕ, ◌+◌, ◌*◌, ◌%◌, pos, negsuc, true, false, ◌&&◌, ◌==◌, nat_lt, if◌then◌else◌, List, [], ◌∷◌, ◌++◌, length, map, replicate, take, drop, codes, Option, Some, None, option_map}
 use Rattle.c0_tree.specs.declared.tree.UnaryOp.TheVariants.{Negate}
 use Rattle.c0_tree.specs.Tree.{CUnit, unary}
-use Rattle.c0_meaning.specs.Kernels.{z, number, divisions, by_zero, small_heap, recursion, bounds, null_use, nexts, scheduler}
-use Rattle.c0_meaning.specs.SystemKernels.{returning, copies, copies_twice, probes, resizes, divides, waits}
-use Rattle.c0_meaning.specs.SystemKernels.{console as talking}
-use Rattle.c0_meaning.specs.SystemKernels as systems
+use Rattle.worked_rows.specs.Kernels.{z, number, divisions, by_zero, small_heap, recursion, bounds, null_use, nexts, scheduler}
+use Rattle.worked_rows.specs.SystemKernels.{returning, copies, copies_twice, probes, resizes, divides, waits}
+use Rattle.worked_rows.specs.SystemKernels.{console as talking}
+use Rattle.worked_rows.specs.SystemKernels as systems
 use Rattle.c0_meaning.specs.Value.{int, bool}
 use Rattle.mips_table.specs.Flat.{Flat}
 use Rattle.layer_map.specs.Map.{Map, code_at, globals_at, heap_at, stack_at, tables_at, frame_table_at, zero_frame_at, user_frames_at, memory_frames, block_at}
@@ -14,7 +14,7 @@ use Rattle.cvm_model.specs.Primitives.{Call, VmGet, VmSet, VmSize, VmResize, VmW
 use Rattle.cvm_model.specs.Cvm.{System, Halted, Cvm, cvm, page_steps, reset_steps, turn_steps}
 use Rattle.cvm_model.specs.Journal.{replay, journal}
 use Rattle.cvm_model.specs.Text.{boot_text, trace_text, user_text, journal_rows, open_journal_rows}
-use Rattle.cvm_model.specs.Samples.{params, a_map, console, a_page, no_page, system_with, system_of, two_frames_with, counting_system, overflowing, storing, splitting, paging, three_users_under, sender, sending, asks, running_past, multiplies}
+use Rattle.worked_rows.specs.Systems.{params, a_map, console, a_page, no_page, system_with, system_of, two_frames_with, counting_system, overflowing, storing, splitting, paging, three_users_under, sender, sending, asks, running_past, multiplies}
 
 -- the first address of each part: code, globals, heap, stack, page tables, frame table, zero frame, user frames; and the frames of memory
 abbrev pub firsts : Map → List ℕ

@@ -10,9 +10,9 @@ use Rattle.c0_meaning.specs.State.{first_state}
 use Rattle.c0_meaning.specs.Operators.{Failure, NullUse, Bounds, DivZero, StackOut, faulted}
 use Rattle.c0_meaning.specs.World.{Meaning, Setting, Cost, Configuration, journal}
 use Rattle.c0_meaning.specs.Execution.{Outcome, Done, Failed, NotYet, exec, dispatch}
-use Rattle.c0_meaning.specs.Kernels.{z, global, number, block, sums, divisions, by_zero, small_heap, recursion, bounds, null_use, nexts, counts, scheduler, asm_sum, list, endless, order, parts, twice, thrice, inverse}
+use Rattle.worked_rows.specs.Kernels.{z, global, number, block, sums, divisions, by_zero, small_heap, recursion, bounds, null_use, nexts, counts, scheduler, asm_sum, list, endless, order, parts, twice, thrice, inverse}
 use Rattle.c0_meaning.specs.PrimitiveCalls.{PrimitiveCall}
-use Rattle.c0_meaning.specs.SystemKernels.{returning, overflow, lines, copies, copies_twice, probes, resizes, divides, console, waits}
+use Rattle.worked_rows.specs.SystemKernels.{returning, overflow, lines, copies, copies_twice, probes, resizes, divides, console, waits}
 use Rattle.c0_meaning.specs.RunLaws.{stands_at}
 use Rattle.c0_meaning.specs.TypedState.{AnswersFit}
 use Rattle.c0_meaning.specs.UserProgram.{prog}

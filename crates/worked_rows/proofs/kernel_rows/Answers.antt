@@ -1,13 +1,12 @@
 use Rattle.std.proofs.Common.{refl}
 use Rattle.std.specs.Int.{int_wrap}
 use Rattle.c0_meaning.specs.Words.{holds, struct_words}
-use Rattle.c0_meaning.proofs.Allowed.{all_allowed}
-use Rattle.c0_meaning.proofs.Safe.{sevens_fit}
+use Rattle.worked_rows.proofs.Sevens.{sevens_fit}
 use Rattle.c0_tree.specs.declared.tree.UnaryOp.TheVariants.{Negate}
 use Rattle.c0_tree.specs.Tree.{unary}
-use Rattle.c0_meaning.specs.Kernels as kernels
-use Rattle.c0_meaning.specs.SystemKernels as systems
-use Rattle.c0_meaning.proofs.run_laws.kernel_rows.Goals as goal
+use Rattle.worked_rows.specs.Kernels as kernels
+use Rattle.worked_rows.specs.SystemKernels as systems
+use Rattle.worked_rows.proofs.kernel_rows.Goals as goal
 
 pub returns-clause-runs : goal.returns-clause-runs
 unfolding holds struct_words int_wrap
@@ -99,7 +98,7 @@ returns-clause-programs c = record { ends = refl; goes_on = refl; stands = refl;
 
 pub returns-clause-checked : goal.returns-clause-checked
 unfolding holds struct_words int_wrap
-returns-clause-checked c = record {
+returns-clause-checked c = let all_allowed = c.words_are_allowed_as_tested.ensures in record {
   sums = record { well_formed = record { plain = refl; typed = refl; resolved = refl; allowed = all_allowed kernels.sums.functions refl }; first = refl };
   divisions = record { well_formed = record { plain = refl; typed = refl; resolved = refl; allowed = all_allowed kernels.divisions.functions refl }; first = refl };
   by_zero = record { well_formed = record { plain = refl; typed = refl; resolved = refl; allowed = all_allowed kernels.by_zero.functions refl }; first = refl };

@@ -6,7 +6,7 @@ use Rattle.mips_table.specs.Flat.{Flat}
 use Rattle.layer_map.specs.declared.params.Params.{Params}
 use Rattle.layer_map.specs.Map.{Map}
 use Rattle.c0_tree.specs.Tree.{CUnit}
-use Rattle.c0_meaning.specs.Kernels.{counts}
+use Rattle.worked_rows.specs.Kernels.{counts}
 use Rattle.cvm_model.specs.Kernel.{Console}
 use Rattle.cvm_model.specs.Cvm.{System, first_flat}
 use Rattle.cvm_model.specs.KernelMeaning.{kernel_meaning}
