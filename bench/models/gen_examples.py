@@ -53,6 +53,17 @@ def example(name):
     for u in range(1, len(users) + 1):
         if os.path.exists(os.path.join(folder, 'trace%d' % u)):
             same('trace img s 100000 %d %d' % (STEPS, u), model(kernel, users, par, schedule, 100000, u), '%s/trace%d' % (name, u))
+    from_rom(name, kernel, schedule)
+
+
+def from_rom(name, kernel, schedule):
+    """The example from a ROM prints the same, where its lines are raised as many steps later as the ROM takes."""
+    words = 'rom img s 100000 %d' % STEPS
+    if 'line' in schedule:
+        more = 14 + 2702 * ((16384 + code_words(kernel) + 1023) // 1024)    # as gen_roms.py counts them
+        part('file m', ''.join('line %d %s\n' % (int(r.split()[1]) + more, r.split()[2]) if r.startswith('line') else r + '\n' for r in schedule.split('\n') if r))
+        words = words.replace(' s ', ' m ')
+    same(words, read(name, 'printed'), name + '/printed')
 
 
 # ---- users in C0: the texts are the program's own, and all of them that the compiled code has no part in is what the programs mean
@@ -84,10 +95,11 @@ def own_trace(case, kernel, users, par, u):
 
 def program_example(name):
     case, folder = 'the example ' + name, os.path.join(EXAMPLES, name)
-    kernel, users, par, _ = begin_system(case, folder, 'examples/' + name, names_of(folder, 'c0'), 128)
+    kernel, users, par, schedule = begin_system(case, folder, 'examples/' + name, names_of(folder, 'c0'), 128)
     same('boot img s 100000 %d' % STEPS, own_boot(case, kernel, users, par), name + '/printed')
     for u in range(1, len(users) + 1):
         same('trace img s 100000 %d %d' % (STEPS, u), own_trace(case, kernel, users, par, u), '%s/trace%d' % (name, u))
+    from_rom(name, kernel, schedule)
 
 
 # ---- all of them

@@ -2,17 +2,20 @@
 """Writes cases of user programs in C0 for shell_cases, with what each command prints.
 
 usage: gen_programs.py CASES STDOUT [PRINTED]   as gen_lines.py, whose rules for PRINTED hold here too
-       gen_programs.py all FOLDER               all kernels and 200 random programs, in files of 20: N.cases and N.stdout
+       gen_programs.py run CVM                  all kernels and 200 random programs, by the built program CVM; tells what differs
 
 Three kinds: worked rows; the kernels of code_cases that call no primitive, as programs that tell the kernel what they come to; and random programs
 under a kernel that answers by a rule. A journal is what the program means, by programs.py, and no code of a program is run here. At which turn a
-program ends is the compiled code's alone, and the program's own; so is nothing else. The gate tries a few of the last two kinds.
+program ends is the compiled code's alone, and the program's own; so is nothing else. The gate tries all kernels and 40 random programs.
 """
+import collections
 import itertools
 import os
 import random
 import re
+import subprocess
 import sys
+import tempfile
 
 HERE = os.path.dirname(os.path.abspath(__file__))
 source = open(os.path.join(HERE, 'programs.py')).read()
@@ -46,7 +49,9 @@ int dispatch(int cause, int data, int user) {
 TWICE = 'int main() { int a; int b; a = trap(5); b = trap(a + 1); return 0; }'
 INVERSE = 'int main() { int x; x = 1 / x; return 0; }'
 
-ALL = sys.argv[1] == 'all'
+BY_HAND = sys.argv[1] == 'run'
+# turns enough to see that a program doesn't end
+FEW_TURNS = 2000
 cases, told = [], []
 
 
@@ -81,14 +86,20 @@ def program(text):
     run('link o par img u1')
 
 
+def turns_for(rows):
+    """How many turns a trace with these rows is given."""
+    return FEW_TURNS if rows[-1] == 'stopped' else TURNS
+
+
 def journals(kernel, text):
     program(text)
-    run('trace img s %d %d 1' % (TURNS, STEPS), '\n'.join(journal(kernel, [text], PARAMS, 1)), kind='journal')
+    rows = journal(kernel, [text], PARAMS, 1)
+    run('trace img s %d %d 1' % (turns_for(rows), STEPS), '\n'.join(rows), kind='journal')
 
 
 def printed(name):
     """What the program printed of a boot of this case, as PRINTED has it."""
-    if ALL or len(sys.argv) < 4:
+    if BY_HAND or len(sys.argv) < 4:
         return '(not printed)'
     text = open(sys.argv[3]).read()
     at = text.find('== case %s\n' % name)
@@ -201,15 +212,9 @@ def kernels():
 
 
 def as_programs():
-    """Those that end, and whose image isn't too large."""
+    """All of them: also those that never end, and whose traces then stop."""
     for rest, source in kernels():
-        try:
-            text = as_program(rest, source)
-            if 1024 * pages_of(text) <= 65536:
-                journal(RULE, [text], PARAMS, 1)
-                yield text
-        except (TooLong, RecursionError, AssertionError, KeyError, TypeError):
-            pass
+        yield as_program(rest, source)
 
 
 # ---- random programs
@@ -288,11 +293,58 @@ def random_programs():
             yield text
 
 
-def group(name, texts):
-    part('case ' + name, 'sectors 64')
-    system(RULE)
-    for text in texts:
+def groups(name, texts, size=32):
+    """The programs in cases of so many, since each case has one sink."""
+    for n, text in enumerate(texts):
+        if n % size == 0:
+            part('case %s, from %d on' % (name, n), 'sectors 64')
+            system(RULE)
         journals(RULE, text)
+
+
+# ---- all of them over a built program
+class Built:
+    """The built program, in a folder with the kernel that answers by the rule."""
+    def __init__(self, cvm, folder):
+        self.cvm, self.folder = os.path.abspath(cvm), folder
+        for name, text in (('k', RULE), ('par', PARAMS), ('s', '')):
+            self.put(name, text)
+        self.command('compile kernel k o')
+
+    def put(self, name, text):
+        with open(os.path.join(self.folder, name), 'w') as f:
+            f.write(text)
+
+    def command(self, words):
+        done = subprocess.run([self.cvm] + words.split(' '), cwd=self.folder, stdout=subprocess.PIPE, text=True)
+        assert done.returncode == 0, (words, done.returncode, done.stdout)
+        return done.stdout
+
+    def journal(self, text, turns):
+        self.put('p', text)
+        self.command('compile program p u1')
+        self.command('link o par img u1')
+        return self.command('trace img s %d %d 1' % (turns, STEPS))
+
+
+def run_all(cvm):
+    """Runs all kernels and 200 random programs; prints how they end, and those whose journals differ."""
+    ends, asked, wrong = collections.Counter(), 0, 0
+    with tempfile.TemporaryDirectory() as folder:
+        built = Built(cvm, folder)
+        for kind, texts in (('kernel', as_programs()), ('random', itertools.islice(random_programs(), 200))):
+            for text in texts:
+                rows = journal(RULE, [text], PARAMS, 1)
+                told = [row for row in built.journal(text, turns_for(rows)).split('\n') if not row.startswith('steps ')][:len(rows)]
+                if told != rows:
+                    wrong += 1
+                    print('%s\nmeans %s\nruns  %s' % (text, rows, told))
+                asked += rows.count('trap %d %08x' % CALL)
+                ends[kind, rows[-2] if rows[-1] == 'halted' else rows[-1]] += 1
+    for (kind, end), count in sorted(ends.items()):
+        print('%-6s %-15s %3d' % (kind, end, count))
+    print('%d programs, %d calls of trap, %d differ' % (sum(ends.values()), asked, wrong))
+    return wrong
 
 
 def written(cases_to, told_to, note):
@@ -308,14 +360,8 @@ Journals are worked out by the meaning of the programs alone. At which turns the
 these are the program's own, checked by that script.
 
 '''
-if ALL:
-    texts = list(as_programs()) + list(itertools.islice(random_programs(), 200))
-    print(len(texts), 'programs', file=sys.stderr)
-    for n in range(0, len(texts), 20):
-        cases, told = [], []
-        group('programs from %d' % n, texts[n:n + 20])
-        written('%s/%d.cases' % (sys.argv[2], n), '%s/%d.stdout' % (sys.argv[2], n), NOTE)
-else:
-    group('kernels that call no primitive, as programs', list(as_programs())[::12])
-    group('random programs', itertools.islice(random_programs(), 10))
-    written(sys.argv[1], sys.argv[2], NOTE)
+if BY_HAND:
+    sys.exit(1 if run_all(sys.argv[2]) else 0)
+groups('kernels that call no primitive, as programs', as_programs())
+groups('random programs', itertools.islice(random_programs(), 40))
+written(sys.argv[1], sys.argv[2], NOTE)

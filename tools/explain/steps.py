@@ -38,8 +38,10 @@ def advice(steps, turns, image, schedule, way):
     tenfold = min(max(10 * steps, 1000000), 2**64 - 1)
     total, page, rom = enough(image, schedule, turns)
     said = ['the steps were spent before the turns were complete.']
-    if steps < 2**64 - 1:
+    if 10 * steps >= 1000000 and steps < 2**64 - 1:
         said.append('Try ten times as many first: %s in place of %d.' % (way.steps(tenfold), steps))
+    elif steps < 2**64 - 1:
+        said.append('Try a million first: %s in place of %d.' % (way.steps(tenfold), steps))
     said.append('%d are always enough for %d turns that don\'t call the kernel%s; for each turn that does, add 2000, and in it 600 for each node, statement, call, '
                 'test, zeroed or asm word, and each word or page that a primitive touches, and %d more for each of these pages.'
                 % (total + (rom if way.first == 'rom' else 0), turns, ' (with the way from the disk)' if way.first == 'rom' else '', page))

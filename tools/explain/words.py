@@ -82,10 +82,22 @@ def number_fault(word, least, most):
     return None
 
 
+def is_text(word):
+    """Whether a word is UTF-8."""
+    try:
+        word.encode('utf-8')
+        return True
+    except UnicodeEncodeError:
+        return False
+
+
 def fault(words):
     """Which word of a command is bad, and why; None where the words are a command."""
     if not words:
         return 'there is no word'
+    odd = next((place for place, word in enumerate(words) if not is_text(word)), None)
+    if odd is not None:
+        return "word %d, '%s', is not UTF-8: give the file or its folder another name" % (odd + 1, words[odd])
     form = form_of(words)
     if form is None:
         return head_fault(words)

@@ -1,7 +1,7 @@
 """Compiles, links and boots the system of a folder."""
 import os
 
-from explain import status as explaining
+from explain import status as explaining, words as command_words
 from running import program
 
 # The commands of one folder go on until one ends with another status than 0.
@@ -24,6 +24,17 @@ class Run:
     def image(self, user):
         return self.made(os.path.basename(user).partition('.')[0] + '.img')
 
+    def given(self, name):
+        """The path by which the program gets a source: its own, or that of a link to it where that isn't UTF-8, which the words of a command have to be."""
+        own = os.path.abspath(name)
+        if command_words.is_text(own):
+            return own
+        link = self.made('given-' + os.path.basename(name))
+        if not os.path.lexists(link):
+            os.symlink(own, link)
+        self.names[link] = name
+        return link
+
     def command(self, words, text='text'):
         """Runs a command, puts what it prints, and explains any status but 0."""
         status, rows = program.run_to([*self.start, *words], self.made(text), self.work)
@@ -35,17 +46,17 @@ class Run:
 
     def build(self):
         """Compiles the sources and links them. Gives the first status that isn't 0, or 0."""
-        commands = [['compile', 'kernel', os.path.abspath(self.folder.kernel), self.made('kernel.obj')]]
+        commands = [['compile', 'kernel', self.given(self.folder.kernel), self.made('kernel.obj')]]
         for user in self.folder.users:
             kind = 'user' if user.endswith('.s') else 'program'
-            commands.append(['compile', kind, os.path.abspath(user), self.image(user)])
+            commands.append(['compile', kind, self.given(user), self.image(user)])
         images = [self.image(user) for user in self.folder.users]
-        commands.append(['link', self.made('kernel.obj'), os.path.abspath(self.folder.params), self.made('system.img'), *images])
+        commands.append(['link', self.made('kernel.obj'), self.given(self.folder.params), self.made('system.img'), *images])
         return next((status for status in map(self.command, commands) if status), 0)
 
     def boot(self, turns, steps):
-        return self.command(['boot', self.made('system.img'), os.path.abspath(self.folder.schedule), str(turns), str(steps)], 'boot')
+        return self.command(['boot', self.made('system.img'), self.given(self.folder.schedule), str(turns), str(steps)], 'boot')
 
     def trace(self, turns, steps, user):
-        words = ['trace', self.made('system.img'), os.path.abspath(self.folder.schedule), str(turns), str(steps), str(user)]
+        words = ['trace', self.made('system.img'), self.given(self.folder.schedule), str(turns), str(steps), str(user)]
         return self.command(words, 'trace%d' % user)

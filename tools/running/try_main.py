@@ -62,7 +62,7 @@ def options_of(words):
             raise Bad("'--keep' stands alone: ./try --keep builds the program and runs nothing. Each ./try FOLDER keeps its build by itself")
         elif word.startswith('--'):
             near = command_words.nearest(word, [*taken, '--proved', '--keep', '--anew'])
-            raise Bad("'%s' is no option%s; ./try --help lists them" % (word, ": did you mean '%s'?" % near if near else ''))
+            raise Bad("'%s' is no option%s ./try --help lists them" % (word, ": did you mean '%s'?" % near if near else ';'))
         else:
             options.folders.append(word)
     return options
@@ -213,5 +213,5 @@ def main(words):
         return run_command(words)
     if not words[0].startswith('--') and not os.path.lexists(words[0]) and not os.path.sep in words[0]:
         near = command_words.nearest(words[0], heads)
-        raise Bad("'%s' is neither a folder nor a command%s; ./try --help lists the commands" % (words[0], ": did you mean '%s'?" % near if near else ''))
+        raise Bad("'%s' is neither a folder nor a command%s ./try --help lists the commands" % (words[0], ": did you mean '%s'?" % near if near else ';'))
     return run_folders(words)

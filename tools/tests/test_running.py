@@ -59,8 +59,12 @@ class Rooms(unittest.TestCase):
 # Stands in for the program: a boot and a trace print what is stored beside the schedule.
 STAND_IN = '''import os, sys
 words = sys.argv[1:]
+try:
+    ' '.join(words).encode('utf-8')
+except UnicodeEncodeError:
+    sys.exit('bad words')
 if words[0] in ('boot', 'trace'):
-    folder = os.path.dirname(words[2])
+    folder = os.path.dirname(os.path.realpath(words[2]))
     with open(os.path.join(folder, 'printed' if words[0] == 'boot' else 'trace' + words[-1]), 'rb') as file:
         sys.stdout.buffer.write(file.read())
 '''

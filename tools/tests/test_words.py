@@ -16,7 +16,8 @@ class Words(unittest.TestCase):
                            ('compile kernel a b c', "word 5, 'c', is one too many"), ('boot i s 0 1', "word 4, TURNS, '0', is out of its range"),
                            ('boot i s 01 1', 'begins with a 0'), ('boot i s 10 1e9', 'word 5, STEPS'), ('boot i s 1,000 1', 'of digits alone'),
                            ('boot i s 0x10 1', 'is hexadecimal'), ('boot i s 4294967296 1', 'out of its range'), ('trace i s 1 1 65', "word 6, USER, '65'"),
-                           ('boot i s 1 18446744073709551616', 'out of its range'), ('sample -1', "word 2, N, '-1'"), ('boot i s +1 5', 'word 4'), ('Boot a b 1 1', "did you mean 'boot'")):
+                           ('boot i s 1 18446744073709551616', 'out of its range'), ('sample -1', "word 2, N, '-1'"), ('boot i s +1 5', 'word 4'), ('Boot a b 1 1', "did you mean 'boot'"),
+                           ('compile kernel \udcff b', 'word 3, ')):
             self.assertIn(part, words.fault(line.split(' ')) or '', line)
 
     def test_files(self):

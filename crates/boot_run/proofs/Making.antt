@@ -5,7 +5,9 @@ use Rattle.layer_map.specs.Map.{Map}
 use Rattle.cvm_model.specs.Cvm.{map_of}
 use Rattle.cvm_model.specs.declared.row.Next.{Next}
 use Rattle.layer_contract.specs.Boots.{boot_of}
-use Rattle.boot_turns.specs.Advances.{Advances}
+use Rattle.boot_turns.specs.Advances.{LoopsAdvance}
+use Rattle.boot_turns.specs.AnyTurns.{LoopsMakeTurns}
+use Rattle.boot_turns.specs.Completes.{Completes}
 use Rattle.boot_turns.specs.Tracing.{TraceRuns}
 use Rattle.boot_turns.specs.declared.completion.Begun.{Begun}
 use Rattle.boot_turns.specs.declared.answers.Turn.{Turn}
@@ -33,24 +35,25 @@ row_is k turn user b n next count same e =
     ∙ sym (ap (λ (d : Bool). if d then Dispatch (record { turn = turn; cause = b.cause; edata = b.edata; user = user; next = next }) else Step user) e)
 
 -- of the run as the call found it
-module _ {L : Type 0} (now r : Kept L) (same : r ≡ now) (count : ℕ) (new : Kept L) (most : ℕ) (told retold : Option (List (List ℕ))) (text retext : Option (List ℕ)) (budget left : ℕ) (m : Map) (placed : m ≡ map_of (boot_of r.boot)) where
-  moved : (result : Result (ℕ × Begun) RunFault) → Advances count (is_some r.tracer) r.machine new.machine told retold budget left most result →
+module _ {L : Type 0} (advance : LoopsAdvance) (make : LoopsMakeTurns) (now r : Kept L) (same : r ≡ now) (count : ℕ) (new : Kept L) (most : ℕ) (told retold : Option (List (List ℕ))) (text retext : Option (List ℕ)) (budget left : ℕ) (m : Map) (placed : m ≡ map_of (boot_of r.boot)) where
+  moved : (result : Result (ℕ × Begun) RunFault) → Completes count (is_some r.tracer) r.machine new.machine told retold budget left most result →
       TraceRuns count m r.machine new.machine told retold (record { tracer = r.tracer; text = text; budget = budget }) (record { tracer = new.tracer; text = retext; budget = left }) result →
       Moved count now new most told retold text retext budget left result
   moved result a t = subst (λ (q : Kept L). Moved count q new most told retold text retext budget left result) same
       (record {
-        advances = a;
+        advances = advance count (is_some r.tracer) r.machine new.machine told retold budget left most result a;
+        anyhow = make count (is_some r.tracer) r.machine new.machine told retold budget left most result a;
         traces = subst (λ (m : Map). TraceRuns count m r.machine new.machine told retold (record { tracer = r.tracer; text = text; budget = budget }) (record { tracer = new.tracer; text = retext; budget = left }) result) placed t;
       })
 
-  pub made_err : (f e : RunFault) (result : Result (ℕ × Turn) RunFault) → result ≡ Err e → f ≡ e → Advances count (is_some r.tracer) r.machine new.machine told retold budget left most (Err f) →
+  pub made_err : (f e : RunFault) (result : Result (ℕ × Turn) RunFault) → result ≡ Err e → f ≡ e → Completes count (is_some r.tracer) r.machine new.machine told retold budget left most (Err f) →
       TraceRuns count m r.machine new.machine told retold (record { tracer = r.tracer; text = text; budget = budget }) (record { tracer = new.tracer; text = retext; budget = left }) (Err f) → new.ended ≡ r.ended →
       MakesTurn count now new most told retold text retext budget left result
   made_err f e result is fault a t ended =
       subst (λ (q : Result (ℕ × Turn) RunFault). MakesTurn count now new most told retold text retext budget left q) (ap (λ g. Err g) fault ∙ sym is)
       (moved (Err f) a t, ended ∙ ap (λ (q : Kept L). q.ended) same)
 
-  pub made : (skipped number : ℕ) (b : Begun) (answer : Turn) → Advances count (is_some r.tracer) r.machine new.machine told retold budget left most (Ok (skipped, b)) →
+  pub made : (skipped number : ℕ) (b : Begun) (answer : Turn) → Completes count (is_some r.tracer) r.machine new.machine told retold budget left most (Ok (skipped, b)) →
       TraceRuns count m r.machine new.machine told retold (record { tracer = r.tracer; text = text; budget = budget }) (record { tracer = new.tracer; text = retext; budget = left }) (Ok (skipped, b)) →
       number ≡ skipped + 1 → Counted r new skipped b answer → MakesTurn count now new most told retold text retext budget left (Ok (number, answer))
   made skipped number b answer a t is c = (skipped, b, is, moved (Ok (skipped, b)) a t, subst (λ (q : Kept L). Counted q new skipped b answer) same c)

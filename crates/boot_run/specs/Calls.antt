@@ -8,9 +8,10 @@ use Rattle.boot_turns.specs.declared.answers.View.{View}
 use Rattle.boot_turns.specs.declared.answers.RunFault.{RunFault}
 use Rattle.boot_run.specs.declared.load.LoadFault.{LoadFault}
 use Rattle.boot_run.specs.declared.whole.RunEnd.{RunEnd}
+use Rattle.boot_run.specs.AnyRun.{AnyTurnsRun, AnyGoRuns, AnyRunsToEnd}
 use Rattle.boot_run.specs.LoadEnds.{Kept}
 use Rattle.boot_run.specs.Report.{ReportRuns}
-use Rattle.boot_run.specs.TurnCalls.{around, TurnRuns, TurnsRun}
+use Rattle.boot_run.specs.TurnCalls.{around, TurnsRun}
 use Rattle.boot_run.specs.TurnParts.{MakesTurn}
 use Rattle.boot_run.specs.Whole.{CloseRuns, GoRuns, RomEnds, RunsToEnd, WholeEnds}
 
@@ -25,15 +26,15 @@ module _ {D O : Type 0} (size : D → ℕ) (sectors : D → Option (List (List �
   Proceeds most run disk budget out new retold left printed result = run.fault ≡ None →
       TurnsRun (size disk) run most (around run (sectors disk) budget (text out)) (around new (sectors retold) left (text printed)) result
 
+  -- and turns of any run of the machine, where it hasn't ended
+  abbrev pub ProceedsAnyhow : {L : Type 0} → (most : ℕ) → Kept L → D → ℕ → O → Kept L → D → ℕ → O → Result (ℕ × Turn) RunFault → Type 0
+  ProceedsAnyhow most run disk budget out new retold left printed result = run.fault ≡ None → run.ended ≡ None →
+      AnyTurnsRun (size disk) run most (around run (sectors disk) budget (text out)) (around new (sectors retold) left (text printed)) result
+
   -- and of one that hasn't ended, either
   abbrev pub TakesTurns : {L : Type 0} → (most : ℕ) → Kept L → D → ℕ → O → Kept L → D → ℕ → O → Result (ℕ × Turn) RunFault → Type 0
   TakesTurns most run disk budget out new retold left printed result = run.fault ≡ None → run.ended ≡ None →
       TurnsRun (size disk) run most (around run (sectors disk) budget (text out)) (around new (sectors retold) left (text printed)) result
-
-  -- one turn is
-  abbrev pub TakesTurn : {L : Type 0} → Kept L → D → ℕ → O → Kept L → D → ℕ → O → Result Turn RunFault → Type 0
-  TakesTurn run disk budget out new retold left printed result = run.fault ≡ None → run.ended ≡ None →
-      TurnRuns (size disk) run (around run (sectors disk) budget (text out)) (around new (sectors retold) left (text printed)) result
 
   -- the report is printed
   abbrev pub Reports : {L : Type 0} → Kept L → D → O → Kept L → D → O → Result (Unit {0}) RunFault → Type 0
@@ -44,6 +45,11 @@ module _ {D O : Type 0} (size : D → ℕ) (sectors : D → Option (List (List �
   Goes turns run disk budget out new retold left printed result =
       GoRuns (size disk) run turns (around run (sectors disk) budget (text out)) (around new (sectors retold) left (text printed)) result
 
+  -- and so of any run of the machine
+  abbrev pub GoesAnyhow : {L : Type 0} → (turns : ℕ) → Kept L → D → ℕ → O → Kept L → D → ℕ → O → Result (Unit {0}) RunFault → Type 0
+  GoesAnyhow turns run disk budget out new retold left printed result =
+      AnyGoRuns (size disk) run turns (around run (sectors disk) budget (text out)) (around new (sectors retold) left (text printed)) result
+
   -- the run is closed, whatever is left of the budget
   abbrev pub Closes : {L : Type 0} → Kept L → D → O → Kept L → D → O → RunEnd → Type 0
   Closes run disk out new retold printed result = (budget : ℕ) →
@@ -53,6 +59,10 @@ module _ {D O : Type 0} (size : D → ℕ) (sectors : D → Option (List (List �
   abbrev pub Finishes : {L : Type 0} → (turns steps : ℕ) → Kept L → D → O → D → O → RunEnd → Type 0
   Finishes turns steps run disk out retold printed result =
       RunsToEnd (size disk) run turns steps (around run (sectors disk) steps (text out)) (sectors retold) (text printed) result
+
+  -- and so of any run of the machine
+  abbrev pub FinishesAnyhow : {L : Type 0} → (turns steps : ℕ) → Kept L → D → O → D → RunEnd → Type 0
+  FinishesAnyhow turns steps run disk out retold result = AnyRunsToEnd (size disk) run turns (around run (sectors disk) steps (text out)) (sectors retold) result
 
   -- what is booted over such a disk, under a schedule, is run to its end, or refused
   abbrev pub RunsWhole : Booted → Rows → View → (turns steps : ℕ) → D → O → D → O → Result RunEnd LoadFault → Type 0

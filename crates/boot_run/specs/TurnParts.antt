@@ -17,6 +17,7 @@ use Rattle.boot_turns.specs.declared.answers.Turn.{Turn}
 use Rattle.boot_turns.specs.declared.answers.Turn.TheVariants.{Step, Dispatch}
 use Rattle.boot_turns.specs.declared.answers.RunFault.{RunFault}
 use Rattle.boot_turns.specs.Advances.{Advances}
+use Rattle.boot_turns.specs.AnyTurns.{AnyTurns}
 use Rattle.boot_turns.specs.Tracing.{TraceRuns}
 use Rattle.boot_run.specs.LoadEnds.{Kept, SeesUser, viewed}
 use Rattle.boot_run.specs.Shown.{next_shown, end_of_next}
@@ -74,6 +75,7 @@ pub record Counted {L : Type 0} (old new : Kept L) (skipped : ℕ) (b : Begun) (
 pub record Moved {L : Type 0} (count : ℕ) (old new : Kept L) (most : ℕ) (told retold : Option (List (List ℕ))) (text retext : Option (List ℕ)) (budget left : ℕ)
     (result : Result (ℕ × Begun) RunFault) : Type 0 where
   pub advances : Advances count (is_some old.tracer) old.machine new.machine told retold budget left most result
+  pub anyhow : AnyTurns count (is_some old.tracer) old.machine new.machine told retold budget left most result
   pub traces : TraceRuns count (map_of (boot_of old.boot)) old.machine new.machine told retold
       (record { tracer = old.tracer; text = text; budget = budget }) (record { tracer = new.tracer; text = retext; budget = left }) result
 

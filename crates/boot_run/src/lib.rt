@@ -14,4 +14,7 @@ pub use boot_turns::{RunFault, Turn, View};
 pub use cvm_model::{Next, Row};
 pub use load::LoadFault;
 pub use run::Run;
-pub use whole::{RunEnd, run_rom, run_whole};
+pub use whole::{
+    RunEnd, run_rom, run_whole, saved_runs_are_accepted, saved_runs_are_taken_up, saved_runs_join,
+    saved_texts_begin,
+};

@@ -10,7 +10,8 @@ ghost use Rattle.boot_run.specs.Loading.{system_of, TornAmong};
 ghost use Rattle.boot_run.specs.LoadEnds.{pages_needed, rom_needed, IsFresh, StandsFrom, LoadFails};
 ghost use Rattle.boot_report.specs.Prints.{Prints, PrintsPart};
 ghost use Rattle.boot_report.specs.Texts.{SameButViewed};
-ghost use Rattle.boot_run.specs.Calls.{MakesTurns, Proceeds, TakesTurns, TakesTurn, Reports};
+ghost use Rattle.boot_run.specs.Calls.{MakesTurns, Proceeds, ProceedsAnyhow, TakesTurns, Reports};
+ghost use Rattle.boot_run.specs.OneTurn.{TurnsSay, as_turns};
 ghost use Rattle.boot_run.specs.Shown.{has_faulted};
 ghost use Rattle.boot_run.specs.TurnCalls.{rows_of, IsOver, KeepsLoad, StandsReady};
 ghost use Rattle.boot_run.specs.TurnParts.{rows_before, rows_after, Views};
@@ -23,10 +24,11 @@ use crate::places::{Places, places_of};
 use crate::report::{put_closing, put_trace_closing};
 use crate::turn_rows::{put_fault, put_row, put_start};
 use boot_report::{ReportFault, the_globals_tell, the_rows_tell, the_user_rows_tell};
-use boot_turns::completion::advance;
+use boot_turns::completion::complete;
 use boot_turns::tracer::Tracer;
 use boot_turns::{
-    RunFault, Turn, View, journal_rows_follow, machines_run, runs_stay_typed, traces_grow,
+    RunFault, Turn, View, journal_rows_follow, loops_advance, loops_make_turns, machines_run,
+    runs_stay_typed, traces_grow,
 };
 use cvm_model::{Next, Row};
 use cvm_outside::{Sectors, Sink, SinkFault};
@@ -231,7 +233,9 @@ impl<L: Layer + Drop> Run<L> {
         ensures made { IfOk result (λ r. (1 ≤ r.0) × (r.0 ≤ most) × (r.1 ≢ Turn.Over)) }
     {
         memory_is_whole();
-        let (skipped, begun) = advance(
+        loops_advance();
+        loops_make_turns();
+        let (skipped, begun) = complete(
             &mut self.machine,
             budget,
             most,
@@ -289,6 +293,7 @@ impl<L: Layer + Drop> Run<L> {
         ensures fault { self.new.fault ≡ self.old.fault }
         ensures size { D.size disk.new ≡ D.size disk.old }
         ensures ends { Proceeds D.size D.sectors O.text most self.old disk.old budget.old out.old self.new disk.new budget.new out.new result }
+        ensures any { ProceedsAnyhow D.size D.sectors O.text most self.old disk.old budget.old out.old self.new disk.new budget.new out.new result }
         ensures disk { result ≡ Err RunFault.Disk → Rose (D.faults disk.old) (D.faults disk.new) }
         ensures disk_same { result ≢ Err RunFault.Disk → D.faults disk.new ≡ D.faults disk.old }
         ensures sink { result ≡ Err RunFault.Sink → Rose (O.faults out.old) (O.faults out.new) }
@@ -335,6 +340,7 @@ impl<L: Layer + Drop> Run<L> {
         ensures keeps { IfErr result (λ f. self.new.fault ≡ Some f) }
         ensures fine { OnOk result (self.new.fault ≡ None) }
         ensures ends { TakesTurns D.size D.sectors O.text most self.old disk.old budget.old out.old self.new disk.new budget.new out.new result }
+        ensures any { ProceedsAnyhow D.size D.sectors O.text most self.old disk.old budget.old out.old self.new disk.new budget.new out.new result }
         ensures disk { result ≡ Err RunFault.Disk → self.old.fault ≡ None → Rose (D.faults disk.old) (D.faults disk.new) }
         ensures disk_same { result ≢ Err RunFault.Disk → D.faults disk.new ≡ D.faults disk.old }
         ensures sink { result ≡ Err RunFault.Sink → self.old.fault ≡ None → Rose (O.faults out.old) (O.faults out.new) }
@@ -357,14 +363,11 @@ impl<L: Layer + Drop> Run<L> {
         }
     }
 
-    /// Runs the machine, a step from the budget each, until the next turn is complete, and prints what is to be seen of it: of a boot the
-    /// row of its dispatch; of a trace the rows of its user as they end, the start row before the first turn, and the kernel's fault. A run
-    /// that has ended answers `Over`, and touches nothing.
+    /// Runs the machine until the next turn is complete, as [`Run::turns`] does that makes one turn at most. A run that has ended answers `Over`.
     ///
     /// # Errors
     ///
-    /// `StepLimit`, where the budget is spent and the turn isn't complete; `Disk` and `Sink`, only where the count of faults of that
-    /// object rose. After a fault each call answers it again, and touches nothing.
+    /// As [`Run::turns`].
     pub fn turn<D: Sectors, O: Sink>(
         &mut self,
         budget: &mut u64,
@@ -373,23 +376,8 @@ impl<L: Layer + Drop> Run<L> {
     ) -> Result<Turn, RunFault>
         requires disk { D.size disk.old ≡ self.old.count }
         requires steps { self.old.machine.time + budget.old < 2 ^ 64 }
-        ensures kept { KeepsLoad self.old self.new }
-        ensures size { D.size disk.new ≡ D.size disk.old }
-        ensures again { IfSome self.old.fault (λ f. result ≡ Err f) }
-        ensures over { self.old.fault ≡ None → IsSome self.old.ended → result ≡ Ok Turn.Over }
-        ensures only { result ≡ Ok Turn.Over → IsSome self.old.ended }
-        ensures still { IsOver self.old → (self.new ≡ self.old) × (budget.new ≡ budget.old) × (disk.new ≡ disk.old) × (out.new ≡ out.old) }
-        ensures keeps { IfErr result (λ f. self.new.fault ≡ Some f) }
-        ensures fine { OnOk result (self.new.fault ≡ None) }
-        ensures ends { TakesTurn D.size D.sectors O.text self.old disk.old budget.old out.old self.new disk.new budget.new out.new result }
-        ensures disk { result ≡ Err RunFault.Disk → self.old.fault ≡ None → Rose (D.faults disk.old) (D.faults disk.new) }
-        ensures disk_same { result ≢ Err RunFault.Disk → D.faults disk.new ≡ D.faults disk.old }
-        ensures sink { result ≡ Err RunFault.Sink → self.old.fault ≡ None → Rose (O.faults out.old) (O.faults out.new) }
-        ensures sink_same { result ≢ Err RunFault.Sink → O.faults out.new ≡ O.faults out.old }
-        ensures spent { self.new.machine.time + budget.new ≡ self.old.machine.time + budget.old }
-        ensures limit { result ≡ Err RunFault.StepLimit → self.old.fault ≡ None → (budget.new ≡ 0) × (self.new.machine.hardware.off ≡ None) }
+        ensures { TurnsSay D.size D.sectors D.faults O.text O.faults 1 self.old disk.old budget.old out.old self.new disk.new budget.new out.new (as_turns result) }
     {
-        machines_run();
         let (_, turn) = self.turns(1, budget, disk, out)?;
         Ok(turn)
     }

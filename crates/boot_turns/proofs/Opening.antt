@@ -98,13 +98,13 @@ fails_leave count x s u told retold old new same is true h = ⊎_elim
 
 -- the step at u failed, or its rows
 pub step_stops : (count : ℕ) (x : Outside) (s : State) (t u before after : ℕ) (told retold : Option (List (List ℕ))) (old new : Held) (traced : Bool) (b : Option Begun) (f : RunFault) → outside_of old.rows count ≡ x → t ≤ u → after + (u + 1) ≡ before + t →
-    seen told old ≡ Some (run x s u) → Progress x s t u b → (failing f ≡ Err StepLimit → ⊥) → (failing f ≡ Err Disk → StepFails count old new told retold traced) → ((failing f ≡ Err Disk → ⊥) → StepRan count old new told retold) →
+    seen told old ≡ Some (run x s u) → Progress x s t u b → (run x s u).off ≡ None → (failing f ≡ Err StepLimit → ⊥) → (failing f ≡ Err Disk → StepFails count old new told retold traced) → ((failing f ≡ Err Disk → ⊥) → StepRan count old new told retold) →
     CompleteErr x traced (seen retold new) before after s t f
-step_stops count x s t u before after told retold old new traced b StepLimit same le spent is p limit torn ran = absurd (limit refl)
-step_stops count x s t u before after told retold old new traced b Disk same le spent is p limit torn ran = (u, le, spent, (b, p), fails_leave count x s u told retold old new same is traced (torn refl))
-step_stops count x s t u before after told retold old new traced b Sink same le spent is p limit torn ran =
+step_stops count x s t u before after told retold old new traced b StepLimit same le spent is p on limit torn ran = absurd (limit refl)
+step_stops count x s t u before after told retold old new traced b Disk same le spent is p on limit torn ran = (u, le, spent, (b, p), fails_leave count x s u told retold old new same is traced (torn refl), on)
+step_stops count x s t u before after told retold old new traced b Sink same le spent is p on limit torn ran =
     let ran_x : seen retold new ≡ option_map (step x) (seen told old) = subst (λ (z : Outside). seen retold new ≡ option_map (step z) (seen told old)) same (ran (λ e. cc)) in
-    (u, le, spent, (b, p), seen_more x (seen told old) (seen retold new) (run x s u) ran_x is)
+    (u, le, spent, (b, p), seen_more x (seen told old) (seen retold new) (run x s u) ran_x is, on)
 
 -- a turn that is passed: the step at u, after n of them, began it and kept user mode
 pub skips_more : (x y : Outside) (s : State) (t n m u : ℕ) (told retold : Option (List (List ℕ))) (old new : Held) → y ≡ x → u ≡ t + n → m ≡ n + 1 → Skips x s t n →

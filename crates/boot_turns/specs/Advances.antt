@@ -10,7 +10,7 @@ use Rattle.c0_meaning.specs.TypedState.{IsTypedState}
 use Rattle.c0_meaning.specs.State.{State as C0}
 use Rattle.cvm_model.specs.Cvm.{System, Running, Cvm}
 use Rattle.boot_turns.specs.TurnEnds.{Stood, Ahead}
-use Rattle.boot_turns.specs.Completes.{seen, note, DiskLeaves, Skips}
+use Rattle.boot_turns.specs.Completes.{seen, note, DiskLeaves, Skips, Completes}
 use Rattle.boot_turns.specs.Premises.{StartsFrom}
 use Rattle.boot_turns.specs.declared.completion.Begun.{Begun}
 use Rattle.boot_turns.specs.declared.answers.RunFault.{RunFault}
@@ -85,3 +85,8 @@ abbrev pub Advances : (count : ℕ) → (traced : Bool) → (old new : Held) →
     Result (ℕ × Begun) RunFault → Type 0
 Advances count traced old new told retold budget left most result =
     (u : CUnit) → AdvancesTyped (IsTypedState u) (outside_of old.rows count) traced (seen told old) (seen retold new) budget left most result
+
+-- so it is of every loop that steps a machine to the end of turns
+abbrev pub LoopsAdvance : Type 0
+LoopsAdvance = (count : ℕ) (traced : Bool) (old new : Held) (told retold : Option (List (List ℕ))) (budget left most : ℕ) (result : Result (ℕ × Begun) RunFault) →
+    Completes count traced old new told retold budget left most result → Advances count traced old new told retold budget left most result

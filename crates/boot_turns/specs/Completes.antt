@@ -144,15 +144,15 @@ pub record WentOff (x : Outside) (s : State) (t u : ℕ) (b : Begun) : Type 0 wh
 abbrev pub CompleteOk : Outside → Option State → ℕ → ℕ → State → ℕ → Begun → Type 0
 CompleteOk x new before after s t b = (u : ℕ) × (Completed x s t u b ⊎ WentOff x s t u b) × (new ≡ Some (run x s u)) × (after + u ≡ before + t)
 
--- the budget was spent, and the machine is on; or the disk failed in step number u or in its rows; or the sink failed in the rows of step number u,
+-- the machine is on, and the budget was spent; or the disk failed in step number u or in its rows; or the sink failed in the rows of step number u,
 -- which is done
 abbrev pub CompleteErr : Outside → (traced : Bool) → Option State → ℕ → ℕ → State → ℕ → RunFault → Type 0
 CompleteErr x traced new before after s t StepLimit = (u : ℕ) × (t ≤ u) × (after + u ≡ before + t) × (new ≡ Some (run x s u))
     × (after ≡ 0) × ((run x s u).off ≡ None) × ((b : Option Begun) × Progress x s t u b)
 CompleteErr x traced new before after s t Disk = (u : ℕ) × (t ≤ u) × (after + (u + 1) ≡ before + t) × ((b : Option Begun) × Progress x s t u b)
-    × DiskLeaves x s u traced new
+    × DiskLeaves x s u traced new × ((run x s u).off ≡ None)
 CompleteErr x traced new before after s t Sink = (u : ℕ) × (t ≤ u) × (after + (u + 1) ≡ before + t) × ((b : Option Begun) × Progress x s t u b)
-    × (new ≡ Some (run x s (suc u)))
+    × (new ≡ Some (run x s (suc u))) × ((run x s u).off ≡ None)
 
 -- over any disk the machine made so many steps in which nothing comes from outside, and only the processor, the memory and the time changed
 pub record Passes (old new : Held) (n : ℕ) : Type 0 where

@@ -64,9 +64,10 @@ abbrev pub FailsAt : Outside → System → State → (now : List (List ℕ)) �
 FailsAt x y s now Boot at text = Torn x (run x s at) now × Printed x y s Boot at text
 FailsAt x y s now (Trace u) at text = (Torn x (run x s at) now × Printed x y s (Trace u) at text) ⊎ RowsBroken x y s now u at text
 
--- that step is one of a turn, before the headline's
-pub record StepBroken (x : Outside) (y : System) (s : State) (now : List (List ℕ)) (v : View) (turns steps : ℕ) (text : List ℕ) : Type 0 where
+-- that step is one of a turn, before the headline's; it is the last of so many that were made
+pub record StepBroken (x : Outside) (y : System) (s : State) (now : List (List ℕ)) (v : View) (turns steps made : ℕ) (text : List ℕ) : Type 0 where
   pub at : ℕ
+  pub last : made ≡ suc at
   pub less : at < steps
   pub goes_on : (j : ℕ) → j ≤ at → is_end x s turns j ≡ false
   pub fails : FailsAt x y s now v at text
@@ -109,7 +110,7 @@ SinkBroken x y s held old now (Trace u) turns steps text =
 -- HOW A LOADED RUN ENDS
 abbrev pub RunEndsFrom : Outside → System → State → (held : ℕ) → (old now : List (List ℕ)) → View → (turns steps : ℕ) → List ℕ → Ending → Type 0
 RunEndsFrom x y s held old now v turns steps text DiskFault = Beyond held old now
-    × (StepBroken x y s now v turns steps text ⊎ EndBroken x y s now v turns steps text)
+    × (((made : ℕ) × StepBroken x y s now v turns steps made text) ⊎ EndBroken x y s now v turns steps text)
 RunEndsFrom x y s held old now v turns steps text SinkFault = Beyond held old now × SinkBroken x y s held old now v turns steps text
 RunEndsFrom x y s held old now v turns steps text NoMemory = (text ≡ []) × (now ≡ old)
 RunEndsFrom x y s held old now v turns steps text e = RanFrom x y s held old now v turns steps e text

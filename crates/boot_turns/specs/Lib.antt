@@ -8,6 +8,7 @@ pub mod Samples
 pub mod Rows
 pub mod Completes
 pub mod Advances
+pub mod AnyTurns
 pub mod Entries
 pub mod JournalText
 pub mod Copies

@@ -11,17 +11,11 @@ ghost use Rattle.boot_turns.specs.Tracing.{CanTrace, counted, ForEnded, EndedKee
 
 use crate::answers::RunFault;
 use crate::completion::Begun;
+use crate::registers::{ECA, EDATA, MODE};
 use crate::tracer::{Entered, Tracer, note_entry};
 use cvm_outside::{Sectors, Sink};
 use layer_map::{CURRENT, Map};
 use mips_machine::Machine;
-
-/// The numbers of special registers: the cause of the last interrupt, what it concerns, and the mode.
-const CAUSE: u32 = 2;
-
-const CONCERN: u32 = 4;
-
-const MODE: u32 = 7;
 
 /// The register of a primitive's answer.
 const ANSWER: u32 = 2;
@@ -36,8 +30,8 @@ pub(crate) fn begun_now(machine: &Machine) -> Begun
 {
     Begun {
         dispatched: machine.special(MODE) != 1,
-        cause: machine.special(CAUSE),
-        edata: machine.special(CONCERN),
+        cause: machine.special(ECA),
+        edata: machine.special(EDATA),
         user: machine.word(CURRENT),
     }
 }

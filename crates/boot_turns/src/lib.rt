@@ -7,6 +7,8 @@ ghost use Rattle.c0_tree.specs.Tree.{CUnit};
 ghost use Rattle.c0_meaning.specs.TypedState.{IsTypedState};
 ghost use Rattle.boot_turns.specs.Machines.{MachinesRun, RunsStayTyped};
 ghost use Rattle.boot_turns.specs.Rom.{RomStarts, RomGoesOn};
+ghost use Rattle.boot_turns.specs.Advances.{LoopsAdvance};
+ghost use Rattle.boot_turns.specs.AnyTurns.{LoopsMakeTurns};
 ghost use Rattle.boot_turns.specs.Entries.{TracesGrow};
 ghost use Rattle.boot_turns.specs.Copies.{CopiesTell};
 ghost use Rattle.boot_turns.specs.JournalText.{RowsFollow};
@@ -15,6 +17,7 @@ mod answers;
 pub mod completion;
 mod following;
 pub mod journal_text;
+mod registers;
 pub mod row_text;
 mod rows;
 pub mod tracer;
@@ -70,6 +73,18 @@ pub fn the_rom_goes_on()
     the_rom_starts();
     machines_run();
 }
+
+/// A law: a loop that steps a machine to the end of turns makes the turns of each run from a start that stands there and goes on.
+pub fn loops_advance()
+    ensures { LoopsAdvance }
+{
+    machines_run();
+}
+
+/// A law: a loop that steps a machine to the end of turns makes turns of any run, whatever state that begins from.
+pub fn loops_make_turns()
+    ensures { LoopsMakeTurns }
+{}
 
 /// A law: the rows of a journal stay as it grows, and the last steps have theirs at its end.
 pub fn journal_rows_follow()

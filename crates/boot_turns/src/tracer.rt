@@ -14,16 +14,11 @@ ghost use Rattle.boot_turns.specs.Tracing.{begun_rows, ended_rows};
 use crate::answers::RunFault;
 use crate::completion::Begun;
 use crate::journal_text::{put_row, set_row, size_row, steps_row, trap_row};
+use crate::registers::MODE;
 use boot_report::read_user_word;
 use cvm_outside::{Sectors, Sink, SinkFault};
-use layer_map::Map;
+use layer_map::{Map, PRIMITIVES};
 use mips_machine::Machine;
-
-/// The number of the special register that says the mode.
-const MODE: u32 = 7;
-
-/// The address of the first entry of a primitive. The ten entries are a word each.
-const PRIMITIVES: u32 = 0x2000;
 
 /// What is noted of a primitive at its entry.
 #[derive(Clone, Copy, Debug, PartialEq, Eq)]

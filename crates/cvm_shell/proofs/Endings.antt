@@ -217,7 +217,7 @@ undone_end words c status old new is gets (inr s) few same e = undone c is (inr 
 
 -- the plan of a boot's files is that of the command with its view
 abbrev pub session_of : Boot → View → Session
-session_of b v = record { view = v; turns = b.turns; steps = b.steps }
+session_of b v = record { start = b.start; view = v; turns = b.turns; steps = b.steps }
 
 pub viewed_plan : (file : List ℕ → Option (List ℕ)) (b : Boot) (v : View) (p : Plan) → IsBootPlan layer_image file b (session_of b v) p → FilesPlan file (command_of b v) p
 viewed_plan file b view.Boot p h = h

@@ -15,7 +15,6 @@ use Rattle.cvm_model.specs.Cvm.{System as Booted, Cvm, Status as CvmStatus, Unit
 use Rattle.cvm_model.specs.KernelMeaning.{UnitsAreKernels, UnitsReplay}
 use Rattle.cvm_model.specs.Journal.{journal, replay, Isolated as AreIsolated}
 use Rattle.cvm_model.specs.Text.{trace_text}
-use Rattle.layer_contract.specs.Follows.{loaded}
 use Rattle.boot_turns.specs.Trace.{Shown, entries_so_far}
 use Rattle.boot_turns.specs.TurnEnds.{first_of, Whole}
 use Rattle.boot_turns.specs.Headline as headline
@@ -28,7 +27,7 @@ use Rattle.cvm_shell.specs.declared.status.Status.{Status}
 use Rattle.cvm_shell.specs.declared.status.Status.TheVariants.{Done, KernelFault}
 use Rattle.cvm_shell.specs.declared.boot.Session.{Session}
 use Rattle.cvm_shell.specs.Outside.{Outside}
-use Rattle.cvm_shell.specs.Boot.{booted, around, ended_as, Headline}
+use Rattle.cvm_shell.specs.Boot.{booted, around, first_state, ended_as, Headline}
 use Rattle.cvm_shell.specs.Isolation.{replayed_text, Isolated, TellTheSame, EqualJournalsTellTheSame}
 use Rattle.cvm_shell.specs.Stages.{JournalsReplay}
 
@@ -135,7 +134,7 @@ pub isolated : TurnLaws → JournalsReplay → (session : Session) (u : ℕ) (s 
 isolated laws law session u s rows before old new status h sees traced ends =
     let x = around rows old in
     let y = booted s rows in
-    let m = loaded y before in
+    let m = first_state session s rows before in
     let t = end_within x m session.turns session.steps in
     let by = status_by status h.ending h.status_is ends in
     let over = not_late h.ending (is_end x m session.turns t) h.ran.past.status h.ran.status by in

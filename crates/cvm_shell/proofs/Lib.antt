@@ -26,5 +26,6 @@ mod SourceStops
 mod StackOut
 mod StackTexts
 mod Spellings
+mod StartAnswers
 mod Sufficient
 mod UserWords

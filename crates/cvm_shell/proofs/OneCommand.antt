@@ -1,9 +1,11 @@
 -- The words of a command tell which it is, so they are those of one command.
-use Rattle.std.proofs.Common.{◌≡◌, ℕ, ◌<◌, ◌^◌, List, [], ◌∷◌, drop, get_or, sym, ap, ◌∙◌, arith}
+use Rattle.std.proofs.Common.{◌≡◌, ℕ, ◌<◌, ◌^◌, List, [], ◌∷◌, drop, get_or, refl, sym, ap, ◌∙◌, arith}
 use Rattle.std.specs.Prelude.{decimal, slice_index, ◌==◌, if◌then◌else◌}
 use Rattle.std.specs.Str.Parse.{digits_value}
 use Rattle.std.proofs.lemmas.Fmt.{decimal_is_IsNumeral}
-use Rattle.cvm_shell.specs.Command.{Boot, Trace, Command, boot, trace, compile_user, compile_kernel, compile_program, link, migrate, sample, IsCommand, check}
+use Rattle.cvm_shell.specs.declared.boot.Start.{Start}
+use Rattle.cvm_shell.specs.declared.boot.Start.TheVariants.{Loaded, Rom}
+use Rattle.cvm_shell.specs.Command.{Boot, Trace, Command, boot, trace, compile_user, compile_kernel, compile_program, link, migrate, sample, IsCommand, start_word, check}
 
 -- what stands at a place
 abbrev at : List (List ℕ) → ℕ → List ℕ
@@ -21,14 +23,15 @@ letter text = slice_index text 0
 abbrev second : List ℕ → ℕ
 second text = slice_index text 1
 
-abbrev boot_of : List (List ℕ) → Boot
-boot_of words = record { image = at words 1; schedule = at words 2; turns = number (at words 3); steps = number (at words 4) }
+abbrev boot_of : Start → List (List ℕ) → Boot
+boot_of start words = record { start = start; image = at words 1; schedule = at words 2; turns = number (at words 3); steps = number (at words 4) }
 
 -- the command that words are, where they are one: the first letter tells which, or the second, or the first of the second word
 abbrev meant : List (List ℕ) → Command
 meant words =
-    if letter (at words 0) == 98 then boot (boot_of words) else
-    if letter (at words 0) == 116 then trace (record { boot = boot_of words; user = number (at words 5) }) else
+    if letter (at words 0) == 98 then boot (boot_of Loaded words) else
+    if letter (at words 0) == 114 then boot (boot_of Rom words) else
+    if letter (at words 0) == 116 then trace (record { boot = boot_of Loaded words; user = number (at words 5) }) else
     if letter (at words 0) == 108 then link (record { object = at words 1; params = at words 2; image = at words 3; users = drop 4 words }) else
     if letter (at words 0) == 109 then migrate (record { old = at words 1; image = at words 2 }) else
     if letter (at words 0) == 115 then sample (record { number = number (at words 1) }) else
@@ -41,10 +44,20 @@ meant words =
 read_back : (n : ℕ) → n < 2 ^ 64 → number (decimal n) ≡ n
 read_back n small = (decimal_is_IsNumeral n small).1
 
-boot_back : (b : Boot) → b.turns < 2 ^ 32 → b.steps < 2 ^ 64 → boot_of ([] ∷ b.image ∷ b.schedule ∷ decimal b.turns ∷ decimal b.steps ∷ []) ≡ b
+boot_back : (b : Boot) → b.turns < 2 ^ 32 → b.steps < 2 ^ 64 → boot_of b.start ([] ∷ b.image ∷ b.schedule ∷ decimal b.turns ∷ decimal b.steps ∷ []) ≡ b
 boot_back b few less =
-    let with_numbers : ℕ → ℕ → Boot = λ turns steps. record { image = b.image; schedule = b.schedule; turns = turns; steps = steps } in
+    let with_numbers : ℕ → ℕ → Boot = λ turns steps. record { start = b.start; image = b.image; schedule = b.schedule; turns = turns; steps = steps } in
     ap (λ turns. with_numbers turns (number (decimal b.steps))) (read_back b.turns (omega (arith, few))) ∙ ap (with_numbers b.turns) (read_back b.steps less)
+
+-- the first letter of a boot's words tells its start
+boot_meant : (start : Start) (image schedule turns steps : List ℕ) → meant (start_word start ∷ image ∷ schedule ∷ turns ∷ steps ∷ []) ≡ boot (boot_of start ([] ∷ image ∷ schedule ∷ turns ∷ steps ∷ []))
+boot_meant Loaded image schedule turns steps = refl
+boot_meant Rom image schedule turns steps = refl
+
+-- that of a trace is no ROM
+trace_meant : (t : Trace) (start : Start) → Loaded ≡ start → boot_of Loaded ([] ∷ t.boot.image ∷ t.boot.schedule ∷ decimal t.boot.turns ∷ decimal t.boot.steps ∷ [])
+    ≡ boot_of start ([] ∷ t.boot.image ∷ t.boot.schedule ∷ decimal t.boot.turns ∷ decimal t.boot.steps ∷ [])
+trace_meant t start e = ap (λ (s : Start). boot_of s ([] ∷ t.boot.image ∷ t.boot.schedule ∷ decimal t.boot.turns ∷ decimal t.boot.steps ∷ [])) e
 
 trace_back : (t : Trace) (b : Boot) (user : ℕ) → b ≡ t.boot → user ≡ t.user → trace (record { boot = b; user = user }) ≡ trace t
 trace_back t b user e f =
@@ -52,9 +65,10 @@ trace_back t b user e f =
     ap (λ x. trace_of x user) e ∙ ap (trace_of t.boot) f
 
 is_meant : (words : List (List ℕ)) (c : Command) → IsCommand words c → meant words ≡ c
-is_meant words (boot b) is = ap meant is.spelled ∙ ap (λ x. boot x) (boot_back b is.turns_fit is.steps_fit)
+is_meant words (boot b) is =
+    ap meant is.spelled ∙ boot_meant b.start b.image b.schedule (decimal b.turns) (decimal b.steps) ∙ ap (λ x. boot x) (boot_back b is.turns_fit is.steps_fit)
 is_meant words (trace t) is =
-    ap meant is.spelled ∙ trace_back t _ _ (boot_back t.boot is.turns_fit is.steps_fit) (read_back t.user (omega (arith, is.most_users)))
+    ap meant is.spelled ∙ trace_back t _ _ (trace_meant t t.boot.start (sym is.loaded) ∙ boot_back t.boot is.turns_fit is.steps_fit) (read_back t.user (omega (arith, is.most_users)))
 is_meant words (compile_user c) is = ap meant is.spelled
 is_meant words (compile_kernel c) is = ap meant is.spelled
 is_meant words (compile_program c) is = ap meant is.spelled

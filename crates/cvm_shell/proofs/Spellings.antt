@@ -6,7 +6,9 @@ use Rattle.std.specs.Char.{is_ascii_digit}
 use Rattle.std.proofs.lemmas.Fmt.{decimal_injective}
 use Rattle.cvm_text.specs.Number.{number_at}
 use Rattle.cvm_shell.specs.CompileProgram.{CompileProgram, IsCompileProgram}
-use Rattle.cvm_shell.specs.Command.{Boot, Trace, CompileUser, CompileKernel, Link, Migrate, Sample, IsBoot, IsTrace, IsCompileUser, IsCompileKernel, IsLink, IsMigrate, IsSample}
+use Rattle.cvm_shell.specs.declared.boot.Start.{Start}
+use Rattle.cvm_shell.specs.declared.boot.Start.TheVariants.{Loaded, Rom}
+use Rattle.cvm_shell.specs.Command.{Boot, Trace, CompileUser, CompileKernel, Link, Migrate, Sample, start_word, IsBoot, IsTrace, IsCompileUser, IsCompileKernel, IsLink, IsMigrate, IsSample}
 
 -- that the numbers which are spelled are read, as the reader of numbers says it
 abbrev pub AreRead : Type 0
@@ -22,53 +24,70 @@ whole_number law text n small e =
 pub same_number : (text : List ℕ) (n m : ℕ) → n < 2 ^ 64 → m < 2 ^ 64 → text ≡ decimal n → text ≡ decimal m → n ≡ m
 same_number text n m a b e d = decimal_injective n m a b (sym e ∙ d)
 
+-- a word names one start
+same_start : (a b : Start) → start_word a ≡ start_word b → a ≡ b
+same_start Loaded Loaded e = refl
+same_start Loaded Rom e = absurd (cc)
+same_start Rom Loaded e = absurd (cc)
+same_start Rom Rom e = refl
+
 -- these words, with numbers that they spell, are a boot
-pub words_of_boot : (words : List (List ℕ)) (word image schedule t s : List ℕ) (turns steps : ℕ) → words ≡ word ∷ image ∷ schedule ∷ t ∷ s ∷ [] → word ≡ codes "boot"
+pub words_of_boot : (words : List (List ℕ)) (start : Start) (word image schedule t s : List ℕ) (turns steps : ℕ) → words ≡ word ∷ image ∷ schedule ∷ t ∷ s ∷ [] → word ≡ start_word start
     → t ≡ decimal turns → 1 ≤ turns → turns < 2 ^ 32 → s ≡ decimal steps → steps < 2 ^ 64
-    → IsBoot words (record { image = image; schedule = schedule; turns = turns; steps = steps })
-words_of_boot words word image schedule t s turns steps e w a some fit b less = record { spelled = cc; some_turns = some; turns_fit = fit; steps_fit = less }
+    → IsBoot words (record { start = start; image = image; schedule = schedule; turns = turns; steps = steps })
+words_of_boot words start word image schedule t s turns steps e w a some fit b less = record { spelled = cc; some_turns = some; turns_fit = fit; steps_fit = less }
 
 -- and no other
-pub words_of_one : (words : List (List ℕ)) (word image schedule t s : List ℕ) (turns steps : ℕ) → words ≡ word ∷ image ∷ schedule ∷ t ∷ s ∷ []
+pub words_of_one : (words : List (List ℕ)) (start : Start) (word image schedule t s : List ℕ) (turns steps : ℕ) → words ≡ word ∷ image ∷ schedule ∷ t ∷ s ∷ [] → word ≡ start_word start
     → t ≡ decimal turns → turns < 2 ^ 32 → s ≡ decimal steps → steps < 2 ^ 64
-    → (b : Boot) → IsBoot words b → record { image = image; schedule = schedule; turns = turns; steps = steps } ≡ b
-words_of_one words word image schedule t s turns steps e a fit c less b is =
-    let spelled : word ∷ image ∷ schedule ∷ t ∷ s ∷ [] ≡ codes "boot" ∷ b.image ∷ b.schedule ∷ decimal b.turns ∷ decimal b.steps ∷ [] = sym e ∙ is.spelled in
+    → (b : Boot) → IsBoot words b → record { start = start; image = image; schedule = schedule; turns = turns; steps = steps } ≡ b
+words_of_one words start word image schedule t s turns steps e w a fit c less b is =
+    let spelled : word ∷ image ∷ schedule ∷ t ∷ s ∷ [] ≡ start_word b.start ∷ b.image ∷ b.schedule ∷ decimal b.turns ∷ decimal b.steps ∷ [] = sym e ∙ is.spelled in
+    let first : word ≡ start_word b.start = cc in
     let i : image ≡ b.image = cc in
     let j : schedule ≡ b.schedule = cc in
     let k : t ≡ decimal b.turns = cc in
     let l : s ≡ decimal b.steps = cc in
     let turns_small : turns < 2 ^ 64 = omega arith in
     let wanted_small : b.turns < 2 ^ 64 = omega (arith, is.turns_fit) in
+    let h : start ≡ b.start = same_start start b.start (sym w ∙ first) in
     let m : turns ≡ b.turns = same_number t turns b.turns turns_small wanted_small a k in
     let n : steps ≡ b.steps = same_number s steps b.steps less is.steps_fit c l in
-    let boot_of : List ℕ → List ℕ → ℕ → ℕ → Boot = λ x y z w. record { image = x; schedule = y; turns = z; steps = w } in
-    ap (λ x. boot_of x schedule turns steps) i ∙ ap (λ x. boot_of b.image x turns steps) j ∙ ap (λ x. boot_of b.image b.schedule x steps) m ∙ ap (λ x. boot_of b.image b.schedule b.turns x) n
+    let boot_of : Start → List ℕ → List ℕ → ℕ → ℕ → Boot = λ v x y z w. record { start = v; image = x; schedule = y; turns = z; steps = w } in
+    ap (λ x. boot_of x image schedule turns steps) h ∙ ap (λ x. boot_of b.start x schedule turns steps) i ∙ ap (λ x. boot_of b.start b.image x turns steps) j
+    ∙ ap (λ x. boot_of b.start b.image b.schedule x steps) m ∙ ap (λ x. boot_of b.start b.image b.schedule b.turns x) n
+
+-- words whose first names no start
+pub none_for_start : (words : List (List ℕ)) (word image schedule t s : List ℕ) → words ≡ word ∷ image ∷ schedule ∷ t ∷ s ∷ [] → ((a : Start) → word ≡ start_word a → ⊥) → (b : Boot) → IsBoot words b → ⊥
+none_for_start words word image schedule t s e none b is =
+    let spelled : word ∷ image ∷ schedule ∷ t ∷ s ∷ [] ≡ start_word b.start ∷ b.image ∷ b.schedule ∷ decimal b.turns ∷ decimal b.steps ∷ [] = sym e ∙ is.spelled in
+    let first : word ≡ start_word b.start = cc in
+    none b.start first
 
 -- words whose fourth spells no number of turns
 pub none_for_turns : (words : List (List ℕ)) (word image schedule t s : List ℕ) → words ≡ word ∷ image ∷ schedule ∷ t ∷ s ∷ [] → ((n : ℕ) → 1 ≤ n → n < 2 ^ 32 → t ≡ decimal n → ⊥) → (b : Boot) → IsBoot words b → ⊥
 none_for_turns words word image schedule t s e none b is =
-    let spelled : word ∷ image ∷ schedule ∷ t ∷ s ∷ [] ≡ codes "boot" ∷ b.image ∷ b.schedule ∷ decimal b.turns ∷ decimal b.steps ∷ [] = sym e ∙ is.spelled in
+    let spelled : word ∷ image ∷ schedule ∷ t ∷ s ∷ [] ≡ start_word b.start ∷ b.image ∷ b.schedule ∷ decimal b.turns ∷ decimal b.steps ∷ [] = sym e ∙ is.spelled in
     let k : t ≡ decimal b.turns = cc in
     none b.turns is.some_turns is.turns_fit k
 
 -- words whose fifth spells no number of steps
 pub none_for_steps : (words : List (List ℕ)) (word image schedule t s : List ℕ) → words ≡ word ∷ image ∷ schedule ∷ t ∷ s ∷ [] → ((n : ℕ) → n < 2 ^ 64 → s ≡ decimal n → ⊥) → (b : Boot) → IsBoot words b → ⊥
 none_for_steps words word image schedule t s e none b is =
-    let spelled : word ∷ image ∷ schedule ∷ t ∷ s ∷ [] ≡ codes "boot" ∷ b.image ∷ b.schedule ∷ decimal b.turns ∷ decimal b.steps ∷ [] = sym e ∙ is.spelled in
+    let spelled : word ∷ image ∷ schedule ∷ t ∷ s ∷ [] ≡ start_word b.start ∷ b.image ∷ b.schedule ∷ decimal b.turns ∷ decimal b.steps ∷ [] = sym e ∙ is.spelled in
     let k : s ≡ decimal b.steps = cc in
     none b.steps is.steps_fit k
 
 -- these words, with numbers that they spell, are a trace
 pub words_of_trace : (words : List (List ℕ)) (word image schedule t s u : List ℕ) (turns steps user : ℕ) → words ≡ word ∷ image ∷ schedule ∷ t ∷ s ∷ u ∷ [] → word ≡ codes "trace"
     → t ≡ decimal turns → 1 ≤ turns → turns < 2 ^ 32 → s ≡ decimal steps → steps < 2 ^ 64 → u ≡ decimal user → 1 ≤ user → user ≤ 64
-    → IsTrace words (record { boot = record { image = image; schedule = schedule; turns = turns; steps = steps }; user = user })
+    → IsTrace words (record { boot = record { start = Loaded; image = image; schedule = schedule; turns = turns; steps = steps }; user = user })
 words_of_trace words word image schedule t s u turns steps user e w a some fit b less d one most =
-    record { spelled = cc; some_turns = some; turns_fit = fit; steps_fit = less; some_user = one; most_users = most }
+    record { loaded = refl; spelled = cc; some_turns = some; turns_fit = fit; steps_fit = less; some_user = one; most_users = most }
 
 -- a boot stands in the words of a trace
 words_inside : (words : List (List ℕ)) (word image schedule t s u : List ℕ) → words ≡ word ∷ image ∷ schedule ∷ t ∷ s ∷ u ∷ [] → (x : Trace) → IsTrace words x
-    → IsBoot (codes "boot" ∷ image ∷ schedule ∷ t ∷ s ∷ []) x.boot × (u ≡ decimal x.user)
+    → IsBoot (start_word x.boot.start ∷ image ∷ schedule ∷ t ∷ s ∷ []) x.boot × (u ≡ decimal x.user)
 words_inside words word image schedule t s u e x is =
     let spelled : word ∷ image ∷ schedule ∷ t ∷ s ∷ u ∷ [] ≡ codes "trace" ∷ x.boot.image ∷ x.boot.schedule ∷ decimal x.boot.turns ∷ decimal x.boot.steps ∷ decimal x.user ∷ [] = sym e ∙ is.spelled in
     let i : image ≡ x.boot.image = cc in
@@ -81,10 +100,10 @@ words_inside words word image schedule t s u e x is =
 -- so they are no other trace
 pub words_of_one_trace : (words : List (List ℕ)) (word image schedule t s u : List ℕ) (turns steps user : ℕ) → words ≡ word ∷ image ∷ schedule ∷ t ∷ s ∷ u ∷ []
     → t ≡ decimal turns → turns < 2 ^ 32 → s ≡ decimal steps → steps < 2 ^ 64 → u ≡ decimal user → user ≤ 64
-    → (x : Trace) → IsTrace words x → record { boot = record { image = image; schedule = schedule; turns = turns; steps = steps }; user = user } ≡ x
+    → (x : Trace) → IsTrace words x → record { boot = record { start = Loaded; image = image; schedule = schedule; turns = turns; steps = steps }; user = user } ≡ x
 words_of_one_trace words word image schedule t s u turns steps user e a fit c less d most x is =
     let inside = words_inside words word image schedule t s u e x is in
-    let here = words_of_one (codes "boot" ∷ image ∷ schedule ∷ t ∷ s ∷ []) (codes "boot") image schedule t s turns steps refl a fit c less x.boot inside.0 in
+    let here = words_of_one (start_word x.boot.start ∷ image ∷ schedule ∷ t ∷ s ∷ []) Loaded (start_word x.boot.start) image schedule t s turns steps refl (ap start_word is.loaded) a fit c less x.boot inside.0 in
     let small : user < 2 ^ 64 = omega (arith, most) in
     let also : x.user < 2 ^ 64 = omega (arith, is.most_users) in
     let n : user ≡ x.user = same_number u user x.user small also d inside.1 in
@@ -93,10 +112,10 @@ words_of_one_trace words word image schedule t s u turns steps user e a fit c le
 
 -- words of which one spells no number of its kind are no trace
 pub no_trace_by_turns : (words : List (List ℕ)) (word image schedule t s u : List ℕ) → words ≡ word ∷ image ∷ schedule ∷ t ∷ s ∷ u ∷ [] → ((n : ℕ) → 1 ≤ n → n < 2 ^ 32 → t ≡ decimal n → ⊥) → (x : Trace) → IsTrace words x → ⊥
-no_trace_by_turns words word image schedule t s u e none x is = none_for_turns _ (codes "boot") image schedule t s refl none x.boot ((words_inside words word image schedule t s u e x is).0)
+no_trace_by_turns words word image schedule t s u e none x is = none_for_turns _ (start_word x.boot.start) image schedule t s refl none x.boot ((words_inside words word image schedule t s u e x is).0)
 
 pub no_trace_by_steps : (words : List (List ℕ)) (word image schedule t s u : List ℕ) → words ≡ word ∷ image ∷ schedule ∷ t ∷ s ∷ u ∷ [] → ((n : ℕ) → n < 2 ^ 64 → s ≡ decimal n → ⊥) → (x : Trace) → IsTrace words x → ⊥
-no_trace_by_steps words word image schedule t s u e none x is = none_for_steps _ (codes "boot") image schedule t s refl none x.boot ((words_inside words word image schedule t s u e x is).0)
+no_trace_by_steps words word image schedule t s u e none x is = none_for_steps _ (start_word x.boot.start) image schedule t s refl none x.boot ((words_inside words word image schedule t s u e x is).0)
 
 pub no_trace_by_user : (words : List (List ℕ)) (word image schedule t s u : List ℕ) → words ≡ word ∷ image ∷ schedule ∷ t ∷ s ∷ u ∷ [] → ((n : ℕ) → 1 ≤ n → n ≤ 64 → u ≡ decimal n → ⊥) → (x : Trace) → IsTrace words x → ⊥
 no_trace_by_user words word image schedule t s u e none x is = none x.user is.some_user is.most_users ((words_inside words word image schedule t s u e x is).1)

@@ -6,14 +6,13 @@ use Rattle.cvm_model.specs.declared.kernel_fault.KernelFault.TheVariants.{StackO
 use Rattle.cvm_model.specs.Primitives.{user_of}
 use Rattle.cvm_model.specs.Cvm.{System, Faulted, Cvm, IsCvm}
 use Rattle.mips_table.specs.Turns.{lines_of}
-use Rattle.layer_contract.specs.Follows.{loaded}
 use Rattle.mips_table.specs.Machine.{State}
 use Rattle.boot_turns.specs.TurnEnds.{first_of, Printed, Whole}
 use Rattle.boot_turns.specs.Headline as headline
 use Rattle.boot_turns.specs.Headline.{Ending, TextAt}
 use Rattle.boot_turns.specs.declared.answers.View.{View}
 use Rattle.boot_turns.specs.declared.answers.View.TheVariants as view
-use Rattle.cvm_shell.specs.Boot.{booted, around}
+use Rattle.cvm_shell.specs.Boot.{booted, around, first_state}
 use Rattle.cvm_shell.specs.Suffices.{StackOutIsNotPrinted}
 use Rattle.cvm_shell.proofs.Sufficient.{one_text}
 use Rattle.cvm_shell.proofs.StackTexts.{IsClean, rows_clean, boot_clean, journal_clean, trace_clean, clean_end}
@@ -39,6 +38,7 @@ pub not_printed : StackOutIsNotPrinted
 not_printed words status ended old new before after source stack session s rows sectors enough says has h ends =
     let x = around rows before in
     let y = booted s rows in
-    let clean : IsClean h.text = text_clean x y (loaded y sectors) (λ k c is. enough source stack s says has rows (lines_of x (loaded y sectors)) k c is) session.view _ h.ending h.text h.ran.text_is in
+    let first = first_state session s rows sectors in
+    let clean : IsClean h.text = text_clean x y first (λ k c is. enough source stack s says has rows (lines_of x first) k c is) session.view _ h.ending h.text h.ran.text_is in
     let same : h.text ≡ ends.front ++ codes "fault StackOut\n" = one_text before.sink.text ends.before h.text (ends.front ++ codes "fault StackOut\n") ends.before_told (sym h.printed ∙ ends.printed) in
     clean_end ends.front (subst IsClean same clean)

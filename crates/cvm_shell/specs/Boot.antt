@@ -1,5 +1,5 @@
 -- The claim of a boot and of a trace: how the run of an accepted system ends, what is printed of it, and which sectors stand.
-use Rattle.std.specs.Prelude.{◌≡◌, ℕ, ◌*◌, ◌<◌, ◌≤◌, List, [], length, Option, Some, Ok}
+use Rattle.std.specs.Prelude.{◌≡◌, ◌≢◌, ℕ, ◌<◌, ◌≤◌, List, [], length, Option, Some, Ok}
 use Rattle.std.specs.Io.KnownBytes.{append_known}
 use Rattle.cvm_outside.specs.Causes.{Rose}
 use Rattle.cvm_outside.specs.Told.{TOO_LONG}
@@ -8,18 +8,24 @@ use Rattle.schedule_file.specs.Schedule.{schedule_of}
 use Rattle.boot_image.specs.Reading.{answer as image_of}
 use Rattle.real_layer.specs.Image.{layer_image}
 use Rattle.mips_table.specs.Device.{Outside as Surroundings}
+use Rattle.mips_table.specs.Machine.{State}
 use Rattle.mips_machine.specs.Steps.{outside_of}
 use Rattle.mips_table.specs.Turns.{lines_of}
 use Rattle.cvm_model.specs.Cvm.{System as Booted, Cvm, IsCvm}
 use Rattle.cvm_model.specs.KernelMeaning.{kernel_meaning}
 use Rattle.layer_contract.specs.Follows.{loaded}
+use Rattle.layer_contract.specs.Starts.{user_sectors}
 use Rattle.boot_turns.specs.declared.answers.View.TheVariants as view
-use Rattle.boot_turns.specs.Headline.{Ending, Done as IsDone, KernelFaulted, OutOfSteps, DiskFault, SinkFault, NoMemory, Ends, Ran, GoesOn}
+use Rattle.boot_turns.specs.Headline.{Ending, Done as IsDone, KernelFaulted, OutOfSteps, DiskFault, SinkFault, NoMemory, RanFrom, RunEndsFrom, LoadBroken}
+use Rattle.boot_turns.specs.Machines.{GoesOnWithin}
+use Rattle.boot_turns.specs.Rom.{own_rom, rom_loaded, rom_sectors, rom_steps}
 use Rattle.boot_run.specs.LoadEnds.{SeesUser}
 use Rattle.kernel_linker.specs.Accept.{System}
 use Rattle.cvm_shell.specs.declared.status.Status.{Status}
 use Rattle.cvm_shell.specs.declared.status.Status.TheVariants.{Done, Refused, KernelFault, StepLimit, Disk, Sink, Memory}
 use Rattle.cvm_shell.specs.declared.boot.Session.{Session}
+use Rattle.cvm_shell.specs.declared.boot.Start.{Start}
+use Rattle.cvm_shell.specs.declared.boot.Start.TheVariants.{Loaded, Rom}
 use Rattle.sample_maker.specs.Parts.{Parts as Sampled}
 use Rattle.sample_maker.specs.Sample.{sample_of}
 use Rattle.cvm_shell.specs.Command.{Boot, Trace, Sample, IsBoot, IsTrace, IsSample, boot_session, trace_session, sample_session}
@@ -39,13 +45,47 @@ booted s rows = record {
 abbrev pub around : Rows → Outside → Surroundings
 around rows old = outside_of rows old.disk.size
 
--- so many turns of the abstract run lead to this, with the lines of the machine that is loaded over a disk with these sectors
-abbrev pub IsBooted : Outside → System → Rows → (sectors : List (List ℕ)) → (turns : ℕ) → Cvm → Type 0
-IsBooted old s rows sectors turns c = IsCvm (booted s rows) (lines_of (around rows old) (loaded (booted s rows) sectors)) turns c
+-- THE START of a run, over a disk with these sectors: the loaded machine; or the machine with the boot ROM that loads it
+abbrev pub start_of : Start → Booted → (sectors : List (List ℕ)) → State
+start_of Loaded y sectors = loaded y sectors
+start_of Rom y sectors = rom_loaded y (own_rom y) sectors
 
--- the sectors that the users' pages take
-abbrev pub sectors_needed : System → ℕ
-sectors_needed s = length s.users * s.params.pages
+-- how many sectors a run uses: the users' pages; and for a ROM the linked words behind them
+abbrev pub held_of : Start → Booted → ℕ
+held_of Loaded y = user_sectors y
+held_of Rom y = rom_sectors y
+
+-- how many steps it takes at most before the layer does: none; or those of the ROM
+abbrev pub steps_before : Start → Booted → ℕ
+steps_before Loaded y = 0
+steps_before Rom y = rom_steps y
+
+-- where the run of a session starts, over a disk with these sectors, and how many sectors it uses
+abbrev pub first_state : Session → System → Rows → (sectors : List (List ℕ)) → State
+first_state session s rows sectors = start_of session.start (booted s rows) sectors
+
+abbrev pub sectors_needed : Session → System → Rows → ℕ
+sectors_needed session s rows = held_of session.start (booted s rows)
+
+-- so many turns of the abstract run lead to this, with the lines that the machine meets from there
+abbrev pub IsBooted : Session → Outside → System → Rows → (sectors : List (List ℕ)) → (turns : ℕ) → Cvm → Type 0
+IsBooted session old s rows sectors turns c = IsCvm (booted s rows) (lines_of (around rows old) (first_state session s rows sectors)) turns c
+
+-- the machine comes to the end of every turn of the abstract run, within its bound and the steps before the layer's
+abbrev pub GoesOn : Session → Outside → System → Rows → (sectors : List (List ℕ)) → Type 0
+GoesOn session old s rows sectors = GoesOnWithin (around rows old) (booted s rows) (first_state session s rows sectors) (steps_before session.start (booted s rows))
+
+-- with no failed call: sectors, ending and text are those of the machine and of the abstract run
+abbrev pub Ran : Session → System → Rows → Outside → (before after : List (List ℕ)) → Ending → (text : List ℕ) → Type 0
+Ran session s rows old before after e text =
+    RanFrom (around rows old) (booted s rows) (first_state session s rows before) (sectors_needed session s rows) before after
+    session.view session.turns session.steps e text
+
+-- by any ending of a run whose load was done: where the disk failed, in the step or the report that it names, with the text up to there
+abbrev pub EndsLoaded : Session → System → Rows → Outside → (before after : List (List ℕ)) → (text : List ℕ) → Ending → Type 0
+EndsLoaded session s rows old before after text e =
+    RunEndsFrom (around rows old) (booted s rows) (first_state session s rows before) (sectors_needed session s rows) before after
+    session.view session.turns session.steps text e
 
 -- an ending as a status
 abbrev pub ended_as : Ending → Status
@@ -63,25 +103,46 @@ pub record Runs (session : Session) (s : System) (rows : Rows) (e : Ending) (bef
   pub text : List ℕ
   pub sectors : new.disk.sectors ≡ Some after
   pub printed : new.sink.text ≡ append_known old.sink.text text
-  pub ends : Ends (around rows old) (booted s rows) before after session.view session.turns session.steps text e
-  pub goes_on : GoesOn (around rows old) (booted s rows) before
+  pub ends : EndsLoaded session s rows old before after text e
+  pub goes_on : GoesOn session old s rows before
 
--- a run was made, of a boot or of one of the users; or there was no memory for it: then nothing is printed, and no sector changes
-pub record IsRun (session : Session) (s : System) (rows : Rows) (e : Ending) (old new : Outside) : Type 0 where
+-- A LOAD THAT THE DISK BROKE OFF, over a disk with these sectors: those before one of the run's are written as the run starts with them, that one may
+-- hold anything, and the others are as before
+pub record Torn (session : Session) (s : System) (rows : Rows) (before : List (List ℕ)) (old new : Outside) : Type 0 where
+  pub after : List (List ℕ)
+  pub sectors : new.disk.sectors ≡ Some after
+  pub torn : LoadBroken (first_state session s rows before) (sectors_needed session s rows) before after []
+
+-- a run has its place: a user that there is, and a disk with sectors enough; and it changes no file
+pub record HasPlace (session : Session) (s : System) (rows : Rows) (old new : Outside) : Type 0 where
   pub user : SeesUser session.view (length s.users)
-  pub room : sectors_needed s ≤ old.disk.size
+  pub room : sectors_needed session s rows ≤ old.disk.size
   pub files : (n : List ℕ) → new.shelf.file n ≡ old.shelf.file n
   pub size : new.disk.size ≡ old.disk.size
+
+-- a run was made, of a boot or of one of the users: its load was done
+pub record IsRun (session : Session) (s : System) (rows : Rows) (e : Ending) (old new : Outside) : Type 0 where
+  pub place : HasPlace session s rows old new
+  pub loaded : e ≢ NoMemory
   pub told : (before : List (List ℕ)) → old.disk.sectors ≡ Some before → Runs session s rows e before old new
   pub disk : e ≡ DiskFault → Rose old.disk.faults new.disk.faults
-  pub undone : e ≡ NoMemory → Leaves old new []
 
--- HOW A BOOT OR A TRACE ENDS: the user of a trace that is none is refused; then a disk that is too small, with no fault of the disk; else the system is run
+-- no run was made, since the disk failed in the load: nothing is printed
+pub record IsUnloaded (session : Session) (s : System) (rows : Rows) (old new : Outside) : Type 0 where
+  pub place : HasPlace session s rows old new
+  pub printed : new.sink.text ≡ old.sink.text
+  pub told : (before : List (List ℕ)) → old.disk.sectors ≡ Some before → Torn session s rows before old new
+  pub disk : Rose old.disk.faults new.disk.faults
+
+-- HOW A BOOT OR A TRACE ENDS: the user of a trace that is none is refused; then a disk that is too small, with no fault of the disk; else there may be
+-- no memory, and nothing is printed and no sector changes; then the system is loaded, in which the disk may fail; and what was loaded is run
 pub data RunEnds (session : Session) (s : System) (rows : Rows) (status : Status) (old new : Outside) : Type 0 where
   no_user : (u : ℕ) → session.view ≡ view.Trace u → (SeesUser session.view (length s.users) → ⊥) → new.disk.faults ≡ old.disk.faults
       → Says Refused (refusal_text (no_such_user u (length s.users))) old new status → RunEnds session s rows status old new
-  small : SeesUser session.view (length s.users) → old.disk.size < sectors_needed s → new.disk.faults ≡ old.disk.faults
-      → Says Disk (refusal_text (small_disk (sectors_needed s) old.disk.size)) old new status → RunEnds session s rows status old new
+  small : SeesUser session.view (length s.users) → old.disk.size < sectors_needed session s rows → new.disk.faults ≡ old.disk.faults
+      → Says Disk (refusal_text (small_disk (sectors_needed session s rows) old.disk.size)) old new status → RunEnds session s rows status old new
+  no_memory : status ≡ Memory → HasPlace session s rows old new → Leaves old new [] → RunEnds session s rows status old new
+  unloaded : status ≡ Disk → IsUnloaded session s rows old new → RunEnds session s rows status old new
   run : (e : Ending) → status ≡ ended_as e → IsRun session s rows e old new → RunEnds session s rows status old new
 
 -- THE HEADLINE, of a run with no failed call: the sectors are those of the machine that runs the image's words, and status and text are those of
@@ -93,8 +154,8 @@ pub record Headline (session : Session) (s : System) (rows : Rows) (before : Lis
   pub sectors : new.disk.sectors ≡ Some after
   pub printed : new.sink.text ≡ append_known old.sink.text text
   pub status_is : status ≡ ended_as ending
-  pub ran : Ran (around rows old) (booted s rows) before after session.view session.turns session.steps ending text
-  pub goes_on : GoesOn (around rows old) (booted s rows) before
+  pub ran : Ran session s rows old before after ending text
+  pub goes_on : GoesOn session old s rows before
 
 -- these files are an accepted image and a valid schedule
 pub record AreFilesOf (file : List ℕ → Option (List ℕ)) (b : Boot) (s : System) (rows : Rows) : Type 0 where
@@ -126,7 +187,7 @@ pub record IsHonest (words : List (List ℕ)) (session : Session) (s : System) (
   pub asked : AskFor words old.shelf.file session s rows
   pub user : SeesUser session.view (length s.users)
   pub sectors : old.disk.sectors ≡ Some before
-  pub enough : sectors_needed s ≤ old.disk.size
+  pub enough : sectors_needed session s rows ≤ old.disk.size
   pub shelf_done : Rose old.shelf.faults new.shelf.faults → ⊥
   pub disk_done : Rose old.disk.faults new.disk.faults → ⊥
   pub sink_done : Rose old.sink.faults new.sink.faults → ⊥

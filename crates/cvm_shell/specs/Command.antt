@@ -6,10 +6,13 @@ use Rattle.boot_turns.specs.declared.answers.View.{View}
 use Rattle.boot_turns.specs.declared.answers.View.TheVariants as view
 use Rattle.cvm_shell.specs.CompileProgram.{CompileProgram, IsCompileProgram}
 use Rattle.cvm_shell.specs.declared.boot.Session.{Session}
+use Rattle.cvm_shell.specs.declared.boot.Start.{Start}
+use Rattle.cvm_shell.specs.declared.boot.Start.TheVariants.{Loaded, Rom}
 use Rattle.cvm_shell.specs.Check.{Check, IsCheck}
 
--- boot an image under a schedule, for so many turns and at most so many steps
+-- boot an image under a schedule from this start, for so many turns and at most so many steps
 pub record Boot : Type 0 where
+  pub start : Start
   pub image : List ℕ
   pub schedule : List ℕ
   pub turns : ℕ
@@ -62,15 +65,21 @@ pub data Command : Type 0 where
 abbrev pub texts : List (String Global) → List (List ℕ)
 texts words = map string_bytes words
 
--- boot IMAGE SCHEDULE TURNS STEPS
+-- the word that names a start
+abbrev pub start_word : Start → List ℕ
+start_word Loaded = codes "boot"
+start_word Rom = codes "rom"
+
+-- boot IMAGE SCHEDULE TURNS STEPS, or from a boot ROM by rom IMAGE SCHEDULE TURNS STEPS
 pub record IsBoot (words : List (List ℕ)) (b : Boot) : Type 0 where
-  pub spelled : words ≡ codes "boot" ∷ b.image ∷ b.schedule ∷ decimal b.turns ∷ decimal b.steps ∷ []
+  pub spelled : words ≡ start_word b.start ∷ b.image ∷ b.schedule ∷ decimal b.turns ∷ decimal b.steps ∷ []
   pub some_turns : 1 ≤ b.turns
   pub turns_fit : b.turns < 2 ^ 32
   pub steps_fit : b.steps < 2 ^ 64
 
--- trace IMAGE SCHEDULE TURNS STEPS USER, whose users are counted from 1
+-- trace IMAGE SCHEDULE TURNS STEPS USER, which boots no ROM, and whose users are counted from 1
 pub record IsTrace (words : List (List ℕ)) (t : Trace) : Type 0 where
+  pub loaded : t.boot.start ≡ Loaded
   pub spelled : words ≡ codes "trace" ∷ t.boot.image ∷ t.boot.schedule ∷ decimal t.boot.turns ∷ decimal t.boot.steps ∷ decimal t.user ∷ []
   pub some_turns : 1 ≤ t.boot.turns
   pub turns_fit : t.boot.turns < 2 ^ 32
@@ -122,13 +131,13 @@ GetsFiles other = Unit {0}
 
 -- WHAT IS RUN by a boot, by a trace, and by a sample
 abbrev pub boot_session : Boot → Session
-boot_session b = record { view = view.Boot; turns = b.turns; steps = b.steps }
+boot_session b = record { start = b.start; view = view.Boot; turns = b.turns; steps = b.steps }
 
 abbrev pub trace_session : Trace → Session
-trace_session t = record { view = view.Trace t.user; turns = t.boot.turns; steps = t.boot.steps }
+trace_session t = record { start = t.boot.start; view = view.Trace t.user; turns = t.boot.turns; steps = t.boot.steps }
 
 abbrev pub sample_session : Session
-sample_session = record { view = view.Boot; turns = 100000; steps = 4000000000 }
+sample_session = record { start = Loaded; view = view.Boot; turns = 100000; steps = 4000000000 }
 
 -- the command that boots so, with this view
 abbrev pub command_of : Boot → View → Command

@@ -4,25 +4,33 @@ use Rattle.std.specs.Prelude.{◌≡◌, ℕ, List, Option, Some}
 use Rattle.std.specs.Option.{option_map}
 use Rattle.std.specs.Io.KnownBytes.{append_known}
 use Rattle.mips_table.specs.Flat.{Flat}
-use Rattle.mips_table.specs.Turns.{complete, lines_of}
+use Rattle.mips_table.specs.Turns.{complete, lines_of, end_within}
 use Rattle.schedule_file.specs.Rows.{Rows}
 use Rattle.cvm_model.specs.Kernel.{JournalEntry}
 use Rattle.cvm_model.specs.Cvm.{Cvm, Status as CvmStatus, cvm}
 use Rattle.cvm_model.specs.Journal.{journal, replay}
 use Rattle.cvm_model.specs.Text.{trace_text}
-use Rattle.layer_contract.specs.Follows.{loaded}
 use Rattle.boot_turns.specs.TurnEnds.{first_of}
-use Rattle.boot_turns.specs.Headline.{end_of, ending_of}
+use Rattle.boot_turns.specs.Headline.{ending_of}
 use Rattle.kernel_linker.specs.Accept.{System}
 use Rattle.cvm_shell.specs.declared.status.Status.{Status}
 use Rattle.cvm_shell.specs.declared.boot.Session.{Session}
 use Rattle.cvm_shell.specs.Outside.{Outside}
-use Rattle.cvm_shell.specs.Boot.{booted, around, ended_as}
+use Rattle.cvm_shell.specs.Boot.{booted, around, first_state, ended_as}
 
 -- THE TEXT of a user's journal over its start machine: the start row, the journal's rows, and `halted` or `stopped` with the rows of the machine that the
 -- replay of the journal over the start machine gives; or the kernel's fault. It is there where the journal can be replayed
 abbrev pub replayed_text : (u : ℕ) → (first : Flat) → List JournalEntry → CvmStatus → Option (List ℕ)
 replayed_text u first j status = option_map (λ last. trace_text u first j last status) (replay first j)
+
+-- how many turns are complete where the run of a session ends
+abbrev pub turns_made : Session → System → Rows → Outside → (before : List (List ℕ)) → ℕ
+turns_made session s rows old before =
+    let first = first_state session s rows before in complete (around rows old) first (end_within (around rows old) first session.turns session.steps)
+
+-- the lines of each of its turns
+abbrev pub lines_met : Session → System → Rows → Outside → (before : List (List ℕ)) → ℕ → ℕ
+lines_met session s rows old before = lines_of (around rows old) (first_state session s rows before)
 
 -- WHAT IS PRINTED of user u is that text, of its journal over the complete turns
 pub record Isolated (session : Session) (u : ℕ) (s : System) (rows : Rows) (before : List (List ℕ)) (old new : Outside) (status : Status) : Type 0 where
@@ -31,10 +39,10 @@ pub record Isolated (session : Session) (u : ℕ) (s : System) (rows : Rows) (be
   pub last : Cvm
   pub entries : List JournalEntry
   pub text : List ℕ
-  pub turns_are : turns ≡ complete (around rows old) (loaded (booted s rows) before) (end_of (around rows old) (booted s rows) before session.turns session.steps)
-  pub run : cvm (booted s rows) (lines_of (around rows old) (loaded (booted s rows) before)) units turns ≡ Some last
+  pub turns_are : turns ≡ turns_made session s rows old before
+  pub run : cvm (booted s rows) (lines_met session s rows old before) units turns ≡ Some last
   pub status_is : status ≡ ended_as (ending_of last.status)
-  pub entries_are : entries ≡ journal (booted s rows) (lines_of (around rows old) (loaded (booted s rows) before)) units u turns
+  pub entries_are : entries ≡ journal (booted s rows) (lines_met session s rows old before) units u turns
   pub text_is : replayed_text u (first_of (booted s rows) u) entries last.status ≡ Some text
   pub printed : new.sink.text ≡ append_known old.sink.text text
 

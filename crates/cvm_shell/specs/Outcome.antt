@@ -1,5 +1,5 @@
 -- How a command ends: status, text, files and sectors together; and what the counts of faults say of each status.
-use Rattle.std.specs.Prelude.{◌≡◌, ◌≢◌, ◌⊎◌, ◌↔◌, ◌≤◌, ℕ, List, [], take, codes}
+use Rattle.std.specs.Prelude.{◌≡◌, ◌≢◌, ◌⊎◌, ◌↔◌, ◌≤◌, ◌+◌, ℕ, List, [], take, codes}
 use Rattle.cvm_outside.specs.Causes.{Rose}
 use Rattle.cvm_outside.specs.Told.{retold, TOO_LONG}
 use Rattle.schedule_file.specs.Rows.{Rows}
@@ -13,7 +13,7 @@ use Rattle.cvm_shell.specs.declared.boot.Session.{Session}
 use Rattle.cvm_shell.specs.Command.{Command, IsCommand, GetsFiles}
 use Rattle.cvm_shell.specs.Refusal.{too_long, refusal_text, refusal_status}
 use Rattle.cvm_shell.specs.Plan.{Plan, bad_words, refuses, puts, boots, prints, ComesTo, AllTold, IsPlan}
-use Rattle.cvm_shell.specs.Boot.{RunEnds, IsBooted, IsHonest, Headline}
+use Rattle.cvm_shell.specs.Boot.{RunEnds, booted, steps_before, IsBooted, IsHonest, Headline}
 use Rattle.cvm_shell.specs.Isolation.{Isolated}
 
 -- this file has these bytes now, and nothing else changed
@@ -78,10 +78,16 @@ abbrev pub Headlines : {A : Type 0} → (A → Outside) → List (List ℕ) → 
 Headlines see words status old new = (session : Session) (s : System) (rows : Rows) (sectors : List (List ℕ)) →
     IsHonest words session s rows sectors (see old) (see new) → status ≢ Memory → Headline session s rows sectors (see old) (see new) status
 
--- ENOUGH STEPS: where the abstract run is defined for the wanted turns, and its bound is within the steps, the run is done or its kernel faulted
+-- ENOUGH STEPS: where the abstract run is defined for the wanted turns, and its bound with the steps before the layer's is within the steps, the run is
+-- done or its kernel faulted
+pub record HasSteps (session : Session) (s : System) (rows : Rows) (sectors : List (List ℕ)) (old : Outside) : Type 0 where
+  pub last : Cvm
+  pub defined : IsBooted session old s rows sectors session.turns last
+  pub enough : last.bound + steps_before session.start (booted s rows) ≤ session.steps
+
 abbrev pub Completes : {A : Type 0} → (A → Outside) → List (List ℕ) → Status → (old new : A) → Type 0
-Completes see words status old new = (session : Session) (s : System) (rows : Rows) (sectors : List (List ℕ)) (c : Cvm) → IsHonest words session s rows sectors (see old) (see new)
-    → status ≢ Memory → IsBooted (see old) s rows sectors session.turns c → c.bound ≤ session.steps → (status ≡ Done) ⊎ (status ≡ KernelFault)
+Completes see words status old new = (session : Session) (s : System) (rows : Rows) (sectors : List (List ℕ)) → IsHonest words session s rows sectors (see old) (see new)
+    → status ≢ Memory → HasSteps session s rows sectors (see old) → (status ≡ Done) ⊎ (status ≡ KernelFault)
 
 -- ISOLATION of the user of each trace that is done, or whose kernel faulted
 abbrev pub Isolates : {A : Type 0} → (A → Outside) → List (List ℕ) → Status → (old new : A) → Type 0

@@ -1,5 +1,5 @@
 -- Only for the contracts inside the crate: how the stages of a command end.
-use Rattle.std.specs.Prelude.{◌≡◌, ◌≢◌, ⊤, ◌⊎◌, ◌<◌, ◌≤◌, ℕ, List, [], ◌∷◌, length, map, Option, Some, Result, Ok, Err, MatchResult}
+use Rattle.std.specs.Prelude.{◌≡◌, ◌≢◌, ⊤, ◌⊎◌, ◌<◌, ◌≤◌, ℕ, List, [], ◌∷◌, length, map, Option, Some, Result, Ok, Err, MatchResult, IfOk, IfErr, IsSome}
 use Rattle.cvm_outside.specs.Causes.{Rose}
 use Rattle.cvm_outside.specs.Told.{Tells, TOO_LONG}
 use Rattle.cvm_outside.specs.declared.shelf.ShelfFault.{ShelfFault}
@@ -27,6 +27,10 @@ use Rattle.cvm_model.specs.Cvm.{Cvm, IsCvm, cvm}
 use Rattle.cvm_model.specs.Journal.{journal, replay}
 use Rattle.layer_contract.specs.Boots.{BootFollows}
 use Rattle.boot_turns.specs.TurnEnds.{first_of}
+use Rattle.boot_run.specs.LoadEnds.{HasRoom, LoadFails}
+use Rattle.boot_run.specs.Whole.{AnswerEnds, IsDiskFault}
+use Rattle.boot_run.specs.declared.load.LoadFault.{LoadFault}
+use Rattle.boot_run.specs.declared.whole.RunEnd.{RunEnd}
 use Rattle.schedule_file.specs.Rows.{Rows}
 use Rattle.schedule_file.specs.declared.fault.ScheduleFault.{ScheduleFault}
 use Rattle.schedule_file.specs.declared.fault.ScheduleFault.TheVariants as schedule
@@ -44,7 +48,7 @@ use Rattle.cvm_shell.specs.Check.{Check}
 use Rattle.boot_turns.specs.declared.answers.View.{View}
 use Rattle.cvm_shell.specs.Views.{IfPlan}
 use Rattle.cvm_shell.specs.Outside.{Drive, Files, Outside}
-use Rattle.cvm_shell.specs.Boot.{booted, RunEnds}
+use Rattle.cvm_shell.specs.Boot.{booted, around, first_state, sectors_needed, GoesOn, RunEnds}
 use Rattle.cvm_shell.specs.Outcome.{CommandEnds}
 
 -- what a fault of the shelf comes to
@@ -136,6 +140,30 @@ BootEndsAs b view see status old new = (words : List (List ℕ)) → IsCommand w
 -- how a sample ends, whatever the files, which it leaves alone
 abbrev pub SampleEndsAs : {A : Type 0} → (number : ℕ) → (Files → A → Outside) → Status → (old new : A) → Type 0
 SampleEndsAs number see status old new = (words : List (List ℕ)) (shelf : Files) → IsSample words (record { number = number }) → CommandEnds words status (see shelf old) (see shelf new)
+
+-- the sectors that a run of a session needs
+abbrev pub needs : Ready → Session → ℕ
+needs r session = sectors_needed session (system_of r.boot) r.schedule
+
+-- how a call that loads a system and runs it ends, over told sectors
+abbrev pub AnswersFrom : Session → System → Rows → Result RunEnd LoadFault → (old new : Outside) → Type 0
+AnswersFrom session s rows answer old new = (before after : List (List ℕ)) → old.disk.sectors ≡ Some before → new.disk.sectors ≡ Some after →
+    AnswerEnds (around rows old) (booted s rows) (first_state session s rows before) (sectors_needed session s rows) before after session.view session.turns session.steps
+    old.sink.text new.sink.text answer
+
+-- WHAT A CALL ANSWERS that loads a system and runs it, of what is seen around it
+pub record CallAnswers (r : Ready) (session : Session) (answer : Result RunEnd LoadFault) (old new : Outside) : Type 0 where
+  pub ends : AnswersFrom session (system_of r.boot) r.schedule answer old new
+  pub goes_on : IfOk answer (λ _. (before : List (List ℕ)) → old.disk.sectors ≡ Some before → GoesOn session old (system_of r.boot) r.schedule before)
+  pub told : IsSome old.disk.sectors → IsSome new.disk.sectors
+  pub refused : IfErr answer (LoadFails r.boot session.view (needs r session) old.disk.size old.disk.faults new.disk.faults)
+  pub loaded : IfOk answer (λ _. HasRoom r.boot session.view (needs r session) old.disk.size)
+  pub size : new.disk.size ≡ old.disk.size
+  pub rose : IsDiskFault answer → Rose old.disk.faults new.disk.faults
+
+-- whatever the files, which it leaves alone
+abbrev pub AnswersAs : {A : Type 0} → Ready → Session → (Files → A → Outside) → Result RunEnd LoadFault → (old new : A) → Type 0
+AnswersAs r session see answer old new = (before after : Files) → CallAnswers r session answer (see before old) (see after new)
 
 -- how the run of a system ends, whatever the files, which it leaves alone
 abbrev pub RunsAs : {A : Type 0} → Ready → Session → (Files → A → Outside) → Status → (old new : A) → Type 0

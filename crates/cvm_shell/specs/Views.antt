@@ -32,7 +32,7 @@ IsStackNumber text found = MatchOption found ((n : ℕ) → 64 ≤ n → n ≤ 2
 
 -- a boot, with its names as lists of bytes
 abbrev pub boot_view : Boot → command.Boot
-boot_view b = record { image = b.image.now; schedule = b.schedule.now; turns = b.turns; steps = b.steps }
+boot_view b = record { start = b.start; image = b.image.now; schedule = b.schedule.now; turns = b.turns; steps = b.steps }
 
 -- a trace, with its names as lists of bytes
 abbrev pub trace_view : Trace → command.Trace

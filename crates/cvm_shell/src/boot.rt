@@ -14,8 +14,9 @@ use crate::accepted::accept_image;
 use crate::command::Boot;
 use crate::refusal::Refusal;
 use crate::saying::refuse;
+use crate::starting::load_and_run;
 use crate::status::Status;
-use boot_run::{LoadFault, RunEnd, View, run_whole};
+use boot_run::{LoadFault, RunEnd, View};
 use c0_types::laws::sources_have_one_answer;
 use cvm_outside::{Sectors, Shelf, ShelfFault, Sink};
 use kernel_linker::AcceptFault;
@@ -80,9 +81,20 @@ pub struct Ready {
     pub schedule: Schedule,
 }
 
+/// Where the run of a system starts.
+#[derive(Clone, Copy, Debug, PartialEq, Eq)]
+pub enum Start {
+    /// At the loaded machine, whose memory holds the linked words.
+    Loaded,
+    /// At the machine with a boot ROM, which brings the linked words from the disk.
+    Rom,
+}
+
 /// What is run of an accepted system, under its schedule.
 #[derive(Clone, Copy, Debug, PartialEq, Eq)]
 pub struct Session {
+    /// Where it starts.
+    pub start: Start,
     /// What is printed: the rows and the report of a boot, or the trace of one user.
     pub view: View,
     /// How many turns are wanted, at least 1.
@@ -121,8 +133,9 @@ pub fn ready_of(alloc: Global, image: &[u8], schedule: &[u8]) -> Result<Ready, S
     })
 }
 
-/// Runs a system until the wanted turns are complete or it has ended, for at most so many steps of its machine, and prints of its run
-/// what is viewed. The user of a trace that is none is refused.
+/// Loads a system for its session's start, and runs it until the wanted turns are complete or it has ended, for at most so many steps of its machine;
+/// prints of its run what is viewed. The user of a trace that is none is refused, and then a disk with too few sectors for the users' pages and, where a
+/// ROM is booted, for the linked words.
 pub fn run_system<O: Sink, D: Sectors>(
     alloc: Global,
     ready: Ready,
@@ -138,22 +151,7 @@ pub fn run_system<O: Sink, D: Sectors>(
     ensures disk_same { result ≢ Status.Disk → D.faults disk.new ≡ D.faults disk.old }
     ensures never { (result ≢ Status.Words) × (result ≢ Status.Shelf) }
 {
-    let Ready {
-        boot,
-        layer,
-        schedule,
-    } = ready;
-    match run_whole(
-        alloc,
-        layer,
-        boot,
-        schedule,
-        session.view,
-        session.turns,
-        session.steps,
-        disk,
-        out,
-    ) {
+    match load_and_run(alloc, ready, session, out, disk) {
         Ok(end) => status_of(end),
         Err(LoadFault::SmallDisk { need, have }) => refuse(&Refusal::SmallDisk { need, have }, out),
         Err(LoadFault::Disk) => Status::Disk,

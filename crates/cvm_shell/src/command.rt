@@ -3,6 +3,7 @@ ghost use Rattle.std.specs.Prelude.{◌≡◌, ◌<◌, ◌≤◌, ◌^◌, ℕ,
 ghost use Rattle.cvm_shell.specs.Command as command;
 ghost use Rattle.cvm_shell.specs.Views.{boot_view, trace_view, user_view, kernel_view, link_view, migrate_view, sample_view, command_view, IsUserNumber};
 
+use crate::boot::Start;
 use crate::check::{Check, read_check};
 use crate::program::{CompileProgram, read_compile_program};
 use cvm_text::{read_decimal, spelled_numbers_are_read};
@@ -13,9 +14,11 @@ const MOST_TURNS: u64 = 4_294_967_295;
 /// The most users that an image has.
 const MOST_USERS: u64 = 64;
 
-/// The command `boot IMAGE SCHEDULE TURNS STEPS`.
+/// The command `boot IMAGE SCHEDULE TURNS STEPS`, or `rom IMAGE SCHEDULE TURNS STEPS`.
 #[derive(Clone, Copy, Drop)]
 pub struct Boot<'a> {
+    /// Where it starts, by the first word.
+    pub start: Start,
     /// The name of the image's file.
     pub image: &'a str,
     /// The name of the schedule's file.
@@ -85,7 +88,7 @@ pub struct Sample {
 /// A command.
 #[derive(Clone, Copy, Drop)]
 pub enum Command<'a> {
-    /// Boots an image under a schedule.
+    /// Boots an image under a schedule, from the loaded machine or from a boot ROM.
     Boot(Boot<'a>),
     /// Boots an image under a schedule, and prints of it what concerns one user.
     Trace(Trace<'a>),
@@ -139,7 +142,7 @@ pub fn read_command(words: &Vec<String>) -> Option<Command<'_>>
     Some(Command::Check(check))
 }
 
-/// Reads the words of a boot, None where they have no form of one.
+/// Reads the words of a boot or of a boot from a ROM, None where they have no form of one.
 pub fn read_boot(words: &Vec<String>) -> Option<Boot<'_>>
     ensures found { IfSome result (λ b. command.IsBoot (command.texts words.now.items) (boot_view b)) }
     ensures only { (b : command.Boot) → command.IsBoot (command.texts words.now.items) b → option_map boot_view result ≡ Some b }
@@ -148,12 +151,11 @@ pub fn read_boot(words: &Vec<String>) -> Option<Boot<'_>>
     let [word, image, schedule, turns, steps] = words.as_slice() else {
         return None;
     };
-    if word.as_str() != "boot" {
-        return None;
-    }
+    let start = read_start(word.as_str())?;
     let turns = read_turns(turns.as_str())?;
     let steps = read_number(steps.as_str())?;
     Some(Boot {
+        start,
         image: image.as_str(),
         schedule: schedule.as_str(),
         turns,
@@ -178,6 +180,7 @@ pub fn read_trace(words: &Vec<String>) -> Option<Trace<'_>>
     let user = read_user(user.as_str())?;
     Some(Trace {
         boot: Boot {
+            start: Start::Loaded,
             image: image.as_str(),
             schedule: schedule.as_str(),
             turns,
@@ -281,6 +284,19 @@ pub fn read_sample(words: &Vec<String>) -> Option<Sample>
     }
     let number = read_sample_number(number.as_str())?;
     Some(Sample { number })
+}
+
+// The start that a word names.
+fn read_start(text: &str) -> Option<Start>
+    ensures { MatchOption result ((s : Start) → text.now ≡ command.start_word s → ⊥) (λ s. text.now ≡ command.start_word s) }
+{
+    if text == "boot" {
+        return Some(Start::Loaded);
+    }
+    if text == "rom" {
+        return Some(Start::Rom);
+    }
+    None
 }
 
 // The number of a sample, below 2^32, that a text is the decimal spelling of.

@@ -23,10 +23,11 @@ pub mod program;
 pub mod refusal;
 pub mod sampling;
 pub mod saying;
+mod starting;
 pub mod status;
 
 pub use assembly::{user_image, words_have_four_bytes};
-pub use boot::{Ready, Session, Stop, plan, run_system};
+pub use boot::{Ready, Session, Start, Stop, plan, run_system};
 use boot_run::View;
 use bound_check::longest_chains_are_kept;
 use c0_types::laws::sources_have_one_answer;
@@ -55,9 +56,10 @@ use std::alloc::Global;
 
 /// Runs the command of these words over a shelf of files, a sink of text and a disk.
 ///
-/// The commands are `boot IMAGE SCHEDULE TURNS STEPS`, `trace IMAGE SCHEDULE TURNS STEPS USER`, `compile user ASM IMG`,
-/// `compile kernel SRC OBJ`, `compile program SRC IMG`, `link OBJ PARAMS OUT USER..`, `migrate IMAGE OUT`, `sample N` and
-/// `check OBJ STACK`. A trace runs the machine as its boot does,
+/// The commands are `boot IMAGE SCHEDULE TURNS STEPS`, `rom IMAGE SCHEDULE TURNS STEPS`, `trace IMAGE SCHEDULE TURNS STEPS USER`,
+/// `compile user ASM IMG`, `compile kernel SRC OBJ`, `compile program SRC IMG`, `link OBJ PARAMS OUT USER..`, `migrate IMAGE OUT`,
+/// `sample N` and `check OBJ STACK`. `rom` boots a machine whose memory is empty but for a boot ROM, which brings the linked words from the
+/// disk's sectors behind the users' pages; what it prints is that of the abstract run as of a boot's. A trace runs the machine as its boot does,
 /// and prints in place of the boot's rows and report the start row, the journal, the end and the registers and memory of one user, of
 /// those of the image, counted from 1. A migration puts the image of form 3 of an image of form 2. A sample is the boot of the system
 /// that is made from its number, for 100,000 turns and at most 4,000,000,000 steps. A check prints how much stack the kernel of an object
@@ -66,7 +68,7 @@ use std::alloc::Global;
 /// The status says how it ended; `Words`, `Refused`, `Shelf` where a file is too long, and `Disk` where the disk is too small, print a
 /// row of their own, and a sink that fails is `Sink`, also in place of another status whose text it was to take. No file changes but the
 /// one that a `compile user`, a `compile kernel`, a `compile program`, a `link` or a `migrate` names to be put, and no sector but those of the users' pages of
-/// a `boot`, a `trace` or a `sample`.
+/// a `boot`, a `rom`, a `trace` or a `sample`, and of the linked words of a `rom`.
 ///
 /// What a `trace` that is done prints of its user depends on nothing but the user's own words, its journal and how the run ended:
 /// the machine that it shows is the replay of that journal.
@@ -145,6 +147,7 @@ fn run_boot<S: Shelf, O: Sink, D: Sectors>(
     ensures causes { Causes (seen S.Shelf O.Sink D.Sectors) result (shelf.old, out.old, disk.old) (shelf.new, out.new, disk.new) }
 {
     let session = Session {
+        start: boot.start,
         view,
         turns: boot.turns,
         steps: boot.steps,
@@ -246,6 +249,7 @@ fn run_sample<O: Sink, D: Sectors>(alloc: Global, number: u32, out: &mut O, disk
     ensures causes { (shelf : Files) → Causes (within O.Sink D.Sectors shelf) result (out.old, disk.old) (out.new, disk.new) }
 {
     let session = Session {
+        start: Start::Loaded,
         view: View::Boot,
         turns: 100_000,
         steps: 4_000_000_000,

@@ -5,9 +5,9 @@ use Rattle.std.specs.Prelude.{◌≢◌, if◌then◌else◌, Result, Ok}
 use Rattle.schedule_file.specs.Rows.{Rows}
 use Rattle.mips_table.specs.Device.{Outside as Surroundings, HasEightLines}
 use Rattle.mips_table.specs.Turns.{lines_of}
-use Rattle.layer_contract.specs.Follows.{loaded}
+use Rattle.mips_table.specs.Machine.{State}
 use Rattle.boot_turns.specs.declared.answers.View.TheVariants.{Boot}
-use Rattle.boot_turns.specs.Headline.{Ending, Done, KernelFaulted, OutOfSteps, DiskFault, SinkFault, NoMemory, ending_of, TextOf, Ran}
+use Rattle.boot_turns.specs.Headline.{Ending, Done, KernelFaulted, OutOfSteps, DiskFault, SinkFault, NoMemory, ending_of, TextAt, RanFrom}
 use Rattle.cvm_model.specs.Cvm.{System as Booted, Cvm, Status, Running, Halted, Faulted, IsCvm}
 use Rattle.cvm_model.specs.Invariant.{HasEight, IsSafe}
 use Rattle.c0_types.specs.Front.{IsUnitOf}
@@ -22,7 +22,7 @@ use Rattle.cvm_shell.specs.declared.status.Status.TheVariants.{KernelFault}
 use Rattle.cvm_shell.specs.declared.boot.Session.{Session}
 use Rattle.cvm_shell.specs.Outside.{Outside}
 use Rattle.cvm_shell.specs.Plan.{Accepts}
-use Rattle.cvm_shell.specs.Boot.{booted, around, ended_as, AskFor, by_boot, by_trace, by_sample, Headline}
+use Rattle.cvm_shell.specs.Boot.{booted, around, first_state, sectors_needed, ended_as, AskFor, by_boot, by_trace, by_sample, Headline}
 use Rattle.kernel_boots.specs.Boots.{OfStates, AlwaysHas, TextOfState, Shows, BootsShow, HasSource, AsksSource, RunsItsSource, BootsOf}
 use Rattle.kernel_boots.proofs.EightLines.{eight_of, few_of, turns_have_eight}
 
@@ -56,15 +56,15 @@ no_status : (e : Ending) → NoFault e → ended_as e ≢ KernelFault
 no_status e h eq = subst OtherStatus eq (other_status e h)
 
 -- WHAT WAS PRINTED is the text of a state
-module _ (P : OfStates) (x : Surroundings) (y : Booted) (always : AlwaysHas y P) (old now : List (List ℕ)) (eight : HasEight (lines_of x (loaded y old))) (turns steps : ℕ) where
-  has : (k : ℕ) (c : Cvm) → IsCvm y (lines_of x (loaded y old)) k c → P (lines_of x (loaded y old)) k c
-  has k c is = always (lines_of x (loaded y old)) eight k c is
+module _ (P : OfStates) (x : Surroundings) (y : Booted) (always : AlwaysHas y P) (s : State) (eight : HasEight (lines_of x s)) (held : ℕ) (old now : List (List ℕ)) (turns steps : ℕ) where
+  has : (k : ℕ) (c : Cvm) → IsCvm y (lines_of x s) k c → P (lines_of x s) k c
+  has k c is = always (lines_of x s) eight k c is
 
   -- of a status by which a state has this text
-  shows_as : (status : Shown) (k : ℕ) (c : Cvm) (text : List ℕ) → IsCvm y (lines_of x (loaded y old)) k c → TextOfState y status c text → Shows y P status text
-  shows_as status k c text is e = record { lines = lines_of x (loaded y old); turns = k; state = c; is = is; has = has k c is; text_is = e }
+  shows_as : (status : Shown) (k : ℕ) (c : Cvm) (text : List ℕ) → IsCvm y (lines_of x s) k c → TextOfState y status c text → Shows y P status text
+  shows_as status k c text is e = record { lines = lines_of x s; turns = k; state = c; is = is; has = has k c is; text_is = e }
 
-  shows : (t : ℕ) (e : Ending) (text : List ℕ) → TextOf x y old Boot t e text → Shows y P (ended_as e) text
+  shows : (t : ℕ) (e : Ending) (text : List ℕ) → TextAt x y s Boot t e text → Shows y P (ended_as e) text
   shows t OutOfSteps text (c, is, e) = shows_as (ended_as OutOfSteps) _ c text is e
   shows t Done text (c, is, e) = shows_as (ended_as Done) _ c text is e
   shows t KernelFaulted text (c, is, e) = shows_as (ended_as KernelFaulted) _ c text is e
@@ -72,10 +72,10 @@ module _ (P : OfStates) (x : Surroundings) (y : Booted) (always : AlwaysHas y P)
   shows t SinkFault text (c, is, e) = shows_as (ended_as SinkFault) _ c text is e
   shows t NoMemory text (c, is, e) = shows_as (ended_as NoMemory) _ c text is e
 
-  ran_shows : (e : Ending) (text : List ℕ) → Ran x y old now Boot turns steps e text → Shows y P (ended_as e) text
+  ran_shows : (e : Ending) (text : List ℕ) → RanFrom x y s held old now Boot turns steps e text → Shows y P (ended_as e) text
   ran_shows e text h = shows _ e text h.text_is
 
-  ran_safe : (e : Ending) (text : List ℕ) → Ran x y old now Boot turns steps e text → ((lines : ℕ → ℕ) (k : ℕ) (c : Cvm) → P lines k c → IsSafe c.status) → NoFault e
+  ran_safe : (e : Ending) (text : List ℕ) → RanFrom x y s held old now Boot turns steps e text → ((lines : ℕ → ℕ) (k : ℕ) (c : Cvm) → P lines k c → IsSafe c.status) → NoFault e
   ran_safe e text h safe = subst NoFault (sym h.status) (no_fault _ h.past.status (safe _ _ h.past (has _ h.past h.cvm)))
 
 -- the schedule that is asked for raises eight lines
@@ -93,11 +93,15 @@ asked_few words file session s rows (by_sample n is same parts) = few_of _ rows 
 pub boots_show : BootsShow
 boots_show P words status old new headlines session s rows before honest some view always =
     let h : Headline session s rows before old new status = headlines session s rows before honest some in
-    let eight : HasEight (lines_of (around rows old) (loaded (booted s rows) before)) = turns_have_eight (around rows old) (loaded (booted s rows) before) (asked_eight words old.shelf.file session s rows honest.asked old) in
-    let ran = subst (λ v. Ran (around rows old) (booted s rows) before h.after v session.turns session.steps h.ending h.text) view h.ran in
+    let x = around rows old in
+    let y = booted s rows in
+    let first = first_state session s rows before in
+    let held = sectors_needed session s rows in
+    let eight : HasEight (lines_of x first) = turns_have_eight x first (asked_eight words old.shelf.file session s rows honest.asked old) in
+    let ran = subst (λ v. RanFrom x y first held before h.after v session.turns session.steps h.ending h.text) view h.ran in
     record {
-      printed = (h.text, h.printed, subst (λ (x : Shown). Shows (booted s rows) P x h.text) (sym h.status_is) (ran_shows P (around rows old) (booted s rows) always before h.after eight session.turns session.steps h.ending h.text ran));
-      no_fault = λ safe e. no_status h.ending (ran_safe P (around rows old) (booted s rows) always before h.after eight session.turns session.steps h.ending h.text ran safe) (sym h.status_is ∙ e);
+      printed = (h.text, h.printed, subst (λ (z : Shown). Shows y P z h.text) (sym h.status_is) (ran_shows P x y always first eight held before h.after session.turns session.steps h.ending h.text ran));
+      no_fault = λ safe e. no_status h.ending (ran_safe P x y always first eight held before h.after session.turns session.steps h.ending h.text ran safe) (sym h.status_is ∙ e);
     }
 
 -- THE SOURCE of what is run

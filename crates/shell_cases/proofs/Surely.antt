@@ -39,7 +39,7 @@ use Rattle.cvm_shell.specs.Plan.{Plan, bad_words, refuses, puts, boots, prints, 
 use Rattle.cvm_shell.specs.Plan.{AfterText, no_words, assembles, AfterKernel, AfterProgram, unread, mistyped, compiles, GotAll, words_from, linked_plan, AfterParts, unfit, answered, AfterUsers, AfterParams}
 use Rattle.cvm_shell.specs.Plan.{AfterSystem, no_object, has_object, renewed_plan, AfterLinking, AfterSource, SamplePlan, told_plan, AfterChecked}
 use Rattle.cvm_shell.specs.Plan.{ComesTo, no_command, boot_plan, trace_plan, user_plan, kernel_plan, image_plan, link_plan, migrate_plan, sample_plan, check_plan}
-use Rattle.cvm_shell.specs.Boot.{sectors_needed, ended_as, RunEnds, no_user, small, run}
+use Rattle.cvm_shell.specs.Boot.{sectors_needed, ended_as, RunEnds, no_user, small, no_memory, unloaded, run}
 use Rattle.cvm_shell.specs.Outcome.{Ends, Took, CommandEnds, done, undone, CausedBy}
 
 -- WHAT PLANS THERE ARE: none refuses a small disk, which is known only when a system is run; and those of a boot, a trace and a sample put no file.
@@ -224,12 +224,16 @@ disk_ending NoMemory h = absurd cc
 run_no_shelf : (session : Session) (s : System) (rows : Rows) (old new : Outside) → RunEnds session s rows Shelf old new → ⊥
 run_no_shelf session s rows old new (no_user u is none same says) = says_no_other Refused _ old new Shelf (λ e. cc) (λ e. cc) says
 run_no_shelf session s rows old new (small sees few same says) = says_no_other Disk _ old new Shelf (λ e. cc) (λ e. cc) says
+run_no_shelf session s rows old new (no_memory is place leaves) = absurd (cc)
+run_no_shelf session s rows old new (unloaded is torn) = absurd (cc)
 run_no_shelf session s rows old new (run e is ran) = never_shelf e (sym is)
 
 -- and that of the disk where no call of it fails only over too few sectors
-run_disk : (session : Session) (s : System) (rows : Rows) (old new : Outside) → (Rose old.disk.faults new.disk.faults → ⊥) → RunEnds session s rows Disk old new → old.disk.size < sectors_needed s
+run_disk : (session : Session) (s : System) (rows : Rows) (old new : Outside) → (Rose old.disk.faults new.disk.faults → ⊥) → RunEnds session s rows Disk old new → old.disk.size < sectors_needed session s rows
 run_disk session s rows old new sure (no_user u is none same says) = absurd (says_no_other Refused _ old new Disk (λ e. cc) (λ e. cc) says)
 run_disk session s rows old new sure (small sees few same says) = few
+run_disk session s rows old new sure (no_memory is place leaves) = absurd (cc)
+run_disk session s rows old new sure (unloaded is torn) = absurd (sure torn.disk)
 run_disk session s rows old new sure (run e is ran) = absurd (sure (ran.disk (disk_ending e (sym is))))
 
 pub no_rise : Rose 0 0 → ⊥
@@ -270,7 +274,7 @@ too_long_only words status old new sure ends caused e =
 
 -- a system has more pages than the disk sectors where the status is the disk's
 abbrev SmallFor : (words : List (List ℕ)) → Outside → Type 0
-SmallFor words old = (session : Session) × (s : System) × (rows : Rows) × ComesTo words old.shelf.file (boots session s rows) × (old.disk.size < sectors_needed s)
+SmallFor words old = (session : Session) × (s : System) × (rows : Rows) × ComesTo words old.shelf.file (boots session s rows) × (old.disk.size < sectors_needed session s rows)
 
 small_plan : (words : List (List ℕ)) (p : Plan) (old new : Outside) → Sure old new → ComesTo words old.shelf.file p → Ends p Disk old new → SmallFor words old
 small_plan words bad_words old new sure comes ends = absurd (says_no_other Words _ old new Disk (λ e. cc) (λ e. cc) ends)

@@ -13,10 +13,10 @@ pub record IsTooLong (words : List (List ℕ)) (taken : ℕ) : Type 0 where
   pub comes : ComesTo words (λ name. None) (refuses too_long)
   pub taken_is : taken ≡ TOO_LONG
 
--- these words come to the run of a system whose users' pages need more sectors
+-- these words come to the run of a system that needs more sectors
 pub record IsTooSmall (words : List (List ℕ)) (sectors : ℕ) : Type 0 where
   pub session : Session
   pub system : System
   pub rows : Rows
   pub comes : ComesTo words (λ name. None) (boots session system rows)
-  pub small : sectors < sectors_needed system
+  pub small : sectors < sectors_needed session system rows

@@ -46,11 +46,12 @@ use Rattle.unit_runs.specs.Held.{HoldsAt, IsHeldFlat, HeldIsFlat}
 use Rattle.unit_runs.specs.Outer.{Outer}
 use Rattle.unit_runs.specs.Placed.{program, CodeStands}
 use Rattle.c0_meaning.specs.CallChain.{dispatch_number}
+use Rattle.unit_runs.specs.Host.{Counts}
 use Rattle.unit_runs.proofs.Instructions.{piece_at, not_own, kept_past, kept_words}
 use Rattle.unit_runs.proofs.Seen.{space_is}
 use Rattle.unit_runs.proofs.Standing.{seen, behind, no_user, outer_of}
 use Rattle.unit_runs.proofs.Reached.{RunsJoin, Reached, inside_of, instructs_named, goes_on}
-use Rattle.unit_runs.proofs.Counting.{IsElsewhere, Counts, begins, counts_along, counts_on}
+use Rattle.unit_runs.proofs.Counting.{IsElsewhere, begins, counts_along, counts_on}
 use Rattle.unit_runs.proofs.Site.{setup}
 use Rattle.unit_runs.proofs.Flat.{flat_scalars}
 use Rattle.unit_runs.proofs.Passing.{Ground, linked_words, whole}

@@ -15,6 +15,7 @@ use Rattle.layer_contract.specs.Layer.{entry_address, Inside, IsEntry, Way}
 use Rattle.layer_contract.specs.Calls.{entered, goes_on, under_way, ends_here, ended_before, is_busy, entered_before}
 use Rattle.cvm_model.specs.Stands.{Site}
 use Rattle.unit_runs.specs.Placed.{program}
+use Rattle.unit_runs.specs.Host.{Counts}
 use Rattle.unit_runs.proofs.Instructions.{code_is}
 use Rattle.unit_runs.proofs.Reached.{RunsJoin, Reached}
 
@@ -45,12 +46,6 @@ at_entry (suc n) i s lt inside at = by (cases_lt i n) (λ less. at_entry n i s l
         let same : i ≡ n = omega (arith, lt, le) in
         cond-true (is_entered s n) (Some (slice_index s.cpu.regs RETURN)) (entered n s)
         (and_from (is_on s && in_system s.special) _ (and_from (is_on s) (in_system s.special) (ap (λ o. not (is_some o)) inside.on) (eq-eqb _ 0 inside.mode)) (eq-eqb s.cpu.pc (entry_address (Primitive n)) (at ∙ ap (λ k. entry_address (Primitive k)) same)))
-
--- At step k so many primitives have ended, and none is under way but one that is entered there. Before it no more were entered.
-pub record Counts (x : Outside) (s : State) (k m : ℕ) : Type 0 where
-  pub under : under_way x s k ≡ entered 10 (run x s k)
-  pub count : ended_before x s k ≡ m
-  pub early : (t : ℕ) → t < k → entered_before x s t ≤ m
 
 -- so many have ended, and one more is under way, which returns to this address
 record Waits (x : Outside) (s : State) (back k m : ℕ) : Type 0 where

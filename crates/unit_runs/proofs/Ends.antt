@@ -46,9 +46,10 @@ use Rattle.unit_runs.specs.Held.{HoldsAt, IsHeldFlat, HeldIsFlat}
 use Rattle.unit_runs.specs.Outer.{Outer}
 use Rattle.unit_runs.specs.Placed.{program, CodeStands}
 use Rattle.c0_meaning.specs.CallChain.{dispatch_number}
+use Rattle.unit_runs.specs.Host.{Counts}
 use Rattle.unit_runs.proofs.Standing.{seen, behind, IsSeen, stands_of}
 use Rattle.unit_runs.proofs.Reached.{RunsJoin, Reached, inside_of, goes_on}
-use Rattle.unit_runs.proofs.Counting.{Counts, counts_on}
+use Rattle.unit_runs.proofs.Counting.{counts_on}
 use Rattle.unit_runs.proofs.Site.{setup}
 use Rattle.unit_runs.proofs.Passing.{Ground, whole}
 use Rattle.unit_runs.proofs.Runs.{RunTo}
@@ -63,7 +64,7 @@ with_most m v = record { most = m; users = v.users; console = v.console }
 module _ (simulates : MachineSimulates) (joins : RunsJoin) (fitting : StaysFitting) (alikes : AlikesStand) (rows : RowsAreCalled)
     (x : Outside) (y : Site) (u : CUnit) (p : Places) (code : List Inst) (words : List ℕ) (longest : ℕ) (c : Core) (st : CodeStands u p y code) (g : Ground x y words longest) (user_ok : c.current ≤ y.map.users)
     (small : length words < 2 ^ 26) (sound : Sound (on_machine x (program y.map (layer_words + 1) code words))) (s0 : State)
-    (each : StepsRun Machines Changes (Outer y c.current)) (flats : HeldIsFlat) (opened : IsOpened (shapes u)) where
+    (flats : HeldIsFlat) (opened : IsOpened (shapes u)) where
   abbrev z : Setup Machines Changes (Outer y c.current)
   z = setup x y u p code words st g.bounds g.big small alikes c.current
 
@@ -137,7 +138,7 @@ module _ (simulates : MachineSimulates) (joins : RunsJoin) (fitting : StaysFitti
   module _ (entry : EntryRuns (on_machine x (program y.map (layer_words + 1) code words))) (code_at : CodeAt (on_machine x (program y.map (layer_words + 1) code words)) (layer_words + 1) (behind_first p.globals (4 * (links_of p).function (dispatch_number u))))
       (base n : ℕ) (few : base ≤ 7) where
     abbrev To : c0_run.Outcome Machines Changes → Type 0
-    To o = RunTo simulates joins fitting alikes rows x y u p code words longest c.current st g user_ok small sound s0 each base n o
+    To o = RunTo simulates joins fitting alikes rows x y u p code words longest c.current st g user_ok small sound s0 base n o
 
     -- the kernel is left, in so many steps, where the run has ended
     pub record Left (cost : Cost) (d : H) : Type 0 where

@@ -27,7 +27,6 @@ use Rattle.c0_expr_code.specs.Scope.{scope_of}
 use Rattle.c0_expr_code.specs.Laws.{IsOpened, AreasHold}
 use Rattle.c0_expr_code.specs.Bases.{words_of_all}
 use Rattle.c0_stmt_code.specs.Code.{links_of}
-use Rattle.c0_stmt_code.specs.Standing.{StepsCostSome, StepsRun}
 use Rattle.layer_contract.specs.Layer.{Inside, Linked, PrimitivesAnswer, Leaves, Exits}
 use Rattle.layer_contract.specs.Calls.{entered_before, EndsCall, KernelCalled}
 use Rattle.layer_contract.specs.Follows.{EndsAs}
@@ -37,10 +36,10 @@ use Rattle.cvm_model.specs.Cvm.{Running}
 use Rattle.cvm_model.specs.TypedKernel.{RowsAreCalled, UnitsAnswerInts}
 use Rattle.cvm_model.specs.Stands.{Site, Stands}
 use Rattle.unit_runs.specs.Held.{HeldIsFlat}
-use Rattle.unit_runs.specs.Outer.{Outer}
 use Rattle.unit_runs.specs.Placed.{program, CodeStands}
 use Rattle.c0_meaning.specs.CallChain.{dispatch_number}
-use Rattle.unit_runs.specs.Runs.{Fixed, UnitsRunOverLayers, UnitsCallsFollow}
+use Rattle.unit_runs.specs.Host.{MachineFollows}
+use Rattle.unit_runs.specs.Runs.{UnitsRunOverLayers, UnitsCallsFollow}
 use Rattle.unit_runs.proofs.Bounds.{bounds_of}
 use Rattle.unit_runs.proofs.Instructions.{sound}
 use Rattle.unit_runs.proofs.Reached.{RunsJoin}
@@ -60,7 +59,7 @@ opened_by areas u well places w n f is =
     (record { from = omega arith; heap = omega arith; frame = omega arith; inside = omega arith }) (record { heap_behind = omega arith; frame_behind = omega arith }) (λ i t e. absurd (cc))).opened
 
 module _ (simulates : MachineSimulates) (joins : RunsJoin) (fitting : StaysFitting) (alikes : AlikesStand) (rows : RowsAreCalled) (ints : UnitsAnswerInts) (entries : (w : World) → Sound w → EntryRuns w)
-    (steps : (f : Fixed) → StepsRun Machines Changes (Outer f.site f.current)) (costs : (f : Fixed) → StepsCostSome Machines Changes (Outer f.site f.current))
+    (follow : MachineFollows)
     (areas : AreasHold) (dispatch : HasDispatch) (types : TypesEqualAsWritten) (flats : HeldIsFlat) where
   -- a dispatch that is called, over the code of a unit
   module _ (u : CUnit) (p : Places) (y : Site) (code : List Inst) (sizes : List ℕ) (st : CodeStands u p y code) (variables : Linked y.map sizes (take layer_words y.linked)) (answers : PrimitivesAnswer y)
@@ -95,9 +94,6 @@ module _ (simulates : MachineSimulates) (joins : RunsJoin) (fitting : StaysFitti
     entry_all : EntryRuns (on_machine x (program y.map layer_words code s.memory))
     entry_all = entries (on_machine x (program y.map layer_words code s.memory)) all_sound
 
-    abbrev own_steps : StepsRun Machines Changes (Outer y c.current)
-    own_steps = steps (record { site = y; current = c.current })
-
     -- the function `dispatch` is entered
     entered : Begun simulates joins fitting alikes rows x y u p code s.memory longest c st ground standing.whole.current small is_sound all_sound s flats opened dispatch types entry entry_all sizes variables cause edata user called.typed called.called refl
     entered = begun simulates joins fitting alikes rows x y u p code s.memory longest c st ground standing.whole.current small is_sound all_sound s flats opened dispatch types entry entry_all sizes variables cause edata user called.typed called.called refl
@@ -109,25 +105,25 @@ module _ (simulates : MachineSimulates) (joins : RunsJoin) (fitting : StaysFitti
     abbrev outcome : ℕ → c0_run.Outcome Machines Changes
     outcome n = c0_run.dispatch (setting_of u y.map.params) n cause edata user c.c0 (machines_of y.map.params c)
 
-    runs_to : (n : ℕ) → RunTo simulates joins fitting alikes rows x y u p code s.memory longest c.current st ground standing.whole.current small is_sound s own_steps entered.base n (outcome n)
+    runs_to : (n : ℕ) → RunTo simulates joins fitting alikes rows x y u p code s.memory longest c.current st ground standing.whole.current small is_sound s entered.base n (outcome n)
     runs_to n =
-        runs simulates joins fitting alikes rows x y u p code s.memory longest c.current st ground standing.whole.current small is_sound s own_steps few_units
-        (costs (record { site = y; current = c.current })) entered.base (begin (dispatch_number u) _) [] _ entered.end entered.come (record { counts = entered.counts; ends = λ m changes is. absurd (cc) }) entered.sim n
+        runs simulates joins fitting alikes rows x y u p code s.memory longest c.current st ground standing.whole.current small is_sound s few_units
+        (follow (record { outside = x; site = y; code = code; words = s.memory; longest = longest; current = c.current; first = s })) entered.base (begin (dispatch_number u) _) [] _ entered.end entered.come (record { counts = entered.counts; ends = λ m changes is. absurd (cc) }) entered.sim n
 
     ends_as : (n : ℕ) → EndsAs x longest y n s (outcome_of c (outcome n)) (outcome_of c (outcome n)).end
     ends_as n =
         let a0 = called.called.arguments.0 in let a1 = called.called.arguments.1.0 in let a2 = called.called.arguments.1.1.0 in
-        ends simulates joins fitting alikes rows x y u p code s.memory longest c st ground standing.whole.current small is_sound s own_steps flats opened entry behind_entry entered.base n entered.few (outcome n) (runs_to n)
+        ends simulates joins fitting alikes rows x y u p code s.memory longest c st ground standing.whole.current small is_sound s flats opened entry behind_entry entered.base n entered.few (outcome n) (runs_to n)
         (ints u y.map n c cause edata user st.checked st.range.params standing.whole (subst (FitsSigned w32) a0 (signed_fits _)) (subst (FitsSigned w32) a1 (signed_fits _)) (subst (FitsSigned w32) a2 (signed_fits _)) called.typed)
 
     each_ends : (n m : ℕ) (changes : Changes) → slice_get (outcome_of c (outcome n)).calls m ≡ Some changes → EndsCall x y longest s m changes
     each_ends n m changes is =
-        all_told simulates joins fitting alikes rows x y u p code s.memory longest c st ground standing.whole.current small is_sound s own_steps flats opened entry behind_entry entered.base n entered.few (outcome n) (runs_to n) m changes is
+        all_told simulates joins fitting alikes rows x y u p code s.memory longest c st ground standing.whole.current small is_sound s flats opened entry behind_entry entered.base n entered.few (outcome n) (runs_to n) m changes is
 
     no_more_end : Leaves y → Exits y → (t : ℕ) → ((j : ℕ) → j ≤ t → Inside (run x s j)) → (n : ℕ) × (entered_before x s t ≤ length (outcome_of c (outcome n)).calls)
     no_more_end leaves exits t inside = (
       8388608 * (t + 1),
-      no_others simulates joins fitting alikes rows x y u p code s.memory longest c st ground standing.whole.current small is_sound s own_steps flats opened entry behind_entry entered.base (8388608 * (t + 1)) entered.few
+      no_others simulates joins fitting alikes rows x y u p code s.memory longest c st ground standing.whole.current small is_sound s flats opened entry behind_entry entered.base (8388608 * (t + 1)) entered.few
           leaves exits t (omega arith) inside (outcome (8388608 * (t + 1))) (runs_to (8388608 * (t + 1))),
     )
 

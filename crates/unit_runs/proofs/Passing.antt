@@ -36,12 +36,13 @@ use Rattle.cvm_model.specs.Stands.{Site, address_of}
 use Rattle.unit_runs.specs.Held.{HoldsAt}
 use Rattle.unit_runs.specs.Outer.{Outer}
 use Rattle.unit_runs.specs.Placed.{program, CodeStands}
+use Rattle.unit_runs.specs.Host.{Counts}
 use Rattle.unit_runs.proofs.Bounds.{Bounds}
 use Rattle.unit_runs.proofs.Instructions.{code_is, some_below, not_own, kept_words, kept_past}
 use Rattle.unit_runs.proofs.Seen.{space_is}
 use Rattle.unit_runs.proofs.Standing.{seen, behind, no_user, outer_of, IsSeen, stands_of}
 use Rattle.unit_runs.proofs.Reached.{RunsJoin, inside_of, no_primitive, Reached, passes_on}
-use Rattle.unit_runs.proofs.Counting.{IsElsewhere, Counts, counts_one, was_idle, in_code}
+use Rattle.unit_runs.proofs.Counting.{IsElsewhere, counts_one, was_idle, in_code}
 use Rattle.unit_runs.proofs.Site.{regions_on}
 use Rattle.unit_runs.proofs.Words.{ints_from, ints_count, ints_stand, ints_length, scalar_flat, arguments}
 

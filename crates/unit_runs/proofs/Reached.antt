@@ -14,6 +14,7 @@ use Rattle.layer_contract.specs.Layer.{entry_address, Inside, due, EndsNamed, Wa
 use Rattle.layer_contract.specs.Follows.{IsKernelDoor}
 use Rattle.cvm_model.specs.Stands.{Site}
 use Rattle.unit_runs.specs.Placed.{program}
+use Rattle.unit_runs.specs.Host.{world_of, HasCome}
 use Rattle.unit_runs.proofs.Instructions.{code_is, kept_past}
 
 -- a run of m and then n steps is one of m + n
@@ -101,15 +102,11 @@ module _ (joins : RunsJoin) (x : Outside) (y : Site) (D : Entry → Type 0) (s :
 
 module _ (simulates : MachineSimulates) (joins : RunsJoin) (x : Outside) (y : Site) (code : List Inst) (words : List ℕ) (sound : Sound (on_machine x (program y.map (layer_words + 1) code words))) where
   abbrev pub w : World
-  w = on_machine x (program y.map (layer_words + 1) code words)
+  w = world_of x y code words
 
   -- after k steps from s0 the machine has this configuration
-  pub record Reached (s0 : State) (k : ℕ) (c : Machine) : Type 0 where
-    pub same : configuration_of (run x s0 k) ≡ c
-    pub quiet : Quiet x (run x s0 k)
-    pub holds : Holds w (run x s0 k).memory
-    pub serves : Serves x w (run x s0 k).device
-    pub way : Way x y IsKernelDoor k s0
+  abbrev pub Reached : State → ℕ → Machine → Type 0
+  Reached s0 k c = HasCome x y code words s0 k c
 
   -- steps of code are a way
   -- what a memory holds of the code's is what another holds behind the map's last frame

@@ -20,7 +20,7 @@ use Rattle.c0_tree.specs.Primitives.{CPrimitive, kernel_primitives}
 use Rattle.mips_table.specs.Flat.{Flat}
 use Rattle.c0_stmt_code.specs.Code.{links_of}
 use Rattle.c0_stmt_code.specs.Setup.{Setup, Called}
-use Rattle.c0_stmt_code.specs.Standing.{Simulated, Ended, AtExit, StepsRun}
+use Rattle.c0_stmt_code.specs.Standing.{Simulated, Ended, AtExit}
 use Rattle.cvm_model.specs.Kernel.{Console, Changes}
 use Rattle.cvm_model.specs.KernelMeaning.{Machines, kernel_primitive}
 use Rattle.cvm_model.specs.Cvm.{run_steps}
@@ -29,8 +29,9 @@ use Rattle.cvm_model.specs.TypedKernel.{RowsAreCalled}
 use Rattle.cvm_model.specs.Stands.{Site, UserFits}
 use Rattle.unit_runs.specs.Outer.{Outer}
 use Rattle.unit_runs.specs.Placed.{program, CodeStands}
+use Rattle.unit_runs.specs.Host as host
+use Rattle.unit_runs.specs.Host.{Counts, EndsAll}
 use Rattle.unit_runs.proofs.Reached.{RunsJoin, Reached}
-use Rattle.unit_runs.proofs.Counting.{Counts}
 use Rattle.unit_runs.proofs.Site.{setup}
 use Rattle.unit_runs.proofs.Passing.{Ground, Passed, passes}
 
@@ -60,8 +61,7 @@ last_or_before (x ∷ xs) last (suc m) found e = elim (last_or_before xs last m 
 
 module _ (simulates : MachineSimulates) (joins : RunsJoin) (fitting : StaysFitting) (alikes : AlikesStand) (rows : RowsAreCalled)
     (x : Outside) (y : Site) (u : CUnit) (p : Places) (code : List Inst) (words : List ℕ) (longest current : ℕ) (st : CodeStands u p y code) (g : Ground x y words longest) (user_ok : current ≤ y.map.users)
-    (small : length words < 2 ^ 26) (sound : Sound (on_machine x (program y.map (layer_words + 1) code words))) (s0 : State)
-    (each : StepsRun Machines Changes (Outer y current)) where
+    (small : length words < 2 ^ 26) (sound : Sound (on_machine x (program y.map (layer_words + 1) code words))) (s0 : State) where
   abbrev pub z : Setup Machines Changes (Outer y current)
   z = setup x y u p code words st g.bounds g.big small alikes current
 
@@ -74,14 +74,11 @@ module _ (simulates : MachineSimulates) (joins : RunsJoin) (fitting : StaysFitti
   abbrev pub Sim : ℕ → List Work → H → Machine → Type 0
   Sim debt work h s = Simulated Machines Changes (Outer y current) z debt work h s
 
-  -- the machine has ended each of these calls, at its number
   abbrev pub AllEnd : List Changes → Type 0
-  AllEnd calls = (m : ℕ) (changes : Changes) → slice_get calls m ≡ Some changes → EndsCall x y longest s0 m changes
+  AllEnd calls = EndsAll x y longest s0 calls
 
-  -- and at step k it has ended no others
-  pub record Tells (k : ℕ) (calls : List Changes) : Type 0 where
-    pub counts : Counts x s0 k (length calls)
-    pub ends : AllEnd calls
+  abbrev pub Tells : ℕ → List Changes → Type 0
+  Tells k calls = host.Tells x y longest s0 k calls
 
   -- what a run comes to on the machine
   abbrev pub RunTo : (base limit : ℕ) → Outcome Machines Changes → Type 0

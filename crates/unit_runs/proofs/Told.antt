@@ -22,7 +22,6 @@ use Rattle.c0_runtime.specs.Code.{behind_first}
 use Rattle.c0_runtime.specs.Laws.{EntryRuns}
 use Rattle.c0_expr_code.specs.Laws.{IsOpened}
 use Rattle.c0_stmt_code.specs.Code.{links_of}
-use Rattle.c0_stmt_code.specs.Standing.{StepsRun}
 use Rattle.layer_contract.specs.declared.entry.Entry.TheVariants.{Fault as Exit, Leave}
 use Rattle.layer_contract.specs.Layer.{entry_address, Inside, Leaves, Exits, Rests}
 use Rattle.layer_contract.specs.declared.registers.TheConstants.{ANSWER}
@@ -35,7 +34,6 @@ use Rattle.cvm_model.specs.Cvm.{Status, Running, Halted, Faulted, next_of, statu
 use Rattle.cvm_model.specs.TypedKernel.{RowsAreCalled}
 use Rattle.cvm_model.specs.Stands.{Site}
 use Rattle.unit_runs.specs.Held.{HeldIsFlat}
-use Rattle.unit_runs.specs.Outer.{Outer}
 use Rattle.unit_runs.specs.Placed.{program, CodeStands}
 use Rattle.c0_meaning.specs.CallChain.{dispatch_number}
 use Rattle.unit_runs.proofs.Reached.{RunsJoin}
@@ -77,10 +75,10 @@ fault_some BadUser = omega arith
 module _ (simulates : MachineSimulates) (joins : RunsJoin) (fitting : StaysFitting) (alikes : AlikesStand) (rows : RowsAreCalled)
     (x : Outside) (y : Site) (u : CUnit) (p : Places) (code : List Inst) (words : List ℕ) (longest : ℕ) (c : Core) (st : CodeStands u p y code) (g : Ground x y words longest) (user_ok : c.current ≤ y.map.users)
     (small : length words < 2 ^ 26) (sound : Sound (on_machine x (program y.map (layer_words + 1) code words))) (s0 : State)
-    (each : StepsRun Machines Changes (Outer y c.current)) (flats : HeldIsFlat) (opened : IsOpened (shapes u)) (entry : EntryRuns (on_machine x (program y.map (layer_words + 1) code words)))
+    (flats : HeldIsFlat) (opened : IsOpened (shapes u)) (entry : EntryRuns (on_machine x (program y.map (layer_words + 1) code words)))
     (code_at : CodeAt (on_machine x (program y.map (layer_words + 1) code words)) (layer_words + 1) (behind_first p.globals (4 * (links_of p).function (dispatch_number u)))) (base n : ℕ) (few : base ≤ 7) where
   abbrev To : c0_run.Outcome Machines Changes → Type 0
-  To o = RunTo simulates joins fitting alikes rows x y u p code words longest c.current st g user_ok small sound s0 each base n o
+  To o = RunTo simulates joins fitting alikes rows x y u p code words longest c.current st g user_ok small sound s0 base n o
 
   pub all_told : (o : c0_run.Outcome Machines Changes) → To o → (m : ℕ) (changes : Changes) → slice_get (outcome_of c o).calls m ≡ Some changes → EndsCall x y longest s0 m changes
   all_told (c0_run.Done cost d) r = r.6.ends
@@ -91,11 +89,11 @@ module _ (simulates : MachineSimulates) (joins : RunsJoin) (fitting : StaysFitti
   module _ (leaves : Leaves y) (exits : Exits y) (t : ℕ) (units : 8388608 * (t + 1) ≤ n) (inside : (j : ℕ) → j ≤ t → Inside (run x s0 j)) where
     pub no_others : (o : c0_run.Outcome Machines Changes) → To o → entered_before x s0 t ≤ length (outcome_of c o).calls
     no_others (c0_run.Done cost d) r =
-        let l = left simulates joins fitting alikes rows x y u p code words longest c st g user_ok small sound s0 each flats opened entry code_at base n few cost d r in
+        let l = left simulates joins fitting alikes rows x y u p code words longest c st g user_ok small sound s0 flats opened entry code_at base n few cost d r in
         let out = leaves x (run x s0 l.steps) _ l.at in
         counts_last joins x s0 l.steps _ t out.steps l.counts (leave_elsewhere (run x s0 l.steps) l.at.pc) y out.way (outside (status_of (next_of y.map.users (signed (slice_index (run x s0 l.steps).cpu.regs ANSWER)))) _ out.there.rests) inside
     no_others (c0_run.Failed cost (faulted f) d) r =
-        let at = at_exit simulates joins fitting alikes rows x y u p code words longest c st g user_ok small sound s0 each flats opened entry code_at base n few cost f d r in
+        let at = at_exit simulates joins fitting alikes rows x y u p code words longest c st g user_ok small sound s0 flats opened entry code_at base n few cost f d r in
         let out = exits x (run x s0 r.0) _ (fault_of f) (a_fault f) at in
         counts_last joins x s0 r.0 _ t out.steps r.6.counts (exit_elsewhere (run x s0 r.0) (power_of (fault_of f)) (fault_some (fault_of f)) at.pc) y out.way (outside (Faulted (fault_of f)) _ out.there.rests) inside
     no_others (c0_run.Failed cost stuck d) r = absurd r

@@ -23,12 +23,13 @@ pub record AreOnMap (m : Map) (p : Bases) : Type 0 where
   pub globals : p.globals ≡ globals_at m
   pub heap : p.heap ≡ heap_at m
 
--- A law: in a typed state of a unit, a struct's words being those of its fields, the globals are held one by one exactly where their words stand one after another, and so are the
--- heap's objects. They have as many words as their types.
+-- A law: in a typed state of a unit, a struct's words being those of its fields, the globals are held one by one exactly where their words stand one
+-- after another, and so are the heap's objects. They have as many words as their types.
 pub record IsHeldFlat (u : CUnit) (m : Map) (p : Bases) (s : C0) : Type 0 where
   pub globals : (words : ℕ → ℕ) → HoldsAt words (globals_at m) (flat (address_of m s) s.global_values)
       ↔ RegionHeld (unit_scope u) p words (globals_at m) (types_of (map typed_of u.globals)) s.global_values
-  pub heap : (words : ℕ → ℕ) → HoldsAt words (heap_at m) (flat (address_of m s) s.heap_values) ↔ RegionHeld (unit_scope u) p words (heap_at m) p.objects s.heap_values
+  pub heap : (words : ℕ → ℕ) → HoldsAt words (heap_at m) (flat (address_of m s) s.heap_values)
+      ↔ RegionHeld (unit_scope u) p words (heap_at m) p.objects s.heap_values
   pub global_words : scalars s.global_values ≡ all_words (shapes u) (map typed_of u.globals)
   pub heap_words : scalars s.heap_values ≡ words_of_all (shapes u) p.objects
 

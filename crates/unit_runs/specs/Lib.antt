@@ -1,5 +1,6 @@
 pub mod Held
 pub mod Outer
 pub mod Placed
+pub mod Host
 pub mod Runs
 pub mod Follows

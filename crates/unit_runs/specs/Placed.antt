@@ -37,7 +37,8 @@ program m first code words = record { code = code_from first code; kept = kept_o
 
 -- a piece of the code stands at a word, behind the code's first instruction
 abbrev pub StandsAt : List Inst → ℕ → List Inst → Type 0
-StandsAt code k piece = (before : List Inst) × (after : List Inst) × (code ≡ before ++ (piece ++ after)) × (k ≡ layer_words + length before) × (1 ≤ length before)
+StandsAt code k piece =
+    (before : List Inst) × (after : List Inst) × (code ≡ before ++ (piece ++ after)) × (k ≡ layer_words + length before) × (1 ≤ length before)
 
 -- The code of a checked unit stands behind a layer's words: its entry first, and the functions and the routine `new` at their places. The globals, the
 -- exits of faults and the primitives are where the map and every layer have them.

@@ -19,20 +19,15 @@ use Rattle.cvm_model.specs.KernelMeaning.{kernel_meaning}
 use Rattle.cvm_model.specs.Stands.{Site}
 use Rattle.unit_runs.specs.Placed.{CodeStands}
 
--- what is fixed while a dispatch runs: the map with the linked words, and the user for whom it runs
-pub record Fixed : Type 0 where
-  pub site : Site
-  pub current : ℕ
-
 -- A law: where the code of a checked unit stands behind the words of a layer whose primitives answer, a dispatch over typed data runs as the unit means.
 abbrev pub UnitsRunOverLayers : Type 0
-UnitsRunOverLayers = (u : CUnit) (p : Places) (y : Site) (code : List Inst) (sizes : List ℕ) → CodeStands u p y code → Linked y.map sizes (take layer_words y.linked)
-    → PrimitivesAnswer y → KernelRuns y (IsTypedState u) (kernel_meaning u y.map.params)
+UnitsRunOverLayers = (u : CUnit) (p : Places) (y : Site) (code : List Inst) (sizes : List ℕ) → CodeStands u p y code
+    → Linked y.map sizes (take layer_words y.linked) → PrimitivesAnswer y → KernelRuns y (IsTypedState u) (kernel_meaning u y.map.params)
 
 -- A law: over a layer that keeps its laws, the calls that such a dispatch has ended are those that the machine ends, in order, and it ends no others.
 abbrev pub UnitsCallsFollow : Type 0
-UnitsCallsFollow = (u : CUnit) (p : Places) (y : Site) (code : List Inst) (sizes : List ℕ) → CodeStands u p y code → Linked y.map sizes (take layer_words y.linked)
-    → Laws y sizes → CallsFollow y (IsTypedState u) (kernel_meaning u y.map.params)
+UnitsCallsFollow = (u : CUnit) (p : Places) (y : Site) (code : List Inst) (sizes : List ℕ) → CodeStands u p y code
+    → Linked y.map sizes (take layer_words y.linked) → Laws y sizes → CallsFollow y (IsTypedState u) (kernel_meaning u y.map.params)
 
 -- The code of a unit stands behind a layer's words, in a map of its sizes.
 pub record IsLinked (u : CUnit) (y : Site) : Type 0 where
@@ -44,10 +39,11 @@ pub record IsLinked (u : CUnit) (y : Site) : Type 0 where
 
 -- A law: so do the words that a checked unit is compiled to.
 abbrev pub CompiledUnitsRun : Type 0
-CompiledUnitsRun = (s : Source) (y : Site) (sizes : List ℕ) → IsChecked (unit_view s) → IsLinked (unit_view s) y → Linked y.map sizes (take layer_words y.linked)
-    → PrimitivesAnswer y → KernelRuns y (IsTypedState (unit_view s)) (kernel_meaning (unit_view s) y.map.params)
+CompiledUnitsRun = (s : Source) (y : Site) (sizes : List ℕ) → IsChecked (unit_view s) → IsLinked (unit_view s) y
+    → Linked y.map sizes (take layer_words y.linked) → PrimitivesAnswer y
+    → KernelRuns y (IsTypedState (unit_view s)) (kernel_meaning (unit_view s) y.map.params)
 
 -- A law: so are those of a dispatch of compiled words.
 abbrev pub CompiledUnitsCallsFollow : Type 0
-CompiledUnitsCallsFollow = (s : Source) (y : Site) (sizes : List ℕ) → IsChecked (unit_view s) → IsLinked (unit_view s) y → Linked y.map sizes (take layer_words y.linked)
-    → Laws y sizes → CallsFollow y (IsTypedState (unit_view s)) (kernel_meaning (unit_view s) y.map.params)
+CompiledUnitsCallsFollow = (s : Source) (y : Site) (sizes : List ℕ) → IsChecked (unit_view s) → IsLinked (unit_view s) y
+    → Linked y.map sizes (take layer_words y.linked) → Laws y sizes → CallsFollow y (IsTypedState (unit_view s)) (kernel_meaning (unit_view s) y.map.params)

@@ -3,14 +3,16 @@
 ghost use Rattle.cvm_model.specs.Kernel.{Changes};
 ghost use Rattle.cvm_model.specs.KernelMeaning.{Machines};
 ghost use Rattle.unit_runs.specs.Held.{HeldIsFlat};
+ghost use Rattle.c0_meaning.specs.World.{entries_of};
+ghost use Rattle.unit_runs.specs.Host.{Fixed, HasCome, Tells};
 ghost use Rattle.unit_runs.specs.Outer.{Outer};
-ghost use Rattle.unit_runs.specs.Runs.{CompiledUnitsCallsFollow, CompiledUnitsRun, Fixed, UnitsCallsFollow, UnitsRunOverLayers};
+ghost use Rattle.unit_runs.specs.Runs.{CompiledUnitsCallsFollow, CompiledUnitsRun, UnitsCallsFollow, UnitsRunOverLayers};
 
 use c0_expr_code::laws::areas_hold;
 use c0_meaning::laws::types_are_equal_as_written;
 use c0_meaning::run_laws::kernels_have_a_dispatch;
+use c0_runs::laws::{Host, runs_follow};
 use c0_runtime::laws::kernels_are_entered;
-use c0_stmt_code::laws::{Outside, steps_cost_some, steps_run};
 use c0_unit::laws::{units_have_places, units_stand};
 use cvm_model::{rows_are_called, units_stay_typed};
 use mips_table::runs::{code_runs_on_the_machine, runs_join, words_stay_words};
@@ -21,10 +23,10 @@ pub fn held_values_are_their_words()
     ensures { HeldIsFlat }
 {}
 
-/// What is beside a kernel's own data: the users and the console.
-struct BesideKernel;
+/// The machine over a layer, as the host of a kernel's code: beside the kernel's own data stand the users and the console.
+struct MachineOverLayer;
 
-impl Outside for BesideKernel {
+impl Host for MachineOverLayer {
     ghost Standing = { Machines };
 
     ghost Entry = { Changes };
@@ -32,6 +34,10 @@ impl Outside for BesideKernel {
     ghost Fixed = { Fixed };
 
     ghost outer = { λ f. Outer f.site f.current };
+
+    ghost here = { λ f. HasCome f.outside f.site f.code f.words f.first };
+
+    ghost told = { λ f k v calls. Tells f.outside f.site f.longest f.first k (entries_of calls) };
 }
 
 /// Over any layer the code of a checked unit runs as the unit means: a dispatch comes to its answer or its fault within its steps, or is on its way.
@@ -43,8 +49,7 @@ pub fn units_run_over_layers()
     types_are_equal_as_written();
     kernels_have_a_dispatch();
     kernels_are_entered();
-    steps_run::<BesideKernel>();
-    steps_cost_some::<BesideKernel>();
+    runs_follow::<MachineOverLayer>();
     rows_are_called();
     units_stay_typed();
     code_runs_on_the_machine();
@@ -71,8 +76,7 @@ pub fn units_calls_follow()
     types_are_equal_as_written();
     kernels_have_a_dispatch();
     kernels_are_entered();
-    steps_run::<BesideKernel>();
-    steps_cost_some::<BesideKernel>();
+    runs_follow::<MachineOverLayer>();
     rows_are_called();
     units_stay_typed();
     code_runs_on_the_machine();

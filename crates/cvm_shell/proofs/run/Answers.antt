@@ -6,8 +6,8 @@ pub returns-clause-headline : goal.returns-clause-headline
 returns-clause-headline g c = λ session s rows before honest memory. headline_end _ session s rows before _ _ _ c.run_command.ensures.ends c.run_command.ensures.causes honest memory
 
 pub returns-clause-complete : goal.returns-clause-complete
-returns-clause-complete g c = λ session s rows before cvm honest memory defined enough.
-    completes c.turns_are_counted.ensures _ session s rows before _ _ _ cvm c.run_command.ensures.ends c.run_command.ensures.causes honest memory defined enough
+returns-clause-complete g c = λ session s rows before honest memory has.
+    completes c.turns_are_counted.ensures _ session s rows before _ _ _ c.run_command.ensures.ends c.run_command.ensures.causes honest memory has
 
 pub returns-clause-isolated : goal.returns-clause-isolated
 returns-clause-isolated g c = λ session u s rows before honest traced ends.

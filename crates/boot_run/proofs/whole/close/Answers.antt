@@ -1,8 +1,11 @@
 use Rattle.std.proofs.Common.{◌≡◌, false, sym, ap, ◌∙◌, subst}
+use Rattle.mips_machine.specs.Machine.{Held}
 use Rattle.boot_run.specs.TurnCalls.{around}
 use Rattle.boot_run.specs.declared.whole.RunEnd.{RunEnd}
 use Rattle.boot_run.specs.Shown.{has_faulted}
 use Rattle.boot_run.specs.Whole.{CloseRuns}
+use Rattle.boot_run.specs.AnyRun.{is_faulted}
+use Rattle.boot_run.proofs.AnyEnding.{fault_is}
 use Rattle.boot_run.proofs.Ending.{closes_done, closes_failed}
 use Rattle.boot_run.proofs.whole.close.Goals as goal
 
@@ -19,3 +22,15 @@ returns-in-Err-clause-ends g c = λ budget.
     (around c.report.new.self (g.D.Sectors.sectors c.report.new.disk) budget (g.O.Sink.text c.report.new.out)) e) (sym c.end_at.ensures)
     (closes_failed (g.D.Sectors.size c.args.disk.now) c.args.run.now (g.D.Sectors.sectors c.args.disk.now) budget (g.O.Sink.text c.args.out.now)
     c.report.new.self (g.D.Sectors.sectors c.report.new.disk) (g.O.Sink.text c.report.new.out) other c.in-Err.fault (c.in-Err.ensures.ends c.requires.fine))
+
+pub returns-in-Err-clause-faulted : goal.returns-in-Err-clause-faulted
+returns-in-Err-clause-faulted g c =
+    let other : has_faulted c.args.run.now.ended ≡ false = ap has_faulted (sym c.ended.ensures) ∙ sym c.has_faulted.ensures ∙ c.if-has_faulted.false in
+    other ∙ sym (ap is_faulted c.end_at.ensures ∙ fault_is c.in-Err.fault)
+
+-- a report makes no step
+pub returns-in-Ok-clause-time : goal.returns-in-Ok-clause-time
+returns-in-Ok-clause-time g c = ap (λ (h : Held). h.time) c.report.ensures.machine
+
+pub returns-in-Err-clause-time : goal.returns-in-Err-clause-time
+returns-in-Err-clause-time g c = ap (λ (h : Held). h.time) c.report.ensures.machine

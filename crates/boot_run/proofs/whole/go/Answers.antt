@@ -2,6 +2,7 @@ use Rattle.std.proofs.Common.{◌≡◌, ◌-◌, ◌≤◌, inr, refl, sym, ◌
 use Rattle.std.specs.Prelude.{IsSome}
 use Rattle.std.proofs.lemmas.Result.{err_from_is_err_and}
 use Rattle.boot_run.specs.TurnCalls.{Around, around}
+use Rattle.boot_run.proofs.AnyCalls.{any_first, any_next, any_failed, any_over, any_went}
 use Rattle.boot_run.proofs.Looping.{keeps_first, keeps_next, go_failed, went_over, went, not_over, not_failed, was_over}
 use Rattle.boot_run.proofs.whole.go.Goals as goal
 
@@ -15,6 +16,7 @@ loop-left-init g c = record {
   sink = refl;
   few = omega arith;
   going = keeps_first (g.D.Sectors.size c.args.disk.now) c.args.run.now (around c.args.run.now (g.D.Sectors.sectors c.args.disk.now) c.args.budget.now (g.O.Sink.text c.args.out.now)) _ (omega arith);
+  anyhow = any_first (g.D.Sectors.size c.args.disk.now) c.args.run.now (around c.args.run.now (g.D.Sectors.sectors c.args.disk.now) c.args.budget.now (g.O.Sink.text c.args.out.now)) _ (omega arith);
 }
 
 pub returns-in_err-made-clause-ends : goal.returns-in_err-made-clause-ends
@@ -63,9 +65,38 @@ loop-left-preserved g c =
       few = omega (arith, few);
       going = keeps_next (g.D.Sectors.size c.args.disk.now) (g.D.Sectors.size c.loop-left.disk) c.args.run.now c.loop-left.run _ _ _ (c.args.turns - c.loop-left.left) _ c.loop-left.left c.in_ok-made.made c.in_ok-made.field-0-1
           c.loop-left.invariant.kept c.loop-left.invariant.size on (c.in_ok-made.ensures.ends c.loop-left.invariant.fault on) (omega (arith, few, most)) c.loop-left.invariant.going;
+      anyhow = any_next (g.D.Sectors.size c.args.disk.now) (g.D.Sectors.size c.loop-left.disk) c.args.run.now c.loop-left.run c.loop-left.invariant.kept c.loop-left.invariant.size _ _ _ (c.args.turns - c.loop-left.left) c.loop-left.left on
+          c.loop-left.invariant.anyhow _ c.in_ok-made.made c.in_ok-made.field-0-1 (c.in_ok-made.ensures.any c.loop-left.invariant.fault on) (omega (arith, few, most));
     }
 
 pub returns-clause-ends : goal.returns-clause-ends
 returns-clause-ends g c =
     let none = c.loop-left-test.false in
     went (g.D.Sectors.size c.args.disk.now) c.args.run.now c.args.turns _ _ (c.args.turns - c.loop-left.left) (omega (arith, none)) c.loop-left.invariant.going
+
+-- of any run
+pub returns-in_err-made-clause-any : goal.returns-in_err-made-clause-any
+returns-in_err-made-clause-any g c =
+    let w = err_from_is_err_and c.from_residual.result c.from_residual.ensures.1 in
+    let on = not_failed c.loop-left.run.ended c.in_err-made.field-0.0 (λ o. c.in_err-made.ensures.over c.loop-left.invariant.fault o) in
+    let few = c.loop-left.invariant.few in
+    any_failed (g.D.Sectors.size c.args.disk.now) (g.D.Sectors.size c.loop-left.disk) c.args.run.now c.loop-left.run c.loop-left.invariant.kept c.loop-left.invariant.size _ _ _ _ c.loop-left.left on c.loop-left.invariant.anyhow
+    c.args.turns c.in_err-made.field-0.0 w.0 c.from_residual.result (c.in_err-made.ensures.any c.loop-left.invariant.fault on) (omega (arith, few)) w.1 (sym w.2)
+
+pub returns-then-made-eq0-clause-any : goal.returns-then-made-eq0-clause-any
+returns-then-made-eq0-clause-any g c =
+    let over : IsSome c.loop-left.run.ended = was_over c.loop-left.run.ended c.in_ok-made.made c.in_ok-made.ensures.made.1 c.if-made-eq0.true in
+    let st = c.in_ok-made.ensures.still (inr over) in
+    let s0 = st.0 in
+    let s1 = st.1 in
+    let s2 = st.2 in
+    let s3 = st.3 in
+    let mid : Around = around c.loop-left.run (g.D.Sectors.sectors c.loop-left.disk) c.loop-left.budget (g.O.Sink.text c.loop-left.out) in
+    let after : Around = around c.turns.new.self (g.D.Sectors.sectors c.turns.new.disk) c.turns.new.budget (g.O.Sink.text c.turns.new.out) in
+    let same : mid ≡ after = cc in
+    any_over (g.D.Sectors.size c.args.disk.now) c.args.run.now c.args.turns _ mid after (c.args.turns - c.loop-left.left) (omega arith) over same c.loop-left.invariant.anyhow
+
+pub returns-clause-any : goal.returns-clause-any
+returns-clause-any g c =
+    let none = c.loop-left-test.false in
+    any_went (g.D.Sectors.size c.args.disk.now) c.args.run.now c.args.turns _ _ (c.args.turns - c.loop-left.left) (omega (arith, none)) c.loop-left.invariant.anyhow

@@ -1,7 +1,9 @@
-use Rattle.std.proofs.Common.{sym, subst}
+use Rattle.std.proofs.Common.{Err, arith, sym, ap, ◌∙◌, subst}
 use Rattle.boot_run.specs.TurnCalls.{around}
 use Rattle.boot_run.specs.declared.whole.RunEnd.{RunEnd}
 use Rattle.boot_run.specs.Whole.{RunsToEnd}
+use Rattle.boot_run.specs.AnyRun.{AnyRunsToEnd}
+use Rattle.boot_run.proofs.AnyEnding.{any_closed, any_fault, limit_is}
 use Rattle.boot_run.proofs.Ending.{to_fault, to_close}
 use Rattle.boot_run.proofs.whole.run_to_end.Goals as goal
 
@@ -16,3 +18,25 @@ returns-in-Err-clause-ends g c =
     subst (λ (e : RunEnd). RunsToEnd (g.D.Sectors.size c.args.disk.now) c.args.run.now c.args.turns c.args.steps (around c.args.run.now (g.D.Sectors.sectors c.args.disk.now) c.args.steps (g.O.Sink.text c.args.out.now)) (g.D.Sectors.sectors c.go.new.disk) (g.O.Sink.text c.go.new.out) e) (sym c.end_at.ensures)
     (to_fault c.machines_run.ensures c.traces_grow.ensures c.journal_rows_follow.ensures c.turns_are_counted.ensures (g.D.Sectors.size c.args.disk.now) c.args.run.now c.args.turns c.args.steps (g.D.Sectors.sectors c.args.disk.now) (g.O.Sink.text c.args.out.now)
     c.go.new.run (g.D.Sectors.sectors c.go.new.disk) c.go.new.budget (g.O.Sink.text c.go.new.out) c.in-Err.fault c.in-Err.ensures.ends)
+
+-- of any run
+pub returns-in-Ok-clause-any : goal.returns-in-Ok-clause-any
+returns-in-Ok-clause-any g c =
+    any_closed (g.D.Sectors.size c.args.disk.now) c.args.run.now c.args.turns (around c.args.run.now (g.D.Sectors.sectors c.args.disk.now) c.args.steps (g.O.Sink.text c.args.out.now))
+    c.go.new.run (g.D.Sectors.sectors c.go.new.disk) (g.D.Sectors.sectors c.close.new.disk) c.go.new.budget (g.O.Sink.text c.go.new.out) c.close.result
+    c.in-Ok.ensures.any c.close.ensures.faulted c.close.ensures.in_steps c.close.ensures.sectors
+
+pub returns-in-Err-clause-any : goal.returns-in-Err-clause-any
+returns-in-Err-clause-any g c =
+    subst (λ (e : RunEnd). AnyRunsToEnd (g.D.Sectors.size c.args.disk.now) c.args.run.now c.args.turns (around c.args.run.now (g.D.Sectors.sectors c.args.disk.now) c.args.steps (g.O.Sink.text c.args.out.now)) (g.D.Sectors.sectors c.go.new.disk) e) (sym c.end_at.ensures)
+    (any_fault (g.D.Sectors.size c.args.disk.now) c.args.run.now c.args.turns (around c.args.run.now (g.D.Sectors.sectors c.args.disk.now) c.args.steps (g.O.Sink.text c.args.out.now))
+    c.go.new.run (g.D.Sectors.sectors c.go.new.disk) c.go.new.budget (g.O.Sink.text c.go.new.out) c.in-Err.fault c.in-Err.ensures.any)
+
+pub returns-in-Ok-clause-limit : goal.returns-in-Ok-clause-limit
+returns-in-Ok-clause-limit g c = λ e. absurd (c.close.ensures.in_steps e)
+
+pub returns-in-Err-clause-limit : goal.returns-in-Err-clause-limit
+returns-in-Err-clause-limit g c = λ e.
+    let spent = c.in-Err.ensures.spent in
+    let none = (c.in-Err.ensures.limit (ap (λ f. Err f) (limit_is c.in-Err.fault (sym c.end_at.ensures ∙ e)))).0 in
+    omega (arith, spent, none)

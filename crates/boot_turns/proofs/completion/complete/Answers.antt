@@ -189,7 +189,7 @@ returns-in_err-stepped-clause-ends g c = λ s t h.
       small,
       i.5,
       rw (w.1, w.2) (step_stops (g.D.Sectors.size c.loop-begun.disk) x s (t + n) i.0 (c.args.budget.now - n) (c.loop-begun.budget - 1) (g.D.Sectors.sectors c.loop-begun.disk) (g.D.Sectors.sectors c.step_traced.new.disk)
-          c.loop-begun.machine c.step_traced.new.machine (is_some c.args.tracer.now) c.loop-begun.begun c.in_err-stepped.field-0.0 same i.1 spent i.3 i.4 c.in_err-stepped.ensures.no_limit
+          c.loop-begun.machine c.step_traced.new.machine (is_some c.args.tracer.now) c.loop-begun.begun c.in_err-stepped.field-0.0 same i.1 spent i.3 i.4 (here_on (g.D.Sectors.sectors c.loop-begun.disk) c.loop-begun.machine (run x s i.0) i.3 (off_none _ _ _ c.off.ensures c.is_none.ensures c.loop-begun-test.true)) c.in_err-stepped.ensures.no_limit
           (λ e. subst (StepFails (g.D.Sectors.size c.loop-begun.disk) c.loop-begun.machine c.step_traced.new.machine (g.D.Sectors.sectors c.loop-begun.disk) (g.D.Sectors.sectors c.step_traced.new.disk))
           (same_some c.loop-begun.tracer c.args.tracer.now c.loop-begun.invariant.user) (c.in_err-stepped.ensures.torn e)) c.in_err-stepped.ensures.ran),
     )

@@ -1,6 +1,7 @@
 use Rattle.std.proofs.Common.{Err, ap, sym}
 use Rattle.std.proofs.lemmas.Result.{err_from_is_err_and}
 use Rattle.boot_turns.specs.declared.answers.RunFault.TheVariants.{Sink}
+use Rattle.boot_run.proofs.AnyCalls.{any_cut_before, any_broke_off, any_made, any_cut_after, any_passed}
 use Rattle.boot_run.proofs.Proceeding.{cut_before, broke_off, went, cut_after, passed}
 use Rattle.boot_run.proofs.run.Run.proceed.Goals as goal
 
@@ -40,3 +41,32 @@ returns-clause-ends g c = λ _.
     c.in_ok-put_before.ensures.ok (λ e. ap g.O.Sink.text (c.make_turn.ensures.untraced e).1) c.make_turn.ensures.spent
     c.in_ok-made.made turns.0 turns.1 c.in_ok-made.answer turns.2 turns.3 turns.4 c.requires.steps c.make_turn.ensures.fault (λ e. (c.make_turn.ensures.untraced e).0)
     c.in_ok-put_after.ensures.ok
+
+-- of any run
+pub returns-in_err-put_before-clause-any : goal.returns-in_err-put_before-clause-any
+returns-in_err-put_before-clause-any g c = λ _ e.
+    let h = err_from_is_err_and c.from_residual.result c.from_residual.ensures.1 in
+    any_passed (g.D.Sectors.size c.args.disk.now) c.args.self.now c.args.most _ _ Sink h.0 c.from_residual.result h.1 (sym h.2)
+    (any_cut_before c.args.self.now c.args.self.now c.put_before.ensures.views (g.D.Sectors.size c.args.disk.now) c.args.most (g.D.Sectors.sectors c.args.disk.now) (g.D.Sectors.sectors c.args.disk.now) c.args.budget.now c.args.budget.now
+    (g.O.Sink.text c.args.out.now) (g.O.Sink.text c.put_before.new.out) (g.O.Sink.text c.put_before.new.out) (g.O.Sink.text c.put_before.new.out))
+
+pub returns-in_err-made-clause-any : goal.returns-in_err-made-clause-any
+returns-in_err-made-clause-any g c = λ _ e.
+    let h = err_from_is_err_and c.from_residual-in_err-made.result c.from_residual-in_err-made.ensures.1 in
+    any_passed (g.D.Sectors.size c.args.disk.now) c.args.self.now c.args.most _ _ c.in_err-made.field-0.0 h.0 c.from_residual-in_err-made.result h.1 (sym h.2)
+    (any_broke_off c.args.self.now c.make_turn.new.self c.put_before.ensures.views (g.D.Sectors.size c.args.disk.now) c.args.most (g.D.Sectors.sectors c.args.disk.now) (g.D.Sectors.sectors c.make_turn.new.disk) c.args.budget.now c.make_turn.new.budget
+    (g.O.Sink.text c.args.out.now) (g.O.Sink.text c.put_before.new.out) (g.O.Sink.text c.make_turn.new.out) (g.O.Sink.text c.make_turn.new.out) c.in_err-made.field-0.0 c.in_err-made.ensures.ends.0)
+
+pub returns-in_err-put_after-clause-any : goal.returns-in_err-put_after-clause-any
+returns-in_err-put_after-clause-any g c = λ _ e.
+    let h = err_from_is_err_and c.from_residual-in_err-put_after.result c.from_residual-in_err-put_after.ensures.1 in
+    let turns = c.in_ok-made.ensures.ends in
+    any_passed (g.D.Sectors.size c.args.disk.now) c.args.self.now c.args.most _ _ Sink h.0 c.from_residual-in_err-put_after.result h.1 (sym h.2)
+    (any_cut_after c.args.self.now c.make_turn.new.self c.put_before.ensures.views (g.D.Sectors.size c.args.disk.now) c.args.most (g.D.Sectors.sectors c.args.disk.now) (g.D.Sectors.sectors c.make_turn.new.disk) c.args.budget.now c.make_turn.new.budget
+    (g.O.Sink.text c.args.out.now) (g.O.Sink.text c.put_before.new.out) (g.O.Sink.text c.make_turn.new.out) (g.O.Sink.text c.put_after.new.out) c.in_ok-made.made turns.0 turns.1 c.in_ok-made.answer turns.2 turns.3 turns.4 c.in_ok-made.ensures.made.1)
+
+pub returns-clause-any : goal.returns-clause-any
+returns-clause-any g c = λ _ e.
+    let turns = c.in_ok-made.ensures.ends in
+    any_made c.args.self.now c.make_turn.new.self c.put_before.ensures.views (g.D.Sectors.size c.args.disk.now) c.args.most (g.D.Sectors.sectors c.args.disk.now) (g.D.Sectors.sectors c.make_turn.new.disk) c.args.budget.now c.make_turn.new.budget
+    (g.O.Sink.text c.args.out.now) (g.O.Sink.text c.put_before.new.out) (g.O.Sink.text c.make_turn.new.out) (g.O.Sink.text c.put_after.new.out) c.in_ok-made.made turns.0 turns.1 c.in_ok-made.answer turns.2 turns.3 turns.4

@@ -1,0 +1,83 @@
+-- How a run of any machine ends, by its loop and what closes it.
+use Rattle.std.proofs.Common.{◌≡◌, ◌≢◌, inl, inr, ⊎_elim, ℕ, suc, ◌+◌, Bool, true, false, Option, Some, List, Ok, Err, refl, sym, ap, ◌∙◌, subst, arith}
+use Rattle.std.specs.Option.{option_map}
+use Rattle.mips_table.specs.Device.{Outside}
+use Rattle.mips_table.specs.Machine.{State, run}
+use Rattle.mips_machine.specs.Machine.{Held}
+use Rattle.mips_machine.specs.Steps.{outside_of}
+use Rattle.boot_turns.specs.AnyTurns.{NoSooner, BrokeOff}
+use Rattle.boot_turns.specs.Completes.{seen, SeenTorn, DiskLeaves}
+use Rattle.boot_turns.specs.declared.answers.RunFault.{RunFault}
+use Rattle.boot_turns.specs.declared.answers.RunFault.TheVariants.{StepLimit, Disk, Sink}
+use Rattle.boot_run.specs.declared.whole.RunEnd.{RunEnd}
+use Rattle.boot_run.specs.declared.whole.RunEnd.TheVariants as ends
+use Rattle.boot_run.specs.AnyRun.{is_traced, CameTo, AnyGoRuns, AnyRunsToEnd, AnyEnds, Ends, StepFails, Tells, is_faulted}
+use Rattle.boot_run.specs.LoadEnds.{Kept}
+use Rattle.boot_run.specs.Shown.{has_faulted}
+use Rattle.boot_run.specs.TurnCalls.{Around, around}
+use Rattle.boot_run.specs.Whole.{end_of_fault}
+use Rattle.boot_run.proofs.Ending.{stand_told}
+
+-- the sectors that are told are those of the machine
+told_at : (x : Outside) (s : State) (t : ℕ) (told : Option (List (List ℕ))) (held : Held) → seen told held ≡ Some (run x s t) → Tells x s t told
+told_at x s t told held is = stand_told told held (run x s t).device.sectors (ap (option_map (λ (z : State). z.device.sectors)) is)
+
+-- only a kernel's fault is a fault
+pub fault_is : (f : RunFault) → is_faulted (end_of_fault f) ≡ false
+fault_is StepLimit = refl
+fault_is Disk = refl
+fault_is Sink = refl
+
+-- where it was out of steps, the loop was
+pub limit_is : (f : RunFault) → end_of_fault f ≡ ends.OutOfSteps → f ≡ StepLimit
+limit_is StepLimit e = refl
+limit_is Disk e = absurd (cc)
+limit_is Sink e = absurd (cc)
+
+-- THE LOOP came to the end of the turns, and the run was closed
+module _ (x : Outside) (s : State) (k t : ℕ) (traced : Bool) (before mid : Around) (g : CameTo x s k t before mid) (told : Option (List (List ℕ))) (at_end : Tells x s g.at told) where
+  ended : (b : Bool) → has_faulted mid.ended ≡ b → Ends x s k (before.budget + t) b told
+  ended b how = record { at = g.at; comes = g.comes; within = let a = g.spent in omega (arith, a); how = sym (ap has_faulted g.ended) ∙ how; sectors = at_end }
+
+  closed_as : (e : RunEnd) → has_faulted mid.ended ≡ is_faulted e → e ≢ ends.OutOfSteps → AnyEnds x s k (before.budget + t) traced told e
+  closed_as ends.Done how other = ended false how
+  closed_as ends.KernelFaulted how other = ended true how
+  closed_as ends.OutOfSteps how other = absurd (other refl)
+  closed_as ends.DiskFault how other = inr (ended false how)
+  closed_as ends.SinkFault how other = record { at = g.at; sooner = g.comes.sooner; within = let a = g.spent in omega (arith, a); sectors = at_end }
+
+module _ {L : Type 0} (count : ℕ) (r : Kept L) (turns : ℕ) (before : Around) where
+  pub any_closed : (mid : Kept L) (mid_told retold : Option (List (List ℕ))) (left : ℕ) (text : Option (List ℕ)) (e : RunEnd) → AnyGoRuns count r turns before (around mid mid_told left text) (Ok tt) →
+      has_faulted mid.ended ≡ is_faulted e → e ≢ ends.OutOfSteps → retold ≡ mid_told → AnyRunsToEnd count r turns before retold e
+  any_closed mid mid_told retold left text e goes how other same = λ s k t c on is none.
+      let x = outside_of r.machine.rows count in
+      let g = goes s k t c on is none in
+      closed_as x s (k + turns) t (is_traced r.view) before (around mid mid_told left text) g retold (same ∙ told_at x s g.at mid_told mid.machine g.state) e how other
+
+-- or was broken off
+module _ (x : Outside) (s : State) (k t : ℕ) (told : Option (List (List ℕ))) (held : Held) (budget left : ℕ) where
+  torn_as : (traced : Bool) (at : ℕ) → NoSooner x s k (suc at) → left + suc at ≡ budget + t → DiskLeaves x s at traced (seen told held) → StepFails x s k (budget + t) traced told
+  torn_as false at sooner spent (now, is, torn) = record { at = at; sooner = sooner; less = omega (arith, spent); now = now; told_is = stand_told told held now is; torn = inl torn }
+  torn_as true at sooner spent leaves = ⊎_elim
+      (λ (h : SeenTorn x (run x s at) (seen told held)). record { at = at; sooner = sooner; less = omega (arith, spent); now = h.0; told_is = stand_told told held h.0 h.1; torn = inl h.2 })
+      (λ (e : seen told held ≡ Some (run x s (suc at))). record {
+        at = at;
+        sooner = sooner;
+        less = omega (arith, spent);
+        now = (run x s (suc at)).device.sectors;
+        told_is = told_at x s (suc at) told held e;
+        torn = inr (refl, refl);
+      })
+      leaves
+
+  broke_as : (traced : Bool) (f : RunFault) → BrokeOff x s traced k t (seen told held) budget left f → AnyEnds x s k (budget + t) traced told (end_of_fault f)
+  broke_as traced StepLimit (none, sooner, is) =
+      let sum : t + budget ≡ budget + t = omega arith in
+      (subst (λ n. NoSooner x s k (suc n)) sum sooner, subst (λ n. Tells x s n told) sum (told_at x s (t + budget) told held is))
+  broke_as traced Disk (at, sooner, leaves, spent) = inl (torn_as traced at sooner spent leaves)
+  broke_as traced Sink (at, sooner, is, spent) = record { at = at; sooner = sooner; within = omega (arith, spent); sectors = told_at x s at told held is }
+
+pub any_fault : {L : Type 0} (count : ℕ) (r : Kept L) (turns : ℕ) (before : Around) (new : Kept L) (retold : Option (List (List ℕ))) (left : ℕ) (text : Option (List ℕ)) (f : RunFault) →
+    AnyGoRuns count r turns before (around new retold left text) (Err f) → AnyRunsToEnd count r turns before retold (end_of_fault f)
+any_fault count r turns before new retold left text f goes = λ s k t c on is none.
+    broke_as (outside_of r.machine.rows count) s (k + turns) t retold new.machine before.budget left (is_traced r.view) f (goes s k t c on is none)

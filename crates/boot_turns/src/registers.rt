@@ -1,0 +1,13 @@
+// The special registers that say what a step was, by the numbers that the machine takes.
+
+/// The cause of the last interrupt.
+pub(crate) const ECA: u32 = mips_interrupts::ECA as u32;
+
+/// What it concerns.
+pub(crate) const EDATA: u32 = mips_interrupts::EDATA as u32;
+
+/// The number of pages of the user that runs.
+pub(crate) const PTL: u32 = mips_interrupts::PTL as u32;
+
+/// The mode: 0 in system mode, 1 in user mode.
+pub(crate) const MODE: u32 = mips_interrupts::MODE as u32;
