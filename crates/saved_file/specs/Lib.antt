@@ -1,0 +1,4 @@
+pub mod Fault
+pub mod Resumable
+pub mod Tests
+pub mod Answer
