@@ -1,13 +1,12 @@
 -- The memory and the ports as the processor reads and writes them.
-use Rattle.std.specs.Prelude.{ℕ, ◌*◌, ◌/◌, false, nat_lt, if◌then◌else◌, List, [], length, drop, replicate, slice_index, slice_set, Option, Some, None, true}
+use Rattle.std.specs.Prelude.{ℕ, ◌/◌, false, nat_lt, if◌then◌else◌, List, [], length, slice_set, Option, Some, None, true}
 use Rattle.mips_table.specs.Processor.{Access, Cpu}
 use Rattle.mips_table.specs.Machine.{State, zero_cpu, access, located, read_at}
 use Rattle.mips_step.specs.Step.{End}
 use Rattle.mips_step.specs.Ends.{StepsInMemory}
-use Rattle.sector_disk.specs.Ports.{Ports, idle, device_of}
+use Rattle.sector_disk.specs.Ports.{Ports, device_of}
 use Rattle.mips_machine.specs.declared.board.PortWrite.{PortWrite}
 use Rattle.mips_machine.specs.Console.{Console, after_word}
-use Rattle.mips_machine.specs.Saved.{part}
 
 -- the special registers, the words of memory, the disk's ports and buffer, the words that are viewed, the console, and a write
 -- outside memory that is kept until the instruction is done
@@ -66,19 +65,3 @@ stored b address value = stored_at b (located (around b) true address) value
 -- one instruction over the board ends so
 unfoldable pub Instructs : Cpu → Board → End → Board → Type 0
 Instructs cpu old end new = StepsInMemory taken_by word_at after_load stored cpu old end new
-
--- a board with so many frames of memory and this input, where all else is 0 and the disk is idle
-abbrev pub fresh : ℕ → List ℕ → Board
-fresh frames inputs = record {
-  special = replicate 9 0;
-  memory = replicate (1024 * frames) 0;
-  ports = idle;
-  buffer = replicate 1024 0;
-  viewed = replicate 1024 0;
-  console = record { log = []; inputs = inputs; input = inputs };
-  kept = None;
-}
-
--- the console that the words of a saved machine tell, of one that was given this input
-abbrev pub loaded_console : List ℕ → List ℕ → Console
-loaded_console inputs words = record { log = part words 56 (slice_index words 55); inputs = inputs; input = drop (slice_index words 54) inputs }

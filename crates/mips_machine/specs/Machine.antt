@@ -1,7 +1,7 @@
 -- What callers see of a machine, and the state that it is with the sectors of a disk.
-use Rattle.std.specs.Prelude.{◌≡◌, ℕ, ◌+◌, ◌≤◌, List, length}
+use Rattle.std.specs.Prelude.{ℕ, List}
 use Rattle.mips_table.specs.Machine.{State}
-use Rattle.schedule_file.specs.Rows.{Rows, IsNextAt}
+use Rattle.schedule_file.specs.Rows.{Rows}
 use Rattle.mips_machine.specs.Hardware.{Hardware, starting, state_in}
 
 -- the state but for the sectors, with the words of the sector that was viewed; the number of steps done; and the rows of the schedule
@@ -17,13 +17,3 @@ started frames rows = record { hardware = starting frames rows.inputs; time = 0;
 -- the state, with these sectors
 abbrev pub state_of : Held → List (List ℕ) → State
 state_of held sectors = state_in held.hardware held.time sectors
-
--- a machine's parts agree with its schedule: with the next line row of it, with the steps done, and with its input
-abbrev pub Agrees : Hardware → Rows → (next_line steps : ℕ) → Type 0
-Agrees h rows next_line steps =
-    IsNextAt rows next_line steps × (h.ports.commands ≤ steps) × (length h.buffer ≡ 1024) × (h.console.inputs ≡ rows.inputs)
-
--- so many steps are made, which change the processor and the memory alone
-abbrev pub ChangesWithin : Held → ℕ → Held → Type 0
-ChangesWithin old n new =
-    new ≡ record old { hardware = record old.hardware { cpu = new.hardware.cpu; memory = new.hardware.memory }; time = old.time + n }
