@@ -26,7 +26,7 @@ use Rattle.cvm_model.specs.declared.row.Next.{Next}
 use Rattle.cvm_model.specs.declared.row.Next.TheVariants.{User, Halt, Fault}
 use Rattle.cvm_model.specs.declared.kernel_fault.KernelFault.TheVariants.{BadUser}
 use Rattle.cvm_model.specs.declared.row.Row.{Row}
-use Rattle.cvm_model.specs.Invariant.{Property, Dispatch, row_of, rows_of, IsProper, current_after, next_by, made_by, of_begin, of_status, of_turn, dispatches_of, IsTrap, StaysKnown, Known, Keeps, IsInvariant, IsSafe, Holds, HasEight, InvariantsHold, RunsAreLawful}
+use Rattle.cvm_model.specs.Invariant.{Property, Dispatch, row_of, rows_of, IsProper, current_after, next_by, made_by, of_begin, of_status, of_turn, dispatches_of, IsTrap, IsTrapOf, machine_after, with_machine, Known, Keeps, IsInvariant, IsSafe, Holds, HasEight, InvariantsHold, RunsAreLawful}
 
 -- a step of a user traps by the causes of traps alone
 abbrev TrapsOf : VStep → Type 0
@@ -77,7 +77,7 @@ named users (pos (suc n)) u e = by (nat_lt n users) refl e
     by false t e = absurd (cc)
 named users (negsuc n) u e = absurd (cc)
 
-module _ (y : System) (n : ℕ) (Fit : Core → Type 0) (IsDatum : ℕ → Type 0) (I : Property) where
+module _ (y : System) (n : ℕ) (Fit : Core → Type 0) (I : Property) where
   -- what is so of a state from the first turn on, beside what is wanted: what is known, lines that are pending, and that a user is current
   record Stands (past : List Dispatch) (c : Cvm) : Type 0 where
     holds : Holds I past c
@@ -103,7 +103,7 @@ module _ (y : System) (n : ℕ) (Fit : Core → Type 0) (IsDatum : ℕ → Type 
   abbrev Stays : Type 0
   Stays = (k : ℕ) (c : Core) (cause edata user : ℤ) → (y.boot.meaning.dispatch k c cause edata user).after.current ≡ c.current
 
-  module _ (stays : Stays) (known : Known y Fit IsDatum) where
+  module _ (stays : Stays) (known : Known y Fit) where
     fits_next : (next : Next) (o : Core) → ((u : ℕ) → next ≡ User u → IsUser o u) → Fit o → Fit (core_of next o)
     fits_next (User u) o is h = known.next o u h (is u refl)
     fits_next Halt o is h = h
@@ -138,7 +138,7 @@ module _ (y : System) (n : ℕ) (Fit : Core → Type 0) (IsDatum : ℕ → Type 
           },
         )
 
-    module _ (inv : IsInvariant y n Fit IsDatum I) (lines : ℕ → ℕ) (eight : HasEight lines) where
+    module _ (inv : IsInvariant y n Fit I) (lines : ℕ → ℕ) (eight : HasEight lines) where
       none : 0 < 2 ^ 8
       none = omega arith
 
@@ -148,9 +148,10 @@ module _ (y : System) (n : ℕ) (Fit : Core → Type 0) (IsDatum : ℕ → Type 
           let b : length c.users ≡ length y.boot.users = known.count c before in
           (is.0, subst (λ m. c.current ≤ m) (b ∙ sym a) is.1)
 
-      step_comes : (past : List Dispatch) (k : ℕ) (c : Cvm) → c.status ≡ Running → Stands past c → (v : VStep) → StaysKnown Fit IsDatum c.core v → TrapsOf v
+      step_comes : (past : List Dispatch) (k : ℕ) (c : Cvm) → c.status ≡ Running → Stands past c → (v : VStep) → vstep (user_of c.core.users c.core.current) ≡ v
+          → Fit (with_machine c.core (machine_after v)) → TrapsOf v
           → Comes (past ++ of_begin y n (suc k) (user_step c.core v)) (begun y n (suc k) c (user_step c.core v))
-      step_comes past k c on h (Goes f) fit trap =
+      step_comes past k c on h (Goes f) e fit trap =
           subst (λ p. Comes p (begun y n (suc k) c (user_step c.core (Goes f)))) (sym (append_none past)) (
             _,
             refl,
@@ -161,13 +162,14 @@ module _ (y : System) (n : ℕ) (Fit : Core → Type 0) (IsDatum : ℕ → Type 
               user = λ e. stays_user c.core f (h.user on) fit h.fits;
             },
           )
-      step_comes past k c on h (Trap f cause edata) fit trap =
-          dispatch_comes past (suc k) (number_of cause) edata c _ 0 fit.0 h.holds.rows none (inv.trap k cause edata past _ trap fit.1 fit.0 (stays_user c.core f (h.user on) fit.0 h.fits) h.holds.kept)
+      step_comes past k c on h (Trap f cause edata) e fit trap =
+          let came : IsTrapOf c.core cause edata (with_machine c.core f) = record { after = f; stepped = e; left = refl; is = trap } in
+          dispatch_comes past (suc k) (number_of cause) edata c _ 0 fit h.holds.rows none (inv.trap k cause edata past c.core _ came fit (stays_user c.core f (h.user on) fit h.fits) h.holds.kept)
 
       begun_comes : (past : List Dispatch) (k pend : ℕ) (c : Cvm) → c.status ≡ Running → Stands past c → pend < 2 ^ 8 → (b : Bool) → (pend == 0) ≡ b
           → let v = if b then user_step c.core (vstep (user_of c.core.users c.core.current)) else Interrupts 1 pend c.core 0 in Comes (past ++ of_begin y n (suc k) v) (begun y n (suc k) c v)
       begun_comes past k pend c on h few true e =
-          step_comes past k c on h (vstep (user_of c.core.users c.core.current)) (known.step c.core h.fits (h.user on)) (step_traps (user_of c.core.users c.core.current))
+          step_comes past k c on h (vstep (user_of c.core.users c.core.current)) refl (known.step c.core h.fits (h.user on)) (step_traps (user_of c.core.users c.core.current))
       begun_comes past k pend c on h few false e =
           let some : 1 ≤ pend = let isnt = eqb-false pend 0 e in by_some pend isnt in
           dispatch_comes past (suc k) 1 pend c c.core 0 h.fits h.holds.rows none (inv.line k pend past c.core some few h.fits (h.user on) h.holds.kept)
@@ -202,9 +204,9 @@ stays : (y : System) (u : CUnit) → y.boot.meaning ≡ kernel_meaning u y.boot.
 stays y u e k c cause edata user = rw e (current_stays u y.boot.params c _)
 
 pub invariants_hold : RunsAreLawful → InvariantsHold
-invariants_hold laws y u n Fit IsDatum I e known inv lines eight k = (
-  defined y n Fit IsDatum I (stays y u e) known inv lines eight k,
-  λ c is. let t = come y n Fit IsDatum I (stays y u e) known inv lines eight k in
+invariants_hold laws y u n Fit I e known inv lines eight k = (
+  defined y n Fit I (stays y u e) known inv lines eight k,
+  λ c is. let t = come y n Fit I (stays y u e) known inv lines eight k in
       let kernel : MeaningLaws y.boot.meaning = subst MeaningLaws (sym e) (laws.kernels u y.boot.params) in
       subst (Holds I (dispatches_of y lines n (suc k))) (laws.same y lines (suc k) t.0 c kernel (record { units = n; is = t.1 }) is) t.2.holds,
 )

@@ -29,7 +29,7 @@ use Rattle.cvm_model.specs.KernelMeaning.{Machines, ints_of, called_by, kernel_p
 use Rattle.cvm_model.specs.KernelMeaning as kernel
 use Rattle.cvm_model.specs.Stands.{input_room}
 use Rattle.cvm_model.specs.Cvm.{System, first_flat, dispatch_of, UnitsDontMatter}
-use Rattle.cvm_model.specs.Invariant.{StaysKnown, Known, HasUsers, AnyDatum, UserShaped, Shaped, HasRoom, RunsAreLawful}
+use Rattle.cvm_model.specs.Invariant.{machine_after as after, Known, HasUsers, UserShaped, Shaped, HasRoom, RunsAreLawful}
 use Rattle.cvm_model.proofs.KernelLaws.{work_of, start_of}
 use Rattle.cvm_model.proofs.KernelReplay.{prim_count}
 use Rattle.cvm_model.proofs.PrimitiveReplays.{and_left, and_right, place_is}
@@ -139,10 +139,6 @@ primitive_shaped : (most count : ℕ) (k : ℕ) (args : Values) (m : Machines) �
 primitive_shaped most count k args m h = called_shaped most count m (option_and_then (kernel.call_with k) (ints_of args)) h
 
 -- A STEP OF A USER keeps the shape of its machine
-abbrev after : VStep → Flat
-after (Goes f) = f
-after (Trap f cause edata) = f
-
 record Alike (f g : Flat) : Type 0 where
   regs : length g.cpu.regs ≡ length f.cpu.regs
   words : length g.words ≡ length f.words
@@ -186,10 +182,6 @@ step_alike f =
     accessed_alike f (a.may_fetch f.cpu.pc) causes.FetchAlign causes.FetchFault f.cpu.pc f.cpu.pc (executed a f.cpu w (decoding w)) (executed_alike f a w (decoding w))
 
 -- WHAT IS KNOWN of each run
-any_step : (Fit : Core → Type 0) (c : Core) (v : VStep) → Fit (record c { users = with_user c.users c.current (after v) }) → StaysKnown Fit AnyDatum c v
-any_step Fit c (Goes f) h = h
-any_step Fit c (Trap f cause edata) h = (h, tt)
-
 module _ (alone : PrimitivesAlone Machines Changes) (y : System) (u : CUnit) (is : y.boot.meaning ≡ kernel_meaning u y.boot.params) where
   -- a fact of states that speaks of machines and console alone
   module _ (P : Machines → Type 0) (keeps : (k : ℕ) (args : Values) (m : Machines) → P m → P (kernel_primitive k args m).world) where
@@ -222,11 +214,11 @@ module _ (alone : PrimitivesAlone Machines Changes) (y : System) (u : CUnit) (is
       by None = h
       by (Some c) = prim_count m.most c m.users m.console ∙ h
 
-  counted : Known y (HasUsers y) AnyDatum
+  counted : Known y (HasUsers y)
   counted = record {
     count = λ c h. h;
     start = length-map y.boot.users first_flat;
-    step = λ c h user. any_step (HasUsers y) c (vstep (user_of c.users c.current)) (length-set c.users (c.current - 1) (after (vstep (user_of c.users c.current))) ∙ h);
+    step = λ c h user. length-set c.users (c.current - 1) (after (vstep (user_of c.users c.current))) ∙ h;
     dispatch = λ n cause edata c h. dispatch_stays (λ m. length m.users ≡ length y.boot.users) count_stays n cause edata c h;
     next = λ c u h user. h;
   }
@@ -243,7 +235,7 @@ module _ (alone : PrimitivesAlone Machines Changes) (y : System) (u : CUnit) (is
       length-append words (replicate (next_page (length words) - length words) 0) ∙ omega (arith, length-replicate {A = ℕ} (next_page (length words) - length words) 0) in
       record { regs = refl; pages = omega (arith, size, few); whole = omega (arith, size) }
 
-  shaped : HasRoom y → Known y (Shaped y) AnyDatum
+  shaped : HasRoom y → Known y (Shaped y)
   shaped room = record {
     count = λ c h. h.count;
     start = record {
@@ -256,12 +248,12 @@ module _ (alone : PrimitivesAlone Machines Changes) (y : System) (u : CUnit) (is
         let f : Flat = user_of c.users c.current in
         let a = step_alike f in
         let fits = same_length y.boot.params.pages f (after (vstep f)) (index_shaped y.boot.params.pages c.users (c.current - 1) h.each) a.regs a.words in
-        any_step (Shaped y) c (vstep f) (record {
+        record {
           count = length-set c.users (c.current - 1) (after (vstep f)) ∙ h.count;
           each = All-set (UserShaped y.boot.params.pages) c.users (c.current - 1) (after (vstep f)) fits h.each;
           log = h.log;
           input = h.input;
-        });
+        };
     dispatch = λ n cause edata c h.
         from_shapes _ (dispatch_stays (Shapes y.boot.params.pages (length y.boot.users)) (primitive_shaped y.boot.params.pages (length y.boot.users)) n cause edata c (to_shapes c h));
     next = λ c u h user. record { count = h.count; each = h.each; log = h.log; input = h.input };

@@ -83,17 +83,29 @@ IsTrap Reset = ⊥
 IsTrap External = ⊥
 IsTrap other = Unit {0}
 
--- what a step of a user's machine comes to is known: the state after it, and of a trap its data
-abbrev pub StaysKnown : (Core → Type 0) → (ℕ → Type 0) → Core → VStep → Type 0
-StaysKnown Fit IsDatum c (Goes f) = Fit (record c { users = with_user c.users c.current f })
-StaysKnown Fit IsDatum c (Trap f cause edata) = Fit (record c { users = with_user c.users c.current f }) × IsDatum edata
+-- the machine that a step of a user leaves
+abbrev pub machine_after : VStep → Flat
+machine_after (Goes f) = f
+machine_after (Trap f cause edata) = f
+
+-- another machine of the current user
+abbrev pub with_machine : Core → Flat → Core
+with_machine c f = record c { users = with_user c.users c.current f }
+
+-- A TRAP: the next step of the current user of `before` ends in one, with this cause and these data, and leaves `at`. What the data tell follows from the
+-- step; law `steps_tell` of kernel_theorems says it by cause.
+pub record IsTrapOf (before : Core) (cause : Cause) (edata : ℕ) (at : Core) : Type 0 where
+  pub after : Flat
+  pub stepped : vstep (user_of before.users before.current) ≡ Trap after cause edata
+  pub left : at ≡ with_machine before after
+  pub is : IsTrap cause
 
 -- WHAT A KERNEL MAY KNOW beside its own property: a fact of states that holds at the start and stays in the steps of users, in dispatches and where
--- another user becomes current; and one of the data of traps. `HasUsers` and `Shaped` are such facts of each run (law `runs_are_lawful`).
-pub record Known (y : System) (Fit : Core → Type 0) (IsDatum : ℕ → Type 0) : Type 0 where
+-- another user becomes current. `HasUsers` and `Shaped` are such facts of each run (law `runs_are_lawful`).
+pub record Known (y : System) (Fit : Core → Type 0) : Type 0 where
   pub count : (c : Core) → Fit c → length c.users ≡ length y.boot.users
   pub start : Fit (first_core y)
-  pub step : (c : Core) → Fit c → IsUser c c.current → StaysKnown Fit IsDatum c (vstep (user_of c.users c.current))
+  pub step : (c : Core) → Fit c → IsUser c c.current → Fit (with_machine c (machine_after (vstep (user_of c.users c.current))))
   pub dispatch : (n cause edata : ℕ) (c : Core) → Fit c → Fit (dispatch_of y n cause edata c).after
   pub next : (c : Core) (u : ℕ) → Fit c → IsUser c u → Fit (record c { current = u })
 
@@ -115,10 +127,10 @@ pub record KeptAt (y : System) (I : Property) (k cause edata : ℕ) (past : List
 
 -- A property that the dispatch of the start sets up, and each later one keeps: where lines are taken, of which there are eight, and where the current
 -- user traps. Each may use what is known.
-pub record IsInvariant (y : System) (n : ℕ) (Fit : Core → Type 0) (IsDatum : ℕ → Type 0) (I : Property) : Type 0 where
+pub record IsInvariant (y : System) (n : ℕ) (Fit : Core → Type 0) (I : Property) : Type 0 where
   pub start : Fit (first_core y) → Keeps y n I 0 0 0 [] (first_core y)
   pub line : (k mask : ℕ) (past : List Dispatch) (at : Core) → 1 ≤ mask → mask < 2 ^ 8 → Fit at → IsUser at at.current → I past at.c0 at.current → Keeps y n I (suc k) 1 mask past at
-  pub trap : (k : ℕ) (cause : Cause) (edata : ℕ) (past : List Dispatch) (at : Core) → IsTrap cause → IsDatum edata → Fit at → IsUser at at.current → I past at.c0 at.current
+  pub trap : (k : ℕ) (cause : Cause) (edata : ℕ) (past : List Dispatch) (before at : Core) → IsTrapOf before cause edata at → Fit at → IsUser at at.current → I past at.c0 at.current
       → Keeps y n I (suc k) (number_of cause) edata past at
 
 -- a status that is no kernel's fault
@@ -139,17 +151,13 @@ HasEight lines = (k : ℕ) → lines k < 2 ^ 8
 -- THE RULE: with an invariant, whatever lines are raised, each turn ends, no dispatch faults, and the invariant holds of the run's dispatches from the
 -- first turn on. To be used of a kernel whose dispatches keep a property, by `invariants_hold` of proofs/Invariants: no run is looked at then.
 abbrev pub InvariantsHold : Type 1
-InvariantsHold = (y : System) (u : CUnit) (n : ℕ) (Fit : Core → Type 0) (IsDatum : ℕ → Type 0) (I : Property)
-    → y.boot.meaning ≡ kernel_meaning u y.boot.params → Known y Fit IsDatum → IsInvariant y n Fit IsDatum I → (lines : ℕ → ℕ) → HasEight lines → (k : ℕ)
+InvariantsHold = (y : System) (u : CUnit) (n : ℕ) (Fit : Core → Type 0) (I : Property)
+    → y.boot.meaning ≡ kernel_meaning u y.boot.params → Known y Fit → IsInvariant y n Fit I → (lines : ℕ → ℕ) → HasEight lines → (k : ℕ)
     → ((c : Cvm) × IsCvm y lines k c) × ((c : Cvm) → IsCvm y lines (suc k) c → Holds I (dispatches_of y lines n (suc k)) c)
 
 -- of each run it is known that there are as many machines as users
 abbrev pub HasUsers : System → Core → Type 0
 HasUsers y c = length c.users ≡ length y.boot.users
-
--- nothing of the data of traps
-abbrev pub AnyDatum : ℕ → Type 0
-AnyDatum edata = Unit {0}
 
 -- a machine of 32 registers and of whole pages, no more than it may have
 pub record UserShaped (most : ℕ) (f : Flat) : Type 0 where
@@ -174,5 +182,5 @@ pub record HasRoom (y : System) : Type 0 where
 pub record RunsAreLawful : Type 0 where
   pub same : UnitsDontMatter
   pub kernels : UnitsAreKernels
-  pub counted : (y : System) (u : CUnit) → y.boot.meaning ≡ kernel_meaning u y.boot.params → Known y (HasUsers y) AnyDatum
-  pub shaped : (y : System) (u : CUnit) → y.boot.meaning ≡ kernel_meaning u y.boot.params → HasRoom y → Known y (Shaped y) AnyDatum
+  pub counted : (y : System) (u : CUnit) → y.boot.meaning ≡ kernel_meaning u y.boot.params → Known y (HasUsers y)
+  pub shaped : (y : System) (u : CUnit) → y.boot.meaning ≡ kernel_meaning u y.boot.params → HasRoom y → Known y (Shaped y)

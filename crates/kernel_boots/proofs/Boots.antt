@@ -16,7 +16,7 @@ use Rattle.boot_image.specs.Parts.{Parts as Image}
 use Rattle.boot_image.specs.declared.fault.ImageFault.{ImageFault}
 use Rattle.boot_image.specs.Reading.{answer as image_of}
 use Rattle.kernel_linker.specs.Accept.{System}
-use Rattle.kernel_linker.specs.Sources.{AcceptedAreOfImages}
+use Rattle.kernel_linker.specs.Sources.{IsOfImage, AcceptedAreOfImages}
 use Rattle.cvm_shell.specs.declared.status.Status.{Status as Shown}
 use Rattle.cvm_shell.specs.declared.status.Status.TheVariants.{KernelFault}
 use Rattle.cvm_shell.specs.declared.boot.Session.{Session}
@@ -24,6 +24,7 @@ use Rattle.cvm_shell.specs.Outside.{Outside}
 use Rattle.cvm_shell.specs.Plan.{Accepts}
 use Rattle.cvm_shell.specs.Boot.{booted, around, first_state, sectors_needed, ended_as, AskFor, by_boot, by_trace, by_sample, Headline}
 use Rattle.kernel_boots.specs.Boots.{OfStates, AlwaysHas, TextOfState, Shows, BootsShow, HasSource, AsksSource, RunsItsSource, BootsOf}
+use Rattle.kernel_boots.proofs.Room.{Roomy, room_of, roomy}
 use Rattle.kernel_boots.proofs.EightLines.{eight_of, few_of, turns_have_eight}
 
 -- A STATUS without a fault
@@ -108,26 +109,37 @@ boots_show P words status old new headlines session s rows before honest some vi
 same_image : (i j : Image) → ◌≡◌ {A = Result Image ImageFault} (Ok i) (Ok j) → i ≡ j
 same_image i j e = cc
 
-unit_of_image : AcceptedAreOfImages → (source bytes : List ℕ) (s : System) → Accepts layer_image (image_of bytes) (Ok s) → HasSource source bytes → IsUnitOf source s.unit
-unit_of_image law source bytes s accepted h =
+of_image : AcceptedAreOfImages → (source bytes : List ℕ) (s : System) → Accepts layer_image (image_of bytes) (Ok s) → (h : HasSource source bytes) → IsOfImage h.0 s
+of_image law source bytes s accepted h =
     let a = subst (λ r. Accepts layer_image r (Ok s)) h.1 accepted in
-    subst (λ t. IsUnitOf t s.unit) h.2 (law layer_image h.0 a.0 s a.1 a.2).unit
+    law layer_image h.0 a.0 s a.1 a.2
 
-asked_unit : AcceptedAreOfImages → (source : List ℕ) (words : List (List ℕ)) (file : List ℕ → Option (List ℕ)) (session : Session) (s : System) (rows : Rows)
-    → (a : AskFor words file session s rows) → AsksSource source a → IsUnitOf source s.unit
-asked_unit law source words file session s rows (by_boot b is same files) h = unit_of_image law source files.image s files.accepted h
-asked_unit law source words file session s rows (by_trace t is same files) h = unit_of_image law source files.image s files.accepted h
-asked_unit law source words file session s rows (by_sample x is same parts) h = unit_of_image law source parts.image s parts.accepted h
+-- the unit of what is run is that of its source, and it has room
+record IsRead (source : List ℕ) (s : System) : Type 0 where
+  unit : IsUnitOf source s.unit
+  room : Roomy s
+
+read_of_image : AcceptedAreOfImages → (source bytes : List ℕ) (s : System) → Accepts layer_image (image_of bytes) (Ok s) → HasSource source bytes → IsRead source s
+read_of_image law source bytes s accepted h =
+    let is : IsOfImage h.0 s = of_image law source bytes s accepted h in
+    record { unit = subst (λ t. IsUnitOf t s.unit) h.2 is.unit; room = roomy h.0 s (room_of bytes h.0 h.1) is }
+
+asked_read : AcceptedAreOfImages → (source : List ℕ) (words : List (List ℕ)) (file : List ℕ → Option (List ℕ)) (session : Session) (s : System) (rows : Rows)
+    → (a : AskFor words file session s rows) → AsksSource source a → IsRead source s
+asked_read law source words file session s rows (by_boot b is same files) h = read_of_image law source files.image s files.accepted h
+asked_read law source words file session s rows (by_trace t is same files) h = read_of_image law source files.image s files.accepted h
+asked_read law source words file session s rows (by_sample x is same parts) h = read_of_image law source parts.image s parts.accepted h
 
 pub runs_its_source : AcceptedAreOfImages → RunsItsSource
-runs_its_source law source words session s rows before old new h a = asked_unit law source words old.shelf.file session s rows h.asked a
+runs_its_source law source words session s rows before old new h a = (asked_read law source words old.shelf.file session s rows h.asked a).unit
 
--- EVERY BOOT OF A SOURCE shows a property that excludes faults, where the run of each system with that source's unit always has it
+-- EACH BOOT OF A SOURCE shows a property that excludes faults, where the run of each system with that source's unit, with room for 64 words of stack and
+-- for its users, always has it
 pub boots_of : AcceptedAreOfImages → (source : List ℕ) (Is : System → Type 0) (P : Booted → OfStates)
-    → ((s : System) (rows : Rows) → IsUnitOf source s.unit → Is s → length rows.inputs ≤ 4096 → AlwaysHas (booted s rows) (P (booted s rows)))
+    → ((s : System) (rows : Rows) → IsUnitOf source s.unit → Roomy s → Is s → length rows.inputs ≤ 4096 → AlwaysHas (booted s rows) (P (booted s rows)))
     → ((y : Booted) (lines : ℕ → ℕ) (k : ℕ) (c : Cvm) → P y lines k c → IsSafe c.status) → BootsOf source Is P
 boots_of law source Is P always safe words status old new headlines session s rows before h some view asks is =
-    let unit : IsUnitOf source s.unit = runs_its_source law source words session s rows before old new h asks in
+    let read : IsRead source s = asked_read law source words old.shelf.file session s rows h.asked asks in
     let few : length rows.inputs ≤ 4096 = asked_few words old.shelf.file session s rows h.asked in
-    let shown = boots_show (P (booted s rows)) words status old new headlines session s rows before h some view (always s rows unit is few) in
+    let shown = boots_show (P (booted s rows)) words status old new headlines session s rows before h some view (always s rows read.unit read.room is few) in
     (shown.no_fault (safe (booted s rows)), shown.printed)

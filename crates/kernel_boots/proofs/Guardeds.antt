@@ -1,5 +1,5 @@
--- Every boot of the guarded kernel: no state of its run has a fault.
-use Rattle.std.proofs.Common.{◌≡◌, ℕ, zero, suc, Some, subst}
+-- Each boot of the guarded kernel: no state of its run has a fault.
+use Rattle.std.proofs.Common.{◌≡◌, ◌≤◌, ℕ, zero, suc, length, Some, subst, arith}
 use Rattle.cvm_model.specs.Cvm.{System as Booted, Cvm, IsCvm, first_cvm}
 use Rattle.cvm_model.specs.Invariant.{HasEight, IsSafe}
 use Rattle.kernel_linker.specs.Sources.{AcceptedAreOfImages}
@@ -7,7 +7,7 @@ use Rattle.cvm_shell.specs.Boot.{booted}
 use Rattle.kernel_theorems.specs.Text.{Means}
 use Rattle.kernel_theorems.specs.GuardedTree.{guarded}
 use Rattle.kernel_theorems.specs.Guarded.{text, RunsGuarded, GuardedNeverFaults}
-use Rattle.kernel_boots.specs.Guardeds.{HasStack, GuardedKernelsBoot}
+use Rattle.kernel_boots.specs.Guardeds.{GuardedKernelsBoot}
 use Rattle.kernel_boots.proofs.Boots.{boots_of}
 
 at_start : (y : Booted) (c : Cvm) → Some (first_cvm y) ≡ Some c → IsSafe c.status
@@ -18,6 +18,6 @@ safe law y r lines eight zero c is = at_start y c is.is
 safe law y r lines eight (suc k) c is = (law y r lines eight k).1 c is
 
 pub guarded_kernels_boot : AcceptedAreOfImages → GuardedNeverFaults → Means text guarded → GuardedKernelsBoot
-guarded_kernels_boot images law means = boots_of images text HasStack (λ y lines k c. IsSafe c.status)
-    (λ s rows unit is few lines eight k c h. safe law (booted s rows) (record { meaning_is = means s.unit s.params unit; some = is.some; room = is.room }) lines eight k c h)
+guarded_kernels_boot images law means = boots_of images text (λ s. 1 ≤ length s.users) (λ y lines k c. IsSafe c.status)
+    (λ s rows unit roomy is few lines eight k c h. safe law (booted s rows) (record { meaning_is = means s.unit s.params unit; some = is; room = omega (arith, roomy.stack) }) lines eight k c h)
     (λ y lines k c h. h)

@@ -1,4 +1,5 @@
 mod EightLines
+pub mod Room
 pub mod Boots
 mod RoundRobins
 mod Guardeds

@@ -1,4 +1,4 @@
--- What every boot of an image shows, where each state of the abstract run has a property: over the headline of `run` (cvm_shell/src/lib.rt) as it stands.
+-- What each boot of an image shows, where each state of the abstract run has a property: over the headline of `run` (cvm_shell/src/lib.rt) as it stands.
 use Rattle.std.specs.Prelude.{◌≡◌, ◌≢◌, ℕ, List, Option, Ok}
 use Rattle.std.specs.Io.KnownBytes.{append_known}
 use Rattle.schedule_file.specs.Rows.{Rows}
@@ -70,8 +70,8 @@ RunsItsSource = (source : List ℕ) (words : List (List ℕ)) (session : Session
 abbrev pub ShowsOf : Booted → OfStates → (old new : Outside) → Status → Type 0
 ShowsOf y P old new status = (status ≢ KernelFault) × ((text : List ℕ) × (new.sink.text ≡ append_known old.sink.text text) × Shows y P status text)
 
--- EVERY BOOT of an image with this source: where a fact of its system is given (how many users it has, how large its stack is), it shows a property
--- that excludes faults
+-- EACH BOOT of an image with this source: where a fact of its system is given (how many users it has), it shows a property that excludes faults. A boot is
+-- one by `boot`, `rom` or `sample` under the headline's premises, with a status other than 8.
 abbrev pub BootsOf : (source : List ℕ) → (System → Type 0) → (Booted → OfStates) → Type 0
 BootsOf source Is P = (words : List (List ℕ)) (status : Status) (old new : Outside) → Headlines (λ (o : Outside). o) words status old new
     → (session : Session) (s : System) (rows : Rows) (before : List (List ℕ)) → (h : IsHonest words session s rows before old new)

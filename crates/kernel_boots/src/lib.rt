@@ -1,4 +1,5 @@
-//! What every boot of a kernel prints, by what was proved of its runs: each function is a law over the headline of `cvm_shell::run`.
+//! What each boot of a kernel prints, by what was proved of its runs: each function is a law over the headline of `cvm_shell::run`. A boot here is one by
+//! `boot`, `rom` or `sample` under the headline's premises (`IsHonest`: among them that no call fails), with another status than 8.
 #![tactic(auto)]
 
 ghost use Rattle.kernel_boots.specs.Boots.{RunsItsSource};
@@ -19,7 +20,7 @@ pub fn boots_run_their_source()
     accepted_systems_are_of_their_images();
 }
 
-/// A law: every boot of the round robin of three users prints its rows in order, and its status is no kernel's fault.
+/// A law: each boot of an image with the round robin's text and three users prints its rows in order, and its status is no kernel's fault.
 pub fn round_robins_boot()
     ensures { RoundRobinsBoot }
 {
@@ -29,7 +30,7 @@ pub fn round_robins_boot()
     text_is_round_robin();
 }
 
-/// A law: no boot of the guarded kernel ends with a kernel's fault.
+/// A law: no boot of an image with the guarded kernel's text and a user ends with a kernel's fault.
 pub fn guarded_kernels_boot()
     ensures { GuardedKernelsBoot }
 {
@@ -39,8 +40,8 @@ pub fn guarded_kernels_boot()
     text_is_guarded();
 }
 
-/// A law: in every boot of the mailbox, by the rows that it prints and their dispatches, what user 2 was given is what user 1 was told to be taken, and its
-/// status is no kernel's fault.
+/// A law: in each boot of an image with the mailbox's text and two users, by the rows that it prints and their dispatches, what user 2 was given is what
+/// user 1 was told to be taken, and its status is no kernel's fault.
 pub fn mailboxes_boot()
     ensures { MailboxesBoot }
 {

@@ -28,7 +28,7 @@ use Rattle.cvm_model.specs.Kernel.{Core, Console, Changes, Meaning}
 use Rattle.cvm_model.specs.KernelMeaning.{Machines, kernel_primitive, setting_of, machines_of}
 use Rattle.cvm_model.specs.Stands.{IsUser}
 use Rattle.cvm_model.specs.Cvm.{System, first_core}
-use Rattle.cvm_model.specs.Invariant.{Dispatch, IsTrap, Keeps, KeptAt, IsInvariant, Shaped, AnyDatum, RunsAreLawful}
+use Rattle.cvm_model.specs.Invariant.{Dispatch, IsTrap, Keeps, KeptAt, IsInvariant, Shaped, RunsAreLawful}
 use Rattle.cvm_model.proofs.Invariants.{invariants_hold}
 use Rattle.cvm_model.proofs.Kept.{keeps_by}
 use Rattle.kernel_theorems.specs.History.{EachHas}
@@ -232,13 +232,13 @@ module _ (y : System) (r : RunsLogging y) where
       (rules.straight Machines Changes (setting_of logging y.boot.params) 5 60 202 (called (number_of other) edata at) c (KeptAt y IsLogging (suc k) (number_of other) edata past at)
       (rw has_room (omega arith, made (suc k) (number_of other) edata past at (few_of at fit user) fit.log h.logs h.values user.0 c)))
 
-  invariant : IsInvariant y 400 (Shaped y) AnyDatum IsLogging
+  invariant : IsInvariant y 400 (Shaped y) IsLogging
   invariant = record {
     start = λ fit. keeps 0 0 0 [] (first_core y) first (ap (λ (m : Meaning). m.first) r.meaning_is) started;
     line = λ k mask past at some eight fit user h. keeps (suc k) 1 mask past at h.values h.data_is (lined k mask past at fit user h);
-    trap = λ k cause edata past at is any fit user h. keeps (suc k) (number_of cause) edata past at h.values h.data_is (trapped k cause edata past at is fit user h);
+    trap = λ k cause edata past before at came fit user h. keeps (suc k) (number_of cause) edata past at h.values h.data_is (trapped k cause edata past at came.is fit user h);
   }
 
 pub logging_is_kept : RunsAreLawful → LoggingIsKept
 logging_is_kept laws y r lines eight k =
-    invariants_hold laws y logging 400 (Shaped y) AnyDatum IsLogging r.meaning_is (laws.shaped y logging r.meaning_is r.fit) (invariant y r) lines eight k
+    invariants_hold laws y logging 400 (Shaped y) IsLogging r.meaning_is (laws.shaped y logging r.meaning_is r.fit) (invariant y r) lines eight k

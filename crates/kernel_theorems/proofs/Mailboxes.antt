@@ -23,7 +23,7 @@ use Rattle.cvm_model.specs.KernelMeaning.{setting_of, machines_of}
 use Rattle.cvm_model.specs.Primitives.{user_of, with_register, no_flat}
 use Rattle.cvm_model.specs.Stands.{IsUser}
 use Rattle.cvm_model.specs.Cvm.{System, Cvm, IsCvm, first_core, first_cvm}
-use Rattle.cvm_model.specs.Invariant.{Dispatch, dispatches_of, IsTrap, Keeps, KeptAt, IsInvariant, Shaped, UserShaped, AnyDatum, RunsAreLawful}
+use Rattle.cvm_model.specs.Invariant.{Dispatch, dispatches_of, IsTrap, Keeps, KeptAt, IsInvariant, Shaped, UserShaped, RunsAreLawful}
 use Rattle.cvm_model.proofs.Invariants.{invariants_hold}
 use Rattle.cvm_model.proofs.Kept.{keeps_by}
 use Rattle.kernel_theorems.proofs.Answering.{each_more, answers_user, answers_halt}
@@ -303,12 +303,12 @@ module _ (sets : SetsAreFound) (y : System) (r : RunsMailbox y) where
   trapped k cause edata past at trap fit user (Some v) old order answered fits =
       rw has_room (answers_halt y Carries (suc k) (number_of cause) edata past at _ refl (quiet past _ (Some v) old at.current order answered fits (λ user. refl) refl))
 
-  invariant : IsInvariant y 400 (Shaped y) AnyDatum Carries
+  invariant : IsInvariant y 400 (Shaped y) Carries
   invariant = record {
     start = λ fit. keeps 0 0 0 [] (first_core y) (data_of None (pos 0)) (ap (λ (m : Meaning). m.first) r.meaning_is) started;
     line = λ k mask past at some eight fit user h. keeps (suc k) 1 mask past at _ h.data_is (lined k mask past at h.delivers.way h.old h.delivers.in_order h.delivers.answered h.fits);
-    trap = λ k cause edata past at trap any fit user h.
-        keeps (suc k) (number_of cause) edata past at _ h.data_is (trapped k cause edata past at trap fit user h.delivers.way h.old h.delivers.in_order h.delivers.answered h.fits);
+    trap = λ k cause edata past before at came fit user h.
+        keeps (suc k) (number_of cause) edata past at _ h.data_is (trapped k cause edata past at came.is fit user h.delivers.way h.old h.delivers.in_order h.delivers.answered h.fits);
   }
 
 -- before the first turn nothing is put
@@ -317,10 +317,10 @@ at_start y c e = let s : first_cvm y ≡ c = cc in subst (IsDelivered []) s (rec
 
 pub messages_are_delivered : SetsAreFound → RunsAreLawful → MessagesAreDelivered
 messages_are_delivered sets laws y r lines eight k =
-    ((invariants_hold laws y mailbox 400 (Shaped y) AnyDatum Carries r.meaning_is (laws.shaped y mailbox r.meaning_is r.fit) (invariant sets y r) lines eight k).0, by k)
+    ((invariants_hold laws y mailbox 400 (Shaped y) Carries r.meaning_is (laws.shaped y mailbox r.meaning_is r.fit) (invariant sets y r) lines eight k).0, by k)
   where
     by : (k : ℕ) (c : Cvm) → IsCvm y lines k c → IsDelivered (dispatches_of y lines 400 k) c
     by zero c is = at_start y c is.is
     by (suc k) c is =
-        let s = (invariants_hold laws y mailbox 400 (Shaped y) AnyDatum Carries r.meaning_is (laws.shaped y mailbox r.meaning_is r.fit) (invariant sets y r) lines eight k).1 c is in
+        let s = (invariants_hold laws y mailbox 400 (Shaped y) Carries r.meaning_is (laws.shaped y mailbox r.meaning_is r.fit) (invariant sets y r) lines eight k).1 c is in
         record { safe = s.safe; rows = s.rows; delivers = s.kept.delivers }

@@ -19,7 +19,7 @@ use Rattle.cvm_model.specs.KernelMeaning.{Machines, setting_of, machines_of}
 use Rattle.cvm_model.specs.Cvm.{System, Cvm, first_core}
 use Rattle.cvm_model.specs.declared.row.Next.TheVariants.{User}
 use Rattle.cvm_model.specs.declared.row.Row.{Row}
-use Rattle.cvm_model.specs.Invariant.{Dispatch, row_of, rows_of, IsTrap, Keeps, IsInvariant, Holds, HasUsers, AnyDatum, dispatches_of, RunsAreLawful}
+use Rattle.cvm_model.specs.Invariant.{Dispatch, row_of, rows_of, IsTrap, Keeps, IsInvariant, Holds, HasUsers, dispatches_of, RunsAreLawful}
 use Rattle.cvm_model.proofs.Invariants.{invariants_hold}
 use Rattle.kernel_theorems.proofs.Answering.{rows_join, keeps_as, answers_user}
 use Rattle.kernel_theorems.specs.RoundRobin.{round_robin, data_of, lines_of, lines_in, turn_after, InOrder, Turns, RunsRoundRobin, IsFair, RoundRobinIsFair}
@@ -97,7 +97,7 @@ module _ (y : System) (u : ℕ) (r : RunsRoundRobin y (suc u)) where
             order = subst (InOrder (suc u) 0) (sym rows) (order_more (suc u) 0 (rows_of past) _ order (ap User (ap suc is ∙ ap (turn_after (suc u)) (omega arith))));
           }
 
-  invariant : IsInvariant y 100 (HasUsers y) AnyDatum (Turns (suc u))
+  invariant : IsInvariant y 100 (HasUsers y) (Turns (suc u))
   invariant = record {
     start = λ fit. keeps 0 0 0 [] (first_core y) 24 0 (data_of (pos 0) (pos 0)) (pos 0) (ap (λ (m : Meaning). m.first) r.meaning_is)
         (starts u y.boot.params r.room (signed 0) _) (sym (mod-eq_of_lt (omega arith))) tt;
@@ -109,12 +109,12 @@ module _ (y : System) (u : ℕ) (r : RunsRoundRobin y (suc u)) where
         let is : a ≡ (1 + lines_in (rows_of past)) % suc u = ap (λ c. c % suc u) h.current_is ∙ next_turn u (lines_in (rows_of past)) ∙ ap (λ c. c % suc u) (omega arith) in
         keeps (suc k) 1 mask past at 28 a (data_of (pos at.current) h.services) h.services h.data_is
         (line u y.boot.params r.room (signed mask) _ at.current h.services ∙ ap (λ v. ends 28 v (data_of v h.services) (machines_of y.boot.params at)) wrapped) is h.order;
-    trap = λ k cause edata past at is_trap any fit user h.
+    trap = λ k cause edata past before at came fit user h.
         let a : ℕ = lines_in (rows_of past) % suc u in
         let more : ℤ = int_wrap w32 (h.services +ℤ pos 1) in
         keeps (suc k) (number_of cause) edata past at 23 a (data_of (pos at.current) h.services) more h.data_is
-        (trap u y.boot.params r.room (signed edata) _ cause is_trap at.current h.services ∙ ap (λ v. ends 23 (pos v) (data_of (pos v) more) (machines_of y.boot.params at)) h.current_is)
-        (ap (λ n. n % suc u) (let none = no_line cause is_trap in omega (arith, none))) h.order;
+        (trap u y.boot.params r.room (signed edata) _ cause came.is at.current h.services ∙ ap (λ v. ends 23 (pos v) (data_of (pos v) more) (machines_of y.boot.params at)) h.current_is)
+        (ap (λ n. n % suc u) (let none = no_line cause came.is in omega (arith, none))) h.order;
   }
 
 -- from what holds of the run's dispatches to its rows
@@ -130,5 +130,5 @@ fair users past c h = record {
 pub round_robin_is_fair : RunsAreLawful → RoundRobinIsFair
 round_robin_is_fair laws y zero r lines eight k = let some = r.some in absurd (omega (arith, some))
 round_robin_is_fair laws y (suc u) r lines eight k =
-    let h = invariants_hold laws y (round_robin (suc u)) 100 (HasUsers y) AnyDatum (Turns (suc u)) r.meaning_is (laws.counted y (round_robin (suc u)) r.meaning_is) (invariant y u r) lines eight k in
+    let h = invariants_hold laws y (round_robin (suc u)) 100 (HasUsers y) (Turns (suc u)) r.meaning_is (laws.counted y (round_robin (suc u)) r.meaning_is) (invariant y u r) lines eight k in
     (h.0, λ c is. fair (suc u) (dispatches_of y lines 100 (suc k)) c (h.1 c is))

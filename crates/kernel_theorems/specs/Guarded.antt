@@ -1,5 +1,5 @@
--- A kernel whose faults are guarded by tests: an index that a user's trap gives, a pointer that may be null, and a division. It never faults, whatever its
--- users do.
+-- A kernel whose faults are guarded by tests: an index that a user's trap gives, a pointer that may be null, and a division; and a division that needs no
+-- test, since an address that is no multiple of 4 leaves more than 0. It never faults, whatever its users do.
 use Rattle.std.specs.Prelude.{◌≡◌, ◌≤◌, ℕ, suc, ℤ, Option, Some, None, List, [], ◌∷◌, length, codes}
 use Rattle.c0_meaning.specs.Value.{heap, Value, Values, int, null, at, group, empty, part}
 use Rattle.c0_meaning.specs.State.{State}
@@ -74,6 +74,7 @@ text = by_lines (
     ∷ codes "  int next; int seen;"
     ∷ codes "  next = user;"
     ∷ codes "  if (cause == 0) { last = new int; next = 1; }"
+    ∷ codes "  if (cause == 7) { rate = 12 / (data % 4); }"
     ∷ codes "  if (cause > 1) { seen = bump(data); if (last != null) { *last = seen; } }"
     ∷ codes "  if (counts[0] != 0) { rate = counts[1] / counts[0]; }"
     ∷ codes "  return next;"

@@ -1,7 +1,7 @@
 -- The tree of kernels/guarded.c0, each part that a rule for code asks for under a name of its own: by tools/theorem --tree.
 use Rattle.std.specs.Prelude.{List, [], ◌∷◌, codes}
 use Rattle.c0_tree.specs.declared.tree.Kind.TheVariants.{Global, Local, Function}
-use Rattle.c0_tree.specs.declared.tree.BinaryOp.TheVariants.{Add, Div, Lt, Gt, Ge, Eq, Ne, And}
+use Rattle.c0_tree.specs.declared.tree.BinaryOp.TheVariants.{Add, Div, Rem, Lt, Gt, Ge, Eq, Ne, And}
 use Rattle.c0_tree.specs.Tree.{CUnit, CFunction, CDecl, CExpr, CStmts, null, index, deref, binary, assign, call, new, choice, done, next, code}
 use Rattle.c0_tree.specs.Tree as tree
 use Rattle.worked_rows.specs.Kernels.{z, name, decl, global, local, number, block, function, causes}
@@ -34,25 +34,34 @@ abbrev pub dispatch_yes1 : CStmts
 dispatch_yes1 = block (new z (global (codes "last") 1) tree.int z ∷ assign z (local (codes "next") 3) (number 1) ∷ [])
 
 abbrev pub dispatch_test2 : CExpr
-dispatch_test2 = binary z Gt (local (codes "cause") 0) (number 1)
-
-abbrev pub dispatch_test3 : CExpr
-dispatch_test3 = binary z Ne (global (codes "last") 1) (null z)
-
-abbrev pub dispatch_yes3 : CStmts
-dispatch_yes3 = block (assign z (deref z (global (codes "last") 1)) (local (codes "seen") 4) ∷ [])
+dispatch_test2 = binary z Eq (local (codes "cause") 0) (number 7)
 
 abbrev pub dispatch_yes2 : CStmts
-dispatch_yes2 = next (call z (local (codes "seen") 4) z (name (codes "bump") Function 0) ((local (codes "data") 1) ∷ [])) (next (choice z dispatch_test3 dispatch_yes3 done) done)
+dispatch_yes2 = block (assign z (global (codes "rate") 2) (binary z Div (number 12) (binary z Rem (local (codes "data") 1) (number 4))) ∷ [])
+
+abbrev pub dispatch_test3 : CExpr
+dispatch_test3 = binary z Gt (local (codes "cause") 0) (number 1)
 
 abbrev pub dispatch_test4 : CExpr
-dispatch_test4 = binary z Ne (index z (global (codes "counts") 0) (number 0)) (number 0)
+dispatch_test4 = binary z Ne (global (codes "last") 1) (null z)
 
 abbrev pub dispatch_yes4 : CStmts
-dispatch_yes4 = block (assign z (global (codes "rate") 2) (binary z Div (index z (global (codes "counts") 0) (number 1)) (index z (global (codes "counts") 0) (number 0))) ∷ [])
+dispatch_yes4 = block (assign z (deref z (global (codes "last") 1)) (local (codes "seen") 4) ∷ [])
+
+abbrev pub dispatch_yes3 : CStmts
+dispatch_yes3 = next (call z (local (codes "seen") 4) z (name (codes "bump") Function 0) ((local (codes "data") 1) ∷ [])) (next (choice z dispatch_test4 dispatch_yes4 done) done)
+
+abbrev pub dispatch_test5 : CExpr
+dispatch_test5 = binary z Ne (index z (global (codes "counts") 0) (number 0)) (number 0)
+
+abbrev pub dispatch_yes5 : CStmts
+dispatch_yes5 = block (assign z (global (codes "rate") 2) (binary z Div (index z (global (codes "counts") 0) (number 1)) (index z (global (codes "counts") 0) (number 0))) ∷ [])
+
+abbrev pub dispatch_rest3 : CStmts
+dispatch_rest3 = next (choice z dispatch_test5 dispatch_yes5 done) done
 
 abbrev pub dispatch_rest2 : CStmts
-dispatch_rest2 = next (choice z dispatch_test4 dispatch_yes4 done) done
+dispatch_rest2 = next (choice z dispatch_test3 dispatch_yes3 done) dispatch_rest3
 
 abbrev pub dispatch_rest1 : CStmts
 dispatch_rest1 = next (choice z dispatch_test2 dispatch_yes2 done) dispatch_rest2

@@ -22,7 +22,7 @@ use Rattle.cvm_model.specs.KernelMeaning.{setting_of, machines_of}
 use Rattle.cvm_model.specs.Primitives.{user_of, with_user, with_register, no_flat}
 use Rattle.cvm_model.specs.Stands.{IsUser}
 use Rattle.cvm_model.specs.Cvm.{System, first_core}
-use Rattle.cvm_model.specs.Invariant.{Dispatch, IsTrap, Keeps, KeptAt, IsInvariant, Shaped, UserShaped, AnyDatum, RunsAreLawful}
+use Rattle.cvm_model.specs.Invariant.{Dispatch, IsTrap, Keeps, KeptAt, IsInvariant, Shaped, UserShaped, RunsAreLawful}
 use Rattle.cvm_model.proofs.Invariants.{invariants_hold}
 use Rattle.cvm_model.proofs.Kept.{keeps_by}
 use Rattle.kernel_theorems.specs.Registers.{holds, calls, IsSet, SetsAreFound}
@@ -283,13 +283,13 @@ module _ (sets : SetsAreFound) (y : System) (r : Runs y) where
       from_owned (suc k) (number_of other) edata past at h.values h.who h.held
       (rw has_room (answers_user y Between (suc k) (number_of other) edata past at _ at.current refl user.0 (subst (λ n. at.current ≤ n) fit.count user.1) (quiet past _ h.who at.current h.inside_is h.answered (λ v. refl) refl)))
 
-  invariant : IsInvariant y 400 (Shaped y) AnyDatum Between
+  invariant : IsInvariant y 400 (Shaped y) Between
   invariant = record {
     start = λ fit. keeps 0 0 0 [] (first_core y) first (ap (λ (m : Meaning). m.first) r.meaning_is) started;
     line = λ k mask past at some eight fit user h. keeps (suc k) 1 mask past at h.values h.data_is (lined k mask past at h);
-    trap = λ k cause edata past at is any fit user h. keeps (suc k) (number_of cause) edata past at h.values h.data_is (trapped k cause edata past at is user fit h);
+    trap = λ k cause edata past before at came fit user h. keeps (suc k) (number_of cause) edata past at h.values h.data_is (trapped k cause edata past at came.is user fit h);
   }
 
 pub property_holds : SetsAreFound → RunsAreLawful → PropertyHolds
 property_holds sets laws y r lines eight k =
-    invariants_hold laws y kernel_tree 400 (Shaped y) AnyDatum Between r.meaning_is (laws.shaped y kernel_tree r.meaning_is r.fit) (invariant sets y r) lines eight k
+    invariants_hold laws y kernel_tree 400 (Shaped y) Between r.meaning_is (laws.shaped y kernel_tree r.meaning_is r.fit) (invariant sets y r) lines eight k

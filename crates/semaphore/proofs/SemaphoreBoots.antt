@@ -1,5 +1,5 @@
--- Every boot of the semaphore: in each state of its run at most one user is inside.
-use Rattle.std.proofs.Common.{◌≡◌, ℕ, zero, suc, [], Some, refl, subst}
+-- Each boot of the semaphore: in each state of its run at most one user is inside.
+use Rattle.std.proofs.Common.{◌≡◌, ℕ, zero, suc, [], length, Some, refl, subst, arith}
 use Rattle.cvm_model.specs.Cvm.{System as Booted, Cvm, IsCvm, first_cvm}
 use Rattle.cvm_model.specs.Invariant.{dispatches_of, HasEight}
 use Rattle.kernel_linker.specs.Sources.{AcceptedAreOfImages}
@@ -9,7 +9,7 @@ use Rattle.kernel_boots.proofs.Boots.{boots_of}
 use Rattle.semaphore.specs.Tree.{kernel_tree}
 use Rattle.semaphore.specs.Text.{text}
 use Rattle.semaphore.specs.Property.{Runs, PropertyHolds}
-use Rattle.semaphore.specs.Boots.{HasThree, IsExclusive, SemaphoresBoot}
+use Rattle.semaphore.specs.Boots.{IsExclusive, SemaphoresBoot}
 
 -- before the first turn nobody is inside
 at_start : (y : Booted) (c : Cvm) → Some (first_cvm y) ≡ Some c → IsExclusive [] c
@@ -20,7 +20,7 @@ exclusive law y r lines eight zero c is = at_start y c is.is
 exclusive law y r lines eight (suc k) c is = let h = (law y r lines eight k).1 c is in record { safe = h.safe; rows = h.rows; one = h.kept.one; answered = h.kept.answered }
 
 pub semaphores_boot : AcceptedAreOfImages → PropertyHolds → Means text kernel_tree → SemaphoresBoot
-semaphores_boot images law means = boots_of images text HasThree (λ y lines k c. IsExclusive (dispatches_of y lines 400 k) c)
-    (λ s rows unit is few lines eight k c h.
-    exclusive law (booted s rows) (record { meaning_is = means s.unit s.params unit; three = is.three; fit = record { users = is.fit; input = few }; room = is.room }) lines eight k c h)
+semaphores_boot images law means = boots_of images text (λ s. length s.users ≡ 3) (λ y lines k c. IsExclusive (dispatches_of y lines 400 k) c)
+    (λ s rows unit roomy is few lines eight k c h.
+    exclusive law (booted s rows) (record { meaning_is = means s.unit s.params unit; three = is; fit = record { users = roomy.users; input = few }; room = omega (arith, roomy.stack) }) lines eight k c h)
     (λ y lines k c h. h.safe)

@@ -1,18 +1,11 @@
--- What every boot of the semaphore shows.
-use Rattle.std.specs.Prelude.{◌≡◌, ◌*◌, ◌≤◌, List, [], All, length}
+-- What each boot of the semaphore shows.
+use Rattle.std.specs.Prelude.{◌≡◌, List, [], length}
 use Rattle.cvm_model.specs.Cvm.{Cvm}
 use Rattle.cvm_model.specs.Invariant.{Dispatch, rows_of, dispatches_of, IsSafe}
-use Rattle.kernel_linker.specs.Accept.{System}
 use Rattle.kernel_theorems.specs.History.{EachHas}
 use Rattle.kernel_boots.specs.Boots.{BootsOf}
 use Rattle.semaphore.specs.Property.{AtMostOne, IsAnswered}
 use Rattle.semaphore.specs.Text.{text}
-
--- three users, no larger than they may be, and a stack with room for the frame of `dispatch`
-pub record HasThree (s : System) : Type 0 where
-  pub three : length s.users ≡ 3
-  pub fit : All (λ words. length words ≤ 1024 * s.params.pages) s.users
-  pub room : 9 ≤ s.params.stack
 
 -- a state of a run: no dispatch has faulted, its rows are those of these dispatches, at most one user is inside after them, and each call was answered
 pub record IsExclusive (past : List Dispatch) (c : Cvm) : Type 0 where
@@ -21,7 +14,7 @@ pub record IsExclusive (past : List Dispatch) (c : Cvm) : Type 0 where
   pub one : AtMostOne past
   pub answered : EachHas IsAnswered [] past
 
--- EVERY BOOT of an image with this text, of three users: its status is no kernel's fault, and what it printed is the text of a state whose rows are those of
+-- EACH BOOT of an image with this text, of three users: its status is no kernel's fault, and what it printed is the text of a state whose rows are those of
 -- its run's dispatches, after which at most one user is inside
 abbrev pub SemaphoresBoot : Type 0
-SemaphoresBoot = BootsOf text HasThree (λ y lines k c. IsExclusive (dispatches_of y lines 400 k) c)
+SemaphoresBoot = BootsOf text (λ s. length s.users ≡ 3) (λ y lines k c. IsExclusive (dispatches_of y lines 400 k) c)

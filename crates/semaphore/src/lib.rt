@@ -25,7 +25,8 @@ pub fn text_is_tree()
     ensures { IsTextOf 26400 text kernel_tree }
 {}
 
-/// A law: in every boot of the semaphore, by the rows that it prints and their dispatches, at most one user is inside, and its status is no kernel's fault.
+/// A law: in each boot (`boot`, `rom` or `sample`, with no failed call) of an image with the semaphore's text and three users, by the rows that it prints
+/// and their dispatches, at most one user is inside, and its status is no kernel's fault.
 pub fn semaphores_boot()
     ensures { SemaphoresBoot }
 {

@@ -2,4 +2,4 @@ use Rattle.kernel_theorems.proofs.Guardeds.{guarded_never_faults}
 use Rattle.kernel_theorems.proofs.guarded.guarded_never_faults.Goals as goal
 
 pub returns : goal.returns
-returns c = guarded_never_faults c.runs_are_lawful.ensures
+returns c = guarded_never_faults c.steps_tell.ensures c.runs_are_lawful.ensures
