@@ -5,3 +5,4 @@ pub mod Telling
 pub mod GlobalRows
 pub mod GlobalNumbers
 pub mod GlobalsGiven
+pub mod Leaves

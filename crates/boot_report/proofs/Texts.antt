@@ -57,10 +57,6 @@ pub on_err : {T E P Q : Type 0} (r : Result T E) → (P → Q) → OnErr r P →
 on_err (Ok v) f h = tt
 on_err (Err e) f h = f h
 
-pub is_err : {T E P : Type 0} (r : Result T E) → P → OnErr r P
-is_err (Ok v) h = tt
-is_err (Err e) h = h
-
 -- nothing is put at first
 pub put_none : (f : ℕ → List ℕ) (old : Option (List ℕ)) → old ≡ append_known old (texts f 0)
 put_none f old = sym (append_known-nil old) ∙ ap (append_known old) (sym (texts-none f))
@@ -68,9 +64,6 @@ put_none f old = sym (append_known-nil old) ∙ ap (append_known old) (sym (text
 -- nor where each text is empty
 pub put_empty : (f : ℕ → List ℕ) (n : ℕ) (old : Option (List ℕ)) → ((i : ℕ) → i < n → f i ≡ []) → old ≡ append_known old (texts f n)
 put_empty f n old h = sym (append_known-nil old) ∙ ap (append_known old) (sym (texts-empty f n h))
-
-pub no_ok : {T E : Type 0} (r : Result T E) (P : Type 0) (e : E) → r ≡ Err e → OnOk r P
-no_ok r P e h = subst (λ r. OnOk r P) (sym h) tt
 
 take_whole : (xs : List ℕ) → take (length xs) xs ≡ xs
 take_whole [] = refl

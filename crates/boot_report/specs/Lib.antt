@@ -3,3 +3,5 @@ pub mod Texts
 pub mod Told
 pub mod Globals
 pub mod Given
+pub mod Blames
+pub mod Leaves

@@ -1,10 +1,9 @@
 // The rows of the globals.
 ghost use Rattle.std.specs.Prelude.{◌≡◌, ◌≤◌, length, Some};
-ghost use Rattle.cvm_outside.specs.Causes.{Counts};
 ghost use Rattle.c0_meaning.specs.Form.{form_view, ty_view};
 ghost use Rattle.layer_map.specs.Map.{globals_at, memory_words};
-ghost use Rattle.boot_report.specs.Prints.{Prints, PrintsPart};
 ghost use Rattle.boot_report.specs.Globals.{value_end as end_of_value, named_row, global_word_row, globals_rows, AreInside};
+ghost use Rattle.boot_report.specs.Leaves.{Puts};
 
 use arrayvec::ArrayString;
 use c0_meaning::form::{Form, form_of};
@@ -40,9 +39,7 @@ fn value_end(form: Form<'_>, word: u32) -> ArrayString<24>
 
 /// Prints the row of a global with this name, if it has an end.
 fn put_named<O: Sink>(name: &[u8], end: &[u8], out: &mut O) -> Result<(), SinkFault>
-    ensures ok { Prints (O.text out.old) (O.text out.new) (named_row name.now end.now) result }
-    ensures err { PrintsPart (O.text out.old) (O.text out.new) (named_row name.now end.now) result }
-    ensures count { Counts (O.faults out.old) (O.faults out.new) result }
+    ensures { Puts O.text O.faults out.old out.new (named_row name.now end.now) result }
 {
     if end.is_empty() {
         return Ok(());
@@ -59,9 +56,7 @@ fn put_named<O: Sink>(name: &[u8], end: &[u8], out: &mut O) -> Result<(), SinkFa
 ///
 /// A fault of the sink.
 pub fn put_global<O: Sink>(decl: &Decl, word: u32, out: &mut O) -> Result<(), SinkFault>
-    ensures ok { Prints (O.text out.old) (O.text out.new) (global_word_row decl.now word) result }
-    ensures err { PrintsPart (O.text out.old) (O.text out.new) (global_word_row decl.now word) result }
-    ensures count { Counts (O.faults out.old) (O.faults out.new) result }
+    ensures { Puts O.text O.faults out.old out.new (global_word_row decl.now word) result }
 {
     let end = value_end(form_of(&decl.ty), word);
     put_named(decl.name.bytes.as_slice(), end.as_str().as_bytes(), out)
@@ -83,9 +78,7 @@ pub fn put_globals<O: Sink>(
     requires memory { memory_words map.now ≤ length machine.now.hardware.memory }
     requires small { memory_words map.now ≤ 30000000 }
     requires inside { AreInside map.now offsets.now }
-    ensures ok { Prints (O.text out.old) (O.text out.new) (globals_rows decls.now machine.now.hardware.memory (globals_at map.now) offsets.now) result }
-    ensures err { PrintsPart (O.text out.old) (O.text out.new) (globals_rows decls.now machine.now.hardware.memory (globals_at map.now) offsets.now) result }
-    ensures count { Counts (O.faults out.old) (O.faults out.new) result }
+    ensures { Puts O.text O.faults out.old out.new (globals_rows decls.now machine.now.hardware.memory (globals_at map.now) offsets.now) result }
 {
     let first = map.globals() / 4;
     for i in 0..decls.len() {

@@ -1,11 +1,12 @@
 // The rows of a user's memory.
-ghost use Rattle.std.specs.Prelude.{◌≡◌, ◌≢◌, ◌+◌, ◌*◌, ◌/◌, ◌%◌, ◌<◌, ◌≤◌, ◌^◌};
+ghost use Rattle.std.specs.Prelude.{◌≡◌, ◌+◌, ◌*◌, ◌/◌, ◌%◌, ◌<◌, ◌≤◌, ◌^◌};
 ghost use Rattle.std.specs.Prelude.{ℕ, length, slice_index, true, IfSome, IfOk, Err};
-ghost use Rattle.cvm_outside.specs.Causes.{Counts, Rose};
+ghost use Rattle.cvm_outside.specs.Causes.{Counts};
 ghost use Rattle.layer_map.specs.Map.{memory_words, memory_frames};
-ghost use Rattle.boot_report.specs.Prints.{Prints, PrintsPart};
 ghost use Rattle.boot_report.specs.Told.{user_word, WherePaged};
-ghost use Rattle.boot_report.specs.Texts.{texts, memory_row, page_word, pages_rows, ShowsPage, SameButViewed};
+ghost use Rattle.boot_report.specs.Texts.{texts, memory_row, page_word, pages_rows, ShowsPage};
+ghost use Rattle.boot_report.specs.Leaves.{OnlyViews, Printed, Puts};
+ghost use Rattle.boot_report.specs.Blames.{Blames};
 
 use crate::fault::ReportFault;
 use crate::rows::put_word;
@@ -41,9 +42,7 @@ fn are_zero(words: &[u32]) -> bool
 fn put_line<O: Sink>(words: &[u32], first: u32, out: &mut O) -> Result<(), SinkFault>
     requires whole { length words.now ≡ 64 }
     requires numbers { first + 64 ≤ 2 ^ 30 }
-    ensures ok { Prints (O.text out.old) (O.text out.new) (texts (λ i. memory_row (first + i) (slice_index words.now i)) 64) result }
-    ensures err { PrintsPart (O.text out.old) (O.text out.new) (texts (λ i. memory_row (first + i) (slice_index words.now i)) 64) result }
-    ensures count { Counts (O.faults out.old) (O.faults out.new) result }
+    ensures { Puts O.text O.faults out.old out.new (texts (λ i. memory_row (first + i) (slice_index words.now i)) 64) result }
 {
     if are_zero(words) {
         return Ok(());
@@ -63,9 +62,7 @@ fn put_page<O: Sink>(
 ) -> Result<(), SinkFault>
     requires page { page < 1024 }
     requires inside { IfSome frame (λ f. 1024 * f + 1024 ≤ length machine.now.hardware.memory) }
-    ensures ok { Prints (O.text out.old) (O.text out.new) (texts (λ i. memory_row (1024 * page + i) (page_word machine.now frame i)) 1024) result }
-    ensures err { PrintsPart (O.text out.old) (O.text out.new) (texts (λ i. memory_row (1024 * page + i) (page_word machine.now frame i)) 1024) result }
-    ensures count { Counts (O.faults out.old) (O.faults out.new) result }
+    ensures { Puts O.text O.faults out.old out.new (texts (λ i. memory_row (1024 * page + i) (page_word machine.now frame i)) 1024) result }
 {
     let words = words_of_page(machine, frame);
     for i in 0..16u32 {
@@ -93,9 +90,7 @@ fn find_page<D: Sectors>(
     requires room { map.now.users * map.now.params.pages ≤ D.size disk.old }
     ensures frame { IfOk result (λ o. IfSome o (λ f. f < memory_frames map.now)) }
     ensures shown { WherePaged (D.sectors disk.old) machine.old map.now (λ a. IfOk result (λ o. ShowsPage machine.new o a q)) }
-    ensures same { SameButViewed machine.old machine.new }
-    ensures sectors { D.sectors disk.new ≡ D.sectors disk.old }
-    ensures size { D.size disk.new ≡ D.size disk.old }
+    ensures view { OnlyViews machine.old machine.new D.sectors D.size disk.old disk.new }
     ensures count { Counts (D.faults disk.old) (D.faults disk.new) result }
 {
     let entry = machine.word(map.page_tables() + 4 * q);
@@ -127,9 +122,7 @@ pub fn read_user_word<D: Sectors>(
     requires all { map.now.users * map.now.params.pages ≤ 65536 }
     requires room { map.now.users * map.now.params.pages ≤ D.size disk.old }
     ensures shown { WherePaged (D.sectors disk.old) machine.old map.now (λ a. IfOk result (λ w. w ≡ user_word map.now a user k)) }
-    ensures same { SameButViewed machine.old machine.new }
-    ensures sectors { D.sectors disk.new ≡ D.sectors disk.old }
-    ensures size { D.size disk.new ≡ D.size disk.old }
+    ensures view { OnlyViews machine.old machine.new D.sectors D.size disk.old disk.new }
     ensures count { Counts (D.faults disk.old) (D.faults disk.new) result }
 {
     let page = (user - 1) * map.params().pages + k / 1024;
@@ -156,15 +149,9 @@ pub(crate) fn put_memory<D: Sectors, O: Sink>(
     requires small { memory_words map.now ≤ 30000000 }
     requires all { map.now.users * map.now.params.pages ≤ 65536 }
     requires room { map.now.users * map.now.params.pages ≤ D.size disk.old }
-    ensures ok { WherePaged (D.sectors disk.old) machine.old map.now (λ a. Prints (O.text out.old) (O.text out.new) (pages_rows a first pages) result) }
-    ensures err { WherePaged (D.sectors disk.old) machine.old map.now (λ a. PrintsPart (O.text out.old) (O.text out.new) (pages_rows a first pages) result) }
-    ensures same { SameButViewed machine.old machine.new }
-    ensures sectors { D.sectors disk.new ≡ D.sectors disk.old }
-    ensures size { D.size disk.new ≡ D.size disk.old }
-    ensures disk { result ≡ Err ReportFault.Disk → Rose (D.faults disk.old) (D.faults disk.new) }
-    ensures disk_same { result ≢ Err ReportFault.Disk → D.faults disk.new ≡ D.faults disk.old }
-    ensures sink { result ≡ Err ReportFault.Sink → Rose (O.faults out.old) (O.faults out.new) }
-    ensures sink_same { result ≢ Err ReportFault.Sink → O.faults out.new ≡ O.faults out.old }
+    ensures put { WherePaged (D.sectors disk.old) machine.old map.now (λ a. Printed (O.text out.old) (O.text out.new) (pages_rows a first pages) result) }
+    ensures view { OnlyViews machine.old machine.new D.sectors D.size disk.old disk.new }
+    ensures blame { Blames (result ≡ Err ReportFault.Disk) (result ≡ Err ReportFault.Sink) D.faults disk.old disk.new O.faults out.old out.new }
 {
     for p in 0..pages {
         let frame = find_page(machine, map, first + p, disk)?;

@@ -1,10 +1,9 @@
 // Single rows, which take no memory.
 ghost use Rattle.std.specs.Prelude.{◌≡◌, ◌++◌, ◌*◌, ◌<◌, ◌^◌, ◌==◌, if◌then◌else◌, [], codes, decimal};
-ghost use Rattle.cvm_outside.specs.Causes.{Counts};
 ghost use Rattle.cvm_text.specs.Hex.{hex8 as hex8_of};
 ghost use Rattle.cvm_model.specs.Text.{hex_row, nonzero_row};
-ghost use Rattle.boot_report.specs.Prints.{Prints, PrintsPart};
 ghost use Rattle.boot_report.specs.Texts.{register_row, memory_row, user_head};
+ghost use Rattle.boot_report.specs.Leaves.{Puts};
 
 use arrayvec::ArrayString;
 use cvm_outside::{Sink, SinkFault};
@@ -87,18 +86,14 @@ fn user_row(user: u32, pages: u32, pc: u32) -> ArrayString<80>
 
 /// Prints the row of a word of the console's log.
 pub(crate) fn put_log_word<O: Sink>(word: u32, out: &mut O) -> Result<(), SinkFault>
-    ensures ok { Prints (O.text out.old) (O.text out.new) (hex_row (codes "con") word) result }
-    ensures err { PrintsPart (O.text out.old) (O.text out.new) (hex_row (codes "con") word) result }
-    ensures count { Counts (O.faults out.old) (O.faults out.new) result }
+    ensures { Puts O.text O.faults out.old out.new (hex_row (codes "con") word) result }
 {
     out.put(log_row(word).as_str().as_bytes())
 }
 
 /// Prints the row of a word that isn't 0.
 fn put_nonzero<O: Sink>(word: u32, row: &[u8], out: &mut O) -> Result<(), SinkFault>
-    ensures ok { Prints (O.text out.old) (O.text out.new) (if word == 0 then [] else row.now) result }
-    ensures err { PrintsPart (O.text out.old) (O.text out.new) (if word == 0 then [] else row.now) result }
-    ensures count { Counts (O.faults out.old) (O.faults out.new) result }
+    ensures { Puts O.text O.faults out.old out.new (if word == 0 then [] else row.now) result }
 {
     if word == 0 {
         return Ok(());
@@ -108,27 +103,21 @@ fn put_nonzero<O: Sink>(word: u32, row: &[u8], out: &mut O) -> Result<(), SinkFa
 
 /// Prints the row of a register that isn't 0.
 pub(crate) fn put_register<O: Sink>(register: u32, word: u32, out: &mut O) -> Result<(), SinkFault>
-    ensures ok { Prints (O.text out.old) (O.text out.new) (register_row register word) result }
-    ensures err { PrintsPart (O.text out.old) (O.text out.new) (register_row register word) result }
-    ensures count { Counts (O.faults out.old) (O.faults out.new) result }
+    ensures { Puts O.text O.faults out.old out.new (register_row register word) result }
 {
     put_nonzero(word, reg_row(register, word).as_str().as_bytes(), out)
 }
 
 /// Prints the row of hi, if it isn't 0.
 pub(crate) fn put_hi<O: Sink>(word: u32, out: &mut O) -> Result<(), SinkFault>
-    ensures ok { Prints (O.text out.old) (O.text out.new) (nonzero_row (codes "hi") word) result }
-    ensures err { PrintsPart (O.text out.old) (O.text out.new) (nonzero_row (codes "hi") word) result }
-    ensures count { Counts (O.faults out.old) (O.faults out.new) result }
+    ensures { Puts O.text O.faults out.old out.new (nonzero_row (codes "hi") word) result }
 {
     put_nonzero(word, hi_row(word).as_str().as_bytes(), out)
 }
 
 /// Prints the row of lo, if it isn't 0.
 pub(crate) fn put_lo<O: Sink>(word: u32, out: &mut O) -> Result<(), SinkFault>
-    ensures ok { Prints (O.text out.old) (O.text out.new) (nonzero_row (codes "lo") word) result }
-    ensures err { PrintsPart (O.text out.old) (O.text out.new) (nonzero_row (codes "lo") word) result }
-    ensures count { Counts (O.faults out.old) (O.faults out.new) result }
+    ensures { Puts O.text O.faults out.old out.new (nonzero_row (codes "lo") word) result }
 {
     put_nonzero(word, lo_row(word).as_str().as_bytes(), out)
 }
@@ -136,9 +125,7 @@ pub(crate) fn put_lo<O: Sink>(word: u32, out: &mut O) -> Result<(), SinkFault>
 /// Prints the row of a word of memory that isn't 0, by its number.
 pub(crate) fn put_word<O: Sink>(number: u32, word: u32, out: &mut O) -> Result<(), SinkFault>
     requires { number < 2 ^ 30 }
-    ensures ok { Prints (O.text out.old) (O.text out.new) (memory_row number word) result }
-    ensures err { PrintsPart (O.text out.old) (O.text out.new) (memory_row number word) result }
-    ensures count { Counts (O.faults out.old) (O.faults out.new) result }
+    ensures { Puts O.text O.faults out.old out.new (memory_row number word) result }
 {
     if word == 0 {
         return Ok(());
@@ -153,9 +140,7 @@ pub(crate) fn put_user<O: Sink>(
     pc: u32,
     out: &mut O,
 ) -> Result<(), SinkFault>
-    ensures ok { Prints (O.text out.old) (O.text out.new) (user_head user pages pc) result }
-    ensures err { PrintsPart (O.text out.old) (O.text out.new) (user_head user pages pc) result }
-    ensures count { Counts (O.faults out.old) (O.faults out.new) result }
+    ensures { Puts O.text O.faults out.old out.new (user_head user pages pc) result }
 {
     out.put(user_row(user, pages, pc).as_str().as_bytes())
 }

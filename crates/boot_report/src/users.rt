@@ -1,11 +1,11 @@
 // The rows of the users.
-ghost use Rattle.std.specs.Prelude.{◌≡◌, ◌≢◌, ◌+◌, ◌-◌, ◌*◌, ◌/◌, ◌<◌, ◌≤◌, ◌^◌, ◌==◌};
+ghost use Rattle.std.specs.Prelude.{◌≡◌, ◌+◌, ◌-◌, ◌*◌, ◌/◌, ◌<◌, ◌≤◌, ◌^◌, ◌==◌};
 ghost use Rattle.std.specs.Prelude.{length, min, slice_index, Err};
-ghost use Rattle.cvm_outside.specs.Causes.{Counts, Rose};
 ghost use Rattle.layer_map.specs.Map.{block_at, memory_words};
-ghost use Rattle.boot_report.specs.Prints.{Prints, PrintsPart};
-ghost use Rattle.boot_report.specs.Texts.{cpu_of, register_rows, processor_rows, log_rows, SameButViewed};
+ghost use Rattle.boot_report.specs.Texts.{cpu_of, register_rows, processor_rows, log_rows};
 ghost use Rattle.boot_report.specs.Told.{ForUser, ForUsers};
+ghost use Rattle.boot_report.specs.Leaves.{OnlyViews, Printed, Puts};
+ghost use Rattle.boot_report.specs.Blames.{Blames};
 
 use crate::fault::ReportFault;
 use crate::memory::put_memory;
@@ -89,9 +89,7 @@ fn put_registers<O: Sink>(
     requires user { 1 ≤ user }
     requires most { user ≤ 64 }
     requires memory { 16384 ≤ length machine.now.hardware.memory }
-    ensures ok { Prints (O.text out.old) (O.text out.new) (register_rows (cpu_of machine.now runs user) 31) result }
-    ensures err { PrintsPart (O.text out.old) (O.text out.new) (register_rows (cpu_of machine.now runs user) 31) result }
-    ensures count { Counts (O.faults out.old) (O.faults out.new) result }
+    ensures { Puts O.text O.faults out.old out.new (register_rows (cpu_of machine.now runs user) 31) result }
 {
     for i in 0..31u32 {
         put_register(i + 1, register_of(machine, runs, user, i + 1), out)?;
@@ -110,9 +108,7 @@ fn put_processor<O: Sink>(
     requires user { 1 ≤ user }
     requires most { user ≤ 64 }
     requires memory { 16384 ≤ length machine.now.hardware.memory }
-    ensures ok { Prints (O.text out.old) (O.text out.new) (processor_rows user pages (cpu_of machine.now runs user)) result }
-    ensures err { PrintsPart (O.text out.old) (O.text out.new) (processor_rows user pages (cpu_of machine.now runs user)) result }
-    ensures count { Counts (O.faults out.old) (O.faults out.new) result }
+    ensures { Puts O.text O.faults out.old out.new (processor_rows user pages (cpu_of machine.now runs user)) result }
 {
     put_user(user, pages, pc_of(machine, runs, user), out)?;
     put_registers(machine, runs, user, out)?;
@@ -142,15 +138,9 @@ fn put_one<D: Sectors, O: Sink>(
     requires small { memory_words map.now ≤ 30000000 }
     requires all { map.now.users * map.now.params.pages ≤ 65536 }
     requires room { map.now.users * map.now.params.pages ≤ D.size disk.old }
-    ensures ok { ForUser (D.sectors disk.old) machine.old map.now runs user (Prints (O.text out.old) (O.text out.new)) result }
-    ensures err { ForUser (D.sectors disk.old) machine.old map.now runs user (PrintsPart (O.text out.old) (O.text out.new)) result }
-    ensures same { SameButViewed machine.old machine.new }
-    ensures sectors { D.sectors disk.new ≡ D.sectors disk.old }
-    ensures size { D.size disk.new ≡ D.size disk.old }
-    ensures disk { result ≡ Err ReportFault.Disk → Rose (D.faults disk.old) (D.faults disk.new) }
-    ensures disk_same { result ≢ Err ReportFault.Disk → D.faults disk.new ≡ D.faults disk.old }
-    ensures sink { result ≡ Err ReportFault.Sink → Rose (O.faults out.old) (O.faults out.new) }
-    ensures sink_same { result ≢ Err ReportFault.Sink → O.faults out.new ≡ O.faults out.old }
+    ensures put { ForUser (D.sectors disk.old) machine.old map.now runs user (Printed (O.text out.old) (O.text out.new)) result }
+    ensures view { OnlyViews machine.old machine.new D.sectors D.size disk.old disk.new }
+    ensures blame { Blames (result ≡ Err ReportFault.Disk) (result ≡ Err ReportFault.Sink) D.faults disk.old disk.new O.faults out.old out.new }
 {
     let most = map.params().pages;
     let pages = block_word(machine, user, BLOCK_SIZE).min(most);
@@ -179,15 +169,9 @@ pub fn put_user_rows<D: Sectors, O: Sink>(
     requires small { memory_words map.now ≤ 30000000 }
     requires all { map.now.users * map.now.params.pages ≤ 65536 }
     requires room { map.now.users * map.now.params.pages ≤ D.size disk.old }
-    ensures ok { ForUser (D.sectors disk.old) machine.old map.now (user == running) user (Prints (O.text out.old) (O.text out.new)) result }
-    ensures err { ForUser (D.sectors disk.old) machine.old map.now (user == running) user (PrintsPart (O.text out.old) (O.text out.new)) result }
-    ensures same { SameButViewed machine.old machine.new }
-    ensures sectors { D.sectors disk.new ≡ D.sectors disk.old }
-    ensures size { D.size disk.new ≡ D.size disk.old }
-    ensures disk { result ≡ Err ReportFault.Disk → Rose (D.faults disk.old) (D.faults disk.new) }
-    ensures disk_same { result ≢ Err ReportFault.Disk → D.faults disk.new ≡ D.faults disk.old }
-    ensures sink { result ≡ Err ReportFault.Sink → Rose (O.faults out.old) (O.faults out.new) }
-    ensures sink_same { result ≢ Err ReportFault.Sink → O.faults out.new ≡ O.faults out.old }
+    ensures put { ForUser (D.sectors disk.old) machine.old map.now (user == running) user (Printed (O.text out.old) (O.text out.new)) result }
+    ensures view { OnlyViews machine.old machine.new D.sectors D.size disk.old disk.new }
+    ensures blame { Blames (result ≡ Err ReportFault.Disk) (result ≡ Err ReportFault.Sink) D.faults disk.old disk.new O.faults out.old out.new }
 {
     put_one(machine, map, user == running, user, disk, out)
 }
@@ -210,15 +194,9 @@ pub fn put_users<D: Sectors, O: Sink>(
     requires small { memory_words map.now ≤ 30000000 }
     requires all { map.now.users * map.now.params.pages ≤ 65536 }
     requires room { map.now.users * map.now.params.pages ≤ D.size disk.old }
-    ensures ok { ForUsers (D.sectors disk.old) machine.old map.now running (Prints (O.text out.old) (O.text out.new)) result }
-    ensures err { ForUsers (D.sectors disk.old) machine.old map.now running (PrintsPart (O.text out.old) (O.text out.new)) result }
-    ensures same { SameButViewed machine.old machine.new }
-    ensures sectors { D.sectors disk.new ≡ D.sectors disk.old }
-    ensures size { D.size disk.new ≡ D.size disk.old }
-    ensures disk { result ≡ Err ReportFault.Disk → Rose (D.faults disk.old) (D.faults disk.new) }
-    ensures disk_same { result ≢ Err ReportFault.Disk → D.faults disk.new ≡ D.faults disk.old }
-    ensures sink { result ≡ Err ReportFault.Sink → Rose (O.faults out.old) (O.faults out.new) }
-    ensures sink_same { result ≢ Err ReportFault.Sink → O.faults out.new ≡ O.faults out.old }
+    ensures put { ForUsers (D.sectors disk.old) machine.old map.now running (Printed (O.text out.old) (O.text out.new)) result }
+    ensures view { OnlyViews machine.old machine.new D.sectors D.size disk.old disk.new }
+    ensures blame { Blames (result ≡ Err ReportFault.Disk) (result ≡ Err ReportFault.Sink) D.faults disk.old disk.new O.faults out.old out.new }
 {
     for i in 0..map.users() {
         put_user_rows(machine, map, running, i + 1, disk, out)?;
@@ -232,9 +210,7 @@ pub fn put_users<D: Sectors, O: Sink>(
 ///
 /// A fault of the sink.
 pub fn put_log<O: Sink>(log: &[u32], out: &mut O) -> Result<(), SinkFault>
-    ensures ok { Prints (O.text out.old) (O.text out.new) (log_rows log.now) result }
-    ensures err { PrintsPart (O.text out.old) (O.text out.new) (log_rows log.now) result }
-    ensures count { Counts (O.faults out.old) (O.faults out.new) result }
+    ensures { Puts O.text O.faults out.old out.new (log_rows log.now) result }
 {
     for i in 0..log.len() {
         put_log_word(log[i], out)?;

@@ -85,6 +85,16 @@ loaded_long b rows held e =
     let w = whole b rows in
     subst (λ (m : Held). memory_words (map_of (boot_of b)) ≤ length m.hardware.memory) (sym e) (omega (arith, a, d, r, w))
 
+pub loaded_whole : (b : Booted) (rows : Rows) (held : Held) → held ≡ with_words (started (memory_frames (map_of (boot_of b))) rows) 0 b.words.items → length held.hardware.memory ≡ memory_words (map_of (boot_of b))
+loaded_whole b rows held e =
+    let zeros : List ℕ = replicate (1024 * memory_frames (map_of (boot_of b))) 0 in
+    let a = length-append b.words.items (drop (0 + length b.words.items) zeros) in
+    let d = length-drop (0 + length b.words.items) zeros in
+    let r = length-replicate {A = ℕ} (1024 * memory_frames (map_of (boot_of b))) 0 in
+    let w = whole b rows in
+    let fits : length b.words.items ≤ memory_words (map_of (boot_of b)) = omega arith in
+    subst (λ (m : Held). length m.hardware.memory ≡ memory_words (map_of (boot_of b))) (sym e) (omega (arith, a, d, r, w, fits))
+
 pub stands_loaded : (b : Booted) (rows : Rows) (held : Held) (told retold : Option (List (List ℕ))) (count : ℕ) → 1 ≤ b.params.pages →
     held ≡ with_words (started (memory_frames (map_of (boot_of b))) rows) 0 b.words.items →
     retold ≡ option_map (written (disk_pages b.params.pages (map (λ words. words.items) b.users.items) []) (length b.users.items * b.params.pages)) told →
@@ -94,8 +104,15 @@ stands_loaded b rows held told retold count some e h sized le =
     (ap (λ r. seen r (with_words (started (memory_frames (map_of (boot_of b))) rows) 0 b.words.items)) h ∙ fresh b rows some told count sized le)
 
 -- where the writing was broken off, the sectors become those of the start
-pub torn_becomes : (most : ℕ) (f g : List (List ℕ) → List (List ℕ)) (told retold : Option (List (List ℕ))) → ((ss : List (List ℕ)) → told ≡ Some ss → f ss ≡ g ss) → TornAmong most f told retold → TornAmong most g told retold
-torn_becomes most f g told retold same w = record { at = w.at; inside = w.inside; before = λ q lt. w.before q lt ∙ by q told same; behind = w.behind }
+pub torn_becomes : (most : ℕ) (f g : List (List ℕ) → List (List ℕ)) (told retold : Option (List (List ℕ))) → ((ss : List (List ℕ)) → most ≤ length ss → f ss ≡ g ss) → ((ss : List (List ℕ)) → told ≡ Some ss → most ≤ length ss) →
+    TornAmong most f told retold → TornAmong most g told retold
+torn_becomes most f g told retold same large w = record {
+  at = w.at;
+  inside = w.inside;
+  page = λ a b la lb. ap (λ (l : List (List ℕ)). sector_of l w.at) (sym (same a la)) ∙ w.page a b la lb ∙ ap (λ (l : List (List ℕ)). sector_of l w.at) (same b lb);
+  before = λ q lt. w.before q lt ∙ by q told (λ ss e. same ss (large ss e));
+  behind = w.behind;
+}
   where
     by : (q : ℕ) (o : Option (List (List ℕ))) → ((ss : List (List ℕ)) → o ≡ Some ss → f ss ≡ g ss) → option_map (λ ss. sector_of (f ss) q) o ≡ option_map (λ ss. sector_of (g ss) q) o
     by q None h = refl
@@ -111,4 +128,4 @@ pub torn_loaded : (b : Booted) (rows : Rows) (told retold : Option (List (List �
     TornAmong (length b.users.items * b.params.pages) (λ ss. (loaded (system_of b rows) ss).device.sectors) told retold
 torn_loaded b rows told retold count some w sized le =
     torn_becomes (length b.users.items * b.params.pages) (written (disk_pages b.params.pages (map (λ words. words.items) b.users.items) []) (length b.users.items * b.params.pages)) (λ ss. (loaded (system_of b rows) ss).device.sectors) told retold
-    (λ ss e. let many = told_many told ss count e sized in sectors_are b rows some ss (omega (arith, many, le))) w
+    (λ ss all. sectors_are b rows some ss all) (λ ss e. let many = told_many told ss count e sized in omega (arith, many, le)) w

@@ -112,11 +112,16 @@ with_memory held memory = record held { hardware = record held.hardware { memory
 pub put_step : (held first : Held) (a b : List ℕ) (j w : ℕ) → held ≡ with_memory first a → set a j w ≡ b → with_memory held (set held.hardware.memory j w) ≡ with_memory first b
 put_step held first a b j w e h = subst (λ m. with_memory m (set m.hardware.memory j w) ≡ with_memory first b) (sym e) (ap (with_memory first) h)
 
+-- the page of a number that is one stands in its sector, whatever stood there
+page_there : (p : Pages) (q most : ℕ) (ss : List (List ℕ)) → p.live q ≡ true → q < most → most ≤ length ss → sector_of (written p most ss) q ≡ words_of_page p q
+page_there p q most ss live lt le = page_at p most ss q lt le ∙ cond-true (p.live q) (words_of_page p q) (sector_of ss q) live
+
 -- where the pages below a number are written, and the write of that one failed
-pub torn_among : (p : Pages) (q most : ℕ) (told mid retold : Option (List (List ℕ))) → q < most → mid ≡ option_map (written p q) told → StaysBut q mid retold → TornAmong most (written p most) told retold
-torn_among p q most told mid retold lt e h = record {
+pub torn_among : (p : Pages) (q most : ℕ) (told mid retold : Option (List (List ℕ))) → q < most → p.live q ≡ true → mid ≡ option_map (written p q) told → StaysBut q mid retold → TornAmong most (written p most) told retold
+torn_among p q most told mid retold lt live e h = record {
   at = q;
   inside = lt;
+  page = λ a b la lb. page_there p q most a live lt la ∙ sym (page_there p q most b live lt lb);
   before = λ k l. h k (λ is. absurd (omega (arith, is, l))) ∙ ap (option_map (λ ss. sector_of ss k)) e ∙ early told k l;
   behind = λ k l. h k (λ is. absurd (omega (arith, is, l))) ∙ ap (option_map (λ ss. sector_of ss k)) e ∙ late told k l;
 }

@@ -23,7 +23,7 @@ use Rattle.boot_turns.specs.TurnEnds.{Printed, Rows, Whole, Prefix, first_of}
 use Rattle.boot_turns.specs.declared.answers.View.{View}
 use Rattle.boot_turns.specs.declared.answers.View.TheVariants.{Boot, Trace}
 use Rattle.boot_run.specs.LoadEnds.{SeesUser}
-use Rattle.boot_run.specs.Whole.{TraceBroken, PutFails}
+use Rattle.boot_run.specs.Whole.{TraceBroken, TurnPutFails}
 
 -- A PREFIX of a text is one of a longer text
 take_more : (n : ℕ) (a b : List ℕ) → take n a ≡ take (min n (length a)) (a ++ b)
@@ -183,7 +183,7 @@ grows_for Typed law x y s0 delay bound lawful Boot sees = tt
 grows_for Typed law x y s0 delay bound lawful (Trace u) sees = law x y s0 delay bound u lawful sees.0 sees.1
 
 -- the sink failed in a turn
-pub put_ends : TurnLaws → RowsFollow → (x : Outside) (y : System) (s0 : State) (delay bound : ℕ) (old : List (List ℕ)) → Machines x y s0 delay bound → Beyond bound old s0.device.sectors → (v : View) → GrowsFor x y s0 v → (turns steps : ℕ) (now : List (List ℕ)) (text : List ℕ) → PutFails x y s0 now v turns steps text →
+pub put_ends : TurnLaws → RowsFollow → (x : Outside) (y : System) (s0 : State) (delay bound : ℕ) (old : List (List ℕ)) → Machines x y s0 delay bound → Beyond bound old s0.device.sectors → (v : View) → GrowsFor x y s0 v → (turns steps : ℕ) (now : List (List ℕ)) (text : List ℕ) → TurnPutFails x y s0 now v turns steps text →
     Beyond bound old now × SinkBroken x y s0 bound old now v turns steps text
 put_ends counts follow x y s0 delay bound old m first Boot grows turns steps now text w =
     (subst (Beyond bound old) (sym w.sectors) (stays_beyond bound old s0.device.sectors _ first (m.beyond w.end)), inl w)

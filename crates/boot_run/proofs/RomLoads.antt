@@ -107,7 +107,7 @@ module _ (b : Booted) (rows : Rows) where
       TornAmong (rom_needed b) (λ ss. (rom_loaded (system_of b rows) rom ss).device.sectors) told retold
   rom_torn rom told retold count some w sized le =
       torn_becomes (rom_needed b) (written (disk_pages b.params.pages (lists b rows) b.words.items) (rom_needed b)) (λ ss. (rom_loaded (system_of b rows) rom ss).device.sectors) told retold
-      (λ ss e. let all = told_many told ss count e sized in rom_sectors_are some ss (omega (arith, all, le))) w
+      (λ ss all. rom_sectors_are some ss all) (λ ss e. let many = told_many told ss count e sized in omega (arith, many, le)) w
 
   -- its memory has room for the map
   pub rom_long : (rom : List ℕ) → length rom ≤ 1024 → 1 ≤ frames → (held : Held) → held ≡ with_rom frames rom rows → memory_words (map_of (boot_of b)) ≤ length held.hardware.memory

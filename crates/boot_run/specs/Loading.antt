@@ -46,19 +46,17 @@ abbrev pub written : Pages → ℕ → List (List ℕ) → List (List ℕ)
 written p zero sectors = sectors
 written p (suc n) sectors = with_page p (written p n sectors) n
 
--- where they are told, the sectors from number n on are as before
-abbrev pub StaysFrom : ℕ → (told retold : Option (List (List ℕ))) → Type 0
-StaysFrom n told retold = (q : ℕ) → n ≤ q → option_map (λ ss. sector_of ss q) retold ≡ option_map (λ ss. sector_of ss q) told
-
--- and all but that of number n
+-- where they are told, all sectors but that of number n are as before
 abbrev pub StaysBut : ℕ → (told retold : Option (List (List ℕ))) → Type 0
 StaysBut n told retold = (q : ℕ) → q ≢ n → option_map (λ ss. sector_of ss q) retold ≡ option_map (λ ss. sector_of ss q) told
 
--- the sectors below number `most` were being written, in order, so that they become `wanted`, and the write of one failed: where they are told, those
--- before it are written, it may hold anything, and those behind it are as before
+-- the sectors below number `most` were being written, in order, so that they become `wanted`, and the write of one failed, which gets a page: what is
+-- wanted there is the same whatever stood on the disk. Where they are told, those before it are written, it may hold anything, and those behind it are
+-- as before
 pub record TornAmong (most : ℕ) (wanted : List (List ℕ) → List (List ℕ)) (told retold : Option (List (List ℕ))) : Type 0 where
   pub at : ℕ
   pub inside : at < most
+  pub page : (some other : List (List ℕ)) → most ≤ length some → most ≤ length other → sector_of (wanted some) at ≡ sector_of (wanted other) at
   pub before : (q : ℕ) → q < at → option_map (λ ss. sector_of ss q) retold ≡ option_map (λ ss. sector_of (wanted ss) q) told
   pub behind : (q : ℕ) → at < q → option_map (λ ss. sector_of ss q) retold ≡ option_map (λ ss. sector_of ss q) told
 

@@ -1,5 +1,5 @@
 // The users' pages, written to their sectors, and the linked words, written into memory.
-ghost use Rattle.std.specs.Prelude.{◌≡◌, ℕ, ◌+◌, ◌*◌, ◌<◌, ◌≤◌, ◌^◌, length, nat_lt, slice_index, vec_len, OnOk, OnErr, All};
+ghost use Rattle.std.specs.Prelude.{◌≡◌, ℕ, ◌+◌, ◌*◌, ◌<◌, ◌≤◌, ◌^◌, length, nat_lt, slice_index, true, vec_len, OnOk, OnErr, All};
 ghost use Rattle.std.specs.Option.{option_map};
 ghost use Rattle.cvm_outside.specs.Causes.{Counts};
 ghost use Rattle.boot_run.specs.Loading.{pages_of_users, with_page, written, with_words, StaysBut, TornAmong};
@@ -49,7 +49,7 @@ fn page_source<'a>(users: &'a [Vec<u32>], per: u32, behind: &'a [u32], q: u32) -
 ///
 /// # Errors
 ///
-/// A fault of the disk. That sector may then hold anything.
+/// A fault of the disk, only where words reach into the page. Its sector may then hold anything.
 fn write_page<D: Sectors>(
     users: &[Vec<u32>],
     per: u32,
@@ -62,6 +62,7 @@ fn write_page<D: Sectors>(
     requires inside { q < D.size disk.old }
     ensures ok { OnOk result (D.sectors disk.new ≡ option_map (λ ss. with_page (pages_of_users per users.now behind.now) ss q) (D.sectors disk.old)) }
     ensures torn { OnErr result (StaysBut q (D.sectors disk.old) (D.sectors disk.new)) }
+    ensures page { OnErr result ((pages_of_users per users.now behind.now).live q ≡ true) }
     ensures size { D.size disk.new ≡ D.size disk.old }
     ensures count { Counts (D.faults disk.old) (D.faults disk.new) result }
 {

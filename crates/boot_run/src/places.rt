@@ -5,7 +5,7 @@ ghost use Rattle.c0_tree.specs.View.{decl_view, unit_view};
 ghost use Rattle.c0_meaning.specs.Env.{typed_of};
 ghost use Rattle.c0_meaning.specs.Sound.{shapes, IsSized};
 ghost use Rattle.c0_meaning.specs.Words.{all_words};
-ghost use Rattle.layer_map.specs.Map.{MapInRange};
+ghost use Rattle.layer_map.specs.Map.{MapInRange, memory_frames};
 ghost use Rattle.cvm_model.specs.Cvm.{map_of};
 ghost use Rattle.layer_contract.specs.Boots.{boot_of};
 ghost use Rattle.boot_report.specs.Given.{places_of as offsets_of};
@@ -70,4 +70,17 @@ pub(crate) fn places_of(alloc: Global, boot: &Boot) -> Result<Places, AllocError
         map,
         offsets: global_offsets(alloc, &unit)?,
     })
+}
+
+/// How many frames of memory the machine of what is booted has.
+///
+/// # Errors
+///
+/// Want of memory.
+pub fn frames_of(alloc: Global, boot: &Boot) -> Result<u32, AllocError>
+    requires { MapInRange (map_of (boot_of boot.now)) }
+    ensures { IfOk result (λ n. n ≡ memory_frames (map_of (boot_of boot.now))) }
+{
+    let places = places_of(alloc, boot)?;
+    Ok(places.map.memory_frames())
 }

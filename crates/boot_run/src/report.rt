@@ -1,12 +1,11 @@
 // The end and the report of a run, printed from its machine.
 ghost use Rattle.std.specs.Prelude.{◌≡◌, ◌≢◌, ◌*◌, ◌≤◌, ◌++◌, length, Err};
-ghost use Rattle.cvm_outside.specs.Causes.{Counts, Rose};
+ghost use Rattle.boot_report.specs.Blames.{Blames};
 ghost use Rattle.layer_map.specs.Map.{memory_words};
 ghost use Rattle.cvm_model.specs.Text.{steps_row as steps_text};
 ghost use Rattle.boot_report.specs.Globals.{AreInside};
-ghost use Rattle.boot_report.specs.Prints.{Prints, PrintsPart};
-ghost use Rattle.boot_report.specs.Texts.{SameButViewed};
 ghost use Rattle.boot_run.specs.Report.{end_row, kernel_rows, runs_now, ForClosing, ForTraceClosing, StepsStand};
+ghost use Rattle.boot_report.specs.Leaves.{OnlyViews, Printed, Puts};
 
 use crate::places::Places;
 use boot_report::{ReportFault, put_globals, put_log, put_user_rows, put_users};
@@ -19,9 +18,7 @@ use mips_machine::Machine;
 
 /// Prints whether a run halted or goes on.
 fn put_end<O: Sink>(halted: bool, out: &mut O) -> Result<(), SinkFault>
-    ensures ok { Prints (O.text out.old) (O.text out.new) (end_row halted) result }
-    ensures err { PrintsPart (O.text out.old) (O.text out.new) (end_row halted) result }
-    ensures count { Counts (O.faults out.old) (O.faults out.new) result }
+    ensures { Puts O.text O.faults out.old out.new (end_row halted) result }
 {
     if halted {
         return out.put(b"halted\n");
@@ -41,9 +38,7 @@ fn put_kernel<O: Sink>(
     requires memory { memory_words places.now.map ≤ length machine.now.hardware.memory }
     requires small { memory_words places.now.map ≤ 30000000 }
     requires inside { AreInside places.now.map places.now.offsets.items }
-    ensures ok { Prints (O.text out.old) (O.text out.new) (kernel_rows halted machine.now places.now.map places.now.offsets.items decls.now) result }
-    ensures err { PrintsPart (O.text out.old) (O.text out.new) (kernel_rows halted machine.now places.now.map places.now.offsets.items decls.now) result }
-    ensures count { Counts (O.faults out.old) (O.faults out.new) result }
+    ensures { Puts O.text O.faults out.old out.new (kernel_rows halted machine.now places.now.map places.now.offsets.items decls.now) result }
 {
     put_end(halted, out)?;
     put_globals(machine, &places.map, &places.offsets, decls, out)?;
@@ -79,15 +74,9 @@ pub(crate) fn put_closing<D: Sectors, O: Sink>(
     requires inside { AreInside places.now.map places.now.offsets.items }
     requires all { places.now.map.users * places.now.map.params.pages ≤ 65536 }
     requires room { places.now.map.users * places.now.map.params.pages ≤ D.size disk.old }
-    ensures ok { ForClosing (D.sectors disk.old) machine.old halted current places.now decls.now (Prints (O.text out.old) (O.text out.new)) result }
-    ensures err { ForClosing (D.sectors disk.old) machine.old halted current places.now decls.now (PrintsPart (O.text out.old) (O.text out.new)) result }
-    ensures same { SameButViewed machine.old machine.new }
-    ensures sectors { D.sectors disk.new ≡ D.sectors disk.old }
-    ensures size { D.size disk.new ≡ D.size disk.old }
-    ensures disk { result ≡ Err ReportFault.Disk → Rose (D.faults disk.old) (D.faults disk.new) }
-    ensures disk_same { result ≢ Err ReportFault.Disk → D.faults disk.new ≡ D.faults disk.old }
-    ensures sink { result ≡ Err ReportFault.Sink → Rose (O.faults out.old) (O.faults out.new) }
-    ensures sink_same { result ≢ Err ReportFault.Sink → O.faults out.new ≡ O.faults out.old }
+    ensures put { ForClosing (D.sectors disk.old) machine.old halted current places.now decls.now (Printed (O.text out.old) (O.text out.new)) result }
+    ensures view { OnlyViews machine.old machine.new D.sectors D.size disk.old disk.new }
+    ensures blame { Blames (result ≡ Err ReportFault.Disk) (result ≡ Err ReportFault.Sink) D.faults disk.old disk.new O.faults out.old out.new }
 {
     put_kernel(machine, places, decls, halted, out)?;
     let running = runs_now(halted, current);
@@ -96,9 +85,7 @@ pub(crate) fn put_closing<D: Sectors, O: Sink>(
 
 /// Prints the row of a trace's last steps, where there are any, and the end.
 fn put_last<O: Sink>(steps: u64, halted: bool, out: &mut O) -> Result<(), SinkFault>
-    ensures ok { Prints (O.text out.old) (O.text out.new) (steps_text steps ++ end_row halted) result }
-    ensures err { PrintsPart (O.text out.old) (O.text out.new) (steps_text steps ++ end_row halted) result }
-    ensures count { Counts (O.faults out.old) (O.faults out.new) result }
+    ensures { Puts O.text O.faults out.old out.new (steps_text steps ++ end_row halted) result }
 {
     out.put(steps_row(steps).as_str().as_bytes())?;
     put_end(halted, out)
@@ -127,16 +114,10 @@ pub(crate) fn put_trace_closing<D: Sectors, O: Sink>(
     requires small { memory_words map.now ≤ 30000000 }
     requires all { map.now.users * map.now.params.pages ≤ 65536 }
     requires room { map.now.users * map.now.params.pages ≤ D.size disk.old }
-    ensures ok { ForTraceClosing (D.sectors disk.old) machine.old halted current map.now tracer (Prints (O.text out.old) (O.text out.new)) result }
-    ensures err { ForTraceClosing (D.sectors disk.old) machine.old halted current map.now tracer (PrintsPart (O.text out.old) (O.text out.new)) result }
+    ensures put { ForTraceClosing (D.sectors disk.old) machine.old halted current map.now tracer (Printed (O.text out.old) (O.text out.new)) result }
     ensures rows { StepsStand (D.sectors disk.old) machine.old halted current map.now tracer (O.text out.old) (O.text out.new) result }
-    ensures same { SameButViewed machine.old machine.new }
-    ensures sectors { D.sectors disk.new ≡ D.sectors disk.old }
-    ensures size { D.size disk.new ≡ D.size disk.old }
-    ensures disk { result ≡ Err ReportFault.Disk → Rose (D.faults disk.old) (D.faults disk.new) }
-    ensures disk_same { result ≢ Err ReportFault.Disk → D.faults disk.new ≡ D.faults disk.old }
-    ensures sink { result ≡ Err ReportFault.Sink → Rose (O.faults out.old) (O.faults out.new) }
-    ensures sink_same { result ≢ Err ReportFault.Sink → O.faults out.new ≡ O.faults out.old }
+    ensures view { OnlyViews machine.old machine.new D.sectors D.size disk.old disk.new }
+    ensures blame { Blames (result ≡ Err ReportFault.Disk) (result ≡ Err ReportFault.Sink) D.faults disk.old disk.new O.faults out.old out.new }
 {
     put_last(tracer.steps, halted, out)?;
     let running = runs_now(halted, current);

@@ -1,17 +1,22 @@
 // A loaded run.
 ghost use Rattle.std.specs.Prelude.{◌≡◌, ◌≢◌, ◌∷◌, ◌+◌, ◌<◌, ◌≤◌, ◌⊎◌, ◌^◌};
-ghost use Rattle.std.specs.Prelude.{false, [], length, IfOk, IfErr, IfSome, IsSome, OnOk, OnErr, Err, Ok, Some, None};
+ghost use Rattle.std.specs.Prelude.{false, [], length, slice_index, IfOk, IfErr, IfSome, IsSome, OnOk, OnErr, Err, Ok, Some, None};
 ghost use Rattle.std.specs.Result.{result_err};
-ghost use Rattle.cvm_outside.specs.Causes.{Counts, Rose};
-ghost use Rattle.layer_contract.specs.Boots.{BootFollows};
+ghost use Rattle.cvm_outside.specs.Causes.{Rose};
+ghost use Rattle.layer_map.specs.Map.{memory_words};
+ghost use Rattle.mips_machine.specs.Saved.{AreSaved};
+ghost use Rattle.cvm_model.specs.Cvm.{map_of};
+ghost use Rattle.layer_contract.specs.Boots.{boot_of, BootFollows};
+ghost use Rattle.boot_report.specs.Blames.{Blames};
 ghost use Rattle.layer_contract.specs.Follows.{loaded};
 ghost use Rattle.boot_turns.specs.Rom.{rom_loaded};
 ghost use Rattle.boot_run.specs.Loading.{system_of, TornAmong};
 ghost use Rattle.boot_run.specs.LoadEnds.{pages_needed, rom_needed, IsFresh, StandsFrom, LoadFails};
-ghost use Rattle.boot_report.specs.Prints.{Prints, PrintsPart};
 ghost use Rattle.boot_report.specs.Texts.{SameButViewed};
+ghost use Rattle.boot_report.specs.Leaves.{OnlyViews, Puts};
 ghost use Rattle.boot_run.specs.Calls.{MakesTurns, Proceeds, ProceedsAnyhow, TakesTurns, Reports};
 ghost use Rattle.boot_run.specs.OneTurn.{TurnsSay, as_turns};
+ghost use Rattle.boot_run.specs.Saving.{saved_run, AreBoots, IsTakenUp};
 ghost use Rattle.boot_run.specs.Shown.{has_faulted};
 ghost use Rattle.boot_run.specs.TurnCalls.{rows_of, IsOver, KeepsLoad, StandsReady};
 ghost use Rattle.boot_run.specs.TurnParts.{rows_before, rows_after, Views};
@@ -22,6 +27,7 @@ use crate::next::{ended_by, has_faulted, seen_next};
 use crate::pages::write_pages;
 use crate::places::{Places, places_of};
 use crate::report::{put_closing, put_trace_closing};
+use crate::resuming::{boots_hold, resumed_machine};
 use crate::turn_rows::{put_fault, put_row, put_start};
 use boot_report::{ReportFault, the_globals_tell, the_rows_tell, the_user_rows_tell};
 use boot_turns::completion::complete;
@@ -36,7 +42,7 @@ use layer_contract::{Boot, Layer};
 use layer_map::{CURRENT, memory_is_whole, parts_are_in_order};
 use mips_machine::Machine;
 use schedule_file::Schedule;
-use std::alloc::Global;
+use std::alloc::{AllocError, Global};
 use std::marker::Model;
 
 /// A loaded run over a layer. The disk is lent to each call.
@@ -99,6 +105,7 @@ impl<L: Layer + Drop> Run<L> {
     ) -> Result<Run<L>, LoadFault>
         requires { BootFollows (L.image layer) (L.sizes layer) (L.map layer) boot }
         ensures fresh { IfOk result (λ r. IsFresh layer boot view schedule (pages_needed boot) (D.size disk.old) r) }
+        ensures memory { IfOk result (λ r. length r.machine.hardware.memory ≡ memory_words (map_of (boot_of boot))) }
         ensures stands { IfOk result (StandsFrom (loaded (system_of boot schedule)) (D.sectors disk.old) (D.sectors disk.new)) }
         ensures ready { IfOk result (StandsReady (system_of boot schedule) (loaded (system_of boot schedule)) (D.sectors disk.old) (D.sectors disk.new)) }
         ensures fault { IfErr result (LoadFails boot view (pages_needed boot) (D.size disk.old) (D.faults disk.old) (D.faults disk.new)) }
@@ -191,10 +198,8 @@ impl<L: Layer + Drop> Run<L> {
 
     /// Prints what stands before the next turn: the first row of a trace, before its first turn.
     fn put_before<O: Sink>(&self, out: &mut O) -> Result<(), SinkFault>
-        ensures ok { Prints (O.text out.old) (O.text out.new) (rows_before self.now.boot self.now.tracer self.now.turns) result }
-        ensures err { PrintsPart (O.text out.old) (O.text out.new) (rows_before self.now.boot self.now.tracer self.now.turns) result }
+        ensures put { Puts O.text O.faults out.old out.new (rows_before self.now.boot self.now.tracer self.now.turns) result }
         ensures first { OnErr result (IsSome self.now.tracer × (self.now.turns ≡ 0)) }
-        ensures count { Counts (O.faults out.old) (O.faults out.new) result }
         ensures views { Views self.now }
     {
         let first = self.turns == 0;
@@ -224,10 +229,7 @@ impl<L: Layer + Drop> Run<L> {
         ensures untraced { self.old.tracer ≡ None → (self.new.tracer ≡ None) × (out.new ≡ out.old) }
         ensures no_sink { self.old.tracer ≡ None → result ≢ Err RunFault.Sink }
         ensures size { D.size disk.new ≡ D.size disk.old }
-        ensures disk { result ≡ Err RunFault.Disk → Rose (D.faults disk.old) (D.faults disk.new) }
-        ensures disk_same { result ≢ Err RunFault.Disk → D.faults disk.new ≡ D.faults disk.old }
-        ensures sink { result ≡ Err RunFault.Sink → Rose (O.faults out.old) (O.faults out.new) }
-        ensures sink_same { result ≢ Err RunFault.Sink → O.faults out.new ≡ O.faults out.old }
+        ensures blame { Blames (result ≡ Err RunFault.Disk) (result ≡ Err RunFault.Sink) D.faults disk.old disk.new O.faults out.old out.new }
         ensures spent { self.new.machine.time + budget.new ≡ self.old.machine.time + budget.old }
         ensures limit { result ≡ Err RunFault.StepLimit → (budget.new ≡ 0) × (self.new.machine.hardware.off ≡ None) }
         ensures made { IfOk result (λ r. (1 ≤ r.0) × (r.0 ≤ most) × (r.1 ≢ Turn.Over)) }
@@ -267,10 +269,8 @@ impl<L: Layer + Drop> Run<L> {
 
     /// Prints what stands behind a turn: of a boot the row of its dispatch, and of a trace the kernel's fault.
     fn put_after<O: Sink>(&self, answer: Turn, out: &mut O) -> Result<(), SinkFault>
-        ensures ok { Prints (O.text out.old) (O.text out.new) (rows_after self.now.tracer self.now.ended answer) result }
-        ensures err { PrintsPart (O.text out.old) (O.text out.new) (rows_after self.now.tracer self.now.ended answer) result }
+        ensures put { Puts O.text O.faults out.old out.new (rows_after self.now.tracer self.now.ended answer) result }
         ensures dispatch { self.now.tracer ≡ None → OnErr result ((row : OneRow) × (rows_of answer ≡ row ∷ [])) }
-        ensures count { Counts (O.faults out.old) (O.faults out.new) result }
     {
         match self.tracer {
             None => put_row(answer, out),
@@ -294,10 +294,7 @@ impl<L: Layer + Drop> Run<L> {
         ensures size { D.size disk.new ≡ D.size disk.old }
         ensures ends { Proceeds D.size D.sectors O.text most self.old disk.old budget.old out.old self.new disk.new budget.new out.new result }
         ensures any { ProceedsAnyhow D.size D.sectors O.text most self.old disk.old budget.old out.old self.new disk.new budget.new out.new result }
-        ensures disk { result ≡ Err RunFault.Disk → Rose (D.faults disk.old) (D.faults disk.new) }
-        ensures disk_same { result ≢ Err RunFault.Disk → D.faults disk.new ≡ D.faults disk.old }
-        ensures sink { result ≡ Err RunFault.Sink → Rose (O.faults out.old) (O.faults out.new) }
-        ensures sink_same { result ≢ Err RunFault.Sink → O.faults out.new ≡ O.faults out.old }
+        ensures blame { Blames (result ≡ Err RunFault.Disk) (result ≡ Err RunFault.Sink) D.faults disk.old disk.new O.faults out.old out.new }
         ensures spent { self.new.machine.time + budget.new ≡ self.old.machine.time + budget.old }
         ensures limit { result ≡ Err RunFault.StepLimit → (budget.new ≡ 0) × (self.new.machine.hardware.off ≡ None) }
         ensures made { IfOk result (λ r. (1 ≤ r.0) × (r.0 ≤ most) × (r.1 ≢ Turn.Over)) }
@@ -387,15 +384,10 @@ impl<L: Layer + Drop> Run<L> {
         requires disk { D.size disk.old ≡ self.old.count }
         requires goes_on { has_faulted self.old.ended ≡ false }
         ensures same { self.new ≡ record self.old { machine = self.new.machine } }
-        ensures machine { SameButViewed self.old.machine self.new.machine }
-        ensures sectors { D.sectors disk.new ≡ D.sectors disk.old }
-        ensures size { D.size disk.new ≡ D.size disk.old }
+        ensures view { OnlyViews self.old.machine self.new.machine D.sectors D.size disk.old disk.new }
         ensures ends { Reports D.size D.sectors O.text self.old disk.old out.old (record self.new { fault = result_err result }) disk.new out.new result }
         ensures limit { result ≢ Err RunFault.StepLimit }
-        ensures disk { result ≡ Err RunFault.Disk → Rose (D.faults disk.old) (D.faults disk.new) }
-        ensures disk_same { result ≢ Err RunFault.Disk → D.faults disk.new ≡ D.faults disk.old }
-        ensures sink { result ≡ Err RunFault.Sink → Rose (O.faults out.old) (O.faults out.new) }
-        ensures sink_same { result ≢ Err RunFault.Sink → O.faults out.new ≡ O.faults out.old }
+        ensures blame { Blames (result ≡ Err RunFault.Disk) (result ≡ Err RunFault.Sink) D.faults disk.old disk.new O.faults out.old out.new }
     {
         machines_run();
         runs_stay_typed();
@@ -486,5 +478,74 @@ impl<L: Layer + Drop> Run<L> {
         ensures { result ≡ self.now.machine.time }
     {
         self.machine.steps()
+    }
+}
+
+impl<L: Layer + Drop> Run<L> {
+    /// The run that these words tell, of what is booted under a schedule: its machine is theirs, and so are the complete turns and the current user. It is
+    /// ready for its next turn, over a disk of `count` sectors, which isn't touched; a report can be printed before that turn, too.
+    ///
+    /// # Errors
+    ///
+    /// Want of memory.
+    pub fn resumed(
+        alloc: Global,
+        layer: L,
+        boot: Boot,
+        schedule: Schedule,
+        count: u32,
+        from: &[u32],
+    ) -> Result<Run<L>, AllocError>
+        requires follows { BootFollows (L.image layer) (L.sizes layer) (L.map layer) boot }
+        requires words { AreSaved (memory_words (map_of (boot_of boot))) schedule.inputs from.now }
+        requires some { 1 ≤ slice_index from.now 5 }
+        requires room { pages_needed boot ≤ count }
+        ensures taken_up { IfOk result (IsTakenUp layer boot schedule count from.now) }
+        ensures memory { IfOk result (λ r. length r.machine.hardware.memory ≡ memory_words (map_of (boot_of boot))) }
+        ensures boots { AreBoots boot schedule count }
+    {
+        boots_hold(&layer, &boot, &schedule, count);
+        let places = places_of(alloc, &boot)?;
+        let machine = resumed_machine(alloc, &places.map, schedule, from)?;
+        let turns = u64::from(from[5]);
+        Ok(Run {
+            layer,
+            boot,
+            tracer: None,
+            count,
+            machine,
+            turns,
+            current: from[6],
+            ended: None,
+            fault: None,
+            places,
+        })
+    }
+}
+
+impl<L: Layer> Run<L> {
+    /// How many turns are complete, those of the saved run that it was taken up from among them.
+    pub fn turns_done(&self) -> u64
+        ensures { result ≡ self.now.turns }
+    {
+        self.turns
+    }
+
+    /// How many words the saved run has: 5,176 and those of its memory at most.
+    pub fn state_words(&self) -> u64
+        ensures words { length (saved_run self.now) ≡ result }
+        ensures most { result ≤ 5176 + length self.now.machine.hardware.memory }
+    {
+        self.machine.state_words()
+    }
+
+    /// The words of the saved run: those of its machine, with its complete turns and its current user.
+    pub fn save_state(&self, into: &mut [u32])
+        requires few { self.now.turns < 2 ^ 32 }
+        requires room { length into.old ≡ length (saved_run self.now) }
+        ensures { into.new ≡ saved_run self.now }
+    {
+        self.machine
+            .save_state(self.turns as u32, self.current, into);
     }
 }

@@ -1,13 +1,12 @@
 // What a call of `turn` prints beside the rows of a journal: the first row of a trace, a dispatch's row, and the kernel's fault.
 ghost use Rattle.std.specs.Prelude.{◌≡◌, ◌≤◌, ◌∷◌, ◌++◌, All, [], length, OnErr};
-ghost use Rattle.cvm_outside.specs.Causes.{Counts};
 ghost use Rattle.cvm_model.specs.Primitives.{pages_of};
 ghost use Rattle.cvm_model.specs.Text.{rows_text, start_row as start_text, steps_row as steps_text};
 ghost use Rattle.cvm_model.specs.declared.row.Row.{Row as OneRow};
 ghost use Rattle.layer_contract.specs.Boots.{boot_of};
-ghost use Rattle.boot_report.specs.Prints.{Prints, PrintsPart};
 ghost use Rattle.boot_run.specs.TurnCalls.{rows_of};
 ghost use Rattle.boot_run.specs.TurnParts.{first_machine, fault_row, fault_rows};
+ghost use Rattle.boot_report.specs.Leaves.{Puts};
 
 use arrayvec::ArrayString;
 use boot_turns::Turn;
@@ -37,9 +36,7 @@ pub(crate) fn put_start<O: Sink>(boot: &Boot, user: u32, out: &mut O) -> Result<
     requires some { 1 ≤ user }
     requires there { user ≤ length boot.now.users.items }
     requires fits { All (λ words. length words ≤ 1048576) (boot_of boot.now).users }
-    ensures ok { Prints (O.text out.old) (O.text out.new) (start_text user (first_machine boot.now user)) result }
-    ensures err { PrintsPart (O.text out.old) (O.text out.new) (start_text user (first_machine boot.now user)) result }
-    ensures count { Counts (O.faults out.old) (O.faults out.new) result }
+    ensures { Puts O.text O.faults out.old out.new (start_text user (first_machine boot.now user)) result }
 {
     let pages = first_pages(boot, user);
     out.put(start_row(user, pages).as_str().as_bytes())
@@ -51,10 +48,8 @@ pub(crate) fn put_start<O: Sink>(boot: &Boot, user: u32, out: &mut O) -> Result<
 ///
 /// A fault of the sink.
 pub(crate) fn put_row<O: Sink>(answer: Turn, out: &mut O) -> Result<(), SinkFault>
-    ensures ok { Prints (O.text out.old) (O.text out.new) (rows_text (rows_of answer)) result }
-    ensures err { PrintsPart (O.text out.old) (O.text out.new) (rows_text (rows_of answer)) result }
+    ensures put { Puts O.text O.faults out.old out.new (rows_text (rows_of answer)) result }
     ensures dispatch { OnErr result ((row : OneRow) × (rows_of answer ≡ row ∷ [])) }
-    ensures count { Counts (O.faults out.old) (O.faults out.new) result }
 {
     match answer {
         Turn::Dispatch(row) => out.put(row_text(&row).as_str().as_bytes()),
@@ -79,9 +74,7 @@ fn fault_row(fault: KernelFault) -> ArrayString<64>
 ///
 /// A fault of the sink.
 fn put_both<O: Sink>(steps: u64, fault: KernelFault, out: &mut O) -> Result<(), SinkFault>
-    ensures ok { Prints (O.text out.old) (O.text out.new) (steps_text steps ++ fault_row fault) result }
-    ensures err { PrintsPart (O.text out.old) (O.text out.new) (steps_text steps ++ fault_row fault) result }
-    ensures count { Counts (O.faults out.old) (O.faults out.new) result }
+    ensures { Puts O.text O.faults out.old out.new (steps_text steps ++ fault_row fault) result }
 {
     out.put(steps_row(steps).as_str().as_bytes())?;
     out.put(fault_row(fault).as_str().as_bytes())
@@ -97,9 +90,7 @@ pub(crate) fn put_fault<O: Sink>(
     ended: Option<Next>,
     out: &mut O,
 ) -> Result<(), SinkFault>
-    ensures ok { Prints (O.text out.old) (O.text out.new) (fault_rows steps ended) result }
-    ensures err { PrintsPart (O.text out.old) (O.text out.new) (fault_rows steps ended) result }
-    ensures count { Counts (O.faults out.old) (O.faults out.new) result }
+    ensures { Puts O.text O.faults out.old out.new (fault_rows steps ended) result }
 {
     match ended {
         Some(Next::Fault(fault)) => put_both(steps, fault, out),

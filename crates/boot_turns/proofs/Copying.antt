@@ -126,9 +126,6 @@ put_tracer old now new i before is = is ∙ ap (λ (t : Tracer). record t { step
 pub state_same : (old new : Held) (ss : List (List ℕ)) → SameButViewed old new → state_of new ss ≡ state_of old ss
 state_same old new ss e = ap (λ h. state_of h ss) e
 
-pub same_twice : (a b c : Held) → SameButViewed a b → SameButViewed b c → SameButViewed a c
-same_twice a b c e f = f ∙ ap (λ (h : Held). record h { hardware = record h.hardware { viewed = c.hardware.viewed } }) e
-
 pub fits_then : (m : Map) (old new : Held) (ss : List (List ℕ)) → SameButViewed old new → EntriesFit m (state_of old ss) → EntriesFit m (state_of new ss)
 fits_then m old new ss e f = subst (EntriesFit m) (sym (state_same old new ss e)) f
 

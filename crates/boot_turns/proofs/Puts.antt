@@ -1,5 +1,5 @@
 -- The rows of the entries of a step, put after those of the steps before it.
-use Rattle.std.proofs.Common.{◌≡◌, ℕ, ◌&&◌, false, slice_index, List, [], ◌∷◌, ◌++◌, sym, ap, ◌∙◌, append-nil, eq-eqb, Result, Ok, Err, OnErr}
+use Rattle.std.proofs.Common.{◌≡◌, ℕ, ◌&&◌, false, slice_index, List, [], ◌∷◌, ◌++◌, sym, ap, ◌∙◌, append-nil, eq-eqb}
 use Rattle.std.specs.Prelude.{◌==◌}
 use Rattle.std.proofs.lemmas.Bool.{cond-true, cond-false}
 use Rattle.cvm_model.specs.Kernel.{Set, Size, Put}
@@ -18,11 +18,3 @@ put_is u e answer one user fifth =
 pub put_text : (u n : ℕ) (e : Entered) (answer : ℕ) (row : List ℕ) → call_ends u e answer [] ≡ Put (slice_index e.arguments 1) (slice_index e.arguments 2) ∷ [] → row ≡ entry_row (Put (slice_index e.arguments 1) (slice_index e.arguments 2)) →
     steps_row n ++ row ≡ journal_rows_after false n (call_ends u e answer [])
 put_text u n e answer row is r = ap (λ row. steps_row n ++ row) r ∙ sym (append-nil _) ∙ ap (journal_rows_after false n) (sym is)
-
-pub is_err : {T E P : Type 0} (r : Result T E) → P → OnErr r P
-is_err (Ok v) h = tt
-is_err (Err e) h = h
-
-pub on_err : {T E P Q : Type 0} (r : Result T E) → (P → Q) → OnErr r P → OnErr r Q
-on_err (Ok v) f h = tt
-on_err (Err e) f h = f h

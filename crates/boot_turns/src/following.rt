@@ -1,24 +1,20 @@
 // The rows of one step of a trace, and what is kept after it.
 ghost use Rattle.std.specs.Prelude.{◌≡◌, ◌≢◌, ◌*◌, ◌≤◌, ◌<◌, ◌-◌, ◌^◌, List, [], length, true, false, None, Err};
-ghost use Rattle.cvm_outside.specs.Causes.{Rose};
+ghost use Rattle.boot_report.specs.Blames.{Blames};
 ghost use Rattle.mips_machine.specs.Machine.{state_of};
 ghost use Rattle.layer_map.specs.Map.{memory_words};
-ghost use Rattle.boot_report.specs.Prints.{Prints, PrintsPart};
-ghost use Rattle.boot_report.specs.Texts.{SameButViewed};
 ghost use Rattle.boot_turns.specs.Completes.{shown};
 ghost use Rattle.boot_turns.specs.Entries.{notes_on, returned, IsCopyTo, CopyEnds, HasRows};
 ghost use Rattle.boot_turns.specs.Tracing.{CanTrace, counted, ForEnded, EndedKeeps, ForFollowed, FollowedKeeps};
+ghost use Rattle.boot_report.specs.Leaves.{OnlyViews, Printed};
 
 use crate::answers::RunFault;
 use crate::completion::Begun;
-use crate::registers::{ECA, EDATA, MODE};
+use crate::registers::{ANSWER, ECA, EDATA, MODE};
 use crate::tracer::{Entered, Tracer, note_entry};
 use cvm_outside::{Sectors, Sink};
 use layer_map::{CURRENT, Map};
 use mips_machine::Machine;
-
-/// The register of a primitive's answer.
-const ANSWER: u32 = 2;
 
 /// The number of the primitive that copies words.
 const COPY: u32 = 6;
@@ -76,19 +72,13 @@ impl Tracer {
     ) -> Result<(), RunFault>
         requires copy { call.now.primitive ≡ 6 }
         requires can { CanTrace map.now (length machine.old.hardware.memory) machine.old.time (D.size disk.old) self.old }
-        ensures ok { ForEnded (D.sectors disk.old) machine.old map.now self.old call.now answer (Prints (O.text out.old) (O.text out.new)) result }
-        ensures err { ForEnded (D.sectors disk.old) machine.old map.now self.old call.now answer (PrintsPart (O.text out.old) (O.text out.new)) result }
+        ensures put { ForEnded (D.sectors disk.old) machine.old map.now self.old call.now answer (Printed (O.text out.old) (O.text out.new)) result }
         ensures steps { EndedKeeps (D.sectors disk.old) machine.old map.now self.old self.new call.now answer result }
         ensures reads { result ≡ Err RunFault.Disk → IsCopyTo self.old.user call.now answer }
         ensures user { self.new.user ≡ self.old.user }
         ensures few { self.new.steps ≤ self.old.steps }
-        ensures same { SameButViewed machine.old machine.new }
-        ensures sectors { D.sectors disk.new ≡ D.sectors disk.old }
-        ensures size { D.size disk.new ≡ D.size disk.old }
-        ensures disk { result ≡ Err RunFault.Disk → Rose (D.faults disk.old) (D.faults disk.new) }
-        ensures disk_same { result ≢ Err RunFault.Disk → D.faults disk.new ≡ D.faults disk.old }
-        ensures sink { result ≡ Err RunFault.Sink → Rose (O.faults out.old) (O.faults out.new) }
-        ensures sink_same { result ≢ Err RunFault.Sink → O.faults out.new ≡ O.faults out.old }
+        ensures view { OnlyViews machine.old machine.new D.sectors D.size disk.old disk.new }
+        ensures blame { Blames (result ≡ Err RunFault.Disk) (result ≡ Err RunFault.Sink) D.faults disk.old disk.new O.faults out.old out.new }
         ensures no_limit { result ≢ Err RunFault.StepLimit }
     {
         let [_, _, user, address, count] = call.arguments;
@@ -115,19 +105,13 @@ impl Tracer {
         out: &mut O,
     ) -> Result<(), RunFault>
         requires can { CanTrace map.now (length machine.old.hardware.memory) machine.old.time (D.size disk.old) self.old }
-        ensures ok { ForEnded (D.sectors disk.old) machine.old map.now self.old call.now answer (Prints (O.text out.old) (O.text out.new)) result }
-        ensures err { ForEnded (D.sectors disk.old) machine.old map.now self.old call.now answer (PrintsPart (O.text out.old) (O.text out.new)) result }
+        ensures put { ForEnded (D.sectors disk.old) machine.old map.now self.old call.now answer (Printed (O.text out.old) (O.text out.new)) result }
         ensures steps { EndedKeeps (D.sectors disk.old) machine.old map.now self.old self.new call.now answer result }
         ensures reads { result ≡ Err RunFault.Disk → IsCopyTo self.old.user call.now answer }
         ensures user { self.new.user ≡ self.old.user }
         ensures few { self.new.steps ≤ self.old.steps }
-        ensures same { SameButViewed machine.old machine.new }
-        ensures sectors { D.sectors disk.new ≡ D.sectors disk.old }
-        ensures size { D.size disk.new ≡ D.size disk.old }
-        ensures disk { result ≡ Err RunFault.Disk → Rose (D.faults disk.old) (D.faults disk.new) }
-        ensures disk_same { result ≢ Err RunFault.Disk → D.faults disk.new ≡ D.faults disk.old }
-        ensures sink { result ≡ Err RunFault.Sink → Rose (O.faults out.old) (O.faults out.new) }
-        ensures sink_same { result ≢ Err RunFault.Sink → O.faults out.new ≡ O.faults out.old }
+        ensures view { OnlyViews machine.old machine.new D.sectors D.size disk.old disk.new }
+        ensures blame { Blames (result ≡ Err RunFault.Disk) (result ≡ Err RunFault.Sink) D.faults disk.old disk.new O.faults out.old out.new }
         ensures no_limit { result ≢ Err RunFault.StepLimit }
     {
         if call.primitive == COPY {
@@ -171,20 +155,14 @@ impl Tracer {
         requires can { CanTrace map.now (length machine.old.hardware.memory) machine.old.time (D.size disk.old) self.old }
         requires few { self.old.steps < machine.old.time }
         requires room { 1024 < length machine.old.hardware.memory }
-        ensures ok { ForFollowed (D.sectors disk.old) machine.old map.now self.old current began (Prints (O.text out.old) (O.text out.new)) result }
-        ensures err { ForFollowed (D.sectors disk.old) machine.old map.now self.old current began (PrintsPart (O.text out.old) (O.text out.new)) result }
+        ensures put { ForFollowed (D.sectors disk.old) machine.old map.now self.old current began (Printed (O.text out.old) (O.text out.new)) result }
         ensures kept { FollowedKeeps (D.sectors disk.old) machine.old map.now self.old self.new current began result }
         ensures puts { result ≡ Err RunFault.Sink → HasRows (state_of machine.old []) self.old.call began }
         ensures reads { result ≡ Err RunFault.Disk → (began ≡ false) × CopyEnds self.old.user (state_of machine.old []) self.old.call }
         ensures can { CanTrace map.now (length machine.new.hardware.memory) machine.new.time (D.size disk.new) self.new }
         ensures user { self.new.user ≡ self.old.user }
-        ensures same { SameButViewed machine.old machine.new }
-        ensures sectors { D.sectors disk.new ≡ D.sectors disk.old }
-        ensures size { D.size disk.new ≡ D.size disk.old }
-        ensures disk { result ≡ Err RunFault.Disk → Rose (D.faults disk.old) (D.faults disk.new) }
-        ensures disk_same { result ≢ Err RunFault.Disk → D.faults disk.new ≡ D.faults disk.old }
-        ensures sink { result ≡ Err RunFault.Sink → Rose (O.faults out.old) (O.faults out.new) }
-        ensures sink_same { result ≢ Err RunFault.Sink → O.faults out.new ≡ O.faults out.old }
+        ensures view { OnlyViews machine.old machine.new D.sectors D.size disk.old disk.new }
+        ensures blame { Blames (result ≡ Err RunFault.Disk) (result ≡ Err RunFault.Sink) D.faults disk.old disk.new O.faults out.old out.new }
         ensures no_limit { result ≢ Err RunFault.StepLimit }
     {
         if began {

@@ -1,4 +1,4 @@
-// The special registers that say what a step was, by the numbers that the machine takes.
+// The registers that say what a step was, by the numbers that the machine takes: special ones, and those of a call of a primitive.
 
 /// The cause of the last interrupt.
 pub(crate) const ECA: u32 = mips_interrupts::ECA as u32;
@@ -11,3 +11,12 @@ pub(crate) const PTL: u32 = mips_interrupts::PTL as u32;
 
 /// The mode: 0 in system mode, 1 in user mode.
 pub(crate) const MODE: u32 = mips_interrupts::MODE as u32;
+
+/// The register of a primitive's first argument at its entry. The further ones have their arguments in the registers after it.
+pub(crate) const ARGUMENT: u32 = layer_contract::ARGUMENT as u32;
+
+/// The register of a primitive's return address at its entry.
+pub(crate) const RETURN: u32 = layer_contract::RETURN as u32;
+
+/// The register of a primitive's answer.
+pub(crate) const ANSWER: u32 = layer_contract::ANSWER as u32;

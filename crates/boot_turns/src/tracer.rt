@@ -1,20 +1,19 @@
 // What a trace keeps between two steps, and the rows that it prints.
 ghost use Rattle.std.specs.Prelude.{◌≡◌, ◌≢◌, ◌*◌, ◌/◌, ◌≤◌, length, Err, ◌+◌, ◌-◌, ◌<◌, ◌^◌, ◌++◌, [], OnOk, OnErr, true};
-ghost use Rattle.cvm_outside.specs.Causes.{Counts, Rose};
+ghost use Rattle.boot_report.specs.Blames.{Blames};
 ghost use Rattle.mips_machine.specs.Machine.{state_of};
 ghost use Rattle.cvm_model.specs.Text.{steps_row as steps_text};
 ghost use Rattle.boot_turns.specs.Entries.{noted_at, turn_begins, call_ends, IsNoCopy};
 ghost use Rattle.layer_map.specs.Map.{memory_words};
-ghost use Rattle.boot_report.specs.Prints.{Prints, PrintsPart};
-ghost use Rattle.boot_report.specs.Texts.{SameButViewed};
 ghost use Rattle.boot_turns.specs.Copies.{steps_left, ForCopied};
 ghost use Rattle.boot_turns.specs.JournalText.{steps_after};
 ghost use Rattle.boot_turns.specs.Tracing.{begun_rows, ended_rows};
+ghost use Rattle.boot_report.specs.Leaves.{OnlyViews, Printed, Puts};
 
 use crate::answers::RunFault;
 use crate::completion::Begun;
 use crate::journal_text::{put_row, set_row, size_row, steps_row, trap_row};
-use crate::registers::MODE;
+use crate::registers::{ARGUMENT, MODE, RETURN};
 use boot_report::read_user_word;
 use cvm_outside::{Sectors, Sink, SinkFault};
 use layer_map::{Map, PRIMITIVES};
@@ -44,22 +43,20 @@ pub fn note_entry(machine: &Machine) -> Option<Entered>
     }
     Some(Entered {
         primitive: (pc - PRIMITIVES) / 4,
-        back: machine.reg(31),
+        back: machine.reg(RETURN),
         arguments: [
-            machine.reg(20),
-            machine.reg(21),
-            machine.reg(22),
-            machine.reg(23),
-            machine.reg(24),
+            machine.reg(ARGUMENT),
+            machine.reg(ARGUMENT + 1),
+            machine.reg(ARGUMENT + 2),
+            machine.reg(ARGUMENT + 3),
+            machine.reg(ARGUMENT + 4),
         ],
     })
 }
 
 /// Prints the row of the steps that have none yet, and then this one.
 fn put_after<O: Sink>(steps: u64, row: &[u8], out: &mut O) -> Result<(), SinkFault>
-    ensures ok { Prints (O.text out.old) (O.text out.new) (steps_text steps ++ row.now) result }
-    ensures err { PrintsPart (O.text out.old) (O.text out.new) (steps_text steps ++ row.now) result }
-    ensures count { Counts (O.faults out.old) (O.faults out.new) result }
+    ensures { Puts O.text O.faults out.old out.new (steps_text steps ++ row.now) result }
 {
     out.put(steps_row(steps).as_str().as_bytes())?;
     out.put(row)
@@ -89,13 +86,11 @@ impl Tracer {
         out: &mut O,
     ) -> Result<(), SinkFault>
         requires few { self.old.steps < 2 ^ 64 - 1 }
-        ensures ok { Prints (O.text out.old) (O.text out.new) (begun_rows self.old current begun.now) result }
-        ensures err { PrintsPart (O.text out.old) (O.text out.new) (begun_rows self.old current begun.now) result }
+        ensures put { Puts O.text O.faults out.old out.new (begun_rows self.old current begun.now) result }
         ensures steps { OnOk result (self.new ≡ record self.old { steps = steps_after self.old.steps (turn_begins self.old.user current begun.now) }) }
         ensures puts { OnErr result (begun.now.dispatched ≡ true) }
         ensures user { self.new.user ≡ self.old.user }
         ensures few { self.new.steps ≤ self.old.steps + 1 }
-        ensures count { Counts (O.faults out.old) (O.faults out.new) result }
     {
         if current != self.user {
             return Ok(());
@@ -116,12 +111,10 @@ impl Tracer {
     ///
     /// A fault of the sink.
     fn put<O: Sink>(&mut self, row: &[u8], out: &mut O) -> Result<(), SinkFault>
-        ensures ok { Prints (O.text out.old) (O.text out.new) (steps_text self.old.steps ++ row.now) result }
-        ensures err { PrintsPart (O.text out.old) (O.text out.new) (steps_text self.old.steps ++ row.now) result }
+        ensures put { Puts O.text O.faults out.old out.new (steps_text self.old.steps ++ row.now) result }
         ensures steps { OnOk result (self.new ≡ record self.old { steps = 0 }) }
         ensures user { self.new.user ≡ self.old.user }
         ensures few { self.new.steps ≤ self.old.steps }
-        ensures count { Counts (O.faults out.old) (O.faults out.new) result }
     {
         put_after(self.steps, row, out)?;
         self.steps = 0;
@@ -141,12 +134,10 @@ impl Tracer {
         out: &mut O,
     ) -> Result<(), SinkFault>
         requires no_copy { IsNoCopy call.now }
-        ensures ok { Prints (O.text out.old) (O.text out.new) (ended_rows self.old call.now answer []) result }
-        ensures err { PrintsPart (O.text out.old) (O.text out.new) (ended_rows self.old call.now answer []) result }
+        ensures put { Puts O.text O.faults out.old out.new (ended_rows self.old call.now answer []) result }
         ensures steps { OnOk result (self.new ≡ record self.old { steps = steps_after self.old.steps (call_ends self.old.user call.now answer []) }) }
         ensures user { self.new.user ≡ self.old.user }
         ensures few { self.new.steps ≤ self.old.steps }
-        ensures count { Counts (O.faults out.old) (O.faults out.new) result }
     {
         let [user, second, third, _, _] = call.arguments;
         if answer != 1 || user != self.user {
@@ -186,18 +177,12 @@ impl Tracer {
         requires small { memory_words map.now ≤ 30000000 }
         requires all { map.now.users * map.now.params.pages ≤ 65536 }
         requires room { map.now.users * map.now.params.pages ≤ D.size disk.old }
-        ensures ok { ForCopied (D.sectors disk.old) machine.old map.now self.old address count (Prints (O.text out.old) (O.text out.new)) result }
-        ensures err { ForCopied (D.sectors disk.old) machine.old map.now self.old address count (PrintsPart (O.text out.old) (O.text out.new)) result }
+        ensures put { ForCopied (D.sectors disk.old) machine.old map.now self.old address count (Printed (O.text out.old) (O.text out.new)) result }
         ensures steps { OnOk result (self.new ≡ record self.old { steps = steps_left self.old.steps count }) }
         ensures user { self.new.user ≡ self.old.user }
         ensures few { self.new.steps ≤ self.old.steps }
-        ensures same { SameButViewed machine.old machine.new }
-        ensures sectors { D.sectors disk.new ≡ D.sectors disk.old }
-        ensures size { D.size disk.new ≡ D.size disk.old }
-        ensures disk { result ≡ Err RunFault.Disk → Rose (D.faults disk.old) (D.faults disk.new) }
-        ensures disk_same { result ≢ Err RunFault.Disk → D.faults disk.new ≡ D.faults disk.old }
-        ensures sink { result ≡ Err RunFault.Sink → Rose (O.faults out.old) (O.faults out.new) }
-        ensures sink_same { result ≢ Err RunFault.Sink → O.faults out.new ≡ O.faults out.old }
+        ensures view { OnlyViews machine.old machine.new D.sectors D.size disk.old disk.new }
+        ensures blame { Blames (result ≡ Err RunFault.Disk) (result ≡ Err RunFault.Sink) D.faults disk.old disk.new O.faults out.old out.new }
         ensures no_limit { result ≢ Err RunFault.StepLimit }
     {
         for i in 0..count {

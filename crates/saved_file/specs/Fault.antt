@@ -1,5 +1,5 @@
--- The numbers of a fault.
-use Rattle.std.specs.Prelude.{ℕ}
+-- The number that is printed of a fault, and the numbers behind it.
+use Rattle.std.specs.Prelude.{ℕ, List, [], ◌∷◌}
 use Rattle.saved_file.specs.declared.fault.SaveFault.{SaveFault}
 use Rattle.saved_file.specs.declared.fault.SaveFault.TheVariants.{Magic, Truncated, Trailing, Field, Forged, SizeTooLarge, TurnsDone, TooLarge, Memory}
 
@@ -14,3 +14,15 @@ save_fault_number (SizeTooLarge user pages) = 105
 save_fault_number (TurnsDone saved wanted) = 106
 save_fault_number (TooLarge bytes) = 107
 save_fault_number Memory = 108
+
+-- and the numbers that are printed behind it
+abbrev pub save_fault_fields : SaveFault → List ℕ
+save_fault_fields Magic = []
+save_fault_fields (Truncated at) = at ∷ []
+save_fault_fields (Trailing at) = at ∷ []
+save_fault_fields (Field place value) = place ∷ value ∷ []
+save_fault_fields (Forged place stored made) = place ∷ stored ∷ made ∷ []
+save_fault_fields (SizeTooLarge user pages) = user ∷ pages ∷ []
+save_fault_fields (TurnsDone saved wanted) = saved ∷ wanted ∷ []
+save_fault_fields (TooLarge bytes) = bytes ∷ []
+save_fault_fields Memory = []

@@ -1,9 +1,10 @@
 // Why bytes are no saved machine that can be taken up.
 
 ghost use Rattle.std.specs.Prelude.{◌≡◌};
-ghost use Rattle.saved_file.specs.Fault.{save_fault_number};
+ghost use Rattle.saved_file.specs.Fault.{save_fault_number, save_fault_fields};
 ghost use Rattle.saved_file.specs.declared.fault.SaveFault.TheVariants.{Memory};
 
+use arrayvec::ArrayVec;
 use std::alloc::AllocError;
 use thiserror::Error;
 
@@ -55,6 +56,40 @@ impl SaveFault {
             SaveFault::TooLarge { .. } => 107,
             SaveFault::Memory => 108,
         }
+    }
+
+    /// The numbers that are printed behind it.
+    pub fn fields(&self) -> ArrayVec<u64, 3>
+        ensures { result.items ≡ save_fault_fields self.now }
+    {
+        let mut fields = ArrayVec::new();
+        match self {
+            SaveFault::Magic | SaveFault::Memory => {}
+            SaveFault::Truncated { at } | SaveFault::Trailing { at } => fields.push(*at),
+            SaveFault::Field { place, value } => {
+                fields.push(*place);
+                fields.push(*value);
+            }
+            SaveFault::Forged {
+                place,
+                stored,
+                made,
+            } => {
+                fields.push(*place);
+                fields.push(u64::from(*stored));
+                fields.push(u64::from(*made));
+            }
+            SaveFault::SizeTooLarge { user, pages } => {
+                fields.push(u64::from(*user));
+                fields.push(u64::from(*pages));
+            }
+            SaveFault::TurnsDone { saved, wanted } => {
+                fields.push(u64::from(*saved));
+                fields.push(u64::from(*wanted));
+            }
+            SaveFault::TooLarge { bytes } => fields.push(*bytes),
+        }
+        fields
     }
 }
 

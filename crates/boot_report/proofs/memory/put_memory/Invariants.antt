@@ -2,14 +2,13 @@ use Rattle.std.proofs.Common.{◌≡◌, ℕ, List, Some}
 use Rattle.std.specs.Io.KnownBytes.{append_known}
 use Rattle.mips_machine.specs.Machine.{state_of}
 use Rattle.cvm_model.specs.Paged.{paged_of}
-use Rattle.boot_report.specs.Texts.{pages_rows, EntriesFit, SameButViewed}
+use Rattle.boot_report.specs.Texts.{pages_rows, EntriesFit}
+use Rattle.boot_report.specs.Leaves.{OnlyViews}
 use Rattle.boot_report.proofs.memory.put_memory.Given as goal
 
 abbrev pub invariant-loop-p : goal.invariant-loop-p
 invariant-loop-p g l = record {
-  same : SameButViewed l.fn.machine l.machine;
-  sectors : g.D.Sectors.sectors l.disk ≡ g.D.Sectors.sectors l.fn.disk;
-  size : g.D.Sectors.size l.disk ≡ g.D.Sectors.size l.fn.disk;
+  view : OnlyViews l.fn.machine l.machine g.D.Sectors.sectors g.D.Sectors.size l.fn.disk l.disk;
   disk_faults : g.D.Sectors.faults l.disk ≡ g.D.Sectors.faults l.fn.disk;
   faults : g.O.Sink.faults l.out ≡ g.O.Sink.faults l.fn.out;
   text : (ss : List (List ℕ)) → g.D.Sectors.sectors l.fn.disk ≡ Some ss → EntriesFit l.map (state_of l.fn.machine ss) →

@@ -1,16 +1,14 @@
-use Rattle.std.proofs.Common.{[], ◌++◌, ◌*◌, ◌∙◌, sym, subst, codes, ne_eqb}
+use Rattle.std.proofs.Common.{[], ◌++◌, ◌*◌, ◌∙◌, sym, codes, ne_eqb}
 use Rattle.std.specs.Prelude.{◌==◌}
 use Rattle.std.proofs.lemmas.Bool.{cond-false}
 use Rattle.cvm_text.specs.Hex.{hex8}
-use Rattle.cvm_outside.specs.Told.{AppendsPart}
 use Rattle.cvm_model.specs.Text.{hex_row}
-use Rattle.boot_report.proofs.Texts.{on_err}
+use Rattle.boot_report.proofs.Leaves.{puts}
 use Rattle.boot_report.proofs.rows.put_word.Goals as goal
 
-pub returns-clause-err : goal.returns-clause-err
-returns-clause-err g c =
-    on_err c.put.result
-    (subst (AppendsPart (g.O.Sink.text c.args.out.now) (g.O.Sink.text c.put.new.self))
+pub returns : goal.returns
+returns g c =
+    puts g.O.Sink.text g.O.Sink.faults c.args.out.now c.put.new.self _ _ c.put.result
     (c.as_bytes.ensures.value ∙ c.as_str.ensures.value ∙ c.mem_row.ensures
-    ∙ sym (cond-false (c.args.word == 0) [] (hex_row (codes "mem " ++ hex8 (4 * c.args.number)) c.args.word) (ne_eqb c.args.word 0 c.if-word-eq0.false))))
-    c.put.ensures.part
+    ∙ sym (cond-false (c.args.word == 0) [] (hex_row (codes "mem " ++ hex8 (4 * c.args.number)) c.args.word) (ne_eqb c.args.word 0 c.if-word-eq0.false)))
+    c.put.ensures.whole c.put.ensures.part c.put.ensures.count

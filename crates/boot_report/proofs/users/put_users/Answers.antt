@@ -1,44 +1,49 @@
-use Rattle.std.proofs.Common.{◌≡◌, ◌+◌, ◌<◌, refl, ap, ◌∙◌, subst}
+use Rattle.std.proofs.Common.{◌≡◌, ◌+◌, ◌<◌, refl, ap, ◌∙◌, subst, arith}
 use Rattle.std.specs.Prelude.{◌==◌}
 use Rattle.std.specs.Io.KnownBytes.{append_known}
+use Rattle.std.proofs.lemmas.Result.{err_from_is_err_and}
 use Rattle.cvm_outside.specs.Told.{AppendsPart}
 use Rattle.mips_machine.specs.Machine.{state_of}
 use Rattle.cvm_model.specs.Paged.{paged_of}
-use Rattle.boot_report.specs.Texts.{user_rows, pages_in, cpu_of}
-use Rattle.boot_report.proofs.Texts.{put_none, put_more, put_part, is_err}
-use Rattle.boot_report.proofs.MemoryLemmas.{fits_before, same_twice, same_user}
+use Rattle.boot_report.specs.Texts.{user_rows, users_rows, pages_in, cpu_of}
+use Rattle.boot_report.proofs.Texts.{put_none, put_more, put_part}
+use Rattle.boot_report.proofs.Leaves.{broken, printed, views_twice}
+use Rattle.boot_report.proofs.MemoryLemmas.{fits_before, same_user}
 use Rattle.boot_report.proofs.users.put_users.Goals as goal
 
 pub loop-i-init : goal.loop-i-init
 loop-i-init g c = record {
-  same = refl;
-  sectors = refl;
-  size = refl;
+  view = record { same = refl; sectors = refl; size = refl };
   disk_faults = refl;
   faults = refl;
   text = λ ss e f. put_none (λ i. user_rows c.args.map.now (paged_of c.args.map.now (state_of c.args.machine.now ss)) (i + 1) (pages_in c.args.map.now c.args.machine.now.hardware.memory (i + 1)) (cpu_of c.args.machine.now (i + 1 == c.args.running) (i + 1))) (g.O.Sink.text c.args.out.now);
 }
 
-pub returns-in_err-put_user_rows-clause-err : goal.returns-in_err-put_user_rows-clause-err
-returns-in_err-put_user_rows-clause-err g c = λ ss e f.
+pub returns-in_err-put_user_rows-clause-put : goal.returns-in_err-put_user_rows-clause-put
+returns-in_err-put_user_rows-clause-put g c = λ ss e f.
     let most : c.users-i-end.result ≡ c.args.map.now.users = c.users-i-end.ensures.value in
     let lt : c.loop-i.i < c.args.map.now.users = subst (λ n. c.loop-i.i < n) most c.loop-i-test.true in
-    is_err c.from_residual.result
+    let h = err_from_is_err_and c.from_residual.result c.from_residual.ensures.1 in
+    broken _ _ _ c.from_residual.result h.0 h.1
     (put_part (λ i. user_rows c.args.map.now (paged_of c.args.map.now (state_of c.args.machine.now ss)) (i + 1) (pages_in c.args.map.now c.args.machine.now.hardware.memory (i + 1)) (cpu_of c.args.machine.now (i + 1 == c.args.running) (i + 1)))
     c.loop-i.i c.args.map.now.users _ _ _ lt (c.loop-i.invariant.text ss e f)
-    (subst (AppendsPart (g.O.Sink.text c.loop-i.out) (g.O.Sink.text c.put_user_rows.new.out)) (same_user c.args.map.now c.args.machine.now c.loop-i.machine ss (c.loop-i.i + 1) (c.loop-i.i + 1 == c.args.running) c.loop-i.invariant.same)
-    (c.in_err-put_user_rows.ensures.err ss (c.loop-i.invariant.sectors ∙ e) (fits_before c.args.map.now c.args.machine.now c.loop-i.machine ss c.loop-i.invariant.same f))))
+    (subst (AppendsPart (g.O.Sink.text c.loop-i.out) (g.O.Sink.text c.put_user_rows.new.out)) (same_user c.args.map.now c.args.machine.now c.loop-i.machine ss (c.loop-i.i + 1) (c.loop-i.i + 1 == c.args.running) c.loop-i.invariant.view.same)
+    (c.in_err-put_user_rows.ensures.put ss (c.loop-i.invariant.view.sectors ∙ e) (fits_before c.args.map.now c.args.machine.now c.loop-i.machine ss c.loop-i.invariant.view.same f)).err))
 
 pub loop-i-preserved : goal.loop-i-preserved
 loop-i-preserved g c = record {
-  same = same_twice c.args.machine.now c.loop-i.machine c.put_user_rows.new.machine c.loop-i.invariant.same c.in_ok-put_user_rows.ensures.same;
-  sectors = c.in_ok-put_user_rows.ensures.sectors ∙ c.loop-i.invariant.sectors;
-  size = c.in_ok-put_user_rows.ensures.size ∙ c.loop-i.invariant.size;
-  disk_faults = c.in_ok-put_user_rows.ensures.disk_same (λ h. absurd (cc)) ∙ c.loop-i.invariant.disk_faults;
-  faults = c.in_ok-put_user_rows.ensures.sink_same (λ h. absurd (cc)) ∙ c.loop-i.invariant.faults;
+  view = views_twice g.D.Sectors.sectors g.D.Sectors.size c.args.machine.now c.loop-i.machine c.put_user_rows.new.machine c.args.disk.now c.loop-i.disk c.put_user_rows.new.disk c.loop-i.invariant.view c.in_ok-put_user_rows.ensures.view;
+  disk_faults = c.in_ok-put_user_rows.ensures.blame.disk_same (λ h. absurd (cc)) ∙ c.loop-i.invariant.disk_faults;
+  faults = c.in_ok-put_user_rows.ensures.blame.sink_same (λ h. absurd (cc)) ∙ c.loop-i.invariant.faults;
   text = λ ss e f.
       put_more (λ i. user_rows c.args.map.now (paged_of c.args.map.now (state_of c.args.machine.now ss)) (i + 1) (pages_in c.args.map.now c.args.machine.now.hardware.memory (i + 1)) (cpu_of c.args.machine.now (i + 1 == c.args.running) (i + 1)))
       c.loop-i.i (c.loop-i.i + 1) _ _ _ refl (c.loop-i.invariant.text ss e f)
-      (c.in_ok-put_user_rows.ensures.ok ss (c.loop-i.invariant.sectors ∙ e) (fits_before c.args.map.now c.args.machine.now c.loop-i.machine ss c.loop-i.invariant.same f)
-      ∙ ap (append_known (g.O.Sink.text c.loop-i.out)) (same_user c.args.map.now c.args.machine.now c.loop-i.machine ss (c.loop-i.i + 1) (c.loop-i.i + 1 == c.args.running) c.loop-i.invariant.same));
+      ((c.in_ok-put_user_rows.ensures.put ss (c.loop-i.invariant.view.sectors ∙ e) (fits_before c.args.map.now c.args.machine.now c.loop-i.machine ss c.loop-i.invariant.view.same f)).ok
+      ∙ ap (append_known (g.O.Sink.text c.loop-i.out)) (same_user c.args.map.now c.args.machine.now c.loop-i.machine ss (c.loop-i.i + 1) (c.loop-i.i + 1 == c.args.running) c.loop-i.invariant.view.same));
 }
+
+pub returns-clause-put : goal.returns-clause-put
+returns-clause-put g c = λ ss e f.
+    let most : c.users-i-end.result ≡ c.args.map.now.users = c.users-i-end.ensures.value in
+    let all : c.loop-i.i ≡ c.args.map.now.users = omega (arith, most) in
+    printed _ _ _ _ (c.loop-i.invariant.text ss e f ∙ ap (λ n. append_known (g.O.Sink.text c.args.out.now) (users_rows c.args.map.now c.args.machine.now (paged_of c.args.map.now (state_of c.args.machine.now ss)) c.args.running n)) all)

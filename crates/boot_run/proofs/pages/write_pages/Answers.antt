@@ -6,7 +6,7 @@ use Rattle.boot_run.proofs.pages.write_pages.Goals as goal
 
 pub returns-in_err-write_page-clause-torn : goal.returns-in_err-write_page-clause-torn
 returns-in_err-write_page-clause-torn g c =
-    on_err c.from_residual.result (torn_among (disk_pages c.args.per (map (λ words. words.items) c.args.users.now) c.args.behind.now) c.loop-q.q c.args.most _ _ _ (omega arith) c.loop-q.invariant.sectors c.in_err-write_page.ensures.torn)
+    on_err c.from_residual.result (torn_among (disk_pages c.args.per (map (λ words. words.items) c.args.users.now) c.args.behind.now) c.loop-q.q c.args.most _ _ _ (omega arith) c.in_err-write_page.ensures.page c.loop-q.invariant.sectors c.in_err-write_page.ensures.torn)
 
 pub loop-q-preserved : goal.loop-q-preserved
 loop-q-preserved g c = record {

@@ -8,7 +8,7 @@ use Rattle.boot_run.proofs.whole.go.Goals as goal
 
 pub loop-left-init : goal.loop-left-init
 loop-left-init g c = record {
-  kept = record { layer_is = refl; boot_is = refl; view_is = refl; rows_are = refl; count_is = refl };
+  kept = record { layer_is = refl; boot_is = refl; view_is = refl; rows_are = refl; count_is = refl; memory = refl };
   fault = c.requires.fine;
   size = refl;
   time = refl;
@@ -56,6 +56,7 @@ loop-left-preserved g c =
         view_is = kept.view_is ∙ was.view_is;
         rows_are = kept.rows_are ∙ was.rows_are;
         count_is = kept.count_is ∙ was.count_is;
+        memory = kept.memory ∙ was.memory;
       };
       fault = c.in_ok-made.ensures.fine;
       size = c.in_ok-made.ensures.size ∙ c.loop-left.invariant.size;

@@ -65,13 +65,13 @@ returns-clause-told g c =
 
 pub returns-clause-disk : goal.returns-clause-disk
 returns-clause-disk g c = λ h.
-    subst (λ n. Rose n (g.D.Sectors.faults c.run_to_end.new.disk)) (c.in_ok-run.ensures.same (λ q. absurd (cc))) (c.run_to_end.ensures.disk (end_disk c.run_to_end.result h))
+    subst (λ n. Rose n (g.D.Sectors.faults c.run_to_end.new.disk)) (c.in_ok-run.ensures.same (λ q. absurd (cc))) (c.run_to_end.ensures.blame.disk_rose (end_disk c.run_to_end.result h))
 
 pub returns-clause-disk_same : goal.returns-clause-disk_same
-returns-clause-disk_same g c = λ h. c.run_to_end.ensures.disk_same (disk_end c.run_to_end.result h) ∙ c.in_ok-run.ensures.same (λ q. absurd (cc))
+returns-clause-disk_same g c = λ h. c.run_to_end.ensures.blame.disk_same (disk_end c.run_to_end.result h) ∙ c.in_ok-run.ensures.same (λ q. absurd (cc))
 
 pub returns-clause-sink : goal.returns-clause-sink
-returns-clause-sink g c = λ h. c.run_to_end.ensures.sink (end_sink c.run_to_end.result h)
+returns-clause-sink g c = λ h. c.run_to_end.ensures.blame.sink_rose (end_sink c.run_to_end.result h)
 
 pub returns-clause-sink_same : goal.returns-clause-sink_same
-returns-clause-sink_same g c = λ h. c.run_to_end.ensures.sink_same (sink_end c.run_to_end.result h)
+returns-clause-sink_same g c = λ h. c.run_to_end.ensures.blame.sink_same (sink_end c.run_to_end.result h)

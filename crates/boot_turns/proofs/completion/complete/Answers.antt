@@ -235,7 +235,7 @@ loop-begun-preserved-else-at_rest g c = record {
   memory = c.in_ok-stepped.ensures.memory ∙ c.loop-begun.invariant.memory;
   sector = c.in_ok-stepped.ensures.sector;
   size = c.in_ok-stepped.ensures.size ∙ c.loop-begun.invariant.size;
-  faults = c.in_ok-stepped.ensures.same (is_done c.in_ok-stepped.stepped Disk) ∙ c.loop-begun.invariant.faults;
+  faults = c.in_ok-stepped.ensures.blame.disk_same (is_done c.in_ok-stepped.stepped Disk) ∙ c.loop-begun.invariant.faults;
   time = let a = c.in_ok-stepped.ensures.time in let b = c.loop-begun.invariant.time in let p = c.if-budget-eq0.false in omega (arith, a, b, p);
   few = c.loop-begun.invariant.few;
   limit = let e = c.loop-begun.invariant.limit in omega (arith, e);
@@ -253,7 +253,7 @@ loop-begun-preserved-else-at_rest g c = record {
   can = c.in_ok-stepped.ensures.can;
   user = c.in_ok-stepped.ensures.user ∙ c.loop-begun.invariant.user;
   untraced = λ e. let i = c.loop-begun.invariant.untraced e in let n = c.in_ok-stepped.ensures.untraced i.0 in (n.0, n.1 ∙ i.1);
-  sink_faults = c.in_ok-stepped.ensures.sink_same (is_done c.in_ok-stepped.stepped Sink) ∙ c.loop-begun.invariant.sink_faults;
+  sink_faults = c.in_ok-stepped.ensures.blame.sink_same (is_done c.in_ok-stepped.stepped Sink) ∙ c.loop-begun.invariant.sink_faults;
   tracks = tracked g (goal.at.loop-begun-preserved-else-at_rest g c).In_ok-stepped;
 }
 
@@ -263,7 +263,7 @@ loop-begun-preserved g c = record {
   memory = c.in_ok-stepped.ensures.memory ∙ c.loop-begun.invariant.memory;
   sector = c.in_ok-stepped.ensures.sector;
   size = c.in_ok-stepped.ensures.size ∙ c.loop-begun.invariant.size;
-  faults = c.in_ok-stepped.ensures.same (is_done c.in_ok-stepped.stepped Disk) ∙ c.loop-begun.invariant.faults;
+  faults = c.in_ok-stepped.ensures.blame.disk_same (is_done c.in_ok-stepped.stepped Disk) ∙ c.loop-begun.invariant.faults;
   time = let a = c.in_ok-stepped.ensures.time in let b = c.loop-begun.invariant.time in let p = c.if-budget-eq0.false in omega (arith, a, b, p);
   few = c.loop-begun.invariant.few;
   limit = let e = c.loop-begun.invariant.limit in omega (arith, e);
@@ -281,7 +281,7 @@ loop-begun-preserved g c = record {
   can = c.in_ok-stepped.ensures.can;
   user = c.in_ok-stepped.ensures.user ∙ c.loop-begun.invariant.user;
   untraced = λ e. let i = c.loop-begun.invariant.untraced e in let n = c.in_ok-stepped.ensures.untraced i.0 in (n.0, n.1 ∙ i.1);
-  sink_faults = c.in_ok-stepped.ensures.sink_same (is_done c.in_ok-stepped.stepped Sink) ∙ c.loop-begun.invariant.sink_faults;
+  sink_faults = c.in_ok-stepped.ensures.blame.sink_same (is_done c.in_ok-stepped.stepped Sink) ∙ c.loop-begun.invariant.sink_faults;
   tracks = tracked g (goal.at.loop-begun-preserved g c).In_ok-stepped;
 }
 
@@ -333,7 +333,7 @@ loop-begun-preserved-then-skipped-limit g c =
       memory = c.pass-skipped.ensures.memory ∙ c.in_ok-stepped.ensures.memory ∙ c.loop-begun.invariant.memory;
       sector = subst (λ (h : Held). NamesSector (g.D.Sectors.size c.step_traced.new.disk) h.hardware.ports.pending) (sym rest) c.in_ok-stepped.ensures.sector;
       size = c.in_ok-stepped.ensures.size ∙ c.loop-begun.invariant.size;
-      faults = c.in_ok-stepped.ensures.same (is_done c.in_ok-stepped.stepped Disk) ∙ c.loop-begun.invariant.faults;
+      faults = c.in_ok-stepped.ensures.blame.disk_same (is_done c.in_ok-stepped.stepped Disk) ∙ c.loop-begun.invariant.faults;
       time = let a = c.in_ok-stepped.ensures.time in let b = c.loop-begun.invariant.time in let d = ap (λ (h : Held). h.time) rest in omega (arith, a, b, p, d, spent);
       few = let e = c.loop-begun.invariant.limit in omega (arith, e, less, few);
       limit = c.loop-begun.invariant.limit;
@@ -363,7 +363,7 @@ loop-begun-preserved-then-skipped-limit g c =
           c.step_traced.new.tracer c.pass-skipped.ensures.memory (ap (λ (h : Held). h.time) rest) c.in_ok-stepped.ensures.can;
       user = c.in_ok-stepped.ensures.user ∙ c.loop-begun.invariant.user;
       untraced = λ e. let i = c.loop-begun.invariant.untraced e in let n = c.in_ok-stepped.ensures.untraced i.0 in (n.0, n.1 ∙ i.1);
-      sink_faults = c.in_ok-stepped.ensures.sink_same (is_done c.in_ok-stepped.stepped Sink) ∙ c.loop-begun.invariant.sink_faults;
+      sink_faults = c.in_ok-stepped.ensures.blame.sink_same (is_done c.in_ok-stepped.stepped Sink) ∙ c.loop-begun.invariant.sink_faults;
       tracks = tracks_passed (outside_of c.args.machine.now.rows (g.D.Sectors.size c.args.disk.now)) c.args.map.now (seen (g.D.Sectors.sectors c.args.disk.now) c.args.machine.now)
           (tracing c.args.tracer.now (g.O.Sink.text c.args.out.now) c.args.budget.now) (g.D.Sectors.sectors c.step_traced.new.disk) c.step_traced.new.machine c.pass-skipped.new.machine c.step_traced.new.tracer c.args.tracer.now (g.O.Sink.text c.step_traced.new.out)
           (c.loop-begun.budget - 1) c.pass-skipped.new.budget c.pass-skipped.result (c.in_ok-stepped.ensures.user ∙ c.loop-begun.invariant.user) refl c.pass-skipped.ensures.traced spent

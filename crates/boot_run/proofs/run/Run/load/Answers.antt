@@ -7,7 +7,7 @@ use Rattle.mips_machine.specs.Machine.{Held}
 use Rattle.layer_contract.specs.Follows.{loaded}
 use Rattle.boot_run.specs.LoadEnds.{SeesUser, names_sector}
 use Rattle.boot_run.proofs.Readiness.{first_fits, loaded_ready}
-use Rattle.boot_run.proofs.Loads.{loaded_long, stands_loaded, torn_loaded}
+use Rattle.boot_run.proofs.Loads.{loaded_long, loaded_whole, stands_loaded, torn_loaded}
 use Rattle.boot_run.proofs.run.Run.load.Goals as goal
 
 pub returns-in-Ok-clause-stands : goal.returns-in-Ok-clause-stands
@@ -21,6 +21,9 @@ returns-in-Ok-clause-stands g c =
     (subst (λ n. g.D.Sectors.sectors c.write_pages.new.disk ≡ option_map (written (pages_of_users c.args.boot.params.pages c.as_slice.result.now []) (n * c.args.boot.params.pages)) (g.D.Sectors.sectors c.args.disk.now)) users c.in-Ok.ensures.ok) in
     stands_loaded c.args.boot c.args.schedule c.in_ok-machine.machine (g.D.Sectors.sectors c.args.disk.now) (g.D.Sectors.sectors c.write_pages.new.disk) (g.D.Sectors.size c.args.disk.now) some
     c.in_ok-machine.ensures sectors (g.met.D.Sectors.sized c.args.disk.now) few
+
+pub returns-in-Ok-clause-memory : goal.returns-in-Ok-clause-memory
+returns-in-Ok-clause-memory g c = loaded_whole c.args.boot c.args.schedule c.in_ok-machine.machine c.in_ok-machine.ensures
 
 pub returns-in-Ok-clause-ready : goal.returns-in-Ok-clause-ready
 returns-in-Ok-clause-ready g c = λ x old budget text e.

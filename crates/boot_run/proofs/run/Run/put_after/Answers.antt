@@ -1,16 +1,15 @@
 use Rattle.std.proofs.Common.{◌∙◌, ap, sym, subst}
-use Rattle.std.specs.Prelude.{OnErr}
-use Rattle.cvm_outside.specs.Told.{AppendsPart}
+use Rattle.boot_report.specs.Leaves.{Puts}
 use Rattle.boot_run.specs.LoadEnds.{Kept}
 use Rattle.boot_run.specs.TurnParts.{rows_after}
 use Rattle.boot_run.proofs.run.Run.put_after.Goals as goal
 
-pub returns-in-None-clause-err : goal.returns-in-None-clause-err
-returns-in-None-clause-err g c = subst (λ rows. OnErr c.put_row.result (AppendsPart (g.O.Sink.text c.args.out.now) (g.O.Sink.text c.put_row.new.out) rows))
+pub returns-in-None-clause-put : goal.returns-in-None-clause-put
+returns-in-None-clause-put g c = subst (λ rows. Puts g.O.Sink.text g.O.Sink.faults c.args.out.now c.put_row.new.out rows c.put_row.result)
     (ap (λ o. rows_after o c.self.inside.ended c.args.answer) (sym c.in-None.is) ∙ ap (λ (q : Kept _). rows_after q.tracer q.ended c.args.answer) c.self.view_is)
-    c.put_row.ensures.err
+    c.put_row.ensures.put
 
-pub returns-in-Some-clause-err : goal.returns-in-Some-clause-err
-returns-in-Some-clause-err g c = subst (λ rows. OnErr c.put_fault.result (AppendsPart (g.O.Sink.text c.args.out.now) (g.O.Sink.text c.put_fault.new.out) rows))
+pub returns-in-Some-clause-put : goal.returns-in-Some-clause-put
+returns-in-Some-clause-put g c = subst (λ rows. Puts g.O.Sink.text g.O.Sink.faults c.args.out.now c.put_fault.new.out rows c.put_fault.result)
     (ap (λ o. rows_after o c.self.inside.ended c.args.answer) (sym c.in-Some.is) ∙ ap (λ (q : Kept _). rows_after q.tracer q.ended c.args.answer) c.self.view_is)
-    c.put_fault.ensures.err
+    c.put_fault.ensures

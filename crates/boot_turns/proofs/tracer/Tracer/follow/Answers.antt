@@ -1,6 +1,7 @@
 -- What a step adds is what its branch prints: a turn of the user, a turn of another, a primitive that returned, or nothing.
 use Rattle.std.proofs.Common.{◌≡◌, ℕ, List, [], Bool, true, false, Option, Some, Err, slice_index, refl, sym, ap, ap₂, ◌∙◌, subst}
 use Rattle.std.specs.Prelude.{IsSome}
+use Rattle.std.specs.Io.KnownBytes.{append_known}
 use Rattle.cvm_outside.proofs.Parts.{append_known-nil}
 use Rattle.mips_table.specs.Machine.{State}
 use Rattle.mips_machine.specs.Machine.{Held, state_of}
@@ -11,17 +12,19 @@ use Rattle.boot_turns.specs.Entries.{turn_begins, notes_on, returned, IsCopyTo, 
 use Rattle.boot_turns.specs.Completes.{shown}
 use Rattle.boot_turns.specs.declared.completion.Begun.{Begun}
 use Rattle.std.proofs.lemmas.Result.{err_from_is_err_and}
-use Rattle.boot_turns.proofs.Puts.{is_err}
+use Rattle.boot_report.proofs.Leaves.{broken, printed}
+use Rattle.boot_turns.specs.Tracing.{followed_rows}
 use Rattle.boot_turns.proofs.Followed.{own_turn, other_turn, none_returned, rows_put, kept_then, call_put, call_begun, call_kept}
 use Rattle.boot_turns.proofs.tracer.Tracer.follow.Goals.{then-began+then-current-self+else-prove+in_ok-begin, then-began+else-current-self, else-began+in-Some+in_ok-end, else-began+in_default}
 use Rattle.boot_turns.proofs.tracer.Tracer.follow.Goals as goal
 
-pub returns-in_err-end-clause-err : goal.returns-in_err-end-clause-err
-returns-in_err-end-clause-err g c = λ ss words e told.
+pub returns-in_err-end-clause-put : goal.returns-in_err-end-clause-put
+returns-in_err-end-clause-put g c = λ ss words e told.
     let s : State = state_of c.args.machine.now ss in
-    is_err c.from_residual-in_err-end.result
+    let h = err_from_is_err_and c.from_residual-in_err-end.result c.from_residual-in_err-end.ensures.1 in
+    broken _ _ _ c.from_residual-in_err-end.result h.0 h.1
     (call_begun s c.args.self.now c.args.current c.args.began words c.args.map.now c.returned_call.result c.in-Some.call c.reg.result c.if-began.false c.returned_call.ensures c.in-Some.is c.reg.ensures told
-    (g.O.Sink.text c.args.out.now) (g.O.Sink.text c.end.new.out) (c.in_err-end.ensures.err ss words e))
+    (g.O.Sink.text c.args.out.now) (g.O.Sink.text c.end.new.out) (λ t p. (c.in_err-end.ensures.put ss words e t p).err))
 
 -- where the primitive's rows couldn't be read, it copied words to the user
 copied : (a : Held) (kept : Tracer) (o : Option Entered) (e : Entered) (answer : ℕ) → o ≡ returned (state_of a []) kept.call → o ≡ Some e → answer ≡ slice_index a.hardware.cpu.regs 2 → IsCopyTo kept.user e answer → CopyEnds kept.user (state_of a []) kept.call
@@ -44,15 +47,15 @@ returns-in_err-end-clause-puts g c = λ e. returned_rows c.args.machine.now c.ar
 pub returns-in_err-end-clause-reads : goal.returns-in_err-end-clause-reads
 returns-in_err-end-clause-reads g c = λ e. (c.if-began.false, copied c.args.machine.now c.args.self.now c.returned_call.result c.in-Some.call c.reg.result c.returned_call.ensures c.in-Some.is c.reg.ensures (c.in_err-end.ensures.reads (let w = err_from_is_err_and c.from_residual-in_err-end.result c.from_residual-in_err-end.ensures.1 in sym (ap (λ f. Err f) w.2) ∙ sym w.1 ∙ e)))
 
-pub returns-clause-ok : goal.returns-clause-ok
-returns-clause-ok g c = λ ss words e told.
+pub returns-clause-put : goal.returns-clause-put
+returns-clause-put g c = λ ss words e told.
     let s : State = state_of c.args.machine.now ss in
     let kept = c.args.self.now in
-    elim c.if-began.branch [
+    let all : g.O.Sink.text c.if-began.out ≡ append_known (g.O.Sink.text c.args.out.now) (followed_rows s kept c.args.current c.args.began words) = elim c.if-began.branch [
       | then-began+then-current-self+else-prove+in_ok-begin w ↦ (
           let is = own_turn s kept c.args.current c.args.began words w.begun_now.result w.if-began.true w.begun_now.ensures in
           ap g.O.Sink.text w.out-is
-          ∙ rows_put s kept c.args.current c.args.began words (turn_begins kept.user c.args.current w.begun_now.result) is (g.O.Sink.text c.args.out.now) (g.O.Sink.text w.begin.new.out) w.in_ok-begin.ensures.ok
+          ∙ rows_put s kept c.args.current c.args.began words (turn_begins kept.user c.args.current w.begun_now.result) is (g.O.Sink.text c.args.out.now) (g.O.Sink.text w.begin.new.out) w.in_ok-begin.ensures.put.ok
           )
       | then-began+else-current-self w ↦ (
           let is = other_turn s kept c.args.current c.args.began words w.if-began.true w.if-current-self.false in
@@ -61,12 +64,13 @@ returns-clause-ok g c = λ ss words e told.
       | else-began+in-Some+in_ok-end w ↦
           ap g.O.Sink.text w.out-is
           ∙ call_put s kept c.args.current c.args.began words c.args.map.now w.returned_call.result w.in-Some.call w.reg.result w.if-began.false w.returned_call.ensures w.in-Some.is w.reg.ensures told
-          (g.O.Sink.text c.args.out.now) (g.O.Sink.text w.end.new.out) (w.in_ok-end.ensures.ok ss words e)
+          (g.O.Sink.text c.args.out.now) (g.O.Sink.text w.end.new.out) (λ t p. (w.in_ok-end.ensures.put ss words e t p).ok)
       | else-began+in_default w ↦ (
           let is = none_returned s kept c.args.current c.args.began words w.returned_call.result w.if-began.false w.returned_call.ensures w.in_default.is in
           ap g.O.Sink.text w.out-is ∙ rows_put s kept c.args.current c.args.began words [] is (g.O.Sink.text c.args.out.now) (g.O.Sink.text c.args.out.now) (sym (append_known-nil _))
           )
-    ]
+    ] in
+    printed _ _ _ _ all
 
 -- the note is made by the machine as it was, and by the note before
 noted_then : (a b : Held) (ss : List (List ℕ)) (c d : Option Entered) → SameButViewed a b → d ≡ c → notes_on (state_of b []) d ≡ notes_on (state_of a ss) c
@@ -95,7 +99,7 @@ returns-clause-kept g c = λ ss words e told.
       | else-began+in-Some+in_ok-end w ↦
           call_kept s kept c.args.current c.args.began words c.args.map.now w.returned_call.result w.in-Some.call w.reg.result w.if-began.false w.returned_call.ensures w.in-Some.is w.reg.ensures told
           c.if-began.self next (λ t p. w.self-is ∙ w.in_ok-end.ensures.steps ss words e t p)
-          (λ h. noted_then c.args.machine.now c.if-began.machine ss kept.call c.if-began.self.call (subst (SameButViewed c.args.machine.now) (sym w.machine-is) w.in_ok-end.ensures.same) h)
+          (λ h. noted_then c.args.machine.now c.if-began.machine ss kept.call c.if-began.self.call (subst (SameButViewed c.args.machine.now) (sym w.machine-is) w.in_ok-end.ensures.view.same) h)
       | else-began+in_default w ↦ (
           let is = none_returned s kept c.args.current c.args.began words w.returned_call.result w.if-began.false w.returned_call.ensures w.in_default.is in
           kept_then s kept c.args.current c.args.began words [] is c.if-began.self next w.self-is

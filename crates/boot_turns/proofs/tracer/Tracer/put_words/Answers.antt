@@ -1,8 +1,11 @@
-use Rattle.std.proofs.Common.{◌+◌, ◌*◌, ◌/◌, ◌<◌, ◌≤◌, refl, ap, ◌∙◌, arith}
+use Rattle.std.proofs.Common.{◌≡◌, ◌+◌, ◌*◌, ◌/◌, ◌<◌, ◌≤◌, refl, ap, ◌∙◌, arith}
+use Rattle.std.specs.Io.KnownBytes.{append_known}
+use Rattle.std.proofs.lemmas.Result.{err_from_is_err_and}
 use Rattle.mips_machine.specs.Machine.{state_of}
 use Rattle.cvm_model.specs.Paged.{paged_of}
-use Rattle.boot_turns.proofs.Puts.{is_err}
-use Rattle.boot_turns.proofs.Copying.{one_put, part_put, stop_put, none_put, put_tracer, same_twice, fits_then, row_read}
+use Rattle.boot_report.proofs.Leaves.{broken, printed, views_twice}
+use Rattle.boot_turns.specs.Copies.{copy_rows}
+use Rattle.boot_turns.proofs.Copying.{one_put, part_put, stop_put, none_put, put_tracer, fits_then, row_read}
 use Rattle.boot_turns.proofs.tracer.Tracer.put_words.Goals as goal
 
 pub loop-i-init : goal.loop-i-init
@@ -10,48 +13,52 @@ loop-i-init g c = record {
   user = refl;
   steps = refl;
   self = refl;
-  same = refl;
+  view = record { same = refl; sectors = refl; size = refl };
   memory = refl;
-  sectors = refl;
-  size = refl;
   disk_faults = refl;
   faults = refl;
   text = λ ss e f. none_put c.args.map.now (paged_of c.args.map.now (state_of c.args.machine.now ss)) c.args.self.now.user c.args.self.now.steps c.args.address (g.O.Sink.text c.args.out.now);
 }
 
-pub returns-in_err-word-clause-err : goal.returns-in_err-word-clause-err
-returns-in_err-word-clause-err g c = λ ss e f.
+pub returns-in_err-word-clause-put : goal.returns-in_err-word-clause-put
+returns-in_err-word-clause-put g c = λ ss e f.
     let le : c.loop-i.i ≤ c.args.count = omega arith in
-    is_err c.from_residual.result
+    let h = err_from_is_err_and c.from_residual.result c.from_residual.ensures.1 in
+    broken _ _ _ c.from_residual.result h.0 h.1
     (stop_put c.args.map.now (paged_of c.args.map.now (state_of c.args.machine.now ss)) c.args.self.now.user c.args.self.now.steps c.args.address (g.O.Sink.text c.args.out.now) (g.O.Sink.text c.loop-i.out) c.loop-i.i c.args.count le (c.loop-i.invariant.text ss e f))
 
-pub returns-in_err-put-clause-err : goal.returns-in_err-put-clause-err
-returns-in_err-put-clause-err g c = λ ss e f.
+pub returns-in_err-put-clause-put : goal.returns-in_err-put-clause-put
+returns-in_err-put-clause-put g c = λ ss e f.
     let lt : c.loop-i.i < c.args.count = omega arith in
-    let told = c.in_ok-word.ensures.shown ss (c.loop-i.invariant.sectors ∙ e) (fits_then c.args.map.now c.args.machine.now c.loop-i.machine ss c.loop-i.invariant.same f) in
-    is_err c.from_residual-in_err-put.result
+    let told = c.in_ok-word.ensures.shown ss (c.loop-i.invariant.view.sectors ∙ e) (fits_then c.args.map.now c.args.machine.now c.loop-i.machine ss c.loop-i.invariant.view.same f) in
+    let h = err_from_is_err_and c.from_residual-in_err-put.result c.from_residual-in_err-put.ensures.1 in
+    broken _ _ _ c.from_residual-in_err-put.result h.0 h.1
     (part_put c.args.map.now (paged_of c.args.map.now (state_of c.args.machine.now ss)) c.args.self.now.user c.args.self.now.steps c.args.address (g.O.Sink.text c.args.out.now) (g.O.Sink.text c.loop-i.out) (g.O.Sink.text c.put.new.out)
     c.loop-i.i c.as_bytes.result.now c.loop-i.self.steps (c.loop-i.invariant.text ss e f)
-    (row_read c.args.map.now c.args.machine.now c.loop-i.machine ss c.args.self.now.user c.loop-i.self.user (c.args.address / 4 + c.loop-i.i) (c.args.address + 4 * c.loop-i.i) c.in_ok-word.word c.as_bytes.result.now c.loop-i.invariant.same c.loop-i.invariant.user told
+    (row_read c.args.map.now c.args.machine.now c.loop-i.machine ss c.args.self.now.user c.loop-i.self.user (c.args.address / 4 + c.loop-i.i) (c.args.address + 4 * c.loop-i.i) c.in_ok-word.word c.as_bytes.result.now c.loop-i.invariant.view.same c.loop-i.invariant.user told
     (c.as_bytes.ensures.value ∙ c.as_str.ensures.value ∙ c.put_row.ensures))
-    c.loop-i.invariant.steps c.args.count lt c.in_err-put.ensures.err)
+    c.loop-i.invariant.steps c.args.count lt c.in_err-put.ensures.put.err)
 
 pub loop-i-preserved : goal.loop-i-preserved
 loop-i-preserved g c = record {
   user = ap (λ t. t.user) c.in_ok-put.ensures.steps ∙ c.loop-i.invariant.user;
   steps = ap (λ t. t.steps) (put_tracer c.args.self.now c.loop-i.self c.put.new.self c.loop-i.i c.loop-i.invariant.self c.in_ok-put.ensures.steps);
   self = put_tracer c.args.self.now c.loop-i.self c.put.new.self c.loop-i.i c.loop-i.invariant.self c.in_ok-put.ensures.steps;
-  same = same_twice c.args.machine.now c.loop-i.machine c.read_user_word.new.machine c.loop-i.invariant.same c.in_ok-word.ensures.same;
-  memory = ap (λ h. h.hardware.memory) c.in_ok-word.ensures.same ∙ c.loop-i.invariant.memory;
-  sectors = c.in_ok-word.ensures.sectors ∙ c.loop-i.invariant.sectors;
-  size = c.in_ok-word.ensures.size ∙ c.loop-i.invariant.size;
+  view = views_twice g.D.Sectors.sectors g.D.Sectors.size c.args.machine.now c.loop-i.machine c.read_user_word.new.machine c.args.disk.now c.loop-i.disk c.read_user_word.new.disk c.loop-i.invariant.view c.in_ok-word.ensures.view;
+  memory = ap (λ h. h.hardware.memory) c.in_ok-word.ensures.view.same ∙ c.loop-i.invariant.memory;
   disk_faults = c.in_ok-word.ensures.count.same ∙ c.loop-i.invariant.disk_faults;
-  faults = c.in_ok-put.ensures.count.same ∙ c.loop-i.invariant.faults;
+  faults = c.in_ok-put.ensures.put.count.same ∙ c.loop-i.invariant.faults;
   text = λ ss e f.
-      let told = c.in_ok-word.ensures.shown ss (c.loop-i.invariant.sectors ∙ e) (fits_then c.args.map.now c.args.machine.now c.loop-i.machine ss c.loop-i.invariant.same f) in
+      let told = c.in_ok-word.ensures.shown ss (c.loop-i.invariant.view.sectors ∙ e) (fits_then c.args.map.now c.args.machine.now c.loop-i.machine ss c.loop-i.invariant.view.same f) in
       one_put c.args.map.now (paged_of c.args.map.now (state_of c.args.machine.now ss)) c.args.self.now.user c.args.self.now.steps c.args.address (g.O.Sink.text c.args.out.now) (g.O.Sink.text c.loop-i.out) (g.O.Sink.text c.put.new.out)
       c.loop-i.i c.as_bytes.result.now c.loop-i.self.steps (c.loop-i.invariant.text ss e f)
-      (row_read c.args.map.now c.args.machine.now c.loop-i.machine ss c.args.self.now.user c.loop-i.self.user (c.args.address / 4 + c.loop-i.i) (c.args.address + 4 * c.loop-i.i) c.in_ok-word.word c.as_bytes.result.now c.loop-i.invariant.same c.loop-i.invariant.user told
+      (row_read c.args.map.now c.args.machine.now c.loop-i.machine ss c.args.self.now.user c.loop-i.self.user (c.args.address / 4 + c.loop-i.i) (c.args.address + 4 * c.loop-i.i) c.in_ok-word.word c.as_bytes.result.now c.loop-i.invariant.view.same c.loop-i.invariant.user told
       (c.as_bytes.ensures.value ∙ c.as_str.ensures.value ∙ c.put_row.ensures))
-      c.loop-i.invariant.steps c.in_ok-put.ensures.ok;
+      c.loop-i.invariant.steps c.in_ok-put.ensures.put.ok;
 }
+
+pub returns-clause-put : goal.returns-clause-put
+returns-clause-put g c = λ ss e f.
+    let all : c.loop-i.i ≡ c.args.count = omega arith in
+    printed _ _ _ _ (c.loop-i.invariant.text ss e f
+    ∙ ap (λ n. append_known (g.O.Sink.text c.args.out.now) (copy_rows c.args.map.now (paged_of c.args.map.now (state_of c.args.machine.now ss)) c.args.self.now.user c.args.self.now.steps c.args.address n)) all)

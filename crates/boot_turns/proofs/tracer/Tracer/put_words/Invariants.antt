@@ -2,7 +2,8 @@ use Rattle.std.proofs.Common.{◌≡◌, ℕ, List, Some}
 use Rattle.std.specs.Io.KnownBytes.{append_known}
 use Rattle.mips_machine.specs.Machine.{state_of}
 use Rattle.cvm_model.specs.Paged.{paged_of}
-use Rattle.boot_report.specs.Texts.{EntriesFit, SameButViewed}
+use Rattle.boot_report.specs.Texts.{EntriesFit}
+use Rattle.boot_report.specs.Leaves.{OnlyViews}
 use Rattle.boot_turns.specs.Copies.{copy_rows, steps_left}
 use Rattle.boot_turns.proofs.tracer.Tracer.put_words.Given as goal
 
@@ -11,10 +12,8 @@ invariant-loop-i g l = record {
   user : l.self.user ≡ l.fn.self.user;
   steps : l.self.steps ≡ steps_left l.fn.self.steps l.i;
   self : l.self ≡ record l.fn.self { steps = steps_left l.fn.self.steps l.i };
-  same : SameButViewed l.fn.machine l.machine;
+  view : OnlyViews l.fn.machine l.machine g.D.Sectors.sectors g.D.Sectors.size l.fn.disk l.disk;
   memory : l.machine.hardware.memory ≡ l.fn.machine.hardware.memory;
-  sectors : g.D.Sectors.sectors l.disk ≡ g.D.Sectors.sectors l.fn.disk;
-  size : g.D.Sectors.size l.disk ≡ g.D.Sectors.size l.fn.disk;
   disk_faults : g.D.Sectors.faults l.disk ≡ g.D.Sectors.faults l.fn.disk;
   faults : g.O.Sink.faults l.out ≡ g.O.Sink.faults l.fn.out;
   text : (ss : List (List ℕ)) → g.D.Sectors.sectors l.fn.disk ≡ Some ss → EntriesFit l.map (state_of l.fn.machine ss) →

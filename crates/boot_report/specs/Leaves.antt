@@ -1,0 +1,23 @@
+-- What a call leaves in its sink and its disk.
+use Rattle.std.specs.Prelude.{◌≡◌, ℕ, Option, List, Result}
+use Rattle.cvm_outside.specs.Causes.{Counts}
+use Rattle.mips_machine.specs.Machine.{Held}
+use Rattle.boot_report.specs.Prints.{Prints, PrintsPart}
+use Rattle.boot_report.specs.Texts.{SameButViewed}
+
+-- these rows are in the text of a sink, or where there is an error a part of them
+pub record Printed {T E : Type 0} (old new : Option (List ℕ)) (rows : List ℕ) (result : Result T E) : Type 0 where
+  pub ok : Prints old new rows result
+  pub err : PrintsPart old new rows result
+
+-- and each error is a fault of the sink, which has a text and a count of faults; by the sink before and after
+pub record Puts {T E O : Type 0} (text : O → Option (List ℕ)) (broke : O → ℕ) (out reout : O) (rows : List ℕ) (result : Result T E) : Type 0 where
+  pub ok : Prints (text out) (text reout) rows result
+  pub err : PrintsPart (text out) (text reout) rows result
+  pub count : Counts (broke out) (broke reout) result
+
+-- sectors were at most read, into the words that a machine has viewed; by the sectors and the size of a disk, and the objects before and after
+pub record OnlyViews {D : Type 0} (old new : Held) (told : D → Option (List (List ℕ))) (large : D → ℕ) (disk redisk : D) : Type 0 where
+  pub same : SameButViewed old new
+  pub sectors : told redisk ≡ told disk
+  pub size : large redisk ≡ large disk

@@ -1,0 +1,64 @@
+use Rattle.std.proofs.Common.{refl, sym, ap, ◌∙◌, subst}
+use Rattle.std.proofs.lemmas.Result.{err_from_is_err_and}
+use Rattle.cvm_outside.specs.Causes.{Rose}
+use Rattle.mips_machine.specs.Steps.{outside_of}
+use Rattle.layer_contract.specs.Follows.{loaded}
+use Rattle.layer_contract.specs.Starts.{user_sectors}
+use Rattle.boot_turns.specs.declared.answers.View.TheVariants.{Boot}
+use Rattle.boot_run.specs.Loading.{system_of}
+use Rattle.boot_run.specs.LoadEnds.{pages_needed}
+use Rattle.boot_run.proofs.Loads.{needed_is}
+use Rattle.boot_run.proofs.Booting.{refused, refused_told}
+use Rattle.boot_run.proofs.ToSave.{saves_so, saves_told, save_disk, save_sink, no_save_disk, no_save_sink, load_rose, no_load_disk, no_load_sink}
+use Rattle.boot_run.proofs.saving.run_to_save.Goals as goal
+
+pub returns-in_err-run-clause-ends : goal.returns-in_err-run-clause-ends
+returns-in_err-run-clause-ends g c =
+    let w = err_from_is_err_and c.from_residual.result c.from_residual.ensures.1 in
+    rw (w.1, w.2)
+    (refused (outside_of c.args.schedule (g.D.Sectors.size c.args.disk.now)) (system_of c.args.boot c.args.schedule) (loaded (system_of c.args.boot c.args.schedule)) (pages_needed c.args.boot) (user_sectors (system_of c.args.boot c.args.schedule))
+    (sym (needed_is c.args.boot c.args.schedule)) Boot c.args.turns c.args.steps (g.D.Sectors.sectors c.args.disk.now) (g.D.Sectors.sectors c.load.new.disk) (g.O.Sink.text c.args.out.now) (g.O.Sink.text c.args.out.now) refl
+    c.in_err-run.field-0.0 (λ ne. ap g.D.Sectors.sectors (c.in_err-run.ensures.still (λ q. ne (let h = q in cc)))) (λ e. c.in_err-run.ensures.torn (let h = e in cc)))
+
+pub returns-in_err-run-clause-told : goal.returns-in_err-run-clause-told
+returns-in_err-run-clause-told g c =
+    refused_told (outside_of c.args.schedule (g.D.Sectors.size c.args.disk.now)) (system_of c.args.boot c.args.schedule) (loaded (system_of c.args.boot c.args.schedule)) (pages_needed c.args.boot) (user_sectors (system_of c.args.boot c.args.schedule))
+    (sym (needed_is c.args.boot c.args.schedule)) Boot c.args.turns c.args.steps (g.D.Sectors.sectors c.args.disk.now) (g.D.Sectors.sectors c.load.new.disk) (g.O.Sink.text c.args.out.now) (g.O.Sink.text c.args.out.now) refl
+    c.in_err-run.field-0.0 (λ ne. ap g.D.Sectors.sectors (c.in_err-run.ensures.still (λ q. ne (let h = q in cc)))) (λ e. c.in_err-run.ensures.torn (let h = e in cc))
+
+pub returns-clause-ends : goal.returns-clause-ends
+returns-clause-ends g c =
+    saves_so c.args.layer c.args.boot c.args.schedule (pages_needed c.args.boot) (g.D.Sectors.size c.args.disk.now) (g.D.Sectors.size c.load.new.disk) c.args.turns c.args.steps
+    (g.D.Sectors.sectors c.args.disk.now) (g.D.Sectors.sectors c.load.new.disk) (g.D.Sectors.sectors c.run_to_stop-end.new.disk) (g.O.Sink.text c.args.out.now) (g.O.Sink.text c.run_to_stop-end.new.out)
+    c.in_ok-run.run' c.run_to_stop-end.new.run c.run_to_stop-end.result c.in_ok-run.ensures.fresh c.in_ok-run.ensures.size c.requires.some
+    (λ old is. c.premises_hold.ensures old is c.in_ok-run.ensures.fresh.has_room.room) c.in_ok-run.ensures.ready c.run_to_stop-end.ensures.ends
+
+pub returns-clause-told : goal.returns-clause-told
+returns-clause-told g c =
+    saves_told c.args.layer c.args.boot c.args.schedule (pages_needed c.args.boot) (g.D.Sectors.size c.args.disk.now) (g.D.Sectors.size c.load.new.disk) c.args.turns c.args.steps
+    (g.D.Sectors.sectors c.args.disk.now) (g.D.Sectors.sectors c.load.new.disk) (g.D.Sectors.sectors c.run_to_stop-end.new.disk) (g.O.Sink.text c.args.out.now) (g.O.Sink.text c.run_to_stop-end.new.out)
+    c.in_ok-run.run' c.run_to_stop-end.new.run c.run_to_stop-end.result c.in_ok-run.ensures.fresh c.in_ok-run.ensures.size c.requires.some
+    (λ old is. c.premises_hold.ensures old is c.in_ok-run.ensures.fresh.has_room.room) c.in_ok-run.ensures.ready c.run_to_stop-end.ensures.ends
+
+pub returns-clause-memory : goal.returns-clause-memory
+returns-clause-memory g c = λ stopped. c.run_to_stop-end.ensures.memory stopped ∙ c.in_ok-run.ensures.memory
+
+pub returns-clause-blame : goal.returns-clause-blame
+returns-clause-blame g c = record {
+  disk_rose = λ h.
+      subst (λ n. Rose n (g.D.Sectors.faults c.run_to_stop-end.new.disk)) (c.in_ok-run.ensures.same (λ q. absurd (cc))) (c.run_to_stop-end.ensures.blame.disk_rose (save_disk c.run_to_stop-end.new.run c.run_to_stop-end.result h));
+  disk_same = λ h. c.run_to_stop-end.ensures.blame.disk_same (no_save_disk c.run_to_stop-end.new.run c.run_to_stop-end.result h) ∙ c.in_ok-run.ensures.same (λ q. absurd (cc));
+  sink_rose = λ h. c.run_to_stop-end.ensures.blame.sink_rose (save_sink c.run_to_stop-end.new.run c.run_to_stop-end.result h);
+  sink_same = λ h. c.run_to_stop-end.ensures.blame.sink_same (no_save_sink c.run_to_stop-end.new.run c.run_to_stop-end.result h);
+}
+
+pub returns-in_err-run-clause-blame : goal.returns-in_err-run-clause-blame
+returns-in_err-run-clause-blame g c =
+    let w = err_from_is_err_and c.from_residual.result c.from_residual.ensures.1 in
+    rw (w.1, w.2)
+    (record {
+      disk_rose = λ h. load_rose c.args.layer c.args.boot (pages_needed c.args.boot) (g.D.Sectors.size c.args.disk.now) (g.D.Sectors.faults c.args.disk.now) (g.D.Sectors.faults c.load.new.disk) c.in_err-run.field-0.0 c.in_err-run.ensures.fault h;
+      disk_same = λ h. c.in_err-run.ensures.same (λ q. no_load_disk c.args.layer c.in_err-run.field-0.0 h (let e = q in cc));
+      sink_rose = λ h. absurd (no_load_sink c.args.layer c.in_err-run.field-0.0 h);
+      sink_same = λ h. refl;
+    })

@@ -1,0 +1,113 @@
+// A run that was taken up from saved words goes on as the run that was saved.
+ghost use Rattle.std.specs.Prelude.{◌≡◌, ℕ, ◌+◌, ◌-◌, ◌<◌, ◌≤◌, ◌^◌, None, List, [], length, slice_index, IfOk, IsSome};
+ghost use Rattle.boot_report.specs.Blames.{Blames};
+ghost use Rattle.layer_map.specs.Map.{memory_words};
+ghost use Rattle.mips_machine.specs.Machine.{state_of};
+ghost use Rattle.mips_machine.specs.Saved.{saved, AreSaved, CanBeSaved};
+ghost use Rattle.layer_contract.specs.Boots.{BootFollows};
+ghost use Rattle.boot_run.specs.LoadEnds.{pages_needed};
+ghost use Rattle.boot_run.specs.SavedFiles.{SavedBootsAreOfRuns};
+ghost use Rattle.boot_run.specs.Saving.{AreBoots, IsResumed, Joins, RunsOn};
+
+use crate::run::Run;
+use crate::whole::{RunEnd, are_words, run_to_end, saved_runs_are_taken_up, saved_runs_join};
+use boot_turns::machines_run;
+use cvm_outside::{Sectors, Sink};
+use layer_contract::{Boot, Layer, the_loaded_machine_starts};
+use layer_map::{Map, memory_is_whole, parts_are_in_order};
+use mips_machine::Machine;
+use mips_machine::laws::schedules_end;
+use mips_table::runs::{a_new_machine_is_steady, machines_stay_steady, runs_are_taken_up};
+use schedule_file::Schedule;
+use std::alloc::{AllocError, Global};
+
+/// A law: what a layer, what is booted and a schedule promise are the premises of a boot over each disk that has the sectors which it needs.
+pub(crate) fn boots_hold<L: Layer>(layer: &L, boot: &Boot, schedule: &Schedule, count: u32)
+    requires follows { BootFollows (L.image layer.now) (L.sizes layer.now) (L.map layer.now) boot.now }
+    requires room { pages_needed boot.now ≤ count }
+    ensures { AreBoots boot.now schedule.now count }
+{
+    the_loaded_machine_starts();
+    layer.keeps_laws();
+    are_words(boot.words.as_slice());
+    schedules_end(schedule);
+    let _ = schedule.longest();
+    let _ = schedule.inputs();
+}
+
+/// The machine that these words tell, under a schedule.
+///
+/// # Errors
+///
+/// Want of memory.
+pub(crate) fn resumed_machine(
+    alloc: Global,
+    map: &Map,
+    schedule: Schedule,
+    from: &[u32],
+) -> Result<Machine, AllocError>
+    requires { AreSaved (memory_words map.now) schedule.inputs from.now }
+    ensures words { IfOk result (λ m. saved schedule.inputs (state_of m []) (slice_index from.now 5) (slice_index from.now 6) ≡ from.now) }
+    ensures ready { IfOk result (λ m. (sectors : List (List ℕ)) → CanBeSaved schedule.inputs (state_of m sectors)) }
+    ensures rows { IfOk result (λ m. m.rows ≡ schedule) }
+    ensures memory { IfOk result (λ m. length m.hardware.memory ≡ memory_words map.now) }
+{
+    let mut machine = Machine::new(alloc, map.memory_frames(), schedule)?;
+    machine.load_state(from);
+    Ok(machine)
+}
+
+/// How many turns are left of so many.
+fn turns_left<L: Layer>(run: &Run<L>, turns: u32) -> u32
+    requires { run.now.turns ≤ turns }
+    ensures { result ≡ turns - run.now.turns }
+{
+    turns - run.turns_done() as u32
+}
+
+/// How many steps are left of so many: none where the machine made no fewer.
+fn steps_left<L: Layer + Drop>(run: &Run<L>, steps: u64) -> u64
+    ensures value { result ≡ steps - run.now.machine.time }
+    ensures few { run.now.machine.time + result < 2 ^ 64 }
+{
+    steps.saturating_sub(run.steps())
+}
+
+/// A law: the machine that was saved of a boot is one of the system's run, so that its file is taken up.
+pub fn saved_boots_are_of_runs()
+    ensures { SavedBootsAreOfRuns }
+{
+    a_new_machine_is_steady();
+    machines_stay_steady();
+    runs_are_taken_up();
+    parts_are_in_order();
+    memory_is_whole();
+}
+
+/// Goes on with a run that was taken up: makes turns until so many are complete, counted from the start of the saved run, or the run has ended or met a
+/// fault. As many steps at most are made, counted from there, too: none where the saved run had made no fewer. What is printed is what
+/// [`run_whole`](crate::run_whole) prints from there on.
+pub fn run_on<L: Layer + Drop, D: Sectors, O: Sink>(
+    run: &mut Run<L>,
+    turns: u32,
+    steps: u64,
+    disk: &mut D,
+    out: &mut O,
+) -> RunEnd
+    requires disk { D.size disk.old ≡ run.old.count }
+    requires fine { run.old.fault ≡ None }
+    requires done { run.old.turns ≤ turns }
+    ensures size { D.size disk.new ≡ D.size disk.old }
+    ensures joins { Joins D.size D.sectors O.text turns steps run.old disk.old out.old disk.new out.new result }
+    ensures any { RunsOn D.size D.sectors O.text turns steps run.old disk.old disk.new result }
+    ensures told { IsResumed run.old → IsSome (D.sectors disk.old) → IsSome (D.sectors disk.new) }
+    ensures blame { Blames (result ≡ RunEnd.DiskFault) (result ≡ RunEnd.SinkFault) D.faults disk.old disk.new O.faults out.old out.new }
+{
+    machines_run();
+    a_new_machine_is_steady();
+    saved_runs_are_taken_up();
+    saved_runs_join();
+    let left = turns_left(run, turns);
+    let budget = steps_left(run, steps);
+    run_to_end(run, left, budget, disk, out)
+}

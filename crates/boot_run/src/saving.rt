@@ -1,0 +1,110 @@
+// A boot that is to be saved: it stops where the wanted turns are complete, or ends as a boot does.
+ghost use Rattle.std.specs.Prelude.{◌≡◌, ◌≢◌, ℕ, ◌+◌, ◌<◌, ◌≤◌, ◌^◌, length, IfOk, IfErr, IsSome, OnErr, Err, None};
+ghost use Rattle.layer_map.specs.Map.{memory_words};
+ghost use Rattle.cvm_model.specs.Cvm.{map_of};
+ghost use Rattle.layer_contract.specs.Boots.{boot_of, BootFollows};
+ghost use Rattle.boot_report.specs.Blames.{Blames};
+ghost use Rattle.boot_run.specs.LoadEnds.{HasRoom, LoadFails, pages_needed};
+ghost use Rattle.boot_run.specs.Saving.{end_of_stop, IsSaveDiskFault, IsSaveSinkFault, RunsToSave, Stops, StopsOrCloses};
+
+use crate::load::LoadFault;
+use crate::run::Run;
+use crate::whole::{RunEnd, close, end_at, go, premises_hold};
+use boot_turns::{RunFault, View, journal_rows_follow, machines_run, traces_grow};
+use cvm_outside::{Sectors, Sink};
+use layer_contract::{Boot, Layer};
+use mips_table::runs::turns_are_counted;
+use schedule_file::Schedule;
+use std::alloc::Global;
+
+/// How a run ended that is to be saved.
+#[derive(Clone, Copy, Debug, PartialEq, Eq)]
+pub enum SaveEnd {
+    /// The wanted turns are complete, and the run goes on: it can be saved, and no report is printed.
+    Stopped,
+    /// It ended as a boot does: it halted, and the report is printed, or it met a fault.
+    Ended(RunEnd),
+}
+
+/// Closes a run that has ended; one that goes on stops there, untouched.
+fn stop<L: Layer + Drop, D: Sectors, O: Sink>(
+    run: &mut Run<L>,
+    disk: &mut D,
+    out: &mut O,
+) -> SaveEnd
+    requires disk { D.size disk.old ≡ run.old.count }
+    requires fine { run.old.fault ≡ None }
+    ensures size { D.size disk.new ≡ D.size disk.old }
+    ensures ends { StopsOrCloses D.size D.sectors O.text run.old disk.old out.old run.new disk.new out.new result }
+    ensures blame { Blames (end_of_stop result ≡ RunEnd.DiskFault) (end_of_stop result ≡ RunEnd.SinkFault) D.faults disk.old disk.new O.faults out.old out.new }
+{
+    let over = run.ended().is_some();
+    if over {
+        return SaveEnd::Ended(close(run, disk, out));
+    }
+    SaveEnd::Stopped
+}
+
+/// Runs what was loaded until so many turns are complete, or to its end.
+fn run_to_stop<L: Layer + Drop, D: Sectors, O: Sink>(
+    run: &mut Run<L>,
+    turns: u32,
+    steps: u64,
+    disk: &mut D,
+    out: &mut O,
+) -> SaveEnd
+    requires disk { D.size disk.old ≡ run.old.count }
+    requires steps { run.old.machine.time + steps < 2 ^ 64 }
+    requires fine { run.old.fault ≡ None }
+    ensures size { D.size disk.new ≡ D.size disk.old }
+    ensures ends { Stops D.size D.sectors O.text turns steps run.old disk.old out.old run.new disk.new out.new result }
+    ensures goes_on { result ≡ SaveEnd.Stopped → run.new.ended ≡ None }
+    ensures memory { result ≡ SaveEnd.Stopped → length run.new.machine.hardware.memory ≡ length run.old.machine.hardware.memory }
+    ensures blame { Blames (end_of_stop result ≡ RunEnd.DiskFault) (end_of_stop result ≡ RunEnd.SinkFault) D.faults disk.old disk.new O.faults out.old out.new }
+{
+    machines_run();
+    traces_grow();
+    journal_rows_follow();
+    turns_are_counted();
+    let mut budget = steps;
+    match go(run, turns, &mut budget, disk, out) {
+        Ok(()) => stop(run, disk, out),
+        Err(fault) => SaveEnd::Ended(end_at(fault)),
+    }
+}
+
+/// Boots what is to be saved: loads, and makes turns until so many, at least one, are complete or the run has ended or met a fault, at most so
+/// many steps. The rows of the dispatches are printed, and where the run halted its end and the report. The run is answered with how it ended.
+///
+/// # Errors
+///
+/// As [`Run::load`]; nothing is printed then.
+pub fn run_to_save<L: Layer + Drop, D: Sectors, O: Sink>(
+    alloc: Global,
+    layer: L,
+    boot: Boot,
+    schedule: Schedule,
+    turns: u32,
+    steps: u64,
+    disk: &mut D,
+    out: &mut O,
+) -> Result<(Run<L>, SaveEnd), LoadFault>
+    requires follows { BootFollows (L.image layer) (L.sizes layer) (L.map layer) boot }
+    requires some { 1 ≤ turns }
+    ensures ends { RunsToSave D.size D.sectors O.text boot schedule turns steps disk.old out.old disk.new out.new result }
+    ensures goes_on { IfOk result (λ r. r.1 ≡ SaveEnd.Stopped → r.0.ended ≡ None) }
+    ensures memory { IfOk result (λ r. r.1 ≡ SaveEnd.Stopped → length r.0.machine.hardware.memory ≡ memory_words (map_of (boot_of boot))) }
+    ensures told { IsSome (D.sectors disk.old) → IsSome (D.sectors disk.new) }
+    ensures refused { IfErr result (LoadFails boot View.Boot (pages_needed boot) (D.size disk.old) (D.faults disk.old) (D.faults disk.new)) }
+    ensures loaded { IfOk result (λ _. HasRoom boot View.Boot (pages_needed boot) (D.size disk.old)) }
+    ensures unprinted { IfErr result (λ _. out.new ≡ out.old) }
+    ensures still { result ≢ Err LoadFault.Disk → OnErr result (disk.new ≡ disk.old) }
+    ensures size { D.size disk.new ≡ D.size disk.old }
+    ensures blame { Blames (IsSaveDiskFault result) (IsSaveSinkFault result) D.faults disk.old disk.new O.faults out.old out.new }
+{
+    machines_run();
+    premises_hold(&layer, &boot, &schedule, disk);
+    let mut run = Run::load(alloc, layer, boot, schedule, View::Boot, disk)?;
+    let end = run_to_stop(&mut run, turns, steps, disk, out);
+    Ok((run, end))
+}
