@@ -1,0 +1,4 @@
+pub mod Asked
+pub mod Premises
+pub mod Resumed
+pub mod Stopped

@@ -1,0 +1,5 @@
+pub mod Room
+pub mod Resume
+pub mod SavedBoots
+pub mod SaveRun
+pub mod ResumeRun

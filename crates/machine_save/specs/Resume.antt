@@ -1,0 +1,25 @@
+-- What is answered where a run is to be taken up from a file.
+use Rattle.std.specs.Prelude.{◌≡◌, ℕ, ◌<◌, ◌≤◌, ◌⊎◌, List, Result, Ok, Err}
+use Rattle.std.specs.List.{flat_map}
+use Rattle.cvm_words.specs.Bytes.{word}
+use Rattle.schedule_file.specs.Rows.{Rows}
+use Rattle.layer_contract.specs.declared.boot.Boot.{Boot as Booted}
+use Rattle.saved_file.specs.Resumable.{CanBeResumed}
+use Rattle.saved_file.specs.Answer.{answer}
+use Rattle.saved_file.specs.declared.fault.SaveFault.{SaveFault}
+use Rattle.saved_file.specs.declared.fault.SaveFault.TheVariants.{Memory}
+use Rattle.boot_run.specs.LoadEnds.{Kept, pages_needed}
+use Rattle.boot_run.specs.Saving.{IsTakenUp}
+use Rattle.boot_run.specs.SavedFiles.{wanted_of}
+use Rattle.machine_save.specs.declared.resuming.ResumeFault.{ResumeFault}
+use Rattle.machine_save.specs.declared.resuming.ResumeFault.TheVariants.{Save, SmallDisk}
+
+-- WHAT IS ANSWERED, for what is booted, the rows of a schedule, the turns that are wanted and a disk of so many sectors: the run of the words that the
+-- bytes spell; what is wrong with the bytes; or, where nothing is, that the disk has too few sectors; or want of memory
+abbrev pub Resumes : {L : Type 0} → (layer : L) → Booted → Rows → (turns count : ℕ) → (bytes : List ℕ) → Result (Kept L) ResumeFault → Type 0
+Resumes layer boot rows turns count bytes (Ok r) =
+    (words : List ℕ) × (answer (wanted_of boot rows turns) bytes ≡ Ok words) × (bytes ≡ flat_map word words) × CanBeResumed (wanted_of boot rows turns) words
+    × (pages_needed boot ≤ count) × IsTakenUp layer boot rows count words r
+Resumes layer boot rows turns count bytes (Err (Save e)) = (e ≡ Memory) ⊎ (answer (wanted_of boot rows turns) bytes ≡ Err e)
+Resumes layer boot rows turns count bytes (Err (SmallDisk need have)) =
+    (words : List ℕ) × (answer (wanted_of boot rows turns) bytes ≡ Ok words) × (need ≡ pages_needed boot) × (have ≡ count) × (have < need)

@@ -1,0 +1,120 @@
+// A boot that is to be saved: its state is put to a file where it stops, and else it ends as a boot does.
+
+ghost use Rattle.std.specs.Prelude.{◌≡◌, ◌≢◌, ℕ, ◌≤◌, IfOk, IfErr, IsSome, OnErr, Err, List};
+ghost use Rattle.cvm_outside.specs.Causes.{Rose};
+ghost use Rattle.layer_map.specs.Map.{memory_frames};
+ghost use Rattle.cvm_model.specs.Cvm.{map_of};
+ghost use Rattle.layer_contract.specs.Boots.{BootFollows, boot_of};
+ghost use Rattle.boot_turns.specs.declared.answers.View.TheVariants.{Boot as OfBoot};
+ghost use Rattle.boot_run.specs.LoadEnds.{HasRoom, LoadFails, pages_needed};
+ghost use Rattle.boot_run.specs.Whole.{WholeGoesOn};
+ghost use Rattle.boot_run.specs.declared.load.LoadFault.TheVariants.{Disk as DiskFailed};
+ghost use Rattle.machine_save.specs.Room.{most_words};
+ghost use Rattle.machine_save.specs.SaveRun.{IfUnput, IsSavedDiskFault, IsSavedShelfFault, IsSavedSinkFault, PutsState, SavesRun, ShowsSaved};
+
+use crate::laws::boots_hold;
+use crate::space::Room;
+use boot_run::{LoadFault, Run, RunEnd, SaveEnd, run_to_save};
+use cvm_outside::{Sectors, Shelf, Sink};
+use layer_contract::{Boot, Layer};
+use schedule_file::Schedule;
+use std::alloc::Global;
+
+/// How a boot ended that was to be saved.
+#[derive(Clone, Copy, Debug, PartialEq, Eq)]
+pub enum SavedEnd {
+    /// The state was put, and `saved` is printed.
+    Saved,
+    /// The state could not be put: the rows are printed, and `saved` is not.
+    ShelfFault,
+    /// The state was put, and the row `saved` could not be printed whole.
+    RowFault,
+    /// It ended as a boot does: it halted, and the report is printed, or it met a fault. No file is put.
+    Ended(RunEnd),
+}
+
+/// Boots what is to be saved: loads, and makes turns until so many, at least one, are complete or the run has ended or met a fault, at most so many
+/// steps. The rows of the dispatches are printed. Where the turns are complete and the run goes on, its state is put to the file of that name, and the
+/// row `saved` is printed; where it halted its end and the report are. The room is taken before, and is that of the boot's memory.
+///
+/// # Errors
+///
+/// As [`Run::load`](boot_run::Run::load); nothing is printed then, and no file changes.
+pub fn save_run<L: Layer + Drop, S: Shelf, D: Sectors, O: Sink>(
+    alloc: Global,
+    layer: L,
+    boot: Boot,
+    schedule: Schedule,
+    room: Room,
+    turns: u32,
+    steps: u64,
+    name: &str,
+    shelf: &mut S,
+    disk: &mut D,
+    out: &mut O,
+) -> Result<SavedEnd, LoadFault>
+    requires follows { BootFollows (L.image layer) (L.sizes layer) (L.map layer) boot }
+    requires some { 1 ≤ turns }
+    requires room { room.words ≡ most_words (memory_frames (map_of (boot_of boot))) }
+    ensures ends { SavesRun S.file D.size D.sectors O.text boot schedule turns steps name.now shelf.old disk.old out.old shelf.new disk.new out.new result }
+    ensures goes_on { WholeGoesOn boot schedule (D.size disk.old) (D.sectors disk.old) }
+    ensures others { (n : List ℕ) → n ≢ name.now → S.file shelf.new n ≡ S.file shelf.old n }
+    ensures unput { IfUnput result (shelf.new ≡ shelf.old) }
+    ensures taken { S.taken shelf.new ≡ S.taken shelf.old }
+    ensures told { IsSome (D.sectors disk.old) → IsSome (D.sectors disk.new) }
+    ensures refused { IfErr result (LoadFails boot OfBoot (pages_needed boot) (D.size disk.old) (D.faults disk.old) (D.faults disk.new)) }
+    ensures loaded { IfOk result (λ _. HasRoom boot OfBoot (pages_needed boot) (D.size disk.old)) }
+    ensures unprinted { IfErr result (λ _. out.new ≡ out.old) }
+    ensures still { result ≢ Err DiskFailed → OnErr result (disk.new ≡ disk.old) }
+    ensures size { D.size disk.new ≡ D.size disk.old }
+    ensures disk { IsSavedDiskFault result → Rose (D.faults disk.old) (D.faults disk.new) }
+    ensures disk_same { (IsSavedDiskFault result → ⊥) → D.faults disk.new ≡ D.faults disk.old }
+    ensures sink { IsSavedSinkFault result → Rose (O.faults out.old) (O.faults out.new) }
+    ensures sink_same { (IsSavedSinkFault result → ⊥) → O.faults out.new ≡ O.faults out.old }
+    ensures shelf { IsSavedShelfFault result → Rose (S.faults shelf.old) (S.faults shelf.new) }
+    ensures shelf_same { (IsSavedShelfFault result → ⊥) → S.faults shelf.new ≡ S.faults shelf.old }
+{
+    boots_hold(&layer, &boot, &schedule, disk);
+    let (run, end) = run_to_save(alloc, layer, boot, schedule, turns, steps, disk, out)?;
+    match end {
+        SaveEnd::Stopped => Ok(put_state(&run, room, name, shelf, out)),
+        SaveEnd::Ended(end) => Ok(SavedEnd::Ended(end)),
+    }
+}
+
+// Puts the state of a run to the file of that name, and then prints the row `saved`.
+fn put_state<L: Layer + Drop, S: Shelf, O: Sink>(
+    run: &Run<L>,
+    mut room: Room,
+    name: &str,
+    shelf: &mut S,
+    out: &mut O,
+) -> SavedEnd
+    ensures holds { PutsState S.file run.now room.words name.now shelf.old shelf.new result }
+    ensures shows { ShowsSaved (O.text out.old) (O.text out.new) result }
+    ensures others { (n : List ℕ) → n ≢ name.now → S.file shelf.new n ≡ S.file shelf.old n }
+    ensures taken { S.taken shelf.new ≡ S.taken shelf.old }
+    ensures shelf { result ≡ SavedEnd.ShelfFault → Rose (S.faults shelf.old) (S.faults shelf.new) }
+    ensures shelf_same { result ≢ SavedEnd.ShelfFault → S.faults shelf.new ≡ S.faults shelf.old }
+    ensures sink { result ≡ SavedEnd.RowFault → Rose (O.faults out.old) (O.faults out.new) }
+    ensures sink_same { result ≢ SavedEnd.RowFault → O.faults out.new ≡ O.faults out.old }
+{
+    room.fill(run);
+    match shelf.put(name, room.bytes()) {
+        Ok(()) => put_row(out),
+        Err(_) => SavedEnd::ShelfFault,
+    }
+}
+
+// Prints the row `saved`.
+fn put_row<O: Sink>(out: &mut O) -> SavedEnd
+    ensures shows { ShowsSaved (O.text out.old) (O.text out.new) result }
+    ensures put { result ≢ SavedEnd.ShelfFault }
+    ensures sink { result ≡ SavedEnd.RowFault → Rose (O.faults out.old) (O.faults out.new) }
+    ensures sink_same { result ≢ SavedEnd.RowFault → O.faults out.new ≡ O.faults out.old }
+{
+    match out.put(b"saved\n") {
+        Ok(()) => SavedEnd::Saved,
+        Err(_) => SavedEnd::RowFault,
+    }
+}
