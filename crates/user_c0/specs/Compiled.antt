@@ -1,5 +1,6 @@
 -- What a user program is compiled to, and why it isn't.
-use Rattle.std.specs.Prelude.{◌≡◌, ℕ, ◌<◌, List, [], ◌∷◌, length}
+use Rattle.std.specs.Prelude.{◌≡◌, ℕ, ◌<◌, ◌≤◌, List, [], ◌∷◌, length, All}
+use Rattle.mips_table.specs.Fits.{IsWord}
 use Rattle.c0_tree.specs.declared.primitive.Program.TheVariants.{User}
 use Rattle.c0_tree.specs.declared.tree.Unit.{Unit as Source}
 use Rattle.c0_tree.specs.Tree.{CUnit}
@@ -23,6 +24,10 @@ fault_fields Memory = []
 -- A LAW: an image has as many words as its parts take, which is whole pages
 abbrev pub ImagesAreWhole : Type 0
 ImagesAreWhole = (s : Source) → IsCheckedAs User (unit_view s) → length (image_words (unit_view s)) ≡ tables_at (map_of (unit_view s))
+
+-- A LAW: where an image isn't too large, each of its words is below 2^32
+abbrev pub ImagesAreWords : Type 0
+ImagesAreWords = (s : Source) → IsCheckedAs User (unit_view s) → tables_at (map_of (unit_view s)) ≤ MAX_IMAGE → All IsWord (image_words (unit_view s))
 
 -- a program is refused for its size where its image has more words than an image may have, and these are its words
 abbrev pub IsFaultOf : CUnit → UserFault → Type 0

@@ -1,7 +1,6 @@
 // What a user program is compiled to.
 
-ghost use Rattle.std.specs.Prelude.{◌≡◌, ◌≤◌, All, length, IfErr, IfOk};
-ghost use Rattle.mips_table.specs.Fits.{IsWord};
+ghost use Rattle.std.specs.Prelude.{◌≡◌, ◌≤◌, length, IfErr, IfOk};
 ghost use Rattle.c0_tree.specs.View.{unit_view};
 ghost use Rattle.c0_unit.specs.Code.{program_words};
 ghost use Rattle.cvm_model.specs.Cvm.{first_flat};
@@ -23,11 +22,6 @@ use std::vec::Vec;
 
 // The most words of an image.
 const MOST: u32 = 65536;
-
-// Tells proofs that words are in the range of their type.
-fn are_words(words: &[u32])
-    ensures { All IsWord words.now }
-{}
 
 // The code of a program's unit, as short as a map allows.
 fn compiled(alloc: Global, unit: &UserChecked) -> Result<Vec<u32>, AllocError>
@@ -87,7 +81,6 @@ fn laid_out(
     let _unit = unit.unit();
     let words = (map.page_tables() / 4) as usize;
     let laid = image(alloc, code, map.heap(), map.stack(), words)?;
-    are_words(&laid);
     Ok(laid)
 }
 

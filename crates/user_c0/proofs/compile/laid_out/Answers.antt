@@ -1,7 +1,5 @@
--- The parts are those of the program, and its words are words.
-use Rattle.std.specs.Prelude.{All}
+-- The parts are those of the program.
 use Rattle.std.proofs.Common.{◌≡◌, ℕ, ◌*◌, List, [], sym, ap, ◌∙◌, subst, arith}
-use Rattle.mips_table.specs.Fits.{IsWord}
 use Rattle.layer_map.specs.Map.{Map, heap_at, stack_at, tables_at}
 use Rattle.c0_tree.specs.View.{unit_view}
 use Rattle.c0_unit.specs.Code.{program_words}
@@ -32,6 +30,5 @@ returns-clause-runs c =
     (c.stack.ensures ∙ ap (λ (m : Map). 4 * stack_at m) c.requires.map) (omega (arith, tables)) in
     let whole = c.images_are_whole.ensures c.args.unit.now c.unit-unit.ensures.checked in
     let most = c.requires.most in
-    let are : All IsWord c.in_ok-laid.laid.items = subst (All IsWord) c.deref.ensures.value c.are_words.ensures in
     subst (λ (ws : List ℕ). RunsAsMeant (unit_view c.args.unit.now) (first_flat ws)) (sym words)
-    (c.images_run.ensures c.args.unit.now c.unit-unit.ensures.checked (omega (arith, whole, most)) (subst (All IsWord) words are))
+    (c.images_run.ensures c.args.unit.now c.unit-unit.ensures.checked (omega (arith, whole, most)))
