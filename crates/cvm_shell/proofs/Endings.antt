@@ -17,13 +17,13 @@ use Rattle.cvm_shell.specs.declared.refusal.Refusal.TheVariants as by
 use Rattle.cvm_shell.specs.declared.boot.Session.{Session}
 use Rattle.boot_turns.specs.declared.answers.View.{View}
 use Rattle.boot_turns.specs.declared.answers.View.TheVariants as view
-use Rattle.cvm_shell.specs.Command.{Boot, Command, boot, trace, compile_user, compile_kernel, compile_program, link, migrate, sample, IsCommand, IsNoCommand, GetsFiles, boot_session, trace_session, command_of, check}
+use Rattle.cvm_shell.specs.Command.{Boot, Command, boot, trace, save, resume, compile_user, compile_kernel, compile_program, link, migrate, sample, IsCommand, IsNoCommand, GetsFiles, boot_session, trace_session, command_of, check}
 use Rattle.cvm_shell.specs.Outside.{Files, Outside, SameSectors, Leaves, Says, said, broken}
 use Rattle.cvm_shell.specs.Refusal.{Refusal, too_long, refusal_text, refusal_status}
-use Rattle.cvm_shell.specs.Plan.{Plan, bad_words, refuses, puts, boots, BootPlan, UserPlan, KernelPlan, ProgramPlan, LinkPlan, MigratePlan, SamplePlan, ComesTo, no_command, boot_plan, trace_plan, user_plan, kernel_plan, image_plan, link_plan, migrate_plan, sample_plan, AllTold, IsPlan, prints, CheckPlan, check_plan}
+use Rattle.cvm_shell.specs.Plan.{Plan, bad_words, refuses, puts, boots, saves, resumes, BootPlan, SavePlan, ResumePlan, UserPlan, KernelPlan, ProgramPlan, LinkPlan, MigratePlan, SamplePlan, ComesTo, no_command, boot_plan, trace_plan, save_plan, resume_plan, user_plan, kernel_plan, image_plan, link_plan, migrate_plan, sample_plan, AllTold, IsPlan, prints, CheckPlan, check_plan}
 use Rattle.cvm_shell.specs.Boot.{RunEnds}
 use Rattle.cvm_shell.specs.Outcome.{HasPut, CommandEnds, done, undone}
-use Rattle.cvm_shell.specs.Stages.{IsBootPlan, IsUserPlan, IsKernelPlan, IsProgramPlan, IsLinkPlan, IsMigratePlan, IsSamplePlan, IsCheckPlan}
+use Rattle.cvm_shell.specs.Stages.{IsBootPlan, IsSavePlan, IsResumePlan, IsUserPlan, IsKernelPlan, IsProgramPlan, IsLinkPlan, IsMigratePlan, IsSamplePlan, IsCheckPlan}
 use Rattle.cvm_shell.specs.Views.{refusal_view}
 use Rattle.cvm_shell.proofs.OneCommand.{one_command}
 
@@ -33,6 +33,8 @@ use Rattle.cvm_shell.proofs.OneCommand.{one_command}
 abbrev pub CommandPlan : (List ℕ → Option (List ℕ)) → Command → Plan → Type 0
 CommandPlan file (boot b) = BootPlan layer_image file b (boot_session b)
 CommandPlan file (trace t) = BootPlan layer_image file t.boot (trace_session t)
+CommandPlan file (save c) = SavePlan layer_image file c
+CommandPlan file (resume c) = ResumePlan layer_image file c
 CommandPlan file (compile_user c) = UserPlan file c
 CommandPlan file (compile_kernel c) = KernelPlan file c
 CommandPlan file (compile_program c) = ProgramPlan file c
@@ -45,6 +47,8 @@ CommandPlan file (check c) = CheckPlan file c
 abbrev pub FilesPlan : (List ℕ → Option (List ℕ)) → Command → Plan → Type 0
 FilesPlan file (boot b) p = IsBootPlan layer_image file b (boot_session b) p
 FilesPlan file (trace t) p = IsBootPlan layer_image file t.boot (trace_session t) p
+FilesPlan file (save c) p = IsSavePlan layer_image file c p
+FilesPlan file (resume c) p = IsResumePlan layer_image file c p
 FilesPlan file (compile_user c) p = IsUserPlan file c p
 FilesPlan file (compile_kernel c) p = IsKernelPlan file c p
 FilesPlan file (compile_program c) p = IsProgramPlan file c p
@@ -61,6 +65,8 @@ pub its_plan : (words : List (List ℕ)) (file : List ℕ → Option (List ℕ))
 its_plan words file c is q (no_command none) = absurd (none c is)
 its_plan words file c is q (boot_plan b r other got) = its_command words file c (boot b) r is other got
 its_plan words file c is q (trace_plan t r other got) = its_command words file c (trace t) r is other got
+its_plan words file c is q (save_plan d r other got) = its_command words file c (save d) r is other got
+its_plan words file c is q (resume_plan d r other got) = its_command words file c (resume d) r is other got
 its_plan words file c is q (user_plan d r other got) = its_command words file c (compile_user d) r is other got
 its_plan words file c is q (kernel_plan d r other got) = its_command words file c (compile_kernel d) r is other got
 its_plan words file c is q (image_plan d r other got) = its_command words file c (compile_program d) r is other got
@@ -76,6 +82,8 @@ only_none : (words : List (List ℕ)) (file : List ℕ → Option (List ℕ)) �
 only_none words file none q (no_command also) = refl
 only_none words file none q (boot_plan b r other got) = absurd (none (boot b) other)
 only_none words file none q (trace_plan t r other got) = absurd (none (trace t) other)
+only_none words file none q (save_plan c r other got) = absurd (none (save c) other)
+only_none words file none q (resume_plan c r other got) = absurd (none (resume c) other)
 only_none words file none q (user_plan c r other got) = absurd (none (compile_user c) other)
 only_none words file none q (kernel_plan c r other got) = absurd (none (compile_kernel c) other)
 only_none words file none q (image_plan c r other got) = absurd (none (compile_program c) other)
@@ -87,6 +95,8 @@ only_none words file none q (check_plan c r other got) = absurd (none (check c) 
 pub plan_of : (words : List (List ℕ)) (file : List ℕ → Option (List ℕ)) (c : Command) (p : Plan) → IsCommand words c → FilesPlan file c p → IsPlan (AllTold words file) (ComesTo words file) p
 plan_of words file (boot b) p is plan = record { comes = boot_plan b p is plan.comes; only = λ told q h. only_plan words file (boot b) p is (plan.only (told (boot b) is)) q h }
 plan_of words file (trace t) p is plan = record { comes = trace_plan t p is plan.comes; only = λ told q h. only_plan words file (trace t) p is (plan.only (told (trace t) is)) q h }
+plan_of words file (save c) p is plan = record { comes = save_plan c p is plan.comes; only = λ told q h. only_plan words file (save c) p is (plan.only (told (save c) is)) q h }
+plan_of words file (resume c) p is plan = record { comes = resume_plan c p is plan.comes; only = λ told q h. only_plan words file (resume c) p is (plan.only (told (resume c) is)) q h }
 plan_of words file (compile_user c) p is plan = record { comes = user_plan c p is plan.comes; only = λ told q h. only_plan words file (compile_user c) p is (plan.only (told (compile_user c) is)) q h }
 plan_of words file (compile_kernel c) p is plan = record { comes = kernel_plan c p is plan.comes; only = λ told q h. only_plan words file (compile_kernel c) p is (plan.only (told (compile_kernel c) is)) q h }
 plan_of words file (compile_program c) p is plan = record { comes = image_plan c p is plan.comes; only = λ told q h. only_plan words file (compile_program c) p is (plan.only (told (compile_program c) is)) q h }
@@ -134,6 +144,7 @@ which (by.BadFile fault) = inr (λ e. cc)
 which (by.Unlinked fault) = inr (λ e. cc)
 which (by.Unaccepted fault) = inr (λ e. cc)
 which (by.BadSchedule fault) = inr (λ e. cc)
+which (by.BadSave fault) = inr (λ e. cc)
 which (by.SmallDisk need have) = inr (λ e. cc)
 which (by.NoSuchUser user users) = inr (λ e. cc)
 which by.TooLong = inl refl
@@ -145,7 +156,7 @@ one_stop : (r s : ByCode) → Stops.Refused r ≡ Stops.Refused s → r ≡ s
 one_stop r s h = cc
 
 -- a plan refuses a file as too long exactly where so many bytes were taken
-abbrev Tells_long : Plan → ℕ → Type 0
+abbrev pub Tells_long : Plan → ℕ → Type 0
 Tells_long p taken = (p ≡ refuses too_long) ↔ (taken ≡ TOO_LONG)
 
 took_refused : (r : ByCode) (taken : ℕ) → Long (Stops.Refused r) taken → Tells_long (refuses (refusal_view r)) taken
@@ -156,6 +167,12 @@ took_refused r taken long = elim (which r) [
 
 took_boots : (session : Session) (s : System) (rows : Rows) (taken : ℕ) → taken ≢ TOO_LONG → Tells_long (boots session s rows) taken
 took_boots session s rows taken few = (λ h. absurd cc, λ h. absurd (few h))
+
+pub took_saves : (session : Session) (s : System) (rows : Rows) (name : List ℕ) (taken : ℕ) → taken ≢ TOO_LONG → Tells_long (saves session s rows name) taken
+took_saves session s rows name taken few = (λ h. absurd cc, λ h. absurd (few h))
+
+pub took_resumes : (session : Session) (s : System) (rows : Rows) (words : List ℕ) (taken : ℕ) → taken ≢ TOO_LONG → Tells_long (resumes session s rows words) taken
+took_resumes session s rows words taken few = (λ h. absurd cc, λ h. absurd (few h))
 
 took_puts : (name bytes : List ℕ) (taken : ℕ) → taken ≢ TOO_LONG → Tells_long (puts name bytes) taken
 took_puts name bytes taken few = (λ h. absurd cc, λ h. absurd (few h))

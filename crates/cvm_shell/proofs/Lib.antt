@@ -22,8 +22,13 @@ mod Plans
 mod ProgramPlans
 mod SampleEndings
 mod SamplePlans
+mod SaveEndings
+mod SavePlans
+mod ResumeEndings
+mod SaveWords
 mod SourceStops
 mod StackOut
+mod ProgramJournals
 mod StackTexts
 mod Spellings
 mod StartAnswers

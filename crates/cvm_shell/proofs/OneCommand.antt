@@ -5,7 +5,7 @@ use Rattle.std.specs.Str.Parse.{digits_value}
 use Rattle.std.proofs.lemmas.Fmt.{decimal_is_IsNumeral}
 use Rattle.cvm_shell.specs.declared.boot.Start.{Start}
 use Rattle.cvm_shell.specs.declared.boot.Start.TheVariants.{Loaded, Rom}
-use Rattle.cvm_shell.specs.Command.{Boot, Trace, Command, boot, trace, compile_user, compile_kernel, compile_program, link, migrate, sample, IsCommand, start_word, check}
+use Rattle.cvm_shell.specs.Command.{Boot, Trace, Save, Command, boot, trace, save, resume, compile_user, compile_kernel, compile_program, link, migrate, sample, IsCommand, start_word, check}
 
 -- what stands at a place
 abbrev at : List (List ℕ) → ℕ → List ℕ
@@ -23,18 +23,25 @@ letter text = slice_index text 0
 abbrev second : List ℕ → ℕ
 second text = slice_index text 1
 
+-- and its third
+abbrev third : List ℕ → ℕ
+third text = slice_index text 2
+
 abbrev boot_of : Start → List (List ℕ) → Boot
 boot_of start words = record { start = start; image = at words 1; schedule = at words 2; turns = number (at words 3); steps = number (at words 4) }
 
--- the command that words are, where they are one: the first letter tells which, or the second, or the first of the second word
+abbrev save_of : List (List ℕ) → Save
+save_of words = record { boot = boot_of Loaded words; file = at words 5 }
+
+-- the command that words are, where they are one: the first letter tells which, or the second or third, or the first of the second word
 abbrev meant : List (List ℕ) → Command
 meant words =
     if letter (at words 0) == 98 then boot (boot_of Loaded words) else
-    if letter (at words 0) == 114 then boot (boot_of Rom words) else
+    if letter (at words 0) == 114 then (if second (at words 0) == 101 then resume (save_of words) else boot (boot_of Rom words)) else
     if letter (at words 0) == 116 then trace (record { boot = boot_of Loaded words; user = number (at words 5) }) else
     if letter (at words 0) == 108 then link (record { object = at words 1; params = at words 2; image = at words 3; users = drop 4 words }) else
     if letter (at words 0) == 109 then migrate (record { old = at words 1; image = at words 2 }) else
-    if letter (at words 0) == 115 then sample (record { number = number (at words 1) }) else
+    if letter (at words 0) == 115 then (if third (at words 0) == 118 then save (save_of words) else sample (record { number = number (at words 1) })) else
     if second (at words 0) == 104 then check (record { object = at words 1; stack = number (at words 2) }) else
     if letter (at words 1) == 117 then compile_user (record { text = at words 2; image = at words 3 }) else
     if letter (at words 1) == 112 then compile_program (record { source = at words 2; image = at words 3 }) else
@@ -55,9 +62,16 @@ boot_meant Loaded image schedule turns steps = refl
 boot_meant Rom image schedule turns steps = refl
 
 -- that of a trace is no ROM
-trace_meant : (t : Trace) (start : Start) → Loaded ≡ start → boot_of Loaded ([] ∷ t.boot.image ∷ t.boot.schedule ∷ decimal t.boot.turns ∷ decimal t.boot.steps ∷ [])
-    ≡ boot_of start ([] ∷ t.boot.image ∷ t.boot.schedule ∷ decimal t.boot.turns ∷ decimal t.boot.steps ∷ [])
-trace_meant t start e = ap (λ (s : Start). boot_of s ([] ∷ t.boot.image ∷ t.boot.schedule ∷ decimal t.boot.turns ∷ decimal t.boot.steps ∷ [])) e
+loaded_meant : (b : Boot) (start : Start) → Loaded ≡ start → boot_of Loaded ([] ∷ b.image ∷ b.schedule ∷ decimal b.turns ∷ decimal b.steps ∷ [])
+    ≡ boot_of start ([] ∷ b.image ∷ b.schedule ∷ decimal b.turns ∷ decimal b.steps ∷ [])
+loaded_meant b start e = ap (λ (s : Start). boot_of s ([] ∷ b.image ∷ b.schedule ∷ decimal b.turns ∷ decimal b.steps ∷ [])) e
+
+-- nor is that of a save
+save_back : (c : Save) → c.boot.start ≡ Loaded → c.boot.turns < 2 ^ 32 → c.boot.steps < 2 ^ 64
+    → save_of ([] ∷ c.boot.image ∷ c.boot.schedule ∷ decimal c.boot.turns ∷ decimal c.boot.steps ∷ c.file ∷ []) ≡ c
+save_back c loaded few less =
+    let with_boot : Boot → Save = λ b. record { boot = b; file = c.file } in
+    ap with_boot (loaded_meant c.boot c.boot.start (sym loaded) ∙ boot_back c.boot few less)
 
 trace_back : (t : Trace) (b : Boot) (user : ℕ) → b ≡ t.boot → user ≡ t.user → trace (record { boot = b; user = user }) ≡ trace t
 trace_back t b user e f =
@@ -68,7 +82,9 @@ is_meant : (words : List (List ℕ)) (c : Command) → IsCommand words c → mea
 is_meant words (boot b) is =
     ap meant is.spelled ∙ boot_meant b.start b.image b.schedule (decimal b.turns) (decimal b.steps) ∙ ap (λ x. boot x) (boot_back b is.turns_fit is.steps_fit)
 is_meant words (trace t) is =
-    ap meant is.spelled ∙ trace_back t _ _ (trace_meant t t.boot.start (sym is.loaded) ∙ boot_back t.boot is.turns_fit is.steps_fit) (read_back t.user (omega (arith, is.most_users)))
+    ap meant is.spelled ∙ trace_back t _ _ (loaded_meant t.boot t.boot.start (sym is.loaded) ∙ boot_back t.boot is.turns_fit is.steps_fit) (read_back t.user (omega (arith, is.most_users)))
+is_meant words (save c) is = ap meant is.spelled ∙ ap (λ (x : Save). save x) (save_back c is.loaded is.turns_fit is.steps_fit)
+is_meant words (resume c) is = ap meant is.spelled ∙ ap (λ (x : Save). resume x) (save_back c is.loaded is.turns_fit is.steps_fit)
 is_meant words (compile_user c) is = ap meant is.spelled
 is_meant words (compile_kernel c) is = ap meant is.spelled
 is_meant words (compile_program c) is = ap meant is.spelled

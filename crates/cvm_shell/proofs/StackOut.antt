@@ -1,4 +1,4 @@
--- No boot and no trace prints `fault StackOut` of a system that is never out of stack.
+-- A run of a system that is never out of stack doesn't stop for want of it, and `fault StackOut` isn't printed.
 use Rattle.std.proofs.Common.{◌≡◌, ◌≢◌, ℕ, List, ◌++◌, sym, ◌∙◌, subst}
 use Rattle.std.specs.Prelude.{codes}
 use Rattle.mips_table.specs.Device.{Outside as Surroundings}
@@ -13,7 +13,7 @@ use Rattle.boot_turns.specs.Headline.{Ending, TextAt}
 use Rattle.boot_turns.specs.declared.answers.View.{View}
 use Rattle.boot_turns.specs.declared.answers.View.TheVariants as view
 use Rattle.cvm_shell.specs.Boot.{booted, around, first_state}
-use Rattle.cvm_shell.specs.Suffices.{StackOutIsNotPrinted}
+use Rattle.cvm_shell.specs.Suffices.{EndsWith, fault_row, StackOutIsNotPrinted}
 use Rattle.cvm_shell.proofs.Sufficient.{one_text}
 use Rattle.cvm_shell.proofs.StackTexts.{IsClean, rows_clean, boot_clean, journal_clean, trace_clean, clean_end}
 
@@ -34,11 +34,15 @@ module _ (x : Surroundings) (y : System) (s : State) (never : (k : ℕ) (c : Cvm
   text_clean v t headline.SinkFault text h = whole_clean v t text h
   text_clean v t headline.NoMemory text h = whole_clean v t text h
 
-pub not_printed : StackOutIsNotPrinted
-not_printed words status ended old new before after source stack session s rows sectors enough says has h ends =
+pub not_met : StackOutIsNotPrinted
+not_met words status ended old new before after source stack session s rows sectors enough says has h =
     let x = around rows before in
     let y = booted s rows in
     let first = first_state session s rows sectors in
     let clean : IsClean h.text = text_clean x y first (λ k c is. enough source stack s says has rows (lines_of x first) k c is) session.view _ h.ending h.text h.ran.text_is in
-    let same : h.text ≡ ends.front ++ codes "fault StackOut\n" = one_text before.sink.text ends.before h.text (ends.front ++ codes "fault StackOut\n") ends.before_told (sym h.printed ∙ ends.printed) in
-    clean_end ends.front (subst IsClean same clean)
+    let same : (ends : EndsWith (fault_row StackOut) before after) → h.text ≡ ends.front ++ codes "fault StackOut\n" =
+    λ ends. one_text before.sink.text ends.before h.text (ends.front ++ codes "fault StackOut\n") ends.before_told (sym h.printed ∙ ends.printed) in
+    record {
+      meant = enough source stack s says has rows (lines_of x first) _ h.ran.past h.ran.cvm;
+      printed = λ ends. clean_end ends.front (subst IsClean (same ends) clean);
+    }

@@ -1,6 +1,6 @@
 -- What a call answers that loads a system for its session's start and runs it, from what the two calls of boot_run say. These count users, pages and
 -- words of what is booted; the claims count those of its system.
-use Rattle.std.proofs.Common.{◌≡◌, ◌≢◌, ℕ, ◌*◌, ◌+◌, ◌/◌, ◌≤◌, List, refl, sym, ap, ◌∙◌, length, subst, Some, Ok, Err, arith}
+use Rattle.std.proofs.Common.{◌≡◌, ◌≢◌, ℕ, ◌*◌, ◌+◌, ◌/◌, List, refl, sym, ap, ◌∙◌, length, subst, Some, Ok, Err, arith}
 use Rattle.std.specs.Prelude.{Option, Result, IfOk, IfErr}
 use Rattle.std.specs.Option.{IsSome}
 use Rattle.std.proofs.lemmas.List.{length-map}

@@ -1,7 +1,7 @@
 -- Where a check said `yes`, the words of the longest chain of calls are at most those of the stack; and an accepted image of the object's source has
 -- the unit that was checked. So no run of its system stops for want of stack.
-use Rattle.std.proofs.Common.{◌≡◌, inl, inr, Bool, true, false, ℕ, ◌≤◌, List, [], ◌∷◌, ◌++◌, refl, sym, ap, ◌∙◌, subst, arith, Some, Ok, Err}
-use Rattle.std.specs.Prelude.{Option, Result, nat_le, if◌then◌else◌, decimal, codes, slice_index}
+use Rattle.std.proofs.Common.{◌≡◌, Bool, true, false, ℕ, zero, suc, ◌<◌, ◌≤◌, List, [], ◌∷◌, ◌++◌, refl, sym, ap, ◌∙◌, subst, arith, append_assoc, Some, Ok, Err}
+use Rattle.std.specs.Prelude.{Option, Result, take, drop, nat_le, if◌then◌else◌, decimal, codes, slice_index}
 use Rattle.std.proofs.lemmas.Bool.Decides.{nat_tests}
 use Rattle.std.specs.Io.KnownBytes.{append_known}
 use Rattle.cvm_outside.specs.Told.{Tells}
@@ -9,6 +9,7 @@ use Rattle.layer_map.specs.Map.{Map}
 use Rattle.c0_tree.specs.Tree.{CUnit}
 use Rattle.c0_types.specs.Front.{IsAnswer}
 use Rattle.c0_types.specs.declared.source_fault.SourceFault.{SourceFault}
+use Rattle.c0_types.specs.declared.source_fault.SourceFault.TheVariants.{Reading, Typing}
 use Rattle.bound_check.specs.Chains.{IsLongest}
 use Rattle.bound_check.specs.Text.{names_text}
 use Rattle.bound_check.specs.Kept.{LongestIsKept}
@@ -24,10 +25,10 @@ use Rattle.kernel_linker.specs.Laws.{OpenedUnitsAreTheirSources}
 use Rattle.kernel_linker.specs.declared.fault.AcceptFault.{AcceptFault}
 use Rattle.kernel_linker.specs.declared.fault.LinkFault.{LinkFault}
 use Rattle.cvm_shell.specs.declared.status.Status.{Status}
-use Rattle.cvm_shell.specs.declared.status.Status.TheVariants.{Done, Shelf, Sink, Memory}
+use Rattle.cvm_shell.specs.declared.status.Status.TheVariants.{Done}
 use Rattle.cvm_shell.specs.Check.{Told, TellsUnit, has_longest, has_loop, TellsOpened, TellsObject, no_object, has_object}
 use Rattle.cvm_shell.specs.Command.{check}
-use Rattle.cvm_shell.specs.Outside.{Outside, Says, said, broken}
+use Rattle.cvm_shell.specs.Outside.{Outside, Leaves, Says, said, broken}
 use Rattle.cvm_shell.specs.Refusal as refusal
 use Rattle.cvm_shell.specs.Refusal.{Refusal, refusal_status, refusal_text}
 use Rattle.cvm_shell.specs.Plan.{Plan, Got, long, whole, told_plan, AfterChecked}
@@ -38,30 +39,7 @@ use Rattle.cvm_shell.proofs.Endings.{its_plan}
 use Rattle.cvm_shell.proofs.Fronts.{OneAnswer}
 use Rattle.cvm_shell.proofs.LinkPlans.{OneObject}
 
--- WHAT WAS PRINTED beside this status is the text that was told.
-
--- no refusal stands beside it
-not_refused : (r : Refusal) → refusal_status r ≡ Done → ⊥
-not_refused (refusal.bad_text f) e = cc
-not_refused (refusal.bad_source f) e = cc
-not_refused (refusal.bad_program f) e = cc
-not_refused (refusal.bad_object f) e = cc
-not_refused (refusal.bad_file f) e = cc
-not_refused (refusal.unlinked f) e = cc
-not_refused (refusal.unaccepted f) e = cc
-not_refused (refusal.bad_schedule f) e = cc
-not_refused (refusal.small_disk need have) e = cc
-not_refused (refusal.no_such_user user users) e = cc
-not_refused refusal.too_long e = cc
-
--- what was said was said whole
-said_whole : (stated status : Status) (row : List ℕ) (old new : Outside) → status ≡ Done → Says stated row old new status → (stated ≡ Done) × (new.sink.text ≡ append_known old.sink.text row)
-said_whole stated status row old new e (said leaves) = (e, leaves.printed)
-said_whole stated status row old new e (broken n leaves) = let d : Sink ≡ Done = e in absurd cc
-
-printed : (told : Told) (status : Status) (old new : Outside) → status ≡ Done → Ends (told_plan told) status old new → (text : List ℕ) × (told ≡ Ok text) × (new.sink.text ≡ append_known old.sink.text text)
-printed (Ok text) status old new e ends = (text, refl, (said_whole Done status text old new e ends).1)
-printed (Err r) status old new e ends = absurd (not_refused r (said_whole (refusal_status r) status (refusal_text r) old new e ends).0)
+-- WHAT WAS PRINTED is the text that was told, or a first part of it.
 
 -- behind what stood there
 behind : (before a b : List ℕ) → before ++ a ≡ before ++ b → a ≡ b
@@ -73,15 +51,52 @@ one_text told before text rest e h =
     let all : Some (before ++ text) ≡ Some (before ++ rest) = sym (ap (λ (o : Option (List ℕ)). append_known o text) e) ∙ h in
     behind before text rest cc
 
--- A TEXT THAT BEGINS WITH `yes` tells that the longest chain has room.
+parts : (n : ℕ) (text : List ℕ) → text ≡ take n text ++ drop n text
+parts zero text = refl
+parts (suc n) [] = refl
+parts (suc n) (x ∷ text) = ap (λ (t : List ℕ). x ∷ t) (parts n text)
 
-other_letter : (a b : List ℕ) → a ≡ b → slice_index a 0 ≡ 110 → slice_index b 0 ≡ 121 → ⊥
-other_letter a b e n y = let same = ap (λ (text : List ℕ). slice_index text 0) e in omega arith
+-- if it begins with `yes`, so does the row that was to be printed
+said_yes : (stated status : Status) (row : List ℕ) (old new : Outside) (before rest : List ℕ) → old.sink.text ≡ Some before → new.sink.text ≡ Some (before ++ (codes "yes " ++ rest))
+    → Says stated row old new status → (more : List ℕ) × (row ≡ codes "yes " ++ more)
+said_yes stated status row old new before rest told print (said leaves) = (rest, one_text old.sink.text before row (codes "yes " ++ rest) told (sym leaves.printed ∙ print))
+said_yes stated status row old new before rest told print (broken n leaves) =
+    let part : take n row ≡ codes "yes " ++ rest = one_text old.sink.text before (take n row) (codes "yes " ++ rest) told (sym leaves.printed ∙ print) in
+    (rest ++ drop n row, parts n row ∙ ap (λ (t : List ℕ). t ++ drop n row) part ∙ append_assoc (codes "yes ") rest (drop n row))
+
+other_letter : (n : ℕ) (a b : List ℕ) → a ≡ b → slice_index a 0 ≡ n → slice_index b 0 ≡ 121 → n < 121 → ⊥
+other_letter n a b e first y less = let same = ap (λ (text : List ℕ). slice_index text 0) e in omega arith
+
+-- the row of a refusal begins with `refused`
+begins_other : (r : Refusal) → slice_index (refusal_text r) 0 ≡ 114
+begins_other (refusal.bad_source (Reading f)) = refl
+begins_other (refusal.bad_source (Typing f)) = refl
+begins_other r = refl
+
+not_refused : (r : Refusal) (more : List ℕ) → refusal_text r ≡ codes "yes " ++ more → ⊥
+not_refused r more e = other_letter 114 (refusal_text r) (codes "yes " ++ more) e (begins_other r) refl (omega arith)
+
+record Begun (told : Told) : Type 0 where
+  text : List ℕ
+  is : told ≡ Ok text
+  more : List ℕ
+  begins : text ≡ codes "yes " ++ more
+
+begun : (told : Told) (status : Status) (old new : Outside) (before rest : List ℕ) → old.sink.text ≡ Some before → new.sink.text ≡ Some (before ++ (codes "yes " ++ rest)) → Ends (told_plan told) status old new → Begun told
+begun (Ok text) status old new before rest stood print ends = let (more, e) = said_yes Done status text old new before rest stood print ends in record { text = text; is = refl; more = more; begins = e }
+begun (Err r) status old new before rest stood print ends = let (more, e) = said_yes (refusal_status r) status (refusal_text r) old new before rest stood print ends in absurd (not_refused r more e)
+
+-- where nothing was printed, nothing begins with `yes`
+not_nothing : (old new : Outside) (before rest : List ℕ) → old.sink.text ≡ Some before → new.sink.text ≡ Some (before ++ (codes "yes " ++ rest)) → Leaves old new [] → ⊥
+not_nothing old new before rest told print leaves =
+    other_letter 0 [] (codes "yes " ++ rest) (one_text old.sink.text before [] (codes "yes " ++ rest) told (sym leaves.printed ∙ print)) refl refl (omega arith)
+
+-- A TEXT THAT BEGINS WITH `yes` tells that the longest chain has room.
 
 has_room : (b : Bool) (words stack : ℕ) (rest number names end : List ℕ) → b ≡ nat_le words stack
     → (if b then codes "yes " else codes "no ") ++ number ++ codes "\nchain" ++ names ++ end ≡ codes "yes " ++ rest → words ≤ stack
 has_room true words stack rest number names end e h = grind (arith, nat_tests)
-has_room false words stack rest number names end e h = absurd (other_letter (codes "no " ++ number ++ codes "\nchain" ++ names ++ end) (codes "yes " ++ rest) h refl refl)
+has_room false words stack rest number names end e h = absurd (other_letter 110 (codes "no " ++ number ++ codes "\nchain" ++ names ++ end) (codes "yes " ++ rest) h refl refl (omega arith))
 
 record Roomy (stack : ℕ) (u : CUnit) : Type 0 where
   words : ℕ
@@ -96,7 +111,7 @@ says_room stack u text rest (has_longest words functions l) e = record {
   longest = l;
   room = has_room (nat_le words stack) words stack rest (decimal words) (names_text u functions) (codes "\n") refl e;
 }
-says_room stack u text rest (has_loop functions l) e = absurd (other_letter text (codes "yes " ++ rest) e refl refl)
+says_room stack u text rest (has_loop functions l) e = absurd (other_letter 110 text (codes "yes " ++ rest) e refl refl (omega arith))
 
 -- THE UNIT that was told of is that of the object's source
 
@@ -108,26 +123,26 @@ told_of stack (Err f) (Err r) text e h = absurd cc
 
 told_room : OneObject → OpenedUnitsAreTheirSources → (stack : ℕ) (bytes : List ℕ) (o : Object) (told : Told) (text rest : List ℕ) → IsObject bytes (Ok o) → told ≡ Ok text → text ≡ codes "yes " ++ rest → TellsObject stack bytes told
     → (u : CUnit) × IsAnswer o.source (Ok u) × Roomy stack u
-told_room read law stack bytes o told text rest is e begun (no_object f other) = absurd cc
-told_room read law stack bytes o told text rest is e begun (has_object p front tale other of h) =
+told_room read law stack bytes o told text rest is e yes_there (no_object f other) = absurd cc
+told_room read law stack bytes o told text rest is e yes_there (has_object p front tale other of h) =
     let (u, opened, tells) = told_of stack (open_answer p front) told text e h in
     let same : p ≡ o = let d = read bytes (Ok p) (Ok o) other is in cc in
     let found : front ≡ Ok u = law p front u opened in
-    (u, subst (λ (x : Object). IsAnswer x.source (Ok u)) same (subst (IsAnswer p.source) found of), says_room stack u text rest tells begun)
+    (u, subst (λ (x : Object). IsAnswer x.source (Ok u)) same (subst (IsAnswer p.source) found of), says_room stack u text rest tells yes_there)
 
 -- the file of the words
 told_bytes : (file : Option (List ℕ)) (bytes other : List ℕ) → file ≡ Some bytes → Tells file other → other ≡ bytes
 told_bytes file bytes other e h = let P : Option (List ℕ) → Type 0 = λ o. Tells o other in subst P e h
 
--- the plan of a check that is done
-room_of : OneObject → OpenedUnitsAreTheirSources → (words : List (List ℕ)) (source : List ℕ) (stack : ℕ) (status : Status) (old new : Outside) (y : SaysYes words source stack status old new) (p : Plan)
+-- the plan of a check
+room_of : OneObject → OpenedUnitsAreTheirSources → (words : List (List ℕ)) (source : List ℕ) (stack : ℕ) (status : Status) (old new : Outside) (y : SaysYes words source stack old new) (p : Plan)
     → Got (old.shelf.file y.check.object) (AfterChecked y.check.stack) p → Ends p status old new → (u : CUnit) × IsAnswer y.object.source (Ok u) × Roomy y.check.stack u
-room_of read law words source stack status old new y p (long bytes t many) ends = absurd (not_refused refusal.too_long (said_whole (refusal_status refusal.too_long) status (refusal_text refusal.too_long) old new y.done ends).0)
+room_of read law words source stack status old new y p (long bytes t many) ends =
+    let (more, e) = said_yes (refusal_status refusal.too_long) status (refusal_text refusal.too_long) old new y.before y.rest y.before_told y.printed ends in absurd (not_refused refusal.too_long more e)
 room_of read law words source stack status old new y p (whole bytes r t short (told, tells, e)) ends =
     let P : Plan → Type 0 = λ q. Ends q status old new in
-    let (text, text_is, print) = printed told status old new y.done (subst P e ends) in
-    let begun : text ≡ codes "yes " ++ y.rest = one_text old.sink.text y.before text (codes "yes " ++ y.rest) y.before_told (sym print ∙ y.printed) in
-    told_room read law y.check.stack y.bytes y.object told text y.rest y.object_is text_is begun (subst (λ (bs : List ℕ). TellsObject y.check.stack bs told) (told_bytes (old.shelf.file y.check.object) y.bytes bytes y.bytes_told t) tells)
+    let b = begun told status old new y.before y.rest y.before_told y.printed (subst P e ends) in
+    told_room read law y.check.stack y.bytes y.object told b.text b.more y.object_is b.is b.begins (subst (λ (bs : List ℕ). TellsObject y.check.stack bs told) (told_bytes (old.shelf.file y.check.object) y.bytes bytes y.bytes_told t) tells)
 
 -- THE SYSTEM of an accepted image has the unit of its source
 
@@ -156,10 +171,9 @@ never_out law stack u s r same enough rows lines k c is =
     law u r.words r.functions (booted s rows) r.longest (ap (λ (x : CUnit). kernel_meaning x s.params) same) room lines k c is
 
 pub suffices : OneAnswer → OneObject → OpenedUnitsAreTheirSources → LongestIsKept → (words : List (List ℕ)) (source : List ℕ) (stack : ℕ) (s : System) (status : Status) (old new : Outside)
-    → CommandEnds words status old new → SaysYes words source stack status old new → HasStack source stack s → NeverOut s
+    → CommandEnds words status old new → SaysYes words source stack old new → HasStack source stack s → NeverOut s
 suffices one read opened law words source stack s status old new (done p plan took ends) y has =
     let (u, is, room) = room_of read opened words source stack status old new y p (its_plan words old.shelf.file (check y.check) y.asked p plan.comes) ends in
     let enough : y.check.stack ≤ s.params.stack = subst (λ (n : ℕ). n ≤ s.params.stack) y.stack_is has.enough in
     never_out law y.check.stack u s room (system_unit one source stack s u (subst (λ (x : List ℕ). IsAnswer x (Ok u)) (sym y.source_is) is) has) enough
-suffices one read opened law words source stack s status old new (undone c is (inl m) few same) y has = let e : Memory ≡ Done = sym m ∙ y.done in absurd cc
-suffices one read opened law words source stack s status old new (undone c is (inr (m, gets)) few same) y has = let e : Shelf ≡ Done = sym m ∙ y.done in absurd cc
+suffices one read opened law words source stack s status old new (undone c is why few same) y has = absurd (not_nothing old new y.before y.rest y.before_told y.printed same)

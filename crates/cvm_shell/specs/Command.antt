@@ -45,6 +45,11 @@ pub record Migrate : Type 0 where
   pub old : List ℕ
   pub image : List ℕ
 
+-- boot it so, and save its machine to a file; or go on with one that such a file holds
+pub record Save : Type 0 where
+  pub boot : Boot
+  pub file : List ℕ
+
 -- make, link and boot the sample of a number
 pub record Sample : Type 0 where
   pub number : ℕ
@@ -53,6 +58,8 @@ pub record Sample : Type 0 where
 pub data Command : Type 0 where
   boot : Boot → Command
   trace : Trace → Command
+  save : Save → Command
+  resume : Save → Command
   compile_user : CompileUser → Command
   compile_kernel : CompileKernel → Command
   compile_program : CompileProgram → Command
@@ -87,6 +94,22 @@ pub record IsTrace (words : List (List ℕ)) (t : Trace) : Type 0 where
   pub some_user : 1 ≤ t.user
   pub most_users : t.user ≤ 64
 
+-- this word IMAGE SCHEDULE TURNS STEPS FILE, which boots no ROM
+pub record IsSaveBy (word : List ℕ) (words : List (List ℕ)) (c : Save) : Type 0 where
+  pub loaded : c.boot.start ≡ Loaded
+  pub spelled : words ≡ word ∷ c.boot.image ∷ c.boot.schedule ∷ decimal c.boot.turns ∷ decimal c.boot.steps ∷ c.file ∷ []
+  pub some_turns : 1 ≤ c.boot.turns
+  pub turns_fit : c.boot.turns < 2 ^ 32
+  pub steps_fit : c.boot.steps < 2 ^ 64
+
+-- save IMAGE SCHEDULE TURNS STEPS FILE
+abbrev pub IsSave : List (List ℕ) → Save → Type 0
+IsSave words c = IsSaveBy (codes "save") words c
+
+-- resume IMAGE SCHEDULE TURNS STEPS FILE
+abbrev pub IsResume : List (List ℕ) → Save → Type 0
+IsResume words c = IsSaveBy (codes "resume") words c
+
 -- compile user ASM IMG
 pub record IsCompileUser (words : List (List ℕ)) (c : CompileUser) : Type 0 where
   pub spelled : words ≡ codes "compile" ∷ codes "user" ∷ c.text ∷ c.image ∷ []
@@ -112,6 +135,8 @@ pub record IsSample (words : List (List ℕ)) (x : Sample) : Type 0 where
 abbrev pub IsCommand : List (List ℕ) → Command → Type 0
 IsCommand words (boot b) = IsBoot words b
 IsCommand words (trace t) = IsTrace words t
+IsCommand words (save c) = IsSave words c
+IsCommand words (resume c) = IsResume words c
 IsCommand words (compile_user c) = IsCompileUser words c
 IsCommand words (compile_kernel c) = IsCompileKernel words c
 IsCommand words (compile_program c) = IsCompileProgram words c
@@ -129,12 +154,15 @@ abbrev pub GetsFiles : Command → Type 0
 GetsFiles (sample x) = ⊥
 GetsFiles other = Unit {0}
 
--- WHAT IS RUN by a boot, by a trace, and by a sample
+-- WHAT IS RUN by a boot, by a trace, by a save or a resume, and by a sample
 abbrev pub boot_session : Boot → Session
 boot_session b = record { start = b.start; view = view.Boot; turns = b.turns; steps = b.steps }
 
 abbrev pub trace_session : Trace → Session
 trace_session t = record { start = t.boot.start; view = view.Trace t.user; turns = t.boot.turns; steps = t.boot.steps }
+
+abbrev pub save_session : Save → Session
+save_session c = record { start = Loaded; view = view.Boot; turns = c.boot.turns; steps = c.boot.steps }
 
 abbrev pub sample_session : Session
 sample_session = record { start = Loaded; view = view.Boot; turns = 100000; steps = 4000000000 }

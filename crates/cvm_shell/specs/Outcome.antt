@@ -10,10 +10,12 @@ use Rattle.cvm_shell.specs.declared.status.Status.{Status}
 use Rattle.cvm_shell.specs.declared.status.Status.TheVariants.{Done, Words, KernelFault, Disk, Shelf, Sink, Memory}
 use Rattle.cvm_shell.specs.Outside.{Outside, SameSectors, Leaves, Says}
 use Rattle.cvm_shell.specs.declared.boot.Session.{Session}
-use Rattle.cvm_shell.specs.Command.{Command, IsCommand, GetsFiles}
+use Rattle.cvm_shell.specs.Command.{Command, Save, IsCommand, GetsFiles, save_session}
 use Rattle.cvm_shell.specs.Refusal.{too_long, refusal_text, refusal_status}
-use Rattle.cvm_shell.specs.Plan.{Plan, bad_words, refuses, puts, boots, prints, ComesTo, AllTold, IsPlan}
+use Rattle.cvm_shell.specs.Plan.{Plan, bad_words, refuses, puts, boots, saves, resumes, prints, ComesTo, AllTold, IsPlan}
 use Rattle.cvm_shell.specs.Boot.{RunEnds, booted, steps_before, IsBooted, IsHonest, Headline}
+use Rattle.cvm_shell.specs.Saves.{SaveEnds, IsHonestSave}
+use Rattle.cvm_shell.specs.Resumes.{ResumeEnds}
 use Rattle.cvm_shell.specs.Isolation.{Isolated}
 
 -- this file has these bytes now, and nothing else changed
@@ -35,6 +37,8 @@ Ends bad_words status old new = Says Words (codes "bad words\n") old new status
 Ends (refuses r) status old new = Says (refusal_status r) (refusal_text r) old new status
 Ends (puts name bytes) status old new = PutEnds name bytes status old new
 Ends (boots session s rows) status old new = RunEnds session s rows status old new
+Ends (saves session s rows name) status old new = SaveEnds session s rows name status old new
+Ends (resumes session s rows words) status old new = ResumeEnds session s rows words status old new
 Ends (prints text) status old new = Says Done text old new status
 
 -- a command that gets files took 67,108,865 bytes of one exactly where that is refused as too long
@@ -88,6 +92,11 @@ pub record HasSteps (session : Session) (s : System) (rows : Rows) (sectors : Li
 abbrev pub Completes : {A : Type 0} → (A → Outside) → List (List ℕ) → Status → (old new : A) → Type 0
 Completes see words status old new = (session : Session) (s : System) (rows : Rows) (sectors : List (List ℕ)) → IsHonest words session s rows sectors (see old) (see new)
     → status ≢ Memory → HasSteps session s rows sectors (see old) → (status ≡ Done) ⊎ (status ≡ KernelFault)
+
+-- so it is of a save
+abbrev pub SavesComplete : {A : Type 0} → (A → Outside) → List (List ℕ) → Status → (old new : A) → Type 0
+SavesComplete see words status old new = (c : Save) (s : System) (rows : Rows) (before : List (List ℕ)) → IsHonestSave words c s rows before (see old) (see new)
+    → status ≢ Memory → HasSteps (save_session c) s rows before (see old) → (status ≡ Done) ⊎ (status ≡ KernelFault)
 
 -- ISOLATION of the user of each trace that is done, or whose kernel faulted
 abbrev pub Isolates : {A : Type 0} → (A → Outside) → List (List ℕ) → Status → (old new : A) → Type 0

@@ -1,5 +1,5 @@
 -- What words and the files that they name come to, before anything is put or run: stage by stage, in the order of work.
-use Rattle.std.specs.Prelude.{◌≡◌, ◌≢◌, ⊤, ℕ, suc, nat_eq, nat_lt, ◌%◌, ◌<◌, ◌≤◌, List, [], ◌∷◌, length, flat_map, Option, Result, Ok, Err, if◌then◌else◌}
+use Rattle.std.specs.Prelude.{◌≡◌, ◌≢◌, ⊤, ℕ, suc, nat_eq, nat_lt, ◌%◌, ◌*◌, ◌<◌, ◌≤◌, List, [], ◌∷◌, length, flat_map, Option, Result, Ok, Err, if◌then◌else◌}
 use Rattle.std.specs.Int.{to_le_bytes, w32}
 use Rattle.std.specs.Option.{IsSome}
 use Rattle.cvm_outside.specs.Told.{TOO_LONG, Tells}
@@ -19,9 +19,16 @@ use Rattle.object_file.specs.Format.{spelling}
 use Rattle.kernel_linker.specs.Object.{object_of}
 use Rattle.kernel_linker.specs.Link.{fitting, link_answer}
 use Rattle.kernel_linker.specs.declared.fault.LinkFault.{LinkFault}
-use Rattle.layer_map.specs.Map.{Map}
+use Rattle.layer_map.specs.Map.{Map, memory_frames}
 use Rattle.layer_map.specs.declared.params.Params.{Params}
 use Rattle.real_layer.specs.Image.{layer_image}
+use Rattle.cvm_model.specs.Cvm.{map_of}
+use Rattle.cvm_model.specs.KernelMeaning.{kernel_meaning}
+use Rattle.saved_file.specs.Resumable.{Wanted}
+use Rattle.saved_file.specs.Answer.{answer as machine_of}
+use Rattle.saved_file.specs.declared.fault.SaveFault.{SaveFault}
+use Rattle.saved_file.specs.declared.fault.SaveFault.TheVariants.{TooLarge as FileTooLarge}
+use Rattle.machine_save.specs.Room.{most_words, FILE_ROOM}
 use Rattle.boot_image.specs.Format.{spelling as image_bytes}
 use Rattle.boot_image.specs.Parts.{Parts as Image}
 use Rattle.boot_image.specs.Reading.{answer as image_of, old_answer as old_image_of}
@@ -48,10 +55,10 @@ use Rattle.sample_maker.specs.Parts.{Parts as Sampled}
 use Rattle.sample_maker.specs.Sample.{sample_of}
 use Rattle.cvm_shell.specs.declared.boot.Session.{Session}
 use Rattle.cvm_shell.specs.CompileProgram.{CompileProgram, IsCompileProgram}
-use Rattle.cvm_shell.specs.Command.{Boot, Trace, CompileUser, CompileKernel, Link, Migrate, Sample, Command, boot, trace, compile_user, compile_kernel, compile_program, link, migrate, sample, check}
+use Rattle.cvm_shell.specs.Command.{Boot, Trace, Save, CompileUser, CompileKernel, Link, Migrate, Sample, Command, boot, trace, save, resume, compile_user, compile_kernel, compile_program, link, migrate, sample, check}
 use Rattle.cvm_shell.specs.Check.{Check, IsCheck, Told, TellsObject}
-use Rattle.cvm_shell.specs.Command.{IsBoot, IsTrace, IsCompileUser, IsCompileKernel, IsLink, IsMigrate, IsSample, IsCommand, IsNoCommand, boot_session, trace_session, sample_session}
-use Rattle.cvm_shell.specs.Refusal.{Refusal, bad_text, bad_source, bad_object, bad_file, bad_program, unlinked, unaccepted, bad_schedule, too_long}
+use Rattle.cvm_shell.specs.Command.{IsBoot, IsTrace, IsSave, IsResume, IsCompileUser, IsCompileKernel, IsLink, IsMigrate, IsSample, IsCommand, IsNoCommand, boot_session, trace_session, save_session, sample_session}
+use Rattle.cvm_shell.specs.Refusal.{Refusal, bad_text, bad_source, bad_object, bad_file, bad_program, unlinked, unaccepted, bad_schedule, bad_save, too_long}
 
 -- what is to be done
 pub data Plan : Type 0 where
@@ -63,6 +70,10 @@ pub data Plan : Type 0 where
   puts : (name bytes : List ℕ) → Plan
   -- run this system so, under this schedule
   boots : Session → System → Rows → Plan
+  -- run it so, and save its machine to this file where the run stops
+  saves : Session → System → Rows → (name : List ℕ) → Plan
+  -- go on so with the run of it whose machine has these words
+  resumes : Session → System → Rows → (words : List ℕ) → Plan
   -- print this text
   prints : (text : List ℕ) → Plan
 
@@ -101,6 +112,47 @@ AfterFiles layer session image schedule p =
 -- boot IMAGE SCHEDULE TURNS STEPS gets the image, then the schedule; and so does a trace, with another session
 abbrev pub BootPlan : (layer : Map → List ℕ → List ℕ) → (List ℕ → Option (List ℕ)) → Boot → Session → Plan → Type 0
 BootPlan layer file b session p = Got (file b.image) (λ image. Got (file b.schedule) (AfterFiles layer session image)) p
+
+-- the frames of memory of a system's machine
+abbrev pub frames_of : System → ℕ
+frames_of s = memory_frames (map_of (record { params = s.params; meaning = kernel_meaning s.unit s.params; words = s.words; users = s.users }))
+
+-- the most bytes that the file of its machine may have, with a full log
+abbrev pub most_bytes : System → ℕ
+most_bytes s = 4 * most_words (frames_of s)
+
+-- WHAT WOULD BE BOOTED is saved, unless its file may be too long for a file; what is refused of the image and the schedule is refused here, too
+abbrev pub saved_plan : (name : List ℕ) → Plan → Plan
+saved_plan name (boots session s rows) = if nat_lt FILE_ROOM (most_bytes s) then refuses (bad_save (FileTooLarge (most_bytes s))) else saves session s rows name
+saved_plan name other = other
+
+-- save IMAGE SCHEDULE TURNS STEPS FILE gets what its boot gets
+abbrev pub SavePlan : (layer : Map → List ℕ → List ℕ) → (List ℕ → Option (List ℕ)) → Save → Plan → Type 0
+SavePlan layer file c p = (q : Plan) × BootPlan layer file c.boot (save_session c) q × (p ≡ saved_plan c.file q)
+
+-- what a saved machine has to fit to be taken up as this system's, under this schedule, for so many turns
+abbrev pub wanted_by : System → Rows → (turns : ℕ) → Wanted
+wanted_by s rows turns =
+    record { frames = frames_of s; users = length s.users; pages = s.params.pages; inputs = rows.inputs; linked = s.words; turns = turns }
+
+-- AFTER THE FILE of a saved machine it is taken up
+abbrev pub taken_plan : Session → System → Rows → Result (List ℕ) SaveFault → Plan
+taken_plan session s rows (Ok words) = resumes session s rows words
+taken_plan session s rows (Err f) = refuses (bad_save f)
+
+-- WHAT WOULD BE BOOTED is taken up; what is refused of the image and the schedule is refused here, too
+abbrev pub taken_up : (bytes : List ℕ) → Plan → Plan
+taken_up bytes (boots session s rows) = taken_plan session s rows (machine_of (wanted_by s rows session.turns) bytes)
+taken_up bytes other = other
+
+-- AFTER THE FILES of a resume the image is accepted and the schedule read, as for its boot, and then the saved machine is
+abbrev pub AfterThree : (layer : Map → List ℕ → List ℕ) → Session → (image schedule bytes : List ℕ) → Plan → Type 0
+AfterThree layer session image schedule bytes p = (q : Plan) × AfterFiles layer session image schedule q × (p ≡ taken_up bytes q)
+
+-- resume IMAGE SCHEDULE TURNS STEPS FILE gets the image, then the schedule, then the file, before it looks at any
+abbrev pub ResumePlan : (layer : Map → List ℕ → List ℕ) → (List ℕ → Option (List ℕ)) → Save → Plan → Type 0
+ResumePlan layer file c p =
+    Got (file c.boot.image) (λ image. Got (file c.boot.schedule) (λ schedule. Got (file c.file) (AfterThree layer (save_session c) image schedule))) p
 
 -- the bytes of a user's image: its words, each as four bytes with the lowest first, and nothing else
 abbrev pub bytes_of : List ℕ → List ℕ
@@ -242,6 +294,8 @@ pub data ComesTo (words : List (List ℕ)) (file : List ℕ → Option (List ℕ
   no_command : IsNoCommand words → ComesTo words file bad_words
   boot_plan : (b : Boot) (p : Plan) → IsBoot words b → BootPlan layer_image file b (boot_session b) p → ComesTo words file p
   trace_plan : (t : Trace) (p : Plan) → IsTrace words t → BootPlan layer_image file t.boot (trace_session t) p → ComesTo words file p
+  save_plan : (c : Save) (p : Plan) → IsSave words c → SavePlan layer_image file c p → ComesTo words file p
+  resume_plan : (c : Save) (p : Plan) → IsResume words c → ResumePlan layer_image file c p → ComesTo words file p
   user_plan : (c : CompileUser) (p : Plan) → IsCompileUser words c → UserPlan file c p → ComesTo words file p
   kernel_plan : (c : CompileKernel) (p : Plan) → IsCompileKernel words c → KernelPlan file c p → ComesTo words file p
   image_plan : (c : CompileProgram) (p : Plan) → IsCompileProgram words c → ProgramPlan file c p → ComesTo words file p
@@ -259,6 +313,8 @@ AreTold file (name ∷ rest) = IsSome (file name) × AreTold file rest
 abbrev pub GetsTold : (List ℕ → Option (List ℕ)) → Command → Type 0
 GetsTold file (boot b) = IsSome (file b.image) × IsSome (file b.schedule)
 GetsTold file (trace t) = IsSome (file t.boot.image) × IsSome (file t.boot.schedule)
+GetsTold file (save c) = IsSome (file c.boot.image) × IsSome (file c.boot.schedule)
+GetsTold file (resume c) = IsSome (file c.boot.image) × IsSome (file c.boot.schedule) × IsSome (file c.file)
 GetsTold file (compile_user c) = IsSome (file c.text)
 GetsTold file (compile_kernel c) = IsSome (file c.source)
 GetsTold file (compile_program c) = IsSome (file c.source)

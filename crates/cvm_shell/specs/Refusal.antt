@@ -19,6 +19,8 @@ use Rattle.kernel_linker.specs.declared.fault.AcceptFault.{AcceptFault}
 use Rattle.schedule_file.specs.Fault.{schedule_fault_number, schedule_fault_line, schedule_fault_value}
 use Rattle.schedule_file.specs.declared.fault.ScheduleFault.{ScheduleFault}
 use Rattle.kernel_linker.specs.declared.fault.LinkFault.{LinkFault}
+use Rattle.saved_file.specs.Fault.{save_fault_number, save_fault_fields}
+use Rattle.saved_file.specs.declared.fault.SaveFault.{SaveFault}
 use Rattle.cvm_shell.specs.declared.status.Status.{Status}
 use Rattle.cvm_shell.specs.declared.status.Status.TheVariants.{Refused, Disk, Shelf}
 
@@ -39,6 +41,8 @@ pub data Refusal : Type 0 where
   unaccepted : (fault : AcceptFault) → Refusal
   -- 70 to 72 and 74: a text is no schedule
   bad_schedule : (fault : ScheduleFault) → Refusal
+  -- 100 to 106: a file is not taken up; 107: a machine's file may be too long
+  bad_save : (fault : SaveFault) → Refusal
   -- 90: the disk has fewer sectors than the users' pages need
   small_disk : (need have : ℕ) → Refusal
   -- 96: the user of a trace is none of the users
@@ -104,6 +108,7 @@ refusal_text (bad_file f) = numbers_row (file_fault_number f) (file_fault_fields
 refusal_text (unlinked f) = numbers_row (link_fault_number f) (link_fault_fields f)
 refusal_text (unaccepted f) = numbers_row (accept_fault_number f) (accept_fault_fields f)
 refusal_text (bad_schedule f) = schedule_fault_row f
+refusal_text (bad_save f) = numbers_row (save_fault_number f) (save_fault_fields f)
 refusal_text (small_disk need have) = numbers_row 90 (need ∷ have ∷ [])
 refusal_text (no_such_user user users) = numbers_row 96 (user ∷ users ∷ [])
 refusal_text too_long = codes "refused 81\n"

@@ -1,5 +1,5 @@
 -- Only for the contracts inside the crate: how the stages of a command end.
-use Rattle.std.specs.Prelude.{◌≡◌, ◌≢◌, ⊤, ◌⊎◌, ◌<◌, ◌≤◌, ℕ, List, [], ◌∷◌, length, map, Option, Some, Result, Ok, Err, MatchResult, IfOk, IfErr, IsSome}
+use Rattle.std.specs.Prelude.{◌≡◌, ◌≢◌, ⊤, ◌⊎◌, ◌<◌, ◌≤◌, ◌^◌, ℕ, List, [], ◌∷◌, length, map, Option, Some, Result, Ok, Err, MatchResult, IfOk, IfErr, IsSome}
 use Rattle.cvm_outside.specs.Causes.{Rose}
 use Rattle.cvm_outside.specs.Told.{Tells, TOO_LONG}
 use Rattle.cvm_outside.specs.declared.shelf.ShelfFault.{ShelfFault}
@@ -27,29 +27,42 @@ use Rattle.cvm_model.specs.Cvm.{Cvm, IsCvm, cvm}
 use Rattle.cvm_model.specs.Journal.{journal, replay}
 use Rattle.layer_contract.specs.Boots.{BootFollows}
 use Rattle.boot_turns.specs.TurnEnds.{first_of}
-use Rattle.boot_run.specs.LoadEnds.{HasRoom, LoadFails}
-use Rattle.boot_run.specs.Whole.{AnswerEnds, IsDiskFault}
+use Rattle.boot_turns.specs.declared.answers.View.TheVariants as view
+use Rattle.boot_run.specs.LoadEnds.{HasRoom, LoadFails, pages_needed}
+use Rattle.boot_run.specs.Whole.{AnswerEnds, WholeGoesOn, IsDiskFault, ending_of_end}
+use Rattle.machine_save.specs.SavedBoots.{AreDisk, AreTakenUp}
+use Rattle.machine_save.specs.SaveRun.{SaveRunEnds, IfUnput, IsSavedDiskFault}
+use Rattle.machine_save.specs.declared.saving.SavedEnd.{SavedEnd}
+use Rattle.machine_save.specs.declared.saving.SavedEnd.TheVariants as saved_end
 use Rattle.boot_run.specs.declared.load.LoadFault.{LoadFault}
 use Rattle.boot_run.specs.declared.whole.RunEnd.{RunEnd}
 use Rattle.schedule_file.specs.Rows.{Rows}
 use Rattle.schedule_file.specs.declared.fault.ScheduleFault.{ScheduleFault}
 use Rattle.schedule_file.specs.declared.fault.ScheduleFault.TheVariants as schedule
+use Rattle.saved_file.specs.Answer.{answer as machine_of}
+use Rattle.saved_file.specs.declared.fault.SaveFault.{SaveFault}
+use Rattle.saved_file.specs.declared.fault.SaveFault.TheVariants as saving
+use Rattle.machine_save.specs.Room.{FILE_ROOM}
 use Rattle.cvm_shell.specs.declared.boot.Ready.{Ready}
+use Rattle.cvm_shell.specs.declared.saving.Saveable.{Saveable}
+use Rattle.cvm_shell.specs.declared.resuming.Resumable.{Resumable}
 use Rattle.cvm_shell.specs.declared.boot.Stop.{Stop}
 use Rattle.cvm_shell.specs.declared.boot.Stop.TheVariants as stop
 use Rattle.cvm_shell.specs.declared.refusal.Refusal.TheVariants as refusal
 use Rattle.cvm_shell.specs.declared.status.Status.{Status}
+use Rattle.cvm_shell.specs.declared.status.Status.TheVariants.{Done, Shelf, Sink, Memory}
 use Rattle.std.specs.Global.{Vec}
 use Rattle.cvm_shell.specs.declared.boot.Session.{Session}
 use Rattle.cvm_shell.specs.CompileProgram.{CompileProgram}
-use Rattle.cvm_shell.specs.Command.{Boot, CompileUser, CompileKernel, Link, Migrate, Command, boot, compile_user, compile_kernel, compile_program, link as link_command, migrate, IsSample, IsCommand, command_of, check}
-use Rattle.cvm_shell.specs.Plan.{Plan, puts, boots, BootPlan, UserPlan, KernelPlan, ProgramPlan, LinkPlan, MigratePlan, SamplePlan, GetsTold, IsPlan, words_from, prints, CheckPlan}
+use Rattle.cvm_shell.specs.Command.{Boot, Save, CompileUser, CompileKernel, Link, Migrate, Command, boot, save, resume, save_session, compile_user, compile_kernel, compile_program, link as link_command, migrate, IsSample, IsCommand, command_of, check}
+use Rattle.cvm_shell.specs.Plan.{Plan, puts, boots, saves, most_bytes, wanted_by, taken_plan, BootPlan, SavePlan, ResumePlan, UserPlan, KernelPlan, ProgramPlan, LinkPlan, MigratePlan, SamplePlan, GetsTold, IsPlan, words_from, prints, CheckPlan}
 use Rattle.cvm_shell.specs.Check.{Check}
 use Rattle.boot_turns.specs.declared.answers.View.{View}
 use Rattle.cvm_shell.specs.Views.{IfPlan}
-use Rattle.cvm_shell.specs.Outside.{Drive, Files, Outside}
-use Rattle.cvm_shell.specs.Boot.{booted, around, first_state, sectors_needed, GoesOn, RunEnds}
-use Rattle.cvm_shell.specs.Outcome.{CommandEnds}
+use Rattle.cvm_shell.specs.Outside.{Drive, Files, Outside, Leaves}
+use Rattle.cvm_shell.specs.Boot.{booted, around, first_state, sectors_needed, ended_as, GoesOn, RunEnds}
+use Rattle.cvm_shell.specs.Outcome.{Ends, CommandEnds}
+use Rattle.cvm_shell.specs.Saves.{SaveEnds}
 
 -- what a fault of the shelf comes to
 abbrev pub stop_of : ShelfFault → Stop
@@ -97,6 +110,11 @@ accept_stop f = stop.Refused (refusal.Unaccepted f)
 abbrev pub schedule_stop : ScheduleFault → Stop
 schedule_stop schedule.Memory = stop.Memory
 schedule_stop f = stop.Refused (refusal.BadSchedule f)
+
+-- what a fault of a saved machine's file comes to
+abbrev pub save_stop : SaveFault → Stop
+save_stop saving.Memory = stop.Memory
+save_stop f = stop.Refused (refusal.BadSave f)
 
 -- files have these bytes, and none is too long
 abbrev pub Fetched : (List ℕ → Option (List ℕ)) → (names got : List (List ℕ)) → Type 0
@@ -178,6 +196,67 @@ Follows r = BootFollows r.layer.words r.layer.sizes r.layer.map r.boot
 abbrev pub ready_for : Session → Ready → Plan
 ready_for session r = boots session (system_of r.boot) r.schedule
 
+abbrev pub saveable_for : Save → Saveable → Plan
+saveable_for c r = saves (save_session c) (system_of r.ready.boot) r.ready.schedule c.file
+
+abbrev pub resumable_for : Save → Resumable → Plan
+resumable_for c r =
+    taken_plan (save_session c) (system_of r.ready.boot) r.ready.schedule (machine_of (wanted_by (system_of r.ready.boot) r.ready.schedule c.boot.turns) r.bytes.items)
+
+-- why there is no room for a saved machine of a system: its file may be too long, or there was no memory
+abbrev pub HasNoRoom : System → Stop → Type 0
+HasNoRoom s (stop.Refused r) = (r ≡ refusal.BadSave (saving.TooLarge (most_bytes s))) × (FILE_ROOM < most_bytes s)
+HasNoRoom s stop.Shelf = ⊥
+HasNoRoom s stop.Memory = ⊤
+
+-- how a save and how a resume ends, which may change the file and the disk
+abbrev pub SaveEndsAs : {A : Type 0} → Save → (A → Outside) → Status → (old new : A) → Type 0
+SaveEndsAs c see status old new = (words : List (List ℕ)) → IsCommand words (save c) → CommandEnds words status (see old) (see new)
+
+abbrev pub ResumeEndsAs : {A : Type 0} → Save → (A → Outside) → Status → (old new : A) → Type 0
+ResumeEndsAs c see status old new = (words : List (List ℕ)) → IsCommand words (resume c) → CommandEnds words status (see old) (see new)
+
+-- WHAT A CALL ANSWERS that runs a system which is to be saved, of what is seen around it
+pub record SaveAnswers (r : Ready) (c : Save) (answer : Result SavedEnd LoadFault) (old new : Outside) : Type 0 where
+  pub ends : SaveRunEnds r.boot r.schedule old.disk.size c.boot.turns c.boot.steps old.disk.sectors new.disk.sectors old.sink.text new.sink.text
+      (old.shelf.file c.file) (new.shelf.file c.file) answer
+  pub goes_on : WholeGoesOn r.boot r.schedule old.disk.size old.disk.sectors
+  pub some : 1 ≤ c.boot.turns
+  pub few : c.boot.steps < 2 ^ 64
+  pub fits : AreTakenUp r.boot r.schedule old.disk.size
+  pub disk : AreDisk old.disk.size old.disk.sectors
+  pub others : (n : List ℕ) → n ≢ c.file → new.shelf.file n ≡ old.shelf.file n
+  pub unput : IfUnput answer ((n : List ℕ) → new.shelf.file n ≡ old.shelf.file n)
+  pub told : IsSome old.disk.sectors → IsSome new.disk.sectors
+  pub refused : IfErr answer (LoadFails r.boot view.Boot (pages_needed r.boot) old.disk.size old.disk.faults new.disk.faults)
+  pub loaded : IfOk answer (λ _. HasRoom r.boot view.Boot (pages_needed r.boot) old.disk.size)
+  pub size : new.disk.size ≡ old.disk.size
+  pub rose : IsSavedDiskFault answer → Rose old.disk.faults new.disk.faults
+
+-- the same with other files
+abbrev pub with_files : Files → Outside → Outside
+with_files f o = record { shelf = f; sink = o.sink; disk = o.disk }
+
+abbrev pub SaveIs : {A : Type 0} → Saveable → Save → (A → Outside) → Result SavedEnd LoadFault → (old new : A) → Type 0
+SaveIs r c see answer old new = SaveAnswers r.ready c answer (see old) (see new)
+
+-- how the run of a system ends that is to be saved, from other files that tell the same
+abbrev pub SavesAs : {A : Type 0} → Saveable → Save → (A → Outside) → Status → (old new : A) → Type 0
+SavesAs r c see status old new = (before : Files) → ((n : List ℕ) → (see old).shelf.file n ≡ before.file n)
+    → SaveEnds (save_session c) (system_of r.ready.boot) r.ready.schedule c.file status (with_files before (see old)) (see new)
+
+-- the status of a run that was to be saved, by its end
+abbrev pub status_of_saved : SavedEnd → Status
+status_of_saved saved_end.Saved = Done
+status_of_saved saved_end.ShelfFault = Shelf
+status_of_saved saved_end.RowFault = Sink
+status_of_saved (saved_end.Ended e) = ended_as (ending_of_end e)
+
+-- how a resume ends, whatever the files, which it leaves alone: as its plan says, or there was no memory
+abbrev pub ResumesAs : {A : Type 0} → Resumable → Save → (Files → A → Outside) → Status → (old new : A) → Type 0
+ResumesAs r c see status old new = (before after : Files) → ((n : List ℕ) → after.file n ≡ before.file n)
+    → ((status ≡ Memory) × Leaves (see before old) (see after new) []) ⊎ Ends (resumable_for c r) status (see before old) (see after new)
+
 abbrev pub compiled : CompileUser → Vec ℕ → Plan
 compiled c image = puts c.image image.items
 
@@ -215,6 +294,12 @@ IsSamplePlan layer number p = IsPlan ⊤ (SamplePlan layer number) p
 
 abbrev pub IsBootPlan : (layer : Map → List ℕ → List ℕ) → (List ℕ → Option (List ℕ)) → Boot → Session → Plan → Type 0
 IsBootPlan layer file b session p = IsPlan (GetsTold file (boot b)) (BootPlan layer file b session) p
+
+abbrev pub IsSavePlan : (layer : Map → List ℕ → List ℕ) → (List ℕ → Option (List ℕ)) → Save → Plan → Type 0
+IsSavePlan layer file c p = IsPlan (GetsTold file (save c)) (SavePlan layer file c) p
+
+abbrev pub IsResumePlan : (layer : Map → List ℕ → List ℕ) → (List ℕ → Option (List ℕ)) → Save → Plan → Type 0
+IsResumePlan layer file c p = IsPlan (GetsTold file (resume c)) (ResumePlan layer file c) p
 
 abbrev pub IsUserPlan : (List ℕ → Option (List ℕ)) → CompileUser → Plan → Type 0
 IsUserPlan file c p = IsPlan (GetsTold file (compile_user c)) (UserPlan file c) p

@@ -1,5 +1,5 @@
 -- What a `yes` of a check means: no run of a system of the object's source with so much stack stops for want of stack.
-use Rattle.std.specs.Prelude.{◌≡◌, ℕ, ◌≤◌, List, [], ◌∷◌, ◌++◌, codes, Some, Ok}
+use Rattle.std.specs.Prelude.{◌≡◌, ◌≢◌, ℕ, ◌≤◌, List, [], ◌∷◌, ◌++◌, codes, Some, Ok}
 use Rattle.schedule_file.specs.Rows.{Rows}
 use Rattle.bound_check.specs.Kept.{NeverOut as RunsNeverOut}
 use Rattle.object_file.specs.Answer.{IsAnswer as IsObject}
@@ -8,18 +8,19 @@ use Rattle.boot_image.specs.Parts.{Parts as Image}
 use Rattle.real_layer.specs.Image.{layer_image}
 use Rattle.cvm_model.specs.declared.kernel_fault.KernelFault.{KernelFault}
 use Rattle.cvm_model.specs.declared.kernel_fault.KernelFault.TheVariants.{StackOut}
+use Rattle.cvm_model.specs.Cvm.{Faulted}
 use Rattle.cvm_model.specs.Text.{fault_name}
 use Rattle.kernel_linker.specs.Accept.{System}
 use Rattle.cvm_shell.specs.declared.status.Status.{Status}
-use Rattle.cvm_shell.specs.declared.status.Status.TheVariants.{Done}
 use Rattle.cvm_shell.specs.declared.boot.Session.{Session}
 use Rattle.cvm_shell.specs.Check.{Check, IsCheck}
 use Rattle.cvm_shell.specs.Outside.{Outside}
 use Rattle.cvm_shell.specs.Plan.{Accepts}
 use Rattle.cvm_shell.specs.Boot.{booted, Headline}
 
--- a check of these words was done, and what it printed of an object with this source, beside so many words of stack, begins with `yes`
-pub record SaysYes (words : List (List ℕ)) (source : List ℕ) (stack : ℕ) (status : Status) (old new : Outside) : Type 0 where
+-- what a check of these words printed of an object with this source, beside so many words of stack, begins with `yes`: whole, or as much as a failing
+-- sink took
+pub record SaysYes (words : List (List ℕ)) (source : List ℕ) (stack : ℕ) (old new : Outside) : Type 0 where
   pub check : Check
   pub asked : IsCheck words check
   pub stack_is : stack ≡ check.stack
@@ -28,7 +29,6 @@ pub record SaysYes (words : List (List ℕ)) (source : List ℕ) (stack : ℕ) (
   pub object : Object
   pub object_is : IsObject bytes (Ok object)
   pub source_is : source ≡ object.source
-  pub done : status ≡ Done
   pub before : List ℕ
   pub before_told : old.sink.text ≡ Some before
   pub rest : List ℕ
@@ -45,9 +45,10 @@ pub record HasStack (source : List ℕ) (stack : ℕ) (s : System) : Type 0 wher
 abbrev pub NeverOut : System → Type 0
 NeverOut s = (rows : Rows) → RunsNeverOut (booted s rows)
 
--- THE STACK IS ENOUGH where a check said `yes`: for each accepted system of that source with as much, whatever its users and other parameters are
+-- THE STACK IS ENOUGH where a check said `yes`, with whatever status: for each accepted system of that source with as much, whatever its users and other
+-- parameters are
 abbrev pub Suffices : {A : Type 0} → (A → Outside) → List (List ℕ) → Status → (old new : A) → Type 0
-Suffices see words status old new = (source : List ℕ) (stack : ℕ) (s : System) → SaysYes words source stack status (see old) (see new) → HasStack source stack s → NeverOut s
+Suffices see words status old new = (source : List ℕ) (stack : ℕ) (s : System) → SaysYes words source stack (see old) (see new) → HasStack source stack s → NeverOut s
 
 -- what was printed in a call ends with this row
 pub record EndsWith (row : List ℕ) (old new : Outside) : Type 0 where
@@ -60,8 +61,15 @@ pub record EndsWith (row : List ℕ) (old new : Outside) : Type 0 where
 abbrev pub fault_row : KernelFault → List ℕ
 fault_row f = codes "fault " ++ fault_name f ++ 10 ∷ []
 
--- a law: where a check said `yes`, no boot, trace or sample of such a system prints `fault StackOut`, which would be the last that it prints
+-- a run of a headline meets no want of stack: the abstract run that it goes by has no such fault where it ends, so with the status of a kernel's fault it is
+-- another one; and what is printed doesn't end with the row `fault StackOut`, behind which nothing would be printed
+pub record MeetsNoStackOut (session : Session) (s : System) (rows : Rows) (sectors : List (List ℕ)) (before after : Outside) (ended : Status)
+    (h : Headline session s rows sectors before after ended) : Type 0 where
+  pub meant : h.ran.past.status ≢ Faulted StackOut
+  pub printed : EndsWith (fault_row StackOut) before after → ⊥
+
+-- A LAW: where a check said `yes`, no run of such a system by a boot, a rom, a trace or a sample meets it, as long as no call fails
 abbrev pub StackOutIsNotPrinted : Type 0
 StackOutIsNotPrinted = (words : List (List ℕ)) (status ended : Status) (old new before after : Outside) (source : List ℕ) (stack : ℕ) (session : Session) (s : System) (rows : Rows) (sectors : List (List ℕ))
-    → Suffices (λ o. o) words status old new → SaysYes words source stack status old new → HasStack source stack s
-    → Headline session s rows sectors before after ended → EndsWith (fault_row StackOut) before after → ⊥
+    → Suffices (λ o. o) words status old new → SaysYes words source stack old new → HasStack source stack s
+    → (h : Headline session s rows sectors before after ended) → MeetsNoStackOut session s rows sectors before after ended h

@@ -8,6 +8,7 @@ use Rattle.cvm_shell.specs.Refusal as refusal
 use Rattle.cvm_shell.specs.Plan.{Plan, refuses}
 use Rattle.cvm_shell.specs.declared.command.Boot.{Boot}
 use Rattle.cvm_shell.specs.declared.command.Trace.{Trace}
+use Rattle.cvm_shell.specs.declared.saving_words.Save.{Save}
 use Rattle.cvm_shell.specs.declared.command.CompileUser.{CompileUser}
 use Rattle.cvm_shell.specs.declared.command.CompileKernel.{CompileKernel}
 use Rattle.cvm_shell.specs.declared.program.CompileProgram.{CompileProgram}
@@ -18,7 +19,7 @@ use Rattle.cvm_shell.specs.declared.check.Check.{Check}
 use Rattle.cvm_shell.specs.declared.command.Command.{Command}
 use Rattle.cvm_shell.specs.declared.command.Command.TheVariants as command_code
 use Rattle.cvm_shell.specs.declared.refusal.Refusal.{Refusal}
-use Rattle.cvm_shell.specs.declared.refusal.Refusal.TheVariants.{BadText, BadSource, BadProgram, BadObject, BadFile, Unlinked, Unaccepted, BadSchedule, SmallDisk, NoSuchUser, TooLong}
+use Rattle.cvm_shell.specs.declared.refusal.Refusal.TheVariants.{BadText, BadSource, BadProgram, BadObject, BadFile, Unlinked, Unaccepted, BadSchedule, BadSave, SmallDisk, NoSuchUser, TooLong}
 use Rattle.cvm_shell.specs.declared.boot.Stop.{Stop}
 use Rattle.cvm_shell.specs.declared.boot.Stop.TheVariants.{Refused, Shelf, Memory}
 
@@ -37,6 +38,10 @@ boot_view b = record { start = b.start; image = b.image.now; schedule = b.schedu
 -- a trace, with its names as lists of bytes
 abbrev pub trace_view : Trace → command.Trace
 trace_view t = record { boot = boot_view t.boot; user = t.user }
+
+-- a save or a resume, with its names as lists of bytes
+abbrev pub save_view : Save → command.Save
+save_view c = record { boot = boot_view c.boot; file = c.file.now }
 
 -- a compilation of a user, with its names as lists of bytes
 abbrev pub user_view : CompileUser → command.CompileUser
@@ -70,6 +75,8 @@ check_view c = record { object = c.object.now; stack = c.stack }
 abbrev pub command_view : Command → command.Command
 command_view (command_code.Boot b) = command.boot (boot_view b)
 command_view (command_code.Trace t) = command.trace (trace_view t)
+command_view (command_code.Save c) = command.save (save_view c)
+command_view (command_code.Resume c) = command.resume (save_view c)
 command_view (command_code.CompileUser c) = command.compile_user (user_view c)
 command_view (command_code.CompileKernel c) = command.compile_kernel (kernel_view c)
 command_view (command_code.CompileProgram c) = command.compile_program (program_view c)
@@ -88,6 +95,7 @@ refusal_view (BadFile fault) = refusal.bad_file fault
 refusal_view (Unlinked fault) = refusal.unlinked fault
 refusal_view (Unaccepted fault) = refusal.unaccepted fault
 refusal_view (BadSchedule fault) = refusal.bad_schedule fault
+refusal_view (BadSave fault) = refusal.bad_save fault
 refusal_view (SmallDisk need have) = refusal.small_disk need have
 refusal_view (NoSuchUser user users) = refusal.no_such_user user users
 refusal_view TooLong = refusal.too_long

@@ -162,8 +162,8 @@ pub fn run_system<O: Sink, D: Sectors>(
     }
 }
 
-// The status of a run by its end.
-fn status_of(end: RunEnd) -> Status
+/// The status of a run by its end.
+pub(crate) fn status_of(end: RunEnd) -> Status
     ensures { result ≡ ended_as (ending_of_end end) }
 {
     match end {

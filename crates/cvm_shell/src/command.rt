@@ -6,6 +6,7 @@ ghost use Rattle.cvm_shell.specs.Views.{boot_view, trace_view, user_view, kernel
 use crate::boot::Start;
 use crate::check::{Check, read_check};
 use crate::program::{CompileProgram, read_compile_program};
+use crate::saving_words::{Save, read_resume, read_save};
 use cvm_text::{read_decimal, spelled_numbers_are_read};
 
 /// The most turns that a command names, and the last sample.
@@ -92,6 +93,10 @@ pub enum Command<'a> {
     Boot(Boot<'a>),
     /// Boots an image under a schedule, and prints of it what concerns one user.
     Trace(Trace<'a>),
+    /// Boots an image under a schedule, and saves its machine where the run stops.
+    Save(Save<'a>),
+    /// Goes on with the run whose machine was saved.
+    Resume(Save<'a>),
     /// Assembles the text of a user, and puts its image.
     CompileUser(CompileUser<'a>),
     /// Compiles the source of a kernel, and puts its object.
@@ -119,6 +124,12 @@ pub fn read_command(words: &Vec<String>) -> Option<Command<'_>>
     }
     if let Some(trace) = read_trace(words) {
         return Some(Command::Trace(trace));
+    }
+    if let Some(save) = read_save(words) {
+        return Some(Command::Save(save));
+    }
+    if let Some(resume) = read_resume(words) {
+        return Some(Command::Resume(resume));
     }
     if let Some(user) = read_compile_user(words) {
         return Some(Command::CompileUser(user));
@@ -310,8 +321,8 @@ fn read_sample_number(text: &str) -> Option<u32>
     Some(number as u32)
 }
 
-// The number of turns, at least 1 and below 2^32, that a text is the decimal spelling of.
-fn read_turns(text: &str) -> Option<u32>
+/// The number of turns, at least 1 and below 2^32, that a text is the decimal spelling of.
+pub(crate) fn read_turns(text: &str) -> Option<u32>
     ensures { MatchOption result ((n : ℕ) → 1 ≤ n → n < 2 ^ 32 → text.now ≡ decimal n → ⊥) (λ n. (text.now ≡ decimal n) × (1 ≤ n)) }
 {
     let number = read_number(text)?;

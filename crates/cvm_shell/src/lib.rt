@@ -4,8 +4,10 @@
 ghost use Rattle.std.specs.Prelude.{◌≤◌};
 ghost use Rattle.cvm_shell.specs.Command as command;
 ghost use Rattle.cvm_shell.specs.Command.{texts};
-ghost use Rattle.cvm_shell.specs.Outcome.{Outcome, Causes, Headlines, Completes, Isolates};
+ghost use Rattle.cvm_shell.specs.Outcome.{Outcome, Causes, Headlines, Completes, SavesComplete, Isolates};
 ghost use Rattle.cvm_shell.specs.Outside.{Drive, Files, seen, beside, within};
+ghost use Rattle.cvm_shell.specs.Resumes.{Resumes};
+ghost use Rattle.cvm_shell.specs.Saves.{Saves};
 ghost use Rattle.cvm_shell.specs.Suffices.{Suffices};
 ghost use Rattle.cvm_shell.specs.Stages.{EndsAs, BootEndsAs, SampleEndsAs, JournalsReplay};
 ghost use Rattle.cvm_shell.specs.Views.{boot_view, user_view, kernel_view, link_view, migrate_view};
@@ -21,7 +23,10 @@ pub mod migration;
 pub mod object;
 pub mod program;
 pub mod refusal;
+pub mod resuming;
 pub mod sampling;
+pub mod saving;
+pub mod saving_words;
 pub mod saying;
 mod starting;
 pub mod status;
@@ -49,7 +54,10 @@ use program::compile_program;
 pub use program::{CompileProgram, program_image, read_compile_program};
 use real_layer::RealLayer;
 pub use refusal::Refusal;
+pub use resuming::{Resumable, plan_resume, run_resume};
 pub use sampling::sampled;
+pub use saving::{Saveable, plan_save, run_save};
+pub use saving_words::{Save, read_resume, read_save};
 use saying::{refuse, say};
 pub use status::Status;
 use std::alloc::Global;
@@ -58,17 +66,22 @@ use std::alloc::Global;
 ///
 /// The commands are `boot IMAGE SCHEDULE TURNS STEPS`, `rom IMAGE SCHEDULE TURNS STEPS`, `trace IMAGE SCHEDULE TURNS STEPS USER`,
 /// `compile user ASM IMG`, `compile kernel SRC OBJ`, `compile program SRC IMG`, `link OBJ PARAMS OUT USER..`, `migrate IMAGE OUT`,
-/// `sample N` and `check OBJ STACK`. `rom` boots a machine whose memory is empty but for a boot ROM, which brings the linked words from the
-/// disk's sectors behind the users' pages; what it prints is that of the abstract run as of a boot's. A trace runs the machine as its boot does,
-/// and prints in place of the boot's rows and report the start row, the journal, the end and the registers and memory of one user, of
-/// those of the image, counted from 1. A migration puts the image of form 3 of an image of form 2. A sample is the boot of the system
-/// that is made from its number, for 100,000 turns and at most 4,000,000,000 steps. A check prints how much stack the kernel of an object
-/// needs: where it prints `yes`, no system of that source with so much stack ever stops for want of stack.
+/// `sample N`, `check OBJ STACK`, `save IMAGE SCHEDULE TURNS STEPS FILE` and `resume IMAGE SCHEDULE TURNS STEPS FILE`. `rom` boots a machine
+/// whose memory is empty but for a boot ROM, which brings the linked words from the disk's sectors behind the users' pages; what it prints is
+/// that of the abstract run as of a boot's. A trace runs the machine as its boot does, and prints in place of the boot's rows and report the
+/// start row, the journal, the end and the registers and memory of one user, of those of the image, counted from 1. A migration puts the image
+/// of form 3 of an image of form 2. A sample is the boot of the system that is made from its number, for 100,000 turns and at most
+/// 4,000,000,000 steps. A check prints how much stack the kernel of an object needs: where it prints `yes`, no system of that source with so much stack ever stops for want of stack.
+///
+/// A save runs as its boot. Where that would print `stopped`, the machine is put to FILE, and `saved` is printed in place of all from `stopped` on. A
+/// resume goes on from FILE and the disk as it stands; TURNS and STEPS count from the start of the saved run. The rows of the two are together those
+/// of one boot.
 ///
 /// The status says how it ended; `Words`, `Refused`, `Shelf` where a file is too long, and `Disk` where the disk is too small, print a
 /// row of their own, and a sink that fails is `Sink`, also in place of another status whose text it was to take. No file changes but the
-/// one that a `compile user`, a `compile kernel`, a `compile program`, a `link` or a `migrate` names to be put, and no sector but those of the users' pages of
-/// a `boot`, a `rom`, a `trace` or a `sample`, and of the linked words of a `rom`.
+/// one that a `compile user`, a `compile kernel`, a `compile program`, a `link`, a `migrate` or a `save` names to be put, and no sector but
+/// those of the users' pages of a `boot`, a `rom`, a `trace`, a `save`, a `resume` or a `sample`, and of the linked words of a `rom`. A
+/// `resume` of a file that no `save` put changes sectors as the machine does whose state the file names.
 ///
 /// What a `trace` that is done prints of its user depends on nothing but the user's own words, its journal and how the run ended:
 /// the machine that it shows is the replay of that journal.
@@ -85,6 +98,9 @@ pub fn run<S: Shelf, O: Sink, D: Sectors>(
     ensures complete { Completes (seen S.Shelf O.Sink D.Sectors) (texts words.now.items) result (shelf.old, out.old, disk.old) (shelf.new, out.new, disk.new) }
     ensures isolated { Isolates (seen S.Shelf O.Sink D.Sectors) (texts words.now.items) result (shelf.old, out.old, disk.old) (shelf.new, out.new, disk.new) }
     ensures suffices { Suffices (seen S.Shelf O.Sink D.Sectors) (texts words.now.items) result (shelf.old, out.old, disk.old) (shelf.new, out.new, disk.new) }
+    ensures saves { Saves (seen S.Shelf O.Sink D.Sectors) (texts words.now.items) result (shelf.old, out.old, disk.old) (shelf.new, out.new, disk.new) }
+    ensures saves_complete { SavesComplete (seen S.Shelf O.Sink D.Sectors) (texts words.now.items) result (shelf.old, out.old, disk.old) (shelf.new, out.new, disk.new) }
+    ensures resumes { Resumes (seen S.Shelf O.Sink D.Sectors) (texts words.now.items) result (shelf.old, out.old, disk.old) (shelf.new, out.new, disk.new) }
 {
     turns_are_counted();
     journals_replay();
@@ -123,6 +139,8 @@ fn run_command<S: Shelf, O: Sink, D: Sectors>(
             let view = View::Trace(trace.user);
             run_boot(alloc, &trace.boot, view, shelf, out, disk)
         }
+        Some(Command::Save(save)) => run_save(alloc, &save, shelf, out, disk),
+        Some(Command::Resume(resume)) => run_resume(alloc, &resume, shelf, out, disk),
         Some(Command::CompileUser(names)) => compile_user(alloc, &names, shelf, out),
         Some(Command::CompileKernel(names)) => compile_kernel(alloc, &names, shelf, out),
         Some(Command::CompileProgram(names)) => compile_program(alloc, &names, shelf, out),

@@ -15,6 +15,7 @@ use cvm_text::{decimal, decimal_u64};
 use kernel_linker::{AcceptFault, LinkFault};
 use mips_asm::AsmFault;
 use object_file::ObjectFault;
+use saved_file::SaveFault;
 use schedule_file::ScheduleFault;
 use system_files::FileFault;
 use user_c0::UserFault;
@@ -39,6 +40,8 @@ pub enum Refusal {
     Unaccepted(AcceptFault),
     /// A text is no schedule.
     BadSchedule(ScheduleFault),
+    /// A file of a saved machine is not taken up, or may be too long to be made.
+    BadSave(SaveFault),
     /// The disk has fewer sectors than the users' pages need.
     SmallDisk { need: u32, have: u32 },
     /// The user of a trace is none of the users.
@@ -61,6 +64,7 @@ impl Refusal {
             Refusal::Unlinked(fault) => numbers_row(fault.number(), &fault.fields()),
             Refusal::Unaccepted(fault) => numbers_row(fault.number(), &fault.fields()),
             Refusal::BadSchedule(fault) => schedule_row(*fault),
+            Refusal::BadSave(fault) => numbers_row(fault.number(), &fault.fields()),
             Refusal::SmallDisk { need, have } => two_row(90, *need, *have),
             Refusal::NoSuchUser { user, users } => two_row(96, *user, *users),
             Refusal::TooLong => plain_row("refused 81\n"),

@@ -19,6 +19,16 @@ returns-in-Some-Trace-clause-ends g c =
     let P : Command → Type 0 = λ x. IsCommand (texts c.args.words.now.items) (command_view x) in
     c.run_boot-in-Some-Trace.ensures.ends _ (subst P c.in-Some-Trace.field-0-is c.in-Some-Trace.ensures.found)
 
+pub returns-in-Some-Save-clause-ends : goal.returns-in-Some-Save-clause-ends
+returns-in-Some-Save-clause-ends g c =
+    let P : Command → Type 0 = λ x. IsCommand (texts c.args.words.now.items) (command_view x) in
+    c.run_save.ensures.ends _ (subst P c.in-Some-Save.field-0-is c.in-Some-Save.ensures.found)
+
+pub returns-in-Some-Resume-clause-ends : goal.returns-in-Some-Resume-clause-ends
+returns-in-Some-Resume-clause-ends g c =
+    let P : Command → Type 0 = λ x. IsCommand (texts c.args.words.now.items) (command_view x) in
+    c.run_resume.ensures.ends _ (subst P c.in-Some-Resume.field-0-is c.in-Some-Resume.ensures.found)
+
 pub returns-in-Some-CompileUser-clause-ends : goal.returns-in-Some-CompileUser-clause-ends
 returns-in-Some-CompileUser-clause-ends g c =
     let P : Command → Type 0 = λ x. IsCommand (texts c.args.words.now.items) (command_view x) in

@@ -1,4 +1,4 @@
-use Rattle.std.proofs.Common.{ap, arith, Some, rules}
+use Rattle.std.proofs.Common.{ap, arith, Some}
 use Rattle.cvm_shell.specs.Command.{Boot}
 use Rattle.cvm_shell.proofs.Five.{five_texts}
 use Rattle.cvm_shell.proofs.Spellings.{words_of_boot, words_of_one, none_for_start, none_for_turns, none_for_steps}

@@ -1,5 +1,5 @@
-use Rattle.cvm_shell.proofs.StackOut.{not_printed}
+use Rattle.cvm_shell.proofs.StackOut.{not_met}
 use Rattle.cvm_shell.proofs.laws.stack_out_is_not_printed.Goals as goal
 
 pub returns : goal.returns
-returns c = not_printed
+returns c = not_met

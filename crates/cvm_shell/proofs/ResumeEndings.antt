@@ -1,0 +1,217 @@
+-- The exits of a resume: the file is refused, the disk is too small, or the run goes on; the theorem of resume, which follows from how the command ends
+-- and why; and the law that joins a save and a resume.
+use Rattle.std.proofs.Common.{◌≡◌, ◌≢◌, ◌⊎◌, inl, inr, ℕ, ◌<◌, ◌≤◌, ◌++◌, List, [], refl, sym, ap, ◌∙◌, subst, Some, Ok, Err}
+use Rattle.std.specs.Prelude.{Option, Result, slice_index}
+use Rattle.std.specs.Option.{IsSome}
+use Rattle.std.specs.List.{flat_map}
+use Rattle.std.specs.Io.KnownBytes.{append_known}
+use Rattle.cvm_outside.specs.Causes.{Rose}
+use Rattle.cvm_outside.specs.Told.{AppendsPart, TOO_LONG}
+use Rattle.cvm_words.specs.Bytes.{word}
+use Rattle.schedule_file.specs.Rows.{Rows}
+use Rattle.mips_table.specs.Device.{Outside as Surroundings}
+use Rattle.mips_machine.specs.Steps.{outside_of}
+use Rattle.cvm_model.specs.Cvm.{System as Run}
+use Rattle.layer_contract.specs.Follows.{loaded}
+use Rattle.saved_file.specs.Resumable.{Wanted, CanBeResumed}
+use Rattle.saved_file.specs.Answer.{answer as machine_of}
+use Rattle.saved_file.specs.declared.fault.SaveFault.{SaveFault}
+use Rattle.saved_file.specs.declared.fault.SaveFault.TheVariants as saving
+use Rattle.boot_turns.specs.Headline.{Ran as RanOf}
+use Rattle.boot_turns.specs.declared.answers.View.TheVariants as view
+use Rattle.boot_run.specs.LoadEnds.{pages_needed}
+use Rattle.boot_run.specs.Resuming.{SavedAt}
+use Rattle.boot_run.specs.SavedFiles.{wanted_of}
+use Rattle.boot_run.specs.Saving.{IsDisk, GoesOnAs}
+use Rattle.boot_run.specs.Whole.{ending_of_end}
+use Rattle.boot_run.specs.declared.whole.RunEnd.{RunEnd}
+use Rattle.boot_run.specs.declared.whole.RunEnd.TheVariants as ends
+use Rattle.machine_save.specs.ResumeRun.{ResumeAnswers, JoinsSaved as JoinsFile, GoesOnFromFile}
+use Rattle.machine_save.specs.declared.resuming.ResumeFault.{ResumeFault}
+use Rattle.machine_save.specs.declared.resuming.ResumeFault.TheVariants as fault
+use Rattle.kernel_linker.specs.Accept.{System, system_of}
+use Rattle.cvm_shell.specs.declared.status.Status.{Status}
+use Rattle.cvm_shell.specs.declared.status.Status.TheVariants.{Refused, Disk, Sink, Memory}
+use Rattle.cvm_shell.specs.declared.resuming.Resumable.{Resumable}
+use Rattle.cvm_shell.specs.declared.boot.Session.{Session}
+use Rattle.cvm_shell.specs.Command.{Save, resume, IsCommand, save_session}
+use Rattle.cvm_shell.specs.Outside.{Outside, SameSectors, Leaves, Says}
+use Rattle.cvm_shell.specs.Refusal.{bad_save, small_disk, refusal_text}
+use Rattle.cvm_shell.specs.Plan.{Plan, boots, resumes, whole, wanted_by, taken_plan, scheduled_plan, ComesTo, resume_plan, GetsTold, AllTold}
+use Rattle.cvm_shell.specs.Boot.{booted, around, sectors_needed, ended_as}
+use Rattle.cvm_shell.specs.Resumes.{JoinsSaved, ResumeEnds, small_for_it, no_room, went_on, IsHonestResume, ResumeHolds, SavedAndResumedAreBooted}
+use Rattle.cvm_shell.specs.Outcome.{Ends, CommandEnds, done, undone, CausedBy}
+use Rattle.cvm_shell.specs.Stages.{resumable_for}
+use Rattle.cvm_shell.proofs.Endings.{nothing, row_said, FilesPlan, Tells_long, plan_of, took_resumes}
+use Rattle.cvm_shell.proofs.StartAnswers.{same_need}
+use Rattle.cvm_shell.proofs.BootEndings.{some_is, is_told, tells, all_told, no_room_for, shelf_rose}
+use Rattle.cvm_shell.proofs.SaveEndings.{same_wanted}
+
+took_taken : (session : Session) (s : System) (rows : Rows) (a : Result (List ℕ) SaveFault) (taken : ℕ) → taken ≢ TOO_LONG → Tells_long (taken_plan session s rows a) taken
+took_taken session s rows (Ok words) taken few = took_resumes session s rows words taken few
+took_taken session s rows (Err f) taken few = (λ h. absurd (cc), λ h. absurd (few h))
+
+-- a run was gone on with, or its file was refused
+pub resume_end : (words : List (List ℕ)) (c : Save) (r : Resumable) (status : Status) (old new : Outside) → IsCommand words (resume c) → FilesPlan old.shelf.file (resume c) (resumable_for c r)
+    → new.shelf.taken ≢ TOO_LONG → ((status ≡ Memory) × Leaves old new []) ⊎ Ends (resumable_for c r) status old new → CommandEnds words status old new
+resume_end words c r status old new is plan few (inl (m, leaves)) = undone (resume c) is (inl m) (λ h. few) leaves
+resume_end words c r status old new is plan few (inr ends) =
+    done (resumable_for c r) (plan_of words old.shelf.file (resume c) (resumable_for c r) is plan)
+    (λ d other gets. took_taken (save_session c) (system_of r.ready.boot) r.ready.schedule _ new.shelf.taken few) ends
+
+-- the numbers of a fault by other names
+pub small_named : (P : ResumeFault → Type 0) (need have n h : ℕ) → need ≡ n → have ≡ h → P (fault.SmallDisk n h) → P (fault.SmallDisk need have)
+small_named P need have n h a b p = subst (λ (k : ℕ). P (fault.SmallDisk k have)) (sym a) (subst (λ (k : ℕ). P (fault.SmallDisk n k)) (sym b) p)
+
+-- what holds of a first case
+pub text_same : (M P Q R : Type 0) → (M × P) ⊎ R → (P → Q) → (M × Q) ⊎ R
+text_same M P Q R (inl (m, p)) f = inl (m, f p)
+text_same M P Q R (inr r) f = inr r
+
+-- THE EXITS, of what was read for a resume
+module _ (r : Resumable) (c : Save) (old new : Outside) where
+  abbrev ours : System
+  ours = system_of r.ready.boot
+
+  abbrev under : Rows
+  under = r.ready.schedule
+
+  -- what the bytes are answered by tells the plan
+  by_answer : (a : Result (List ℕ) SaveFault) (status : Status) → machine_of (wanted_of r.ready.boot under c.boot.turns) r.bytes.items ≡ a → Ends (taken_plan (save_session c) ours under a) status old new
+      → Ends (resumable_for c r) status old new
+  by_answer a status e h =
+      let same : a ≡ machine_of (wanted_by ours under c.boot.turns) r.bytes.items = sym e ∙ ap (λ (w : Wanted). machine_of w r.bytes.items) (same_wanted r.ready.boot under c.boot.turns) in
+      subst (λ (x : Result (List ℕ) SaveFault). Ends (taken_plan (save_session c) ours under x) status old new) same h
+
+  -- A FAULT of the file
+  pub file_refused : (f : SaveFault) (status : Status) → ResumeAnswers r.ready.boot under c.boot.turns old.disk.size r.bytes.items (Err (fault.Save f)) → ((n : List ℕ) → new.shelf.file n ≡ old.shelf.file n)
+      → SameSectors old.disk new.disk → ((status ≡ Memory) × (new.sink.text ≡ old.sink.text)) ⊎ ((f ≢ saving.Memory) × ((status ≡ Refused) ⊎ (status ≡ Sink)))
+      → (status ≡ Refused → new.sink.text ≡ append_known old.sink.text (refusal_text (bad_save f)))
+      → (status ≡ Sink → AppendsPart old.sink.text new.sink.text (refusal_text (bad_save f)))
+      → ((status ≡ Memory) × Leaves old new []) ⊎ Ends (resumable_for c r) status old new
+  file_refused f status answers files disk (inl (m, text)) all part = inl (m, nothing old new (record { files = files; disk = disk }) text)
+  file_refused f status (inl e) files disk (inr (other, cases)) all part = absurd (other e)
+  file_refused f status (inr a) files disk (inr (other, cases)) all part =
+      inr (by_answer (Err f) status a (row_said Refused status (refusal_text (bad_save f)) old new (record { files = files; disk = disk }) cases all part))
+
+  -- A DISK that is too small
+  pub small_refused : (need have : ℕ) (status : Status) → ResumeAnswers r.ready.boot under c.boot.turns old.disk.size r.bytes.items (Err (fault.SmallDisk need have)) → ((n : List ℕ) → new.shelf.file n ≡ old.shelf.file n)
+      → SameSectors old.disk new.disk → new.disk.faults ≡ old.disk.faults → (status ≡ Disk) ⊎ (status ≡ Sink)
+      → (status ≡ Disk → new.sink.text ≡ append_known old.sink.text (refusal_text (small_disk need have)))
+      → (status ≡ Sink → AppendsPart old.sink.text new.sink.text (refusal_text (small_disk need have))) → Ends (resumable_for c r) status old new
+  small_refused need have status (words, a, n, h, less) files disk faults cases all part =
+      let needed : need ≡ sectors_needed (save_session c) ours under = n ∙ same_need r.ready.boot under in
+      let row : refusal_text (small_disk need have) ≡ refusal_text (small_disk (sectors_needed (save_session c) ours under) old.disk.size) =
+      ap (λ (k : ℕ). refusal_text (small_disk k have)) needed ∙ ap (λ (k : ℕ). refusal_text (small_disk (sectors_needed (save_session c) ours under) k)) h in
+      let small : old.disk.size < sectors_needed (save_session c) ours under = subst (λ (k : ℕ). old.disk.size < k) needed (subst (λ (k : ℕ). k < need) h less) in
+      by_answer (Ok words) status a (small_for_it small faults
+      (subst (λ (text : List ℕ). Says Disk text old new status) row
+      (row_said Disk status (refusal_text (small_disk need have)) old new (record { files = files; disk = disk }) cases all part)))
+
+  -- THE RUN that goes on
+  -- words of a saved run tell its turns
+  few_turns : (x : Surroundings) (y : Run) (before left : List (List ℕ)) (few spent : ℕ) (words shown : List ℕ) → SavedAt x y (loaded y before) few spent words left shown → slice_index words 5 ≡ few
+  few_turns x y before left few spent words shown a = ap (λ (ws : List ℕ). slice_index ws 5) a.words_are
+
+  joined : (e : RunEnd) (left now : List (List ℕ)) (words : List ℕ) → old.disk.sectors ≡ Some left → new.disk.sectors ≡ Some now → r.bytes.items ≡ flat_map word words
+      → CanBeResumed (wanted_of r.ready.boot under c.boot.turns) words → pages_needed r.ready.boot ≤ old.disk.size
+      → JoinsFile r.ready.boot under c.boot.turns c.boot.steps old.disk.size r.bytes.items old.disk.sectors new.disk.sectors old.sink.text new.sink.text (Ok e)
+      → JoinsSaved (save_session c) ours under words left now old new (ending_of_end e)
+  joined e left now words told retold bytes can room joins = λ before few spent shown disk less a.
+      let turns : slice_index words 5 ≡ few = few_turns (around under old) (booted ours under) before left few spent words shown a in
+      joins before left now few spent words shown disk room told retold a bytes (subst (λ (n : ℕ). 1 ≤ n) turns can.a_turn) (subst (λ (n : ℕ). n ≤ c.boot.turns) turns can.turns) less
+
+  pub resumed_made : (e : RunEnd) (status : Status) → ResumeAnswers r.ready.boot under c.boot.turns old.disk.size r.bytes.items (Ok e)
+      → JoinsFile r.ready.boot under c.boot.turns c.boot.steps old.disk.size r.bytes.items old.disk.sectors new.disk.sectors old.sink.text new.sink.text (Ok e)
+      → GoesOnFromFile r.ready.boot under c.boot.turns c.boot.steps old.disk.size r.bytes.items old.disk.sectors new.disk.sectors (Ok e)
+      → (IsSome old.disk.sectors → IsSome new.disk.sectors) → new.disk.size ≡ old.disk.size → (e ≡ ends.DiskFault → Rose old.disk.faults new.disk.faults)
+      → ((n : List ℕ) → new.shelf.file n ≡ old.shelf.file n) → status ≡ ended_as (ending_of_end e) → Ends (resumable_for c r) status old new
+  resumed_made e status (words, a, bytes, can, room) joins goes retells size rose files stands =
+      by_answer (Ok words) status a (went_on e stands (record {
+        place = record { user = tt; room = subst (λ (n : ℕ). n ≤ old.disk.size) (same_need r.ready.boot under) room; files = files; size = size };
+        told = λ left told.
+            let (now, retold) = some_is new.disk.sectors (retells (is_told old.disk.sectors left told)) in
+            record { now = now; sectors = retold; joins = joined e left now words told retold bytes can room joins; goes = goes words left a told };
+        disk = rose;
+      }))
+
+-- THE THEOREM OF RESUME
+
+-- what words and files ask for is their plan, and they have no other
+asked_resume : (words : List (List ℕ)) (c : Save) (s : System) (rows : Rows) (machine : List ℕ) (left : List (List ℕ)) (old new : Outside) → IsHonestResume words c s rows machine left old new
+    → ComesTo words old.shelf.file (resumes (save_session c) s rows machine) × AllTold words old.shelf.file
+asked_resume words c s rows machine left old new h =
+    let files : GetsTold old.shelf.file (resume c) = (is_told _ h.files.image h.files.image_told, is_told _ h.files.schedule h.files.schedule_told, is_told _ h.bytes h.bytes_told) in (
+      resume_plan c (resumes (save_session c) s rows machine) h.asked
+          (whole h.files.image (resumes (save_session c) s rows machine) (tells (old.shelf.file c.boot.image) h.files.image h.files.image_told) h.files.image_short
+          (whole h.files.schedule (resumes (save_session c) s rows machine) (tells (old.shelf.file c.boot.schedule) h.files.schedule h.files.schedule_told) h.files.schedule_short
+          (whole h.bytes (resumes (save_session c) s rows machine) (tells (old.shelf.file c.file) h.bytes h.bytes_told) h.bytes_short
+          (boots (save_session c) s rows, (Ok s, h.files.accepted, sym (ap (scheduled_plan (save_session c) s) h.files.valid)), sym (ap (taken_plan (save_session c) s rows) h.fits))))),
+      all_told words old.shelf.file (resume c) h.asked files,
+    )
+
+resume_holds : (words : List (List ℕ)) (c : Save) (s : System) (rows : Rows) (machine : List ℕ) (left : List (List ℕ)) (status : Status) (old new : Outside) → IsHonestResume words c s rows machine left old new
+    → ResumeEnds (save_session c) s rows machine status old new → CausedBy status old new → status ≢ Memory → ResumeHolds c s rows machine left old new status
+resume_holds words c s rows machine left status old new h (small_for_it less faults says) why memory = absurd (no_room_for (sectors_needed (save_session c) s rows) old.disk.size less h.enough)
+resume_holds words c s rows machine left status old new h (no_room stands leaves) why memory = absurd (memory stands)
+resume_holds words c s rows machine left status old new h (went_on e stands is) why memory = record {
+  end = e;
+  status_is = stands;
+  no_disk = λ d. h.disk_done (is.disk d);
+  no_sink = λ d. h.sink_done ((subst (λ (x : Status). CausedBy x old new) (stands ∙ ap (λ (x : RunEnd). ended_as (ending_of_end x)) d) why).0);
+  went = is.told left h.sectors;
+  files_same = is.place.files;
+}
+
+pub resumes_hold : (words : List (List ℕ)) (c : Save) (s : System) (rows : Rows) (machine : List ℕ) (left : List (List ℕ)) (status : Status) (old new : Outside) → CommandEnds words status old new
+    → CausedBy status old new → IsHonestResume words c s rows machine left old new → status ≢ Memory → ResumeHolds c s rows machine left old new status
+resumes_hold words c s rows machine left status old new (done p plan took ends) why h memory =
+    let asked = asked_resume words c s rows machine left old new h in
+    let same : resumes (save_session c) s rows machine ≡ p = plan.only asked.1 (resumes (save_session c) s rows machine) asked.0 in
+    let P : Plan → Type 0 = λ q. Ends q status old new in
+    resume_holds words c s rows machine left status old new h (subst P (sym same) ends) why memory
+resumes_hold words c s rows machine left status old new (undone d is (inl m) few same) why h memory = absurd (memory m)
+resumes_hold words c s rows machine left status old new (undone d is (inr (e, gets)) few same) why h memory = absurd (h.shelf_done (shelf_rose status old new e (few gets) why))
+
+-- THE LAW
+
+-- what a run that goes on with no failed call comes to
+went_clean : (x : Surroundings) (y : Run) (before now : List (List ℕ)) (turns steps : ℕ) (shown : List ℕ) (had has : Option (List ℕ)) (e : RunEnd) → e ≢ ends.DiskFault → e ≢ ends.SinkFault
+    → GoesOnAs x y before now turns steps shown had has (ending_of_end e) → (text : List ℕ) × (has ≡ append_known had text) × RanOf x y before now view.Boot turns steps (ending_of_end e) (shown ++ text)
+went_clean x y before now turns steps shown had has ends.Done disk sink h = h
+went_clean x y before now turns steps shown had has ends.KernelFaulted disk sink h = h
+went_clean x y before now turns steps shown had has ends.OutOfSteps disk sink h = h
+went_clean x y before now turns steps shown had has ends.DiskFault disk sink h = absurd (disk refl)
+went_clean x y before now turns steps shown had has ends.SinkFault disk sink h = absurd (sink refl)
+
+pub saved_and_resumed : SavedAndResumedAreBooted
+saved_and_resumed c d s rows before first mid old new words status a clause asked l memory =
+    let honest : IsHonestResume words d s rows a.words a.after old new = record {
+      asked = asked;
+      files = l.files;
+      bytes = flat_map word a.words;
+      bytes_told = l.bytes_told;
+      bytes_short = l.bytes_short;
+      fits = a.fits d.boot.turns l.turns asked.turns_fit;
+      sectors = l.sectors;
+      enough = l.enough;
+      shelf_done = l.shelf_done;
+      disk_done = l.disk_done;
+      sink_done = l.sink_done;
+    } in
+    let holds = clause d s rows a.words a.after honest memory in
+    let y = booted s rows in
+    let disk : IsDisk old.disk.size before = subst (λ (n : ℕ). IsDisk n before) (sym l.size) a.disk in
+    let saved : SavedAt (around rows old) y (loaded y before) c.boot.turns c.boot.steps a.words a.after a.shown =
+    subst (λ (n : ℕ). SavedAt (outside_of rows n) y (loaded y before) c.boot.turns c.boot.steps a.words a.after a.shown) (sym l.size) a.saved_at in
+    let so = went_clean (around rows old) y before holds.went.now d.boot.turns d.boot.steps a.shown old.sink.text new.sink.text holds.end holds.no_disk holds.no_sink
+    (holds.went.joins before c.boot.turns c.boot.steps a.shown disk l.steps saved) in
+    record {
+      after = holds.went.now;
+      text = so.0;
+      ending = ending_of_end holds.end;
+      sectors = holds.went.sectors;
+      printed = so.1;
+      status_is = holds.status_is;
+      ran = subst (λ (n : ℕ). RanOf (outside_of rows n) y before holds.went.now view.Boot d.boot.turns d.boot.steps (ending_of_end holds.end) (a.shown ++ so.0)) l.size so.2;
+    }

@@ -1,0 +1,76 @@
+use Rattle.std.proofs.Common.{◌≡◌, ◌<◌, length, subst, ap, ◌∙◌, rules, List, ℕ, min, Err}
+use Rattle.std.specs.Prelude.{Option, IfSome}
+use Rattle.std.specs.Option.{IsSome}
+use Rattle.std.proofs.lemmas.Result.{err_from_is_err_and}
+use Rattle.cvm_outside.specs.Told.{TOO_LONG, Tells}
+use Rattle.cvm_outside.specs.declared.shelf.ShelfFault.{ShelfFault}
+use Rattle.kernel_linker.specs.Accept.{system_of}
+use Rattle.real_layer.specs.Image.{layer_image}
+use Rattle.cvm_shell.specs.Command.{save_session}
+use Rattle.cvm_shell.specs.Plan.{boots, AfterThree}
+use Rattle.cvm_shell.specs.Views.{save_view}
+use Rattle.cvm_shell.proofs.Plans.{got_fault}
+use Rattle.cvm_shell.proofs.SavePlans.{three_come, second_stopped, third_stopped, all_got, all_stopped}
+use Rattle.cvm_shell.proofs.resuming.plan_resume.Goals as goal
+
+pub returns-in_err-image-clause-comes : goal.returns-in_err-image-clause-comes
+returns-in_err-image-clause-comes g c =
+    let p = err_from_is_err_and c.from_residual.result c.from_residual.ensures.1 in
+    rw (p.1, p.2) (got_fault _ _ _ _ c.in_err-image.field-0.0 (λ told. told.0)
+    (λ e. c.in_err-image.ensures.long.0 (ap (λ (x : ShelfFault). Err x) e))
+    (λ e. c.in_err-image.ensures.told_long (ap (λ (x : ShelfFault). Err x) e)))
+
+pub returns-in_err-schedule-clause-comes : goal.returns-in_err-schedule-clause-comes
+returns-in_err-schedule-clause-comes g c =
+    let p = err_from_is_err_and c.from_residual-in_err-schedule.result c.from_residual-in_err-schedule.ensures.1 in
+    let v = save_view c.args.resume.now in
+    let file = g.S.Shelf.file c.args.shelf.now in
+    let short : length c.in_ok-image.image.items < TOO_LONG = search rules in
+    rw (p.1, p.2) (second_stopped layer_image file v c.in_ok-image.image.items _ c.in_ok-image.ensures.bytes short
+    (got_fault (file v.boot.schedule) (λ schedule. _) (IsSome (file v.boot.schedule) × IsSome (file v.file)) _ c.in_err-schedule.field-0.0 (λ told. told.0)
+    (λ e. c.in_err-schedule.ensures.long.0 (ap (λ (x : ShelfFault). Err x) e))
+    (λ e. let P : Option (List ℕ) → Type 0 = λ o. IfSome o (λ bs. g.S.Shelf.taken c.get-2.new.self ≡ min (length bs) TOO_LONG) in
+    subst P (c.in_ok-image.ensures.files v.boot.schedule) (c.in_err-schedule.ensures.told_long (ap (λ (x : ShelfFault). Err x) e)))))
+
+pub returns-in_err-bytes-clause-comes : goal.returns-in_err-bytes-clause-comes
+returns-in_err-bytes-clause-comes g c =
+    let p = err_from_is_err_and c.from_residual-in_err-bytes.result c.from_residual-in_err-bytes.ensures.1 in
+    let v = save_view c.args.resume.now in
+    let file = g.S.Shelf.file c.args.shelf.now in
+    let short : length c.in_ok-image.image.items < TOO_LONG = search rules in
+    let few : length c.in_ok-schedule.schedule.items < TOO_LONG = search rules in
+    let P : List ℕ → Option (List ℕ) → Type 0 = λ bytes o. Tells o bytes in
+    let schedule = subst (P c.in_ok-schedule.schedule.items) (c.in_ok-image.ensures.files v.boot.schedule) c.in_ok-schedule.ensures.bytes in
+    rw (p.1, p.2) (third_stopped layer_image file v c.in_ok-image.image.items c.in_ok-schedule.schedule.items _ c.in_ok-image.ensures.bytes short schedule few
+    (got_fault (file v.file) (AfterThree layer_image (save_session v) c.in_ok-image.image.items c.in_ok-schedule.schedule.items) (IsSome (file v.file)) _ c.in_err-bytes.field-0.0 (λ told. told)
+    (λ e. c.in_err-bytes.ensures.long.0 (ap (λ (x : ShelfFault). Err x) e))
+    (λ e. let Q : Option (List ℕ) → Type 0 = λ o. IfSome o (λ bs. g.S.Shelf.taken c.get-3.new.self ≡ min (length bs) TOO_LONG) in
+    subst Q (c.in_ok-schedule.ensures.files v.file ∙ c.in_ok-image.ensures.files v.file) (c.in_err-bytes.ensures.told_long (ap (λ (x : ShelfFault). Err x) e)))))
+
+pub returns-in_err-ready-clause-comes : goal.returns-in_err-ready-clause-comes
+returns-in_err-ready-clause-comes g c =
+    let p = err_from_is_err_and c.from_residual-in_err-ready.result c.from_residual-in_err-ready.ensures.1 in
+    let v = save_view c.args.resume.now in
+    let short : length c.in_ok-image.image.items < TOO_LONG = search rules in
+    let few : length c.in_ok-schedule.schedule.items < TOO_LONG = search rules in
+    let less : length c.in_ok-bytes.bytes.items < TOO_LONG = search rules in
+    let P : List ℕ → Option (List ℕ) → Type 0 = λ bytes o. Tells o bytes in
+    let schedule = subst (P c.in_ok-schedule.schedule.items) (c.in_ok-image.ensures.files v.boot.schedule) c.in_ok-schedule.ensures.bytes in
+    let bytes = subst (P c.in_ok-bytes.bytes.items) (c.in_ok-schedule.ensures.files v.file ∙ c.in_ok-image.ensures.files v.file) c.in_ok-bytes.ensures.bytes in
+    rw (p.1, p.2) (all_stopped layer_image (g.S.Shelf.file c.args.shelf.now) v c.in_ok-image.image.items c.in_ok-schedule.schedule.items c.in_ok-bytes.bytes.items c.in_err-ready.field-0.0
+    c.in_ok-image.ensures.bytes short schedule few bytes less
+    (rw (c.deref.ensures.value, c.deref-2.ensures.value) at (c.in_err-ready.ensures.comes (save_session v))))
+
+pub returns-clause-comes : goal.returns-clause-comes
+returns-clause-comes g c =
+    let v = save_view c.args.resume.now in
+    let short : length c.in_ok-image.image.items < TOO_LONG = search rules in
+    let few : length c.in_ok-schedule.schedule.items < TOO_LONG = search rules in
+    let less : length c.in_ok-bytes.bytes.items < TOO_LONG = search rules in
+    let P : List ℕ → Option (List ℕ) → Type 0 = λ bytes o. Tells o bytes in
+    let schedule = subst (P c.in_ok-schedule.schedule.items) (c.in_ok-image.ensures.files v.boot.schedule) c.in_ok-schedule.ensures.bytes in
+    let bytes = subst (P c.in_ok-bytes.bytes.items) (c.in_ok-schedule.ensures.files v.file ∙ c.in_ok-image.ensures.files v.file) c.in_ok-bytes.ensures.bytes in
+    all_got layer_image (g.S.Shelf.file c.args.shelf.now) v c.in_ok-image.image.items c.in_ok-schedule.schedule.items c.in_ok-bytes.bytes.items _
+    c.in_ok-image.ensures.bytes short schedule few bytes less
+    (three_come layer_image (save_session v) c.in_ok-image.image.items c.in_ok-schedule.schedule.items c.in_ok-bytes.bytes.items (boots (save_session v) (system_of c.in_ok-ready.ready.boot) c.in_ok-ready.ready.schedule)
+    (rw (c.deref.ensures.value, c.deref-2.ensures.value) at (c.in_ok-ready.ensures.comes (save_session v))))

@@ -1,0 +1,59 @@
+use Rattle.std.proofs.Common.{inr, ◌∙◌, ap, subst, sym, Ok, Err, List, ℕ}
+use Rattle.std.specs.Io.KnownBytes.{append_known}
+use Rattle.cvm_outside.specs.Told.{AppendsPart}
+use Rattle.boot_run.specs.declared.whole.RunEnd.{RunEnd}
+use Rattle.saved_file.specs.declared.fault.SaveFault.{SaveFault}
+use Rattle.machine_save.specs.ResumeRun.{ResumeAnswers, JoinsSaved, GoesOnFromFile}
+use Rattle.machine_save.specs.declared.resuming.ResumeFault.{ResumeFault}
+use Rattle.machine_save.specs.declared.resuming.ResumeFault.TheVariants as fault
+use Rattle.cvm_shell.specs.Outside.{within}
+use Rattle.cvm_shell.specs.Refusal.{bad_save, small_disk, refusal_text}
+use Rattle.cvm_shell.specs.Views.{save_view}
+use Rattle.cvm_shell.proofs.ResumeEndings.{file_refused, small_refused, resumed_made, small_named, text_same}
+use Rattle.cvm_shell.proofs.resuming.resume_system.Goals as goal
+
+pub returns-in-Ok-clause-ends : goal.returns-in-Ok-clause-ends
+returns-in-Ok-clause-ends g c = λ before after files.
+    let old = within g.O.Sink g.D.Sectors before (c.args.out.now, c.args.disk.now) in
+    let new = within g.O.Sink g.D.Sectors after (c.resume_run.new.out, c.resume_run.new.disk) in
+    let r = c.args.resumable in
+    let v = save_view c.args.resume.now in
+    let P : List ℕ → Type 0 = λ bs. ResumeAnswers r.ready.boot r.ready.schedule v.boot.turns old.disk.size bs (Ok c.in-Ok.end) in
+    let Q : List ℕ → Type 0 = λ bs. JoinsSaved r.ready.boot r.ready.schedule v.boot.turns v.boot.steps old.disk.size bs old.disk.sectors new.disk.sectors old.sink.text new.sink.text (Ok c.in-Ok.end) in
+    let R : List ℕ → Type 0 = λ bs. GoesOnFromFile r.ready.boot r.ready.schedule v.boot.turns v.boot.steps old.disk.size bs old.disk.sectors new.disk.sectors (Ok c.in-Ok.end) in
+    inr (resumed_made r v old new c.in-Ok.end _ (subst P c.deref.ensures.value c.in-Ok.ensures.answers) (subst Q c.deref.ensures.value c.in-Ok.ensures.joins) (subst R c.deref.ensures.value c.in-Ok.ensures.any)
+    c.in-Ok.ensures.told c.in-Ok.ensures.size (λ e. c.in-Ok.ensures.disk (ap (λ (x : RunEnd). Ok x) e)) files c.status_of.ensures)
+
+pub returns-in-Err-SmallDisk-clause-ends : goal.returns-in-Err-SmallDisk-clause-ends
+returns-in-Err-SmallDisk-clause-ends g c = λ before after files.
+    let old = within g.O.Sink g.D.Sectors before (c.args.out.now, c.args.disk.now) in
+    let new = within g.O.Sink g.D.Sectors after (c.refuse.new.out, c.resume_run.new.disk) in
+    let r = c.args.resumable in
+    let v = save_view c.args.resume.now in
+    let B : List ℕ → Type 0 = λ bs. ResumeAnswers r.ready.boot r.ready.schedule v.boot.turns old.disk.size bs (Err c.in-Err-SmallDisk.field-0) in
+    let P : ResumeFault → Type 0 = λ f. ResumeAnswers r.ready.boot r.ready.schedule v.boot.turns old.disk.size r.bytes.items (Err f) in
+    let answers = subst P c.in-Err-SmallDisk.field-0-is (subst B c.deref.ensures.value c.in-Err-SmallDisk.ensures.answers) in
+    let still = c.in-Err-SmallDisk.ensures.still in
+    let row = refusal_text (small_disk c.in-Err-SmallDisk.need c.in-Err-SmallDisk.have) in
+    inr (small_refused r v old new c.in-Err-SmallDisk.need c.in-Err-SmallDisk.have _
+    (small_named P c.in-Err-SmallDisk.need c.in-Err-SmallDisk.have _ _ c.in-Err-SmallDisk.need-is c.in-Err-SmallDisk.have-is answers) files
+    (record { sectors = ap g.D.Sectors.sectors still.0; size = c.in-Err-SmallDisk.ensures.size }) (ap g.D.Sectors.faults still.0) c.refuse.ensures.cases
+    (λ e. c.refuse.ensures.whole e ∙ ap (λ o. append_known (g.O.Sink.text o) row) still.1)
+    (λ e. subst (λ o. AppendsPart (g.O.Sink.text o) (g.O.Sink.text c.refuse.new.out) row) still.1 (c.refuse.ensures.part e)))
+
+pub returns-clause-ends : goal.returns-clause-ends
+returns-clause-ends g c = λ before after files.
+    let old = within g.O.Sink g.D.Sectors before (c.args.out.now, c.args.disk.now) in
+    let new = within g.O.Sink g.D.Sectors after (c.refuse_file.new.out, c.resume_run.new.disk) in
+    let r = c.args.resumable in
+    let v = save_view c.args.resume.now in
+    let B : List ℕ → Type 0 = λ bs. ResumeAnswers r.ready.boot r.ready.schedule v.boot.turns old.disk.size bs (Err c.in-Err-Save.field-0) in
+    let P : ResumeFault → Type 0 = λ f. ResumeAnswers r.ready.boot r.ready.schedule v.boot.turns old.disk.size r.bytes.items (Err f) in
+    let Q : SaveFault → Type 0 = λ f. P (fault.Save f) in
+    let answers = subst Q (sym c.in-Err-Save.fault-is) (subst P c.in-Err-Save.field-0-is (subst B c.deref.ensures.value c.in-Err-Save.ensures.answers)) in
+    let still = c.in-Err-Save.ensures.still in
+    let row = refusal_text (bad_save c.in-Err-Save.fault) in
+    file_refused r v old new c.in-Err-Save.fault _ answers files (record { sectors = ap g.D.Sectors.sectors still.0; size = c.in-Err-Save.ensures.size })
+    (text_same _ _ _ _ c.refuse_file.ensures.cases (λ e. ap g.O.Sink.text e ∙ ap g.O.Sink.text still.1))
+    (λ e. c.refuse_file.ensures.whole e ∙ ap (λ o. append_known (g.O.Sink.text o) row) still.1)
+    (λ e. subst (λ o. AppendsPart (g.O.Sink.text o) (g.O.Sink.text c.refuse_file.new.out) row) still.1 (c.refuse_file.ensures.part e))

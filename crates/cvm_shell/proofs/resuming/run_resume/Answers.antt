@@ -1,0 +1,38 @@
+use Rattle.std.proofs.Common.{inl, inr, refl, sym, subst}
+use Rattle.real_layer.specs.Image.{layer_image}
+use Rattle.cvm_shell.specs.declared.boot.Stop.{Stop}
+use Rattle.cvm_shell.specs.declared.boot.Stop.TheVariants as Stops
+use Rattle.cvm_shell.specs.declared.refusal.Refusal.{Refusal}
+use Rattle.cvm_shell.specs.Command.{resume}
+use Rattle.cvm_shell.specs.Outside.{files}
+use Rattle.cvm_shell.specs.Stages.{IsResumePlan}
+use Rattle.cvm_shell.specs.Views.{save_view, IfRefused}
+use Rattle.cvm_shell.proofs.Endings.{Long, stopped_long, none_long, shelf_long, memory_long, refused_end, undone_end}
+use Rattle.cvm_shell.proofs.ResumeEndings.{resume_end}
+use Rattle.cvm_shell.proofs.resuming.run_resume.Goals as goal
+
+pub returns-in-Ok-clause-ends : goal.returns-in-Ok-clause-ends
+returns-in-Ok-clause-ends g c = λ words is.
+    resume_end words (save_view c.args.resume.now) c.in-Ok.resumable _ _ _ is c.in-Ok.ensures.comes (none_long _ _ c.in-Ok.ensures.long)
+    (c.resume_system.ensures.ends (files g.S.Shelf c.args.shelf.now) (files g.S.Shelf c.plan_resume.new.shelf) c.in-Ok.ensures.files)
+
+pub returns-in-Err-Refused-clause-ends : goal.returns-in-Err-Refused-clause-ends
+returns-in-Err-Refused-clause-ends g c = λ words is.
+    let P : Stop → Type 0 = λ s. IfRefused (IsResumePlan layer_image (g.S.Shelf.file c.args.shelf.now) (save_view c.args.resume.now)) s in
+    let L : Stop → Type 0 = λ s. Long s (g.S.Shelf.taken c.plan_resume.new.shelf) in
+    let Q : Refusal → Type 0 = λ r. P (Stops.Refused r) in
+    let M : Refusal → Type 0 = λ r. L (Stops.Refused r) in
+    refused_end words (resume (save_view c.args.resume.now)) _ _ _ _ is
+    (subst Q (sym c.in-Err-Refused.refusal-is) (subst P c.in-Err-Refused.field-0-is c.in-Err-Refused.ensures.comes))
+    (subst M (sym c.in-Err-Refused.refusal-is) (subst L c.in-Err-Refused.field-0-is (stopped_long _ _ c.in-Err-Refused.ensures.long)))
+    (record { files = c.in-Err-Refused.ensures.files; disk = record { sectors = refl; size = refl } }) c.refuse.ensures.cases c.refuse.ensures.whole c.refuse.ensures.part
+
+pub returns-in-Err-Shelf-clause-ends : goal.returns-in-Err-Shelf-clause-ends
+returns-in-Err-Shelf-clause-ends g c = λ words is.
+    undone_end words (resume (save_view c.args.resume.now)) _ _ _ is tt (inr refl) (shelf_long _ _ c.in-Err-Shelf.field-0-is (stopped_long _ _ c.in-Err-Shelf.ensures.long))
+    (record { files = c.in-Err-Shelf.ensures.files; disk = record { sectors = refl; size = refl } }) refl
+
+pub returns-in-Err-Memory-clause-ends : goal.returns-in-Err-Memory-clause-ends
+returns-in-Err-Memory-clause-ends g c = λ words is.
+    undone_end words (resume (save_view c.args.resume.now)) _ _ _ is tt (inl refl) (memory_long _ _ c.in-Err-Memory.field-0-is (stopped_long _ _ c.in-Err-Memory.ensures.long))
+    (record { files = c.in-Err-Memory.ensures.files; disk = record { sectors = refl; size = refl } }) refl

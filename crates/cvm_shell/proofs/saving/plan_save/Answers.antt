@@ -1,0 +1,23 @@
+use Rattle.std.proofs.lemmas.Result.{err_from_is_err_and}
+use Rattle.kernel_linker.specs.Accept.{system_of}
+use Rattle.real_layer.specs.Image.{layer_image}
+use Rattle.cvm_shell.specs.Command.{save_session}
+use Rattle.cvm_shell.specs.Views.{save_view}
+use Rattle.cvm_shell.proofs.SavePlans.{save_stopped, save_no_room, save_short}
+use Rattle.cvm_shell.proofs.saving.plan_save.Goals as goal
+
+pub returns-in_err-ready-clause-comes : goal.returns-in_err-ready-clause-comes
+returns-in_err-ready-clause-comes g c =
+    let p = err_from_is_err_and c.from_residual.result c.from_residual.ensures.1 in
+    rw (p.1, p.2) (save_stopped layer_image (g.S.Shelf.file c.args.shelf.now) (save_view c.args.save.now) c.in_err-ready.field-0.0 (c.in_err-ready.ensures.comes (save_session (save_view c.args.save.now))))
+
+pub returns-in_err-room-clause-comes : goal.returns-in_err-room-clause-comes
+returns-in_err-room-clause-comes g c =
+    let p = err_from_is_err_and c.from_residual-in_err-room.result c.from_residual-in_err-room.ensures.1 in
+    rw (p.1, p.2) (save_no_room layer_image (g.S.Shelf.file c.args.shelf.now) (save_view c.args.save.now) (system_of c.in_ok-ready.ready.boot) c.in_ok-ready.ready.schedule c.in_err-room.field-0.0
+    (c.in_ok-ready.ensures.comes (save_session (save_view c.args.save.now))) c.in_err-room.ensures.stops)
+
+pub returns-clause-comes : goal.returns-clause-comes
+returns-clause-comes g c =
+    save_short layer_image (g.S.Shelf.file c.args.shelf.now) (save_view c.args.save.now) (system_of c.in_ok-ready.ready.boot) c.in_ok-ready.ready.schedule
+    (c.in_ok-ready.ensures.comes (save_session (save_view c.args.save.now))) c.in_ok-room.ensures.short

@@ -1,0 +1,111 @@
+// A resume: what its files come to, and the run that goes on.
+ghost use Rattle.std.specs.Prelude.{◌≡◌, ◌≢◌, ◌⊎◌, ◌↔◌, ⊤, ℕ, List, IfOk, IsErrOf};
+ghost use Rattle.std.specs.Io.KnownBytes.{append_known};
+ghost use Rattle.cvm_outside.specs.Causes.{Rose};
+ghost use Rattle.cvm_outside.specs.Told.{AppendsPart, TOO_LONG};
+ghost use Rattle.real_layer.specs.Image.{layer_image};
+ghost use Rattle.cvm_shell.specs.Outcome.{Causes};
+ghost use Rattle.cvm_shell.specs.Outside.{seen, within};
+ghost use Rattle.cvm_shell.specs.Refusal.{bad_save, refusal_text};
+ghost use Rattle.cvm_shell.specs.Stages.{resumable_for, Follows, IsResumePlan, PlanCounts, ResumeEndsAs, ResumesAs};
+ghost use Rattle.cvm_shell.specs.Views.{save_view, IfPlan};
+
+use crate::boot::{Ready, Stop, ready_of, status_of};
+use crate::refusal::Refusal;
+use crate::saving_words::Save;
+use crate::saying::refuse;
+use crate::status::Status;
+use cvm_outside::{Sectors, Shelf, Sink};
+use machine_save::{ResumeFault, SaveFault, resume_run};
+use std::alloc::Global;
+
+/// An accepted system under its schedule, with the bytes of the file of a saved machine.
+#[derive(Drop)]
+pub struct Resumable {
+    /// What is run.
+    pub ready: Ready,
+    /// The bytes, which may be refused.
+    pub bytes: Vec<u8>,
+}
+
+/// Gets the files of a resume: the image, the schedule and the saved machine, in this order; then accepts the image and reads the schedule.
+pub fn plan_resume<S: Shelf>(alloc: Global, resume: &Save, shelf: &mut S) -> Result<Resumable, Stop>
+    ensures comes { IfPlan (resumable_for (save_view resume.now)) (IsResumePlan layer_image (S.file shelf.old) (save_view resume.now)) result }
+    ensures follows { IfOk result (λ r. Follows r.ready) }
+    ensures long { IsErrOf result (Stop.Refused Refusal.TooLong) ↔ (S.taken shelf.new ≡ TOO_LONG) }
+    ensures count { PlanCounts (S.faults shelf.old) (S.faults shelf.new) result }
+    ensures files { (n : List ℕ) → S.file shelf.new n ≡ S.file shelf.old n }
+{
+    let image = shelf.get(alloc, resume.boot.image)?;
+    let schedule = shelf.get(alloc, resume.boot.schedule)?;
+    let bytes = shelf.get(alloc, resume.file)?;
+    let ready = ready_of(alloc, &image, &schedule)?;
+    Ok(Resumable { ready, bytes })
+}
+
+/// Goes on with the run whose machine was saved, over the disk as it stands, to the wanted turns and for the most steps that are counted from its start.
+pub fn run_resume<S: Shelf, O: Sink, D: Sectors>(
+    alloc: Global,
+    resume: &Save,
+    shelf: &mut S,
+    out: &mut O,
+    disk: &mut D,
+) -> Status
+    ensures ends { ResumeEndsAs (save_view resume.now) (seen S.Shelf O.Sink D.Sectors) result (shelf.old, out.old, disk.old) (shelf.new, out.new, disk.new) }
+    ensures causes { Causes (seen S.Shelf O.Sink D.Sectors) result (shelf.old, out.old, disk.old) (shelf.new, out.new, disk.new) }
+{
+    match plan_resume(alloc, resume, shelf) {
+        Ok(resumable) => resume_system(alloc, resumable, resume, out, disk),
+        Err(Stop::Refused(refusal)) => refuse(&refusal, out),
+        Err(Stop::Shelf) => Status::Shelf,
+        Err(Stop::Memory) => Status::Memory,
+    }
+}
+
+// Goes on with the run of a system from the bytes of its saved machine, or refuses the first fault of these; then a disk with too few sectors.
+fn resume_system<O: Sink, D: Sectors>(
+    alloc: Global,
+    resumable: Resumable,
+    resume: &Save,
+    out: &mut O,
+    disk: &mut D,
+) -> Status
+    requires follows { Follows resumable.ready }
+    ensures ends { ResumesAs resumable (save_view resume.now) (within O.Sink D.Sectors) result (out.old, disk.old) (out.new, disk.new) }
+    ensures rose { result ≡ Status.Sink → Rose (O.faults out.old) (O.faults out.new) }
+    ensures same { result ≢ Status.Sink → O.faults out.new ≡ O.faults out.old }
+    ensures disk_same { result ≢ Status.Disk → D.faults disk.new ≡ D.faults disk.old }
+    ensures never { (result ≢ Status.Words) × (result ≢ Status.Shelf) }
+{
+    match resume_run(
+        alloc,
+        resumable.ready.layer,
+        resumable.ready.boot,
+        resumable.ready.schedule,
+        &resumable.bytes,
+        resume.boot.turns,
+        resume.boot.steps,
+        disk,
+        out,
+    ) {
+        Ok(end) => status_of(end),
+        Err(ResumeFault::SmallDisk { need, have }) => {
+            refuse(&Refusal::SmallDisk { need, have }, out)
+        }
+        Err(ResumeFault::Save(fault)) => refuse_file(fault, out),
+    }
+}
+
+// Prints the row of a fault of a saved machine's file. Want of memory is none.
+fn refuse_file<O: Sink>(fault: SaveFault, out: &mut O) -> Status
+    ensures cases { ((result ≡ Status.Memory) × (out.new ≡ out.old)) ⊎ ((fault ≢ SaveFault.Memory) × ((result ≡ Status.Refused) ⊎ (result ≡ Status.Sink))) }
+    ensures whole { result ≡ Status.Refused → O.text out.new ≡ append_known (O.text out.old) (refusal_text (bad_save fault)) }
+    ensures part { result ≡ Status.Sink → AppendsPart (O.text out.old) (O.text out.new) (refusal_text (bad_save fault)) }
+    ensures rose { result ≡ Status.Sink → Rose (O.faults out.old) (O.faults out.new) }
+    ensures same { result ≢ Status.Sink → O.faults out.new ≡ O.faults out.old }
+{
+    if let SaveFault::Memory = fault {
+        return Status::Memory;
+    }
+    refuse(&Refusal::BadSave(fault), out)
+}
