@@ -8,12 +8,14 @@
 // - `names`, `sizes`: its tree with what each name stands for, or the words of each function's frame; `user-names`: the tree of a user program;
 // - `offsets`: where its globals, each function's parameters and locals, and each struct's fields begin, in words;
 // - `structs`: the words of its structs, up to 1,048,577, and whether they hold themselves, typed or not;
+// - `bound`, `count`: what `check` prints of a kernel beside 64 words of stack, or its first row and how many names the second has;
 // - `asm`: the words of an asm text, and its first line that is not allowed.
 //
 // A source that is refused is answered by the refusal of docs/C0.md in place of that.
 #![tactic(auto)]
 
 mod answers;
+mod bounds;
 mod faults;
 mod offsets;
 mod structs;
@@ -43,6 +45,7 @@ fn put_answer(alloc: Global, out: &mut String, case: &Case) -> Result<(), AllocE
         "sizes" => answers::put_sizes(alloc, out, source),
         "offsets" => offsets::put_offsets(alloc, out, source),
         "structs" => structs::put_structs(alloc, out, source),
+        "bound" | "count" => bounds::put_told(alloc, out, case.kind.as_str(), source),
         "asm" => answers::put_asm(alloc, out, source),
         _ => out.push_str("no such kind\n"),
     }

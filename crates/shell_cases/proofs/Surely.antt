@@ -32,25 +32,37 @@ use Rattle.user_c0.specs.Image.{image_words}
 use Rattle.user_c0.specs.Program.{MAX_IMAGE}
 use Rattle.cvm_shell.specs.Check as checking
 use Rattle.cvm_shell.specs.Check.{Told, TellsOpened, TellsObject}
-use Rattle.cvm_shell.specs.Command.{Boot, Command, boot, trace, compile_user, compile_kernel, compile_program, link, migrate, check, IsCommand, GetsFiles, boot_session, trace_session, sample_session}
+use Rattle.cvm_shell.specs.Command.{Boot, Save, Command, boot, trace, save, resume, save_session, compile_user, compile_kernel, compile_program, link, migrate, check, IsCommand, GetsFiles, boot_session, trace_session, sample_session}
 use Rattle.cvm_shell.specs.Outside.{Outside, Says, said, broken}
-use Rattle.cvm_shell.specs.Refusal.{Refusal, bad_text, bad_source, bad_program, bad_object, bad_file, unlinked, unaccepted, bad_schedule, small_disk, no_such_user, too_long, refusal_text, refusal_status}
-use Rattle.cvm_shell.specs.Plan.{Plan, bad_words, refuses, puts, boots, prints, Got, long, whole, accepted_plan, AfterFiles, BootPlan}
+use Rattle.cvm_shell.specs.Refusal.{Refusal, bad_text, bad_source, bad_program, bad_object, bad_file, unlinked, unaccepted, bad_schedule, bad_save, small_disk, no_such_user, too_long, refusal_text, refusal_status}
+use Rattle.cvm_shell.specs.Plan.{Plan, bad_words, refuses, puts, boots, saves, resumes, most_bytes, saved_plan, SavePlan, wanted_by, taken_plan, taken_up, AfterThree, ResumePlan, prints, Got, long, whole, accepted_plan, AfterFiles, BootPlan}
 use Rattle.cvm_shell.specs.Plan.{AfterText, no_words, assembles, AfterKernel, AfterProgram, unread, mistyped, compiles, GotAll, words_from, linked_plan, AfterParts, unfit, answered, AfterUsers, AfterParams}
 use Rattle.cvm_shell.specs.Plan.{AfterSystem, no_object, has_object, renewed_plan, AfterLinking, AfterSource, SamplePlan, told_plan, AfterChecked}
-use Rattle.cvm_shell.specs.Plan.{ComesTo, no_command, boot_plan, trace_plan, user_plan, kernel_plan, image_plan, link_plan, migrate_plan, sample_plan, check_plan}
+use Rattle.cvm_shell.specs.Plan.{ComesTo, no_command, boot_plan, trace_plan, save_plan, resume_plan, user_plan, kernel_plan, image_plan, link_plan, migrate_plan, sample_plan, check_plan}
 use Rattle.cvm_shell.specs.Boot.{sectors_needed, ended_as, RunEnds, no_user, small, no_memory, unloaded, run}
+use Rattle.cvm_shell.specs.Saves.{SaveEnds, too_small, out_of_memory, not_loaded, ended, was_saved, was_unput, was_unsaid}
+use Rattle.cvm_shell.specs.Resumes.{ResumeEnds, small_for_it, no_room, went_on}
+use Rattle.boot_run.specs.Whole.{ending_of_end}
+use Rattle.boot_run.specs.declared.whole.RunEnd.{RunEnd}
+use Rattle.boot_run.specs.declared.whole.RunEnd.TheVariants as ends
+use Rattle.machine_save.specs.Room.{FILE_ROOM}
+use Rattle.saved_file.specs.Answer.{answer as machine_of}
+use Rattle.saved_file.specs.declared.fault.SaveFault.{SaveFault}
+use Rattle.saved_file.specs.declared.fault.SaveFault.TheVariants.{TooLarge}
+use Rattle.shell_cases.specs.Sure.{RunsSystem, is_booted, is_saved, is_resumed}
 use Rattle.cvm_shell.specs.Outcome.{Ends, Took, CommandEnds, done, undone, CausedBy}
 
 -- WHAT PLANS THERE ARE: none refuses a small disk, which is known only when a system is run; and those of a boot, a trace and a sample put no file.
 
--- a plan refuses no small disk, and puts a file only where P
+-- a plan refuses no small disk, and puts or takes up a file only where P
 abbrev Fits : (P : Type 0) → Plan → Type 0
 Fits P bad_words = Unit {0}
 Fits P (refuses (small_disk need have)) = ⊥
 Fits P (refuses other) = Unit {0}
 Fits P (puts name bytes) = P
 Fits P (boots session s rows) = Unit {0}
+Fits P (saves session s rows name) = P
+Fits P (resumes session s rows machine) = P
 Fits P (prints text) = Unit {0}
 
 got_fits : (P : Type 0) (told : Option (List ℕ)) (next : List ℕ → Plan → Type 0) → ((bytes : List ℕ) (p : Plan) → next bytes p → Fits P p) → (p : Plan) → Got told next p → Fits P p
@@ -140,10 +152,50 @@ told_fits P stack bytes told (checking.has_object o front heard is of h) = opene
 checked_fits : (P : Type 0) (stack : ℕ) (bytes : List ℕ) (p : Plan) → AfterChecked stack bytes p → Fits P p
 checked_fits P stack bytes p (told, tells, e) = subst (Fits P) (sym e) (told_fits P stack bytes told tells)
 
+room_fits : (large : Bool) (session : Session) (s : System) (rows : Rows) (name : List ℕ) → Fits (Unit {0}) (if large then refuses (bad_save (TooLarge (most_bytes s))) else saves session s rows name)
+room_fits true session s rows name = tt
+room_fits false session s rows name = tt
+
+saved_fits : (name : List ℕ) (q : Plan) → Fits (Unit {0}) q → Fits (Unit {0}) (saved_plan name q)
+saved_fits name bad_words h = tt
+saved_fits name (refuses r) h = h
+saved_fits name (puts other bytes) h = tt
+saved_fits name (boots session s rows) h = room_fits (nat_lt FILE_ROOM (most_bytes s)) session s rows name
+saved_fits name (saves session s rows other) h = tt
+saved_fits name (resumes session s rows machine) h = tt
+saved_fits name (prints text) h = tt
+
+save_fits : (file : List ℕ → Option (List ℕ)) (c : Save) (p : Plan) → SavePlan layer_image file c p → Fits (Unit {0}) p
+save_fits file c p (q, boot_is, e) = subst (Fits (Unit {0})) (sym e) (saved_fits c.file q (boot_fits (Unit {0}) file c.boot (save_session c) q boot_is))
+
+taken_fits : (session : Session) (s : System) (rows : Rows) (answer : Result (List ℕ) SaveFault) → Fits (Unit {0}) (taken_plan session s rows answer)
+taken_fits session s rows (Ok machine) = tt
+taken_fits session s rows (Err f) = tt
+
+taken_up_fits : (bytes : List ℕ) (q : Plan) → Fits (Unit {0}) q → Fits (Unit {0}) (taken_up bytes q)
+taken_up_fits bytes bad_words h = tt
+taken_up_fits bytes (refuses r) h = h
+taken_up_fits bytes (puts name other) h = tt
+taken_up_fits bytes (boots session s rows) h = taken_fits session s rows (machine_of (wanted_by s rows session.turns) bytes)
+taken_up_fits bytes (saves session s rows name) h = tt
+taken_up_fits bytes (resumes session s rows machine) h = tt
+taken_up_fits bytes (prints text) h = tt
+
+three_fit : (session : Session) (image schedule bytes : List ℕ) (p : Plan) → AfterThree layer_image session image schedule bytes p → Fits (Unit {0}) p
+three_fit session image schedule bytes p (q, after, e) =
+    subst (Fits (Unit {0})) (sym e) (taken_up_fits bytes q (files_fit (Unit {0}) layer_image session image schedule q after))
+
+resume_fits : (file : List ℕ → Option (List ℕ)) (c : Save) (p : Plan) → ResumePlan layer_image file c p → Fits (Unit {0}) p
+resume_fits file c p got =
+    got_fits (Unit {0}) (file c.boot.image) _ (λ image. got_fits (Unit {0}) (file c.boot.schedule) _
+    (λ schedule. got_fits (Unit {0}) (file c.file) (AfterThree layer_image (save_session c) image schedule) (three_fit (save_session c) image schedule))) p got
+
 comes_fits : (words : List (List ℕ)) (file : List ℕ → Option (List ℕ)) (p : Plan) → ComesTo words file p → Fits (Unit {0}) p
 comes_fits words file p (no_command none) = tt
 comes_fits words file p (boot_plan b q is got) = boot_fits (Unit {0}) file b (boot_session b) q got
 comes_fits words file p (trace_plan t q is got) = boot_fits (Unit {0}) file t.boot (trace_session t) q got
+comes_fits words file p (save_plan c q is got) = save_fits file c q got
+comes_fits words file p (resume_plan c q is got) = resume_fits file c q got
 comes_fits words file p (user_plan c q is got) = got_fits (Unit {0}) (file c.text) (AfterText c.image) (text_fits c.image) q got
 comes_fits words file p (kernel_plan c q is got) = got_fits (Unit {0}) (file c.source) (AfterKernel c.object) (kernel_fits c.object) q got
 comes_fits words file p (image_plan c q is got) = got_fits (Unit {0}) (file c.source) (AfterProgram c.image) (program_fits c.image) q got
@@ -154,18 +206,20 @@ comes_fits words file p (migrate_plan m q is got) =
 comes_fits words file p (sample_plan x q is got) = sample_fits (Unit {0}) x.number q got
 comes_fits words file p (check_plan c q is got) = got_fits (Unit {0}) (file c.object) (AfterChecked c.stack) (checked_fits (Unit {0}) c.stack) q got
 
--- a command that puts a file gets files
-putting_gets : (words : List (List ℕ)) (file : List ℕ → Option (List ℕ)) (p : Plan) (name bytes : List ℕ) → ComesTo words file p → p ≡ puts name bytes → (c : Command) × IsCommand words c × GetsFiles c
-putting_gets words file p name bytes (no_command none) e = absurd cc
-putting_gets words file p name bytes (boot_plan b q is got) e = (boot b, is, tt)
-putting_gets words file p name bytes (trace_plan t q is got) e = (trace t, is, tt)
-putting_gets words file p name bytes (user_plan c q is got) e = (compile_user c, is, tt)
-putting_gets words file p name bytes (kernel_plan c q is got) e = (compile_kernel c, is, tt)
-putting_gets words file p name bytes (image_plan c q is got) e = (compile_program c, is, tt)
-putting_gets words file p name bytes (link_plan l q is got) e = (link l, is, tt)
-putting_gets words file p name bytes (migrate_plan m q is got) e = (migrate m, is, tt)
-putting_gets words file p name bytes (sample_plan x q is got) e = absurd (subst (Fits ⊥) e (sample_fits ⊥ x.number q got))
-putting_gets words file p name bytes (check_plan c q is got) e = (check c, is, tt)
+-- a command that puts or takes up a file gets files
+putting_gets : (words : List (List ℕ)) (file : List ℕ → Option (List ℕ)) (p : Plan) → ComesTo words file p → (Fits ⊥ p → ⊥) → (c : Command) × IsCommand words c × GetsFiles c
+putting_gets words file p (no_command none) h = absurd (h tt)
+putting_gets words file p (boot_plan b q is got) h = (boot b, is, tt)
+putting_gets words file p (trace_plan t q is got) h = (trace t, is, tt)
+putting_gets words file p (save_plan c q is got) h = (save c, is, tt)
+putting_gets words file p (resume_plan c q is got) h = (resume c, is, tt)
+putting_gets words file p (user_plan c q is got) h = (compile_user c, is, tt)
+putting_gets words file p (kernel_plan c q is got) h = (compile_kernel c, is, tt)
+putting_gets words file p (image_plan c q is got) h = (compile_program c, is, tt)
+putting_gets words file p (link_plan l q is got) h = (link l, is, tt)
+putting_gets words file p (migrate_plan m q is got) h = (migrate m, is, tt)
+putting_gets words file p (sample_plan x q is got) h = absurd (h (sample_fits ⊥ x.number q got))
+putting_gets words file p (check_plan c q is got) h = (check c, is, tt)
 
 -- THE STATUSES.
 
@@ -187,6 +241,7 @@ long_status (bad_file f) e = absurd cc
 long_status (unlinked f) e = absurd cc
 long_status (unaccepted f) e = absurd cc
 long_status (bad_schedule f) e = absurd cc
+long_status (bad_save f) e = absurd cc
 long_status (small_disk need have) e = absurd cc
 long_status (no_such_user user users) e = absurd cc
 
@@ -201,6 +256,7 @@ no_disk_status (bad_file f) fits e = cc
 no_disk_status (unlinked f) fits e = cc
 no_disk_status (unaccepted f) fits e = cc
 no_disk_status (bad_schedule f) fits e = cc
+no_disk_status (bad_save f) fits e = cc
 no_disk_status (small_disk need have) fits e = fits
 no_disk_status (no_such_user user users) fits e = cc
 
@@ -236,6 +292,31 @@ run_disk session s rows old new sure (no_memory is place leaves) = absurd (cc)
 run_disk session s rows old new sure (unloaded is torn) = absurd (sure torn.disk)
 run_disk session s rows old new sure (run e is ran) = absurd (sure (ran.disk (disk_ending e (sym is))))
 
+-- a save has it only over too few sectors, too
+save_disk : (session : Session) (s : System) (rows : Rows) (name : List ℕ) (old new : Outside) → (Rose old.disk.faults new.disk.faults → ⊥) → SaveEnds session s rows name Disk old new
+    → old.disk.size < sectors_needed session s rows
+save_disk session s rows name old new sure (too_small few same says) = few
+save_disk session s rows name old new sure (out_of_memory is place leaves) = absurd (cc)
+save_disk session s rows name old new sure (not_loaded is torn) = absurd (sure torn.disk)
+save_disk session s rows name old new sure (ended e is ran) = absurd (sure (ran.disk (disk_ending e (sym is))))
+save_disk session s rows name old new sure (was_saved is left) = absurd (cc)
+save_disk session s rows name old new sure (was_unput is left) = absurd (cc)
+save_disk session s rows name old new sure (was_unsaid is left) = absurd (cc)
+
+-- and so has a resume
+disk_run_end : (e : RunEnd) → ended_as (ending_of_end e) ≡ Disk → e ≡ ends.DiskFault
+disk_run_end ends.Done h = absurd cc
+disk_run_end ends.KernelFaulted h = absurd cc
+disk_run_end ends.OutOfSteps h = absurd cc
+disk_run_end ends.DiskFault h = refl
+disk_run_end ends.SinkFault h = absurd cc
+
+resume_disk : (session : Session) (s : System) (rows : Rows) (machine : List ℕ) (old new : Outside) → (Rose old.disk.faults new.disk.faults → ⊥) → ResumeEnds session s rows machine Disk old new
+    → old.disk.size < sectors_needed session s rows
+resume_disk session s rows machine old new sure (small_for_it few same says) = few
+resume_disk session s rows machine old new sure (no_room is leaves) = absurd (cc)
+resume_disk session s rows machine old new sure (went_on e is ran) = absurd (sure (ran.disk (disk_run_end e (sym is))))
+
 pub no_rise : Rose 0 0 → ⊥
 no_rise h = omega arith
 
@@ -253,8 +334,11 @@ long_plan : (words : List (List ℕ)) (p : Plan) (old new : Outside) → new.she
 long_plan words bad_words old new most comes took ends = absurd (says_no_other Words _ old new Shelf (λ e. cc) (λ e. cc) ends)
 long_plan words (refuses r) old new most comes took ends =
     elim (says_one (refusal_status r) (refusal_text r) old new Shelf ends) [ inl e ↦ (let is = long_status r (sym e) in cc) | inr e ↦ absurd cc ]
-long_plan words (puts name bytes) old new most comes took ends = let (c, is, gets) = putting_gets words old.shelf.file (puts name bytes) name bytes comes refl in (took c is gets).1 most
+long_plan words (puts name bytes) old new most comes took ends = let (c, is, gets) = putting_gets words old.shelf.file (puts name bytes) comes (λ h. h) in (took c is gets).1 most
 long_plan words (boots session s rows) old new most comes took ends = absurd (run_no_shelf session s rows old new ends)
+long_plan words (saves session s rows name) old new most comes took ends = let (c, is, gets) = putting_gets words old.shelf.file (saves session s rows name) comes (λ h. h) in (took c is gets).1 most
+long_plan words (resumes session s rows machine) old new most comes took ends =
+    let (c, is, gets) = putting_gets words old.shelf.file (resumes session s rows machine) comes (λ h. h) in (took c is gets).1 most
 long_plan words (prints text) old new most comes took ends = absurd (says_no_other Done text old new Shelf (λ e. cc) (λ e. cc) ends)
 
 shelf_end : (words : List (List ℕ)) (old new : Outside) → new.shelf.taken ≡ TOO_LONG → CommandEnds words Shelf old new → ComesTo words old.shelf.file (refuses too_long)
@@ -274,14 +358,17 @@ too_long_only words status old new sure ends caused e =
 
 -- a system has more pages than the disk sectors where the status is the disk's
 abbrev SmallFor : (words : List (List ℕ)) → Outside → Type 0
-SmallFor words old = (session : Session) × (s : System) × (rows : Rows) × ComesTo words old.shelf.file (boots session s rows) × (old.disk.size < sectors_needed session s rows)
+SmallFor words old = (session : Session) × (s : System) × (rows : Rows) × (p : Plan) × ComesTo words old.shelf.file p × RunsSystem session s rows p × (old.disk.size < sectors_needed session s rows)
 
 small_plan : (words : List (List ℕ)) (p : Plan) (old new : Outside) → Sure old new → ComesTo words old.shelf.file p → Ends p Disk old new → SmallFor words old
 small_plan words bad_words old new sure comes ends = absurd (says_no_other Words _ old new Disk (λ e. cc) (λ e. cc) ends)
 small_plan words (refuses r) old new sure comes ends =
     absurd (says_no_other (refusal_status r) (refusal_text r) old new Disk (λ e. no_disk_status r (comes_fits words old.shelf.file (refuses r) comes) (sym e)) (λ e. cc) ends)
 small_plan words (puts name bytes) old new sure comes ends = absurd ends
-small_plan words (boots session s rows) old new sure comes ends = (session, s, rows, comes, run_disk session s rows old new sure.disk ends)
+small_plan words (boots session s rows) old new sure comes ends = (session, s, rows, boots session s rows, comes, is_booted, run_disk session s rows old new sure.disk ends)
+small_plan words (saves session s rows name) old new sure comes ends = (session, s, rows, saves session s rows name, comes, is_saved name, save_disk session s rows name old new sure.disk ends)
+small_plan words (resumes session s rows machine) old new sure comes ends =
+    (session, s, rows, resumes session s rows machine, comes, is_resumed machine, resume_disk session s rows machine old new sure.disk ends)
 small_plan words (prints text) old new sure comes ends = absurd (says_no_other Done text old new Disk (λ e. cc) (λ e. cc) ends)
 
 disk_end : (words : List (List ℕ)) (old new : Outside) → Sure old new → CommandEnds words Disk old new → SmallFor words old

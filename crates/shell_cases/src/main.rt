@@ -8,6 +8,9 @@
 // - `file NAME` places a file with these bytes, `zeros NAME` one with so many bytes 0, and `host NAME` one with the bytes of a file of the
 //   folder in which the program runs, whose path stands below it. A put to it has room for as many;
 // - `flip NAME` turns the lowest bit of a byte of a file, whose place from 0 stands below it;
+// - `cut NAME N` places the file `forged`: the first N bytes of a file, with zeros behind where it has fewer; `set NAME P W` places it as that
+//   file with W as its word P, from 0 on;
+// - `disk N` puts a new disk of N sectors in the place of the one there, whose calls don't fail;
 // - `run WORD ..` runs the command of these words, and `as PATH` says whether its text is that of a file of the folder;
 // - `journal WORD ..` runs it, a trace, and prints its rows but those that count steps, up to the end of the run;
 // - `sure WORD ..` runs it over copies of the files that its words name, a sink and a disk where no call fails, and prints the status alone;
@@ -355,6 +358,41 @@ fn flip_bit(alloc: Global, world: &mut World, name: &str, place: &[u8]) -> Resul
     world.shelf.place(alloc, name, &bytes)
 }
 
+/// Places the file `forged`: the first bytes of a file, as many as stand behind its name, with zeros where it has fewer.
+fn cut_file(alloc: Global, world: &mut World, line: &str) -> Result<(), AllocError> {
+    let (name, count) = line.split_once(' ').unwrap_or((line, ""));
+    let Ok(mut bytes) = world.shelf.get(alloc, name) else {
+        return Ok(());
+    };
+    bytes.resize(count.parse::<usize>().unwrap_or(0), 0)?;
+    world.shelf.place(alloc, "forged", &bytes)
+}
+
+/// Places the file `forged`: a file with another word at a place, which stand behind its name, the place first.
+fn set_word(alloc: Global, world: &mut World, line: &str) -> Result<(), AllocError> {
+    let (name, rest) = line.split_once(' ').unwrap_or((line, ""));
+    let (place, value) = rest.split_once(' ').unwrap_or((rest, ""));
+    let at = 4 * u64::from(place.parse::<u32>().unwrap_or(0));
+    let value = value.parse::<u32>().unwrap_or(0);
+    let Ok(mut bytes) = world.shelf.get(alloc, name) else {
+        return Ok(());
+    };
+    for (offset, byte) in value.to_le_bytes().iter().enumerate() {
+        if let Some(old) = bytes.get_mut(at as usize + offset) {
+            *old = *byte;
+        }
+    }
+    world.shelf.place(alloc, "forged", &bytes)
+}
+
+/// Puts a new disk of so many sectors in the place of the one there.
+fn change_disk(alloc: Global, world: &mut World, count: &str) -> Result<(), AllocError> {
+    let sectors = count.parse::<u32>().unwrap_or(0);
+    let disk = MemSectors::new(alloc, sectors, Vec::new(alloc))?;
+    world.disk = Altered::new(disk, None);
+    Ok(())
+}
+
 /// Places a file with the bytes of a file of the folder.
 fn place_host(rt: &HostRuntime, world: &mut World, part: &Case) -> io::Result<()> {
     let text = fs::read_to_string(rt, str::from_utf8(&part.source).unwrap_or(""))?;
@@ -397,6 +435,9 @@ fn do_part(
     writeln!(out, "== {kind} {name}")?;
     match kind {
         "case" => *world = world_of(alloc, &part.source)?,
+        "cut" => cut_file(alloc, world, name)?,
+        "set" => set_word(alloc, world, name)?,
+        "disk" => change_disk(alloc, world, name)?,
         "run" => run_words(alloc, world, out, name)?,
         "journal" => run_journal(alloc, world, out, name)?,
         "sure" => run_sure(alloc, world, out, name)?,

@@ -12,5 +12,5 @@ returns-clause-shelf c = λ e.
 
 pub returns-clause-disk : goal.returns-clause-disk
 returns-clause-disk c = λ e.
-    let (session, system, rows, comes, small) = too_small_only _ _ _ _ (record { shelf = no_rise; sink = no_rise; disk = no_rise }) c.run.ensures.ends e in
-    record { session = session; system = system; rows = rows; comes = comes; small = small }
+    let (session, system, rows, plan, comes, runs, small) = too_small_only _ _ _ _ (record { shelf = no_rise; sink = no_rise; disk = no_rise }) c.run.ensures.ends e in
+    record { session = session; system = system; rows = rows; plan = plan; comes = comes; runs = runs; small = small }

@@ -1,0 +1,136 @@
+// The words of a few blocks, and what the routines of a kernel answer, run by the processor's step.
+
+use c0_asm_body::emit_asm;
+use c0_runtime::emit_runtime;
+use c0_runtime::runtime::{DIVIDE, MULTIPLY, REMAINDER, RUNTIME_WORDS};
+use c0_tree::{AsmText, Span};
+use masm::Block;
+use masm::copying::copy_words;
+use masm::registers::{ANSWER, ARGUMENTS, Places, RETURN};
+use masm::waiting::wait_for_disk;
+use mips_step::{Cpu, Flat, step};
+use mips_table::Inst;
+use std::alloc::{AllocError, Global};
+use std::fmt::Write;
+
+// Prints the words of a block under its name.
+fn put_words(out: &mut String, name: &str, words: &[u32]) -> Result<(), AllocError> {
+    writeln!(out, "{name}")?;
+    for word in words {
+        writeln!(out, "{:08x}", *word)?;
+    }
+    Ok(())
+}
+
+// Register 2 becomes 1 and the routine returns where register 8 isn't 0; else register 2 becomes 0.
+fn condition() -> Block<4> {
+    let mut body = Block::<2>::new();
+    body.push(Inst::Addiu {
+        rt: 2,
+        rs: 0,
+        imm: 1,
+    });
+    body.push(Inst::Jr { rs: 31 });
+    let mut rest = Block::<1>::new();
+    rest.push(Inst::Addu {
+        rd: 2,
+        rs: 0,
+        rt: 0,
+    });
+    let mut code = Block::<4>::new();
+    code.when(8, &body);
+    code.then(&rest);
+    code
+}
+
+// Register 8 is raised to register 9.
+fn count() -> Block<4> {
+    let mut test = Block::<1>::new();
+    test.push(Inst::Sltu {
+        rd: 1,
+        rs: 8,
+        rt: 9,
+    });
+    let mut body = Block::<1>::new();
+    body.push(Inst::Addiu {
+        rt: 8,
+        rs: 8,
+        imm: 1,
+    });
+    let mut code = Block::<4>::new();
+    code.loop_while(&test, 1, &body);
+    code
+}
+
+// What the routine that stands at a word answers on two operands: it is run until it returns, behind the routines, or for eight steps.
+fn answer(alloc: Global, routine: u32, left: u32, right: u32) -> Result<u32, AllocError> {
+    let places = Places {
+        globals: 0,
+        faults: [0, 0, 0, 0],
+        multiply: 0,
+        divide: 0,
+        remainder: 0,
+        new_object: 0,
+        functions: Vec::new(alloc),
+        primitives: Vec::new(alloc),
+    };
+    let mut words = Vec::new(alloc);
+    emit_runtime(alloc, &places, &mut words)?;
+    let mut memory = Flat { words };
+    let mut cpu = Cpu {
+        pc: routine.wrapping_mul(4),
+        regs: [0; 32],
+        hi: 0,
+        lo: 0,
+    };
+    cpu.write(ARGUMENTS, left);
+    cpu.write(ARGUMENTS + 1, right);
+    cpu.write(RETURN, 4 * RUNTIME_WORDS);
+    for _ in 0..8 {
+        if cpu.pc != 4 * RUNTIME_WORDS {
+            let _ = step(&mut cpu, &mut memory);
+        }
+    }
+    Ok(cpu.regs[ANSWER as usize])
+}
+
+// Prints what a routine answers on two operands.
+fn put_answer(
+    out: &mut String,
+    alloc: Global,
+    name: &str,
+    routine: u32,
+    left: u32,
+    right: u32,
+) -> Result<(), AllocError> {
+    let answer = answer(alloc, routine, left, right)?;
+    writeln!(out, "{name} {:08x} {:08x} {:08x}", left, right, answer)
+}
+
+// Prints the word of an asm text.
+fn put_asm(out: &mut String, alloc: Global) -> Result<(), AllocError> {
+    let text = AsmText {
+        bytes: Vec::from_slice(alloc, b"addu r2, r4, r5")?,
+        span: Span { start: 0, end: 17 },
+        words: Vec::from_slice(alloc, &[0x0085_1021])?,
+    };
+    let mut code = Vec::new(alloc);
+    emit_asm(alloc, &text, &mut code)?;
+    put_words(out, "asm", &code)
+}
+
+// What is printed of them.
+pub(crate) fn put_routines(alloc: Global, out: &mut String) -> Result<(), AllocError> {
+    put_words(out, "nothing", Block::<0>::new().words())?;
+    put_words(out, "condition", condition().words())?;
+    put_words(out, "count", count().words())?;
+    put_words(out, "copy", copy_words().words())?;
+    put_words(out, "wait", wait_for_disk().words())?;
+    let least = 0x8000_0000;
+    put_answer(out, alloc, "product", MULTIPLY, least, 0xffff_ffff)?;
+    put_answer(out, alloc, "quotient", DIVIDE, least, 0xffff_ffff)?;
+    put_answer(out, alloc, "remainder", REMAINDER, least, 0xffff_ffff)?;
+    put_answer(out, alloc, "quotient", DIVIDE, 0xffff_fff9, 2)?;
+    put_answer(out, alloc, "remainder", REMAINDER, 0xffff_fff9, 2)?;
+    put_asm(out, alloc)
+}
