@@ -1,7 +1,7 @@
 #!/usr/bin/env python3
 """Paging, written apart from the project, with the steps of the page-fault block counted along its ways.
 
-usage: fault.py FILE   prints, for the lines of FILE, what fault_cases prints of them. Lines that are raised change nothing, so they aren't looked at.
+usage: fault.py FILE   prints, for the lines of FILE, what machine_cases prints of them. Lines that are raised change nothing, so they aren't looked at.
 """
 import sys
 

@@ -1,7 +1,7 @@
 #!/usr/bin/env python3
 """The blocks of the frame table, written apart from the project: what they do to words, registers and sectors, and in how many steps.
 
-usage: frames.py FILE   prints, for the lines of FILE from the first that begins "# The frame at the hand" on, what layer_cases prints of them
+usage: frames.py FILE   prints, for the lines of FILE from the first that begins "# The frame at the hand" on, what machine_cases prints of them
 """
 import sys
 

@@ -1,5 +1,5 @@
 #!/usr/bin/env python3
-"""Writes cases of bound_cases, with what is printed of each: kernels, and how much stack each needs, beside 64 words.
+"""Writes cases of c0_cases, with what is printed of each: kernels, and how much stack each needs, beside 64 words.
 
 usage: gen_bounds.py FOLDER STDOUT   writes the files bounds and graphs to the folder, and what the program prints of both to STDOUT
 
@@ -147,10 +147,10 @@ def main():
         out.write('Kernels, and how much stack each needs.\n')
         for name, source, head, row in BY_HAND:
             out.write('\n== bound %s\n%s' % (name, source))
-            told += ['== ' + name, head] + ([row] if row else [])
+            told += ['== bound ' + name, head] + ([row] if row else [])
         for name, source, head, count in LARGE:
             out.write('\n== count %s\n%s' % (name, source))
-            told += ['== ' + name, head, 'names %d' % count]
+            told += ['== count ' + name, head, 'names %d' % count]
         out.write('\n')
     rng = random.Random(19)
     with open(folder + '/graphs', 'w') as out:
@@ -159,7 +159,7 @@ def main():
             graph = Graph(rng)
             name = 'graph %d' % k
             out.write('\n== bound %s\n%s' % (name, graph.source()))
-            told += ['== ' + name] + graph.told()
+            told += ['== bound ' + name] + graph.told()
         out.write('\n')
     open(stdout, 'w').write('\n'.join(told) + '\n')
 

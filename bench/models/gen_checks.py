@@ -64,7 +64,7 @@ kernel('a large frame', LARGE, [(64, 'no 106\nchain dispatch\n'), (105, None), (
 kernel('functions that are called last and first', 'int x; int second(int a) { x = third(); return a; } int third() asm { addu r2, r0, r0 } int first() { int[3] v; v[0] = 1; return 0; } '
        + HEAD + ' { int y; while (y < 1) { if (y == 0) { y = first(); } else { y = second(2); } } return vm_size(1); }'.replace('return vm_size(1)', 'y = vm_size(1); return y'), [(64, None)])
 kernel('a loop through dispatch', 'int x; int again() { x = dispatch(0, 0, 0); return 0; } int never() { x = never(); return 0; } ' + HEAD + ' { x = again(); return 0; }', [(64, 'no cycle\ncycle dispatch again dispatch\n')])
-for name in ('adder', 'faults', 'messages', 'round_robin', 'sharing'):
+for name in sorted(it for it in os.listdir(EXAMPLES) if os.path.isdir(os.path.join(EXAMPLES, it))):
     begin('the stack of the example ' + name)
     raw('host k', 'examples/%s/kernel.c0' % name)
     raw('zeros o', str(ROOM))

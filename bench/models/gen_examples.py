@@ -38,12 +38,12 @@ def begin_system(case, folder, given, names, sectors):
     return text('kernel.c0'), [text(n) for n in names], text('params'), text('schedule')
 
 
-def modeled(case, kernel, users, par, schedule):
-    """What a boot of a system prints: the model's text, with the turns of the lines from PRINTED."""
+def modeled(case, kernel, users, par, schedule, traced=None):
+    """What a boot of a system prints, or the trace of a user: the model's text, with the turns of the lines from PRINTED."""
     if 'line' not in schedule:
-        return model(kernel, users, par, schedule, 100000)
+        return model(kernel, users, par, schedule, 100000, traced)
     seen = had(case, 0)
-    return model_lines(kernel, users, par, schedule, 100000, lines_of(seen[1])) if seen else '(not printed)'
+    return model_lines(kernel, users, par, schedule, 100000, lines_of(seen[1]), traced) if seen else '(not printed)'
 
 
 def example(name):
@@ -51,8 +51,7 @@ def example(name):
     kernel, users, par, schedule = begin_system(case, folder, 'examples/' + name, names_of(folder, 's'), 64)
     same('boot img s 100000 %d' % STEPS, modeled(case, kernel, users, par, schedule), name + '/printed')
     for u in range(1, len(users) + 1):
-        if os.path.exists(os.path.join(folder, 'trace%d' % u)):
-            same('trace img s 100000 %d %d' % (STEPS, u), model(kernel, users, par, schedule, 100000, u), '%s/trace%d' % (name, u))
+        same('trace img s 100000 %d %d' % (STEPS, u), modeled(case, kernel, users, par, schedule, u), '%s/trace%d' % (name, u))
     from_rom(name, kernel, schedule)
 
 
@@ -93,6 +92,15 @@ def own_trace(case, kernel, users, par, u):
     return own(case, u, lambda text: without_steps(text) == meaning['journal'](kernel, users, par, u))
 
 
+def saved_example(name, turns):
+    """The example saved after so many turns, and gone on with: its text up to there, and the rest of it."""
+    raw('zeros f', str(ROOM))
+    rows = read(name, 'printed').splitlines(True)
+    shown = [row for row in rows if row.startswith('turn ') and int(row.split()[1]) < turns]
+    same('save img s %d %d f' % (turns, STEPS), ''.join(shown) + 'saved\n', name + '/saved')
+    same('resume img s 100000 %d f' % STEPS, ''.join(rows[len(shown):]), name + '/resumed')
+
+
 def program_example(name):
     case, folder = 'the example ' + name, os.path.join(EXAMPLES, name)
     kernel, users, par, schedule = begin_system(case, folder, 'examples/' + name, names_of(folder, 'c0'), 128)
@@ -105,6 +113,8 @@ def program_example(name):
 # ---- all of them
 for name in ('adder', 'faults', 'mailbox', 'messages', 'round_robin', 'sharing'):
     example(name)
+    if name == 'messages':
+        saved_example(name, 50)
 program_example('services')
 
 NOTE = '''The examples, from copies of their files: data/examples/NAME has those of examples/NAME, but for the pages. Written by bench/models/gen_examples.py.

@@ -179,6 +179,32 @@ for globals_ in ([40000, 40000], [46081], [46080]):
 part('show u1')
 told.append('\\x00' * 8)
 
+part('case words that compile no program')
+part('file p', 'int main() { return 0; }')
+part('zeros u1', '8')
+for words in ('compile program', 'compile program p', 'compile program p u1 u1', 'compile programs p u1', 'compile Program p u1', 'program p u1'):
+    run(words, 'bad words', 1)
+run('compile program q u1', '', 6)    # there is no such file
+part('show u1')
+told.append('\\x00' * 8)
+
+part('case the shelf fails when a program is got, and when its image is put', 'shelf 0 2')
+part('file p', 'int main() { return 0; }')
+part('zeros u1', '300000')
+run('compile program p u1', '', 6)
+run('compile program p u1', '', 6)
+shows('u1', 0, [0])
+run('compile program p u1')
+shows('u1', 0, [jump(16384)])
+
+part('case the sink fails where a program is refused', 'sink 0')
+part('file p', 'int x;')
+part('zeros u1', '8')
+run('compile program p u1', '', 7)
+run('compile program p u1', 'refused 36 0 6', 2)
+part('show u1')
+told.append('\\x00' * 8)
+
 
 # ---- the kernels of code_cases that call no primitive
 def unquoted(text):

@@ -1,7 +1,7 @@
 #!/usr/bin/env python3
 """Files of saved machines, and what is answered of each, by a reading that stands apart from the crates.
 
-usage: bench/models/saved.py FOLDER        writes FOLDER/data/saved and FOLDER/stdout: those of crates/saved_cases
+usage: bench/models/saved.py FOLDER        writes FOLDER/data/saved, as in crates/format_cases, and FOLDER/stdout, the part of that crate's stdout for it
 
 The reading goes by a table of the fields, as docs/FORMATS.md has it. A file is told here as a list of words and of runs of one word, with bytes
 behind it, or cut to its first bytes.

@@ -1,4 +1,4 @@
-"""The pages of docs/ as tables: the commands of FORMATS.md and the refusals of REFUSALS.md."""
+"""The pages of docs/ as tables: the commands and the words of saved machines of FORMATS.md, and the refusals of REFUSALS.md."""
 import os
 import re
 
@@ -39,6 +39,19 @@ def refusals():
         if len(row) == 5 and re.fullmatch(r'\d+|(?!Name$)[A-Z]\w+', row[0]):
             rows[row[0]] = Refusal(row)
     return rows
+
+
+def saved_word(place):
+    """What docs/FORMATS.md says of a word of a saved machine, with its range; None where it has no row of its own."""
+    section = page('FORMATS.md').partition('\n## Saved machine\n')[2].partition('\n## ')[0]
+    for row in map(cells, section.split('\n')):
+        if len(row) == 3 and re.match(r'%d(,|$)' % place, row[0]):
+            return row[1] + (': ' + row[2] if row[2] else '')
+        if len(row) == 3 and re.fullmatch(r'(\d+) to (\d+)', row[0]):
+            least, most = map(int, row[0].split(' to '))
+            if least <= place <= most:
+                return row[1] + (': ' + row[2] if row[2] else '')
+    return None
 
 
 def forms():

@@ -5,7 +5,7 @@ import re
 from explain import asm_habits, c_habits, files, pages, places, steps, words
 
 # The number of docs/REFUSALS.md that says what to do where a command finds no memory.
-MEMORY = {'compile user': '8', 'compile program': '38', 'compile': '15', 'link': '64', 'check': '64', 'migrate': '57'}
+MEMORY = {'compile user': '8', 'compile program': '38', 'compile': '15', 'link': '64', 'check': '64', 'migrate': '57', 'save': '108', 'resume': '108'}
 
 
 class Way:
@@ -165,9 +165,22 @@ def located(key, fields, command, way):
     if key in (40, 50) and gets:
         return what_it_is(gets[0], way)
     if 100 <= key <= 106 and len(gets) > 2:
-        return ['cvm: the saved run is %s.' % way.shown(gets[2])]
+        return saved_place(key, fields, gets[2], way)
     found = [name for name in gets if files.get_fault(name)]
     return ['cvm: %s.' % files.get_fault(found[0])] if key == 81 and found else []
+
+
+def saved_place(key, fields, name, way):
+    """What is wrong in the file of a saved machine."""
+    if key == 100:
+        return what_it_is(name, way) or ['cvm: %s is no saved machine.' % way.shown(name)]
+    said = ['cvm: the saved machine is %s.' % way.shown(name)]
+    what = pages.saved_word(fields[0]) if key == 103 and fields else None
+    if what:
+        said.append('cvm: word %d of it is %s.' % (fields[0], what))
+    if key == 106 and fields:
+        said.append('cvm: %d turns are complete in it: %s or more goes on from there.' % (fields[0], way.turns(fields[0])))
+    return said
 
 
 def line_of(name, number, way):
@@ -189,7 +202,7 @@ def given_text(name, key):
 def what_it_is(name, way):
     """What a file looks like that has not the mark which is asked for."""
     data = (files.content(name) or b'')[:4]
-    kinds = {b'CVMO': "an object, which 'link' takes", b'CVMI': "an image, which 'boot' takes"}
+    kinds = {b'CVMO': "an object, which 'link' takes", b'CVMI': "an image, which 'boot' takes", b'CVMS': "a saved machine, which 'resume' takes"}
     if data in kinds:
         return ['cvm: %s is %s.' % (way.shown(name), kinds[data])]
     if data and all(9 <= byte < 127 for byte in data):
@@ -213,12 +226,20 @@ def kernel_fault(printed, command, way):
     turn, name = found.group(1), found.group(2)
     said = ['cvm: the kernel met the fault %s%s: %s' % (name, ' in turn %s' % turn if turn else '', row_of(name))]
     if turn and int(turn) > 0:
-        said.append('cvm: to look at it, run with %s: the report then shows globals and users as they stood before that turn.' % way.turns(int(turn)))
+        how = 'boot the image' if command[0] in ('save', 'resume') else 'run'
+        said.append('cvm: to look at it, %s with %s: the report then shows globals and users as they stood before that turn.' % (how, way.turns(int(turn))))
     elif turn:
         said.append('cvm: it is the first call, dispatch(0, 0, 0), before any user ran: all globals were 0, false or null.')
     else:
         said.append('cvm: to look at it: %s the report then shows globals and users as they stood before that turn.' % way.booted())
     return said
+
+
+def gone_on(command):
+    """What a resume that is to be run again needs."""
+    if command[0] != 'resume':
+        return []
+    return ['cvm: this run has gone on with cvm.disk: put back the disk as save left it before FILE is taken up again.']
 
 
 def missing_file(command):
@@ -293,13 +314,13 @@ def explain(status, command, rows, way=None):
     if status == 3:
         return kernel_fault(printed, command, way)
     if status == 4:
-        return ['cvm: ' + spent(command, way)]
+        return ['cvm: ' + spent(command, way)] + gone_on(command)
     if status == 5:
-        return ['cvm: the disk failed: %s.%s' % (remedy('94'), disk_fault())]
+        return ['cvm: the disk failed: %s.%s' % (remedy('94'), disk_fault())] + gone_on(command)
     if status == 6:
         return ['cvm: a file could not be had: %s.' % missing_file(command)]
     if status == 7:
-        return ['cvm: standard output could not be written to the end: %s.' % remedy('95')]
+        return ['cvm: standard output could not be written to the end: %s.' % remedy('95')] + gone_on(command)
     if status == 8:
         return ['cvm: there was no memory for the run. Nothing was printed, and no file or sector changed. What helps: %s.' % no_memory(command)]
     return []

@@ -1,4 +1,5 @@
 """Ends a tool with a sentence and a status, whatever happens, and never with a trace of a stack."""
+import signal
 import sys
 
 
@@ -21,10 +22,23 @@ def say(lines):
         pass
 
 
+class Ended(BaseException):
+    """SIGTERM came. What is under way is put away on the way out, as it is where a user interrupts."""
+
+
+def end(number, frame):
+    signal.signal(signal.SIGTERM, signal.SIG_IGN)  # a second one doesn't cut off what is put away
+    raise Ended
+
+
 def guarded(name, main, words):
     """Runs a tool's main function with the words given, and gives the status to end with."""
+    before = signal.getsignal(signal.SIGTERM)
     try:
+        signal.signal(signal.SIGTERM, end)
         return main(words)
+    except Ended:
+        return 128 + signal.SIGTERM
     except Bad as bad:
         say('%s: %s' % (name, bad))
         return bad.status
@@ -36,3 +50,5 @@ def guarded(name, main, words):
     except Exception as error:  # a fault of the tool itself still ends in a sentence
         say('%s: this tool has a fault of its own (%s: %s)' % (name, type(error).__name__, error))
         return 70
+    finally:
+        signal.signal(signal.SIGTERM, signal.SIG_DFL if before is None else before)

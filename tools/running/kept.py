@@ -3,6 +3,7 @@
 `rt try` builds a program and runs it once. It is given a command that waits for a pipe; while it waits, the program that was built is copied, with the
 way in which it was started. Each further command runs that copy, so a change of the sources costs one build and every other command none.
 """
+import contextlib
 import fcntl
 import hashlib
 import json
@@ -132,27 +133,42 @@ def stop(tool):
     tool.wait()
 
 
+@contextlib.contextmanager
+def made_room(prefix, within):
+    """A new folder, which is removed where it still stands afterwards, however this ends."""
+    room = None
+    try:
+        room = tempfile.mkdtemp(prefix=prefix, dir=within)
+        yield room
+    finally:
+        if room:
+            shutil.rmtree(room, ignore_errors=True)
+
+
+def start_build(rt, words, log):
+    """Starts the toolchain, which builds the program and runs it with these words."""
+    with open(log, 'wb') as out:
+        return subprocess.Popen([rt, 'try', '--seconds', '900', '--', *words], cwd=os.path.join(TOP, 'crates', 'cvm'), stdin=subprocess.DEVNULL, stdout=out, stderr=out)
+
+
 def build_into(rt, folder):
     """Builds the program by one run of the toolchain, and copies it into a folder."""
-    room = tempfile.mkdtemp(prefix='cvm-build-')
-    pipe, image, log = (os.path.join(room, name) for name in ('pipe.s', 'pipe.img', 'log'))
-    os.mkfifo(pipe)
-    words = ['compile', 'user', pipe, image]
-    with open(log, 'wb') as out:
-        tool = subprocess.Popen([rt, 'try', '--seconds', '900', '--', *words], cwd=os.path.join(TOP, 'crates', 'cvm'),
-                                stdin=subprocess.DEVNULL, stdout=out, stderr=out)
-    try:
-        end = wait_for_reader(pipe, tool)
-        if end is None:
-            with open(log, encoding='utf-8', errors='replace') as file:
-                tail = file.read().strip().split('\n')[-20:]
-            raise NoBuild('the toolchain could not run the sources. The end of what it said:\n' + '\n'.join('  ' + line for line in tail))
-        copy_program(pipe, words, folder, tool)
-        os.close(end)
-        tool.wait()
-    finally:
-        stop(tool)
-        shutil.rmtree(room, ignore_errors=True)
+    with made_room('cvm-build-', None) as room:
+        pipe, image, log = (os.path.join(room, name) for name in ('pipe.s', 'pipe.img', 'log'))
+        os.mkfifo(pipe)
+        words = ['compile', 'user', pipe, image]
+        tool = start_build(rt, words, log)
+        try:
+            end = wait_for_reader(pipe, tool)
+            if end is None:
+                with open(log, encoding='utf-8', errors='replace') as file:
+                    tail = file.read().strip().split('\n')[-20:]
+                raise NoBuild('the toolchain could not run the sources. The end of what it said:\n' + '\n'.join('  ' + line for line in tail))
+            copy_program(pipe, words, folder, tool)
+            os.close(end)
+            tool.wait()
+        finally:
+            stop(tool)
 
 
 def take(lock, say):
@@ -173,16 +189,13 @@ def build(rt, name, say):
         if os.path.isdir(kept):
             return
         say('try: builds the sources as they are, with no proof: about a minute of a processor. The build is kept until a source changes.')
-        new = tempfile.mkdtemp(prefix='new-', dir=KEPT)
-        try:
+        with made_room('new-', KEPT) as new:
             build_into(rt, new)
             for old in os.listdir(KEPT):
                 path = os.path.join(KEPT, old)
                 if os.path.isdir(path) and path != new:
                     shutil.rmtree(path, ignore_errors=True)
             os.rename(new, kept)
-        finally:
-            shutil.rmtree(new, ignore_errors=True)
 
 
 def forget():

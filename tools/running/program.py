@@ -38,24 +38,33 @@ def text(name):
     return name.encode('utf-8', errors='surrogateescape').decode('utf-8', errors='replace')
 
 
+def copied(source):
+    """Copies what comes from a pipe to standard output. Gives the end of it, and whether it could not be written."""
+    kept = b''
+    while True:
+        part = os.read(source.fileno(), 65536)
+        if not part:
+            return kept, False
+        kept = (kept + part)[-MOST_OF_A_ROW:]
+        try:
+            write(part)
+        except OSError:
+            return kept, True
+
+
 def run_here(command):
     """Runs a command and copies its standard output to this process's. Gives its status and the last rows.
 
     Where the copy can't be written, the status is 7, as the program's own is then.
     """
     program = subprocess.Popen(command, stdin=subprocess.DEVNULL, stdout=subprocess.PIPE)
-    kept, failed = b'', False
-    while not failed:
-        part = os.read(program.stdout.fileno(), 65536)
-        if not part:
-            break
-        kept = (kept + part)[-MOST_OF_A_ROW:]
-        try:
-            write(part)
-        except OSError:
-            failed = True
-    program.stdout.close()
-    status = program.wait()
+    try:
+        kept, failed = copied(program.stdout)
+        program.stdout.close()
+        status = program.wait()
+    except BaseException:  # this tool was stopped, and so is the program
+        program.kill()
+        raise
     return (7 if failed else status), last_rows(kept)
 
 

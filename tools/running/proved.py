@@ -36,7 +36,11 @@ def build():
     say('cvm: building the program. A build proves every crate below it first, which takes half an hour or more on four idle processors; '
         './try runs the sources at once, without a proof.')
     with tempfile.NamedTemporaryFile(prefix='cvm-build-', suffix='.log', delete=False) as log:
-        subprocess.run([rt, 'run'], cwd=os.path.dirname(os.path.dirname(PROGRAM)), stdin=subprocess.DEVNULL, stdout=subprocess.DEVNULL, stderr=log)
+        try:
+            subprocess.run([rt, 'run'], cwd=os.path.dirname(os.path.dirname(PROGRAM)), stdin=subprocess.DEVNULL, stdout=subprocess.DEVNULL, stderr=log)
+        except BaseException:  # it was stopped, and no log is wanted
+            os.remove(log.name)
+            raise
     if is_current():
         os.remove(log.name)
         return

@@ -127,7 +127,7 @@ def system_parts(kind):
 
 def assembler_cases():
     """The texts of the assembler's cases, whose lines stand behind each other with escapes; none of those that repeat a part."""
-    texts = case_parts(os.path.join(pages.TOP, 'crates', 'asm_cases', 'data', 'texts'))
+    texts = case_parts(os.path.join(pages.TOP, 'crates', 'format_cases', 'data', 'texts'))
     return [ESCAPE.sub(lambda match: ESCAPES.get(match.group(1)) or chr(int(match.group(2), 16)), text) for text in texts if '`' not in text]
 
 

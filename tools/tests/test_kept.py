@@ -1,7 +1,11 @@
 """How the program that waits for a pipe is found and copied, with a stand-in for the toolchain's command."""
 import os
+import signal
 import stat
+import subprocess
+import sys
 import tempfile
+import time
 import unittest
 
 from running import kept
@@ -45,6 +49,21 @@ class Kept(unittest.TestCase):
         with self.assertRaises(kept.NoBuild) as caught:
             kept.build_into(os.path.join(self.room, 'rt'), self.to)
         self.assertIn('no such crate', str(caught.exception))
+
+    def test_a_build_that_is_ended_leaves_nothing(self):
+        put(os.path.join(self.room, 'rt'), '#!/bin/sh\nexec sleep 60\n')
+        within = os.path.join(self.room, 'tried')
+        code = 'import sys; from running import guard, kept; kept.KEPT = %r; sys.exit(guard.guarded("try", lambda words: kept.build(%r, "name", guard.say), []))'
+        build = subprocess.Popen([sys.executable, '-c', code % (within, os.path.join(self.room, 'rt'))], cwd=os.path.join(kept.TOP, 'tools'),
+                                 env=dict(os.environ, TMPDIR=self.to, PYTHONDONTWRITEBYTECODE='1'), stderr=subprocess.DEVNULL)
+        self.addCleanup(build.kill)
+        until = time.monotonic() + 60
+        while not any(os.path.exists(os.path.join(self.to, name, 'log')) for name in os.listdir(self.to)) and time.monotonic() < until:
+            time.sleep(0.05)
+        self.assertTrue(any(name.startswith('new-') for name in os.listdir(within)))
+        build.send_signal(signal.SIGTERM)
+        self.assertEqual(build.wait(60), 143)
+        self.assertEqual((os.listdir(self.to), os.listdir(within)), ([], ['lock']))
 
     def test_the_fingerprint_is_of_the_sources(self):
         files = kept.sources()

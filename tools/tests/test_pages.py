@@ -1,8 +1,16 @@
-"""The tables of docs/."""
+"""The tables of docs/, and what the pages of the examples say of their bounds."""
+import os
 import re
 import unittest
 
 from explain import pages
+
+BOUND = re.compile(r'`\./cvm check kernel\.obj (\d+)` prints `yes (\d+)` and `(chain [\w ]+)`: no run of this kernel takes more than (\d+) words of stack\.')
+
+
+def stored(*path):
+    with open(os.path.join(pages.TOP, *path)) as f:
+        return f.read()
 
 
 class Pages(unittest.TestCase):
@@ -19,4 +27,23 @@ class Pages(unittest.TestCase):
 
     def test_the_forms_are_those_of_the_commands(self):
         heads = [form[0] for form in pages.forms()]
-        self.assertTrue({'compile', 'link', 'boot', 'trace', 'migrate', 'sample'} <= set(heads))
+        self.assertTrue({'compile', 'link', 'boot', 'trace', 'migrate', 'sample', 'save', 'resume'} <= set(heads))
+
+    def test_the_words_of_a_saved_machine(self):
+        self.assertEqual(pages.saved_word(6), "the current user: 1 to the image's users")
+        self.assertEqual(pages.saved_word(52), "the number of the disk's next command, the low word first: at most the steps done")
+        self.assertEqual(pages.saved_word(51), "the disk's sector register")
+        self.assertIsNone(pages.saved_word(99))
+
+    def test_each_example_names_the_bound_that_a_row_of_the_gate_has(self):
+        printed = stored('crates', 'shell_cases', 'stdout')
+        names = [name for name in sorted(os.listdir(os.path.join(pages.TOP, 'examples'))) if os.path.isdir(os.path.join(pages.TOP, 'examples', name))]
+        self.assertTrue(names)
+        for name in names:
+            found = BOUND.search(stored('examples', name, 'README.md'))
+            self.assertTrue(found, '%s names no bound' % name)
+            stack, words, chain, again = found.groups()
+            self.assertEqual(words, again, name)
+            self.assertIn('stack %s\n' % stack, stored('examples', name, 'params'))
+            self.assertIn('== case the stack of the example %s\n== run compile kernel k o\nstatus 0\n== run check o %s\nyes %s\n%s\nstatus 0\n'
+                          % (name, stack, words, chain), printed)

@@ -122,10 +122,13 @@ class Folders(unittest.TestCase):
         self.assertEqual(self.tried(name, name + 'x', '--expect', wanted)[0], 1)
 
     def test_what_is_stored_is_traced_and_drawn(self):
-        folder, picture = os.path.join(pages.TOP, 'examples', 'services'), os.path.join(self.room, 'run.svg')
-        self.assertEqual(self.tried(folder, '--picture', picture), (0, files.content(os.path.join(folder, 'printed'))))
-        self.assertEqual(files.content(picture), files.content(os.path.join(folder, 'run.svg')))
-        self.assertEqual(self.tried(folder, '--trace', '2'), (0, files.content(os.path.join(folder, 'trace2'))))
+        picture = os.path.join(self.room, 'run.svg')
+        for name in ('mailbox', 'services'):
+            folder = os.path.join(pages.TOP, 'examples', name)
+            for more in ([], ['--proved']):
+                self.assertEqual(self.tried(folder, '--picture', picture, *more), (0, files.content(os.path.join(folder, 'printed'))))
+                self.assertEqual(files.content(picture), files.content(os.path.join(folder, 'run.svg')))
+            self.assertEqual(self.tried(folder, '--trace', '1'), (0, files.content(os.path.join(folder, 'trace1'))))
 
 
 class Full(unittest.TestCase):

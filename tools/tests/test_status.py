@@ -93,6 +93,28 @@ class Status(unittest.TestCase):
         self.assertIn('the source in ' + name + ':2:1\n    @\n    ^', said)
         self.assertIn('own fault is 10: bad byte', said)
 
+    def test_the_file_of_a_saved_machine(self):
+        name = self.put('f', b'CVMI' + bytes(40))
+        said = lambda row: self.said(2, ['resume', 'i', 's', '40', '10', name], row)
+        self.assertIn("is an image, which 'boot' takes", said('refused 100'))
+        self.assertIn('What to do: give what `save` put', said('refused 100'))
+        self.assertIn('the saved machine is %s.' % name, said('refused 101 8'))
+        self.assertIn("word 6 of it is the current user: 1 to the image's users.", said('refused 103 6 9'))
+        self.assertIn('word 49 of it is special registers 0 to 8', said('refused 103 49 0'))
+        self.assertIn('50 turns are complete in it: TURNS 50 or more', said('refused 106 50 40'))
+        self.assertIn('fewer `frames`', self.said(2, ['save', 'i', 's', '40', '10', 'f'], 'refused 107 67109088'))
+        self.assertIn('refusal 90 with 8 7, small disk', self.said(5, ['resume', 'i', 's', '40', '10', name], 'refused 90 8 7'))
+
+    def test_a_fault_of_a_save_is_looked_at_by_a_boot(self):
+        row = 'turn 7 cause 6 data 0000000c user 1 fault Bounds'
+        self.assertIn('boot the image with TURNS 7', self.said(3, ['save', 'i', 's', '10', '10', 'f'], row))
+        self.assertIn('boot the image with TURNS 7', self.said(3, ['resume', 'i', 's', '10', '10', 'f'], row))
+
+    def test_a_resume_has_gone_on_with_the_disk(self):
+        for status in (4, 5, 7):
+            self.assertIn('put back the disk', self.said(status, ['resume', 'i', 's', '10', '10', 'f'], ''))
+            self.assertNotIn('put back the disk', self.said(status, ['save', 'i', 's', '10', '10', 'f'], ''))
+
     def test_a_kernel_fault_names_its_turn(self):
         said = self.said(3, ['boot', 'i', 's', '10', '10'], 'turn 7 cause 6 data 0000000c user 1 fault Bounds')
         self.assertIn('fault Bounds in turn 7: index out of bounds', said)
@@ -117,6 +139,8 @@ class Status(unittest.TestCase):
         self.assertIn("there is no file '%s.not'" % there, self.said(6, ['boot', there, there + '.not', '1', '1'], ''))
         self.assertIn('is a folder', self.said(6, ['boot', self.room.name, there, '1', '1'], ''))
         self.assertIn("there is no folder", self.said(6, ['compile', 'kernel', there, there + '.d/o'], ''))
+        self.assertIn("there is no folder", self.said(6, ['save', there, there, '1', '1', there + '.d/f'], 'turn 0 cause 0 data 00000000 user 0 next 1'))
+        self.assertIn("there is no file '%s.not'" % there, self.said(6, ['resume', there, there, '1', '1', there + '.not'], ''))
 
     def test_the_answer_of_a_check(self):
         said = lambda *rows: '\n'.join(status.explain(0, ['check', 'o', '64'], list(rows)))
@@ -127,7 +151,8 @@ class Status(unittest.TestCase):
 
     def test_each_status_says_something(self):
         for number in [*range(1, 9), -11, 139, 77]:
-            for words in (['compile', 'kernel', 'a', 'b'], ['boot', 'a', 'b', '1', '1'], ['sample', '1'], ['migrate', 'a', 'b'], ['link', 'a', 'b', 'c'], []):
+            for words in (['compile', 'kernel', 'a', 'b'], ['boot', 'a', 'b', '1', '1'], ['sample', '1'], ['migrate', 'a', 'b'], ['link', 'a', 'b', 'c'],
+                          ['save', 'a', 'b', '1', '1', 'c'], ['resume', 'a', 'b', '1', '1', 'c'], []):
                 if words or number == 1:
-                    for row in ('', 'refused 12', 'refused 999 1 2 3', 'refused 4 1 -32769', 'refused 54 12 3', 'no row'):
+                    for row in ('', 'refused 12', 'refused 999 1 2 3', 'refused 4 1 -32769', 'refused 54 12 3', 'refused 103 200 1', 'no row'):
                         self.assertTrue(self.said(number, words, row), (number, words, row))

@@ -1,0 +1,183 @@
+#!/usr/bin/env python3
+"""Runs that are saved and gone on with, and forged files: the cases of saved_runs, and what the program prints of them.
+
+usage: saved_runs.py FOLDER   writes FOLDER/data/messages.cases and FOLDER/stdout: those of crates/saved_runs
+
+The system is the example messages, whose text stands in its folder. What a forged file is refused for goes by the table of fields and by the map of
+memory, as docs/FORMATS.md and docs/LAYER.md have them. Of the saved words nothing is taken from the program: those whose value matters are told below
+by what they are. How the files that are not refused end hangs on the machine, so only which statuses may come is said of them.
+"""
+import os
+import re
+import sys
+
+HERE = os.path.dirname(os.path.abspath(__file__))
+names = dict(__file__=os.path.join(HERE, 'code_words.py'), re=re)
+source = open(names['__file__']).read()
+exec(compile(source[:source.index('\nif __name__ ==')], 'code_words.py', 'exec'), names)
+EXAMPLE = os.path.join(HERE, '..', '..', 'examples', 'messages')
+read = lambda name: open(os.path.join(EXAMPLE, name)).read()
+KERNEL, WHOLE = read('kernel.c0'), read('printed')
+USERS, PAGES, FRAMES, HEAP, STACK, GLOBALS = 3, 4, 8, 64, 256, 5
+assert read('params') == 'pages %d\nframes %d\nheap %d\nstack %d\n' % (PAGES, FRAMES, HEAP, STACK) and not read('schedule')
+TURNS, WANTED, STEPS, FEW = 50, 1000, 1000000, 20000
+
+
+def next_page(word):
+    return (word + 1023) // 1024 * 1024
+
+
+# ---- the map, in words of memory
+BLOCKS, SIZE = 12288, 32
+TABLES = next_page(next_page(next_page(next_page(16384 + names['code_words'](KERNEL)) + GLOBALS) + HEAP) + STACK)
+COUNTS = next_page(TABLES + USERS * PAGES)
+MEMORY = next_page(COUNTS + 8 * (FRAMES + 1)) // 1024 + 1 + FRAMES
+
+# ---- the file: the words before memory, of which none is of a log, as nothing is put to the console
+HEAD, BEFORE = 56, 56 + 1024
+BYTES = 4 * (BEFORE + 1024 * MEMORY)
+# The words that have a range, by their places: (value, least, most). The run stands in user mode, into which the kernel's return brought it with
+# interrupts on; user 2 runs, and no line was raised. Nothing was taken of an input of no words.
+FIELDS = {1: (1, 1, 1), 2: (MEMORY, MEMORY, MEMORY), 5: (TURNS, 1, 2**32 - 1), 6: (2, 1, USERS), 7: (0, 0, 255), 42: (1, 0, 1), 43: (1, 0, 1),
+          49: (1, 1, 1), 50: (1, 0, 1), 54: (0, 0, 0), 55: (0, 0, 4096)}
+# The disk's commands: a page of each user was brought in, as user 3 was given a word. The steps done are more than that, and below FEW.
+COMMANDS = 3
+
+
+def forged(value):
+    return 0, 1, (value + 1) % 2**32, 2**32 - 1
+
+
+def head_refusal(place, value):
+    """The number of the refusal of the file in whose head this word is this value; None where it is taken up."""
+    if place == 0:
+        return 100
+    if place in FIELDS:
+        least, most = FIELDS[place][1:]
+        if not least <= value <= most:
+            return 103
+    # steps and commands of two words each: only the low words of both are not 0
+    if place == 3 and value < COMMANDS or place == 52 and value >= FEW or place == 53 and value > 0:
+        return 103
+    if place == 55 and value > 0:
+        return 101
+    if place == 5 and value > WANTED:
+        return 106
+    return None
+
+
+def head_words():
+    for place in range(HEAD):
+        # of the words without a range, and of the steps, the successor is as good as the word itself
+        old = COMMANDS if place == 52 else FIELDS[place][0] if place in FIELDS else FEW // 2 if place == 3 else 0
+        for value in forged(old):
+            yield head_refusal(place, value)
+
+
+def memory_refusal(changes):
+    """The same of a file in whose memory these words are changed, none of which is a linked word that is compared."""
+    sizes = {BLOCKS + 64 * user + SIZE for user in range(USERS)}
+    return 105 if any(place in sizes and value > PAGES for place, value in changes.items()) else None
+
+
+def memory_words(first, count):
+    for place in range(first, first + count):
+        # a user's size is 1 page; no other value is asked for
+        for value in forged(1):
+            yield memory_refusal({place: value})
+
+
+def random_words(first, count, files, state):
+    for _ in range(files):
+        changes = {}
+        for _ in range(8):
+            place = (state * 1664525 + 1013904223) % 2**32
+            high = (place * 1664525 + 1013904223) % 2**32
+            state = (high * 1664525 + 1013904223) % 2**32
+            changes[first + place // 256 % count] = high // 65536 * 65536 + state // 65536
+        yield memory_refusal(changes)
+
+
+cases, told = ['The example messages, saved and gone on with, and forged files of it. Written by bench/models/saved_runs.py.', ''], []
+
+
+def case(head, body=None):
+    cases.append('== ' + head)
+    if body is not None:
+        cases.append(body.replace('\\', '\\\\').replace('`', '\\x60').replace('~', '\\x7e'))
+    if head.split(' ')[0] not in ('file', 'room'):
+        told.append('== ' + head)
+
+
+def run(words, text='', status=0):
+    case('run ' + words)
+    told.extend(text.splitlines() + ['status %d' % status])
+
+
+def tally(head, refusals):
+    refusals = list(refusals)
+    case(head)
+    counts = ''.join(', %d refused %d' % (refusals.count(n), n) for n in range(100, 109) if n in refusals)
+    told.append('%d files%s, the others 0, 3 or 4' % (len(refusals), counts))
+
+
+def forge_memory(first, count):
+    tally('words %d %d 1' % (BEFORE + first, count), memory_words(first, count))
+
+
+def forge_random(first, count, files, seed):
+    tally('random %d %d %d %d' % (BEFORE + first, count, files, seed), random_words(first, count, files, seed))
+
+
+# ---- the system
+for name in ['kernel.c0', 'params'] + ['user%d.s' % user for user in (1, 2, 3)]:
+    case('file ' + name, read(name))
+case('file s', '')
+for name in ('o', 'u1', 'u2', 'u3', 'img'):
+    case('room ' + name, '400000')
+case('room f', str(BYTES))
+run('compile kernel kernel.c0 o')
+for user in (1, 2, 3):
+    run('compile user user%d.s u%d' % (user, user))
+run('link o params img u1 u2 u3')
+run('boot img s %d %d' % (WANTED, STEPS), WHOLE)
+
+# ---- every turn but the last
+ROWS = WHOLE.splitlines(True)
+LAST = int(re.findall(r'^turn (\d+) ', WHOLE, re.M)[-1])
+case('every 1 %d %d %d' % (LAST, WANTED, STEPS))
+told.append('%d are as booted' % LAST)
+run('save img s %d %d f' % (LAST + 1, STEPS), WHOLE)
+
+# ---- one of them, by itself
+EARLY = [row for row in ROWS if row.startswith('turn') and int(row.split()[1]) <= TURNS]
+LATE = ''.join(ROWS[len(EARLY):])
+run('save img s %d %d f' % (TURNS, STEPS), ''.join(EARLY) + 'saved\n')
+run('resume img s %d %d f' % (TURNS - 10, STEPS), 'refused 106 %d %d\n' % (TURNS, TURNS - 10), 2)
+case('cut f 10')
+run('resume img s %d %d forged' % (WANTED, STEPS), 'refused 101 8\n', 2)
+case('set f 6 9')
+run('resume img s %d %d forged' % (WANTED, STEPS), 'refused 103 6 9\n', 2)
+run('resume img s %d 5 f' % WANTED, '', 4)
+
+# ---- forged files
+tally('words 0 %d 1' % HEAD, head_words())
+tally('cuts %d' % (4 * HEAD), [101] * (4 * HEAD))
+forge_memory(1024, 16)
+for user in range(USERS):
+    forge_memory(BLOCKS + 64 * user, 36)
+forge_memory(TABLES, USERS * PAGES)
+forge_memory(COUNTS, 8 * (FRAMES + 1))
+# the disk's buffer, and all behind the linked words, of which nothing is refused: each 5th word
+SOURCE_END = next_page(16384 + names['code_words'](KERNEL))
+for first, count in ((HEAD, 1024), (BEFORE + SOURCE_END, 1024 * MEMORY - SOURCE_END)):
+    tally('words %d %d 5' % (first, count), [None] * (4 * ((count + 4) // 5)))
+forge_random(BLOCKS, 64 * USERS, 150, 1)
+forge_random(TABLES, USERS * PAGES, 50, 2)
+forge_random(COUNTS, 8 * (FRAMES + 1), 100, 3)
+run('resume img s %d %d f' % (WANTED, STEPS), LATE)
+
+folder = sys.argv[1]
+os.makedirs(os.path.join(folder, 'data'), exist_ok=True)
+open(os.path.join(folder, 'data', 'messages.cases'), 'w').write('\n'.join(cases) + '\n')
+open(os.path.join(folder, 'stdout'), 'w').write('\n'.join(told) + '\n')
