@@ -177,6 +177,24 @@ forge_random(TABLES, USERS * PAGES, 50, 2)
 forge_random(COUNTS, 8 * (FRAMES + 1), 100, 3)
 run('resume img s %d %d f' % (WANTED, STEPS), LATE)
 
+# ---- a power word that no kernel writes
+# A user of two pages stores 9 at byte 8 of its second page in turn 2. The file says that this page is the ports' (valid, frame fffff), where the power
+# word stands at byte 8: so the machine is off in a user's step, which prints no row, by a word above 5, which is told as a fault.
+SMALL = 'int next; int dispatch(int cause, int data, int user) { next = 1; return next; }'
+SMALL_TABLES = next_page(next_page(next_page(next_page(16384 + names['code_words'](SMALL)) + 1) + 64) + 64)
+case('file small.c0', SMALL)
+case('file small', 'pages 2\nframes 4\nheap 64\nstack 64\n')
+cases.append('== file writer.s')
+cases.append('addiu r1, r0, 9\nsw r1, 4104(r0)\nl: beq r0, r0, l\n`1030 addu r0, r0, r0\n`')
+for name in ('so', 'su', 'simg', 'sf'):
+    case('room ' + name, '400000')
+run('compile kernel small.c0 so')
+run('compile user writer.s su')
+run('link so small simg su')
+run('save simg s 2 100000 sf', 'turn 0 cause 0 data 00000000 user 0 next 1\nsaved\n')
+case('set sf %d %d' % (BEFORE + SMALL_TABLES + 1, 0xfffff800))
+run('resume simg s 10 20000 forged', '', 3)
+
 folder = sys.argv[1]
 os.makedirs(os.path.join(folder, 'data'), exist_ok=True)
 open(os.path.join(folder, 'data', 'messages.cases'), 'w').write('\n'.join(cases) + '\n')
