@@ -1,6 +1,7 @@
 // The disk in the file `cvm.disk`.
 ghost use Rattle.std.specs.Prelude.{◌≡◌, ◌<◌, ◌≤◌, length, None};
 ghost use Rattle.cvm_outside.specs.Causes.{Rose};
+ghost use Rattle.cvm_outside.specs.Numbering.{counted};
 
 use crate::{DiskFault, Sectors};
 use byteorder::{ByteOrder, LittleEndian};
@@ -26,6 +27,7 @@ pub struct FileSectors {
     rt: HostRuntime,
     file: Option<File>,
     faults: u64,
+    calls: u64,
 }
 
 impl FileSectors {
@@ -37,12 +39,14 @@ impl FileSectors {
             rt,
             file: None,
             faults: 0,
+            calls: 0,
         }
     }
 
     // Takes the file, which is opened and locked if it is not yet.
     fn take_file(&mut self) -> io::Result<File>
-        ensures { self.new.faults ≡ self.old.faults }
+        ensures faults { self.new.faults ≡ self.old.faults }
+        ensures calls { self.new.calls ≡ self.old.calls }
     {
         match self.file.take() {
             Some(file) => Ok(file),
@@ -51,7 +55,8 @@ impl FileSectors {
     }
 
     fn try_read(&mut self, i: u32, into: &mut [u32; 1024]) -> io::Result<()>
-        ensures { self.new.faults ≡ self.old.faults }
+        ensures faults { self.new.faults ≡ self.old.faults }
+        ensures calls { self.new.calls ≡ self.old.calls }
     {
         let mut file = self.take_file()?;
         let result = read_sector(&mut file, i, into);
@@ -60,7 +65,8 @@ impl FileSectors {
     }
 
     fn try_write(&mut self, i: u32, from: &[u32; 1024]) -> io::Result<()>
-        ensures { self.new.faults ≡ self.old.faults }
+        ensures faults { self.new.faults ≡ self.old.faults }
+        ensures calls { self.new.calls ≡ self.old.calls }
     {
         let mut file = self.take_file()?;
         let result = write_sector(&mut file, i, from);
@@ -72,9 +78,18 @@ impl FileSectors {
     fn fault(&mut self) -> DiskFault
         ensures later { self.old.faults ≤ self.new.faults }
         ensures rose { Rose self.old.faults self.new.faults }
+        ensures calls { self.new.calls ≡ self.old.calls }
     {
         self.faults = self.faults.saturating_add(1);
         DiskFault::Failed
+    }
+
+    /// Counts a call.
+    fn count_call(&mut self)
+        ensures faults { self.new.faults ≡ self.old.faults }
+        ensures calls { self.new.calls ≡ counted self.old.calls }
+    {
+        self.calls = self.calls.saturating_add(1);
     }
 }
 
@@ -87,11 +102,14 @@ impl Sectors for FileSectors {
 
     ghost faults = { λ s. s.faults };
 
+    ghost calls = { λ s. s.calls };
+
     fn count(&self) -> u32 {
         SECTORS
     }
 
     fn read(&mut self, i: u32, into: &mut [u32; 1024]) -> Result<(), DiskFault> {
+        self.count_call();
         match self.try_read(i, into) {
             Ok(()) => Ok(()),
             Err(_) => Err(self.fault()),
@@ -99,6 +117,7 @@ impl Sectors for FileSectors {
     }
 
     fn write(&mut self, i: u32, from: &[u32; 1024]) -> Result<(), DiskFault> {
+        self.count_call();
         match self.try_write(i, from) {
             Ok(()) => Ok(()),
             Err(_) => Err(self.fault()),

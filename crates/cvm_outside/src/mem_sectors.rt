@@ -55,6 +55,8 @@ impl Sectors for MemSectors {
 
     ghost faults = { λ s. s.calls.faults };
 
+    ghost calls = { λ s. s.calls.next };
+
     ghost sized = { λ _. refl };
 
     fn count(&self) -> u32 {

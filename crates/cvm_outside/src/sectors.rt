@@ -1,6 +1,7 @@
 // A disk of sectors of 1,024 words.
 ghost use Rattle.std.specs.Prelude.{All, IfSome, length, ◌≡◌, ◌<◌, ◌≢◌, ℕ, List, Option, OnOk, OnErr};
 ghost use Rattle.cvm_outside.specs.Causes.{Counts};
+ghost use Rattle.cvm_outside.specs.Numbering.{counted};
 ghost use Rattle.cvm_outside.specs.Told.{Tells, IsSector, sector_of, with_sector};
 
 /// Why a call of a disk was not done.
@@ -21,6 +22,9 @@ pub trait Sectors {
     /// How many faults there were.
     ghost faults: { Self → ℕ };
 
+    /// How many calls of `read` and `write` there were: a count that stands still at 2^64 - 1.
+    ghost calls: { Self → ℕ };
+
     /// How many sectors there are. The number never changes.
     fn count(&self) -> u32
         ensures { result ≡ size self.now };
@@ -37,7 +41,8 @@ pub trait Sectors {
         ensures sectors { sectors self.new ≡ sectors self.old }
         ensures whole { length into.new ≡ 1024 }
         ensures words { OnOk result (Tells (sector_of (sectors self.old) i) into.new) }
-        ensures count { Counts (faults self.old) (faults self.new) result };
+        ensures count { Counts (faults self.old) (faults self.new) result }
+        ensures called { calls self.new ≡ counted (calls self.old) };
 
     /// Replaces the words of sector `i`, from 0. After a fault that sector may hold anything, and
     /// the others are as before.
@@ -50,7 +55,8 @@ pub trait Sectors {
         ensures size { size self.new ≡ size self.old }
         ensures words { OnOk result (sectors self.new ≡ with_sector (sectors self.old) i from.now) }
         ensures torn { OnErr result ((words : List ℕ) × (sectors self.new ≡ with_sector (sectors self.old) i words)) }
-        ensures count { Counts (faults self.old) (faults self.new) result };
+        ensures count { Counts (faults self.old) (faults self.new) result }
+        ensures called { calls self.new ≡ counted (calls self.old) };
 
     /// A law: each sector that is told is 1,024 words of 32 bits.
     fn are_sectors(&self)

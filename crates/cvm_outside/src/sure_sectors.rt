@@ -1,5 +1,5 @@
 // A disk in memory, where no call fails.
-ghost use Rattle.std.specs.Prelude.{◌≡◌, ◌<◌, length, slice_set, slice_index_or, refl, IsOk, Some, []};
+ghost use Rattle.std.specs.Prelude.{◌≡◌, ◌<◌, ◌-◌, ◌^◌, length, slice_set, slice_index_or, refl, IsOk, Some, []};
 
 use crate::mem_sectors::MemSectors;
 use crate::{DiskFault, Sectors};
@@ -39,6 +39,9 @@ impl Sectors for SureSectors {
     ghost sized = { λ _. refl };
 
     ghost faults = { λ _. 0 };
+
+    // No call fails, so none is told from another: the count stands at its last value.
+    ghost calls = { λ _. 2 ^ 64 - 1 };
 
     fn count(&self) -> u32 {
         self.inner.count()

@@ -36,6 +36,8 @@ impl Sectors for Altered {
 
     ghost faults = { λ s. s.inner.calls.faults };
 
+    ghost calls = { λ s. s.inner.calls.next };
+
     ghost sized = { λ s. told_size s.alteration s.inner.sectors };
 
     fn are_sectors(&self) {
