@@ -2,13 +2,14 @@
 use Rattle.std.proofs.Common.{◌≡◌, ℕ, ◌≤◌, Bool, true, false, cond, nat_eq, List, [], ◌∷◌, ◌++◌, length, Option, Some, None, refl, sym, ap, ◌∙◌, subst, arith, length-set}
 use Rattle.std.proofs.lemmas.List.{append_assoc, append-nil}
 use Rattle.std.specs.Prelude.{option_and_then}
+use Rattle.mips_table.specs.Machine.{Console}
 use Rattle.c0_meaning.specs.World.{entries_of}
 use Rattle.c0_meaning.specs.PrimitiveCalls.{PrimitiveCall, world_after, entries_made}
 use Rattle.c0_meaning.specs.Execution.{run_within}
 use Rattle.c0_meaning.specs.Execution as c0_run
 use Rattle.c0_meaning.specs.RunLaws.{PrimitivesAlone, stands_at}
 use Rattle.mips_table.specs.Flat.{Flat}
-use Rattle.cvm_model.specs.Kernel.{Core, Console, Changes}
+use Rattle.cvm_model.specs.Kernel.{Core, Changes}
 use Rattle.cvm_model.specs.Primitives.{Call, VmGet, VmSet, VmSize, VmResize, VmWord, VmPut, VmCopy, ConPut, ConGet, ConLeft, is_good, granted, refused, unchanged, prim, user_of}
 use Rattle.cvm_model.specs.KernelMeaning.{Machines, ints_of, called_by, kernel_primitive, setting_of, machines_of, outcome_of, UnitsReplay}
 use Rattle.cvm_model.specs.KernelMeaning as kernel

@@ -5,6 +5,7 @@ use Rattle.std.specs.List.{list_all}
 use Rattle.std.specs.Int.{cast_unsigned, w32}
 use Rattle.std.proofs.lemmas.List.{length-append, length-take, length-drop, length-replicate}
 use Rattle.std.proofs.lemmas.List.Elements.{All-nil, All-head, All-tail}
+use Rattle.mips_table.specs.Machine.{Console}
 use Rattle.mips_table.specs.Arith.{signed}
 use Rattle.c0_tree.specs.declared.primitive.Scalar.{Scalar}
 use Rattle.c0_tree.specs.declared.primitive.Scalar.TheVariants.{Int, Bool as Boolean}
@@ -20,7 +21,7 @@ use Rattle.c0_meaning.specs.RunLaws.{FirstIsTyped, DispatchesAreSafe, Dispatches
 use Rattle.c0_meaning.specs.World.{Cost, Configuration}
 use Rattle.mips_table.specs.Flat.{Flat}
 use Rattle.layer_map.specs.Map.{Map, ParamsInRange}
-use Rattle.cvm_model.specs.Kernel.{Core, Console, Changes, Answers, NotYet}
+use Rattle.cvm_model.specs.Kernel.{Core, Changes, Answers, NotYet}
 use Rattle.cvm_model.specs.Primitives.{Call, VmGet, VmSet, VmSize, VmResize, VmWord, VmPut, VmCopy, ConPut, ConGet, ConLeft, Given, primitive_number, arguments_of, is_good, is_within, granted, refused, unchanged, prim, no_flat, user_of, pages_of, with_register, resized, with_word, with_words}
 use Rattle.cvm_model.specs.KernelMeaning.{Machines, ints_of, call_with, called_by, kernel_primitive, setting_of, machines_of, answer_end, outcome_of}
 use Rattle.cvm_model.specs.Stands.{CoreFits, UserFits, input_room}
@@ -89,7 +90,7 @@ granted_small most (VmCopy u a v b (pos n)) users o k h i g =
     length-append (take (nat_abs b / 4) f.words) (words ++ drop (nat_abs b / 4 + length words) f.words)
     ∙ omega (arith, length-take (nat_abs b / 4) f.words, length-append words (drop (nat_abs b / 4 + length words) f.words), length-drop (nat_abs b / 4 + length words) f.words) in
     record { users = set_all users (nat_abs v - 1) (with_words f (nat_abs b) words) h (as_long f (with_words f (nat_abs b) words) size (index_all users (nat_abs v - 1) h)); input = i }
-granted_small most (ConPut w) users o k h i g = record { users = h; input = put_input _ o (record o { log = _ }) i i }
+granted_small most (ConPut w) users o k h i g = record { users = h; input = put_input _ (record o { log = _ }) o i i }
 granted_small most ConGet users o k h i g = record { users = h; input = omega (arith, length-drop 1 o.input) }
 granted_small most ConLeft users o k h i g = record { users = h; input = i }
 

@@ -1,7 +1,8 @@
 -- What is known of each run beside a kernel's own property: how many machines there are, and what shape they have. A user's step and a primitive keep it,
 -- and no step of C0 but a primitive changes a machine.
-use Rattle.std.proofs.Common.{◌≡◌, ℕ, zero, suc, ◌+◌, ◌-◌, ◌*◌, ◌/◌, ◌≤◌, Bool, true, false, List, [], ◌∷◌, ◌++◌, length, replicate, take, drop, slice_index_or, slice_set, All, Option, Some, None, refl, sym, ◌∙◌, subst, arith, leb-true, leb-false, length-set}
-use Rattle.std.specs.Prelude.{ℤ, pos, negsuc, nat_abs, nat_le, not, if◌then◌else◌, option_and_then, get_or, ◌==◌}
+use Rattle.std.proofs.Common.{◌≡◌, ℕ, zero, suc, ◌+◌, ◌-◌, ◌*◌, ◌/◌, ◌≤◌, Bool, true, false, List, [], ◌∷◌, ◌++◌, length, replicate, take, drop, slice_index_or, slice_set, All, Option, Some, None, refl, sym, ◌∙◌, subst, arith, leb-true, length-set}
+use Rattle.std.proofs.lemmas.Bool.{ltb-true}
+use Rattle.std.specs.Prelude.{ℤ, pos, negsuc, nat_abs, not, if◌then◌else◌, option_and_then, get_or, ◌==◌}
 use Rattle.std.specs.Int.{cast_unsigned, w32}
 use Rattle.std.proofs.lemmas.List.{length-append, length-take, length-drop, length-replicate, length-map}
 use Rattle.std.proofs.lemmas.List.Elements.{All-head, All-tail, All-set, All-map}
@@ -12,7 +13,7 @@ use Rattle.mips_table.specs.declared.cause.Cause.TheVariants as causes
 use Rattle.mips_table.specs.declared.inst.Inst.{Inst}
 use Rattle.mips_table.specs.Decoding.{decoding}
 use Rattle.mips_table.specs.Processor.{Access, Move, Loaded, Stored, Trapped, write, is_aligned, accessed, advanced, performed, effect_on, executed}
-use Rattle.mips_table.specs.Machine.{LOG_ROOM}
+use Rattle.mips_table.specs.Machine.{LOG_ROOM, Console, log_has_room}
 use Rattle.mips_table.specs.Flat.{Flat, VStep, Next as Goes, Trap, flat_access, word_at, answered, vstep}
 use Rattle.mips_table.specs.Arith.{signed}
 use Rattle.layer_map.specs.declared.params.Params.{Params}
@@ -23,7 +24,7 @@ use Rattle.c0_meaning.specs.PrimitiveCalls.{PrimitiveCall, world_after}
 use Rattle.c0_meaning.specs.Execution.{run_within}
 use Rattle.c0_meaning.specs.Execution as c0_run
 use Rattle.c0_meaning.specs.RunLaws.{PrimitivesAlone, stands_at}
-use Rattle.cvm_model.specs.Kernel.{Core, Console, Changes, Meaning}
+use Rattle.cvm_model.specs.Kernel.{Core, Changes, Meaning}
 use Rattle.cvm_model.specs.Primitives.{Call, VmGet, VmSet, VmSize, VmResize, VmWord, VmPut, VmCopy, ConPut, ConGet, ConLeft, is_good, is_within, granted, refused, unchanged, prim, no_flat, user_of, with_user, pages_of, with_register, resized, with_word, with_words}
 use Rattle.cvm_model.specs.KernelMeaning.{Machines, ints_of, called_by, kernel_primitive, setting_of, machines_of, outcome_of, kernel_meaning, UnitsAreKernels}
 use Rattle.cvm_model.specs.KernelMeaning as kernel
@@ -90,9 +91,9 @@ module _ (most count : ℕ) (users : List Flat) (o : Console) (h : Shapes most c
   user_shaped : (u : ℕ) → UserShaped most (user_of users u)
   user_shaped u = index_shaped most users (u - 1) h.each
 
-  put_shaped : (w : ℕ) (full : Bool) → nat_le LOG_ROOM (length o.log) ≡ full → Kept users (if full then o else record o { log = o.log ++ w ∷ [] })
-  put_shaped w true e = h
-  put_shaped w false e = record { same = refl; size = h.size; each = h.each; log = omega (arith, leb-false LOG_ROOM (length o.log) e, length-append o.log (w ∷ [])); input = h.input }
+  put_shaped : (w : ℕ) (room : Bool) → log_has_room o.log ≡ room → Kept users (if room then record o { log = o.log ++ w ∷ [] } else o)
+  put_shaped w false e = h
+  put_shaped w true e = record { same = refl; size = h.size; each = h.each; log = omega (arith, ltb-true (length o.log) LOG_ROOM e, length-append o.log (w ∷ [])); input = h.input }
 
   granted_shaped : (c : Call) → is_good most users c ≡ true → Kept (granted users o c).users (granted users o c).console
   granted_shaped (VmGet u r) g = h
@@ -118,7 +119,7 @@ module _ (most count : ℕ) (users : List Flat) (o : Console) (h : Shapes most c
       length-append (take (nat_abs b / 4) f.words) (words ++ drop (nat_abs b / 4 + length words) f.words)
       ∙ omega (arith, length-take (nat_abs b / 4) f.words, length-append words (drop (nat_abs b / 4 + length words) f.words), length-drop (nat_abs b / 4 + length words) f.words) in
       one_set (nat_abs v) (with_words f (nat_abs b) words) (same_length most f (with_words f (nat_abs b) words) (user_shaped (nat_abs v)) refl size)
-  granted_shaped (ConPut w) g = put_shaped (cast_unsigned w32 w) (nat_le LOG_ROOM (length o.log)) refl
+  granted_shaped (ConPut w) g = put_shaped (cast_unsigned w32 w) (log_has_room o.log) refl
   granted_shaped ConGet g = record { same = refl; size = h.size; each = h.each; log = h.log; input = let few : length o.input ≤ input_room = h.input in omega (arith, few, length-drop 1 o.input) }
   granted_shaped ConLeft g = h
 

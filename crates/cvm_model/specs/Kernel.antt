@@ -2,6 +2,7 @@
 -- parameter here, which C0's meaning fills.
 use Rattle.std.specs.Prelude.{◌≡◌, ◌≢◌, ℕ, zero, suc, ◌+◌, ℤ, if◌then◌else◌, List, [], ◌∷◌, ◌++◌, length, take}
 use Rattle.std.specs.Int.{cast_unsigned, w32}
+use Rattle.mips_table.specs.Machine.{Console}
 use Rattle.c0_meaning.specs.Value.{Location, Value, int, bool, null, at, group, Values, empty, part}
 use Rattle.c0_meaning.specs.State.{State as C0}
 use Rattle.c0_meaning.specs.RunLaws.{scalars}
@@ -43,11 +44,6 @@ abbrev mutual
   pub flats : (Location → ℕ) → Values → List ℕ
   flats address empty = []
   flats address (part v vs) = flat address v ++ flats address vs
-
--- the console: its log and its input left
-pub record Console : Type 0 where
-  pub log : List ℕ
-  pub input : List ℕ
 
 -- the CVM state but for the pending lines and the status: the kernel's data, with no frames; user u is number u - 1 of the list
 pub record Core : Type 0 where

@@ -1,5 +1,6 @@
 -- C0's meaning as that of a kernel: the primitives act on the users' machines and the console, and a dispatch of a unit has an outcome.
 use Rattle.std.specs.Prelude.{◌≡◌, ◌==◌, if◌then◌else◌, ℕ, ℤ, List, [], ◌∷◌, map, Option, Some, None, option_map, option_and_then}
+use Rattle.mips_table.specs.Machine.{Console}
 use Rattle.c0_tree.specs.Tree.{CUnit}
 use Rattle.c0_meaning.specs.Env.{typed_of}
 use Rattle.c0_meaning.specs.Words.{all_words}
@@ -12,7 +13,7 @@ use Rattle.c0_meaning.specs.World.{Called, Setting, Cost, total, Configuration, 
 use Rattle.c0_meaning.specs.Execution as c0_run
 use Rattle.mips_table.specs.Flat.{Flat}
 use Rattle.layer_map.specs.declared.params.Params.{Params}
-use Rattle.cvm_model.specs.Kernel.{Console, Core, Changes, End, Answers, Faults, NotYet, Outcome, Meaning, MeaningLaws}
+use Rattle.cvm_model.specs.Kernel.{Core, Changes, End, Answers, Faults, NotYet, Outcome, Meaning, MeaningLaws}
 use Rattle.cvm_model.specs.declared.kernel_fault.KernelFault.{KernelFault}
 use Rattle.cvm_model.specs.declared.kernel_fault.KernelFault.TheVariants.{NullUse, Bounds, DivZero, StackOut}
 use Rattle.cvm_model.specs.Journal.{KernelReplays}

@@ -3,9 +3,9 @@ use Rattle.std.specs.Prelude.{ℕ, zero, suc, ◌+◌, ◌-◌, ◌*◌, ◌/◌
 use Rattle.std.specs.Int.{cast_unsigned, w32}
 use Rattle.mips_table.specs.Arith.{signed}
 use Rattle.mips_table.specs.Flat.{Flat}
-use Rattle.mips_table.specs.Machine.{zero_cpu, LOG_ROOM}
+use Rattle.mips_table.specs.Machine.{zero_cpu, log_has_room, Console}
 use Rattle.c0_meaning.specs.Value.{Value, int, bool}
-use Rattle.cvm_model.specs.Kernel.{Console, UserChange, Changes, JournalEntry, Set, Size, Put}
+use Rattle.cvm_model.specs.Kernel.{UserChange, Changes, JournalEntry, Set, Size, Put}
 
 -- a call of a primitive, with its arguments
 pub data Call : Type 0 where
@@ -164,8 +164,8 @@ granted users o (VmCopy u a v b n) =
     let words = take (nat_abs n) (drop (nat_abs a / 4) (user_of users (nat_abs u)).words) in
     changed users o (nat_abs v) (with_words (user_of users (nat_abs v)) (nat_abs b) words) (puts (nat_abs b) words) (nat_abs n) (3 * pieces (nat_abs a) (nat_abs b) (nat_abs n))
 granted users o (ConPut w) =
-    let is_full = nat_le LOG_ROOM (length o.log) in
-    unchanged users (if is_full then o else record o { log = o.log ++ cast_unsigned w32 w ∷ [] }) (bool (not is_full)) 0 0
+    let has = log_has_room o.log in
+    unchanged users (if has then record o { log = o.log ++ cast_unsigned w32 w ∷ [] } else o) (bool has) 0 0
 granted users o ConGet = unchanged users (record o { input = drop 1 o.input }) (int (signed (slice_index o.input 0))) 0 0
 granted users o ConLeft = unchanged users o (int (pos (length o.input))) 0 0
 

@@ -1,13 +1,13 @@
 -- The logging kernel: its loop by an invariant, its primitive and its `new` by their rules, and all of it carried to runs.
 use native.Mathlib.Nat.{mod-lt}
 use Rattle.std.proofs.Common.{◌≡◌, ℕ, suc, ◌+◌, ◌-◌, ◌*◌, ◌%◌, ◌≤◌, ◌<◌, List, [], ◌∷◌, ◌++◌, length, take, Bool, true, false, nat_lt, Some, refl, sym, ap, ◌∙◌, subst, arith}
-use Rattle.std.specs.Prelude.{ℤ, pos, codes, nat_le, if◌then◌else◌}
+use Rattle.std.specs.Prelude.{ℤ, pos, codes, if◌then◌else◌}
 use Rattle.std.specs.Int.{int_wrap, w32, cast_unsigned}
-use Rattle.std.proofs.lemmas.Bool.{le-ltb, ltb-true, ltb-false, leb-true, leb-false}
+use Rattle.std.proofs.lemmas.Bool.{le-ltb, ltb-true, ltb-false}
 use Rattle.std.proofs.lemmas.Int.{int_wrap_fits}
 use Rattle.std.proofs.lemmas.List.{append_assoc, append-nil, length-append, length-take, take_all, take-append-le}
 use Rattle.mips_table.specs.Arith.{signed}
-use Rattle.mips_table.specs.Machine.{LOG_ROOM, number_of}
+use Rattle.mips_table.specs.Machine.{LOG_ROOM, number_of, Console, log_has_room}
 use Rattle.mips_table.specs.declared.cause.Cause.{Cause}
 use Rattle.mips_table.specs.declared.cause.Cause.TheVariants as causes
 use Rattle.layer_map.specs.declared.params.Params.{Params}
@@ -24,7 +24,7 @@ use Rattle.c0_meaning.specs.Running.{Work, begin, finish, leave, outward, push}
 use Rattle.c0_meaning.specs.Execution.{dispatch}
 use Rattle.c0_meaning.specs.Reasoning.{Comes, Ends}
 use Rattle.c0_meaning.proofs.Rules as rules
-use Rattle.cvm_model.specs.Kernel.{Core, Console, Changes, Meaning}
+use Rattle.cvm_model.specs.Kernel.{Core, Changes, Meaning}
 use Rattle.cvm_model.specs.KernelMeaning.{Machines, kernel_primitive, setting_of, machines_of}
 use Rattle.cvm_model.specs.Stands.{IsUser}
 use Rattle.cvm_model.specs.Cvm.{System, first_core}
@@ -38,15 +38,15 @@ use Rattle.kernel_theorems.specs.LoggingTree.{logging, dispatch_yes3, dispatch_t
 use Rattle.kernel_theorems.specs.Logging.{below, Logs, Data, data_of, first, IsLogging, RunsLogging, LoggingIsKept}
 
 -- A WORD MORE in a log that may be full
-log_more : (room : ℕ) (xs : List ℕ) (x : ℕ) → (if nat_le room (length (take room xs)) then take room xs else take room xs ++ x ∷ []) ≡ take room (xs ++ x ∷ [])
-log_more room xs x = by (nat_le room (length (take room xs))) refl
+log_more : (room : ℕ) (xs : List ℕ) (x : ℕ) → (if nat_lt (length (take room xs)) room then take room xs ++ x ∷ [] else take room xs) ≡ take room (xs ++ x ∷ [])
+log_more room xs x = by (nat_lt (length (take room xs)) room) refl
   where
-    by : (b : Bool) → nat_le room (length (take room xs)) ≡ b → (if b then take room xs else take room xs ++ x ∷ []) ≡ take room (xs ++ x ∷ [])
-    by true e = let full = leb-true room (length (take room xs)) e in sym (take-append-le room xs (x ∷ []) (omega (arith, full, length-take room xs)))
-    by false e =
-        let left = leb-false room (length (take room xs)) e in
+    by : (b : Bool) → nat_lt (length (take room xs)) room ≡ b → (if b then take room xs ++ x ∷ [] else take room xs) ≡ take room (xs ++ x ∷ [])
+    by true e =
+        let left = ltb-true (length (take room xs)) room e in
         let short : length xs < room = omega (arith, left, length-take room xs) in
         ap (λ ys. ys ++ x ∷ []) (take_all room xs (omega (arith, short))) ∙ sym (take_all room (xs ++ x ∷ []) (omega (arith, short, length-append xs (x ∷ []))))
+    by false e = let full = ltb-false (length (take room xs)) room e in sym (take-append-le room xs (x ∷ []) (omega (arith, full, length-take room xs)))
 
 -- the machines with the numbers below one logged
 abbrev logged : Machines → ℕ → Machines
@@ -54,18 +54,18 @@ logged m n = record m { console = record m.console { log = take LOG_ROOM (m.cons
 
 -- as `con_put` logs one more
 abbrev put_in : Console → ℕ → Console
-put_in o w = if nat_le LOG_ROOM (length o.log) then o else record o { log = o.log ++ w ∷ [] }
+put_in o w = if log_has_room o.log then record o { log = o.log ++ w ∷ [] } else o
 
 logged_more : (m : Machines) (n : ℕ) → record (logged m n) { console = put_in (logged m n).console (cast_unsigned w32 (pos n)) } ≡ logged m (suc n)
 logged_more m n =
     let w : ℕ = cast_unsigned w32 (pos n) in
     let xs : List ℕ = m.console.log ++ below n in
-    by w xs (nat_le LOG_ROOM (length (take LOG_ROOM xs)))
+    by w xs (log_has_room (take LOG_ROOM xs))
     ∙ ap (λ log. record m { console = record m.console { log = log } }) (log_more LOG_ROOM xs w ∙ ap (take LOG_ROOM) (append_assoc m.console.log (below n) (w ∷ [])))
   where
     by : (w : ℕ) (xs : List ℕ) (b : Bool)
-        → record m { console = if b then record m.console { log = take LOG_ROOM xs } else record m.console { log = take LOG_ROOM xs ++ w ∷ [] } }
-        ≡ record m { console = record m.console { log = if b then take LOG_ROOM xs else take LOG_ROOM xs ++ w ∷ [] } }
+        → record m { console = if b then record m.console { log = take LOG_ROOM xs ++ w ∷ [] } else record m.console { log = take LOG_ROOM xs } }
+        ≡ record m { console = record m.console { log = if b then take LOG_ROOM xs ++ w ∷ [] else take LOG_ROOM xs } }
     by w xs true = refl
     by w xs false = refl
 

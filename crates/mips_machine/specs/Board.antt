@@ -1,12 +1,12 @@
 -- The memory and the ports as the processor reads and writes them.
-use Rattle.std.specs.Prelude.{ℕ, ◌/◌, false, nat_lt, if◌then◌else◌, List, [], length, slice_set, Option, Some, None, true}
+use Rattle.std.specs.Prelude.{ℕ, ◌*◌, ◌/◌, false, nat_lt, if◌then◌else◌, List, [], length, replicate, slice_set, Option, Some, None, true}
 use Rattle.mips_table.specs.Processor.{Access, Cpu}
 use Rattle.mips_table.specs.Machine.{State, zero_cpu, access, located, read_at}
 use Rattle.mips_step.specs.Step.{End}
 use Rattle.mips_step.specs.Ends.{StepsInMemory}
-use Rattle.sector_disk.specs.Ports.{Ports, device_of}
+use Rattle.sector_disk.specs.Ports.{Ports, idle, device_of}
 use Rattle.mips_machine.specs.declared.board.PortWrite.{PortWrite}
-use Rattle.mips_machine.specs.Console.{Console, after_word}
+use Rattle.mips_machine.specs.Console.{Console, first_console, after_word}
 
 -- the special registers, the words of memory, the disk's ports and buffer, the words that are viewed, the console, and a write
 -- outside memory that is kept until the instruction is done
@@ -18,6 +18,18 @@ pub record Board : Type 0 where
   pub viewed : List ℕ
   pub console : Console
   pub kept : Option PortWrite
+
+-- a board with so many frames of memory, where all is 0 and the disk is idle, and a console with this input
+abbrev pub first_board : ℕ → List ℕ → Board
+first_board frames inputs = record {
+  special = replicate 9 0;
+  memory = replicate (1024 * frames) 0;
+  ports = idle;
+  buffer = replicate 1024 0;
+  viewed = replicate 1024 0;
+  console = first_console inputs;
+  kept = None;
+}
 
 -- a machine of this board, which a read looks at
 abbrev pub around : Board → State

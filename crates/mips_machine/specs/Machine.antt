@@ -1,5 +1,5 @@
 -- What callers see of a machine, and the state that it is with the sectors of a disk.
-use Rattle.std.specs.Prelude.{ℕ, List}
+use Rattle.std.specs.Prelude.{ℕ, ◌+◌, List}
 use Rattle.mips_table.specs.Machine.{State}
 use Rattle.schedule_file.specs.Rows.{Rows}
 use Rattle.mips_machine.specs.Hardware.{Hardware, starting, state_in}
@@ -17,3 +17,7 @@ started frames rows = record { hardware = starting frames rows.inputs; time = 0;
 -- the state, with these sectors
 abbrev pub state_of : Held → List (List ℕ) → State
 state_of held sectors = state_in held.hardware held.time sectors
+
+-- a machine that went on by so many steps in which nothing but the processor and memory changed, to those of another one
+abbrev pub gone_on : (old new : Held) → ℕ → Held
+gone_on old new steps = record old { hardware = record old.hardware { cpu = new.hardware.cpu; memory = new.hardware.memory }; time = old.time + steps }

@@ -8,7 +8,7 @@ use Rattle.mips_table.specs.declared.effect.Effect.TheVariants.{Set, Wide, Load,
 use Rattle.mips_table.specs.Encoding.{InRange, encoding}
 use Rattle.mips_table.specs.Effect.{effect_of}
 use Rattle.mips_table.specs.Device.{Pending, Idle, Reading, Writing, Outside, BUFFER, SECTOR, COMMAND, POWER, is_busy, is_buffer}
-use Rattle.mips_table.specs.Machine.{SR, MODE, LOG, LEFT, INPUT, LOG_ROOM, flagged}
+use Rattle.mips_table.specs.Machine.{SR, MODE, LOG, LEFT, INPUT, log_has_room, flagged}
 
 -- a function that has the value v at a from now on
 abbrev pub put : (ℕ → ℕ) → ℕ → ℕ → ℕ → ℕ
@@ -138,7 +138,7 @@ after_load w d k = if nat_lt k w.words then d else if k == INPUT then record d {
 
 -- what a store to the log leaves: it is lost where the log is full
 abbrev pub logged : Behind → ℕ → Behind
-logged d value = if nat_lt (length d.log) LOG_ROOM then record d { log = d.log ++ value ∷ [] } else d
+logged d value = if log_has_room d.log then record d { log = d.log ++ value ∷ [] } else d
 
 -- what a store does, where the code goes on at n
 abbrev pub after_store : World → ℕ → Contents → Behind → ℕ → ℕ → Configuration

@@ -61,6 +61,15 @@ INPUT = 0x3ffffc05
 abbrev pub LOG_ROOM : ℕ
 LOG_ROOM = 4096
 
+-- a log has room for one word more: a word for a log that is full is lost
+abbrev pub log_has_room : List ℕ → Bool
+log_has_room log = nat_lt (length log) LOG_ROOM
+
+-- what a kernel meets of the console: the words of its log, and the input that is left
+pub record Console : Type 0 where
+  pub log : List ℕ
+  pub input : List ℕ
+
 -- the processor, the nine special registers, the words of memory, the disk, the console's log and the input that is left, the mask
 -- of latched lines, the reset latch, the power word once it is off, and the number of steps done
 pub record State : Type 0 where
@@ -165,7 +174,7 @@ after_read_at s (Some address) = after_read s (address / 4)
 abbrev pub port_written : Outside → State → ℕ → ℕ → State
 port_written x s k value =
     if k == POWER then record s { off = Some value } else
-    if k == LOG then (if nat_lt (length s.log) LOG_ROOM then record s { log = s.log ++ value ∷ [] } else s) else
+    if k == LOG then (if log_has_room s.log then record s { log = s.log ++ value ∷ [] } else s) else
     record s { device = port_write x.busy x.count s.device k value }
 
 -- a physical word is written: of memory, or of a port

@@ -1,6 +1,6 @@
 -- A call of a primitive, from its entry to its return.
 use Rattle.std.proofs.Common.{◌≡◌, ℕ, ◌+◌, ◌-◌, ◌*◌, ◌/◌, ◌^◌, ◌<◌, ◌≤◌, ℤ, ◌&&◌, not, Some, None, List, [], ◌∷◌, ◌++◌, length, slice_index, All, nat_lt, refl, sym, ap, ◌∙◌, subst, ⊎_elim, inr, true≢false, arith, le-ltb, lt-ltb}
-use Rattle.std.specs.Prelude.{if◌then◌else◌, nat_le}
+use Rattle.std.specs.Prelude.{if◌then◌else◌}
 use Rattle.std.proofs.lemmas.Bool.{cases_lt, cond_both}
 use Rattle.std.proofs.lemmas.List.{ext_get_or, get_or_past, length-drop}
 use Rattle.std.proofs.lemmas.List.Elements.{All-get_or, All-from_recursion}
@@ -11,14 +11,14 @@ use Rattle.mips_table.specs.declared.inst.Inst.TheVariants.{Jr}
 use Rattle.mips_table.specs.Arith.{signed}
 use Rattle.mips_table.specs.Flat.{Flat}
 use Rattle.mips_table.specs.Device.{Idle, Outside}
-use Rattle.mips_table.specs.Machine.{LOG_ROOM, State, run}
+use Rattle.mips_table.specs.Machine.{LOG_ROOM, State, run, Console, log_has_room}
 use Rattle.mips_table.specs.Fits.{IsWord}
 use Rattle.mips_table.specs.Code.{Contents, Behind, World, Sound, Configuration, at_with, Reaches}
 use Rattle.masm.specs.Laws.{From, ReturnRuns}
 use Rattle.layer_map.specs.Map.{Map, layer_words, current_at, hand_at, memory_words}
 use Rattle.page_model.specs.Paging.{PagesStand}
 use Rattle.page_model.specs.Places.{layout_of, places_of, view}
-use Rattle.cvm_model.specs.Kernel.{Console, flat, Core}
+use Rattle.cvm_model.specs.Kernel.{flat, Core}
 use Rattle.cvm_model.specs.Primitives.{Call, ConPut, ConGet, Given, prim, is_good, granted, refused, unchanged, primitive_number, units_of}
 use Rattle.cvm_model.specs.Cvm.{Running, run_steps}
 use Rattle.cvm_model.specs.Paged.{pages_by}
@@ -52,7 +52,7 @@ input_shrinks : (most : ℕ) (call : Call) (users : List Flat) (o : Console) →
 input_shrinks most call users o = cond_both (is_good most users call) (granted users o call) (unchanged users o (refused call) 0 0) (λ g. length g.console.input ≤ length o.input) (λ _. by call) (λ _. omega arith)
   where
     by : (call : Call) → length (granted users o call).console.input ≤ length o.input
-    by (ConPut w) = cond_both (nat_le LOG_ROOM (length o.log)) o (record o { log = o.log ++ cast_unsigned w32 w ∷ [] }) (λ (k : Console). length k.input ≤ length o.input) (λ _. omega arith) (λ _. omega arith)
+    by (ConPut w) = cond_both (log_has_room o.log) (record o { log = o.log ++ cast_unsigned w32 w ∷ [] }) o (λ (k : Console). length k.input ≤ length o.input) (λ _. omega arith) (λ _. omega arith)
     by ConGet = omega (arith, length-drop 1 o.input)
     by other = omega arith
 

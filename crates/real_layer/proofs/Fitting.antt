@@ -5,9 +5,9 @@ use Rattle.std.specs.Int.{cast_unsigned, w32}
 use Rattle.std.proofs.lemmas.Bool.{cond_both, and_parts, leb-true}
 use Rattle.std.proofs.lemmas.List.{length-append, length-take, length-drop, length-replicate}
 use Rattle.std.proofs.lemmas.List.Elements.{All-set, All-append, All-replicate, All-take, All-drop}
+use Rattle.mips_table.specs.Machine.{Console}
 use Rattle.mips_table.specs.Flat.{Flat}
 use Rattle.mips_table.specs.Fits.{IsWord, CpuFits}
-use Rattle.cvm_model.specs.Kernel.{Console}
 use Rattle.cvm_model.specs.Primitives.{Call, VmGet, VmSet, VmSize, VmResize, VmWord, VmPut, VmCopy, ConPut, ConGet, ConLeft, Given, no_flat, user_of, with_user, pages_of, with_register, resized, with_word, with_words, is_within, is_place, overlap, is_good, granted, unchanged, refused, prim}
 use Rattle.cvm_model.specs.Stands.{UserFits}
 

@@ -6,7 +6,7 @@ use Rattle.mips_table.specs.declared.inst.Inst.{Inst}
 use Rattle.mips_table.specs.Arith.{signed}
 use Rattle.mips_table.specs.Flat.{Flat}
 use Rattle.mips_table.specs.Device.{Outside}
-use Rattle.mips_table.specs.Machine.{LOG, State, run}
+use Rattle.mips_table.specs.Machine.{LOG, State, run, Console}
 use Rattle.mips_table.specs.Code.{Contents, Behind, World, Sound}
 use Rattle.masm.specs.Laws.{From, ReturnRuns}
 use Rattle.layer_map.specs.Map.{Map, current_at, tables_at, memory_words}
@@ -14,7 +14,7 @@ use Rattle.page_model.specs.Paging.{Names, PagesStand}
 use Rattle.page_model.specs.Places.{layout_of, places_of, view}
 use Rattle.page_fault.specs.Code.{page_code}
 use Rattle.page_fault.specs.Asked.{MapsAreSited}
-use Rattle.cvm_model.specs.Kernel.{Console, Core}
+use Rattle.cvm_model.specs.Kernel.{Core}
 use Rattle.cvm_model.specs.Primitives.{Call, VmGet, VmSet, VmSize, VmResize, VmWord, VmPut, VmCopy, ConPut, ConGet, ConLeft, Given, prim, primitive_number, units_of, user_of, pages_of, is_within, is_good}
 use Rattle.cvm_model.specs.Cvm.{Running, run_steps}
 use Rattle.cvm_model.specs.Paged.{pages_by}

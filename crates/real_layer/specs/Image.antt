@@ -5,7 +5,7 @@ use Rattle.std.specs.List.{range_with_len}
 use Rattle.mips_table.specs.declared.inst.Inst.{Inst}
 use Rattle.mips_table.specs.declared.inst.Inst.TheVariants.{J, Jr}
 use Rattle.mips_table.specs.Encoding.{encoding}
-use Rattle.layer_map.specs.Map.{Map, MapInRange, heap_at, stack_at}
+use Rattle.layer_map.specs.Map.{Map, MapInRange, leave_at, heap_at, stack_at}
 use Rattle.page_model.specs.Places.{places_of}
 use Rattle.page_fault.specs.Code.{page_code}
 use Rattle.trap_entry.specs.Code.{handler_code, leave_code, exit_code}
@@ -44,12 +44,9 @@ joined blocks = flat_map (λ is. is) blocks
 abbrev pub routine : Map → ℕ → List Inst
 routine m k = slice_index_or (routines m) k []
 
--- the word of the first entry, and that behind the last
-abbrev pub entries_at : ℕ
-entries_at = 2048
-
+-- the word behind the last entry, which is that of the routine by which a unit's code leaves
 abbrev pub entries_end : ℕ
-entries_end = 2063
+entries_end = leave_at + 1
 
 -- routine k begins behind the entries and the routines before it
 abbrev pub routine_at : Map → ℕ → ℕ

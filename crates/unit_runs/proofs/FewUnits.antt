@@ -3,9 +3,9 @@ use Rattle.std.specs.Prelude.{ℤ, pos, negsuc, nat_abs, nat_le, ◌&&◌, ◌||
 use Rattle.std.proofs.Common.{◌≡◌, inl, inr, ℕ, zero, suc, ◌+◌, ◌-◌, ◌*◌, ◌/◌, ◌%◌, ◌≤◌, Bool, true, false, List, length, refl, sym, subst, arith, true≢false}
 use Rattle.std.proofs.lemmas.Bool.{and_parts, cases_lt, leb-true}
 use Rattle.std.proofs.lemmas.List.{get_or_past}
+use Rattle.mips_table.specs.Machine.{Console}
 use Rattle.mips_table.specs.Flat.{Flat}
 use Rattle.c0_meaning.specs.World.{call_cost}
-use Rattle.cvm_model.specs.Kernel.{Console}
 use Rattle.cvm_model.specs.KernelMeaning.{Machines, ints_of, call_with, called_by}
 use Rattle.cvm_model.specs.Primitives.{Call, VmGet, VmSet, VmSize, VmResize, VmWord, VmPut, VmCopy, ConPut, ConGet, ConLeft, no_flat, user_of, pages_of, pieces, is_within, is_place, overlap, is_good, refused, unchanged, granted, prim}
 use Rattle.cvm_model.specs.Stands.{UserFits}

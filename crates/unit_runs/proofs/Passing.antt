@@ -8,7 +8,7 @@ use Rattle.mips_table.specs.Encoding.{encoding}
 use Rattle.mips_table.specs.Device.{Outside}
 use Rattle.mips_table.specs.Fits.{NamesSector, StaysFitting}
 use Rattle.mips_table.specs.Code.{World, Configuration as Machine, on_machine, Sound}
-use Rattle.mips_table.specs.Machine.{State, run}
+use Rattle.mips_table.specs.Machine.{State, run, Console}
 use Rattle.mips_table.specs.Simulation.{configuration_of, Quiet, MachineSimulates}
 use Rattle.masm.specs.declared.registers.Places.{Places}
 use Rattle.layer_map.specs.Map.{layer_words, globals_at, heap_at, memory_words}
@@ -27,7 +27,7 @@ use Rattle.layer_contract.specs.declared.entry.Entry.TheVariants.{Dispatch, Prim
 use Rattle.layer_contract.specs.Layer.{Inside, IsEntry, BusyWithin, PrimitiveCalled, Returned, ComesBack, PrimitivesAnswer}
 use Rattle.layer_contract.specs.Calls.{EndsCall}
 use Rattle.layer_contract.specs.Follows.{IsKernelDoor}
-use Rattle.cvm_model.specs.Kernel.{Console, Core, Changes}
+use Rattle.cvm_model.specs.Kernel.{Core, Changes}
 use Rattle.cvm_model.specs.KernelMeaning.{Machines, kernel_primitive, called_by}
 use Rattle.cvm_model.specs.Primitives.{Call, Given, prim, told}
 use Rattle.cvm_model.specs.Cvm.{run_steps}

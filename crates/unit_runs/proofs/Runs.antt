@@ -5,7 +5,7 @@ use Rattle.mips_table.specs.declared.inst.Inst.{Inst}
 use Rattle.mips_table.specs.Device.{Outside}
 use Rattle.mips_table.specs.Fits.{StaysFitting}
 use Rattle.mips_table.specs.Code.{Configuration as Machine, on_machine, Sound}
-use Rattle.mips_table.specs.Machine.{State}
+use Rattle.mips_table.specs.Machine.{State, Console}
 use Rattle.mips_table.specs.Simulation.{MachineSimulates}
 use Rattle.masm.specs.declared.registers.Places.{Places}
 use Rattle.layer_map.specs.Map.{layer_words}
@@ -21,7 +21,7 @@ use Rattle.mips_table.specs.Flat.{Flat}
 use Rattle.c0_stmt_code.specs.Code.{links_of}
 use Rattle.c0_stmt_code.specs.Setup.{Setup, Called}
 use Rattle.c0_stmt_code.specs.Standing.{Simulated, Ended, AtExit}
-use Rattle.cvm_model.specs.Kernel.{Console, Changes}
+use Rattle.cvm_model.specs.Kernel.{Changes}
 use Rattle.cvm_model.specs.KernelMeaning.{Machines, kernel_primitive}
 use Rattle.cvm_model.specs.Cvm.{run_steps}
 use Rattle.layer_contract.specs.Calls.{EndsCall}

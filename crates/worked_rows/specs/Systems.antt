@@ -1,5 +1,6 @@
 -- Small systems and machines whose runs are computed, as checks of the definitions.
 use Rattle.std.specs.Prelude.{ℕ, ◌+◌, ◌-◌, List, [], ◌∷◌, ◌++◌, length, replicate}
+use Rattle.mips_table.specs.Machine.{Console}
 use Rattle.mips_table.specs.declared.inst.Inst.TheVariants.{Addi, Ori, Lui}
 use Rattle.mips_table.specs.Encoding.{encoding}
 use Rattle.mips_table.specs.Flat.{Flat}
@@ -7,7 +8,6 @@ use Rattle.layer_map.specs.declared.params.Params.{Params}
 use Rattle.layer_map.specs.Map.{Map}
 use Rattle.c0_tree.specs.Tree.{CUnit}
 use Rattle.worked_rows.specs.Kernels.{counts}
-use Rattle.cvm_model.specs.Kernel.{Console}
 use Rattle.cvm_model.specs.Cvm.{System, first_flat}
 use Rattle.cvm_model.specs.KernelMeaning.{kernel_meaning}
 

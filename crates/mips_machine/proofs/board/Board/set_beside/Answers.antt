@@ -7,5 +7,5 @@ use Rattle.mips_machine.proofs.board.Board.set_beside.Goals as goal
 pub returns-clause-code : goal.returns-clause-code
 returns-clause-code c = subst (λ (b : Board). Serves (around b) c.forget.new.self) (sym c.set_word.ensures) (c.forget.ensures c.args.self.now c.args.value c.requires.code)
 
-pub returns-clause-data : goal.returns-clause-data
-returns-clause-data c = subst (λ (b : Board). Serves (around b) c.forget-2.new.self) (sym c.set_word.ensures) (c.forget-2.ensures c.args.self.now c.args.value c.requires.data)
+pub returns-clause-loads : goal.returns-clause-loads
+returns-clause-loads c = subst (λ (b : Board). Serves (around b) c.forget-2.new.self) (sym c.set_word.ensures) (c.forget-2.ensures c.args.self.now c.args.value c.requires.loads)
