@@ -4,4 +4,4 @@
 pub mod line;
 pub mod text;
 
-pub use text::{AsmReading, read_asm};
+pub use text::{AsmReading, read_asm, words_are_allowed};

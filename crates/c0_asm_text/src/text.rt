@@ -1,7 +1,7 @@
 // A whole asm text.
 
 ghost use Rattle.std.specs.Prelude.{◌≡◌, ◌==◌, ◌<◌, ◌≤◌, ◌-◌, ◌^◌, ◌+◌, ◌++◌, ◌∷◌, [], length, IfOk, OnOk, IfSome, IsTrue, is_some, Option, Some, None};
-ghost use Rattle.std.specs.Prelude.{if◌then◌else◌};
+ghost use Rattle.std.specs.Prelude.{if◌then◌else◌, ℕ, List};
 ghost use Rattle.std.specs.Option.{option_or};
 ghost use Rattle.mips_asm.specs.Text.{lines_of};
 ghost use Rattle.c0_meaning.specs.Asm.{are_allowed_words};
@@ -75,3 +75,8 @@ pub fn read_asm(alloc: Global, text: &[u8]) -> Result<AsmReading, AllocError>
         here = rest;
     }
 }
+
+/// A law: the words of every text are those of instructions that an asm function may have.
+pub fn words_are_allowed()
+    ensures { (text : List ℕ) → IsTrue (are_allowed_words (text_words text)) }
+{}

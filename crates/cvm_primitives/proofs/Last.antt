@@ -1,4 +1,4 @@
--- The last piece of a copy that ends with a whole page: the loop comes to it, and ends after it.
+-- The last piece of a copy that ends with a whole page: the loop comes to it, and ends after it; in a copy of one page it is there from the start.
 use Rattle.std.proofs.Common.{◌≡◌, ℕ, zero, suc, ◌+◌, ◌-◌, ◌*◌, ◌^◌, ◌<◌, ◌≤◌, List, [], ◌∷◌, length, refl, sym, ap, subst, ⊎_elim, inl, inr, arith}
 use Rattle.std.proofs.lemmas.Bool.{cases_lt}
 use Rattle.mips_table.specs.declared.inst.Inst.{Inst}
@@ -80,6 +80,7 @@ module _ (w : World) (f : RoutineLaws w) (p : Places) (b : ℕ) (si : Sited p w)
     left : Left (n - 1024) last disk
     steps : ℕ
     paid : steps + cost (n - 1024) ≤ cost m
+    first : n ≡ 1024 → last.memory ≡ c.memory
     comes : Reaches w steps (at_with k c d) (at_with k last disk)
 
   there : (k m : ℕ) (c : Contents) (d : Behind) → m ≡ n - 1024 → Left m c d → AtLast k m c d
@@ -89,6 +90,7 @@ module _ (w : World) (f : RoutineLaws w) (p : Places) (b : ℕ) (si : Sited p w)
     left = subst (λ m. Left m c d) e s;
     steps = 0;
     paid = let q = ap cost e in omega arith;
+    first = λ one. refl;
     comes = f.runs.none w (at_with k c d);
   }
 
@@ -113,6 +115,7 @@ module _ (w : World) (f : RoutineLaws w) (p : Places) (b : ℕ) (si : Sited p w)
         left = u.left;
         steps = 0 + (3 * page_steps p.layout.pages b + 600 * size m - 2) + 2 + u.steps;
         paid = omega arith;
+        first = λ one. absurd (omega arith);
         comes = f.runs.joined w _ u.steps _ _ _ r.3 u.comes;
       })
       (λ ge. there k m c d (omega arith) s)
@@ -124,6 +127,7 @@ module _ (w : World) (f : RoutineLaws w) (p : Places) (b : ℕ) (si : Sited p w)
     pub disk : Behind
     pub held : Held p (copied v x y (n - 1024)) g last disk
     pub left : Marks (x + (n - 1024)) (y + (n - 1024)) 1024 last
+    pub first : n ≡ 1024 → last.memory ≡ c.memory
     pub end : Contents
     pub end_disk : Behind
     pub done : Held p (copied v x y n) g end end_disk
@@ -153,6 +157,7 @@ module _ (w : World) (f : RoutineLaws w) (p : Places) (b : ℕ) (si : Sited p w)
         disk = a.disk;
         held = a.left.held;
         left = record { from = marks.from; to = marks.to; left = omega arith };
+        first = a.first;
         end = run.0;
         end_disk = run.1;
         done = held;

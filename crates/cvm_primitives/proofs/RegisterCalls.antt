@@ -1,12 +1,12 @@
 -- The primitives that use no page.
-use Rattle.std.proofs.Common.{◌≡◌, ◌≢◌, ℕ, ◌+◌, ◌-◌, ◌*◌, ◌%◌, ◌^◌, ◌<◌, ◌≤◌, ◌&&◌, not, Bool, true, false, cond, nat_eq, nat_lt, nat_le, if◌then◌else◌, nat_abs, List, [], ◌∷◌, ◌++◌, length, slice_index, slice_index_or, slice_set, slice_set, refl, sym, ap, ap₂, ◌∙◌, subst, ⊎_elim, arith, lt-ltb, le-ltb, le-leb, ne_eqb}
-use Rattle.std.proofs.lemmas.Bool.{cases_eq, cases_lt, cond-true, cond-false, lt-leb}
+use Rattle.std.proofs.Common.{◌≡◌, ◌≢◌, ℕ, ◌+◌, ◌-◌, ◌*◌, ◌%◌, ◌^◌, ◌<◌, ◌≤◌, ◌&&◌, Bool, true, false, cond, nat_eq, nat_lt, if◌then◌else◌, nat_abs, List, [], ◌∷◌, ◌++◌, length, slice_index, slice_index_or, slice_set, slice_set, refl, sym, ap, ap₂, ◌∙◌, subst, ⊎_elim, arith, le-ltb, ne_eqb}
+use Rattle.std.proofs.lemmas.Bool.{cases_eq, cond-true, cond-false}
 use Rattle.std.proofs.lemmas.List.{get_or-set_same, get_or-set_other, length-set}
 use Rattle.std.specs.Int.{cast_unsigned, w32}
 use Rattle.mips_table.specs.declared.inst.Inst.{Inst}
 use Rattle.mips_table.specs.declared.inst.Inst.TheVariants.{Sll, Addiu, Addu, Ori, Lw, Sw}
 use Rattle.mips_table.specs.Arith.{signed, extended, flag, sum}
-use Rattle.mips_table.specs.Machine.{LOG, LEFT, LOG_ROOM}
+use Rattle.mips_table.specs.Machine.{LOG, LEFT, log_has_room}
 use Rattle.mips_table.specs.Processor.{Cpu}
 use Rattle.mips_table.specs.Flat.{Flat}
 use Rattle.mips_table.specs.Code.{put, Contents, with_reg, Behind, World}
@@ -298,16 +298,11 @@ module _ (w : World) (f : CodeLaws w) (users : List Flat) (c : Contents) (d : Be
       straightly w f con_put_code (put_says (length d.log) (c.regs 20)) c d _ refl e.idle
       (λ n. (
         ((refl, omega arith, e.system, (λ z. absurd (omega arith)), refl), (refl, ((refl, e.system, e.log, refl), tt))),
-        put_left (nat_le LOG_ROOM (length d.log)) (nat_lt (length d.log) LOG_ROOM) (cast_unsigned w32 (signed (c.regs 20))) (c.regs 20) (as_word (c.regs 20) (e.regs 20)) (full_is (length d.log) LOG_ROOM) _
+        put_left (log_has_room d.log) (cast_unsigned w32 (signed (c.regs 20))) (c.regs 20) (as_word (c.regs 20) (e.regs 20)) _
             (record { memory = refl; regs = λ r le. f.stays low r (is_low r le) con_put_code (put_says (length d.log) (c.regs 20)) n c refl refl; hi = refl; lo = refl; special = refl }) refl,
       ))
     where
-      full_is : (n m : ℕ) → not (nat_lt n m) ≡ nat_le m n
-      full_is n m = ⊎_elim (λ lt. ap not (lt-ltb n m lt) ∙ sym (lt-leb m n lt)) (λ ge. ap not (le-ltb n m ge) ∙ sym (le-leb m n ge)) (cases_lt n m)
-
-      put_left : (full room : Bool) (y x : ℕ) → y ≡ x → not room ≡ full → (c1 : Contents) → Quiet c c1 → c1.regs 2 ≡ flag room
-          → Left users (unchanged users (if full then console_of d else record (console_of d) { log = d.log ++ y ∷ [] }) (bool (not full)) 0 0) c d c1 (if room then record d { log = d.log ++ x ∷ [] } else d)
-      put_left false true y x ey h c1 q r2 = told (unchanged users (record (console_of d) { log = d.log ++ y ∷ [] }) (bool true) 0 0) c1 _ q (ap (λ z. z ∷ []) (sym r2)) refl (ap (λ z. d.log ++ z ∷ []) (sym ey)) refl refl refl refl
-      put_left true false y x ey h c1 q r2 = told (unchanged users (console_of d) (bool false) 0 0) c1 _ q (ap (λ z. z ∷ []) (sym r2)) refl refl refl refl refl refl
-      put_left true true y x ey h c1 q r2 = absurd (cc)
-      put_left false false y x ey h c1 q r2 = absurd (cc)
+      put_left : (room : Bool) (y x : ℕ) → y ≡ x → (c1 : Contents) → Quiet c c1 → c1.regs 2 ≡ flag room
+          → Left users (unchanged users (if room then record (console_of d) { log = d.log ++ y ∷ [] } else console_of d) (bool room) 0 0) c d c1 (if room then record d { log = d.log ++ x ∷ [] } else d)
+      put_left true y x ey c1 q r2 = told (unchanged users (record (console_of d) { log = d.log ++ y ∷ [] }) (bool true) 0 0) c1 _ q (ap (λ z. z ∷ []) (sym r2)) refl (ap (λ z. d.log ++ z ∷ []) (sym ey)) refl refl refl refl
+      put_left false y x ey c1 q r2 = told (unchanged users (console_of d) (bool false) 0 0) c1 _ q (ap (λ z. z ∷ []) (sym r2)) refl refl refl refl refl refl

@@ -1,11 +1,11 @@
 -- What the users' control blocks hold, and what a call of a primitive that uses no page is entered with and leaves.
 use Rattle.std.specs.Prelude.{◌≡◌, ℕ, ◌+◌, ◌%◌, ◌^◌, ◌<◌, ◌≤◌, ◌⊎◌, true, List, [], ◌∷◌, length, slice_index, None}
 use Rattle.mips_table.specs.Device.{Idle}
-use Rattle.mips_table.specs.Machine.{LOG}
+use Rattle.mips_table.specs.Machine.{LOG, Console}
 use Rattle.mips_table.specs.Flat.{Flat}
 use Rattle.mips_table.specs.Code.{Contents, Behind, World}
 use Rattle.layer_map.specs.Map.{block_at, layer_words}
-use Rattle.cvm_model.specs.Kernel.{Console, flat}
+use Rattle.cvm_model.specs.Kernel.{flat}
 use Rattle.cvm_model.specs.Primitives.{Given, user_of, pages_of, register_of}
 
 -- the word of user u's control block that holds register r, or the pc for 32

@@ -25,7 +25,7 @@ use Rattle.cvm_primitives.proofs.Basics.{flag_of, small_is, held_to}
 use Rattle.cvm_primitives.proofs.Piece.{run_short}
 use Rattle.cvm_primitives.proofs.Asks.{product_below, Based, base_from}
 use Rattle.cvm_primitives.proofs.Copies.{numbers_apart, live_range, range_below}
-use Rattle.layer_sharing.proofs.Ends.{loop_ends}
+use Rattle.cvm_primitives.proofs.Last.{loop_ends}
 
 -- the run from the state that is meant, put in the place of the one that is given
 here : (w : World) (c0 c : Contents) (d0 d : Behind) (k n : ℕ) (t : Configuration) → (c ≡ c0) × (d ≡ d0) → Reaches w n (at_with k c0 d0) t → Reaches w n (at_with k c d) t

@@ -1,11 +1,11 @@
 -- The row of a line, by the words that stand between its spaces: it has two or three words, and none where they are fewer or more.
-use Rattle.std.proofs.Common.{◌≡◌, ◌==◌, List, [], ℕ, ◌∷◌, refl, ap, ◌∙◌}
+use Rattle.std.proofs.Common.{◌≡◌, ◌<◌, ◌==◌, List, [], ℕ, ◌∷◌, length, refl, ap, ◌∙◌, arith}
 use Rattle.std.specs.List.{slice_split}
 use Rattle.std.specs.Borrow.{Bor}
 use Rattle.std.specs.Prelude.{Option, Some, None, is_some, true, false}
 use Rattle.std.specs.Option.{option_map_or}
 use Rattle.schedule_file.specs.Text.{row_of, row_of_words, row_of_pair, row_in_words}
-use Rattle.cvm_text.proofs.FirstLine.{first_part}
+use Rattle.std.proofs.lemmas.List.Splits.{length-slice_split}
 
 -- a text cut at its spaces
 abbrev pub words : List ℕ → List (List ℕ)
@@ -28,8 +28,12 @@ pub four_words : (line kind rest first more second last : List ℕ) → words li
     → row_of line ≡ None
 unfolding row_of
 four_words line kind rest first more second last cut cut' cut'' =
-    let part = first_part (λ c. c == 32) last in
-    ap row_in_words (cut ∙ ap (λ ws. kind ∷ ws) cut' ∙ ap (λ ws. kind ∷ first ∷ ws) (cut'' ∙ ap (λ ws. second ∷ ws) part.2))
+    ap row_in_words (cut ∙ ap (λ ws. kind ∷ ws) cut' ∙ ap (λ ws. kind ∷ first ∷ ws) cut'')
+    ∙ too_many (words last) (omega (arith, length-slice_split (λ c. c == 32) last))
+  where
+    too_many : (ws : List (List ℕ)) → 0 < length ws → row_in_words (kind ∷ first ∷ second ∷ ws) ≡ None
+    too_many [] some = absurd (omega arith)
+    too_many (w ∷ ws) some = refl
 
 -- what a cut says, by whether a space was there
 pub cut_last : (text part : List ℕ) (rest : Option (Bor (List ℕ))) → words text ≡ part ∷ option_map_or (λ r. words r.now) rest [] → rest ≡ None → words text ≡ part ∷ []
