@@ -209,14 +209,14 @@ before_element b c w s h =
 
 -- the place of an element of a number below the length
 pub near_place : (sc : Scope) (e i : CExpr) (r c : ℕ) (x : Elements) (near moved_to : Near) {found : Option Ty} → HasWords x (element_words sc.env.structs found) → x.count ≡ length_in found → found ≡ type_at sc.env e
-    → below_of (made sc i).literal x.count ≡ Some c → IsSpot near ((made sc e).place r) → moved_to.base ≡ near.base → moved_to.shift ≡ (near.shift + x.bytes * c % 2 ^ 32) % 2 ^ 32 → IsSpot moved_to (index_spot sc e i r)
+    → below_of (made sc i).literal x.count ≡ Some c → IsSpot near ((made sc e).place r) → moved_to.base ≡ near.base → moved_to.displacement ≡ (near.displacement + x.bytes * c % 2 ^ 32) % 2 ^ 32 → IsSpot moved_to (index_spot sc e i r)
 near_place sc e i r c x near to words count type below place base shift =
     let n : x.count ≡ length_in (type_at sc.env e) = count ∙ ap length_in type in
     let w : x.bytes ≡ 4 * element_words sc.env.structs (type_at sc.env e) % 2 ^ 32 = words.1 ∙ ap (λ (t : Option Ty). 4 * element_words sc.env.structs t % 2 ^ 32) type in
     let m : index_spot sc e i r ≡ moved (4 * (c * element_words sc.env.structs (type_at sc.env e))) ((made sc e).place r) =
     near_element sc _ _ (made sc i).literal ((made sc e).place r) (made sc i) r c (subst (λ (k : ℕ). below_of (made sc i).literal k ≡ Some c) n below) in (
       base ∙ place.0 ∙ sym (ap (λ (y : Spot). y.base) m),
-      shift ∙ ap (λ (k : ℕ). (k + x.bytes * c % 2 ^ 32) % 2 ^ 32) place.1 ∙ before_element x.bytes c _ ((made sc e).place r).shift w ∙ sym (ap (λ (y : Spot). y.shift) m),
+      shift ∙ ap (λ (k : ℕ). (k + x.bytes * c % 2 ^ 32) % 2 ^ 32) place.1 ∙ before_element x.bytes c _ ((made sc e).place r).displacement w ∙ sym (ap (λ (y : Spot). y.displacement) m),
     )
 
 on_ok : {A E : Type 0} (r : Result A E) (P Q : Type 0) → (P → Q) → OnOk r P → OnOk r Q

@@ -25,7 +25,7 @@ constant_some : (d n : ℕ) → 1 ≤ length (constant_code d n)
 constant_some d n = cond_some (nat_lt n (2 ^ 16)) _ _ (omega arith) (cond_some (is_near n) _ _ (omega arith) (omega arith))
 
 spot_some : (i : ℕ → ℕ → Inst) (r : ℕ) (x : Spot) → 1 ≤ length (on_spot i r x)
-spot_some i r x = behind x.code _ (cond_some (is_near x.shift) _ _ (omega arith) (omega arith))
+spot_some i r x = behind x.code _ (cond_some (is_near x.displacement) _ _ (omega arith) (omega arith))
 
 -- a value's code has a word
 abbrev Filled : Made → Type 0

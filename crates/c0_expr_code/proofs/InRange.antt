@@ -57,8 +57,8 @@ pub record FineSpot (x : Spot) : Type 0 where
   pub base : x.base < 32
 
 spots : (f : ℕ → ℕ → Inst) (r : ℕ) (x : Spot) → r < 32 → FineSpot x → ((b k : ℕ) → b < 32 → k < 2 ^ 16 → InRange (f b k)) → Ranged (on_spot f r x)
-spots f r x h g i = both x.code _ g.code (either (is_near x.shift) (f x.base (low x.shift) ∷ []) (Lui 1 (high x.shift) ∷ Addu r x.base 1 ∷ f r (low x.shift) ∷ [])
-    (i x.base (low x.shift) g.base (low_small x.shift), tt) ((omega arith, high_small x.shift), ((h, g.base, omega arith), (i r (low x.shift) h (low_small x.shift), tt))))
+spots f r x h g i = both x.code _ g.code (either (is_near x.displacement) (f x.base (low x.displacement) ∷ []) (Lui 1 (high x.displacement) ∷ Addu r x.base 1 ∷ f r (low x.displacement) ∷ [])
+    (i x.base (low x.displacement) g.base (low_small x.displacement), tt) ((omega arith, high_small x.displacement), ((h, g.base, omega arith), (i r (low x.displacement) h (low_small x.displacement), tt))))
 
 loads : (d r : ℕ) (x : Spot) → d < 32 → r < 32 → FineSpot x → Ranged (on_spot (λ b k. Lw d b k) r x)
 loads d r x h g i = spots (λ b k. Lw d b k) r x g i (λ b k low l. (h, low, l))

@@ -31,8 +31,8 @@ constant_length d n =
 
 spot_length : (i : ℕ → ℕ → Inst) (r : ℕ) (x : Spot) → length (on_spot i r x) ≤ length x.code + 3
 spot_length i r x =
-    let a = length-append x.code (cond (is_near x.shift) (i x.base (low x.shift) ∷ []) (Lui 1 (high x.shift) ∷ Addu r x.base 1 ∷ i r (low x.shift) ∷ [])) in
-    let b = cond_length (is_near x.shift) (i x.base (low x.shift) ∷ []) (Lui 1 (high x.shift) ∷ Addu r x.base 1 ∷ i r (low x.shift) ∷ []) 3 (omega arith) (omega arith) in
+    let a = length-append x.code (cond (is_near x.displacement) (i x.base (low x.displacement) ∷ []) (Lui 1 (high x.displacement) ∷ Addu r x.base 1 ∷ i r (low x.displacement) ∷ [])) in
+    let b = cond_length (is_near x.displacement) (i x.base (low x.displacement) ∷ []) (Lui 1 (high x.displacement) ∷ Addu r x.base 1 ∷ i r (low x.displacement) ∷ []) 3 (omega arith) (omega arith) in
     omega (arith, a, b)
 
 or_length : (o : Option ℕ) (is : List Inst) (n : ℕ) → length is ≤ n → length (or_code o is) ≤ n

@@ -23,14 +23,14 @@ use Rattle.c0_expr_code.specs.Bases.{Bases, types_in, word_at, word, RegionHeld}
 use Rattle.c0_meaning.specs.Sizes.{words_before}
 use Rattle.c0_meaning.specs.Addresses.{words_to, words_to_part}
 use Rattle.c0_expr_code.specs.Code.{constant_code, is_near, low}
-use Rattle.c0_expr_code.specs.Relation.{layout, Scene, Ready, Keeps, Area, Comes, Gives, Leads}
+use Rattle.c0_expr_code.specs.Relation.{layout, IsTyped, Ready, Keeps, Area, Comes, Gives, Leads}
 use Rattle.c0_expr_code.proofs.Words.{halves, word_below, near_is, extended_small}
 use Rattle.c0_expr_code.proofs.Offsets.{offset_from_on, field_offset, before_scalars, room_from, region_seen, scalar_held}
 use Rattle.c0_expr_code.proofs.Steps.{same_read, other_read, keeps_all, keeps_on, keeps_put, keeps_low, ready_on, more, node, binds, arrives, faults, jumps}
 use Rattle.c0_expr_code.proofs.Spots.{found}
 use Rattle.c0_meaning.specs.Ty as ty
 
-module _ (w : World) (sc : Scope) (p : Bases) (s : State) (f : Machine w) (area : Area w sc p) (scene : Scene sc p s) where
+module _ (w : World) (sc : Scope) (p : Bases) (s : State) (f : Machine w) (area : Area w sc p) (is_typed : IsTyped sc p s) where
   -- a constant is in a register
   pub constant_runs : (d r v n : ℕ) (c : Contents) (k : Behind) → v < 2 ^ 32 → k.pending ≡ Idle → d ≢ 0 → CodeAt w n (constant_code d v)
       → (b : Contents) × (reg b.regs d ≡ v) × Keeps r d c b × ((x : ℕ) → x ≢ d → reg b.regs x ≡ reg c.regs x) × Reaches w 2 (at_with n c k) (at_with (n + length (constant_code d v)) b k)
@@ -86,7 +86,7 @@ module _ (w : World) (sc : Scope) (p : Bases) (s : State) (f : Machine w) (area 
       RegionHeld sc p (cond form c.regs c.memory) (cond form 20 (p.frame_end - sc.frame + 3)) (types_of sc.env.locals) (variables_of s.frames) →
       (v : Value) × (read s (record { region = locals; path = x ∷ [] }) ≡ Some v) × Fits sc.env.structs (layout sc p) t v × (c.regs (20 + x) ≡ word sc p v)
   in_register true e x t c h b scalar g =
-      let r = region_seen sc p c.regs (types_of sc.env.locals) (x ∷ []) t (variables_of s.frames) 20 (t, h, refl) scene.local_values g in
+      let r = region_seen sc p c.regs (types_of sc.env.locals) (x ∷ []) t (variables_of s.frames) 20 (t, h, refl) is_typed.local_values g in
       let here : 20 + words_to_part sc.env.structs (types_of sc.env.locals) (x ∷ []) ≡ 20 + x = omega (arith, b) in
       (r.value, r.is, r.fits, ap c.regs (sym here) ∙ scalar_held sc p c.regs t r.value _ scalar r.held)
   in_register false e x t c h b scalar g = absurd (cc)
@@ -215,6 +215,6 @@ module _ (w : World) (sc : Scope) (p : Bases) (s : State) (f : Machine w) (area 
       (λ l a q.
       let path : PathLeads sc.env.structs (ty.named x) (i.number ∷ []) t = (t, h, refl) in
       let leads = leads_from_on sc.env.structs (types_in sc p l.region) l.path (ty.named x) i.number t q.leads path in
-      let there = found w sc p s f area scene a (below l i.number) t (ready_on sc p s c a (keeps_low r r c a hi q.keeps) ready) leads q.standing in
+      let there = found w sc p s f area is_typed a (below l i.number) t (ready_on sc p s c a (keeps_low r r c a hi q.keeps) ready) leads q.standing in
       arrives w sc 0 n n a a d (Leads sc p b ((k + 4 * words_before sc.env.structs (types_of (fields_named sc.env.structs x)) i.number) % 2 ^ 32) r local t c) (below l i.number)
       (part_leads b k (words_before sc.env.structs (types_of (fields_named sc.env.structs x)) i.number) r i.number local (ty.named x) t c a l path (field_offset sc.env.structs x i.number t h) there.inside q) (stays w _ _ refl)))

@@ -1,17 +1,19 @@
 -- Open code is put together: a last branch, tests side by side, and a test that goes over another.
 use Rattle.std.specs.Prelude.{map, All, OnOk, Result, Ok, Err}
-use Rattle.std.proofs.Common.{◌≡◌, ℕ, ◌+◌, ◌-◌, ◌%◌, ◌^◌, ◌<◌, Bool, true, not, None, List, [], ◌∷◌, ◌++◌, length, sym, ap, ap₂, ◌∙◌, arith, length-append, subst}
+use Rattle.std.proofs.Common.{◌≡◌, ℕ, ◌+◌, ◌-◌, ◌%◌, ◌^◌, ◌<◌, Bool, not, None, List, [], ◌∷◌, ◌++◌, length, sym, ap, ap₂, ◌∙◌, arith, length-append, subst}
 use Rattle.mips_table.specs.declared.inst.Inst.{Inst}
 use Rattle.mips_table.specs.Encoding.{encoding}
-use Rattle.c0_tree.specs.declared.tree.BinaryOp.{BinaryOp}
-use Rattle.c0_tree.specs.declared.tree.BinaryOp.TheVariants.{Add, Sub, Mul, Div, Rem, Lt, Le, Gt, Ge, Eq, Ne, And, Or}
+use Rattle.c0_tree.specs.declared.tree.BinaryOp.TheVariants.{Eq}
+use Rattle.c0_expr_code.specs.declared.sorted.Order.{Order}
+use Rattle.c0_expr_code.specs.declared.sorted.Order.TheVariants.{Less, LessOrEqual, Greater, GreaterOrEqual}
+use Rattle.c0_expr_code.specs.Sorted.{order_of}
 use Rattle.c0_tree.specs.Tree.{CExpr}
 use Rattle.c0_expr_code.specs.Scope.{Scope}
 use Rattle.c0_expr_code.specs.Code.{made}
 use Rattle.c0_expr_code.specs.Test.{immediate_test_of, compare_test, plain_test, test_code}
 use Rattle.c0_expr_code.specs.Jumps.{Open, last_open, joined_open, test_open, patched}
-use Rattle.c0_expr_code.specs.Opened.{IsOpened, is_order, is_equality, bool_code, order_code, equality_code, over_open}
-use Rattle.c0_expr_code.proofs.Patches.{assoc, map_append, map_length, shifted, EndsIn, aims, patches, within, plain_ends, IsCompared, lt, le, gt, ge, eq, ne, compared, test_of}
+use Rattle.c0_expr_code.specs.Opened.{IsOpened, bool_code, order_code, registers_code, over_open}
+use Rattle.c0_expr_code.proofs.Patches.{assoc, map_append, map_length, shifted, EndsIn, aims, patches, within, plain_ends, IsCompared, lt, le, gt, ge, eq, compared, test_of}
 
 on_ok : {A E : Type 0} (r : Result A E) (P Q : Type 0) → (P → Q) → OnOk r P → OnOk r Q
 on_ok (Ok a) P Q f h = f h
@@ -24,44 +26,19 @@ some f h = let e = ap length (h.is 0) ∙ length-append h.before (h.branch 0 ∷
 pub some_bool : (sc : Scope) (e : CExpr) (s : Bool) (r : ℕ) → 0 < length (bool_code sc e s r)
 some_bool sc e s r = some (λ far. plain_test (made sc e) s far r) (plain_ends (made sc e) s r)
 
-order_of : (o : BinaryOp) → is_order o ≡ true → IsCompared o
-order_of Lt h = lt
-order_of Le h = le
-order_of Gt h = gt
-order_of Ge h = ge
-order_of Add h = cc
-order_of Sub h = cc
-order_of Mul h = cc
-order_of Div h = cc
-order_of Rem h = cc
-order_of Eq h = cc
-order_of Ne h = cc
-order_of And h = cc
-order_of Or h = cc
+compared_order : (o : Order) → IsCompared (order_of o)
+compared_order Less = lt
+compared_order LessOrEqual = le
+compared_order Greater = gt
+compared_order GreaterOrEqual = ge
 
-equality_of : (o : BinaryOp) → is_equality o ≡ true → IsCompared o
-equality_of Eq h = eq
-equality_of Ne h = ne
-equality_of Lt h = cc
-equality_of Le h = cc
-equality_of Gt h = cc
-equality_of Ge h = cc
-equality_of Add h = cc
-equality_of Sub h = cc
-equality_of Mul h = cc
-equality_of Div h = cc
-equality_of Rem h = cc
-equality_of And h = cc
-equality_of Or h = cc
+pub some_order : (sc : Scope) (o : Order) (a b : CExpr) (s : Bool) (r : ℕ) → 0 < length (order_code sc (order_of o) a b s r)
+some_order sc o a b s r =
+    some (λ far. compare_test (immediate_test_of (order_of o) (made sc b).known) (order_of o) (made sc a) (made sc b) s far r)
+    (compared (immediate_test_of (order_of o) (made sc b).known) (order_of o) (made sc a) (made sc b) s r (test_of (order_of o) (made sc b).known) (compared_order o))
 
-pub some_order : (sc : Scope) (o : BinaryOp) (a b : CExpr) (s : Bool) (r : ℕ) → is_order o ≡ true → 0 < length (order_code sc o a b s r)
-some_order sc o a b s r h =
-    some (λ far. compare_test (immediate_test_of o (made sc b).known) o (made sc a) (made sc b) s far r)
-    (compared (immediate_test_of o (made sc b).known) o (made sc a) (made sc b) s r (test_of o (made sc b).known) (order_of o h))
-
-pub some_equality : (sc : Scope) (o : BinaryOp) (a b : CExpr) (s : Bool) (r : ℕ) → is_equality o ≡ true → 0 < length (equality_code sc o a b s r)
-some_equality sc o a b s r h =
-    some (λ far. compare_test None o (made sc a) (made sc b) s far r) (compared None o (made sc a) (made sc b) s r tt (equality_of o h))
+pub some_equality : (sc : Scope) (a b : CExpr) (s : Bool) (r : ℕ) → 0 < length (registers_code sc Eq a b s r)
+some_equality sc a b s r = some (λ far. compare_test None Eq (made sc a) (made sc b) s far r) (compared None Eq (made sc a) (made sc b) s r tt eq)
 
 -- so many words stand then
 count : (old new : List ℕ) (is : List Inst) → new ≡ old ++ map encoding is → length new ≡ length old + length is

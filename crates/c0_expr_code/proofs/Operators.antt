@@ -28,7 +28,7 @@ use Rattle.cvm_words.specs.Words.{word_of, quotient, remainder}
 use Rattle.c0_expr_code.specs.Scope.{Scope}
 use Rattle.c0_expr_code.specs.Bases.{Bases, word_at, word}
 use Rattle.c0_expr_code.specs.Code.{Made, operand_code, operand_register, two_code, one_code, to_code, logic_code, operator_code, divisor_code}
-use Rattle.c0_expr_code.specs.Relation.{layout, Scene, Ready, Keeps, Area, Comes, Gives, ValueRuns, OperandRuns}
+use Rattle.c0_expr_code.specs.Relation.{layout, IsTyped, Ready, Keeps, Area, Comes, Gives, ValueRuns, OperandRuns}
 use Rattle.c0_expr_code.proofs.Words.{plain, word_sum, word_difference, word_negative, word_less, xor_tests, xor_differs, int_words, bool_words, not_flag, not_less}
 use Rattle.c0_expr_code.proofs.Steps.{same_read, keeps_all, keeps_on, keeps_in, keeps_put, keeps_low, ready_on, source_kept, node, after, binds, says, onward, ends_at, arrives, other_reg, faults, jumps}
 use Rattle.c0_expr_code.proofs.Nodes.{word_small, pointer_room, skips, falls}
@@ -71,7 +71,7 @@ not_zero : (y : ℤ) → FitsSigned w32 y → 0 < unsigned_abs y → word_of y �
 not_zero (pos n) f some e = absurd (omega (arith, ints, some, e))
 not_zero (negsuc n) f some e = let g = f.sfits in absurd (omega (arith, ints, g, e))
 
-module _ (w : World) (sc : Scope) (p : Bases) (s : State) (f : Machine w) (area : Area w sc p) (scene : Scene sc p s) where
+module _ (w : World) (sc : Scope) (p : Bases) (s : State) (f : Machine w) (area : Area w sc p) (is_typed : IsTyped sc p s) where
   -- what an operator's own code does, from a state in which both sides are in registers
   abbrev pub FinishesFor : (Value → Type 0) → (ℕ → ℕ → List Inst) → ℕ → ℕ → Ty → Ty → Ty → (Value → Value → Result Value Failure) → Type 0
   FinishesFor P code d r t u z on = (x y : Value) → P y → (q g n : ℕ) (a : Contents) (k : Behind) → k.pending ≡ Idle
@@ -235,7 +235,7 @@ module _ (w : World) (sc : Scope) (p : Bases) (s : State) (f : Machine w) (area 
           → Comes w sc 5 n (n + length (divisor_code sc sure g ++ (Divide q g ∷ i ∷ []))) a k (Gives sc p d r d ty.int a) (at_no_cost (Ok (int (div x y))))
       whole true y some fy ey there = parts i d r pick div takes nz x y q g n n a k idle fx fy some ex ey there (later w 0 1 _ _ (omega arith) (stays w _ _ refl))
       whole false y some fy ey there =
-          let go = skips w sc p s f area scene n g 0 a k idle there.0 (λ z. absurd (not_zero y fy some (sym ey ∙ z))) in
+          let go = skips w sc p s f area is_typed n g 0 a k idle there.0 (λ z. absurd (not_zero y fy some (sym ey ∙ z))) in
           let z : n + 1 + 1 ≡ n + 2 = omega arith in
           ends_at w sc 5 n (n + 2 + 2) (n + 4) a k (Gives sc p d r d ty.int a) (at_no_cost (Ok (int (div x y)))) (omega arith)
           (parts i d r pick div takes nz x y q g n (n + 2) a k idle fx fy some ex ey (subst (λ m. CodeAt w m (Divide q g ∷ i ∷ [])) z there.1.1) go)
@@ -245,7 +245,7 @@ module _ (w : World) (sc : Scope) (p : Bases) (s : State) (f : Machine w) (area 
           → Comes w sc 5 n (n + length (divisor_code sc sure g ++ (Divide q g ∷ i ∷ []))) a k (Gives sc p d r d ty.int a) (at_no_cost (divided div x y))
       by_divisor true (pos zero) known fy ey there = absurd (known refl refl)
       by_divisor false (pos zero) known fy ey there =
-          let go = falls w sc p s f area scene n g 0 a k idle there.0 ey in
+          let go = falls w sc p s f area is_typed n g 0 a k idle there.0 ey in
           faults w sc 5 n (n + 4) a a k (Gives sc p d r d ty.int a) DivZero (keeps_all 0 0 a) (later w 2 5 _ _ (omega arith) (joined w 1 1 _ _ _ go (jumps w f (n + 1) (sc.exit DivZero) a k idle there.1.0)))
       by_divisor sure (pos (suc m)) known fy ey there = whole sure (pos (suc m)) (omega arith) fy ey there
       by_divisor sure (negsuc m) known fy ey there = whole sure (negsuc m) (omega arith) fy ey there
@@ -316,8 +316,8 @@ module _ (w : World) (sc : Scope) (p : Bases) (s : State) (f : Machine w) (area 
   same_words ty.int (int x) (int y) e h g = int_words x y h g
   same_words ty.bool (bool x) (bool y) e h g = bool_words x y
   same_words (ty.pointer t) null null e h g = refl
-  same_words (ty.pointer t) null (at m) e h g = let r = (pointer_room w sc p s f area scene m.region m.path t g).0 in sym (ne_eqb 0 (4 * word_at sc p m) (λ z. absurd (omega (arith, z, r))))
-  same_words (ty.pointer t) (at l) null e h g = let r = (pointer_room w sc p s f area scene l.region l.path t h).0 in sym (ne_eqb (4 * word_at sc p l) 0 (λ z. absurd (omega (arith, z, r))))
+  same_words (ty.pointer t) null (at m) e h g = let r = (pointer_room w sc p s f area is_typed m.region m.path t g).0 in sym (ne_eqb 0 (4 * word_at sc p m) (λ z. absurd (omega (arith, z, r))))
+  same_words (ty.pointer t) (at l) null e h g = let r = (pointer_room w sc p s f area is_typed l.region l.path t h).0 in sym (ne_eqb (4 * word_at sc p l) 0 (λ z. absurd (omega (arith, z, r))))
   same_words (ty.pointer t) (at l) (at m) e h g = at_same t l m h g
   same_words ty.int (int x) _ e h g = absurd g
   same_words ty.bool (bool x) _ e h g = absurd g
@@ -481,7 +481,7 @@ module _ (w : World) (sc : Scope) (p : Bases) (s : State) (f : Machine w) (area 
           (onward w sc 0 1 (n1 + 1) n2 to b k (Gives sc p r r r ty.bool b) R y
           (vb r r (n1 + 1) b k idle ready_b (code_front w (n1 + 1) js (to_code d r) tail_there.1) lo hb (λ z. absurd (omega (arith, z, lo))) (λ z. absurd (omega (arith, z, lo))))
           (λ v j h.
-          let a = brings d r (word sc p v) n2 j k idle nz h.is (word_small w sc p s f area scene v ty.bool h.fits refl) to_there in
+          let a = brings d r (word sc p v) n2 j k idle nz h.is (word_small w sc p s f area is_typed v ty.bool h.fits refl) to_there in
           (a.core, record { is = a.is; fits = h.fits; keeps = keeps_on r d c b a.core (keeps_in r r d c b (omega arith) (omega arith) keeps) (keeps_on r d b j a.core (keeps_in r r d b j (omega arith) (omega arith) h.keeps) a.keeps) }, subst (λ m. Reaches w 1 (at_with n2 j k) (at_with m a.core k)) len a.run)))
 
       by_bool : (z : Bool) (b : Contents) → Q z b → Comes w sc 2 n1 to b k R (rest z)

@@ -11,7 +11,7 @@ use Rattle.c0_meaning.specs.State.{Frame, State, variables_of, with_variables, w
 use Rattle.c0_meaning.specs.TypedState.{types_of, LeadsFrom, Fits, AreParts}
 use Rattle.c0_expr_code.specs.Scope.{Scope}
 use Rattle.c0_expr_code.specs.Bases.{Bases, types_in, word_at, word, RegionHeld}
-use Rattle.c0_expr_code.specs.Relation.{layout, Scene, Ready, Area}
+use Rattle.c0_expr_code.specs.Relation.{layout, IsTyped, Ready, Area}
 use Rattle.c0_expr_code.specs.Laws.{AreSpread, with_word}
 use Rattle.c0_expr_code.proofs.Offsets.{one_word, room_from, before_scalars}
 use Rattle.c0_expr_code.proofs.Steps.{same_reg, other_reg}
@@ -145,12 +145,12 @@ module _ (sc : Scope) (p : Bases) (s : State) where
   new_parts types path u x [] l f h = h
   new_parts types path u x (frame ∷ rest) l f h = put_parts sc.env.structs (layout sc p) types path u frame.variables x l h f
 
-  typed_at : (g : Region) (path : List ℕ) (t : Ty) (x : Value) → Scene sc p s → LeadsFrom sc.env.structs (types_in sc p g) path t
-      → Fits sc.env.structs (layout sc p) t x → Scene sc p (write s (record { region = g; path = path }) x)
+  typed_at : (g : Region) (path : List ℕ) (t : Ty) (x : Value) → IsTyped sc p s → LeadsFrom sc.env.structs (types_in sc p g) path t
+      → Fits sc.env.structs (layout sc p) t x → IsTyped sc p (write s (record { region = g; path = path }) x)
   typed_at globals path t x h l f = record { global_values = put_parts sc.env.structs (layout sc p) (types_of sc.env.globals) path t s.global_values x l h.global_values f; heap_values = h.heap_values; local_values = h.local_values }
   typed_at heap path t x h l f = record { global_values = h.global_values; heap_values = put_parts sc.env.structs (layout sc p) p.objects path t s.heap_values x l h.heap_values f; local_values = h.local_values }
   typed_at locals path t x h l f = record { global_values = h.global_values; heap_values = h.heap_values; local_values = new_parts (types_of sc.env.locals) path t x s.frames l f h.local_values }
 
-  pub typed : (l : Location) (t : Ty) (x : Value) → Scene sc p s → LeadsFrom sc.env.structs (types_in sc p l.region) l.path t
-      → Fits sc.env.structs (layout sc p) t x → Scene sc p (write s l x)
+  pub typed : (l : Location) (t : Ty) (x : Value) → IsTyped sc p s → LeadsFrom sc.env.structs (types_in sc p l.region) l.path t
+      → Fits sc.env.structs (layout sc p) t x → IsTyped sc p (write s l x)
   typed l t x h leads f = typed_at l.region l.path t x h leads f

@@ -13,7 +13,7 @@ use Rattle.c0_meaning.specs.State.{State}
 use Rattle.c0_expr_code.specs.Scope.{Scope}
 use Rattle.c0_expr_code.specs.Bases.{Bases}
 use Rattle.c0_expr_code.specs.Code.{constant_code, shift_within, POWERS, scaled_code, scale_code}
-use Rattle.c0_expr_code.specs.Relation.{Scene, Area, Keeps}
+use Rattle.c0_expr_code.specs.Relation.{IsTyped, Area, Keeps}
 use Rattle.c0_expr_code.proofs.Machine.{Machine, joined, later, code_front, code_back, said_step}
 use Rattle.c0_expr_code.proofs.Products.{number_product}
 use Rattle.c0_expr_code.proofs.Steps.{other_reg, other_read, keeps_on, keeps_one}
@@ -47,7 +47,7 @@ raw_kept a b h o x n = elim (cases_eq x 0) [
 pub all_kept : (r : ℕ) (a b : Contents) → Keeps 1 1 a b → ((x : ℕ) → x ≢ 1 → reg b.regs x ≡ reg a.regs x) → Keeps r r a b
 all_kept r a b h o = record { memory = h.memory; special = h.special; below = λ x n m l. raw_kept a b h o x n; above = λ x n l. raw_kept a b h o x (λ e. absurd (omega (arith, e, l))) }
 
-module _ (w : World) (sc : Scope) (p : Bases) (s : State) (f : Machine w) (area : Area w sc p) (scene : Scene sc p s) where
+module _ (w : World) (sc : Scope) (p : Bases) (s : State) (f : Machine w) (area : Area w sc p) (is_typed : IsTyped sc p s) where
   pub record Scaled (code : List Inst) (k q n : ℕ) (a : Contents) (d : Behind) : Type 0 where
     pub core : Contents
     pub is : reg core.regs 1 ≡ 4 * (k * reg a.regs q) % 2 ^ 32
@@ -70,7 +70,7 @@ module _ (w : World) (sc : Scope) (p : Bases) (s : State) (f : Machine w) (area 
       }
   scales_by None k q n a d idle ne small low is there =
       let js : List Inst = Mult q 1 ∷ Mflo 1 ∷ [] in
-      let first = constant_runs w sc p s f area scene 1 1 (4 * k % 2 ^ 32) n a d (omega arith) idle (λ z. absurd (omega (arith, z))) (code_front w n (constant_code 1 (4 * k % 2 ^ 32)) (Mult q 1 ∷ Mflo 1 ∷ []) there) in
+      let first = constant_runs w sc p s f area is_typed 1 1 (4 * k % 2 ^ 32) n a d (omega arith) idle (λ z. absurd (omega (arith, z))) (code_front w n (constant_code 1 (4 * k % 2 ^ 32)) (Mult q 1 ∷ Mflo 1 ∷ []) there) in
       let rest = code_back w n (constant_code 1 (4 * k % 2 ^ 32)) (Mult q 1 ∷ Mflo 1 ∷ []) there in
       let b : Contents = first.0 in
       let product : lower (signed_product (reg first.0.regs q) (reg first.0.regs 1)) ≡ 4 * (k * reg a.regs q) % 2 ^ 32 =

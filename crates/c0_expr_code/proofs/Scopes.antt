@@ -10,6 +10,7 @@ use Rattle.c0_meaning.specs.Sound.{shapes}
 use Rattle.c0_meaning.specs.Operators.{KernelFault}
 use Rattle.c0_expr_code.specs.declared.layout.Layout.{Layout}
 use Rattle.c0_expr_code.specs.declared.scene.Scene.{Scene}
+use Rattle.c0_expr_code.specs.Exits.{exits_of}
 use Rattle.c0_expr_code.specs.Scope.{Scope, scope_of, keeps_registers, exit_number}
 use Rattle.c0_expr_code.specs.Scene.{scope_in, env_at}
 
@@ -20,7 +21,7 @@ same : (e e' : Env) (b b' : Bool) (n n' : ℕ) (l l' : List ℕ) → e ≡ e' �
 same e e' b b' n n' l l' p q r s =
     ap (λ (z : Env). made_of z b n l) p ∙ ap (λ (z : Bool). made_of e' z n l) q ∙ ap (λ (z : ℕ). made_of e' b' z l) r ∙ ap (λ (z : List ℕ). made_of e' b' n' z) s
 
-pub scope_is : {E : Type 0} (result : Result Scene E) (layout : Layout) (n : ℕ) (places : Places) (f : CFunction) → IfOk result (λ x. x.layout.now ≡ layout) → IfOk result (λ x. x.function ≡ n) → IfOk result (λ x. x.faults ≡ places.faults)
+pub scope_is : {E : Type 0} (result : Result Scene E) (layout : Layout) (n : ℕ) (places : Places) (f : CFunction) → IfOk result (λ x. x.layout.now ≡ layout) → IfOk result (λ x. x.function ≡ n) → IfOk result (λ x. exits_of x.exits ≡ places.faults)
     → IfOk result (λ x. x.frame ≡ frame (shapes (unit_view layout.unit.now)) f) → IfOk result (λ x. x.in_registers ≡ keeps_registers f) → slice_get (unit_view layout.unit.now).functions n ≡ Some f
     → IfOk result (λ x. scope_in x ≡ scope_of (unit_view layout.unit.now) f places)
 unfolding made_of

@@ -30,7 +30,7 @@ use Rattle.c0_expr_code.specs.Scope.{Scope}
 use Rattle.c0_expr_code.specs.Code.{low, is_near, Made, operand_code, operand_register, one_code, two_code, made}
 use Rattle.c0_expr_code.specs.Test.{branch_code, negative_branch, positive_branch, compare_code, ImmediateTest, below_code, immediate_test, immediate_test_of, Testing, compare_test, both_code, binary_test, plain_test, test_code}
 use Rattle.c0_expr_code.specs.Bases.{Bases, word}
-use Rattle.c0_expr_code.specs.Relation.{layout, Scene, Ready, Keeps, Area, Gives, OperandRuns, Right, Splits, ends, Aims, TestRuns}
+use Rattle.c0_expr_code.specs.Relation.{layout, IsTyped, Ready, Keeps, Area, Gives, OperandRuns, Right, Splits, ends, Aims, TestRuns}
 use Rattle.c0_expr_code.proofs.Machine.{Machine, joined, later, stays, code_front, code_back, said_step}
 use Rattle.c0_expr_code.proofs.Words.{word_less, not_less}
 use Rattle.c0_expr_code.proofs.Steps.{keeps_all, keeps_on, keeps_in, keeps_one, keeps_low, ready_on, source_kept}
@@ -62,7 +62,7 @@ aims_in n m e far to before h = record { same = h.same; short = h.short; ahead =
 aims_at : (n e e' far to : ℕ) → e ≡ e' → Aims n e far to → Aims n e' far to
 aims_at n e e' far to q h = subst (λ x. Aims n x far to) q h
 
-module _ (w : World) (sc : Scope) (p : Bases) (s : State) (f : Machine w) (area : Area w sc p) (scene : Scene sc p s) where
+module _ (w : World) (sc : Scope) (p : Bases) (s : State) (f : Machine w) (area : Area w sc p) (is_typed : IsTyped sc p s) where
   -- a node pays for its test
   pays : (m n : ℕ) (to : Bool → ℕ) (c : Contents) (k : Behind) (Q : Bool → Contents → Type 0) (e : Costed Value) → m ≤ 16
       → Splits w sc m n to c k Q (truth e) → Splits w sc 0 n to c k Q (truth (paying 1 e))
@@ -131,11 +131,11 @@ module _ (w : World) (sc : Scope) (p : Bases) (s : State) (f : Machine w) (area 
   equal : (o : BinaryOp) → IsEquality o → (t : Ty) → is_scalar t ≡ true → Compares o t t
   equal _ eq t scalar b far to r n' n q g x y a k idle before fx fy ex ey there aims =
       let run = branches w f b q g far to n' n a k idle there.0 before aims in
-      let which : nat_eq (reg a.regs q) (reg a.regs g) ≡ same x y = ap₂ nat_eq ex ey ∙ sym (same_words w sc p s f area scene t x y scalar fx fy) in
+      let which : nat_eq (reg a.regs q) (reg a.regs g) ≡ same x y = ap₂ nat_eq ex ey ∙ sym (same_words w sc p s f area is_typed t x y scalar fx fy) in
       split_arrives w sc 2 n (ends b to (n + 1)) a a k (λ z c'. Keeps r r a c') (same x y) (keeps_all r r a) (later w 1 2 _ _ (omega arith) (subst (λ z. Reaches w 1 (at_with n a k) (at_with (ends b to (n + 1) z) a k)) which run))
   equal _ ne t scalar b far to r n' n q g x y a k idle before fx fy ex ey there aims =
       let run = branches w f (not b) q g far to n' n a k idle there.0 before aims in
-      let which : nat_eq (reg a.regs q) (reg a.regs g) ≡ same x y = ap₂ nat_eq ex ey ∙ sym (same_words w sc p s f area scene t x y scalar fx fy) in
+      let which : nat_eq (reg a.regs q) (reg a.regs g) ≡ same x y = ap₂ nat_eq ex ey ∙ sym (same_words w sc p s f area is_typed t x y scalar fx fy) in
       let end : ends (not b) to (n + 1) (nat_eq (reg a.regs q) (reg a.regs g)) ≡ ends b to (n + 1) (not (same x y)) = ap (ends (not b) to (n + 1)) which ∙ twisted b to (n + 1) (same x y) in
       split_arrives w sc 2 n (ends b to (n + 1)) a a k (λ z c'. Keeps r r a c') (not (same x y)) (keeps_all r r a) (later w 1 2 _ _ (omega arith) (subst (λ z. Reaches w 1 (at_with n a k) (at_with z a k)) end run))
     where
@@ -465,7 +465,7 @@ module _ (w : World) (sc : Scope) (p : Bases) (s : State) (f : Machine w) (area 
       → TestsAs (plain_test (made sc e)) (need e) (truth (value_of e s))
   leaf e t h q few b far to r n c k idle ready code lo hi aims =
       let some = need_some e in
-      plain (made sc e) (need e) (value_of e s) ((subst (Right w sc p s e) q (right w sc p s f area scene e t h few)).operand refl) b far to r n c k idle ready code lo (omega arith) hi aims
+      plain (made sc e) (need e) (value_of e s) ((subst (Right w sc p s e) q (right w sc p s f area is_typed e t h few)).operand refl) b far to r n c k idle ready code lo (omega arith) hi aims
 
   -- a node's own steps are paid by its unit
   node_test : (code : Testing) (need : ℕ) (x : Costed Value)
@@ -554,7 +554,7 @@ module _ (w : World) (sc : Scope) (p : Bases) (s : State) (f : Machine w) (area 
 
   operand_of : (e : CExpr) (t : Ty) → is_scalar t ≡ true → HasNumberedType sc.env e t → nodes e ≤ 2000
       → OperandRuns w sc p s (made sc e) (need e) t (value_of e s)
-  operand_of e t z h few = (right w sc p s f area scene e t h few).operand z
+  operand_of e t z h few = (right w sc p s f area is_typed e t h few).operand z
 
   -- THE THEOREM of tests
   pub tests : (e : CExpr) (t : Ty) → HasNumberedType sc.env e t → t ≡ ty.bool → nodes e ≤ 2000 → TestRuns w sc p s e
@@ -568,8 +568,8 @@ module _ (w : World) (sc : Scope) (p : Bases) (s : State) (f : Machine w) (area 
   tests _ _ (order {s = span} {o = o} {a = a} {b = b} k h g) q few = order_tests o k (made sc (binary span o a b)) (made sc a) (made sc b) (test_code sc a) (test_code sc b) (need a) (need b) (value_of a s) (value_of b s) (need_some a) (need_some b) (λ k e. known_is sc p b ty.int s k g e) (operand_of a ty.int refl h (omega arith)) (operand_of b ty.int refl g (omega arith))
   tests _ _ (logic {s = span} {o = o} {a = a} {b = b} k h g) q few = logic_tests o k (made sc (binary span o a b)) (made sc a) (made sc b) (test_code sc a) (test_code sc b) (need a) (need b) (nodes a) (nodes b) (value_of a s) (value_of b s) (need_some a) (λ y far r. test_length sc a y far r) (λ y far r. test_length sc b y far r) few (tests a ty.bool h refl (omega arith)) (tests b ty.bool g refl (omega arith))
   tests _ _ (equality {s = span} {o = o} {a = a} {b = b} {t = t} k z h g) q few = equal_tests o k t z (made sc (binary span o a b)) (made sc a) (made sc b) (test_code sc a) (test_code sc b) (need a) (need b) (value_of a s) (value_of b s) (need_some b) (operand_of a t z h (omega arith)) (operand_of b t z g (omega arith))
-  tests _ _ (null_left {s = whole} {r = span} {o = o} {b = b} {t = t} k g) q few = equal_tests o k (ty.pointer t) refl (made sc (binary whole o (null span) b)) (made sc (null span)) (made sc b) (test_code sc (null span)) (test_code sc b) 1 (need b) (value_of (null span) s) (value_of b s) (need_some b) ((null_right_is w sc p s f area scene span t).operand refl) (operand_of b (ty.pointer t) refl g (omega arith))
-  tests _ _ (null_right {s = whole} {r = span} {o = o} {a = a} {t = t} k h) q few = equal_tests o k (ty.pointer t) refl (made sc (binary whole o a (null span))) (made sc a) (made sc (null span)) (test_code sc a) (test_code sc (null span)) (need a) 1 (value_of a s) (value_of (null span) s) (omega arith) (operand_of a (ty.pointer t) refl h (omega arith)) ((null_right_is w sc p s f area scene span t).operand refl)
+  tests _ _ (null_left {s = whole} {r = span} {o = o} {b = b} {t = t} k g) q few = equal_tests o k (ty.pointer t) refl (made sc (binary whole o (null span) b)) (made sc (null span)) (made sc b) (test_code sc (null span)) (test_code sc b) 1 (need b) (value_of (null span) s) (value_of b s) (need_some b) ((null_right_is w sc p s f area is_typed span t).operand refl) (operand_of b (ty.pointer t) refl g (omega arith))
+  tests _ _ (null_right {s = whole} {r = span} {o = o} {a = a} {t = t} k h) q few = equal_tests o k (ty.pointer t) refl (made sc (binary whole o a (null span))) (made sc a) (made sc (null span)) (test_code sc a) (test_code sc (null span)) (need a) 1 (value_of a s) (value_of (null span) s) (omega arith) (operand_of a (ty.pointer t) refl h (omega arith)) ((null_right_is w sc p s f area is_typed span t).operand refl)
   tests _ _ (a_variable {x = x} {d = d} h) q few = leaf (var x) d.ty (a_variable h) q few
   tests _ _ (a_field {s = span} {e = e} {f = g} {d = d} pl h n) q few = leaf (field span e g) d.ty (a_field pl h n) q few
   tests _ _ (a_target_field {s = span} {e = e} {f = g} {d = d} h n) q few = leaf (arrow span e g) d.ty (a_target_field h n) q few

@@ -34,7 +34,7 @@ use Rattle.cvm_words.specs.Words.{word_of}
 use Rattle.c0_expr_code.specs.Scope.{Scope}
 use Rattle.c0_expr_code.specs.Bases.{Bases, types_in, word}
 use Rattle.c0_expr_code.specs.Code.{fields_in, element_words, length_in, Spot, Made, constant_code, or_code, on_spot, load_code, operand_code, operand_register, at_place, constant, global_spot, local_spot, register_made, register_of, local_made, variable_made, moved, target_spot, tested_spot, element_spot, operator_code, two_code, one_code, logic_code, negative_made, unary_made, Immediate, immediate, immediate_of, operator_made, sum_made, is_sure, divisor_code, division_made, binary_made, field_made, made}
-use Rattle.c0_expr_code.specs.Relation.{layout, Scene, Ready, Area, Comes, Gives, Leads, Source, nought, its, far, ValueRuns, OperandRuns, Claims, Right}
+use Rattle.c0_expr_code.specs.Relation.{layout, IsTyped, Ready, Area, Comes, Gives, Leads, Source, nought, its, far, ValueRuns, OperandRuns, Claims, Right}
 use Rattle.c0_expr_code.proofs.Machine.{Machine, later, stays, code_front, code_back}
 use Rattle.c0_expr_code.proofs.Paths.{leads_from_on, length_fits, typed_there}
 use Rattle.c0_expr_code.proofs.Words.{word_pos}
@@ -63,11 +63,11 @@ need_some (unary p o e) = need_some e
 need_some (binary p o a b) = binary_some o (need a) (need b) (need_some a)
 need_some _ = omega arith
 
-module _ (w : World) (sc : Scope) (p : Bases) (s : State) (f : Machine w) (area : Area w sc p) (scene : Scene sc p s) where
+module _ (w : World) (sc : Scope) (p : Bases) (s : State) (f : Machine w) (area : Area w sc p) (is_typed : IsTyped sc p s) where
   -- where only the free register matters
   abbrev SpotRuns : (ℕ → Spot) → ℕ → Bool → Ty → ℕ → Costed Location → Type 0
   SpotRuns place need local t own e = (r n : ℕ) (c : Contents) (k : Behind) → k.pending ≡ Idle → Ready sc p s c → CodeAt w n (place r).code → 8 ≤ r
-      → r + need ≤ 20 → Source r (place r).base × Comes w sc own n (n + length (place r).code) c k (Leads sc p (place r).base (place r).shift r local t c) e
+      → r + need ≤ 20 → Source r (place r).base × Comes w sc own n (n + length (place r).code) c k (Leads sc p (place r).base (place r).displacement r local t c) e
 
   -- a node that is a place, by what its place's code does for its parts
   pub placed : (place : ℕ → Spot) (need : ℕ) (is local : Bool) (t : Ty) (own : ℕ) (e : Costed Location) → 1 ≤ need → own ≤ 13
@@ -75,7 +75,7 @@ module _ (w : World) (sc : Scope) (p : Bases) (s : State) (f : Machine w) (area 
   placed place need is local t own e some few runs = record {
     value = λ scalar d r n c k idle ready code lo hi nz no1. as_value scalar d r n c k idle ready code lo hi nz;
     operand = λ scalar r n c k idle ready code lo hi. (its, as_value scalar r r n c k idle ready code lo hi (λ z. absurd (omega (arith, z, lo))));
-    place = λ q z r n c k idle ready code lo hi. let a = runs r n c k idle ready code lo hi in (a.0, node w sc own n (n + length (place r).code) c k (Leads sc p (place r).base (place r).shift r local t c) e (omega arith) a.1);
+    place = λ q z r n c k idle ready code lo hi. let a = runs r n c k idle ready code lo hi in (a.0, node w sc own n (n + length (place r).code) c k (Leads sc p (place r).base (place r).displacement r local t c) e (omega arith) a.1);
   }
     where
       as_value : is_scalar t ≡ true → (d r n : ℕ) (c : Contents) (k : Behind) → k.pending ≡ Idle → Ready sc p s c
@@ -84,7 +84,7 @@ module _ (w : World) (sc : Scope) (p : Bases) (s : State) (f : Machine w) (area 
       as_value scalar d r n c k idle ready code lo hi nz =
           let a = runs r n c k idle ready (code_front w n (place r).code _ code) lo hi in
           node w sc (own + 3) n (n + length (load_code d r (place r))) c k (Gives sc p d r d t c) (loaded s e) (omega arith)
-          (loads w sc p s f area scene local t (place r) own d r n c k e idle (λ z b h. ready_on sc p s c b h ready) scalar lo (omega arith) nz a.0 code a.1)
+          (loads w sc p s f area is_typed local t (place r) own d r n c k e idle (λ z b h. ready_on sc p s c b h ready) scalar lo (omega arith) nz a.0 code a.1)
 
   -- a node that is only a value
   pub valued : (m : Made) (need : ℕ) (local : Bool) (t : Ty) (v : Costed Value) (l : Costed Location) → m.stands ≡ None
@@ -106,13 +106,13 @@ module _ (w : World) (sc : Scope) (p : Bases) (s : State) (f : Machine w) (area 
   constants_by : (b : Bool) (v u need : ℕ) (x : Value) (t : Ty) (literal : Option ℕ) (local : Bool) (l : Costed Location) → v < 2 ^ 32 → 1 ≤ u
       → nat_eq v 0 ≡ b → v ≡ word sc p x → Fits sc.env.structs (layout sc p) t x
       → OperandRuns w sc p s (record (constant v literal) { stands = cond b (Some 0) None }) need t (costs u (Ok x))
-  constants_by true v u need x t literal local l small some z e fits r n c k idle ready code lo hi = (nought, dearer u r 0 r n (n + 0) t x c k some (nothing_gives w sc p s f area scene r n t x c k (sym (eqb-true v 0 z) ∙ e) fits))
-  constants_by false v u need x t literal local l small some z e fits r n c k idle ready code lo hi = (its, dearer u r r r n _ t x c k some (constant_gives w sc p s f area scene r r n v t x c k small idle (λ z. absurd (omega (arith, z, lo))) code e fits))
+  constants_by true v u need x t literal local l small some z e fits r n c k idle ready code lo hi = (nought, dearer u r 0 r n (n + 0) t x c k some (nothing_gives w sc p s f area is_typed r n t x c k (sym (eqb-true v 0 z) ∙ e) fits))
+  constants_by false v u need x t literal local l small some z e fits r n c k idle ready code lo hi = (its, dearer u r r r n _ t x c k some (constant_gives w sc p s f area is_typed r r n v t x c k small idle (λ z. absurd (omega (arith, z, lo))) code e fits))
 
   pub constants : (v u need : ℕ) (x : Value) (t : Ty) (literal : Option ℕ) (local : Bool) (l : Costed Location) → v < 2 ^ 32 → 1 ≤ u
       → v ≡ word sc p x → Fits sc.env.structs (layout sc p) t x → Claims w sc p s (constant v literal) need false local t (costs u (Ok x)) l
   constants v u need x t literal local l small some e fits = record {
-    value = λ scalar d r n c k idle ready code lo hi nz no1. dearer u d d r n _ t x c k some (constant_gives w sc p s f area scene d r n v t x c k small idle nz code e fits);
+    value = λ scalar d r n c k idle ready code lo hi nz no1. dearer u d d r n _ t x c k some (constant_gives w sc p s f area is_typed d r n v t x c k small idle nz code e fits);
     operand = λ scalar. constants_by (nat_eq v 0) v u need x t literal local l small some refl e fits;
     place = λ q. absurd (cc);
   }
@@ -124,17 +124,17 @@ module _ (w : World) (sc : Scope) (p : Bases) (s : State) (f : Machine w) (area 
   -- variables
   global_variables : (x : ℕ) (t : Ty) → slice_get (types_of sc.env.globals) x ≡ Some t
       → Claims w sc p s (variable_made sc Global x) 1 true false t (paying 1 (loaded s (at_no_cost (variable_location Global x)))) (paying 1 (at_no_cost (variable_location Global x)))
-  global_variables x t h = placed (λ r. global_spot sc x) 1 true false t 0 (at_no_cost (variable_location Global x)) (omega arith) (omega arith) (λ r n c k idle ready code lo hi. (far (omega arith), global_place w sc p s f area scene x n r t c k ready h))
+  global_variables x t h = placed (λ r. global_spot sc x) 1 true false t 0 (at_no_cost (variable_location Global x)) (omega arith) (omega arith) (λ r n c k idle ready code lo hi. (far (omega arith), global_place w sc p s f area is_typed x n r t c k ready h))
 
   local_variables : (x : ℕ) (t : Ty) → slice_get (types_of sc.env.locals) x ≡ Some t → (b : Bool) → sc.in_registers ≡ b
       → Claims w sc p s (cond b (register_made (register_of x)) (at_place (λ r. local_spot sc x))) 1 true true t (paying 1 (loaded s (at_no_cost (variable_location Local x)))) (paying 1 (at_no_cost (variable_location Local x)))
-  local_variables x t h false form = placed (λ r. local_spot sc x) 1 true true t 0 (at_no_cost (variable_location Local x)) (omega arith) (omega arith) (λ r n c k idle ready code lo hi. (far (omega arith), local_place w sc p s f area scene x n r t c k ready form h))
+  local_variables x t h false form = placed (λ r. local_spot sc x) 1 true true t 0 (at_no_cost (variable_location Local x)) (omega arith) (omega arith) (λ r n c k idle ready code lo hi. (far (omega arith), local_place w sc p s f area is_typed x n r t c k ready form h))
   local_variables x t h true form =
       let low = (area.scalars form x t h).1 in
       let e : 20 + x ≡ register_of x = omega (arith, low) in
       subst (λ q. Claims w sc p s (register_made q) 1 true true t (paying 1 (loaded s (at_no_cost (variable_location Local x)))) (paying 1 (at_no_cost (variable_location Local x)))) e (record {
-        value = λ scalar d r n c k idle ready code lo hi nz no1. register_value w sc p s f area scene form x d r n t c k idle nz ready h code;
-        operand = λ scalar r n c k idle ready code lo hi. (far (omega arith), register_operand w sc p s f area scene form x r n t c k ready h);
+        value = λ scalar d r n c k idle ready code lo hi nz no1. register_value w sc p s f area is_typed form x d r n t c k idle nz ready h code;
+        operand = λ scalar r n c k idle ready code lo hi. (far (omega arith), register_operand w sc p s f area is_typed form x r n t c k ready h);
         place = λ q none. absurd (cc);
       })
 
@@ -154,7 +154,7 @@ module _ (w : World) (sc : Scope) (p : Bases) (s : State) (f : Machine w) (area 
   target_runs m need t e o some r n c k idle ready code lo hi =
       let a = o r n c k idle ready (code_front w n (operand_code m r) _ code) lo hi in
       let tail = code_back w n (operand_code m r) _ code in
-      let run = targets w sc p s f area scene t (operand_register m r) r n (n + length (operand_code m r)) c k e idle (omega arith) tail a.1 in
+      let run = targets w sc p s f area is_typed t (operand_register m r) r n (n + length (operand_code m r)) c k e idle (omega arith) tail a.1 in
       let len : n + length (operand_code m r) + 2 ≡ n + length (target_spot sc m r).code = omega (arith, length-append (operand_code m r) (Bne (operand_register m r) 0 1 ∷ J (sc.exit NullUse) ∷ [])) in
       (a.0, subst (λ to. Comes w sc 2 n to c k (Leads sc p (operand_register m r) 0 r false t c) (pointed e)) len run)
 
@@ -165,8 +165,8 @@ module _ (w : World) (sc : Scope) (p : Bases) (s : State) (f : Machine w) (area 
       SpotRuns (λ r. moved (4 * words_before sc.env.structs (fields_in sc.env.structs u) g.number) (place r)) need local t own (field_of g e)
   field_runs place need own local x g t u e some q h runs r n c k idle ready code lo hi =
       let a = runs r n c k idle ready code lo hi in
-      let b = fields w sc p s f area scene x g (place r).base own r n (n + length (place r).code) (place r).shift local t c k e (omega arith) ready h a.1 in
-      (a.0, subst (λ v. Comes w sc own n (n + length (place r).code) c k (Leads sc p (place r).base (((place r).shift + 4 * words_before sc.env.structs (fields_in sc.env.structs v) g.number) % 2 ^ 32) r local t c) (field_of g e)) (sym q) b)
+      let b = fields w sc p s f area is_typed x g (place r).base own r n (n + length (place r).code) (place r).displacement local t c k e (omega arith) ready h a.1 in
+      (a.0, subst (λ v. Comes w sc own n (n + length (place r).code) c k (Leads sc p (place r).base (((place r).displacement + 4 * words_before sc.env.structs (fields_in sc.env.structs v) g.number) % 2 ^ 32) r local t c) (field_of g e)) (sym q) b)
 
   -- elements
   known_runs : (place : ℕ → Spot) (na nb : ℕ) (local : Bool) (len j : ℕ) (t : Ty) (e : Costed Location) (i : Costed Value)
@@ -175,32 +175,32 @@ module _ (w : World) (sc : Scope) (p : Bases) (s : State) (f : Machine w) (area 
   known_runs place na nb local len j t e i is some less fits runs r n c k idle ready code lo hi =
       let a = runs r n c k idle ready code lo (omega arith) in
       let to : ℕ = n + length (place r).code in
-      let R : Location → Contents → Type 0 = Leads sc p (place r).base (((place r).shift + 4 * (j * words sc.env.structs t)) % 2 ^ 32) r local t c in (
+      let R : Location → Contents → Type 0 = Leads sc p (place r).base (((place r).displacement + 4 * (j * words sc.env.structs t)) % 2 ^ 32) r local t c in (
         a.0,
-        subst (λ v. Comes w sc 10 n (n + length (place r).code) c k (Leads sc p (place r).base (((place r).shift + 4 * (j * words sc.env.structs t)) % 2 ^ 32) r local t c) (indexed s e v)) (sym is)
-            (binds w sc 0 10 n (n + length (place r).code) (n + length (place r).code) c k (Leads sc p (place r).base (place r).shift r local (ty.array t len) c) (Leads sc p (place r).base (((place r).shift + 4 * (j * words sc.env.structs t)) % 2 ^ 32) r local t c) e _ a.1
+        subst (λ v. Comes w sc 10 n (n + length (place r).code) c k (Leads sc p (place r).base (((place r).displacement + 4 * (j * words sc.env.structs t)) % 2 ^ 32) r local t c) (indexed s e v)) (sym is)
+            (binds w sc 0 10 n (n + length (place r).code) (n + length (place r).code) c k (Leads sc p (place r).base (place r).displacement r local (ty.array t len) c) (Leads sc p (place r).base (((place r).displacement + 4 * (j * words sc.env.structs t)) % 2 ^ 32) r local t c) e _ a.1
             (λ l b g. keeps_low r r c b (omega arith) g.keeps)
             (λ l b g.
             let ready_b = ready_on sc p s c b (keeps_low r r c b (omega arith) g.keeps) ready in
-            let there = found w sc p s f area scene b l (ty.array t len) ready_b g.leads g.standing in
-            paid w sc 1 10 (n + length (place r).code) (n + length (place r).code) b k (Leads sc p (place r).base (((place r).shift + 4 * (j * words sc.env.structs t)) % 2 ^ 32) r local t c) (at_no_cost (element_of l (read s l) (int (pos j))))
-            (more w sc 0 (10 + 16 * 1) _ _ b k (Leads sc p (place r).base (((place r).shift + 4 * (j * words sc.env.structs t)) % 2 ^ 32) r local t c) (at_no_cost (element_of l (read s l) (int (pos j)))) (omega arith)
-            (subst (λ y. Comes w sc 0 (n + length (place r).code) (n + length (place r).code) b k (Leads sc p (place r).base (((place r).shift + 4 * (j * words sc.env.structs t)) % 2 ^ 32) r local t c) (at_no_cost (element_of l y (int (pos j))))) (sym there.seen.is)
+            let there = found w sc p s f area is_typed b l (ty.array t len) ready_b g.leads g.standing in
+            paid w sc 1 10 (n + length (place r).code) (n + length (place r).code) b k (Leads sc p (place r).base (((place r).displacement + 4 * (j * words sc.env.structs t)) % 2 ^ 32) r local t c) (at_no_cost (element_of l (read s l) (int (pos j))))
+            (more w sc 0 (10 + 16 * 1) _ _ b k (Leads sc p (place r).base (((place r).displacement + 4 * (j * words sc.env.structs t)) % 2 ^ 32) r local t c) (at_no_cost (element_of l (read s l) (int (pos j)))) (omega arith)
+            (subst (λ y. Comes w sc 0 (n + length (place r).code) (n + length (place r).code) b k (Leads sc p (place r).base (((place r).displacement + 4 * (j * words sc.env.structs t)) % 2 ^ 32) r local t c) (at_no_cost (element_of l y (int (pos j))))) (sym there.seen.is)
             (by_value l b g ready_b there.seen.value there.seen.fits))))),
       )
     where
-      by_value : (l : Location) (b : Contents) → Leads sc p (place r).base (place r).shift r local (ty.array t len) c l b → Ready sc p s b
+      by_value : (l : Location) (b : Contents) → Leads sc p (place r).base (place r).displacement r local (ty.array t len) c l b → Ready sc p s b
           → (y : Value) → Fits sc.env.structs (layout sc p) (ty.array t len) y
-          → Comes w sc 0 (n + length (place r).code) (n + length (place r).code) b k (Leads sc p (place r).base (((place r).shift + 4 * (j * words sc.env.structs t)) % 2 ^ 32) r local t c) (at_no_cost (element_of l (Some y) (int (pos j))))
+          → Comes w sc 0 (n + length (place r).code) (n + length (place r).code) b k (Leads sc p (place r).base (((place r).displacement + 4 * (j * words sc.env.structs t)) % 2 ^ 32) r local t c) (at_no_cost (element_of l (Some y) (int (pos j))))
       by_value l b g ready_b (group vs) h =
           let path : PathLeads sc.env.structs (ty.array t len) (j ∷ []) t = (ltb-true j len less, refl) in
           let leads = leads_from_on sc.env.structs (types_in sc p l.region) l.path (ty.array t len) j t g.leads path in
-          let there = found w sc p s f area scene b (value.below l j) t ready_b leads g.standing in
+          let there = found w sc p s f area is_typed b (value.below l j) t ready_b leads g.standing in
           let size : value.count vs ≡ len = length_fits sc.env.structs (layout sc p) len t vs h in
           let yes : nat_lt j (value.count vs) ≡ true = ap (nat_lt j) size ∙ less in
-          subst (λ o. Comes w sc 0 (n + length (place r).code) (n + length (place r).code) b k (Leads sc p (place r).base (((place r).shift + 4 * (j * words sc.env.structs t)) % 2 ^ 32) r local t c) (at_no_cost o)) (sym (cond-true (nat_lt j (value.count vs)) (Ok (value.below l j)) (Err (faulted Bounds)) yes))
-          (arrives w sc 0 _ _ b b k (Leads sc p (place r).base (((place r).shift + 4 * (j * words sc.env.structs t)) % 2 ^ 32) r local t c) (value.below l j)
-          (part_leads w sc p s f area scene (place r).base (place r).shift (j * words sc.env.structs t) r j local (ty.array t len) t c b l path (let z : j * words sc.env.structs t + 0 ≡ j * words sc.env.structs t = omega arith in z) there.inside g) (stays w _ _ refl))
+          subst (λ o. Comes w sc 0 (n + length (place r).code) (n + length (place r).code) b k (Leads sc p (place r).base (((place r).displacement + 4 * (j * words sc.env.structs t)) % 2 ^ 32) r local t c) (at_no_cost o)) (sym (cond-true (nat_lt j (value.count vs)) (Ok (value.below l j)) (Err (faulted Bounds)) yes))
+          (arrives w sc 0 _ _ b b k (Leads sc p (place r).base (((place r).displacement + 4 * (j * words sc.env.structs t)) % 2 ^ 32) r local t c) (value.below l j)
+          (part_leads w sc p s f area is_typed (place r).base (place r).displacement (j * words sc.env.structs t) r j local (ty.array t len) t c b l path (let z : j * words sc.env.structs t + 0 ≡ j * words sc.env.structs t = omega arith in z) there.inside g) (stays w _ _ refl))
       by_value l b g ready_b (int z) h = absurd h
       by_value l b g ready_b (bool z) h = absurd h
       by_value l b g ready_b value.null h = absurd h
@@ -211,7 +211,7 @@ module _ (w : World) (sc : Scope) (p : Bases) (s : State) (f : Machine w) (area 
       SpotRuns (λ r. tested_spot sc (words sc.env.structs t) len (place r) m r) (max na (nb + 1)) local t 10 (indexed s e i)
   tested_runs place m na nb local len t e i some more_than runs o r n c k idle ready code lo hi =
       let a = runs r n c k idle ready (code_front w n (place r).code _ code) lo (omega arith) in
-      (its, indexes w sc p s f area scene len t local (place r) m r n c k e i idle lo (omega arith) ready a.0 code a.1 (λ b ready_b there. o (r + 1) (n + length (place r).code) b k idle ready_b there (omega arith) (omega arith)))
+      (its, indexes w sc p s f area is_typed len t local (place r) m r n c k e i idle lo (omega arith) ready a.0 code a.1 (λ b ready_b there. o (r + 1) (n + length (place r).code) b k idle ready_b there (omega arith) (omega arith)))
 
   element_runs : (place : ℕ → Spot) (m : Made) (na nb : ℕ) (local : Bool) (len : ℕ) (t : Ty) (e : Costed Location) (i : Costed Value) → 1 ≤ na
       → 1 ≤ nb → SpotRuns place na local (ty.array t len) 0 e → OperandRuns w sc p s m nb ty.int i → (o : Option ℕ)
@@ -294,7 +294,7 @@ module _ (w : World) (sc : Scope) (p : Bases) (s : State) (f : Machine w) (area 
     units : ℕ
     value : Value
     is : y ≡ costs units (Ok value)
-    runs : (d r : ℕ) → d ≢ 0 → With w sc p s f area scene g d r t z (λ x. on x value)
+    runs : (d r : ℕ) → d ≢ 0 → With w sc p s f area is_typed g d r t z (λ x. on x value)
 
   known_some : (o : BinaryOp) (m : Option ℕ) (g : ℕ → ℕ → List Inst) → immediate_of o m ≡ Some g → (k : ℕ) × (m ≡ Some k) × (immediate o k ≡ Some g)
   known_some o None g e = absurd (cc)
@@ -303,7 +303,7 @@ module _ (w : World) (sc : Scope) (p : Bases) (s : State) (f : Machine w) (area 
   -- with an int
   knows_int : (o : BinaryOp) (z : Ty) (m : Option ℕ) (y : Costed Value) (on : Value → Value → Result Value Failure)
       → ((k : ℕ) → m ≡ Some k → KnownAs sc p ty.int k y)
-      → ((d r : ℕ) (v : ℤ) → d ≢ 0 → FitsSigned w32 v → (g : ℕ → ℕ → List Inst) → immediate o (word_of v) ≡ Some g → With w sc p s f area scene g d r ty.int z (λ x. on x (int v)))
+      → ((d r : ℕ) (v : ℤ) → d ≢ 0 → FitsSigned w32 v → (g : ℕ → ℕ → List Inst) → immediate o (word_of v) ≡ Some g → With w sc p s f area is_typed g d r ty.int z (λ x. on x (int v)))
       → (g : ℕ → ℕ → List Inst) → immediate_of o m ≡ Some g → Knows g ty.int z y on
   knows_int o z m y on known law g e =
       let h = known_some o m g e in
@@ -321,7 +321,7 @@ module _ (w : World) (sc : Scope) (p : Bases) (s : State) (f : Machine w) (area 
   -- with any scalar
   knows_scalar : (o : BinaryOp) (t : Ty) (m : Option ℕ) (y : Costed Value) (on : Value → Value → Result Value Failure)
       → ((k : ℕ) → m ≡ Some k → KnownAs sc p t k y)
-      → ((d r : ℕ) (v : Value) → d ≢ 0 → Fits sc.env.structs (layout sc p) t v → (g : ℕ → ℕ → List Inst) → immediate o (word sc p v) ≡ Some g → With w sc p s f area scene g d r t ty.bool (λ x. on x v))
+      → ((d r : ℕ) (v : Value) → d ≢ 0 → Fits sc.env.structs (layout sc p) t v → (g : ℕ → ℕ → List Inst) → immediate o (word sc p v) ≡ Some g → With w sc p s f area is_typed g d r t ty.bool (λ x. on x v))
       → (g : ℕ → ℕ → List Inst) → immediate_of o m ≡ Some g → Knows g t ty.bool y on
   knows_scalar o t m y on known law g e =
       let h = known_some o m g e in
@@ -331,15 +331,15 @@ module _ (w : World) (sc : Scope) (p : Bases) (s : State) (f : Machine w) (area 
   -- an operator on two values, the right of which may be a constant
   operators_right : (im : Immediate) (o : BinaryOp) (t z : Ty) (a b : Made) (na nb : ℕ) (local : Bool) (x y : Costed Value) (l : Costed Location)
       → is_scalar t ≡ true → 1 ≤ na → 1 ≤ nb → OperandRuns w sc p s a na t x → OperandRuns w sc p s b nb t y
-      → ((d r : ℕ) → d ≢ 0 → Finishes w sc p s f area scene (λ q g. operator_code o d q g) d r t t z (on_binary o))
+      → ((d r : ℕ) → d ≢ 0 → Finishes w sc p s f area is_typed (λ q g. operator_code o d q g) d r t t z (on_binary o))
       → ((g : ℕ → ℕ → List Inst) → im ≡ Some g → Knows g t z y (on_binary o))
       → Claims w sc p s (operator_made im o a b) (max na (nb + 1)) false local z (paying 1 (x >>= λ v. y >>= λ u. at_no_cost (on_binary o v u))) l
   operators_right (Some g) o t z a b na nb local x y l scalar ha hb oa ob finish knows = valued (operator_made (Some g) o a b) (max na (nb + 1)) local z _ l refl (λ d r n c k idle ready code lo hi nz no1.
       let v = knows g refl in
       known_right v.units n _ c k (Gives sc p d r d z c) x y v.value (on_binary o) v.is
-      (ones w sc p s f area scene (λ q. g d q) a na (λ e. on_binary o e v.value) t z d r n c k x idle lo (omega arith) ha ready code oa (v.runs d r nz)))
+      (ones w sc p s f area is_typed (λ q. g d q) a na (λ e. on_binary o e v.value) t z d r n c k x idle lo (omega arith) ha ready code oa (v.runs d r nz)))
   operators_right None o t z a b na nb local x y l scalar ha hb oa ob finish knows = valued (operator_made None o a b) (max na (nb + 1)) local z _ l refl (λ d r n c k idle ready code lo hi nz no1.
-      twos w sc p s f area scene (λ v. Unit {0}) (λ q t. operator_code o d q t) a b na nb (on_binary o) t t z d r n c k x y idle lo (omega arith) (omega arith) hb ready code oa ob (any_answer y) (finish d r nz))
+      twos w sc p s f area is_typed (λ v. Unit {0}) (λ q t. operator_code o d q t) a b na nb (on_binary o) t t z d r n c k x y idle lo (omega arith) (omega arith) hb ready code oa ob (any_answer y) (finish d r nz))
 
   sums_right : (i j : Immediate) (a b : Made) (na nb : ℕ) (local : Bool) (x y : Costed Value) (l : Costed Location) → 1 ≤ na → 1 ≤ nb
       → OperandRuns w sc p s a na ty.int x → OperandRuns w sc p s b nb ty.int y
@@ -349,13 +349,13 @@ module _ (w : World) (sc : Scope) (p : Bases) (s : State) (f : Machine w) (area 
   sums_right (Some g) j a b na nb local x y l ha hb oa ob right left = valued (sum_made (Some g) j a b) (max na (nb + 1)) local ty.int _ l refl (λ d r n c k idle ready code lo hi nz no1.
       let v = right g refl in
       known_right v.units n _ c k (Gives sc p d r d ty.int c) x y v.value (on_binary Add) v.is
-      (ones w sc p s f area scene (λ q. g d q) a na (λ e. on_binary Add e v.value) ty.int ty.int d r n c k x idle lo (omega arith) ha ready code oa (v.runs d r nz)))
+      (ones w sc p s f area is_typed (λ q. g d q) a na (λ e. on_binary Add e v.value) ty.int ty.int d r n c k x idle lo (omega arith) ha ready code oa (v.runs d r nz)))
   sums_right None (Some g) a b na nb local x y l ha hb oa ob right left = valued (sum_made None (Some g) a b) (max na (nb + 1)) local ty.int _ l refl (λ d r n c k idle ready code lo hi nz no1.
       let v = left g refl in
       known_left v.units n _ c k (Gives sc p d r d ty.int c) x y v.value (on_binary Add) v.is
-      (ones w sc p s f area scene (λ q. g d q) b nb (λ e. on_binary Add v.value e) ty.int ty.int d r n c k y idle lo (omega arith) hb ready code ob (v.runs d r nz)))
+      (ones w sc p s f area is_typed (λ q. g d q) b nb (λ e. on_binary Add v.value e) ty.int ty.int d r n c k y idle lo (omega arith) hb ready code ob (v.runs d r nz)))
   sums_right None None a b na nb local x y l ha hb oa ob right left = valued (sum_made None None a b) (max na (nb + 1)) local ty.int _ l refl (λ d r n c k idle ready code lo hi nz no1.
-      twos w sc p s f area scene (λ v. Unit {0}) (λ q t. operator_code Add d q t) a b na nb (on_binary Add) ty.int ty.int ty.int d r n c k x y idle lo (omega arith) (omega arith) hb ready code oa ob (any_answer y) (sums w sc p s f area scene Add d r nz ring.add))
+      twos w sc p s f area is_typed (λ v. Unit {0}) (λ q t. operator_code Add d q t) a b na nb (on_binary Add) ty.int ty.int ty.int d r n c k x y idle lo (omega arith) (omega arith) hb ready code oa ob (any_answer y) (sums w sc p s f area is_typed Add d r nz ring.add))
 
   -- a divisor that is sure isn't 0
   sure_number : (o : Option ℕ) → is_sure o ≡ true → (k : ℕ) × (o ≡ Some (suc k))
@@ -378,46 +378,46 @@ module _ (w : World) (sc : Scope) (p : Bases) (s : State) (f : Machine w) (area 
       → ((k : ℕ) → a.known ≡ Some k → KnownAs sc p ty.int k x) → ((k : ℕ) → b.known ≡ Some k → KnownAs sc p ty.int k y)
       → Claims w sc p s (binary_made sc o a b) (binary_need o na nb) false local ty.int (paying 1 (both o x y)) l
   arithmetic_right _ add a b na nb local x y l ha hb oa ob ka kb = sums_right (immediate_of Add b.known) (immediate_of Add a.known) a b na nb local x y l ha hb oa ob
-      (knows_int Add ty.int b.known y (on_binary Add) kb (λ d r v nz fv g e. adds_with w sc p s f area scene d r v nz fv g e)) (knows_int Add ty.int a.known x (λ v u. on_binary Add u v) ka (λ d r v nz fv g e. adds_left w sc p s f area scene d r v nz fv g e))
-  arithmetic_right _ sub a b na nb local x y l ha hb oa ob ka kb = operators_right (immediate_of Sub b.known) Sub ty.int ty.int a b na nb local x y l refl ha hb oa ob (λ d r nz. sums w sc p s f area scene Sub d r nz ring.sub)
-      (knows_int Sub ty.int b.known y (on_binary Sub) kb (λ d r v nz fv g e. subtracts_with w sc p s f area scene d r v nz fv g e))
-  arithmetic_right _ mul a b na nb local x y l ha hb oa ob ka kb = operators_right None Mul ty.int ty.int a b na nb local x y l refl ha hb oa ob (λ d r nz. sums w sc p s f area scene Mul d r nz ring.mul) (λ g e. absurd (cc))
+      (knows_int Add ty.int b.known y (on_binary Add) kb (λ d r v nz fv g e. adds_with w sc p s f area is_typed d r v nz fv g e)) (knows_int Add ty.int a.known x (λ v u. on_binary Add u v) ka (λ d r v nz fv g e. adds_left w sc p s f area is_typed d r v nz fv g e))
+  arithmetic_right _ sub a b na nb local x y l ha hb oa ob ka kb = operators_right (immediate_of Sub b.known) Sub ty.int ty.int a b na nb local x y l refl ha hb oa ob (λ d r nz. sums w sc p s f area is_typed Sub d r nz ring.sub)
+      (knows_int Sub ty.int b.known y (on_binary Sub) kb (λ d r v nz fv g e. subtracts_with w sc p s f area is_typed d r v nz fv g e))
+  arithmetic_right _ mul a b na nb local x y l ha hb oa ob ka kb = operators_right None Mul ty.int ty.int a b na nb local x y l refl ha hb oa ob (λ d r nz. sums w sc p s f area is_typed Mul d r nz ring.mul) (λ g e. absurd (cc))
   arithmetic_right _ div a b na nb local x y l ha hb oa ob ka kb = valued (binary_made sc Div a b) (max na (nb + 1)) local ty.int _ l refl (λ d r n c k idle ready code lo hi nz no1.
-      twos w sc p s f area scene (λ v. is_sure b.known ≡ true → word sc p v ≢ 0) (λ q t. divisor_code sc (is_sure b.known) t ++ (Divide q t ∷ Mflo d ∷ [])) a b na nb (on_binary Div) ty.int ty.int ty.int d r n c k x y idle lo (omega arith) (omega arith) hb ready code oa ob
-      (sure_answers b.known y kb (is_sure b.known) refl) (quotients w sc p s f area scene d r nz (is_sure b.known)))
+      twos w sc p s f area is_typed (λ v. is_sure b.known ≡ true → word sc p v ≢ 0) (λ q t. divisor_code sc (is_sure b.known) t ++ (Divide q t ∷ Mflo d ∷ [])) a b na nb (on_binary Div) ty.int ty.int ty.int d r n c k x y idle lo (omega arith) (omega arith) hb ready code oa ob
+      (sure_answers b.known y kb (is_sure b.known) refl) (quotients w sc p s f area is_typed d r nz (is_sure b.known)))
   arithmetic_right _ rem a b na nb local x y l ha hb oa ob ka kb = valued (binary_made sc Rem a b) (max na (nb + 1)) local ty.int _ l refl (λ d r n c k idle ready code lo hi nz no1.
-      twos w sc p s f area scene (λ v. is_sure b.known ≡ true → word sc p v ≢ 0) (λ q t. divisor_code sc (is_sure b.known) t ++ (Divide q t ∷ Mfhi d ∷ [])) a b na nb (on_binary Rem) ty.int ty.int ty.int d r n c k x y idle lo (omega arith) (omega arith) hb ready code oa ob
-      (sure_answers b.known y kb (is_sure b.known) refl) (remainders w sc p s f area scene d r nz (is_sure b.known)))
+      twos w sc p s f area is_typed (λ v. is_sure b.known ≡ true → word sc p v ≢ 0) (λ q t. divisor_code sc (is_sure b.known) t ++ (Divide q t ∷ Mfhi d ∷ [])) a b na nb (on_binary Rem) ty.int ty.int ty.int d r n c k x y idle lo (omega arith) (omega arith) hb ready code oa ob
+      (sure_answers b.known y kb (is_sure b.known) refl) (remainders w sc p s f area is_typed d r nz (is_sure b.known)))
 
   orders_right : (o : BinaryOp) → IsOrder o → (a b : Made) (na nb : ℕ) (local : Bool) (x y : Costed Value) (l : Costed Location) → 1 ≤ na → 1 ≤ nb
       → OperandRuns w sc p s a na ty.int x → OperandRuns w sc p s b nb ty.int y
       → ((k : ℕ) → b.known ≡ Some k → KnownAs sc p ty.int k y)
       → Claims w sc p s (binary_made sc o a b) (binary_need o na nb) false local ty.bool (paying 1 (both o x y)) l
-  orders_right _ lt a b na nb local x y l ha hb oa ob kb = operators_right (immediate_of Lt b.known) Lt ty.int ty.bool a b na nb local x y l refl ha hb oa ob (λ d r nz. orders w sc p s f area scene Lt d r nz lt)
-      (knows_int Lt ty.bool b.known y (on_binary Lt) kb (λ d r v nz fv g e. below_with w sc p s f area scene d r v nz fv g e))
-  orders_right _ le a b na nb local x y l ha hb oa ob kb = operators_right (immediate_of Le b.known) Le ty.int ty.bool a b na nb local x y l refl ha hb oa ob (λ d r nz. orders w sc p s f area scene Le d r nz le)
-      (knows_int Le ty.bool b.known y (on_binary Le) kb (λ d r v nz fv g e. at_most_with w sc p s f area scene d r v nz fv g e))
-  orders_right _ gt a b na nb local x y l ha hb oa ob kb = operators_right None Gt ty.int ty.bool a b na nb local x y l refl ha hb oa ob (λ d r nz. orders w sc p s f area scene Gt d r nz gt) (λ g e. absurd (cc))
-  orders_right _ ge a b na nb local x y l ha hb oa ob kb = operators_right (immediate_of Ge b.known) Ge ty.int ty.bool a b na nb local x y l refl ha hb oa ob (λ d r nz. orders w sc p s f area scene Ge d r nz ge)
-      (knows_int Ge ty.bool b.known y (on_binary Ge) kb (λ d r v nz fv g e. at_least_with w sc p s f area scene d r v nz fv g e))
+  orders_right _ lt a b na nb local x y l ha hb oa ob kb = operators_right (immediate_of Lt b.known) Lt ty.int ty.bool a b na nb local x y l refl ha hb oa ob (λ d r nz. orders w sc p s f area is_typed Lt d r nz lt)
+      (knows_int Lt ty.bool b.known y (on_binary Lt) kb (λ d r v nz fv g e. below_with w sc p s f area is_typed d r v nz fv g e))
+  orders_right _ le a b na nb local x y l ha hb oa ob kb = operators_right (immediate_of Le b.known) Le ty.int ty.bool a b na nb local x y l refl ha hb oa ob (λ d r nz. orders w sc p s f area is_typed Le d r nz le)
+      (knows_int Le ty.bool b.known y (on_binary Le) kb (λ d r v nz fv g e. at_most_with w sc p s f area is_typed d r v nz fv g e))
+  orders_right _ gt a b na nb local x y l ha hb oa ob kb = operators_right None Gt ty.int ty.bool a b na nb local x y l refl ha hb oa ob (λ d r nz. orders w sc p s f area is_typed Gt d r nz gt) (λ g e. absurd (cc))
+  orders_right _ ge a b na nb local x y l ha hb oa ob kb = operators_right (immediate_of Ge b.known) Ge ty.int ty.bool a b na nb local x y l refl ha hb oa ob (λ d r nz. orders w sc p s f area is_typed Ge d r nz ge)
+      (knows_int Ge ty.bool b.known y (on_binary Ge) kb (λ d r v nz fv g e. at_least_with w sc p s f area is_typed d r v nz fv g e))
 
   equals_right : (o : BinaryOp) → IsEquality o → (t : Ty) → is_scalar t ≡ true
       → (a b : Made) (na nb : ℕ) (local : Bool) (x y : Costed Value) (l : Costed Location) → 1 ≤ na → 1 ≤ nb → OperandRuns w sc p s a na t x
       → OperandRuns w sc p s b nb t y
       → ((k : ℕ) → b.known ≡ Some k → KnownAs sc p t k y)
       → Claims w sc p s (binary_made sc o a b) (binary_need o na nb) false local ty.bool (paying 1 (both o x y)) l
-  equals_right _ eq t z a b na nb local x y l ha hb oa ob kb = operators_right (immediate_of Eq b.known) Eq t ty.bool a b na nb local x y l z ha hb oa ob (λ d r nz. equals w sc p s f area scene Eq t d r z nz eq)
-      (knows_scalar Eq t b.known y (on_binary Eq) kb (λ d r v nz fv g e. equals_with w sc p s f area scene d r t v nz z fv g e))
-  equals_right _ ne t z a b na nb local x y l ha hb oa ob kb = operators_right (immediate_of Ne b.known) Ne t ty.bool a b na nb local x y l z ha hb oa ob (λ d r nz. equals w sc p s f area scene Ne t d r z nz ne)
-      (knows_scalar Ne t b.known y (on_binary Ne) kb (λ d r v nz fv g e. differs_with w sc p s f area scene d r t v nz z fv g e))
+  equals_right _ eq t z a b na nb local x y l ha hb oa ob kb = operators_right (immediate_of Eq b.known) Eq t ty.bool a b na nb local x y l z ha hb oa ob (λ d r nz. equals w sc p s f area is_typed Eq t d r z nz eq)
+      (knows_scalar Eq t b.known y (on_binary Eq) kb (λ d r v nz fv g e. equals_with w sc p s f area is_typed d r t v nz z fv g e))
+  equals_right _ ne t z a b na nb local x y l ha hb oa ob kb = operators_right (immediate_of Ne b.known) Ne t ty.bool a b na nb local x y l z ha hb oa ob (λ d r nz. equals w sc p s f area is_typed Ne t d r z nz ne)
+      (knows_scalar Ne t b.known y (on_binary Ne) kb (λ d r v nz fv g e. differs_with w sc p s f area is_typed d r t v nz z fv g e))
 
   logics_right : (o : BinaryOp) → IsLogical o → (a b : Made) (na nb : ℕ) (local : Bool) (x y : Costed Value) (l : Costed Location) → 1 ≤ na → 1 ≤ nb
       → ((r : ℕ) → length (b.value r r) < 32768) → ValueRuns w sc p s a na ty.bool x → ValueRuns w sc p s b nb ty.bool y
       → Claims w sc p s (binary_made sc o a b) (binary_need o na nb) false local ty.bool (paying 1 (both o x y)) l
   logics_right _ and a b na nb local x y l ha hb short va vb = valued (binary_made sc And a b) (max na nb) local ty.bool _ l refl (λ d r n c k idle ready code lo hi nz no1.
-      logics w sc p s f area scene (λ z. Beq r 0 z) false a b na nb d r n c k x y (λ b. if b then y else at_no_cost (Ok (bool false))) idle lo (omega arith) (omega arith) hb nz no1 ready code (λ m there. let few : length (b.value r r) % 2 ^ 16 ≡ length (b.value r r) = let z = short r in omega (arith, z) in subst (λ v. Skip w sc p s f area scene (Beq r 0 v) false r (length (b.value r r)) m k) (sym few) (skips_and w sc p s f area scene r (length (b.value r r)) m k idle (short r) (subst (λ v. w.code m ≡ Some (Beq r 0 v)) few there))) refl refl va vb)
+      logics w sc p s f area is_typed (λ z. Beq r 0 z) false a b na nb d r n c k x y (λ b. if b then y else at_no_cost (Ok (bool false))) idle lo (omega arith) (omega arith) hb nz no1 ready code (λ m there. let few : length (b.value r r) % 2 ^ 16 ≡ length (b.value r r) = let z = short r in omega (arith, z) in subst (λ v. Skip w sc p s f area is_typed (Beq r 0 v) false r (length (b.value r r)) m k) (sym few) (skips_and w sc p s f area is_typed r (length (b.value r r)) m k idle (short r) (subst (λ v. w.code m ≡ Some (Beq r 0 v)) few there))) refl refl va vb)
   logics_right _ or a b na nb local x y l ha hb short va vb = valued (binary_made sc Or a b) (max na nb) local ty.bool _ l refl (λ d r n c k idle ready code lo hi nz no1.
-      logics w sc p s f area scene (λ z. Bne r 0 z) true a b na nb d r n c k x y (λ b. if b then at_no_cost (Ok (bool true)) else y) idle lo (omega arith) (omega arith) hb nz no1 ready code (λ m there. let few : length (b.value r r) % 2 ^ 16 ≡ length (b.value r r) = let z = short r in omega (arith, z) in subst (λ v. Skip w sc p s f area scene (Bne r 0 v) true r (length (b.value r r)) m k) (sym few) (skips_or w sc p s f area scene r (length (b.value r r)) m k idle (short r) (subst (λ v. w.code m ≡ Some (Bne r 0 v)) few there))) refl refl va vb)
+      logics w sc p s f area is_typed (λ z. Bne r 0 z) true a b na nb d r n c k x y (λ b. if b then at_no_cost (Ok (bool true)) else y) idle lo (omega arith) (omega arith) hb nz no1 ready code (λ m there. let few : length (b.value r r) % 2 ^ 16 ≡ length (b.value r r) = let z = short r in omega (arith, z) in subst (λ v. Skip w sc p s f area is_typed (Bne r 0 v) true r (length (b.value r r)) m k) (sym few) (skips_or w sc p s f area is_typed r (length (b.value r r)) m k idle (short r) (subst (λ v. w.code m ≡ Some (Bne r 0 v)) few there))) refl refl va vb)
 
   short_code : (e : CExpr) (r : ℕ) → nodes e ≤ 2000 → length ((made sc e).value r r) < 32768
   short_code e r few = let a = value_length sc e r r in omega (arith, a, few)
@@ -430,7 +430,7 @@ module _ (w : World) (sc : Scope) (p : Bases) (s : State) (f : Machine w) (area 
       let a = known (Rattle.c0_expr_code.specs.Code.negated n) refl in
       subst (λ y. Claims w sc p s (negative_made (Some n) m) need false false ty.int y l) (sym a.is) (constants (Rattle.c0_expr_code.specs.Code.negated n) a.units need a.value ty.int None false l (omega arith) a.some (sym a.word_is) a.fits)
   negatives_right None m need x l some oa known = valued (negative_made None m) need false ty.int _ l refl (λ d r n c k idle ready code lo hi nz no1.
-      ones w sc p s f area scene (λ q. Subu d 0 q ∷ []) m need (on_unary Negate) ty.int ty.int d r n c k x idle lo hi some ready code oa (negatives w sc p s f area scene d r nz))
+      ones w sc p s f area is_typed (λ q. Subu d 0 q ∷ []) m need (on_unary Negate) ty.int ty.int d r n c k x idle lo hi some ready code oa (negatives w sc p s f area is_typed d r nz))
 
   -- every typed expression
   pub right : (e : CExpr) (t : Ty) → HasNumberedType sc.env e t → nodes e ≤ 2000 → Right w sc p s e t
@@ -461,13 +461,13 @@ module _ (w : World) (sc : Scope) (p : Bases) (s : State) (f : Machine w) (area 
       let some = need_some e in
       let a = part.place pl (stands_away e pl away) r n c k idle ready (code_front w n ((made sc e).place r).code _ code) lo hi in
       node w sc 3 n (n + length (on_spot (λ b j. Addiu d b j) r ((made sc e).place r))) c k (Gives sc p d r d (ty.pointer t) c) (place_of e s >>= λ l. at_no_cost (Ok (at l))) (omega arith)
-      (addresses w sc p s f area scene t ((made sc e).place r) 0 d r n c k (place_of e s) idle lo (omega arith) nz a.0 code
-      (subst (λ b. Comes w sc 0 n (n + length ((made sc e).place r).code) c k (Leads sc p ((made sc e).place r).base ((made sc e).place r).shift r b t c) (place_of e s)) away a.1)))
+      (addresses w sc p s f area is_typed t ((made sc e).place r) 0 d r n c k (place_of e s) idle lo (omega arith) nz a.0 code
+      (subst (λ b. Comes w sc 0 n (n + length ((made sc e).place r).code) c k (Leads sc p ((made sc e).place r).base ((made sc e).place r).displacement r b t c) (place_of e s)) away a.1)))
   right _ _ (a_negative {e = e} h) few =
       negatives_right (made sc e).literal (made sc e) (need e) (value_of e s) _ (need_some e) ((right e ty.int h (omega arith)).operand refl) (λ k q. negative_known sc p e s k (made sc e).literal h refl q)
   right _ _ (a_negation {e = e} h) few =
       let part = right e ty.bool h (omega arith) in
-      valued _ (need e) false ty.bool _ _ refl (λ d r n c k idle ready code lo hi nz no1. ones w sc p s f area scene (λ q. Xori d q 1 ∷ []) (made sc e) (need e) (on_unary Not) ty.bool ty.bool d r n c k (value_of e s) idle lo hi (need_some e) ready code (part.operand refl) (negations w sc p s f area scene d r nz))
+      valued _ (need e) false ty.bool _ _ refl (λ d r n c k idle ready code lo hi nz no1. ones w sc p s f area is_typed (λ q. Xori d q 1 ∷ []) (made sc e) (need e) (on_unary Not) ty.bool ty.bool d r n c k (value_of e s) idle lo hi (need_some e) ready code (part.operand refl) (negations w sc p s f area is_typed d r nz))
   right _ _ (arithmetic {o = o} {a = a} {b = b} q h g) few =
       arithmetic_right o q (made sc a) (made sc b) (need a) (need b) false (value_of a s) (value_of b s) _ (need_some a) (need_some b) ((right a ty.int h (omega arith)).operand refl) ((right b ty.int g (omega arith)).operand refl) (λ k e. known_is sc p a ty.int s k h e) (λ k e. known_is sc p b ty.int s k g e)
   right _ _ (order {o = o} {a = a} {b = b} q h g) few =

@@ -42,7 +42,7 @@ length_in _ = 0
 pub record Spot : Type 0 where
   pub code : List Inst
   pub base : ℕ
-  pub shift : ℕ
+  pub displacement : ℕ
 
 -- A node: its value's code, into target with free registers from free; its place; the register where it stands with no code, if it
 -- does; the number that is written there, if it is one; and the word that it is known to be, if it is.
@@ -55,7 +55,7 @@ pub record Made : Type 0 where
 
 -- no place
 abbrev pub no_spot : ℕ → Spot
-no_spot r = record { code = []; base = 0; shift = 0 }
+no_spot r = record { code = []; base = 0; displacement = 0 }
 
 -- the lower half of a word
 abbrev pub low : ℕ → ℕ
@@ -77,7 +77,8 @@ constant_code d n =
 -- an instruction on a place, with a register for the address where the displacement is far
 abbrev pub on_spot : (ℕ → ℕ → Inst) → ℕ → Spot → List Inst
 on_spot f r x =
-    x.code ++ (if is_near x.shift then f x.base (low x.shift) ∷ [] else Lui SCRATCH (high x.shift) ∷ Addu r x.base SCRATCH ∷ f r (low x.shift) ∷ [])
+    x.code ++ (if is_near x.displacement then f x.base (low x.displacement) ∷ []
+    else Lui SCRATCH (high x.displacement) ∷ Addu r x.base SCRATCH ∷ f r (low x.displacement) ∷ [])
 
 -- what stands at a place, into a register
 abbrev pub load_code : ℕ → ℕ → Spot → List Inst
@@ -114,7 +115,7 @@ only_value code = record { value = code; place = no_spot; stands = None; literal
 
 -- the global of a number
 abbrev pub global_spot : Scope → ℕ → Spot
-global_spot sc n = record { code = []; base = GLOBALS; shift = 4 * words_before sc.env.structs (types_of sc.env.globals) n % 2 ^ 32 }
+global_spot sc n = record { code = []; base = GLOBALS; displacement = 4 * words_before sc.env.structs (types_of sc.env.globals) n % 2 ^ 32 }
 
 -- the bytes from the frame's end back to its beginning, modulo 2 ^ 32
 abbrev pub frame_back : Scope → ℕ
@@ -123,7 +124,7 @@ frame_back sc = 2 ^ 32 - 4 * sc.frame % 2 ^ 32
 -- the variable of a number in the frame, which begins with three words of its own
 abbrev pub local_spot : Scope → ℕ → Spot
 local_spot sc n =
-    record { code = []; base = FRAME_END; shift = (frame_back sc + (12 + 4 * words_before sc.env.structs (types_of sc.env.locals) n)) % 2 ^ 32 }
+    record { code = []; base = FRAME_END; displacement = (frame_back sc + (12 + 4 * words_before sc.env.structs (types_of sc.env.locals) n)) % 2 ^ 32 }
 
 -- what stands in a register
 abbrev pub register_made : ℕ → Made
@@ -149,12 +150,12 @@ variable_made sc Primitive n = at_place no_spot
 
 -- the place so many bytes further
 abbrev pub moved : ℕ → Spot → Spot
-moved k x = record { code = x.code; base = x.base; shift = (x.shift + k) % 2 ^ 32 }
+moved k x = record { code = x.code; base = x.base; displacement = (x.displacement + k) % 2 ^ 32 }
 
 -- what a pointer points to
 abbrev pub target_spot : Scope → Made → ℕ → Spot
 target_spot sc m r =
-    record { code = operand_code m r ++ (Bne (operand_register m r) 0 1 ∷ J (sc.exit NullUse) ∷ []); base = operand_register m r; shift = 0 }
+    record { code = operand_code m r ++ (Bne (operand_register m r) 0 1 ∷ J (sc.exit NullUse) ∷ []); base = operand_register m r; displacement = 0 }
 
 -- whether an index is below a length, into the scratch register
 abbrev pub bound_code : ℕ → ℕ → List Inst
@@ -184,7 +185,7 @@ element_code sc q b r w n = bound_code q n ++ (Bne SCRATCH 0 1 ∷ J (sc.exit Bo
 -- an element whose index is tested
 abbrev pub tested_spot : Scope → (w n : ℕ) → Spot → Made → ℕ → Spot
 tested_spot sc w n x m r =
-    record { code = x.code ++ (operand_code m (r + 1) ++ element_code sc (operand_register m (r + 1)) x.base r w n); base = r; shift = x.shift }
+    record { code = x.code ++ (operand_code m (r + 1) ++ element_code sc (operand_register m (r + 1)) x.base r w n); base = r; displacement = x.displacement }
 
 -- an element: a number below the length needs no test
 abbrev pub element_spot : Scope → (w n : ℕ) → Option ℕ → Spot → Made → ℕ → Spot

@@ -35,11 +35,11 @@ access_inst Address d b k = Addiu d b k
 
 -- a place whose code stands already
 abbrev pub spot_at : Near → Spot
-spot_at x = record { code = []; base = x.base; shift = x.shift }
+spot_at x = record { code = []; base = x.base; displacement = x.displacement }
 
 -- the access to a place that is too far for an immediate
 abbrev pub far_code : (ℕ → ℕ → Inst) → ℕ → Spot → List Inst
-far_code f r x = Lui SCRATCH (high x.shift) ∷ Addu r x.base SCRATCH ∷ f r (low x.shift) ∷ []
+far_code f r x = Lui SCRATCH (high x.displacement) ∷ Addu r x.base SCRATCH ∷ f r (low x.displacement) ∷ []
 
 -- what is known of elements of so many words, for the code that multiplies by them
 abbrev pub HasWords : Elements → ℕ → Type 0
@@ -75,7 +75,7 @@ taken_inst false d = Mfhi d
 
 -- a place whose code stands already is another place
 abbrev pub IsSpot : Near → Spot → Type 0
-IsSpot x y = (x.base ≡ y.base) × (x.shift ≡ y.shift)
+IsSpot x y = (x.base ≡ y.base) × (x.displacement ≡ y.displacement)
 
 -- a variable as value: it stands in a register, or is loaded
 abbrev pub held_code : Option ℕ → Spot → (d r : ℕ) → List Inst

@@ -27,21 +27,21 @@ use Rattle.c0_expr_code.specs.Scope.{Scope, scope_of}
 use Rattle.c0_expr_code.specs.Code.{Spot, store_code, operand_code, operand_register, made, value_code, place_spot}
 use Rattle.c0_expr_code.specs.Test.{test_code}
 use Rattle.c0_expr_code.specs.Bases.{words_of_all, Bases, types_in, word_at, word, RegionHeld}
-use Rattle.c0_expr_code.specs.Relation.{layout, Scene, Ready, Keeps, Area, Source, units_of, Right, TestRuns}
+use Rattle.c0_expr_code.specs.Relation.{layout, IsTyped, Ready, Keeps, Area, Source, units_of, Right, TestRuns}
 
 -- the code of every typed expression comes to what it means: as a value, as an operand, and as a place
 abbrev pub ExpressionsRun : Type 0
-ExpressionsRun = (w : World) (sc : Scope) (p : Bases) (s : State) → Sound w → Area w sc p → Scene sc p s
+ExpressionsRun = (w : World) (sc : Scope) (p : Bases) (s : State) → Sound w → Area w sc p → IsTyped sc p s
     → (e : CExpr) (t : Ty) → HasNumberedType sc.env e t → nodes e ≤ 2000 → Right w sc p s e t
 
 -- so does the code of an expression that may stand where a type is asked, as `null` where a pointer is
 abbrev pub GivenRun : Type 0
-GivenRun = (w : World) (sc : Scope) (p : Bases) (s : State) → Sound w → Area w sc p → Scene sc p s
+GivenRun = (w : World) (sc : Scope) (p : Bases) (s : State) → Sound w → Area w sc p → IsTyped sc p s
     → (e : CExpr) (t : Ty) → IsNumberedGiven sc.env e t → nodes e ≤ 2000 → Right w sc p s e t
 
 -- the code of every typed test goes where its answer says
 abbrev pub TestsRun : Type 0
-TestsRun = (w : World) (sc : Scope) (p : Bases) (s : State) → Sound w → Area w sc p → Scene sc p s
+TestsRun = (w : World) (sc : Scope) (p : Bases) (s : State) → Sound w → Area w sc p → IsTyped sc p s
     → (e : CExpr) → IsNumberedGiven sc.env e bool → nodes e ≤ 2000 → TestRuns w sc p s e
 
 -- The code is short: at most 14 words a node, with room for three more behind a place, and 15 for a test; never empty as a value or a test; and
@@ -92,8 +92,8 @@ pub record StoresHold : Type 0 where
   pub in_register : (w : World) (sc : Scope) (p : Bases) (s : State) (c : Contents) → Area w sc p → Ready sc p s c → (n : ℕ) (t : Ty) (x : Value)
       → sc.in_registers ≡ true → slice_get (types_of sc.env.locals) n ≡ Some t
       → Ready sc p (write s (record { region = locals; path = n ∷ [] }) x) (with_reg c (ARGUMENTS + n) (word sc p x))
-  pub typed : (sc : Scope) (p : Bases) (s : State) → Scene sc p s → (l : Location) (t : Ty) (x : Value)
-      → LeadsFrom sc.env.structs (types_in sc p l.region) l.path t → Fits sc.env.structs (layout sc p) t x → Scene sc p (write s l x)
+  pub typed : (sc : Scope) (p : Bases) (s : State) → IsTyped sc p s → (l : Location) (t : Ty) (x : Value)
+      → LeadsFrom sc.env.structs (types_in sc p l.region) l.path t → Fits sc.env.structs (layout sc p) t x → IsTyped sc p (write s l x)
 
 -- a struct's words are those of its fields
 abbrev pub IsOpened : List Shape → Type 0
@@ -144,7 +144,7 @@ AreasHold = (primitives : List CPrimitive) (u : CUnit) → IsWellFormed primitiv
 abbrev pub StoresRun : World → Type 0
 StoresRun w = (x : Spot) (q r n a v : ℕ) (c : Contents) (k : Behind) → k.pending ≡ Idle → 8 ≤ r → r < 20 → Source r x.base → q ≢ r → q ≢ SCRATCH
     → CodeAt w n (store_code q r x)
-    → (reg c.regs x.base + x.shift) % 2 ^ 32 ≡ 4 * a → a < w.words → w.kept a ≡ None → reg c.regs q ≡ v
+    → (reg c.regs x.base + x.displacement) % 2 ^ 32 ≡ 4 * a → a < w.words → w.kept a ≡ None → reg c.regs q ≡ v
     → (c' : Contents) × Keeps r r (with_word c a v) c' × Reaches w 3 (at_with (n + length x.code) c k) (at_with (n + length (store_code q r x)) c' k)
 
 -- another scope of the same unit, and bases with the same beginnings of globals and heap, where there may be more objects

@@ -1,6 +1,7 @@
 pub mod Scope
 pub mod Code
 pub mod Test
+pub mod Sorted
 pub mod Bases
 pub mod Relation
 pub mod Laws
@@ -9,7 +10,7 @@ pub mod Rows
 pub mod Emit
 pub mod Known
 pub mod Layout
+pub mod Exits
 pub mod Scene
 pub mod Patch
 pub mod Opened
-pub mod Ahead

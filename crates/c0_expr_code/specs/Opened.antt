@@ -3,7 +3,7 @@ use Rattle.std.specs.Prelude.{◌≡◌, ℕ, ◌+◌, ◌%◌, ◌^◌, Bool, t
 use Rattle.mips_table.specs.declared.inst.Inst.{Inst}
 use Rattle.mips_table.specs.Encoding.{encoding}
 use Rattle.c0_tree.specs.declared.tree.BinaryOp.{BinaryOp}
-use Rattle.c0_tree.specs.declared.tree.BinaryOp.TheVariants.{Add, Sub, Mul, Div, Rem, Lt, Le, Gt, Ge, Eq, Ne, And, Or}
+use Rattle.c0_tree.specs.declared.tree.BinaryOp.TheVariants.{Eq}
 use Rattle.c0_tree.specs.declared.tree.Expr.{Expr}
 use Rattle.c0_tree.specs.Tree.{CExpr}
 use Rattle.c0_tree.specs.View.{expr_view}
@@ -41,38 +41,6 @@ lower_code k s q = if k == 0 then negative_branch s q 0 ∷ [] else below_code k
 abbrev pub higher_code : (k : ℕ) → Bool → (q : ℕ) → List Inst
 higher_code k s q = if k == 0 then positive_branch s q 0 ∷ [] else below_code ((k + 1) % 2 ^ 32) (not s) 0 q
 
--- `<`, `<=`, `>` and `>=`
-abbrev pub is_order : BinaryOp → Bool
-is_order Add = false
-is_order Sub = false
-is_order Mul = false
-is_order Div = false
-is_order Rem = false
-is_order Lt = true
-is_order Le = true
-is_order Gt = true
-is_order Ge = true
-is_order Eq = false
-is_order Ne = false
-is_order And = false
-is_order Or = false
-
--- `==` and `!=`
-abbrev pub is_equality : BinaryOp → Bool
-is_equality Add = false
-is_equality Sub = false
-is_equality Mul = false
-is_equality Div = false
-is_equality Rem = false
-is_equality Lt = false
-is_equality Le = false
-is_equality Gt = false
-is_equality Ge = false
-is_equality Eq = true
-is_equality Ne = true
-is_equality And = false
-is_equality Or = false
-
 -- the code of a bool's test
 abbrev pub bool_code : Scope → CExpr → Bool → ℕ → List Inst
 bool_code sc e s r = plain_test (made sc e) s 0 r
@@ -85,30 +53,30 @@ side_code sc o k e s r = one_code (λ q. test_with (immediate_test o k) s 0 q) (
 abbrev pub order_code : Scope → BinaryOp → CExpr → CExpr → Bool → ℕ → List Inst
 order_code sc o a b s r = compare_test (immediate_test_of o (made sc b).known) o (made sc a) (made sc b) s 0 r
 
--- the code of a comparison for equality
-abbrev pub equality_code : Scope → BinaryOp → CExpr → CExpr → Bool → ℕ → List Inst
-equality_code sc o a b s r = compare_test None o (made sc a) (made sc b) s 0 r
+-- the code of a comparison of two registers
+abbrev pub registers_code : Scope → BinaryOp → CExpr → CExpr → Bool → ℕ → List Inst
+registers_code sc o a b s r = compare_test None o (made sc a) (made sc b) s 0 r
 
 -- these comparisons of expressions in a scene
 abbrev pub order_in : Scene → BinaryOp → Expr → Expr → Bool → ℕ → List Inst
 order_in scene o a b s r = order_code (scope_in scene) o (expr_view a) (expr_view b) s r
 
-abbrev pub equality_in : Scene → BinaryOp → Expr → Expr → Bool → ℕ → List Inst
-equality_in scene o a b s r = equality_code (scope_in scene) o (expr_view a) (expr_view b) s r
+abbrev pub registers_in : Scene → BinaryOp → Expr → Expr → Bool → ℕ → List Inst
+registers_in scene o a b s r = registers_code (scope_in scene) o (expr_view a) (expr_view b) s r
 
 -- the test of an expression in a scene
 abbrev pub open_in : Scene → Expr → Opening
 open_in scene e s r = test_open (scope_in scene) (expr_view e) s r
 
--- the code of a test whose last instruction is its branch: of a bool, and of these two comparisons
+-- the code of a test whose last instruction is its branch: of a bool, of an order and of `==`
 abbrev pub bool_open : Scene → Expr → Bool → ℕ → Open
 bool_open scene e s r = last_open (bool_code (scope_in scene) (expr_view e) s r)
 
 abbrev pub order_open : Scene → BinaryOp → Expr → Expr → Bool → ℕ → Open
 order_open scene o a b s r = last_open (order_in scene o a b s r)
 
-abbrev pub equality_open : Scene → BinaryOp → Expr → Expr → Bool → ℕ → Open
-equality_open scene o a b s r = last_open (equality_in scene o a b s r)
+abbrev pub equality_open : Scene → Expr → Expr → Bool → ℕ → Open
+equality_open scene a b s r = last_open (registers_in scene Eq a b s r)
 
 -- both tests go to the place where they are s
 abbrev pub either_open : Scene → Expr → Expr → Bool → ℕ → Open

@@ -23,7 +23,7 @@ abbrev pub layout : Scope → Bases → Layout
 layout sc p = record { globals = types_of sc.env.globals; objects = p.objects }
 
 -- the state is typed
-pub record Scene (sc : Scope) (p : Bases) (s : State) : Type 0 where
+pub record IsTyped (sc : Scope) (p : Bases) (s : State) : Type 0 where
   pub global_values : AreParts sc.env.structs (layout sc p) (types_of sc.env.globals) s.global_values
   pub heap_values : AreParts sc.env.structs (layout sc p) p.objects s.heap_values
   pub local_values : AreParts sc.env.structs (layout sc p) (types_of sc.env.locals) (variables_of s.frames)
@@ -107,7 +107,7 @@ OperandRuns w sc p s m need t e = (r n : ℕ) (c : Contents) (k : Behind) → k.
 abbrev pub PlaceRuns : World → Scope → Bases → State → Made → ℕ → Bool → Ty → Costed Location → Type 0
 PlaceRuns w sc p s m need local t e = (r n : ℕ) (c : Contents) (k : Behind) → k.pending ≡ Idle → Ready sc p s c → CodeAt w n (m.place r).code → 8 ≤ r
     → r + need ≤ 20
-    → Source r (m.place r).base × Comes w sc 0 n (n + length (m.place r).code) c k (Leads sc p (m.place r).base (m.place r).shift r local t c) e
+    → Source r (m.place r).base × Comes w sc 0 n (n + length (m.place r).code) c k (Leads sc p (m.place r).base (m.place r).displacement r local t c) e
 
 -- all that is said of a node's code: as a value and as an operand, where its type is scalar; and as a place, unless it stands in a register
 pub record Claims (w : World) (sc : Scope) (p : Bases) (s : State) (m : Made) (need : ℕ) (placed local : Bool)

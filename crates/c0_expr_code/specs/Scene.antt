@@ -13,6 +13,7 @@ use Rattle.c0_meaning.specs.Numbered.{HasNumberedType}
 use Rattle.c0_meaning.specs.Expression.{target}
 use Rattle.c0_meaning.specs.TypeAt.{env_in, type_at}
 use Rattle.c0_expr_code.specs.declared.scene.Scene.{Scene}
+use Rattle.c0_expr_code.specs.Exits.{exits_of}
 use Rattle.c0_expr_code.specs.Scope.{Scope, exit_number}
 use Rattle.c0_expr_code.specs.Code.{Made, fields_in, made}
 
@@ -31,7 +32,7 @@ scope_in s = record {
   env = env_at (unit_in s) (slice_get (unit_in s).functions s.function);
   in_registers = s.in_registers;
   frame = s.frame;
-  exit = λ fault. slice_index s.faults (exit_number fault) / 4;
+  exit = λ fault. slice_index (exits_of s.exits) (exit_number fault) / 4;
 }
 
 -- the code, place and constant of an expression in a scene

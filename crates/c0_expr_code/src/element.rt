@@ -1,11 +1,10 @@
 // Elements of arrays.
 
-ghost use Rattle.std.specs.Prelude.{◌≡◌, ◌*◌, ◌/◌, ◌%◌, ◌^◌, ◌<◌, ◌∷◌, [], IfSome, OnErr};
+ghost use Rattle.std.specs.Prelude.{◌≡◌, ◌*◌, ◌/◌, ◌%◌, ◌^◌, ◌<◌, ◌∷◌, [], IfSome};
 ghost use Rattle.mips_table.specs.declared.inst.Inst.TheVariants.{Bne, J};
 ghost use Rattle.c0_expr_code.specs.Scene.{scope_in};
 ghost use Rattle.c0_expr_code.specs.Code.{bound_code, shift_within, POWERS};
 ghost use Rattle.c0_expr_code.specs.Emit.{Appends, element_by, scaled_by};
-ghost use Rattle.c0_expr_code.specs.Ahead.{StandAhead};
 
 use crate::constant::emit_constant;
 use crate::scene::Scene;
@@ -49,8 +48,7 @@ pub fn shift_of(words: u32) -> Option<u32>
 // Whether an index is below a length, into the scratch register.
 fn emit_bound(code: &mut Vec<u32>, index: u32, count: u32) -> Result<(), AllocError>
     requires { index < 32 }
-    ensures appended { Appends code.old.items code.new.items (bound_code index count) result }
-    ensures ahead { OnErr result (StandAhead code.old.items code.new.items) }
+    ensures { Appends code.old.items code.new.items (bound_code index count) result }
 {
     if count < 0x8000 {
         return emit(
@@ -77,8 +75,7 @@ fn emit_bound(code: &mut Vec<u32>, index: u32, count: u32) -> Result<(), AllocEr
 fn emit_scaled(code: &mut Vec<u32>, index: u32, elements: Elements) -> Result<(), AllocError>
     requires index { index < 32 }
     requires shift { IfSome elements.shift (λ by. by < 32) }
-    ensures appended { Appends code.old.items code.new.items (scaled_by elements index) result }
-    ensures ahead { OnErr result (StandAhead code.old.items code.new.items) }
+    ensures { Appends code.old.items code.new.items (scaled_by elements index) result }
 {
     if let Some(by) = elements.shift {
         return emit(
@@ -105,8 +102,7 @@ fn emit_scaled(code: &mut Vec<u32>, index: u32, elements: Elements) -> Result<()
 pub fn emit_guard(code: &mut Vec<u32>, register: u32, exit: u32) -> Result<(), AllocError>
     requires register { register < 32 }
     requires exit { exit < 2 ^ 28 }
-    ensures appended { Appends code.old.items code.new.items (Bne register 0 1 ∷ J (exit / 4) ∷ []) result }
-    ensures ahead { OnErr result (StandAhead code.old.items code.new.items) }
+    ensures { Appends code.old.items code.new.items (Bne register 0 1 ∷ J (exit / 4) ∷ []) result }
 {
     emit(
         code,
@@ -132,11 +128,10 @@ pub fn emit_element(
     requires base { base < 32 }
     requires index { index < 32 }
     requires shift { IfSome elements.shift (λ by. by < 32) }
-    ensures appended { Appends code.old.items code.new.items (element_by (scope_in scene.now) elements index base target) result }
-    ensures ahead { OnErr result (StandAhead code.old.items code.new.items) }
+    ensures { Appends code.old.items code.new.items (element_by (scope_in scene.now) elements index base target) result }
 {
     emit_bound(code, index, elements.count)?;
-    emit_guard(code, SCRATCH, scene.faults[1])?;
+    emit_guard(code, SCRATCH, scene.exits.bounds)?;
     emit_scaled(code, index, elements)?;
     emit(
         code,

@@ -1,6 +1,6 @@
 // Expressions. Where memory is wanting, a part of an expression's code may stand behind what stood before.
 
-ghost use Rattle.std.specs.Prelude.{◌≡◌, ◌+◌, ◌≤◌, ◌<◌, true, IfOk, IfSome, OnErr};
+ghost use Rattle.std.specs.Prelude.{◌≡◌, ◌+◌, ◌≤◌, ◌<◌, true, IfOk, IfSome};
 ghost use Rattle.mips_table.specs.Encoding.{InRange};
 ghost use Rattle.c0_tree.specs.Size.{need, binary_need};
 ghost use Rattle.c0_tree.specs.View.{expr_view};
@@ -14,7 +14,7 @@ ghost use Rattle.c0_expr_code.specs.Code.{immediate, on_spot, operand_code, oper
 ghost use Rattle.c0_expr_code.specs.Emit.{Appends, IsSpot, access_inst, binary_in, held_in, index_spot, is_immediate, logic_in, logic_skip};
 ghost use Rattle.c0_expr_code.specs.Emit.{operator_in, quotient_in, right_code, side_in, sides_in, tested_code};
 ghost use Rattle.c0_expr_code.specs.Scene.{HasNumbers, made_in, scope_in, unit_in};
-ghost use Rattle.c0_expr_code.specs.Ahead.{StandAhead};
+ghost use Rattle.c0_expr_code.specs.Sorted.{operator_of, plain_of};
 
 use crate::constant::emit_constant;
 use crate::element::{Elements, emit_element, emit_guard};
@@ -22,12 +22,13 @@ use crate::known::{constant_below, known_of, literal_of, stands_in};
 use crate::operator::{emit_division, emit_operator, emit_with_constant, takes_constant};
 use crate::patching::patch;
 use crate::scene::Scene;
+use crate::sorted::{Plain, Sorted, sort_of};
 use crate::spot::{Access, Spot, emit_access};
 use crate::variable::{elements_of, field_bytes, target_of, variable_spot};
 use crate::word::emit;
 use c0_meaning::form::Found;
 use c0_meaning::type_at::type_at;
-use c0_tree::{BinaryOp, Expr, UnaryOp};
+use c0_tree::{Expr, UnaryOp};
 use mips_table::Inst;
 use std::alloc::AllocError;
 
@@ -50,7 +51,6 @@ pub fn emit_operand(
     requires room { free + need (expr_view expr.now) ≤ 20 }
     requires numbers { HasNumbers (scope_in scene.now).env (expr_view expr.now) }
     ensures code { Appends code.old.items code.new.items (operand_code (made_in scene.now expr.now) free) result }
-    ensures ahead { OnErr result (StandAhead code.old.items code.new.items) }
     ensures register { IfOk result (λ q. q ≡ operand_register (made_in scene.now expr.now) free) }
     ensures small { IfOk result (λ q. q < 32) }
 {
@@ -73,7 +73,6 @@ pub fn emit_place(
     requires room { free + need (expr_view expr.now) ≤ 20 }
     requires numbers { HasNumbers (scope_in scene.now).env (expr_view expr.now) }
     ensures code { Appends code.old.items code.new.items ((made_in scene.now expr.now).place free).code result }
-    ensures ahead { OnErr result (StandAhead code.old.items code.new.items) }
     ensures place { IfOk result (λ x. IsSpot x ((made_in scene.now expr.now).place free)) }
     ensures small { IfOk result (λ x. x.base < 32) }
 {
@@ -90,13 +89,13 @@ pub fn emit_place(
         }
         Expr::Index(_, part, index) => emit_index(scene, part, index, free, code),
         Expr::Deref(_, part) => emit_target(scene, part, free, code),
-        Expr::Num(_, _) => Ok(Spot { base: 0, shift: 0 }),
-        Expr::True(_) => Ok(Spot { base: 0, shift: 0 }),
-        Expr::False(_) => Ok(Spot { base: 0, shift: 0 }),
-        Expr::Null(_) => Ok(Spot { base: 0, shift: 0 }),
-        Expr::AddressOf(_, _) => Ok(Spot { base: 0, shift: 0 }),
-        Expr::Unary(_, _, _) => Ok(Spot { base: 0, shift: 0 }),
-        Expr::Binary(_, _, _, _) => Ok(Spot { base: 0, shift: 0 }),
+        Expr::Num(_, _) => Ok(Spot::none()),
+        Expr::True(_) => Ok(Spot::none()),
+        Expr::False(_) => Ok(Spot::none()),
+        Expr::Null(_) => Ok(Spot::none()),
+        Expr::AddressOf(_, _) => Ok(Spot::none()),
+        Expr::Unary(_, _, _) => Ok(Spot::none()),
+        Expr::Binary(_, _, _, _) => Ok(Spot::none()),
     }
 }
 
@@ -111,13 +110,15 @@ fn emit_target(
     requires room { free + need (expr_view part.now) ≤ 20 }
     requires numbers { HasNumbers (scope_in scene.now).env (expr_view part.now) }
     ensures code { Appends code.old.items code.new.items (target_spot (scope_in scene.now) (made_in scene.now part.now) free).code result }
-    ensures ahead { OnErr result (StandAhead code.old.items code.new.items) }
     ensures place { IfOk result (λ x. IsSpot x (target_spot (scope_in scene.now) (made_in scene.now part.now) free)) }
     ensures small { IfOk result (λ x. x.base < 32) }
 {
     let base = emit_operand(scene, part, free, code)?;
-    emit_guard(code, base, scene.faults[0])?;
-    Ok(Spot { base, shift: 0 })
+    emit_guard(code, base, scene.exits.null_use)?;
+    Ok(Spot {
+        base,
+        displacement: 0,
+    })
 }
 
 // Appends the code of the place of an element.
@@ -134,7 +135,6 @@ fn emit_index(
     requires part { HasNumbers (scope_in scene.now).env (expr_view part.now) }
     requires index { HasNumbers (scope_in scene.now).env (expr_view index.now) }
     ensures code { Appends code.old.items code.new.items (index_spot (scope_in scene.now) (expr_view part.now) (expr_view index.now) free).code result }
-    ensures ahead { OnErr result (StandAhead code.old.items code.new.items) }
     ensures place { IfOk result (λ x. IsSpot x (index_spot (scope_in scene.now) (expr_view part.now) (expr_view index.now) free)) }
     ensures small { IfOk result (λ x. x.base < 32) }
 {
@@ -161,15 +161,14 @@ fn emit_tested(
     requires base { spot.base < 32 }
     requires shift { IfSome elements.shift (λ by. by < 32) }
     ensures code { Appends code.old.items code.new.items (tested_code (scope_in scene.now) elements spot.base (made_in scene.now index.now) free) result }
-    ensures ahead { OnErr result (StandAhead code.old.items code.new.items) }
     ensures base { IfOk result (λ x. x.base ≡ free) }
-    ensures shift { IfOk result (λ x. x.shift ≡ spot.shift) }
+    ensures displacement { IfOk result (λ x. x.displacement ≡ spot.displacement) }
 {
     let register = emit_operand(scene, index, free + 1, code)?;
     emit_element(code, scene, free, spot.base, register, elements)?;
     Ok(Spot {
         base: free,
-        shift: spot.shift,
+        displacement: spot.displacement,
     })
 }
 
@@ -185,8 +184,7 @@ pub fn emit_value(
     requires room { free + need (expr_view expr.now) ≤ 20 }
     requires target { target < 32 }
     requires numbers { HasNumbers (scope_in scene.now).env (expr_view expr.now) }
-    ensures appended { Appends code.old.items code.new.items (value_code (scope_in scene.now) (expr_view expr.now) target free) result }
-    ensures ahead { OnErr result (StandAhead code.old.items code.new.items) }
+    ensures { Appends code.old.items code.new.items (value_code (scope_in scene.now) (expr_view expr.now) target free) result }
 {
     match expr {
         Expr::Num(_, number) => emit_constant(code, target, *number),
@@ -201,7 +199,7 @@ pub fn emit_value(
         Expr::AddressOf(_, part) => emit_held(scene, part, Access::Address, target, free, code),
         Expr::Unary(_, op, part) => emit_unary(scene, *op, part, target, free, code),
         Expr::Binary(_, op, left, right) => {
-            emit_binary(scene, *op, left, right, target, free, code)
+            emit_binary(scene, sort_of(*op), left, right, target, free, code)
         }
     }
 }
@@ -219,8 +217,7 @@ fn emit_held(
     requires room { free + need (expr_view expr.now) ≤ 20 }
     requires target { target < 32 }
     requires numbers { HasNumbers (scope_in scene.now).env (expr_view expr.now) }
-    ensures appended { Appends code.old.items code.new.items (on_spot (access_inst access target) free ((made_in scene.now expr.now).place free)) result }
-    ensures ahead { OnErr result (StandAhead code.old.items code.new.items) }
+    ensures { Appends code.old.items code.new.items (on_spot (access_inst access target) free ((made_in scene.now expr.now).place free)) result }
 {
     let spot = emit_place(scene, expr, free, code)?;
     emit_access(code, access, target, free, spot)
@@ -238,8 +235,7 @@ fn emit_variable(
     requires room { free + need (expr_view expr.now) ≤ 20 }
     requires target { target < 32 }
     requires numbers { HasNumbers (scope_in scene.now).env (expr_view expr.now) }
-    ensures appended { Appends code.old.items code.new.items (held_in scene.now expr.now target free) result }
-    ensures ahead { OnErr result (StandAhead code.old.items code.new.items) }
+    ensures { Appends code.old.items code.new.items (held_in scene.now expr.now target free) result }
 {
     if let Some(source) = stands_in(scene, expr) {
         return emit(
@@ -267,8 +263,7 @@ fn emit_unary(
     requires room { free + need (expr_view part.now) ≤ 20 }
     requires target { target < 32 }
     requires numbers { HasNumbers (scope_in scene.now).env (expr_view part.now) }
-    ensures appended { Appends code.old.items code.new.items ((unary_made op (made_in scene.now part.now)).value target free) result }
-    ensures ahead { OnErr result (StandAhead code.old.items code.new.items) }
+    ensures { Appends code.old.items code.new.items ((unary_made op (made_in scene.now part.now)).value target free) result }
 {
     match op {
         UnaryOp::Negate => emit_negative(scene, part, target, free, code),
@@ -298,8 +293,7 @@ fn emit_negative(
     requires room { free + need (expr_view part.now) ≤ 20 }
     requires target { target < 32 }
     requires numbers { HasNumbers (scope_in scene.now).env (expr_view part.now) }
-    ensures appended { Appends code.old.items code.new.items ((unary_made Negate (made_in scene.now part.now)).value target free) result }
-    ensures ahead { OnErr result (StandAhead code.old.items code.new.items) }
+    ensures { Appends code.old.items code.new.items ((unary_made Negate (made_in scene.now part.now)).value target free) result }
 {
     if let Some(number) = literal_of(part) {
         return emit_constant(code, target, number.wrapping_neg());
@@ -319,34 +313,32 @@ fn emit_negative(
 #[cycle(node)]
 fn emit_binary(
     scene: &Scene<'_>,
-    op: BinaryOp,
+    op: Sorted,
     left: &Expr,
     right: &Expr,
     target: u32,
     free: u32,
     code: &mut Vec<u32>,
 ) -> Result<(), AllocError>
-    requires room { free + binary_need op (need (expr_view left.now)) (need (expr_view right.now)) ≤ 20 }
+    requires room { free + binary_need (operator_of op) (need (expr_view left.now)) (need (expr_view right.now)) ≤ 20 }
     requires target { target < 32 }
     requires left { HasNumbers (scope_in scene.now).env (expr_view left.now) }
     requires right { HasNumbers (scope_in scene.now).env (expr_view right.now) }
-    ensures appended { Appends code.old.items code.new.items ((binary_in scene.now op left.now right.now).value target free) result }
-    ensures ahead { OnErr result (StandAhead code.old.items code.new.items) }
+    ensures { Appends code.old.items code.new.items ((binary_in scene.now (operator_of op) left.now right.now).value target free) result }
 {
     match op {
-        BinaryOp::Add => emit_addition(scene, left, right, target, free, code),
-        BinaryOp::Div => emit_quotient(scene, true, left, right, target, free, code),
-        BinaryOp::Rem => emit_quotient(scene, false, left, right, target, free, code),
-        BinaryOp::And => emit_logic(scene, false, left, right, target, free, code),
-        BinaryOp::Or => emit_logic(scene, true, left, right, target, free, code),
-        BinaryOp::Sub => emit_plain(scene, op, left, right, target, free, code),
-        BinaryOp::Mul => emit_plain(scene, op, left, right, target, free, code),
-        BinaryOp::Lt => emit_plain(scene, op, left, right, target, free, code),
-        BinaryOp::Le => emit_plain(scene, op, left, right, target, free, code),
-        BinaryOp::Gt => emit_plain(scene, op, left, right, target, free, code),
-        BinaryOp::Ge => emit_plain(scene, op, left, right, target, free, code),
-        BinaryOp::Eq => emit_plain(scene, op, left, right, target, free, code),
-        BinaryOp::Ne => emit_plain(scene, op, left, right, target, free, code),
+        Sorted::Plain(op) => match op {
+            Plain::Sum => emit_addition(scene, left, right, target, free, code),
+            Plain::Difference => emit_plain(scene, op, left, right, target, free, code),
+            Plain::Product => emit_plain(scene, op, left, right, target, free, code),
+            Plain::Order(_) => emit_plain(scene, op, left, right, target, free, code),
+            Plain::Equal => emit_plain(scene, op, left, right, target, free, code),
+            Plain::Different => emit_plain(scene, op, left, right, target, free, code),
+        },
+        Sorted::Quotient => emit_quotient(scene, true, left, right, target, free, code),
+        Sorted::Remainder => emit_quotient(scene, false, left, right, target, free, code),
+        Sorted::Both => emit_logic(scene, false, left, right, target, free, code),
+        Sorted::Either => emit_logic(scene, true, left, right, target, free, code),
     }
 }
 
@@ -354,7 +346,7 @@ fn emit_binary(
 #[cycle(node)]
 fn emit_constant_side(
     scene: &Scene<'_>,
-    op: BinaryOp,
+    op: Plain,
     side: &Expr,
     word: u32,
     target: u32,
@@ -364,9 +356,8 @@ fn emit_constant_side(
     requires room { free + need (expr_view side.now) ≤ 20 }
     requires target { target < 32 }
     requires numbers { HasNumbers (scope_in scene.now).env (expr_view side.now) }
-    requires takes { is_immediate (immediate op word) ≡ true }
-    ensures appended { Appends code.old.items code.new.items (side_in scene.now (immediate op word) side.now target free) result }
-    ensures ahead { OnErr result (StandAhead code.old.items code.new.items) }
+    requires takes { is_immediate (immediate (plain_of op) word) ≡ true }
+    ensures { Appends code.old.items code.new.items (side_in scene.now (immediate (plain_of op) word) side.now target free) result }
 {
     let source = emit_operand(scene, side, free, code)?;
     emit_with_constant(code, op, target, source, word)
@@ -376,7 +367,7 @@ fn emit_constant_side(
 #[cycle(node)]
 fn emit_both_sides(
     scene: &Scene<'_>,
-    op: BinaryOp,
+    op: Plain,
     left: &Expr,
     right: &Expr,
     target: u32,
@@ -388,8 +379,7 @@ fn emit_both_sides(
     requires target { target < 32 }
     requires left { HasNumbers (scope_in scene.now).env (expr_view left.now) }
     requires right { HasNumbers (scope_in scene.now).env (expr_view right.now) }
-    ensures appended { Appends code.old.items code.new.items (sides_in scene.now op left.now right.now target free) result }
-    ensures ahead { OnErr result (StandAhead code.old.items code.new.items) }
+    ensures { Appends code.old.items code.new.items (sides_in scene.now (plain_of op) left.now right.now target free) result }
 {
     let first = emit_operand(scene, left, free, code)?;
     let second = emit_operand(scene, right, free + 1, code)?;
@@ -400,7 +390,7 @@ fn emit_both_sides(
 #[cycle(node)]
 fn emit_plain(
     scene: &Scene<'_>,
-    op: BinaryOp,
+    op: Plain,
     left: &Expr,
     right: &Expr,
     target: u32,
@@ -412,8 +402,7 @@ fn emit_plain(
     requires target { target < 32 }
     requires left { HasNumbers (scope_in scene.now).env (expr_view left.now) }
     requires right { HasNumbers (scope_in scene.now).env (expr_view right.now) }
-    ensures appended { Appends code.old.items code.new.items ((operator_in scene.now op left.now right.now).value target free) result }
-    ensures ahead { OnErr result (StandAhead code.old.items code.new.items) }
+    ensures { Appends code.old.items code.new.items ((operator_in scene.now (plain_of op) left.now right.now).value target free) result }
 {
     if let Some(word) = known_of(right) {
         if takes_constant(op, word) {
@@ -438,20 +427,19 @@ fn emit_addition(
     requires target { target < 32 }
     requires left { HasNumbers (scope_in scene.now).env (expr_view left.now) }
     requires right { HasNumbers (scope_in scene.now).env (expr_view right.now) }
-    ensures appended { Appends code.old.items code.new.items ((binary_in scene.now Add left.now right.now).value target free) result }
-    ensures ahead { OnErr result (StandAhead code.old.items code.new.items) }
+    ensures { Appends code.old.items code.new.items ((binary_in scene.now Add left.now right.now).value target free) result }
 {
     if let Some(word) = known_of(right) {
-        if takes_constant(BinaryOp::Add, word) {
-            return emit_constant_side(scene, BinaryOp::Add, left, word, target, free, code);
+        if takes_constant(Plain::Sum, word) {
+            return emit_constant_side(scene, Plain::Sum, left, word, target, free, code);
         }
     }
     if let Some(word) = known_of(left) {
-        if takes_constant(BinaryOp::Add, word) {
-            return emit_constant_side(scene, BinaryOp::Add, right, word, target, free, code);
+        if takes_constant(Plain::Sum, word) {
+            return emit_constant_side(scene, Plain::Sum, right, word, target, free, code);
         }
     }
-    emit_both_sides(scene, BinaryOp::Add, left, right, target, free, code)
+    emit_both_sides(scene, Plain::Sum, left, right, target, free, code)
 }
 
 // Whether a known word is other than 0.
@@ -480,8 +468,7 @@ fn emit_quotient(
     requires target { target < 32 }
     requires left { HasNumbers (scope_in scene.now).env (expr_view left.now) }
     requires right { HasNumbers (scope_in scene.now).env (expr_view right.now) }
-    ensures appended { Appends code.old.items code.new.items (quotient_in scene.now is_quotient left.now right.now target free) result }
-    ensures ahead { OnErr result (StandAhead code.old.items code.new.items) }
+    ensures { Appends code.old.items code.new.items (quotient_in scene.now is_quotient left.now right.now target free) result }
 {
     let first = emit_operand(scene, left, free, code)?;
     let second = emit_operand(scene, right, free + 1, code)?;
@@ -514,8 +501,7 @@ fn skip(is_or: bool, register: u32) -> Inst
 fn emit_to(code: &mut Vec<u32>, target: u32, source: u32) -> Result<(), AllocError>
     requires target { target < 32 }
     requires source { source < 32 }
-    ensures appended { Appends code.old.items code.new.items (to_code target source) result }
-    ensures ahead { OnErr result (StandAhead code.old.items code.new.items) }
+    ensures { Appends code.old.items code.new.items (to_code target source) result }
 {
     if target == source {
         return Ok(());
@@ -541,8 +527,7 @@ fn emit_right(
 ) -> Result<(), AllocError>
     requires room { free + need (expr_view right.now) ≤ 20 }
     requires numbers { HasNumbers (scope_in scene.now).env (expr_view right.now) }
-    ensures appended { Appends code.old.items code.new.items (right_code is_or free (value_code (scope_in scene.now) (expr_view right.now) free free)) result }
-    ensures ahead { OnErr result (StandAhead code.old.items code.new.items) }
+    ensures { Appends code.old.items code.new.items (right_code is_or free (value_code (scope_in scene.now) (expr_view right.now) free free)) result }
 {
     let at = code.len();
     emit(code, skip(is_or, free))?;
@@ -568,8 +553,7 @@ fn emit_logic(
     requires target { target < 32 }
     requires left { HasNumbers (scope_in scene.now).env (expr_view left.now) }
     requires right { HasNumbers (scope_in scene.now).env (expr_view right.now) }
-    ensures appended { Appends code.old.items code.new.items (logic_in scene.now is_or left.now right.now target free) result }
-    ensures ahead { OnErr result (StandAhead code.old.items code.new.items) }
+    ensures { Appends code.old.items code.new.items (logic_in scene.now is_or left.now right.now target free) result }
 {
     emit_value(scene, left, free, free, code)?;
     emit_right(scene, is_or, right, free, code)?;

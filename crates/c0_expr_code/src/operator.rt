@@ -1,17 +1,17 @@
 // Operators between registers and constants.
 
-ghost use Rattle.std.specs.Prelude.{◌≡◌, ◌∷◌, [], ◌%◌, ◌^◌, ◌<◌, true, OnErr};
+ghost use Rattle.std.specs.Prelude.{◌≡◌, ◌∷◌, [], ◌%◌, ◌^◌, ◌<◌, true};
 ghost use Rattle.mips_table.specs.declared.inst.Inst.TheVariants.{Addiu, Mflo, Mult, Slt, Slti, Xor, Xori};
 ghost use Rattle.mips_table.specs.Encoding.{InRange};
 ghost use Rattle.c0_expr_code.specs.Scene.{scope_in};
+ghost use Rattle.c0_expr_code.specs.Sorted.{order_of, plain_of};
 ghost use Rattle.c0_expr_code.specs.Code.{divisor_code, immediate, operator_code, negated, low as lower};
 ghost use Rattle.c0_expr_code.specs.Emit.{Appends, code_with, division_code, equality_code, is_immediate, taken_inst, zero_test};
-ghost use Rattle.c0_expr_code.specs.Ahead.{StandAhead};
 
 use crate::element::emit_guard;
 use crate::scene::Scene;
+use crate::sorted::{Order, Plain};
 use crate::word::{emit, is_near, low};
-use c0_tree::BinaryOp;
 use mips_table::Inst;
 use std::alloc::AllocError;
 
@@ -41,8 +41,7 @@ fn zero_test_of(is_equal: bool, target: u32, source: u32) -> Inst
 fn emit_sum(code: &mut Vec<u32>, target: u32, left: u32, word: u32) -> Result<(), AllocError>
     requires target { target < 32 }
     requires left { left < 32 }
-    ensures appended { Appends code.old.items code.new.items (Addiu target left (lower word) ∷ []) result }
-    ensures ahead { OnErr result (StandAhead code.old.items code.new.items) }
+    ensures { Appends code.old.items code.new.items (Addiu target left (lower word) ∷ []) result }
 {
     emit(
         code,
@@ -58,8 +57,7 @@ fn emit_sum(code: &mut Vec<u32>, target: u32, left: u32, word: u32) -> Result<()
 pub fn emit_below(code: &mut Vec<u32>, target: u32, left: u32, word: u32) -> Result<(), AllocError>
     requires target { target < 32 }
     requires left { left < 32 }
-    ensures appended { Appends code.old.items code.new.items (Slti target left (lower word) ∷ []) result }
-    ensures ahead { OnErr result (StandAhead code.old.items code.new.items) }
+    ensures { Appends code.old.items code.new.items (Slti target left (lower word) ∷ []) result }
 {
     emit(
         code,
@@ -75,8 +73,7 @@ pub fn emit_below(code: &mut Vec<u32>, target: u32, left: u32, word: u32) -> Res
 fn emit_not_below(code: &mut Vec<u32>, target: u32, left: u32, word: u32) -> Result<(), AllocError>
     requires target { target < 32 }
     requires left { left < 32 }
-    ensures appended { Appends code.old.items code.new.items (Slti target left (lower word) ∷ Xori target target 1 ∷ []) result }
-    ensures ahead { OnErr result (StandAhead code.old.items code.new.items) }
+    ensures { Appends code.old.items code.new.items (Slti target left (lower word) ∷ Xori target target 1 ∷ []) result }
 {
     emit_below(code, target, left, word)?;
     emit(
@@ -100,8 +97,7 @@ fn emit_equality_with(
     requires target { target < 32 }
     requires left { left < 32 }
     requires word { word < 2 ^ 16 }
-    ensures appended { Appends code.old.items code.new.items (equality_code is_equal word target left) result }
-    ensures ahead { OnErr result (StandAhead code.old.items code.new.items) }
+    ensures { Appends code.old.items code.new.items (equality_code is_equal word target left) result }
 {
     if word == 0 {
         return emit(code, zero_test_of(is_equal, target, left));
@@ -117,55 +113,73 @@ fn emit_equality_with(
     emit(code, zero_test_of(is_equal, target, target))
 }
 
-/// Whether an operator has an instruction with room for a constant on its right side.
-pub fn takes_constant(op: BinaryOp, word: u32) -> bool
-    ensures { result ≡ is_immediate (immediate op word) }
+// Whether an order has an instruction with room for a constant on its right side.
+fn order_takes_constant(order: Order, word: u32) -> bool
+    ensures { result ≡ is_immediate (immediate (order_of order) word) }
 {
-    match op {
-        BinaryOp::Add => is_near(word),
-        BinaryOp::Sub => is_near(word.wrapping_neg()),
-        BinaryOp::Mul => false,
-        BinaryOp::Div => false,
-        BinaryOp::Rem => false,
-        BinaryOp::Lt => is_near(word),
-        BinaryOp::Le => is_near(word.wrapping_add(1)),
-        BinaryOp::Gt => false,
-        BinaryOp::Ge => is_near(word),
-        BinaryOp::Eq => word < 0x1_0000,
-        BinaryOp::Ne => word < 0x1_0000,
-        BinaryOp::And => false,
-        BinaryOp::Or => false,
+    match order {
+        Order::Less => is_near(word),
+        Order::LessOrEqual => is_near(word.wrapping_add(1)),
+        Order::Greater => false,
+        Order::GreaterOrEqual => is_near(word),
     }
 }
 
-/// Appends an operator between a register and a constant that it takes.
-pub fn emit_with_constant(
+/// Whether an operator has an instruction with room for a constant on its right side.
+pub fn takes_constant(op: Plain, word: u32) -> bool
+    ensures { result ≡ is_immediate (immediate (plain_of op) word) }
+{
+    match op {
+        Plain::Sum => is_near(word),
+        Plain::Difference => is_near(word.wrapping_neg()),
+        Plain::Product => false,
+        Plain::Order(order) => order_takes_constant(order, word),
+        Plain::Equal => word < 0x1_0000,
+        Plain::Different => word < 0x1_0000,
+    }
+}
+
+// Appends an order between a register and a constant that it takes.
+fn emit_order_with_constant(
     code: &mut Vec<u32>,
-    op: BinaryOp,
+    order: Order,
     target: u32,
     left: u32,
     word: u32,
 ) -> Result<(), AllocError>
     requires target { target < 32 }
     requires left { left < 32 }
-    requires takes { is_immediate (immediate op word) ≡ true }
-    ensures appended { Appends code.old.items code.new.items (code_with (immediate op word) target left) result }
-    ensures ahead { OnErr result (StandAhead code.old.items code.new.items) }
+    requires takes { is_immediate (immediate (order_of order) word) ≡ true }
+    ensures { Appends code.old.items code.new.items (code_with (immediate (order_of order) word) target left) result }
+{
+    match order {
+        Order::Less => emit_below(code, target, left, word),
+        Order::LessOrEqual => emit_below(code, target, left, word.wrapping_add(1)),
+        Order::Greater => unreachable!(),
+        Order::GreaterOrEqual => emit_not_below(code, target, left, word),
+    }
+}
+
+/// Appends an operator between a register and a constant that it takes.
+pub fn emit_with_constant(
+    code: &mut Vec<u32>,
+    op: Plain,
+    target: u32,
+    left: u32,
+    word: u32,
+) -> Result<(), AllocError>
+    requires target { target < 32 }
+    requires left { left < 32 }
+    requires takes { is_immediate (immediate (plain_of op) word) ≡ true }
+    ensures { Appends code.old.items code.new.items (code_with (immediate (plain_of op) word) target left) result }
 {
     match op {
-        BinaryOp::Add => emit_sum(code, target, left, word),
-        BinaryOp::Sub => emit_sum(code, target, left, word.wrapping_neg()),
-        BinaryOp::Mul => unreachable!(),
-        BinaryOp::Div => unreachable!(),
-        BinaryOp::Rem => unreachable!(),
-        BinaryOp::Lt => emit_below(code, target, left, word),
-        BinaryOp::Le => emit_below(code, target, left, word.wrapping_add(1)),
-        BinaryOp::Gt => unreachable!(),
-        BinaryOp::Ge => emit_not_below(code, target, left, word),
-        BinaryOp::Eq => emit_equality_with(code, true, target, left, word),
-        BinaryOp::Ne => emit_equality_with(code, false, target, left, word),
-        BinaryOp::And => unreachable!(),
-        BinaryOp::Or => unreachable!(),
+        Plain::Sum => emit_sum(code, target, left, word),
+        Plain::Difference => emit_sum(code, target, left, word.wrapping_neg()),
+        Plain::Product => unreachable!(),
+        Plain::Order(order) => emit_order_with_constant(code, order, target, left, word),
+        Plain::Equal => emit_equality_with(code, true, target, left, word),
+        Plain::Different => emit_equality_with(code, false, target, left, word),
     }
 }
 
@@ -189,8 +203,7 @@ fn emit_not_less(code: &mut Vec<u32>, target: u32, left: u32, right: u32) -> Res
     requires target { target < 32 }
     requires left { left < 32 }
     requires right { right < 32 }
-    ensures appended { Appends code.old.items code.new.items (Slt target left right ∷ Xori target target 1 ∷ []) result }
-    ensures ahead { OnErr result (StandAhead code.old.items code.new.items) }
+    ensures { Appends code.old.items code.new.items (Slt target left right ∷ Xori target target 1 ∷ []) result }
 {
     emit(code, less(target, left, right))?;
     emit(
@@ -214,8 +227,7 @@ fn emit_equality(
     requires target { target < 32 }
     requires left { left < 32 }
     requires right { right < 32 }
-    ensures appended { Appends code.old.items code.new.items (Xor target left right ∷ zero_test is_equal target target ∷ []) result }
-    ensures ahead { OnErr result (StandAhead code.old.items code.new.items) }
+    ensures { Appends code.old.items code.new.items (Xor target left right ∷ zero_test is_equal target target ∷ []) result }
 {
     emit(
         code,
@@ -233,8 +245,7 @@ fn emit_product(code: &mut Vec<u32>, target: u32, left: u32, right: u32) -> Resu
     requires target { target < 32 }
     requires left { left < 32 }
     requires right { right < 32 }
-    ensures appended { Appends code.old.items code.new.items (Mult left right ∷ Mflo target ∷ []) result }
-    ensures ahead { OnErr result (StandAhead code.old.items code.new.items) }
+    ensures { Appends code.old.items code.new.items (Mult left right ∷ Mflo target ∷ []) result }
 {
     emit(
         code,
@@ -246,10 +257,10 @@ fn emit_product(code: &mut Vec<u32>, target: u32, left: u32, right: u32) -> Resu
     emit(code, Inst::Mflo { rd: target })
 }
 
-/// Appends an operator between two registers; nothing for `/`, `%`, `&&` and `||`, which have code of their own.
-pub fn emit_operator(
+// Appends an order between two registers.
+fn emit_order(
     code: &mut Vec<u32>,
-    op: BinaryOp,
+    order: Order,
     target: u32,
     left: u32,
     right: u32,
@@ -257,11 +268,31 @@ pub fn emit_operator(
     requires target { target < 32 }
     requires left { left < 32 }
     requires right { right < 32 }
-    ensures appended { Appends code.old.items code.new.items (operator_code op target left right) result }
-    ensures ahead { OnErr result (StandAhead code.old.items code.new.items) }
+    ensures { Appends code.old.items code.new.items (operator_code (order_of order) target left right) result }
+{
+    match order {
+        Order::Less => emit(code, less(target, left, right)),
+        Order::LessOrEqual => emit_not_less(code, target, right, left),
+        Order::Greater => emit(code, less(target, right, left)),
+        Order::GreaterOrEqual => emit_not_less(code, target, left, right),
+    }
+}
+
+/// Appends an operator between two registers.
+pub fn emit_operator(
+    code: &mut Vec<u32>,
+    op: Plain,
+    target: u32,
+    left: u32,
+    right: u32,
+) -> Result<(), AllocError>
+    requires target { target < 32 }
+    requires left { left < 32 }
+    requires right { right < 32 }
+    ensures { Appends code.old.items code.new.items (operator_code (plain_of op) target left right) result }
 {
     match op {
-        BinaryOp::Add => emit(
+        Plain::Sum => emit(
             code,
             Inst::Addu {
                 rd: target,
@@ -269,7 +300,7 @@ pub fn emit_operator(
                 rt: right,
             },
         ),
-        BinaryOp::Sub => emit(
+        Plain::Difference => emit(
             code,
             Inst::Subu {
                 rd: target,
@@ -277,17 +308,10 @@ pub fn emit_operator(
                 rt: right,
             },
         ),
-        BinaryOp::Mul => emit_product(code, target, left, right),
-        BinaryOp::Div => Ok(()),
-        BinaryOp::Rem => Ok(()),
-        BinaryOp::Lt => emit(code, less(target, left, right)),
-        BinaryOp::Le => emit_not_less(code, target, right, left),
-        BinaryOp::Gt => emit(code, less(target, right, left)),
-        BinaryOp::Ge => emit_not_less(code, target, left, right),
-        BinaryOp::Eq => emit_equality(code, true, target, left, right),
-        BinaryOp::Ne => emit_equality(code, false, target, left, right),
-        BinaryOp::And => Ok(()),
-        BinaryOp::Or => Ok(()),
+        Plain::Product => emit_product(code, target, left, right),
+        Plain::Order(order) => emit_order(code, order, target, left, right),
+        Plain::Equal => emit_equality(code, true, target, left, right),
+        Plain::Different => emit_equality(code, false, target, left, right),
     }
 }
 
@@ -299,13 +323,12 @@ fn emit_divisor(
     divisor: u32,
 ) -> Result<(), AllocError>
     requires { divisor < 32 }
-    ensures appended { Appends code.old.items code.new.items (divisor_code (scope_in scene.now) is_sure divisor) result }
-    ensures ahead { OnErr result (StandAhead code.old.items code.new.items) }
+    ensures { Appends code.old.items code.new.items (divisor_code (scope_in scene.now) is_sure divisor) result }
 {
     if is_sure {
         Ok(())
     } else {
-        emit_guard(code, divisor, scene.faults[2])
+        emit_guard(code, divisor, scene.exits.zero_division)
     }
 }
 
@@ -335,8 +358,7 @@ pub fn emit_division(
     requires target { target < 32 }
     requires left { left < 32 }
     requires right { right < 32 }
-    ensures appended { Appends code.old.items code.new.items (division_code (scope_in scene.now) is_quotient is_sure target left right) result }
-    ensures ahead { OnErr result (StandAhead code.old.items code.new.items) }
+    ensures { Appends code.old.items code.new.items (division_code (scope_in scene.now) is_quotient is_sure target left right) result }
 {
     emit_divisor(code, scene, is_sure, right)?;
     emit(

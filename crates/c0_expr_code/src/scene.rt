@@ -1,6 +1,6 @@
 // What the code of a function is made for.
 
-ghost use Rattle.std.specs.Prelude.{◌≡◌, ◌<◌, ◌+◌, ◌*◌, ◌%◌, ◌^◌, length, slice_index, IfOk};
+ghost use Rattle.std.specs.Prelude.{◌≡◌, ◌<◌, ◌+◌, ◌*◌, ◌%◌, ◌^◌, length, IfOk};
 ghost use Rattle.c0_tree.specs.View.{unit_view};
 ghost use Rattle.masm.specs.Places.{ArePlaces};
 ghost use Rattle.c0_meaning.specs.Limits.{frame as frame_of};
@@ -8,8 +8,10 @@ ghost use Rattle.c0_meaning.specs.Offsets.{offsets};
 ghost use Rattle.c0_meaning.specs.Sound.{shapes};
 ghost use Rattle.c0_meaning.specs.TypedState.{variable_types};
 ghost use Rattle.c0_expr_code.specs.Layout.{OfFunction, unit_of};
+ghost use Rattle.c0_expr_code.specs.Exits.{exits_of};
 ghost use Rattle.c0_expr_code.specs.Scope as spec;
 
+use crate::fault_exits::FaultExits;
 use crate::layout::Layout;
 use crate::leaf::keeps_registers;
 use crate::word::wrapped;
@@ -30,11 +32,10 @@ pub struct Scene<'a> {
     pub frame: u64,
     /// Whether its variables stand in registers.
     pub in_registers: bool,
-    /// The addresses of the exits of faults, in the order of their power words.
-    pub faults: [u32; 4],
+    /// The exits of faults.
+    pub exits: FaultExits,
     ghost there: { function < length (unit_view layout.now.unit.now).functions },
     ghost variables_are: { OfFunction layout.now function (λ f. variables.items ≡ offsets (shapes (unit_of layout.now)) (variable_types f)) },
-    ghost exits: { (slice_index faults 0 < 2 ^ 28) × (slice_index faults 1 < 2 ^ 28) × (slice_index faults 2 < 2 ^ 28) × (slice_index faults 3 < 2 ^ 28) },
 }
 
 impl<'a> Scene<'a> {
@@ -49,7 +50,7 @@ impl<'a> Scene<'a> {
         requires places { ArePlaces places.now }
         ensures layout { IfOk result (λ x. x.layout.now ≡ layout.now) }
         ensures function { IfOk result (λ x. x.function ≡ function) }
-        ensures faults { IfOk result (λ x. x.faults ≡ places.now.faults) }
+        ensures exits { IfOk result (λ x. exits_of x.exits ≡ places.now.faults) }
         ensures frame { OfFunction layout.now function (λ f. IfOk result (λ x. x.frame ≡ frame_of (shapes (unit_of layout.now)) f)) }
         ensures registers { OfFunction layout.now function (λ f. IfOk result (λ x. x.in_registers ≡ spec.keeps_registers f)) }
     {
@@ -59,7 +60,7 @@ impl<'a> Scene<'a> {
             variables: variable_offsets(alloc, layout.unit, function)?,
             frame: frame_words(layout.unit, function),
             in_registers: keeps_registers(&layout.unit.unit().functions[function as usize]),
-            faults: places.faults,
+            exits: FaultExits::new(places.faults),
         })
     }
 }

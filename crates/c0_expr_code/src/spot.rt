@@ -10,13 +10,13 @@ use masm::registers::SCRATCH;
 use mips_table::{Inst, encode};
 use std::alloc::AllocError;
 
-/// A place: its address is that in the register `base`, and `shift` bytes, modulo 2^32.
+/// A place: its address is that in the register `base`, and `displacement` bytes, modulo 2^32.
 #[derive(Clone, Copy, Debug)]
 pub struct Spot {
     /// The register.
     pub base: u32,
     /// The bytes.
-    pub shift: u32,
+    pub displacement: u32,
 }
 
 /// What is done with a place.
@@ -31,14 +31,25 @@ pub enum Access {
 }
 
 impl Spot {
+    /// No place.
+    pub fn none() -> Spot
+        ensures base { result.base ≡ 0 }
+        ensures displacement { result.displacement ≡ 0 }
+    {
+        Spot {
+            base: 0,
+            displacement: 0,
+        }
+    }
+
     /// The place so many bytes behind, modulo 2^32.
     pub fn moved(self, bytes: u32) -> Spot
         ensures base { result.base ≡ self.base }
-        ensures shift { result.shift ≡ (self.shift + bytes) % 2 ^ 32 }
+        ensures displacement { result.displacement ≡ (self.displacement + bytes) % 2 ^ 32 }
     {
         Spot {
             base: self.base,
-            shift: self.shift.wrapping_add(bytes),
+            displacement: self.displacement.wrapping_add(bytes),
         }
     }
 }
@@ -94,14 +105,14 @@ fn emit_far(
 {
     let half = Inst::Lui {
         rt: SCRATCH,
-        imm: upper(spot.shift),
+        imm: upper(spot.displacement),
     };
     let sum = Inst::Addu {
         rd: free,
         rs: spot.base,
         rt: SCRATCH,
     };
-    let last = access_of(access, register, free, low(spot.shift));
+    let last = access_of(access, register, free, low(spot.displacement));
     code.extend_from_slice(&[encode(&half), encode(&sum), encode(&last)])
 }
 
@@ -122,10 +133,10 @@ pub fn emit_access(
     ensures appended { Appends code.old.items code.new.items (on_spot (access_inst access register) free (spot_at spot)) result }
     ensures unchanged { OnErr result (code.new.items ≡ code.old.items) }
 {
-    if is_near(spot.shift) {
+    if is_near(spot.displacement) {
         emit(
             code,
-            access_of(access, register, spot.base, low(spot.shift)),
+            access_of(access, register, spot.base, low(spot.displacement)),
         )
     } else {
         emit_far(code, access, register, free, spot)

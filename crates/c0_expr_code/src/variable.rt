@@ -25,7 +25,7 @@ use c0_tree::{CType, Kind};
 use masm::registers::{FRAME_END, GLOBALS};
 
 /// The bytes from the frame's end to a word of the frame, modulo 2^32.
-pub fn frame_shift(scene: &Scene<'_>, word: u64) -> u32
+pub fn frame_displacement(scene: &Scene<'_>, word: u64) -> u32
     ensures { result ≡ (2 ^ 32 - 4 * scene.now.frame % 2 ^ 32 + 4 * word) % 2 ^ 32 }
 {
     wrapped(word.wrapping_sub(scene.frame).wrapping_mul(4))
@@ -47,11 +47,11 @@ fn local_spot(scene: &Scene<'_>, number: u32) -> Spot
     ensures base { result.base < 32 }
 {
     if scene.in_registers {
-        Spot { base: 0, shift: 0 }
+        Spot::none()
     } else {
         Spot {
             base: FRAME_END,
-            shift: frame_shift(scene, words_to_local(scene, number).wrapping_add(3)),
+            displacement: frame_displacement(scene, words_to_local(scene, number).wrapping_add(3)),
         }
     }
 }
@@ -63,7 +63,7 @@ fn global_spot(scene: &Scene<'_>, number: u32) -> Spot
 {
     Spot {
         base: GLOBALS,
-        shift: wrapped(scene.layout.global(number).wrapping_mul(4)),
+        displacement: wrapped(scene.layout.global(number).wrapping_mul(4)),
     }
 }
 
@@ -74,13 +74,13 @@ pub fn variable_spot(scene: &Scene<'_>, kind: Kind, number: u32) -> Spot
     ensures base { result.base < 32 }
 {
     match kind {
-        Kind::Unresolved => Spot { base: 0, shift: 0 },
-        Kind::Struct => Spot { base: 0, shift: 0 },
-        Kind::Field => Spot { base: 0, shift: 0 },
+        Kind::Unresolved => Spot::none(),
+        Kind::Struct => Spot::none(),
+        Kind::Field => Spot::none(),
         Kind::Global => global_spot(scene, number),
         Kind::Local => local_spot(scene, number),
-        Kind::Function => Spot { base: 0, shift: 0 },
-        Kind::Primitive => Spot { base: 0, shift: 0 },
+        Kind::Function => Spot::none(),
+        Kind::Primitive => Spot::none(),
     }
 }
 

@@ -129,7 +129,7 @@ module _ (compose : RunsCompose) (w : World) (sound : Sound w) (straight : Strai
         regs = λ x ne. r.1.others x ne ne;
         most = place_steps (frame_spot sc 0);
         few = few_steps (frame_spot sc 0);
-        near = λ small. let one : place_steps (frame_spot sc 0) ≡ 1 = cond-true (is_near (frame_spot sc 0).shift) 1 3 (frame_is_near sc 0 some small) in omega (arith, one);
+        near = λ small. let one : place_steps (frame_spot sc 0) ≡ 1 = cond-true (is_near (frame_spot sc 0).displacement) 1 3 (frame_is_near sc 0 some small) in omega (arith, one);
         run = r.2;
       }
 

@@ -42,7 +42,7 @@ module _ (compose : RunsCompose) (w : World) (sound : Sound w) (straight : Strai
 
   pub ends : (q bytes e k : ℕ) (c : Contents) (d : Behind) → d.pending ≡ Idle → q ≢ 0 → c.regs 29 ≡ 4 * e → CodeAt w k (end_code q bytes) → (c' : Contents) × Moved e bytes q c c' × Reaches w 3 (at_with k c d) (at_with (k + length (end_code q bytes)) c' d)
   ends q bytes e k c d idle qz at code =
-      let r = on_place compose w straight (Moved e bytes q c) (λ y x. Addiu q y x) (record { code = []; base = 29; shift = bytes % 2 ^ 32 }) q k c d idle qz (λ z. absurd (omega (arith, z))) code
+      let r = on_place compose w straight (Moved e bytes q c) (λ y x. Addiu q y x) (record { code = []; base = 29; displacement = bytes % 2 ^ 32 }) q k c d idle qz (λ z. absurd (omega (arith, z))) code
       (λ y m a there near address. (
         with_reg a q ((4 * e + bytes % 2 ^ 32) % 2 ^ 32),
         record {
@@ -53,7 +53,7 @@ module _ (compose : RunsCompose) (w : World) (sound : Sound w) (straight : Strai
         },
         straight.next (Addiu q y (low (bytes % 2 ^ 32))) (Gives ((4 * e + bytes % 2 ^ 32) % 2 ^ 32)) m a d there refl idle (address ∙ ap (λ v. (v + bytes % 2 ^ 32) % 2 ^ 32) at),
       )) in
-      (r.0, r.1, subst (λ m. Reaches w 3 (at_with m c d) (at_with (k + length (end_code q bytes)) r.0 d)) (omega arith) (compose.later w (place_steps (record { code = []; base = 29; shift = bytes % 2 ^ 32 })) 3 _ _ (few_steps (record { code = []; base = 29; shift = bytes % 2 ^ 32 })) r.2))
+      (r.0, r.1, subst (λ m. Reaches w 3 (at_with m c d) (at_with (k + length (end_code q bytes)) r.0 d)) (omega arith) (compose.later w (place_steps (record { code = []; base = 29; displacement = bytes % 2 ^ 32 })) 3 _ _ (few_steps (record { code = []; base = 29; displacement = bytes % 2 ^ 32 })) r.2))
 
   -- the stack's test: it leaves by the exit, or goes on with register q as the new frame's end
   pub record Entered (sc : Scope) (e q : ℕ) (b c : Contents) : Type 0 where

@@ -83,7 +83,7 @@ module _ (sc : Scope) (x : Links) (fit : LengthsFit sc) where
   framed f r i = spot_length f r (frame_spot sc i)
 
   end_length : (d n : ℕ) → length (end_code d n) ≤ 3
-  end_length d n = spot_length (λ b k. Addiu d b k) d (record { code = []; base = 29; shift = n % 2 ^ 32 })
+  end_length d n = spot_length (λ b k. Addiu d b k) d (record { code = []; base = 29; displacement = n % 2 ^ 32 })
 
   large_length : (b : Bool) (k : ℕ) → length (if b then J k ∷ [] else []) ≤ 1
   large_length true k = omega arith

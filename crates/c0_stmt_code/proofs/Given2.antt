@@ -20,7 +20,7 @@ use Rattle.c0_meaning.specs.Typed.{IsDeclarable, IsTypedUnit, IsTypedFunction, U
 use Rattle.c0_meaning.specs.Unit.{IsWellFormed}
 use Rattle.c0_meaning.specs.TypedState.{types_of, AreParts, variable_types, IsTypedFrame, layout_of, IsTypedWith}
 use Rattle.c0_expr_code.specs.Bases.{words_of_all}
-use Rattle.c0_expr_code.specs.Relation.{Scene, Area}
+use Rattle.c0_expr_code.specs.Relation.{IsTyped, Area}
 use Rattle.c0_expr_code.specs.Laws as below
 use Rattle.c0_stmt_code.specs.Setup.{Setup}
 use Rattle.c0_stmt_code.specs.Ahead.{env_in}
@@ -52,8 +52,8 @@ module _ (typed_run : below.ExpressionsRun) (given_run : below.GivenRun) (tests_
       (record { from = omega (arith, lo); heap = omega (arith, room, hf, sf); frame = omega (arith, stack, sf); inside = omega (arith, on) })
       (record { heap_behind = omega (arith, gf, wt); frame_behind = omega (arith, hf, room, on) }) declared
 
-  scene : (objects : List Ty) (s : State) (frames : List Frame) (g : Frame) (fs : List Frame) (f : CFunction) → s.frames ≡ frames → frames ≡ g ∷ fs → slice_get z.p.unit.functions g.function ≡ Some f → IsTypedWith z.p.unit objects s → Scene (scope W E Outer z f) (bases W E Outer z objects (g ∷ fs)) s
-  scene objects s frames g fs f e q is typed =
+  is_typed : (objects : List Ty) (s : State) (frames : List Frame) (g : Frame) (fs : List Frame) (f : CFunction) → s.frames ≡ frames → frames ≡ g ∷ fs → slice_get z.p.unit.functions g.function ≡ Some f → IsTypedWith z.p.unit objects s → IsTyped (scope W E Outer z f) (bases W E Outer z objects (g ∷ fs)) s
+  is_typed objects s frames g fs f e q is typed =
       let all = subst (All (IsTypedFrame z.p.unit (layout_of z.p.unit objects))) (e ∙ q) typed.frames in
       let top = All-head (IsTypedFrame z.p.unit (layout_of z.p.unit objects)) g fs all in
       let same = some_same (sym top.is ∙ is) in
@@ -69,7 +69,7 @@ module _ (typed_run : below.ExpressionsRun) (given_run : below.GivenRun) (tests_
   pub exprs : Exprs W E Outer z
   exprs objects s g fs f e is typed declared room stack =
       let ar = area objects g fs f is declared room stack in
-      let sn = scene objects s (g ∷ fs) g fs f e refl is typed in
+      let sn = is_typed objects s (g ∷ fs) g fs f e refl is typed in
       let same : below.HaveSameNames (env_in (text W E Outer z) f) (scope W E Outer z f).env = record { structs = refl; globals = refl; locals = refl } in
       record {
         value = λ x t given scalar few. (given_run z.w (scope W E Outer z f) (bases W E Outer z objects (g ∷ fs)) s z.sound ar sn x t (given_in names (env_in (text W E Outer z) f) (scope W E Outer z f).env same x t given) few).value scalar;

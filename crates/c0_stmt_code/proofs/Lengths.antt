@@ -16,9 +16,9 @@ use Rattle.c0_stmt_code.proofs.Needs.{LengthsFit}
 use Rattle.c0_stmt_code.proofs.Spots.{spot_longer}
 
 pub spot_length : (i : ℕ → ℕ → Inst) (r : ℕ) (x : Spot) → length (on_spot i r x) ≤ length x.code + 3
-spot_length i r x = elim (cases_Bool (is_near x.shift)) [
-  | inl e ↦ let same = ap (λ is. length (x.code ++ is)) (cond-true (is_near x.shift) (i x.base (low x.shift) ∷ []) (Lui 1 (high x.shift) ∷ Addu r x.base 1 ∷ i r (low x.shift) ∷ []) e) in omega (arith, same, length-append x.code (i x.base (low x.shift) ∷ []))
-  | inr e ↦ let same = ap (λ is. length (x.code ++ is)) (cond-false (is_near x.shift) (i x.base (low x.shift) ∷ []) (Lui 1 (high x.shift) ∷ Addu r x.base 1 ∷ i r (low x.shift) ∷ []) e) in omega (arith, same, length-append x.code (Lui 1 (high x.shift) ∷ Addu r x.base 1 ∷ i r (low x.shift) ∷ []))
+spot_length i r x = elim (cases_Bool (is_near x.displacement)) [
+  | inl e ↦ let same = ap (λ is. length (x.code ++ is)) (cond-true (is_near x.displacement) (i x.base (low x.displacement) ∷ []) (Lui 1 (high x.displacement) ∷ Addu r x.base 1 ∷ i r (low x.displacement) ∷ []) e) in omega (arith, same, length-append x.code (i x.base (low x.displacement) ∷ []))
+  | inr e ↦ let same = ap (λ is. length (x.code ++ is)) (cond-false (is_near x.displacement) (i x.base (low x.displacement) ∷ []) (Lui 1 (high x.displacement) ∷ Addu r x.base 1 ∷ i r (low x.displacement) ∷ []) e) in omega (arith, same, length-append x.code (Lui 1 (high x.displacement) ∷ Addu r x.base 1 ∷ i r (low x.displacement) ∷ []))
 ]
 
 pub constant_length : (d n : ℕ) → length (constant_code d n) ≤ 2

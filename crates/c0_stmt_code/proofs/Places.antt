@@ -73,7 +73,7 @@ module _ (runs : RunLaws) (compose : RunsCompose) (W E : Type 0) (Outer : W → 
       let x : Spot = (made sc p).place free in
       let b : Bases = bases W E Outer z objects (g ∷ fs) in
       let runs_p = its_exprs.place p t left few stands free k c d st.idle its_ready (spot_front z.w k (λ y x. Sw q y x) free x code) lo need_fits in
-      then_comes runs compose W E Outer z jumps 0 n 0 debt 1 (nodes p) cost here h0 s a.function k (k + length x.code) c d objects (Leads sc (bases W E Outer z objects (g ∷ fs)) x.base x.shift free (is_frame_place p) t c) (place_of p here.state) _ path
+      then_comes runs compose W E Outer z jumps 0 n 0 debt 1 (nodes p) cost here h0 s a.function k (k + length x.code) c d objects (Leads sc (bases W E Outer z objects (g ∷ fs)) x.base x.displacement free (is_frame_place p) t c) (place_of p here.state) _ path
       (omega (arith, early)) en st (place_within p here.state) runs_p.1
       (λ u l c1 least most found path1.
       let leads = leads_for z objects (g ∷ fs) a.function l.region l.path t found.leads in

@@ -57,11 +57,11 @@ constants d n h = elim (cases_Bool (nat_lt n (2 ^ 16))) [
 -- a place without code of its own
 spots : (f : ℕ → ℕ → Inst) (r : ℕ) (x : Spot) → r < 32 → x.base < 32 → Fine x.code → ((b k : ℕ) → b < 32 → k < 2 ^ 16 → InRange (f b k)) → Fine (on_spot f r x)
 spots f r x h b c i =
-    both x.code (if is_near x.shift then f x.base (low x.shift) ∷ [] else Lui 1 (high x.shift) ∷ Addu r x.base 1 ∷ f r (low x.shift) ∷ []) c
-    (either (is_near x.shift) (f x.base (low x.shift) ∷ []) (Lui 1 (high x.shift) ∷ Addu r x.base 1 ∷ f r (low x.shift) ∷ [])
-    (front (f x.base (low x.shift)) [] (i x.base (low x.shift) b (omega arith)) none)
-    (front (Lui 1 (high x.shift)) (Addu r x.base 1 ∷ f r (low x.shift) ∷ []) (omega arith, omega arith)
-    (front (Addu r x.base 1) (f r (low x.shift) ∷ []) (h, b, omega arith) (front (f r (low x.shift)) [] (i r (low x.shift) h (omega arith)) none))))
+    both x.code (if is_near x.displacement then f x.base (low x.displacement) ∷ [] else Lui 1 (high x.displacement) ∷ Addu r x.base 1 ∷ f r (low x.displacement) ∷ []) c
+    (either (is_near x.displacement) (f x.base (low x.displacement) ∷ []) (Lui 1 (high x.displacement) ∷ Addu r x.base 1 ∷ f r (low x.displacement) ∷ [])
+    (front (f x.base (low x.displacement)) [] (i x.base (low x.displacement) b (omega arith)) none)
+    (front (Lui 1 (high x.displacement)) (Addu r x.base 1 ∷ f r (low x.displacement) ∷ []) (omega arith, omega arith)
+    (front (Addu r x.base 1) (f r (low x.displacement) ∷ []) (h, b, omega arith) (front (f r (low x.displacement)) [] (i r (low x.displacement) h (omega arith)) none))))
 
 module _ (sc : Scope) (x : Links) (codes : CodesInRange) (exits : HasNearExits sc) (near : AreNear x) where
   -- a register in which a variable stands
@@ -127,7 +127,7 @@ module _ (sc : Scope) (x : Links) (codes : CodesInRange) (exits : HasNearExits s
   framed f r i h g = spots f r (frame_spot sc i) h (omega arith) none g
 
   ends : (d n : ℕ) → d < 32 → Fine (end_code d n)
-  ends d n h = spots (λ b k. Addiu d b k) d (record { code = []; base = 29; shift = n % 2 ^ 32 }) h (omega arith) none (λ b k l m. (h, l, m))
+  ends d n h = spots (λ b k. Addiu d b k) d (record { code = []; base = 29; displacement = n % 2 ^ 32 }) h (omega arith) none (λ b k l m. (h, l, m))
 
   tests_stack : (d : ℕ) → d < 32 → Fine (stack_test sc d)
   tests_stack d h =

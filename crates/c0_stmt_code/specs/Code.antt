@@ -118,11 +118,11 @@ abbrev mutual
 
 -- the frame's word of a number: register 29 is the frame's end
 abbrev pub frame_spot : Scope → ℕ → Spot
-frame_spot sc i = record { code = []; base = FRAME_END; shift = (frame_back sc + 4 * i) % 2 ^ 32 }
+frame_spot sc i = record { code = []; base = FRAME_END; displacement = (frame_back sc + 4 * i) % 2 ^ 32 }
 
 -- a register becomes register 29 and so many bytes, modulo 2 ^ 32
 abbrev pub end_code : (d bytes : ℕ) → List Inst
-end_code d bytes = on_spot (λ b k. Addiu d b k) d (record { code = []; base = FRAME_END; shift = bytes % 2 ^ 32 })
+end_code d bytes = on_spot (λ b k. Addiu d b k) d (record { code = []; base = FRAME_END; displacement = bytes % 2 ^ 32 })
 
 -- the words of the largest stack
 abbrev pub MAX_STACK : ℕ

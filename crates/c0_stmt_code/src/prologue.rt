@@ -14,7 +14,7 @@ ghost use Rattle.c0_stmt_code.specs.Code.{clear_code, end_code, entry_code, exit
 ghost use Rattle.c0_stmt_code.specs.Code.{params_code, register_entry, register_return, stack_test, zeros_code, zeros_loop};
 ghost use Rattle.c0_stmt_code.specs.EmitLeaf.{FramesAreThose, HasFrame, kept_code};
 
-use c0_expr_code::{Access, Scene, Spot, emit, emit_access, frame_shift};
+use c0_expr_code::{Access, Scene, Spot, emit, emit_access, frame_displacement};
 use c0_meaning::laws::{numbers_tell, units_are_typed_or_faulty};
 use c0_tree::Decl;
 use masm::registers::{ANSWER, ARGUMENTS, FRAME_END, RETURN, SCRATCH, STACK_END};
@@ -50,7 +50,7 @@ fn emit_word(
 {
     let spot = Spot {
         base: FRAME_END,
-        shift: frame_shift(scene, word),
+        displacement: frame_displacement(scene, word),
     };
     emit_access(code, access, register, free, spot)
 }
@@ -69,7 +69,7 @@ fn emit_end(scene: &Scene<'_>, target: u32, code: &mut Vec<u32>) -> Result<(), A
 {
     let spot = Spot {
         base: FRAME_END,
-        shift: bytes(scene.frame),
+        displacement: bytes(scene.frame),
     };
     emit_access(code, Access::Address, target, target, spot)
 }
@@ -82,7 +82,7 @@ fn emit_large(scene: &Scene<'_>, code: &mut Vec<u32>) -> Result<(), AllocError>
         return emit(
             code,
             Inst::J {
-                index: scene.faults[3] / 4,
+                index: scene.exits.stack / 4,
             },
         );
     }
@@ -113,7 +113,7 @@ fn emit_limit(scene: &Scene<'_>, end: u32, code: &mut Vec<u32>) -> Result<(), Al
     emit(
         code,
         Inst::J {
-            index: scene.faults[3] / 4,
+            index: scene.exits.stack / 4,
         },
     )
 }
@@ -267,7 +267,7 @@ fn emit_kept_behind(access: Access, calling: bool, code: &mut Vec<u32>) -> Resul
     if calling {
         let spot = Spot {
             base: FRAME_END,
-            shift: 0,
+            displacement: 0,
         };
         return emit_access(code, access, RETURN, SCRATCH, spot);
     }

@@ -200,16 +200,20 @@ starts_length : (at : ℕ) (ns : List ℕ) → length (starts_from at ns) ≡ le
 starts_length at [] = refl
 starts_length at (n ∷ ns) = let r = starts_length (at + n) ns in omega (arith, r)
 
+-- a unit's functions begin at as many addresses
+pub starts_are_many : (s : Source) → length (function_starts (unit_view s)) ≡ length s.functions.items
+starts_are_many s =
+    starts_length functions_at (words_of (unit_view s) (unit_view s).functions)
+    ∙ (length-map (unit_view s).functions (λ f. length (function_code (scope (unit_view s) f) (links []) f)) ∙ length-map s.functions.items function_view)
+
 -- the places of a checked unit
 pub unit_places : (faultless : UnitsAreFaultless) (short : FunctionsAreShort) (table : List CPrimitive) (s : Source) → IsWellFormed table (unit_view s) → (p : Places) × ArePlacesOf (unit_view s) p × ArePlaces p
 unfolding vec_of
 unit_places faultless short table s well =
     let u = unit_view s in
     let few : length (function_starts (unit_view s)) < 2 ^ 63 =
-    let l = starts_length functions_at (words_of (unit_view s) (unit_view s).functions) in
-    let m = length-map (unit_view s).functions (λ f. length (function_code (scope (unit_view s) f) (links []) f)) in
-    let n = length-map s.functions.items function_view in
-    omega (arith, l, m, n, s.functions.ok, s.functions.small) in
+    let l = starts_are_many s in
+    omega (arith, l, s.functions.ok, s.functions.small) in
     let places : Places = record {
       globals = globals_start (unit_view s);
       faults = fault_exits;

@@ -1,6 +1,6 @@
 // The words of a unit.
 
-ghost use Rattle.std.specs.Prelude.{◌≡◌, ◌+◌, ◌*◌, ◌≤◌, List, length, IfOk};
+ghost use Rattle.std.specs.Prelude.{◌≡◌, ◌+◌, ◌*◌, ◌<◌, ◌≤◌, List, length, slice_index, IfOk};
 ghost use Rattle.masm.specs.Places.{ArePlaces};
 ghost use Rattle.c0_tree.specs.Primitives.{CPrimitive};
 ghost use Rattle.c0_tree.specs.View.{unit_view};
@@ -37,9 +37,18 @@ fn unit_places(alloc: Global, layout: &Layout<'_>) -> Result<Places, AllocError>
     placed_at(alloc, starts, globals)
 }
 
+// The address of the function of a number.
+fn start_of(places: &Places, number: u32) -> u32
+    requires { number < length places.now.functions.items }
+    ensures { result ≡ slice_index places.now.functions.items number }
+{
+    places.functions[number as usize]
+}
+
 // The code of a well-formed unit that begins with the function of the number `first`, for the address 0x10000.
 fn compile_from(alloc: Global, unit: &Unit, first: u32) -> Result<Vec<u32>, AllocError>
-    requires { (table : List CPrimitive) × IsWellFormed table (unit_view unit.now) }
+    requires well_formed { (table : List CPrimitive) × IsWellFormed table (unit_view unit.now) }
+    requires there { first < length unit.now.functions.items }
     ensures words { IfOk result (λ v. v.items ≡ words_from (unit_view unit.now) first) }
     ensures few { IfOk result (λ v. length v.items ≤ 512 + 32 * all_nodes (unit_view unit.now).functions) }
 {
@@ -47,9 +56,9 @@ fn compile_from(alloc: Global, unit: &Unit, first: u32) -> Result<Vec<u32>, Allo
     let sizes = measured(alloc, unit)?;
     let layout = Layout::new(alloc, &sizes)?;
     let places = unit_places(alloc, &layout)?;
-    let start = places.functions.get(first as usize).copied();
+    let start = start_of(&places, first);
     let mut code = Vec::new(alloc);
-    emit_entry(alloc, places.globals, start.unwrap_or(0), &mut code)?;
+    emit_entry(alloc, places.globals, start, &mut code)?;
     emit_runtime(alloc, &places, &mut code)?;
     let _starts = emit_functions(alloc, &layout, &places, &mut code)?;
     Ok(code)

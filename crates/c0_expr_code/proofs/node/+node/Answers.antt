@@ -20,21 +20,21 @@ emit_place-returns-in-Binary-clause-code t c =
 pub emit_place-returns-in-Binary-clause-place : goal.emit_place-returns-in-Binary-clause-place
 emit_place-returns-in-Binary-clause-place t c =
     let e = binary_spot (scope_in c.args.scene.now) (expr_view c.args.expr.now) _ _ _ _ c.args.free (ap expr_view c.in-Binary.is ∙ view_binary _ _ _ _) in
-    (sym (ap (λ (x : Spot). x.base) e), sym (ap (λ (x : Spot). x.shift) e))
+    (c.none-in-Binary.ensures.base ∙ sym (ap (λ (x : Spot). x.base) e), c.none-in-Binary.ensures.displacement ∙ sym (ap (λ (x : Spot). x.displacement) e))
 
-pub emit_right-returns-clause-appended : goal.emit_right-returns-clause-appended
-emit_right-returns-clause-appended t c =
+pub emit_right-returns : goal.emit_right-returns
+emit_right-returns t c =
     let code = value_code (scope_in c.args.scene.now) (expr_view c.args.right.now) c.args.free c.args.free in
     let at : c.len-at.result ≡ length c.args.code.now.items = omega (arith, c.len-at.ensures) in
     let to : c.len-end.result ≡ length c.emit_value.new.code.items = omega (arith, c.len-end.ensures) in
     patched c.args.is_or c.args.free c.args.code.now.items (map encoding code) c.emit.new.code.items c.emit_value.new.code.items c.patch.new.code.items c.len-at.result c.len-end.result
-    (encoding c.skip.result) (length code) (ap encoding c.skip.ensures.value) c.in_ok-emit.ensures.appended c.in_ok-emit_value.ensures.appended at to c.patch.ensures (sym (length-map code encoding))
+    (encoding c.skip.result) (length code) (ap encoding c.skip.ensures.value) c.in_ok-emit.ensures.appended c.in_ok-emit_value.ensures at to c.patch.ensures (sym (length-map code encoding))
 
 pub emit_index-returns-in-Some-clause-place : goal.emit_index-returns-in-Some-clause-place
 emit_index-returns-in-Some-clause-place t c =
     let sc = scope_in c.args.scene.now in
     near_place sc (expr_view c.args.part.now) (expr_view c.args.index.now) c.args.free c.in-Some.number c.elements_of-elements.result c.in_ok-spot.spot c.moved.result
-    (c.elements_of-elements.ensures.words) (c.elements_of-elements.ensures.count) (c.type_of.ensures.gives) (sym (c.constant_below.ensures sc) ∙ c.in-Some.is) c.in_ok-spot.ensures.place c.moved.ensures.base c.moved.ensures.shift
+    (c.elements_of-elements.ensures.words) (c.elements_of-elements.ensures.count) (c.type_of.ensures.gives) (sym (c.constant_below.ensures sc) ∙ c.in-Some.is) c.in_ok-spot.ensures.place c.moved.ensures.base c.moved.ensures.displacement
 
 pub emit_index-returns-in-None-clause-code : goal.emit_index-returns-in-None-clause-code
 emit_index-returns-in-None-clause-code t c =

@@ -6,22 +6,22 @@ use Rattle.c0_expr_code.specs.Scene.{scope_in}
 use Rattle.c0_expr_code.proofs.Openings.{then, there, over_it}
 use Rattle.c0_expr_code.proofs.test.+testing.Goals as goal
 
-pub emit_joined-returns-clause-opened : goal.emit_joined-returns-clause-opened
-emit_joined-returns-clause-opened t c =
+pub emit_joined-returns : goal.emit_joined-returns
+emit_joined-returns t c =
     let sc = scope_in c.args.scene.now in
     then c.emit_test-2.result c.args.code.now.items c.emit_test.new.code.items c.emit_test-2.new.code.items c.args.jumps.now.items c.emit_test.new.jumps.items c.emit_test-2.new.jumps.items
-    (test_open sc (expr_view c.args.left.now) c.args.wanted c.args.free) (test_open sc (expr_view c.args.right.now) c.args.wanted c.args.free) c.in_ok-emit_test.ensures.opened c.emit_test-2.ensures.opened
+    (test_open sc (expr_view c.args.left.now) c.args.wanted c.args.free) (test_open sc (expr_view c.args.right.now) c.args.wanted c.args.free) c.in_ok-emit_test.ensures c.emit_test-2.ensures
 
 pub emit_over-patch_all-requires-clause-jumps : goal.emit_over-patch_all-requires-clause-jumps
 emit_over-patch_all-requires-clause-jumps t c =
     there (scope_in c.args.scene.now) (expr_view c.args.left.now) (expr_view c.args.right.now) c.args.wanted c.args.free
     c.args.code.now.items c.emit_test.new.code.items c.emit_test-2.new.code.items c.new-over.result.items c.emit_test.new.jumps.items c.args.jumps.now.items c.emit_test-2.new.jumps.items c.deref.result.now
-    c.new-over.ensures.items c.in_ok-emit_test.ensures.opened c.in_ok-emit_test-2.ensures.opened c.deref.ensures.value
+    c.new-over.ensures.items c.in_ok-emit_test.ensures c.in_ok-emit_test-2.ensures c.deref.ensures.value
 
-pub emit_over-returns-clause-opened : goal.emit_over-returns-clause-opened
-emit_over-returns-clause-opened t c =
+pub emit_over-returns : goal.emit_over-returns
+emit_over-returns t c =
     let to : c.len-end.result ≡ length c.emit_test-2.new.code.items = omega (arith, c.len-end.ensures) in
     over_it (scope_in c.args.scene.now) (expr_view c.args.left.now) (expr_view c.args.right.now) c.args.wanted c.args.free
     c.args.code.now.items c.emit_test.new.code.items c.emit_test-2.new.code.items c.new-over.result.items c.emit_test.new.jumps.items c.args.jumps.now.items c.emit_test-2.new.jumps.items c.deref.result.now
-    c.new-over.ensures.items c.in_ok-emit_test.ensures.opened c.in_ok-emit_test-2.ensures.opened c.deref.ensures.value
+    c.new-over.ensures.items c.in_ok-emit_test.ensures c.in_ok-emit_test-2.ensures c.deref.ensures.value
     c.patch_all.new.code.items c.len-end.result to (omega arith) c.patch_all.ensures

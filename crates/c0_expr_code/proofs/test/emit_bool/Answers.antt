@@ -10,11 +10,11 @@ note_last-requires c =
     let sc = scope_in c.args.scene.now in
     not_none c.args.code.now.items c.emit_bool_code.new.code.items c.deref.result.now
     (bool_code sc (expr_view c.args.expr.now) c.args.wanted c.args.free) (some_bool sc (expr_view c.args.expr.now) c.args.wanted c.args.free)
-    c.in_ok-emit_bool_code.ensures.appended c.deref.ensures.value
+    c.in_ok-emit_bool_code.ensures c.deref.ensures.value
 
-pub returns-clause-opened : goal.returns-clause-opened
-returns-clause-opened c =
+pub returns : goal.returns
+returns c =
     let sc = scope_in c.args.scene.now in
     last c.note_last.result c.args.code.now.items c.emit_bool_code.new.code.items c.deref.result.now c.args.jumps.now.items c.note_last.new.jumps.items
     (bool_code sc (expr_view c.args.expr.now) c.args.wanted c.args.free) (some_bool sc (expr_view c.args.expr.now) c.args.wanted c.args.free)
-    c.in_ok-emit_bool_code.ensures.appended c.deref.ensures.value c.note_last.ensures.noted
+    c.in_ok-emit_bool_code.ensures c.deref.ensures.value c.note_last.ensures

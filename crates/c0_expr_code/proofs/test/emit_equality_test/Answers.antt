@@ -1,6 +1,7 @@
 -- The last word is the branch.
 use Rattle.c0_tree.specs.View.{expr_view}
-use Rattle.c0_expr_code.specs.Opened.{equality_code}
+use Rattle.c0_tree.specs.declared.tree.BinaryOp.TheVariants.{Eq}
+use Rattle.c0_expr_code.specs.Opened.{registers_code}
 use Rattle.c0_expr_code.specs.Scene.{scope_in}
 use Rattle.c0_expr_code.proofs.Openings.{some_equality, not_none, last}
 use Rattle.c0_expr_code.proofs.test.emit_equality_test.Goals as goal
@@ -8,13 +9,13 @@ use Rattle.c0_expr_code.proofs.test.emit_equality_test.Goals as goal
 pub note_last-requires : goal.note_last-requires
 note_last-requires c =
     let sc = scope_in c.args.scene.now in
-    not_none c.args.code.now.items c.emit_two_sides.new.code.items c.deref.result.now
-    (equality_code sc c.args.op (expr_view c.args.left.now) (expr_view c.args.right.now) c.args.wanted c.args.free) (some_equality sc c.args.op (expr_view c.args.left.now) (expr_view c.args.right.now) c.args.wanted c.args.free c.requires.op)
-    c.in_ok-emit_two_sides.ensures.appended c.deref.ensures.value
+    not_none c.args.code.now.items c.emit_equality.new.code.items c.deref.result.now
+    (registers_code sc Eq (expr_view c.args.left.now) (expr_view c.args.right.now) c.args.wanted c.args.free) (some_equality sc (expr_view c.args.left.now) (expr_view c.args.right.now) c.args.wanted c.args.free)
+    c.in_ok-emit_equality.ensures c.deref.ensures.value
 
-pub returns-clause-opened : goal.returns-clause-opened
-returns-clause-opened c =
+pub returns : goal.returns
+returns c =
     let sc = scope_in c.args.scene.now in
-    last c.note_last.result c.args.code.now.items c.emit_two_sides.new.code.items c.deref.result.now c.args.jumps.now.items c.note_last.new.jumps.items
-    (equality_code sc c.args.op (expr_view c.args.left.now) (expr_view c.args.right.now) c.args.wanted c.args.free) (some_equality sc c.args.op (expr_view c.args.left.now) (expr_view c.args.right.now) c.args.wanted c.args.free c.requires.op)
-    c.in_ok-emit_two_sides.ensures.appended c.deref.ensures.value c.note_last.ensures.noted
+    last c.note_last.result c.args.code.now.items c.emit_equality.new.code.items c.deref.result.now c.args.jumps.now.items c.note_last.new.jumps.items
+    (registers_code sc Eq (expr_view c.args.left.now) (expr_view c.args.right.now) c.args.wanted c.args.free) (some_equality sc (expr_view c.args.left.now) (expr_view c.args.right.now) c.args.wanted c.args.free)
+    c.in_ok-emit_equality.ensures c.deref.ensures.value c.note_last.ensures

@@ -37,7 +37,7 @@ pub emit_if-patch_all-requires-clause-jumps : goal.emit_if-patch_all-requires-cl
 emit_if-patch_all-requires-clause-jumps t c =
     let sc = scope_in c.args.scene.now in
     let e = expr_view c.args.test.now in
-    let opened = from_none _ _ _ _ _ c.new-jumps.ensures.items c.in_ok-emit_test.ensures.opened in
+    let opened = from_none _ _ _ _ _ c.new-jumps.ensures.items c.in_ok-emit_test.ensures in
     let long = two_longer _ _ _ _ _ c.in_ok-emit_statements.ensures c.in_ok-emit_otherwise.ensures in
     let P : List ℕ → Type 0 = λ l. All (λ j. j < length c.emit_otherwise.new.code.items) l in
     subst P (sym c.deref.ensures.value) (jumps_within c.jumps_are_within.ensures sc e false c.args.code.now.items c.emit_test.new.code.items c.emit_test.new.jumps.items c.emit_otherwise.new.code.items opened long)
@@ -58,7 +58,7 @@ pub emit_if-returns : goal.emit_if-returns
 emit_if-returns t c =
     let sc = scope_in c.args.scene.now in
     let x = links_of c.args.places.now in
-    let opened = from_none _ _ _ _ _ c.new-jumps.ensures.items c.in_ok-emit_test.ensures.opened in
+    let opened = from_none _ _ _ _ _ c.new-jumps.ensures.items c.in_ok-emit_test.ensures in
     choice_words c.patches_aim.ensures sc (expr_view c.args.test.now) (stmts_view c.args.no.now) c.args.code.now.items c.emit_test.new.code.items c.emit_statements.new.code.items c.emit_otherwise.new.code.items c.patch_all.new.code.items c.emit_test.new.jumps.items
     (stmts_code sc x (stmts_view c.args.yes.now)) (stmts_code sc x (stmts_view c.args.no.now)) c.behind_jump-to.result opened c.in_ok-emit_statements.ensures c.in_ok-emit_otherwise.ensures (omega arith) (omega (arith, c.len-end.ensures, c.behind_jump-to.ensures))
     (c.patch_all.ensures ∙ ap (λ l. patched c.behind_jump-to.result l c.emit_otherwise.new.code.items) c.deref.ensures.value)
@@ -67,7 +67,7 @@ pub emit_while-patch_all-requires-clause-jumps : goal.emit_while-patch_all-requi
 emit_while-patch_all-requires-clause-jumps t c =
     let sc = scope_in c.args.scene.now in
     let e = expr_view c.args.test.now in
-    let opened = from_none _ _ _ _ _ c.new-jumps.ensures.items c.in_ok-emit_test.ensures.opened in
+    let opened = from_none _ _ _ _ _ c.new-jumps.ensures.items c.in_ok-emit_test.ensures in
     let P : List ℕ → Type 0 = λ l. All (λ j. j < length c.emit_test.new.code.items) l in
     subst P (sym c.deref.ensures.value) (jumps_within c.jumps_are_within.ensures sc e true c.emit_skipped.new.code.items c.emit_test.new.code.items c.emit_test.new.jumps.items c.emit_test.new.code.items opened (omega arith))
 
@@ -76,7 +76,7 @@ emit_while-returns t c =
     let sc = scope_in c.args.scene.now in
     let e = expr_view c.args.test.now in
     let body = stmts_code sc (links_of c.args.places.now) (stmts_view c.args.body.now) in
-    let opened = from_none _ _ _ _ _ c.new-jumps.ensures.items c.in_ok-emit_test.ensures.opened in
+    let opened = from_none _ _ _ _ _ c.new-jumps.ensures.items c.in_ok-emit_test.ensures in
     let long : length c.emit_skipped.new.code.items ≡ length c.args.code.now.items + (length body + 1) = skipped_long c.args.code.now.items c.emit_skipped.new.code.items body c.in_ok-emit_skipped.ensures in
     let at : c.if-start-end.to + max (length body) 1 ≡ length c.emit_skipped.new.code.items = elim c.if-start-end.branch [
       | emit_while-then-start-end w ↦ omega (arith, long, c.len-start.ensures, c.len-end.ensures, w.to-is, w.if-start-end.true)

@@ -7,6 +7,7 @@ use Rattle.c0_tree.specs.View.{unit_view}
 use Rattle.c0_meaning.specs.Limits.{all_nodes}
 use Rattle.c0_runtime.specs.Code.{entry_code, runtime_code}
 use Rattle.c0_unit.specs.Code.{code_words, words_of}
+use Rattle.c0_unit.proofs.Standing.{starts_are_many}
 use Rattle.c0_unit.proofs.whole.compile_from.Goals as goal
 
 pub returns-clause-few : goal.returns-clause-few
@@ -14,10 +15,10 @@ returns-clause-few c =
     let same = c.in_ok-layout.ensures ∙ c.in_ok-sizes.ensures in
     let words = ap (λ (s : Source). sum (words_of (unit_view s) (unit_view s).functions)) same in
     let first : length c.emit_entry.new.code.items ≡ 8 =
-    let e : c.emit_entry.new.code.items ≡ c.new-code.result.items ++ map encoding (entry_code c.in_ok-places.places.globals c.unwrap_or.result) = c.in_ok-emit_entry.ensures.appended in
+    let e : c.emit_entry.new.code.items ≡ c.new-code.result.items ++ map encoding (entry_code c.in_ok-places.places.globals c.start_of-start.result) = c.in_ok-emit_entry.ensures.appended in
     let none = ap (λ (ws : List ℕ). length ws) c.new-code.ensures.items in
     let l = ap (λ (ws : List ℕ). length ws) e in
-    omega (arith, none, l, length-append c.new-code.result.items (map encoding (entry_code c.in_ok-places.places.globals c.unwrap_or.result))) in
+    omega (arith, none, l, length-append c.new-code.result.items (map encoding (entry_code c.in_ok-places.places.globals c.start_of-start.result))) in
     let then : length c.emit_runtime.new.code.items ≡ length c.emit_entry.new.code.items + 31 =
     let e : c.emit_runtime.new.code.items ≡ c.emit_entry.new.code.items ++ map encoding (runtime_code c.in_ok-places.places) = c.in_ok-emit_runtime.ensures.appended in
     let l = ap (λ (ws : List ℕ). length ws) e in
@@ -28,3 +29,12 @@ returns-clause-few c =
   where
     by_parts : {a b x y z n : ℕ} → a ≡ b → x ≡ 8 → y ≡ x + 31 → z ≡ y + a → 8 + 31 + b ≤ n → z ≤ n
     by_parts e f g h l = omega (arith, e, f, g, h, l)
+
+-- the first function's number is below the count of addresses
+pub start_of-start-requires : goal.start_of-start-requires
+start_of-start-requires c =
+    let same = c.in_ok-layout.ensures ∙ c.in_ok-sizes.ensures in
+    let placed = ap (λ (ns : List ℕ). length ns) c.in_ok-places.ensures.placed.functions in
+    let many = starts_are_many c.in_ok-layout.layout.unit.now in
+    let one = ap (λ (s : Source). length s.functions.items) same in
+    omega (arith, placed, many, one, c.requires.there, c.in_ok-places.places.functions.ok)
