@@ -1,7 +1,10 @@
 -- What a call leaves in its sink and its disk.
-use Rattle.std.specs.Prelude.{◌≡◌, ℕ, Option, List, Result}
+use Rattle.std.specs.Prelude.{◌≡◌, ℕ, Option, List, Result, Err}
 use Rattle.cvm_outside.specs.Causes.{Counts}
 use Rattle.mips_machine.specs.Machine.{Held}
+use Rattle.boot_report.specs.Blames.{Blames}
+use Rattle.boot_report.specs.declared.fault.ReportFault.{ReportFault}
+use Rattle.boot_report.specs.declared.fault.ReportFault.TheVariants.{Disk, Sink}
 use Rattle.boot_report.specs.Prints.{Prints, PrintsPart}
 use Rattle.boot_report.specs.Texts.{SameButViewed}
 
@@ -21,3 +24,9 @@ pub record OnlyViews {D : Type 0} (old new : Held) (told : D → Option (List (L
   pub same : SameButViewed old new
   pub sectors : told redisk ≡ told disk
   pub size : large redisk ≡ large disk
+
+-- and each error is a fault of the disk or of the sink, of which each has a count
+pub record Reads {T D O : Type 0} (old new : Held) (told : D → Option (List (List ℕ))) (large broke : D → ℕ) (disk redisk : D) (cut : O → ℕ) (out reout : O)
+    (result : Result T ReportFault) : Type 0 where
+  pub view : OnlyViews old new told large disk redisk
+  pub blame : Blames (result ≡ Err Disk) (result ≡ Err Sink) broke disk redisk cut out reout

@@ -5,3 +5,4 @@ pub mod Globals
 pub mod Given
 pub mod Blames
 pub mod Leaves
+pub mod Stand

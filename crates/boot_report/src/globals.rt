@@ -1,6 +1,6 @@
 // The rows of the globals.
-ghost use Rattle.std.specs.Prelude.{◌≡◌, ◌≤◌, length, Some};
-ghost use Rattle.c0_meaning.specs.Form.{form_view, ty_view};
+ghost use Rattle.std.specs.Prelude.{◌≡◌, ◌≤◌, length};
+ghost use Rattle.c0_meaning.specs.Form.{form_view};
 ghost use Rattle.layer_map.specs.Map.{globals_at, memory_words};
 ghost use Rattle.boot_report.specs.Globals.{value_end as end_of_value, named_row, global_word_row, globals_rows, AreInside};
 ghost use Rattle.boot_report.specs.Leaves.{Puts};

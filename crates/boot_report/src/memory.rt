@@ -1,12 +1,12 @@
 // The rows of a user's memory.
 ghost use Rattle.std.specs.Prelude.{◌≡◌, ◌+◌, ◌*◌, ◌/◌, ◌%◌, ◌<◌, ◌≤◌, ◌^◌};
-ghost use Rattle.std.specs.Prelude.{ℕ, length, slice_index, true, IfSome, IfOk, Err};
+ghost use Rattle.std.specs.Prelude.{ℕ, length, slice_index, true, IfSome, IfOk};
 ghost use Rattle.cvm_outside.specs.Causes.{Counts};
-ghost use Rattle.layer_map.specs.Map.{memory_words, memory_frames};
+ghost use Rattle.layer_map.specs.Map.{memory_frames};
 ghost use Rattle.boot_report.specs.Told.{user_word, WherePaged};
 ghost use Rattle.boot_report.specs.Texts.{texts, memory_row, page_word, pages_rows, ShowsPage};
-ghost use Rattle.boot_report.specs.Leaves.{OnlyViews, Printed, Puts};
-ghost use Rattle.boot_report.specs.Blames.{Blames};
+ghost use Rattle.boot_report.specs.Leaves.{OnlyViews, Printed, Puts, Reads};
+ghost use Rattle.boot_report.specs.Stand.{PagesStand};
 
 use crate::fault::ReportFault;
 use crate::rows::put_word;
@@ -84,10 +84,7 @@ fn find_page<D: Sectors>(
     disk: &mut D,
 ) -> Result<Option<u32>, DiskFault>
     requires page { q < map.now.users * map.now.params.pages }
-    requires memory { memory_words map.now ≤ length machine.old.hardware.memory }
-    requires small { memory_words map.now ≤ 30000000 }
-    requires all { map.now.users * map.now.params.pages ≤ 65536 }
-    requires room { map.now.users * map.now.params.pages ≤ D.size disk.old }
+    requires pages { PagesStand map.now (length machine.old.hardware.memory) (D.size disk.old) }
     ensures frame { IfOk result (λ o. IfSome o (λ f. f < memory_frames map.now)) }
     ensures shown { WherePaged (D.sectors disk.old) machine.old map.now (λ a. IfOk result (λ o. ShowsPage machine.new o a q)) }
     ensures view { OnlyViews machine.old machine.new D.sectors D.size disk.old disk.new }
@@ -117,10 +114,7 @@ pub fn read_user_word<D: Sectors>(
     requires some { 1 ≤ user }
     requires user { user ≤ map.now.users }
     requires word { k < 1024 * map.now.params.pages }
-    requires memory { memory_words map.now ≤ length machine.old.hardware.memory }
-    requires small { memory_words map.now ≤ 30000000 }
-    requires all { map.now.users * map.now.params.pages ≤ 65536 }
-    requires room { map.now.users * map.now.params.pages ≤ D.size disk.old }
+    requires pages { PagesStand map.now (length machine.old.hardware.memory) (D.size disk.old) }
     ensures shown { WherePaged (D.sectors disk.old) machine.old map.now (λ a. IfOk result (λ w. w ≡ user_word map.now a user k)) }
     ensures view { OnlyViews machine.old machine.new D.sectors D.size disk.old disk.new }
     ensures count { Counts (D.faults disk.old) (D.faults disk.new) result }
@@ -145,13 +139,9 @@ pub(crate) fn put_memory<D: Sectors, O: Sink>(
 ) -> Result<(), ReportFault>
     requires few { pages ≤ 1024 }
     requires inside { first + pages ≤ map.now.users * map.now.params.pages }
-    requires memory { memory_words map.now ≤ length machine.old.hardware.memory }
-    requires small { memory_words map.now ≤ 30000000 }
-    requires all { map.now.users * map.now.params.pages ≤ 65536 }
-    requires room { map.now.users * map.now.params.pages ≤ D.size disk.old }
+    requires pages { PagesStand map.now (length machine.old.hardware.memory) (D.size disk.old) }
     ensures put { WherePaged (D.sectors disk.old) machine.old map.now (λ a. Printed (O.text out.old) (O.text out.new) (pages_rows a first pages) result) }
-    ensures view { OnlyViews machine.old machine.new D.sectors D.size disk.old disk.new }
-    ensures blame { Blames (result ≡ Err ReportFault.Disk) (result ≡ Err ReportFault.Sink) D.faults disk.old disk.new O.faults out.old out.new }
+    ensures leaves { Reads machine.old machine.new D.sectors D.size D.faults disk.old disk.new O.faults out.old out.new result }
 {
     for p in 0..pages {
         let frame = find_page(machine, map, first + p, disk)?;

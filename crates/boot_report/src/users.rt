@@ -1,11 +1,11 @@
 // The rows of the users.
-ghost use Rattle.std.specs.Prelude.{◌≡◌, ◌+◌, ◌-◌, ◌*◌, ◌/◌, ◌<◌, ◌≤◌, ◌^◌, ◌==◌};
-ghost use Rattle.std.specs.Prelude.{length, min, slice_index, Err};
-ghost use Rattle.layer_map.specs.Map.{block_at, memory_words};
+ghost use Rattle.std.specs.Prelude.{◌≡◌, ◌+◌, ◌-◌, ◌*◌, ◌<◌, ◌≤◌, ◌==◌};
+ghost use Rattle.std.specs.Prelude.{length, min, slice_index};
+ghost use Rattle.layer_map.specs.Map.{block_at};
 ghost use Rattle.boot_report.specs.Texts.{cpu_of, register_rows, processor_rows, log_rows};
 ghost use Rattle.boot_report.specs.Told.{ForUser, ForUsers};
-ghost use Rattle.boot_report.specs.Leaves.{OnlyViews, Printed, Puts};
-ghost use Rattle.boot_report.specs.Blames.{Blames};
+ghost use Rattle.boot_report.specs.Leaves.{Printed, Puts, Reads};
+ghost use Rattle.boot_report.specs.Stand.{BlockStands, BlocksStand, PagesStand, UserStands};
 
 use crate::fault::ReportFault;
 use crate::memory::put_memory;
@@ -16,10 +16,8 @@ use mips_machine::Machine;
 
 /// A word of a user's control block, by its number in the block.
 fn block_word(machine: &Machine, user: u32, number: u32) -> u32
-    requires user { 1 ≤ user }
-    requires most { user ≤ 64 }
+    requires user { BlockStands user (length machine.now.hardware.memory) }
     requires number { number < 64 }
-    requires memory { 16384 ≤ length machine.now.hardware.memory }
     ensures { result ≡ slice_index machine.now.hardware.memory (block_at user + number) }
 {
     machine.word(block_of(user) + 4 * number)
@@ -27,9 +25,7 @@ fn block_word(machine: &Machine, user: u32, number: u32) -> u32
 
 /// A user's pc.
 fn pc_of(machine: &Machine, runs: bool, user: u32) -> u32
-    requires user { 1 ≤ user }
-    requires most { user ≤ 64 }
-    requires memory { 16384 ≤ length machine.now.hardware.memory }
+    requires user { BlockStands user (length machine.now.hardware.memory) }
     ensures { result ≡ (cpu_of machine.now runs user).pc }
 {
     if runs {
@@ -40,11 +36,9 @@ fn pc_of(machine: &Machine, runs: bool, user: u32) -> u32
 
 /// A register of a user, from 1 to 31.
 fn register_of(machine: &Machine, runs: bool, user: u32, register: u32) -> u32
-    requires user { 1 ≤ user }
-    requires most { user ≤ 64 }
+    requires user { BlockStands user (length machine.now.hardware.memory) }
     requires some { 1 ≤ register }
     requires few { register ≤ 31 }
-    requires memory { 16384 ≤ length machine.now.hardware.memory }
     ensures { result ≡ slice_index (cpu_of machine.now runs user).regs register }
 {
     if runs {
@@ -55,9 +49,7 @@ fn register_of(machine: &Machine, runs: bool, user: u32, register: u32) -> u32
 
 /// A user's hi.
 fn hi_of(machine: &Machine, runs: bool, user: u32) -> u32
-    requires user { 1 ≤ user }
-    requires most { user ≤ 64 }
-    requires memory { 16384 ≤ length machine.now.hardware.memory }
+    requires user { BlockStands user (length machine.now.hardware.memory) }
     ensures { result ≡ (cpu_of machine.now runs user).hi }
 {
     if runs {
@@ -68,9 +60,7 @@ fn hi_of(machine: &Machine, runs: bool, user: u32) -> u32
 
 /// A user's lo.
 fn lo_of(machine: &Machine, runs: bool, user: u32) -> u32
-    requires user { 1 ≤ user }
-    requires most { user ≤ 64 }
-    requires memory { 16384 ≤ length machine.now.hardware.memory }
+    requires user { BlockStands user (length machine.now.hardware.memory) }
     ensures { result ≡ (cpu_of machine.now runs user).lo }
 {
     if runs {
@@ -86,9 +76,7 @@ fn put_registers<O: Sink>(
     user: u32,
     out: &mut O,
 ) -> Result<(), SinkFault>
-    requires user { 1 ≤ user }
-    requires most { user ≤ 64 }
-    requires memory { 16384 ≤ length machine.now.hardware.memory }
+    requires user { BlockStands user (length machine.now.hardware.memory) }
     ensures { Puts O.text O.faults out.old out.new (register_rows (cpu_of machine.now runs user) 31) result }
 {
     for i in 0..31u32 {
@@ -105,9 +93,7 @@ fn put_processor<O: Sink>(
     pages: u32,
     out: &mut O,
 ) -> Result<(), SinkFault>
-    requires user { 1 ≤ user }
-    requires most { user ≤ 64 }
-    requires memory { 16384 ≤ length machine.now.hardware.memory }
+    requires user { BlockStands user (length machine.now.hardware.memory) }
     ensures { Puts O.text O.faults out.old out.new (processor_rows user pages (cpu_of machine.now runs user)) result }
 {
     put_user(user, pages, pc_of(machine, runs, user), out)?;
@@ -130,17 +116,10 @@ fn put_one<D: Sectors, O: Sink>(
     disk: &mut D,
     out: &mut O,
 ) -> Result<(), ReportFault>
-    requires user { 1 ≤ user }
-    requires most { user ≤ map.now.users }
-    requires few { map.now.users ≤ 64 }
-    requires memory { memory_words map.now ≤ length machine.old.hardware.memory }
-    requires layer { 16384 ≤ length machine.old.hardware.memory }
-    requires small { memory_words map.now ≤ 30000000 }
-    requires all { map.now.users * map.now.params.pages ≤ 65536 }
-    requires room { map.now.users * map.now.params.pages ≤ D.size disk.old }
+    requires user { UserStands map.now user (length machine.old.hardware.memory) }
+    requires pages { PagesStand map.now (length machine.old.hardware.memory) (D.size disk.old) }
     ensures put { ForUser (D.sectors disk.old) machine.old map.now runs user (Printed (O.text out.old) (O.text out.new)) result }
-    ensures view { OnlyViews machine.old machine.new D.sectors D.size disk.old disk.new }
-    ensures blame { Blames (result ≡ Err ReportFault.Disk) (result ≡ Err ReportFault.Sink) D.faults disk.old disk.new O.faults out.old out.new }
+    ensures leaves { Reads machine.old machine.new D.sectors D.size D.faults disk.old disk.new O.faults out.old out.new result }
 {
     let most = map.params().pages;
     let pages = block_word(machine, user, BLOCK_SIZE).min(most);
@@ -161,17 +140,10 @@ pub fn put_user_rows<D: Sectors, O: Sink>(
     disk: &mut D,
     out: &mut O,
 ) -> Result<(), ReportFault>
-    requires user { 1 ≤ user }
-    requires most { user ≤ map.now.users }
-    requires few { map.now.users ≤ 64 }
-    requires memory { memory_words map.now ≤ length machine.old.hardware.memory }
-    requires layer { 16384 ≤ length machine.old.hardware.memory }
-    requires small { memory_words map.now ≤ 30000000 }
-    requires all { map.now.users * map.now.params.pages ≤ 65536 }
-    requires room { map.now.users * map.now.params.pages ≤ D.size disk.old }
+    requires user { UserStands map.now user (length machine.old.hardware.memory) }
+    requires pages { PagesStand map.now (length machine.old.hardware.memory) (D.size disk.old) }
     ensures put { ForUser (D.sectors disk.old) machine.old map.now (user == running) user (Printed (O.text out.old) (O.text out.new)) result }
-    ensures view { OnlyViews machine.old machine.new D.sectors D.size disk.old disk.new }
-    ensures blame { Blames (result ≡ Err ReportFault.Disk) (result ≡ Err ReportFault.Sink) D.faults disk.old disk.new O.faults out.old out.new }
+    ensures leaves { Reads machine.old machine.new D.sectors D.size D.faults disk.old disk.new O.faults out.old out.new result }
 {
     put_one(machine, map, user == running, user, disk, out)
 }
@@ -188,15 +160,10 @@ pub fn put_users<D: Sectors, O: Sink>(
     disk: &mut D,
     out: &mut O,
 ) -> Result<(), ReportFault>
-    requires few { map.now.users ≤ 64 }
-    requires memory { memory_words map.now ≤ length machine.old.hardware.memory }
-    requires layer { 16384 ≤ length machine.old.hardware.memory }
-    requires small { memory_words map.now ≤ 30000000 }
-    requires all { map.now.users * map.now.params.pages ≤ 65536 }
-    requires room { map.now.users * map.now.params.pages ≤ D.size disk.old }
+    requires users { BlocksStand map.now (length machine.old.hardware.memory) }
+    requires pages { PagesStand map.now (length machine.old.hardware.memory) (D.size disk.old) }
     ensures put { ForUsers (D.sectors disk.old) machine.old map.now running (Printed (O.text out.old) (O.text out.new)) result }
-    ensures view { OnlyViews machine.old machine.new D.sectors D.size disk.old disk.new }
-    ensures blame { Blames (result ≡ Err ReportFault.Disk) (result ≡ Err ReportFault.Sink) D.faults disk.old disk.new O.faults out.old out.new }
+    ensures leaves { Reads machine.old machine.new D.sectors D.size D.faults disk.old disk.new O.faults out.old out.new result }
 {
     for i in 0..map.users() {
         put_user_rows(machine, map, running, i + 1, disk, out)?;

@@ -1,5 +1,5 @@
 -- The machine that `load` makes is the loaded machine.
-use Rattle.std.proofs.Common.{◌≡◌, ℕ, ◌+◌, ◌*◌, ◌/◌, ◌-◌, ◌<◌, ◌≤◌, Bool, false, cond, List, [], ◌++◌, map, take, drop, length, replicate, Option, None, Some, refl, sym, ap, ap₂, ◌∙◌, subst, arith, length-append, length-drop, lt-ltb, le-ltb}
+use Rattle.std.proofs.Common.{◌≡◌, ℕ, ◌+◌, ◌*◌, ◌/◌, ◌-◌, ◌<◌, ◌≤◌, Bool, false, cond, List, [], ◌++◌, map, take, drop, length, replicate, Option, None, Some, refl, sym, ap, ap₂, ◌∙◌, subst, arith, length-append, length-drop, lt-ltb, le-ltb, Vec, Global}
 use Rattle.std.specs.Prelude.{nat_lt, IfSome, slice_index}
 use Rattle.std.specs.Option.{option_map}
 use Rattle.std.specs.List.{range_with_len}
@@ -16,7 +16,8 @@ use Rattle.layer_contract.specs.declared.boot.Boot.{Boot as Booted}
 use Rattle.layer_contract.specs.Boots.{boot_of}
 use Rattle.layer_contract.specs.Follows.{loaded, loaded_memory, loaded_sector}
 use Rattle.boot_turns.specs.Completes.{seen}
-use Rattle.boot_run.specs.Loading.{system_of, disk_pages, first_pages, written, with_words, TornAmong}
+use Rattle.boot_run.specs.Loading.{calls_made, system_of, disk_pages, first_pages, pages_of_users, user_pages, written, with_words, TornAmong}
+use Rattle.boot_run.specs.LoadEnds.{LoadTorn}
 use Rattle.boot_run.proofs.PageLemmas.{page_or, written_is}
 use Rattle.boot_run.proofs.UserPages.{dead_past}
 
@@ -104,14 +105,16 @@ stands_loaded b rows held told retold count some e h sized le =
     (ap (λ r. seen r (with_words (started (memory_frames (map_of (boot_of b))) rows) 0 b.words.items)) h ∙ fresh b rows some told count sized le)
 
 -- where the writing was broken off, the sectors become those of the start
-pub torn_becomes : (most : ℕ) (f g : List (List ℕ) → List (List ℕ)) (told retold : Option (List (List ℕ))) → ((ss : List (List ℕ)) → most ≤ length ss → f ss ≡ g ss) → ((ss : List (List ℕ)) → told ≡ Some ss → most ≤ length ss) →
-    TornAmong most f told retold → TornAmong most g told retold
-torn_becomes most f g told retold same large w = record {
+pub torn_becomes : (most : ℕ) (f g : List (List ℕ) → List (List ℕ)) (told retold : Option (List (List ℕ))) (live : ℕ → Bool) (made remade : ℕ) → ((ss : List (List ℕ)) → most ≤ length ss → f ss ≡ g ss) →
+    ((ss : List (List ℕ)) → told ≡ Some ss → most ≤ length ss) → TornAmong most f told retold live made remade → TornAmong most g told retold live made remade
+torn_becomes most f g told retold live made remade same large w = record {
   at = w.at;
   inside = w.inside;
   page = λ a b la lb. ap (λ (l : List (List ℕ)). sector_of l w.at) (sym (same a la)) ∙ w.page a b la lb ∙ ap (λ (l : List (List ℕ)). sector_of l w.at) (same b lb);
   before = λ q lt. w.before q lt ∙ by q told (λ ss e. same ss (large ss e));
   behind = w.behind;
+  is_live = w.is_live;
+  calls = w.calls;
 }
   where
     by : (q : ℕ) (o : Option (List (List ℕ))) → ((ss : List (List ℕ)) → o ≡ Some ss → f ss ≡ g ss) → option_map (λ ss. sector_of (f ss) q) o ≡ option_map (λ ss. sector_of (g ss) q) o
@@ -122,10 +125,25 @@ torn_becomes most f g told retold same large w = record {
 pub told_many : (told : Option (List (List ℕ))) (ss : List (List ℕ)) (count : ℕ) → told ≡ Some ss → IfSome told (λ ss. length ss ≡ count) → length ss ≡ count
 told_many told ss count e h = subst (λ (o : Option (List (List ℕ))). IfSome o (λ ss. length ss ≡ count)) e h
 
-pub torn_loaded : (b : Booted) (rows : Rows) (told retold : Option (List (List ℕ))) (count : ℕ) → 1 ≤ b.params.pages →
-    TornAmong (length b.users.items * b.params.pages) (written (disk_pages b.params.pages (map (λ words. words.items) b.users.items) []) (length b.users.items * b.params.pages)) told retold →
-    IfSome told (λ ss. length ss ≡ count) → length b.users.items * b.params.pages ≤ count →
-    TornAmong (length b.users.items * b.params.pages) (λ ss. (loaded (system_of b rows) ss).device.sectors) told retold
-torn_loaded b rows told retold count some w sized le =
-    torn_becomes (length b.users.items * b.params.pages) (written (disk_pages b.params.pages (map (λ words. words.items) b.users.items) []) (length b.users.items * b.params.pages)) (λ ss. (loaded (system_of b rows) ss).device.sectors) told retold
+pub torn_loaded : (b : Booted) (rows : Rows) (told retold : Option (List (List ℕ))) (made remade count : ℕ) → 1 ≤ b.params.pages →
+    TornAmong (length b.users.items * b.params.pages) (written (user_pages (system_of b rows)) (length b.users.items * b.params.pages)) told retold (user_pages (system_of b rows)).live made remade →
+    IfSome told (λ ss. length ss ≡ count) → length b.users.items * b.params.pages ≤ count → LoadTorn b rows told retold made remade
+torn_loaded b rows told retold made remade count some w sized le =
+    torn_becomes (length b.users.items * b.params.pages) (written (user_pages (system_of b rows)) (length b.users.items * b.params.pages)) (λ ss. (loaded (system_of b rows) ss).device.sectors) told retold
+    (user_pages (system_of b rows)).live made remade
     (λ ss all. sectors_are b rows some ss all) (λ ss e. let many = told_many told ss count e sized in omega (arith, many, le)) w
+
+-- what the code counted, and wrote from its own lists, as the definitions say it
+module _ (b : Booted) (rows : Rows) (us : List (Vec ℕ Global)) (n : ℕ) (told retold : Option (List (List ℕ))) (made remade : ℕ) (users : us ≡ b.users.items) (many : n ≡ length b.users.items) where
+  pub user_calls : remade ≡ calls_made (pages_of_users b.params.pages us []).live (n * b.params.pages) made → remade ≡ calls_made (user_pages (system_of b rows)).live (length b.users.items * b.params.pages) made
+  user_calls w =
+      subst (λ (vs : List (Vec ℕ Global)). remade ≡ calls_made (pages_of_users b.params.pages vs []).live (length b.users.items * b.params.pages) made) users
+      (subst (λ m. remade ≡ calls_made (pages_of_users b.params.pages us []).live (m * b.params.pages) made) many w)
+
+  -- the writing that was broken off
+  abbrev TornOf : List (Vec ℕ Global) → ℕ → Type 0
+  TornOf vs m = TornAmong (m * b.params.pages) (written (pages_of_users b.params.pages vs []) (m * b.params.pages)) told retold (pages_of_users b.params.pages vs []).live made remade
+
+  pub user_torn : TornAmong (n * b.params.pages) (written (pages_of_users b.params.pages us []) (n * b.params.pages)) told retold (pages_of_users b.params.pages us []).live made remade →
+      TornAmong (length b.users.items * b.params.pages) (written (user_pages (system_of b rows)) (length b.users.items * b.params.pages)) told retold (user_pages (system_of b rows)).live made remade
+  user_torn w = subst (λ (vs : List (Vec ℕ Global)). TornOf vs (length b.users.items)) users (subst (λ m. TornOf us m) many w)

@@ -14,7 +14,6 @@ use Rattle.layer_contract.specs.Follows.{loaded, loaded_memory}
 use Rattle.layer_contract.specs.Starts.{user_sectors}
 use Rattle.boot_turns.specs.Completes.{seen}
 use Rattle.boot_turns.specs.Headline as headline
-use Rattle.boot_turns.specs.Headline.{Ending}
 use Rattle.boot_turns.specs.Machines.{MachinesRun}
 use Rattle.boot_turns.specs.declared.answers.View.{View}
 use Rattle.boot_turns.specs.declared.answers.View.TheVariants.{Boot}

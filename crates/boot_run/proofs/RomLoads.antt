@@ -19,8 +19,8 @@ use Rattle.layer_contract.specs.Follows.{loaded_sector}
 use Rattle.boot_rom.specs.Boots.{rom_memory}
 use Rattle.boot_turns.specs.Completes.{seen}
 use Rattle.boot_turns.specs.Rom.{page_of, rom_loaded, rom_sector, rom_sectors}
-use Rattle.boot_run.specs.Loading.{system_of, disk_pages, pages_of_users, written, with_rom, TornAmong}
-use Rattle.boot_run.specs.LoadEnds.{rom_needed}
+use Rattle.boot_run.specs.Loading.{calls_made, system_of, disk_pages, pages_of_users, rom_pages, written, with_rom, TornAmong}
+use Rattle.boot_run.specs.LoadEnds.{rom_needed, RomTorn}
 use Rattle.boot_run.proofs.PageLemmas.{written_is}
 use Rattle.boot_run.proofs.Loads.{lists, needed_is, page_if, page_below, page_behind, kept_behind, torn_becomes, told_many}
 
@@ -102,11 +102,11 @@ module _ (b : Booted) (rows : Rows) where
           let enough : rom_needed b ≤ length old = omega (arith, sized, le) in
           ap Some (ap₂ (λ memory sectors. start memory sectors rows.inputs) (memory_is frames rom rows some few) (rom_sectors_are pages old enough))
 
-  pub rom_torn : (rom : List ℕ) (told retold : Option (List (List ℕ))) (count : ℕ) → 1 ≤ b.params.pages →
-      TornAmong (rom_needed b) (written (disk_pages b.params.pages (lists b rows) b.words.items) (rom_needed b)) told retold → IfSome told (λ ss. length ss ≡ count) → rom_needed b ≤ count →
-      TornAmong (rom_needed b) (λ ss. (rom_loaded (system_of b rows) rom ss).device.sectors) told retold
-  rom_torn rom told retold count some w sized le =
-      torn_becomes (rom_needed b) (written (disk_pages b.params.pages (lists b rows) b.words.items) (rom_needed b)) (λ ss. (rom_loaded (system_of b rows) rom ss).device.sectors) told retold
+  pub rom_torn : (rom : List ℕ) (told retold : Option (List (List ℕ))) (made remade count : ℕ) → 1 ≤ b.params.pages →
+      TornAmong (rom_needed b) (written (rom_pages (system_of b rows)) (rom_needed b)) told retold (rom_pages (system_of b rows)).live made remade → IfSome told (λ ss. length ss ≡ count) → rom_needed b ≤ count →
+      RomTorn b rows rom told retold made remade
+  rom_torn rom told retold made remade count some w sized le =
+      torn_becomes (rom_needed b) (written (rom_pages (system_of b rows)) (rom_needed b)) (λ ss. (rom_loaded (system_of b rows) rom ss).device.sectors) told retold (rom_pages (system_of b rows)).live made remade
       (λ ss all. rom_sectors_are some ss all) (λ ss e. let many = told_many told ss count e sized in omega (arith, many, le)) w
 
   -- its memory has room for the map
@@ -124,18 +124,27 @@ module _ (b : Booted) (rows : Rows) where
 pub need_is : (b : Booted) (users behind : ℕ) → users ≡ length b.users.items → behind ≡ (length b.words.items + 1023) / 1024 → users * b.params.pages + behind ≡ rom_needed b
 need_is b users behind e f = ap₂ (λ (n m : ℕ). n * b.params.pages + m) e f
 
-module _ (b : Booted) (rows : Rows) (us : List (Vec ℕ Global)) (ws : List ℕ) (n : ℕ) (told retold : Option (List (List ℕ))) (users : us ≡ b.users.items) (words : ws ≡ b.words.items) (need : n ≡ rom_needed b) where
+module _ (b : Booted) (rows : Rows) (us : List (Vec ℕ Global)) (ws : List ℕ) (n : ℕ) (told retold : Option (List (List ℕ))) (made remade : ℕ) (users : us ≡ b.users.items) (words : ws ≡ b.words.items) (need : n ≡ rom_needed b) where
   pub written_so : retold ≡ option_map (written (pages_of_users b.params.pages us ws) n) told → retold ≡ option_map (written (disk_pages b.params.pages (lists b rows) b.words.items) (rom_needed b)) told
   written_so w =
       subst (λ (vs : List (Vec ℕ Global)). retold ≡ option_map (written (pages_of_users b.params.pages vs b.words.items) (rom_needed b)) told) users
       (subst (λ (vs : List ℕ). retold ≡ option_map (written (pages_of_users b.params.pages us vs) (rom_needed b)) told) words
       (subst (λ m. retold ≡ option_map (written (pages_of_users b.params.pages us ws) m) told) need w))
 
-  pub torn_so : TornAmong n (written (pages_of_users b.params.pages us ws) n) told retold → TornAmong (rom_needed b) (written (disk_pages b.params.pages (lists b rows) b.words.items) (rom_needed b)) told retold
+  pub calls_so : remade ≡ calls_made (pages_of_users b.params.pages us ws).live n made → remade ≡ calls_made (rom_pages (system_of b rows)).live (rom_needed b) made
+  calls_so w =
+      subst (λ (vs : List (Vec ℕ Global)). remade ≡ calls_made (pages_of_users b.params.pages vs b.words.items).live (rom_needed b) made) users
+      (subst (λ (vs : List ℕ). remade ≡ calls_made (pages_of_users b.params.pages us vs).live (rom_needed b) made) words
+      (subst (λ m. remade ≡ calls_made (pages_of_users b.params.pages us ws).live m made) need w))
+
+  -- the writing that was broken off
+  abbrev TornOf : List (Vec ℕ Global) → List ℕ → ℕ → Type 0
+  TornOf vs behind m = TornAmong m (written (pages_of_users b.params.pages vs behind) m) told retold (pages_of_users b.params.pages vs behind).live made remade
+
+  pub torn_so : TornAmong n (written (pages_of_users b.params.pages us ws) n) told retold (pages_of_users b.params.pages us ws).live made remade →
+      TornAmong (rom_needed b) (written (rom_pages (system_of b rows)) (rom_needed b)) told retold (rom_pages (system_of b rows)).live made remade
   torn_so w =
-      subst (λ (vs : List (Vec ℕ Global)). TornAmong (rom_needed b) (written (pages_of_users b.params.pages vs b.words.items) (rom_needed b)) told retold) users
-      (subst (λ (vs : List ℕ). TornAmong (rom_needed b) (written (pages_of_users b.params.pages us vs) (rom_needed b)) told retold) words
-      (subst (λ m. TornAmong m (written (pages_of_users b.params.pages us ws) m) told retold) need w))
+      subst (λ (vs : List (Vec ℕ Global)). TornOf vs b.words.items (rom_needed b)) users (subst (λ (vs : List ℕ). TornOf us vs (rom_needed b)) words (subst (λ m. TornOf us ws m) need w))
 
 -- the machine that the code made, of the map that it found
 pub made_so : (b : Booted) (rows : Rows) (m : Map) (rom ws : List ℕ) (held : Held) → m ≡ map_of (boot_of b) → ws ≡ rom → held ≡ with_rom (memory_frames m) ws rows → held ≡ with_rom (memory_frames (map_of (boot_of b))) rom rows

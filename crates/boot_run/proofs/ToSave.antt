@@ -2,11 +2,10 @@
 use Rattle.std.proofs.Common.{◌≡◌, ◌≢◌, ℕ, ◌+◌, ◌≤◌, Option, Some, None, List, Ok, Err, arith, refl, ap, subst}
 use Rattle.std.specs.Prelude.{IsSome}
 use Rattle.cvm_outside.specs.Causes.{Rose}
-use Rattle.mips_table.specs.Device.{Outside}
 use Rattle.mips_table.specs.Machine.{State}
 use Rattle.schedule_file.specs.Rows.{Rows}
 use Rattle.mips_machine.specs.Steps.{outside_of}
-use Rattle.cvm_model.specs.Cvm.{System, Cvm, first_cvm}
+use Rattle.cvm_model.specs.Cvm.{Cvm, first_cvm}
 use Rattle.layer_contract.specs.declared.boot.Boot.{Boot as Booted}
 use Rattle.layer_contract.specs.Follows.{loaded}
 use Rattle.layer_contract.specs.Starts.{user_sectors}
@@ -20,11 +19,10 @@ use Rattle.boot_run.specs.declared.whole.RunEnd.{RunEnd}
 use Rattle.boot_run.specs.declared.whole.RunEnd.TheVariants as ends
 use Rattle.boot_turns.specs.Headline as headline
 use Rattle.boot_run.specs.declared.saving.SaveEnd.{SaveEnd}
-use Rattle.boot_run.specs.declared.saving.SaveEnd.TheVariants.{Stopped, Ended}
-use Rattle.boot_run.specs.Saving.{saved_run, StopsOrEnds, RunsToStop, SaveAnswers, SaveEnds, IsSaveDiskFault, IsSaveSinkFault, end_of_save, end_of_stop}
+use Rattle.boot_run.specs.Saving.{saved_run, StopsOrEnds, RunsToStop, SaveEnds, IsSaveDiskFault, IsSaveSinkFault, end_of_save, end_of_stop}
 use Rattle.boot_run.specs.Sink.{Base, behind}
 use Rattle.boot_run.specs.TurnCalls.{Around, around, Ready, StandsReady}
-use Rattle.boot_run.specs.Whole.{FirstAt, Bootable, AnswerEnds, ending_of_end}
+use Rattle.boot_run.specs.Whole.{FirstAt, Bootable, ending_of_end}
 
 one_list : (o : Option (List (List ℕ))) (a b : List (List ℕ)) → o ≡ Some a → o ≡ Some b → a ≡ b
 one_list None a b e f = absurd (cc)

@@ -8,11 +8,14 @@ use Rattle.schedule_file.specs.Rows.{Rows}
 use Rattle.mips_machine.specs.Machine.{Held}
 use Rattle.cvm_model.specs.declared.row.Next.{Next}
 use Rattle.layer_contract.specs.declared.boot.Boot.{Boot as Booted}
+use Rattle.layer_contract.specs.Follows.{loaded}
 use Rattle.boot_turns.specs.declared.answers.View.{View}
 use Rattle.boot_turns.specs.declared.answers.View.TheVariants.{Boot, Trace}
 use Rattle.boot_turns.specs.declared.answers.RunFault.{RunFault}
 use Rattle.boot_turns.specs.declared.tracer.Tracer.{Tracer}
 use Rattle.boot_turns.specs.Completes.{seen}
+use Rattle.boot_turns.specs.Rom.{rom_loaded}
+use Rattle.boot_run.specs.Loading.{system_of, user_pages, rom_pages, TornAmong}
 use Rattle.boot_run.specs.declared.load.LoadFault.{LoadFault}
 use Rattle.boot_run.specs.declared.load.LoadFault.TheVariants.{NoSuchUser, SmallDisk, Memory, Disk}
 
@@ -40,6 +43,16 @@ LoadFails b view need count before now (NoSuchUser u users) = (view ≡ Trace u)
 LoadFails b view need count before now (SmallDisk wanted have) = SeesUser view (length b.users.items) × (wanted ≡ need) × (have ≡ count) × (have < need)
 LoadFails b view need count before now Memory = HasRoom b view need count
 LoadFails b view need count before now Disk = HasRoom b view need count × Rose before now
+
+-- the disk failed in the load of what is booted, whose sectors and whose count of calls were and are these: of the loaded machine
+abbrev pub LoadTorn : Booted → Rows → (told retold : Option (List (List ℕ))) → (made remade : ℕ) → Type 0
+LoadTorn b rows told retold made remade =
+    TornAmong (pages_needed b) (λ ss. (loaded (system_of b rows) ss).device.sectors) told retold (user_pages (system_of b rows)).live made remade
+
+-- and of a machine with a boot ROM of these words
+abbrev pub RomTorn : Booted → Rows → (rom : List ℕ) → (told retold : Option (List (List ℕ))) → (made remade : ℕ) → Type 0
+RomTorn b rows rom told retold made remade =
+    TornAmong (rom_needed b) (λ ss. (rom_loaded (system_of b rows) rom ss).device.sectors) told retold (rom_pages (system_of b rows)).live made remade
 
 -- what is kept of a trace before the first step
 abbrev pub first_tracer : View → Option Tracer

@@ -2,7 +2,7 @@
 ghost use Rattle.std.specs.Prelude.{◌≡◌, ℕ, ◌+◌, ◌*◌, ◌<◌, ◌≤◌, ◌^◌, length, nat_lt, slice_index, true, vec_len, OnOk, OnErr, All};
 ghost use Rattle.std.specs.Option.{option_map};
 ghost use Rattle.cvm_outside.specs.Causes.{Counts};
-ghost use Rattle.boot_run.specs.Loading.{pages_of_users, with_page, written, with_words, StaysBut, TornAmong};
+ghost use Rattle.boot_run.specs.Loading.{calls_made, pages_of_users, with_call, with_page, written, with_words, StaysBut, TornAmong};
 
 use cvm_outside::{DiskFault, Sectors};
 use mips_machine::Machine;
@@ -45,7 +45,7 @@ fn page_source<'a>(users: &'a [Vec<u32>], per: u32, behind: &'a [u32], q: u32) -
     (behind, 1024 * (q - pages) as usize)
 }
 
-/// Writes the page of a number to its sector, if words reach into it.
+/// Writes the page of a number to its sector, by one call of the disk, if words reach into it.
 ///
 /// # Errors
 ///
@@ -65,6 +65,7 @@ fn write_page<D: Sectors>(
     ensures page { OnErr result ((pages_of_users per users.now behind.now).live q ≡ true) }
     ensures size { D.size disk.new ≡ D.size disk.old }
     ensures count { Counts (D.faults disk.old) (D.faults disk.new) result }
+    ensures calls { D.calls disk.new ≡ with_call (pages_of_users per users.now behind.now).live (D.calls disk.old) q }
 {
     let (words, first) = page_source(users, per, behind, q);
     if first < words.len() {
@@ -77,7 +78,8 @@ fn write_page<D: Sectors>(
 ///
 /// # Errors
 ///
-/// A fault of the disk. The sector at which it failed may then hold anything; those before it are written, and those behind it are as before.
+/// A fault of the disk. The sector at which it failed may then hold anything; those before it are written, and those behind it are as before. As many
+/// calls of the disk were made as sectors up to that one get a page.
 pub(crate) fn write_pages<D: Sectors>(
     users: &[Vec<u32>],
     per: u32,
@@ -89,7 +91,9 @@ pub(crate) fn write_pages<D: Sectors>(
     requires few { length users.now * per < 2 ^ 32 }
     requires room { most ≤ D.size disk.old }
     ensures ok { OnOk result (D.sectors disk.new ≡ option_map (written (pages_of_users per users.now behind.now) most) (D.sectors disk.old)) }
-    ensures torn { OnErr result (TornAmong most (written (pages_of_users per users.now behind.now) most) (D.sectors disk.old) (D.sectors disk.new)) }
+    ensures torn { OnErr result (TornAmong most (written (pages_of_users per users.now behind.now) most) (D.sectors disk.old) (D.sectors disk.new)
+        (pages_of_users per users.now behind.now).live (D.calls disk.old) (D.calls disk.new)) }
+    ensures calls { OnOk result (D.calls disk.new ≡ calls_made (pages_of_users per users.now behind.now).live most (D.calls disk.old)) }
     ensures size { D.size disk.new ≡ D.size disk.old }
     ensures count { Counts (D.faults disk.old) (D.faults disk.new) result }
 {

@@ -1,6 +1,5 @@
 // Where the parts of what is booted stand in memory.
-ghost use Rattle.std.specs.Prelude.{◌≡◌, ℕ, ◌<◌, ◌^◌, All, List, length, map, IfOk};
-ghost use Rattle.c0_tree.specs.Tree.{CUnit};
+ghost use Rattle.std.specs.Prelude.{◌≡◌, ◌<◌, ◌^◌, All, length, map, IfOk};
 ghost use Rattle.c0_tree.specs.View.{decl_view, unit_view};
 ghost use Rattle.c0_meaning.specs.Env.{typed_of};
 ghost use Rattle.c0_meaning.specs.Sound.{shapes, IsSized};

@@ -1,11 +1,11 @@
 // The end and the report of a run, printed from its machine.
-ghost use Rattle.std.specs.Prelude.{◌≡◌, ◌≢◌, ◌*◌, ◌≤◌, ◌++◌, length, Err};
-ghost use Rattle.boot_report.specs.Blames.{Blames};
+ghost use Rattle.std.specs.Prelude.{◌≡◌, ◌≤◌, ◌++◌, length};
 ghost use Rattle.layer_map.specs.Map.{memory_words};
 ghost use Rattle.cvm_model.specs.Text.{steps_row as steps_text};
 ghost use Rattle.boot_report.specs.Globals.{AreInside};
 ghost use Rattle.boot_run.specs.Report.{end_row, kernel_rows, runs_now, ForClosing, ForTraceClosing, StepsStand};
-ghost use Rattle.boot_report.specs.Leaves.{OnlyViews, Printed, Puts};
+ghost use Rattle.boot_report.specs.Leaves.{Printed, Puts, Reads};
+ghost use Rattle.boot_report.specs.Stand.{BlocksStand, PagesStand, UserStands};
 
 use crate::places::Places;
 use boot_report::{ReportFault, put_globals, put_log, put_user_rows, put_users};
@@ -68,15 +68,11 @@ pub(crate) fn put_closing<D: Sectors, O: Sink>(
     out: &mut O,
 ) -> Result<(), ReportFault>
     requires many { length places.now.offsets.items ≡ length decls.now }
-    requires users { places.now.map.users ≤ 64 }
-    requires memory { memory_words places.now.map ≤ length machine.old.hardware.memory }
-    requires small { memory_words places.now.map ≤ 30000000 }
+    requires users { BlocksStand places.now.map (length machine.old.hardware.memory) }
+    requires pages { PagesStand places.now.map (length machine.old.hardware.memory) (D.size disk.old) }
     requires inside { AreInside places.now.map places.now.offsets.items }
-    requires all { places.now.map.users * places.now.map.params.pages ≤ 65536 }
-    requires room { places.now.map.users * places.now.map.params.pages ≤ D.size disk.old }
     ensures put { ForClosing (D.sectors disk.old) machine.old halted current places.now decls.now (Printed (O.text out.old) (O.text out.new)) result }
-    ensures view { OnlyViews machine.old machine.new D.sectors D.size disk.old disk.new }
-    ensures blame { Blames (result ≡ Err ReportFault.Disk) (result ≡ Err ReportFault.Sink) D.faults disk.old disk.new O.faults out.old out.new }
+    ensures leaves { Reads machine.old machine.new D.sectors D.size D.faults disk.old disk.new O.faults out.old out.new result }
 {
     put_kernel(machine, places, decls, halted, out)?;
     let running = runs_now(halted, current);
@@ -106,18 +102,11 @@ pub(crate) fn put_trace_closing<D: Sectors, O: Sink>(
     disk: &mut D,
     out: &mut O,
 ) -> Result<(), ReportFault>
-    requires some { 1 ≤ tracer.user }
-    requires most { tracer.user ≤ map.now.users }
-    requires users { map.now.users ≤ 64 }
-    requires memory { memory_words map.now ≤ length machine.old.hardware.memory }
-    requires layer { 16384 ≤ length machine.old.hardware.memory }
-    requires small { memory_words map.now ≤ 30000000 }
-    requires all { map.now.users * map.now.params.pages ≤ 65536 }
-    requires room { map.now.users * map.now.params.pages ≤ D.size disk.old }
+    requires user { UserStands map.now tracer.user (length machine.old.hardware.memory) }
+    requires pages { PagesStand map.now (length machine.old.hardware.memory) (D.size disk.old) }
     ensures put { ForTraceClosing (D.sectors disk.old) machine.old halted current map.now tracer (Printed (O.text out.old) (O.text out.new)) result }
     ensures rows { StepsStand (D.sectors disk.old) machine.old halted current map.now tracer (O.text out.old) (O.text out.new) result }
-    ensures view { OnlyViews machine.old machine.new D.sectors D.size disk.old disk.new }
-    ensures blame { Blames (result ≡ Err ReportFault.Disk) (result ≡ Err ReportFault.Sink) D.faults disk.old disk.new O.faults out.old out.new }
+    ensures leaves { Reads machine.old machine.new D.sectors D.size D.faults disk.old disk.new O.faults out.old out.new result }
 {
     put_last(tracer.steps, halted, out)?;
     let running = runs_now(halted, current);

@@ -1,8 +1,7 @@
 // A loaded run.
-ghost use Rattle.std.specs.Prelude.{◌≡◌, ◌≢◌, ◌∷◌, ◌+◌, ◌<◌, ◌≤◌, ◌⊎◌, ◌^◌};
-ghost use Rattle.std.specs.Prelude.{false, [], length, slice_index, IfOk, IfErr, IfSome, IsSome, OnOk, OnErr, Err, Ok, Some, None};
+ghost use Rattle.std.specs.Prelude.{◌≡◌, ◌≢◌, ◌∷◌, ◌+◌, ◌<◌, ◌≤◌, ◌^◌};
+ghost use Rattle.std.specs.Prelude.{false, [], length, slice_index, IfOk, IfErr, IsSome, OnOk, OnErr, Err, Ok, Some, None};
 ghost use Rattle.std.specs.Result.{result_err};
-ghost use Rattle.cvm_outside.specs.Causes.{Rose};
 ghost use Rattle.layer_map.specs.Map.{memory_words};
 ghost use Rattle.mips_machine.specs.Saved.{AreSaved};
 ghost use Rattle.cvm_model.specs.Cvm.{map_of};
@@ -10,15 +9,14 @@ ghost use Rattle.layer_contract.specs.Boots.{boot_of, BootFollows};
 ghost use Rattle.boot_report.specs.Blames.{Blames};
 ghost use Rattle.layer_contract.specs.Follows.{loaded};
 ghost use Rattle.boot_turns.specs.Rom.{rom_loaded};
-ghost use Rattle.boot_run.specs.Loading.{system_of, TornAmong};
-ghost use Rattle.boot_run.specs.LoadEnds.{pages_needed, rom_needed, IsFresh, StandsFrom, LoadFails};
-ghost use Rattle.boot_report.specs.Texts.{SameButViewed};
+ghost use Rattle.boot_run.specs.Loading.{calls_made, rom_pages, system_of, user_pages};
+ghost use Rattle.boot_run.specs.LoadEnds.{pages_needed, rom_needed, IsFresh, StandsFrom, LoadFails, LoadTorn, RomTorn};
 ghost use Rattle.boot_report.specs.Leaves.{OnlyViews, Puts};
 ghost use Rattle.boot_run.specs.Calls.{MakesTurns, Proceeds, ProceedsAnyhow, TakesTurns, Reports};
-ghost use Rattle.boot_run.specs.OneTurn.{TurnsSay, as_turns};
+ghost use Rattle.boot_run.specs.OneTurn.{CanMake, Leaves, Makes, ReportLeaves, TurnsSay, as_turns};
 ghost use Rattle.boot_run.specs.Saving.{saved_run, AreBoots, IsTakenUp};
 ghost use Rattle.boot_run.specs.Shown.{has_faulted};
-ghost use Rattle.boot_run.specs.TurnCalls.{rows_of, IsOver, KeepsLoad, StandsReady};
+ghost use Rattle.boot_run.specs.TurnCalls.{rows_of, StandsReady};
 ghost use Rattle.boot_run.specs.TurnParts.{rows_before, rows_after, Views};
 ghost use Rattle.cvm_model.specs.declared.row.Row.{Row as OneRow};
 
@@ -94,7 +92,8 @@ impl<L: Layer + Drop> Run<L> {
     ///
     /// `NoSuchUser`, where the user of a trace is none of the users; else `SmallDisk`, where the disk has fewer sectors than the
     /// users' pages take; else `Memory`, for want of memory; else `Disk`, only where the disk's count of faults rose. The sectors before the one at
-    /// which the disk failed are written then, that one may hold anything, and the others are as before.
+    /// which the disk failed are written then, that one may hold anything, and the others are as before; as many calls of the disk were made as words
+    /// reach into pages of sectors up to that one.
     pub fn load<D: Sectors>(
         alloc: Global,
         layer: L,
@@ -109,7 +108,8 @@ impl<L: Layer + Drop> Run<L> {
         ensures stands { IfOk result (StandsFrom (loaded (system_of boot schedule)) (D.sectors disk.old) (D.sectors disk.new)) }
         ensures ready { IfOk result (StandsReady (system_of boot schedule) (loaded (system_of boot schedule)) (D.sectors disk.old) (D.sectors disk.new)) }
         ensures fault { IfErr result (LoadFails boot view (pages_needed boot) (D.size disk.old) (D.faults disk.old) (D.faults disk.new)) }
-        ensures torn { result ≡ Err LoadFault.Disk → TornAmong (pages_needed boot) (λ ss. (loaded (system_of boot schedule) ss).device.sectors) (D.sectors disk.old) (D.sectors disk.new) }
+        ensures torn { result ≡ Err LoadFault.Disk → LoadTorn boot schedule (D.sectors disk.old) (D.sectors disk.new) (D.calls disk.old) (D.calls disk.new) }
+        ensures calls { OnOk result (D.calls disk.new ≡ calls_made (user_pages (system_of boot schedule)).live (pages_needed boot) (D.calls disk.old)) }
         ensures still { result ≢ Err LoadFault.Disk → OnErr result (disk.new ≡ disk.old) }
         ensures size { D.size disk.new ≡ D.size disk.old }
         ensures same { result ≢ Err LoadFault.Disk → D.faults disk.new ≡ D.faults disk.old }
@@ -162,7 +162,8 @@ impl<L: Layer + Drop> Run<L> {
         ensures stands { IfOk result (StandsFrom (rom_loaded (system_of boot schedule) rom.now.items) (D.sectors disk.old) (D.sectors disk.new)) }
         ensures ready { IfOk result (StandsReady (system_of boot schedule) (rom_loaded (system_of boot schedule) rom.now.items) (D.sectors disk.old) (D.sectors disk.new)) }
         ensures fault { IfErr result (LoadFails boot view (rom_needed boot) (D.size disk.old) (D.faults disk.old) (D.faults disk.new)) }
-        ensures torn { result ≡ Err LoadFault.Disk → TornAmong (rom_needed boot) (λ ss. (rom_loaded (system_of boot schedule) rom.now.items ss).device.sectors) (D.sectors disk.old) (D.sectors disk.new) }
+        ensures torn { result ≡ Err LoadFault.Disk → RomTorn boot schedule rom.now.items (D.sectors disk.old) (D.sectors disk.new) (D.calls disk.old) (D.calls disk.new) }
+        ensures calls { OnOk result (D.calls disk.new ≡ calls_made (rom_pages (system_of boot schedule)).live (rom_needed boot) (D.calls disk.old)) }
         ensures still { result ≢ Err LoadFault.Disk → OnErr result (disk.new ≡ disk.old) }
         ensures size { D.size disk.new ≡ D.size disk.old }
         ensures same { result ≢ Err LoadFault.Disk → D.faults disk.new ≡ D.faults disk.old }
@@ -220,19 +221,11 @@ impl<L: Layer + Drop> Run<L> {
         disk: &mut D,
         out: &mut O,
     ) -> Result<(u32, Turn), RunFault>
-        requires some { 1 ≤ most }
-        requires disk { D.size disk.old ≡ self.old.count }
-        requires steps { self.old.machine.time + budget.old < 2 ^ 64 }
-        ensures kept { KeepsLoad self.old self.new }
-        ensures fault { self.new.fault ≡ self.old.fault }
+        requires can { CanMake most self.old (D.size disk.old) budget.old }
+        ensures makes { Makes D.size D.sectors D.faults O.text O.faults most self.old disk.old budget.old out.old self.new disk.new budget.new out.new result }
         ensures ends { MakesTurns D.size D.sectors O.text most self.old disk.old budget.old out.old self.new disk.new budget.new out.new result }
         ensures untraced { self.old.tracer ≡ None → (self.new.tracer ≡ None) × (out.new ≡ out.old) }
         ensures no_sink { self.old.tracer ≡ None → result ≢ Err RunFault.Sink }
-        ensures size { D.size disk.new ≡ D.size disk.old }
-        ensures blame { Blames (result ≡ Err RunFault.Disk) (result ≡ Err RunFault.Sink) D.faults disk.old disk.new O.faults out.old out.new }
-        ensures spent { self.new.machine.time + budget.new ≡ self.old.machine.time + budget.old }
-        ensures limit { result ≡ Err RunFault.StepLimit → (budget.new ≡ 0) × (self.new.machine.hardware.off ≡ None) }
-        ensures made { IfOk result (λ r. (1 ≤ r.0) × (r.0 ≤ most) × (r.1 ≢ Turn.Over)) }
     {
         memory_is_whole();
         loops_advance();
@@ -286,18 +279,10 @@ impl<L: Layer + Drop> Run<L> {
         disk: &mut D,
         out: &mut O,
     ) -> Result<(u32, Turn), RunFault>
-        requires some { 1 ≤ most }
-        requires disk { D.size disk.old ≡ self.old.count }
-        requires steps { self.old.machine.time + budget.old < 2 ^ 64 }
-        ensures kept { KeepsLoad self.old self.new }
-        ensures fault { self.new.fault ≡ self.old.fault }
-        ensures size { D.size disk.new ≡ D.size disk.old }
+        requires can { CanMake most self.old (D.size disk.old) budget.old }
+        ensures makes { Makes D.size D.sectors D.faults O.text O.faults most self.old disk.old budget.old out.old self.new disk.new budget.new out.new result }
         ensures ends { Proceeds D.size D.sectors O.text most self.old disk.old budget.old out.old self.new disk.new budget.new out.new result }
         ensures any { ProceedsAnyhow D.size D.sectors O.text most self.old disk.old budget.old out.old self.new disk.new budget.new out.new result }
-        ensures blame { Blames (result ≡ Err RunFault.Disk) (result ≡ Err RunFault.Sink) D.faults disk.old disk.new O.faults out.old out.new }
-        ensures spent { self.new.machine.time + budget.new ≡ self.old.machine.time + budget.old }
-        ensures limit { result ≡ Err RunFault.StepLimit → (budget.new ≡ 0) × (self.new.machine.hardware.off ≡ None) }
-        ensures made { IfOk result (λ r. (1 ≤ r.0) × (r.0 ≤ most) × (r.1 ≢ Turn.Over)) }
     {
         machines_run();
         traces_grow();
@@ -324,26 +309,10 @@ impl<L: Layer + Drop> Run<L> {
         disk: &mut D,
         out: &mut O,
     ) -> Result<(u32, Turn), RunFault>
-        requires some { 1 ≤ most }
-        requires disk { D.size disk.old ≡ self.old.count }
-        requires steps { self.old.machine.time + budget.old < 2 ^ 64 }
-        ensures kept { KeepsLoad self.old self.new }
-        ensures size { D.size disk.new ≡ D.size disk.old }
-        ensures again { IfSome self.old.fault (λ f. result ≡ Err f) }
-        ensures over { self.old.fault ≡ None → IsSome self.old.ended → result ≡ Ok (0, Turn.Over) }
-        ensures only { IfOk result (λ r. r.1 ≡ Turn.Over → IsSome self.old.ended) }
-        ensures made { IfOk result (λ r. (r.0 ≤ most) × (self.old.ended ≡ None → 1 ≤ r.0)) }
-        ensures still { IsOver self.old → (self.new ≡ self.old) × (budget.new ≡ budget.old) × (disk.new ≡ disk.old) × (out.new ≡ out.old) }
-        ensures keeps { IfErr result (λ f. self.new.fault ≡ Some f) }
-        ensures fine { OnOk result (self.new.fault ≡ None) }
+        requires can { CanMake most self.old (D.size disk.old) budget.old }
+        ensures rest { Leaves D.size D.sectors D.faults O.text O.faults most self.old disk.old budget.old out.old self.new disk.new budget.new out.new result }
         ensures ends { TakesTurns D.size D.sectors O.text most self.old disk.old budget.old out.old self.new disk.new budget.new out.new result }
         ensures any { ProceedsAnyhow D.size D.sectors O.text most self.old disk.old budget.old out.old self.new disk.new budget.new out.new result }
-        ensures disk { result ≡ Err RunFault.Disk → self.old.fault ≡ None → Rose (D.faults disk.old) (D.faults disk.new) }
-        ensures disk_same { result ≢ Err RunFault.Disk → D.faults disk.new ≡ D.faults disk.old }
-        ensures sink { result ≡ Err RunFault.Sink → self.old.fault ≡ None → Rose (O.faults out.old) (O.faults out.new) }
-        ensures sink_same { result ≢ Err RunFault.Sink → O.faults out.new ≡ O.faults out.old }
-        ensures spent { self.new.machine.time + budget.new ≡ self.old.machine.time + budget.old }
-        ensures limit { result ≡ Err RunFault.StepLimit → self.old.fault ≡ None → (budget.new ≡ 0) × (self.new.machine.hardware.off ≡ None) }
     {
         if let Some(fault) = self.fault {
             return Err(fault);
@@ -371,8 +340,7 @@ impl<L: Layer + Drop> Run<L> {
         disk: &mut D,
         out: &mut O,
     ) -> Result<Turn, RunFault>
-        requires disk { D.size disk.old ≡ self.old.count }
-        requires steps { self.old.machine.time + budget.old < 2 ^ 64 }
+        requires can { CanMake 1 self.old (D.size disk.old) budget.old }
         ensures { TurnsSay D.size D.sectors D.faults O.text O.faults 1 self.old disk.old budget.old out.old self.new disk.new budget.new out.new (as_turns result) }
     {
         let (_, turn) = self.turns(1, budget, disk, out)?;
@@ -440,20 +408,8 @@ impl<L: Layer + Drop> Run<L> {
     /// nothing.
     pub fn report<D: Sectors, O: Sink>(&mut self, disk: &mut D, out: &mut O) -> Result<(), RunFault>
         requires disk { D.size disk.old ≡ self.old.count }
-        ensures same { self.new ≡ record self.old { machine = self.new.machine; fault = self.new.fault } }
-        ensures machine { SameButViewed self.old.machine self.new.machine }
-        ensures sectors { D.sectors disk.new ≡ D.sectors disk.old }
-        ensures size { D.size disk.new ≡ D.size disk.old }
-        ensures again { IfSome self.old.fault (λ f. result ≡ Err f) }
-        ensures still { IsSome self.old.fault → (self.new ≡ self.old) × (disk.new ≡ disk.old) × (out.new ≡ out.old) }
-        ensures keeps { IfErr result (λ f. self.new.fault ≡ Some f) }
-        ensures fine { OnOk result (self.new.fault ≡ None) }
+        ensures rest { ReportLeaves D.size D.sectors D.faults O.text O.faults self.old disk.old out.old self.new disk.new out.new result }
         ensures ends { self.old.fault ≡ None → Reports D.size D.sectors O.text self.old disk.old out.old self.new disk.new out.new result }
-        ensures limit { result ≡ Err RunFault.StepLimit → self.old.fault ≡ Some RunFault.StepLimit }
-        ensures disk { result ≡ Err RunFault.Disk → self.old.fault ≡ None → Rose (D.faults disk.old) (D.faults disk.new) }
-        ensures disk_same { result ≢ Err RunFault.Disk → D.faults disk.new ≡ D.faults disk.old }
-        ensures sink { result ≡ Err RunFault.Sink → self.old.fault ≡ None → Rose (O.faults out.old) (O.faults out.new) }
-        ensures sink_same { result ≢ Err RunFault.Sink → O.faults out.new ≡ O.faults out.old }
     {
         if let Some(fault) = self.fault {
             return Err(fault);

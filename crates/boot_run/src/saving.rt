@@ -5,6 +5,7 @@ ghost use Rattle.cvm_model.specs.Cvm.{map_of};
 ghost use Rattle.layer_contract.specs.Boots.{boot_of, BootFollows};
 ghost use Rattle.boot_report.specs.Blames.{Blames};
 ghost use Rattle.boot_run.specs.LoadEnds.{HasRoom, LoadFails, pages_needed};
+ghost use Rattle.boot_run.specs.Whole.{WholeStopped};
 ghost use Rattle.boot_run.specs.Saving.{end_of_stop, IsSaveDiskFault, IsSaveSinkFault, RunsToSave, Stops, StopsOrCloses};
 
 use crate::load::LoadFault;
@@ -96,6 +97,7 @@ pub fn run_to_save<L: Layer + Drop, D: Sectors, O: Sink>(
     ensures memory { IfOk result (λ r. r.1 ≡ SaveEnd.Stopped → length r.0.machine.hardware.memory ≡ memory_words (map_of (boot_of boot))) }
     ensures told { IsSome (D.sectors disk.old) → IsSome (D.sectors disk.new) }
     ensures refused { IfErr result (LoadFails boot View.Boot (pages_needed boot) (D.size disk.old) (D.faults disk.old) (D.faults disk.new)) }
+    ensures stopped { result ≡ Err LoadFault.Disk → WholeStopped boot schedule (D.sectors disk.old) (D.sectors disk.new) (D.calls disk.old) (D.calls disk.new) }
     ensures loaded { IfOk result (λ _. HasRoom boot View.Boot (pages_needed boot) (D.size disk.old)) }
     ensures unprinted { IfErr result (λ _. out.new ≡ out.old) }
     ensures still { result ≢ Err LoadFault.Disk → OnErr result (disk.new ≡ disk.old) }

@@ -6,10 +6,11 @@ use Rattle.std.proofs.lemmas.Bool.{cases_lt, cond_both, leb-true}
 use Rattle.std.proofs.lemmas.Int.{of_z-to_z, to_z_pos}
 use Rattle.std.proofs.Math.Facts.{to_z-neg}
 use Rattle.std.proofs.lemmas.List.{length-append, length-take, length-take-le, take_at}
+use Rattle.mips_table.specs.Machine.{Console}
 use Rattle.mips_table.specs.Arith.{signed}
 use Rattle.mips_table.specs.Flat.{Flat}
 use Rattle.c0_meaning.specs.Value.{bool}
-use Rattle.cvm_model.specs.Kernel.{flat, Console, JournalEntry, Set, Size, Put}
+use Rattle.cvm_model.specs.Kernel.{flat, JournalEntry, Set, Size, Put}
 use Rattle.cvm_model.specs.Primitives.{Call, VmGet, VmSet, VmSize, VmResize, VmWord, VmPut, VmCopy, ConPut, ConGet, ConLeft, primitive_number, arguments_of, user_of, with_user, with_words, puts, is_within, is_place, is_good, refused, unchanged, granted, prim, Given, no_flat}
 use Rattle.cvm_model.specs.Journal.{changes_of}
 use Rattle.layer_contract.specs.Layer.{AreArguments}

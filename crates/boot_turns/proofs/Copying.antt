@@ -6,6 +6,7 @@ use Rattle.std.proofs.lemmas.List.{append_assoc, get_or-drop, length-drop, take_
 use Rattle.std.proofs.lemmas.Bool.{cond-false}
 use Rattle.cvm_outside.specs.Told.{AppendsPart}
 use Rattle.cvm_outside.proofs.Parts.{append_known-nil, puts-both, part-front, part-back}
+use Rattle.mips_table.specs.Machine.{State}
 use Rattle.layer_map.specs.Map.{Map}
 use Rattle.page_model.specs.Paging.{Paged}
 use Rattle.cvm_model.specs.Kernel.{Put}
@@ -14,10 +15,10 @@ use Rattle.cvm_model.specs.Text.{steps_row, entry_row, journal_rows_after}
 use Rattle.mips_machine.specs.Machine.{Held, state_of}
 use Rattle.cvm_model.specs.Paged.{paged_of}
 use Rattle.boot_report.specs.Texts.{EntriesFit, SameButViewed}
-use Rattle.boot_report.specs.Told.{user_word}
+use Rattle.boot_report.specs.Told.{user_word, WordsAreTold}
 use Rattle.boot_turns.specs.declared.tracer.Tracer.{Tracer}
 use Rattle.boot_turns.specs.JournalText.{steps_after}
-use Rattle.boot_turns.specs.Copies.{user_words, copy_rows, steps_left, CopiesTell}
+use Rattle.boot_turns.specs.Copies.{user_words, copy_rows, steps_left}
 use Rattle.boot_turns.proofs.JournalRows.{more}
 
 -- one word more is put
@@ -135,8 +136,9 @@ pub row_read : (m : Map) (old now : Held) (ss : List (List ℕ)) (u v k address 
 row_read m old now ss u v k address word row same e is r =
     r ∙ ap (λ w. entry_row (Put address w)) (is ∙ ap (λ v. user_word m (paged_of m (state_of now ss)) v k) e ∙ ap (λ s. user_word m (paged_of m s) u k) (state_same old now ss same))
 
--- the words of the pages are those of the user
-pub copies_tell : CopiesTell
+-- where a user's words are told, n of them from word k on are those of its pages
+pub copies_tell : (m : Map) (s : State) (u k n : ℕ) (words : List ℕ) → WordsAreTold m s u words → k + n ≤ length words →
+    user_words m (paged_of m s) u k n ≡ take n (drop k words)
 copies_tell m s u k zero words told le = refl
 copies_tell m s u k (suc n) words told le =
     let lt : k + n < length words = omega (arith, le) in

@@ -1,13 +1,11 @@
 -- The rows of words that were copied to a user, as its pages show them.
-use Rattle.std.specs.Prelude.{◌≡◌, ℕ, zero, suc, ◌+◌, ◌/◌, ◌==◌, ◌≤◌, if◌then◌else◌, false, Option, List, [], ◌∷◌, ◌++◌, length, take, drop}
-use Rattle.mips_table.specs.Machine.{State}
+use Rattle.std.specs.Prelude.{ℕ, zero, suc, ◌+◌, ◌/◌, ◌==◌, if◌then◌else◌, false, Option, List, [], ◌∷◌, ◌++◌}
 use Rattle.mips_machine.specs.Machine.{Held}
 use Rattle.layer_map.specs.Map.{Map}
 use Rattle.page_model.specs.Paging.{Paged}
 use Rattle.cvm_model.specs.Primitives.{puts}
 use Rattle.cvm_model.specs.Text.{journal_rows_after}
-use Rattle.cvm_model.specs.Paged.{paged_of}
-use Rattle.boot_report.specs.Told.{user_word, WordsAreTold, WherePaged}
+use Rattle.boot_report.specs.Told.{user_word, WherePaged}
 use Rattle.boot_turns.specs.declared.tracer.Tracer.{Tracer}
 
 -- n words of user u from word k on
@@ -26,8 +24,3 @@ ForCopied told held m kept address n P result = WherePaged told held m (λ a. P 
 -- the steps with no row after so many puts
 abbrev pub steps_left : (steps n : ℕ) → ℕ
 steps_left steps n = if n == 0 then steps else 0
-
--- where a user's words are told, n of them from word k on are those of its pages
-abbrev pub CopiesTell : Type 0
-CopiesTell = (m : Map) (s : State) (u k n : ℕ) (words : List ℕ) → WordsAreTold m s u words → k + n ≤ length words →
-    user_words m (paged_of m s) u k n ≡ take n (drop k words)

@@ -91,11 +91,12 @@ WordsAt x y u s words None = Unit {0}
 WordsAt x y u s words (Some e) = (core : Core) × Stands x (site_of y.boot) s Running core × (words ≡ (user_of core.users u).words)
     × IsPlaced u e (slice_index s.cpu.regs ANSWER) words
 
--- a primitive has copied words to user u, with this answer
+-- a primitive has copied words to user u, one at least, with this answer
 pub record IsCopyTo (u : ℕ) (e : Entered) (answer : ℕ) : Type 0 where
   pub copies : e.primitive ≡ 6
   pub user : slice_index e.arguments 2 ≡ u
   pub done : answer ≡ 1
+  pub some : 1 ≤ slice_index e.arguments 4
 
 -- one that was noted returns here and has
 pub record CopyEnds (u : ℕ) (s : State) (noted : Option Entered) : Type 0 where

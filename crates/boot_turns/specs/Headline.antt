@@ -124,24 +124,9 @@ pub record LoadBroken (s : State) (held : ℕ) (old now : List (List ℕ)) (text
   pub written : (q : ℕ) → q < at → sector_of now q ≡ sector_of s.device.sectors q
   pub rest : (q : ℕ) → at < q → sector_of now q ≡ sector_of old q
 
--- HOW A RUN ENDS, with its load
-abbrev pub EndsFrom : Outside → System → State → (held : ℕ) → (old now : List (List ℕ)) → View → (turns steps : ℕ) → List ℕ → Ending → Type 0
-EndsFrom x y s held old now v turns steps text DiskFault = RunEndsFrom x y s held old now v turns steps text DiskFault ⊎ LoadBroken s held old now text
-EndsFrom x y s held old now v turns steps text e = RunEndsFrom x y s held old now v turns steps text e
-
--- THE BOOT is the run of the loaded machine, with the users' sectors. The headline's step, the text, a run with no failed call, and how it ends:
-abbrev pub end_of : Outside → System → List (List ℕ) → (turns steps : ℕ) → ℕ
-end_of x y old turns steps = end_within x (loaded y old) turns steps
-
-abbrev pub TextOf : Outside → System → List (List ℕ) → View → ℕ → Ending → List ℕ → Type 0
-TextOf x y old v t e text = TextAt x y (loaded y old) v t e text
-
+-- THE BOOT is the run of the loaded machine, with the users' sectors: one with no failed call
 abbrev pub Ran : Outside → System → (old now : List (List ℕ)) → View → (turns steps : ℕ) → Ending → List ℕ → Type 0
 Ran x y old now v turns steps e text = RanFrom x y (loaded y old) (user_sectors y) old now v turns steps e text
-
--- THE HEADLINE of a boot or a trace, by its ending
-abbrev pub Ends : Outside → System → (old now : List (List ℕ)) → View → (turns steps : ℕ) → List ℕ → Ending → Type 0
-Ends x y old now v turns steps text e = EndsFrom x y (loaded y old) (user_sectors y) old now v turns steps text e
 
 -- the machine goes on where the CVM run is defined, within its bound
 abbrev pub GoesOn : Outside → System → List (List ℕ) → Type 0

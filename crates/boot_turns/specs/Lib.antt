@@ -14,3 +14,4 @@ pub mod JournalText
 pub mod Copies
 pub mod Tracing
 pub mod TraceSteps
+pub mod Steps

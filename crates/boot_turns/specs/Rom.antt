@@ -3,7 +3,6 @@ use Rattle.std.specs.Prelude.{ℕ, ◌+◌, ◌*◌, ◌/◌, ◌≤◌, ◌&&�
 use Rattle.std.specs.List.{range_with_len}
 use Rattle.mips_table.specs.Device.{Outside}
 use Rattle.mips_table.specs.Machine.{State}
-use Rattle.c0_meaning.specs.State.{State as C0}
 use Rattle.layer_map.specs.Map.{memory_frames}
 use Rattle.cvm_model.specs.Cvm.{System, map_of}
 use Rattle.layer_contract.specs.Layer.{BusyWithin}
@@ -11,8 +10,6 @@ use Rattle.layer_contract.specs.Follows.{loaded_sector, SystemFits}
 use Rattle.layer_contract.specs.Starts.{user_sectors, Beyond, Start}
 use Rattle.boot_rom.specs.Laws.{Load}
 use Rattle.boot_rom.specs.Boots.{rom_start, rom_of}
-use Rattle.boot_turns.specs.Machines.{GoesOnWithin}
-use Rattle.boot_turns.specs.Premises.{StartsFrom}
 
 -- what the ROM loads: the linked words, from the sector behind the users' pages on
 abbrev pub load_of : System → Load
@@ -59,9 +56,3 @@ pub record RomStartsBy (x : Outside) (y : System) (old : List (List ℕ)) : Type
 
 abbrev pub RomStarts : Type 0
 RomStarts = (x : Outside) (y : System) (old : List (List ℕ)) → RomFits x y old → RomStartsBy x y old
-
--- THE ROM'S RUN GOES ON: from its start the machine comes to each turn of the abstract run with the lines that it met itself, within the bound and
--- the ROM's steps
-abbrev pub RomGoesOn : (C0 → Type 0) → Type 0
-RomGoesOn Typed = (x : Outside) (y : System) (old : List (List ℕ)) (late held : ℕ) → StartsFrom Typed x y (rom_loaded y (own_rom y) old) late held →
-    RomFits x y old → GoesOnWithin x y (rom_loaded y (own_rom y) old) (rom_steps y)

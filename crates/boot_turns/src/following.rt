@@ -1,23 +1,20 @@
 // The rows of one step of a trace, and what is kept after it.
-ghost use Rattle.std.specs.Prelude.{◌≡◌, ◌≢◌, ◌*◌, ◌≤◌, ◌<◌, ◌-◌, ◌^◌, List, [], length, true, false, None, Err};
-ghost use Rattle.boot_report.specs.Blames.{Blames};
+ghost use Rattle.std.specs.Prelude.{◌≡◌, ◌*◌, ◌<◌, ◌-◌, ◌^◌, [], length, true, false, None, Err};
 ghost use Rattle.mips_machine.specs.Machine.{state_of};
-ghost use Rattle.layer_map.specs.Map.{memory_words};
 ghost use Rattle.boot_turns.specs.Completes.{shown};
 ghost use Rattle.boot_turns.specs.Entries.{notes_on, returned, IsCopyTo, CopyEnds, HasRows};
+ghost use Rattle.boot_turns.specs.Steps.{Keeps, RowsRead};
 ghost use Rattle.boot_turns.specs.Tracing.{CanTrace, counted, ForEnded, EndedKeeps, ForFollowed, FollowedKeeps};
-ghost use Rattle.boot_report.specs.Leaves.{OnlyViews, Printed};
+ghost use Rattle.boot_report.specs.Leaves.{Printed};
 
 use crate::answers::RunFault;
 use crate::completion::Begun;
+use crate::primitives::VM_COPY;
 use crate::registers::{ANSWER, ECA, EDATA, MODE};
 use crate::tracer::{Entered, Tracer, note_entry};
 use cvm_outside::{Sectors, Sink};
 use layer_map::{CURRENT, Map};
 use mips_machine::Machine;
-
-/// The number of the primitive that copies words.
-const COPY: u32 = 6;
 
 /// What the machine shows now, as it is noted after the step that begins a turn.
 pub(crate) fn begun_now(machine: &Machine) -> Begun
@@ -75,11 +72,8 @@ impl Tracer {
         ensures put { ForEnded (D.sectors disk.old) machine.old map.now self.old call.now answer (Printed (O.text out.old) (O.text out.new)) result }
         ensures steps { EndedKeeps (D.sectors disk.old) machine.old map.now self.old self.new call.now answer result }
         ensures reads { result ≡ Err RunFault.Disk → IsCopyTo self.old.user call.now answer }
-        ensures user { self.new.user ≡ self.old.user }
-        ensures few { self.new.steps ≤ self.old.steps }
-        ensures view { OnlyViews machine.old machine.new D.sectors D.size disk.old disk.new }
-        ensures blame { Blames (result ≡ Err RunFault.Disk) (result ≡ Err RunFault.Sink) D.faults disk.old disk.new O.faults out.old out.new }
-        ensures no_limit { result ≢ Err RunFault.StepLimit }
+        ensures keeps { Keeps self.old self.new }
+        ensures read { RowsRead machine.old machine.new D.sectors D.size D.faults disk.old disk.new O.faults out.old out.new result }
     {
         let [_, _, user, address, count] = call.arguments;
         let most = 1024 * map.params().pages;
@@ -108,13 +102,10 @@ impl Tracer {
         ensures put { ForEnded (D.sectors disk.old) machine.old map.now self.old call.now answer (Printed (O.text out.old) (O.text out.new)) result }
         ensures steps { EndedKeeps (D.sectors disk.old) machine.old map.now self.old self.new call.now answer result }
         ensures reads { result ≡ Err RunFault.Disk → IsCopyTo self.old.user call.now answer }
-        ensures user { self.new.user ≡ self.old.user }
-        ensures few { self.new.steps ≤ self.old.steps }
-        ensures view { OnlyViews machine.old machine.new D.sectors D.size disk.old disk.new }
-        ensures blame { Blames (result ≡ Err RunFault.Disk) (result ≡ Err RunFault.Sink) D.faults disk.old disk.new O.faults out.old out.new }
-        ensures no_limit { result ≢ Err RunFault.StepLimit }
+        ensures keeps { Keeps self.old self.new }
+        ensures read { RowsRead machine.old machine.new D.sectors D.size D.faults disk.old disk.new O.faults out.old out.new result }
     {
-        if call.primitive == COPY {
+        if call.primitive == VM_COPY {
             return self.end_copy(machine, map, call, answer, disk, out);
         }
         self.end_call(call, answer, out)?;
@@ -161,9 +152,7 @@ impl Tracer {
         ensures reads { result ≡ Err RunFault.Disk → (began ≡ false) × CopyEnds self.old.user (state_of machine.old []) self.old.call }
         ensures can { CanTrace map.now (length machine.new.hardware.memory) machine.new.time (D.size disk.new) self.new }
         ensures user { self.new.user ≡ self.old.user }
-        ensures view { OnlyViews machine.old machine.new D.sectors D.size disk.old disk.new }
-        ensures blame { Blames (result ≡ Err RunFault.Disk) (result ≡ Err RunFault.Sink) D.faults disk.old disk.new O.faults out.old out.new }
-        ensures no_limit { result ≢ Err RunFault.StepLimit }
+        ensures read { RowsRead machine.old machine.new D.sectors D.size D.faults disk.old disk.new O.faults out.old out.new result }
     {
         if began {
             if current == self.user {

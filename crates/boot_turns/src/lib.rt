@@ -6,17 +6,17 @@
 ghost use Rattle.c0_tree.specs.Tree.{CUnit};
 ghost use Rattle.c0_meaning.specs.TypedState.{IsTypedState};
 ghost use Rattle.boot_turns.specs.Machines.{MachinesRun, RunsStayTyped};
-ghost use Rattle.boot_turns.specs.Rom.{RomStarts, RomGoesOn};
+ghost use Rattle.boot_turns.specs.Rom.{RomStarts};
 ghost use Rattle.boot_turns.specs.Advances.{LoopsAdvance};
 ghost use Rattle.boot_turns.specs.AnyTurns.{LoopsMakeTurns};
 ghost use Rattle.boot_turns.specs.Entries.{TracesGrow};
-ghost use Rattle.boot_turns.specs.Copies.{CopiesTell};
 ghost use Rattle.boot_turns.specs.JournalText.{RowsFollow};
 
 mod answers;
 pub mod completion;
 mod following;
 pub mod journal_text;
+mod primitives;
 mod registers;
 pub mod row_text;
 mod rows;
@@ -66,14 +66,6 @@ pub fn the_rom_starts()
     memory_is_whole();
 }
 
-/// A law: the machine with the ROM comes to each turn of the abstract run, within the bound and the ROM's steps.
-pub fn the_rom_goes_on()
-    ensures { (u : CUnit) → RomGoesOn (IsTypedState u) }
-{
-    the_rom_starts();
-    machines_run();
-}
-
 /// A law: a loop that steps a machine to the end of turns makes the turns of each run from a start that stands there and goes on.
 pub fn loops_advance()
     ensures { LoopsAdvance }
@@ -89,9 +81,4 @@ pub fn loops_make_turns()
 /// A law: the rows of a journal stay as it grows, and the last steps have theirs at its end.
 pub fn journal_rows_follow()
     ensures { RowsFollow }
-{}
-
-/// A law: where the pages of a user tell its words, so they do of words that were copied to it.
-pub fn copied_words_tell()
-    ensures { CopiesTell }
 {}

@@ -1,7 +1,10 @@
-// The registers that say what a step was, by the numbers that the machine takes: special ones, and those of a call of a primitive.
+// The registers that say what a step was, by the numbers that the machine takes: special ones, and those of a call of a primitive; and a cause.
 
 /// The cause of the last interrupt.
 pub(crate) const ECA: u32 = mips_interrupts::ECA as u32;
+
+/// The number of the cause of an interrupt from outside. It has no row in a trace, and neither has the reset before it.
+pub(crate) const EXTERNAL: u32 = 1;
 
 /// What it concerns.
 pub(crate) const EDATA: u32 = mips_interrupts::EDATA as u32;

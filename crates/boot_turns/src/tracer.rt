@@ -1,19 +1,19 @@
 // What a trace keeps between two steps, and the rows that it prints.
-ghost use Rattle.std.specs.Prelude.{◌≡◌, ◌≢◌, ◌*◌, ◌/◌, ◌≤◌, length, Err, ◌+◌, ◌-◌, ◌<◌, ◌^◌, ◌++◌, [], OnOk, OnErr, true};
-ghost use Rattle.boot_report.specs.Blames.{Blames};
+ghost use Rattle.std.specs.Prelude.{◌≡◌, ◌*◌, ◌/◌, ◌≤◌, length, Err, ◌+◌, ◌-◌, ◌<◌, ◌^◌, ◌++◌, [], OnOk, OnErr, true};
 ghost use Rattle.mips_machine.specs.Machine.{state_of};
 ghost use Rattle.cvm_model.specs.Text.{steps_row as steps_text};
 ghost use Rattle.boot_turns.specs.Entries.{noted_at, turn_begins, call_ends, IsNoCopy};
-ghost use Rattle.layer_map.specs.Map.{memory_words};
 ghost use Rattle.boot_turns.specs.Copies.{steps_left, ForCopied};
 ghost use Rattle.boot_turns.specs.JournalText.{steps_after};
-ghost use Rattle.boot_turns.specs.Tracing.{begun_rows, ended_rows};
-ghost use Rattle.boot_report.specs.Leaves.{OnlyViews, Printed, Puts};
+ghost use Rattle.boot_turns.specs.Steps.{Keeps, RowsRead};
+ghost use Rattle.boot_turns.specs.Tracing.{CanTrace, begun_rows, ended_rows};
+ghost use Rattle.boot_report.specs.Leaves.{Printed, Puts};
 
 use crate::answers::RunFault;
 use crate::completion::Begun;
 use crate::journal_text::{put_row, set_row, size_row, steps_row, trap_row};
-use crate::registers::{ARGUMENT, MODE, RETURN};
+use crate::primitives::{VM_PUT, VM_RESIZE, VM_SET};
+use crate::registers::{ARGUMENT, EXTERNAL, MODE, RETURN};
 use boot_report::read_user_word;
 use cvm_outside::{Sectors, Sink, SinkFault};
 use layer_map::{Map, PRIMITIVES};
@@ -99,7 +99,7 @@ impl Tracer {
             self.steps += 1;
             return Ok(());
         }
-        if begun.cause <= 1 {
+        if begun.cause <= EXTERNAL {
             return Ok(());
         }
         self.put(trap_row(begun.cause, begun.edata).as_str().as_bytes(), out)
@@ -113,8 +113,7 @@ impl Tracer {
     fn put<O: Sink>(&mut self, row: &[u8], out: &mut O) -> Result<(), SinkFault>
         ensures put { Puts O.text O.faults out.old out.new (steps_text self.old.steps ++ row.now) result }
         ensures steps { OnOk result (self.new ≡ record self.old { steps = 0 }) }
-        ensures user { self.new.user ≡ self.old.user }
-        ensures few { self.new.steps ≤ self.old.steps }
+        ensures keeps { Keeps self.old self.new }
     {
         put_after(self.steps, row, out)?;
         self.steps = 0;
@@ -136,20 +135,19 @@ impl Tracer {
         requires no_copy { IsNoCopy call.now }
         ensures put { Puts O.text O.faults out.old out.new (ended_rows self.old call.now answer []) result }
         ensures steps { OnOk result (self.new ≡ record self.old { steps = steps_after self.old.steps (call_ends self.old.user call.now answer []) }) }
-        ensures user { self.new.user ≡ self.old.user }
-        ensures few { self.new.steps ≤ self.old.steps }
+        ensures keeps { Keeps self.old self.new }
     {
         let [user, second, third, _, _] = call.arguments;
         if answer != 1 || user != self.user {
             return Ok(());
         }
-        if call.primitive == 1 {
+        if call.primitive == VM_SET {
             return self.put(set_row(second, third).as_str().as_bytes(), out);
         }
-        if call.primitive == 3 {
+        if call.primitive == VM_RESIZE {
             return self.put(size_row(second).as_str().as_bytes(), out);
         }
-        if call.primitive == 5 {
+        if call.primitive == VM_PUT {
             return self.put(put_row(second, third).as_str().as_bytes(), out);
         }
         Ok(())
@@ -169,21 +167,13 @@ impl Tracer {
         disk: &mut D,
         out: &mut O,
     ) -> Result<(), RunFault>
-        requires some { 1 ≤ self.old.user }
-        requires user { self.old.user ≤ map.now.users }
+        requires can { CanTrace map.now (length machine.old.hardware.memory) machine.old.time (D.size disk.old) self.old }
         requires inside { address / 4 + count ≤ 1024 * map.now.params.pages }
-        requires pages { map.now.params.pages ≤ 65536 }
-        requires memory { memory_words map.now ≤ length machine.old.hardware.memory }
-        requires small { memory_words map.now ≤ 30000000 }
-        requires all { map.now.users * map.now.params.pages ≤ 65536 }
-        requires room { map.now.users * map.now.params.pages ≤ D.size disk.old }
         ensures put { ForCopied (D.sectors disk.old) machine.old map.now self.old address count (Printed (O.text out.old) (O.text out.new)) result }
         ensures steps { OnOk result (self.new ≡ record self.old { steps = steps_left self.old.steps count }) }
-        ensures user { self.new.user ≡ self.old.user }
-        ensures few { self.new.steps ≤ self.old.steps }
-        ensures view { OnlyViews machine.old machine.new D.sectors D.size disk.old disk.new }
-        ensures blame { Blames (result ≡ Err RunFault.Disk) (result ≡ Err RunFault.Sink) D.faults disk.old disk.new O.faults out.old out.new }
-        ensures no_limit { result ≢ Err RunFault.StepLimit }
+        ensures keeps { Keeps self.old self.new }
+        ensures read { RowsRead machine.old machine.new D.sectors D.size D.faults disk.old disk.new O.faults out.old out.new result }
+        ensures some { result ≡ Err RunFault.Disk → 1 ≤ count }
     {
         for i in 0..count {
             let word = read_user_word(machine, map, self.user, address / 4 + i, disk)?;

@@ -15,8 +15,8 @@ use Rattle.boot_report.proofs.users.put_one.Goals as goal
 pub overflow_mul-user : goal.overflow_mul-user
 overflow_mul-user g c =
     let le = mul-le-mul_left (c.args.user - 1) c.params-most.ensures.range.pages in
-    let most = c.requires.most in
-    let few = c.requires.few in
+    let most = c.requires.user.most in
+    let few = c.requires.user.few in
     record { fits = omega (arith, le, most, few) }
 
 pub returns-in_err-put_processor-clause-put : goal.returns-in_err-put_processor-clause-put

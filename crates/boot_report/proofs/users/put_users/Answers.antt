@@ -32,9 +32,9 @@ returns-in_err-put_user_rows-clause-put g c = λ ss e f.
 
 pub loop-i-preserved : goal.loop-i-preserved
 loop-i-preserved g c = record {
-  view = views_twice g.D.Sectors.sectors g.D.Sectors.size c.args.machine.now c.loop-i.machine c.put_user_rows.new.machine c.args.disk.now c.loop-i.disk c.put_user_rows.new.disk c.loop-i.invariant.view c.in_ok-put_user_rows.ensures.view;
-  disk_faults = c.in_ok-put_user_rows.ensures.blame.disk_same (λ h. absurd (cc)) ∙ c.loop-i.invariant.disk_faults;
-  faults = c.in_ok-put_user_rows.ensures.blame.sink_same (λ h. absurd (cc)) ∙ c.loop-i.invariant.faults;
+  view = views_twice g.D.Sectors.sectors g.D.Sectors.size c.args.machine.now c.loop-i.machine c.put_user_rows.new.machine c.args.disk.now c.loop-i.disk c.put_user_rows.new.disk c.loop-i.invariant.view c.in_ok-put_user_rows.ensures.leaves.view;
+  disk_faults = c.in_ok-put_user_rows.ensures.leaves.blame.disk_same (λ h. absurd (cc)) ∙ c.loop-i.invariant.disk_faults;
+  faults = c.in_ok-put_user_rows.ensures.leaves.blame.sink_same (λ h. absurd (cc)) ∙ c.loop-i.invariant.faults;
   text = λ ss e f.
       put_more (λ i. user_rows c.args.map.now (paged_of c.args.map.now (state_of c.args.machine.now ss)) (i + 1) (pages_in c.args.map.now c.args.machine.now.hardware.memory (i + 1)) (cpu_of c.args.machine.now (i + 1 == c.args.running) (i + 1)))
       c.loop-i.i (c.loop-i.i + 1) _ _ _ refl (c.loop-i.invariant.text ss e f)

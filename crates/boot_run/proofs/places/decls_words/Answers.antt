@@ -1,12 +1,21 @@
-use Rattle.std.proofs.Common.{◌≡◌, List, slice_index_or, arith, subst, sym, ap, ◌∙◌}
+use Rattle.std.proofs.Common.{◌≡◌, ℕ, ◌<◌, List, length, map, get_or, slice_index_or, arith, subst, sym, ap, ◌∙◌}
+use Rattle.std.specs.List.{All}
+use Rattle.std.proofs.lemmas.List.{at_drop_more, get_or-map, length-map}
 use Rattle.c0_tree.specs.declared.tree.Decl.{Decl}
-use Rattle.c0_tree.specs.View.{type_view, unit_view}
+use Rattle.c0_tree.specs.View.{decl_view, type_view, unit_view}
 use Rattle.c0_meaning.specs.Ty.{ty_of}
-use Rattle.c0_meaning.specs.Env.{Shape}
+use Rattle.c0_meaning.specs.Env.{Shape, typed_of}
 use Rattle.c0_meaning.specs.Sizes.{capped}
+use Rattle.c0_meaning.specs.Words.{all_words}
 use Rattle.c0_meaning.specs.Sound.{shapes, IsSized}
-use Rattle.c0_meaning.proofs.Sized.{decl_sized, words_left}
 use Rattle.boot_run.proofs.places.decls_words.Goals as goal
+
+-- a declaration at a place
+decl_sized : (structs : List Shape) (decls : List Decl) (i : ℕ) (d : Decl) → All (λ e. IsSized structs e.ty) (map decl_view decls) → i < length decls
+    → IsSized structs (type_view (get_or decls i d).ty)
+decl_sized structs decls i d all below =
+    subst (λ e. IsSized structs e.ty) (get_or-map decl_view decls i d (decl_view d) below)
+    (all i (decl_view d) (omega (arith, length-map decls decl_view)))
 
 pub words_of-requires : goal.words_of-requires
 words_of-requires c =
@@ -17,7 +26,8 @@ pub loop-decl-preserved : goal.loop-decl-preserved
 loop-decl-preserved c =
     let structs : List Shape = shapes (unit_view c.args.unit.now) in
     let item : slice_index_or c.args.decls.now c.loop-decl.decl-index c.decl-item.result ≡ c.decl-item.result = sym c.decl-item.is in
-    let left = words_left structs c.args.decls.now c.loop-decl.decl-index c.decl-item.result c.loop-decl-test.true in
+    let left = at_drop_more (λ ds. all_words structs (map typed_of (map decl_view ds))) c.args.decls.now c.loop-decl.decl-index c.decl-item.result
+    c.loop-decl-test.true in
     let here : capped structs (ty_of (type_view (slice_index_or c.args.decls.now c.loop-decl.decl-index c.decl-item.result).ty)) ≡ c.words_of.result =
     ap (λ (d : Decl). capped structs (ty_of (type_view d.ty))) item ∙ sym c.words_of.ensures in
     let sized : IsSized structs (type_view (slice_index_or c.args.decls.now c.loop-decl.decl-index c.decl-item.result).ty) =

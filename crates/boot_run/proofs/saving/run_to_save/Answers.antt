@@ -5,10 +5,10 @@ use Rattle.mips_machine.specs.Steps.{outside_of}
 use Rattle.layer_contract.specs.Follows.{loaded}
 use Rattle.layer_contract.specs.Starts.{user_sectors}
 use Rattle.boot_turns.specs.declared.answers.View.TheVariants.{Boot}
-use Rattle.boot_run.specs.Loading.{system_of}
+use Rattle.boot_run.specs.Loading.{system_of, user_pages}
 use Rattle.boot_run.specs.LoadEnds.{pages_needed}
 use Rattle.boot_run.proofs.Loads.{needed_is}
-use Rattle.boot_run.proofs.Booting.{refused, refused_told}
+use Rattle.boot_run.proofs.Booting.{load_stopped, refused, refused_told}
 use Rattle.boot_run.proofs.ToSave.{saves_so, saves_told, save_disk, save_sink, no_save_disk, no_save_sink, load_rose, no_load_disk, no_load_sink}
 use Rattle.boot_run.proofs.saving.run_to_save.Goals as goal
 
@@ -16,14 +16,19 @@ pub returns-in_err-run-clause-ends : goal.returns-in_err-run-clause-ends
 returns-in_err-run-clause-ends g c =
     let w = err_from_is_err_and c.from_residual.result c.from_residual.ensures.1 in
     rw (w.1, w.2)
-    (refused (outside_of c.args.schedule (g.D.Sectors.size c.args.disk.now)) (system_of c.args.boot c.args.schedule) (loaded (system_of c.args.boot c.args.schedule)) (pages_needed c.args.boot) (user_sectors (system_of c.args.boot c.args.schedule))
-    (sym (needed_is c.args.boot c.args.schedule)) Boot c.args.turns c.args.steps (g.D.Sectors.sectors c.args.disk.now) (g.D.Sectors.sectors c.load.new.disk) (g.O.Sink.text c.args.out.now) (g.O.Sink.text c.args.out.now) refl
-    c.in_err-run.field-0.0 (λ ne. ap g.D.Sectors.sectors (c.in_err-run.ensures.still (λ q. ne (let h = q in cc)))) (λ e. c.in_err-run.ensures.torn (let h = e in cc)))
+    (refused (outside_of c.args.schedule (g.D.Sectors.size c.args.disk.now)) (system_of c.args.boot c.args.schedule) (loaded (system_of c.args.boot c.args.schedule)) (user_sectors (system_of c.args.boot c.args.schedule))
+    Boot c.args.turns c.args.steps (g.D.Sectors.sectors c.args.disk.now) (g.D.Sectors.sectors c.load.new.disk) (g.O.Sink.text c.args.out.now) (g.O.Sink.text c.args.out.now) refl
+    c.in_err-run.field-0.0 (λ ne. ap g.D.Sectors.sectors (c.in_err-run.ensures.still (λ q. ne (let h = q in cc)))))
+
+pub returns-in_err-run-clause-stopped : goal.returns-in_err-run-clause-stopped
+returns-in_err-run-clause-stopped g c = λ e.
+    let w = err_from_is_err_and c.from_residual.result c.from_residual.ensures.1 in
+    load_stopped (loaded (system_of c.args.boot c.args.schedule)) (pages_needed c.args.boot) (user_sectors (system_of c.args.boot c.args.schedule)) (user_pages (system_of c.args.boot c.args.schedule)).live (g.D.Sectors.sectors c.args.disk.now) (g.D.Sectors.sectors c.load.new.disk) (g.D.Sectors.calls c.args.disk.now) (g.D.Sectors.calls c.load.new.disk)
+    (sym (needed_is c.args.boot c.args.schedule)) (c.in_err-run.ensures.torn (let h = e in let i = w.1 in let j = w.2 in cc))
 
 pub returns-in_err-run-clause-told : goal.returns-in_err-run-clause-told
 returns-in_err-run-clause-told g c =
-    refused_told (outside_of c.args.schedule (g.D.Sectors.size c.args.disk.now)) (system_of c.args.boot c.args.schedule) (loaded (system_of c.args.boot c.args.schedule)) (pages_needed c.args.boot) (user_sectors (system_of c.args.boot c.args.schedule))
-    (sym (needed_is c.args.boot c.args.schedule)) Boot c.args.turns c.args.steps (g.D.Sectors.sectors c.args.disk.now) (g.D.Sectors.sectors c.load.new.disk) (g.O.Sink.text c.args.out.now) (g.O.Sink.text c.args.out.now) refl
+    refused_told (pages_needed c.args.boot) (λ ss. (loaded (system_of c.args.boot c.args.schedule) ss).device.sectors) (user_pages (system_of c.args.boot c.args.schedule)).live (g.D.Sectors.sectors c.args.disk.now) (g.D.Sectors.sectors c.load.new.disk) (g.D.Sectors.calls c.args.disk.now) (g.D.Sectors.calls c.load.new.disk)
     c.in_err-run.field-0.0 (λ ne. ap g.D.Sectors.sectors (c.in_err-run.ensures.still (λ q. ne (let h = q in cc)))) (λ e. c.in_err-run.ensures.torn (let h = e in cc))
 
 pub returns-clause-ends : goal.returns-clause-ends

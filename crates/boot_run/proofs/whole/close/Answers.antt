@@ -30,7 +30,7 @@ returns-in-Err-clause-faulted g c =
 
 -- a report makes no step
 pub returns-in-Ok-clause-time : goal.returns-in-Ok-clause-time
-returns-in-Ok-clause-time g c = ap (λ (h : Held). h.time) c.report.ensures.machine
+returns-in-Ok-clause-time g c = ap (λ (h : Held). h.time) c.report.ensures.rest.view.same
 
 pub returns-in-Err-clause-time : goal.returns-in-Err-clause-time
-returns-in-Err-clause-time g c = ap (λ (h : Held). h.time) c.report.ensures.machine
+returns-in-Err-clause-time g c = ap (λ (h : Held). h.time) c.report.ensures.rest.view.same

@@ -22,15 +22,15 @@ loop-left-init g c = record {
 pub returns-in_err-made-clause-ends : goal.returns-in_err-made-clause-ends
 returns-in_err-made-clause-ends g c =
     let w = err_from_is_err_and c.from_residual.result c.from_residual.ensures.1 in
-    let on = not_failed c.loop-left.run.ended c.in_err-made.field-0.0 (λ o. c.in_err-made.ensures.over c.loop-left.invariant.fault o) in
+    let on = not_failed c.loop-left.run.ended c.in_err-made.field-0.0 (λ o. c.in_err-made.ensures.rest.over c.loop-left.invariant.fault o) in
     let few = c.loop-left.invariant.few in
     go_failed c.turns_are_counted.ensures (g.D.Sectors.size c.args.disk.now) (g.D.Sectors.size c.loop-left.disk) c.args.run.now c.loop-left.run c.args.turns _ _ _ _ c.loop-left.left c.in_err-made.field-0.0 w.0 c.from_residual.result
     c.loop-left.invariant.kept c.loop-left.invariant.size (omega (arith, few)) on (c.in_err-made.ensures.ends c.loop-left.invariant.fault on) c.loop-left.invariant.going w.1 (sym w.2)
 
 pub returns-then-made-eq0-clause-ends : goal.returns-then-made-eq0-clause-ends
 returns-then-made-eq0-clause-ends g c =
-    let over : IsSome c.loop-left.run.ended = was_over c.loop-left.run.ended c.in_ok-made.made c.in_ok-made.ensures.made.1 c.if-made-eq0.true in
-    let st = c.in_ok-made.ensures.still (inr over) in
+    let over : IsSome c.loop-left.run.ended = was_over c.loop-left.run.ended c.in_ok-made.made c.in_ok-made.ensures.rest.made.1 c.if-made-eq0.true in
+    let st = c.in_ok-made.ensures.rest.still (inr over) in
     let s0 = st.0 in
     let s1 = st.1 in
     let s2 = st.2 in
@@ -44,11 +44,11 @@ pub loop-left-preserved : goal.loop-left-preserved
 loop-left-preserved g c =
     let not_none = c.if-made-eq0.false in
     let some : 1 ≤ c.in_ok-made.made = omega (arith, not_none) in
-    let on = not_over c.loop-left.run.ended c.in_ok-made.made c.in_ok-made.field-0-1 (λ o. c.in_ok-made.ensures.over c.loop-left.invariant.fault o) some in
-    let kept = c.in_ok-made.ensures.kept in
+    let on = not_over c.loop-left.run.ended c.in_ok-made.made c.in_ok-made.field-0-1 (λ o. c.in_ok-made.ensures.rest.over c.loop-left.invariant.fault o) some in
+    let kept = c.in_ok-made.ensures.rest.kept in
     let was = c.loop-left.invariant.kept in
     let few = c.loop-left.invariant.few in
-    let most = c.in_ok-made.ensures.made.0 in
+    let most = c.in_ok-made.ensures.rest.made.0 in
     record {
       kept = record {
         layer_is = kept.layer_is ∙ was.layer_is;
@@ -58,11 +58,11 @@ loop-left-preserved g c =
         count_is = kept.count_is ∙ was.count_is;
         memory = kept.memory ∙ was.memory;
       };
-      fault = c.in_ok-made.ensures.fine;
-      size = c.in_ok-made.ensures.size ∙ c.loop-left.invariant.size;
-      time = c.in_ok-made.ensures.spent ∙ c.loop-left.invariant.time;
-      disk = c.in_ok-made.ensures.disk_same (λ v. absurd (cc)) ∙ c.loop-left.invariant.disk;
-      sink = c.in_ok-made.ensures.sink_same (λ v. absurd (cc)) ∙ c.loop-left.invariant.sink;
+      fault = c.in_ok-made.ensures.rest.fine;
+      size = c.in_ok-made.ensures.rest.same_size ∙ c.loop-left.invariant.size;
+      time = c.in_ok-made.ensures.rest.spent ∙ c.loop-left.invariant.time;
+      disk = c.in_ok-made.ensures.rest.disk_same (λ v. absurd (cc)) ∙ c.loop-left.invariant.disk;
+      sink = c.in_ok-made.ensures.rest.sink_same (λ v. absurd (cc)) ∙ c.loop-left.invariant.sink;
       few = omega (arith, few);
       going = keeps_next (g.D.Sectors.size c.args.disk.now) (g.D.Sectors.size c.loop-left.disk) c.args.run.now c.loop-left.run _ _ _ (c.args.turns - c.loop-left.left) _ c.loop-left.left c.in_ok-made.made c.in_ok-made.field-0-1
           c.loop-left.invariant.kept c.loop-left.invariant.size on (c.in_ok-made.ensures.ends c.loop-left.invariant.fault on) (omega (arith, few, most)) c.loop-left.invariant.going;
@@ -79,15 +79,15 @@ returns-clause-ends g c =
 pub returns-in_err-made-clause-any : goal.returns-in_err-made-clause-any
 returns-in_err-made-clause-any g c =
     let w = err_from_is_err_and c.from_residual.result c.from_residual.ensures.1 in
-    let on = not_failed c.loop-left.run.ended c.in_err-made.field-0.0 (λ o. c.in_err-made.ensures.over c.loop-left.invariant.fault o) in
+    let on = not_failed c.loop-left.run.ended c.in_err-made.field-0.0 (λ o. c.in_err-made.ensures.rest.over c.loop-left.invariant.fault o) in
     let few = c.loop-left.invariant.few in
     any_failed (g.D.Sectors.size c.args.disk.now) (g.D.Sectors.size c.loop-left.disk) c.args.run.now c.loop-left.run c.loop-left.invariant.kept c.loop-left.invariant.size _ _ _ _ c.loop-left.left on c.loop-left.invariant.anyhow
     c.args.turns c.in_err-made.field-0.0 w.0 c.from_residual.result (c.in_err-made.ensures.any c.loop-left.invariant.fault on) (omega (arith, few)) w.1 (sym w.2)
 
 pub returns-then-made-eq0-clause-any : goal.returns-then-made-eq0-clause-any
 returns-then-made-eq0-clause-any g c =
-    let over : IsSome c.loop-left.run.ended = was_over c.loop-left.run.ended c.in_ok-made.made c.in_ok-made.ensures.made.1 c.if-made-eq0.true in
-    let st = c.in_ok-made.ensures.still (inr over) in
+    let over : IsSome c.loop-left.run.ended = was_over c.loop-left.run.ended c.in_ok-made.made c.in_ok-made.ensures.rest.made.1 c.if-made-eq0.true in
+    let st = c.in_ok-made.ensures.rest.still (inr over) in
     let s0 = st.0 in
     let s1 = st.1 in
     let s2 = st.2 in

@@ -3,20 +3,20 @@ use Rattle.std.proofs.lemmas.Result.{err_from_is_err_and}
 use Rattle.cvm_outside.specs.Causes.{Rose}
 use Rattle.mips_machine.specs.Steps.{outside_of}
 use Rattle.boot_turns.specs.Rom.{rom_loaded, rom_sectors, rom_steps}
-use Rattle.boot_run.specs.Loading.{system_of}
+use Rattle.boot_run.specs.Loading.{system_of, rom_pages}
 use Rattle.boot_run.specs.LoadEnds.{rom_needed}
-use Rattle.boot_run.specs.Whole.{AnswerEnds, Bootable, rom_start_of}
+use Rattle.boot_run.specs.Whole.{AnswerEnds, Bootable, LoadStopped, rom_start_of}
 use Rattle.boot_run.proofs.RomLoads.{rom_needed_is}
 use Rattle.boot_run.proofs.Looping.{machines}
-use Rattle.boot_run.proofs.Booting.{refused, refused_told, ran_so, whole_told, end_disk, end_sink, disk_end, sink_end, within_more}
+use Rattle.boot_run.proofs.Booting.{load_stopped, refused, refused_told, ran_so, whole_told, end_disk, end_sink, disk_end, sink_end, within_more}
 use Rattle.boot_run.proofs.whole.run_rom.Goals as goal
 
 pub returns-in_err-run-clause-ends : goal.returns-in_err-run-clause-ends
 returns-in_err-run-clause-ends g c =
     let w = err_from_is_err_and c.from_residual.result c.from_residual.ensures.1 in
-    let so = refused (outside_of c.args.schedule (g.D.Sectors.size c.args.disk.now)) (system_of c.args.boot c.args.schedule) (rom_loaded (system_of c.args.boot c.args.schedule) c.args.rom.now.items) (rom_needed c.args.boot) (rom_sectors (system_of c.args.boot c.args.schedule))
-    (sym (rom_needed_is c.args.boot c.args.schedule)) c.args.view c.args.turns c.args.steps (g.D.Sectors.sectors c.args.disk.now) (g.D.Sectors.sectors c.load_rom.new.disk) (g.O.Sink.text c.args.out.now) (g.O.Sink.text c.args.out.now) refl
-    c.in_err-run.field-0.0 (λ ne. ap g.D.Sectors.sectors (c.in_err-run.ensures.still (λ q. ne (let h = q in cc)))) (λ e. c.in_err-run.ensures.torn (let h = e in cc)) in
+    let so = refused (outside_of c.args.schedule (g.D.Sectors.size c.args.disk.now)) (system_of c.args.boot c.args.schedule) (rom_loaded (system_of c.args.boot c.args.schedule) c.args.rom.now.items) (rom_sectors (system_of c.args.boot c.args.schedule))
+    c.args.view c.args.turns c.args.steps (g.D.Sectors.sectors c.args.disk.now) (g.D.Sectors.sectors c.load_rom.new.disk) (g.O.Sink.text c.args.out.now) (g.O.Sink.text c.args.out.now) refl
+    c.in_err-run.field-0.0 (λ ne. ap g.D.Sectors.sectors (c.in_err-run.ensures.still (λ q. ne (let h = q in cc)))) in
     rw (w.1, w.2)
     (subst (λ (ws : List ℕ). (old now : List (List ℕ)) → g.D.Sectors.sectors c.args.disk.now ≡ Some old → g.D.Sectors.sectors c.load_rom.new.disk ≡ Some now →
     AnswerEnds (outside_of c.args.schedule (g.D.Sectors.size c.args.disk.now)) (system_of c.args.boot c.args.schedule) (rom_loaded (system_of c.args.boot c.args.schedule) ws old) (rom_sectors (system_of c.args.boot c.args.schedule)) old now c.args.view c.args.turns c.args.steps
@@ -29,10 +29,16 @@ returns-in_err-run-clause-goes_on g c = λ old is room.
     within_more (outside_of c.args.schedule (g.D.Sectors.size c.args.disk.now)) (system_of c.args.boot c.args.schedule) (rom_start_of (system_of c.args.boot c.args.schedule) old) (p.late - 1) (rom_steps (system_of c.args.boot c.args.schedule)) (omega (arith, within))
     (machines c.machines_run.ensures c.args.boot c.args.schedule (g.D.Sectors.size c.args.disk.now) (system_of c.args.boot c.args.schedule) (rom_start_of (system_of c.args.boot c.args.schedule) old) p.late (rom_sectors (system_of c.args.boot c.args.schedule)) old p.bootable).goes_on
 
+pub returns-in_err-run-clause-stopped : goal.returns-in_err-run-clause-stopped
+returns-in_err-run-clause-stopped g c = λ e.
+    let w = err_from_is_err_and c.from_residual.result c.from_residual.ensures.1 in
+    subst (λ (ws : List ℕ). LoadStopped (rom_loaded (system_of c.args.boot c.args.schedule) ws) (rom_pages (system_of c.args.boot c.args.schedule)).live (rom_sectors (system_of c.args.boot c.args.schedule)) (g.D.Sectors.sectors c.args.disk.now) (g.D.Sectors.sectors c.load_rom.new.disk) (g.D.Sectors.calls c.args.disk.now) (g.D.Sectors.calls c.load_rom.new.disk)) c.requires.rom
+    (load_stopped (rom_loaded (system_of c.args.boot c.args.schedule) c.args.rom.now.items) (rom_needed c.args.boot) (rom_sectors (system_of c.args.boot c.args.schedule)) (rom_pages (system_of c.args.boot c.args.schedule)).live (g.D.Sectors.sectors c.args.disk.now) (g.D.Sectors.sectors c.load_rom.new.disk) (g.D.Sectors.calls c.args.disk.now) (g.D.Sectors.calls c.load_rom.new.disk)
+    (sym (rom_needed_is c.args.boot c.args.schedule)) (c.in_err-run.ensures.torn (let h = e in let i = w.1 in let j = w.2 in cc)))
+
 pub returns-in_err-run-clause-told : goal.returns-in_err-run-clause-told
 returns-in_err-run-clause-told g c =
-    refused_told (outside_of c.args.schedule (g.D.Sectors.size c.args.disk.now)) (system_of c.args.boot c.args.schedule) (rom_loaded (system_of c.args.boot c.args.schedule) c.args.rom.now.items) (rom_needed c.args.boot) (rom_sectors (system_of c.args.boot c.args.schedule))
-    (sym (rom_needed_is c.args.boot c.args.schedule)) c.args.view c.args.turns c.args.steps (g.D.Sectors.sectors c.args.disk.now) (g.D.Sectors.sectors c.load_rom.new.disk) (g.O.Sink.text c.args.out.now) (g.O.Sink.text c.args.out.now) refl
+    refused_told (rom_needed c.args.boot) (λ ss. (rom_loaded (system_of c.args.boot c.args.schedule) c.args.rom.now.items ss).device.sectors) (rom_pages (system_of c.args.boot c.args.schedule)).live (g.D.Sectors.sectors c.args.disk.now) (g.D.Sectors.sectors c.load_rom.new.disk) (g.D.Sectors.calls c.args.disk.now) (g.D.Sectors.calls c.load_rom.new.disk)
     c.in_err-run.field-0.0 (λ ne. ap g.D.Sectors.sectors (c.in_err-run.ensures.still (λ q. ne (let h = q in cc)))) (λ e. c.in_err-run.ensures.torn (let h = e in cc))
 
 pub returns-clause-ends : goal.returns-clause-ends

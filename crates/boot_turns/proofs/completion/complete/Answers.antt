@@ -231,10 +231,10 @@ returns-then-at_rest-clause-traced g c =
 
 pub loop-begun-preserved-else-at_rest : goal.loop-begun-preserved-else-at_rest
 loop-begun-preserved-else-at_rest g c = record {
-  rows = c.in_ok-stepped.ensures.rows ∙ c.loop-begun.invariant.rows;
-  memory = c.in_ok-stepped.ensures.memory ∙ c.loop-begun.invariant.memory;
-  sector = c.in_ok-stepped.ensures.sector;
-  size = c.in_ok-stepped.ensures.size ∙ c.loop-begun.invariant.size;
+  rows = c.in_ok-stepped.ensures.stays.rows ∙ c.loop-begun.invariant.rows;
+  memory = c.in_ok-stepped.ensures.stays.memory ∙ c.loop-begun.invariant.memory;
+  sector = c.in_ok-stepped.ensures.stays.sector;
+  size = c.in_ok-stepped.ensures.stays.size ∙ c.loop-begun.invariant.size;
   faults = c.in_ok-stepped.ensures.blame.disk_same (is_done c.in_ok-stepped.stepped Disk) ∙ c.loop-begun.invariant.faults;
   time = let a = c.in_ok-stepped.ensures.time in let b = c.loop-begun.invariant.time in let p = c.if-budget-eq0.false in omega (arith, a, b, p);
   few = c.loop-begun.invariant.few;
@@ -250,19 +250,19 @@ loop-begun-preserved-else-at_rest g c = record {
       let p = c.if-budget-eq0.false in
       let o : Open x s (t + n) (suc i.0) c.in-Some.b = subst (Opened x s (t + n) (suc i.0)) c.in-Some.is r.1 in
       (suc i.0, omega (arith, le), omega (arith, b, p), r.0, (o, sym (seen_rests (g.D.Sectors.sectors c.step_traced.new.disk) c.step_traced.new.machine _ r.0) ∙ sym c.at_rest.ensures ∙ c.if-at_rest.false), i.5, λ l. absurd (omega (arith, l)), was_on x s t i.0 (here_on (g.D.Sectors.sectors c.loop-begun.disk) c.loop-begun.machine (run x s i.0) i.3 (off_none _ _ _ c.off.ensures c.is_none.ensures c.loop-begun-test.true)) i.7);
-  can = c.in_ok-stepped.ensures.can;
-  user = c.in_ok-stepped.ensures.user ∙ c.loop-begun.invariant.user;
-  untraced = λ e. let i = c.loop-begun.invariant.untraced e in let n = c.in_ok-stepped.ensures.untraced i.0 in (n.0, n.1 ∙ i.1);
+  can = c.in_ok-stepped.ensures.trace.can;
+  user = c.in_ok-stepped.ensures.trace.user ∙ c.loop-begun.invariant.user;
+  untraced = λ e. let i = c.loop-begun.invariant.untraced e in let n = c.in_ok-stepped.ensures.trace.untraced i.0 in (n.0, n.1 ∙ i.1);
   sink_faults = c.in_ok-stepped.ensures.blame.sink_same (is_done c.in_ok-stepped.stepped Sink) ∙ c.loop-begun.invariant.sink_faults;
   tracks = tracked g (goal.at.loop-begun-preserved-else-at_rest g c).In_ok-stepped;
 }
 
 pub loop-begun-preserved : goal.loop-begun-preserved
 loop-begun-preserved g c = record {
-  rows = c.in_ok-stepped.ensures.rows ∙ c.loop-begun.invariant.rows;
-  memory = c.in_ok-stepped.ensures.memory ∙ c.loop-begun.invariant.memory;
-  sector = c.in_ok-stepped.ensures.sector;
-  size = c.in_ok-stepped.ensures.size ∙ c.loop-begun.invariant.size;
+  rows = c.in_ok-stepped.ensures.stays.rows ∙ c.loop-begun.invariant.rows;
+  memory = c.in_ok-stepped.ensures.stays.memory ∙ c.loop-begun.invariant.memory;
+  sector = c.in_ok-stepped.ensures.stays.sector;
+  size = c.in_ok-stepped.ensures.stays.size ∙ c.loop-begun.invariant.size;
   faults = c.in_ok-stepped.ensures.blame.disk_same (is_done c.in_ok-stepped.stepped Disk) ∙ c.loop-begun.invariant.faults;
   time = let a = c.in_ok-stepped.ensures.time in let b = c.loop-begun.invariant.time in let p = c.if-budget-eq0.false in omega (arith, a, b, p);
   few = c.loop-begun.invariant.few;
@@ -278,9 +278,9 @@ loop-begun-preserved g c = record {
       let p = c.if-budget-eq0.false in
       let o : Progress x s (t + n) (suc i.0) None = subst (Opened x s (t + n) (suc i.0)) c.in_default-begun.is r.1 in
       (suc i.0, omega (arith, le), omega (arith, b, p), r.0, subst (Progress x s (t + n) (suc i.0)) (sym c.in_default-begun.is) o, i.5, λ l. absurd (omega (arith, l)), was_on x s t i.0 (here_on (g.D.Sectors.sectors c.loop-begun.disk) c.loop-begun.machine (run x s i.0) i.3 (off_none _ _ _ c.off.ensures c.is_none.ensures c.loop-begun-test.true)) i.7);
-  can = c.in_ok-stepped.ensures.can;
-  user = c.in_ok-stepped.ensures.user ∙ c.loop-begun.invariant.user;
-  untraced = λ e. let i = c.loop-begun.invariant.untraced e in let n = c.in_ok-stepped.ensures.untraced i.0 in (n.0, n.1 ∙ i.1);
+  can = c.in_ok-stepped.ensures.trace.can;
+  user = c.in_ok-stepped.ensures.trace.user ∙ c.loop-begun.invariant.user;
+  untraced = λ e. let i = c.loop-begun.invariant.untraced e in let n = c.in_ok-stepped.ensures.trace.untraced i.0 in (n.0, n.1 ∙ i.1);
   sink_faults = c.in_ok-stepped.ensures.blame.sink_same (is_done c.in_ok-stepped.stepped Sink) ∙ c.loop-begun.invariant.sink_faults;
   tracks = tracked g (goal.at.loop-begun-preserved g c).In_ok-stepped;
 }
@@ -329,10 +329,10 @@ loop-begun-preserved-then-skipped-limit g c =
     let less = c.if-skipped-limit.true in
     let p = c.if-budget-eq0.false in
     let rest = c.pass-skipped.ensures.passes.rest in record {
-      rows = ap (λ (h : Held). h.rows) rest ∙ c.in_ok-stepped.ensures.rows ∙ c.loop-begun.invariant.rows;
-      memory = c.pass-skipped.ensures.memory ∙ c.in_ok-stepped.ensures.memory ∙ c.loop-begun.invariant.memory;
-      sector = subst (λ (h : Held). NamesSector (g.D.Sectors.size c.step_traced.new.disk) h.hardware.ports.pending) (sym rest) c.in_ok-stepped.ensures.sector;
-      size = c.in_ok-stepped.ensures.size ∙ c.loop-begun.invariant.size;
+      rows = ap (λ (h : Held). h.rows) rest ∙ c.in_ok-stepped.ensures.stays.rows ∙ c.loop-begun.invariant.rows;
+      memory = c.pass-skipped.ensures.memory ∙ c.in_ok-stepped.ensures.stays.memory ∙ c.loop-begun.invariant.memory;
+      sector = subst (λ (h : Held). NamesSector (g.D.Sectors.size c.step_traced.new.disk) h.hardware.ports.pending) (sym rest) c.in_ok-stepped.ensures.stays.sector;
+      size = c.in_ok-stepped.ensures.stays.size ∙ c.loop-begun.invariant.size;
       faults = c.in_ok-stepped.ensures.blame.disk_same (is_done c.in_ok-stepped.stepped Disk) ∙ c.loop-begun.invariant.faults;
       time = let a = c.in_ok-stepped.ensures.time in let b = c.loop-begun.invariant.time in let d = ap (λ (h : Held). h.time) rest in omega (arith, a, b, p, d, spent);
       few = let e = c.loop-begun.invariant.limit in omega (arith, e, less, few);
@@ -352,7 +352,7 @@ loop-begun-preserved-then-skipped-limit g c =
           let r = skips_more x y s t n (n + 1) i.0 (g.D.Sectors.sectors c.loop-begun.disk) (g.D.Sectors.sectors c.step_traced.new.disk) c.loop-begun.machine c.step_traced.new.machine
           same at refl i.5 i.3 (c.in_ok-stepped.ensures.ran (is_done c.in_ok-stepped.stepped Disk)) began kept.0 kept.1 in
           let next : suc i.0 ≡ t + (n + 1) = omega (arith, at) in
-          let mid : outside_of c.step_traced.new.machine.rows (g.D.Sectors.size c.args.disk.now) ≡ x = ap (λ rows. outside_of rows (g.D.Sectors.size c.args.disk.now)) (c.in_ok-stepped.ensures.rows ∙ c.loop-begun.invariant.rows) in
+          let mid : outside_of c.step_traced.new.machine.rows (g.D.Sectors.size c.args.disk.now) ≡ x = ap (λ rows. outside_of rows (g.D.Sectors.size c.args.disk.now)) (c.in_ok-stepped.ensures.stays.rows ∙ c.loop-begun.invariant.rows) in
           let q = skips_passed x s t (n + 1) m (suc i.0) (g.D.Sectors.sectors c.step_traced.new.disk) c.step_traced.new.machine c.pass-skipped.new.machine (g.D.Sectors.size c.args.disk.now) mid next r.1 r.0 kept.0 c.pass-skipped.ensures.passes in
           let b = i.2 in
           let far : suc i.0 + m ≡ t + (n + 1 + m) = omega (arith, next) in
@@ -360,12 +360,12 @@ loop-begun-preserved-then-skipped-limit g c =
           let on : (run x s t).off ≡ None = was_on x s t i.0 (here_on (g.D.Sectors.sectors c.loop-begun.disk) c.loop-begun.machine (run x s i.0) i.3 (off_none _ _ _ c.off.ensures c.is_none.ensures c.loop-begun-test.true)) i.7 t (omega arith) (omega (arith, at)) in
           (suc i.0 + m, omega (arith, far), omega (arith, b, p, spent), q.0, subst (Progress x s (t + (n + 1 + m)) (suc i.0 + m)) (sym (c.loop-begun.invariant.fresh less)) none, q.1, λ l. far, on_passed x s t (suc i.0 + m) (n + 1 + m) far q.1 on);
       can = can_pass c.args.map.now (length c.step_traced.new.machine.hardware.memory) c.step_traced.new.machine.time (length c.pass-skipped.new.machine.hardware.memory) c.pass-skipped.new.machine.time (g.D.Sectors.size c.step_traced.new.disk) c.pass-skipped.result
-          c.step_traced.new.tracer c.pass-skipped.ensures.memory (ap (λ (h : Held). h.time) rest) c.in_ok-stepped.ensures.can;
-      user = c.in_ok-stepped.ensures.user ∙ c.loop-begun.invariant.user;
-      untraced = λ e. let i = c.loop-begun.invariant.untraced e in let n = c.in_ok-stepped.ensures.untraced i.0 in (n.0, n.1 ∙ i.1);
+          c.step_traced.new.tracer c.pass-skipped.ensures.memory (ap (λ (h : Held). h.time) rest) c.in_ok-stepped.ensures.trace.can;
+      user = c.in_ok-stepped.ensures.trace.user ∙ c.loop-begun.invariant.user;
+      untraced = λ e. let i = c.loop-begun.invariant.untraced e in let n = c.in_ok-stepped.ensures.trace.untraced i.0 in (n.0, n.1 ∙ i.1);
       sink_faults = c.in_ok-stepped.ensures.blame.sink_same (is_done c.in_ok-stepped.stepped Sink) ∙ c.loop-begun.invariant.sink_faults;
       tracks = tracks_passed (outside_of c.args.machine.now.rows (g.D.Sectors.size c.args.disk.now)) c.args.map.now (seen (g.D.Sectors.sectors c.args.disk.now) c.args.machine.now)
           (tracing c.args.tracer.now (g.O.Sink.text c.args.out.now) c.args.budget.now) (g.D.Sectors.sectors c.step_traced.new.disk) c.step_traced.new.machine c.pass-skipped.new.machine c.step_traced.new.tracer c.args.tracer.now (g.O.Sink.text c.step_traced.new.out)
-          (c.loop-begun.budget - 1) c.pass-skipped.new.budget c.pass-skipped.result (c.in_ok-stepped.ensures.user ∙ c.loop-begun.invariant.user) refl c.pass-skipped.ensures.traced spent
+          (c.loop-begun.budget - 1) c.pass-skipped.new.budget c.pass-skipped.result (c.in_ok-stepped.ensures.trace.user ∙ c.loop-begun.invariant.user) refl c.pass-skipped.ensures.traced spent
           (tracked g (goal.at.loop-begun-preserved-then-skipped-limit g c).In_ok-stepped);
     }

@@ -54,7 +54,7 @@ pub returns-in_err-follow-clause-torn : goal.returns-in_err-follow-clause-torn
 returns-in_err-follow-clause-torn g c = λ e.
     subst (λ (o : Option Tracer). StepFails (g.D.Sectors.size c.args.disk.now) c.args.machine.now c.follow.new.machine (g.D.Sectors.sectors c.args.disk.now) (g.D.Sectors.sectors c.follow.new.disk) (is_some o))
     (sym (here g (goal.at.returns-in_err-follow-clause-torn g c).In-Some))
-    (inr (same_seen c.step_once.new.machine c.follow.new.machine (g.D.Sectors.sectors c.step_once.new.disk) (g.D.Sectors.sectors c.follow.new.disk) c.in_err-follow.ensures.view.same c.in_err-follow.ensures.view.sectors ∙ c.in_ok-stepped.ensures.ran))
+    (inr (same_seen c.step_once.new.machine c.follow.new.machine (g.D.Sectors.sectors c.step_once.new.disk) (g.D.Sectors.sectors c.follow.new.disk) c.in_err-follow.ensures.read.view.same c.in_err-follow.ensures.read.view.sectors ∙ c.in_ok-stepped.ensures.ran))
 
 pub returns-in_err-follow-clause-traced : goal.returns-in_err-follow-clause-traced
 returns-in_err-follow-clause-traced g c =
@@ -62,17 +62,17 @@ returns-in_err-follow-clause-traced g c =
     let x = outside_of c.args.machine.now.rows (g.D.Sectors.size c.args.disk.now) in
     step_stops c.traces_grow.ensures c.journal_rows_follow.ensures c.the_words_tell.ensures x c.args.map.now c.args.machine.now (g.D.Sectors.sectors c.args.disk.now) c.in-Some.kept (g.O.Sink.text c.args.out.now) c.requires.on
     c.step_once.new.machine c.follow.new.machine (g.D.Sectors.sectors c.step_once.new.disk) (g.D.Sectors.sectors c.follow.new.disk)
-    (same_seen c.step_once.new.machine c.follow.new.machine (g.D.Sectors.sectors c.step_once.new.disk) (g.D.Sectors.sectors c.follow.new.disk) c.in_err-follow.ensures.view.same c.in_err-follow.ensures.view.sectors)
+    (same_seen c.step_once.new.machine c.follow.new.machine (g.D.Sectors.sectors c.step_once.new.disk) (g.D.Sectors.sectors c.follow.new.disk) c.in_err-follow.ensures.read.view.same c.in_err-follow.ensures.read.view.sectors)
     c.in_ok-stepped.ensures.ran c.current_user-current.result c.current_user-current.ensures c.began-began.result (began g (goal.at.returns-in_err-follow-clause-traced g c).In-Some)
     c.args.tracer.now _ (g.O.Sink.text c.follow.new.out) c.from_residual-in_err-follow.result w.0 c.in_err-follow.field-0.0 (here g (goal.at.returns-in_err-follow-clause-traced g c).In-Some) w.1 w.2
-    (λ e. c.in_err-follow.ensures.no_limit (ap (λ f. Err f) e)) (λ e. c.in_err-follow.ensures.reads (ap (λ f. Err f) e)) (λ e. c.in_err-follow.ensures.puts (ap (λ f. Err f) e)) (λ ss words e told. (c.in_err-follow.ensures.put ss words e told).err)
+    (λ e. c.in_err-follow.ensures.read.no_limit (ap (λ f. Err f) e)) (λ e. c.in_err-follow.ensures.reads (ap (λ f. Err f) e)) (λ e. c.in_err-follow.ensures.puts (ap (λ f. Err f) e)) (λ ss words e told. (c.in_err-follow.ensures.put ss words e told).err)
 
 pub returns-in-Some-clause-traced : goal.returns-in-Some-clause-traced
 returns-in-Some-clause-traced g c =
     let x = outside_of c.args.machine.now.rows (g.D.Sectors.size c.args.disk.now) in
     step_goes c.traces_grow.ensures c.journal_rows_follow.ensures c.the_words_tell.ensures x c.args.map.now c.args.machine.now (g.D.Sectors.sectors c.args.disk.now) c.in-Some.kept (g.O.Sink.text c.args.out.now) c.requires.on
     c.step_once.new.machine c.follow.new.machine (g.D.Sectors.sectors c.step_once.new.disk) (g.D.Sectors.sectors c.follow.new.disk)
-    (same_seen c.step_once.new.machine c.follow.new.machine (g.D.Sectors.sectors c.step_once.new.disk) (g.D.Sectors.sectors c.follow.new.disk) c.in_ok-follow.ensures.view.same c.in_ok-follow.ensures.view.sectors)
+    (same_seen c.step_once.new.machine c.follow.new.machine (g.D.Sectors.sectors c.step_once.new.disk) (g.D.Sectors.sectors c.follow.new.disk) c.in_ok-follow.ensures.read.view.same c.in_ok-follow.ensures.read.view.sectors)
     c.in_ok-stepped.ensures.ran c.current_user-current.result c.current_user-current.ensures c.began-began.result (began g (goal.at.returns-in-Some-clause-traced g c).In-Some)
     c.stepped_as.result c.args.tracer.now c.follow.new.self (g.O.Sink.text c.follow.new.out) (here g (goal.at.returns-in-Some-clause-traced g c).In-Some) (λ ss words e told. (c.in_ok-follow.ensures.put ss words e told).ok) c.in_ok-follow.ensures.kept
 

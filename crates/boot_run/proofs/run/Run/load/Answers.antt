@@ -2,12 +2,12 @@ use Rattle.std.proofs.Common.{[], refl, arith, ◌≡◌, ◌≤◌, ◌*◌, �
 use Rattle.std.specs.Prelude.{IsTrue}
 use Rattle.std.specs.Option.{option_map}
 use Rattle.layer_map.specs.Map.{Map, MapInRange, memory_words}
-use Rattle.boot_run.specs.Loading.{pages_of_users, written, system_of, TornAmong}
+use Rattle.boot_run.specs.Loading.{pages_of_users, written, system_of}
 use Rattle.mips_machine.specs.Machine.{Held}
 use Rattle.layer_contract.specs.Follows.{loaded}
 use Rattle.boot_run.specs.LoadEnds.{SeesUser, names_sector}
 use Rattle.boot_run.proofs.Readiness.{first_fits, loaded_ready}
-use Rattle.boot_run.proofs.Loads.{loaded_long, loaded_whole, stands_loaded, torn_loaded}
+use Rattle.boot_run.proofs.Loads.{loaded_long, loaded_whole, stands_loaded, torn_loaded, user_calls, user_torn}
 use Rattle.boot_run.proofs.run.Run.load.Goals as goal
 
 pub returns-in-Ok-clause-stands : goal.returns-in-Ok-clause-stands
@@ -25,6 +25,12 @@ returns-in-Ok-clause-stands g c =
 pub returns-in-Ok-clause-memory : goal.returns-in-Ok-clause-memory
 returns-in-Ok-clause-memory g c = loaded_whole c.args.boot c.args.schedule c.in_ok-machine.machine c.in_ok-machine.ensures
 
+pub returns-in-Ok-clause-calls : goal.returns-in-Ok-clause-calls
+returns-in-Ok-clause-calls g c =
+    let users : c.len-users.result ≡ length c.args.boot.users.items = c.len-users.ensures ∙ sym c.as_slice.ensures.len ∙ ap (λ (us : List (Vec ℕ Global)). length us) c.as_slice.ensures.value in
+    user_calls c.args.boot c.args.schedule c.as_slice.result.now c.len-users.result (g.D.Sectors.sectors c.args.disk.now) (g.D.Sectors.sectors c.write_pages.new.disk) (g.D.Sectors.calls c.args.disk.now) (g.D.Sectors.calls c.write_pages.new.disk)
+    c.as_slice.ensures.value users c.in-Ok.ensures.calls
+
 pub returns-in-Ok-clause-ready : goal.returns-in-Ok-clause-ready
 returns-in-Ok-clause-ready g c = λ x old budget text e.
     loaded_ready x (system_of c.args.boot c.args.schedule) (loaded (system_of c.args.boot c.args.schedule) old) c.args.view c.first_tracer.result c.first_tracer.ensures budget text c.in_ok-machine.machine (g.D.Sectors.sectors c.write_pages.new.disk)
@@ -37,10 +43,10 @@ returns-in-Err-clause-torn g c = λ h.
     let users : c.len-users.result ≡ length c.args.boot.users.items = c.len-users.ensures ∙ sym c.as_slice.ensures.len ∙ ap (λ (us : List (Vec ℕ Global)). length us) c.as_slice.ensures.value in
     let few : length c.args.boot.users.items * c.args.boot.params.pages ≤ g.D.Sectors.size c.args.disk.now =
     subst (λ n. n * c.args.boot.params.pages ≤ g.D.Sectors.size c.args.disk.now) users (subst (λ n. c.len-users.result * c.args.boot.params.pages ≤ n) c.count-have.ensures c.if-have-need.false) in
-    let torn = subst (λ (us : List (Vec ℕ Global)). TornAmong (length c.args.boot.users.items * c.args.boot.params.pages) (written (pages_of_users c.args.boot.params.pages us []) (length c.args.boot.users.items * c.args.boot.params.pages)) (g.D.Sectors.sectors c.args.disk.now) (g.D.Sectors.sectors c.write_pages.new.disk))
-    c.as_slice.ensures.value
-    (subst (λ n. TornAmong (n * c.args.boot.params.pages) (written (pages_of_users c.args.boot.params.pages c.as_slice.result.now []) (n * c.args.boot.params.pages)) (g.D.Sectors.sectors c.args.disk.now) (g.D.Sectors.sectors c.write_pages.new.disk)) users c.in-Err.ensures.torn) in
-    torn_loaded c.args.boot c.args.schedule (g.D.Sectors.sectors c.args.disk.now) (g.D.Sectors.sectors c.write_pages.new.disk) (g.D.Sectors.size c.args.disk.now) some torn (g.met.D.Sectors.sized c.args.disk.now) few
+    torn_loaded c.args.boot c.args.schedule (g.D.Sectors.sectors c.args.disk.now) (g.D.Sectors.sectors c.write_pages.new.disk) (g.D.Sectors.calls c.args.disk.now) (g.D.Sectors.calls c.write_pages.new.disk) (g.D.Sectors.size c.args.disk.now) some
+    (user_torn c.args.boot c.args.schedule c.as_slice.result.now c.len-users.result (g.D.Sectors.sectors c.args.disk.now) (g.D.Sectors.sectors c.write_pages.new.disk) (g.D.Sectors.calls c.args.disk.now) (g.D.Sectors.calls c.write_pages.new.disk)
+    c.as_slice.ensures.value users c.in-Err.ensures.torn)
+    (g.met.D.Sectors.sized c.args.disk.now) few
 
 pub invariant_of-result : goal.invariant_of-result
 invariant_of-result g c =

@@ -9,7 +9,7 @@ pub returns-in_err-put_before-clause-ends : goal.returns-in_err-put_before-claus
 returns-in_err-put_before-clause-ends g c = λ _.
     let h = err_from_is_err_and c.from_residual.result c.from_residual.ensures.1 in
     passed (g.D.Sectors.size c.args.disk.now) c.args.self.now c.args.most _ _ Sink h.0 c.from_residual.result h.1 (sym h.2)
-    (cut_before c.args.self.now c.args.self.now (g.D.Sectors.size c.args.disk.now) c.args.most c.requires.some (g.D.Sectors.sectors c.args.disk.now) (g.D.Sectors.sectors c.args.disk.now) c.args.budget.now c.args.budget.now (g.O.Sink.text c.args.out.now)
+    (cut_before c.args.self.now c.args.self.now (g.D.Sectors.size c.args.disk.now) c.args.most c.requires.can.some (g.D.Sectors.sectors c.args.disk.now) (g.D.Sectors.sectors c.args.disk.now) c.args.budget.now c.args.budget.now (g.O.Sink.text c.args.out.now)
     (g.O.Sink.text c.put_before.new.out) (g.O.Sink.text c.put_before.new.out) (g.O.Sink.text c.put_before.new.out) c.put_before.ensures.views c.machines_run.ensures c.traces_grow.ensures c.journal_rows_follow.ensures
     c.in_err-put_before.ensures.first.0 c.in_err-put_before.ensures.first.1 c.in_err-put_before.ensures.put.err)
 
@@ -17,9 +17,9 @@ pub returns-in_err-made-clause-ends : goal.returns-in_err-made-clause-ends
 returns-in_err-made-clause-ends g c = λ _.
     let h = err_from_is_err_and c.from_residual-in_err-made.result c.from_residual-in_err-made.ensures.1 in
     passed (g.D.Sectors.size c.args.disk.now) c.args.self.now c.args.most _ _ c.in_err-made.field-0.0 h.0 c.from_residual-in_err-made.result h.1 (sym h.2)
-    (broke_off c.args.self.now c.make_turn.new.self (g.D.Sectors.size c.args.disk.now) c.args.most c.requires.some (g.D.Sectors.sectors c.args.disk.now) (g.D.Sectors.sectors c.make_turn.new.disk) c.args.budget.now c.make_turn.new.budget (g.O.Sink.text c.args.out.now)
+    (broke_off c.args.self.now c.make_turn.new.self (g.D.Sectors.size c.args.disk.now) c.args.most c.requires.can.some (g.D.Sectors.sectors c.args.disk.now) (g.D.Sectors.sectors c.make_turn.new.disk) c.args.budget.now c.make_turn.new.budget (g.O.Sink.text c.args.out.now)
     (g.O.Sink.text c.put_before.new.out) (g.O.Sink.text c.make_turn.new.out) (g.O.Sink.text c.make_turn.new.out) c.put_before.ensures.views c.machines_run.ensures c.traces_grow.ensures c.journal_rows_follow.ensures
-    c.in_ok-put_before.ensures.put.ok (λ e. ap g.O.Sink.text (c.make_turn.ensures.untraced e).1) c.make_turn.ensures.spent
+    c.in_ok-put_before.ensures.put.ok (λ e. ap g.O.Sink.text (c.make_turn.ensures.untraced e).1) c.make_turn.ensures.makes.spent
     c.in_err-made.field-0.0 c.in_err-made.ensures.ends.0 (λ e f. c.in_err-made.ensures.no_sink e (ap (λ q. Err q) f)) c.in_err-made.ensures.ends.1)
 
 pub returns-in_err-put_after-clause-ends : goal.returns-in_err-put_after-clause-ends
@@ -27,19 +27,19 @@ returns-in_err-put_after-clause-ends g c = λ _.
     let h = err_from_is_err_and c.from_residual-in_err-put_after.result c.from_residual-in_err-put_after.ensures.1 in
     let turns = c.in_ok-made.ensures.ends in
     passed (g.D.Sectors.size c.args.disk.now) c.args.self.now c.args.most _ _ Sink h.0 c.from_residual-in_err-put_after.result h.1 (sym h.2)
-    (cut_after c.args.self.now c.make_turn.new.self (g.D.Sectors.size c.args.disk.now) c.args.most c.requires.some (g.D.Sectors.sectors c.args.disk.now) (g.D.Sectors.sectors c.make_turn.new.disk) c.args.budget.now c.make_turn.new.budget (g.O.Sink.text c.args.out.now)
+    (cut_after c.args.self.now c.make_turn.new.self (g.D.Sectors.size c.args.disk.now) c.args.most c.requires.can.some (g.D.Sectors.sectors c.args.disk.now) (g.D.Sectors.sectors c.make_turn.new.disk) c.args.budget.now c.make_turn.new.budget (g.O.Sink.text c.args.out.now)
     (g.O.Sink.text c.put_before.new.out) (g.O.Sink.text c.make_turn.new.out) (g.O.Sink.text c.put_after.new.out) c.put_before.ensures.views c.machines_run.ensures c.traces_grow.ensures c.journal_rows_follow.ensures
-    c.in_ok-put_before.ensures.put.ok (λ e. ap g.O.Sink.text (c.make_turn.ensures.untraced e).1) c.make_turn.ensures.spent
-    c.in_ok-made.made turns.0 turns.1 c.in_ok-made.answer turns.2 turns.3 turns.4 c.requires.steps c.make_turn.ensures.fault (λ e. (c.make_turn.ensures.untraced e).0)
+    c.in_ok-put_before.ensures.put.ok (λ e. ap g.O.Sink.text (c.make_turn.ensures.untraced e).1) c.make_turn.ensures.makes.spent
+    c.in_ok-made.made turns.0 turns.1 c.in_ok-made.answer turns.2 turns.3 turns.4 c.requires.can.steps c.make_turn.ensures.makes.fault (λ e. (c.make_turn.ensures.untraced e).0)
     (λ e. c.in_err-put_after.ensures.dispatch (c.make_turn.ensures.untraced e).0) c.in_err-put_after.ensures.put.err)
 
 pub returns-clause-ends : goal.returns-clause-ends
 returns-clause-ends g c = λ _.
     let turns = c.in_ok-made.ensures.ends in
-    went c.args.self.now c.make_turn.new.self (g.D.Sectors.size c.args.disk.now) c.args.most c.requires.some (g.D.Sectors.sectors c.args.disk.now) (g.D.Sectors.sectors c.make_turn.new.disk) c.args.budget.now c.make_turn.new.budget (g.O.Sink.text c.args.out.now)
+    went c.args.self.now c.make_turn.new.self (g.D.Sectors.size c.args.disk.now) c.args.most c.requires.can.some (g.D.Sectors.sectors c.args.disk.now) (g.D.Sectors.sectors c.make_turn.new.disk) c.args.budget.now c.make_turn.new.budget (g.O.Sink.text c.args.out.now)
     (g.O.Sink.text c.put_before.new.out) (g.O.Sink.text c.make_turn.new.out) (g.O.Sink.text c.put_after.new.out) c.put_before.ensures.views c.machines_run.ensures c.traces_grow.ensures c.journal_rows_follow.ensures
-    c.in_ok-put_before.ensures.put.ok (λ e. ap g.O.Sink.text (c.make_turn.ensures.untraced e).1) c.make_turn.ensures.spent
-    c.in_ok-made.made turns.0 turns.1 c.in_ok-made.answer turns.2 turns.3 turns.4 c.requires.steps c.make_turn.ensures.fault (λ e. (c.make_turn.ensures.untraced e).0)
+    c.in_ok-put_before.ensures.put.ok (λ e. ap g.O.Sink.text (c.make_turn.ensures.untraced e).1) c.make_turn.ensures.makes.spent
+    c.in_ok-made.made turns.0 turns.1 c.in_ok-made.answer turns.2 turns.3 turns.4 c.requires.can.steps c.make_turn.ensures.makes.fault (λ e. (c.make_turn.ensures.untraced e).0)
     c.in_ok-put_after.ensures.put.ok
 
 -- of any run
@@ -63,7 +63,7 @@ returns-in_err-put_after-clause-any g c = λ _ e.
     let turns = c.in_ok-made.ensures.ends in
     any_passed (g.D.Sectors.size c.args.disk.now) c.args.self.now c.args.most _ _ Sink h.0 c.from_residual-in_err-put_after.result h.1 (sym h.2)
     (any_cut_after c.args.self.now c.make_turn.new.self c.put_before.ensures.views (g.D.Sectors.size c.args.disk.now) c.args.most (g.D.Sectors.sectors c.args.disk.now) (g.D.Sectors.sectors c.make_turn.new.disk) c.args.budget.now c.make_turn.new.budget
-    (g.O.Sink.text c.args.out.now) (g.O.Sink.text c.put_before.new.out) (g.O.Sink.text c.make_turn.new.out) (g.O.Sink.text c.put_after.new.out) c.in_ok-made.made turns.0 turns.1 c.in_ok-made.answer turns.2 turns.3 turns.4 c.in_ok-made.ensures.made.1)
+    (g.O.Sink.text c.args.out.now) (g.O.Sink.text c.put_before.new.out) (g.O.Sink.text c.make_turn.new.out) (g.O.Sink.text c.put_after.new.out) c.in_ok-made.made turns.0 turns.1 c.in_ok-made.answer turns.2 turns.3 turns.4 c.in_ok-made.ensures.makes.made.1)
 
 pub returns-clause-any : goal.returns-clause-any
 returns-clause-any g c = λ _ e.

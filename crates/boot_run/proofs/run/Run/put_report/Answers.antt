@@ -22,21 +22,21 @@ pub returns-in-Ok-clause-ends : goal.returns-in-Ok-clause-ends
 returns-in-Ok-clause-ends g c =
     now_traced c.args.self.now _ c.self.view_is (g.D.Sectors.size c.args.disk.now) (g.D.Sectors.sectors c.args.disk.now) (g.D.Sectors.sectors c.put_trace_closing.new.disk) (g.O.Sink.text c.args.out.now) (g.O.Sink.text c.put_trace_closing.new.out)
     c.in-Some.tracer c.in-Some.is refl c.requires.goes_on c.traces_grow.ensures c.journal_rows_follow.ensures c.the_user_rows_tell.ensures
-    c.self.inside.places.map c.self.inside.places.offsets.items c.self.invariant.2 c.self.invariant.3 c.put_trace_closing.new.machine c.put_trace_closing.ensures.view.same c.put_trace_closing.ensures.view.sectors
+    c.self.inside.places.map c.self.inside.places.offsets.items c.self.invariant.2 c.self.invariant.3 c.put_trace_closing.new.machine c.put_trace_closing.ensures.leaves.view.same c.put_trace_closing.ensures.leaves.view.sectors
     c.is_some-halted.result c.is_some-halted.ensures (λ ss e f. (c.in-Ok.ensures.put ss e f).ok)
 
 pub returns-in-Err-Disk-clause-ends : goal.returns-in-Err-Disk-clause-ends
 returns-in-Err-Disk-clause-ends g c =
     now_unread c.args.self.now _ c.self.view_is (g.D.Sectors.size c.args.disk.now) (g.D.Sectors.sectors c.args.disk.now) (g.D.Sectors.sectors c.put_trace_closing.new.disk) (g.O.Sink.text c.args.out.now) (g.O.Sink.text c.put_trace_closing.new.out)
     c.in-Some.tracer c.in-Some.is refl c.requires.goes_on c.traces_grow.ensures c.journal_rows_follow.ensures c.the_user_rows_tell.ensures
-    c.self.inside.places.map c.self.inside.places.offsets.items c.self.invariant.2 c.self.invariant.3 c.put_trace_closing.new.machine c.put_trace_closing.ensures.view.same c.put_trace_closing.ensures.view.sectors
+    c.self.inside.places.map c.self.inside.places.offsets.items c.self.invariant.2 c.self.invariant.3 c.put_trace_closing.new.machine c.put_trace_closing.ensures.leaves.view.same c.put_trace_closing.ensures.leaves.view.sectors
     c.is_some-halted.result c.is_some-halted.ensures (λ ss e f. c.in-Err-Disk.ensures.rows ss e f (ap (λ h. Err h) c.in-Err-Disk.field-0-is))
 
 pub returns-in-Err-Sink-clause-ends : goal.returns-in-Err-Sink-clause-ends
 returns-in-Err-Sink-clause-ends g c =
     now_unwritten c.args.self.now _ c.self.view_is (g.D.Sectors.size c.args.disk.now) (g.D.Sectors.sectors c.args.disk.now) (g.D.Sectors.sectors c.put_trace_closing.new.disk) (g.O.Sink.text c.args.out.now) (g.O.Sink.text c.put_trace_closing.new.out)
     c.in-Some.tracer c.in-Some.is refl c.requires.goes_on c.traces_grow.ensures c.journal_rows_follow.ensures c.the_user_rows_tell.ensures
-    c.self.inside.places.map c.self.inside.places.offsets.items c.self.invariant.2 c.self.invariant.3 c.put_trace_closing.new.machine c.put_trace_closing.ensures.view.same c.put_trace_closing.ensures.view.sectors
+    c.self.inside.places.map c.self.inside.places.offsets.items c.self.invariant.2 c.self.invariant.3 c.put_trace_closing.new.machine c.put_trace_closing.ensures.leaves.view.same c.put_trace_closing.ensures.leaves.view.sectors
     c.is_some-halted.result c.is_some-halted.ensures (λ ss e f. (c.in-Err-Sink.ensures.put ss e f).err)
 
 -- of a boot
@@ -44,7 +44,7 @@ pub returns-in-Ok-put_closing-clause-ends : goal.returns-in-Ok-put_closing-claus
 returns-in-Ok-put_closing-clause-ends g c =
     now_printed c.args.self.now _ c.self.view_is (g.D.Sectors.size c.args.disk.now) (g.D.Sectors.sectors c.args.disk.now) (g.D.Sectors.sectors c.put_closing.new.disk) (g.O.Sink.text c.args.out.now) (g.O.Sink.text c.put_closing.new.out)
     c.in_default.is refl c.requires.goes_on c.machines_run.ensures c.runs_stay_typed.ensures c.the_rows_tell.ensures c.the_globals_tell.ensures c.unit.ensures.well_formed
-    c.self.inside.places.map c.self.inside.places.offsets.items c.self.invariant.2 c.put_closing.new.machine c.put_closing.ensures.view.same c.put_closing.ensures.view.sectors
+    c.self.inside.places.map c.self.inside.places.offsets.items c.self.invariant.2 c.put_closing.new.machine c.put_closing.ensures.leaves.view.same c.put_closing.ensures.leaves.view.sectors
     c.is_some-halted.result c.is_some-halted.ensures c.as_slice-decls.result.now (c.as_slice-decls.ensures.value ∙ ap (λ (u : Source). u.globals.items) c.unit.ensures.same)
     (λ ss e f. (c.in-Ok-put_closing.ensures.put ss e f).ok)
 
@@ -52,7 +52,7 @@ pub returns-in-Err-Disk-put_closing-clause-ends : goal.returns-in-Err-Disk-put_c
 returns-in-Err-Disk-put_closing-clause-ends g c =
     now_broken c.args.self.now _ c.self.view_is (g.D.Sectors.size c.args.disk.now) (g.D.Sectors.sectors c.args.disk.now) (g.D.Sectors.sectors c.put_closing.new.disk) (g.O.Sink.text c.args.out.now) (g.O.Sink.text c.put_closing.new.out)
     c.in_default.is refl c.requires.goes_on c.machines_run.ensures c.runs_stay_typed.ensures c.the_rows_tell.ensures c.the_globals_tell.ensures c.unit.ensures.well_formed
-    c.self.inside.places.map c.self.inside.places.offsets.items c.self.invariant.2 c.put_closing.new.machine c.put_closing.ensures.view.same c.put_closing.ensures.view.sectors
+    c.self.inside.places.map c.self.inside.places.offsets.items c.self.invariant.2 c.put_closing.new.machine c.put_closing.ensures.leaves.view.same c.put_closing.ensures.leaves.view.sectors
     c.is_some-halted.result c.is_some-halted.ensures c.as_slice-decls.result.now (c.as_slice-decls.ensures.value ∙ ap (λ (u : Source). u.globals.items) c.unit.ensures.same)
     Disk (λ h. cc) (λ ss e f. (c.in-Err-Disk-put_closing.ensures.put ss e f).err)
 
@@ -60,6 +60,6 @@ pub returns-in-Err-Sink-put_closing-clause-ends : goal.returns-in-Err-Sink-put_c
 returns-in-Err-Sink-put_closing-clause-ends g c =
     now_broken c.args.self.now _ c.self.view_is (g.D.Sectors.size c.args.disk.now) (g.D.Sectors.sectors c.args.disk.now) (g.D.Sectors.sectors c.put_closing.new.disk) (g.O.Sink.text c.args.out.now) (g.O.Sink.text c.put_closing.new.out)
     c.in_default.is refl c.requires.goes_on c.machines_run.ensures c.runs_stay_typed.ensures c.the_rows_tell.ensures c.the_globals_tell.ensures c.unit.ensures.well_formed
-    c.self.inside.places.map c.self.inside.places.offsets.items c.self.invariant.2 c.put_closing.new.machine c.put_closing.ensures.view.same c.put_closing.ensures.view.sectors
+    c.self.inside.places.map c.self.inside.places.offsets.items c.self.invariant.2 c.put_closing.new.machine c.put_closing.ensures.leaves.view.same c.put_closing.ensures.leaves.view.sectors
     c.is_some-halted.result c.is_some-halted.ensures c.as_slice-decls.result.now (c.as_slice-decls.ensures.value ∙ ap (λ (u : Source). u.globals.items) c.unit.ensures.same)
     Sink (λ h. cc) (λ ss e f. (c.in-Err-Sink-put_closing.ensures.put ss e f).err)

@@ -19,4 +19,4 @@ returns-clause-steps g c = λ ss words e told placed.
     c.put_words.ensures.steps
 
 pub returns-clause-reads : goal.returns-clause-reads
-returns-clause-reads g c = λ e. record { copies = c.requires.copy; user = c.if-user-self.false; done = c.if-answer-ne1.false }
+returns-clause-reads g c = λ e. record { copies = c.requires.copy; user = c.if-user-self.false; done = c.if-answer-ne1.false; some = c.put_words.ensures.some e }

@@ -99,7 +99,7 @@ returns-clause-kept g c = λ ss words e told.
       | else-began+in-Some+in_ok-end w ↦
           call_kept s kept c.args.current c.args.began words c.args.map.now w.returned_call.result w.in-Some.call w.reg.result w.if-began.false w.returned_call.ensures w.in-Some.is w.reg.ensures told
           c.if-began.self next (λ t p. w.self-is ∙ w.in_ok-end.ensures.steps ss words e t p)
-          (λ h. noted_then c.args.machine.now c.if-began.machine ss kept.call c.if-began.self.call (subst (SameButViewed c.args.machine.now) (sym w.machine-is) w.in_ok-end.ensures.view.same) h)
+          (λ h. noted_then c.args.machine.now c.if-began.machine ss kept.call c.if-began.self.call (subst (SameButViewed c.args.machine.now) (sym w.machine-is) w.in_ok-end.ensures.read.view.same) h)
       | else-began+in_default w ↦ (
           let is = none_returned s kept c.args.current c.args.began words w.returned_call.result w.if-began.false w.returned_call.ensures w.in_default.is in
           kept_then s kept c.args.current c.args.began words [] is c.if-began.self next w.self-is
