@@ -2,6 +2,7 @@ mod AcceptedAs
 mod Answered
 mod BootEndings
 mod BootPlans
+mod Causing
 mod CheckPlans
 mod CheckWords
 mod Endings

@@ -1,6 +1,6 @@
 -- The exits of a resume: the file is refused, the disk is too small, or the run goes on; the theorem of resume, which follows from how the command ends
--- and why; and the law that joins a save and a resume.
-use Rattle.std.proofs.Common.{◌≡◌, ◌≢◌, ◌⊎◌, inl, inr, ℕ, ◌<◌, ◌≤◌, ◌++◌, List, [], refl, sym, ap, ◌∙◌, subst, Some, Ok, Err}
+-- and why; the law that joins a save and a resume; and that a resume with enough steps ends in time.
+use Rattle.std.proofs.Common.{◌≡◌, ◌≢◌, ◌⊎◌, inl, inr, ℕ, ◌<◌, ◌≤◌, ◌++◌, List, [], length, refl, sym, ap, ◌∙◌, subst, Some, Ok, Err, arith}
 use Rattle.std.specs.Prelude.{Option, Result, slice_index}
 use Rattle.std.specs.Option.{IsSome}
 use Rattle.std.specs.List.{flat_map}
@@ -10,6 +10,7 @@ use Rattle.cvm_outside.specs.Told.{AppendsPart, TOO_LONG}
 use Rattle.cvm_words.specs.Bytes.{word}
 use Rattle.schedule_file.specs.Rows.{Rows}
 use Rattle.mips_table.specs.Device.{Outside as Surroundings}
+use Rattle.mips_table.specs.Turns.{TurnLaws}
 use Rattle.mips_machine.specs.Steps.{outside_of}
 use Rattle.cvm_model.specs.Cvm.{System as Run}
 use Rattle.layer_contract.specs.Follows.{loaded}
@@ -27,24 +28,26 @@ use Rattle.boot_run.specs.Whole.{ending_of_end}
 use Rattle.boot_run.specs.declared.whole.RunEnd.{RunEnd}
 use Rattle.boot_run.specs.declared.whole.RunEnd.TheVariants as ends
 use Rattle.machine_save.specs.ResumeRun.{ResumeAnswers, JoinsSaved as JoinsFile, GoesOnFromFile}
+use Rattle.machine_save.specs.Room.{FILE_ROOM}
+use Rattle.machine_save.specs.SavedBoots.{BootsGoOn}
 use Rattle.machine_save.specs.declared.resuming.ResumeFault.{ResumeFault}
 use Rattle.machine_save.specs.declared.resuming.ResumeFault.TheVariants as fault
 use Rattle.kernel_linker.specs.Accept.{System, system_of}
 use Rattle.cvm_shell.specs.declared.status.Status.{Status}
-use Rattle.cvm_shell.specs.declared.status.Status.TheVariants.{Refused, Disk, Sink, Memory}
+use Rattle.cvm_shell.specs.declared.status.Status.TheVariants.{Done, Refused, KernelFault, Disk, Sink, Memory}
 use Rattle.cvm_shell.specs.declared.resuming.Resumable.{Resumable}
 use Rattle.cvm_shell.specs.declared.boot.Session.{Session}
 use Rattle.cvm_shell.specs.Command.{Save, resume, IsCommand, save_session}
 use Rattle.cvm_shell.specs.Outside.{Outside, SameSectors, Leaves, Says}
 use Rattle.cvm_shell.specs.Refusal.{bad_save, small_disk, refusal_text}
 use Rattle.cvm_shell.specs.Plan.{Plan, boots, resumes, whole, wanted_by, taken_plan, scheduled_plan, ComesTo, resume_plan, GetsTold, AllTold}
-use Rattle.cvm_shell.specs.Boot.{booted, around, sectors_needed, ended_as}
-use Rattle.cvm_shell.specs.Resumes.{JoinsSaved, ResumeEnds, small_for_it, no_room, went_on, IsHonestResume, ResumeHolds, SavedAndResumedAreBooted}
-use Rattle.cvm_shell.specs.Outcome.{Ends, CommandEnds, done, undone, CausedBy}
+use Rattle.cvm_shell.specs.Boot.{booted, around, sectors_needed, ended_as, GoesOn}
+use Rattle.cvm_shell.specs.Resumes.{JoinsSaved, ResumeEnds, small_for_it, no_room, went_on, IsHonestResume, ResumeHolds, IsSavedRun, IsBootBehind, SavedAndResumedAreBooted}
+use Rattle.cvm_shell.specs.Outcome.{Ends, CommandEnds, done, undone, CausedBy, HasSteps}
 use Rattle.cvm_shell.specs.Stages.{resumable_for}
 use Rattle.cvm_shell.proofs.Endings.{nothing, row_said, FilesPlan, Tells_long, plan_of, took_resumes}
 use Rattle.cvm_shell.proofs.StartAnswers.{same_need}
-use Rattle.cvm_shell.proofs.BootEndings.{some_is, is_told, tells, all_told, no_room_for, shelf_rose}
+use Rattle.cvm_shell.proofs.BootEndings.{some_is, is_told, tells, all_told, no_room_for, shelf_rose, ran_in_time}
 use Rattle.cvm_shell.proofs.SaveEndings.{same_wanted}
 
 took_taken : (session : Session) (s : System) (rows : Rows) (a : Result (List ℕ) SaveFault) (taken : ℕ) → taken ≢ TOO_LONG → Tells_long (taken_plan session s rows a) taken
@@ -121,17 +124,29 @@ module _ (r : Resumable) (c : Save) (old new : Outside) where
       let turns : slice_index words 5 ≡ few = few_turns (around under old) (booted ours under) before left few spent words shown a in
       joins before left now few spent words shown disk room told retold a bytes (subst (λ (n : ℕ). 1 ≤ n) turns can.a_turn) (subst (λ (n : ℕ). n ≤ c.boot.turns) turns can.turns) less
 
+  -- and each boot over such a disk comes to the end of every turn
+  turns_end : BootsGoOn r.ready.boot under old.disk.size → pages_needed r.ready.boot ≤ old.disk.size → (before : List (List ℕ)) → IsDisk old.disk.size before
+      → GoesOn (save_session c) old ours under before
+  turns_end goes room before disk = λ k x is. let (t, end, within) = goes before disk room k x is in (t, end, omega (arith, within))
+
   pub resumed_made : (e : RunEnd) (status : Status) → ResumeAnswers r.ready.boot under c.boot.turns old.disk.size r.bytes.items (Ok e)
       → JoinsFile r.ready.boot under c.boot.turns c.boot.steps old.disk.size r.bytes.items old.disk.sectors new.disk.sectors old.sink.text new.sink.text (Ok e)
+      → BootsGoOn r.ready.boot under old.disk.size
       → GoesOnFromFile r.ready.boot under c.boot.turns c.boot.steps old.disk.size r.bytes.items old.disk.sectors new.disk.sectors (Ok e)
       → (IsSome old.disk.sectors → IsSome new.disk.sectors) → new.disk.size ≡ old.disk.size → (e ≡ ends.DiskFault → Rose old.disk.faults new.disk.faults)
       → ((n : List ℕ) → new.shelf.file n ≡ old.shelf.file n) → status ≡ ended_as (ending_of_end e) → Ends (resumable_for c r) status old new
-  resumed_made e status (words, a, bytes, can, room) joins goes retells size rose files stands =
+  resumed_made e status (words, a, bytes, can, room) joins go_on goes retells size rose files stands =
       by_answer (Ok words) status a (went_on e stands (record {
         place = record { user = tt; room = subst (λ (n : ℕ). n ≤ old.disk.size) (same_need r.ready.boot under) room; files = files; size = size };
         told = λ left told.
             let (now, retold) = some_is new.disk.sectors (retells (is_told old.disk.sectors left told)) in
-            record { now = now; sectors = retold; joins = joined e left now words told retold bytes can room joins; goes = goes words left a told };
+            record {
+              now = now;
+              sectors = retold;
+              joins = joined e left now words told retold bytes can room joins;
+              goes_on = turns_end go_on room;
+              goes = goes words left a told;
+            };
         disk = rose;
       }))
 
@@ -184,28 +199,13 @@ went_clean x y before now turns steps shown had has ends.OutOfSteps disk sink h 
 went_clean x y before now turns steps shown had has ends.DiskFault disk sink h = absurd (disk refl)
 went_clean x y before now turns steps shown had has ends.SinkFault disk sink h = absurd (sink refl)
 
-pub saved_and_resumed : SavedAndResumedAreBooted
-saved_and_resumed c d s rows before first mid old new words status a clause asked l memory =
-    let honest : IsHonestResume words d s rows a.words a.after old new = record {
-      asked = asked;
-      files = l.files;
-      bytes = flat_map word a.words;
-      bytes_told = l.bytes_told;
-      bytes_short = l.bytes_short;
-      fits = a.fits d.boot.turns l.turns asked.turns_fit;
-      sectors = l.sectors;
-      enough = l.enough;
-      shelf_done = l.shelf_done;
-      disk_done = l.disk_done;
-      sink_done = l.sink_done;
-    } in
-    let holds = clause d s rows a.words a.after honest memory in
-    let y = booted s rows in
-    let disk : IsDisk old.disk.size before = subst (λ (n : ℕ). IsDisk n before) (sym l.size) a.disk in
-    let saved : SavedAt (around rows old) y (loaded y before) c.boot.turns c.boot.steps a.words a.after a.shown =
-    subst (λ (n : ℕ). SavedAt (outside_of rows n) y (loaded y before) c.boot.turns c.boot.steps a.words a.after a.shown) (sym l.size) a.saved_at in
-    let so = went_clean (around rows old) y before holds.went.now d.boot.turns d.boot.steps a.shown old.sink.text new.sink.text holds.end holds.no_disk holds.no_sink
-    (holds.went.joins before c.boot.turns c.boot.steps a.shown disk l.steps saved) in
+-- a resume that goes on with a saved run is the whole boot from there on
+behind : (c : Save) (s : System) (rows : Rows) (machine : List ℕ) (left before : List (List ℕ)) (shown : List ℕ) (status : Status) (old new : Outside)
+    → IsSavedRun c s rows machine left before shown old → ResumeHolds c s rows machine left old new status
+    → IsBootBehind c s rows before shown old old new status
+behind c s rows machine left before shown status old new saved holds =
+    let so = went_clean (around rows old) (booted s rows) before holds.went.now c.boot.turns c.boot.steps shown old.sink.text new.sink.text
+    holds.end holds.no_disk holds.no_sink (holds.went.joins before saved.turns saved.steps shown saved.disk saved.fewer saved.saved_at) in
     record {
       after = holds.went.now;
       text = so.0;
@@ -213,5 +213,51 @@ saved_and_resumed c d s rows before first mid old new words status a clause aske
       sectors = holds.went.sectors;
       printed = so.1;
       status_is = holds.status_is;
-      ran = subst (λ (n : ℕ). RanOf (outside_of rows n) y before holds.went.now view.Boot d.boot.turns d.boot.steps (ending_of_end holds.end) (a.shown ++ so.0)) l.size so.2;
+      ran = so.2;
+      goes_on = holds.went.goes_on before saved.disk;
     }
+
+pub saved_and_resumed : SavedAndResumedAreBooted
+saved_and_resumed c d s rows before first mid old new words status a clause asked l memory =
+    let short : length (flat_map word a.words) ≤ FILE_ROOM = a.short in
+    let honest : IsHonestResume words d s rows a.words a.after old new = record {
+      asked = asked;
+      files = l.files;
+      bytes = flat_map word a.words;
+      bytes_told = l.bytes_told;
+      bytes_short = omega (arith, short);
+      fits = a.fits d.boot.turns l.turns asked.turns_fit;
+      sectors = l.sectors;
+      enough = l.enough;
+      shelf_done = l.shelf_done;
+      disk_done = l.disk_done;
+      sink_done = l.sink_done;
+    } in
+    let y = booted s rows in
+    let disk : IsDisk old.disk.size before = subst (λ (n : ℕ). IsDisk n before) (sym l.size) a.disk in
+    let saved : SavedAt (around rows old) y (loaded y before) c.boot.turns c.boot.steps a.words a.after a.shown =
+    subst (λ (n : ℕ). SavedAt (outside_of rows n) y (loaded y before) c.boot.turns c.boot.steps a.words a.after a.shown) (sym l.size) a.saved_at in
+    let whole = behind d s rows a.words a.after before a.shown status old new
+    (record { turns = c.boot.turns; steps = c.boot.steps; disk = disk; fewer = l.steps; saved_at = saved }) (clause d s rows a.words a.after honest memory) in
+    record {
+      after = whole.after;
+      text = whole.text;
+      ending = whole.ending;
+      sectors = whole.sectors;
+      printed = whole.printed;
+      status_is = whole.status_is;
+      ran = subst (λ (n : ℕ). RanOf (outside_of rows n) y before whole.after view.Boot d.boot.turns d.boot.steps whole.ending (a.shown ++ whole.text)) l.size whole.ran;
+      goes_on = a.goes_on;
+    }
+
+-- ENOUGH STEPS
+pub resumes_complete : TurnLaws → (words : List (List ℕ)) (c : Save) (s : System) (rows : Rows) (machine : List ℕ) (left before : List (List ℕ)) (shown : List ℕ)
+    (status : Status) (old new : Outside) → CommandEnds words status old new → CausedBy status old new
+    → IsHonestResume words c s rows machine left old new → status ≢ Memory → IsSavedRun c s rows machine left before shown old
+    → HasSteps (save_session c) s rows before old → ((status ≡ Done) ⊎ (status ≡ KernelFault)) × IsBootBehind c s rows before shown old old new status
+resumes_complete laws words c s rows machine left before shown status old new ends why h memory saved has =
+    let whole = behind c s rows machine left before shown status old new saved (resumes_hold words c s rows machine left status old new ends why h memory) in
+    elim (ran_in_time laws (save_session c) s rows before whole.after whole.ending (shown ++ whole.text) old whole.ran whole.goes_on has) [
+      | inl is ↦ (inl (whole.status_is ∙ is), whole)
+      | inr is ↦ (inr (whole.status_is ∙ is), whole)
+    ]

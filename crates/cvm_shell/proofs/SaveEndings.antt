@@ -1,5 +1,5 @@
 -- The exits of a save: how the run of a system ends that is to be saved; and the theorem of save, which follows from how the command ends and why.
-use Rattle.std.proofs.Common.{◌≡◌, ◌≢◌, ◌⊎◌, inl, inr, ℕ, ◌<◌, ◌≤◌, List, ◌++◌, refl, sym, ap, ◌∙◌, subst, Some, None, Ok, Err, arith, append_assoc}
+use Rattle.std.proofs.Common.{◌≡◌, ◌≢◌, ◌⊎◌, inl, inr, ℕ, ◌*◌, ◌<◌, ◌≤◌, List, ◌++◌, length, refl, sym, ap, ◌∙◌, subst, Some, None, Ok, Err, arith, append_assoc}
 use Rattle.std.specs.Prelude.{Option, Result, IfErr, take}
 use Rattle.std.specs.List.{flat_map}
 use Rattle.std.specs.Io.KnownBytes.{append_known}
@@ -21,12 +21,12 @@ use Rattle.boot_run.specs.LoadEnds.{HasRoom, LoadFails, pages_needed}
 use Rattle.boot_run.specs.SavedFiles.{wanted_of}
 use Rattle.boot_run.specs.Saving.{EndsInTurn}
 use Rattle.boot_run.specs.Sink.{behind}
-use Rattle.boot_run.specs.Whole.{ending_of_end}
+use Rattle.boot_run.specs.Whole.{ending_of_end, WholeGoesOn}
 use Rattle.boot_run.specs.declared.load.LoadFault.{LoadFault}
 use Rattle.boot_run.specs.declared.load.LoadFault.TheVariants as load
 use Rattle.boot_run.specs.declared.whole.RunEnd.{RunEnd}
 use Rattle.boot_run.specs.declared.whole.RunEnd.TheVariants as ends
-use Rattle.machine_save.specs.Room.{most_words}
+use Rattle.machine_save.specs.Room.{most_words, FILE_ROOM}
 use Rattle.machine_save.specs.SaveRun.{IsSaved as WasSaved, IfUnput, SaveRunEnds, ending_of_saved}
 use Rattle.machine_save.specs.declared.saving.SavedEnd.{SavedEnd}
 use Rattle.machine_save.specs.declared.saving.SavedEnd.TheVariants as by
@@ -39,7 +39,7 @@ use Rattle.cvm_shell.specs.Command.{Save, save, IsCommand, save_session}
 use Rattle.cvm_shell.specs.Outside.{Files, Outside, SameSectors, Says}
 use Rattle.cvm_shell.specs.Refusal.{small_disk, refusal_text, too_long}
 use Rattle.cvm_shell.specs.Plan.{Plan, refuses, boots, saves, wanted_by, ComesTo, save_plan, AllTold}
-use Rattle.cvm_shell.specs.Boot.{booted, around, first_state, sectors_needed, ended_as, HasPlace}
+use Rattle.cvm_shell.specs.Boot.{booted, around, first_state, sectors_needed, ended_as, GoesOn, HasPlace}
 use Rattle.cvm_shell.specs.Saves.{saved_row, HasHalted, Stopped, IsSaved, IsUnput, IsUnsaid, IsLeft, EndsAsBoot, IsEnded, SaveEnds, too_small, out_of_memory, not_loaded, ended, was_saved, was_unput, was_unsaid, IsHonestSave, SaveHolds, as_boot, is_saved}
 use Rattle.cvm_shell.specs.Outcome.{Ends, CommandEnds, done, undone, CausedBy, HasSteps}
 use Rattle.cvm_shell.specs.Stages.{SaveAnswers, with_files, status_of_saved}
@@ -47,6 +47,7 @@ use Rattle.cvm_shell.proofs.Endings.{nothing, row_said, FilesPlan, plan_of, took
 use Rattle.cvm_shell.proofs.StartAnswers.{same_count, same_need}
 use Rattle.cvm_shell.proofs.BootEndings.{some_is, is_told, not_memory, all_told, comes_to_run, gets_told, no_room_for, shelf_rose, in_time}
 use Rattle.cvm_shell.proofs.SavePlans.{short_plan}
+use Rattle.cvm_shell.proofs.UserWords.{length_words}
 
 -- one text behind another
 told_twice : (told : Option (List ℕ)) (a b : List ℕ) → append_known (append_known told a) b ≡ append_known told (a ++ b)
@@ -89,6 +90,7 @@ moved_answers r c answer old new f same h = record {
   goes_on = h.goes_on;
   some = h.some;
   few = h.few;
+  short = h.short;
   fits = h.fits;
   disk = h.disk;
   others = λ n other. h.others n other ∙ same n;
@@ -98,6 +100,7 @@ moved_answers r c answer old new f same h = record {
   loaded = h.loaded;
   size = h.size;
   rose = h.rose;
+  stopped = h.stopped;
 }
 
 -- a run was made that was to be saved
@@ -201,11 +204,20 @@ halts session s rows e before old new r h = by r.end (done_end r.end (r.is_end �
     by end q (inl a) = a
     by end q (inr b) = absurd (subst InTurn q b)
 
+-- a file with no more words than there may be has its room
+short_file : (frames : ℕ) (words : List ℕ) → length words ≤ most_words frames → 4 * most_words frames ≤ FILE_ROOM → length (flat_map word words) ≤ FILE_ROOM
+short_file frames words few room = let four : length (flat_map word words) ≡ 4 * length words = length_words words in omega (arith, four, few, room)
+
 -- THE EXITS, of the run of what was read for a save
 module _ (r : Ready) (c : Save) (old new : Outside) where
   place : HasRoom r.boot view.Boot (pages_needed r.boot) old.disk.size → ((n : List ℕ) → new.shelf.file n ≡ old.shelf.file n) → new.disk.size ≡ old.disk.size
       → HasPlace (save_session c) (system_of r.boot) r.schedule old new
   place room files size = record { user = tt; room = subst (λ (n : ℕ). n ≤ old.disk.size) (same_need r.boot r.schedule) room.room; files = files; size = size }
+
+  -- the machine comes to the end of every turn
+  turns_end : WholeGoesOn r.boot r.schedule old.disk.size old.disk.sectors → HasRoom r.boot view.Boot (pages_needed r.boot) old.disk.size
+      → (before : List (List ℕ)) → old.disk.sectors ≡ Some before → GoesOn (save_session c) old (system_of r.boot) r.schedule before
+  turns_end goes room before told = λ k x is. let (t, end, within) = goes before told room.room k x is in (t, end, omega (arith, within))
 
   -- the run stopped, over told sectors
   stopped : (answer : Result SavedEnd LoadFault) (end : SavedEnd) → SaveAnswers r c answer old new → HasRoom r.boot view.Boot (pages_needed r.boot) old.disk.size
@@ -223,6 +235,8 @@ module _ (r : Ready) (c : Save) (old new : Outside) where
     sectors = retold;
     saved_at = is.saved;
     ran = is.boots;
+    goes_on = turns_end answers.goes_on room before told;
+    short = short_file (memory_frames (map_of (boot_of r.boot))) is.words is.few answers.short;
     fits = λ turns more bits.
         subst (λ (w : Wanted). machine_of w (flat_map word is.words) ≡ Ok is.words) (same_wanted r.boot r.schedule turns)
         (answers.fits before after c.boot.turns c.boot.steps turns is.words is.shown room.room (answers.disk before told) is.saved answers.some more bits answers.few).1;
@@ -281,7 +295,7 @@ module _ (r : Ready) (c : Save) (old new : Outside) where
           sectors = retold;
           printed = so.0.2;
           ends = so.0.1;
-          goes_on = λ k x is. let (t, end, within) = answers.goes_on before told answers.loaded.room k x is in (t, end, omega (arith, within));
+          goes_on = turns_end answers.goes_on answers.loaded before told;
           end = e;
           is_end = refl;
           halted = so.1;
@@ -299,12 +313,18 @@ module _ (r : Ready) (c : Save) (old new : Outside) where
   -- one whose sectors could not be written
   pub disk_saved : SaveAnswers r c (Err load.Disk) old new → new.sink.text ≡ old.sink.text → SaveEnds (save_session c) (system_of r.boot) r.schedule c.file Disk old new
   disk_saved answers text =
+      let stopped = answers.stopped refl in
       not_loaded refl (record {
         place = place answers.refused.0 answers.unput answers.size;
         printed = text;
+        sector = stopped.at;
+        inside = stopped.less;
+        is_one = stopped.is_live;
+        calls = stopped.calls;
         told = λ before told.
             let (after, retold) = retells (Err load.Disk) answers before told in
-            record { after = after; sectors = retold; torn = (answers.ends before after told retold).0 };
+            let broken = stopped.broken before after told retold in
+            record { after = after; sectors = retold; torn = broken.0; there = broken.1 };
         disk = answers.refused.1;
       })
 

@@ -12,7 +12,7 @@ use Rattle.cvm_model.specs.Cvm.{System as Run}
 use Rattle.layer_contract.specs.declared.boot.Boot.{Boot as Booted}
 use Rattle.boot_turns.specs.declared.answers.View.{View}
 use Rattle.boot_run.specs.LoadEnds.{pages_needed, rom_needed, HasRoom, LoadFails}
-use Rattle.boot_run.specs.Whole.{AnswerEnds, WholeEnds, WholeGoesOn, RomEnds, RomGoesOn, IsDiskFault}
+use Rattle.boot_run.specs.Whole.{AnswerEnds, WholeEnds, WholeGoesOn, WholeStopped, RomEnds, RomGoesOn, RomStopped, IsDiskFault}
 use Rattle.boot_run.specs.declared.load.LoadFault.{LoadFault}
 use Rattle.boot_run.specs.declared.load.LoadFault.TheVariants as load
 use Rattle.boot_run.specs.declared.whole.RunEnd.{RunEnd}
@@ -55,8 +55,9 @@ if_done (Err f) P Q g h = h
 -- AT THE LOADED MACHINE
 pub loaded_answers : (r : Ready) (session : Session) (answer : Result RunEnd LoadFault) (old new : Outside) → session.start ≡ Loaded
     → WholeEnds r.boot r.schedule old.disk.size session.view session.turns session.steps old.disk.sectors new.disk.sectors old.sink.text new.sink.text answer
-    → WholeGoesOn r.boot r.schedule old.disk.size old.disk.sectors → Called r.boot session (pages_needed r.boot) answer old new → CallAnswers r session answer old new
-loaded_answers r session answer old new start ends goes_on called =
+    → WholeGoesOn r.boot r.schedule old.disk.size old.disk.sectors → (answer ≡ Err load.Disk → WholeStopped r.boot r.schedule old.disk.sectors new.disk.sectors old.disk.calls new.disk.calls)
+    → Called r.boot session (pages_needed r.boot) answer old new → CallAnswers r session answer old new
+loaded_answers r session answer old new start ends goes_on stopped called =
     subst (λ (a : Start). CallAnswers r (from a session) answer old new) (sym start) (record {
       ends = ends;
       goes_on = if_done answer (HasRoom r.boot session.view (pages_needed r.boot) old.disk.size) _
@@ -66,13 +67,15 @@ loaded_answers r session answer old new start ends goes_on called =
       loaded = subst (λ (n : ℕ). IfOk answer (λ e. HasRoom r.boot session.view n old.disk.size)) (same_need r.boot r.schedule) called.loaded;
       size = called.size;
       rose = called.rose;
+      stopped = stopped;
     })
 
 -- AT THE ROM
 pub rom_answers : (r : Ready) (session : Session) (answer : Result RunEnd LoadFault) (old new : Outside) → session.start ≡ Rom
     → RomEnds r.boot r.schedule old.disk.size session.view session.turns session.steps old.disk.sectors new.disk.sectors old.sink.text new.sink.text answer
-    → RomGoesOn r.boot r.schedule old.disk.size old.disk.sectors → Called r.boot session (rom_needed r.boot) answer old new → CallAnswers r session answer old new
-rom_answers r session answer old new start ends goes_on called =
+    → RomGoesOn r.boot r.schedule old.disk.size old.disk.sectors → (answer ≡ Err load.Disk → RomStopped r.boot r.schedule old.disk.sectors new.disk.sectors old.disk.calls new.disk.calls)
+    → Called r.boot session (rom_needed r.boot) answer old new → CallAnswers r session answer old new
+rom_answers r session answer old new start ends goes_on stopped called =
     subst (λ (a : Start). CallAnswers r (from a session) answer old new) (sym start) (record {
       ends = ends;
       goes_on = if_done answer (HasRoom r.boot session.view (rom_needed r.boot) old.disk.size) _ (λ room before told. goes_on before told room.room) called.loaded;
@@ -81,6 +84,7 @@ rom_answers r session answer old new start ends goes_on called =
       loaded = subst (λ (n : ℕ). IfOk answer (λ e. HasRoom r.boot session.view n old.disk.size)) (same_rom_need r.boot r.schedule) called.loaded;
       size = called.size;
       rose = called.rose;
+      stopped = stopped;
     })
 
 -- WHERE NOTHING IS LOADED from a ROM: the fault is none of the disk's, and what is seen stays
@@ -129,4 +133,5 @@ unmade_answers r session f have old new start count stays other fails =
       loaded = tt;
       size = stays.size;
       rose = λ h. absurd (not_disk f other h);
+      stopped = λ e. absurd (other (let h = e in cc));
     })

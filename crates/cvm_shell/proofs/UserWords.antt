@@ -16,7 +16,7 @@ length_word : (n : ℕ) → length (word n) ≡ 4
 unfolding word
 length_word n = refl
 
-length_words : (words : List ℕ) → length (flat_map word words) ≡ 4 * length words
+pub length_words : (words : List ℕ) → length (flat_map word words) ≡ 4 * length words
 length_words [] = refl
 length_words (w ∷ words) = omega (arith, length-append (word w) (flat_map word words), length_word w, length_words words)
 

@@ -1,5 +1,5 @@
 -- The claim of a boot and of a trace: how the run of an accepted system ends, what is printed of it, and which sectors stand.
-use Rattle.std.specs.Prelude.{◌≡◌, ◌≢◌, ℕ, ◌<◌, ◌≤◌, List, [], length, Option, Some, Ok}
+use Rattle.std.specs.Prelude.{◌≡◌, ◌≢◌, ℕ, suc, ◌<◌, ◌≤◌, Bool, true, List, [], length, Option, Some, Ok}
 use Rattle.std.specs.Io.KnownBytes.{append_known}
 use Rattle.cvm_outside.specs.Causes.{Rose}
 use Rattle.cvm_outside.specs.Told.{TOO_LONG}
@@ -20,6 +20,7 @@ use Rattle.boot_turns.specs.Headline.{Ending, Done as IsDone, KernelFaulted, Out
 use Rattle.boot_turns.specs.Machines.{GoesOnWithin}
 use Rattle.boot_turns.specs.Rom.{own_rom, rom_loaded, rom_sectors, rom_steps}
 use Rattle.boot_run.specs.LoadEnds.{SeesUser}
+use Rattle.boot_run.specs.Loading.{user_pages, rom_pages, calls_made}
 use Rattle.kernel_linker.specs.Accept.{System}
 use Rattle.cvm_shell.specs.declared.status.Status.{Status}
 use Rattle.cvm_shell.specs.declared.status.Status.TheVariants.{Done, Refused, KernelFault, StepLimit, Disk, Sink, Memory}
@@ -55,6 +56,11 @@ abbrev pub held_of : Start → Booted → ℕ
 held_of Loaded y = user_sectors y
 held_of Rom y = rom_sectors y
 
+-- whether its load writes a sector: words reach into its page, of the user whose page it is; and for a ROM, behind the users' pages, the linked words
+abbrev pub is_written : Start → Booted → ℕ → Bool
+is_written Loaded y = (user_pages y).live
+is_written Rom y = (rom_pages y).live
+
 -- how many steps it takes at most before the layer does: none; or those of the ROM
 abbrev pub steps_before : Start → Booted → ℕ
 steps_before Loaded y = 0
@@ -66,6 +72,10 @@ first_state session s rows sectors = start_of session.start (booted s rows) sect
 
 abbrev pub sectors_needed : Session → System → Rows → ℕ
 sectors_needed session s rows = held_of session.start (booted s rows)
+
+-- the disk's count of calls once the load has written the first n sectors: one call for each that it writes
+abbrev pub load_calls : Session → System → Rows → (n : ℕ) → (before : ℕ) → ℕ
+load_calls session s rows n before = calls_made (is_written session.start (booted s rows)) n before
 
 -- so many turns of the abstract run lead to this, with the lines that the machine meets from there
 abbrev pub IsBooted : Session → Outside → System → Rows → (sectors : List (List ℕ)) → (turns : ℕ) → Cvm → Type 0
@@ -106,12 +116,13 @@ pub record Runs (session : Session) (s : System) (rows : Rows) (e : Ending) (bef
   pub ends : EndsLoaded session s rows old before after text e
   pub goes_on : GoesOn session old s rows before
 
--- A LOAD THAT THE DISK BROKE OFF, over a disk with these sectors: those before one of the run's are written as the run starts with them, that one may
--- hold anything, and the others are as before
-pub record Torn (session : Session) (s : System) (rows : Rows) (before : List (List ℕ)) (old new : Outside) : Type 0 where
+-- A LOAD THAT THE DISK BROKE OFF at a sector, over a disk with these sectors: those before it are written as the run starts with them, it may hold
+-- anything, and the others are as before
+pub record Torn (session : Session) (s : System) (rows : Rows) (sector : ℕ) (before : List (List ℕ)) (old new : Outside) : Type 0 where
   pub after : List (List ℕ)
   pub sectors : new.disk.sectors ≡ Some after
   pub torn : LoadBroken (first_state session s rows before) (sectors_needed session s rows) before after []
+  pub there : torn.at ≡ sector
 
 -- a run has its place: a user that there is, and a disk with sectors enough; and it changes no file
 pub record HasPlace (session : Session) (s : System) (rows : Rows) (old new : Outside) : Type 0 where
@@ -127,11 +138,16 @@ pub record IsRun (session : Session) (s : System) (rows : Rows) (e : Ending) (ol
   pub told : (before : List (List ℕ)) → old.disk.sectors ≡ Some before → Runs session s rows e before old new
   pub disk : e ≡ DiskFault → Rose old.disk.faults new.disk.faults
 
--- no run was made, since the disk failed in the load: nothing is printed
+-- no run was made, since the disk failed in the load, in the call that was to write a sector: nothing is printed, and as many calls of the disk were made
+-- as the load writes sectors up to that one. So a program that has loaded a system, and ran it until the disk failed, made too many of them.
 pub record IsUnloaded (session : Session) (s : System) (rows : Rows) (old new : Outside) : Type 0 where
   pub place : HasPlace session s rows old new
   pub printed : new.sink.text ≡ old.sink.text
-  pub told : (before : List (List ℕ)) → old.disk.sectors ≡ Some before → Torn session s rows before old new
+  pub sector : ℕ
+  pub inside : sector < sectors_needed session s rows
+  pub is_one : is_written session.start (booted s rows) sector ≡ true
+  pub calls : new.disk.calls ≡ load_calls session s rows (suc sector) old.disk.calls
+  pub told : (before : List (List ℕ)) → old.disk.sectors ≡ Some before → Torn session s rows sector before old new
   pub disk : Rose old.disk.faults new.disk.faults
 
 -- HOW A BOOT OR A TRACE ENDS: the user of a trace that is none is refused; then a disk that is too small, with no fault of the disk; else there may be

@@ -1,5 +1,5 @@
 -- How a command ends: status, text, files and sectors together; and what the counts of faults say of each status.
-use Rattle.std.specs.Prelude.{◌≡◌, ◌≢◌, ◌⊎◌, ◌↔◌, ◌≤◌, ◌+◌, ℕ, List, [], take, codes}
+use Rattle.std.specs.Prelude.{◌≡◌, ◌≢◌, ◌⊎◌, ◌↔◌, ◌<◌, ◌≤◌, ◌+◌, ℕ, List, [], take, codes}
 use Rattle.cvm_outside.specs.Causes.{Rose}
 use Rattle.cvm_outside.specs.Told.{retold, TOO_LONG}
 use Rattle.schedule_file.specs.Rows.{Rows}
@@ -13,9 +13,9 @@ use Rattle.cvm_shell.specs.declared.boot.Session.{Session}
 use Rattle.cvm_shell.specs.Command.{Command, Save, IsCommand, GetsFiles, save_session}
 use Rattle.cvm_shell.specs.Refusal.{too_long, refusal_text, refusal_status}
 use Rattle.cvm_shell.specs.Plan.{Plan, bad_words, refuses, puts, boots, saves, resumes, prints, ComesTo, AllTold, IsPlan}
-use Rattle.cvm_shell.specs.Boot.{RunEnds, booted, steps_before, IsBooted, IsHonest, Headline}
+use Rattle.cvm_shell.specs.Boot.{RunEnds, booted, sectors_needed, steps_before, IsBooted, IsHonest, Headline}
 use Rattle.cvm_shell.specs.Saves.{SaveEnds, IsHonestSave}
-use Rattle.cvm_shell.specs.Resumes.{ResumeEnds}
+use Rattle.cvm_shell.specs.Resumes.{ResumeEnds, IsHonestResume, IsSavedRun, IsBootBehind}
 use Rattle.cvm_shell.specs.Isolation.{Isolated}
 
 -- this file has these bytes now, and nothing else changed
@@ -62,8 +62,8 @@ pub record NoFault (old new : Outside) : Type 0 where
 abbrev pub ShelfFails : (old new : Outside) → Type 0
 ShelfFails old new = Rose old.shelf.faults new.shelf.faults ⊎ ((new.shelf.taken ≡ TOO_LONG) × (new.shelf.faults ≡ old.shelf.faults))
 
--- WHY, by the status: an object whose call failed counted it, and the counts of the others are as before; how a run ends says whether the disk
--- failed or is too small
+-- WHY, by the status and the counts of faults alone: an object whose call failed counted it, and the counts of the others are as before; where the disk
+-- is the cause it may be too small, which it doesn't count
 abbrev pub CausedBy : Status → (old new : Outside) → Type 0
 CausedBy Disk old new = (new.shelf.faults ≡ old.shelf.faults) × (new.sink.faults ≡ old.sink.faults)
 CausedBy Shelf old new = ShelfFails old new × (new.sink.faults ≡ old.sink.faults) × (new.disk.faults ≡ old.disk.faults)
@@ -76,6 +76,31 @@ Outcome see words status old new = CommandEnds words status (see old) (see new)
 
 abbrev pub Causes : {A : Type 0} → (A → Outside) → Status → (old new : A) → Type 0
 Causes see status old new = CausedBy status (see old) (see new)
+
+-- the run that a plan is needs more sectors
+abbrev pub NeedsMore : Plan → (size : ℕ) → Type 0
+NeedsMore (boots session s rows) size = size < sectors_needed session s rows
+NeedsMore (saves session s rows name) size = size < sectors_needed session s rows
+NeedsMore (resumes session s rows words) size = size < sectors_needed session s rows
+NeedsMore other size = ⊥
+
+-- THE DISK IS TOO SMALL for the run that words and files come to: of the image that they name, or for a sample of their number's
+pub record IsTooSmall (words : List (List ℕ)) (old : Outside) : Type 0 where
+  pub plan : Plan
+  pub is_plan : IsPlan (AllTold words old.shelf.file) (ComesTo words old.shelf.file) plan
+  pub more : NeedsMore plan old.disk.size
+
+-- WHY THE STATUS IS THAT OF THE DISK: a call of it failed; or it is too small, and its count is as before
+abbrev pub DiskFails : List (List ℕ) → (old new : Outside) → Type 0
+DiskFails words old new = Rose old.disk.faults new.disk.faults ⊎ (IsTooSmall words old × (new.disk.faults ≡ old.disk.faults))
+
+-- THE CAUSE of the status of a command with these words: what the counts of faults say of it, and why it is that of the disk
+pub record HasCause (words : List (List ℕ)) (status : Status) (old new : Outside) : Type 0 where
+  pub counts : CausedBy status old new
+  pub disk : status ≡ Disk → DiskFails words old new
+
+abbrev pub Caused : {A : Type 0} → (A → Outside) → List (List ℕ) → Status → (old new : A) → Type 0
+Caused see words status old new = HasCause words status (see old) (see new)
 
 -- THE HEADLINE of each boot and each trace with these words
 abbrev pub Headlines : {A : Type 0} → (A → Outside) → List (List ℕ) → Status → (old new : A) → Type 0
@@ -97,6 +122,14 @@ Completes see words status old new = (session : Session) (s : System) (rows : Ro
 abbrev pub SavesComplete : {A : Type 0} → (A → Outside) → List (List ℕ) → Status → (old new : A) → Type 0
 SavesComplete see words status old new = (c : Save) (s : System) (rows : Rows) (before : List (List ℕ)) → IsHonestSave words c s rows before (see old) (see new)
     → status ≢ Memory → HasSteps (save_session c) s rows before (see old) → (status ≡ Done) ⊎ (status ≡ KernelFault)
+
+-- and of a resume that goes on with a saved run, where the steps are enough for the whole run, from its start; and it is that run, as a boot, from there on:
+-- what it prints is that boot's text behind the text of the saved run
+abbrev pub ResumesComplete : {A : Type 0} → (A → Outside) → List (List ℕ) → Status → (old new : A) → Type 0
+ResumesComplete see words status old new = (c : Save) (s : System) (rows : Rows) (machine : List ℕ) (left before : List (List ℕ)) (shown : List ℕ) →
+    IsHonestResume words c s rows machine left (see old) (see new) → status ≢ Memory → IsSavedRun c s rows machine left before shown (see old)
+    → HasSteps (save_session c) s rows before (see old)
+    → ((status ≡ Done) ⊎ (status ≡ KernelFault)) × IsBootBehind c s rows before shown (see old) (see old) (see new) status
 
 -- ISOLATION of the user of each trace that is done, or whose kernel faulted
 abbrev pub Isolates : {A : Type 0} → (A → Outside) → List (List ℕ) → Status → (old new : A) → Type 0

@@ -18,11 +18,12 @@ pub record Output : Type 0 where
   pub text : Option (List ℕ)
   pub faults : ℕ
 
--- a disk: the words of its sectors where they are told, how many sectors there are, and the count of faults
+-- a disk: the words of its sectors where they are told, how many sectors there are, the count of faults, and that of the calls which read or write one
 pub record Drive : Type 0 where
   pub sectors : Option (List (List ℕ))
   pub size : ℕ
   pub faults : ℕ
+  pub calls : ℕ
 
 pub record Outside : Type 0 where
   pub shelf : Files
@@ -37,7 +38,7 @@ abbrev pub output : {O : Type 0} → sink_of.Ghosts O → O → Output
 output told o = record { text = told.text o; faults = told.faults o }
 
 abbrev pub drive : {D : Type 0} → sectors_of.Ghosts D → D → Drive
-drive told d = record { sectors = told.sectors d; size = told.size d; faults = told.faults d }
+drive told d = record { sectors = told.sectors d; size = told.size d; faults = told.faults d; calls = told.calls d }
 
 -- the three objects of a command as one outside
 abbrev pub seen : {S O D : Type 0} → shelf_of.Ghosts S → sink_of.Ghosts O → sectors_of.Ghosts D → S × O × D → Outside

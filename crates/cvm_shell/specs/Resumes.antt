@@ -22,7 +22,7 @@ use Rattle.cvm_shell.specs.Command.{Save, IsResume, save_session}
 use Rattle.cvm_shell.specs.Outside.{Outside, Leaves, Says}
 use Rattle.cvm_shell.specs.Refusal.{small_disk, refusal_text}
 use Rattle.cvm_shell.specs.Plan.{wanted_by}
-use Rattle.cvm_shell.specs.Boot.{around, booted, first_state, sectors_needed, ended_as, Ran, HasPlace, AreFilesOf}
+use Rattle.cvm_shell.specs.Boot.{around, booted, first_state, sectors_needed, ended_as, GoesOn, Ran, HasPlace, AreFilesOf}
 use Rattle.cvm_shell.specs.Saves.{Stopped, IsSaved}
 
 -- it joins every boot over a disk with these sectors that was saved so, of no more steps: its text behind that boot's, its ending and its sectors
@@ -32,12 +32,13 @@ JoinsSaved session s rows words left now old new e = (before : List (List ℕ)) 
     SavedAt (around rows old) (booted s rows) (first_state session s rows before) few spent words left shown →
     GoesOnAs (around rows old) (booted s rows) before now session.turns session.steps shown old.sink.text new.sink.text e
 
--- A RUN THAT WENT ON, over a disk with these sectors: it joins the boots that were saved so; and it is the machine's run from the state that the words
--- name, for as many turns and steps as are left
+-- A RUN THAT WENT ON, over a disk with these sectors: it joins the boots that were saved so; each boot over a disk of so many sectors comes to the end of
+-- every turn; and it is the machine's run from the state that the words name, for as many turns and steps as are left
 pub record Resumed (session : Session) (s : System) (rows : Rows) (words : List ℕ) (e : RunEnd) (left : List (List ℕ)) (old new : Outside) : Type 0 where
   pub now : List (List ℕ)
   pub sectors : new.disk.sectors ≡ Some now
   pub joins : JoinsSaved session s rows words left now old new (ending_of_end e)
+  pub goes_on : (before : List (List ℕ)) → IsDisk old.disk.size before → GoesOn session old s rows before
   pub goes : GoesOnFrom (around rows old) rows.inputs words left session.turns session.steps new.disk.sectors e
 
 pub record IsResumed (session : Session) (s : System) (rows : Rows) (words : List ℕ) (e : RunEnd) (old new : Outside) : Type 0 where
@@ -81,7 +82,16 @@ abbrev pub Resumes : {A : Type 0} → (A → Outside) → List (List ℕ) → St
 Resumes see words status old new = (c : Save) (s : System) (rows : Rows) (machine : List ℕ) (left : List (List ℕ)) →
     IsHonestResume words c s rows machine left (see old) (see new) → status ≢ Memory → ResumeHolds c s rows machine left (see old) (see new) status
 
--- THE BOOT AS A WHOLE: the sectors and the status are its, and so is the text behind what the first call showed
+-- THE RUN THAT WAS SAVED in these words, over a disk of as many sectors, which had these: in no more steps than the resume is given, with this text
+pub record IsSavedRun (c : Save) (s : System) (rows : Rows) (machine : List ℕ) (left before : List (List ℕ)) (shown : List ℕ) (old : Outside) : Type 0 where
+  pub turns : ℕ
+  pub steps : ℕ
+  pub disk : IsDisk old.disk.size before
+  pub fewer : steps ≤ c.boot.steps
+  pub saved_at : SavedAt (around rows old) (booted s rows) (first_state (save_session c) s rows before) turns steps machine left shown
+
+-- THE BOOT AS A WHOLE: the sectors and the status are its, and so is the text behind what the first call showed; and its machine comes to the end of
+-- every turn
 pub record IsBootBehind (c : Save) (s : System) (rows : Rows) (before : List (List ℕ)) (shown : List ℕ) (first old new : Outside) (status : Status) : Type 0 where
   pub after : List (List ℕ)
   pub text : List ℕ
@@ -90,12 +100,12 @@ pub record IsBootBehind (c : Save) (s : System) (rows : Rows) (before : List (Li
   pub printed : new.sink.text ≡ append_known old.sink.text text
   pub status_is : status ≡ ended_as ending
   pub ran : Ran (save_session c) s rows first before after ending (shown ++ text)
+  pub goes_on : GoesOn (save_session c) first s rows before
 
 -- what the second call finds of the first: files that are the same image and schedule, the file that was saved, and the disk as it was left
 pub record IsLeftBy (c d : Save) (s : System) (rows : Rows) (bytes : List ℕ) (after : List (List ℕ)) (first old new : Outside) : Type 0 where
   pub files : AreFilesOf old.shelf.file d.boot s rows
   pub bytes_told : old.shelf.file d.file ≡ Some bytes
-  pub bytes_short : length bytes < TOO_LONG
   pub sectors : old.disk.sectors ≡ Some after
   pub size : old.disk.size ≡ first.disk.size
   pub turns : c.boot.turns ≤ d.boot.turns

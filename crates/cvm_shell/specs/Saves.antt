@@ -1,5 +1,5 @@
 -- The claim of a save: the run of its boot, which is left where the boot prints `stopped`, with the file of the machine there.
-use Rattle.std.specs.Prelude.{◌≡◌, ◌≢◌, ◌⊎◌, ℕ, ◌<◌, ◌≤◌, ◌^◌, List, [], ◌++◌, take, codes, Some, Ok}
+use Rattle.std.specs.Prelude.{◌≡◌, ◌≢◌, ◌⊎◌, ℕ, ◌<◌, ◌≤◌, ◌^◌, List, [], ◌++◌, length, take, codes, Some, Ok}
 use Rattle.std.specs.List.{flat_map}
 use Rattle.std.specs.Io.KnownBytes.{append_known}
 use Rattle.cvm_outside.specs.Causes.{Rose}
@@ -36,8 +36,8 @@ HasHalted session s rows before old =
     (run (around rows old) (first_state session s rows before) (end_within (around rows old) (first_state session s rows before) session.turns session.steps)).off ≡ Some 0
 
 -- A RUN THAT WAS LEFT TO BE SAVED, over a disk with these sectors: the boot prints `shown`, and `stopped` and more behind it; these words are those of
--- its machine there, with its complete turns and its current user, and the sectors are that machine's. The file of the words is taken up for as many
--- turns or more.
+-- its machine there, with its complete turns and its current user, and the sectors are that machine's; and this comes to the end of every turn. The file of
+-- the words isn't too long for a file, and is taken up for as many turns or more.
 pub record Stopped (session : Session) (s : System) (rows : Rows) (before : List (List ℕ)) (old new : Outside) (Left : (shown bytes : List ℕ) → Type 0) : Type 0 where
   pub after : List (List ℕ)
   pub words : List ℕ
@@ -47,6 +47,8 @@ pub record Stopped (session : Session) (s : System) (rows : Rows) (before : List
   pub sectors : new.disk.sectors ≡ Some after
   pub saved_at : SavedAt (around rows old) (booted s rows) (first_state session s rows before) session.turns session.steps words after shown
   pub ran : Ran session s rows old before after IsDone (shown ++ (codes "stopped\n" ++ rest))
+  pub goes_on : GoesOn session old s rows before
+  pub short : length (flat_map word words) ≤ FILE_ROOM
   pub fits : (turns : ℕ) → session.turns ≤ turns → turns < 2 ^ 32 → machine_of (wanted_by s rows turns) (flat_map word words) ≡ Ok words
   pub left : Left shown (flat_map word words)
 

@@ -29,12 +29,13 @@ use Rattle.layer_contract.specs.Boots.{BootFollows}
 use Rattle.boot_turns.specs.TurnEnds.{first_of}
 use Rattle.boot_turns.specs.declared.answers.View.TheVariants as view
 use Rattle.boot_run.specs.LoadEnds.{HasRoom, LoadFails, pages_needed}
-use Rattle.boot_run.specs.Whole.{AnswerEnds, WholeGoesOn, IsDiskFault, ending_of_end}
+use Rattle.boot_run.specs.Whole.{AnswerEnds, LoadStopped, WholeGoesOn, WholeStopped, IsDiskFault, ending_of_end}
 use Rattle.machine_save.specs.SavedBoots.{AreDisk, AreTakenUp}
 use Rattle.machine_save.specs.SaveRun.{SaveRunEnds, IfUnput, IsSavedDiskFault}
 use Rattle.machine_save.specs.declared.saving.SavedEnd.{SavedEnd}
 use Rattle.machine_save.specs.declared.saving.SavedEnd.TheVariants as saved_end
 use Rattle.boot_run.specs.declared.load.LoadFault.{LoadFault}
+use Rattle.boot_run.specs.declared.load.LoadFault.TheVariants as load
 use Rattle.boot_run.specs.declared.whole.RunEnd.{RunEnd}
 use Rattle.schedule_file.specs.Rows.{Rows}
 use Rattle.schedule_file.specs.declared.fault.ScheduleFault.{ScheduleFault}
@@ -60,7 +61,7 @@ use Rattle.cvm_shell.specs.Check.{Check}
 use Rattle.boot_turns.specs.declared.answers.View.{View}
 use Rattle.cvm_shell.specs.Views.{IfPlan}
 use Rattle.cvm_shell.specs.Outside.{Drive, Files, Outside, Leaves}
-use Rattle.cvm_shell.specs.Boot.{booted, around, first_state, sectors_needed, ended_as, GoesOn, RunEnds}
+use Rattle.cvm_shell.specs.Boot.{booted, around, first_state, is_written, sectors_needed, ended_as, GoesOn, RunEnds}
 use Rattle.cvm_shell.specs.Outcome.{Ends, CommandEnds}
 use Rattle.cvm_shell.specs.Saves.{SaveEnds}
 
@@ -169,6 +170,11 @@ AnswersFrom session s rows answer old new = (before after : List (List ℕ)) →
     AnswerEnds (around rows old) (booted s rows) (first_state session s rows before) (sectors_needed session s rows) before after session.view session.turns session.steps
     old.sink.text new.sink.text answer
 
+-- where the disk failed in the load
+abbrev pub StoppedFrom : Session → System → Rows → (old new : Outside) → Type 0
+StoppedFrom session s rows old new = LoadStopped (first_state session s rows) (is_written session.start (booted s rows)) (sectors_needed session s rows)
+    old.disk.sectors new.disk.sectors old.disk.calls new.disk.calls
+
 -- WHAT A CALL ANSWERS that loads a system and runs it, of what is seen around it
 pub record CallAnswers (r : Ready) (session : Session) (answer : Result RunEnd LoadFault) (old new : Outside) : Type 0 where
   pub ends : AnswersFrom session (system_of r.boot) r.schedule answer old new
@@ -178,6 +184,7 @@ pub record CallAnswers (r : Ready) (session : Session) (answer : Result RunEnd L
   pub loaded : IfOk answer (λ _. HasRoom r.boot session.view (needs r session) old.disk.size)
   pub size : new.disk.size ≡ old.disk.size
   pub rose : IsDiskFault answer → Rose old.disk.faults new.disk.faults
+  pub stopped : answer ≡ Err load.Disk → StoppedFrom session (system_of r.boot) r.schedule old new
 
 -- whatever the files, which it leaves alone
 abbrev pub AnswersAs : {A : Type 0} → Ready → Session → (Files → A → Outside) → Result RunEnd LoadFault → (old new : A) → Type 0
@@ -223,6 +230,7 @@ pub record SaveAnswers (r : Ready) (c : Save) (answer : Result SavedEnd LoadFaul
   pub goes_on : WholeGoesOn r.boot r.schedule old.disk.size old.disk.sectors
   pub some : 1 ≤ c.boot.turns
   pub few : c.boot.steps < 2 ^ 64
+  pub short : most_bytes (system_of r.boot) ≤ FILE_ROOM
   pub fits : AreTakenUp r.boot r.schedule old.disk.size
   pub disk : AreDisk old.disk.size old.disk.sectors
   pub others : (n : List ℕ) → n ≢ c.file → new.shelf.file n ≡ old.shelf.file n
@@ -232,6 +240,7 @@ pub record SaveAnswers (r : Ready) (c : Save) (answer : Result SavedEnd LoadFaul
   pub loaded : IfOk answer (λ _. HasRoom r.boot view.Boot (pages_needed r.boot) old.disk.size)
   pub size : new.disk.size ≡ old.disk.size
   pub rose : IsSavedDiskFault answer → Rose old.disk.faults new.disk.faults
+  pub stopped : answer ≡ Err load.Disk → WholeStopped r.boot r.schedule old.disk.sectors new.disk.sectors old.disk.calls new.disk.calls
 
 -- the same with other files
 abbrev pub with_files : Files → Outside → Outside

@@ -4,7 +4,7 @@
 ghost use Rattle.std.specs.Prelude.{◌≤◌};
 ghost use Rattle.cvm_shell.specs.Command as command;
 ghost use Rattle.cvm_shell.specs.Command.{texts};
-ghost use Rattle.cvm_shell.specs.Outcome.{Outcome, Causes, Headlines, Completes, SavesComplete, Isolates};
+ghost use Rattle.cvm_shell.specs.Outcome.{Outcome, Caused, Causes, Headlines, Completes, SavesComplete, ResumesComplete, Isolates};
 ghost use Rattle.cvm_shell.specs.Outside.{Drive, Files, seen, beside, within};
 ghost use Rattle.cvm_shell.specs.Resumes.{Resumes};
 ghost use Rattle.cvm_shell.specs.Saves.{Saves};
@@ -93,7 +93,7 @@ pub fn run<S: Shelf, O: Sink, D: Sectors>(
     disk: &mut D,
 ) -> Status
     ensures ends { Outcome (seen S.Shelf O.Sink D.Sectors) (texts words.now.items) result (shelf.old, out.old, disk.old) (shelf.new, out.new, disk.new) }
-    ensures causes { Causes (seen S.Shelf O.Sink D.Sectors) result (shelf.old, out.old, disk.old) (shelf.new, out.new, disk.new) }
+    ensures causes { Caused (seen S.Shelf O.Sink D.Sectors) (texts words.now.items) result (shelf.old, out.old, disk.old) (shelf.new, out.new, disk.new) }
     ensures headline { Headlines (seen S.Shelf O.Sink D.Sectors) (texts words.now.items) result (shelf.old, out.old, disk.old) (shelf.new, out.new, disk.new) }
     ensures complete { Completes (seen S.Shelf O.Sink D.Sectors) (texts words.now.items) result (shelf.old, out.old, disk.old) (shelf.new, out.new, disk.new) }
     ensures isolated { Isolates (seen S.Shelf O.Sink D.Sectors) (texts words.now.items) result (shelf.old, out.old, disk.old) (shelf.new, out.new, disk.new) }
@@ -101,6 +101,7 @@ pub fn run<S: Shelf, O: Sink, D: Sectors>(
     ensures saves { Saves (seen S.Shelf O.Sink D.Sectors) (texts words.now.items) result (shelf.old, out.old, disk.old) (shelf.new, out.new, disk.new) }
     ensures saves_complete { SavesComplete (seen S.Shelf O.Sink D.Sectors) (texts words.now.items) result (shelf.old, out.old, disk.old) (shelf.new, out.new, disk.new) }
     ensures resumes { Resumes (seen S.Shelf O.Sink D.Sectors) (texts words.now.items) result (shelf.old, out.old, disk.old) (shelf.new, out.new, disk.new) }
+    ensures resumes_complete { ResumesComplete (seen S.Shelf O.Sink D.Sectors) (texts words.now.items) result (shelf.old, out.old, disk.old) (shelf.new, out.new, disk.new) }
 {
     turns_are_counted();
     journals_replay();

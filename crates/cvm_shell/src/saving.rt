@@ -49,6 +49,7 @@ pub fn plan_save<S: Shelf>(alloc: Global, save: &Save, shelf: &mut S) -> Result<
     ensures comes { IfPlan (saveable_for (save_view save.now)) (IsSavePlan layer_image (S.file shelf.old) (save_view save.now)) result }
     ensures follows { IfOk result (λ r. Follows r.ready) }
     ensures room { IfOk result (λ r. r.room.words ≡ most_words (frames_of (system_of r.ready.boot))) }
+    ensures short { IfOk result (λ r. most_bytes (system_of r.ready.boot) ≤ FILE_ROOM) }
     ensures long { IsErrOf result (Stop.Refused Refusal.TooLong) ↔ (S.taken shelf.new ≡ TOO_LONG) }
     ensures count { PlanCounts (S.faults shelf.old) (S.faults shelf.new) result }
     ensures files { (n : List ℕ) → S.file shelf.new n ≡ S.file shelf.old n }
@@ -102,6 +103,7 @@ fn save_system<S: Shelf, O: Sink, D: Sectors>(
 ) -> Status
     requires follows { Follows saveable.ready }
     requires room { saveable.room.words ≡ most_words (frames_of (system_of saveable.ready.boot)) }
+    requires short { most_bytes (system_of saveable.ready.boot) ≤ FILE_ROOM }
     requires some { 1 ≤ (save_view save.now).boot.turns }
     ensures ends { SavesAs saveable (save_view save.now) (seen S.Shelf O.Sink D.Sectors) result (shelf.old, out.old, disk.old) (shelf.new, out.new, disk.new) }
     ensures taken { S.taken shelf.new ≡ S.taken shelf.old }
@@ -134,6 +136,7 @@ fn save_ready<S: Shelf, O: Sink, D: Sectors>(
 ) -> Result<SavedEnd, LoadFault>
     requires follows { Follows saveable.ready }
     requires room { saveable.room.words ≡ most_words (frames_of (system_of saveable.ready.boot)) }
+    requires short { most_bytes (system_of saveable.ready.boot) ≤ FILE_ROOM }
     requires some { 1 ≤ (save_view save.now).boot.turns }
     ensures is { SaveIs saveable (save_view save.now) (seen S.Shelf O.Sink D.Sectors) result (shelf.old, out.old, disk.old) (shelf.new, out.new, disk.new) }
     ensures taken { S.taken shelf.new ≡ S.taken shelf.old }

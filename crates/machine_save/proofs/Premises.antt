@@ -17,11 +17,10 @@ use Rattle.saved_file.specs.Resumable.{CanBeResumed}
 use Rattle.saved_file.specs.Answer.{answer, SavedIsReadBack}
 use Rattle.boot_run.specs.Loading.{system_of}
 use Rattle.boot_run.specs.SavedFiles.{SavedBootsAreOfRuns, wanted_of}
-use Rattle.boot_run.specs.Whole.{WholeGoesOn}
 use Rattle.boot_run.proofs.Booting.{within_bound}
 use Rattle.boot_run.proofs.Looping.{machines}
 use Rattle.boot_run.proofs.Premises.{are_pages}
-use Rattle.machine_save.specs.SavedBoots.{AreDisk, AreTakenUp, CanBoot}
+use Rattle.machine_save.specs.SavedBoots.{AreDisk, AreTakenUp, BootsGoOn, CanBoot}
 
 pub are_disk : (count : ℕ) (told : Option (List (List ℕ))) → IfSome told (λ ss. length ss ≡ count) → IfSome told (All IsSector) → AreDisk count told
 are_disk count told sized sectors = λ old is. record {
@@ -29,10 +28,10 @@ are_disk count told sized sectors = λ old is. record {
   each = are_pages old (subst (λ (o : Option (List (List ℕ))). IfSome o (All IsSector)) is sectors);
 }
 
-pub goes_on : ((u : CUnit) → MachinesRun (IsTypedState u)) → (b : Booted) (rows : Rows) (count : ℕ) (told : Option (List (List ℕ))) → CanBoot b rows count → AreDisk count told → WholeGoesOn b rows count told
-goes_on law b rows count told boots disk = λ old is room.
+pub go_on : ((u : CUnit) → MachinesRun (IsTypedState u)) → (b : Booted) (rows : Rows) (count : ℕ) → CanBoot b rows count → BootsGoOn b rows count
+go_on law b rows count boots = λ old disk room.
     within_bound (outside_of rows count) (system_of b rows) old
-    (machines law b rows count (system_of b rows) (loaded (system_of b rows) old) 1 (user_sectors (system_of b rows)) old (boots room old (disk old is))).goes_on
+    (machines law b rows count (system_of b rows) (loaded (system_of b rows) old) 1 (user_sectors (system_of b rows)) old (boots room old disk)).goes_on
 
 pub are_taken_up : SavedBootsAreOfRuns → SavedIsReadBack answer → (b : Booted) (rows : Rows) (count : ℕ) → CanBoot b rows count → AreTakenUp b rows count
 are_taken_up of_runs read b rows count boots = λ old left few spent turns words shown room disk at some enough bits limit.

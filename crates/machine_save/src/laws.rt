@@ -3,7 +3,7 @@
 ghost use Rattle.std.specs.Prelude.{All, ◌<◌, ◌^◌};
 ghost use Rattle.layer_contract.specs.Boots.{BootFollows};
 ghost use Rattle.boot_run.specs.Whole.{WholeGoesOn};
-ghost use Rattle.machine_save.specs.SavedBoots.{AreDisk, AreTakenUp, CanBoot};
+ghost use Rattle.machine_save.specs.SavedBoots.{AreDisk, AreTakenUp, BootsGoOn, CanBoot};
 
 use boot_run::saved_boots_are_of_runs;
 use boot_turns::machines_run;
@@ -18,12 +18,13 @@ fn are_words(words: &[u32])
     ensures { All (λ w. w < 2 ^ 32) words.now }
 {}
 
-/// A law: what a layer, what is booted over it, a schedule and a disk promise are the premises of a boot, which then goes on; and what is saved of it is
-/// taken up.
+/// A law: what a layer, what is booted over it, a schedule and a disk promise are the premises of a boot, which then goes on, whatever the
+/// sectors are; and what is saved of it is taken up.
 pub fn boots_hold<L: Layer, D: Sectors>(layer: &L, boot: &Boot, schedule: &Schedule, disk: &D)
     requires { BootFollows (L.image layer.now) (L.sizes layer.now) (L.map layer.now) boot.now }
     ensures boots { CanBoot boot.now schedule.now (D.size disk.now) }
     ensures disk { AreDisk (D.size disk.now) (D.sectors disk.now) }
+    ensures go_on { BootsGoOn boot.now schedule.now (D.size disk.now) }
     ensures goes_on { WholeGoesOn boot.now schedule.now (D.size disk.now) (D.sectors disk.now) }
     ensures taken_up { AreTakenUp boot.now schedule.now (D.size disk.now) }
 {

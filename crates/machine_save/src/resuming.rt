@@ -8,6 +8,7 @@ ghost use Rattle.layer_contract.specs.Boots.{BootFollows, boot_of};
 ghost use Rattle.boot_run.specs.Saving.{AreBoots};
 ghost use Rattle.machine_save.specs.Resume.{Resumes};
 ghost use Rattle.machine_save.specs.ResumeRun.{ResumeAnswers, ResumedGoesOn, ResumedJoins};
+ghost use Rattle.machine_save.specs.SavedBoots.{BootsGoOn};
 ghost use Rattle.machine_save.specs.declared.resuming.ResumeFault.TheVariants.{Save};
 ghost use Rattle.saved_file.specs.declared.fault.SaveFault.TheVariants.{Memory};
 
@@ -121,6 +122,7 @@ pub fn resume_run<L: Layer + Drop, D: Sectors, O: Sink>(
     requires follows { BootFollows (L.image layer) (L.sizes layer) (L.map layer) boot }
     ensures answers { ResumeAnswers boot schedule turns (D.size disk.old) bytes.now result }
     ensures joins { ResumedJoins D.size D.sectors O.text boot schedule turns steps bytes.now disk.old out.old disk.new out.new result }
+    ensures goes_on { BootsGoOn boot schedule (D.size disk.old) }
     ensures any { ResumedGoesOn D.size D.sectors O.text boot schedule turns steps bytes.now disk.old disk.new result }
     ensures told { IsSome (D.sectors disk.old) → IsSome (D.sectors disk.new) }
     ensures still { IfErr result (λ _. (disk.new ≡ disk.old) × (out.new ≡ out.old)) }

@@ -7,7 +7,7 @@ ghost use Rattle.cvm_model.specs.Cvm.{map_of};
 ghost use Rattle.layer_contract.specs.Boots.{BootFollows, boot_of};
 ghost use Rattle.boot_turns.specs.declared.answers.View.TheVariants.{Boot as OfBoot};
 ghost use Rattle.boot_run.specs.LoadEnds.{HasRoom, LoadFails, pages_needed};
-ghost use Rattle.boot_run.specs.Whole.{WholeGoesOn};
+ghost use Rattle.boot_run.specs.Whole.{WholeGoesOn, WholeStopped};
 ghost use Rattle.boot_run.specs.declared.load.LoadFault.TheVariants.{Disk as DiskFailed};
 ghost use Rattle.machine_save.specs.Room.{most_words};
 ghost use Rattle.machine_save.specs.SaveRun.{IfUnput, IsSavedDiskFault, IsSavedShelfFault, IsSavedSinkFault, PutsState, SavesRun, ShowsSaved};
@@ -63,6 +63,7 @@ pub fn save_run<L: Layer + Drop, S: Shelf, D: Sectors, O: Sink>(
     ensures taken { S.taken shelf.new ≡ S.taken shelf.old }
     ensures told { IsSome (D.sectors disk.old) → IsSome (D.sectors disk.new) }
     ensures refused { IfErr result (LoadFails boot OfBoot (pages_needed boot) (D.size disk.old) (D.faults disk.old) (D.faults disk.new)) }
+    ensures stopped { result ≡ Err DiskFailed → WholeStopped boot schedule (D.sectors disk.old) (D.sectors disk.new) (D.calls disk.old) (D.calls disk.new) }
     ensures loaded { IfOk result (λ _. HasRoom boot OfBoot (pages_needed boot) (D.size disk.old)) }
     ensures unprinted { IfErr result (λ _. out.new ≡ out.old) }
     ensures still { result ≢ Err DiskFailed → OnErr result (disk.new ≡ disk.old) }

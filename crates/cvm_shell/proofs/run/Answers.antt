@@ -1,5 +1,6 @@
 use Rattle.cvm_shell.proofs.BootEndings.{headline_end, completes, trace_isolated}
-use Rattle.cvm_shell.proofs.ResumeEndings.{resumes_hold}
+use Rattle.cvm_shell.proofs.Causing.{disk_cause}
+use Rattle.cvm_shell.proofs.ResumeEndings.{resumes_hold, resumes_complete}
 use Rattle.cvm_shell.proofs.SaveEndings.{saves_hold, saves_complete}
 use Rattle.cvm_shell.proofs.Sufficient.{suffices}
 use Rattle.cvm_shell.proofs.run.Goals as goal
@@ -28,3 +29,10 @@ returns-clause-saves_complete g c = λ x s rows before honest memory has.
 
 pub returns-clause-resumes : goal.returns-clause-resumes
 returns-clause-resumes g c = λ x s rows machine left honest memory. resumes_hold _ x s rows machine left _ _ _ c.run_command.ensures.ends c.run_command.ensures.causes honest memory
+
+pub returns-clause-resumes_complete : goal.returns-clause-resumes_complete
+returns-clause-resumes_complete g c = λ x s rows machine left before shown honest memory saved has.
+    resumes_complete c.turns_are_counted.ensures _ x s rows machine left before shown _ _ _ c.run_command.ensures.ends c.run_command.ensures.causes honest memory saved has
+
+pub returns-clause-causes : goal.returns-clause-causes
+returns-clause-causes g c = record { counts = c.run_command.ensures.causes; disk = disk_cause _ _ _ _ c.run_command.ensures.ends }

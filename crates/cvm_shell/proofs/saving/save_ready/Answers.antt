@@ -8,6 +8,7 @@ returns-clause-is g c = record {
   goes_on = c.save_run.ensures.goes_on;
   some = c.requires.some;
   few = c.is_in_range.ensures;
+  short = c.requires.short;
   fits = c.boots_hold.ensures.taken_up;
   disk = c.boots_hold.ensures.disk;
   others = c.save_run.ensures.others;
@@ -17,6 +18,7 @@ returns-clause-is g c = record {
   loaded = c.save_run.ensures.loaded;
   size = c.save_run.ensures.size;
   rose = c.save_run.ensures.disk;
+  stopped = c.save_run.ensures.stopped;
 }
 
 pub returns-clause-unput : goal.returns-clause-unput

@@ -14,7 +14,7 @@ returns-in_err-rom-clause-answers g c = λ before after.
 
 pub returns-clause-answers : goal.returns-clause-answers
 returns-clause-answers g c = λ before after.
-    rom_answers c.args.ready c.args.session _ _ _ c.requires.start c.run_rom.ensures.ends c.run_rom.ensures.goes_on (record {
+    rom_answers c.args.ready c.args.session _ _ _ c.requires.start c.run_rom.ensures.ends c.run_rom.ensures.goes_on c.run_rom.ensures.stopped (record {
       told = c.run_rom.ensures.told;
       refused = c.run_rom.ensures.refused;
       loaded = c.run_rom.ensures.loaded;

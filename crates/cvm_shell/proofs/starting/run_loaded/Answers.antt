@@ -3,7 +3,7 @@ use Rattle.cvm_shell.proofs.starting.run_loaded.Goals as goal
 
 pub returns-clause-answers : goal.returns-clause-answers
 returns-clause-answers g c = λ before after.
-    loaded_answers c.args.ready c.args.session _ _ _ c.requires.start c.run_whole.ensures.ends c.run_whole.ensures.goes_on (record {
+    loaded_answers c.args.ready c.args.session _ _ _ c.requires.start c.run_whole.ensures.ends c.run_whole.ensures.goes_on c.run_whole.ensures.stopped (record {
       told = c.run_whole.ensures.told;
       refused = c.run_whole.ensures.refused;
       loaded = c.run_whole.ensures.loaded;
