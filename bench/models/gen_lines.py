@@ -94,6 +94,14 @@ def line_at(step, line, text, turns=TURNS):
     run('boot img l %d %d' % (turns, STEPS), text)
 
 
+def each(first, last, schedule, texts):
+    """A boot for each number from the first to the last, under this schedule with that number in it; the texts in their order, each with how often it comes."""
+    assert sum(count for count, _ in texts) == last - first + 1
+    cases.append('== each %d %d l boot img l %d %d\n%s' % (first, last, TURNS, STEPS, schedule.rstrip('\n')))
+    told.append('== each %d %d l boot img l %d %d' % (first, last, TURNS, STEPS))
+    told.extend('%d x\n%sstatus 0' % (count, text) for count, text in texts)
+
+
 def begun(text):
     """The bytes of a text that was cut off, which is shown with ` ..` behind where it ends within a row."""
     return text[:-3] if text.endswith(' ..') else text + '\n' if text else ''
@@ -158,10 +166,8 @@ def kept(kernel, users, par=PARAMS):
 
 TAKEN = RESET + ' 1\nturn 1 cause 1 data 00000008 user 1 next 0\nhalted\nuser 1 pages 1 pc 00000000\nmem 00000000 0000000c\n'
 LATE = TAKEN.replace('cause 1 data 00000008', 'cause 6 data 0000000c').replace('pc 00000000', 'pc 00000004')
-schedules('a line at each part of turn 0 and of the first page fault', K1, ['syscall'])
-for step in sorted(set(range(1, ONE_BEGINS, 97)) | {ONE_LEFT, ONE_LEFT + 1, ONE_BEGINS}):
-    line_at(step, 3, TAKEN)
-line_at(ONE_BEGINS + 1, 3, LATE)
+schedules('a line at each step of turn 0 and of the first page fault', K1, ['syscall'])
+each(1, ONE_BEGINS + 1, 'line @ 3\n', [(ONE_BEGINS, TAKEN), (1, LATE)])
 run('boot img s 1 %d' % (ONE_LEFT - 1), '', 4)
 kept(K1, ['syscall'])
 
@@ -170,10 +176,8 @@ CALLED = ('int n; int m; ' + HEAD
           + ' { int next; next = 1; if (cause == 1) { n = n + 1; m = m * 8 + data; if (n == 2) { next = 0; } } return next; }')
 TWICE = (RESET + ' 1\nturn 1 cause 1 data 00000002 user 1 next 1\nturn 2 cause 1 data 00000004 user 1 next 0\nhalted\nglobal n 2\nglobal m 20\n'
          + 'user 1 pages 1 pc 00000000\nmem 00000000 0000000c\n')
-schedules('a second line while the first is handled', CALLED, ['syscall'])
-for step in sorted(set(range(CALLED_LEFT + 1, CALLED_BACK, 97)) | {CALLED_BACK}):
-    part('file l', 'line 1 1\nline %d 2\n' % step)
-    run('boot img l %d %d' % (TURNS, STEPS), TWICE)
+schedules('a second line at each step at which the first is handled', CALLED, ['syscall'])
+each(CALLED_LEFT + 1, CALLED_BACK, 'line 1 1\nline @ 2\n', [(CALLED_BACK - CALLED_LEFT, TWICE)])
 kept(CALLED, ['syscall'])
 
 # ---- messages: steps to the last, lines, and a sink that fails
@@ -207,6 +211,32 @@ checked('forty lines', 0, 'boot img l 100000 %d' % STEPS, WHOLE, fair, 0)
 kept(FAIR, MESSAGES[1:])
 
 
+# ---- the same systems by the same sources without a comment
+def bare(source, mark):
+    """The lines of a source that aren't empty and hold more than a comment."""
+    return ''.join(line for line in source.splitlines(True) if line.strip() and not line.strip().startswith(mark))
+
+
+BARE = [bare(MESSAGES[0], '//')] + [''.join(line.lstrip(' ') for line in bare(u, '#').splitlines(True)) for u in MESSAGES[1:]]
+SAYS = 'three users, with no comment in their sources'
+schedules(SAYS, BARE[0], BARE[1:])
+objects('o', BARE[0])
+shows('k', placed(BARE[0]))
+for turns in (TURNS, 101):
+    run('boot img s %d %d' % (turns, STEPS), WHOLE)
+run('boot img s 100 %d' % STEPS, model(BARE[0], BARE[1:], PARAMS, '', 100))
+run('boot img s %d %d' % (TURNS, MESSAGES_STEPS), WHOLE)
+run('boot img s %d %d' % (TURNS, MESSAGES_STEPS - 1), '\n'.join(ROWS[:3]), 4)
+for user in (3, 1):
+    run('trace img s %d %d %d' % (TURNS, STEPS, user), model(BARE[0], BARE[1:], PARAMS, '', TURNS, user))
+kept(BARE[0], BARE[1:])
+BARE_FAIR = BARE[0].replace(FAIR_IF, FAIR[FAIR.index('if (!done[3]) {'):].split('\n')[0])
+schedules('forty lines, with no comment in the sources', BARE_FAIR, BARE[1:])
+part('file l', FORTY)
+checked('forty lines, with no comment in the sources', 0, 'boot img l 100000 %d' % STEPS, WHOLE, fair, 0)
+kept(BARE_FAIR, BARE[1:])
+
+
 # a row is one put, but for that of a global: its name is put by itself
 PUTS = [p for row in WHOLE.splitlines(True) for p in (re.findall('^global |[^ ]+(?= )|.*\n', row) if row.startswith('global') else [row])]
 # the pages are written before the first row
@@ -228,15 +258,12 @@ failing('each call of the disk fails in turn', 'disk', [''] * 3 + [RESET + ' 1\n
         after={n: HELD[:n] + [(i, []) for i in range(n, 4)] for n in range(4)} | {n: HELD for n in (5, 7, 9, 11)})
 kept(FOUR, PAGES, params(frames=2))
 
-# ---- a line at steps of products and quotients
+# ---- a line at each step of products and quotients
 KEPT = 'int x; ' + HEAD + ' { int next; x = 100 / (cause + 3); if (cause < 2) { next = 1; } return next; }'
 PRODUCTS = ['ori r1, r0, 7\naddiu r2, r0, -3\nmult r1, r2\nmflo r3\ndiv r1, r2\ndiv r1, r0\nsyscall\n']
-schedules('a line at steps of products and quotients', KEPT, PRODUCTS)
-for step in (PRODUCTS_LEFT, (PRODUCTS_LEFT + PRODUCTS_BEGINS) // 2):
-    line_at(step, 5, model_lines(KEPT, PRODUCTS, PARAMS, '', TURNS, [('1', '20')]))
-for turn in range(1, 8):
-    line_at(PRODUCTS_BEGINS + turn - 1, 5, model_lines(KEPT, PRODUCTS, PARAMS, '', TURNS, [(str(turn), '20')]))
-line_at(PRODUCTS_BEGINS + 7, 5, model(KEPT, PRODUCTS, PARAMS, '', TURNS))
+schedules('a line at each step of products and quotients', KEPT, PRODUCTS, options='sectors 64\nroom 2000000')
+TAKEN_AT = [(1 if turn > 1 else PRODUCTS_BEGINS, model_lines(KEPT, PRODUCTS, PARAMS, '', TURNS, [(str(turn), '20')])) for turn in range(1, 8)]
+each(1, PRODUCTS_BEGINS + 7, 'line @ 5\n', TAKEN_AT + [(1, model(KEPT, PRODUCTS, PARAMS, '', TURNS))])
 kept(KEPT, PRODUCTS)
 
 NOTE = '''Lines at chosen steps, steps that are spent, and calls that fail. Written by bench/models/gen_lines.py.

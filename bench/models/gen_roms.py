@@ -12,8 +12,8 @@ import os
 import sys
 
 HERE = os.path.dirname(os.path.abspath(__file__))
-source = open(os.path.join(HERE, 'gen_lines.py')).read()
-exec(compile(source[:source.index('# ---- a line at each part of turn 0')], 'gen_lines.py', 'exec'))
+LINES = open(os.path.join(HERE, 'gen_lines.py')).read()
+exec(compile(LINES[:LINES.index('# ---- a line at each part of turn 0')], 'gen_lines.py', 'exec'))
 FILES = False
 rows = open(os.path.join(HERE, 'gen_rows.py')).read()
 ROWS = rows[rows.index('# ---- kernels with no users'):rows.index('# ---- refusals, in the order of work')]
@@ -120,6 +120,32 @@ machine('a line at steps of the ROM, of turn 0 and of the first page fault', K1,
 for step in sorted(set(range(0, BEGINS, 1597)) | {1, rom_steps(COUNT), rom_steps(COUNT) + 1, rom_steps(COUNT) + ONE_LEFT, BEGINS}):
     line_at(step, 3, TAKEN)
 line_at(BEGINS + 1, 3, LATE)
+
+
+def given_lines(name):
+    """What gen_lines.py has from where it gives this name a value up to where it boots."""
+    first = LINES.index('\n%s = ' % name)
+    return compile(LINES[first:LINES.index('\nschedules(', first)], 'gen_lines.py', 'exec')
+
+
+# ---- a second line while the first is handled, at the steps of the boot with the ROM's before them; the first one is raised in the ROM, or behind it
+exec(given_lines('CALLED'))
+FROM = rom_steps(linked(CALLED))
+machine('a second line while the first is handled, from a ROM', CALLED, ['syscall'])
+for first in (1, FROM, FROM + 1):
+    for step in sorted(set(range(CALLED_LEFT + 1, CALLED_BACK, 97)) | {CALLED_BACK}):
+        part('file l', 'line %d 1\nline %d 2\n' % (first, FROM + step))
+        plain('rom img l %d %d' % (TURNS, STEPS), TWICE)
+
+# ---- a line in the ROM and at steps of products and quotients
+exec(given_lines('KEPT'))
+FROM = rom_steps(linked(KEPT))
+machine('a line at steps of products and quotients, from a ROM', KEPT, PRODUCTS)
+for step in (1, FROM, FROM + 1, FROM + PRODUCTS_LEFT, FROM + (PRODUCTS_LEFT + PRODUCTS_BEGINS) // 2):
+    line_at(step, 5, model_lines(KEPT, PRODUCTS, PARAMS, '', TURNS, [('1', '20')]))
+for turn in range(1, 8):
+    line_at(FROM + PRODUCTS_BEGINS + turn - 1, 5, model_lines(KEPT, PRODUCTS, PARAMS, '', TURNS, [(str(turn), '20')]))
+line_at(FROM + PRODUCTS_BEGINS + 7, 5, model(KEPT, PRODUCTS, PARAMS, '', TURNS))
 
 # ---- the ROM takes the disk's first commands, which the schedule's busy times count
 machine('busy times of the commands of the ROM and of the layer', K1, ['syscall'])

@@ -4,8 +4,8 @@
 usage: saved_runs.py FOLDER   writes FOLDER/data/messages.cases and FOLDER/stdout: those of crates/saved_runs
 
 The system is the example messages, whose text stands in its folder. What a forged file is refused for goes by the table of fields and by the map of
-memory, as docs/FORMATS.md and docs/LAYER.md have them. Of the saved words nothing is taken from the program: those whose value matters are told below
-by what they are. How the files that are not refused end hangs on the machine, so only which statuses may come is said of them.
+memory, as docs/FORMATS.md and docs/LAYER.md have them. Those saved words whose value matters are told below by what they are; taken from the program is
+how many words the layer's code has, alone. How the files that are not refused end hangs on the machine, so only which statuses may come is said of them.
 """
 import os
 import re
@@ -27,11 +27,27 @@ def next_page(word):
     return (word + 1023) // 1024 * 1024
 
 
+def is_compared(place):
+    """Whether a word of memory is a linked one that has to be the image's: not one of the layer's variables, nor of the control blocks."""
+    return place < LINKED and not 1024 <= place < 2048 and not BLOCKS <= place < 16384
+
+
+def is_filled(place):
+    """Whether a linked word is one of the zeros with which the layer's code is filled up. Each other one that is compared is an instruction."""
+    return HANDLER <= place < 1024 or 2048 + ROUTINES <= place < BLOCKS
+
+
+# ---- measured: the words of the handler, and of the entries with the routines behind them
+HANDLER, ROUTINES = 338, 1376
+
 # ---- the map, in words of memory
 BLOCKS, SIZE = 12288, 32
-TABLES = next_page(next_page(next_page(next_page(16384 + names['code_words'](KERNEL)) + GLOBALS) + HEAP) + STACK)
+LINKED = 16384 + names['code_words'](KERNEL)
+TABLES = next_page(next_page(next_page(next_page(LINKED) + GLOBALS) + HEAP) + STACK)
 COUNTS = next_page(TABLES + USERS * PAGES)
 MEMORY = next_page(COUNTS + 8 * (FRAMES + 1)) // 1024 + 1 + FRAMES
+# where the handler begins, the variables, the entries, the control blocks, the kernel's code, and all that is not linked
+PARTS = 0, 1024, 2048, BLOCKS, 16384, LINKED, 1024 * MEMORY
 
 # ---- the file: the words before memory, of which none is of a log, as nothing is put to the console
 HEAD, BEFORE = 56, 56 + 1024
@@ -75,15 +91,18 @@ def head_words():
 
 
 def memory_refusal(changes):
-    """The same of a file in whose memory these words are changed, none of which is a linked word that is compared."""
+    """The same of a file in whose memory these words are set; of linked words that are not as they were the least place is told, too."""
+    linked = [place for place, value in changes.items() if is_compared(place) and not (is_filled(place) and value == 0)]
+    if linked:
+        return 104, min(linked)
     sizes = {BLOCKS + 64 * user + SIZE for user in range(USERS)}
     return 105 if any(place in sizes and value > PAGES for place, value in changes.items()) else None
 
 
 def memory_words(first, count):
     for place in range(first, first + count):
-        # a user's size is 1 page; no other value is asked for
-        for value in forged(1):
+        # a user's size is 1 page. No instruction is 0, 1 or 2^32 - 1, so each of the four values is another word there. Of others no value is asked for
+        for value in forged(0 if is_filled(place) else 1):
             yield memory_refusal({place: value})
 
 
@@ -117,7 +136,9 @@ def run(words, text='', status=0):
 def tally(head, refusals):
     refusals = list(refusals)
     case(head)
-    counts = ''.join(', %d refused %d' % (refusals.count(n), n) for n in range(100, 109) if n in refusals)
+    numbers = [r[0] if isinstance(r, tuple) else r for r in refusals]
+    places = ' at words that add up to %d' % sum(r[1] for r in refusals if isinstance(r, tuple))
+    counts = ''.join(', %d refused %d' % (numbers.count(n), n) + places * (n == 104) for n in range(100, 109) if n in numbers)
     told.append('%d files%s, the others 0, 3 or 4' % (len(refusals), counts))
 
 
@@ -159,19 +180,19 @@ run('resume img s %d %d forged' % (WANTED, STEPS), 'refused 101 8\n', 2)
 case('set f 6 9')
 run('resume img s %d %d forged' % (WANTED, STEPS), 'refused 103 6 9\n', 2)
 run('resume img s %d 5 f' % WANTED, '', 4)
+# linked words, of which the first that differs is told, before a size: each part of the layer is filled up with zeros
+LAST_WORD, SIZE_WORD, FIRST_WORD = (BLOCKS - 1, 7), (BLOCKS + SIZE, PAGES + 1), (1023, 9)
+for name, forging, answer in (('f', LAST_WORD, LAST_WORD), ('forged', SIZE_WORD, LAST_WORD), ('forged', FIRST_WORD, FIRST_WORD)):
+    case('set %s %d %d' % (name, BEFORE + forging[0], forging[1]))
+    run('resume img s %d %d forged' % (WANTED, STEPS), 'refused 104 %d %d 0\n' % answer, 2)
 
-# ---- forged files
+# ---- forged files: each word of the file, the buffer's behind the head's, and then those of memory; each length of the head; and words at random
 tally('words 0 %d 1' % HEAD, head_words())
 tally('cuts %d' % (4 * HEAD), [101] * (4 * HEAD))
-forge_memory(1024, 16)
-for user in range(USERS):
-    forge_memory(BLOCKS + 64 * user, 36)
-forge_memory(TABLES, USERS * PAGES)
-forge_memory(COUNTS, 8 * (FRAMES + 1))
-# the disk's buffer, and all behind the linked words, of which nothing is refused: each 5th word
-SOURCE_END = next_page(16384 + names['code_words'](KERNEL))
-for first, count in ((HEAD, 1024), (BEFORE + SOURCE_END, 1024 * MEMORY - SOURCE_END)):
-    tally('words %d %d 5' % (first, count), [None] * (4 * ((count + 4) // 5)))
+tally('words %d 1024 1' % HEAD, [None] * (4 * 1024))
+for first, end in zip(PARTS, PARTS[1:]):
+    forge_memory(first, end - first)
+forge_random(0, LINKED, 400, 4)
 forge_random(BLOCKS, 64 * USERS, 150, 1)
 forge_random(TABLES, USERS * PAGES, 50, 2)
 forge_random(COUNTS, 8 * (FRAMES + 1), 100, 3)

@@ -45,12 +45,32 @@ pub fn put_words(
     stride: u32,
 ) -> Result<(), AllocError> {
     let mut bytes = world.bytes(alloc, "f");
-    let mut tally = Tally::new(alloc);
+    let mut tally = Tally::new(alloc, world);
     for place in 0..count {
         if place % stride.max(1) == 0 {
             let word = first.saturating_add(place);
             put_word(alloc, world, &mut tally, &mut bytes, word)?;
         }
+    }
+    tally.put(out)
+}
+
+/// Sets each of so many words of the file `f` to its successor, and goes on from each.
+pub fn put_next_words(
+    alloc: Global,
+    world: &mut World,
+    out: &mut String,
+    first: u32,
+    count: u32,
+) -> Result<(), AllocError> {
+    let mut bytes = world.bytes(alloc, "f");
+    let mut tally = Tally::new(alloc, world);
+    for place in 0..count {
+        let word = first.saturating_add(place);
+        let old = word_of(&bytes, word);
+        set_word(&mut bytes, word, old.wrapping_add(1));
+        tally.count(alloc, world, &bytes, "word", word)?;
+        set_word(&mut bytes, word, old);
     }
     tally.put(out)
 }
@@ -63,7 +83,7 @@ pub fn put_cuts(
     count: u32,
 ) -> Result<(), AllocError> {
     let bytes = world.bytes(alloc, "f");
-    let mut tally = Tally::new(alloc);
+    let mut tally = Tally::new(alloc, world);
     for length in 0..count {
         let front = bytes.get(..length as usize).unwrap_or(&bytes);
         tally.count(alloc, world, front, "length", length)?;
@@ -96,7 +116,7 @@ pub fn put_random(
     seed: u32,
 ) -> Result<(), AllocError> {
     let whole = world.bytes(alloc, "f");
-    let mut tally = Tally::new(alloc);
+    let mut tally = Tally::new(alloc, world);
     let mut state = seed;
     for file in 0..files {
         let mut bytes = whole.clone()?;

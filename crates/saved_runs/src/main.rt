@@ -8,12 +8,14 @@
 //   and goes on to TURNS, over a disk of its own. One line says of how many the two texts, but for the row `saved`, are joined that of the boot and
 //   the sectors those behind it, and which is the first that isn't so;
 // - `words FIRST COUNT STRIDE`, of the file `f`: each STRIDE-th of so many words is set to 0, to 1, to its successor and to 2^32 - 1, in turn;
+// - `nexts FIRST COUNT`, of the same file: each of so many words is set to its successor;
 // - `cuts COUNT`, of the same file: it is cut to each length below so many bytes;
 // - `random FIRST COUNT FILES SEED`, of the same file: eight times in each of so many files one of these words is set to a pseudo-random one.
 //
 // Each file that is forged so is resumed for 1,000 turns and 20,000 steps over a copy of the disk as it stands. One line says how many were refused, by
 // the number of the refusal, and whether each of the others ended with the status 0, 3 or 4: a shelf, a sink, a disk and memory that don't fail let no
-// other status come.
+// other status come. Where linked words are told, it says what their places add up to; each such row has to tell the word that stands there and the one
+// that stood there.
 #![tactic(auto)]
 
 mod bytes;
@@ -24,7 +26,7 @@ mod turns;
 
 use bytes::set_word;
 use case_file::{Case, cases};
-use forging::{put_cuts, put_random, put_words};
+use forging::{put_cuts, put_next_words, put_random, put_words};
 use outside::World;
 use std::alloc::{AllocError, Global};
 use std::fmt::Write;
@@ -99,6 +101,7 @@ fn do_case(
         "set" | "cut" => forge(alloc, world, kind, name),
         "every" => put_every(alloc, world, out, first, second, name),
         "words" => put_words(alloc, world, out, first, second, number(name, 2)),
+        "nexts" => put_next_words(alloc, world, out, first, second),
         "cuts" => put_cuts(alloc, world, out, first),
         "random" => {
             let seed = number(name, 3);

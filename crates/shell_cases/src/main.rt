@@ -12,6 +12,8 @@
 //   file with W as its word P, from 0 on;
 // - `disk N` puts a new disk of N sectors in the place of the one there, whose calls don't fail;
 // - `run WORD ..` runs the command of these words, and `as PATH` says whether its text is that of a file of the folder;
+// - `each FROM TO NAME WORD ..` runs it once for each number of a range, over the file NAME with the text below, which has that number in the
+//   place of each `@`; and prints the texts with their status, each with how often it came in succession;
 // - `journal WORD ..` runs it, a trace, and prints its rows but those that count steps, up to the end of the run;
 // - `sure WORD ..` runs it over copies of the files that its words name, a sink and a disk where no call fails, and prints the status alone;
 // - `turns boot IMAGE SCHEDULE TURNS STEPS` loads the system of these words, asks it for its next turn as often as TURNS says, and prints each
@@ -21,6 +23,7 @@
 #![tactic(auto)]
 
 mod altered;
+mod each;
 mod journal;
 mod partial;
 mod stepping;
@@ -31,6 +34,7 @@ use boot_run::{Run, View};
 use case_file::{Case, cases};
 use cvm_outside::{MemSectors, MemShelf, MemSink, Sectors, Shelf};
 use cvm_shell::{plan, read_boot, run};
+use each::run_each;
 use journal::put_journal;
 use object_file::read;
 use partial::Partial;
@@ -439,6 +443,7 @@ fn do_part(
         "set" => set_word(alloc, world, name)?,
         "disk" => change_disk(alloc, world, name)?,
         "run" => run_words(alloc, world, out, name)?,
+        "each" => run_each(alloc, world, out, part)?,
         "journal" => run_journal(alloc, world, out, name)?,
         "sure" => run_sure(alloc, world, out, name)?,
         "turns" => run_turns(alloc, world, out, name)?,
