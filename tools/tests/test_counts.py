@@ -1,0 +1,73 @@
+"""The numbers of cases that docs/promises/tests.md tells, counted in the data and in what the programs of cases print."""
+import os
+import re
+import unittest
+
+from explain import pages
+
+
+def stored(crate, name):
+    with open(os.path.join(pages.TOP, 'crates', crate, name), encoding='utf-8') as file:
+        return file.read()
+
+
+def data(crate, *names):
+    """The data of a program: these files, or else all that its arguments name."""
+    names = names or stored(crate, 'args').split()
+    return '\n'.join(stored(crate, os.path.join('data', name)) for name in names)
+
+
+def heads(text, *kinds):
+    """How many cases of these kinds a text has; of all kinds where none is named."""
+    return len(re.findall(r'^== (?:%s)(?: |$)' % ('|'.join(kinds) or r'[\w-]+'), text, re.M))
+
+
+def lines(text, *words):
+    """How many lines begin with one of these words."""
+    return len(re.findall(r'^(?:%s) ' % '|'.join(words), text, re.M))
+
+
+def total(pattern, text):
+    return sum(int(number) for number in re.findall(pattern, text, re.M))
+
+
+def bounded(crate):
+    """The files of c0_cases that are about bounds, and the users' programs, are no sources of kernels."""
+    return data(crate, *(name for name in stored(crate, 'args').split() if name not in ('bounds', 'graphs', 'programs')))
+
+
+COUNTED = {
+    ('machine_cases', 'machines'): lambda c: lines(data(c, 'machines'), 'machine'),
+    ('machine_cases', 'rows of an instruction'): lambda c: lines(data(c, 'machines'), 'row'),
+    ('machine_cases', "machines of the layer's blocks"): lambda c: lines(data(c, 'blocks'), 'machine'),
+    ('machine_cases', 'pages asked for'): lambda c: lines(data(c, 'faults'), 'ask'),
+    ('rom_cases', 'ROMs'): lambda c: lines(stored(c, 'stdin'), 'rom'),
+    ('c0_cases', 'sources'): lambda c: heads(bounded(c)),
+    ('c0_cases', 'user programs'): lambda c: heads(data(c, 'programs')),
+    ('c0_cases', 'kernels that are bounded'): lambda c: heads(data(c, 'bounds')),
+    ('c0_cases', 'call graphs'): lambda c: heads(data(c, 'graphs')),
+    ('format_cases', 'texts'): lambda c: heads(data(c, 'texts')),
+    ('format_cases', 'objects'): lambda c: heads(data(c, 'objects')),
+    ('format_cases', 'images of forms 1 and 3'): lambda c: heads(data(c, 'images')),
+    ('format_cases', 'images of form 2'): lambda c: heads(data(c, 'old')),
+    ('format_cases', "parameters and users' words"): lambda c: heads(data(c, 'systems')),
+    ('format_cases', 'linked, accepted, migrated'): lambda c: heads(data(c, 'links', 'accepted', 'migrated'), 'link', 'accept', 'migrate'),
+    ('format_cases', 'saved machines'): lambda c: heads(data(c, 'saved')),
+    ('format_cases', 'samples shown whole'): lambda c: heads(data(c, 'samples'), 'sample'),
+    ('format_cases', 'samples in a line'): lambda c: heads(data(c, 'samples'), 'checked'),
+    ('code_cases', 'kernels'): lambda c: heads(data(c), 'run'),
+    ('system_cases', 'systems'): lambda c: heads(data(c), 'system'),
+    ('shell_cases', 'commands whose text is printed'): lambda c: heads(stored(c, 'stdout'), 'run', 'journal', 'sure'),
+    ('shell_cases', 'boots with a line at a step'): lambda c: total(r'^(\d+) x\n', stored(c, 'stdout').split('== case the example messages, to its last step')[0])
+    + total(r'^(\d+) x\n', stored(c, 'stdout').split('== each ')[-1].split('\n== ')[0]),
+    ('saved_runs', 'forged files'): lambda c: total(r'^(\d+) files, ', stored(c, 'stdout')),
+}
+
+
+class Counts(unittest.TestCase):
+    def test_each_row_of_the_table_is_counted(self):
+        with open(os.path.join(pages.TOP, 'docs', 'promises', 'tests.md'), encoding='utf-8') as file:
+            rows = [row for row in map(pages.cells, file.read().split('\n')) if len(row) == 3 and row[0].endswith('s') and row[2][0].isdigit()]
+        self.assertEqual({(crate, what) for crate, what, _ in rows}, set(COUNTED))
+        for crate, what, number in rows:
+            self.assertEqual(int(number.replace(',', '')), COUNTED[crate, what](crate), '%s: %s' % (crate, what))
