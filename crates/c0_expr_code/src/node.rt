@@ -40,7 +40,7 @@ fn type_of<'a>(scene: &Scene<'a>, expr: &Expr) -> Found<'a>
     type_at(scene.layout.unit, scene.function, expr)
 }
 
-// Appends the code of an operand, with free registers from `free` on, and answers the register where it stands.
+/// Appends the code of an operand, with free registers from `free` on, and answers the register where it stands.
 #[cycle(node)]
 pub fn emit_operand(
     scene: &Scene<'_>,
@@ -61,8 +61,8 @@ pub fn emit_operand(
     Ok(free)
 }
 
-// Appends the code of a place, with free registers from `free` on, and answers where the place is then; no code and no place where the
-// expression is none.
+/// Appends the code of a place, with free registers from `free` on, and answers where the place is then; no code and no place where the
+/// expression is none.
 #[cycle(node)]
 pub fn emit_place(
     scene: &Scene<'_>,
@@ -172,7 +172,7 @@ fn emit_tested(
     })
 }
 
-// Appends the code of a value, into register `target`, with free registers from `free` on.
+/// Appends the code of a value, into register `target`, with free registers from `free` on.
 #[cycle(node)]
 pub fn emit_value(
     scene: &Scene<'_>,

@@ -1,5 +1,5 @@
 -- The first state is typed, and calls from typed states are never stuck.
-use Rattle.std.proofs.Common.{◌≡◌, ℕ, true, List, [], ◌∷◌, map, Option, Some, refl, sym, ap, subst, arith}
+use Rattle.std.proofs.Common.{◌≡◌, true, List, [], ◌∷◌, map, Option, Some, sym, ap, subst, arith}
 use Rattle.std.specs.Prelude.{ℤ, FitsSigned, unwrap_or}
 use Rattle.std.specs.Int.{w32}
 use Rattle.std.proofs.lemmas.Bool.{and_parts}

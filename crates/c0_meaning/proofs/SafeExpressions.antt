@@ -79,7 +79,7 @@ field_is : (f : CName) (o : Option (ℕ × Typed)) (found : ℕ × Typed) → o 
 field_is f o found e q = sym (ap (λ n. n.number) (sym (ap (numbered_field f) e) ∙ q))
 
 -- a state in which a function with this environment runs
-pub record Scene (env : Env) (layout : Layout) (s : State) : Type 0 where
+pub record SafeState (env : Env) (layout : Layout) (s : State) : Type 0 where
   pub globals_are : layout.globals ≡ types_of env.globals
   pub global_values : AreParts env.structs layout layout.globals s.global_values
   pub heap_values : AreParts env.structs layout layout.objects s.heap_values
@@ -109,7 +109,7 @@ stands_on env layout locals path u i w h g = leads_from_on env.structs (types_of
 below_is : (env : Env) (layout : Layout) (local : Bool) (u : Ty) (l : Location) (i : ℕ) (w : Ty) → IsAt env layout local u l → Leads env.structs u (i ∷ []) w → IsAt env layout local w (below l i)
 below_is env layout local u l i w h g = record { stands = stands_on env layout l.region l.path u i w h.stands g; away = λ e. points_on env.structs layout l.region l.path u i w (h.away e) g }
 
-module _ (env : Env) (layout : Layout) (s : State) (scene : Scene env layout s) where
+module _ (env : Env) (layout : Layout) (s : State) (scene : SafeState env layout s) where
   abbrev ValueOf : Ty → Value → Type 0
   ValueOf t v = Fits env.structs layout t v
 

@@ -34,7 +34,7 @@ use Rattle.c0_meaning.specs.TypedState.{Layout, types_of, Fits, AllFit, variable
 use Rattle.c0_meaning.proofs.Fields.{zero_fits, zeros_fit}
 use Rattle.c0_meaning.proofs.Parts.{fits_more, joined_fit}
 use Rattle.c0_meaning.proofs.Ranges.{int_of_fits}
-use Rattle.c0_meaning.proofs.SafeExpressions.{Good, Scene, IsAt, given_good, place_good, values_good, bool_good}
+use Rattle.c0_meaning.proofs.SafeExpressions.{Good, SafeState, IsAt, given_good, place_good, values_good, bool_good}
 use Rattle.c0_meaning.proofs.SafeStates.{RightValue, RightPlace, RightStatement, RightStatements, first_right, Calls, a_function, a_primitive, callee, callee_is, no_layout, scalar_everywhere, scalars_everywhere, right_function, variables_split, params_types, env_in, scene, written, objects_count, allocated}
 
 -- work that is left to the function of the newest frame, above these frames: its statements and the values that they hold are typed, and
@@ -215,7 +215,7 @@ module _ (W E : Type 0) (primitives : List CPrimitive) (p : Setting W E) (is_rig
     abbrev env : Env
     env = env_in primitives p.unit f
 
-    abbrev its : Scene env (lay objects) (state_of gv hv hw (g ∷ fs))
+    abbrev its : SafeState env (lay objects) (state_of gv hv hw (g ∷ fs))
     its = scene primitives p.unit objects gv hv hw g fs f typed.0 is
 
     safe_here : IsSafeAt is_right p.unit here

@@ -33,7 +33,7 @@ use Rattle.c0_meaning.specs.State.{Frame, write}
 use Rattle.c0_meaning.specs.TypedState.{Layout, types_of, Fits, AllFit, AreParts, PointsTo, variable_types, IsTypedFrame, layout_of, IsTypedWith}
 use Rattle.c0_meaning.proofs.Parts.{put_parts, parts_more, joined_fit}
 use Rattle.c0_meaning.proofs.Found.{found_there}
-use Rattle.c0_meaning.proofs.SafeExpressions.{Scene, Stands}
+use Rattle.c0_meaning.proofs.SafeExpressions.{SafeState, Stands}
 
 -- a value of a type, at a place of which it is asked
 pub record RightValue (env : Env) (e : CExpr) (t : Ty) : Type 0 where
@@ -198,7 +198,7 @@ module _ (primitives : List CPrimitive) (u : CUnit) where
 
   -- in the state in which a function runs its expressions can be evaluated
   pub scene : (objects : List Ty) (gv hv : Value) (hw : ℕ) (g : Frame) (fs : List Frame) (f : CFunction) → IsTypedWith u objects (record { global_values = gv; heap_values = hv; heap_words = hw; frames = g ∷ fs }) → slice_get u.functions g.function ≡ Some f
-      → Scene (env_in f) (layout_of u objects) (record { global_values = gv; heap_values = hv; heap_words = hw; frames = g ∷ fs })
+      → SafeState (env_in f) (layout_of u objects) (record { global_values = gv; heap_values = hv; heap_words = hw; frames = g ∷ fs })
   scene objects gv hv hw g fs f typed e =
       let top = All-head (IsTypedFrame u (layout_of u objects)) g fs typed.frames in
       let same : top.function ≡ f = some_same (sym top.is ∙ e) in

@@ -70,7 +70,7 @@ pub fn find_first(program: Program, functions: &[Function]) -> Option<usize>
     found_first(program, functions)
 }
 
-// The number of the function with which the run of a checked unit begins.
+/// The number of the function with which the run of a checked unit begins.
 pub fn first_of(program: Program, unit: &Unit) -> u32
     requires { IsCheckedAs program (unit_view unit.now) }
     ensures is { result ≡ limits.first_number program (unit_view unit.now) }

@@ -52,7 +52,7 @@ fn emit_statement(
     }
 }
 
-// Appends the code of statements one after another.
+/// Appends the code of statements one after another.
 #[cycle(statement)]
 pub fn emit_statements(
     alloc: Global,

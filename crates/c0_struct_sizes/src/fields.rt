@@ -37,7 +37,7 @@ fn push_part(names: &Names, ty: &CType, numbers: &mut Vec<u32>) -> Result<(), Al
     Ok(())
 }
 
-/// Pushes the numbers of the structs that fields are made of, in their order.
+// Pushes the numbers of the structs that fields are made of, in their order.
 pub(crate) fn push_parts(
     names: &Names,
     fields: &[Decl],
@@ -61,7 +61,7 @@ fn is_made_of(names: &Names, ty: &CType, number: u32) -> bool
     }
 }
 
-/// Whether one of these fields is made of the struct of this number.
+// Whether one of these fields is made of the struct of this number.
 pub(crate) fn has_part(names: &Names, fields: &[Decl], number: u32) -> bool
     ensures { result ≡ parts.has_part (look names.now) (map decl_view fields.now) number }
 {
@@ -73,7 +73,7 @@ pub(crate) fn has_part(names: &Names, fields: &[Decl], number: u32) -> bool
     false
 }
 
-/// The words of fields one after another, up to 1,048,577, where those of each struct are given.
+// The words of fields one after another, up to 1,048,577, where those of each struct are given.
 pub(crate) fn fields_words(names: &Names, sizes: &[u32], fields: &[Decl]) -> u32
     ensures { result ≡ min (parts.all_capped (look names.now) sizes.now (map decl_view fields.now)) table.WORDS_CAP }
 {

@@ -307,7 +307,7 @@ fn first_walk(alloc: Global, count: u32) -> Result<Walk, AllocError>
     Ok(walk)
 }
 
-/// Walks over all structs.
+// Walks over all structs.
 pub(crate) fn walk_over(
     alloc: Global,
     names: &Names,

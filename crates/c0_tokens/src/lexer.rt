@@ -20,7 +20,7 @@ pub const MAX_SOURCE: usize = 1048576;
 // The largest number of C0.
 const MAX_NUMBER: u64 = 2147483647;
 
-// A token and the bytes after it.
+/// A token and the bytes after it.
 #[derive(Clone, Copy)]
 pub struct Cut<'a> {
     pub lexeme: Lexeme<'a>,

@@ -13,7 +13,7 @@ const MAX_OPEN: u32 = 64;
 // The most tokens after the last `;`, `{`, `}` or the start.
 const MAX_RUN: u32 = 512;
 
-// How many brackets are open, and how many tokens have come after the last `;`, `{`, `}` or the start.
+/// How many brackets are open, and how many tokens have come after the last `;`, `{`, `}` or the start.
 #[derive(Clone, Copy)]
 pub struct Depth {
     pub brackets: u32,
@@ -48,7 +48,7 @@ fn ends_run(lexeme: &Lexeme<'_>) -> bool
 }
 
 impl Depth {
-    // Before the first token.
+    /// Before the first token.
     pub fn outside() -> Depth
         ensures { depth_view result ≡ outside }
     {
@@ -64,7 +64,7 @@ impl Depth {
         (opens(lexeme) && self.brackets >= MAX_OPEN) || self.run >= MAX_RUN
     }
 
-    // A token as it is read at this depth.
+    /// A token as it is read at this depth.
     pub fn read<'a>(&self, lexeme: Lexeme<'a>) -> Lexeme<'a>
         ensures { lexeme_view result ≡ at_depth (depth_view self.now) (lexeme_view lexeme.entry) }
     {
@@ -75,7 +75,7 @@ impl Depth {
         }
     }
 
-    // The depth after one more token.
+    /// The depth after one more token.
     pub fn after(&self, lexeme: &Lexeme<'_>) -> Depth
         requires brackets { self.now.brackets ≤ 1048576 }
         requires run { self.now.run ≤ 1048576 }

@@ -6,7 +6,7 @@ ghost use Rattle.c0_tokens.specs.View.{spelling_view};
 
 use crate::token::Mark;
 
-// How a reserved word or a mark is written.
+/// How a reserved word or a mark is written.
 #[derive(Clone, Copy)]
 pub struct Spelling {
     pub text: &'static [u8],
@@ -116,14 +116,14 @@ fn first_front(spellings: &[Spelling], text: &[u8]) -> Option<Spelling>
     None
 }
 
-// The spelling of a reserved word.
+/// The spelling of a reserved word.
 pub fn reserved(word: &[u8]) -> Option<Spelling>
     ensures { option_map spelling_view result ≡ find (λ s. bytes_eq s.0 word.now) all_words }
 {
     first_word(&words(), word)
 }
 
-// The spelling of the longest mark at the front of a text.
+/// The spelling of the longest mark at the front of a text.
 pub fn front_mark(text: &[u8]) -> Option<Spelling>
     ensures { option_map spelling_view result ≡ find (λ s. starts_with (λ a b. a == b) text.now s.0) all_marks }
 {

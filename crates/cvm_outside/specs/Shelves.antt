@@ -53,3 +53,7 @@ is_failed (Err fault) = is_failure fault
 -- the shelf in memory that a sure one stands on
 abbrev pub inside : SureShelf → MemShelf
 inside shelf = shelf.inner
+
+-- the file of a name once bytes were put under it: as before where they have no room in what the call found
+abbrev pub put_over : (found placed : Option Placed) → List ℕ → Option Placed
+put_over found placed bytes = if lacks_room found bytes then placed else replaced placed bytes

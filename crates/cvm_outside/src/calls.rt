@@ -21,7 +21,7 @@ impl Model for Calls {
 }
 
 impl Calls {
-    /// No call yet. The calls whose numbers are in `failing` are to fail.
+    // No call yet. The calls whose numbers are in `failing` are to fail.
     pub(crate) fn new(failing: Vec<u64>) -> Self
         ensures { result ≡ fresh failing.items }
     {
@@ -32,7 +32,7 @@ impl Calls {
         }
     }
 
-    /// Numbers a call, and tells whether it is to fail.
+    // Numbers a call, and tells whether it is to fail.
     pub(crate) fn begin(&mut self) -> bool
         ensures listed { result ≡ is_listed self.old }
         ensures numbered { self.new ≡ after_call self.old false }
@@ -42,7 +42,7 @@ impl Calls {
         listed
     }
 
-    /// Counts a fault.
+    // Counts a fault.
     pub(crate) fn count_fault(&mut self)
         ensures counted { self.new ≡ record self.old { faults = counted self.old.faults } }
         ensures later { self.old.faults ≤ self.new.faults }

@@ -74,7 +74,7 @@ impl FileSectors {
         result
     }
 
-    /// Counts a fault.
+    // Counts a fault.
     fn fault(&mut self) -> DiskFault
         ensures later { self.old.faults ≤ self.new.faults }
         ensures rose { Rose self.old.faults self.new.faults }
@@ -84,7 +84,7 @@ impl FileSectors {
         DiskFault::Failed
     }
 
-    /// Counts a call.
+    // Counts a call.
     fn count_call(&mut self)
         ensures faults { self.new.faults ≡ self.old.faults }
         ensures calls { self.new.calls ≡ counted self.old.calls }
@@ -140,7 +140,7 @@ fn open_disk(rt: HostRuntime) -> io::Result<File> {
     }
 }
 
-/// Fills the buffer as far as the file goes, and leaves zeros past its end.
+// Fills the buffer as far as the file goes, and leaves zeros past its end.
 fn fill<F: Read>(file: &mut F, buffer: &mut [u8; SECTOR_BYTES]) -> io::Result<()> {
     let mut filled = 0;
     for _ in 0..u64::MAX {
@@ -178,7 +178,7 @@ mod tests {
     use std::process::Abort;
     use std::test::Fail;
 
-    /// Whether `at` and what follows it in the file are these bytes.
+    // Whether `at` and what follows it in the file are these bytes.
     fn file_has(rt: HostRuntime, at: usize, bytes: &[u8]) -> io::Result<bool> {
         let file = fs::read(&rt, NAME)?;
         Ok(file.get(at..at.saturating_add(bytes.len())) == Some(bytes))
@@ -188,7 +188,7 @@ mod tests {
         Ok(fs::metadata(&rt, NAME)?.len())
     }
 
-    /// The first and the last word of a sector, and whether the others are zeros.
+    // The first and the last word of a sector, and whether the others are zeros.
     fn ends(disk: &mut FileSectors, i: u32) -> Result<(u32, u32, bool), DiskFault>
         requires { i < 65536 }
     {
@@ -198,7 +198,7 @@ mod tests {
         Ok((words[0], words[1023], others))
     }
 
-    /// A folder of that name can't be opened, and the next call tries again.
+    // A folder of that name can't be opened, and the next call tries again.
     fn opens_at_a_call(rt: HostRuntime, test: &impl Abort) -> Result<(), Fail> {
         let mut disk = FileSectors::new(rt);
         fs::create_dir(&rt, NAME)?;
@@ -210,7 +210,7 @@ mod tests {
         Ok(())
     }
 
-    /// Sector 1 is the file's second 4,096 bytes, and each word has its least byte first.
+    // Sector 1 is the file's second 4,096 bytes, and each word has its least byte first.
     fn writes_words(rt: HostRuntime, test: &impl Abort) -> Result<(), Fail> {
         let mut disk = FileSectors::new(rt);
         let mut words = [0; 1024];
@@ -225,7 +225,7 @@ mod tests {
         Ok(())
     }
 
-    /// A file that ends in the middle of a word reads as if zeros came after it.
+    // A file that ends in the middle of a word reads as if zeros came after it.
     fn reads_zeros_past_the_end(rt: HostRuntime, test: &impl Abort) -> Result<(), Fail> {
         fs::write(&rt, NAME, &[1; 4098])?;
         let mut disk = FileSectors::new(rt);
@@ -235,7 +235,7 @@ mod tests {
         Ok(())
     }
 
-    /// The file of a disk that has read is no other disk's, until the first is dropped.
+    // The file of a disk that has read is no other disk's, until the first is dropped.
     fn is_held_alone(rt: HostRuntime, test: &impl Abort) -> Result<(), Fail> {
         let mut first = FileSectors::new(rt);
         let mut second = FileSectors::new(rt);

@@ -34,7 +34,7 @@ impl<R: Files + Drop> FileShelf<R> {
         }
     }
 
-    /// Counts a fault.
+    // Counts a fault.
     fn fault(&mut self) -> ShelfFault
         ensures failed { result ≡ ShelfFault.Failed }
         ensures later { self.old.faults ≤ self.new.faults }
@@ -85,7 +85,7 @@ enum End {
     Memory,
 }
 
-/// Takes the bytes of a file, but at most one more than a file may have.
+// Takes the bytes of a file, but at most one more than a file may have.
 fn take_all<F: Read>(file: &mut F, bytes: &mut Vec<u8>) -> End
     requires { bytes.old.items ≡ [] }
     ensures long { result ≡ End.TooLong → length bytes.new.items ≡ TOO_LONG }
@@ -110,7 +110,7 @@ fn take_all<F: Read>(file: &mut F, bytes: &mut Vec<u8>) -> End
     End::Failed
 }
 
-/// Makes the file of that name hold these bytes.
+// Makes the file of that name hold these bytes.
 fn write_file<R: Files>(rt: &R, name: &str, bytes: &[u8]) -> io::Result<()> {
     let mut file = fs::create(rt, name)?;
     file.write_all(bytes)
@@ -124,7 +124,7 @@ mod tests {
 
     const NAME: &str = "file_shelf.test";
 
-    /// Makes the file have `len` bytes of zeros.
+    // Makes the file have `len` bytes of zeros.
     fn make(rt: HostRuntime, len: u64) -> io::Result<()> {
         fs::create(&rt, NAME)?.set_len(len)
     }

@@ -24,7 +24,7 @@ impl Model for MemFile {
 }
 
 impl MemFile {
-    /// A file of these bytes, with room for as many.
+    // A file of these bytes, with room for as many.
     pub(crate) fn new(alloc: Global, bytes: &[u8]) -> Result<MemFile, AllocError>
         ensures { IfOk result (λ f. f ≡ record { bytes = bytes.now; room = length bytes.now }) }
     {
@@ -34,14 +34,14 @@ impl MemFile {
         })
     }
 
-    /// The bytes of the file.
+    // The bytes of the file.
     pub(crate) fn bytes(&self) -> &[u8]
         ensures { result.now ≡ self.now.bytes }
     {
         &self.bytes
     }
 
-    /// Puts the bytes in the place of the old ones if they fit the room, and tells whether they did.
+    // Puts the bytes in the place of the old ones if they fit the room, and tells whether they did.
     pub(crate) fn replace(&mut self, bytes: &[u8]) -> bool
         ensures fits { result ≡ nat_le (length bytes.now) self.old.room }
         ensures bytes { self.new.bytes ≡ (if result then bytes.now else self.old.bytes) }

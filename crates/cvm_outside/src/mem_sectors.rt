@@ -117,14 +117,14 @@ impl Sectors for MemSectors {
     }
 }
 
-/// Tells proofs that an array of 1,024 words is a sector.
+// Tells proofs that an array of 1,024 words is a sector.
 fn is_whole(words: &[u32; 1024])
     ensures { IsSector words.now }
 {
     are_words(words);
 }
 
-/// Tells proofs that words are in the range of their type.
+// Tells proofs that words are in the range of their type.
 fn are_words(words: &[u32])
     ensures { All (λ w. w < 2 ^ 32) words.now }
 {}

@@ -65,7 +65,7 @@ impl MemShelf {
     }
 }
 
-/// Puts the bytes if the file is there and has room for them, and tells whether it did.
+// Puts the bytes if the file is there and has room for them, and tells whether it did.
 fn put_file(files: &mut BTreeMap<String, MemFile>, name: &str, bytes: &[u8]) -> bool
     ensures fits { result ≡ not (lacks_room (get_by_text files.old name.now) bytes.now) }
     ensures put { get_by_text files.new name.now ≡ (if result then replaced (get_by_text files.old name.now) bytes.now else get_by_text files.old name.now) }

@@ -71,7 +71,7 @@ impl MemSink {
     }
 }
 
-/// Appends the bytes if they fit the room, and tells whether they did.
+// Appends the bytes if they fit the room, and tells whether they did.
 fn append(text: &mut Vec<u8>, room: usize, bytes: &[u8]) -> bool
     requires within { vec_len text.old ≤ room }
     requires taken { room ≤ vec_capacity text.old }

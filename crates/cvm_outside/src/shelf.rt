@@ -1,7 +1,7 @@
 // Named files.
-ghost use Rattle.std.specs.Prelude.{◌≡◌, ◌≢◌, ◌≤◌, ◌↔◌, ◌⊎◌, ℕ, min, List, Option, length, take, IfOk, IfSome, OnOk, OnErr, IsErrOf};
+ghost use Rattle.std.specs.Prelude.{◌≡◌, ◌≢◌, ◌≤◌, ◌↔◌, ℕ, min, List, Option, length, IfOk, IfSome, OnOk, OnErr, IsErrOf};
 ghost use Rattle.cvm_outside.specs.Causes.{Counts, ShelfCounts};
-ghost use Rattle.cvm_outside.specs.Told.{Tells, retold, TOO_LONG};
+ghost use Rattle.cvm_outside.specs.Told.{Tells, IsCutOff, retold, TOO_LONG};
 ghost use Rattle.cvm_outside.specs.declared.shelf.ShelfFault.TheVariants.{TooLong, Memory};
 
 use std::alloc::Global;
@@ -55,7 +55,7 @@ pub trait Shelf {
     fn put(&mut self, name: &str, bytes: &[u8]) -> Result<(), ShelfFault>
         ensures others { (n : List ℕ) → n ≢ name.now → file self.new n ≡ file self.old n }
         ensures bytes { OnOk result (file self.new name.now ≡ retold (file self.old name.now) bytes.now) }
-        ensures part { OnErr result ((file self.new name.now ≡ file self.old name.now) ⊎ ((n : ℕ) × (file self.new name.now ≡ retold (file self.old name.now) (take n bytes.now)))) }
+        ensures part { OnErr result (IsCutOff (file self.old name.now) bytes.now (file self.new name.now)) }
         ensures few { (IsErrOf result TooLong → ⊥) × (IsErrOf result Memory → ⊥) }
         ensures taken { taken self.new ≡ taken self.old }
         ensures count { ShelfCounts (faults self.old) (faults self.new) result };

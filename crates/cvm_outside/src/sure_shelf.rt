@@ -1,7 +1,7 @@
 // A shelf in memory, where no call fails.
 ghost use Rattle.std.specs.Prelude.{◌≡◌, ◌≢◌, ◌≤◌, ◌↔◌, List, ℕ, length, IsOk, IfOk, IsErrOf, IsSomeAnd, unwrap_or, if◌then◌else◌, None, []};
 ghost use Rattle.cvm_outside.specs.Told.{TOO_LONG};
-ghost use Rattle.cvm_outside.specs.Shelves.{placed, calls_of, taken_of, bytes_of, found, lacks_room, replaced, inside};
+ghost use Rattle.cvm_outside.specs.Shelves.{placed, calls_of, taken_of, bytes_of, found, put_over, inside};
 ghost use Rattle.cvm_outside.specs.declared.shelf.ShelfFault.TheVariants.{Failed, TooLong};
 
 use crate::mem_shelf::MemShelf;
@@ -55,7 +55,7 @@ impl Shelf for SureShelf {
     /// Puts the bytes where the file is there and has room for them. There is no error.
     fn put(&mut self, name: &str, bytes: &[u8]) -> Result<(), ShelfFault>
         ensures sure { IsOk result }
-        ensures put { placed (inside self.new) name.now ≡ (if lacks_room (found (inside self.old) name.now) bytes.now then placed (inside self.old) name.now else replaced (placed (inside self.old) name.now) bytes.now) }
+        ensures put { placed (inside self.new) name.now ≡ put_over (found (inside self.old) name.now) (placed (inside self.old) name.now) bytes.now }
         ensures others { (n : List ℕ) → n ≢ name.now → placed (inside self.new) n ≡ placed (inside self.old) n }
         ensures taken { taken_of (inside self.new) ≡ taken_of (inside self.old) }
     {

@@ -33,7 +33,7 @@ impl<A: Allocator> Model for Deed<A> {
     ghost also_owns = { λ d. deed_owns (A.dealloc_token d.alloc) d.at d.size };
 }
 
-/// Takes a block with room for `size` words and no word in it.
+// Takes a block with room for `size` words and no word in it.
 pub(crate) fn reserve<A: Allocator>(alloc: &A, size: usize) -> Result<(Region, Deed<A>), AllocError>
     requires { size * 4 < 2 ^ 63 }
     ensures { IfOk result (λ r. (r.0.count ≡ 0) × (r.0.room ≡ size) × (r.0.words ≡ []) × (r.1.at ≡ r.0.at) × (r.1.size ≡ size) × (r.1.alloc ≡ alloc.now)) }
@@ -48,7 +48,7 @@ pub(crate) fn reserve<A: Allocator>(alloc: &A, size: usize) -> Result<(Region, D
     }
 }
 
-/// Gives the block back.
+// Gives the block back.
 pub(crate) fn release<A: Allocator>(alloc: &A, region: Region, deed: Deed<A>, size: usize)
     requires { (deed.at ≡ region.at) × (deed.size ≡ size) × (region.count + region.room ≡ size) × (deed.alloc ≡ alloc.now) }
 {
@@ -62,7 +62,7 @@ impl Region {
     ghost use Rattle.frame_store.specs.Frame.{words_at, with_words_at};
     ghost use Rattle.frame_store.specs.contracts.region.Region.{the_row};
 
-    /// Writes the word after the `i` words that are there.
+    // Writes the word after the `i` words that are there.
     pub(crate) fn push(&mut self, i: usize, value: u32)
         requires { (i ≡ self.old.count) × (0 < self.old.room) }
         ensures words { self.new.words ≡ self.old.words ++ value ∷ [] }
@@ -71,7 +71,7 @@ impl Region {
         unsafe { self.at.add(i).write(value) };
     }
 
-    /// The `count` words that are there.
+    // The `count` words that are there.
     pub(crate) fn words(&self, count: usize) -> &[u32]
         requires { count ≡ self.now.count }
         ensures { result.now ≡ self.now.words }
@@ -79,7 +79,7 @@ impl Region {
         unsafe { slice::from_raw_parts(self.at, count) }
     }
 
-    /// Sets the word at `i`.
+    // Sets the word at `i`.
     pub(crate) fn put(&mut self, i: usize, value: u32)
         requires { i < length self.old.words }
         ensures words { self.new.words ≡ slice_set self.old.words i value }
@@ -88,7 +88,7 @@ impl Region {
         unsafe { *self.at.add(i) = value };
     }
 
-    /// The 1,024 words from `at` on, to be written in place.
+    // The 1,024 words from `at` on, to be written in place.
     pub(crate) fn lend_at(&mut self, at: usize) -> &mut [u32; 1024]
         requires { at + 1024 ≤ length self.old.words }
         ensures* writes_back { sem 𝓛 (Lends the_row (Array word 0) self.entry result (with_words_at self.entry.now at)) }

@@ -18,7 +18,7 @@ use std::vec::Vec;
 pub const SCRATCH: u32 = 1;
 
 /// A call's answer.
-pub const ANSWER: u32 = 2;
+pub const ANSWER: u32 = layer_map::ANSWER;
 
 /// The first register of expressions.
 pub const EXPRESSIONS: u32 = 8;

@@ -75,11 +75,11 @@ pub trait MemoryBus: Bus {
     ghost stores_seen: { (bus : Self) (address : ℕ) → Self.may_store bus address ≡ (access (view bus)).may_store address };
 
     /// A load answers the word, and reads.
-    ghost reads: { (bus : Self) (address value : ℕ) (after : Self) → Self.loads bus address value after → Reads word read (view bus) address value (view after) };
+    ghost reads: { (bus : Self) (a v : ℕ) (after : Self) → Self.loads bus a v after → Reads word read (view bus) a v (view after) };
 
     /// A store writes.
-    ghost writes: { (bus : Self) (address value : ℕ) (after : Self) → Self.stores bus address value after → view after ≡ written (view bus) address value };
+    ghost writes: { (bus : Self) (a v : ℕ) (after : Self) → Self.stores bus a v after → view after ≡ written (view bus) a v };
 
     /// A load leaves which addresses are taken.
-    ghost access_stays: { (bus : Self) (address value : ℕ) (after : Self) → Self.loads bus address value after → access (view after) ≡ access (view bus) };
+    ghost access_stays: { (bus : Self) (a v : ℕ) (after : Self) → Self.loads bus a v after → access (view after) ≡ access (view bus) };
 }

@@ -1,7 +1,8 @@
 -- The disk behind its ports, the device that it is with a buffer and sectors, and what the end of a step leaves.
-use Rattle.std.specs.Prelude.{◌≡◌, ℕ, zero, suc, List, length, Option, IfSome, Result, OnOk, OnErr}
+use Rattle.std.specs.Prelude.{◌≡◌, ◌+◌, ℕ, zero, suc, List, length, Option, IfSome, Result, OnOk, OnErr}
 use Rattle.std.specs.Option.{option_map}
 use Rattle.cvm_outside.specs.Causes.{Counts}
+use Rattle.cvm_outside.specs.Numbering.{counted as one_more}
 use Rattle.cvm_outside.specs.Told.{with_sector}
 use Rattle.mips_table.specs.Device.{Device, Pending, Idle, Reading, Writing, counted}
 use Rattle.mips_table.specs.Fits.{NamesSector}
@@ -41,11 +42,29 @@ TransferFails (Reading (suc left) sector) buffer after told retold = ⊥
 TransferFails (Writing zero sector) buffer after told retold = (after ≡ buffer) × ((words : List ℕ) × (retold ≡ with_sector told sector words))
 TransferFails (Writing (suc left) sector) buffer after told retold = ⊥
 
--- what is known of a disk: how many sectors it has, those that are told, and its count of faults
+-- a command that is under way is one that is unfinished
+abbrev pub unfinished : Pending → ℕ
+unfinished Idle = 0
+unfinished other = 1
+
+-- a count of calls after so many more
+abbrev pub called : ℕ → ℕ → ℕ
+called zero calls = calls
+called (suc n) calls = one_more (called n calls)
+
+-- THE DISK IS CALLED ONCE FOR EACH COMMAND, when it is done: from these ports to those it was called as often as commands were done, whatever their answers
+-- were. A command that was begun before and isn't under way any more is one of them, and one that is under way at the end is none.
+pub record CallsKeepUp (old new : Ports) (before after : ℕ) : Type 0 where
+  pub made : ℕ
+  pub done : made + (old.commands + unfinished new.pending) ≡ new.commands + unfinished old.pending
+  pub calls : after ≡ called made before
+
+-- what is known of a disk: how many sectors it has, those that are told, its count of faults, and that of the calls which read or write one
 pub record Known : Type 0 where
   pub size : ℕ
   pub told : Option (List (List ℕ))
   pub faults : ℕ
+  pub calls : ℕ
 
 -- the end of a step, by its answer: the ports, the buffer and the disk before and after it
 pub record StepEnd {E : Type 0} (result : Result (Unit {0}) E) (old new : Ports) (buffer after : List ℕ) (disk left : Known) : Type 0 where
@@ -55,3 +74,4 @@ pub record StepEnd {E : Type 0} (result : Result (Unit {0}) E) (old new : Ports)
   pub under_way : NamesSector left.size new.pending
   pub size : left.size ≡ disk.size
   pub count : Counts disk.faults left.faults result
+  pub calls : CallsKeepUp old new disk.calls left.calls

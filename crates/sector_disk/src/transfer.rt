@@ -1,6 +1,7 @@
 // The command under way, and its transfer.
 ghost use Rattle.std.specs.Prelude.{◌≡◌, ◌+◌, ◌*◌, ◌<◌, ◌≤◌, length, slice_set, ℕ, List, OnOk, OnErr};
 ghost use Rattle.cvm_outside.specs.Causes.{Counts};
+ghost use Rattle.cvm_outside.specs.Numbering.{counted as one_more};
 ghost use Rattle.cvm_outside.specs.Told.{Tells, sector_of, with_sector};
 ghost use Rattle.frame_store.specs.Words.{frame_of, with_frame};
 ghost use Rattle.mips_table.specs.Device.{is_busy as is_under_way};
@@ -18,7 +19,7 @@ pub(crate) enum Transfer {
 }
 
 impl Transfer {
-    /// Whether a command is under way.
+    // Whether a command is under way.
     pub(crate) fn is_busy(self) -> bool
         ensures { result ≡ is_under_way (pending_of self) }
     {
@@ -26,7 +27,7 @@ impl Transfer {
     }
 }
 
-/// Reads a sector straight into a frame.
+// Reads a sector straight into a frame.
 pub(crate) fn read_sector<D: Sectors>(
     disk: &mut D,
     sector: u32,
@@ -41,12 +42,13 @@ pub(crate) fn read_sector<D: Sectors>(
     ensures length { length frames.new ≡ length frames.old }
     ensures words { OnOk result (Tells (sector_of (D.sectors disk.old) sector) (frame_of frames.new buffer)) }
     ensures count { Counts (D.faults disk.old) (D.faults disk.new) result }
+    ensures called { D.calls disk.new ≡ one_more (D.calls disk.old) }
 {
     a_frame_is_its_part();
     disk.read(sector, frames.lend_mut(buffer))
 }
 
-/// Writes a frame straight to a sector.
+// Writes a frame straight to a sector.
 pub(crate) fn write_sector<D: Sectors>(
     disk: &mut D,
     sector: u32,
@@ -59,11 +61,12 @@ pub(crate) fn write_sector<D: Sectors>(
     ensures words { OnOk result (D.sectors disk.new ≡ with_sector (D.sectors disk.old) sector (frame_of frames.now buffer)) }
     ensures torn { OnErr result ((words : List ℕ) × (D.sectors disk.new ≡ with_sector (D.sectors disk.old) sector words)) }
     ensures count { Counts (D.faults disk.old) (D.faults disk.new) result }
+    ensures called { D.calls disk.new ≡ one_more (D.calls disk.old) }
 {
     disk.write(sector, frames.lend(buffer))
 }
 
-/// Sets word `i` of a frame.
+// Sets word `i` of a frame.
 pub(crate) fn put_word(frames: &mut Frames, buffer: u32, i: u32, value: u32)
     requires word { i < 1024 }
     requires frame { 1024 * buffer + 1024 ≤ length frames.old }

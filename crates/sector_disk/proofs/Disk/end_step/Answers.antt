@@ -1,8 +1,8 @@
 -- No command is under way.
-use Rattle.std.proofs.Common.{rules, sym, ap, ◌∙◌}
+use Rattle.std.proofs.Common.{rules, refl, sym, ap, ◌∙◌}
 use Rattle.mips_table.specs.Device.{is_busy}
 use Rattle.sector_disk.specs.Ports.{Ports}
-use Rattle.sector_disk.proofs.Ends.{idle_stays, not_busy}
+use Rattle.sector_disk.proofs.Ends.{none_is_done, idle_stays, not_busy}
 use Rattle.sector_disk.proofs.Disk.end_step.Goals as goal
 
 pub returns-then-not-is_busy-clause-end : goal.returns-then-not-is_busy-clause-end
@@ -13,4 +13,5 @@ returns-then-not-is_busy-clause-end g c = record {
   under_way = search rules;
   size = search rules;
   count = search rules;
+  calls = none_is_done _ _ _ refl refl;
 }
