@@ -19,7 +19,7 @@ use Rattle.cvm_model.specs.Cvm.{Running, Interrupts, user_step}
 use Rattle.cvm_model.specs.Stands.{Site, runs_user, Stands}
 use Rattle.layer_contract.specs.Layer.{due}
 use Rattle.layer_contract.specs.Follows.{BeginsAs}
-use Rattle.layer_contract.specs.Users.{Premises, TakesFault, StepSpares, StepFollows, UserSteps, UserStepsLinked, UserStepsOrFaults}
+use Rattle.layer_contract.specs.Users.{Premises, TakesFault, StepSpares, StepFollows, UserStepsLinked, UserStepsOrFaults}
 use Rattle.layer_contract.proofs.Places.{own, Known, Sizes, sizes_of}
 use Rattle.layer_contract.proofs.After.{with_current, stands_after, running}
 use Rattle.layer_contract.proofs.Due.{none_is_due}
@@ -141,7 +141,7 @@ module _ (words : StaysFitting) (x : Outside) (y : Site) (s : State) (c : Core) 
 pub user_steps_or_faults : StaysFitting → UserStepsOrFaults
 user_steps_or_faults words x y s c n p = step_or_fault words x y s c n p
 
-pub user_steps : StaysFitting → UserSteps
+user_steps : StaysFitting → (x : Outside) (y : Site) (s : State) (c : Core) (k : ℕ) → Premises x y s c → handled x s ≡ false → StepFollows x y s c k
 user_steps words x y s c n p calm = ⊎_elim (λ t. absurd (true≢false (sym t.handled ∙ calm))) (λ g. g) (step_or_fault words x y s c n p)
 
 pub user_steps_linked : StaysFitting → UserStepsLinked

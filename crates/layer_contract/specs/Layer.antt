@@ -278,8 +278,3 @@ ResetStands = (x : Outside) (y : Site) (s : State) (c : Core) (sizes : List ℕ)
 abbrev pub for_user : Map → Core → ℕ → State → State
 for_user m c u s =
     record s { cpu = (user_of c.users u).cpu; special = 1 ∷ 0 ∷ 0 ∷ 0 ∷ 0 ∷ 4 * table_of m u ∷ pages_of (user_of c.users u) ∷ 1 ∷ 0 ∷ []; memory = slice_set s.memory current_at u }
-
--- it stands in user mode for the state with that user
-abbrev pub UserStands : Type 0
-UserStands = (x : Outside) (y : Site) (s : State) (c : Core) (u : ℕ) → MapInRange y.map → Inside s → Stands x y s Running c → IsUser c u →
-    Stands x y (for_user y.map c u s) Running (record c { current = u })

@@ -35,11 +35,7 @@ StepSpares x y s = SectorsStay y.map s (step x s) × EndsNamed x y.map s
 abbrev pub StepFollows : Outside → Site → State → Core → ℕ → Type 0
 StepFollows x y s c k = BeginsAs x y s c (begin (suc k) c (latched x s).mask) × StepSpares x y s
 
--- a step that takes no handled fault
-abbrev pub UserSteps : Type 0
-UserSteps = (x : Outside) (y : Site) (s : State) (c : Core) (k : ℕ) → Premises x y s c → handled x s ≡ false → StepFollows x y s c k
-
--- the same where the linked words are as many as the map says
+-- a step that takes no handled fault, where the linked words are as many as the map says
 abbrev pub UserStepsLinked : Type 0
 UserStepsLinked = (x : Outside) (y : Site) (s : State) (c : Core) (k : ℕ) → MapInRange y.map → length y.linked ≡ layer_words + y.map.code_words → Back x y c s →
     handled x s ≡ false → StepFollows x y s c k

@@ -5,10 +5,10 @@
 
 ghost use Rattle.std.specs.Prelude.{◌≤◌};
 ghost use Rattle.mips_table.specs.Device.{Outside, HasEightLines};
-ghost use Rattle.layer_contract.specs.Layer.{ResetStands, UserStands, NoneIsDue};
+ghost use Rattle.layer_contract.specs.Layer.{ResetStands, NoneIsDue};
 ghost use Rattle.layer_contract.specs.Follows.{LoadedResets};
 ghost use Rattle.layer_contract.specs.Starts.{LoadedKeeps, LoadedStarts, StartsCall, StartsGoOn};
-ghost use Rattle.layer_contract.specs.Users.{FaultsAsk, SomeStores, UserSteps, UserStepsLinked, UserStepsOrFaults, UsersAreInterrupted};
+ghost use Rattle.layer_contract.specs.Users.{FaultsAsk, SomeStores, UserStepsLinked, UserStepsOrFaults, UsersAreInterrupted};
 ghost use Rattle.layer_contract.specs.Samples.{AStateStands, ASpreadStateStands};
 
 mod boot;
@@ -32,11 +32,6 @@ pub fn the_loaded_machine_resets()
 /// A law: the state after the reset stands for the start of a run.
 pub fn the_reset_stands()
     ensures { ResetStands }
-{}
-
-/// A law: a machine that stands in system mode stands in user mode once the processor and the current user's word are a user's.
-pub fn a_user_goes_on()
-    ensures { UserStands }
 {}
 
 /// A law: where no command is under way and a step begins none, the disk ends none with it.
@@ -73,13 +68,6 @@ pub fn the_kernel_is_called<L: Layer>(layer: &L)
     ensures { StartsCall (L.image layer.now) (L.sizes layer.now) (L.map layer.now) }
 {
     layer.keeps_laws();
-}
-
-/// A law: a user's step that takes no handled fault is the flat machine's step, its trap, or the taking of the pending lines.
-pub fn users_follow()
-    ensures { UserSteps }
-{
-    words_stay_words();
 }
 
 /// A law: the same where the linked words are as many as the map says.

@@ -4,7 +4,7 @@
 pub const ARGUMENT: usize = 20;
 
 /// The register of an answer: of a primitive that has returned, and of `dispatch` at the entry Leave.
-pub const ANSWER: usize = 2;
+pub const ANSWER: usize = layer_map::ANSWER as usize;
 
 /// The register of a primitive's return address at its entry.
 pub const RETURN: usize = 31;

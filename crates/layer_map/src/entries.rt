@@ -16,6 +16,9 @@ pub const EXITS: u32 = 0x2028;
 /// The address at which the unit's code leaves once its first function has returned.
 pub const LEAVE: u32 = 0x2038;
 
+/// The register of an answer: of a primitive that has returned to the unit's code, and of the unit's first function at LEAVE.
+pub const ANSWER: u32 = 2;
+
 /// A law: the constants are the addresses of the words that the map's definitions name.
 pub fn entries_are_words()
     ensures entry { ENTRY ≡ 4 * layer_words }

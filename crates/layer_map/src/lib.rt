@@ -25,7 +25,7 @@ mod map;
 mod params;
 mod places;
 
-pub use entries::{ENTRY, EXITS, LEAVE, PRIMITIVES, entries_are_words};
+pub use entries::{ANSWER, ENTRY, EXITS, LEAVE, PRIMITIVES, entries_are_words};
 pub use map::{
     Map, blocks_are_in_order, memory_is_whole, parts_are_in_order, parts_begin_pages,
     tables_are_in_order,

@@ -4,12 +4,9 @@ ghost use Rattle.layer_sharing.specs.Passing.{CopyPasses};
 ghost use Rattle.layer_sharing.specs.Sharing.{ImageShares};
 
 use cvm_primitives::laws::routines_have_laws;
-use layer_contract::no_command_is_due;
-use masm::laws::{a_block_stands, a_routine_returns, jumps_lead, runs_compose};
-use mips_table::runs::{runs_join, words_stay_words};
+use masm::laws::a_routine_returns;
 use page_fault::{maps_are_sited, the_block_is_a_page_block};
-use page_model::laws::alikes_stand;
-use real_layer::{blocks_run, primitives_answer};
+use real_layer::{premises, primitives_answer};
 
 /// A run of `vm_copy` that ends with a whole page comes by the head of its loop with that page left; and in the end the target's last page names the
 /// source's frame, unless four other pages named it there.
@@ -25,14 +22,7 @@ pub fn a_copy_passes_its_last_page()
 pub fn the_last_page_is_shared()
     ensures { ImageShares }
 {
-    runs_join();
-    blocks_run();
-    a_block_stands();
-    runs_compose();
-    jumps_lead();
-    no_command_is_due();
-    words_stay_words();
-    alikes_stand();
+    premises();
     a_routine_returns();
     maps_are_sited();
     a_copy_passes_its_last_page();

@@ -21,6 +21,7 @@ use Rattle.layer_contract.specs.Layer.{Inside, IsAt, Comes, IsEntry, Rested, Exi
 use Rattle.trap_entry.specs.Code.{exit_code}
 use Rattle.trap_entry.specs.Laws.{ComesTo, Passed, ExitsWith}
 use Rattle.real_layer.specs.Image.{routine, routine_at, image_site, IsMade}
+use Rattle.real_layer.specs.Premises.{Premises}
 use Rattle.real_layer.specs.Runs.{Standing, Calm, block_world}
 use Rattle.real_layer.proofs.Shown.{Shown, Order, order_of, words_of, behind, word_is, Follows, shown, stood}
 use Rattle.real_layer.proofs.Blocks.{sound}
@@ -33,6 +34,14 @@ pub record Tools : Type 0 where
   pub below : Below
   pub words : StaysFitting
   pub alikes : AlikesStand
+
+-- the premises give them
+pub tools_of : Premises → Tools
+tools_of p = record {
+  below = record { sum = p.runs_join; blocks = p.blocks_run; stands = p.a_block_stands; runs = p.runs_compose; jumps = p.jumps_lead; none = p.no_command_is_due };
+  words = p.words_stay_words;
+  alikes = p.alikes_stand;
+}
 
 -- a machine that is inside runs no user
 pub not_user : (s : State) → Inside s → runs_user s ≡ false

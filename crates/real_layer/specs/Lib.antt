@@ -1,5 +1,6 @@
 pub mod Image
 pub mod Runs
+pub mod Premises
 pub mod Laws
 pub mod Laid
 pub mod Real

@@ -1,5 +1,6 @@
 // The laws of the layer's runs. Each is the contract of a function that does nothing.
 ghost use Rattle.real_layer.specs.Laws.{ImageEnters, ImageEntersFirst, ImageExits, ImageLeaves, ImageLaws, ImageLinked, ImagePrimitives, ImageSettles};
+ghost use Rattle.real_layer.specs.Premises.{Premises};
 ghost use Rattle.real_layer.specs.Runs.{BlocksRun};
 
 use cvm_primitives::laws::{memory_answers, registers_answer};
@@ -25,9 +26,9 @@ pub fn blocks_run()
     a_block_stands();
 }
 
-/// LEAVE at a fault: from the exit of a kernel's fault the machine is off with the fault's word, and stands for the same state.
-pub fn faults_exit()
-    ensures { ImageExits }
+/// What each law of a layer stands on: laws of the crates below, and that the machine makes the runs of blocks.
+pub fn premises()
+    ensures { Premises }
 {
     runs_join();
     blocks_run();
@@ -37,6 +38,13 @@ pub fn faults_exit()
     no_command_is_due();
     words_stay_words();
     alikes_stand();
+}
+
+/// LEAVE at a fault: from the exit of a kernel's fault the machine is off with the fault's word, and stands for the same state.
+pub fn faults_exit()
+    ensures { ImageExits }
+{
+    premises();
     the_power_port_ends_a_run();
     an_exit_comes();
 }
@@ -45,14 +53,7 @@ pub fn faults_exit()
 pub fn the_kernel_is_left()
     ensures { ImageLeaves }
 {
-    runs_join();
-    blocks_run();
-    a_block_stands();
-    runs_compose();
-    jumps_lead();
-    no_command_is_due();
-    words_stay_words();
-    alikes_stand();
+    premises();
     the_power_port_ends_a_run();
     eret_leaves();
     the_kernel_is_left_for_a_user();
@@ -69,14 +70,7 @@ pub fn the_image_is_linked()
 pub fn the_kernel_begins()
     ensures { ImageEntersFirst }
 {
-    runs_join();
-    blocks_run();
-    a_block_stands();
-    runs_compose();
-    jumps_lead();
-    no_command_is_due();
-    words_stay_words();
-    alikes_stand();
+    premises();
     the_reset_stands();
     the_kernel_is_entered_first();
 }
@@ -86,14 +80,7 @@ pub fn the_kernel_begins()
 pub fn the_kernel_is_called()
     ensures { ImageEnters }
 {
-    runs_join();
-    blocks_run();
-    a_block_stands();
-    runs_compose();
-    jumps_lead();
-    no_command_is_due();
-    words_stay_words();
-    alikes_stand();
+    premises();
     an_interrupt_is_taken();
     users_are_interrupted();
     the_kernel_is_entered();
@@ -104,14 +91,7 @@ pub fn the_kernel_is_called()
 pub fn primitives_answer()
     ensures { ImagePrimitives }
 {
-    runs_join();
-    blocks_run();
-    a_block_stands();
-    runs_compose();
-    jumps_lead();
-    no_command_is_due();
-    words_stay_words();
-    alikes_stand();
+    premises();
     a_routine_returns();
     maps_are_sited();
     registers_answer();
@@ -124,14 +104,7 @@ pub fn primitives_answer()
 pub fn faults_settle()
     ensures { ImageSettles }
 {
-    runs_join();
-    blocks_run();
-    a_block_stands();
-    runs_compose();
-    jumps_lead();
-    no_command_is_due();
-    words_stay_words();
-    alikes_stand();
+    premises();
     eret_leaves();
     an_interrupt_is_taken();
     users_are_interrupted();

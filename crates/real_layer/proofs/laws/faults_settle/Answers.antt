@@ -1,15 +1,12 @@
 -- By the handler's run at a fault, and the two faults of paging.
-use Rattle.real_layer.proofs.Arrivals.{Below}
-use Rattle.real_layer.proofs.Exits.{Tools}
+use Rattle.real_layer.proofs.Exits.{tools_of}
 use Rattle.real_layer.proofs.Settling.{Handlers, settles, costs}
 use Rattle.real_layer.proofs.laws.faults_settle.Goals as goal
 
 pub returns : goal.returns
 returns c =
-    let below : Below = record { sum = c.runs_join.ensures; blocks = c.blocks_run.ensures; stands = c.a_block_stands.ensures; runs = c.runs_compose.ensures; jumps = c.jumps_lead.ensures; none = c.no_command_is_due.ensures } in
-    let tools : Tools = record { below = below; words = c.words_stay_words.ensures; alikes = c.alikes_stand.ensures } in
     let handlers : Handlers = record {
-      tools = tools;
+      tools = tools_of c.premises.ensures;
       erets = c.eret_leaves.ensures;
       takes = c.an_interrupt_is_taken.ensures;
       interrupts = c.users_are_interrupted.ensures;

@@ -1,11 +1,7 @@
 -- By the handler's run after the reset.
-use Rattle.real_layer.proofs.Arrivals.{Below}
-use Rattle.real_layer.proofs.Exits.{Tools}
+use Rattle.real_layer.proofs.Exits.{tools_of}
 use Rattle.real_layer.proofs.Entering.{enters_first}
 use Rattle.real_layer.proofs.laws.the_kernel_begins.Goals as goal
 
 pub returns : goal.returns
-returns c =
-    let below : Below = record { sum = c.runs_join.ensures; blocks = c.blocks_run.ensures; stands = c.a_block_stands.ensures; runs = c.runs_compose.ensures; jumps = c.jumps_lead.ensures; none = c.no_command_is_due.ensures } in
-    let tools : Tools = record { below = below; words = c.words_stay_words.ensures; alikes = c.alikes_stand.ensures } in
-    λ m sizes code made. enters_first m sizes code made tools c.the_reset_stands.ensures c.the_kernel_is_entered_first.ensures
+returns c = λ m sizes code made. enters_first m sizes code made (tools_of c.premises.ensures) c.the_reset_stands.ensures c.the_kernel_is_entered_first.ensures
